@@ -1,0 +1,13 @@
+use Rattle.std.proofs.Common.{◌≤◌, ◌-◌, drop, take, length}
+use Rattle.census_bundle.specs.Scan.{IsTextOf}
+use Rattle.census_bundle.proofs.lines.split_text.Given as goal
+
+abbrev pub invariant-loop-len : goal.invariant-loop-len
+invariant-loop-len l = record {
+  within : l.len ≤ length l.whole;
+  few : l.lines ≤ l.len;
+  reads : IsTextOf l.whole (take l.len l.whole) l.lines (drop l.len l.whole);
+}
+
+abbrev pub decreases-loop-len : goal.decreases-loop-len
+decreases-loop-len l = length l.whole - l.len

@@ -1,0 +1,9 @@
+pub mod Sizes
+pub mod Names
+pub mod Tickets
+pub mod Coded
+pub mod Growing
+pub mod Lines
+pub mod Kinds
+pub mod Reading
+pub mod Scan

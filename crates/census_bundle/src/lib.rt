@@ -1,0 +1,12 @@
+//! Bundles of patterns, and the tickets that name their patterns.
+#![tactic(auto)]
+
+pub mod bundle;
+pub mod fault;
+mod last;
+mod lines;
+mod names;
+pub mod reading;
+#[cfg(test)]
+mod tests;
+pub mod ticket;

@@ -1,0 +1,113 @@
+//! The lines of a bundle text.
+ghost use Rattle.std.specs.Prelude.{◌≡◌, ◌+◌, ◌<◌, ◌≤◌, ◌∷◌, ◌++◌, true, length};
+ghost use Rattle.std.specs.List.{list_all};
+ghost use Rattle.census_bundle.specs.Lines.{whole_lines, content, is_space};
+ghost use Rattle.census_bundle.specs.Kinds.{IsKind};
+ghost use Rattle.census_bundle.specs.Scan.{line_len, begins_section, IsTextOf};
+
+// What a line begins.
+#[derive(Clone, Copy)]
+pub enum Line<'a> {
+    // A folder of this name.
+    Folder(&'a [u8]),
+    // An entry of this name.
+    File(&'a [u8]),
+    // Nothing, though it begins with `@`.
+    OtherAt,
+    // Nothing.
+    Plain,
+}
+
+// The text of an entry, and what stands behind it.
+#[derive(Clone, Copy)]
+pub struct EntryText<'a> {
+    pub text: &'a [u8],
+    pub lines: usize,
+    pub rest: &'a [u8],
+}
+
+// How long the first line is, with its ending.
+fn line_len(text: &[u8]) -> usize
+    ensures value { result ≡ line_len text.now }
+    ensures within { result ≤ length text.now }
+{
+    for (i, byte) in text.iter().enumerate() {
+        if *byte == b'\n' {
+            return i + 1;
+        }
+    }
+    text.len()
+}
+
+// The first line with its ending, and what stands behind it.
+pub fn split_line(text: &[u8]) -> (&[u8], &[u8])
+    requires { 0 < length text.now }
+    ensures lines { whole_lines text.now ≡ result.0.now ∷ whole_lines result.1.now }
+    ensures whole { text.now ≡ result.0.now ++ result.1.now }
+    ensures some { 0 < length result.0.now }
+{
+    text.split_at(line_len(text))
+}
+
+// The line without its LF or CR LF.
+fn without_ending(line: &[u8]) -> &[u8]
+    ensures { result.now ≡ content line.now }
+{
+    if line.ends_with(b"\r\n") {
+        return &line[..line.len() - 2];
+    }
+    if line.ends_with(b"\n") {
+        return &line[..line.len() - 1];
+    }
+    line
+}
+
+// Whether a line is blanks, tabs and CR alone.
+pub fn is_blank(line: &[u8]) -> bool
+    ensures { result ≡ list_all is_space line.now }
+{
+    line.iter().all(|byte| *byte == b' ' || *byte == b'\t' || *byte == b'\r' || *byte == b'\n')
+}
+
+// What a line begins.
+pub fn line_of(line: &[u8]) -> Line
+    ensures { IsKind line.now result }
+{
+    if line.starts_with(b"@folder ") {
+        return Line::Folder(without_ending(&line[8..]));
+    }
+    if line.starts_with(b"@file ") {
+        return Line::File(without_ending(&line[6..]));
+    }
+    if line.starts_with(b"@") {
+        Line::OtherAt
+    } else {
+        Line::Plain
+    }
+}
+
+// Whether nothing is left, or a line that begins with `@` stands first.
+fn begins_section(rest: &[u8]) -> bool
+    ensures { result ≡ begins_section rest.now }
+{
+    rest.is_empty() || rest.starts_with(b"@")
+}
+
+// The lines up to the next that begins with `@`, or up to the end.
+pub fn split_text(whole: &[u8]) -> EntryText
+    ensures text { IsTextOf whole.now result.text.now result.lines result.rest.now }
+    ensures ends { begins_section result.rest.now ≡ true }
+    ensures fits { result.lines + length result.rest.now ≤ length whole.now }
+{
+    let mut len = 0;
+    let mut lines = 0;
+    while !begins_section(&whole[len..]) {
+        len += line_len(&whole[len..]);
+        lines += 1;
+    }
+    EntryText {
+        text: &whole[..len],
+        lines,
+        rest: &whole[len..],
+    }
+}

@@ -1,0 +1,53 @@
+-- How the parts of `advance` join.
+use Rattle.std.proofs.Common.{◌≡◌, ◌≤◌, ◌++◌, ℕ, List, [], Option, Result, Ok, Err, Bool, true, false, length, refl, sym, ap, subst, ◌∙◌}
+use Rattle.std.specs.Io.KnownBytes.{Appends, Consumes, IsAtEnd}
+use Rattle.watched.specs.declared.reading.ReadFault.{ReadFault}
+use Rattle.watched.specs.declared.reading.ReadFault.TheVariants.{Read}
+use Rattle.watched.specs.Watching.{AppendsFront}
+use Rattle.life_model.specs.Evolution.{generation}
+use Rattle.life_model.specs.Generation.{Generation}
+use Rattle.life_model.specs.Rule.{Rule}
+use Rattle.life_text.specs.Picture.{Picture, picture_of}
+use Rattle.life_text.specs.Rle.{reading}
+use Rattle.life_text.specs.RleText.{rle_text}
+use Rattle.census_command.specs.Commands.{Advances, AdvancesInPart, IsAdvanced, ReadsAll, advanced_text, input_limit}
+
+pub is_advanced : (text : List ℕ) (n : ℕ) (old new : List ℕ) (pattern : Picture) (R : Rule) (G : Generation) → picture_of (reading text) ≡ Ok pattern
+    → R ≡ pattern.rule → G ≡ generation pattern.rule pattern.cells n → old ≡ [] → new ≡ old ++ rle_text R G → IsAdvanced text n new
+is_advanced text n old new pattern R G means rule cells none written = record {
+  pattern = pattern;
+  means = means;
+  is = written ∙ ap (λ xs. xs ++ rle_text R G) none ∙ (λ i. rle_text (rule i) (cells i));
+}
+
+module _ (text bytes : List ℕ) (n : ℕ) (written : List ℕ) (same : bytes ≡ text) (a : IsAdvanced bytes n written) where
+  means : picture_of (reading text) ≡ Ok a.pattern
+  means = subst (λ xs. picture_of (reading xs) ≡ Ok a.pattern) same a.means
+
+  pub advances : (out : List ℕ) (input_old input_new output_old output_new : Option (List ℕ)) → out ≡ written → ReadsAll input_old input_new text
+      → Appends output_old output_new out → Advances n input_old input_new output_old output_new
+  advances out input_old input_new output_old output_new e read appended = record {
+    text = text;
+    pattern = a.pattern;
+    read = read;
+    means = means;
+    written = subst (λ xs. Appends output_old output_new xs) (e ∙ a.is) appended;
+  }
+
+  pub advances_in_part : (out : List ℕ) (input_old input_new output_old output_new : Option (List ℕ)) → out ≡ written → ReadsAll input_old input_new text
+      → AppendsFront output_old output_new out → AdvancesInPart n input_old input_new output_old output_new
+  advances_in_part out input_old input_new output_old output_new e read appended = record {
+    text = text;
+    pattern = a.pattern;
+    read = read;
+    means = means;
+    written = subst (λ xs. AppendsFront output_old output_new xs) (e ∙ a.is) appended;
+  }
+
+-- the flag is down where the reader was read to its end
+pub flag_down : {A : Type 0} (r : Result A ReadFault) (x : A) (flag : Bool) → (flag ≡ true → r ≡ Err Read) → r ≡ Ok x → flag ≡ false
+flag_down r x true told e = absurd (ok_is_no_fault x (sym (told refl) ∙ e))
+  where
+    ok_is_no_fault : {A : Type 0} (x : A) → ◌≡◌ {A = Result A ReadFault} (Err Read) (Ok x) → ⊥
+    ok_is_no_fault x h = cc
+flag_down r x false told e = refl

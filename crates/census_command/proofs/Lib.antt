@@ -1,0 +1,2 @@
+pub mod Advanced
+pub mod Statuses

@@ -1,0 +1,19 @@
+use Rattle.std.proofs.Common.{refl, sym, ◌∙◌}
+use Rattle.census_command.proofs.Statuses.{done_fails, refused, no_command, failed}
+use Rattle.census_command.proofs.dispatch.dispatch.Goals as goal
+
+pub returns-in-Ok-clause-failed : goal.returns-in-Ok-clause-failed
+returns-in-Ok-clause-failed g c = done_fails 0 _ _ refl c.in-Ok.ensures.1 c.in-Ok.ensures.2
+
+pub returns-in-Err-clause-refused : goal.returns-in-Err-clause-refused
+returns-in-Err-clause-refused g c = λ h. refused _ _ _ _ _ _ _ c.in-Err.trouble c.in-Err.ensures (sym c.status.ensures ∙ h)
+
+pub returns-in-Err-clause-no_command : goal.returns-in-Err-clause-no_command
+returns-in-Err-clause-no_command g c =
+    let n = no_command _ _ _ _ _ _ _ c.in-Err.trouble c.in-Err.ensures in
+    (λ h. n.0 (sym c.status.ensures ∙ h), λ none. c.status.ensures ∙ n.1 none)
+
+pub returns-in-Err-clause-failed : goal.returns-in-Err-clause-failed
+returns-in-Err-clause-failed g c =
+    let f = failed _ _ _ _ _ _ _ c.in-Err.trouble c.in-Err.ensures in
+    (λ h. f.0 (sym c.status.ensures ∙ h), λ h. c.status.ensures ∙ f.1 h)

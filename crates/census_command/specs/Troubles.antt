@@ -1,0 +1,25 @@
+-- The trouble that a fault of a part is, and the exit status of each.
+use Rattle.std.specs.Prelude.{ℕ}
+use Rattle.life_text.specs.declared.rle.RleFault.{RleFault}
+use Rattle.life_text.specs.declared.rle.RleFault.TheVariants as rle
+use Rattle.watched.specs.declared.reading.ReadFault.{ReadFault}
+use Rattle.watched.specs.declared.reading.ReadFault.TheVariants as reads
+use Rattle.census_command.specs.declared.trouble.Trouble.{Trouble}
+use Rattle.census_command.specs.declared.trouble.Trouble.TheVariants.{Text, TooLong, Words, Memory, Read, Write}
+
+abbrev pub trouble_of_text : RleFault → Trouble
+trouble_of_text rle.Memory = Memory
+trouble_of_text fault = Text fault
+
+abbrev pub trouble_of_read : ReadFault → Trouble
+trouble_of_read reads.Read = Read
+trouble_of_read reads.TooLong = TooLong
+trouble_of_read reads.Memory = Memory
+
+abbrev pub status_of : Trouble → ℕ
+status_of (Text fault) = 1
+status_of TooLong = 1
+status_of Words = 2
+status_of Memory = 3
+status_of Read = 4
+status_of Write = 4

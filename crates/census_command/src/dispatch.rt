@@ -1,0 +1,86 @@
+//! What the program does with its words.
+ghost use Rattle.std.specs.Prelude.{◌≡◌, ◌↔◌, ◌≤◌, ◌⊎◌, ℕ, false, true, map, MatchResult};
+ghost use Rattle.std.specs.Io.KnownBytes.{Keeps};
+ghost use Rattle.watched.specs.Watching.{has_failed, inner_of};
+ghost use Rattle.census_command.specs.Commands.{Advances, IsRefused, Stops};
+ghost use Rattle.census_command.specs.Words.{IsAdvance};
+
+use crate::advance::advance;
+use crate::trouble::Trouble;
+use crate::words::generations_asked;
+use std::alloc::Global;
+use std::io::{Read, Write};
+use watched::watched::Watched;
+use watched::writing::put_all;
+
+// Does what the words ask for.
+fn obey<I: Read, O: Write>(
+    alloc: Global,
+    words: &[&str],
+    input: &mut Watched<I>,
+    output: &mut Watched<O>,
+) -> Result<(), Trouble>
+    requires input { has_failed input.old ≡ false }
+    requires output { has_failed output.old ≡ false }
+    ensures { MatchResult result
+        (λ _. ((n : ℕ) × IsAdvance (map (λ s. s.now) words.now) n
+        × Advances n (I.remaining (inner_of input.old)) (I.remaining (inner_of input.new)) (O.contents (inner_of output.old)) (O.contents (inner_of output.new)))
+        × (has_failed input.new ≡ false) × (has_failed output.new ≡ false))
+        (λ trouble. Stops trouble (map (λ s. s.now) words.now) (I.remaining (inner_of input.old)) (I.remaining (inner_of input.new))
+        (O.contents (inner_of output.old)) (O.contents (inner_of output.new)) (has_failed input.new) (has_failed output.new)) }
+{
+    match generations_asked(words) {
+        Some(generations) => advance(alloc, generations, input, output),
+        None => Err(Trouble::Words),
+    }
+}
+
+// Writes why there is nothing to show, in one line. That it can't be written changes nothing.
+fn tell<E: Write>(alloc: Global, trouble: Trouble, errors: &mut Watched<E>) {
+    let told = match trouble {
+        Trouble::Memory => put_all(errors, b"census: out of memory\n"),
+        _ => match format!(in alloc; "census: {trouble}\n") {
+            Ok(line) => put_all(errors, line.as_bytes()),
+            Err(_) => put_all(errors, b"census: out of memory\n"),
+        },
+    };
+    let _ = told;
+}
+
+/// Does what the program `census` does with its words, which are those behind its name, and gives its exit status.
+///
+/// - 0: `advance N` was done. Standard input is an RLE text, and the text of generation N is what was written.
+/// - 1: standard input has a fault or is too long, and nothing was written.
+/// - 2: the words are no command, and nothing was read or written.
+/// - 3: memory was refused, and nothing was written.
+/// - 4: standard input or standard output has failed.
+///
+/// One line on `errors` says why the status is not 0.
+pub fn dispatch<I: Read, O: Write, E: Write>(
+    alloc: Global,
+    words: &[&str],
+    input: &mut Watched<I>,
+    output: &mut Watched<O>,
+    errors: &mut Watched<E>,
+) -> u8
+    requires input { has_failed input.old ≡ false }
+    requires output { has_failed output.old ≡ false }
+    requires errors { has_failed errors.old ≡ false }
+    ensures known { result ≤ 4 }
+    ensures done { result ≡ 0 → (n : ℕ) × IsAdvance (map (λ s. s.now) words.now) n
+        × Advances n (I.remaining (inner_of input.old)) (I.remaining (inner_of input.new)) (O.contents (inner_of output.old)) (O.contents (inner_of output.new)) }
+    ensures refused { result ≡ 1 → ((n : ℕ) × IsAdvance (map (λ s. s.now) words.now) n)
+        × IsRefused (I.remaining (inner_of input.old)) (I.remaining (inner_of input.new)) × Keeps (O.contents (inner_of output.old)) (O.contents (inner_of output.new)) }
+    ensures no_command { (result ≡ 2) ↔ ((n : ℕ) → IsAdvance (map (λ s. s.now) words.now) n → ⊥) }
+    ensures untouched { result ≡ 2 → Keeps (I.remaining (inner_of input.old)) (I.remaining (inner_of input.new)) × Keeps (O.contents (inner_of output.old)) (O.contents (inner_of output.new)) }
+    ensures memory { result ≡ 3 → Keeps (O.contents (inner_of output.old)) (O.contents (inner_of output.new)) }
+    ensures failed { (result ≡ 4) ↔ ((has_failed input.new ≡ true) ⊎ (has_failed output.new ≡ true)) }
+{
+    match obey(alloc, words, input, output) {
+        Ok(()) => 0,
+        Err(trouble) => {
+            tell(alloc, trouble, errors);
+            trouble.status()
+        }
+    }
+}

@@ -1,0 +1,10 @@
+//! What the words of a command line do.
+#![tactic(auto)]
+
+pub mod advance;
+pub mod dispatch;
+pub mod evolving;
+#[cfg(test)]
+mod tests;
+pub mod trouble;
+pub mod words;

@@ -1,0 +1,94 @@
+//! What keeps a command from its work, and the exit status that tells it.
+ghost use Rattle.std.specs.Prelude.{◌≡◌};
+ghost use Rattle.census_command.specs.Troubles.{status_of};
+
+use life_text::rle::RleFault;
+use std::alloc::AllocError;
+use thiserror::Error;
+use watched::reading::ReadFault;
+use watched::watched::Failed;
+
+/// What keeps a command from its work. Its text is the line on standard error.
+#[derive(Clone, Copy, Debug, PartialEq, Eq, Drop, Error)]
+pub enum Trouble {
+    /// The RLE text on standard input has this fault.
+    #[error("{0}")]
+    Text(RleFault),
+    /// Standard input has more bytes than one text may have.
+    #[error("input too long")]
+    TooLong,
+    #[error("bad command line")]
+    Words,
+    #[error("out of memory")]
+    Memory,
+    #[error("read failed")]
+    Read,
+    #[error("write failed")]
+    Write,
+}
+
+impl From<AllocError> for Trouble {
+    ghost use Rattle.std.specs.Prelude.{◌≡◌};
+    ghost use Rattle.census_command.specs.declared.trouble.Trouble.TheVariants.{Memory};
+
+    ghost from_gives = { λ _ trouble. trouble ≡ Memory };
+
+    fn from(_: AllocError) -> Trouble {
+        Trouble::Memory
+    }
+}
+
+impl From<RleFault> for Trouble {
+    ghost use Rattle.census_command.specs.Troubles.{trouble_of_text};
+    ghost use Rattle.std.specs.Prelude.{◌≡◌};
+
+    ghost from_gives = { λ fault trouble. trouble ≡ trouble_of_text fault };
+
+    fn from(fault: RleFault) -> Trouble {
+        match fault {
+            RleFault::Memory => Trouble::Memory,
+            other => Trouble::Text(other),
+        }
+    }
+}
+
+impl From<ReadFault> for Trouble {
+    ghost use Rattle.census_command.specs.Troubles.{trouble_of_read};
+    ghost use Rattle.std.specs.Prelude.{◌≡◌};
+
+    ghost from_gives = { λ fault trouble. trouble ≡ trouble_of_read fault };
+
+    fn from(fault: ReadFault) -> Trouble {
+        match fault {
+            ReadFault::Read => Trouble::Read,
+            ReadFault::TooLong => Trouble::TooLong,
+            ReadFault::Memory => Trouble::Memory,
+        }
+    }
+}
+
+impl From<Failed> for Trouble {
+    ghost use Rattle.std.specs.Prelude.{◌≡◌};
+    ghost use Rattle.census_command.specs.declared.trouble.Trouble.TheVariants.{Write};
+
+    ghost from_gives = { λ _ trouble. trouble ≡ Write };
+
+    /// Only writers are answered by it: a reader's failure comes as a `ReadFault`.
+    fn from(_: Failed) -> Trouble {
+        Trouble::Write
+    }
+}
+
+impl Trouble {
+    /// The exit status: 1 where the input is refused, 2 for the words, 3 for want of memory, 4 where an end failed.
+    pub fn status(&self) -> u8
+        ensures { result ≡ status_of self.now }
+    {
+        match self {
+            Trouble::Text(_) | Trouble::TooLong => 1,
+            Trouble::Words => 2,
+            Trouble::Memory => 3,
+            Trouble::Read | Trouble::Write => 4,
+        }
+    }
+}

@@ -1,0 +1,108 @@
+-- The rule of the feed: over the items in the deque, front first, and what each pass knows.
+use Rattle.std.specs.Prelude.{◌≡◌, ℕ, true, ◌+◌, ◌<◌, ◌≤◌, cond, List, [], ◌∷◌, ◌++◌, length}
+use Rattle.std.specs.List.{AllByRecursion, flat_map}
+use Rattle.census_bundle.specs.declared.bundle.Folder.{Folder}
+use Rattle.census_feed.specs.declared.item.Item.{Item}
+use Rattle.census_feed.specs.declared.view.Role.{Role}
+use Rattle.census_feed.specs.declared.view.Role.TheVariants.{Filler, Holder, Spent}
+use Rattle.census_feed.specs.declared.view.View.{View}
+use Rattle.census_feed.specs.Items.{items, Rises, has, is_mark, times, marks}
+
+-- what the filler knows: what it pushed and popped, how many hands have begun, and the lists of those that have ended
+abbrev pub filling : List Item → List Item → ℕ → List (List Item) → View
+filling pushed popped begun ended = record { role = Filler; filled = pushed; taken = popped; begun = begun; ended = ended }
+
+-- what a hand knows: what the feed was filled with, and what it took
+abbrev pub holding : List Item → List Item → View
+holding filled taken = record { role = Holder; filled = filled; taken = taken; begun = 0; ended = [] }
+
+-- the view of a pass that has handed all over
+abbrev pub spent : View
+spent = record { role = Spent; filled = []; taken = []; begun = 0; ended = [] }
+
+abbrev pub by_role : {X : Type 0} → X → X → X → Role → X
+by_role filler holder none Filler = filler
+by_role filler holder none Holder = holder
+by_role filler holder none Spent = none
+
+-- one list for each hand: its own, and those of the ended ones, which the filler has
+abbrev pub lists_of : View → List (List Item)
+lists_of v = by_role v.ended (v.taken ∷ []) [] v.role
+
+abbrev pub lists : List View → List (List Item)
+lists views = flat_map lists_of views
+
+-- the hands' lists together
+abbrev pub joined : List (List Item) → List Item
+joined ls = flat_map (λ l. l) ls
+
+abbrev pub fillers_of : View → List View
+fillers_of v = by_role (v ∷ []) [] [] v.role
+
+abbrev pub fillers : List View → List View
+fillers views = flat_map fillers_of views
+
+-- a hand knows what was pushed
+abbrev pub KnowsFilled : List Item → View → Type 0
+KnowsFilled pushed v = v.role ≡ Holder → v.filled ≡ pushed
+
+-- The state of a feed of this bundle for `workers` hands: what was pushed, what was popped, the rest that the deque
+-- holds, and a list for each hand, ended ones included, of which there are `ended`.
+-- What was pushed begins the bundle's items, and is all of them once a hand has begun. It is a front that the hands
+-- took, then what was popped, then the rest. Each item, of this bundle or not, stands in the hands' lists together once
+-- where it is in the front, and else not at all. Each hand's list rises and has at most one end mark. At most `workers`
+-- hands have begun, and nothing is popped until as many have ended.
+pub record IsSound (bundle : List Folder) (workers : ℕ) (pushed popped rest : List Item) (hands : List (List Item)) (ended : ℕ) : Type 0 where
+  pub front : List Item
+  pub behind : List Item
+  pub in_order : items bundle workers ≡ pushed ++ behind
+  pub all_pushed : 0 < length hands → behind ≡ []
+  pub parts : pushed ≡ front ++ (popped ++ rest)
+  pub once : (x : Item) → times x (joined hands) ≡ cond (has front x) 1 0
+  pub each : AllByRecursion (λ l. Rises l × (marks l ≤ 1)) hands
+  pub few : length hands ≤ workers
+  pub late : 0 < length popped → workers ≤ ended
+
+-- The rule: one pass is the filler's, it knows how many hands have begun, each hand knows what was pushed, and the
+-- state that the views tell of is sound for some bundle and some number of workers
+pub record Fed (rest : List Item) (views : List View) : Type 0 where
+  pub bundle : List Folder
+  pub workers : ℕ
+  pub filler : View
+  pub one : fillers views ≡ filler ∷ []
+  pub counted : filler.begun ≡ length (lists views)
+  pub known : AllByRecursion (KnowsFilled filler.filled) views
+  pub sound : IsSound bundle workers filler.filled filler.taken rest (lists views) (length filler.ended)
+
+-- how a step changes the view of the pass that makes it
+abbrev pub pushed : View → List Item → View
+pushed v xs = record v { filled = v.filled ++ xs }
+
+abbrev pub took : View → List Item → View
+took v xs = record v { taken = v.taken ++ xs }
+
+abbrev pub begins_one : View → View
+begins_one v = record v { begun = v.begun + 1 }
+
+abbrev pub new_hand : View → View
+new_hand v = holding v.filled []
+
+abbrev pub ends_one : View → View → View
+ends_one v w = record v { ended = v.ended ++ w.taken ∷ [] }
+
+-- what a steal tells a hand: its list still rises, and it took an item of the feed
+abbrev pub Stole : View → List Item → View → Type 0
+Stole v xs w = (w ≡ took v xs) × Rises w.taken × AllByRecursion (λ x. has v.filled x ≡ true) xs
+
+-- what a pop tells the filler
+abbrev pub Popped : View → List Item → View → Type 0
+Popped v xs w = (w ≡ took v xs) × (length w.taken ≤ length w.filled)
+
+abbrev pub AllMarks : List Item → Type 0
+AllMarks xs = AllByRecursion (λ x. is_mark x ≡ true) xs
+
+-- what the filler knows once all hands have ended and the deque is empty: each item is in one list, once
+abbrev pub AllOut : View → Type 0
+AllOut v =
+    ((x : Item) → times x (joined v.ended) + times x v.taken ≡ cond (has v.filled x) 1 0)
+    × (0 < marks (joined v.ended) → AllMarks v.taken)

@@ -1,0 +1,218 @@
+-- What is found of a set is its onset, period and displacement, where it settles, and none where it doesn't.
+use Rattle.std.proofs.Common.{◌≡◌, ℕ, zero, suc, ◌+◌, ◌-◌, ◌<◌, ◌≤◌, ◌⊎◌, inl, inr, Bool, true, false, cond, Decides, Option, Some, None, is_some, sym, refl, ap, subst, ◌∙◌, true≢false, ℤ, List, [], arith}
+use Rattle.std.proofs.lemmas.Slice.Eq.{slice_eq-Decides}
+use Rattle.std.proofs.lemmas.Bool.{cases_lt}
+use Rattle.std.proofs.lemmas.Bool.Decides.{Decides-like}
+use Rattle.life_model.specs.Cell.{Cell, origin, plus, opposite}
+use Rattle.life_model.specs.Rule.{Rule}
+use Rattle.life_model.specs.Generation.{Generation, cells, from_list, size, empty}
+use Rattle.life_model.specs.Evolution.{generation}
+use Rattle.life_model.specs.Symmetry.{normal, moved, corner, corner_of}
+use Rattle.life_model.specs.Recurrence.{SettlesAt, Settles}
+use Rattle.life_model.proofs.Cells.{same_cell-is, pair}
+use Rattle.life_model.proofs.Generations.{from_list-cells, cells-from_list}
+use Rattle.life_model.proofs.Moves.{moved-empty}
+use Rattle.life_model.proofs.Recurrences.{shape, way, move_from_shape, settles_from_shape, recurs_from_shape, shape_from_move, shape_from_recurs, Settles-one, Settles-other_bound, onset-period-least}
+use Rattle.life_answer.specs.declared.finding.Finding.TheVariants.{Recurs, Unresolved}
+use Rattle.life_answer.specs.Recurrence.{same_shape, first_from, comes_again, first_return, first_onset}
+use Rattle.life_answer.specs.Answers.{settled, finding_at, finding_from, finding_of}
+
+-- ---- one shape
+
+same_shape-is : (G H : Generation) → Decides (same_shape G H) (normal G ≡ normal H)
+same_shape-is G H =
+    Decides-like (same_shape G H)
+    (λ e. sym (from_list-cells (normal G)) ∙ ap from_list e ∙ from_list-cells (normal H))
+    (λ e. ap cells e)
+    (slice_eq-Decides same_cell-is (cells (normal G)) (cells (normal H)) (same_shape G H) refl)
+
+-- ---- the first number that passes
+
+record IsFirst (test : ℕ → Bool) (from end first : ℕ) : Type 0 where
+  reached : from ≤ first
+  below : first < end
+  passes : test first ≡ true
+  before : (m : ℕ) → from ≤ m → m < first → test m ≡ false
+
+bool_cases : (b : Bool) → (b ≡ true) ⊎ (b ≡ false)
+bool_cases true = inl refl
+bool_cases false = inr refl
+
+first_from-found : (test : ℕ → Bool) (count n first : ℕ) → first_from test n count ≡ Some first → IsFirst test n (n + count) first
+first_from-found test zero n first e = absurd cc
+first_from-found test (suc count) n first e =
+    elim (bool_cases (test n)) [
+      | inl passed ↦
+          let here : n ≡ first = cc in
+          record {
+            reached = omega arith;
+            below = omega arith;
+            passes = ap test (sym here) ∙ passed;
+            before = λ m h k. absurd (omega arith);
+          }
+      | inr failed ↦
+          let r = first_from-found test count (n + 1) first (let s : first_from test (n + 1) count ≡ Some first = ap (λ b. cond b (Some n) (first_from test (n + 1) count)) (sym failed) ∙ e in s) in
+          let reached = r.reached in
+          let below = r.below in
+          record {
+            reached = omega arith;
+            below = omega arith;
+            passes = r.passes;
+            before = λ m h k. elim (cases_lt n m) [ inl later ↦ r.before m (omega arith) k | inr same ↦ ap test (let s : m ≡ n = omega arith in s) ∙ failed ];
+          }
+    ]
+
+first_from-none : (test : ℕ → Bool) (count n m : ℕ) → first_from test n count ≡ None → n ≤ m → m < n + count → test m ≡ false
+first_from-none test zero n m e h k = absurd (omega arith)
+first_from-none test (suc count) n m e h k =
+    elim (bool_cases (test n)) [
+      | inl passed ↦ absurd (let s : ◌≡◌ {A = Option ℕ} (Some n) None = ap (λ b. cond b (Some n) (first_from test (n + 1) count)) (sym passed) ∙ e in cc)
+      | inr failed ↦
+          elim (cases_lt n m) [
+            | inl later ↦ first_from-none test count (n + 1) m (ap (λ b. cond b (Some n) (first_from test (n + 1) count)) (sym failed) ∙ e) (omega arith) (omega arith)
+            | inr same ↦ ap test (let s : m ≡ n = omega arith in s) ∙ failed
+          ]
+    ]
+
+is_none : (o : Option ℕ) → is_some o ≡ false → o ≡ None
+is_none None e = refl
+is_none (Some n) e = absurd (true≢false e)
+
+-- ---- generations that come again
+
+corner-empty : corner empty ≡ origin
+unfolding corner
+corner-empty = ap corner_of (cells-from_list [] tt)
+
+module _ (R : Rule) (G : Generation) where
+  comes_again-is : (g n : ℕ) → Decides (comes_again R G g n) (shape R G (g + n) ≡ shape R G g)
+  comes_again-is g n = same_shape-is (generation R G (g + n)) (generation R G g)
+
+  still_way : (g n : ℕ) → shape R G (g + n) ≡ shape R G g → generation R G g ≡ empty → way R G g n ≡ origin
+  still_way g n e none =
+      let later : generation R G (g + n) ≡ empty = move_from_shape R G g n e ∙ ap (λ H. moved H (way R G g n)) none ∙ moved-empty (way R G g n) in
+      (λ i. plus (opposite (corner (none i))) (corner (later i))) ∙ (λ i. plus (opposite (corner-empty i)) (corner-empty i))
+
+  module _ (b : ℕ) where
+    -- a generation settles exactly where it has a first return
+    no_return : (g : ℕ) → is_some (first_return R G b g) ≡ false → SettlesAt R G b g → ⊥
+    no_return g none s =
+        let n = s.steps in
+        let within : g + n ≤ b = s.within in
+        let later : 1 ≤ n = s.later in
+        let e : shape R G (g + n) ≡ shape R G g = shape_from_move R G g n s.by s.again in
+        true≢false (sym ((comes_again-is g n).1 e) ∙ first_from-none (comes_again R G g) (b - g) 1 n (is_none (first_return R G b g) none) later (omega arith))
+
+    -- the least return of the first generation that has one is the period
+    settles_by_first : (g n : ℕ) → ((h : ℕ) → h < g → SettlesAt R G b h → ⊥) → g < b → IsFirst (comes_again R G g) 1 (1 + (b - g)) n → Settles R G b g n (way R G g n)
+    settles_by_first g n before early r =
+        let later : 1 ≤ n = r.reached in
+        let below = r.below in
+        let e : shape R G (g + n) ≡ shape R G g = (comes_again-is g n).0 r.passes in
+        record {
+          settles = settles_from_shape R G b g n later (omega arith) e;
+          first = λ h s. let not_before : h < g → ⊥ = λ k. before h k s in omega arith;
+          recurs = recurs_from_shape R G g n later e;
+          least = λ m d again.
+              let fits : 1 ≤ m = again.later in
+              let not_below : m < n → ⊥ = λ k.
+              true≢false (sym ((comes_again-is g m).1 (shape_from_recurs R G g m d again)) ∙ r.before m fits k) in
+              omega arith;
+          unmoved = still_way g n e;
+        }
+
+    -- what is found: a settling with its finding, or that there is none
+    pub record IsSettled : Type 0 where
+      pub onset : ℕ
+      pub period : ℕ
+      pub by : Cell
+      pub settles : Settles R G b onset period by
+      pub found : finding_of R G b ≡ settled R G onset period by
+
+    pub record IsUnsettled : Type 0 where
+      pub nowhere : (g : ℕ) → SettlesAt R G b g → ⊥
+      pub found : finding_of R G b ≡ Unresolved (size G)
+
+    found_by : (o : Option ℕ) → first_onset R G b ≡ o → finding_of R G b ≡ finding_from R G b o
+    unfolding finding_of
+    found_by o e = ap (finding_from R G b) e
+
+    return_of : (g : ℕ) (r : Option ℕ) → is_some r ≡ true → (n : ℕ) × (r ≡ Some n)
+    return_of g None e = absurd (true≢false (sym e))
+    return_of g (Some n) e = (n, refl)
+
+    onset_cases : (o : Option ℕ) → first_onset R G b ≡ o → IsSettled ⊎ IsUnsettled
+    onset_cases None e = inr (record {
+      nowhere = λ g s.
+          let within : g + s.steps ≤ b = s.within in
+          let later : 1 ≤ s.steps = s.later in
+          no_return g (first_from-none (λ g. is_some (first_return R G b g)) b 0 g e (omega arith) (omega arith)) s;
+      found = found_by None e;
+    })
+    onset_cases (Some g) e =
+        let first = first_from-found (λ g. is_some (first_return R G b g)) b 0 g e in
+        let n = return_of g (first_return R G b g) first.passes in
+        let below : g < 0 + b = first.below in
+        inl (record {
+          onset = g;
+          period = n.0;
+          by = way R G g n.0;
+          settles = settles_by_first g n.0 (λ h k. no_return h (first.before h (omega arith) k)) (omega arith)
+              (first_from-found (comes_again R G g) (b - g) 1 n.0 n.1);
+          found = found_by (Some g) e ∙ ap (finding_at R G g) n.1;
+        })
+
+    pub settled_or_not : IsSettled ⊎ IsUnsettled
+    settled_or_not = onset_cases (first_onset R G b) refl
+
+    settled_same : (o p o' p' : ℕ) (d d' : Cell) → o ≡ o' → p ≡ p' → d ≡ d' → settled R G o p d ≡ settled R G o' p' d'
+    settled_same o p o' p' d d' x y z = λ i. settled R G (x i) (y i) (z i)
+
+    pub finding-settled : (o p : ℕ) (d : Cell) → Settles R G b o p d → finding_of R G b ≡ settled R G o p d
+    finding-settled o p d s =
+        elim settled_or_not [
+          | inl found ↦
+              let one = Settles-one R G b b found.onset found.period o p found.by d in
+              let same = one found.settles s in
+              found.found ∙ settled_same found.onset found.period o p found.by d same.0 same.1 same.2
+          | inr none ↦ absurd (none.nowhere o s.settles)
+        ]
+
+    pub finding-nowhere : ((g : ℕ) → SettlesAt R G b g → ⊥) → finding_of R G b ≡ Unresolved (size G)
+    finding-nowhere none =
+        elim settled_or_not [
+          | inl found ↦ absurd (none found.onset found.settles.settles)
+          | inr not ↦ not.found
+        ]
+
+    settled_apart : (o p n : ℕ) (d : Cell) → settled R G o p d ≡ Unresolved n → ⊥
+    settled_apart o p n d e = cc
+
+    pub nowhere_by_finding : (n g : ℕ) → finding_of R G b ≡ Unresolved n → SettlesAt R G b g → ⊥
+    nowhere_by_finding n g e s =
+        elim settled_or_not [
+          | inl found ↦ settled_apart found.onset found.period n found.by (sym found.found ∙ e)
+          | inr not ↦ not.nowhere g s
+        ]
+
+    settles_same : (o p population onset period : ℕ) (d : Cell) (dx dy : ℤ) (code : List ℕ) → settled R G o p d ≡ Recurs population onset period dx dy code → Settles R G b o p d → Settles R G b onset period (dx, dy)
+    settles_same o p population onset period d dx dy code e s =
+        let onsets : o ≡ onset = cc in
+        let periods : p ≡ period = cc in
+        let left : d.0 ≡ dx = cc in
+        let down : d.1 ≡ dy = cc in
+        subst (λ o. Settles R G b o period (dx, dy)) onsets (subst (λ p. Settles R G b o p (dx, dy)) periods (subst (λ d. Settles R G b o p d) (pair left down) s))
+
+    pub settles_by_finding : (population onset period : ℕ) (dx dy : ℤ) (code : List ℕ) → finding_of R G b ≡ Recurs population onset period dx dy code → Settles R G b onset period (dx, dy)
+    settles_by_finding population onset period dx dy code e =
+        elim settled_or_not [
+          | inl found ↦ settles_same found.onset found.period population onset period found.by dx dy code (sym found.found ∙ e) found.settles
+          | inr not ↦ absurd (let apart : Unresolved (size G) ≡ Recurs population onset period dx dy code = sym not.found ∙ e in cc)
+        ]
+
+  pub finding-more : (b c o p : ℕ) (d : Cell) → Settles R G b o p d → o + p ≤ c → finding_of R G c ≡ finding_of R G b
+  finding-more b c o p d s h = finding-settled c o p d (Settles-other_bound R G b o p d s c h) ∙ sym (finding-settled b o p d s)
+
+  pub finding-less : (b c o p : ℕ) (d : Cell) → Settles R G b o p d → c < o + p → finding_of R G c ≡ Unresolved (size G)
+  finding-less b c o p d s h =
+      finding-nowhere c (λ g t. let enough : o + p ≤ c = onset-period-least R G b o p d s c g t in let no : ⊥ = omega arith in no)

@@ -1,0 +1,57 @@
+-- What is found of a pattern and of a text.
+use Rattle.std.specs.Prelude.{ℕ, ◌+◌, List, Option, Some, None, Result, Ok, Err}
+use Rattle.life_model.specs.Cell.{Cell}
+use Rattle.life_model.specs.Rule.{Rule}
+use Rattle.life_model.specs.Generation.{Generation, size}
+use Rattle.life_model.specs.Evolution.{generation}
+use Rattle.life_text.specs.declared.rle.RleFault.{RleFault}
+use Rattle.life_text.specs.declared.rle.RleFault.TheVariants.{NoHeader, BadHeader, RuleNotLifeLike, RuleHasB0, ManyStates, BadChar, BadRun, TooFar, TooMany, NoEnd, Memory}
+use Rattle.life_text.specs.Rle.{reading}
+use Rattle.life_text.specs.Picture.{Picture, picture_of}
+use Rattle.life_answer.specs.declared.finding.Finding.{Finding}
+use Rattle.life_answer.specs.declared.finding.Finding.TheVariants.{Recurs, Unresolved}
+use Rattle.life_answer.specs.declared.finding.Answer.{Answer}
+use Rattle.life_answer.specs.declared.finding.Answer.TheVariants.{Found, Refused}
+use Rattle.life_answer.specs.Apgcode.{code_of}
+use Rattle.life_answer.specs.Recurrence.{first_onset, first_return, corners_apart}
+
+-- The finding of a set that settles: the population is that of the set itself, and the code that of its generation at
+-- the onset.
+abbrev pub settled : Rule → Generation → ℕ → ℕ → Cell → Finding
+settled R G onset period displacement =
+    Recurs (size G) onset period displacement.0 displacement.1 (code_of R (generation R G onset) period displacement)
+
+abbrev pub finding_at : Rule → Generation → ℕ → Option ℕ → Finding
+finding_at R G onset None = Unresolved (size G)
+finding_at R G onset (Some period) =
+    settled R G onset period (corners_apart (generation R G onset) (generation R G (onset + period)))
+
+abbrev pub finding_from : Rule → Generation → ℕ → Option ℕ → Finding
+finding_from R G b None = Unresolved (size G)
+finding_from R G b (Some onset) = finding_at R G onset (first_return R G b onset)
+
+-- what is found of a set within the bound
+unfoldable pub finding_of : Rule → Generation → ℕ → Finding
+finding_of R G b = finding_from R G b (first_onset R G b)
+
+-- the number that reports print
+abbrev pub fault_number : RleFault → ℕ
+fault_number NoHeader = 1
+fault_number BadHeader = 2
+fault_number RuleNotLifeLike = 3
+fault_number RuleHasB0 = 4
+fault_number (ManyStates at) = 5
+fault_number (BadChar at) = 6
+fault_number (BadRun at) = 7
+fault_number (TooFar at) = 8
+fault_number (TooMany at) = 9
+fault_number NoEnd = 10
+fault_number Memory = 11
+
+abbrev pub answer_to : Result Picture RleFault → ℕ → Answer
+answer_to (Ok pattern) b = Found pattern.rule (finding_of pattern.rule pattern.cells b)
+answer_to (Err fault) b = Refused (fault_number fault)
+
+-- what is found of an RLE text within the bound
+unfoldable pub answer_of : List ℕ → ℕ → Answer
+answer_of text b = answer_to (picture_of (reading text)) b

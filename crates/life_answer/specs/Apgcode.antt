@@ -1,0 +1,34 @@
+-- The code of an object, as on LifeWiki. Which of equally short bodies is taken is this project's choice.
+use Rattle.std.specs.Prelude.{ℕ, List, [], ◌∷◌, ◌++◌, codes, decimal, map, flat_map, ◌==◌, if◌then◌else◌}
+use Rattle.std.specs.List.{range_with_len}
+use Rattle.life_model.specs.Cell.{Cell, origin, same_cell}
+use Rattle.life_model.specs.Rule.{Rule}
+use Rattle.life_model.specs.Generation.{Generation, size}
+use Rattle.life_model.specs.Evolution.{generation}
+use Rattle.life_model.specs.Symmetry.{Orientation, Same, FlipX, FlipY, Half, Swap, SwapFlipX, SwapFlipY, SwapHalf, turned}
+use Rattle.life_shape.specs.Wechsler.{body}
+use Rattle.life_shape.specs.TextOrder.{least_text}
+
+-- `xs` and the population of what stays as it is, `xp` and the period of what comes again in place, `xq` and the
+-- period of what comes again elsewhere
+abbrev pub prefix : ℕ → ℕ → Cell → List ℕ
+prefix population period displacement =
+    if same_cell displacement origin
+    then (if period == 1 then codes "xs" ++ decimal population else codes "xp" ++ decimal period)
+    else codes "xq" ++ decimal period
+
+abbrev pub orientations : List Orientation
+orientations = Same ∷ FlipX ∷ FlipY ∷ Half ∷ Swap ∷ SwapFlipX ∷ SwapFlipY ∷ SwapHalf ∷ []
+
+-- the Wechsler texts of a set, turned by each of the eight maps
+abbrev pub turned_bodies : Generation → List (List ℕ)
+turned_bodies G = map (λ m. body (turned G m)) orientations
+
+-- those of all phases of one period
+abbrev pub bodies : Rule → Generation → ℕ → List (List ℕ)
+bodies R H period = flat_map (λ n. turned_bodies (generation R H n)) (range_with_len 0 period)
+
+-- the code of a set that comes again after so many steps, moved so far: behind its prefix the least of those texts, by
+-- length and then by bytes
+unfoldable pub code_of : Rule → Generation → ℕ → Cell → List ℕ
+code_of R H period displacement = prefix (size H) period displacement ++ codes "_" ++ least_text (bodies R H period)

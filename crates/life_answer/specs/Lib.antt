@@ -1,0 +1,3 @@
+pub mod Apgcode
+pub mod Recurrence
+pub mod Answers

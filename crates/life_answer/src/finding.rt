@@ -1,0 +1,37 @@
+//! What is found of a pattern and of a text.
+use crate::code::Code;
+use life_cells::rule::Rule;
+
+/// What is found of a pattern within a bound.
+#[derive(Drop)]
+pub enum Finding {
+    /// It comes again, moved as a whole.
+    Recurs {
+        /// How many live cells generation 0 has.
+        population: u64,
+        /// The first generation that comes again within the bound.
+        onset: u32,
+        /// After how many generations that one first comes again.
+        period: u32,
+        /// How far to the right it then stands; 0 where there is no cell.
+        dx: i32,
+        /// How far down it then stands; 0 where there is no cell.
+        dy: i32,
+        /// The code of the object that it has become.
+        code: Code,
+    },
+    /// No generation comes again within the bound.
+    Unresolved {
+        /// How many live cells generation 0 has.
+        population: u64,
+    },
+}
+
+/// What is found of an RLE text within a bound.
+#[derive(Drop)]
+pub enum Answer {
+    /// The text means a pattern.
+    Found { rule: Rule, finding: Finding },
+    /// The text is no pattern: the number of its fault, from 1 to 10.
+    Refused(u8),
+}

@@ -1,0 +1,46 @@
+//! The laws that tie the answer to the definition of onset, period and displacement.
+ghost use Rattle.std.specs.Prelude.{◌≡◌, ◌+◌, ◌<◌, ◌≤◌, ℕ, List, Ok, Some, ℤ};
+ghost use Rattle.life_model.specs.Cell.{Cell};
+ghost use Rattle.life_model.specs.Evolution.{generation};
+ghost use Rattle.life_model.specs.Generation.{Generation, size};
+ghost use Rattle.life_model.specs.Recurrence.{Settles, SettlesAt};
+ghost use Rattle.life_model.specs.Rule.{Rule};
+ghost use Rattle.life_text.specs.declared.rle.RleFault.{RleFault};
+ghost use Rattle.life_text.specs.Picture.{Picture, picture_of};
+ghost use Rattle.life_text.specs.Rle.{reading, refusal};
+ghost use Rattle.life_answer.specs.Answers.{answer_of, fault_number, finding_of, settled};
+ghost use Rattle.life_answer.specs.Apgcode.{code_of};
+ghost use Rattle.life_answer.specs.declared.finding.Finding.TheVariants.{Recurs, Unresolved};
+ghost use Rattle.life_answer.specs.declared.finding.Answer.TheVariants.{Found, Refused};
+
+/// What is found of a set that settles within the bound: the population of the set itself, its onset, period and
+/// displacement, and the code of the generation at the onset. And only of such a set is it found.
+pub fn a_settled_set_recurs()
+    ensures found { (R : Rule) (G : Generation) (b onset period : ℕ) (d : Cell) → Settles R G b onset period d →
+        finding_of R G b ≡ Recurs (size G) onset period d.0 d.1 (code_of R (generation R G onset) period d) }
+    ensures only { (R : Rule) (G : Generation) (b population onset period : ℕ) (dx dy : ℤ) (code : List ℕ) →
+        finding_of R G b ≡ Recurs population onset period dx dy code → Settles R G b onset period (dx, dy) }
+{}
+
+/// A set is unresolved exactly where none of its generations comes again within the bound.
+pub fn an_unresolved_set_settles_nowhere()
+    ensures found { (R : Rule) (G : Generation) (b : ℕ) → ((g : ℕ) → SettlesAt R G b g → ⊥) → finding_of R G b ≡ Unresolved (size G) }
+    ensures only { (R : Rule) (G : Generation) (b population g : ℕ) → finding_of R G b ≡ Unresolved population → SettlesAt R G b g → ⊥ }
+{}
+
+/// A set that settles within a bound has the same finding within every bound that its onset and its period together
+/// don't pass, and within no other.
+pub fn one_finding()
+    ensures more { (R : Rule) (G : Generation) (b c onset period : ℕ) (d : Cell) → Settles R G b onset period d →
+        onset + period ≤ c → finding_of R G c ≡ finding_of R G b }
+    ensures less { (R : Rule) (G : Generation) (b c onset period : ℕ) (d : Cell) → Settles R G b onset period d →
+        c < onset + period → finding_of R G c ≡ Unresolved (size G) }
+{}
+
+/// The answer to a text is the finding of the pattern that it means, or the number of its fault, which is 1 to 10.
+pub fn a_text_is_found_or_refused()
+    ensures found { (text : List ℕ) (b : ℕ) (pattern : Picture) → picture_of (reading text) ≡ Ok pattern →
+        answer_of text b ≡ Found pattern.rule (finding_of pattern.rule pattern.cells b) }
+    ensures refused { (text : List ℕ) (b : ℕ) (fault : RleFault) → refusal text ≡ Some fault → answer_of text b ≡ Refused (fault_number fault) }
+    ensures numbered { (text : List ℕ) (b number : ℕ) → answer_of text b ≡ Refused number → (1 ≤ number) × (number ≤ 10) }
+{}

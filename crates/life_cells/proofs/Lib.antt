@@ -1,0 +1,4 @@
+pub mod RuleLemmas
+pub mod FormLemmas
+pub mod Sorted
+pub mod PrintLemmas

@@ -1,0 +1,151 @@
+//! Finite sets of cells as lists in order.
+ghost use Rattle.std.specs.Prelude.{◌≡◌, ◌↔◌, ◌≤◌, All, IfOk, IsTrue, List, OnOk, T, ℤ};
+ghost use Rattle.life_model.specs.Generation.{Generation, empty, from_list, is_rising};
+ghost use Rattle.life_model.specs.Generation as generation;
+ghost use Rattle.life_cells.specs.Limits.{IsPlace, IsWithin};
+ghost use Rattle.life_cells.specs.declared.cell_list.CellFault.TheVariants.{OutOfField};
+
+use crate::order::put_in_order;
+use std::alloc::{AllocError, Global};
+use std::marker::Model;
+use thiserror::Error;
+
+/// Why cells are no list of cells.
+#[derive(Clone, Copy, Debug, PartialEq, Eq, Drop, Error)]
+pub enum CellFault {
+    /// A place below -16,777,216 or above 16,777,215.
+    #[error("cell fault 1")]
+    OutOfField,
+    /// Memory was refused.
+    #[error("out of memory")]
+    Memory,
+}
+
+impl From<AllocError> for CellFault {
+    ghost use Rattle.std.specs.Prelude.{◌≡◌};
+    ghost use Rattle.life_cells.specs.declared.cell_list.CellFault.TheVariants.{Memory};
+
+    ghost from_gives = { λ _ e. e ≡ Memory };
+
+    fn from(_: AllocError) -> CellFault {
+        CellFault::Memory
+    }
+}
+
+/// A finite set of cells `(x, y)`, listed by rising y and then x, each once. Every place is from -16,777,216 to
+/// 16,777,215.
+#[derive(Drop)]
+pub struct CellList {
+    items: Vec<(i32, i32)>,
+}
+
+impl Model for CellList {
+    ghost use Rattle.std.specs.Prelude.{T, All};
+    ghost use Rattle.life_model.specs.Coded.{coded_generation};
+    ghost use Rattle.life_model.specs.Generation.{Generation, from_list, is_rising};
+    ghost use Rattle.life_cells.specs.Limits.{IsPlace};
+
+    ghost Value = { Generation };
+
+    ghost coded = { coded_generation };
+
+    ghost view = { λ l. from_list l.items.items };
+
+    ghost invariant = { λ l. T (is_rising l.items.items) × All IsPlace l.items.items };
+}
+
+/// Whether a cell has a place of a list of cells.
+fn is_place(cell: (i32, i32)) -> bool
+    ensures { IsTrue result ↔ IsPlace cell }
+{
+    -16_777_216 <= cell.0 && cell.0 <= 16_777_215 && -16_777_216 <= cell.1 && cell.1 <= 16_777_215
+}
+
+/// Whether both places of a cell are from 0 to 1,048,575.
+fn is_in_field(cell: (i32, i32)) -> bool
+    ensures { IsTrue result ↔ IsWithin 0 cell }
+{
+    0 <= cell.0 && cell.0 <= 1_048_575 && 0 <= cell.1 && cell.1 <= 1_048_575
+}
+
+/// Whether all cells have places of a list of cells.
+fn are_places(cells: &[(i32, i32)]) -> bool
+    ensures { IsTrue result ↔ All IsPlace cells.now }
+{
+    for cell in cells {
+        if !is_place(*cell) {
+            return false;
+        }
+    }
+    true
+}
+
+/// Whether all places of the cells are from 0 to 1,048,575.
+fn are_in_field(cells: &[(i32, i32)]) -> bool
+    ensures { IsTrue result ↔ All (IsWithin 0) cells.now }
+{
+    for cell in cells {
+        if !is_in_field(*cell) {
+            return false;
+        }
+    }
+    true
+}
+
+impl CellList {
+    /// The set of these cells `(x, y)`, which may come in any order and with repeats.
+    ///
+    /// `OutOfField` is answered where a place is below -16,777,216 or above 16,777,215, before any memory is asked for.
+    pub fn of(alloc: Global, cells: &[(i32, i32)]) -> Result<CellList, CellFault>
+        ensures cells { IfOk result (λ list. list ≡ from_list cells.now) }
+        ensures lawful { OnOk result (All IsPlace cells.now) }
+        // It comes before want of memory is met.
+        ensures outside { (result ≡ Err OutOfField) ↔ (All IsPlace cells.now → ⊥) }
+    {
+        if !are_places(cells) {
+            return Err(CellFault::OutOfField);
+        }
+        let mut items = cells.to_vec(alloc)?;
+        put_in_order(&mut items);
+        Ok(CellList { items })
+    }
+
+    /// The set of cells that rise by y and then by x, each once.
+    pub fn from_ordered(items: Vec<(i32, i32)>) -> CellList
+        requires rising { T (is_rising items.items) }
+        requires placed { All IsPlace items.items }
+        ensures { result ≡ from_list items.items }
+    {
+        CellList { items }
+    }
+
+    /// The cells, rising by y and then by x, each once.
+    pub fn as_slice(&self) -> &[(i32, i32)]
+        ensures cells { result.now ≡ generation.cells self.now }
+        ensures rising { T (is_rising result.now) }
+        ensures placed { All IsPlace result.now }
+    {
+        self.items.as_slice()
+    }
+
+    /// How many cells there are.
+    pub fn len(&self) -> usize
+        ensures { result ≡ generation.size self.now }
+    {
+        self.items.len()
+    }
+
+    /// Whether there is no cell.
+    pub fn is_empty(&self) -> bool
+        ensures { IsTrue result ↔ (self.now ≡ empty) }
+    {
+        self.as_slice().is_empty()
+    }
+
+    /// Whether every place is from 0 to 1,048,575.
+    pub fn fits(&self) -> bool
+        ensures { IsTrue result ↔ All (IsWithin 0) (generation.cells self.now) }
+    {
+        are_in_field(self.as_slice())
+    }
+}

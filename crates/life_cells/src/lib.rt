@@ -1,0 +1,8 @@
+//! Life-like rules, and lists of cells.
+#![tactic(auto)]
+
+pub mod cell_list;
+pub mod order;
+pub mod rule;
+#[cfg(test)]
+mod tests;

@@ -1,0 +1,15 @@
+//! Cells in order.
+ghost use Rattle.std.specs.Prelude.{◌≡◌, ℕ, T, All};
+ghost use Rattle.life_model.specs.Generation.{from_list, is_rising};
+ghost use Rattle.life_cells.specs.Limits.{IsPlace, IsWithin};
+
+/// Puts cells in order, by y and then by x, each once.
+pub fn put_in_order(items: &mut Vec<(i32, i32)>)
+    ensures rising { T (is_rising items.new.items) }
+    ensures same { from_list items.new.items ≡ from_list items.old.items }
+    ensures placed { All IsPlace items.old.items → All IsPlace items.new.items }
+    ensures within { (a : ℕ) → All (IsWithin a) items.old.items → All (IsWithin a) items.new.items }
+{
+    items.sort_unstable_by_key(|c| (c.1, c.0));
+    items.dedup();
+}

@@ -1,0 +1,7 @@
+pub mod Cell
+pub mod Generation
+pub mod Rule
+pub mod Evolution
+pub mod Symmetry
+pub mod Recurrence
+pub mod Coded

@@ -1,0 +1,101 @@
+//! The mathematics of Life-like rules on the unbounded plane: definitions in `specs/`, and their laws as the
+//! contracts of functions that do nothing.
+#![tactic(auto)]
+
+ghost use Rattle.std.specs.Prelude.{◌≡◌, ℕ, ◌+◌, ◌<◌, ◌≤◌, ◌↔◌, Bool, true, false, cond, T, List, map};
+ghost use Rattle.std.specs.List.{list_any};
+ghost use Rattle.std.specs.Cmp.{IsTotalOrder};
+ghost use Rattle.std.specs.FinMap.{IsAntisymmetric};
+ghost use Rattle.life_model.specs.Cell.{Cell, IsNear, around, cell_cmp, origin, plus, same_cell};
+ghost use Rattle.life_model.specs.Evolution.{count, generation, next};
+ghost use Rattle.life_model.specs.Generation.{Generation, cells, contains, empty, from_list, is_rising};
+ghost use Rattle.life_model.specs.Recurrence.{AreOneObject, RecursBy, Settles, SettlesAt};
+ghost use Rattle.life_model.specs.Rule.{Rule, born, stays};
+ghost use Rattle.life_model.specs.Symmetry.{IsCorner, Orientation, moved, normal, turned};
+
+/// Cells are in one total order, in which only equal cells tie.
+pub fn cells_are_ordered()
+    ensures total { IsTotalOrder cell_cmp }
+    ensures exact { IsAntisymmetric cell_cmp }
+{}
+
+/// A generation is what its members are.
+pub fn members_tell_generations()
+    ensures { (G H : Generation) → ((c : Cell) → contains G c ≡ contains H c) → G ≡ H }
+{}
+
+/// The members stand in one order, each once, and any list in that order is the members of a generation.
+pub fn members_in_order()
+    ensures listed { (G : Generation) (c : Cell) → contains G c ≡ list_any (same_cell c) (cells G) }
+    ensures rising { (G : Generation) → T (is_rising (cells G)) }
+    ensures made { (cs : List Cell) (c : Cell) → contains (from_list cs) c ≡ list_any (same_cell c) cs }
+    ensures again { (cs : List Cell) → T (is_rising cs) → cells (from_list cs) ≡ cs }
+{}
+
+/// A cell of the plane is live next where its count of live neighbours says so: a live one stays, a dead one is born.
+/// None is born without a neighbour.
+pub fn next_by_members()
+    ensures next { (R : Rule) (G : Generation) (c : Cell) →
+        contains (next R G) c ≡ cond (contains G c) (stays R (count G c)) (born R (count G c)) }
+    ensures neighbours { (R : Rule) → born R 0 ≡ false }
+{}
+
+/// Each cell of the next generation is within one of a cell of this one, in both directions.
+pub fn next_is_near()
+    ensures { (R : Rule) (G : Generation) (c : Cell) →
+        contains (next R G) c ≡ true → (g : Cell) × (contains G g ≡ true) × IsNear c g }
+{}
+
+/// Evolution commutes with moves and with the eight maps.
+pub fn next_commutes()
+    ensures moved { (R : Rule) (G : Generation) (d : Cell) → next R (moved G d) ≡ moved (next R G) d }
+    ensures turned { (R : Rule) (G : Generation) (m : Orientation) → next R (turned G m) ≡ turned (next R G) m }
+{}
+
+/// A set with a cell comes to one place by one move alone.
+pub fn a_move_is_unique()
+    ensures { (G : Generation) (c d e : Cell) → contains G c ≡ true → moved G d ≡ moved G e → d ≡ e }
+{}
+
+/// A move keeps the order of cells.
+pub fn moves_keep_order()
+    ensures { (G : Generation) (d : Cell) → cells (moved G d) ≡ map (λ c. plus c d) (cells G) }
+{}
+
+/// The least x and the least y of a normal form are 0, and the empty set stays.
+pub fn normal_form_stands_at_the_origin()
+    ensures corner { (G : Generation) (c : Cell) → contains G c ≡ true → IsCorner (normal G) origin }
+    ensures empty { normal empty ≡ empty }
+{}
+
+/// Two sets have one normal form exactly where one is the other, moved.
+pub fn normal_forms_tell_moves()
+    ensures { (G H : Generation) → (normal G ≡ normal H) ↔ ((d : Cell) × (H ≡ moved G d)) }
+{}
+
+/// Onset, period and displacement are the same for every bound within which they exist.
+pub fn one_settling()
+    ensures { (R : Rule) (G : Generation) (b c onset period onset2 period2 : ℕ) (d e : Cell) →
+        Settles R G b onset period d → Settles R G c onset2 period2 e → (onset ≡ onset2) × (period ≡ period2) × (d ≡ e) }
+{}
+
+/// A set settles within exactly those bounds that its onset and its period together don't pass.
+pub fn settles_within()
+    ensures within { (R : Rule) (G : Generation) (b onset period : ℕ) (d : Cell) →
+        Settles R G b onset period d → onset + period ≤ b }
+    ensures any { (R : Rule) (G : Generation) (b c onset period : ℕ) (d : Cell) →
+        Settles R G b onset period d → onset + period ≤ c → Settles R G c onset period d }
+    ensures only { (R : Rule) (G : Generation) (b c g onset period : ℕ) (d : Cell) →
+        Settles R G b onset period d → SettlesAt R G c g → onset + period ≤ c }
+{}
+
+/// Sets that recur are one object exactly where some phase of the one, turned, has the shape of some phase of the
+/// other, turned; and then each phase of the one, turned in any way, has.
+pub fn one_object()
+    ensures made { (R : Rule) (G H : Generation) (k l : ℕ) (m n : Orientation) →
+        normal (turned (generation R G k) m) ≡ normal (turned (generation R H l) n) → AreOneObject R G H }
+    ensures each { (R : Rule) (G H : Generation) (p q : ℕ) (d e : Cell) → RecursBy R G p d → RecursBy R H q e →
+        AreOneObject R G H → (k : ℕ) (m : Orientation) →
+        (l : ℕ) × (n : Orientation) × (l < q) × (normal (turned (generation R G k) m) ≡ normal (turned (generation R H l) n)) }
+    ensures swapped { (R : Rule) (G H : Generation) → AreOneObject R G H → AreOneObject R H G }
+{}

@@ -1,0 +1,8 @@
+//! Planes: sets of cells that evolve.
+#![tactic(auto)]
+
+mod evolve;
+pub mod list_plane;
+pub mod plane;
+#[cfg(test)]
+mod tests;

@@ -1,0 +1,76 @@
+//! A plane that keeps its cells as a list in order.
+ghost use Rattle.std.specs.Prelude.{◌≡◌, All, IfOk};
+ghost use Rattle.life_model.specs.Generation.{from_list};
+ghost use Rattle.life_cells.specs.Limits.{IsWithin};
+
+use crate::evolve::next_cells;
+use crate::plane::Plane;
+use life_cells::cell_list::CellList;
+use life_cells::rule::Rule;
+use std::alloc::{AllocError, Global};
+use std::marker::Model;
+
+/// The live cells in order, and how many steps they have made. A step takes time in proportion to the number of live
+/// cells times its logarithm.
+#[derive(Drop)]
+pub struct ListPlane {
+    items: Vec<(i32, i32)>,
+    age: u32,
+}
+
+impl Model for ListPlane {
+    ghost use Rattle.std.specs.Prelude.{ℕ, ◌≤◌, T, All};
+    ghost use Rattle.life_model.specs.Generation.{Generation, from_list, is_rising};
+    ghost use Rattle.life_cells.specs.Limits.{IsWithin};
+    ghost use Rattle.life_plane.specs.Kept.{coded_plane};
+
+    ghost Value = { Generation × ℕ };
+
+    ghost coded = { coded_plane };
+
+    ghost view = { λ p. (from_list p.items.items, p.age) };
+
+    ghost invariant = { λ p. T (is_rising p.items.items) × All (IsWithin p.age) p.items.items × (p.age ≤ 4194304) };
+}
+
+impl Plane for ListPlane {
+    ghost members = { λ p. p.0 };
+
+    ghost steps_made = { λ p. p.1 };
+
+    fn from_cells(alloc: Global, list: &CellList) -> Result<Self, AllocError> {
+        Ok(ListPlane {
+            items: list.as_slice().to_vec(alloc)?,
+            age: 0,
+        })
+    }
+
+    fn step(&mut self, rule: &Rule) -> Result<(), AllocError> {
+        let alloc = *self.items.allocator();
+        let items = next_cells(alloc, rule, self.items.as_slice())?;
+        self.items = items;
+        self.age += 1;
+        Ok(())
+    }
+
+    fn population(&self) -> u64 {
+        self.items.len() as u64
+    }
+
+    fn age(&self) -> u32 {
+        self.age
+    }
+
+    fn cells(&self) -> Result<CellList, AllocError> {
+        let alloc = *self.items.allocator();
+        Ok(CellList::from_ordered(self.items.as_slice().to_vec(alloc)?))
+    }
+
+    fn copy(&self) -> Result<Self, AllocError> {
+        let alloc = *self.items.allocator();
+        Ok(ListPlane {
+            items: self.items.as_slice().to_vec(alloc)?,
+            age: self.age,
+        })
+    }
+}

@@ -1,0 +1,55 @@
+//! A set of cells that evolves.
+ghost use Rattle.std.specs.Prelude.{◌≡◌, ℕ, ◌+◌, ◌<◌, All, OnOk, OnErr, IfOk};
+ghost use Rattle.life_model.specs.Evolution.{next};
+ghost use Rattle.life_model.specs.Generation.{Generation};
+ghost use Rattle.life_model.specs.Generation as generation;
+ghost use Rattle.life_cells.specs.Limits.{IsWithin};
+
+use life_cells::cell_list::CellList;
+use life_cells::rule::Rule;
+use std::alloc::{AllocError, Global};
+
+/// The greatest age that a plane may reach.
+pub const AGE_LIMIT: u32 = 4_194_304;
+
+/// A finite set of live cells on the unbounded plane, and its age: how many steps it has made.
+///
+/// At age `a` every place is from `-a` to `1,048,575 + a`.
+pub trait Plane: Sized + Drop {
+    /// Its live cells, however they are kept.
+    ghost members: { Self → Generation };
+
+    /// How many steps it has made.
+    ghost steps_made: { Self → ℕ };
+
+    /// The plane of these cells, whose places are from 0 to 1,048,575, at age 0.
+    fn from_cells(alloc: Global, list: &CellList) -> Result<Self, AllocError>
+        requires { All (IsWithin 0) (generation.cells list.now) }
+        ensures cells { IfOk result (λ plane. members plane ≡ list.now) }
+        ensures age { IfOk result (λ plane. steps_made plane ≡ 0) };
+
+    /// Makes the next generation. After an `Err` the cells and the age are what they were.
+    fn step(&mut self, rule: &Rule) -> Result<(), AllocError>
+        requires { steps_made self.old < AGE_LIMIT }
+        ensures cells { OnOk result (members self.new ≡ next rule.now (members self.old)) }
+        ensures age { OnOk result (steps_made self.new ≡ steps_made self.old + 1) }
+        ensures unchanged { OnErr result ((members self.new ≡ members self.old) × (steps_made self.new ≡ steps_made self.old)) };
+
+    /// How many live cells there are.
+    fn population(&self) -> u64
+        ensures { result ≡ generation.size (members self.now) };
+
+    /// How many steps it has made.
+    fn age(&self) -> u32
+        ensures age { result ≡ steps_made self.now }
+        ensures within { All (IsWithin (steps_made self.now)) (generation.cells (members self.now)) };
+
+    /// The live cells in order.
+    fn cells(&self) -> Result<CellList, AllocError>
+        ensures cells { IfOk result (λ list. list ≡ members self.now) };
+
+    /// Another plane with the same cells and the same age.
+    fn copy(&self) -> Result<Self, AllocError>
+        ensures cells { IfOk result (λ plane. members plane ≡ members self.now) }
+        ensures age { IfOk result (λ plane. steps_made plane ≡ steps_made self.now) };
+}

@@ -1,0 +1,11 @@
+pub mod Members
+pub mod Boxes
+pub mod Corners
+pub mod TextOrders
+pub mod Marks
+pub mod Drawings
+pub mod Readings
+pub mod Columns
+pub mod Weights
+pub mod DotLists
+pub mod StripLists

@@ -1,0 +1,42 @@
+use Rattle.std.proofs.Common.{◌≡◌, ap, ◌∙◌, ◌∷◌, sym, refl, arith, append-nil}
+use Rattle.life_shape.specs.Reading.{Column, Zeros, NextStrip}
+use Rattle.life_shape.specs.Drawing.{marks_at, seen}
+use Rattle.life_shape.proofs.Drawings.{drawn_more, near_fault}
+use Rattle.life_shape.proofs.reader.read_cells.Goals as goal
+
+pub signs-preserved-in_ok-push_column-in-Value : goal.signs-preserved-in_ok-push_column-in-Value
+signs-preserved-in_ok-push_column-in-Value c =
+    let text = c.args.text.now in
+    let here = c.in_ok-sign.ensures.found ∙ ap (λ s. seen c.signs.at s ∷ marks_at text c.in_ok-sign.next) c.in-Value.is in
+    record {
+      within = c.in_ok-sign.ensures.within;
+      strip = omega arith;
+      column = omega arith;
+      cells = c.in_ok-push_column-in-Value.ensures.within c.signs.invariant.cells;
+      all = drawn_more _ c.signs.cells.items _ c.signs.strip c.signs.column (Column c.signs.at c.in-Value.value) _ _ _ _ c.signs.invariant.all here
+          (near_fault c.signs.at c.signs.strip c.signs.column c.in-Value.value c.in_ok-push_column-in-Value.ensures.near) (omega arith) c.min-column.ensures c.in_ok-push_column-in-Value.ensures.cells;
+    }
+
+pub signs-preserved-in-Skip : goal.signs-preserved-in-Skip
+signs-preserved-in-Skip c =
+    let text = c.args.text.now in
+    let here = c.in_ok-sign.ensures.found ∙ ap (λ s. seen c.signs.at s ∷ marks_at text c.in_ok-sign.next) c.in-Skip.is in
+    record {
+      within = c.in_ok-sign.ensures.within;
+      strip = omega arith;
+      column = omega arith;
+      cells = c.signs.invariant.cells;
+      all = drawn_more _ c.signs.cells.items _ c.signs.strip c.signs.column (Zeros c.in-Skip.count) _ _ _ _ c.signs.invariant.all here refl (omega arith) c.min-column-in-Skip.ensures (sym (append-nil _));
+    }
+
+pub signs-preserved : goal.signs-preserved
+signs-preserved c =
+    let text = c.args.text.now in
+    let here = c.in_ok-sign.ensures.found ∙ ap (λ s. seen c.signs.at s ∷ marks_at text c.in_ok-sign.next) c.in-Down.is in
+    record {
+      within = c.in_ok-sign.ensures.within;
+      strip = omega arith;
+      column = omega arith;
+      cells = c.signs.invariant.cells;
+      all = drawn_more _ c.signs.cells.items _ c.signs.strip c.signs.column NextStrip _ _ _ _ c.signs.invariant.all here refl c.min-strip.ensures refl (sym (append-nil _));
+    }

@@ -1,0 +1,18 @@
+use Rattle.std.proofs.Common.{◌≡◌, ◌-◌, ◌≤◌, length}
+use Rattle.std.specs.Prelude.{All}
+use Rattle.life_cells.specs.Limits.{IsWithin}
+use Rattle.life_shape.specs.Reading.{place_limit}
+use Rattle.life_shape.specs.Drawing.{drawn, marks_at, with_front}
+use Rattle.life_shape.proofs.reader.read_cells.Given as goal
+
+abbrev pub invariant-signs : goal.invariant-signs
+invariant-signs l = record {
+  within : l.at ≤ length l.text;
+  strip : l.strip ≤ place_limit;
+  column : l.column ≤ place_limit;
+  cells : All (IsWithin 0) l.cells.items;
+  all : drawn 0 0 (marks_at l.text 0) ≡ with_front l.cells.items (drawn l.strip l.column (marks_at l.text l.at));
+}
+
+abbrev pub decreases-signs : goal.decreases-signs
+decreases-signs l = length l.text - l.at

@@ -1,0 +1,16 @@
+-- The eight maps by their names.
+use Rattle.std.specs.Prelude.{Bool, List}
+use Rattle.std.specs.Cmp.Lexicographic.{pointwise}
+use Rattle.life_model.specs.Symmetry as symmetry
+use Rattle.life_shape.specs.declared.orient.Orient.{Orient}
+use Rattle.life_shape.specs.declared.orient.Orient.TheVariants.{Same, FlipX, FlipY, Half, Swap, SwapFlipX, SwapFlipY, SwapHalf}
+
+abbrev pub orientation : Orient → symmetry.Orientation
+orientation Same = symmetry.Same
+orientation FlipX = symmetry.FlipX
+orientation FlipY = symmetry.FlipY
+orientation Half = symmetry.Half
+orientation Swap = symmetry.Swap
+orientation SwapFlipX = symmetry.SwapFlipX
+orientation SwapFlipY = symmetry.SwapFlipY
+orientation SwapHalf = symmetry.SwapHalf

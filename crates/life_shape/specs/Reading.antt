@@ -1,0 +1,114 @@
+-- Wechsler texts, as they are read: which cells a text spells, and the first character that offends.
+use Rattle.std.specs.Prelude.{ℕ, ◌+◌, ◌-◌, ◌*◌, Bool, true, false, ◌&&◌, ◌||◌, List, [], ◌∷◌, ◌++◌, Option, Some, None, Result, Ok, Err, map, pos, nat_le, ◌==◌, if◌then◌else◌}
+use Rattle.std.specs.List.{list_any, range_with_len, after_last, filter, sum_by}
+use Rattle.std.specs.Option.{option_or}
+use Rattle.std.specs.Int.{bit_at}
+use Rattle.life_model.specs.Cell.{Cell}
+use Rattle.life_model.specs.Generation.{Generation, from_list}
+use Rattle.life_shape.specs.declared.reader.CodeFault.{CodeFault}
+use Rattle.life_shape.specs.declared.reader.CodeFault.TheVariants.{Empty, BadChar, CutRun, TooFar}
+
+-- the first place that is too far
+abbrev pub place_limit : ℕ
+place_limit = 1048576
+
+-- `0` to `9`, and `a` to `z`
+abbrev pub is_digit : ℕ → Bool
+is_digit c = (nat_le 48 c && nat_le c 57) || (nat_le 97 c && nat_le c 122)
+
+-- the number of such a byte
+abbrev pub digit_value : ℕ → ℕ
+digit_value c = if nat_le c 57 then c - 48 else c - 87
+
+-- what a byte, or `y` and the byte behind it, stands for: a column of a value, columns of 0, the next strip, or a fault
+pub data Mark : Type 0 where
+  Column : (at value : ℕ) → Mark
+  Zeros : (count : ℕ) → Mark
+  NextStrip : Mark
+  Offence : CodeFault → Mark
+
+-- what a byte other than `y` stands for
+abbrev pub mark_of : ℕ → ℕ → Mark
+mark_of at c =
+    if is_digit c then (if c == 122 then NextStrip else (if c == 119 then Zeros 2 else (if c == 120 then Zeros 3 else Column at (digit_value c)))) else Offence (BadChar at)
+
+-- what `y` and the byte behind it stand for
+abbrev pub run_of : ℕ → ℕ → Mark
+run_of at c = if is_digit c then Zeros (4 + digit_value c) else Offence (CutRun at)
+
+-- The marks of a text from this place on, which a `y` stands before where there is one: its place.
+abbrev pub marks : Option ℕ → ℕ → List ℕ → List Mark
+marks None at [] = []
+marks (Some y) at [] = Offence (CutRun y) ∷ []
+marks None at (c ∷ rest) = if c == 121 then marks (Some at) (at + 1) rest else mark_of at c ∷ marks None (at + 1) rest
+marks (Some y) at (c ∷ rest) = run_of y c ∷ marks None (at + 1) rest
+
+abbrev pub marks_of : List ℕ → List Mark
+marks_of text = marks None 0 text
+
+abbrev pub is_next_strip : Mark → Bool
+is_next_strip NextStrip = true
+is_next_strip (Column at v) = false
+is_next_strip (Zeros n) = false
+is_next_strip (Offence fault) = false
+
+abbrev pub columns_in : Mark → ℕ
+columns_in (Column at v) = 1
+columns_in (Zeros n) = n
+columns_in NextStrip = 0
+columns_in (Offence fault) = 0
+
+-- the strip of a mark that these stand before
+abbrev pub strip : List Mark → ℕ
+strip before = sum_by (λ m. if is_next_strip m then 1 else 0) before
+
+-- its column
+abbrev pub column : List Mark → ℕ
+column before = sum_by columns_in (after_last is_next_strip before)
+
+-- the rows of a column of this value, from the top
+abbrev pub live_rows : ℕ → List ℕ
+live_rows v = filter (λ j. bit_at v j == 1) (range_with_len 0 5)
+
+-- the live cells of column x of strip k
+abbrev pub column_cells : ℕ → ℕ → ℕ → List (ℕ × ℕ)
+column_cells k x v = map {B = ℕ × ℕ} (λ j. (x, 5 * k + j)) (live_rows v)
+
+-- the live cells of a mark in strip k, at column x
+abbrev pub mark_cells : ℕ → ℕ → Mark → List (ℕ × ℕ)
+mark_cells k x (Column at v) = column_cells k x v
+mark_cells k x (Zeros n) = []
+mark_cells k x NextStrip = []
+mark_cells k x (Offence fault) = []
+
+-- the cells that marks spell which these stand before, of any size
+abbrev pub cells_after : List Mark → List Mark → List (ℕ × ℕ)
+cells_after before [] = []
+cells_after before (m ∷ ms) = mark_cells (strip before) (column before) m ++ cells_after (before ++ m ∷ []) ms
+
+abbrev pub is_far : ℕ × ℕ → Bool
+is_far (x, y) = nat_le place_limit x || nat_le place_limit y
+
+-- the fault of a mark in strip k, at column x
+abbrev pub mark_fault : ℕ → ℕ → Mark → Option CodeFault
+mark_fault k x (Column at v) = if list_any is_far (column_cells k x v) then Some (TooFar at) else None
+mark_fault k x (Zeros n) = None
+mark_fault k x NextStrip = None
+mark_fault k x (Offence fault) = Some fault
+
+-- the fault of the first mark that has one, of those which these stand before
+abbrev pub first_fault : List Mark → List Mark → Option CodeFault
+first_fault before [] = None
+first_fault before (m ∷ ms) = option_or (mark_fault (strip before) (column before) m) (first_fault (before ++ m ∷ []) ms)
+
+abbrev pub placed : ℕ × ℕ → Cell
+placed (x, y) = (pos x, pos y)
+
+-- the cells that the text's lawful characters spell, of any size
+unfoldable pub spelt : List ℕ → Generation
+spelt text = from_list (map placed (cells_after [] (marks_of text)))
+
+-- why a text is refused
+unfoldable pub refusal : List ℕ → Option CodeFault
+refusal [] = Some Empty
+refusal (c ∷ rest) = first_fault [] (marks_of (c ∷ rest))

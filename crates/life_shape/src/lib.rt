@@ -1,0 +1,10 @@
+//! Shapes of sets of cells, the eight maps of the plane, and Wechsler texts.
+#![tactic(auto)]
+
+pub mod code_text;
+pub mod orient;
+pub mod reader;
+pub mod shape;
+#[cfg(test)]
+mod tests;
+mod writer;

@@ -1,0 +1,14 @@
+pub mod PenLemmas
+pub mod CappedLemmas
+pub mod LexLemmas
+pub mod TokenLemmas
+pub mod SpanLemmas
+pub mod BodyLemmas
+pub mod HeaderLemmas
+pub mod RisingLemmas
+pub mod ReadLemmas
+pub mod PictureLemmas
+pub mod CornerLemmas
+pub mod PlaceLemmas
+pub mod GapLemmas
+pub mod TextRows

@@ -1,0 +1,25 @@
+-- What a text means, in the numbers of a list of cells.
+use Rattle.std.specs.Prelude.{List, ℤ, map, Result, Ok, Err}
+use Rattle.life_text.specs.declared.rle.RleFault.{RleFault}
+use Rattle.life_text.specs.declared.rle.Plot.{Plot}
+use Rattle.life_model.specs.Rule.{Rule}
+use Rattle.life_text.specs.Rle.{Meaning}
+use Rattle.life_text.specs.Reader.{placed}
+
+pub record Drawing : Type 0 where
+  pub rule : Rule
+  pub cells : List (ℤ × ℤ)
+
+-- what was read, without where it lies in memory
+abbrev pub drawing : Plot → Drawing
+drawing p = record { rule = p.rule; cells = p.cells.items }
+
+abbrev pub drawing_of : Result Meaning RleFault → Result Drawing RleFault
+drawing_of (Ok meaning) = Ok (record { rule = meaning.rule; cells = map placed meaning.cells })
+drawing_of (Err fault) = Err fault
+
+-- a rule and cells, or the first fault of the two
+abbrev pub drawing_with : Result Rule RleFault → Result (List (ℤ × ℤ)) RleFault → Result Drawing RleFault
+drawing_with (Err fault) cells = Err fault
+drawing_with (Ok r) (Ok cells) = Ok (record { rule = r; cells = cells })
+drawing_with (Ok r) (Err fault) = Err fault

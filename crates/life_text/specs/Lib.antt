@@ -1,0 +1,17 @@
+pub mod Rle
+pub mod Reader
+pub mod Found
+pub mod Drawing
+pub mod Picture
+pub mod Rising
+pub mod Filled
+pub mod Box
+pub mod RleText
+pub mod Writer
+pub use Rattle.life_cells.specs.Bytes
+pub use Rattle.life_cells.specs.Rules
+pub use Rattle.life_cells.specs.Forms
+pub use Rattle.life_cells.specs.Limits
+pub use Rattle.life_model.specs.Cell
+pub use Rattle.life_model.specs.Generation
+pub use Rattle.life_model.specs.Rule

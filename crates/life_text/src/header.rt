@@ -1,0 +1,145 @@
+// The header line of RLE texts.
+ghost use Rattle.std.specs.Prelude.{◌≡◌, ◌<◌, ◌≤◌, ◌+◌, ◌∷◌, ◌++◌, ◌==◌, [], length, drop, take, codes};
+ghost use Rattle.std.specs.List.{prefix_len, suffix_len, list_all};
+ghost use Rattle.std.specs.Option.{option_copied};
+ghost use Rattle.life_cells.specs.Bytes.{is_blank, is_digit, without_front, without_back, trimmed, after_one_of};
+ghost use Rattle.life_text.specs.Rle.{part, after_size, after_sizes, after_rule_name, told, named_rule, rule_behind, line_rule};
+
+use crate::rle::RleFault;
+use life_cells::rule::{Rule, RuleFault, after_byte, after_either};
+
+fn is_blank(byte: u8) -> bool
+    ensures { result ≡ is_blank byte }
+{
+    byte == b' ' || byte == b'\t' || byte == b'\r'
+}
+
+fn is_digit(byte: u8) -> bool
+    ensures { result ≡ is_digit byte }
+{
+    b'0' <= byte && byte <= b'9'
+}
+
+// The text from its first byte on that is no blank.
+fn skip_blanks(text: &[u8]) -> &[u8]
+    ensures { result.now ≡ without_front is_blank text.now }
+{
+    for (i, byte) in text.iter().enumerate() {
+        if !is_blank(*byte) {
+            return &text[i..];
+        }
+    }
+    &text[text.len()..]
+}
+
+// The text up to its last byte that is no blank.
+fn drop_blanks(text: &[u8]) -> &[u8]
+    ensures { result.now ≡ without_back is_blank text.now }
+{
+    let mut end = text.len();
+    while end > 0 && is_blank(text[end - 1]) {
+        end -= 1;
+    }
+    &text[..end]
+}
+
+// How many digits a text begins with.
+fn count_digits(text: &[u8]) -> usize
+    ensures value { result ≡ prefix_len is_digit text.now }
+    ensures within { result ≤ length text.now }
+{
+    for (i, byte) in text.iter().enumerate() {
+        if !is_digit(*byte) {
+            return i;
+        }
+    }
+    text.len()
+}
+
+// What follows one of two bytes, before which blanks may stand.
+fn part_either<'a>(text: &'a [u8], one: u8, other: u8) -> Option<&'a [u8]>
+    ensures { option_copied result ≡ part (one ∷ other ∷ []) text.now }
+{
+    after_either(skip_blanks(text), one, other)
+}
+
+// What follows a byte, before which blanks may stand.
+fn part_byte<'a>(text: &'a [u8], byte: u8) -> Option<&'a [u8]>
+    ensures { option_copied result ≡ part (byte ∷ []) text.now }
+{
+    after_byte(skip_blanks(text), byte)
+}
+
+// What follows one or more digits, before which blanks may stand.
+fn after_size(text: &[u8]) -> Option<&[u8]>
+    ensures { option_copied result ≡ after_size text.now }
+{
+    let digits = skip_blanks(text);
+    let count = count_digits(digits);
+    if count == 0 {
+        return None;
+    }
+    Some(&digits[count..])
+}
+
+// What follows the two sizes.
+fn after_sizes(line: &[u8]) -> Option<&[u8]>
+    ensures { option_copied result ≡ after_sizes line.now }
+{
+    let width_name = part_either(line, b'x', b'X')?;
+    let width_equals = part_byte(width_name, b'=')?;
+    let width = after_size(width_equals)?;
+    let comma = part_byte(width, b',')?;
+    let height_name = part_either(comma, b'y', b'Y')?;
+    let height_equals = part_byte(height_name, b'=')?;
+    after_size(height_equals)
+}
+
+// What follows `, rule =`.
+fn after_rule_name(text: &[u8]) -> Option<&[u8]>
+    ensures { option_copied result ≡ after_rule_name text.now }
+{
+    let comma = part_byte(text, b',')?;
+    let r = part_either(comma, b'r', b'R')?;
+    let u = after_either(r, b'u', b'U')?;
+    let l = after_either(u, b'l', b'L')?;
+    let e = after_either(l, b'e', b'E')?;
+    part_byte(e, b'=')
+}
+
+// The rule that a text names, or the fault that this is in a header.
+fn named_rule(text: &[u8]) -> Result<Rule, RleFault>
+    ensures { result ≡ named_rule (Some text.now) }
+{
+    match Rule::parse(drop_blanks(skip_blanks(text))) {
+        Ok(rule) => Ok(rule),
+        Err(RuleFault::NotLifeLike) => Err(RleFault::RuleNotLifeLike),
+        Err(RuleFault::HasB0) => Err(RleFault::RuleHasB0),
+    }
+}
+
+// Whether a text is blanks alone.
+fn is_blanks(text: &[u8]) -> bool
+    ensures { result ≡ list_all is_blank text.now }
+{
+    text.iter().all(|byte| is_blank(*byte))
+}
+
+// The rule of a header line, or its fault.
+pub fn line_rule(line: &[u8]) -> Result<Rule, RleFault>
+    ensures { result ≡ line_rule line.now }
+{
+    if after_either(line, b'x', b'X').is_none() {
+        return Err(RleFault::NoHeader);
+    }
+    let Some(rest) = after_sizes(line) else {
+        return Err(RleFault::BadHeader);
+    };
+    if is_blanks(rest) {
+        return Ok(Rule::life());
+    }
+    match after_rule_name(rest) {
+        Some(text) => named_rule(text),
+        None => Err(RleFault::BadHeader),
+    }
+}

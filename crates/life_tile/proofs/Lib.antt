@@ -1,0 +1,16 @@
+pub mod BitSums
+pub mod Strips
+pub mod Trees
+pub mod Filling
+pub mod Rows
+pub mod OneCell
+pub mod Visits
+pub mod Members
+pub mod Hinge
+pub mod Windows
+pub mod Rounds
+pub mod Finish
+pub mod Putting
+pub mod Held
+pub mod Pushed
+pub mod Sizes

@@ -1,0 +1,298 @@
+-- How many cells tiles hold: no cell comes twice, and they are no more than a square that holds them all.
+use Rattle.std.proofs.Common.{◌≡◌, ℕ, zero, suc, ℤ, pos, negsuc, ◌+ℤ◌, ◌*ℤ◌, ◌≤ℤ◌, ◌<ℤ◌, ◌+◌, ◌<◌, ◌≤◌, ◌^◌, ◌%◌, ◌==◌, ◌⊎◌, inl, inr, ⊎_elim, Bool, true, false, cond, ◌&&◌, T, List, [], ◌∷◌, ◌++◌, Ordering, Less, Equal, Greater, length, length-append, slice_index, refl, sym, subst, ap, ◌∙◌, arith, eqb-true, eq-eqb, true≢false}
+use Rattle.std.specs.Int.{bit_at}
+use Rattle.std.specs.Int.RustNames.{count_ones}
+use Rattle.std.specs.Ordering.{is_lt, int_cmp, ordering_then, MatchOrdering}
+use Rattle.std.specs.Cmp.{int_ranks, tied_itself}
+use Rattle.std.specs.Map.{keys_of}
+use Rattle.std.specs.List.{AllByRecursion}
+use Rattle.std.specs.List.Sorted.{IsStrictlySortedBy}
+use Rattle.std.specs.BTreeMap.{IsOrdered}
+use Rattle.std.specs.FinMap as finmap
+use Rattle.std.proofs.lemmas.Int.{ints}
+use Rattle.std.proofs.lemmas.Map.Keys.{sorted_head, sorted_tail}
+use Rattle.std.proofs.lemmas.Nat.{pow_pos, mod-pow-add}
+use Rattle.std.proofs.lemmas.Nat.Bits.{bit_at-lt}
+use lib.Count.{ones, ones_in, ones_cat}
+use Rattle.life_model.specs.Cell.{Cell, cell_cmp}
+use Rattle.life_model.specs.Generation.{Generation, contains, empty, insert, from_list, cells, size, below_all, is_rising}
+use Rattle.life_model.proofs.Cells.{cell_cmp_total}
+use Rattle.life_model.proofs.Generations.{contains-from_list, contains-cells, cells-rise, size-cells}
+use Rattle.life_cells.specs.Limits.{IsWithin}
+use Rattle.life_tile.specs.declared.tile.Tile.{Tile}
+use Rattle.life_tile.specs.Tiles.{place_cmp, Tiles}
+use Rattle.life_tile.specs.Cells.{row_cells, block_cells, tiles_cells, generation_of}
+use Rattle.life_tile.specs.Planes.{IsHeld}
+use Rattle.life_tile.proofs.Visits.{place_total, true_or_false}
+use Rattle.life_tile.proofs.Members.{Has, has_none, has_head, has_tail, has_cases, has_parts, RowHas, row_has, BlockHas, block_has}
+use Rattle.life_tile.proofs.Hinge.{same_quotient, not_one}
+
+-- ---- a list in which no cell comes twice is as long as its set is large
+
+abbrev pub IsFresh : List Cell → Type 0
+IsFresh [] = Unit {0}
+IsFresh (c ∷ cs) = (Has cs c → ⊥) × IsFresh cs
+
+size-empty : size empty ≡ 0
+unfolding size empty
+size-empty = finmap.len-empty cell_cmp (Unit {0})
+
+size-insert : (G : Generation) (c : Cell) → contains G c ≡ false → size (insert G c) ≡ size G + 1
+unfolding size insert contains
+size-insert G c new = finmap.len-insert cell_cmp_total G c tt ∙ ap (λ (b : Bool). cond b (finmap.len G) (finmap.len G + 1)) new
+
+lacks : (cs : List Cell) (c : Cell) → (Has cs c → ⊥) → contains (from_list cs) c ≡ false
+unfolding Has
+lacks cs c not =
+    ⊎_elim (λ has. absurd (not (sym (contains-from_list cs c) ∙ has))) (λ none. none) (true_or_false (contains (from_list cs) c))
+
+pub size-fresh : (cs : List Cell) → IsFresh cs → size (from_list cs) ≡ length cs
+size-fresh [] fresh = size-empty
+size-fresh (c ∷ cs) fresh =
+    let more : size (insert (from_list cs) c) ≡ size (from_list cs) + 1 = size-insert (from_list cs) c (lacks cs c fresh.0) in
+    let rest : size (from_list cs) ≡ length cs = size-fresh cs fresh.1 in
+    omega arith
+
+fresh-append : (xs ys : List Cell) → IsFresh xs → IsFresh ys → ((q : Cell) → Has xs q → Has ys q → ⊥) → IsFresh (xs ++ ys)
+fresh-append [] ys one other apart = other
+fresh-append (x ∷ xs) ys one other apart = (
+  λ has. ⊎_elim (λ front. one.0 front) (λ back. apart x (has_head x xs) back) (has_parts x xs ys has),
+  fresh-append xs ys one.1 other (λ q front back. apart q (has_tail x q xs front) back),
+)
+
+-- ---- the cells of tiles
+
+fresh_row : (left y : ℤ) (word n : ℕ) → IsFresh (row_cells left y word n)
+unfolding row_cells
+fresh_row left y word zero = tt
+fresh_row left y word (suc n) =
+    elim (bit_at word n == 1) as (λ b. IsFresh (cond b ((left +ℤ pos n, y) ∷ row_cells left y word n) (row_cells left y word n))) [
+      | true ↦ (
+        λ has.
+            let r : RowHas left y word n (left +ℤ pos n, y) = row_has left y word n (left +ℤ pos n, y) has in
+            let inside : r.j < n = r.inside in
+            let same : (left +ℤ pos n) ≡ (left +ℤ pos r.j) = ap (λ (c : Cell). c.0) r.is in
+            let never : n ≡ r.j = omega (arith, ints) in
+            omega arith,
+        fresh_row left y word n,
+      )
+      | false ↦ fresh_row left y word n
+    ]
+
+fresh_block : (left top : ℤ) (rows : List ℕ) (n : ℕ) → IsFresh (block_cells left top rows n)
+unfolding block_cells
+fresh_block left top rows zero = tt
+fresh_block left top rows (suc n) =
+    fresh-append (row_cells left (top +ℤ pos n) (slice_index rows n) 64) (block_cells left top rows n)
+    (fresh_row left (top +ℤ pos n) (slice_index rows n) 64) (fresh_block left top rows n)
+    (λ q in_row in_rest.
+    let r : RowHas left (top +ℤ pos n) (slice_index rows n) 64 q = row_has left (top +ℤ pos n) (slice_index rows n) 64 q in_row in
+    let b : BlockHas left top rows n q = block_has left top rows n q in_rest in
+    let inside : b.i < n = b.inside in
+    let same : (top +ℤ pos n) ≡ (top +ℤ pos b.i) = sym (ap (λ (c : Cell). c.1) r.is) ∙ ap (λ (c : Cell). c.1) b.row.is in
+    let never : n ≡ b.i = omega (arith, ints) in
+    omega arith)
+
+abbrev tile_block : (ℤ × ℤ) × Tile → List Cell
+tile_block e = block_cells (pos 64 *ℤ e.0.0) (pos 64 *ℤ e.0.1) e.1.rows 64
+
+-- a cell of two tiles is one of one place
+one_place : (e f : (ℤ × ℤ) × Tile) (q : Cell) → Has (tile_block e) q → Has (tile_block f) q → e.0 ≡ f.0
+one_place e f q in_e in_f =
+    let a : BlockHas (pos 64 *ℤ e.0.0) (pos 64 *ℤ e.0.1) e.1.rows 64 q = block_has (pos 64 *ℤ e.0.0) (pos 64 *ℤ e.0.1) e.1.rows 64 q in_e in
+    let b : BlockHas (pos 64 *ℤ f.0.0) (pos 64 *ℤ f.0.1) f.1.rows 64 q = block_has (pos 64 *ℤ f.0.0) (pos 64 *ℤ f.0.1) f.1.rows 64 q in_f in
+    let is : (pos 64 *ℤ e.0.0 +ℤ pos a.row.j, pos 64 *ℤ e.0.1 +ℤ pos a.i) ≡ (pos 64 *ℤ f.0.0 +ℤ pos b.row.j, pos 64 *ℤ f.0.1 +ℤ pos b.i) = sym a.row.is ∙ b.row.is in
+    let across : e.0.0 ≡ f.0.0 = same_quotient e.0.0 f.0.0 a.row.j b.row.j a.row.inside b.row.inside (ap (λ (c : Cell). c.0) is) in
+    let down : e.0.1 ≡ f.0.1 = same_quotient e.0.1 f.0.1 a.i b.i a.inside b.inside (ap (λ (c : Cell). c.1) is) in
+    λ i. (across i, down i)
+
+elsewhere : (e : (ℤ × ℤ) × Tile) (es : List ((ℤ × ℤ) × Tile)) → AllByRecursion (λ p. place_cmp e.0 p ≡ Less) (keys_of es) →
+    (q : Cell) → Has (tile_block e) q → Has (tiles_cells es) q → ⊥
+unfolding tiles_cells
+elsewhere e [] later q in_e in_rest = has_none q in_rest
+elsewhere e (f ∷ fs) later q in_e in_rest =
+    ⊎_elim
+    (λ here.
+    let never : Equal ≡ Less = sym (tied_itself place_total e.0) ∙ ap (place_cmp e.0) (one_place e f q in_e here) ∙ later.0 in
+    absurd (cc))
+    (λ rest. elsewhere e fs later.1 q in_e rest)
+    (has_parts q (tile_block f) (tiles_cells fs) in_rest)
+
+fresh_tiles : (es : List ((ℤ × ℤ) × Tile)) → IsStrictlySortedBy place_cmp (keys_of es) → IsFresh (tiles_cells es)
+unfolding tiles_cells
+fresh_tiles [] ordered = tt
+fresh_tiles (e ∷ es) ordered =
+    fresh-append (tile_block e) (tiles_cells es)
+    (fresh_block (pos 64 *ℤ e.0.0) (pos 64 *ℤ e.0.1) e.1.rows 64)
+    (fresh_tiles es (sorted_tail place_cmp e.0 (keys_of es) ordered))
+    (elsewhere e es (sorted_head place_cmp e.0 (keys_of es) ordered))
+
+pub size_of_tiles : (tiles : Tiles) → IsOrdered place_cmp tiles → size (generation_of tiles) ≡ length (tiles_cells tiles.entries)
+unfolding generation_of
+size_of_tiles tiles ordered = size-fresh (tiles_cells tiles.entries) (fresh_tiles tiles.entries ordered)
+
+-- ---- how many bits are set
+
+bit_small : (b : ℕ) → b < 2 → count_ones b ≡ b
+unfolding ones ones_in
+bit_small zero small = refl
+bit_small (suc zero) small = refl
+bit_small (suc (suc b)) small = absurd (omega arith)
+
+ones_more : (word n : ℕ) → count_ones (word % 2 ^ suc n) ≡ bit_at word n + count_ones (word % 2 ^ n)
+ones_more word n =
+    let more : suc n ≡ 1 + n = omega arith in
+    let some : 0 < 2 ^ n = pow_pos n in
+    let low : word % 2 ^ n < 2 ^ n = omega arith in
+    ap (λ (k : ℕ). count_ones (word % 2 ^ k)) more
+    ∙ ap count_ones (mod-pow-add word 1 n)
+    ∙ ones_cat n (bit_at word n) (word % 2 ^ n) low
+    ∙ ap (λ (k : ℕ). k + count_ones (word % 2 ^ n)) (bit_small (bit_at word n) (bit_at-lt word n))
+
+length-row_cells : (left y : ℤ) (word n : ℕ) → length (row_cells left y word n) ≡ count_ones (word % 2 ^ n)
+unfolding row_cells
+length-row_cells left y word zero = let none : word % 2 ^ 0 ≡ 0 = omega arith in sym (ap count_ones none ∙ bit_small 0 (omega arith))
+length-row_cells left y word (suc n) =
+    let before : length (row_cells left y word n) ≡ count_ones (word % 2 ^ n) = length-row_cells left y word n in
+    let small : bit_at word n < 2 = bit_at-lt word n in
+    ⊎_elim
+    (λ (one : (bit_at word n == 1) ≡ true).
+    let is : bit_at word n ≡ 1 = eqb-true (bit_at word n) 1 one in
+    let more : count_ones (word % 2 ^ suc n) ≡ bit_at word n + count_ones (word % 2 ^ n) = ones_more word n in
+    ap (λ (b : Bool). length (cond b ((left +ℤ pos n, y) ∷ row_cells left y word n) (row_cells left y word n))) one
+    ∙ row_longer (length (row_cells left y word n)) (count_ones (word % 2 ^ n)) (count_ones (word % 2 ^ suc n)) (bit_at word n) before is more)
+    (λ (clear : (bit_at word n == 1) ≡ false).
+    let is : bit_at word n ≡ 0 = not_one (bit_at word n) small (λ one. true≢false (sym (eq-eqb (bit_at word n) 1 one) ∙ clear)) in
+    ap (λ (b : Bool). length (cond b ((left +ℤ pos n, y) ∷ row_cells left y word n) (row_cells left y word n))) clear
+    ∙ row_same (length (row_cells left y word n)) (count_ones (word % 2 ^ n)) (count_ones (word % 2 ^ suc n)) (bit_at word n) before is (ones_more word n))
+    (true_or_false (bit_at word n == 1))
+  where
+    row_longer : (a b c d : ℕ) → a ≡ b → d ≡ 1 → c ≡ d + b → suc a ≡ c
+    row_longer a b c d p q r = omega arith
+
+    row_same : (a b c d : ℕ) → a ≡ b → d ≡ 0 → c ≡ d + b → a ≡ c
+    row_same a b c d p q r = omega arith
+
+pub length-whole_row : (left y : ℤ) (word : ℕ) → word < 2 ^ 64 → count_ones word ≡ length (row_cells left y word 64)
+length-whole_row left y word fits =
+    let whole : word % 2 ^ 64 ≡ word = omega arith in
+    sym (length-row_cells left y word 64 ∙ ap count_ones whole)
+
+-- one row more of a tile counted
+pub counted_more : (rows : List ℕ) (n count row : ℕ) →
+    ((left y : ℤ) → row ≡ length (row_cells left y (slice_index rows n) 64)) →
+    ((left top : ℤ) → count ≡ length (block_cells left top rows n)) →
+    (left top : ℤ) → count + row ≡ length (block_cells left top rows (n + 1))
+unfolding block_cells
+counted_more rows n count row counts before left top =
+    let next : suc n ≡ n + 1 = omega arith in
+    joined count row (length (row_cells left (top +ℤ pos n) (slice_index rows n) 64)) (length (block_cells left top rows n)) _
+    (before left top) (counts left (top +ℤ pos n))
+    (length-append (row_cells left (top +ℤ pos n) (slice_index rows n) 64) (block_cells left top rows n))
+    ∙ ap (λ (k : ℕ). length (block_cells left top rows k)) next
+  where
+    joined : (a b c d e : ℕ) → a ≡ d → b ≡ c → e ≡ c + d → a + b ≡ e
+    joined a b c d e p q r = omega arith
+
+pub counted_none : (rows : List ℕ) (left top : ℤ) → 0 ≡ length (block_cells left top rows 0)
+unfolding block_cells
+counted_none rows left top = refl
+
+-- one tile more counted
+length-tiles_cells : (e : (ℤ × ℤ) × Tile) (es : List ((ℤ × ℤ) × Tile)) →
+    length (tiles_cells (e ∷ es)) ≡ length (block_cells (pos 64 *ℤ e.0.0) (pos 64 *ℤ e.0.1) e.1.rows 64) + length (tiles_cells es)
+unfolding tiles_cells
+length-tiles_cells e es = length-append (block_cells (pos 64 *ℤ e.0.0) (pos 64 *ℤ e.0.1) e.1.rows 64) (tiles_cells es)
+
+pub length-tiles_none : (es : List ((ℤ × ℤ) × Tile)) → es ≡ [] → length (tiles_cells es) ≡ 0
+unfolding tiles_cells
+length-tiles_none es none = ap (λ (ds : List ((ℤ × ℤ) × Tile)). length (tiles_cells ds)) none
+
+-- ---- how many cells there can be
+
+-- a place in the reading order of a square that is 16,777,216 wide
+abbrev rank : Cell → ℤ
+rank c = c.1 *ℤ pos 16777216 +ℤ c.0
+
+lesser : (r s : Ordering) → ordering_then r s ≡ Less → (r ≡ Less) ⊎ ((r ≡ Equal) × (s ≡ Less))
+lesser Less s e = inl refl
+lesser Equal s e = inr (refl, e)
+lesser Greater s e = absurd (cc)
+
+int_less : (x y : ℤ) → int_cmp x y ≡ Less → x <ℤ y
+int_less x y e = subst (λ (r : Ordering). MatchOrdering r (x <ℤ y) (x ≡ y) (y <ℤ x)) e (int_ranks x y)
+
+int_same : (x y : ℤ) → int_cmp x y ≡ Equal → x ≡ y
+int_same x y e = subst (λ (r : Ordering). MatchOrdering r (x <ℤ y) (x ≡ y) (y <ℤ x)) e (int_ranks x y)
+
+rank_rises : (age : ℕ) (a b : Cell) → age ≤ 4194304 → IsWithin age a → IsWithin age b → cell_cmp a b ≡ Less → (rank a +ℤ pos 1) ≤ℤ rank b
+rank_rises age a b young in_a in_b less =
+    ⊎_elim
+    (λ above. let down : a.1 <ℤ b.1 = int_less a.1 b.1 above in omega (arith, ints, in_a.left, in_a.right, in_b.left, in_b.right))
+    (λ beside. let same : a.1 ≡ b.1 = int_same a.1 b.1 beside.0 in let across : a.0 <ℤ b.0 = int_less a.0 b.0 beside.1 in omega (arith, ints))
+    (lesser (int_cmp a.1 b.1) (int_cmp a.0 b.0) less)
+
+both_hold : (a b : Bool) → T (a && b) → T a × T b
+both_hold true b h = (tt, h)
+both_hold false b h = absurd h
+
+less_is : (r : Ordering) → T (is_lt r) → r ≡ Less
+less_is Less h = refl
+less_is Equal h = absurd h
+less_is Greater h = absurd h
+
+below_has : (c : Cell) (cs : List Cell) → T (below_all c cs) → (q : Cell) → Has cs q → cell_cmp c q ≡ Less
+below_has c [] below q has = absurd (has_none q has)
+below_has c (d ∷ ds) below q has =
+    let parts = both_hold (is_lt (cell_cmp c d)) (below_all c ds) below in
+    ⊎_elim
+    (λ same. ap (cell_cmp c) same ∙ less_is (cell_cmp c d) parts.0)
+    (λ later. below_has c ds parts.1 q later)
+    (has_cases d q ds has)
+
+few_from : (age : ℕ) → age ≤ 4194304 → (cs : List Cell) → T (is_rising cs) → ((q : Cell) → Has cs q → IsWithin age q) →
+    (low : ℤ) → low ≤ℤ pos 90000000000000 → ((q : Cell) → Has cs q → low ≤ℤ rank q) → (low +ℤ pos (length cs)) ≤ℤ pos 90000000000000
+few_from age young [] rising within low below least = omega (arith, ints)
+few_from age young (c ∷ cs) rising within low below least =
+    let parts = both_hold (below_all c cs) (is_rising cs) rising in
+    let here : IsWithin age c = within c (has_head c cs) in
+    let first : low ≤ℤ rank c = least c (has_head c cs) in
+    let under : (rank c +ℤ pos 1) ≤ℤ pos 90000000000000 = omega (arith, ints, here.right, here.below) in
+    let rest : ((rank c +ℤ pos 1) +ℤ pos (length cs)) ≤ℤ pos 90000000000000 =
+    few_from age young cs parts.1 (λ q has. within q (has_tail c q cs has)) (rank c +ℤ pos 1) under
+    (λ q has. rank_rises age c q young here (within q (has_tail c q cs has)) (below_has c cs parts.0 q has)) in
+    one_more low (rank c) (length cs) first rest
+  where
+    one_more : (low here : ℤ) (n : ℕ) → low ≤ℤ here → ((here +ℤ pos 1) +ℤ pos n) ≤ℤ pos 90000000000000 → (low +ℤ pos (suc n)) ≤ℤ pos 90000000000000
+    one_more low here n first rest = omega (arith, ints)
+
+member_has : (G : Generation) (q : Cell) → Has (cells G) q → contains G q ≡ true
+unfolding Has
+member_has G q has = contains-cells G q ∙ has
+
+lowest : (age : ℕ) (q : Cell) → age ≤ 4194304 → IsWithin age q → negsuc 80000000000000 ≤ℤ rank q
+lowest age q young within = omega (arith, ints, within.left, within.above)
+
+few_cells : (n : ℕ) → (negsuc 80000000000000 +ℤ pos n) ≤ℤ pos 90000000000000 → n < 2 ^ 64
+few_cells n few = omega (arith, ints)
+
+pub size_fits : (tiles : Tiles) (age : ℕ) → IsHeld age tiles → size (generation_of tiles) < 2 ^ 64
+size_fits tiles age held =
+    let G : Generation = generation_of tiles in
+    let within : (q : Cell) → Has (cells (generation_of tiles)) q → IsWithin age q = λ q has. held.within q (member_has (generation_of tiles) q has) in
+    let few : (negsuc 80000000000000 +ℤ pos (length (cells (generation_of tiles)))) ≤ℤ pos 90000000000000 =
+    few_from age held.young (cells (generation_of tiles)) (cells-rise (generation_of tiles)) within (negsuc 80000000000000) (omega (arith, ints))
+    (λ q has. lowest age q held.young (within q has)) in
+    let is : size (generation_of tiles) ≡ length (cells (generation_of tiles)) = size-cells (generation_of tiles) in
+    let small : length (cells (generation_of tiles)) < 2 ^ 64 = few_cells (length (cells (generation_of tiles))) few in
+    omega arith
+
+-- one tile more counted: what has been counted and what is left are all cells
+pub tiles_counted : (e : (ℤ × ℤ) × Tile) (all rest : List ((ℤ × ℤ) × Tile)) (count tile whole : ℕ) → all ≡ e ∷ rest →
+    ((left top : ℤ) → tile ≡ length (block_cells left top e.1.rows 64)) →
+    count + length (tiles_cells all) ≡ whole → count + tile + length (tiles_cells rest) ≡ whole
+tiles_counted e all rest count tile whole is counts before =
+    let here : tile ≡ length (block_cells (pos 64 *ℤ e.0.0) (pos 64 *ℤ e.0.1) e.1.rows 64) = counts (pos 64 *ℤ e.0.0) (pos 64 *ℤ e.0.1) in
+    let more : length (tiles_cells all) ≡ length (block_cells (pos 64 *ℤ e.0.0) (pos 64 *ℤ e.0.1) e.1.rows 64) + length (tiles_cells rest) =
+    ap (λ (es : List ((ℤ × ℤ) × Tile)). length (tiles_cells es)) is ∙ length-tiles_cells e rest in
+    omega arith

@@ -1,0 +1,27 @@
+-- The cells of a map of tiles.
+use Rattle.std.specs.Prelude.{ℕ, zero, suc, ℤ, pos, ◌+ℤ◌, ◌*ℤ◌, ◌==◌, List, [], ◌∷◌, ◌++◌, slice_index, if◌then◌else◌}
+use Rattle.std.specs.Int.{bit_at}
+use Rattle.life_model.specs.Cell.{Cell}
+use Rattle.life_model.specs.Generation.{Generation, from_list}
+use Rattle.life_tile.specs.declared.tile.Tile.{Tile}
+use Rattle.life_tile.specs.Tiles.{Tiles}
+
+-- the cells of the first n bits of a word, whose bit 0 is at (left, y)
+unfoldable pub row_cells : ℤ → ℤ → ℕ → ℕ → List Cell
+row_cells left y word zero = []
+row_cells left y word (suc n) =
+    if bit_at word n == 1 then (left +ℤ pos n, y) ∷ row_cells left y word n else row_cells left y word n
+
+-- the cells of the first n rows of words, whose first bit is at (left, top)
+unfoldable pub block_cells : ℤ → ℤ → List ℕ → ℕ → List Cell
+block_cells left top rows zero = []
+block_cells left top rows (suc n) = row_cells left (top +ℤ pos n) (slice_index rows n) 64 ++ block_cells left top rows n
+
+-- the cells of tiles at their places
+unfoldable pub tiles_cells : List (Cell × Tile) → List Cell
+tiles_cells [] = []
+tiles_cells (e ∷ es) = block_cells (pos 64 *ℤ e.0.0) (pos 64 *ℤ e.0.1) e.1.rows 64 ++ tiles_cells es
+
+-- the generation that a map of tiles stands for
+unfoldable pub generation_of : Tiles → Generation
+generation_of tiles = from_list (tiles_cells tiles.entries)

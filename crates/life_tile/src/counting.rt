@@ -1,0 +1,37 @@
+//! How many cells of tiles are live.
+ghost use Rattle.std.specs.Prelude.{◌≡◌, ℤ, ◌<◌, ◌≤◌, ◌^◌, length};
+ghost use Rattle.life_tile.specs.Cells.{row_cells, block_cells, tiles_cells};
+
+use crate::tile::Tile;
+use std::collections::BTreeMap;
+
+/// How many cells of a row are live.
+fn count_row(row: u64) -> u64
+    ensures few { result ≤ 64 }
+    ensures cells { (left y : ℤ) → result ≡ length (row_cells left y row 64) }
+{
+    u64::from(row.count_ones())
+}
+
+/// How many cells of a tile are live.
+fn count_tile(tile: &Tile) -> u64
+    ensures { (left top : ℤ) → result ≡ length (block_cells left top tile.now.rows 64) }
+{
+    let mut count = 0;
+    for row in &tile.rows {
+        count += count_row(*row);
+    }
+    count
+}
+
+/// How many cells of all tiles are live.
+pub fn count_cells(tiles: &BTreeMap<(i32, i32), Tile>) -> u64
+    requires { length (tiles_cells tiles.now.entries) < 2 ^ 64 }
+    ensures { result ≡ length (tiles_cells tiles.now.entries) }
+{
+    let mut count = 0;
+    for (_place, tile) in tiles.iter() {
+        count += count_tile(tile);
+    }
+    count
+}

@@ -1,0 +1,63 @@
+//! The cells of tiles as a list.
+ghost use Rattle.std.specs.Prelude.{◌≡◌, ℤ, ◌≤ℤ◌, pos, negsuc, OnOk, IsSome, ◌++◌};
+ghost use Rattle.std.specs.BTreeMap.{get};
+ghost use Rattle.life_tile.specs.Cells.{row_cells, block_cells, tiles_cells};
+ghost use Rattle.life_tile.specs.Tiles.{place_cmp, IsInside};
+
+use crate::tile::Tile;
+use std::alloc::AllocError;
+use std::collections::BTreeMap;
+
+/// Appends the live cells of a row, the easternmost first. Bit 0 of the word is the cell at `(left, y)`.
+fn push_row(cells: &mut Vec<(i32, i32)>, left: i32, y: i32, word: u64) -> Result<(), AllocError>
+    requires west { negsuc 1000000000 ≤ℤ left }
+    requires east { left ≤ℤ pos 1000000000 }
+    ensures { OnOk result (cells.new.items ≡ cells.old.items ++ row_cells left y word 64) }
+{
+    if word == 0 {
+        return Ok(());
+    }
+    let mut x = 64u32;
+    while x > 0 {
+        x -= 1;
+        if (word >> x) & 1 == 1 {
+            cells.push((left + x as i32, y))?;
+        }
+    }
+    Ok(())
+}
+
+/// Appends the live cells of a tile, the southernmost row first. Its first cell is at `(left, top)`.
+fn push_tile(
+    cells: &mut Vec<(i32, i32)>,
+    left: i32,
+    top: i32,
+    tile: &Tile,
+) -> Result<(), AllocError>
+    requires west { negsuc 1000000000 ≤ℤ left }
+    requires east { left ≤ℤ pos 1000000000 }
+    requires north { negsuc 1000000000 ≤ℤ top }
+    requires south { top ≤ℤ pos 1000000000 }
+    ensures { OnOk result (cells.new.items ≡ cells.old.items ++ block_cells left top tile.now.rows 64) }
+{
+    let mut y = 64usize;
+    while y > 0 {
+        y -= 1;
+        push_row(cells, left, top + y as i32, tile.rows[y])?;
+    }
+    Ok(())
+}
+
+/// Appends the live cells of all tiles.
+pub fn push_tiles(
+    cells: &mut Vec<(i32, i32)>,
+    tiles: &BTreeMap<(i32, i32), Tile>,
+) -> Result<(), AllocError>
+    requires inside { (k : ℤ × ℤ) → IsSome (get place_cmp tiles.now k) → IsInside k }
+    ensures { OnOk result (cells.new.items ≡ cells.old.items ++ tiles_cells tiles.now.entries) }
+{
+    for (place, tile) in tiles.iter() {
+        push_tile(cells, place.0 * 64, place.1 * 64, tile)?;
+    }
+    Ok(())
+}

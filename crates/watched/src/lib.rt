@@ -1,0 +1,12 @@
+//! Readers and writers that remember that they failed.
+//!
+//! A `Watched` holds a reader or a writer and a flag. The flag is raised by the first call that fails, stays from then
+//! on, and no call reaches the reader or writer while it stands. So whoever holds a `Watched` can tell a failure of the
+//! reader or writer from every other cause of an error.
+#![tactic(auto)]
+
+pub mod reading;
+#[cfg(test)]
+mod tests;
+pub mod watched;
+pub mod writing;

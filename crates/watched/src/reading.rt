@@ -1,0 +1,92 @@
+//! Reading a watched reader to its end.
+ghost use Rattle.std.specs.Prelude.{◌≡◌, ◌↔◌, ◌+◌, ◌≤◌, true, IfOk, IfSome, OnOk, vec_len};
+ghost use Rattle.std.specs.Io.KnownBytes.{Consumes, IsAtEnd};
+ghost use Rattle.watched.specs.Watching.{inner_of, has_failed, ConsumesAtMost, ConsumesMoreThan};
+ghost use Rattle.watched.specs.declared.reading.ReadFault.{ReadFault};
+
+use crate::watched::{Failed, Watched};
+use std::alloc::{AllocError, Global};
+use std::io::Read;
+use thiserror::Error;
+
+/// Why a reader was not read to its end.
+#[derive(Clone, Copy, Debug, PartialEq, Eq, Drop, Error)]
+pub enum ReadFault {
+    /// The reader has failed.
+    #[error("read failed")]
+    Read,
+    /// More bytes came than the limit allows.
+    #[error("input too long")]
+    TooLong,
+    #[error("out of memory")]
+    Memory,
+}
+
+impl From<Failed> for ReadFault {
+    ghost use Rattle.std.specs.Prelude.{◌≡◌};
+    ghost use Rattle.watched.specs.declared.reading.ReadFault.TheVariants.{Read};
+
+    ghost from_gives = { λ _ fault. fault ≡ Read };
+
+    fn from(_: Failed) -> ReadFault {
+        ReadFault::Read
+    }
+}
+
+impl From<AllocError> for ReadFault {
+    ghost use Rattle.std.specs.Prelude.{◌≡◌};
+    ghost use Rattle.watched.specs.declared.reading.ReadFault.TheVariants.{Memory};
+
+    ghost from_gives = { λ _ fault. fault ≡ Memory };
+
+    fn from(_: AllocError) -> ReadFault {
+        ReadFault::Memory
+    }
+}
+
+/// How many bytes one call of the reader may give at most.
+const BUFFER_LEN: usize = 8192;
+
+/// Reads all the bytes up to the reader's end, of which there may be at most `limit`.
+///
+/// `Read` is answered exactly where the reader has failed on return; where it has failed before, it is not called.
+/// `TooLong` is answered as soon as a byte past the limit came. After each fault the bytes that came are lost. No more
+/// than `limit` + 1 bytes are ever taken from the reader.
+pub fn read_all<R: Read>(
+    alloc: Global,
+    reader: &mut Watched<R>,
+    limit: usize,
+) -> Result<Vec<u8>, ReadFault>
+    ensures failed { (result ≡ Err ReadFault.Read) ↔ (has_failed reader.new ≡ true) }
+    ensures stays { has_failed reader.old ≡ true → has_failed reader.new ≡ true }
+    ensures uncalled { has_failed reader.old ≡ true → inner_of reader.new ≡ inner_of reader.old }
+
+    // All the bytes up to the end.
+    ensures within { IfOk result (λ bytes. vec_len bytes ≤ limit) }
+    ensures bytes { IfOk result (λ bytes. Consumes (R.remaining (inner_of reader.old)) (R.remaining (inner_of reader.new)) bytes.items) }
+    ensures end { OnOk result (IsAtEnd (R.remaining (inner_of reader.new))) }
+    ensures whole { IfOk result (λ bytes. IfSome (R.remaining (inner_of reader.old)) (λ all. bytes.items ≡ all)) }
+
+    ensures too_long { result ≡ Err ReadFault.TooLong
+        → ConsumesMoreThan limit (R.remaining (inner_of reader.old)) (R.remaining (inner_of reader.new)) }
+    ensures taken { ConsumesAtMost (limit + 1) (R.remaining (inner_of reader.old)) (R.remaining (inner_of reader.new)) }
+{
+    if reader.failed() {
+        return Err(ReadFault::Read);
+    }
+    let mut bytes = Vec::new(alloc);
+    let mut buffer = [0u8; BUFFER_LEN];
+    loop {
+        let room = limit - bytes.len();
+        // One byte past the limit tells that there are too many.
+        let most = room.min(BUFFER_LEN - 1) + 1;
+        let count = reader.get(&mut buffer[..most])?;
+        if count == 0 {
+            return Ok(bytes);
+        }
+        if count > room {
+            return Err(ReadFault::TooLong);
+        }
+        bytes.extend_from_slice(&buffer[..count])?;
+    }
+}

@@ -1,0 +1,197 @@
+//! Readers and writers that end, fail, stop or go on without end, watched.
+use crate::reading::{ReadFault, read_all};
+use crate::watched::{Failed, Watched};
+use crate::writing::put_all;
+use std::io;
+use std::io::{ErrorKind, Read, Write};
+use std::test::Fail;
+
+/// Gives its bytes one at a time, fails once they are gone, and counts the calls.
+#[derive(Drop)]
+struct FailingReader<'a> {
+    left: &'a [u8],
+    calls: usize,
+}
+
+impl<'a> FailingReader<'a> {
+    fn after(bytes: &'a [u8]) -> FailingReader<'a> {
+        FailingReader {
+            left: bytes,
+            calls: 0,
+        }
+    }
+}
+
+impl<'a> Read for FailingReader<'a> {
+    fn read(&mut self, buffer: &mut [u8]) -> io::Result<usize> {
+        self.calls = self.calls.saturating_add(1);
+        if self.left.is_empty() {
+            return Err(io::Error::from(ErrorKind::ConnectionReset));
+        }
+        let most = buffer.len().min(1);
+        self.left.read(&mut buffer[..most])
+    }
+}
+
+/// Takes one byte at a time, fails once it holds as many as it has room for, and counts the calls.
+#[derive(Drop)]
+struct FailingWriter {
+    written: Vec<u8>,
+    room: usize,
+    calls: usize,
+}
+
+impl Write for FailingWriter {
+    fn write(&mut self, bytes: &[u8]) -> io::Result<usize> {
+        self.calls = self.calls.saturating_add(1);
+        if self.written.len() >= self.room {
+            return Err(io::Error::from(ErrorKind::BrokenPipe));
+        }
+        let most = bytes.len().min(1);
+        self.written.extend_from_slice(&bytes[..most])?;
+        Ok(most)
+    }
+
+    fn flush(&mut self) -> io::Result<()> {
+        Ok(())
+    }
+}
+
+const TEXT: &[u8] = b"x = 3, y = 3";
+
+#[test]
+fn as_many_bytes_as_the_limit_are_read(rt: HostRuntime) -> Result<(), Fail> {
+    let text: &[u8] = b"abcd";
+    let mut reader = Watched::new(text);
+    let bytes = read_all(rt.alloc(), &mut reader, 4)?;
+    assert_eq!(rt; bytes.as_slice(), text);
+    assert!(rt; !reader.failed());
+    let none: &[u8] = b"";
+    let mut reader = Watched::new(none);
+    assert!(rt; read_all(rt.alloc(), &mut reader, 0)?.is_empty());
+    Ok(())
+}
+
+#[test]
+fn bytes_past_the_limit_are_too_many(rt: HostRuntime) -> Result<(), Fail> {
+    let text: &[u8] = b"abcde";
+    let mut reader = Watched::new(text);
+    assert_eq!(rt;
+        read_all(rt.alloc(), &mut reader, 4).err(),
+        Some(ReadFault::TooLong)
+    );
+    assert!(rt; !reader.failed());
+    let mut endless = Watched::new(io::repeat(b'@'));
+    assert_eq!(rt;
+        read_all(rt.alloc(), &mut endless, 20_000).err(),
+        Some(ReadFault::TooLong)
+    );
+    Ok(())
+}
+
+#[test]
+fn more_bytes_than_one_call_gives_are_read(rt: HostRuntime) -> Result<(), Fail> {
+    let text: Vec<u8> = (0..20_000u32).map(|i| (i % 251) as u8).collect(rt.alloc())?;
+    let mut reader = Watched::new(text.as_slice());
+    let bytes = read_all(rt.alloc(), &mut reader, usize::MAX)?;
+    assert_eq!(rt; bytes.as_slice(), text.as_slice());
+    Ok(())
+}
+
+#[test]
+fn a_reader_that_failed_is_not_called_again(rt: HostRuntime) -> Result<(), Fail> {
+    for k in 0..TEXT.len() {
+        let mut reader = Watched::new(FailingReader::after(&TEXT[..k]));
+        assert_eq!(rt;
+            read_all(rt.alloc(), &mut reader, 100).err(),
+            Some(ReadFault::Read)
+        );
+        assert!(rt; reader.failed());
+        assert_eq!(rt;
+            read_all(rt.alloc(), &mut reader, 100).err(),
+            Some(ReadFault::Read)
+        );
+        assert_eq!(rt; reader.get(&mut [0; 4]), Err(Failed));
+        assert!(rt; reader.failed());
+        assert_eq!(rt; reader.into_inner().calls, k + 1, "after {k} bytes");
+    }
+    Ok(())
+}
+
+#[test]
+fn a_writer_that_failed_is_not_called_again(rt: HostRuntime) -> Result<(), Fail> {
+    for k in 0..TEXT.len() {
+        let written = Vec::new(rt.alloc());
+        let mut writer = Watched::new(FailingWriter {
+            written,
+            room: k,
+            calls: 0,
+        });
+        assert_eq!(rt; put_all(&mut writer, TEXT), Err(Failed));
+        assert!(rt; writer.failed());
+        assert_eq!(rt; put_all(&mut writer, TEXT), Err(Failed));
+        assert_eq!(rt; put_all(&mut writer, b""), Err(Failed));
+        assert_eq!(rt; writer.put(TEXT), Err(Failed));
+        let inner = writer.into_inner();
+        assert_eq!(rt; inner.written.as_slice(), &TEXT[..k]);
+        assert_eq!(rt; inner.calls, k + 1, "after {k} bytes");
+    }
+    Ok(())
+}
+
+#[test]
+fn all_bytes_go_out_one_at_a_time(rt: HostRuntime) -> Result<(), Fail> {
+    let written = Vec::new(rt.alloc());
+    let mut writer = Watched::new(FailingWriter {
+        written,
+        room: 2 * TEXT.len(),
+        calls: 0,
+    });
+    assert_eq!(rt; put_all(&mut writer, TEXT), Ok(()));
+    assert_eq!(rt; put_all(&mut writer, b""), Ok(()));
+    assert!(rt; !writer.failed());
+    let inner = writer.into_inner();
+    assert_eq!(rt; inner.written.as_slice(), TEXT);
+    assert_eq!(rt; inner.calls, TEXT.len());
+    Ok(())
+}
+
+#[test]
+fn a_write_that_takes_nothing_is_a_failure(rt: HostRuntime) -> Result<(), Fail> {
+    let mut room = [0u8; 3];
+    let mut writer = Watched::new(&mut room[..]);
+    assert_eq!(rt; put_all(&mut writer, b"abcd"), Err(Failed));
+    assert!(rt; writer.failed());
+    assert_eq!(rt; room.as_slice(), b"abc".as_slice());
+    Ok(())
+}
+
+#[test]
+fn a_call_that_succeeds_raises_no_flag(rt: HostRuntime) -> Result<(), Fail> {
+    let text: &[u8] = b"abc";
+    let mut reader = Watched::new(text);
+    let mut buffer = [b'-'; 5];
+    assert_eq!(rt; reader.get(&mut buffer), Ok(3));
+    assert_eq!(rt; buffer.as_slice(), b"abc--".as_slice());
+    assert_eq!(rt; reader.get(&mut buffer), Ok(0));
+    assert!(rt; !reader.failed());
+    let mut writer = Watched::new(Vec::new(rt.alloc()));
+    assert_eq!(rt; writer.put(text), Ok(3));
+    assert!(rt; !writer.failed());
+    assert_eq!(rt; writer.into_inner().as_slice(), text);
+    Ok(())
+}
+
+#[test]
+fn faults_say_what_happened(rt: HostRuntime) -> Result<(), Fail> {
+    let faults = [
+        (ReadFault::Read, "read failed"),
+        (ReadFault::TooLong, "input too long"),
+        (ReadFault::Memory, "out of memory"),
+    ];
+    for (fault, text) in faults {
+        let shown = format!(in rt.alloc(); "{fault}")?;
+        assert_eq!(rt; shown.as_str(), text);
+    }
+    Ok(())
+}
