@@ -7,9 +7,8 @@ use Rattle.life_text.specs.Picture.{Picture, picture_of}
 use Rattle.life_text.specs.declared.rle.RleFault.{RleFault}
 use Rattle.life_text.specs.Rle.{reading, refusal}
 use Rattle.life_text.specs.RleText.{rle_text}
-use Rattle.census_command.specs.Words.{IsAdvance}
 use Rattle.census_command.specs.declared.trouble.Trouble.{Trouble}
-use Rattle.census_command.specs.declared.trouble.Trouble.TheVariants.{Text, TooLong, Words, Memory, Read, Write}
+use Rattle.census_command.specs.declared.trouble.Trouble.TheVariants.{Text, RuleText, CodeText, TooLong, Words, Memory, Read, Write}
 
 -- the most bytes of one text
 abbrev pub input_limit : ℕ
@@ -55,6 +54,8 @@ Hinders Read n input_old input_new output_old output_new read_failed write_faile
     Keeps output_old output_new × (read_failed ≡ true) × (write_failed ≡ false)
 Hinders Write n input_old input_new output_old output_new read_failed write_failed =
     AdvancesInPart n input_old input_new output_old output_new × (read_failed ≡ false) × (write_failed ≡ true)
+Hinders (RuleText fault) n input_old input_new output_old output_new read_failed write_failed = ⊥
+Hinders (CodeText fault) n input_old input_new output_old output_new read_failed write_failed = ⊥
 Hinders Words n input_old input_new output_old output_new read_failed write_failed = ⊥
 
 -- the text of generation n of the pattern that a text means
@@ -67,19 +68,9 @@ pub record IsAdvanced (text : List ℕ) (n : ℕ) (written : List ℕ) : Type 0 
 abbrev pub RefusesText : List ℕ → Trouble → Type 0
 RefusesText text (Text fault) = refusal text ≡ Some fault
 RefusesText text Memory = Unit {0}
+RefusesText text (RuleText fault) = ⊥
+RefusesText text (CodeText fault) = ⊥
 RefusesText text TooLong = ⊥
 RefusesText text Words = ⊥
 RefusesText text Read = ⊥
 RefusesText text Write = ⊥
-
--- Why a command did not do its work: no command is named, and nothing was read or written, or generation n was not written.
-abbrev pub Stops : Trouble → List (List ℕ) → Option (List ℕ) → Option (List ℕ) → Option (List ℕ) → Option (List ℕ) → Bool → Bool → Type 0
-Stops Words words input_old input_new output_old output_new read_failed write_failed =
-    ((n : ℕ) → IsAdvance words n → ⊥) × Keeps input_old input_new × Keeps output_old output_new × (read_failed ≡ false) × (write_failed ≡ false)
-Stops trouble words input_old input_new output_old output_new read_failed write_failed =
-    (n : ℕ) × IsAdvance words n × Hinders trouble n input_old input_new output_old output_new read_failed write_failed
-
--- what was read has a fault, or is too long
-abbrev pub IsRefused : Option (List ℕ) → Option (List ℕ) → Type 0
-IsRefused input_old input_new =
-    ((text : List ℕ) × (fault : RleFault) × ReadsAll input_old input_new text × (refusal text ≡ Some fault)) ⊎ ConsumesMoreThan input_limit input_old input_new

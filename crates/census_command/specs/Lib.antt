@@ -1,3 +1,5 @@
 pub mod Words
 pub mod Troubles
+pub mod Drawings
+pub mod Deeds
 pub mod Commands

@@ -2,14 +2,20 @@
 use Rattle.std.specs.Prelude.{ℕ}
 use Rattle.life_text.specs.declared.rle.RleFault.{RleFault}
 use Rattle.life_text.specs.declared.rle.RleFault.TheVariants as rle
+use Rattle.life_shape.specs.declared.reader.CodeFault.{CodeFault}
+use Rattle.life_shape.specs.declared.reader.CodeFault.TheVariants as codes
 use Rattle.watched.specs.declared.reading.ReadFault.{ReadFault}
 use Rattle.watched.specs.declared.reading.ReadFault.TheVariants as reads
 use Rattle.census_command.specs.declared.trouble.Trouble.{Trouble}
-use Rattle.census_command.specs.declared.trouble.Trouble.TheVariants.{Text, TooLong, Words, Memory, Read, Write}
+use Rattle.census_command.specs.declared.trouble.Trouble.TheVariants.{Text, RuleText, CodeText, TooLong, Words, Memory, Read, Write}
 
 abbrev pub trouble_of_text : RleFault → Trouble
 trouble_of_text rle.Memory = Memory
 trouble_of_text fault = Text fault
+
+abbrev pub trouble_of_code : CodeFault → Trouble
+trouble_of_code codes.Memory = Memory
+trouble_of_code fault = CodeText fault
 
 abbrev pub trouble_of_read : ReadFault → Trouble
 trouble_of_read reads.Read = Read
@@ -18,6 +24,8 @@ trouble_of_read reads.Memory = Memory
 
 abbrev pub status_of : Trouble → ℕ
 status_of (Text fault) = 1
+status_of (RuleText fault) = 1
+status_of (CodeText fault) = 1
 status_of TooLong = 1
 status_of Words = 2
 status_of Memory = 3

@@ -3,6 +3,7 @@
 
 pub mod advance;
 pub mod dispatch;
+pub mod draw;
 pub mod evolving;
 #[cfg(test)]
 mod tests;

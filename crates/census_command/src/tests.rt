@@ -102,6 +102,11 @@ fn words_that_are_no_command(rt: HostRuntime) {
         &["advance", "1", "2"],
         &["Advance", "1"],
         &["run"],
+        &["draw"],
+        &["draw", "--rule", "B3/S23"],
+        &["draw", "0", "--rule"],
+        &["draw", "0", "1"],
+        &["draw", "-1"],
     ];
     for words in LISTS {
         check(
@@ -120,6 +125,41 @@ fn a_fault_is_told_with_its_place(rt: HostRuntime) {
     check(&rt, refused, 1, b"", b"census: rle fault 7 at 15\n");
     let empty = called(rt.alloc(), &["advance", "1"], b"");
     check(&rt, empty, 1, b"", b"census: rle fault 1\n");
+}
+
+#[test]
+fn a_code_is_drawn(rt: HostRuntime) {
+    let glider = called(rt.alloc(), &["draw", "xq4_153"], b"");
+    check(
+        &rt,
+        glider,
+        0,
+        b"x = 3, y = 3, rule = B3/S23\n3o$2bo$bo!\n",
+        b"",
+    );
+    let none = called(rt.alloc(), &["draw", "xs0_0"], b"");
+    check(&rt, none, 0, b"x = 0, y = 0, rule = B3/S23\n!\n", b"");
+}
+
+#[test]
+fn a_code_is_drawn_under_a_rule(rt: HostRuntime) {
+    const BLOCK: &[u8] = b"x = 2, y = 2, rule = B36/S23\n2o$2o!\n";
+    let behind = called(rt.alloc(), &["draw", "xs4_33", "--rule", "B36/S23"], b"");
+    check(&rt, behind, 0, BLOCK, b"");
+    let before = called(rt.alloc(), &["draw", "--rule", "23/36", "xs4_33"], b"");
+    check(&rt, before, 0, BLOCK, b"");
+}
+
+#[test]
+fn a_code_or_a_rule_is_refused(rt: HostRuntime) {
+    let letter = called(rt.alloc(), &["draw", "A"], b"");
+    check(&rt, letter, 1, b"", b"census: code fault 2 at 0\n");
+    let body = called(rt.alloc(), &["draw", "xq4_A"], b"");
+    check(&rt, body, 1, b"", b"census: code fault 2 at 0\n");
+    let empty = called(rt.alloc(), &["draw", "xq4_"], b"");
+    check(&rt, empty, 1, b"", b"census: code fault 1\n");
+    let rule = called(rt.alloc(), &["draw", "A", "--rule", "Life"], b"");
+    check(&rt, rule, 1, b"", b"census: rule fault 1\n");
 }
 
 #[test]

@@ -2,6 +2,8 @@
 ghost use Rattle.std.specs.Prelude.{◌≡◌};
 ghost use Rattle.census_command.specs.Troubles.{status_of};
 
+use life_cells::rule::RuleFault;
+use life_shape::reader::CodeFault;
 use life_text::rle::RleFault;
 use std::alloc::AllocError;
 use thiserror::Error;
@@ -14,6 +16,12 @@ pub enum Trouble {
     /// The RLE text on standard input has this fault.
     #[error("{0}")]
     Text(RleFault),
+    /// The text of `--rule` names no rule.
+    #[error("{0}")]
+    RuleText(RuleFault),
+    /// The body of the code has this fault; its place counts from the body's first byte.
+    #[error("{0}")]
+    CodeText(CodeFault),
     /// Standard input has more bytes than one text may have.
     #[error("input too long")]
     TooLong,
@@ -52,6 +60,31 @@ impl From<RleFault> for Trouble {
     }
 }
 
+impl From<RuleFault> for Trouble {
+    ghost use Rattle.std.specs.Prelude.{◌≡◌};
+    ghost use Rattle.census_command.specs.declared.trouble.Trouble.TheVariants.{RuleText};
+
+    ghost from_gives = { λ fault trouble. trouble ≡ RuleText fault };
+
+    fn from(fault: RuleFault) -> Trouble {
+        Trouble::RuleText(fault)
+    }
+}
+
+impl From<CodeFault> for Trouble {
+    ghost use Rattle.census_command.specs.Troubles.{trouble_of_code};
+    ghost use Rattle.std.specs.Prelude.{◌≡◌};
+
+    ghost from_gives = { λ fault trouble. trouble ≡ trouble_of_code fault };
+
+    fn from(fault: CodeFault) -> Trouble {
+        match fault {
+            CodeFault::Memory => Trouble::Memory,
+            other => Trouble::CodeText(other),
+        }
+    }
+}
+
 impl From<ReadFault> for Trouble {
     ghost use Rattle.census_command.specs.Troubles.{trouble_of_read};
     ghost use Rattle.std.specs.Prelude.{◌≡◌};
@@ -85,7 +118,7 @@ impl Trouble {
         ensures { result ≡ status_of self.now }
     {
         match self {
-            Trouble::Text(_) | Trouble::TooLong => 1,
+            Trouble::Text(_) | Trouble::RuleText(_) | Trouble::CodeText(_) | Trouble::TooLong => 1,
             Trouble::Words => 2,
             Trouble::Memory => 3,
             Trouble::Read | Trouble::Write => 4,

@@ -1,2 +1,6 @@
 pub mod Findings
 pub mod Texts
+pub mod LeastTexts
+pub mod Sizes
+pub mod Objects
+pub mod Codes

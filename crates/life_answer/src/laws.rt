@@ -1,9 +1,9 @@
 //! The laws that tie the answer to the definition of onset, period and displacement.
-ghost use Rattle.std.specs.Prelude.{◌≡◌, ◌+◌, ◌<◌, ◌≤◌, ℕ, List, Ok, Some, ℤ};
+ghost use Rattle.std.specs.Prelude.{◌≡◌, ◌+◌, ◌<◌, ◌≤◌, ◌↔◌, ℕ, List, Ok, Some, ℤ};
 ghost use Rattle.life_model.specs.Cell.{Cell};
 ghost use Rattle.life_model.specs.Evolution.{generation};
 ghost use Rattle.life_model.specs.Generation.{Generation, size};
-ghost use Rattle.life_model.specs.Recurrence.{Settles, SettlesAt};
+ghost use Rattle.life_model.specs.Recurrence.{AreOneObject, Settles, SettlesAt};
 ghost use Rattle.life_model.specs.Rule.{Rule};
 ghost use Rattle.life_text.specs.declared.rle.RleFault.{RleFault};
 ghost use Rattle.life_text.specs.Picture.{Picture, picture_of};
@@ -43,4 +43,12 @@ pub fn a_text_is_found_or_refused()
         answer_of text b ≡ Found pattern.rule (finding_of pattern.rule pattern.cells b) }
     ensures refused { (text : List ℕ) (b : ℕ) (fault : RleFault) → refusal text ≡ Some fault → answer_of text b ≡ Refused (fault_number fault) }
     ensures numbered { (text : List ℕ) (b number : ℕ) → answer_of text b ≡ Refused number → (1 ≤ number) × (number ≤ 10) }
+{}
+
+/// Of two sets that settle under one rule, the codes are equal exactly where their generations at the onset are one object.
+pub fn codes_tell_objects()
+    ensures { (R : Rule) (G J : Generation) (b c onset period onset2 period2 : ℕ) (d e : Cell) → Settles R G b onset period d →
+        Settles R J c onset2 period2 e →
+        (code_of R (generation R G onset) period d ≡ code_of R (generation R J onset2) period2 e)
+        ↔ AreOneObject R (generation R G onset) (generation R J onset2) }
 {}

@@ -5,3 +5,5 @@
 pub mod code;
 pub mod finding;
 pub mod laws;
+#[cfg(test)]
+mod tests;

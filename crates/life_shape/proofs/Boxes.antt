@@ -1,5 +1,5 @@
 -- The box of a set, and where the cells of a normal form stand.
-use Rattle.std.proofs.Common.{◌≡◌, ℕ, zero, suc, length, get_or, take, add-one, ◌+◌, ◌<◌, ◌≤◌, ℤ, pos, negsuc, neg_ℤ, ◌+ℤ◌, ◌≤ℤ◌, ◌<ℤ◌, Bool, true, false, List, [], ◌∷◌, map, inl, inr, sym, refl, ap, subst, ◌∙◌, true≢false, arith}
+use Rattle.std.proofs.Common.{◌≡◌, ℕ, zero, suc, length, get_or, take, add-one, ◌+◌, ◌<◌, ◌≤◌, ℤ, pos, negsuc, neg_ℤ, ◌+ℤ◌, ◌≤ℤ◌, ◌<ℤ◌, true, List, [], ◌∷◌, map, inl, inr, sym, ap, subst, ◌∙◌, true≢false, arith}
 use Rattle.std.specs.Prelude.{All, nat_abs, max}
 use Rattle.std.specs.List.{list_any, AllByRecursion}
 use Rattle.std.proofs.lemmas.Int.{ints}
@@ -9,13 +9,13 @@ use Rattle.life_model.specs.Cell.{Cell, same_cell, origin, plus, opposite}
 use Rattle.life_model.specs.Generation.{Generation, contains, cells, from_list}
 use Rattle.life_model.specs.Symmetry.{IsCorner, corner, corner_of, normal, Orientation, Same, FlipX, FlipY, Half, Swap, SwapFlipX, SwapFlipY, SwapHalf, turn, turned, image}
 use Rattle.life_model.proofs.Lists.{cells-moved}
-use Rattle.life_model.proofs.Cells.{pair, same_cell-is, plus-opposite, plus-opposite_first}
+use Rattle.life_model.proofs.Cells.{pair, same_cell-is, plus-opposite_first}
 use Rattle.life_model.proofs.Generations.{contains-cells}
 use Rattle.life_model.proofs.Symmetries.{contains-moved, contains-turned, undone}
 use Rattle.life_model.proofs.Moves.{corner-is, normal-corner, normal-moved}
 use Rattle.life_cells.specs.Limits.{IsPlace, IsWithin}
 use Rattle.life_shape.specs.Dots.{IsInField}
-use Rattle.life_shape.specs.Box.{extent, width, height, IsAhead, IsNormal}
+use Rattle.life_shape.specs.Box.{extent, width, height, IsAhead}
 use Rattle.life_shape.proofs.Members.{or_cases, member_has, all_members}
 
 -- ---- the greatest of some places

@@ -1,11 +1,11 @@
 -- The text of columns, from one that is not 0 to the next.
-use Rattle.std.proofs.Common.{◌≡◌, ◌≢◌, ℕ, zero, suc, ◌+◌, ◌-◌, ◌*◌, ◌/◌, ◌%◌, ◌<◌, ◌≤◌, List, [], ◌∷◌, ◌++◌, map, sym, refl, ap, ◌∙◌, arith, append_assoc}
+use Rattle.std.proofs.Common.{◌≡◌, ℕ, zero, suc, ◌+◌, ◌-◌, ◌/◌, ◌%◌, ◌<◌, ◌≤◌, List, [], ◌∷◌, ◌++◌, map, sym, refl, ap, ◌∙◌, arith, append_assoc}
 use Rattle.std.specs.Prelude.{◌==◌, false, if◌then◌else◌}
 use Rattle.std.proofs.lemmas.Bool.Decides.{nat_tests}
 use Rattle.std.specs.List.{range_with_len, join_with_byte}
 use Rattle.life_shape.specs.Wechsler.{digit, short_zeros, full_runs, zeros, columns_text, strips_text}
 use Rattle.std.proofs.lemmas.List.{map-append}
-use Rattle.life_shape.specs.Dots.{values_text, strip_mark}
+use Rattle.life_shape.specs.Dots.{strip_mark}
 
 -- ---- runs of zeros
 

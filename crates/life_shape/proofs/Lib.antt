@@ -9,3 +9,5 @@ pub mod Columns
 pub mod Weights
 pub mod DotLists
 pub mod StripLists
+pub mod Spelling
+pub mod Rows

@@ -1,10 +1,10 @@
 -- The marks at a place of a text.
-use Rattle.std.proofs.Common.{◌≡◌, ℕ, ◌+◌, ◌<◌, ◌≤◌, Bool, true, false, cond, List, [], ◌∷◌, length, get_or, drop, Option, Some, None, if◌then◌else◌, sym, refl, ap, ◌∙◌, arith}
+use Rattle.std.proofs.Common.{◌≡◌, ℕ, ◌+◌, ◌<◌, ◌≤◌, Bool, true, false, List, [], ◌∷◌, length, get_or, drop, Option, Some, None, if◌then◌else◌, refl, ap, ◌∙◌, arith}
 use Rattle.std.specs.Prelude.{◌==◌}
 use Rattle.std.proofs.lemmas.Bool.Decides.{nat_tests}
 use Rattle.std.proofs.lemmas.List.{drop_more, drop_all}
 use Rattle.life_shape.specs.declared.reader.CodeFault.TheVariants.{BadChar, CutRun}
-use Rattle.life_shape.specs.Reading.{Mark, Column, Zeros, NextStrip, Offence, digit_value, is_digit, marks, mark_of, run_of}
+use Rattle.life_shape.specs.Reading.{Column, Zeros, NextStrip, Offence, digit_value, is_digit, marks, mark_of, run_of}
 use Rattle.life_shape.specs.Drawing.{marks_at}
 
 is_y : (c : ℕ) → c ≡ 121 → (c == 121) ≡ true

@@ -1,19 +1,17 @@
 -- What reading a whole text gives.
-use Rattle.std.proofs.Common.{◌≡◌, ◌≢◌, ℕ, ◌+◌, ◌<◌, ◌≤◌, ℤ, pos, neg_ℤ, ◌+ℤ◌, ◌≤ℤ◌, ◌<ℤ◌, List, [], ◌∷◌, length, Option, Some, None, Ok, Err, map, refl, sym, ap, subst, ◌∙◌, arith}
-use Rattle.std.specs.Prelude.{All, true, false, ◌==◌}
-use Rattle.std.specs.List.{AllByRecursion}
+use Rattle.std.proofs.Common.{◌≡◌, ◌≢◌, ℕ, ◌+◌, ◌≤◌, ℤ, pos, neg_ℤ, ◌+ℤ◌, ◌≤ℤ◌, ◌<ℤ◌, List, [], ◌∷◌, length, Some, None, Ok, Err, refl, sym, ap, ◌∙◌, arith}
+use Rattle.std.specs.Prelude.{All}
 use Rattle.std.proofs.lemmas.List.Elements.{recursion_from_All, All-weaker}
 use Rattle.life_model.specs.Cell.{Cell}
-use Rattle.life_model.specs.Generation.{Generation, cells, contains, from_list}
+use Rattle.life_model.specs.Generation.{Generation, contains, from_list}
 use Rattle.life_model.proofs.Generations.{contains-from_list}
 use Rattle.life_cells.specs.Limits.{IsPlace, IsWithin}
 use Rattle.std.proofs.lemmas.Int.{ints}
-use Rattle.std.proofs.lemmas.Bool.Decides.{nat_tests}
 use Rattle.life_shape.specs.declared.reader.CodeFault.{CodeFault}
 use Rattle.life_shape.specs.declared.reader.CodeFault.TheVariants.{Empty}
 use Rattle.life_shape.specs.Box.{width, height}
-use Rattle.life_shape.specs.Reading.{spelt, refusal, first_fault, cells_after, marks_of, placed}
-use Rattle.life_shape.specs.Drawing.{drawn, marks_at, cells_unless}
+use Rattle.life_shape.specs.Reading.{spelt, refusal, first_fault, cells_after, marks_of}
+use Rattle.life_shape.specs.Drawing.{drawn, marks_at}
 use Rattle.life_shape.proofs.Members.{holds_in}
 use Rattle.life_shape.proofs.Boxes.{width_within, height_within}
 use Rattle.life_shape.proofs.Drawings.{from_start, given_cells, given_fault}

@@ -1,6 +1,6 @@
 -- What the cells of a column weigh together.
-use Rattle.std.proofs.Common.{◌≡◌, ◌≢◌, ℕ, zero, suc, ◌+◌, ◌-◌, ◌*◌, ◌^◌, ◌<◌, ◌≤◌, ℤ, pos, negsuc, ◌≤ℤ◌, ◌<ℤ◌, Bool, true, false, cond, ◌&&◌, ◌||◌, T, List, [], ◌∷◌, map, Decides, if◌then◌else◌, sym, refl, ap, subst, ◌∙◌, true≢false, arith, add-zero}
-use Rattle.std.specs.Prelude.{nat_abs, ◌==◌}
+use Rattle.std.proofs.Common.{◌≡◌, ◌≢◌, ℕ, zero, suc, ◌+◌, ◌-◌, ◌*◌, ◌^◌, ◌<◌, ◌≤◌, pos, negsuc, ◌≤ℤ◌, ◌<ℤ◌, Bool, true, false, ◌&&◌, ◌||◌, T, List, [], ◌∷◌, map, if◌then◌else◌, sym, refl, ap, ◌∙◌, arith, add-zero}
+use Rattle.std.specs.Prelude.{◌==◌}
 use Rattle.std.specs.List.{list_any, range_with_len, sum_by, AllByRecursion}
 use Rattle.std.specs.Ordering.{is_lt, is_eq}
 use Rattle.std.specs.declared.cmp.Ordering.{Ordering}
@@ -9,12 +9,11 @@ use Rattle.std.proofs.lemmas.Int.{ints}
 use Rattle.std.proofs.lemmas.Bool.Decides.{nat_tests, same_from_decides, Decides-like, Decides-and, Decides-eqb}
 use Rattle.std.proofs.lemmas.List.Sums.{sum_by-cons, sum_by-le-sum_by}
 use Rattle.life_model.specs.Cell.{Cell, cell_cmp, same_cell}
-use Rattle.life_model.specs.Generation.{Generation, contains, cells, below_all, is_rising}
-use Rattle.life_model.proofs.Cells.{pair, same_cell-is}
+use Rattle.life_model.specs.Generation.{Generation, cells, below_all, is_rising}
+use Rattle.life_model.proofs.Cells.{same_cell-is}
 use Rattle.life_model.proofs.Generations.{contains-cells, cells-rise}
 use Rattle.life_shape.specs.Wechsler.{column_value}
 use Rattle.life_shape.specs.Dots.{weight, weights, dot, dots_value, IsInStrip}
-use Rattle.life_shape.proofs.Members.{holds_in}
 
 -- ---- each cell of a list in order stands in it once
 

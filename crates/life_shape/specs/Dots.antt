@@ -1,5 +1,5 @@
 -- What the writer keeps of the cells of a strip: a dot for each, its column and what it weighs there.
-use Rattle.std.specs.Prelude.{ℕ, ◌+◌, ◌-◌, ◌*◌, ◌^◌, ◌<◌, ◌≤◌, List, [], ◌∷◌, map, pos, nat_abs, ◌≤ℤ◌, ◌<ℤ◌, ◌==◌, if◌then◌else◌}
+use Rattle.std.specs.Prelude.{ℕ, ◌+◌, ◌-◌, ◌*◌, ◌^◌, List, [], ◌∷◌, map, pos, nat_abs, ◌≤ℤ◌, ◌<ℤ◌, ◌==◌, if◌then◌else◌}
 use Rattle.std.specs.List.{range_with_len, sum_by}
 use Rattle.life_model.specs.Cell.{Cell, same_cell}
 use Rattle.life_shape.specs.Wechsler.{columns_text}

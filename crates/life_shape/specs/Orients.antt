@@ -1,6 +1,4 @@
 -- The eight maps by their names.
-use Rattle.std.specs.Prelude.{Bool, List}
-use Rattle.std.specs.Cmp.Lexicographic.{pointwise}
 use Rattle.life_model.specs.Symmetry as symmetry
 use Rattle.life_shape.specs.declared.orient.Orient.{Orient}
 use Rattle.life_shape.specs.declared.orient.Orient.TheVariants.{Same, FlipX, FlipY, Half, Swap, SwapFlipX, SwapFlipY, SwapHalf}

@@ -1,6 +1,6 @@
 -- Wechsler texts, as they are written: LifeWiki's extended Wechsler format, with this project's rule for more than 39
 -- zeros in a row.
-use Rattle.std.specs.Prelude.{ℕ, zero, suc, ◌+◌, ◌*◌, ◌/◌, ◌%◌, ◌^◌, List, [], ◌∷◌, ◌++◌, codes, map, pos, nat_lt, ◌==◌, if◌then◌else◌}
+use Rattle.std.specs.Prelude.{ℕ, zero, suc, ◌+◌, ◌*◌, ◌/◌, ◌%◌, ◌^◌, List, [], ◌∷◌, ◌++◌, codes, map, pos, nat_lt, if◌then◌else◌}
 use Rattle.std.specs.List.{range_with_len, join_with_byte, sum_by}
 use Rattle.life_model.specs.Generation.{Generation, contains}
 use Rattle.life_model.specs.Symmetry.{normal}

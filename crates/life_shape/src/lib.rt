@@ -2,6 +2,7 @@
 #![tactic(auto)]
 
 pub mod code_text;
+pub mod laws;
 pub mod orient;
 pub mod reader;
 pub mod shape;

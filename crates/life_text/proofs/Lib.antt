@@ -12,3 +12,7 @@ pub mod CornerLemmas
 pub mod PlaceLemmas
 pub mod GapLemmas
 pub mod TextRows
+pub mod LexedLemmas
+pub mod DrawnLemmas
+pub mod HeadingLemmas
+pub mod RoundLemmas

@@ -4,7 +4,7 @@ use Rattle.std.specs.List.{range_with_len}
 use Rattle.std.specs.Option.{option_map_or}
 use Rattle.std.proofs.lemmas.Bool.{false≢true}
 use Rattle.std.proofs.lemmas.Bool.Decides.{nat_tests}
-use Rattle.life_text.specs.declared.rle.Pen.{Pen}
+use Rattle.life_text.specs.declared.pen.Pen.{Pen}
 use Rattle.life_text.specs.declared.rle.RleFault.{RleFault}
 use Rattle.life_cells.specs.Bytes.{is_in}
 use Rattle.life_text.specs.Rle.{Token, is_live, is_cells, is_row_end, times, span, token_fault, place_limit, first_fault, cells_after, has_tag}

@@ -2,7 +2,7 @@
 use Rattle.std.specs.Prelude.{◌≡◌, ℕ, zero, suc, ◌+◌, min, Bool, false, List, [], ◌∷◌, ◌++◌, drop, Option, Some, None, Result, Ok, Err, slice_index, ◌==◌, ℤ, pos, map, ◌≢◌, if◌then◌else◌}
 use Rattle.std.specs.Option.{option_map}
 use Rattle.life_cells.specs.Bytes.{is_space}
-use Rattle.life_text.specs.declared.rle.Pen.{Pen}
+use Rattle.life_text.specs.declared.pen.Pen.{Pen}
 use Rattle.life_text.specs.declared.rle.RleFault.{RleFault}
 use Rattle.life_text.specs.declared.rle.RleFault.TheVariants.{Memory}
 use Rattle.life_text.specs.Rle.{Token, blanked, lexemes, tokens, is_live, is_cells, is_row_end, times, row, column, live_cells, span, token_fault}

@@ -1,24 +1,13 @@
-// The header line of RLE texts.
+//! The header line of RLE texts.
 ghost use Rattle.std.specs.Prelude.{◌≡◌, ◌<◌, ◌≤◌, ◌+◌, ◌∷◌, ◌++◌, ◌==◌, [], length, drop, take, codes};
 ghost use Rattle.std.specs.List.{prefix_len, suffix_len, list_all};
 ghost use Rattle.std.specs.Option.{option_copied};
 ghost use Rattle.life_cells.specs.Bytes.{is_blank, is_digit, without_front, without_back, trimmed, after_one_of};
 ghost use Rattle.life_text.specs.Rle.{part, after_size, after_sizes, after_rule_name, told, named_rule, rule_behind, line_rule};
 
+use crate::bytes::{is_blank, is_digit};
 use crate::rle::RleFault;
 use life_cells::rule::{Rule, RuleFault, after_byte, after_either};
-
-fn is_blank(byte: u8) -> bool
-    ensures { result ≡ is_blank byte }
-{
-    byte == b' ' || byte == b'\t' || byte == b'\r'
-}
-
-fn is_digit(byte: u8) -> bool
-    ensures { result ≡ is_digit byte }
-{
-    b'0' <= byte && byte <= b'9'
-}
 
 // The text from its first byte on that is no blank.
 fn skip_blanks(text: &[u8]) -> &[u8]
@@ -125,7 +114,7 @@ fn is_blanks(text: &[u8]) -> bool
     text.iter().all(|byte| is_blank(*byte))
 }
 
-// The rule of a header line, or its fault.
+/// The rule of a header line, or its fault.
 pub fn line_rule(line: &[u8]) -> Result<Rule, RleFault>
     ensures { result ≡ line_rule line.now }
 {

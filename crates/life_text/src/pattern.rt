@@ -53,12 +53,14 @@ impl Pattern {
         Pattern { rule, cells }
     }
 
+    /// The rule.
     pub fn rule(&self) -> Rule
         ensures { result ≡ self.now.rule }
     {
         self.rule
     }
 
+    /// The live cells of generation 0.
     pub fn cells(&self) -> &CellList
         ensures cells { result.now ≡ self.now.cells }
         ensures fits { All (IsWithin 0) (generation.cells self.now.cells) }

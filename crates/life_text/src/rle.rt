@@ -1,28 +1,20 @@
-// RLE texts.
-ghost use Rattle.std.specs.Prelude.{◌≡◌, ◌<◌, ◌≤◌, ◌+◌, ◌∷◌, ◌++◌, [], ◌==◌, ◌&&◌, min, not, true, false, length, drop, take, IfSome, OnOk, map, pos, ◌≢◌};
-ghost use Rattle.std.specs.List.{prefix_len, take_while};
-ghost use Rattle.std.specs.Str.Parse.{digits_value};
-ghost use Rattle.life_cells.specs.Bytes.{is_digit, is_space, without_front};
-ghost use Rattle.life_text.specs.Rle.{lexemes};
-ghost use Rattle.life_text.specs.Reader.{previous, plain_at, cap, IsPlain, inside};
-ghost use Rattle.life_text.specs.Found.{Begins, seen};
-ghost use Rattle.life_cells.specs.Bytes.{is_letter};
-ghost use Rattle.life_text.specs.Rle.{place_limit, cell_limit, is_live, is_cells, is_row_end, is_other_state, is_no_tag, is_bad_run, is_too_far, is_too_many, is_missing, token_fault, times, fault_if, span};
-ghost use Rattle.life_text.specs.Reader.{moved, capped_pen, drawn, tokens_at, placed, placed_all, Gives, first_pen, is_line_feed};
-ghost use Rattle.std.specs.List.{before_first, after_first};
-ghost use Rattle.std.specs.Prelude.{◌-◌};
-ghost use Rattle.life_text.specs.Rle.{reading};
+//! RLE texts that are read.
+ghost use Rattle.std.specs.Prelude.{[], ◌+◌, ◌-◌, ◌<◌, ◌≡◌, ◌≢◌, ◌≤◌, IfErr, IfOk, List, OnOk, drop, false, length, take};
+ghost use Rattle.std.specs.List.{after_first, before_first};
 ghost use Rattle.life_text.specs.Drawing.{drawing, drawing_of};
+ghost use Rattle.life_text.specs.Found.{seen};
 ghost use Rattle.life_text.specs.Picture.{picture_of};
-ghost use Rattle.std.specs.Prelude.{List};
-ghost use Rattle.life_text.specs.Rle.{Token, first_fault, cells_after};
+ghost use Rattle.life_text.specs.Reader.{Gives, IsPlain, cap, drawn, first_pen, is_line_feed, placed_all, plain_at, tokens_at};
 ghost use Rattle.life_text.specs.Rising.{RisesFrom};
-ghost use Rattle.life_text.specs.Rle.{refusal};
-ghost use Rattle.std.specs.Prelude.{IfOk, IfErr};
+ghost use Rattle.life_text.specs.Rle.{Token, cell_limit, cells_after, first_fault, reading, refusal, token_fault};
 ghost use Rattle.life_text.specs.declared.rle.RleFault.TheVariants.{Memory};
 
 use crate::header::line_rule;
 use crate::pattern::Pattern;
+use crate::pen::{Pen, advanced, is_too_far, is_too_many, push_span};
+use crate::token::{
+    Found, is_bad_run, is_missing, is_no_tag, is_other_state, next_token, skip_spaces,
+};
 use life_cells::cell_list::CellList;
 use life_cells::rule::Rule;
 use std::alloc::{AllocError, Global};
@@ -61,255 +53,9 @@ pub enum RleFault {
     /// The text ends where a token would begin.
     #[error("rle fault 10")]
     NoEnd,
+    /// Memory was refused.
     #[error("out of memory")]
     Memory,
-}
-
-// What is found of a token: its first byte, whether it has a count, that or 1, capped, and the byte in the place of its tag.
-#[derive(Clone, Copy)]
-struct Found {
-    at: usize,
-    counted: bool,
-    times: u32,
-    tag_at: usize,
-    tag: Option<u8>,
-}
-
-// Where the next token stands, both capped, and how many cells are live.
-#[derive(Clone, Copy)]
-struct Pen {
-    y: u32,
-    x: u32,
-    live: u32,
-}
-
-// One more than the greatest place of a live cell.
-const PLACE_LIMIT: u32 = 1_048_576;
-
-// The most live cells.
-const CELL_LIMIT: u32 = 1_048_576;
-
-// More than any place and any number of live cells.
-const CAP: u32 = 2_097_152;
-
-fn is_space(byte: u8) -> bool
-    ensures { result ≡ is_space byte }
-{
-    byte == b' ' || byte == b'\t' || byte == b'\r' || byte == b'\n'
-}
-
-fn is_digit(byte: u8) -> bool
-    ensures { result ≡ is_digit byte }
-{
-    b'0' <= byte && byte <= b'9'
-}
-
-// Whether a byte stands in a line of comment, by whether the byte before does.
-fn is_inside(comment: bool, before: u8, byte: u8) -> bool
-    ensures { result ≡ inside comment before byte }
-{
-    if before == b'\n' {
-        byte == b'#'
-    } else {
-        comment
-    }
-}
-
-// Whether a byte is none to pass over.
-fn stops(inside: bool, byte: u8) -> bool
-    ensures { result ≡ (not inside && not (is_space byte)) }
-{
-    !inside && !is_space(byte)
-}
-
-// The place of the first byte, from one on that is in no line of comment, that is neither blank nor LF nor in such a line.
-fn skip_spaces(text: &[u8], from: usize) -> usize
-    requires { from ≤ length text.now }
-    ensures from { from ≤ result }
-    ensures within { result ≤ length text.now }
-    ensures place { result ≡ from + prefix_len is_space (plain_at text.now from) }
-    ensures rest { without_front is_space (plain_at text.now from) ≡ plain_at text.now result }
-    ensures stops { result < length text.now → IsPlain text.now result }
-{
-    let mut comment = false;
-    let mut before = if from == 0 { b'\n' } else { text[from - 1] };
-    for at in from..text.len() {
-        let byte = text[at];
-        let inside = is_inside(comment, before, byte);
-        if stops(inside, byte) {
-            return at;
-        }
-        comment = inside;
-        before = byte;
-    }
-    text.len()
-}
-
-// The value of the digits from a place on, capped, and the place behind them.
-fn read_count(text: &[u8], at: usize) -> (u32, usize)
-    requires { at ≤ length text.now }
-    ensures behind { at ≤ result.1 }
-    ensures within { result.1 ≤ length text.now }
-    ensures value { result.0 ≡ min (digits_value 10 (take_while is_digit (plain_at text.now at))) cap }
-    ensures rest { lexemes true at (plain_at text.now at) ≡ lexemes false result.1 (plain_at text.now result.1) }
-{
-    let mut value: u32 = 0;
-    let mut next = at;
-    while next < text.len() && is_digit(text[next]) {
-        value = (value * 10 + u32::from(text[next] - b'0')).min(CAP);
-        next += 1;
-    }
-    (value, next)
-}
-
-// The first token from a place on.
-fn next_token(text: &[u8], from: usize) -> Found
-    requires { from ≤ length text.now }
-    ensures begins { Begins text.now from result }
-    ensures tag_within { IfSome result.tag (λ _. (from ≤ result.tag_at) × (result.tag_at < length text.now)) }
-    ensures once { result.counted ≡ false → result.times ≡ 1 }
-    ensures few { result.times ≤ cap }
-{
-    let at = skip_spaces(text, from);
-    if at == text.len() {
-        return Found {
-            at: 0,
-            counted: false,
-            times: 1,
-            tag_at: 0,
-            tag: None,
-        };
-    }
-    if !is_digit(text[at]) {
-        return Found {
-            at,
-            counted: false,
-            times: 1,
-            tag_at: at,
-            tag: Some(text[at]),
-        };
-    }
-    let (times, behind) = read_count(text, at);
-    let tag_at = skip_spaces(text, behind);
-    if tag_at == text.len() {
-        return Found {
-            at,
-            counted: true,
-            times,
-            tag_at: at,
-            tag: None,
-        };
-    }
-    if is_digit(text[tag_at]) {
-        return Found {
-            at,
-            counted: true,
-            times,
-            tag_at: at,
-            tag: None,
-        };
-    }
-    Found {
-        at,
-        counted: true,
-        times,
-        tag_at,
-        tag: Some(text[tag_at]),
-    }
-}
-
-fn is_letter(byte: u8) -> bool
-    ensures { result ≡ is_letter byte }
-{
-    (b'a' <= byte && byte <= b'z') || (b'A' <= byte && byte <= b'Z')
-}
-
-fn is_live(found: &Found) -> bool
-    ensures { result ≡ is_live (seen found.now) }
-{
-    match found.tag {
-        Some(tag) => tag == b'o' || tag == b'A',
-        None => false,
-    }
-}
-
-fn is_cells(found: &Found) -> bool
-    ensures { result ≡ is_cells (seen found.now) }
-{
-    match found.tag {
-        Some(tag) => tag == b'b' || tag == b'.' || tag == b'o' || tag == b'A',
-        None => false,
-    }
-}
-
-fn is_row_end(found: &Found) -> bool
-    ensures { result ≡ is_row_end (seen found.now) }
-{
-    match found.tag {
-        Some(tag) => tag == b'$',
-        None => false,
-    }
-}
-
-fn is_other_state(found: &Found) -> bool
-    ensures { result ≡ is_other_state (seen found.now) }
-{
-    match found.tag {
-        Some(tag) => is_letter(tag) && !is_cells(found),
-        None => false,
-    }
-}
-
-fn is_no_tag(found: &Found) -> bool
-    ensures { result ≡ is_no_tag (seen found.now) }
-{
-    match found.tag {
-        Some(tag) => !(tag == b'b'
-            || tag == b'.'
-            || tag == b'o'
-            || tag == b'A'
-            || tag == b'$'
-            || tag == b'!'),
-        None => false,
-    }
-}
-
-fn is_bad_run(found: &Found) -> bool
-    ensures { result ≡ is_bad_run (seen found.now) }
-{
-    let cut = match found.tag {
-        Some(tag) => tag == b'!',
-        None => true,
-    };
-    found.counted && (found.times == 0 || cut)
-}
-
-fn is_too_far(found: &Found, pen: Pen) -> bool
-    requires once { found.now.counted ≡ false → found.now.times ≡ 1 }
-    requires few { found.now.times ≤ cap }
-    requires row { pen.y ≤ cap }
-    requires column { pen.x ≤ cap }
-    ensures { result ≡ is_too_far pen.y pen.x (seen found.now) }
-{
-    is_live(found) && (pen.y + 1 > PLACE_LIMIT || pen.x + found.times > PLACE_LIMIT)
-}
-
-fn is_too_many(found: &Found, pen: Pen) -> bool
-    requires once { found.now.counted ≡ false → found.now.times ≡ 1 }
-    requires few { found.now.times ≤ cap }
-    requires live { pen.live ≤ cell_limit }
-    ensures { result ≡ is_too_many pen.live (seen found.now) }
-{
-    is_live(found) && pen.live + found.times > CELL_LIMIT
-}
-
-fn is_missing(found: &Found) -> bool
-    ensures { result ≡ is_missing (seen found.now) }
-{
-    match found.tag {
-        Some(_) => false,
-        None => !found.counted,
-    }
 }
 
 // The fault of the token that was found, where the pen stands.
@@ -340,53 +86,6 @@ fn found_fault(found: &Found, pen: Pen) -> Option<RleFault>
         return Some(RleFault::NoEnd);
     }
     None
-}
-
-// The pen behind the token that was found.
-fn advanced(pen: Pen, found: &Found) -> Pen
-    requires once { found.now.counted ≡ false → found.now.times ≡ 1 }
-    requires few { found.now.times ≤ cap }
-    requires row { pen.y ≤ cap }
-    requires column { pen.x ≤ cap }
-    requires live { pen.live ≤ cell_limit }
-    ensures { result ≡ capped_pen (moved pen (seen found.now)) }
-{
-    let rows = if is_row_end(found) { found.times } else { 0 };
-    let columns = if is_cells(found) { found.times } else { 0 };
-    let cells = if is_live(found) { found.times } else { 0 };
-    Pen {
-        y: (pen.y + rows).min(CAP),
-        x: if is_row_end(found) {
-            0
-        } else {
-            (pen.x + columns).min(CAP)
-        },
-        live: pen.live + cells,
-    }
-}
-
-// A cell.
-fn cell(x: u32, y: u32) -> (i32, i32)
-    requires x { x < place_limit }
-    requires y { y < place_limit }
-    ensures { result ≡ (pos x, pos y) }
-{
-    (x as i32, y as i32)
-}
-
-// Draws the live cells of the token that was found, at this column and row.
-fn push_span(cells: &mut Vec<(i32, i32)>, x: u32, y: u32, found: &Found) -> Result<(), AllocError>
-    requires once { found.now.counted ≡ false → found.now.times ≡ 1 }
-    requires row { is_live (seen found.now) ≡ true → y < place_limit }
-    requires column { is_live (seen found.now) ≡ true → x + found.now.times ≤ place_limit }
-    ensures { OnOk result (cells.new.items ≡ cells.old.items ++ map placed (span y x (seen found.now))) }
-{
-    if is_live(found) {
-        for step in 0..found.times {
-            cells.push(cell(x + step, y))?;
-        }
-    }
-    Ok(())
 }
 
 impl From<AllocError> for RleFault {

@@ -1,11 +1,14 @@
 //! RLE texts that are written.
-ghost use Rattle.std.specs.Prelude.{◌≡◌, ℕ, ℤ, ◌+◌, ◌^◌, ◌≤◌, ◌<◌, ◌≤ℤ◌, All, IfOk, OnErr, OnOk, List, [], ◌∷◌, ◌++◌, T, codes, decimal, length, map};
+ghost use Rattle.std.specs.Prelude.{◌≡◌, ℕ, ℤ, ◌+◌, ◌^◌, ◌%◌, Ok, ◌≤◌, ◌<◌, ◌≤ℤ◌, All, IfOk, OnErr, OnOk, List, [], ◌∷◌, ◌++◌, T, codes, decimal, length, map};
 ghost use Rattle.life_model.specs.Cell.{opposite, plus};
-ghost use Rattle.life_model.specs.Generation.{is_rising};
-ghost use Rattle.life_model.specs.Symmetry.{corner_of};
-ghost use Rattle.life_cells.specs.Limits.{IsPlace};
+ghost use Rattle.life_model.specs.Generation.{Generation, cells, is_rising, size};
+ghost use Rattle.life_model.specs.Rule as model;
+ghost use Rattle.life_model.specs.Symmetry.{corner_of, normal};
+ghost use Rattle.life_cells.specs.Limits.{IsPlace, IsWithin};
 ghost use Rattle.life_text.specs.Box.{height, place, width};
 ghost use Rattle.life_text.specs.Filled.{filled};
+ghost use Rattle.life_text.specs.Picture.{picture_of};
+ghost use Rattle.life_text.specs.Rle.{cell_limit, reading};
 ghost use Rattle.life_text.specs.RleText.{header, rle_text, token_text};
 ghost use Rattle.life_text.specs.Writer.{places_from, tokens_from, unwritten};
 
@@ -177,3 +180,11 @@ pub fn write_rle(rule: &Rule, cells: &CellList, out: &mut Vec<u8>) -> Result<(),
     out.extend_from_slice(text.as_slice())?;
     Ok(())
 }
+
+/// A written text means its rule and the normal form of its cells, where that has no place above 1,048,575 and at most
+/// 1,048,576 cells.
+pub fn written_texts_are_read()
+    ensures { (rule : model.Rule) (G : Generation) → rule.birth < 512 → rule.survival < 512 → rule.birth % 2 ≡ 0
+        → All (IsWithin 0) (cells (normal G)) → size (normal G) ≤ cell_limit
+        → picture_of (reading (rle_text rule G)) ≡ Ok (record { rule = rule; cells = normal G }) }
+{}

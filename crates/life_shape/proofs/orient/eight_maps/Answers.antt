@@ -1,4 +1,4 @@
-use Rattle.std.proofs.Common.{◌≡◌, ℕ, ◌<◌, lit<, refl, List, [], ◌∷◌}
+use Rattle.std.proofs.Common.{lit<, refl, List, [], ◌∷◌}
 use Rattle.std.specs.List.{Contains}
 use Rattle.life_model.specs.Symmetry.{Orientation, Same, FlipX, FlipY, Half, Swap, SwapFlipX, SwapFlipY, SwapHalf}
 use Rattle.life_shape.proofs.orient.eight_maps.Goals as goal

@@ -1,4 +1,4 @@
-use Rattle.std.proofs.Common.{◌≡◌, ap, ◌∙◌, ◌∷◌, sym, refl, arith, append-nil}
+use Rattle.std.proofs.Common.{ap, ◌∙◌, ◌∷◌, sym, refl, arith, append-nil}
 use Rattle.life_shape.specs.Reading.{Column, Zeros, NextStrip}
 use Rattle.life_shape.specs.Drawing.{marks_at, seen}
 use Rattle.life_shape.proofs.Drawings.{drawn_more, near_fault}

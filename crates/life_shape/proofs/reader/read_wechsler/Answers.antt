@@ -1,8 +1,6 @@
-use Rattle.std.proofs.Common.{◌≡◌, ◌≢◌, length, ap, ◌∙◌, sym, arith}
-use Rattle.std.specs.Prelude.{◌==◌}
+use Rattle.std.proofs.Common.{◌≢◌, length, ap, ◌∙◌, arith}
 use Rattle.std.proofs.lemmas.Bool.Decides.{nat_tests}
 use Rattle.std.proofs.lemmas.Result.{err_from_is_err_and}
-use Rattle.life_model.specs.Generation.{from_list}
 use Rattle.life_model.specs.Symmetry.{normal}
 use Rattle.life_shape.proofs.Readings.{refusal_empty, told, lawful, spelt_is, all_placed, width_of_list, height_of_list}
 use Rattle.life_shape.proofs.reader.read_wechsler.Goals as goal

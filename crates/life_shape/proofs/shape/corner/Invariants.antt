@@ -1,5 +1,4 @@
 use Rattle.std.proofs.Common.{◌≡◌, get_or, take, pos}
-use Rattle.life_model.specs.Cell.{Cell}
 use Rattle.life_model.specs.Symmetry.{least_by}
 use Rattle.life_shape.proofs.shape.corner.Given as goal
 

@@ -1,7 +1,4 @@
-use Rattle.std.proofs.Common.{◌+◌, ◌*◌, pos, ◌<ℤ◌, ◌≤ℤ◌, get_or, arith}
-use Rattle.std.specs.Prelude.{All}
-use Rattle.std.proofs.lemmas.Int.{ints}
-use Rattle.std.proofs.lemmas.List.Elements.{All-more}
+use Rattle.std.proofs.Common.{◌+◌, ◌*◌, pos}
 use Rattle.life_shape.proofs.StripLists.{behind_row}
 use Rattle.life_shape.proofs.writer.count_within.Goals as goal
 

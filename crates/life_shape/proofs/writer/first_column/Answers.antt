@@ -1,10 +1,9 @@
-use Rattle.std.proofs.Common.{◌≡◌, ◌+◌, ◌<◌, ◌≤◌, length, get_or, take, drop, ap, ◌∙◌, sym, subst, arith}
+use Rattle.std.proofs.Common.{◌≡◌, ◌+◌, length, get_or, ◌∙◌, sym, subst, arith}
 use Rattle.std.specs.Prelude.{All}
 use Rattle.std.proofs.lemmas.List.{take_all}
 use Rattle.std.proofs.lemmas.List.Elements.{All-more}
 use Rattle.std.proofs.lemmas.List.Sums.{sum_by_more}
-use Rattle.life_shape.specs.Dots.{dots_value}
-use Rattle.life_shape.proofs.DotLists.{in_column, in_column_here, behind_other, first_value, other_values, no_dots}
+use Rattle.life_shape.proofs.DotLists.{in_column, in_column_here, behind_other, first_value, other_values}
 use Rattle.life_shape.proofs.writer.first_column.Goals as goal
 
 pub returns-then-dot-column-clause-behind : goal.returns-then-dot-column-clause-behind

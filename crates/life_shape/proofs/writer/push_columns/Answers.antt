@@ -1,10 +1,8 @@
-use Rattle.std.proofs.Common.{◌≡◌, ℕ, ◌+◌, ◌-◌, ◌<◌, ◌≤◌, ◌++◌, ◌∷◌, [], length, get_or, drop, map, ap, subst, ◌∙◌, sym, refl, arith, append-nil}
-use Rattle.std.specs.Prelude.{All, ◌==◌}
-use Rattle.std.specs.List.{range_with_len}
+use Rattle.std.proofs.Common.{◌≡◌, ◌+◌, ◌-◌, ◌<◌, ◌≤◌, ◌++◌, ◌∷◌, [], length, get_or, drop, ap, subst, ◌∙◌, sym, refl, arith, append-nil}
+use Rattle.std.specs.Prelude.{All}
 use Rattle.std.specs.List.Sorted.{IsNonDecreasingBy}
 use Rattle.std.proofs.lemmas.Bool.Decides.{nat_tests}
 use Rattle.std.proofs.lemmas.List.Elements.{All-drop, All-weaker}
-use Rattle.life_shape.specs.Wechsler.{digit, zeros, columns_text}
 use Rattle.life_shape.specs.Dots.{dots_value}
 use Rattle.life_shape.proofs.Columns.{columns_turn, columns_none}
 use Rattle.life_shape.proofs.DotLists.{sorted_drop, from_first, none_left, no_dots, value_some, value_drop}

@@ -1,4 +1,4 @@
-use Rattle.std.proofs.Common.{◌≡◌, ◌++◌, ◌∷◌, [], ap, ◌∙◌, refl}
+use Rattle.std.proofs.Common.{◌++◌, ◌∷◌, [], ap, ◌∙◌, refl}
 use Rattle.life_shape.proofs.Columns.{zeros_turn}
 use Rattle.life_shape.proofs.writer.push_zeros.Goals as goal
 

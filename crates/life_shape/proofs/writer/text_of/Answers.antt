@@ -1,8 +1,6 @@
-use Rattle.std.proofs.Common.{◌≡◌, ℕ, ◌+◌, ◌*◌, ◌<◌, ◌≤◌, ◌++◌, pos, ◌≤ℤ◌, ◌<ℤ◌, T, take, drop, ap, subst, ◌∙◌, sym, arith}
+use Rattle.std.proofs.Common.{◌≡◌, ℕ, ◌+◌, ◌*◌, ◌++◌, pos, ◌≤ℤ◌, T, drop, ap, subst, ◌∙◌, sym, arith}
 use Rattle.std.specs.Prelude.{All}
-use Rattle.std.proofs.lemmas.Int.{ints}
-use Rattle.std.proofs.lemmas.List.Elements.{All-drop, All-take, All-weaker}
-use Rattle.life_model.specs.Cell.{Cell}
+use Rattle.std.proofs.lemmas.List.Elements.{All-drop, All-take}
 use Rattle.life_model.specs.Generation.{is_rising}
 use Rattle.life_shape.specs.Dots.{IsInField, IsLeftOf, weights, values_text}
 use Rattle.life_shape.proofs.Columns.{joined, joined_turn, strips_text_is}

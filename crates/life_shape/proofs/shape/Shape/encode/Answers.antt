@@ -1,4 +1,4 @@
-use Rattle.std.proofs.Common.{◌≡◌, ◌≤◌, ◌++◌, ◌+◌, ◌/◌, ap, subst, ◌∙◌, sym}
+use Rattle.std.proofs.Common.{◌≤◌, ◌++◌, ◌+◌, ◌/◌, ap, subst, ◌∙◌, sym}
 use Rattle.life_shape.specs.Box.{width, height}
 use Rattle.life_shape.specs.Dots.{values_text, weights}
 use Rattle.life_shape.specs.Wechsler.{strips_text}

@@ -1,7 +1,6 @@
-use Rattle.std.proofs.Common.{◌≡◌, T, All, map, sym, ap, subst, ◌∙◌, arith}
-use Rattle.life_model.specs.Cell.{plus, opposite}
-use Rattle.life_model.specs.Generation.{cells, from_list, is_rising}
-use Rattle.life_model.specs.Symmetry.{corner, corner_of, normal}
+use Rattle.std.proofs.Common.{T, All, sym, ap, subst, ◌∙◌}
+use Rattle.life_model.specs.Generation.{from_list, is_rising}
+use Rattle.life_model.specs.Symmetry.{corner, normal}
 use Rattle.life_model.proofs.Generations.{cells-rise, from_list-cells}
 use Rattle.life_cells.specs.Limits.{IsPlace}
 use Rattle.life_shape.specs.Box.{IsAhead, IsNormal}

@@ -1,7 +1,5 @@
-use Rattle.std.proofs.Common.{◌≡◌, pos, map, nat_abs, length, take, sym, ap, ◌∙◌, arith}
+use Rattle.std.proofs.Common.{pos, ◌∙◌, arith}
 use Rattle.std.proofs.lemmas.Int.{ints, to_z-of_z}
-use Rattle.life_model.specs.Generation.{cells}
-use Rattle.life_shape.specs.Box.{extent, width}
 use Rattle.life_shape.proofs.Boxes.{all_in_field, extent_more, width_of_cells}
 use Rattle.life_shape.proofs.shape.Shape.width.Goals as goal
 

@@ -1,0 +1,12 @@
+pub mod Fields
+pub mod TicketSets
+pub mod Kept
+pub mod Runs
+pub mod Owning
+pub mod Releases
+pub mod Texts
+pub mod Missing
+pub mod Orders
+pub mod Counting
+pub mod Tallies
+pub mod Fronts

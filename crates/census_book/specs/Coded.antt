@@ -1,0 +1,10 @@
+-- How a proof tells what a collector is seen as apart.
+use Rattle.std.specs.Coded.{Coded, codes}
+use Rattle.census_bundle.specs.Coded.{folder_code, tickets_code}
+use Rattle.census_book.specs.Progress.{Progress, Taken}
+
+pub taken_code : Coded Taken
+taken_code = hlevel (codes, folder_code, tickets_code)
+
+pub progress_code : Coded Progress
+progress_code = hlevel (codes, folder_code, tickets_code)

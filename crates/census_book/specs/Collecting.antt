@@ -1,0 +1,47 @@
+-- What a collector does with a result.
+use Rattle.std.specs.Prelude.{◌≡◌, ◌≢◌, ℕ, true, false, List, Some}
+use Rattle.std.specs.declared.cmp.Ordering.TheVariants.{Less}
+use Rattle.census_bundle.specs.declared.bundle.Entry.{Entry}
+use Rattle.census_bundle.specs.declared.bundle.Folder.{Folder}
+use Rattle.census_bundle.specs.declared.ticket.Ticket.{Ticket}
+use Rattle.life_answer.specs.Answers.{answer_of}
+use Rattle.life_answer.specs.declared.finding.Answer.{Answer}
+use Rattle.census_book.specs.declared.offer.Offer.{Offer}
+use Rattle.census_book.specs.declared.offer.Offer.TheVariants.{Stranger, Double, Taken}
+use Rattle.census_bundle.specs.Tickets.{Tickets, entry_at, has_ticket, ticket_cmp, IsTicketOf}
+use Rattle.census_book.specs.Progress.{Progress, with_taken}
+
+-- the ticket is one of the bundle's, the text is the text of that ticket, and the bounds agree
+pub record Belongs (b : List Folder) (bound : ℕ) (t : Ticket) (text : List ℕ) (n : ℕ) : Type 0 where
+  pub entry : Entry
+  pub at : entry_at b t ≡ Some entry
+  pub same_text : entry.text ≡ text
+  pub same_bound : bound ≡ n
+
+-- what was found of the pattern of this ticket
+pub record IsFound (b : List Folder) (bound : ℕ) (t : Ticket) (found : Answer) : Type 0 where
+  pub entry : Entry
+  pub at : entry_at b t ≡ Some entry
+  pub answer : found ≡ answer_of entry.text bound
+
+-- what is answered to a result where these tickets were taken
+abbrev pub Judged : List Folder → ℕ → Tickets → Ticket → List ℕ → ℕ → Offer → Type 0
+Judged b bound taken t text n Stranger = Belongs b bound t text n → ⊥
+Judged b bound taken t text n Double = Belongs b bound t text n × (has_ticket taken t ≡ true)
+Judged b bound taken t text n Taken = Belongs b bound t text n × (has_ticket taken t ≡ false)
+
+-- the collector afterwards
+abbrev pub after_offer : Progress → Ticket → Offer → Progress
+after_offer p t Stranger = p
+after_offer p t Double = p
+after_offer p t Taken = with_taken p t
+
+-- what becomes of a collector to which this result was offered
+abbrev pub Offered : Progress → Ticket → List ℕ → ℕ → Progress → Offer → Type 0
+Offered p t text n q o = Judged p.bundle p.bound p.taken t text n o × (q ≡ after_offer p t o)
+
+-- the least ticket that is not taken
+pub record IsLeastMissing (b : List Folder) (taken : Tickets) (t : Ticket) : Type 0 where
+  pub of_bundle : IsTicketOf b t
+  pub not_taken : has_ticket taken t ≡ false
+  pub least : (u : Ticket) → IsTicketOf b u → has_ticket taken u ≡ false → ticket_cmp u t ≢ Less

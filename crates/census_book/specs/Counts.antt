@@ -1,0 +1,39 @@
+-- How many patterns are of a kind, in all and among those taken.
+use Rattle.std.specs.Prelude.{◌≡◌, ℕ, suc, ◌+◌, Some, Bool, false, if◌then◌else◌, List, [], ◌∷◌}
+use Rattle.census_bundle.specs.declared.bundle.Entry.{Entry}
+use Rattle.census_bundle.specs.declared.bundle.Folder.{Folder}
+use Rattle.census_bundle.specs.declared.ticket.Ticket.{Ticket}
+use Rattle.life_answer.specs.declared.finding.Answer.{Answer}
+use Rattle.life_answer.specs.Answers.{answer_of}
+use Rattle.census_bundle.specs.Tickets.{Tickets, ticket, has_ticket, with_ticket, entry_at}
+
+-- what g gives for each element and its number, the first of which is i, added up
+abbrev pub numbered_sum : {A : Type 0} → (ℕ → A → ℕ) → ℕ → List A → ℕ
+numbered_sum g i [] = 0
+numbered_sum g i (x ∷ xs) = g i x + numbered_sum g (suc i) xs
+
+-- the weights of all patterns, added up
+abbrev pub bundle_weight : (Ticket → Entry → ℕ) → List Folder → ℕ
+bundle_weight w b = numbered_sum (λ c (f : Folder). numbered_sum (λ i e. w (ticket c i) e) 1 f.entries) 1 b
+
+abbrev pub one_if : Bool → ℕ
+one_if b = if b then 1 else 0
+
+-- how many patterns are of this kind
+abbrev pub count_of : (Answer → Bool) → List Folder → ℕ → ℕ
+count_of kind b bound = bundle_weight (λ t e. one_if (kind (answer_of e.text bound))) b
+
+-- how many of those taken are
+abbrev pub taken_count : (Answer → Bool) → List Folder → ℕ → Tickets → ℕ
+taken_count kind b bound taken = bundle_weight (λ t e. if has_ticket taken t then one_if (kind (answer_of e.text bound)) else 0) b
+
+-- how many patterns are not taken
+abbrev pub missing_count : List Folder → Tickets → ℕ
+missing_count b taken = bundle_weight (λ t e. if has_ticket taken t then 0 else 1) b
+
+-- a ticket that is taken adds its pattern to those of its kind, and leaves one less missing
+abbrev pub CountsStep : Type 0
+CountsStep =
+    (b : List Folder) (taken : Tickets) (t : Ticket) (e : Entry) → entry_at b t ≡ Some e → has_ticket taken t ≡ false
+    → ((kind : Answer → Bool) (bound : ℕ) → taken_count kind b bound (with_ticket taken t) ≡ taken_count kind b bound taken + one_if (kind (answer_of e.text bound)))
+    × (missing_count b taken ≡ missing_count b (with_ticket taken t) + 1)

@@ -1,0 +1,15 @@
+pub mod Lines
+pub mod Objects
+pub mod ObjectCode
+pub mod ObjectLaws
+pub mod Reports
+pub mod Work
+pub mod Progress
+pub mod Coded
+pub mod Collecting
+pub mod Tallying
+pub mod Keeping
+pub mod Front
+pub mod Released
+pub mod Orders
+pub mod Counts

@@ -1,0 +1,83 @@
+//! A result beside those that were taken before.
+ghost use Rattle.std.specs.Prelude.{◌≡◌, true, false};
+ghost use Rattle.census_bundle.specs.Tickets.{has_ticket, with_ticket};
+ghost use Rattle.census_book.specs.Collecting.{Belongs, IsFound};
+ghost use Rattle.census_book.specs.Progress.{taken_of};
+
+use crate::done::Done;
+use crate::results::Results;
+use census_bundle::bundle::Bundle;
+use census_bundle::ticket::Ticket;
+use life_answer::finding::Answer;
+use std::marker::Model;
+
+/// A result that is to be taken, beside those that were. It is seen as the tickets of all of them.
+#[derive(Drop)]
+pub struct Arrival<'r, 'a> {
+    results: &'r Results<'a>,
+    done: &'r Done<'a>,
+}
+
+impl<'r, 'a> Model for Arrival<'r, 'a> {
+    ghost use Rattle.census_bundle.specs.Tickets.{with_ticket};
+    ghost use Rattle.census_book.specs.Coded.{taken_code};
+    ghost use Rattle.census_book.specs.Collecting.{Belongs};
+    ghost use Rattle.census_book.specs.Progress.{Taken, taken_of};
+
+    ghost Value = { Taken };
+
+    ghost coded = { taken_code };
+
+    ghost view = { λ a. taken_of a.results.now.bundle a.results.now.bound (with_ticket a.results.now.taken a.done.now.ticket) };
+
+    ghost invariant = { λ a. Belongs a.results.now.bundle a.results.now.bound a.done.now.ticket a.done.now.entry.text a.done.now.bound };
+}
+
+impl<'r, 'a> Arrival<'r, 'a> {
+    /// A result that belongs to the bundle and the bound.
+    pub fn new(results: &'r Results<'a>, done: &'r Done<'a>) -> Arrival<'r, 'a>
+        requires { Belongs results.now.bundle results.now.bound done.now.ticket done.now.entry.text done.now.bound }
+        ensures { result ≡ taken_of results.now.bundle results.now.bound (with_ticket results.now.taken done.now.ticket) }
+    {
+        Arrival { results, done }
+    }
+
+    /// The bundle.
+    pub fn bundle(&self) -> &'a Bundle
+        ensures { result.now ≡ self.now.bundle }
+    {
+        self.results.bundle()
+    }
+
+    /// The bound.
+    pub fn bound(&self) -> u32
+        ensures { result ≡ self.now.bound }
+    {
+        self.results.bound()
+    }
+
+    /// Whether this ticket was taken or is to be taken.
+    pub fn holds(&self, ticket: Ticket) -> bool
+        ensures { result ≡ has_ticket self.now.taken ticket }
+    {
+        let own = self.done.ticket();
+        if ticket.folder != own.folder {
+            return self.results.holds(ticket);
+        }
+        if ticket.number != own.number {
+            return self.results.holds(ticket);
+        }
+        true
+    }
+
+    /// What was found of this ticket's pattern.
+    pub fn answer(&self, ticket: Ticket) -> &'r Answer
+        requires { has_ticket self.now.taken ticket ≡ true }
+        ensures { IsFound self.now.bundle self.now.bound ticket result.now }
+    {
+        match self.results.answer(ticket) {
+            Some(answer) => answer,
+            None => self.done.answer(),
+        }
+    }
+}

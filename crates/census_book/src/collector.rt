@@ -1,0 +1,174 @@
+//! The collector of results, which releases the lines of the report.
+ghost use Rattle.std.specs.Prelude.{◌≡◌, ◌≤◌, ◌++◌, true, false, length, IfOk, IfErr, OnOk, OnErr, MatchOption};
+ghost use Rattle.census_bundle.specs.Tickets.{HasAll, has_ticket, with_ticket};
+ghost use Rattle.census_book.specs.Collecting.{Belongs, IsLeastMissing, Offered};
+ghost use Rattle.census_book.specs.Front.{IsFront, IsRelease};
+ghost use Rattle.census_book.specs.Progress.{sent_of, started, taken_of};
+ghost use Rattle.census_book.specs.Reports.{out};
+
+use crate::done::Done;
+use crate::front::Front;
+use crate::offer::Offer;
+use crate::release::{Release, push_start, released};
+use crate::results::Results;
+use census_bundle::bundle::Bundle;
+use census_bundle::ticket::Ticket;
+use std::alloc::{AllocError, Global};
+use std::marker::Model;
+
+/// There was no memory to take a result, which comes back.
+#[derive(Drop)]
+pub struct NoRoom<'a> {
+    pub done: Done<'a>,
+}
+
+/// Takes the results of a bundle under a bound in any order, and releases the lines of its report: those of each
+/// collection in their order, and the last line of all when nothing is missing. It is seen as the tickets taken and the
+/// text that was released and not yet sent.
+#[derive(Drop)]
+pub struct Collector<'a> {
+    results: Results<'a>,
+    front: Front,
+    unsent: Vec<u8>,
+    alloc: Global,
+}
+
+impl<'a> Model for Collector<'a> {
+    ghost use Rattle.census_book.specs.Coded.{progress_code};
+    ghost use Rattle.census_book.specs.Front.{IsFront};
+    ghost use Rattle.census_book.specs.Progress.{Progress};
+
+    ghost Value = { Progress };
+
+    ghost coded = { progress_code };
+
+    ghost view = { λ s. record { bundle = s.results.bundle; bound = s.results.bound; taken = s.results.taken; unsent = s.unsent.items } };
+
+    ghost invariant = { λ s. IsFront s.results.bundle s.results.taken s.front.runs.items s.front.first_open };
+}
+
+// Takes a result that belongs and is new, with what it releases. All growths come before any change that stays.
+fn accept<'a>(
+    results: &mut Results<'a>,
+    front: &mut Front,
+    unsent: &mut Vec<u8>,
+    done: Done<'a>,
+    release: Release,
+) -> Result<(), NoRoom<'a>>
+    requires belongs { Belongs results.old.bundle results.old.bound done.ticket done.entry.text done.bound }
+    requires new { has_ticket results.old.taken done.ticket ≡ false }
+    requires front { IsFront results.old.bundle results.old.taken front.old.runs.items front.old.first_open }
+    requires release { IsRelease results.old.bundle results.old.bound results.old.taken front.old.runs.items front.old.first_open done.ticket release.text.items release.run release.first_open }
+    ensures taken { OnOk result (results.new ≡ taken_of results.old.bundle results.old.bound (with_ticket results.old.taken done.entry.ticket)) }
+    ensures released { OnOk result (unsent.new.items ≡ unsent.old.items ++ out results.old.bundle results.old.bound results.old.taken done.entry.ticket) }
+    ensures front { IsFront results.new.bundle results.new.taken front.new.runs.items front.new.first_open }
+    ensures back { IfErr result (λ e. e.done ≡ done.entry) }
+    ensures results { OnErr result (results.new ≡ results.old) }
+    ensures unsent { OnErr result (unsent.new.items ≡ unsent.old.items) }
+{
+    let before = unsent.len();
+    let place = done.ticket().folder as usize - 1;
+    match unsent.extend_from_slice(&release.text) {
+        Ok(()) => {}
+        Err(_) => return Err(NoRoom { done }),
+    }
+    match results.add(done) {
+        Ok(()) => {
+            front.runs[place] = release.run;
+            front.first_open = release.first_open;
+            Ok(())
+        }
+        Err(done) => {
+            unsent.truncate(before);
+            Err(NoRoom { done })
+        }
+    }
+}
+
+impl<'a> Collector<'a> {
+    /// A collector that has taken nothing. It has released the opening line of each collection in order, after that of
+    /// an empty one its closing line, and the last line where there is no pattern at all. The bound is 1 to 1,000,000
+    /// generations.
+    pub fn new(alloc: Global, bundle: &'a Bundle, bound: u32) -> Result<Collector<'a>, AllocError>
+        requires { (1 ≤ bound) × (bound ≤ 1000000) }
+        ensures { IfOk result (λ c. c ≡ started bundle.now bound) }
+    {
+        let folders = bundle.folders();
+        let front = Front::new(alloc, folders)?;
+        let mut unsent = Vec::new(alloc);
+        push_start(alloc, &mut unsent, folders, bound)?;
+        Ok(Collector {
+            results: Results::new(alloc, bundle, bound),
+            front,
+            unsent,
+            alloc,
+        })
+    }
+
+    /// Offers a result. `Stranger` and `Double` change nothing and take no memory. `Taken` releases the lines of the
+    /// patterns up to the end of the longest run of its collection that has arrived, at the collection's end also its
+    /// `code` lines and its closing line, and where nothing is missing any more the last line. `NoRoom` is want of memory:
+    /// it hands the result back, and changes nothing.
+    pub fn offer(&mut self, done: Done<'a>) -> Result<Offer, NoRoom<'a>>
+        ensures ok { IfOk result (λ o. Offered self.old done.entry.ticket done.entry.entry.text done.entry.bound self.new o) }
+        ensures no_room { IfErr result (λ e. e.done ≡ done.entry) }
+        ensures unchanged { OnErr result (self.new ≡ self.old) }
+    {
+        match self.results.judge(&done) {
+            Offer::Stranger => return Ok(Offer::Stranger),
+            Offer::Double => return Ok(Offer::Double),
+            Offer::Taken => {}
+        }
+        let made = released(self.alloc, &self.results, &done, &self.front);
+        let Ok(release) = made else {
+            return Err(NoRoom { done });
+        };
+        match accept(
+            &mut self.results,
+            &mut self.front,
+            &mut self.unsent,
+            done,
+            release,
+        ) {
+            Ok(()) => Ok(Offer::Taken),
+            Err(refused) => Err(refused),
+        }
+    }
+
+    /// The text that was released and not yet sent.
+    pub fn unsent(&self) -> &[u8]
+        ensures { result.now ≡ self.now.unsent }
+    {
+        self.unsent.as_slice()
+    }
+
+    /// Drops the first `count` bytes of the unsent text. It takes no memory.
+    pub fn sent(&mut self, count: usize)
+        requires { count ≤ length self.old.unsent }
+        ensures { self.new ≡ sent_of self.old count }
+    {
+        self.unsent.drain(..count);
+    }
+
+    /// The least ticket that was not taken.
+    pub fn missing(&self) -> Option<Ticket>
+        ensures { MatchOption result (HasAll self.now.bundle self.now.taken) (IsLeastMissing self.now.bundle self.now.taken) }
+    {
+        let first = self.front.first_open;
+        if first == self.results.bundle().folders().len() {
+            return None;
+        }
+        Some(Ticket {
+            folder: first as u32 + 1,
+            number: self.front.runs[first] + 1,
+        })
+    }
+
+    /// Whether no ticket is missing.
+    pub fn is_whole(&self) -> bool
+        ensures whole { result ≡ true → HasAll self.now.bundle self.now.taken }
+        ensures missing { HasAll self.now.bundle self.now.taken → result ≡ true }
+    {
+        self.missing().is_none()
+    }
+}

@@ -1,0 +1,15 @@
+//! What was found of patterns, the collector of results, and the report.
+#![tactic(auto)]
+
+mod arrival;
+pub mod arrivals;
+mod closing;
+pub mod collector;
+pub mod done;
+mod front;
+mod lines;
+pub mod offer;
+mod release;
+mod results;
+#[cfg(test)]
+mod tests;

@@ -1,0 +1,136 @@
+//! The lines of a report.
+ghost use Rattle.std.specs.Prelude.{◌≡◌, ◌≤◌, ◌++◌, ℕ, [], ◌∷◌, List, length, OnOk, decimal};
+ghost use Rattle.std.specs.Fmt.{signed_decimal};
+ghost use Rattle.life_answer.specs.Answers.{answer_of};
+ghost use Rattle.life_cells.specs.Rules.{rule_text};
+ghost use Rattle.census_book.specs.Lines.{answer_fields, behind, end_line, open_line, pattern_count, pattern_line};
+
+use census_bundle::bundle::{Bundle, Entry, Folder};
+use itoa::{Buffer, Integer};
+use life_answer::finding::{Answer, Finding};
+use life_cells::rule::Rule;
+use std::alloc::AllocError;
+
+/// A blank and these bytes.
+pub fn push_field(text: &mut Vec<u8>, field: &[u8]) -> Result<(), AllocError>
+    ensures { OnOk result (text.new.items ≡ text.old.items ++ 32 ∷ field.now) }
+{
+    text.push(b' ')?;
+    text.extend_from_slice(field)?;
+    Ok(())
+}
+
+/// A blank and a number.
+pub fn push_number<I: Integer>(text: &mut Vec<u8>, number: I) -> Result<(), AllocError>
+    ensures { OnOk result (text.new.items ≡ text.old.items ++ 32 ∷ I.text number) }
+{
+    let mut buffer = Buffer::new();
+    push_field(text, buffer.format(number).as_bytes())
+}
+
+/// A blank and a rule.
+pub fn push_rule(text: &mut Vec<u8>, rule: &Rule) -> Result<(), AllocError>
+    ensures { OnOk result (text.new.items ≡ text.old.items ++ 32 ∷ rule_text rule.now) }
+{
+    text.push(b' ')?;
+    rule.text_into(text)
+}
+
+/// The line that opens a section.
+#[tactic(auto, unfolding(crate::specs::Lines::open_line))]
+pub fn push_open(text: &mut Vec<u8>, c: u32, folder: &Folder) -> Result<(), AllocError>
+    ensures { OnOk result (text.new.items ≡ text.old.items ++ open_line c folder.now) }
+{
+    text.extend_from_slice(b"open")?;
+    push_number(text, c)?;
+    push_number(text, folder.entries.as_slice().len())?;
+    push_field(text, folder.name.as_slice())?;
+    text.push(b'\n')?;
+    Ok(())
+}
+
+// A word, a rule and how many live cells generation 0 has.
+fn push_population(
+    text: &mut Vec<u8>,
+    word: &[u8],
+    rule: &Rule,
+    population: u64,
+) -> Result<(), AllocError>
+    ensures { OnOk result (text.new.items ≡ text.old.items ++ behind (word.now ∷ rule_text rule.now ∷ decimal population ∷ [])) }
+{
+    push_field(text, word)?;
+    push_rule(text, rule)?;
+    push_number(text, population)
+}
+
+// When a pattern recurs, and how it has moved then.
+fn push_recurrence(
+    text: &mut Vec<u8>,
+    onset: u32,
+    period: u32,
+    dx: &i32,
+    dy: &i32,
+) -> Result<(), AllocError>
+    ensures { OnOk result (text.new.items ≡ text.old.items ++ behind (decimal onset ∷ decimal period ∷ signed_decimal dx.now ∷ signed_decimal dy.now ∷ [])) }
+{
+    push_number(text, onset)?;
+    push_number(text, period)?;
+    push_number(text, *dx)?;
+    push_number(text, *dy)
+}
+
+// What was found of a pattern, and the pattern's name.
+fn push_answer(text: &mut Vec<u8>, answer: &Answer, name: &[u8]) -> Result<(), AllocError>
+    ensures { OnOk result (text.new.items ≡ text.old.items ++ behind (answer_fields answer.now name.now)) }
+{
+    match answer {
+        Answer::Found { rule, finding } => match finding {
+            Finding::Recurs {
+                population,
+                onset,
+                period,
+                dx,
+                dy,
+                code,
+            } => {
+                push_population(text, b"ok", rule, *population)?;
+                push_recurrence(text, *onset, *period, dx, dy)?;
+                push_field(text, code.as_slice())?;
+                push_field(text, name)?;
+                Ok(())
+            }
+            Finding::Unresolved { population } => {
+                push_population(text, b"none", rule, *population)?;
+                push_field(text, name)?;
+                Ok(())
+            }
+        },
+        Answer::Refused(number) => {
+            push_field(text, b"bad")?;
+            push_number(text, *number)?;
+            push_field(text, name)?;
+            Ok(())
+        }
+    }
+}
+
+/// The line of a pattern, of which this was found.
+#[tactic(auto, unfolding(crate::specs::Lines::pattern_line))]
+pub fn push_pattern(
+    text: &mut Vec<u8>,
+    bound: u32,
+    c: u32,
+    i: u32,
+    entry: &Entry,
+    answer: &Answer,
+) -> Result<(), AllocError>
+    requires { answer.now ≡ answer_of entry.now.text bound }
+    ensures { OnOk result (text.new.items ≡ text.old.items ++ pattern_line bound c i entry.now) }
+{
+    text.extend_from_slice(b"line")?;
+    push_number(text, c)?;
+    push_number(text, i)?;
+    push_answer(text, answer, entry.name.as_slice())?;
+    text.push(b'\n')?;
+    Ok(())
+}

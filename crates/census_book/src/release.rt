@@ -1,0 +1,214 @@
+//! What a result releases.
+ghost use Rattle.std.specs.Prelude.{◌≡◌, ◌≤◌, ◌<◌, ◌++◌, ◌-◌, ◌+◌, ℕ, true, false, [], ◌∷◌, length, take, drop, map, OnOk, IfOk, Some};
+ghost use Rattle.census_bundle.specs.Sizes.{IsSmall};
+ghost use Rattle.census_bundle.specs.Tickets.{has_ticket, numbered, ticket};
+ghost use Rattle.census_book.specs.Lines.{answers, end_line, pattern_lines, pattern_count, text_of};
+ghost use Rattle.census_book.specs.Collecting.{Belongs};
+ghost use Rattle.census_book.specs.Front.{IsFront, IsRelease};
+ghost use Rattle.census_book.specs.Reports.{folder_out, run_of, start};
+
+use crate::arrival::Arrival;
+use crate::closing::push_closing;
+use crate::done::Done;
+use crate::front::{Front, next_open};
+use crate::lines::{push_number, push_open, push_pattern};
+use crate::results::Results;
+use census_bundle::bundle::Folder;
+use census_bundle::ticket::Ticket;
+use life_answer::finding::Answer;
+use std::alloc::{AllocError, Global};
+
+// How many patterns of the collection have arrived before the first that has not, where these have.
+fn run_count(arrival: &Arrival, c: u32, folder: &Folder, from: usize) -> usize
+    requires small { length folder.now.entries ≤ 65535 }
+    requires within { from ≤ length folder.now.entries }
+    requires before { (j : ℕ) → j < from → has_ticket arrival.now.taken (ticket c (1 + j)) ≡ true }
+    ensures run { result ≡ run_of arrival.now.taken c folder.now }
+    ensures within { result ≤ length folder.now.entries }
+{
+    let entries = folder.entries.as_slice();
+    for i in from..entries.len() {
+        let ticket = Ticket {
+            folder: c,
+            number: i as u32 + 1,
+        };
+        if !arrival.holds(ticket) {
+            return i;
+        }
+    }
+    entries.len()
+}
+
+// Appends the lines of the collection's patterns after the first k, up to the first m.
+fn push_patterns(
+    text: &mut Vec<u8>,
+    arrival: &Arrival,
+    c: u32,
+    folder: &Folder,
+    k: usize,
+    m: usize,
+) -> Result<(), AllocError>
+    requires small { length folder.now.entries ≤ 65535 }
+    requires at { numbered arrival.now.bundle c ≡ Some folder.now }
+    requires run { m ≡ run_of arrival.now.taken c folder.now }
+    requires within { m ≤ length folder.now.entries }
+    ensures { OnOk result (text.new.items ≡ text.old.items ++ text_of (take (m - k) (drop k (pattern_lines arrival.now.bound c 1 folder.now.entries)))) }
+{
+    let entries = folder.entries.as_slice();
+    for i in k..m {
+        let answer = arrival.answer(Ticket {
+            folder: c,
+            number: i as u32 + 1,
+        });
+        push_pattern(text, arrival.bound(), c, i as u32 + 1, &entries[i], answer)?;
+    }
+    Ok(())
+}
+
+// What was found of the patterns of a collection that has arrived whole.
+fn folder_answers<'r>(
+    alloc: Global,
+    arrival: &Arrival<'r, '_>,
+    c: u32,
+    folder: &Folder,
+) -> Result<Vec<&'r Answer>, AllocError>
+    requires small { length folder.now.entries ≤ 65535 }
+    requires at { numbered arrival.now.bundle c ≡ Some folder.now }
+    requires whole { length folder.now.entries ≡ run_of arrival.now.taken c folder.now }
+    ensures { IfOk result (λ v. map (λ a. a.now) v.items ≡ answers arrival.now.bound folder.now.entries) }
+{
+    let mut found = Vec::new(alloc);
+    for i in 0..folder.entries.as_slice().len() {
+        let answer = arrival.answer(Ticket {
+            folder: c,
+            number: i as u32 + 1,
+        });
+        found.push(answer)?;
+    }
+    Ok(found)
+}
+
+// How many patterns there are.
+fn count_patterns(folders: &[Folder]) -> u64
+    requires { IsSmall folders.now }
+    ensures { result ≡ pattern_count folders.now }
+{
+    let mut count = 0u64;
+    for folder in folders {
+        count += folder.entries.as_slice().len() as u64;
+    }
+    count
+}
+
+// The last line of a report.
+#[tactic(auto, unfolding(crate::specs::Lines::end_line))]
+fn push_end(text: &mut Vec<u8>, folders: &[Folder]) -> Result<(), AllocError>
+    requires { IsSmall folders.now }
+    ensures { OnOk result (text.new.items ≡ text.old.items ++ end_line folders.now) }
+{
+    text.extend_from_slice(b"end")?;
+    push_number(text, folders.len())?;
+    push_number(text, count_patterns(folders))?;
+    text.push(b'\n')?;
+    Ok(())
+}
+
+/// Appends what is released before any ticket is taken.
+pub fn push_start(
+    alloc: Global,
+    text: &mut Vec<u8>,
+    folders: &[Folder],
+    bound: u32,
+) -> Result<(), AllocError>
+    requires { IsSmall folders.now }
+    ensures { OnOk result (text.new.items ≡ text.old.items ++ start folders.now bound) }
+{
+    let mut is_empty = true;
+    for i in 0..folders.len() {
+        let folder = &folders[i];
+        push_open(text, i as u32 + 1, folder)?;
+        if folder.entries.as_slice().is_empty() {
+            push_closing(alloc, text, bound, i as u32 + 1, folder, &[])?;
+        } else {
+            is_empty = false;
+        }
+    }
+    if is_empty {
+        push_end(text, folders)?;
+    }
+    Ok(())
+}
+
+// Appends the lines of a collection that has come from k patterns to m, and where that is all of them also what ends its
+// section.
+fn push_folder(
+    alloc: Global,
+    text: &mut Vec<u8>,
+    arrival: &Arrival,
+    c: u32,
+    folder: &Folder,
+    k: usize,
+    m: usize,
+) -> Result<(), AllocError>
+    requires small { length folder.now.entries ≤ 65535 }
+    requires at { numbered arrival.now.bundle c ≡ Some folder.now }
+    requires run { m ≡ run_of arrival.now.taken c folder.now }
+    requires within { m ≤ length folder.now.entries }
+    ensures { OnOk result (text.new.items ≡ text.old.items ++ text_of (folder_out arrival.now.bound c folder.now k m)) }
+{
+    push_patterns(text, arrival, c, folder, k, m)?;
+    if m == folder.entries.as_slice().len() {
+        let found = folder_answers(alloc, arrival, c, folder)?;
+        push_closing(alloc, text, arrival.bound(), c, folder, &found)?;
+    }
+    Ok(())
+}
+
+/// What a result releases: the text, how far its collection has come then, and the first collection that is then open.
+#[derive(Drop)]
+pub struct Release {
+    pub text: Vec<u8>,
+    pub run: u32,
+    pub first_open: usize,
+}
+
+// The collection of this number.
+fn folder_at(folders: &[Folder], c: u32) -> &Folder
+    requires small { IsSmall folders.now }
+    requires number { (0 < c) × (c ≤ length folders.now) }
+    ensures at { numbered folders.now c ≡ Some result.now }
+    ensures small { length result.now.entries ≤ 65535 }
+{
+    &folders[c as usize - 1]
+}
+
+/// What this result releases beside those that were taken.
+pub fn released<'a>(
+    alloc: Global,
+    results: &Results<'a>,
+    done: &Done<'a>,
+    front: &Front,
+) -> Result<Release, AllocError>
+    requires belongs { Belongs results.now.bundle results.now.bound done.now.ticket done.now.entry.text done.now.bound }
+    requires new { has_ticket results.now.taken done.now.ticket ≡ false }
+    requires front { IsFront results.now.bundle results.now.taken front.now.runs.items front.now.first_open }
+    ensures { IfOk result (λ r. IsRelease results.now.bundle results.now.bound results.now.taken front.now.runs.items front.now.first_open done.now.ticket r.text.items r.run r.first_open) }
+{
+    let arrival = Arrival::new(results, done);
+    let folders = results.bundle().folders();
+    let c = done.ticket().folder;
+    let folder = folder_at(folders, c);
+    let k = front.runs[c as usize - 1] as usize;
+    let m = run_count(&arrival, c, folder, k);
+    let first_open = next_open(&front.runs, folders, c, m as u32, front.first_open);
+    let mut text = Vec::new(alloc);
+    push_folder(alloc, &mut text, &arrival, c, folder, k, m)?;
+    if first_open == folders.len() {
+        push_end(&mut text, folders)?;
+    }
+    Ok(Release {
+        text,
+        run: m as u32,
+        first_open,
+    })
+}

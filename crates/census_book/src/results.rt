@@ -1,0 +1,125 @@
+//! The results that were taken.
+ghost use Rattle.std.specs.Prelude.{◌≡◌, ◌≢◌, true, false, Some, IfSome, IfNone, IfErr, OnOk, OnErr, MatchBool};
+ghost use Rattle.census_bundle.specs.Tickets.{has_ticket, no_tickets, with_ticket};
+ghost use Rattle.census_book.specs.Collecting.{Belongs, IsFound, Judged};
+ghost use Rattle.census_book.specs.Progress.{taken_of};
+
+use crate::done::Done;
+use crate::offer::Offer;
+use census_bundle::bundle::{Bundle, Folder};
+use census_bundle::ticket::Ticket;
+use life_answer::finding::Answer;
+use std::alloc::Global;
+use std::collections::BTreeMap;
+use std::marker::Model;
+
+/// The results of a bundle's tickets under a bound that were taken.
+#[derive(Drop)]
+pub struct Results<'a> {
+    bundle: &'a Bundle,
+    bound: u32,
+    taken: BTreeMap<Ticket, Done<'a>>,
+}
+
+impl<'a> Model for Results<'a> {
+    ghost use Rattle.std.specs.BTreeMap.{keys};
+    ghost use Rattle.census_bundle.specs.Tickets.{tickets_of};
+    ghost use Rattle.census_book.specs.Coded.{taken_code};
+    ghost use Rattle.census_book.specs.Keeping.{KeepsResults};
+    ghost use Rattle.census_book.specs.Progress.{Taken};
+
+    ghost Value = { Taken };
+
+    ghost coded = { taken_code };
+
+    ghost view = { λ r. record { bundle = r.bundle.now; bound = r.bound; taken = tickets_of (keys r.taken) } };
+
+    ghost invariant = { λ r. KeepsResults r.bundle.now r.bound r.taken };
+}
+
+// Whether two texts are the same.
+fn same_bytes(one: &[u8], other: &[u8]) -> bool
+    ensures { MatchBool result (one.now ≡ other.now) (one.now ≢ other.now) }
+{
+    one == other
+}
+
+impl<'a> Results<'a> {
+    /// No result yet.
+    pub fn new(alloc: Global, bundle: &'a Bundle, bound: u32) -> Results<'a>
+        ensures { result ≡ taken_of bundle.now bound no_tickets }
+    {
+        Results {
+            bundle,
+            bound,
+            taken: BTreeMap::new(alloc),
+        }
+    }
+
+    /// The bundle.
+    pub fn bundle(&self) -> &'a Bundle
+        ensures { result.now ≡ self.now.bundle }
+    {
+        self.bundle
+    }
+
+    /// The bound.
+    pub fn bound(&self) -> u32
+        ensures { result ≡ self.now.bound }
+    {
+        self.bound
+    }
+
+    /// Whether this ticket was taken.
+    pub fn holds(&self, ticket: Ticket) -> bool
+        ensures { result ≡ has_ticket self.now.taken ticket }
+    {
+        self.taken.contains_key(&ticket)
+    }
+
+    /// What was found of this ticket's pattern, where it was taken.
+    pub fn answer(&self, ticket: Ticket) -> Option<&Answer>
+        ensures found { IfSome result (λ a. IsFound self.now.bundle self.now.bound ticket a.now) }
+        ensures missing { IfNone result (has_ticket self.now.taken ticket ≡ false) }
+    {
+        match self.taken.get(&ticket) {
+            Some(done) => Some(done.answer()),
+            None => None,
+        }
+    }
+
+    /// What becomes of a result that is offered.
+    pub fn judge(&self, done: &Done) -> Offer
+        ensures { Judged self.now.bundle self.now.bound self.now.taken done.now.ticket done.now.entry.text done.now.bound result }
+    {
+        let ticket = done.ticket();
+        let Some(entry) = self.bundle.entry(ticket) else {
+            return Offer::Stranger;
+        };
+        if self.bound != done.bound() {
+            return Offer::Stranger;
+        }
+        if !same_bytes(entry.text.as_slice(), done.entry().text.as_slice()) {
+            return Offer::Stranger;
+        }
+        if self.holds(ticket) {
+            Offer::Double
+        } else {
+            Offer::Taken
+        }
+    }
+
+    /// Takes a result. Where there is no room for it, it comes back.
+    pub fn add(&mut self, done: Done<'a>) -> Result<(), Done<'a>>
+        requires belongs { Belongs self.old.bundle self.old.bound done.ticket done.entry.text done.bound }
+        requires new { has_ticket self.old.taken done.ticket ≡ false }
+        ensures added { OnOk result (self.new ≡ taken_of self.old.bundle self.old.bound (with_ticket self.old.taken done.entry.ticket)) }
+        ensures back { IfErr result (λ d. d ≡ done.entry) }
+        ensures unchanged { OnErr result (self.new ≡ self.old) }
+    {
+        match self.taken.insert(done.ticket(), done) {
+            Ok(_) => Ok(()),
+            Err(refused) => Err(refused.value.1),
+        }
+    }
+}

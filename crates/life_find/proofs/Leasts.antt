@@ -1,0 +1,95 @@
+-- The least of the texts of all phases in all orientations, as they come one after another.
+use Rattle.std.proofs.Common.{◌≡◌, codes, ℕ, zero, suc, ◌+◌, List, [], ◌∷◌, ◌++◌, map, flat_map, length, take, get_or, ◌<◌, Option, Some, None, sym, refl, ap, ◌∙◌, arith}
+use Rattle.std.specs.List.{fold, range_with_len}
+use Rattle.std.proofs.lemmas.List.{map-append, take_more}
+use Rattle.std.proofs.lemmas.List.Sums.{fold-append}
+use Rattle.std.proofs.lemmas.Grind.{flat_map-append}
+use Rattle.life_model.specs.Cell.{Cell}
+use Rattle.life_model.specs.Rule.{Rule}
+use Rattle.life_model.specs.Generation.{Generation, size}
+use Rattle.life_model.specs.Evolution.{generation}
+use Rattle.life_model.specs.Symmetry.{normal, Orientation, turned}
+use Rattle.life_model.proofs.Objects.{normal-turned}
+use Rattle.life_shape.specs.declared.orient.Orient.{Orient}
+use Rattle.life_shape.specs.declared.orient.Orient.TheVariants as orient
+use Rattle.life_shape.specs.Orients.{orientation}
+use Rattle.life_shape.specs.Wechsler.{body}
+use Rattle.life_shape.specs.TextOrder.{lesser, least_text}
+use Rattle.life_shape.proofs.Boxes.{normal_normal}
+use Rattle.life_answer.specs.Apgcode.{orientations, turned_bodies, bodies, prefix, code_of}
+use Rattle.life_answer.proofs.Codes.{body-normal, body_by_shape}
+use Rattle.life_find.specs.Least.{with_text}
+
+-- ---- the text of a set is that of its normal form
+
+pub turned_bodies-normal : (G : Generation) → turned_bodies (normal G) ≡ turned_bodies G
+turned_bodies-normal G =
+    let each : (m : Orientation) → body (turned (normal G) m) ≡ body (turned G m) = λ m. body_by_shape _ _ (normal-turned (normal G) G m (normal_normal G)) in
+    λ i. map (λ m. each m i) orientations
+
+-- ---- one text after another
+
+fold-Some : (t : List ℕ) (ts : List (List ℕ)) → fold with_text (Some t) ts ≡ Some (fold lesser t ts)
+fold-Some t [] = refl
+fold-Some t (u ∷ us) = fold-Some (lesser t u) us
+
+pub least_some : (ts : List (List ℕ)) (t : List ℕ) → Some t ≡ fold with_text None ts → t ≡ least_text ts
+least_some [] t e = absurd cc
+least_some (u ∷ us) t e = let same : Some t ≡ Some (least_text (u ∷ us)) = e ∙ fold-Some u us in cc
+
+pub least_none : (ts : List (List ℕ)) → None ≡ fold with_text None ts → [] ≡ least_text ts
+least_none [] e = refl
+least_none (u ∷ us) e = absurd (let apart : None ≡ Some (least_text (u ∷ us)) = e ∙ fold-Some u us in cc)
+
+-- ---- one phase after another
+
+range-more : (a n : ℕ) → range_with_len a (suc n) ≡ range_with_len a n ++ (a + n) ∷ []
+range-more a zero = ap (λ k. k ∷ []) (let e : a ≡ a + 0 = omega arith in e)
+range-more a (suc n) = ap (λ r. a ∷ r) (range-more (a + 1) n ∙ ap (λ k. range_with_len (a + 1) n ++ k ∷ []) (let e : (a + 1) + n ≡ a + suc n = omega arith in e))
+
+append-nil : {X : Type 0} (xs : List X) → xs ++ [] ≡ xs
+append-nil [] = refl
+append-nil (x ∷ xs) = ap (λ r. x ∷ r) (append-nil xs)
+
+pub bodies-more : (R : Rule) (H : Generation) (n : ℕ) → bodies R H (n + 1) ≡ bodies R H n ++ turned_bodies (generation R H n)
+bodies-more R H n =
+    let f = λ (k : ℕ). turned_bodies (generation R H k) in
+    ap (bodies R H) (let e : n + 1 ≡ suc n = omega arith in e)
+    ∙ ap (flat_map f) (range-more 0 n)
+    ∙ flat_map-append f (range_with_len 0 n) ((0 + n) ∷ [])
+    ∙ ap (λ r. bodies R H n ++ r) (append-nil (f (0 + n)))
+    ∙ ap (λ k. bodies R H n ++ f k) (let e : 0 + n ≡ n = omega arith in e)
+
+pub least-more : (R : Rule) (H S : Generation) (n : ℕ) → S ≡ normal (generation R H n) → fold with_text (fold with_text None (bodies R H n)) (turned_bodies S) ≡ fold with_text None (bodies R H (n + 1))
+least-more R H S n e =
+    ap (λ G. fold with_text (fold with_text None (bodies R H n)) (turned_bodies G)) e
+    ∙ ap (fold with_text (fold with_text None (bodies R H n))) (turned_bodies-normal (generation R H n))
+    ∙ sym (fold-append with_text None (bodies R H n) (turned_bodies (generation R H n)))
+    ∙ ap (fold with_text None) (sym (bodies-more R H n))
+
+-- ---- one map after another
+
+abbrev pub orients : List Orient
+orients =
+    orient.Same ∷ orient.FlipX ∷ orient.FlipY ∷ orient.Half ∷ orient.Swap ∷ orient.SwapFlipX ∷ orient.SwapFlipY ∷ orient.SwapHalf ∷ []
+
+abbrev pub turned_body : Generation → Orient → List ℕ
+turned_body S o = body (turned S (orientation o))
+
+module _ (S : Generation) (first : Option (List ℕ)) (os : List Orient) (d : Orient) where
+  pub turned-more : (i : ℕ) (so_far : Option (List ℕ)) (N : Generation) (text new : List ℕ) → i < length os → so_far ≡ fold with_text first (map (turned_body S) (take i os)) → N ≡ normal (turned S (orientation (get_or os i d))) → text ≡ body N → Some new ≡ with_text so_far text → Some new ≡ fold with_text first (map (turned_body S) (take (i + 1) os))
+  turned-more i so_far N text new below e f g h =
+      let o = get_or os i d in
+      let one : text ≡ turned_body S o = g ∙ ap body f ∙ body-normal (turned S (orientation o)) in
+      h
+      ∙ (λ i. with_text (e i) (one i))
+      ∙ sym (fold-append with_text first (map (turned_body S) (take i os)) (turned_body S o ∷ []))
+      ∙ ap (fold with_text first) (sym (map-append (turned_body S) (take i os) (o ∷ [])))
+      ∙ ap (λ l. fold with_text first (map (turned_body S) l)) (sym (take_more os i d below))
+
+-- ---- a code from its parts
+
+pub code-parts : (R : Rule) (H : Generation) (period population : ℕ) (d : Cell) (front back code : List ℕ) → population ≡ size H → front ≡ prefix population period d ++ codes "_" → back ≡ least_text (bodies R H period) → code ≡ front ++ back → code ≡ code_of R H period d
+unfolding code_of
+code-parts R H period population d front back code counted e f g =
+    g ∙ (λ i. e i ++ f i) ∙ ap (λ n. prefix n period d ++ codes "_" ++ least_text (bodies R H period)) counted

@@ -1,0 +1,5 @@
+pub mod Ways
+pub mod Ahead
+pub mod Leasts
+pub mod Found
+pub mod SameObjects

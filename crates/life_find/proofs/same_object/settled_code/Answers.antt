@@ -1,0 +1,12 @@
+use Rattle.std.proofs.Common.{sym, ◌∙◌}
+use Rattle.life_find.proofs.SameObjects.{HasCode_by_finding, nowhere_found}
+use Rattle.life_find.proofs.same_object.settled_code.Goals as goal
+
+pub returns-in-Recurs-clause-settled : goal.returns-in-Recurs-clause-settled
+returns-in-Recurs-clause-settled g c =
+    let f = c.in-Recurs in
+    HasCode_by_finding c.args.rule.now c.args.cells.now c.args.bound f.population f.onset f.period f.dx f.dy f.code (sym f.is ∙ c.in_ok-code.ensures)
+
+pub returns-in-Unresolved-clause-unsettled : goal.returns-in-Unresolved-clause-unsettled
+returns-in-Unresolved-clause-unsettled g c =
+    nowhere_found c.args.rule.now c.args.cells.now c.args.bound c.in-Unresolved.population (sym c.in-Unresolved.is ∙ c.in_ok-code.ensures)

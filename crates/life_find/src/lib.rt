@@ -1,0 +1,11 @@
+//! When a pattern comes again: its onset, period, displacement and code.
+#![tactic(auto)]
+
+pub mod answer;
+mod apgcode;
+pub mod find;
+pub mod limit;
+pub mod same_object;
+mod search;
+#[cfg(test)]
+mod tests;

@@ -1,0 +1,95 @@
+//! What tokens draw.
+ghost use Rattle.std.specs.Prelude.{◌++◌, ◌+◌, ◌<◌, ◌≡◌, ◌≤◌, OnOk, false, map, pos, true};
+ghost use Rattle.life_text.specs.Found.{seen};
+ghost use Rattle.life_text.specs.Reader.{cap, capped_pen, moved, placed};
+ghost use Rattle.life_text.specs.Rle.{cell_limit, is_live, is_too_far, is_too_many, place_limit, span};
+
+use crate::token::{CAP, Found, is_cells, is_live, is_row_end};
+use std::alloc::AllocError;
+
+/// The row and the column of the next token, both capped, and how many cells are live.
+#[derive(Clone, Copy)]
+pub struct Pen {
+    pub y: u32,
+    pub x: u32,
+    pub live: u32,
+}
+
+// One more than the greatest place of a live cell.
+const PLACE_LIMIT: u32 = 1_048_576;
+
+// The most live cells.
+const CELL_LIMIT: u32 = 1_048_576;
+
+/// Whether a token that was found draws a live cell past the limit of places.
+pub fn is_too_far(found: &Found, pen: Pen) -> bool
+    requires once { found.now.counted ≡ false → found.now.times ≡ 1 }
+    requires few { found.now.times ≤ cap }
+    requires row { pen.y ≤ cap }
+    requires column { pen.x ≤ cap }
+    ensures { result ≡ is_too_far pen.y pen.x (seen found.now) }
+{
+    is_live(found) && (pen.y + 1 > PLACE_LIMIT || pen.x + found.times > PLACE_LIMIT)
+}
+
+/// Whether a token that was found draws more live cells than the limit, with those before it.
+pub fn is_too_many(found: &Found, pen: Pen) -> bool
+    requires once { found.now.counted ≡ false → found.now.times ≡ 1 }
+    requires few { found.now.times ≤ cap }
+    requires live { pen.live ≤ cell_limit }
+    ensures { result ≡ is_too_many pen.live (seen found.now) }
+{
+    is_live(found) && pen.live + found.times > CELL_LIMIT
+}
+
+/// The pen behind the token that was found.
+pub fn advanced(pen: Pen, found: &Found) -> Pen
+    requires once { found.now.counted ≡ false → found.now.times ≡ 1 }
+    requires few { found.now.times ≤ cap }
+    requires row { pen.y ≤ cap }
+    requires column { pen.x ≤ cap }
+    requires live { pen.live ≤ cell_limit }
+    ensures { result ≡ capped_pen (moved pen (seen found.now)) }
+{
+    let rows = if is_row_end(found) { found.times } else { 0 };
+    let columns = if is_cells(found) { found.times } else { 0 };
+    let cells = if is_live(found) { found.times } else { 0 };
+    Pen {
+        y: (pen.y + rows).min(CAP),
+        x: if is_row_end(found) {
+            0
+        } else {
+            (pen.x + columns).min(CAP)
+        },
+        live: pen.live + cells,
+    }
+}
+
+// A cell.
+fn cell(x: u32, y: u32) -> (i32, i32)
+    requires x { x < place_limit }
+    requires y { y < place_limit }
+    ensures { result ≡ (pos x, pos y) }
+{
+    (x as i32, y as i32)
+}
+
+/// Draws the live cells of the token that was found, at this column and row.
+pub fn push_span(
+    cells: &mut Vec<(i32, i32)>,
+    x: u32,
+    y: u32,
+    found: &Found,
+) -> Result<(), AllocError>
+    requires once { found.now.counted ≡ false → found.now.times ≡ 1 }
+    requires row { is_live (seen found.now) ≡ true → y < place_limit }
+    requires column { is_live (seen found.now) ≡ true → x + found.now.times ≤ place_limit }
+    ensures { OnOk result (cells.new.items ≡ cells.old.items ++ map placed (span y x (seen found.now))) }
+{
+    if is_live(found) {
+        for step in 0..found.times {
+            cells.push(cell(x + step, y))?;
+        }
+    }
+    Ok(())
+}

@@ -1,0 +1,214 @@
+//! The tokens of RLE texts, as the reader finds them.
+ghost use Rattle.std.specs.Prelude.{◌&&◌, ◌+◌, ◌<◌, ◌≡◌, ◌≤◌, IfSome, false, length, min, not, true};
+ghost use Rattle.std.specs.List.{prefix_len, take_while};
+ghost use Rattle.std.specs.Str.Parse.{digits_value};
+ghost use Rattle.life_cells.specs.Bytes.{is_digit, is_space, without_front};
+ghost use Rattle.life_text.specs.Found.{Begins, seen};
+ghost use Rattle.life_text.specs.Reader.{IsPlain, cap, inside, plain_at};
+ghost use Rattle.life_text.specs.Rle.{is_bad_run, is_cells, is_live, is_missing, is_no_tag, is_other_state, is_row_end, lexemes};
+
+use crate::bytes::{is_digit, is_letter, is_space};
+
+/// What is found of a token: where it begins, whether it has a count, that count or 1, capped, and the byte in the place
+/// of its tag, if there is one, and where that stands.
+#[derive(Clone, Copy)]
+pub struct Found {
+    pub at: usize,
+    pub counted: bool,
+    pub times: u32,
+    pub tag_at: usize,
+    pub tag: Option<u8>,
+}
+
+/// More than any place and any number of live cells.
+pub const CAP: u32 = 2_097_152;
+
+// Whether a byte stands in a line of comment, by whether the byte before does.
+fn is_inside(comment: bool, before: u8, byte: u8) -> bool
+    ensures { result ≡ inside comment before byte }
+{
+    if before == b'\n' {
+        byte == b'#'
+    } else {
+        comment
+    }
+}
+
+// Whether a byte is none to pass over.
+fn stops(inside: bool, byte: u8) -> bool
+    ensures { result ≡ (not inside && not (is_space byte)) }
+{
+    !inside && !is_space(byte)
+}
+
+/// The place of the first byte, from one on that is in no line of comment, that is neither blank nor LF nor in such a line.
+pub fn skip_spaces(text: &[u8], from: usize) -> usize
+    requires { from ≤ length text.now }
+    ensures from { from ≤ result }
+    ensures within { result ≤ length text.now }
+    ensures place { result ≡ from + prefix_len is_space (plain_at text.now from) }
+    ensures rest { without_front is_space (plain_at text.now from) ≡ plain_at text.now result }
+    ensures stops { result < length text.now → IsPlain text.now result }
+{
+    let mut comment = false;
+    let mut before = if from == 0 { b'\n' } else { text[from - 1] };
+    for at in from..text.len() {
+        let byte = text[at];
+        let inside = is_inside(comment, before, byte);
+        if stops(inside, byte) {
+            return at;
+        }
+        comment = inside;
+        before = byte;
+    }
+    text.len()
+}
+
+// The value of the digits from a place on, capped, and the place behind them.
+fn read_count(text: &[u8], at: usize) -> (u32, usize)
+    requires { at ≤ length text.now }
+    ensures behind { at ≤ result.1 }
+    ensures within { result.1 ≤ length text.now }
+    ensures value { result.0 ≡ min (digits_value 10 (take_while is_digit (plain_at text.now at))) cap }
+    ensures rest { lexemes true at (plain_at text.now at) ≡ lexemes false result.1 (plain_at text.now result.1) }
+{
+    let mut value: u32 = 0;
+    let mut next = at;
+    while next < text.len() && is_digit(text[next]) {
+        value = (value * 10 + u32::from(text[next] - b'0')).min(CAP);
+        next += 1;
+    }
+    (value, next)
+}
+
+/// The first token from a place on.
+pub fn next_token(text: &[u8], from: usize) -> Found
+    requires { from ≤ length text.now }
+    ensures begins { Begins text.now from result }
+    ensures tag_within { IfSome result.tag (λ _. (from ≤ result.tag_at) × (result.tag_at < length text.now)) }
+    ensures once { result.counted ≡ false → result.times ≡ 1 }
+    ensures few { result.times ≤ cap }
+{
+    let at = skip_spaces(text, from);
+    if at == text.len() {
+        return Found {
+            at: 0,
+            counted: false,
+            times: 1,
+            tag_at: 0,
+            tag: None,
+        };
+    }
+    if !is_digit(text[at]) {
+        return Found {
+            at,
+            counted: false,
+            times: 1,
+            tag_at: at,
+            tag: Some(text[at]),
+        };
+    }
+    let (times, behind) = read_count(text, at);
+    let tag_at = skip_spaces(text, behind);
+    if tag_at == text.len() {
+        return Found {
+            at,
+            counted: true,
+            times,
+            tag_at: at,
+            tag: None,
+        };
+    }
+    if is_digit(text[tag_at]) {
+        return Found {
+            at,
+            counted: true,
+            times,
+            tag_at: at,
+            tag: None,
+        };
+    }
+    Found {
+        at,
+        counted: true,
+        times,
+        tag_at,
+        tag: Some(text[tag_at]),
+    }
+}
+
+/// Whether its tag is that of live cells.
+pub fn is_live(found: &Found) -> bool
+    ensures { result ≡ is_live (seen found.now) }
+{
+    match found.tag {
+        Some(tag) => tag == b'o' || tag == b'A',
+        None => false,
+    }
+}
+
+/// Whether its tag is that of cells, live or dead.
+pub fn is_cells(found: &Found) -> bool
+    ensures { result ≡ is_cells (seen found.now) }
+{
+    match found.tag {
+        Some(tag) => tag == b'b' || tag == b'.' || tag == b'o' || tag == b'A',
+        None => false,
+    }
+}
+
+/// Whether its tag is that of row ends.
+pub fn is_row_end(found: &Found) -> bool
+    ensures { result ≡ is_row_end (seen found.now) }
+{
+    match found.tag {
+        Some(tag) => tag == b'$',
+        None => false,
+    }
+}
+
+/// Whether a letter of a third state stands in the place of its tag.
+pub fn is_other_state(found: &Found) -> bool
+    ensures { result ≡ is_other_state (seen found.now) }
+{
+    match found.tag {
+        Some(tag) => is_letter(tag) && !is_cells(found),
+        None => false,
+    }
+}
+
+/// Whether a byte that is no tag stands in the place of its tag.
+pub fn is_no_tag(found: &Found) -> bool
+    ensures { result ≡ is_no_tag (seen found.now) }
+{
+    match found.tag {
+        Some(tag) => !(tag == b'b'
+            || tag == b'.'
+            || tag == b'o'
+            || tag == b'A'
+            || tag == b'$'
+            || tag == b'!'),
+        None => false,
+    }
+}
+
+/// Whether its count is 0, or stands before `!`, another count or the end of the text.
+pub fn is_bad_run(found: &Found) -> bool
+    ensures { result ≡ is_bad_run (seen found.now) }
+{
+    let cut = match found.tag {
+        Some(tag) => tag == b'!',
+        None => true,
+    };
+    found.counted && (found.times == 0 || cut)
+}
+
+/// Whether the text ends where it would begin.
+pub fn is_missing(found: &Found) -> bool
+    ensures { result ≡ is_missing (seen found.now) }
+{
+    match found.tag {
+        Some(_) => false,
+        None => !found.counted,
+    }
+}
