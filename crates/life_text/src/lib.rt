@@ -12,5 +12,11 @@ mod tests;
 mod token;
 pub mod write;
 
+pub use crate::pattern::Pattern;
+pub use crate::rle::{RleFault, read_rle};
+pub use crate::write::write_rle;
 pub use life_cells::cell_list::{CellFault, CellList};
 pub use life_cells::rule::{Rule, RuleFault};
+pub use watched::reading::{ReadFault, read_all};
+pub use watched::watched::{Failed, Watched};
+pub use watched::writing::put_all;
