@@ -10,4 +10,3 @@ pub mod Orders
 pub mod Counting
 pub mod Tallies
 pub mod Fronts
-pub mod ObjectCounts

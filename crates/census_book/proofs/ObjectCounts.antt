@@ -14,9 +14,8 @@ use Rattle.life_answer.specs.declared.finding.Finding.TheVariants.{Recurs, Unres
 use Rattle.life_answer.proofs.Codes.{codes_tell_objects}
 use Rattle.life_answer.proofs.Findings.{finding-settled, settles_by_finding}
 use Rattle.life_answer.proofs.Texts.{answer-found}
-use Rattle.life_model.specs.Cell.{Cell}
 use Rattle.life_model.specs.Evolution.{generation}
-use Rattle.life_model.specs.Generation.{Generation, size}
+use Rattle.life_model.specs.Generation.{size}
 use Rattle.life_model.specs.Recurrence.{AreOneObject, Settles}
 use Rattle.life_model.specs.Rule.{Rule}
 use Rattle.life_text.specs.declared.rle.RleFault.{RleFault}

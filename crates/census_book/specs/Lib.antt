@@ -10,7 +10,6 @@ pub mod Collecting
 pub mod Tallying
 pub mod Keeping
 pub mod Front
-pub mod ObjectCounts
 pub mod Released
 pub mod Orders
 pub mod Counts

@@ -1,5 +1,5 @@
 -- What the counts of a closing say of objects.
-use Rattle.std.specs.Prelude.{◌≡◌, ℕ, Bool, List, ◌∷◌, Ok, count_by}
+use Rattle.std.specs.Prelude.{◌≡◌, ℕ, Bool, List, Ok, count_by}
 use Rattle.std.specs.Bool.{Decides}
 use Rattle.std.specs.List.{All, Contains}
 use Rattle.census_bundle.specs.declared.bundle.Entry.{Entry}

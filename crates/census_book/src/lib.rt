@@ -4,7 +4,6 @@
 mod arrival;
 pub mod arrivals;
 mod closing;
-pub mod codes;
 pub mod collector;
 pub mod done;
 mod front;
