@@ -10,3 +10,4 @@ pub mod Orders
 pub mod Counting
 pub mod Tallies
 pub mod Fronts
+pub mod ObjectCounts

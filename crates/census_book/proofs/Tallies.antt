@@ -18,7 +18,7 @@ use Rattle.census_book.specs.Objects.{Object, distinct, tally, object, objects, 
 count_push : {A : Type 0} (p : A → Bool) (xs : List A) (x : A) → count_by p (xs ++ x ∷ []) ≡ count_by p xs + cond (p x) 1 0
 count_push p xs x = sum_by-append (λ y. cond (p y) 1 0) xs (x ∷ []) ∙ ap (λ n. count_by p xs + n) (zero-add (cond (p x) 1 0))
 
-count_first : {A : Type 0} (p : A → Bool) (x : A) (xs : List A) → count_by p (x ∷ xs) ≡ cond (p x) 1 0 + count_by p xs
+pub count_first : {A : Type 0} (p : A → Bool) (x : A) (xs : List A) → count_by p (x ∷ xs) ≡ cond (p x) 1 0 + count_by p xs
 count_first p x xs = sum_by-append (λ y. cond (p y) 1 0) (x ∷ []) xs ∙ ap (λ n. n + count_by p xs) (zero-add (cond (p x) 1 0))
 
 filter_push : {A : Type 0} (p : A → Bool) (xs : List A) (x : A) → filter p (xs ++ x ∷ []) ≡ filter p xs ++ cond (p x) (x ∷ []) []
@@ -49,7 +49,7 @@ module _ {A : Type 0} (same : A → A → Bool) (exact : (x y : A) → same x y 
         | false ↦ λ e. ap (λ b. same k y || b) (any_filter k x apart ys)
       ] refl
 
-  any_distinct : (k : A) (xs : List A) → list_any (same k) (distinct same xs) ≡ list_any (same k) xs
+  pub any_distinct : (k : A) (xs : List A) → list_any (same k) (distinct same xs) ≡ list_any (same k) xs
   any_distinct k [] = refl
   any_distinct k (x ∷ xs) =
       let left = filter (λ z. not (same x z)) (distinct same xs) in
@@ -147,7 +147,7 @@ module _ {A : Type 0} (same : A → A → Bool) (exact : (x y : A) → same x y 
         | false ↦ λ e. found g k xs
       ] refl
 
-  count_none : (k : A) (xs : List A) → list_any (same k) xs ≡ false → count_by (same k) xs ≡ 0
+  pub count_none : (k : A) (xs : List A) → list_any (same k) xs ≡ false → count_by (same k) xs ≡ 0
   count_none k [] none = refl
   count_none k (x ∷ xs) none =
       elim (same k x) as (λ b. same k x ≡ b → (b || list_any (same k) xs) ≡ false → count_by (same k) (x ∷ xs) ≡ 0) [
@@ -163,6 +163,36 @@ module _ {A : Type 0} (same : A → A → Bool) (exact : (x y : A) → same x y 
         | true ↦ λ _. refl
         | false ↦ λ none. sym (count_none k xs none)
       ] refl
+
+  any_left : (x : A) (ys : List A) → list_any (same x) (filter (λ y. not (same x y)) ys) ≡ false
+  any_left x [] = refl
+  any_left x (y ∷ ys) =
+      let left = filter (λ z. not (same x z)) ys in
+      elim (same x y) as (λ b. same x y ≡ b → list_any (same x) (cond (not b) (y ∷ left) left) ≡ false) [ true ↦ λ e. any_left x ys | false ↦ λ e. ap (λ b. b || list_any (same x) left) e ∙ any_left x ys ] refl
+
+  count_filter : (k x : A) → same k x ≡ false → (ys : List A) → count_by (same k) (filter (λ y. not (same x y)) ys) ≡ count_by (same k) ys
+  count_filter k x apart [] = refl
+  count_filter k x apart (y ∷ ys) =
+      let left = filter (λ z. not (same x z)) ys in
+      elim (same x y) as (λ b. same x y ≡ b → count_by (same k) (cond (not b) (y ∷ left) left) ≡ count_by (same k) (y ∷ ys)) [
+        | true ↦ λ e.
+            let other : same k y ≡ false = ap (λ z. same k z) (sym (exact x y e)) ∙ apart in
+            count_filter k x apart ys ∙ sym (count_first (same k) y ys ∙ ap (λ b. cond b 1 0 + count_by (same k) ys) other ∙ zero-add (count_by (same k) ys))
+        | false ↦ λ e. count_first (same k) y left ∙ ap (λ n. cond (same k y) 1 0 + n) (count_filter k x apart ys) ∙ sym (count_first (same k) y ys)
+      ] refl
+
+  -- what stands among these stands once among the distinct ones
+  pub count_distinct : (k : A) (xs : List A) → list_any (same k) xs ≡ true → count_by (same k) (distinct same xs) ≡ 1
+  count_distinct k [] none = absurd (false≢true none)
+  count_distinct k (x ∷ xs) some =
+      let left = filter (λ z. not (same x z)) (distinct same xs) in
+      count_first (same k) x left
+      ∙ elim (same k x) as (λ b. same k x ≡ b → (b || list_any (same k) xs) ≡ true → cond b 1 0 + count_by (same k) left ≡ 1) [
+        | true ↦ λ e _.
+            let none : list_any (same k) left ≡ false = ap (λ z. list_any (same z) left) (exact k x e) ∙ any_left x (distinct same xs) in
+            ap (λ n. 1 + n) (count_none k left none)
+        | false ↦ λ e rest. zero-add (count_by (same k) left) ∙ count_filter k x e (distinct same xs) ∙ count_distinct k xs rest
+      ] refl some
 
 pub objects-append : (xs ys : List Answer) → objects (xs ++ ys) ≡ objects xs ++ objects ys
 objects-append [] ys = refl

@@ -10,6 +10,7 @@ pub mod Collecting
 pub mod Tallying
 pub mod Keeping
 pub mod Front
+pub mod ObjectCounts
 pub mod Released
 pub mod Orders
 pub mod Counts

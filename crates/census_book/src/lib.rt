@@ -4,6 +4,7 @@
 mod arrival;
 pub mod arrivals;
 mod closing;
+pub mod codes;
 pub mod collector;
 pub mod done;
 mod front;

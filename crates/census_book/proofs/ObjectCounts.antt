@@ -1,0 +1,197 @@
+-- The counts of a closing count objects.
+use Rattle.std.proofs.Common.{◌≡◌, ℕ, zero, suc, ◌+◌, ◌<◌, Bool, true, false, cond, ◌||◌, List, [], ◌∷◌, length, map, get_or, Ok, Err, Result, refl, sym, ap, subst, ◌∙◌, arith, Decides, ℤ, zero-add}
+use Rattle.std.proofs.lemmas.Bool.{false≢true}
+use Rattle.std.proofs.lemmas.List.Folds.{list_any-append}
+use Rattle.std.proofs.lemmas.List.Elements.{All-map, Contains-append_right}
+use Rattle.std.specs.List.{All, Contains, list_any, count_by}
+use Rattle.census_bundle.specs.declared.bundle.Entry.{Entry}
+use Rattle.life_answer.specs.Answers.{answer_of, answer_to, finding_of}
+use Rattle.life_answer.specs.Apgcode.{code_of}
+use Rattle.life_answer.specs.declared.finding.Answer.{Answer}
+use Rattle.life_answer.specs.declared.finding.Answer.TheVariants.{Found, Refused}
+use Rattle.life_answer.specs.declared.finding.Finding.{Finding}
+use Rattle.life_answer.specs.declared.finding.Finding.TheVariants.{Recurs, Unresolved}
+use Rattle.life_answer.proofs.Codes.{codes_tell_objects}
+use Rattle.life_answer.proofs.Findings.{finding-settled, settles_by_finding}
+use Rattle.life_answer.proofs.Texts.{answer-found}
+use Rattle.life_model.specs.Evolution.{generation}
+use Rattle.life_model.specs.Generation.{size}
+use Rattle.life_model.specs.Recurrence.{AreOneObject, Settles}
+use Rattle.life_model.specs.Rule.{Rule}
+use Rattle.life_text.specs.declared.rle.RleFault.{RleFault}
+use Rattle.life_text.specs.Picture.{Picture, picture_of}
+use Rattle.life_text.specs.Rle.{reading}
+use Rattle.census_book.specs.Lines.{answers}
+use Rattle.census_book.specs.Objects.{Object, object, objects, same_object, distinct, tally}
+use Rattle.census_book.specs.ObjectCounts.{Resolves, settled_cells, settled_object, SettlesInto, CountsObject, CodesCountObjects}
+use Rattle.census_book.specs.ObjectLaws.{one_object, same_itself}
+use Rattle.census_book.proofs.Tallies.{objects-append, count_first, any_distinct, count_distinct}
+
+-- ---- a pattern that is said to recur resolves into what is said
+
+answer_by : (text : List ℕ) (bound : ℕ) (r : Result Picture RleFault) → picture_of (reading text) ≡ r → answer_of text bound ≡ answer_to r bound
+unfolding answer_of
+answer_by text bound r e = ap (λ x. answer_to x bound) e
+
+found_parts : (r s : Rule) (f g : Finding) → Found r f ≡ Found s g → (r ≡ s) × (f ≡ g)
+found_parts r s f g e = (cc, cc)
+
+recurs_code : (p o n p' o' n' : ℕ) (x y x' y' : ℤ) (c c' : List ℕ) → Recurs p o n x y c ≡ Recurs p' o' n' x' y' c' → c ≡ c'
+recurs_code p o n p' o' n' x y x' y' c c' e = cc
+
+said : (bound : ℕ) (e : Entry) (rule : Rule) (population onset period : ℕ) (dx dy : ℤ) (code : List ℕ) → answer_of e.text bound ≡ Found rule (Recurs population onset period dx dy code)
+    → (r : Result Picture RleFault) → picture_of (reading e.text) ≡ r → (s : Resolves bound e) × (object rule code ≡ settled_object bound e s)
+said bound e rule population onset period dx dy code is (Err fault) read = absurd (let fails = sym is ∙ answer_by e.text bound (Err fault) read in cc)
+said bound e rule population onset period dx dy code is (Ok pattern) read =
+    let parts = found_parts rule pattern.rule (Recurs population onset period dx dy code) (finding_of pattern.rule pattern.cells bound) (sym is ∙ answer_by e.text bound (Ok pattern) read) in
+    let settles : Settles pattern.rule pattern.cells bound onset period (dx, dy) = settles_by_finding pattern.rule pattern.cells bound population onset period dx dy code (sym parts.1) in
+    let codes : code ≡ code_of pattern.rule (generation pattern.rule pattern.cells onset) period (dx, dy) = recurs_code _ _ _ _ _ _ _ _ _ _ _ _ (parts.1 ∙ finding-settled pattern.rule pattern.cells bound onset period (dx, dy) settles) in (
+      record { rule = pattern.rule; cells = pattern.cells; reads = read; onset = onset; period = period; displacement = (dx, dy); settles = settles },
+      ap (λ r. object r code) parts.0 ∙ ap (object pattern.rule) codes,
+    )
+
+-- and of one that resolves it is said
+to_say : (bound : ℕ) (e : Entry) (s : Resolves bound e) → answer_of e.text bound ≡ Found s.rule (Recurs (size s.cells) s.onset s.period s.displacement.0 s.displacement.1 (settled_object bound e s).code)
+to_say bound e s =
+    answer-found e.text bound (record { rule = s.rule; cells = s.cells }) s.reads ∙ ap (Found s.rule) (finding-settled s.rule s.cells bound s.onset s.period s.displacement s.settles)
+
+-- ---- the patterns of an object
+
+-- whether this object is said
+says : Object → Answer → Bool
+says k (Found rule (Recurs population onset period dx dy code)) = same_object k (object rule code)
+says k (Found rule (Unresolved population)) = false
+says k (Refused number) = false
+
+count_objects : (k : Object) (found : List Answer) → count_by (same_object k) (objects found) ≡ count_by (says k) found
+unfolding says
+count_objects k [] = refl
+count_objects k (Found rule (Recurs population onset period dx dy code) ∷ found) =
+    count_first (same_object k) (object rule code) (objects found) ∙ ap (λ n. cond (same_object k (object rule code)) 1 0 + n) (count_objects k found)
+    ∙ sym (count_first (says k) (Found rule (Recurs population onset period dx dy code)) found)
+count_objects k (Found rule (Unresolved population) ∷ found) =
+    count_objects k found ∙ sym (count_first (says k) (Found rule (Unresolved population)) found ∙ zero-add (count_by (says k) found))
+count_objects k (Refused number ∷ found) = count_objects k found ∙ sym (count_first (says k) (Refused number) found ∙ zero-add (count_by (says k) found))
+
+count_map : {A B : Type 0} (f : A → B) (p : B → Bool) (xs : List A) → count_by p (map f xs) ≡ count_by (λ x. p (f x)) xs
+count_map f p [] = refl
+count_map f p (x ∷ xs) = count_first p (f x) (map f xs) ∙ ap (λ n. cond (p (f x)) 1 0 + n) (count_map f p xs) ∙ sym (count_first (λ y. p (f y)) x xs)
+
+count_of_object : (bound : ℕ) (k : Object) (es : List Entry) → count_by (same_object k) (objects (answers bound es)) ≡ count_by (λ (e : Entry). says k (answer_of e.text bound)) es
+count_of_object bound k es = count_objects k (answers bound es) ∙ count_map (λ (e : Entry). answer_of e.text bound) (says k) es
+
+module _ (bound : ℕ) (pattern : Entry) (s : Resolves bound pattern) where
+  abbrev into : Entry → Type 0
+  into e = SettlesInto bound e s.rule (settled_cells bound pattern s)
+
+  -- two patterns that resolve under one rule have one code exactly where they settle into one object
+  one_code : (e : Entry) (r : Resolves bound e) → settled_object bound pattern s ≡ settled_object bound e r → into e
+  one_code e r is =
+      let rules : s.rule ≡ r.rule = ap (λ (k : Object). k.rule) is in
+      let R = s.rule in
+      let settles : Settles R r.cells bound r.onset r.period r.displacement = subst (λ q. Settles q r.cells bound r.onset r.period r.displacement) (sym rules) r.settles in
+      let codes : code_of R (generation R s.cells s.onset) s.period s.displacement ≡ code_of R (generation R r.cells r.onset) r.period r.displacement =
+      ap (λ (k : Object). k.code) is ∙ ap (λ q. code_of q (generation q r.cells r.onset) r.period r.displacement) (sym rules) in
+      let told = codes_tell_objects R r.cells s.cells bound bound r.onset r.period s.onset s.period r.displacement s.displacement settles s.settles in
+      record { resolves = r; same_rule = sym rules; one = subst (λ q. AreOneObject R (generation q r.cells r.onset) (settled_cells bound pattern s)) rules (told.0 (sym codes)) }
+
+  told_by : (e : Entry) → into e → says (settled_object bound pattern s) (answer_of e.text bound) ≡ true
+  unfolding says
+  told_by e h =
+      let r = h.resolves in
+      let R = s.rule in
+      let settles : Settles R r.cells bound r.onset r.period r.displacement = subst (λ q. Settles q r.cells bound r.onset r.period r.displacement) h.same_rule r.settles in
+      let one : AreOneObject R (generation R r.cells r.onset) (settled_cells bound pattern s) = subst (λ q. AreOneObject R (generation q r.cells r.onset) (settled_cells bound pattern s)) h.same_rule h.one in
+      let told = codes_tell_objects R r.cells s.cells bound bound r.onset r.period s.onset s.period r.displacement s.displacement settles s.settles in
+      let codes : code_of R (generation R r.cells r.onset) r.period r.displacement ≡ code_of R (generation R s.cells s.onset) s.period s.displacement = told.1 one in
+      let same : settled_object bound e r ≡ settled_object bound pattern s = ap (λ q. object q (code_of q (generation q r.cells r.onset) r.period r.displacement)) h.same_rule ∙ ap (object R) codes in
+      ap (says (settled_object bound pattern s)) (to_say bound e r) ∙ ap (same_object (settled_object bound pattern s)) same ∙ same_itself (settled_object bound pattern s)
+
+  tells_by : (e : Entry) (a : Answer) → answer_of e.text bound ≡ a → says (settled_object bound pattern s) a ≡ true → into e
+  unfolding says
+  tells_by e (Found rule (Recurs population onset period dx dy code)) is holds =
+      let r = said bound e rule population onset period dx dy code is (picture_of (reading e.text)) refl in
+      one_code e r.0 (one_object (settled_object bound pattern s) (object rule code) holds ∙ r.1)
+  tells_by e (Found rule (Unresolved population)) is fails = absurd (false≢true fails)
+  tells_by e (Refused number) is fails = absurd (false≢true fails)
+
+  test_tells : (e : Entry) → Decides (says (settled_object bound pattern s) (answer_of e.text bound)) (into e)
+  test_tells e = (λ holds. tells_by e (answer_of e.text bound) refl holds, told_by e)
+
+-- ---- the lines
+
+shown_object : (bound : ℕ) (k : Object) (e : Entry) (a : Answer) (rest : List Answer) → answer_of e.text bound ≡ a → list_any (same_object k) (objects (a ∷ rest)) ≡ true
+    → (P : Type 0) → ((r : Resolves bound e) → k ≡ settled_object bound e r → P) → (list_any (same_object k) (objects rest) ≡ true → P) → P
+shown_object bound k e (Found rule (Recurs population onset period dx dy code)) rest is holds P here there =
+    elim (same_object k (object rule code)) as (λ b. same_object k (object rule code) ≡ b → (b || list_any (same_object k) (objects rest)) ≡ true → P) [
+      | true ↦ λ same _. let r = said bound e rule population onset period dx dy code is (picture_of (reading e.text)) refl in here r.0 (one_object k (object rule code) same ∙ r.1)
+      | false ↦ λ _ rest'. there rest'
+    ] refl holds
+shown_object bound k e (Found rule (Unresolved population)) rest is holds P here there = there holds
+shown_object bound k e (Refused number) rest is holds P here there = there holds
+
+record IsFrom (bound : ℕ) (es : List Entry) (k : Object) : Type 0 where
+  pattern : Entry
+  among : Contains es pattern
+  resolves : Resolves bound pattern
+  named : k ≡ settled_object bound pattern resolves
+
+-- each object among these is that of a pattern
+origin : (bound : ℕ) (k : Object) (es : List Entry) → list_any (same_object k) (objects (answers bound es)) ≡ true → IsFrom bound es k
+origin bound k [] fails = absurd (false≢true fails)
+origin bound k (e ∷ es) holds =
+    shown_object bound k e (answer_of e.text bound) (answers bound es) refl holds (IsFrom bound (e ∷ es) k)
+    (λ r is. record { pattern = e; among = (0, omega arith, refl); resolves = r; named = is })
+    (λ rest. let o = origin bound k es rest in record { pattern = o.pattern; among = Contains-append_right (e ∷ []) es o.pattern o.among; resolves = o.resolves; named = o.named })
+
+or-true : (b : Bool) → (b || true) ≡ true
+or-true true = refl
+or-true false = refl
+
+any_at : {A : Type 0} (p : A → Bool) (xs : List A) (i : ℕ) (d : A) → i < length xs → p (get_or xs i d) ≡ true → list_any p xs ≡ true
+any_at p [] i d lt holds = absurd (omega arith)
+any_at p (x ∷ xs) zero d lt holds = ap (λ b. b || list_any p xs) holds
+any_at p (x ∷ xs) (suc i) d lt holds = ap (λ b. p x || b) (any_at p xs i d (omega arith) holds) ∙ or-true (p x)
+
+each_line : (bound : ℕ) (es : List Entry) → All (CountsObject bound es) (tally same_object (objects (answers bound es)))
+each_line bound es =
+    let ks = objects (answers bound es) in
+    All-map (CountsObject bound es) (λ k. (k, count_by (same_object k) ks)) (distinct same_object ks) (λ i d lt.
+    let k = get_or (distinct same_object ks) i d in
+    let any : list_any (same_object k) ks ≡ true = sym (any_distinct same_object one_object same_itself k ks) ∙ any_at (same_object k) (distinct same_object ks) i d lt (same_itself k) in
+    let o = origin bound k es any in
+    record {
+      pattern = o.pattern;
+      among = o.among;
+      resolves = o.resolves;
+      named = o.named;
+      test = λ (e : Entry). says (settled_object bound o.pattern o.resolves) (answer_of e.text bound);
+      tells = test_tells bound o.pattern o.resolves;
+      count = count_of_object bound k es ∙ ap (λ x. count_by (λ (e : Entry). says x (answer_of e.text bound)) es) o.named;
+    })
+
+objects_first : (k : Object) (a : Answer) (rest : List Answer) → list_any (same_object k) (objects (a ∷ rest)) ≡ (list_any (same_object k) (objects (a ∷ [])) || list_any (same_object k) (objects rest))
+objects_first k a rest = ap (list_any (same_object k)) (objects-append (a ∷ []) rest) ∙ list_any-append (same_object k) (objects (a ∷ [])) (objects rest)
+
+-- the object of a pattern is among these
+objects_any : (bound : ℕ) (k : Object) (e : Entry) (es : List Entry) (i : ℕ) → i < length es → get_or es i e ≡ e → list_any (same_object k) (objects (answer_of e.text bound ∷ [])) ≡ true → list_any (same_object k) (objects (answers bound es)) ≡ true
+objects_any bound k e [] i lt is one = absurd (omega arith)
+objects_any bound k e (x ∷ es) zero lt is one =
+    objects_first k (answer_of x.text bound) (answers bound es) ∙ ap (λ (y : Entry). list_any (same_object k) (objects (answer_of y.text bound ∷ [])) || list_any (same_object k) (objects (answers bound es))) is
+    ∙ ap (λ b. b || list_any (same_object k) (objects (answers bound es))) one
+objects_any bound k e (x ∷ es) (suc i) lt is one =
+    objects_first k (answer_of x.text bound) (answers bound es) ∙ ap (λ b. list_any (same_object k) (objects (answer_of x.text bound ∷ [])) || b) (objects_any bound k e es i (omega arith) is one)
+    ∙ or-true (list_any (same_object k) (objects (answer_of x.text bound ∷ [])))
+
+each_pattern : (bound : ℕ) (es : List Entry) (e : Entry) → Contains es e → (r : Resolves bound e)
+    → count_by (λ line. same_object (settled_object bound e r) line.0) (tally same_object (objects (answers bound es))) ≡ 1
+each_pattern bound es e at r =
+    let ks = objects (answers bound es) in
+    let k = settled_object bound e r in
+    let one : list_any (same_object k) (objects (answer_of e.text bound ∷ [])) ≡ true =
+    ap (λ a. list_any (same_object k) (objects (a ∷ []))) (to_say bound e r) ∙ ap (λ b. b || false) (same_itself k) in
+    count_map (λ x. (x, count_by (same_object x) ks)) (λ line. same_object k line.0) (distinct same_object ks)
+    ∙ count_distinct same_object one_object same_itself k ks (objects_any bound k e es at.0 at.1 at.2 one)
+
+pub codes_count_objects : CodesCountObjects
+codes_count_objects bound es = (each_line bound es, each_pattern bound es)
