@@ -3,5 +3,6 @@ pub mod Generation
 pub mod Rule
 pub mod Evolution
 pub mod Symmetry
+pub mod Box
 pub mod Recurrence
 pub mod Coded

@@ -5,6 +5,7 @@ use Rattle.std.specs.List.{list_any, AllByRecursion}
 use Rattle.std.proofs.lemmas.Int.{ints}
 use Rattle.std.proofs.lemmas.List.Elements.{All-from_recursion, All-map, All-weaker}
 use Rattle.std.proofs.lemmas.List.{take_all}
+use Rattle.life_model.specs.Box.{extent, width, height}
 use Rattle.life_model.specs.Cell.{Cell, same_cell, origin, plus, opposite}
 use Rattle.life_model.specs.Generation.{Generation, contains, cells, from_list}
 use Rattle.life_model.specs.Symmetry.{IsCorner, corner, corner_of, normal, Orientation, Same, FlipX, FlipY, Half, Swap, SwapFlipX, SwapFlipY, SwapHalf, turn, turned, image}
@@ -15,7 +16,7 @@ use Rattle.life_model.proofs.Symmetries.{contains-moved, contains-turned, undone
 use Rattle.life_model.proofs.Moves.{corner-is, normal-corner, normal-moved}
 use Rattle.life_cells.specs.Limits.{IsPlace, IsWithin}
 use Rattle.life_shape.specs.Dots.{IsInField}
-use Rattle.life_shape.specs.Box.{extent, width, height, IsAhead}
+use Rattle.life_shape.specs.NormalForms.{IsAhead}
 use Rattle.life_shape.proofs.Members.{or_cases, member_has, all_members}
 
 -- ---- the greatest of some places

@@ -2,6 +2,7 @@
 use Rattle.std.proofs.Common.{◌≡◌, ◌≢◌, ℕ, ◌+◌, ◌≤◌, ℤ, pos, neg_ℤ, ◌+ℤ◌, ◌≤ℤ◌, ◌<ℤ◌, List, [], ◌∷◌, length, Some, None, Ok, Err, refl, sym, ap, ◌∙◌, arith}
 use Rattle.std.specs.Prelude.{All}
 use Rattle.std.proofs.lemmas.List.Elements.{recursion_from_All, All-weaker}
+use Rattle.life_model.specs.Box.{width, height}
 use Rattle.life_model.specs.Cell.{Cell}
 use Rattle.life_model.specs.Generation.{Generation, contains, from_list}
 use Rattle.life_model.proofs.Generations.{contains-from_list}
@@ -9,7 +10,6 @@ use Rattle.life_cells.specs.Limits.{IsPlace, IsWithin}
 use Rattle.std.proofs.lemmas.Int.{ints}
 use Rattle.life_shape.specs.declared.reader.CodeFault.{CodeFault}
 use Rattle.life_shape.specs.declared.reader.CodeFault.TheVariants.{Empty}
-use Rattle.life_shape.specs.Box.{width, height}
 use Rattle.life_shape.specs.Reading.{spelt, refusal, first_fault, cells_after, marks_of}
 use Rattle.life_shape.specs.Drawing.{drawn, marks_at}
 use Rattle.life_shape.proofs.Members.{holds_in}

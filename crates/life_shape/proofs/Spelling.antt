@@ -8,12 +8,12 @@ use Rattle.std.specs.Cmp.{both_ways}
 use Rattle.std.proofs.lemmas.Int.{ints}
 use Rattle.std.proofs.lemmas.Bool.Decides.{nat_tests}
 use Rattle.std.proofs.lemmas.List.Folds.{list_any-append}
+use Rattle.life_model.specs.Box.{extent, width, height}
 use Rattle.life_model.specs.Cell.{Cell, same_cell}
 use Rattle.life_model.specs.Generation.{Generation, contains, cells, empty, from_list}
 use Rattle.life_model.specs.Symmetry.{normal}
 use Rattle.life_model.proofs.Cells.{same_cell-is}
 use Rattle.life_model.proofs.Generations.{contains-from_list, same_members, cells-from_list}
-use Rattle.life_shape.specs.Box.{extent, width, height}
 use Rattle.life_shape.specs.Wechsler.{digit, column_value, short_zeros, full_runs, zeros, columns_text, strip_text, strips_text, body}
 use Rattle.life_shape.specs.declared.reader.CodeFault.TheVariants.{BadChar, CutRun}
 use Rattle.life_shape.specs.Reading.{is_far, place_limit, first_fault, refusal, Column, Zeros, NextStrip, Offence, digit_value, is_digit, mark_of, run_of, marks, marks_of, live_rows, column_cells, placed, spelt}

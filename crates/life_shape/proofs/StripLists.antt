@@ -13,10 +13,10 @@ use Rattle.std.proofs.lemmas.List.{get_or-drop, length-drop}
 use Rattle.std.proofs.lemmas.List.Elements.{All-from_recursion, recursion_from_All, All-map, All-weaker}
 use Rattle.std.proofs.lemmas.List.Sorted.{All-permutation, sum_by-IsPermutation}
 use Rattle.std.proofs.lemmas.List.Sums.{sum_by-take-drop}
+use Rattle.life_model.specs.Box.{width, height}
 use Rattle.life_model.specs.Cell.{Cell, cell_cmp}
 use Rattle.life_model.specs.Generation.{Generation, cells, contains, below_all, is_rising}
 use Rattle.life_model.specs.Symmetry.{normal}
-use Rattle.life_shape.specs.Box.{width, height}
 use Rattle.life_shape.specs.Wechsler.{column_value, strips_text, body}
 use Rattle.life_shape.proofs.Members.{member_has, all_members}
 use Rattle.life_shape.proofs.Boxes.{height_within, normal_in_box}

@@ -1,7 +1,7 @@
 pub mod Alike
-pub mod Box
 pub mod Dots
 pub mod Drawing
+pub mod NormalForms
 pub mod Orients
 pub mod Reading
 pub mod TextOrder

@@ -2,9 +2,9 @@
 -- zeros in a row.
 use Rattle.std.specs.Prelude.{ℕ, zero, suc, ◌+◌, ◌*◌, ◌/◌, ◌%◌, ◌^◌, List, [], ◌∷◌, ◌++◌, codes, map, pos, nat_lt, if◌then◌else◌}
 use Rattle.std.specs.List.{range_with_len, join_with_byte, sum_by}
+use Rattle.life_model.specs.Box.{width, height}
 use Rattle.life_model.specs.Generation.{Generation, contains}
 use Rattle.life_model.specs.Symmetry.{normal}
-use Rattle.life_shape.specs.Box.{width, height}
 
 -- `0` to `9` and then `a` to `z`, for 0 to 35
 abbrev pub digit : ℕ → ℕ

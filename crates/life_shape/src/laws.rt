@@ -1,8 +1,8 @@
 //! The laws that tie sets and their texts.
 ghost use Rattle.std.specs.Prelude.{◌≡◌, ◌↔◌, ◌≤◌, None};
+ghost use Rattle.life_model.specs.Box.{height, width};
 ghost use Rattle.life_model.specs.Generation.{Generation};
 ghost use Rattle.life_model.specs.Symmetry.{normal};
-ghost use Rattle.life_shape.specs.Box.{height, width};
 ghost use Rattle.life_shape.specs.Reading.{refusal, spelt};
 ghost use Rattle.life_shape.specs.Wechsler.{body};
 

@@ -1,10 +1,11 @@
 //! Shapes: sets of cells without regard to where they stand.
 ghost use Rattle.std.specs.Prelude.{◌≡◌, ◌↔◌, ◌≤◌, ◌++◌, All, IfOk, IsTrue, OnErr, OnOk, T, map};
+ghost use Rattle.life_model.specs.Box.{height, width};
 ghost use Rattle.life_model.specs.Cell.{opposite, plus};
 ghost use Rattle.life_model.specs.Generation.{cells, is_rising};
 ghost use Rattle.life_model.specs.Symmetry.{corner, corner_of, normal, turn, turned};
 ghost use Rattle.life_cells.specs.Limits.{IsPlace};
-ghost use Rattle.life_shape.specs.Box.{height, width, extent, IsAhead};
+ghost use Rattle.life_shape.specs.NormalForms.{IsAhead};
 ghost use Rattle.life_shape.specs.Orients.{orientation};
 ghost use Rattle.life_shape.specs.Wechsler.{body};
 
@@ -25,7 +26,7 @@ pub struct Shape {
 impl Model for Shape {
     ghost use Rattle.life_model.specs.Coded.{coded_generation};
     ghost use Rattle.life_model.specs.Generation.{Generation};
-    ghost use Rattle.life_shape.specs.Box.{IsNormal};
+    ghost use Rattle.life_shape.specs.NormalForms.{IsNormal};
 
     ghost Value = { Generation };
 

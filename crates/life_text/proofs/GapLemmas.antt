@@ -2,8 +2,8 @@
 use Rattle.std.proofs.Common.{◌≡◌, ℕ, zero, suc, ◌+◌, ◌-◌, ◌<◌, ◌≤◌, Bool, true, false, ◌||◌, ◌==◌, nat_eq, if◌then◌else◌, List, [], ◌∷◌, ◌++◌, map, sym, refl, ap, ◌∙◌, arith}
 use Rattle.std.specs.List.{range_with_len}
 use Rattle.std.proofs.lemmas.Bool.Decides.{nat_tests}
+use Rattle.life_model.specs.Box.{extent}
 use Rattle.life_cells.specs.Bytes.{is_in}
-use Rattle.life_text.specs.Box.{extent}
 use Rattle.life_text.specs.RleText.{onto_rows, rows_of, run_onto, runs_of, run_token, row_tokens, tokens_of_rows}
 use Rattle.life_text.specs.Writer.{counted, onto_run, tokens_from}
 use Rattle.life_text.proofs.PlaceLemmas.{IsBehind, BeginsAbove}

@@ -6,11 +6,14 @@ use Rattle.std.specs.Int.{int_min}
 use Rattle.std.proofs.Math.Seq.{drop-cons}
 use Rattle.std.proofs.lemmas.Int.{ints, clamps}
 use Rattle.std.proofs.lemmas.List.Elements.{All-head, All-tail}
+use Rattle.std.proofs.lemmas.Simd.{map-map}
+use Rattle.life_model.specs.Box.{extent, width, height}
 use Rattle.life_model.specs.Cell.{Cell, cell_cmp, plus, opposite}
-use Rattle.life_model.specs.Generation.{Generation, cells, below_all, is_rising}
+use Rattle.life_model.specs.Generation.{Generation, cells, from_list, below_all, is_rising}
 use Rattle.life_model.specs.Symmetry.{corner, corner_of, least_by, normal}
+use Rattle.life_model.proofs.Generations.{cells-from_list}
 use Rattle.life_model.proofs.Lists.{cells-moved}
-use Rattle.life_text.specs.Box.{extent, place, places}
+use Rattle.life_text.specs.Places.{place, places}
 use Rattle.life_text.specs.Writer.{places_from}
 use Rattle.life_text.proofs.CornerLemmas.{corner_left, corner_above}
 
@@ -159,9 +162,24 @@ pub places_are : (G : Generation) (cs : List Cell) (k : Cell) → cs ≡ cells G
 unfolding normal corner
 places_are G cs k e f =
     let corner_is : k ≡ corner G = f ∙ ap corner_of e in
-    ap (places_from k) e ∙ ap (λ l. places_from l (cells G)) corner_is ∙ map_map (λ c. plus c (opposite (corner G))) (cells G)
+    ap (places_from k) e ∙ ap (λ l. places_from l (cells G)) corner_is ∙ sym (map-map place (λ c. plus c (opposite (corner G))) (cells G))
     ∙ ap (map place) (sym (cells-moved G (opposite (corner G))))
-  where
-    map_map : (f : Cell → Cell) (cs : List Cell) → map (λ c. place (f c)) cs ≡ map place (map f cs)
-    map_map f [] = refl
-    map_map f (c ∷ cs) = ap (λ ps. place (f c) ∷ ps) (map_map f cs)
+
+-- its box, by these places
+pub width_by_places : (G : Generation) → width G ≡ extent (map (λ p. p.0) (places G))
+unfolding width
+width_by_places G = ap extent (sym (map-map (λ (p : ℕ × ℕ). p.0) place (cells (normal G))))
+
+pub height_by_places : (G : Generation) → height G ≡ extent (map (λ p. p.1) (places G))
+unfolding height
+height_by_places G = ap extent (sym (map-map (λ (p : ℕ × ℕ). p.1) place (cells (normal G))))
+
+-- the places of cells in order, and the box that they give
+pub places_of_list : (cs : List Cell) (k : Cell) → T (is_rising cs) → k ≡ corner_of cs → places_from k cs ≡ places (from_list cs)
+places_of_list cs k rising e = places_are (from_list cs) cs k (sym (cells-from_list cs rising)) e
+
+pub width_of_list : (cs : List Cell) (k : Cell) → T (is_rising cs) → k ≡ corner_of cs → extent (map (λ p. p.0) (places_from k cs)) ≡ width (from_list cs)
+width_of_list cs k rising e = ap (λ (ps : List (ℕ × ℕ)). extent (map (λ p. p.0) ps)) (places_of_list cs k rising e) ∙ sym (width_by_places (from_list cs))
+
+pub height_of_list : (cs : List Cell) (k : Cell) → T (is_rising cs) → k ≡ corner_of cs → extent (map (λ p. p.1) (places_from k cs)) ≡ height (from_list cs)
+height_of_list cs k rising e = ap (λ (ps : List (ℕ × ℕ)). extent (map (λ p. p.1) ps)) (places_of_list cs k rising e) ∙ sym (height_by_places (from_list cs))

@@ -4,6 +4,7 @@ use Rattle.std.proofs.lemmas.Int.{ints}
 use Rattle.std.proofs.lemmas.List.{length-map}
 use Rattle.std.proofs.lemmas.List.Elements.{All-head, All-tail}
 use Rattle.life_model.specs.Rule.{Rule}
+use Rattle.life_model.specs.Box.{extent, width, height}
 use Rattle.life_model.specs.Cell.{Cell}
 use Rattle.life_model.specs.Generation.{Generation, cells, from_list, size}
 use Rattle.life_model.specs.Symmetry.{corner_of, normal}
@@ -12,18 +13,18 @@ use Rattle.life_model.proofs.Generations.{cells-rise, from_list-cells, size-cell
 use Rattle.life_cells.specs.Limits.{IsWithin}
 use Rattle.life_cells.specs.Rules.{rule_text}
 use Rattle.life_text.specs.declared.rle.RleFault.{RleFault}
-use Rattle.life_text.specs.Box.{extent, width, height, place, places}
 use Rattle.life_text.specs.Filled.{filled}
 use Rattle.life_text.specs.Picture.{picture_of}
+use Rattle.life_text.specs.Places.{place, places}
 use Rattle.life_text.specs.Reader.{cells_unless, drawn, first_pen, placed}
 use Rattle.life_text.specs.Rle.{Token, place_limit, cell_limit, lexemes, tokens, body_place, body_tokens, cells_after, first_fault, unless_fault, with_body, reading}
-use Rattle.life_text.specs.RleText.{header, rle_text, rows_of, text_of, token_text, tokens_of_rows}
+use Rattle.life_text.specs.RleText.{body_text, header, rle_text, token_text}
 use Rattle.life_text.specs.Writer.{tokens_from}
 use Rattle.life_text.proofs.DrawnLemmas.{Fits, tokens_draw}
 use Rattle.life_text.proofs.GapLemmas.{tokens_are}
 use Rattle.life_text.proofs.HeadingLemmas.{line_of, Parts, parts}
 use Rattle.life_text.proofs.PenLemmas.{drawn_is}
-use Rattle.life_text.proofs.PlaceLemmas.{IsBehind, BeginsAbove, places_are, places_begin, places_behind}
+use Rattle.life_text.proofs.PlaceLemmas.{IsBehind, BeginsAbove, places_are, places_begin, places_behind, width_by_places, height_by_places}
 
 -- # The places of a normal form
 
@@ -77,11 +78,11 @@ meaning R ts ps e = by_fault (first_fault [] ts) (sym (drawn_is ts []) ∙ e)
 heading : (a b rule rest : List ℕ) → (codes "x = " ++ a ++ codes ", y = " ++ b ++ codes ", rule = " ++ rule ++ codes "\n") ++ rest ≡ line_of a b rule ++ 10 ∷ rest
 heading a b rule rest = simp append_assoc
 
-text_parts : (R : Rule) (ps : List (ℕ × ℕ)) → IsBehind 0 0 ps → BeginsAbove ps → text_of R ps ≡ line_of (decimal (width ps)) (decimal (height ps)) (rule_text R) ++ 10 ∷ filled 0 (map token_text (tokens_from 0 0 ps))
+text_parts : (R : Rule) (w h : ℕ) (ps : List (ℕ × ℕ)) → IsBehind 0 0 ps → BeginsAbove ps → header R w h ++ body_text ps ≡ line_of (decimal w) (decimal h) (rule_text R) ++ 10 ∷ filled 0 (map token_text (tokens_from 0 0 ps))
 unfolding header
-text_parts R ps order first =
-    heading (decimal (width ps)) (decimal (height ps)) (rule_text R) (filled 0 (map token_text (tokens_of_rows (rows_of ps))))
-    ∙ ap (λ ts. line_of (decimal (width ps)) (decimal (height ps)) (rule_text R) ++ 10 ∷ filled 0 (map token_text ts)) (sym (tokens_are ps order first))
+text_parts R w h ps order first =
+    heading (decimal w) (decimal h) (rule_text R) (body_text ps)
+    ∙ ap (λ ts. line_of (decimal w) (decimal h) (rule_text R) ++ 10 ∷ filled 0 (map token_text ts)) (sym (tokens_are ps order first))
 
 read_text : (R : Rule) (text : List ℕ) (ps : List (ℕ × ℕ)) → Parts text R (filled 0 (map token_text (tokens_from 0 0 ps))) → IsBehind 0 0 ps → Fits ps → length ps ≤ cell_limit
     → reading text ≡ Ok (record { rule = R; cells = ps })
@@ -96,11 +97,11 @@ unfolding rle_text
 round_trip R G birth survival even within few =
     let ps = places G in
     let near : Fits ps = fits (cells (normal G)) within in
-    let wide : width ps ≤ place_limit = extent_near (λ c. c.0) (λ c x y. x) ps near in
-    let high : height ps ≤ place_limit = extent_near (λ c. c.1) (λ c x y. y) ps near in
+    let wide : width G ≤ place_limit = subst (λ n. n ≤ place_limit) (sym (width_by_places G)) (extent_near (λ c. c.0) (λ c x y. x) ps near) in
+    let high : height G ≤ place_limit = subst (λ n. n ≤ place_limit) (sym (height_by_places G)) (extent_near (λ c. c.1) (λ c x y. y) ps near) in
     let many : length ps ≤ cell_limit = omega (arith, length-map (cells (normal G)) place, size-cells (normal G)) in
-    let whole = line_of (decimal (width ps)) (decimal (height ps)) (rule_text R) ++ 10 ∷ filled 0 (map token_text (tokens_from 0 0 ps)) in
-    ap (λ s. picture_of (reading s)) (text_parts R ps (behind_each G) (begins G))
-    ∙ ap picture_of (read_text R whole ps (parts (width ps) (height ps) R ps (omega arith) (omega arith) birth survival even) (behind_each G) near many)
+    let whole = line_of (decimal (width G)) (decimal (height G)) (rule_text R) ++ 10 ∷ filled 0 (map token_text (tokens_from 0 0 ps)) in
+    ap (λ s. picture_of (reading s)) (text_parts R (width G) (height G) ps (behind_each G) (begins G))
+    ∙ ap picture_of (read_text R whole ps (parts (width G) (height G) R ps (omega arith) (omega arith) birth survival even) (behind_each G) near many)
     ∙ ap (λ cs. Ok (record { rule = R; cells = from_list cs })) (again (cells (normal G)) within)
     ∙ ap (λ N. Ok (record { rule = R; cells = N })) (from_list-cells (normal G))

@@ -5,7 +5,7 @@ pub mod Drawing
 pub mod Picture
 pub mod Rising
 pub mod Filled
-pub mod Box
+pub mod Places
 pub mod RleText
 pub mod Writer
 pub use Rattle.life_cells.specs.Bytes

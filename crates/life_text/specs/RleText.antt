@@ -1,12 +1,13 @@
 -- The one RLE text that is written of a rule and a generation.
 use Rattle.std.specs.Prelude.{ℕ, ◌+◌, ◌-◌, Bool, true, false, List, [], ◌∷◌, ◌++◌, codes, map, decimal, ◌==◌, if◌then◌else◌}
 use Rattle.std.specs.List.{range_with_len}
+use Rattle.life_model.specs.Box.{extent, width, height}
 use Rattle.life_model.specs.Generation.{Generation}
 use Rattle.life_model.specs.Rule.{Rule}
 use Rattle.life_cells.specs.Bytes.{is_in}
 use Rattle.life_cells.specs.Rules.{rule_text}
-use Rattle.life_text.specs.Box.{places, extent, width, height}
 use Rattle.life_text.specs.Filled.{filled}
+use Rattle.life_text.specs.Places.{places}
 
 -- `x = W, y = H, rule = R` and its LF
 unfoldable pub header : Rule → ℕ → ℕ → List ℕ
@@ -61,10 +62,10 @@ token_text (count, tag) = (if count == 1 then [] else decimal count) ++ tag ∷ 
 
 -- # The text
 
--- the text of a rule and of cells whose least column and row are 0
-abbrev pub text_of : Rule → List (ℕ × ℕ) → List ℕ
-text_of R cells = header R (width cells) (height cells) ++ filled 0 (map token_text (tokens_of_rows (rows_of cells)))
+-- the lines of the body, of cells whose least column and row are 0
+abbrev pub body_text : List (ℕ × ℕ) → List ℕ
+body_text cells = filled 0 (map token_text (tokens_of_rows (rows_of cells)))
 
 -- the text of a rule and of the normal form of a set
 unfoldable pub rle_text : Rule → Generation → List ℕ
-rle_text R G = text_of R (places G)
+rle_text R G = header R (width G) (height G) ++ body_text (places G)

@@ -2,8 +2,8 @@
 use Rattle.std.specs.Prelude.{ℕ, ◌+◌, ◌-◌, List, [], ◌∷◌, map, ◌==◌, if◌then◌else◌}
 use Rattle.life_model.specs.Cell.{Cell, opposite, plus}
 use Rattle.life_text.specs.declared.write.Nib.{Nib}
-use Rattle.life_text.specs.Box.{place}
 use Rattle.life_text.specs.Filled.{filled}
+use Rattle.life_text.specs.Places.{place}
 use Rattle.life_text.specs.RleText.{token_text}
 
 -- where cells stand, counted from a corner

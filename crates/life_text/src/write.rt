@@ -1,13 +1,14 @@
 //! RLE texts that are written.
 ghost use Rattle.std.specs.Prelude.{◌≡◌, ℕ, ℤ, ◌+◌, ◌^◌, ◌%◌, Ok, ◌≤◌, ◌<◌, ◌≤ℤ◌, All, IfOk, OnErr, OnOk, List, [], ◌∷◌, ◌++◌, T, codes, decimal, length, map};
+ghost use Rattle.life_model.specs.Box.{height, width};
 ghost use Rattle.life_model.specs.Cell.{opposite, plus};
-ghost use Rattle.life_model.specs.Generation.{Generation, cells, is_rising, size};
+ghost use Rattle.life_model.specs.Generation.{Generation, cells, from_list, is_rising, size};
 ghost use Rattle.life_model.specs.Rule as model;
 ghost use Rattle.life_model.specs.Symmetry.{corner_of, normal};
 ghost use Rattle.life_cells.specs.Limits.{IsPlace, IsWithin};
-ghost use Rattle.life_text.specs.Box.{height, place, width};
 ghost use Rattle.life_text.specs.Filled.{filled};
 ghost use Rattle.life_text.specs.Picture.{picture_of};
+ghost use Rattle.life_text.specs.Places.{place};
 ghost use Rattle.life_text.specs.Rle.{cell_limit, reading};
 ghost use Rattle.life_text.specs.RleText.{header, rle_text, token_text};
 ghost use Rattle.life_text.specs.Writer.{places_from, tokens_from, unwritten};
@@ -61,8 +62,9 @@ fn place(cell: (i32, i32), corner: (i32, i32)) -> (u32, u32)
 // How wide and how high the box of the cells is.
 fn size(cells: &[(i32, i32)], corner: (i32, i32)) -> (u32, u32)
     requires placed { All IsPlace cells.now }
+    requires rising { T (is_rising cells.now) }
     requires corner { corner ≡ corner_of cells.now }
-    ensures { result ≡ (width (places_from corner cells.now), height (places_from corner cells.now)) }
+    ensures { result ≡ (width (from_list cells.now), height (from_list cells.now)) }
 {
     let mut width = 0;
     let mut height = 0;

@@ -1,5 +1,5 @@
 use Rattle.std.proofs.Common.{◌≤◌, ◌+◌, sym, subst, arith}
-use Rattle.life_shape.specs.Box.{width, height}
+use Rattle.life_model.specs.Box.{width, height}
 use Rattle.life_shape.proofs.Boxes.{width_at_age, height_at_age}
 use Rattle.life_find.proofs.apgcode.shape_of.Goals as goal
 

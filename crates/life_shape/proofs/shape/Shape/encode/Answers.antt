@@ -1,5 +1,5 @@
 use Rattle.std.proofs.Common.{◌≤◌, ◌++◌, ◌+◌, ◌/◌, ap, subst, ◌∙◌, sym}
-use Rattle.life_shape.specs.Box.{width, height}
+use Rattle.life_model.specs.Box.{width, height}
 use Rattle.life_shape.specs.Dots.{values_text, weights}
 use Rattle.life_shape.specs.Wechsler.{strips_text}
 use Rattle.life_shape.proofs.Boxes.{all_in_field}

@@ -3,7 +3,7 @@ use Rattle.life_model.specs.Generation.{from_list, is_rising}
 use Rattle.life_model.specs.Symmetry.{corner, normal}
 use Rattle.life_model.proofs.Generations.{cells-rise, from_list-cells}
 use Rattle.life_cells.specs.Limits.{IsPlace}
-use Rattle.life_shape.specs.Box.{IsAhead, IsNormal}
+use Rattle.life_shape.specs.NormalForms.{IsAhead, IsNormal}
 use Rattle.life_shape.proofs.Boxes.{cells_ahead, cells-normal, corner-cells, normal_placed, normal_normal}
 use Rattle.life_shape.proofs.shape.Shape.of.Goals as goal
 

@@ -1,6 +1,6 @@
 use Rattle.std.proofs.Common.{◌≤◌, sym, ap, subst, ◌∙◌}
+use Rattle.life_model.specs.Box.{width, height}
 use Rattle.life_model.specs.Symmetry.{normal, turned}
-use Rattle.life_shape.specs.Box.{width, height}
 use Rattle.life_shape.specs.Orients.{orientation}
 use Rattle.life_shape.proofs.Boxes.{all_in_field, all_turned, from_list-turned, turned_width, turned_height}
 use Rattle.life_shape.proofs.shape.Shape.turned.Goals as goal

@@ -1,5 +1,5 @@
 use Rattle.std.proofs.Common.{◌≡◌, map, take, nat_abs}
-use Rattle.life_shape.specs.Box.{extent}
+use Rattle.life_model.specs.Box.{extent}
 use Rattle.life_shape.proofs.shape.Shape.width.Given as goal
 
 abbrev pub invariant-loop-cell : goal.invariant-loop-cell
