@@ -6,7 +6,7 @@ use Rattle.census_command.specs.Words.{IsAdvance, IsDraw}
 use Rattle.census_command.specs.Deeds.{Does, IsNoCommand, IsRefused, Stops, StopsAdvance, StopsDraw, StopsAtWords}
 use Rattle.census_command.specs.Troubles.{status_of}
 use Rattle.census_command.specs.declared.trouble.Trouble.{Trouble}
-use Rattle.census_command.specs.declared.trouble.Trouble.TheVariants.{Text, RuleText, CodeText, TooLong, Words, Memory, Read, Write}
+use Rattle.census_command.specs.declared.trouble.Trouble.TheVariants.{Text, RuleText, CodeText, BundleText, Folders, TooLong, Words, Memory, Read, Write}
 
 -- neither end has failed
 down : (a b : Bool) → a ≡ false → b ≡ false → (a ≡ true) ⊎ (b ≡ true) → ⊥
@@ -23,6 +23,8 @@ module _ (words : List (List ℕ)) (i j o p : Option (List ℕ)) (a b : Bool) wh
   advance_refused (Text fault) s h = (inl ((s.generations, s.asked), inl (record { text = s.why.0.0; fault = fault; read = s.why.0.1; refused = s.why.0.2 })), s.why.1)
   advance_refused (RuleText fault) s h = absurd s.why
   advance_refused (CodeText fault) s h = absurd s.why
+  advance_refused (BundleText fault) s h = absurd s.why
+  advance_refused (Folders fault) s h = absurd s.why
   advance_refused TooLong s h = (inl ((s.generations, s.asked), inr s.why.0), s.why.1)
   advance_refused Words s h = absurd s.why
   advance_refused Memory s h = absurd (omega arith)
@@ -33,6 +35,8 @@ module _ (words : List (List ℕ)) (i j o p : Option (List ℕ)) (a b : Bool) wh
   draw_refused (Text fault) s h = absurd s.why.0
   draw_refused (RuleText fault) s h = (inr (record { code = s.code; rule = s.rule; asked = s.asked; refused = inl (fault, s.why.0) }), s.why.1)
   draw_refused (CodeText fault) s h = (inr (record { code = s.code; rule = s.rule; asked = s.asked; refused = inr (fault, s.why.0.1) }), s.why.1)
+  draw_refused (BundleText fault) s h = absurd s.why.0
+  draw_refused (Folders fault) s h = absurd s.why.0
   draw_refused TooLong s h = absurd s.why.0
   draw_refused Words s h = absurd s.why.0
   draw_refused Memory s h = absurd (omega arith)
@@ -46,6 +50,8 @@ module _ (words : List (List ℕ)) (i j o p : Option (List ℕ)) (a b : Bool) wh
   advance_status (Text fault) s h = omega arith
   advance_status (RuleText fault) s h = s.why
   advance_status (CodeText fault) s h = s.why
+  advance_status (BundleText fault) s h = s.why
+  advance_status (Folders fault) s h = s.why
   advance_status TooLong s h = omega arith
   advance_status Words s h = s.why
   advance_status Memory s h = omega arith
@@ -56,6 +62,8 @@ module _ (words : List (List ℕ)) (i j o p : Option (List ℕ)) (a b : Bool) wh
   draw_status (Text fault) s h = omega arith
   draw_status (RuleText fault) s h = omega arith
   draw_status (CodeText fault) s h = omega arith
+  draw_status (BundleText fault) s h = omega arith
+  draw_status (Folders fault) s h = omega arith
   draw_status TooLong s h = omega arith
   draw_status Words s h = s.why.0
   draw_status Memory s h = omega arith
@@ -76,6 +84,8 @@ module _ (words : List (List ℕ)) (i j o p : Option (List ℕ)) (a b : Bool) wh
   advance_failed (Text fault) s = (λ h. absurd (omega arith), λ h. absurd (down a b s.why.2 s.why.3 h))
   advance_failed (RuleText fault) s = absurd s.why
   advance_failed (CodeText fault) s = absurd s.why
+  advance_failed (BundleText fault) s = absurd s.why
+  advance_failed (Folders fault) s = absurd s.why
   advance_failed TooLong s = (λ h. absurd (omega arith), λ h. absurd (down a b s.why.2 s.why.3 h))
   advance_failed Words s = absurd s.why
   advance_failed Memory s = (λ h. absurd (omega arith), λ h. absurd (down a b s.why.1 s.why.2 h))
@@ -86,6 +96,8 @@ module _ (words : List (List ℕ)) (i j o p : Option (List ℕ)) (a b : Bool) wh
   draw_failed (Text fault) s = absurd s.why.0
   draw_failed (RuleText fault) s = (λ h. absurd (omega arith), λ h. absurd (down a b s.unfailed s.why.2 h))
   draw_failed (CodeText fault) s = (λ h. absurd (omega arith), λ h. absurd (down a b s.unfailed s.why.2 h))
+  draw_failed (BundleText fault) s = absurd s.why.0
+  draw_failed (Folders fault) s = absurd s.why.0
   draw_failed TooLong s = absurd s.why.0
   draw_failed Words s = absurd s.why.0
   draw_failed Memory s = (λ h. absurd (omega arith), λ h. absurd (down a b s.unfailed s.why.2 h))

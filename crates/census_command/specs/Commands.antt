@@ -8,7 +8,7 @@ use Rattle.life_text.specs.declared.rle.RleFault.{RleFault}
 use Rattle.life_text.specs.Rle.{reading, refusal}
 use Rattle.life_text.specs.RleText.{rle_text}
 use Rattle.census_command.specs.declared.trouble.Trouble.{Trouble}
-use Rattle.census_command.specs.declared.trouble.Trouble.TheVariants.{Text, RuleText, CodeText, TooLong, Words, Memory, Read, Write}
+use Rattle.census_command.specs.declared.trouble.Trouble.TheVariants.{Text, RuleText, CodeText, BundleText, Folders, TooLong, Words, Memory, Read, Write}
 
 -- the most bytes of one text
 abbrev pub input_limit : ℕ
@@ -56,6 +56,8 @@ Hinders Write n input_old input_new output_old output_new read_failed write_fail
     AdvancesInPart n input_old input_new output_old output_new × (read_failed ≡ false) × (write_failed ≡ true)
 Hinders (RuleText fault) n input_old input_new output_old output_new read_failed write_failed = ⊥
 Hinders (CodeText fault) n input_old input_new output_old output_new read_failed write_failed = ⊥
+Hinders (BundleText fault) n input_old input_new output_old output_new read_failed write_failed = ⊥
+Hinders (Folders fault) n input_old input_new output_old output_new read_failed write_failed = ⊥
 Hinders Words n input_old input_new output_old output_new read_failed write_failed = ⊥
 
 -- the text of generation n of the pattern that a text means
@@ -70,6 +72,8 @@ RefusesText text (Text fault) = refusal text ≡ Some fault
 RefusesText text Memory = Unit {0}
 RefusesText text (RuleText fault) = ⊥
 RefusesText text (CodeText fault) = ⊥
+RefusesText text (BundleText fault) = ⊥
+RefusesText text (Folders fault) = ⊥
 RefusesText text TooLong = ⊥
 RefusesText text Words = ⊥
 RefusesText text Read = ⊥

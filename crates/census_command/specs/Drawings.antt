@@ -9,7 +9,7 @@ use Rattle.life_shape.specs.Reading as wechsler
 use Rattle.life_shape.specs.TextOrder.{body_of}
 use Rattle.life_text.specs.RleText.{rle_text}
 use Rattle.census_command.specs.declared.trouble.Trouble.{Trouble}
-use Rattle.census_command.specs.declared.trouble.Trouble.TheVariants.{Text, RuleText, CodeText, TooLong, Words, Memory, Read, Write}
+use Rattle.census_command.specs.declared.trouble.Trouble.TheVariants.{Text, RuleText, CodeText, BundleText, Folders, TooLong, Words, Memory, Read, Write}
 
 -- the RLE text of the shape that the body of a code spells
 abbrev pub drawn_text : Rule → List ℕ → List ℕ
@@ -28,6 +28,8 @@ RefusesCode code rule (RuleText fault) = rule_of rule ≡ Err fault
 RefusesCode code rule (CodeText fault) = ((R : Rule) × (rule_of rule ≡ Ok R)) × (wechsler.refusal (body_of code) ≡ Some fault)
 RefusesCode code rule Memory = Unit {0}
 RefusesCode code rule (Text fault) = ⊥
+RefusesCode code rule (BundleText fault) = ⊥
+RefusesCode code rule (Folders fault) = ⊥
 RefusesCode code rule TooLong = ⊥
 RefusesCode code rule Words = ⊥
 RefusesCode code rule Read = ⊥

@@ -3,3 +3,4 @@ pub mod Troubles
 pub mod Drawings
 pub mod Deeds
 pub mod Commands
+pub mod Runs

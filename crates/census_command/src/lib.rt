@@ -5,6 +5,7 @@ pub mod advance;
 pub mod dispatch;
 pub mod draw;
 pub mod evolving;
+pub mod running;
 #[cfg(test)]
 mod tests;
 pub mod trouble;

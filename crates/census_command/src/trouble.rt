@@ -2,6 +2,11 @@
 ghost use Rattle.std.specs.Prelude.{◌≡◌};
 ghost use Rattle.census_command.specs.Troubles.{status_of};
 
+use census_bundle::bundle::AddFault;
+use census_bundle::fault::BundleFault;
+use census_crew::bytes::BytesFault;
+use census_crew::fault::RunFault;
+use census_folders::fault::FoldersFault;
 use life_cells::rule::RuleFault;
 use life_shape::reader::CodeFault;
 use life_text::rle::RleFault;
@@ -22,7 +27,13 @@ pub enum Trouble {
     /// The body of the code has this fault; its place counts from the body's first byte.
     #[error("{0}")]
     CodeText(CodeFault),
-    /// Standard input has more bytes than one text may have.
+    /// The bundle on standard input has this fault.
+    #[error("{0}")]
+    BundleText(BundleFault),
+    /// A folder or a file of it is refused, for its name or for its number.
+    #[error("{0}")]
+    Folders(AddFault),
+    /// Standard input, or a file, has more bytes than one text may have.
     #[error("input too long")]
     TooLong,
     #[error("bad command line")]
@@ -100,6 +111,53 @@ impl From<ReadFault> for Trouble {
     }
 }
 
+impl From<BytesFault> for Trouble {
+    ghost use Rattle.census_command.specs.Troubles.{trouble_of_bytes};
+    ghost use Rattle.std.specs.Prelude.{◌≡◌};
+
+    ghost from_gives = { λ fault trouble. trouble ≡ trouble_of_bytes fault };
+
+    fn from(fault: BytesFault) -> Trouble {
+        match fault {
+            BytesFault::Read => Trouble::Read,
+            BytesFault::TooLong => Trouble::TooLong,
+            BytesFault::Bundle(fault) => Trouble::BundleText(fault),
+            BytesFault::Memory => Trouble::Memory,
+            BytesFault::Write => Trouble::Write,
+        }
+    }
+}
+
+impl From<FoldersFault> for Trouble {
+    ghost use Rattle.census_command.specs.Troubles.{trouble_of_folders};
+    ghost use Rattle.std.specs.Prelude.{◌≡◌};
+
+    ghost from_gives = { λ fault trouble. trouble ≡ trouble_of_folders fault };
+
+    fn from(fault: FoldersFault) -> Trouble {
+        match fault {
+            FoldersFault::Add(fault) => Trouble::Folders(fault),
+            FoldersFault::Read => Trouble::Read,
+            FoldersFault::TooLong => Trouble::TooLong,
+            FoldersFault::Memory => Trouble::Memory,
+        }
+    }
+}
+
+impl From<RunFault> for Trouble {
+    ghost use Rattle.census_command.specs.Troubles.{trouble_of_run};
+    ghost use Rattle.std.specs.Prelude.{◌≡◌};
+
+    ghost from_gives = { λ fault trouble. trouble ≡ trouble_of_run fault };
+
+    fn from(fault: RunFault) -> Trouble {
+        match fault {
+            RunFault::Memory => Trouble::Memory,
+            RunFault::Write => Trouble::Write,
+        }
+    }
+}
+
 impl From<Failed> for Trouble {
     ghost use Rattle.std.specs.Prelude.{◌≡◌};
     ghost use Rattle.census_command.specs.declared.trouble.Trouble.TheVariants.{Write};
@@ -118,7 +176,8 @@ impl Trouble {
         ensures { result ≡ status_of self.now }
     {
         match self {
-            Trouble::Text(_) | Trouble::RuleText(_) | Trouble::CodeText(_) | Trouble::TooLong => 1,
+            Trouble::Text(_) | Trouble::RuleText(_) | Trouble::CodeText(_) => 1,
+            Trouble::BundleText(_) | Trouble::Folders(_) | Trouble::TooLong => 1,
             Trouble::Words => 2,
             Trouble::Memory => 3,
             Trouble::Read | Trouble::Write => 4,

@@ -1,0 +1,4 @@
+pub mod Steps
+pub mod Tallies
+pub mod Gathers
+pub mod Settles

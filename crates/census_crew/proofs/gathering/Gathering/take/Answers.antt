@@ -1,0 +1,27 @@
+use Rattle.std.proofs.Common.{refl}
+use Rattle.census_crew.proofs.Gathers.{gathers_few, gathers_kept, gathers_one, gathers_double, gathers_stranger}
+use Rattle.census_crew.proofs.gathering.Gathering.take.Goals as goal
+
+pub with-counted-requires-clause-patterns : goal.with-counted-requires-clause-patterns
+with-counted-requires-clause-patterns c = (gathers_few _ _ _ _ c.args.self.now.sound).0
+
+pub with-counted-requires-clause-resolved : goal.with-counted-requires-clause-resolved
+with-counted-requires-clause-resolved c = (gathers_few _ _ _ _ c.args.self.now.sound).1
+
+pub with-counted-requires-clause-unresolved : goal.with-counted-requires-clause-unresolved
+with-counted-requires-clause-unresolved c = (gathers_few _ _ _ _ c.args.self.now.sound).2
+
+pub with-counted-requires-clause-refused : goal.with-counted-requires-clause-refused
+with-counted-requires-clause-refused c = (gathers_few _ _ _ _ c.args.self.now.sound).3
+
+pub invariant_of-self : goal.invariant_of-self
+invariant_of-self c = record { sound = gathers_one _ _ _ _ _ _ _ _ _ _ _ c.args.self.now.sound c.in-Ok-Taken.field-0-is c.in-Ok-Taken.ensures.ok c.answer.ensures c.with-counted.ensures }
+
+pub invariant_of-self-in-Ok-Double : goal.invariant_of-self-in-Ok-Double
+invariant_of-self-in-Ok-Double c = record { sound = gathers_double _ _ _ _ _ _ _ _ _ _ c.args.self.now.sound c.in-Ok-Double.field-0-is c.in-Ok-Double.ensures.ok refl refl refl refl }
+
+pub invariant_of-self-in-Ok-Stranger : goal.invariant_of-self-in-Ok-Stranger
+invariant_of-self-in-Ok-Stranger c = record { sound = gathers_stranger _ _ _ _ _ _ _ _ _ _ c.args.self.now.sound c.in-Ok-Stranger.field-0-is c.in-Ok-Stranger.ensures.ok refl refl refl refl }
+
+pub invariant_of-self-in-Err : goal.invariant_of-self-in-Err
+invariant_of-self-in-Err c = record { sound = gathers_kept _ _ _ _ _ _ c.args.self.now.sound c.in-Err.ensures.unchanged refl refl refl refl }

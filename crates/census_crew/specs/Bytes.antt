@@ -1,0 +1,78 @@
+-- What is read and written where a bundle text is run.
+use Rattle.std.specs.Prelude.{◌≡◌, ◌≢◌, ◌≤◌, ◌⊎◌, ℕ, Bool, true, false, List, length, Option, None, Some, Result, Ok, Err, IfSome}
+use Rattle.std.specs.Io.KnownBytes.{Consumes, IsAtEnd}
+use Rattle.watched.specs.Watching.{ConsumesMoreThan}
+use Rattle.census_bundle.specs.declared.bundle.Folder.{Folder}
+use Rattle.census_bundle.specs.declared.fault.BundleFault.{BundleFault}
+use Rattle.census_bundle.specs.declared.fault.BundleFault.TheVariants as bundle_faults
+use Rattle.census_bundle.specs.Reading.{fault_of, folders_of}
+use Rattle.census_crew.specs.declared.bytes.BytesFault.{BytesFault}
+use Rattle.census_crew.specs.declared.bytes.BytesFault.TheVariants.{Read, TooLong, Bundle, Memory, Write}
+use Rattle.census_crew.specs.declared.tally.Tally.{Tally}
+use Rattle.census_crew.specs.Tallying.{TalliesPatterns}
+use Rattle.census_crew.specs.Writing.{WritesFront, WritesReport}
+
+-- the most bytes of a bundle text
+abbrev pub input_limit : ℕ
+input_limit = 67108864
+
+-- the text is all that the reader had left, up to its end, and within the limit
+pub record ReadsText (old new : Option (List ℕ)) (text : List ℕ) : Type 0 where
+  pub within : length text ≤ input_limit
+  pub consumed : Consumes old new text
+  pub end : IsAtEnd new
+  pub whole : IfSome old (λ all. text ≡ all)
+
+-- the reader's text has this fault
+pub record ReadsFault (old new : Option (List ℕ)) (fault : BundleFault) : Type 0 where
+  pub text : List ℕ
+  pub read : ReadsText old new text
+  pub not_memory : fault ≢ bundle_faults.Memory
+  pub refused : fault_of text ≡ Some fault
+
+-- the reader's text holds these folders
+pub record ReadsFolders (old new : Option (List ℕ)) (b : List Folder) : Type 0 where
+  pub text : List ℕ
+  pub read : ReadsText old new text
+  pub lawful : fault_of text ≡ None
+  pub holds : b ≡ folders_of text
+
+-- what was read, by what is answered
+abbrev pub ReadsBundle : Option (List ℕ) → Option (List ℕ) → Result (List Folder) BytesFault → Type 0
+ReadsBundle old new (Ok b) = ReadsFolders old new b
+ReadsBundle old new (Err Read) = Unit {0}
+ReadsBundle old new (Err TooLong) = ConsumesMoreThan input_limit old new
+ReadsBundle old new (Err (Bundle f)) = ReadsFault old new f
+ReadsBundle old new (Err Memory) = Unit {0}
+ReadsBundle old new (Err Write) = ⊥
+
+-- a report of the bundle that was read was written, and its patterns were counted
+pub record RunsAll (bound : ℕ) (source source' out out' : Option (List ℕ)) (t : Tally) : Type 0 where
+  pub bundle : List Folder
+  pub read : ReadsFolders source source' bundle
+  pub report : WritesReport out out' bundle bound
+  pub tally : TalliesPatterns bundle bound t
+
+-- a front of a report of the bundle that was read was written
+pub record RunsFront (bound : ℕ) (source source' out out' : Option (List ℕ)) : Type 0 where
+  pub bundle : List Folder
+  pub read : ReadsFolders source source' bundle
+  pub front : WritesFront out out' bundle bound
+
+-- what was read and written, by what is answered
+abbrev pub RunsBytes : ℕ → Option (List ℕ) → Option (List ℕ) → Option (List ℕ) → Option (List ℕ) → Result Tally BytesFault → Type 0
+RunsBytes bound source source' out out' (Ok t) = RunsAll bound source source' out out' t
+RunsBytes bound source source' out out' (Err Read) = out' ≡ out
+RunsBytes bound source source' out out' (Err TooLong) = ConsumesMoreThan input_limit source source' × (out' ≡ out)
+RunsBytes bound source source' out out' (Err (Bundle f)) = ReadsFault source source' f × (out' ≡ out)
+RunsBytes bound source source' out out' (Err Memory) = (out' ≡ out) ⊎ RunsFront bound source source' out out'
+RunsBytes bound source source' out out' (Err Write) = RunsFront bound source source' out out'
+
+-- `Write` is answered where the writer has failed, and nothing else where it has
+abbrev pub FitsBytesFault : {A : Type 0} → Result A BytesFault → Bool → Type 0
+FitsBytesFault (Ok a) failed = failed ≡ false
+FitsBytesFault (Err Read) failed = failed ≡ false
+FitsBytesFault (Err TooLong) failed = failed ≡ false
+FitsBytesFault (Err (Bundle f)) failed = failed ≡ false
+FitsBytesFault (Err Memory) failed = failed ≡ false
+FitsBytesFault (Err Write) failed = failed ≡ true

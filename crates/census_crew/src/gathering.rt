@@ -1,0 +1,150 @@
+//! Gathering results, and writing the report that they release.
+ghost use Rattle.std.specs.Prelude.{◌≡◌, ◌≢◌, ◌<◌, ◌≤◌, ◌^◌, [], true, false, MatchBool, MatchResult, OnOk, IfOk, IfSome, IfNone};
+ghost use Rattle.watched.specs.Watching.{inner_of, has_failed};
+ghost use Rattle.census_bundle.specs.Sizes.{IsSmall};
+ghost use Rattle.census_book.specs.Collecting.{after_offer, Judged, Offered};
+ghost use Rattle.census_book.specs.Progress.{started};
+ghost use Rattle.census_crew.specs.Gathering.{Gathers};
+ghost use Rattle.census_crew.specs.Strangers.{IsResultOf, NotesStranger};
+ghost use Rattle.census_crew.specs.Writing.{StaysInStep, StopsInStep};
+
+use crate::tally::Tally;
+use crate::writing::flush;
+use census_book::collector::Collector;
+use census_book::done::Done;
+use census_book::offer::Offer;
+use census_bundle::bundle::Bundle;
+use std::alloc::{AllocError, Global};
+use std::io::Write;
+use watched::watched::{Failed, Watched};
+
+/// The results of a bundle that have come so far, and how many patterns are of each kind.
+#[derive(Drop)]
+pub(crate) struct Gathering<'a> {
+    pub(crate) bundle: &'a Bundle,
+    pub(crate) bound: u32,
+    pub(crate) collector: Collector<'a>,
+    pub(crate) tally: Tally,
+    ghost sound: { Gathers bundle.now bound collector tally },
+}
+
+// A bundle is small.
+fn is_small(bundle: &Bundle)
+    ensures { IsSmall bundle.now }
+{
+    bundle.folders();
+}
+
+// Whether two texts are the same.
+fn same_bytes(one: &[u8], other: &[u8]) -> bool
+    ensures { MatchBool result (one.now ≡ other.now) (one.now ≢ other.now) }
+{
+    one == other
+}
+
+// Whether a result is of this bundle and bound.
+fn is_result_of(bundle: &Bundle, bound: u32, done: &Done) -> bool
+    ensures { MatchBool result (IsResultOf bundle.now bound done.now) (IsResultOf bundle.now bound done.now → ⊥) }
+{
+    let Some(entry) = bundle.entry(done.ticket()) else {
+        return false;
+    };
+    if bound != done.bound() {
+        return false;
+    }
+    same_bytes(entry.text.as_slice(), done.entry().text.as_slice())
+}
+
+impl<'a> Gathering<'a> {
+    /// Nothing has come.
+    pub(crate) fn new(
+        alloc: Global,
+        bundle: &'a Bundle,
+        bound: u32,
+    ) -> Result<Gathering<'a>, AllocError>
+        requires { (1 ≤ bound) × (bound ≤ 1000000) }
+        ensures collector { IfOk result (λ g. g.collector ≡ started bundle.now bound) }
+        ensures bundle { IfOk result (λ g. g.bundle.now ≡ bundle.now) }
+        ensures bound { IfOk result (λ g. g.bound ≡ bound) }
+        ensures strangers { IfOk result (λ g. g.tally.strangers ≡ 0) }
+    {
+        is_small(bundle);
+        let collector = Collector::new(alloc, bundle, bound)?;
+        Ok(Gathering {
+            bundle,
+            bound,
+            collector,
+            tally: Tally::new(),
+        })
+    }
+
+    /// Takes a result. `None` says that there was no memory to take it, though it is of this bundle and bound.
+    pub(crate) fn take(&mut self, done: Done<'a>) -> Option<Offer>
+        ensures same { (self.new.bundle.now ≡ self.old.bundle.now) × (self.new.bound ≡ self.old.bound) }
+        ensures offered { IfSome result (λ o. Offered self.old.collector done.entry.ticket done.entry.entry.text done.entry.bound self.new.collector o) }
+        ensures no_room { IfNone result (self.new.collector ≡ self.old.collector) }
+        ensures strangers { NotesStranger self.old.bundle.now self.old.bound done.entry self.old.tally.strangers self.new.tally.strangers }
+    {
+        let counted = self.tally.with(done.answer());
+        match self.collector.offer(done) {
+            Ok(Offer::Taken) => {
+                self.tally = counted;
+                Some(Offer::Taken)
+            }
+            Ok(Offer::Double) => {
+                self.tally.doubles = self.tally.doubles.saturating_add(1);
+                Some(Offer::Double)
+            }
+            Ok(Offer::Stranger) => {
+                self.tally.strangers = self.tally.strangers.saturating_add(1);
+                Some(Offer::Stranger)
+            }
+            Err(refused) => {
+                if is_result_of(self.bundle, self.bound, &refused.done) {
+                    return None;
+                }
+                self.tally.strangers = self.tally.strangers.saturating_add(1);
+                Some(Offer::Stranger)
+            }
+        }
+    }
+
+    /// Takes a result, and writes what it releases.
+    pub(crate) fn arrive<W: Write>(
+        &mut self,
+        done: Done<'a>,
+        out: &mut Watched<W>,
+    ) -> Result<Option<Offer>, Failed>
+        requires sound { has_failed out.old ≡ false }
+        ensures failed { MatchResult result (λ _. has_failed out.new ≡ false) (λ _. has_failed out.new ≡ true) }
+        ensures same { (self.new.bundle.now ≡ self.old.bundle.now) × (self.new.bound ≡ self.old.bound) }
+        ensures step { MatchResult result
+            (λ _. StaysInStep (W.contents (inner_of out.old)) self.old.collector (W.contents (inner_of out.new)) self.new.collector)
+            (λ _. StopsInStep (W.contents (inner_of out.old)) self.old.collector (W.contents (inner_of out.new))) }
+        ensures sent { OnOk result (self.old.collector.unsent ≡ [] → self.new.collector.unsent ≡ []) }
+        ensures offered { IfOk result (λ o. IfSome o (λ offer.
+            Judged self.old.collector.bundle self.old.collector.bound self.old.collector.taken done.entry.ticket done.entry.entry.text done.entry.bound offer
+            × (self.new.collector.taken ≡ (after_offer self.old.collector done.entry.ticket offer).taken))) }
+        ensures strangers { NotesStranger self.old.bundle.now self.old.bound done.entry self.old.tally.strangers self.new.tally.strangers }
+    {
+        let Some(offer) = self.take(done) else {
+            return Ok(None);
+        };
+        match flush(&mut self.collector, out) {
+            Ok(()) => Ok(Some(offer)),
+            Err(failed) => Err(failed),
+        }
+    }
+
+    /// Writes what is unsent.
+    pub(crate) fn send<W: Write>(&mut self, out: &mut Watched<W>) -> Result<(), Failed>
+        ensures failed { MatchResult result (λ _. has_failed out.new ≡ false) (λ _. has_failed out.new ≡ true) }
+        ensures same { (self.new.bundle.now ≡ self.old.bundle.now) × (self.new.bound ≡ self.old.bound) × (self.new.tally ≡ self.old.tally) }
+        ensures step { MatchResult result
+            (λ _. StaysInStep (W.contents (inner_of out.old)) self.old.collector (W.contents (inner_of out.new)) self.new.collector)
+            (λ _. StopsInStep (W.contents (inner_of out.old)) self.old.collector (W.contents (inner_of out.new))) }
+        ensures sent { OnOk result (self.new.collector.unsent ≡ []) }
+    {
+        flush(&mut self.collector, out)
+    }
+}

@@ -1,0 +1,61 @@
+//! What a run counts.
+ghost use Rattle.std.specs.Prelude.{◌≡◌, ◌<◌, ◌^◌};
+ghost use Rattle.census_crew.specs.Tallying.{tallied, no_tally};
+
+use life_answer::finding::{Answer, Finding};
+
+/// What a run counts.
+#[derive(Clone, Copy, Debug, PartialEq, Eq)]
+pub struct Tally {
+    /// All patterns.
+    pub patterns: u64,
+    /// The patterns with an `ok` line, which come again within the bound.
+    pub resolved: u64,
+    /// The patterns with a `none` line, which don't.
+    pub unresolved: u64,
+    /// The patterns with a `bad` line, whose texts have a fault.
+    pub refused: u64,
+    /// The results whose tickets were taken before.
+    pub doubles: u64,
+    /// The results of another bundle or bound.
+    pub strangers: u64,
+    /// The tickets that the caller worked itself.
+    pub caught_up: u64,
+}
+
+impl Tally {
+    /// Nothing was counted.
+    pub(crate) fn new() -> Tally
+        ensures { result ≡ no_tally }
+    {
+        Tally {
+            patterns: 0,
+            resolved: 0,
+            unresolved: 0,
+            refused: 0,
+            doubles: 0,
+            strangers: 0,
+            caught_up: 0,
+        }
+    }
+
+    /// One more pattern, of which this was found.
+    pub(crate) fn with(self, answer: &Answer) -> Tally
+        requires patterns { self.patterns < 2 ^ 63 }
+        requires resolved { self.resolved < 2 ^ 63 }
+        requires unresolved { self.unresolved < 2 ^ 63 }
+        requires refused { self.refused < 2 ^ 63 }
+        ensures { result ≡ tallied self answer.now }
+    {
+        let mut counted = self;
+        counted.patterns += 1;
+        match answer {
+            Answer::Found { rule: _, finding } => match finding {
+                Finding::Recurs { .. } => counted.resolved += 1,
+                Finding::Unresolved { .. } => counted.unresolved += 1,
+            },
+            Answer::Refused(_) => counted.refused += 1,
+        }
+        counted
+    }
+}

@@ -1,0 +1,166 @@
+//! Readers and writers that fail, take little at a time, or never end.
+
+use super::bundles::{DEMO, DEMO_REPORT, TWO_FOLDERS_REPORT, demo_tally, two_folders};
+use crate::bytes::{BytesFault, run_bytes};
+use crate::fault::RunFault;
+use crate::gate::OpenGate;
+use crate::run::run;
+use crate::settling::settle;
+use census_bundle::bundle::Bundle;
+use census_bundle::reading::read_bundle;
+use std::alloc::Global;
+use std::io;
+use std::io::{ErrorKind, Read, Write};
+use std::process::Abort;
+use std::sync::Wait;
+use std::test::Fail;
+use std::thread::Threads;
+use watched::watched::Watched;
+
+/// Gives its bytes, and fails once they are gone.
+#[derive(Drop)]
+struct FailingReader<'a> {
+    left: &'a [u8],
+}
+
+impl<'a> Read for FailingReader<'a> {
+    fn read(&mut self, buffer: &mut [u8]) -> io::Result<usize> {
+        if self.left.is_empty() {
+            return Err(io::Error::from(ErrorKind::ConnectionReset));
+        }
+        self.left.read(buffer)
+    }
+}
+
+/// Takes so many bytes at a time at most, and fails once it holds as many as it has room for.
+#[derive(Drop)]
+struct FailingWriter {
+    written: Vec<u8>,
+    room: usize,
+    at_once: usize,
+}
+
+impl FailingWriter {
+    fn after(alloc: Global, room: usize) -> FailingWriter {
+        FailingWriter {
+            written: Vec::new(alloc),
+            room,
+            at_once: room,
+        }
+    }
+}
+
+impl Write for FailingWriter {
+    fn write(&mut self, bytes: &[u8]) -> io::Result<usize> {
+        let left = self.room.saturating_sub(self.written.len());
+        if left == 0 {
+            return Err(io::Error::from(ErrorKind::BrokenPipe));
+        }
+        let most = bytes.len().min(left).min(self.at_once);
+        self.written.extend_from_slice(&bytes[..most])?;
+        Ok(most)
+    }
+
+    fn flush(&mut self) -> io::Result<()> {
+        Ok(())
+    }
+}
+
+// The run of `DEMO` into a writer with room for so many bytes answers `Write`, and the report's first bytes fill that room.
+fn fills_its_room<R: Threads + Wait + Abort + Sync>(
+    rt: &R,
+    alloc: Global,
+    bundle: &Bundle,
+    room: usize,
+) {
+    let mut out = Watched::new(FailingWriter::after(alloc, room));
+    let answer = run(rt, alloc, bundle, 50, 2, &OpenGate, &mut out);
+    assert_eq!(rt; answer, Err(RunFault::Write), "after {room} bytes");
+    assert!(rt; out.failed());
+    let written = out.into_inner().written;
+    assert!(rt; DEMO_REPORT.starts_with(written.as_slice()));
+    assert_eq!(rt; written.len(), room);
+}
+
+#[test]
+fn a_writer_that_fails_early_has_taken_the_front_of_the_report(
+    rt: HostRuntime,
+) -> Result<(), Fail> {
+    let bundle = read_bundle(rt.alloc(), DEMO)?;
+    for room in 0..DEMO_REPORT.len() / 2 {
+        fills_its_room(&rt, rt.alloc(), &bundle, room);
+    }
+    Ok(())
+}
+
+#[test]
+fn a_writer_that_fails_late_has_taken_the_front_of_the_report(rt: HostRuntime) -> Result<(), Fail> {
+    let bundle = read_bundle(rt.alloc(), DEMO)?;
+    for room in DEMO_REPORT.len() / 2..DEMO_REPORT.len() {
+        fills_its_room(&rt, rt.alloc(), &bundle, room);
+    }
+    Ok(())
+}
+
+#[test]
+fn a_writer_that_fails_after_30_bytes_holds_30(rt: HostRuntime) -> Result<(), Fail> {
+    let mut reader = Watched::new(DEMO);
+    let mut out = Watched::new(FailingWriter::after(rt.alloc(), 30));
+    let answer = run_bytes(&rt, rt.alloc(), &mut reader, 50, 2, &OpenGate, &mut out);
+    assert_eq!(rt; answer, Err(BytesFault::Write));
+    assert_eq!(rt;
+        out.into_inner().written.as_slice(),
+        b"open 1 5 demo\nline 1 1 ok B3/S".as_slice()
+    );
+    Ok(())
+}
+
+#[test]
+fn settling_ends_where_its_writer_fails(rt: HostRuntime) -> Result<(), Fail> {
+    let bundle = two_folders(rt.alloc())?;
+    for room in 0..TWO_FOLDERS_REPORT.len() {
+        let mut out = Watched::new(FailingWriter::after(rt.alloc(), room));
+        let answer = settle(rt.alloc(), &bundle, 10, Vec::new(rt.alloc()), &mut out);
+        assert_eq!(rt; answer, Err(RunFault::Write), "after {room} bytes");
+        assert!(rt; out.into_inner().written.as_slice() == &TWO_FOLDERS_REPORT[..room]);
+    }
+    Ok(())
+}
+
+#[test]
+fn a_writer_of_single_bytes_takes_the_whole_report(rt: HostRuntime) -> Result<(), Fail> {
+    let bundle = read_bundle(rt.alloc(), DEMO)?;
+    let mut out = Watched::new(FailingWriter {
+        written: Vec::new(rt.alloc()),
+        room: usize::MAX,
+        at_once: 1,
+    });
+    let tally = run(&rt, rt.alloc(), &bundle, 50, 2, &OpenGate, &mut out)?;
+    assert_eq!(rt; tally, demo_tally(0));
+    assert!(rt; !out.failed());
+    assert!(rt; out.into_inner().written.as_slice() == DEMO_REPORT);
+    Ok(())
+}
+
+#[test]
+fn nothing_is_written_where_the_reader_fails(rt: HostRuntime) {
+    for k in 0..DEMO.len() {
+        let mut reader = Watched::new(FailingReader { left: &DEMO[..k] });
+        let mut out = Watched::new(Vec::new(rt.alloc()));
+        let answer = run_bytes(&rt, rt.alloc(), &mut reader, 50, 2, &OpenGate, &mut out);
+        assert_eq!(rt; answer, Err(BytesFault::Read), "after {k} bytes");
+        assert!(rt; reader.failed());
+        assert!(rt; !out.failed());
+        assert!(rt; out.into_inner().is_empty());
+    }
+}
+
+#[test]
+fn a_reader_without_end_is_too_long(rt: HostRuntime) {
+    let mut reader = Watched::new(io::repeat(b'@'));
+    let mut out = Watched::new(Vec::new(rt.alloc()));
+    let answer = run_bytes(&rt, rt.alloc(), &mut reader, 50, 2, &OpenGate, &mut out);
+    assert_eq!(rt; answer, Err(BytesFault::TooLong));
+    assert!(rt; !reader.failed());
+    assert!(rt; out.into_inner().is_empty());
+}

@@ -1,0 +1,102 @@
+//! Runs that may be refused memory.
+//!
+//! With memory to spare these tests see whole reports. They hold as well where any one growth is refused, which
+//! `rt try --test --fail-alloc N` does for the growth of number N.
+ghost use Rattle.std.specs.Prelude.{◌≤◌};
+
+use super::bundles::{DEMO, DEMO_REPORT, TWO_FOLDERS_REPORT, two_folders};
+use super::results::results_of;
+use crate::bytes::{BytesFault, run_bytes};
+use crate::fault::RunFault;
+use crate::gate::OpenGate;
+use crate::run::run;
+use crate::settling::settle;
+use census_bundle::bundle::Bundle;
+use census_bundle::reading::read_bundle;
+use std::alloc::{AllocError, Global};
+use std::process::Abort;
+use std::sync::Wait;
+use std::thread::Threads;
+use watched::watched::Watched;
+
+// Whether the report is whole. Else a front of it was written.
+fn check(rt: &impl Abort, is_whole: bool, out: Watched<Vec<u8>>, report: &[u8]) -> bool {
+    let written = out.into_inner();
+    if is_whole {
+        assert!(rt; written.as_slice() == report);
+    } else {
+        assert!(rt; report.starts_with(written.as_slice()));
+    }
+    is_whole
+}
+
+// Whether the run writes its whole report. Else it answers `Memory` and writes a front. The writer never grows, so it
+// never fails.
+fn run_is_whole<R: Threads + Wait + Abort + Sync>(
+    rt: &R,
+    alloc: Global,
+    bundle: &Bundle,
+    workers: u32,
+) -> Result<bool, AllocError>
+    requires { (1 ≤ workers) × (workers ≤ 16) }
+{
+    let mut out = Watched::new(Vec::with_capacity(alloc, DEMO_REPORT.len())?);
+    let fault = run(rt, alloc, bundle, 50, workers, &OpenGate, &mut out).err();
+    assert!(rt; fault.is_none() || fault == Some(RunFault::Memory));
+    Ok(check(rt, fault.is_none(), out, DEMO_REPORT))
+}
+
+// The same of a run over the text.
+fn text_run_is_whole<R: Threads + Wait + Abort + Sync>(
+    rt: &R,
+    alloc: Global,
+    workers: u32,
+) -> Result<bool, AllocError>
+    requires { (1 ≤ workers) × (workers ≤ 16) }
+{
+    let mut reader = Watched::new(DEMO);
+    let mut out = Watched::new(Vec::with_capacity(alloc, DEMO_REPORT.len())?);
+    let fault = run_bytes(rt, alloc, &mut reader, 50, workers, &OpenGate, &mut out).err();
+    assert!(rt; fault.is_none() || fault == Some(BytesFault::Memory));
+    Ok(check(rt, fault.is_none(), out, DEMO_REPORT))
+}
+
+// The same of a list of results.
+fn settling_is_whole<R: Abort>(rt: &R, alloc: Global, bundle: &Bundle) -> Result<bool, AllocError> {
+    let arrivals = results_of(alloc, bundle, &[(3, 3), (1, 1), (1, 1), (4, 1), (2, 1)])?;
+    let mut out = Watched::new(Vec::with_capacity(alloc, TWO_FOLDERS_REPORT.len())?);
+    let fault = settle(alloc, bundle, 10, arrivals, &mut out).err();
+    assert!(rt; fault.is_none() || fault == Some(RunFault::Memory));
+    Ok(check(rt, fault.is_none(), out, TWO_FOLDERS_REPORT))
+}
+
+#[test]
+fn a_run_for_want_of_memory_can_be_made_again(rt: HostRuntime) {
+    let Ok(bundle) = read_bundle(rt.alloc(), DEMO) else {
+        return;
+    };
+    for workers in [1, 2] {
+        if let Ok(false) = run_is_whole(&rt, rt.alloc(), &bundle, workers) {
+            assert_eq!(rt; run_is_whole(&rt, rt.alloc(), &bundle, workers), Ok(true));
+        }
+    }
+}
+
+#[test]
+fn a_text_run_for_want_of_memory_can_be_made_again(rt: HostRuntime) {
+    for workers in [1, 2] {
+        if let Ok(false) = text_run_is_whole(&rt, rt.alloc(), workers) {
+            assert_eq!(rt; text_run_is_whole(&rt, rt.alloc(), workers), Ok(true));
+        }
+    }
+}
+
+#[test]
+fn settling_for_want_of_memory_can_be_done_again(rt: HostRuntime) {
+    let Ok(bundle) = two_folders(rt.alloc()) else {
+        return;
+    };
+    if let Ok(false) = settling_is_whole(&rt, rt.alloc(), &bundle) {
+        assert_eq!(rt; settling_is_whole(&rt, rt.alloc(), &bundle), Ok(true));
+    }
+}

@@ -1,0 +1,97 @@
+//! Workers, and work of the caller beside them.
+ghost use Rattle.std.specs.Prelude.{◌≡◌, ◌≤◌};
+
+use crate::gate::Gate;
+use census_book::done::Done;
+use census_bundle::bundle::Bundle;
+use census_feed::handles::Hand;
+use crossbeam_channel::{SendError, Sender};
+use std::alloc::Global;
+use std::sync::Wait;
+use std::thread;
+use std::thread::Threads;
+
+/// What the caller does beside its workers. It is handed in by value, and what it borrowed comes back.
+pub(crate) trait Task: Drop {
+    type Output;
+
+    ghost can_run: { Self → Type 0 };
+
+    ghost run_gives: { Self → Self.Output → Type 0 };
+
+    fn run<R: Wait>(self, rt: &R) -> Self::Output
+        requires { can_run self }
+        ensures { run_gives self result };
+}
+
+// Takes tickets until none is left, works them, and sends what was found. A ticket that met want of memory is left to
+// the caller.
+fn work<'a, G: Gate, R: Wait>(
+    rt: &R,
+    alloc: Global,
+    bundle: &'a Bundle,
+    bound: u32,
+    mut hand: Hand,
+    gate: &G,
+    results: Sender<Done<'a>, Global>,
+)
+    requires { (1 ≤ bound) × (bound ≤ 1000000) }
+{
+    for _ in rt.forever() {
+        let Some(ticket) = hand.take(rt) else {
+            return;
+        };
+        gate.enter(ticket);
+        let Some(entry) = bundle.entry(ticket) else {
+            continue;
+        };
+        let Ok(done) = Done::work(alloc, ticket, entry, bound) else {
+            continue;
+        };
+        if let Err(SendError::Disconnected(_)) = results.send(rt, done) {
+            return;
+        }
+    }
+}
+
+/// Gives each hand to a worker, and runs the task beside them. The workers' results come by the channel, which closes
+/// when the last of them has ended. It returns when they all have. Where no more workers can be started, those that were
+/// work alone, and where there is none, only the task runs.
+pub(crate) fn work_beside<'a, G: Gate, R: Threads + Wait + Sync, S: Task>(
+    rt: &R,
+    alloc: Global,
+    bundle: &'a Bundle,
+    bound: u32,
+    hands: Vec<Hand>,
+    gate: &G,
+    results: Sender<Done<'a>, Global>,
+    task: S,
+) -> S::Output
+    requires bound { (1 ≤ bound) × (bound ≤ 1000000) }
+    requires task { S.can_run task }
+    ensures { S.run_gives task result }
+{
+    thread::scope(
+        thread::scope_env(),
+        rt,
+        move |scope| -> S::Output
+            requires { (1 ≤ bound) × (bound ≤ 1000000) × S.can_run task }
+            ensures { S.run_gives task result }
+        {
+            for hand in hands {
+                let Ok(mine) = results.clone() else {
+                    break;
+                };
+                let one = move ||
+                    requires { (1 ≤ bound) × (bound ≤ 1000000) }
+                { work(rt, alloc, bundle, bound, hand, gate, mine) };
+                if scope.spawn(one).is_err() {
+                    break;
+                }
+            }
+            // The channel closes only once no sender is left.
+            drop(results);
+            task.run(rt)
+        },
+    )
+}

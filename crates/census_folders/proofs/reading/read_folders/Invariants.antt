@@ -1,0 +1,7 @@
+use Rattle.std.proofs.Common.{take}
+use Rattle.census_folders.specs.Folders.{HoldsFolders}
+use Rattle.census_folders.proofs.Stops.{words_of}
+use Rattle.census_folders.proofs.reading.read_folders.Given as goal
+
+abbrev pub invariant-loop-word : goal.invariant-loop-word
+invariant-loop-word g l = HoldsFolders (words_of (take l.word-index l.folders)) l.bundle

@@ -1,0 +1,206 @@
+-- Where clap refuses nothing, the words name a command of `census`, and its matches have what it needs.
+use Rattle.std.proofs.Common.{◌≡◌, ◌||◌, ◌&&◌, ℕ, List, [], ◌∷◌, Bool, true, false, not, Option, Some, None, inl, inr, is_some, codes, refl, sym, ap, subst, true≢false}
+use Rattle.std.specs.Prelude.{if◌then◌else◌, option_map}
+use Rattle.std.specs.List.{find}
+use Rattle.std.specs.Option.{option_map_or}
+use Rattle.std.specs.Str.{bytes_eq}
+use Rattle.std.proofs.lemmas.Slice.Eq.{bytes_eq-Decides}
+use Rattle.clap.specs.Faults.{check_fault, entered_fault, level_fault}
+use Rattle.clap.specs.Kinds.{value_kinds}
+use Rattle.clap.specs.Simple.{App, Shape, built, built_leaf, entered, inherited, label_of, marked_built, names_of, rows_at, subcommand_of, with_leaf_noted}
+use Rattle.clap.specs.Takes.{is_given}
+use Rattle.clap.specs.Values.{IsUnsignedIn, refused_kind}
+use Rattle.clap.specs.ValueTests.{accepts}
+use Rattle.clap.specs.Walk.{Row, Text, answers_to, nothing_held, rows_after, stop_after}
+use Rattle.clap.specs.declared.builder.value_parser.ValueParser.TheVariants.{Unsigned}
+use Rattle.clap.proofs.ValueTestLemmas.{accepts-Accepts}
+use Rattle.census_words.specs.Asking.{IsMatched}
+use Rattle.census_words.specs.Holding.{HasAdvance, HasDraw, HasNumberIn, HasRun, HasText, IsCommand}
+use Rattle.census_words.specs.CommandLine.{advance_shape, census_app, draw_shape, run_shape}
+use Rattle.census_words.proofs.Passing.{Each, found_of_each, neither_true, not_cons}
+use Rattle.census_words.proofs.Rows.{Reads, reads_of, row_of_id}
+use Rattle.census_words.proofs.Uses.{RuleHolds}
+use Rattle.census_words.proofs.Walks.{StopHolds, is_help}
+use Rattle.census_words.proofs.Levels.{HasDefault, LevelHolds, checks_pass, defaults-there, given-there, level-Holds}
+
+unsigned_in : (ignore_case : Bool) (low high : ℕ) (v : Text) → value_kinds ignore_case (Unsigned low high) v ≡ [] → IsUnsignedIn low high v
+unsigned_in ignore_case low high v e = go (accepts ignore_case (Unsigned low high) v) refl e
+  where
+    go : (b : Bool) → accepts ignore_case (Unsigned low high) v ≡ b → (if b then [] else refused_kind (Unsigned low high) ∷ []) ≡ [] → IsUnsignedIn low high v
+    go true is e = accepts-Accepts ignore_case (Unsigned low high) v is
+    go false is e = not_cons _ _ e
+
+-- ---- what values have that pass
+
+abbrev AnyText : Text → Text → Type 0
+AnyText id v = Unit {0}
+
+abbrev RunText : Text → Text → Type 0
+RunText id v =
+    (bytes_eq id (codes "bound") ≡ true → IsUnsignedIn 1 1000000 v) × (bytes_eq id (codes "workers") ≡ true → IsUnsignedIn 1 16 v)
+
+abbrev AdvanceText : Text → Text → Type 0
+AdvanceText id v = bytes_eq id (codes "generations") ≡ true → IsUnsignedIn 0 4194304 v
+
+absent : {A : Type 0} → false ≡ true → A
+absent e = absurd (true≢false (sym e))
+
+-- ---- the commands as they are built
+
+abbrev whole : App
+whole = built census_app
+
+abbrev above : Shape
+above = with_leaf_noted (marked_built census_app.top)
+
+abbrev built_run : Shape
+built_run = built_leaf (inherited above run_shape)
+
+abbrev built_advance : Shape
+built_advance = built_leaf (inherited above advance_shape)
+
+abbrev built_draw : Shape
+built_draw = built_leaf (inherited above draw_shape)
+
+top_rules : Each (RuleHolds AnyText) whole.top.rules
+top_rules = (record { own = λ v e. tt; usual = inl refl; plain = λ t. refl }, tt)
+
+run_rules : Each (RuleHolds RunText) built_run.rules
+run_rules = (
+  record { own = λ v e. (λ _. unsigned_in false 1 1000000 v e, absent); usual = inr (refl, refl); plain = λ t. refl },
+  (
+    record { own = λ v e. (absent, λ _. unsigned_in false 1 16 v e); usual = inr (refl, refl); plain = λ t. refl },
+    (
+      record { own = λ v e. (absent, absent); usual = inr (refl, refl); plain = λ t. refl },
+      (record { own = λ v e. (absent, absent); usual = inl refl; plain = λ t. refl }, tt),
+    ),
+  ),
+)
+
+advance_rules : Each (RuleHolds AdvanceText) built_advance.rules
+advance_rules = (
+  record { own = λ v e _. unsigned_in false 0 4194304 v e; usual = inr (refl, refl); plain = λ t. refl },
+  (record { own = λ v e. absent; usual = inl refl; plain = λ t. refl }, tt),
+)
+
+draw_rules : Each (RuleHolds AnyText) built_draw.rules
+draw_rules = (
+  record { own = λ v e. tt; usual = inr (refl, refl); plain = λ t. refl },
+  (
+    record { own = λ v e. tt; usual = inr (refl, refl); plain = λ t. refl },
+    (record { own = λ v e. tt; usual = inl refl; plain = λ t. refl }, tt),
+  ),
+)
+
+-- ---- the matches of a command
+
+-- a level that doesn't fail
+module _ (Q : Text → Text → Type 0) (s : Shape) (rules : Each (RuleHolds Q) s.rules) (words : List Text) (passes : level_fault s [] nothing_held words false [] ≡ []) where
+  holds : LevelHolds Q s [] words false []
+  holds = level-Holds Q s rules [] words false [] passes
+
+  read_by_default : (id : Text) → HasDefault id s.rules → Reads Q id (rows_after s.rules [] words)
+  read_by_default id there = reads_of Q id _ (row_of_id Q id _ holds.rows (defaults-there id s.rules _ there))
+
+  read_as_given : (id : Text) → is_given id (rows_after s.rules [] words) ≡ true → Reads Q id (rows_after s.rules [] words)
+  read_as_given id is = reads_of Q id _ (row_of_id Q id _ holds.rows (given-there id _ is))
+
+  read_checks : check_fault s (rows_after s.rules [] words) false ≡ []
+  read_checks = holds.checks
+
+number_in : (Q : Text → Text → Type 0) (low high : ℕ) (id : Text) (rows : List Row) → Reads Q id rows → ((v : Text) → Q id v → IsUnsignedIn low high v)
+    → HasNumberIn low high id rows
+number_in Q low high id rows reads fits = (reads.text, reads.one, fits reads.text reads.passes)
+
+text_in : (Q : Text → Text → Type 0) (id : Text) (rows : List Row) → Reads Q id rows → HasText id rows
+text_in Q id rows reads = (reads.text, reads.first)
+
+is_true : (b : Bool) → not b ≡ false → b ≡ true
+is_true true e = refl
+is_true false e = absurd (true≢false e)
+
+abbrev Passes : Shape → List Text → Type 0
+Passes s words = level_fault s [] nothing_held words false [] ≡ []
+
+run_has : (words : List Text) → Passes built_run words → HasRun (rows_after built_run.rules [] words)
+run_has words e = record {
+  bound = number_in RunText 1 1000000 (codes "bound") _
+      (read_by_default RunText built_run run_rules words e (codes "bound") (inl (refl, record { first = codes "1000"; rest = []; is = refl }))) (λ v q. q.0 refl);
+  workers = number_in RunText 1 16 (codes "workers") _
+      (read_by_default RunText built_run run_rules words e (codes "workers") (inr (inl (refl, record { first = codes "4"; rest = []; is = refl })))) (λ v q. q.1 refl);
+}
+
+advance_has : (words : List Text) → Passes built_advance words → HasAdvance (rows_after built_advance.rules [] words)
+advance_has words e =
+    let rows = rows_after built_advance.rules [] words in
+    let checks = checks_pass built_advance rows false (read_checks AdvanceText built_advance advance_rules words e) in
+    let given = is_true (is_given (codes "generations") rows) (neither_true (not (is_given (codes "generations") rows)) false checks.1).0 in
+    record {
+      generations = number_in AdvanceText 0 4194304 (codes "generations") _
+          (read_as_given AdvanceText built_advance advance_rules words e (codes "generations") given) (λ v q. q refl);
+    }
+
+draw_has : (words : List Text) → Passes built_draw words → HasDraw (rows_after built_draw.rules [] words)
+draw_has words e =
+    let rows = rows_after built_draw.rules [] words in
+    let checks = checks_pass built_draw rows false (read_checks AnyText built_draw draw_rules words e) in
+    let given = is_true (is_given (codes "code") rows) (neither_true (not (is_given (codes "code") rows)) false checks.1).0 in
+    record {
+      code = text_in AnyText (codes "code") _ (read_as_given AnyText built_draw draw_rules words e (codes "code") given);
+      rule = text_in AnyText (codes "rule") _
+          (read_by_default AnyText built_draw draw_rules words e (codes "rule") (inr (inl (refl, record { first = codes "B3/S23"; rest = []; is = refl }))));
+    }
+
+-- ---- the whole parse
+
+-- what a command comes to that the words name
+abbrev Enters : Text → List Text → Shape → Type 0
+Enters name words s = is_help whole.top name ≡ false → answers_to name (label_of s) ≡ true → Passes s words → IsCommand (Some (rows_at s words))
+
+help_is_no_command : (name : Text) → is_help whole.top name ≡ false → (bytes_eq (codes "help") name || false) ≡ true → ⊥
+help_is_no_command name stop names = go (bytes_eq (codes "help") name) refl names
+  where
+    go : (b : Bool) → bytes_eq (codes "help") name ≡ b → (b || false) ≡ true → ⊥
+    go false is e = true≢false (sym e)
+    go true is e =
+        let same : codes "help" ≡ name = (bytes_eq-Decides (codes "help") name).0 is in
+        let off : is_help whole.top (codes "help") ≡ false = subst (λ (x : Text). is_help whole.top x ≡ false) (sym same) stop in
+        true≢false off
+
+each_enters : (name : Text) (words : List Text) → Each (Enters name words) whole.subs
+each_enters name words = (
+  λ stop names passes. inl (refl, run_has words passes),
+  (
+    λ stop names passes. inr (inl (refl, advance_has words passes)),
+    (λ stop names passes. inr (inr (refl, draw_has words passes)), (λ stop names passes. absurd (help_is_no_command name stop names), tt)),
+  ),
+)
+
+named : (name : Text) (words : List Text) (o : Option Shape) → find (λ s. answers_to name (label_of s)) whole.subs ≡ o → is_help whole.top name ≡ false
+    → option_map_or (λ s. level_fault s [] nothing_held words false []) o [] ≡ [] → is_some (option_map (λ s. rows_at s words) o) ≡ true
+    → IsCommand (option_map (λ s. rows_at s words) o)
+named name words None found stop below has = absurd (true≢false (sym has))
+named name words (Some s) found stop below has =
+    let there = found_of_each (Enters name words) (λ s. answers_to name (label_of s)) whole.subs s (each_enters name words) found in
+    there.0 stop there.1 below
+
+entered_is : (stop : Option (Text × List Text)) → StopHolds whole.top stop → entered_fault whole stop ≡ [] → is_some (entered whole stop) ≡ true → IsCommand (entered whole stop)
+entered_is None stop below has = absurd (true≢false (sym has))
+entered_is (Some p) stop below has = named p.0 p.1 (find (λ s. answers_to p.0 (label_of s)) whole.subs) refl stop below has
+
+pub is_command : (words : List Text) → IsMatched words → IsCommand (subcommand_of census_app words)
+is_command words matched =
+    let stop = stop_after whole.top.rules (names_of whole) words in
+    let holds = level-Holds AnyText whole.top top_rules (names_of whole) words (is_some (entered whole stop)) (entered_fault whole stop) matched in
+    let checks = checks_pass whole.top (rows_after whole.top.rules (names_of whole) words) (is_some (entered whole stop)) holds.checks in
+    entered_is stop holds.stop holds.below_passes (wanted (is_some (entered whole stop)) checks.0)
+  where
+    wanted : (has : Bool) → (not has && true) ≡ false → has ≡ true
+    wanted true e = refl
+    wanted false e = absurd (true≢false e)
+
+-- the command `advance` has a number of generations
+pub advance_command : (rows : List Row) → IsCommand (Some (codes "advance", rows)) → HasAdvance rows
+advance_command rows (inl h) = absurd (true≢false (sym (ap (λ (name : Text). bytes_eq name (codes "run")) h.0)))
+advance_command rows (inr (inl h)) = h.1
+advance_command rows (inr (inr h)) = absurd (true≢false (sym (ap (λ (name : Text). bytes_eq name (codes "draw")) h.0)))

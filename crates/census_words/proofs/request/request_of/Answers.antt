@@ -1,0 +1,20 @@
+use Rattle.std.proofs.Common.{refl, codes, subst}
+use Rattle.clap.specs.Matches.{found_of}
+use Rattle.clap.specs.Walk.{rows_of}
+use Rattle.census_words.specs.Holding.{IsCommand}
+use Rattle.census_words.proofs.Commands.{advance_command}
+use Rattle.census_words.proofs.Getters.{entered_as, number_within}
+use Rattle.census_words.proofs.request.request_of.Goals as goal
+
+pub returns-in-Some-subcommand_matches : goal.returns-in-Some-subcommand_matches
+returns-in-Some-subcommand_matches c =
+    let arm = c.in-Some-subcommand_matches in
+    let rows = rows_of (found_of arm.advance.now) in
+    let named = entered_as c.args.matches.now (codes "advance") rows (arm.ensures.found.0 refl) arm.ensures.rows in
+    let has = advance_command rows (subst IsCommand named c.requires) in
+    record {
+      rows = rows;
+      named = named;
+      generations_are = c.number-in-Some-subcommand_matches.ensures;
+      generations_in = (number_within 0 4194304 (codes "generations") rows _ has.generations c.number-in-Some-subcommand_matches.ensures).1;
+    }

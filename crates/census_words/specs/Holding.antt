@@ -1,0 +1,38 @@
+-- What the matches of a command hold wherever clap gives them.
+use Rattle.std.specs.Prelude.{◌≡◌, ◌⊎◌, ℕ, List, Option, Some, None, codes}
+use Rattle.clap.specs.Values.{IsUnsignedIn}
+use Rattle.clap.specs.Walk.{Row, first_of, one_of}
+
+-- a number of this range
+abbrev pub HasNumberIn : ℕ → ℕ → List ℕ → List Row → Type 0
+HasNumberIn low high id rows = (text : List ℕ) × (one_of id rows ≡ Some text) × IsUnsignedIn low high text
+
+-- a number that fits 32 bits
+abbrev pub HasNumber : List ℕ → List Row → Type 0
+HasNumber id rows = HasNumberIn 0 4294967295 id rows
+
+-- a text
+abbrev pub HasText : List ℕ → List Row → Type 0
+HasText id rows = (text : List ℕ) × (first_of id rows ≡ Some text)
+
+-- the matches of `run` have their numbers
+pub record HasRun (rows : List Row) : Type 0 where
+  pub bound : HasNumberIn 1 1000000 (codes "bound") rows
+  pub workers : HasNumberIn 1 16 (codes "workers") rows
+
+-- those of `advance` have theirs
+pub record HasAdvance (rows : List Row) : Type 0 where
+  pub generations : HasNumberIn 0 4194304 (codes "generations") rows
+
+-- those of `draw` have their texts
+pub record HasDraw (rows : List Row) : Type 0 where
+  pub code : HasText (codes "code") rows
+  pub rule : HasText (codes "rule") rows
+
+-- a command with the matches that it has to have
+abbrev pub IsCommand : Option (List ℕ × List Row) → Type 0
+IsCommand None = ⊥
+IsCommand (Some (name, rows)) =
+    ((name ≡ codes "run") × HasRun rows)
+    ⊎ (((name ≡ codes "advance") × HasAdvance rows)
+    ⊎ ((name ≡ codes "draw") × HasDraw rows))

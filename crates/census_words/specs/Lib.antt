@@ -1,0 +1,4 @@
+pub mod CommandLine
+pub mod Asking
+pub mod Holding
+pub mod Refusing

@@ -1,0 +1,117 @@
+//! The command line, built with `clap`.
+ghost use Rattle.std.specs.Prelude.{◌≡◌, IfOk, false};
+ghost use Rattle.clap.specs.Words.{app_of, rule_of, shape_of};
+ghost use Rattle.clap.specs.declared.builder.command.Command.TheViews.{out-Command};
+ghost use Rattle.census_words.specs.CommandLine.{advance_shape, bound_rule, census_app, code_rule, draw_shape};
+ghost use Rattle.census_words.specs.CommandLine.{folder_rule, generations_rule, run_shape, rule_rule, workers_rule};
+
+use crate::help;
+use clap::{Arg, Command, value_parser};
+use std::alloc::{AllocError, Global};
+
+fn bound<'a>(alloc: Global) -> Arg<'a>
+    ensures { (rule_of result ≡ bound_rule) × (result.global ≡ false) }
+{
+    Arg::new(alloc, "bound")
+        .long("bound")
+        .value_name("N")
+        .value_parser(value_parser!(u64).range(1..=1_000_000))
+        .default_value("1000")
+        .help("Generations that are searched, 1 to 1000000")
+}
+
+fn workers<'a>(alloc: Global) -> Arg<'a>
+    ensures { (rule_of result ≡ workers_rule) × (result.global ≡ false) }
+{
+    Arg::new(alloc, "workers")
+        .long("workers")
+        .value_name("N")
+        .value_parser(value_parser!(u64).range(1..=16))
+        .default_value("4")
+        .help("Threads that work, 1 to 16")
+}
+
+fn folder<'a>(alloc: Global) -> Arg<'a>
+    ensures { (rule_of result ≡ folder_rule) × (result.global ≡ false) }
+{
+    Arg::new(alloc, "folder")
+        .value_name("FOLDER")
+        .num_args(1..)
+        .help(
+            "A collection: its patterns are the *.rle files in the folder.\nWith no FOLDER a bundle of collections is read from standard input",
+        )
+}
+
+fn generations<'a>(alloc: Global) -> Arg<'a>
+    ensures { (rule_of result ≡ generations_rule) × (result.global ≡ false) }
+{
+    Arg::new(alloc, "generations")
+        .value_name("N")
+        .required(true)
+        .value_parser(value_parser!(u64).range(0..=4_194_304))
+        .help("Generations, 0 to 4194304")
+}
+
+fn code<'a>(alloc: Global) -> Arg<'a>
+    ensures { (rule_of result ≡ code_rule) × (result.global ≡ false) }
+{
+    Arg::new(alloc, "code")
+        .value_name("CODE")
+        .required(true)
+        .help("An apgcode, or the part of one behind its first _")
+}
+
+fn rule<'a>(alloc: Global) -> Arg<'a>
+    ensures { (rule_of result ≡ rule_rule) × (result.global ≡ false) }
+{
+    Arg::new(alloc, "rule")
+        .long("rule")
+        .value_name("R")
+        .default_value("B3/S23")
+        .help("A Life-like rule without B0")
+}
+
+fn run<'a>(alloc: Global) -> Result<Command<'a>, AllocError>
+    ensures { IfOk result (λ c. (shape_of c ≡ run_shape) × ((out-Command c).has_globals ≡ false)) }
+{
+    Command::new(alloc, "run")
+        .about("Report what the patterns of collections become")
+        .after_help(help::RUN)
+        .arg(bound(alloc))?
+        .arg(workers(alloc))?
+        .arg(folder(alloc))
+}
+
+fn advance<'a>(alloc: Global) -> Result<Command<'a>, AllocError>
+    ensures { IfOk result (λ c. (shape_of c ≡ advance_shape) × ((out-Command c).has_globals ≡ false)) }
+{
+    Command::new(alloc, "advance")
+        .about("Read an RLE text and write that of its generation N")
+        .after_help(help::STATUSES)
+        .arg(generations(alloc))
+}
+
+fn draw<'a>(alloc: Global) -> Result<Command<'a>, AllocError>
+    ensures { IfOk result (λ c. (shape_of c ≡ draw_shape) × ((out-Command c).has_globals ≡ false)) }
+{
+    Command::new(alloc, "draw")
+        .about("Write the RLE text of the pattern that an apgcode names")
+        .after_help(help::STATUSES)
+        .arg(code(alloc))?
+        .arg(rule(alloc))
+}
+
+/// The whole command line.
+pub(crate) fn census<'a>(alloc: Global) -> Result<Command<'a>, AllocError>
+    ensures { IfOk result (λ c. app_of c ≡ census_app) }
+{
+    Command::new(alloc, "census")
+        .about("Takes a census of Life-like patterns: what each becomes on the unbounded plane")
+        .after_help(help::PROGRAM)
+        .bin_name("census")?
+        .no_binary_name(true)
+        .subcommand_required(true)
+        .subcommand(run(alloc)?)?
+        .subcommand(advance(alloc)?)?
+        .subcommand(draw(alloc)?)
+}

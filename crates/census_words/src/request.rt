@@ -1,0 +1,102 @@
+//! What words ask for.
+ghost use Rattle.std.specs.Prelude.{◌≡◌, IfOk, MatchResult, Some, map};
+ghost use Rattle.clap.specs.Words.{first_of, found_of, rows_of, subcommand_rows_of};
+ghost use Rattle.census_words.specs.Asking.{Asks, Gives, number_of, values_of};
+ghost use Rattle.census_words.specs.Holding.{HasNumber, HasText, IsCommand};
+ghost use Rattle.census_words.specs.Refusing.{Refuses};
+
+use crate::command;
+use crate::fault::{WordsFault, fault_of};
+use clap::ArgMatches;
+use std::alloc::{AllocError, Global};
+
+/// What words ask for.
+#[derive(Debug, PartialEq, Drop)]
+pub enum Request<'a> {
+    /// The census of collections: of these folders, or, where there is none, of the bundle on standard input.
+    Run {
+        /// How many generations are searched, 1 to 1,000,000.
+        bound: u32,
+        /// How many threads work, 1 to 16.
+        workers: u32,
+        /// In the order of the words.
+        folders: Vec<&'a str>,
+    },
+    /// The RLE text of so many generations later, 0 to 4,194,304.
+    Advance {
+        generations: u32,
+    },
+    /// The RLE text of what a code draws under the rule that a text names.
+    Draw {
+        code: &'a str,
+        rule: &'a str,
+    },
+}
+
+// The number of an argument that has one.
+fn number(matches: &ArgMatches<'_>, id: &str) -> u32
+    requires { HasNumber id.now (rows_of (found_of matches.now)) }
+    ensures { number_of id.now (rows_of (found_of matches.now)) ≡ Some result }
+{
+    matches.get_one::<u64>(id).unwrap() as u32
+}
+
+// The text of an argument that has one.
+fn text<'a>(matches: &ArgMatches<'a>, id: &str) -> &'a str
+    requires { HasText id.now (rows_of (found_of matches.now)) }
+    ensures { first_of id.now (rows_of (found_of matches.now)) ≡ Some result.now }
+{
+    matches.get_str(id).unwrap()
+}
+
+// All texts of an argument.
+fn texts<'a>(alloc: Global, matches: &ArgMatches<'a>, id: &str) -> Result<Vec<&'a str>, AllocError>
+    ensures { IfOk result (λ texts. values_of id.now (rows_of (found_of matches.now)) ≡ map (λ s. s.now) texts.items) }
+{
+    match matches.get_strs(id) {
+        Some(texts) => texts.to_vec(alloc),
+        None => Ok(Vec::new(alloc)),
+    }
+}
+
+// What the matches ask for.
+fn request_of<'a>(alloc: Global, matches: &ArgMatches<'a>) -> Result<Request<'a>, AllocError>
+    requires { IsCommand (subcommand_rows_of matches.now) }
+    ensures { IfOk result (Gives (subcommand_rows_of matches.now)) }
+{
+    if let Some(run) = matches.subcommand_matches("run") {
+        return Ok(Request::Run {
+            bound: number(run, "bound"),
+            workers: number(run, "workers"),
+            folders: texts(alloc, run, "folder")?,
+        });
+    }
+    if let Some(advance) = matches.subcommand_matches("advance") {
+        return Ok(Request::Advance {
+            generations: number(advance, "generations"),
+        });
+    }
+    if let Some(draw) = matches.subcommand_matches("draw") {
+        return Ok(Request::Draw {
+            code: text(draw, "code"),
+            rule: text(draw, "rule"),
+        });
+    }
+    unreachable!()
+}
+
+/// What the words behind the program's own name ask for.
+///
+/// What words mean is what clap's matches for them say: their command, the value of each option or its default, and the
+/// folders in order. Numbers are decimal, with any zeros or one `+` in front, and their ranges are clap's to judge.
+/// A fault other than `Memory` comes only where clap has no matches for the words: `Help` where it answers them with help,
+/// `Refused` where it refuses them.
+pub fn read_words<'a>(alloc: Global, words: &'a [&'a str]) -> Result<Request<'a>, WordsFault>
+    ensures { MatchResult result (Asks (map (λ s. s.now) words.entry.now)) (Refuses (map (λ s. s.now) words.entry.now)) }
+{
+    let command = command::census(alloc)?;
+    match command.try_get_matches_from(words) {
+        Ok(matches) => Ok(request_of(alloc, &matches)?),
+        Err(error) => Err(fault_of(alloc, &error)),
+    }
+}

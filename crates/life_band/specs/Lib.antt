@@ -1,0 +1,5 @@
+pub mod Sums
+pub mod Rows
+pub mod Logics
+pub mod Windows
+pub mod Changes

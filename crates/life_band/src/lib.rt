@@ -1,0 +1,17 @@
+//! The next generation of eight rows of a tile at a time, 64 cells to a word.
+#![tactic(auto)]
+
+mod adders;
+mod band_sums;
+mod kernel;
+mod logic;
+mod row_sums;
+#[cfg(test)]
+mod tests;
+mod window;
+
+pub use adders::Sum;
+pub use kernel::{Change, band};
+pub use logic::{Count, Logic, Spread};
+pub use row_sums::{RowSums, sums};
+pub use window::{RowTriple, Window};

@@ -1,0 +1,54 @@
+//! Bundles, and what is known of their reports.
+
+use census_bundle::bundle::{AddFault, Bundle};
+use std::alloc::Global;
+
+// A folder `demo` of five patterns: two blocks, a glider, a methuselah, and a text without its end.
+pub(crate) const DEMO: &[u8] = b"@folder demo
+@file block
+x = 2, y = 2, rule = B3/S23
+2o$2o!
+@file glider
+x = 3, y = 3, rule = B3/S23
+bo$2bo$3o!
+@file block2
+x = 2, y = 2, rule = 23/3
+2o$2o!
+@file rpent
+x = 3, y = 3, rule = B3/S23
+b2o$2o$bo!
+@file broken
+x = 3, y = 1, rule = B3/S23
+3o
+";
+
+// The report of `DEMO` under the bound 50.
+pub(crate) const DEMO_REPORT: &[u8] = b"open 1 5 demo
+line 1 1 ok B3/S23 4 0 1 0 0 xs4_33 block
+line 1 2 ok B3/S23 5 0 4 1 1 xq4_153 glider
+line 1 3 ok B3/S23 4 0 1 0 0 xs4_33 block2
+line 1 4 none B3/S23 5 rpent
+line 1 5 bad 10 broken
+code 1 B3/S23 xs4_33 2
+code 1 B3/S23 xq4_153 1
+close 1 5 3 1 1
+end 1 5
+";
+
+pub(crate) const BLOCK: &[u8] = b"x = 3, y = 3\n2o$2o!";
+
+pub(crate) const BLINKER: &[u8] = b"x = 3, y = 3\n3o!";
+
+// A folder of patterns, each with its name and its text.
+pub(crate) fn folder_of(
+    alloc: Global,
+    name: &[u8],
+    patterns: &[(&[u8], &[u8])],
+) -> Result<Bundle, AddFault> {
+    let mut bundle = Bundle::empty(alloc);
+    bundle.add_folder(name)?;
+    for pattern in patterns {
+        bundle.add_entry(pattern.0, pattern.1)?;
+    }
+    Ok(bundle)
+}

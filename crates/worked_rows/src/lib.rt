@@ -1,0 +1,20 @@
+//! Worked examples, from texts of patterns to reports of whole bundles.
+//!
+//! Each example is what the libraries give together for an input whose answer is known from elsewhere: patterns of
+//! LifeWiki by their period, displacement and apgcode, gliders by where they go, and reports as their format has them.
+#![tactic(auto)]
+
+#[cfg(test)]
+mod bundles;
+#[cfg(test)]
+mod objects;
+#[cfg(test)]
+mod patterns;
+#[cfg(test)]
+mod planes;
+#[cfg(test)]
+mod reports;
+#[cfg(test)]
+mod runs;
+#[cfg(test)]
+mod texts;
