@@ -36,29 +36,31 @@ fn own_words(rt: &HostRuntime) -> Result<Vec<String>, Trouble> {
     Ok(own)
 }
 
-// Does what the words ask for, over the standard streams.
-fn run(rt: &HostRuntime) -> Result<u8, Trouble> {
-    let own = own_words(rt)?;
-    let words = lent(rt.alloc(), own.as_slice())?;
+// Tells on standard error why the words can't be handed on.
+fn stop(rt: &HostRuntime, trouble: Trouble) -> ExitCode {
+    let _ = eprintln!(rt; "census: {trouble}");
+    ExitCode::from(trouble.status())
+}
+
+fn main(rt: HostRuntime) -> ExitCode {
+    let own = match own_words(&rt) {
+        Ok(own) => own,
+        Err(trouble) => return stop(&rt, trouble),
+    };
+    let words = match lent(rt.alloc(), own.as_slice()) {
+        Ok(words) => words,
+        Err(error) => return stop(&rt, Trouble::from(error)),
+    };
     let mut input = Watched::new(rt.reader());
-    let mut output = Watched::new(io::writer(rt));
+    let mut output = Watched::new(io::writer(&rt));
     let mut errors = Watched::new(rt.stderr());
-    Ok(dispatch(
+    let status = dispatch(
+        &rt,
         rt.alloc(),
         words.as_slice(),
         &mut input,
         &mut output,
         &mut errors,
-    ))
-}
-
-fn main(rt: HostRuntime) -> ExitCode {
-    let status = match run(&rt) {
-        Ok(status) => status,
-        Err(trouble) => {
-            let _ = eprintln!(rt; "census: {trouble}");
-            trouble.status()
-        }
-    };
+    );
     ExitCode::from(status)
 }

@@ -1,6 +1,6 @@
 -- How the parts of `advance` join.
-use Rattle.std.proofs.Common.{◌≡◌, ◌≤◌, ◌++◌, ℕ, List, [], Option, Result, Ok, Err, Bool, true, false, length, refl, sym, ap, subst, ◌∙◌}
-use Rattle.std.specs.Io.KnownBytes.{Appends, Consumes, IsAtEnd}
+use Rattle.std.proofs.Common.{◌≡◌, ◌++◌, ℕ, List, [], Option, Result, Ok, Err, Bool, true, false, refl, sym, ap, subst, ◌∙◌}
+use Rattle.std.specs.Io.KnownBytes.{Appends}
 use Rattle.watched.specs.declared.reading.ReadFault.{ReadFault}
 use Rattle.watched.specs.declared.reading.ReadFault.TheVariants.{Read}
 use Rattle.watched.specs.Watching.{AppendsFront}
@@ -10,7 +10,7 @@ use Rattle.life_model.specs.Rule.{Rule}
 use Rattle.life_text.specs.Picture.{Picture, picture_of}
 use Rattle.life_text.specs.Rle.{reading}
 use Rattle.life_text.specs.RleText.{rle_text}
-use Rattle.census_command.specs.Commands.{Advances, AdvancesInPart, IsAdvanced, ReadsAll, advanced_text, input_limit}
+use Rattle.census_command.specs.Commands.{Advances, AdvancesInPart, IsAdvanced, ReadsAll}
 
 pub is_advanced : (text : List ℕ) (n : ℕ) (old new : List ℕ) (pattern : Picture) (R : Rule) (G : Generation) → picture_of (reading text) ≡ Ok pattern
     → R ≡ pattern.rule → G ≡ generation pattern.rule pattern.cells n → old ≡ [] → new ≡ old ++ rle_text R G → IsAdvanced text n new

@@ -1,10 +1,9 @@
 -- What a command reads and writes, and what its trouble says.
-use Rattle.std.specs.Prelude.{◌≡◌, ℕ, ◌≤◌, ◌⊎◌, Bool, true, false, List, Option, Ok, Some, length}
+use Rattle.std.specs.Prelude.{◌≡◌, ℕ, ◌≤◌, Bool, true, false, List, Option, Ok, Some, length}
 use Rattle.std.specs.Io.KnownBytes.{Appends, Consumes, IsAtEnd, Keeps}
 use Rattle.watched.specs.Watching.{AppendsFront, ConsumesMoreThan}
 use Rattle.life_model.specs.Evolution.{generation}
 use Rattle.life_text.specs.Picture.{Picture, picture_of}
-use Rattle.life_text.specs.declared.rle.RleFault.{RleFault}
 use Rattle.life_text.specs.Rle.{reading, refusal}
 use Rattle.life_text.specs.RleText.{rle_text}
 use Rattle.census_command.specs.declared.trouble.Trouble.{Trouble}

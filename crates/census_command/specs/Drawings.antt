@@ -1,5 +1,5 @@
 -- What `draw` reads and writes.
-use Rattle.std.specs.Prelude.{◌≡◌, ℕ, true, false, Bool, List, Option, Result, Ok, Err, Some, None}
+use Rattle.std.specs.Prelude.{◌≡◌, ℕ, true, false, Bool, List, Option, Ok, Err, Some, None}
 use Rattle.std.specs.Io.KnownBytes.{Appends, Keeps}
 use Rattle.watched.specs.Watching.{AppendsFront}
 use Rattle.life_model.specs.Rule.{Rule}

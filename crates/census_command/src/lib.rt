@@ -9,4 +9,3 @@ pub mod running;
 #[cfg(test)]
 mod tests;
 pub mod trouble;
-pub mod words;

@@ -36,6 +36,7 @@ pub enum Trouble {
     /// Standard input, or a file, has more bytes than one text may have.
     #[error("input too long")]
     TooLong,
+    /// A word of the command line is no text.
     #[error("bad command line")]
     Words,
     #[error("out of memory")]
@@ -171,7 +172,7 @@ impl From<Failed> for Trouble {
 }
 
 impl Trouble {
-    /// The exit status: 1 where the input is refused, 2 for the words, 3 for want of memory, 4 where an end failed.
+    /// The exit status: 1 where the input is refused, 2 for a word that is no text, 3 for want of memory, 4 where an end failed.
     pub fn status(&self) -> u8
         ensures { result ≡ status_of self.now }
     {

@@ -15,7 +15,8 @@ use std::test::Fail;
 /// Onset, period, displacement and code.
 type Settled = (u32, u32, (i32, i32), &'static [u8]);
 
-/// A pattern and a bound, and what is known of it: its rule, its population, and where it settles within the bound, how.
+/// A pattern and a bound, and what is known of it: its rule, its population, and how it settles within the bound, where
+/// it does.
 struct Example {
     text: &'static [u8],
     bound: u32,
@@ -181,8 +182,8 @@ fn code_is_the_shortest_of_all_orientations(rt: HostRuntime) -> Result<(), Fail>
     check(&rt, rt.alloc(), TURNED)
 }
 
-// The first pair of blocks spells `33y233` as it stands, and less when it is turned. The second spells `33zzz33` when it
-// is turned, and less as it stands.
+// The first pair of blocks spells `33y233` as it stands, and less when it is turned. The second spells `33zzz33` when
+// it is turned, and less as it stands.
 const TURNED: &[Example] = &[
     Example {
         text: b"x = 3, y = 3\n2o6b2o$2o6b2o!",

@@ -18,8 +18,8 @@ use std::test::Fail;
 use std::thread::Threads;
 use watched::watched::Watched;
 
-/// A result that comes: its ticket, the pattern that was worked for it, what becomes of it, the text that it releases, and
-/// the least ticket that is missing then. Tickets are a folder and a number.
+/// A result that comes: its ticket, the pattern that was worked for it, what becomes of it, the text that it releases,
+/// and the least ticket that is missing then. A ticket is a folder and a number.
 struct Arrival {
     ticket: (u32, u32),
     worked: (u32, u32),

@@ -1,5 +1,4 @@
-use Rattle.std.proofs.Common.{◌≡◌, ◌≤◌, length, arith}
-use Rattle.census_command.specs.Commands.{ReadsAll}
+use Rattle.std.proofs.Common.{arith}
 use Rattle.census_command.proofs.Advanced.{advances, advances_in_part, flag_down}
 use Rattle.census_command.proofs.advance.advance.Goals as goal
 
