@@ -147,7 +147,7 @@ pub fn dispatch<
     ensures told { (has_failed input.new ≡ true) ⊎ (has_failed output.new ≡ true) → result ≡ 4 }
 {
     let request = match read_words(alloc, &*words) {
-        Ok(request) => request,
+        Ok(asked) => asked,
         Err(fault) => return answer(alloc, &fault, output, errors),
     };
     match obey(rt, alloc, &request, input, output) {

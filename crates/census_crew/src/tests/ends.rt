@@ -66,7 +66,8 @@ impl Write for FailingWriter {
     }
 }
 
-// The run of `DEMO` into a writer with room for so many bytes answers `Write`, and the report's first bytes fill that room.
+// The run of `DEMO` into a writer with room for so many bytes answers `Write`, and the report's first bytes fill that
+// room.
 fn fills_its_room<R: Threads + Wait + Abort + Sync>(
     rt: &R,
     alloc: Global,
