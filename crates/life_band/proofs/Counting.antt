@@ -3,9 +3,9 @@ use Rattle.std.proofs.Common.{◌≡◌, ℕ, ◌+◌, ◌*◌, ◌<◌, ◌≤�
 use Rattle.std.specs.Int.{bit_at}
 use Rattle.std.proofs.lemmas.Nat.Bits.{bit_at-lt}
 use Rattle.life_model.specs.Rule.{Rule}
-use Rattle.life_tile.specs.Bits.{next_state}
-use Rattle.life_tile.specs.Area.{sum_around}
-use Rattle.life_tile.proofs.Strips.{strip_middle}
+use Rattle.life_bits.specs.Bits.{next_state}
+use Rattle.life_bits.specs.Area.{sum_around}
+use Rattle.life_bits.proofs.Strips.{strip_middle}
 use Rattle.life_band.specs.declared.window.Window.{Window}
 use Rattle.life_band.specs.declared.band_sums.BandSums.{BandSums}
 use Rattle.life_band.specs.Windows.{window_row, window_cell, next_in_window, IsSumsOf}

@@ -3,8 +3,8 @@ use Rattle.std.proofs.Common.{◌≡◌, ℕ, ◌+◌, ◌*◌, ◌<◌, ◌≤�
 use Rattle.std.specs.Int.{bit_at}
 use Rattle.std.proofs.lemmas.Bool.{cases_lt}
 use Rattle.std.proofs.lemmas.Nat.Bits.{bit_at_and, bit_at_or, bit_at_xor, bit_at-lt, bit_at-zero, bit_at_above, bit_at_cat_low}
-use Rattle.life_tile.specs.Bits.{strip}
-use Rattle.life_tile.proofs.Strips.{bit_at_mod, west_at, east_at}
+use Rattle.life_bits.specs.Bits.{strip}
+use Rattle.life_bits.proofs.Strips.{bit_at_mod, west_at, east_at}
 
 -- the cell beyond the western edge is in column 0 alone
 one_bit : (west : ℕ) → west < 2 ^ 64 → west / 2 ^ 63 < 2 ^ 1

@@ -3,8 +3,8 @@ use Rattle.std.proofs.Common.{◌≡◌, ℕ, true, false, ◌+◌, ◌-◌, ◌
 use Rattle.std.specs.Int.{bit_at}
 use Rattle.std.proofs.lemmas.Bool.{cases_lt}
 use Rattle.life_model.specs.Rule.{Rule}
-use Rattle.life_tile.specs.Bits.{next_state}
-use Rattle.life_tile.specs.Area.{Nine, three_wide, area_row, area_cell, sum_around, next_in_area}
+use Rattle.life_bits.specs.Bits.{next_state}
+use Rattle.life_bits.specs.Area.{Nine, three_wide, area_row, area_cell, sum_around, next_in_area}
 use Rattle.life_band.specs.declared.window.Window.{Window}
 use Rattle.life_band.specs.Windows.{triple_strip, window_row, window_cell, next_in_window, IsWindowOf}
 

@@ -5,7 +5,7 @@ use Rattle.std.proofs.lemmas.Nat.{or_lt}
 use Rattle.std.proofs.lemmas.Nat.Bits.{bit_at_and, bit_at_or, bit_at_xor, bit_at_not, bit_at-lt}
 use Rattle.life_model.specs.Rule.{born, stays}
 use Rattle.life_cells.specs.Rules.{life}
-use Rattle.life_tile.specs.Bits.{next_state}
+use Rattle.life_bits.specs.Bits.{next_state}
 
 -- exactly one of four bits is set
 exactly_one : (a b c d e f i j : ℕ) → a < 2 → b < 2 → c < 2 → d < 2 → e < 2 → f < 2 → i < 2 → j < 2 → e + 2 * f ≡ a + b → i + 2 * j ≡ c + d →

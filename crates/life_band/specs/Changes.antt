@@ -1,8 +1,8 @@
 -- What eight rows of a tile differ in from what stood there before.
 use Rattle.std.specs.Prelude.{◌≡◌, ℕ, ◌+◌, ◌<◌, ◌↔◌}
 use Rattle.std.specs.Int.{bit_at}
-use Rattle.life_tile.specs.declared.tile.Tile.{Tile}
-use Rattle.life_tile.specs.Area.{tile_cell}
+use Rattle.life_bits.specs.declared.tile.Tile.{Tile}
+use Rattle.life_bits.specs.Area.{tile_cell}
 use Rattle.life_band.specs.declared.kernel.Change.{Change}
 
 -- the cell in column x and row y is the same in both

@@ -3,7 +3,7 @@ use Rattle.std.specs.Prelude.{◌≡◌, ℕ, ◌<◌, ◌≤◌, ◌==◌, if�
 use Rattle.std.specs.Int.{bit_at}
 use Rattle.life_model.specs.Rule.{Rule, born, stays}
 use Rattle.life_cells.specs.Rules.{life}
-use Rattle.life_tile.specs.Flags.{as_bit}
+use Rattle.life_bits.specs.Flags.{as_bit}
 use Rattle.life_band.specs.declared.logic.Spread.{Spread}
 use Rattle.life_band.specs.declared.logic.Logic.{Logic}
 use Rattle.life_band.specs.declared.logic.Logic.TheVariants.{Life, General}

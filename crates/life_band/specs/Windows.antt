@@ -2,8 +2,8 @@
 use Rattle.std.specs.Prelude.{◌≡◌, ℕ, ◌+◌, ◌-◌, ◌<◌, nat_lt, if◌then◌else◌, slice_index}
 use Rattle.std.specs.Int.{bit_at}
 use Rattle.life_model.specs.Rule.{Rule}
-use Rattle.life_tile.specs.Bits.{strip, next_state}
-use Rattle.life_tile.specs.Area.{Nine, three_wide, area_row, sum_around}
+use Rattle.life_bits.specs.Bits.{strip, next_state}
+use Rattle.life_bits.specs.Area.{Nine, three_wide, area_row, sum_around}
 use Rattle.life_band.specs.declared.window.RowTriple.{RowTriple}
 use Rattle.life_band.specs.declared.window.Window.{Window}
 use Rattle.life_band.specs.declared.band_sums.BandSums.{BandSums}

@@ -1,6 +1,6 @@
 //! The sums of the rows of a window.
 ghost use Rattle.std.specs.Prelude.{◌≡◌, ℕ, ◌+◌, ◌<◌, ◌≤◌};
-ghost use Rattle.life_tile.specs.Area.{sum_around};
+ghost use Rattle.life_bits.specs.Area.{sum_around};
 ghost use Rattle.life_band.specs.Sums.{number_at};
 ghost use Rattle.life_band.specs.Windows.{window_cell, IsSumsOf};
 ghost use Rattle.life_band.specs.declared.window.Window.{Window};

@@ -2,7 +2,7 @@
 ghost use Rattle.std.specs.Prelude.{◌≡◌, ℕ, ◌+◌, ◌<◌, ◌≤◌, ◌⊎◌, slice_index};
 ghost use Rattle.std.specs.Int.{bit_at};
 ghost use Rattle.life_model.specs.Rule.{Rule};
-ghost use Rattle.life_tile.specs.Area.{tile_cell};
+ghost use Rattle.life_bits.specs.Area.{tile_cell};
 ghost use Rattle.life_band.specs.Logics.{IsLogicOf};
 ghost use Rattle.life_band.specs.Windows.{next_in_window};
 ghost use Rattle.life_band.specs.Changes.{IsChange};
@@ -10,7 +10,7 @@ ghost use Rattle.life_band.specs.Changes.{IsChange};
 use crate::band_sums::BandSums;
 use crate::logic::{Branch, Life, Logic};
 use crate::window::Window;
-use life_tile::Tile;
+use life_bits::Tile;
 
 /// What eight rows differ in from what stood there before. Bit `x` says whether the cell in column `x` changed: in some row in
 /// `all`, in the first row in `first`, and in the last row in `last`.

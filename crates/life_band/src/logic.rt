@@ -2,8 +2,8 @@
 ghost use Rattle.std.specs.Prelude.{◌≡◌, ℕ, ◌<◌, ◌≤◌};
 ghost use Rattle.std.specs.Int.{bit_at};
 ghost use Rattle.life_model.specs.Rule.{Rule};
-ghost use Rattle.life_tile.specs.Flags.{as_bit};
-ghost use Rattle.life_tile.specs.Bits.{spelt, next_state};
+ghost use Rattle.life_bits.specs.Flags.{as_bit};
+ghost use Rattle.life_bits.specs.Bits.{spelt, next_state};
 ghost use Rattle.life_band.specs.Sums.{number_at};
 ghost use Rattle.life_band.specs.Logics.{IsSpreadOf, IsLogicOf, mask_at};
 

@@ -1,5 +1,5 @@
 //! How many cells of a row of three are live.
-ghost use Rattle.life_tile.specs.Bits.{strip};
+ghost use Rattle.life_bits.specs.Bits.{strip};
 ghost use Rattle.life_band.specs.Rows.{IsRowSumsOf};
 
 use crate::adders::{Sum, add_three};

@@ -7,7 +7,7 @@ use crate::logic::{Count, Logic, Spread};
 use crate::row_sums::{RowSums, sums};
 use crate::window::Window;
 use life_cells::rule::{Rule, RuleFault};
-use life_tile::{Around, Tile};
+use life_bits::{Around, Tile};
 
 #[test]
 fn of_the_words_beside_a_row_only_the_nearest_bits_count(rt: HostRuntime) {

@@ -1,11 +1,11 @@
 //! The cells that eight rows of a tile depend on.
 ghost use Rattle.std.specs.Prelude.{◌≡◌, ℕ, ◌+◌, ◌<◌, ◌≤◌};
-ghost use Rattle.life_tile.specs.Area.{nine_of, three_wide};
+ghost use Rattle.life_bits.specs.Area.{nine_of, three_wide};
 ghost use Rattle.life_band.specs.Rows.{IsRowSumsOf};
 ghost use Rattle.life_band.specs.Windows.{triple_strip, window_row, IsWindowOf};
 
 use crate::row_sums::{RowSums, sums};
-use life_tile::{Around, Tile};
+use life_bits::{Around, Tile};
 
 /// One row of three tiles side by side.
 #[derive(Clone, Copy, PartialEq, Eq, Debug)]

@@ -7,12 +7,12 @@ use Rattle.std.specs.Ordering.{is_eq}
 use Rattle.std.specs.Cmp.{Equal-is, tied_itself}
 use Rattle.std.proofs.lemmas.Bool.{cases_eq}
 use Rattle.std.specs.BTreeMap.{is_at}
-use Rattle.life_tile.specs.declared.tile.Tile.{Tile}
-use Rattle.life_tile.specs.Tiles.{place_cmp}
+use Rattle.life_bits.specs.declared.tile.Tile.{Tile}
+use Rattle.life_tile.specs.Places.{place_cmp}
 use Rattle.life_model.specs.Cell.{cell_cmp, same_cell}
 use Rattle.life_model.proofs.Cells.{cell_cmp_total, cell_cmp-IsAntisymmetric}
 use Rattle.life_tile.specs.Cells.{row_cells, block_cells, tiles_cells}
-use Rattle.life_tile.proofs.Visits.{true_or_false, place_exact}
+use Rattle.life_tile.proofs.Orders.{true_or_false, place_exact}
 
 -- the cell is in the list
 unfoldable pub Has : List (ℤ × ℤ) → ℤ × ℤ → Type 0

@@ -1,9 +1,8 @@
 -- The cells of tiles appended to a list, one after another.
-use Rattle.std.proofs.Common.{◌≡◌, ℕ, zero, suc, ℤ, pos, ◌+ℤ◌, ◌*ℤ◌, ◌==◌, Bool, false, cond, Option, Some, IsSome, All, List, [], ◌∷◌, ◌++◌, slice_index, refl, sym, subst, ap, ◌∙◌, append_assoc, eq-eqb, arith}
+use Rattle.std.proofs.Common.{◌≡◌, ℕ, zero, suc, ℤ, pos, ◌+ℤ◌, ◌*ℤ◌, ◌==◌, Bool, false, cond, List, [], ◌∷◌, ◌++◌, slice_index, refl, sym, ap, ◌∙◌, append_assoc, eq-eqb}
 use Rattle.std.specs.Int.{bit_at}
 use Rattle.std.proofs.lemmas.Nat.Bits.{bit_at-zero}
-use Rattle.life_tile.specs.declared.tile.Tile.{Tile}
-use Rattle.life_tile.specs.Tiles.{IsInside}
+use Rattle.life_bits.specs.declared.tile.Tile.{Tile}
 use Rattle.life_tile.specs.Cells.{row_cells, block_cells, tiles_cells}
 
 row_set : (left y : ℤ) (word n : ℕ) → bit_at word n ≡ 1 → row_cells left y word (suc n) ≡ (left +ℤ pos n, y) ∷ row_cells left y word n
@@ -61,17 +60,6 @@ block_none left top rows = refl
 pub tiles_none : (es : List ((ℤ × ℤ) × Tile)) → es ≡ [] → tiles_cells es ≡ []
 unfolding tiles_cells
 tiles_none es is = ap tiles_cells is
-
-pub entries_first : (all : List ((ℤ × ℤ) × Tile)) (e : (ℤ × ℤ) × Tile) (rest : List ((ℤ × ℤ) × Tile)) → all ≡ e ∷ rest → All (λ e. IsInside e.0) all → IsInside e.0
-entries_first all e rest is inside =
-    let h : All (λ e. IsInside e.0) (e ∷ rest) = subst (λ (xs : List ((ℤ × ℤ) × Tile)). All (λ e. IsInside e.0) xs) is inside in h 0 e (omega arith)
-
-pub entries_rest : (all : List ((ℤ × ℤ) × Tile)) (e : (ℤ × ℤ) × Tile) (rest : List ((ℤ × ℤ) × Tile)) → all ≡ e ∷ rest → All (λ e. IsInside e.0) all → All (λ e. IsInside e.0) rest
-entries_rest all e rest is inside =
-    let h : All (λ e. IsInside e.0) (e ∷ rest) = subst (λ (xs : List ((ℤ × ℤ) × Tile)). All (λ e. IsInside e.0) xs) is inside in λ k d below. h (suc k) d (omega arith)
-
-pub some_of : {X : Type 0} (o : Option X) (x : X) → o ≡ Some x → IsSome o
-some_of o x is = subst IsSome (sym is) refl
 
 pub row_of_zeros : (left y : ℤ) (word n : ℕ) → word ≡ 0 → row_cells left y word n ≡ []
 row_of_zeros left y word zero none = row_none left y word

@@ -1,57 +1,27 @@
 -- How many cells tiles hold: no cell comes twice, and they are no more than a square that holds them all.
-use Rattle.std.proofs.Common.{◌≡◌, ℕ, zero, suc, ℤ, pos, negsuc, ◌+ℤ◌, ◌*ℤ◌, ◌≤ℤ◌, ◌<ℤ◌, ◌+◌, ◌<◌, ◌≤◌, ◌^◌, ◌%◌, ◌==◌, ◌⊎◌, inl, inr, ⊎_elim, Bool, true, false, cond, ◌&&◌, T, List, [], ◌∷◌, ◌++◌, Ordering, Less, Equal, Greater, length, length-append, slice_index, refl, sym, subst, ap, ◌∙◌, arith, eqb-true, eq-eqb, true≢false}
+use Rattle.std.proofs.Common.{◌≡◌, ℕ, zero, suc, ℤ, pos, negsuc, ◌+ℤ◌, ◌*ℤ◌, ◌≤ℤ◌, ◌<ℤ◌, ◌+◌, ◌<◌, ◌≤◌, ◌^◌, ◌==◌, ◌⊎◌, inl, inr, ⊎_elim, Bool, true, false, cond, ◌&&◌, T, List, [], ◌∷◌, ◌++◌, Ordering, Less, Equal, Greater, length, slice_index, refl, sym, subst, ap, ◌∙◌, arith}
 use Rattle.std.specs.Int.{bit_at}
-use Rattle.std.specs.Int.RustNames.{count_ones}
 use Rattle.std.specs.Ordering.{is_lt, int_cmp, ordering_then, MatchOrdering}
 use Rattle.std.specs.Cmp.{int_ranks, tied_itself}
 use Rattle.std.specs.Map.{keys_of}
 use Rattle.std.specs.List.{AllByRecursion}
 use Rattle.std.specs.List.Sorted.{IsStrictlySortedBy}
 use Rattle.std.specs.BTreeMap.{IsOrdered}
-use Rattle.std.specs.FinMap as finmap
 use Rattle.std.proofs.lemmas.Int.{ints}
 use Rattle.std.proofs.lemmas.Map.Keys.{sorted_head, sorted_tail}
-use Rattle.std.proofs.lemmas.Nat.{pow_pos, mod-pow-add}
-use Rattle.std.proofs.lemmas.Nat.Bits.{bit_at-lt}
-use lib.Count.{ones, ones_in, ones_cat}
 use Rattle.life_model.specs.Cell.{Cell, cell_cmp}
-use Rattle.life_model.specs.Generation.{Generation, contains, empty, insert, from_list, cells, size, below_all, is_rising}
-use Rattle.life_model.proofs.Cells.{cell_cmp_total}
-use Rattle.life_model.proofs.Generations.{contains-from_list, contains-cells, cells-rise, size-cells}
+use Rattle.life_model.specs.Generation.{Generation, contains, cells, size, below_all, is_rising}
+use Rattle.life_model.proofs.Generations.{contains-cells, cells-rise, size-cells}
 use Rattle.life_cells.specs.Limits.{IsWithin}
-use Rattle.life_tile.specs.declared.tile.Tile.{Tile}
-use Rattle.life_tile.specs.Tiles.{place_cmp, Tiles}
-use Rattle.life_tile.specs.Cells.{row_cells, block_cells, tiles_cells, generation_of}
-use Rattle.life_tile.specs.Planes.{IsHeld}
-use Rattle.life_tile.proofs.Visits.{place_total, true_or_false}
+use Rattle.life_bits.specs.declared.tile.Tile.{Tile}
+use Rattle.life_tile.specs.Places.{place_cmp}
+use Rattle.life_tile.specs.Cells.{row_cells, block_cells, tiles_cells}
+use Rattle.life_tile.proofs.Orders.{place_total}
 use Rattle.life_tile.proofs.Members.{Has, has_none, has_head, has_tail, has_cases, has_parts, RowHas, row_has, BlockHas, block_has}
-use Rattle.life_tile.proofs.Hinge.{same_quotient, not_one}
-
--- ---- a list in which no cell comes twice is as long as its set is large
-
-abbrev pub IsFresh : List Cell → Type 0
-IsFresh [] = Unit {0}
-IsFresh (c ∷ cs) = (Has cs c → ⊥) × IsFresh cs
-
-size-empty : size empty ≡ 0
-unfolding size empty
-size-empty = finmap.len-empty cell_cmp (Unit {0})
-
-size-insert : (G : Generation) (c : Cell) → contains G c ≡ false → size (insert G c) ≡ size G + 1
-unfolding size insert contains
-size-insert G c new = finmap.len-insert cell_cmp_total G c tt ∙ ap (λ (b : Bool). cond b (finmap.len G) (finmap.len G + 1)) new
-
-lacks : (cs : List Cell) (c : Cell) → (Has cs c → ⊥) → contains (from_list cs) c ≡ false
-unfolding Has
-lacks cs c not =
-    ⊎_elim (λ has. absurd (not (sym (contains-from_list cs c) ∙ has))) (λ none. none) (true_or_false (contains (from_list cs) c))
-
-pub size-fresh : (cs : List Cell) → IsFresh cs → size (from_list cs) ≡ length cs
-size-fresh [] fresh = size-empty
-size-fresh (c ∷ cs) fresh =
-    let more : size (insert (from_list cs) c) ≡ size (from_list cs) + 1 = size-insert (from_list cs) c (lacks cs c fresh.0) in
-    let rest : size (from_list cs) ≡ length cs = size-fresh cs fresh.1 in
-    omega arith
+use Rattle.life_tile.proofs.Splits.{same_quotient}
+use Rattle.life_tile.proofs.Counted.{IsFresh, size-fresh, length-tiles_none, tiles_counted}
+use Rattle.life_tile.specs.Slots.{Index, tile_of, shown, generation_shown}
+use Rattle.life_tile.proofs.Listed.{shown_more, shown_none}
 
 fresh-append : (xs ys : List Cell) → IsFresh xs → IsFresh ys → ((q : Cell) → Has xs q → Has ys q → ⊥) → IsFresh (xs ++ ys)
 fresh-append [] ys one other apart = other
@@ -127,87 +97,6 @@ fresh_tiles (e ∷ es) ordered =
     (fresh_tiles es (sorted_tail place_cmp e.0 (keys_of es) ordered))
     (elsewhere e es (sorted_head place_cmp e.0 (keys_of es) ordered))
 
-pub size_of_tiles : (tiles : Tiles) → IsOrdered place_cmp tiles → size (generation_of tiles) ≡ length (tiles_cells tiles.entries)
-unfolding generation_of
-size_of_tiles tiles ordered = size-fresh (tiles_cells tiles.entries) (fresh_tiles tiles.entries ordered)
-
--- ---- how many bits are set
-
-bit_small : (b : ℕ) → b < 2 → count_ones b ≡ b
-unfolding ones ones_in
-bit_small zero small = refl
-bit_small (suc zero) small = refl
-bit_small (suc (suc b)) small = absurd (omega arith)
-
-ones_more : (word n : ℕ) → count_ones (word % 2 ^ suc n) ≡ bit_at word n + count_ones (word % 2 ^ n)
-ones_more word n =
-    let more : suc n ≡ 1 + n = omega arith in
-    let some : 0 < 2 ^ n = pow_pos n in
-    let low : word % 2 ^ n < 2 ^ n = omega arith in
-    ap (λ (k : ℕ). count_ones (word % 2 ^ k)) more
-    ∙ ap count_ones (mod-pow-add word 1 n)
-    ∙ ones_cat n (bit_at word n) (word % 2 ^ n) low
-    ∙ ap (λ (k : ℕ). k + count_ones (word % 2 ^ n)) (bit_small (bit_at word n) (bit_at-lt word n))
-
-length-row_cells : (left y : ℤ) (word n : ℕ) → length (row_cells left y word n) ≡ count_ones (word % 2 ^ n)
-unfolding row_cells
-length-row_cells left y word zero = let none : word % 2 ^ 0 ≡ 0 = omega arith in sym (ap count_ones none ∙ bit_small 0 (omega arith))
-length-row_cells left y word (suc n) =
-    let before : length (row_cells left y word n) ≡ count_ones (word % 2 ^ n) = length-row_cells left y word n in
-    let small : bit_at word n < 2 = bit_at-lt word n in
-    ⊎_elim
-    (λ (one : (bit_at word n == 1) ≡ true).
-    let is : bit_at word n ≡ 1 = eqb-true (bit_at word n) 1 one in
-    let more : count_ones (word % 2 ^ suc n) ≡ bit_at word n + count_ones (word % 2 ^ n) = ones_more word n in
-    ap (λ (b : Bool). length (cond b ((left +ℤ pos n, y) ∷ row_cells left y word n) (row_cells left y word n))) one
-    ∙ row_longer (length (row_cells left y word n)) (count_ones (word % 2 ^ n)) (count_ones (word % 2 ^ suc n)) (bit_at word n) before is more)
-    (λ (clear : (bit_at word n == 1) ≡ false).
-    let is : bit_at word n ≡ 0 = not_one (bit_at word n) small (λ one. true≢false (sym (eq-eqb (bit_at word n) 1 one) ∙ clear)) in
-    ap (λ (b : Bool). length (cond b ((left +ℤ pos n, y) ∷ row_cells left y word n) (row_cells left y word n))) clear
-    ∙ row_same (length (row_cells left y word n)) (count_ones (word % 2 ^ n)) (count_ones (word % 2 ^ suc n)) (bit_at word n) before is (ones_more word n))
-    (true_or_false (bit_at word n == 1))
-  where
-    row_longer : (a b c d : ℕ) → a ≡ b → d ≡ 1 → c ≡ d + b → suc a ≡ c
-    row_longer a b c d p q r = omega arith
-
-    row_same : (a b c d : ℕ) → a ≡ b → d ≡ 0 → c ≡ d + b → a ≡ c
-    row_same a b c d p q r = omega arith
-
-pub length-whole_row : (left y : ℤ) (word : ℕ) → word < 2 ^ 64 → count_ones word ≡ length (row_cells left y word 64)
-length-whole_row left y word fits =
-    let whole : word % 2 ^ 64 ≡ word = omega arith in
-    sym (length-row_cells left y word 64 ∙ ap count_ones whole)
-
--- one row more of a tile counted
-pub counted_more : (rows : List ℕ) (n count row : ℕ) →
-    ((left y : ℤ) → row ≡ length (row_cells left y (slice_index rows n) 64)) →
-    ((left top : ℤ) → count ≡ length (block_cells left top rows n)) →
-    (left top : ℤ) → count + row ≡ length (block_cells left top rows (n + 1))
-unfolding block_cells
-counted_more rows n count row counts before left top =
-    let next : suc n ≡ n + 1 = omega arith in
-    joined count row (length (row_cells left (top +ℤ pos n) (slice_index rows n) 64)) (length (block_cells left top rows n)) _
-    (before left top) (counts left (top +ℤ pos n))
-    (length-append (row_cells left (top +ℤ pos n) (slice_index rows n) 64) (block_cells left top rows n))
-    ∙ ap (λ (k : ℕ). length (block_cells left top rows k)) next
-  where
-    joined : (a b c d e : ℕ) → a ≡ d → b ≡ c → e ≡ c + d → a + b ≡ e
-    joined a b c d e p q r = omega arith
-
-pub counted_none : (rows : List ℕ) (left top : ℤ) → 0 ≡ length (block_cells left top rows 0)
-unfolding block_cells
-counted_none rows left top = refl
-
--- one tile more counted
-length-tiles_cells : (e : (ℤ × ℤ) × Tile) (es : List ((ℤ × ℤ) × Tile)) →
-    length (tiles_cells (e ∷ es)) ≡ length (block_cells (pos 64 *ℤ e.0.0) (pos 64 *ℤ e.0.1) e.1.rows 64) + length (tiles_cells es)
-unfolding tiles_cells
-length-tiles_cells e es = length-append (block_cells (pos 64 *ℤ e.0.0) (pos 64 *ℤ e.0.1) e.1.rows 64) (tiles_cells es)
-
-pub length-tiles_none : (es : List ((ℤ × ℤ) × Tile)) → es ≡ [] → length (tiles_cells es) ≡ 0
-unfolding tiles_cells
-length-tiles_none es none = ap (λ (ds : List ((ℤ × ℤ) × Tile)). length (tiles_cells ds)) none
-
 -- ---- how many cells there can be
 
 -- a place in the reading order of a square that is 16,777,216 wide
@@ -276,23 +165,32 @@ lowest age q young within = omega (arith, ints, within.left, within.above)
 few_cells : (n : ℕ) → (negsuc 80000000000000 +ℤ pos n) ≤ℤ pos 90000000000000 → n < 2 ^ 64
 few_cells n few = omega (arith, ints)
 
-pub size_fits : (tiles : Tiles) (age : ℕ) → IsHeld age tiles → size (generation_of tiles) < 2 ^ 64
-size_fits tiles age held =
-    let G : Generation = generation_of tiles in
-    let within : (q : Cell) → Has (cells (generation_of tiles)) q → IsWithin age q = λ q has. held.within q (member_has (generation_of tiles) q has) in
-    let few : (negsuc 80000000000000 +ℤ pos (length (cells (generation_of tiles)))) ≤ℤ pos 90000000000000 =
-    few_from age held.young (cells (generation_of tiles)) (cells-rise (generation_of tiles)) within (negsuc 80000000000000) (omega (arith, ints))
-    (λ q has. lowest age q held.young (within q has)) in
-    let is : size (generation_of tiles) ≡ length (cells (generation_of tiles)) = size-cells (generation_of tiles) in
-    let small : length (cells (generation_of tiles)) < 2 ^ 64 = few_cells (length (cells (generation_of tiles))) few in
+keys-shown : (es : List ((ℤ × ℤ) × ℕ)) (tiles : List Tile) → keys_of (shown es tiles) ≡ keys_of es
+keys-shown [] tiles = refl
+keys-shown (e ∷ es) tiles = ap (λ (ks : List (ℤ × ℤ)). e.0 ∷ ks) (keys-shown es tiles)
+
+pub size_shown : (index : Index) (tiles : List Tile) → IsOrdered place_cmp index → size (generation_shown index tiles) ≡ length (tiles_cells (shown index.entries tiles))
+unfolding generation_shown
+size_shown index tiles ordered =
+    size-fresh (tiles_cells (shown index.entries tiles))
+    (fresh_tiles (shown index.entries tiles) (subst (λ (ks : List (ℤ × ℤ)). IsStrictlySortedBy place_cmp ks) (sym (keys-shown index.entries tiles)) ordered))
+
+pub size_fits : (G : Generation) (age : ℕ) → age ≤ 4194304 → ((q : Cell) → contains G q ≡ true → IsWithin age q) → size G < 2 ^ 64
+size_fits G age young each =
+    let within : (q : Cell) → Has (cells G) q → IsWithin age q = λ q has. each q (member_has G q has) in
+    let few : (negsuc 80000000000000 +ℤ pos (length (cells G))) ≤ℤ pos 90000000000000 =
+    few_from age young (cells G) (cells-rise G) within (negsuc 80000000000000) (omega (arith, ints))
+    (λ q has. lowest age q young (within q has)) in
+    let is : size G ≡ length (cells G) = size-cells G in
+    let small : length (cells G) < 2 ^ 64 = few_cells (length (cells G)) few in
     omega arith
 
--- one tile more counted: what has been counted and what is left are all cells
-pub tiles_counted : (e : (ℤ × ℤ) × Tile) (all rest : List ((ℤ × ℤ) × Tile)) (count tile whole : ℕ) → all ≡ e ∷ rest →
-    ((left top : ℤ) → tile ≡ length (block_cells left top e.1.rows 64)) →
-    count + length (tiles_cells all) ≡ whole → count + tile + length (tiles_cells rest) ≡ whole
-tiles_counted e all rest count tile whole is counts before =
-    let here : tile ≡ length (block_cells (pos 64 *ℤ e.0.0) (pos 64 *ℤ e.0.1) e.1.rows 64) = counts (pos 64 *ℤ e.0.0) (pos 64 *ℤ e.0.1) in
-    let more : length (tiles_cells all) ≡ length (block_cells (pos 64 *ℤ e.0.0) (pos 64 *ℤ e.0.1) e.1.rows 64) + length (tiles_cells rest) =
-    ap (λ (es : List ((ℤ × ℤ) × Tile)). length (tiles_cells es)) is ∙ length-tiles_cells e rest in
-    omega arith
+-- one slot more counted: what has been counted and what is left are all cells
+pub slots_counted : (e : (ℤ × ℤ) × ℕ) (tiles : List Tile) (all rest : List ((ℤ × ℤ) × ℕ)) (count tile whole : ℕ) → all ≡ e ∷ rest →
+    ((left top : ℤ) → tile ≡ length (block_cells left top (tile_of tiles e.1).rows 64)) →
+    count + length (tiles_cells (shown all tiles)) ≡ whole → count + tile + length (tiles_cells (shown rest tiles)) ≡ whole
+slots_counted e tiles all rest count tile whole is counts before =
+    tiles_counted (e.0, tile_of tiles e.1) (shown all tiles) (shown rest tiles) count tile whole (shown_more tiles all e rest is) counts before
+
+pub length-shown_none : (tiles : List Tile) (es : List ((ℤ × ℤ) × ℕ)) → es ≡ [] → length (tiles_cells (shown es tiles)) ≡ 0
+length-shown_none tiles es none = length-tiles_none (shown es tiles) (shown_none tiles es none)

@@ -1,10 +1,8 @@
--- The cells of a map of tiles.
+-- The cells of tiles at their places.
 use Rattle.std.specs.Prelude.{ℕ, zero, suc, ℤ, pos, ◌+ℤ◌, ◌*ℤ◌, ◌==◌, List, [], ◌∷◌, ◌++◌, slice_index, if◌then◌else◌}
 use Rattle.std.specs.Int.{bit_at}
 use Rattle.life_model.specs.Cell.{Cell}
-use Rattle.life_model.specs.Generation.{Generation, from_list}
-use Rattle.life_tile.specs.declared.tile.Tile.{Tile}
-use Rattle.life_tile.specs.Tiles.{Tiles}
+use Rattle.life_bits.specs.declared.tile.Tile.{Tile}
 
 -- the cells of the first n bits of a word, whose bit 0 is at (left, y)
 unfoldable pub row_cells : ℤ → ℤ → ℕ → ℕ → List Cell
@@ -21,7 +19,3 @@ block_cells left top rows (suc n) = row_cells left (top +ℤ pos n) (slice_index
 unfoldable pub tiles_cells : List (Cell × Tile) → List Cell
 tiles_cells [] = []
 tiles_cells (e ∷ es) = block_cells (pos 64 *ℤ e.0.0) (pos 64 *ℤ e.0.1) e.1.rows 64 ++ tiles_cells es
-
--- the generation that a map of tiles stands for
-unfoldable pub generation_of : Tiles → Generation
-generation_of tiles = from_list (tiles_cells tiles.entries)

@@ -1,6 +1,6 @@
-pub mod Flags
-pub mod Bits
-pub mod Area
-pub mod Tiles
+pub mod Places
 pub mod Cells
-pub mod Planes
+pub mod Slots
+pub mod Rims
+pub mod Work
+pub mod Slabs

@@ -1,8 +1,12 @@
 //! How many cells of tiles are live.
-ghost use Rattle.std.specs.Prelude.{◌≡◌, ℤ, ◌<◌, ◌≤◌, ◌^◌, length};
+ghost use Rattle.std.specs.Prelude.{◌≡◌, ℕ, ℤ, ◌<◌, ◌≤◌, ◌^◌, Some, length};
+ghost use Rattle.std.specs.BTreeMap.{get};
+ghost use Rattle.life_tile.specs.Places.{place_cmp};
+ghost use Rattle.life_tile.specs.Slots.{shown};
 ghost use Rattle.life_tile.specs.Cells.{row_cells, block_cells, tiles_cells};
 
-use crate::tile::Tile;
+use crate::listing::tile_in;
+use life_bits::Tile;
 use std::collections::BTreeMap;
 
 /// How many cells of a row are live.
@@ -24,14 +28,15 @@ fn count_tile(tile: &Tile) -> u64
     count
 }
 
-/// How many cells of all tiles are live.
-pub fn count_cells(tiles: &BTreeMap<(i32, i32), Tile>) -> u64
-    requires { length (tiles_cells tiles.now.entries) < 2 ^ 64 }
-    ensures { result ≡ length (tiles_cells tiles.now.entries) }
+/// How many cells of the tiles of all slots of an index are live.
+pub fn count_cells(index: &BTreeMap<(i32, i32), usize>, tiles: &[Tile]) -> u64
+    requires slots { (p : ℤ × ℤ) (k : ℕ) → get place_cmp index.now p ≡ Some k → k < length tiles.now }
+    requires few { length (tiles_cells (shown index.now.entries tiles.now)) < 2 ^ 64 }
+    ensures { result ≡ length (tiles_cells (shown index.now.entries tiles.now)) }
 {
     let mut count = 0;
-    for (_place, tile) in tiles.iter() {
-        count += count_tile(tile);
+    for (_place, slot) in index.iter() {
+        count += count_tile(tile_in(tiles, *slot));
     }
     count
 }

@@ -1,21 +1,17 @@
-//! Tiles of 64 by 64 cells, worked 64 cells at a time, and the plane that is made of them.
+//! The plane of tiles that stay where they are, of which each step works out only those that may change.
 #![tactic(auto)]
 
-mod answers;
 mod counting;
 mod listing;
 mod plane;
+mod rim;
+mod slab;
+mod slot;
 mod stepping;
-mod strand;
-mod sums;
 #[cfg(test)]
 mod tests;
-mod tile;
-mod tiles;
 
-pub use answers::next_row;
+pub use life_bits::{Around, Strand, Tile, count_planes, next_row};
 pub use life_plane::list_plane::ListPlane;
 pub use life_plane::plane::Plane;
 pub use plane::TilePlane;
-pub use strand::{Strand, count_planes};
-pub use tile::{Around, Tile};

@@ -1,10 +1,11 @@
 //! The cells of tiles as a list.
-ghost use Rattle.std.specs.Prelude.{◌≡◌, ℤ, ◌≤ℤ◌, pos, negsuc, OnOk, IsSome, ◌++◌};
+ghost use Rattle.std.specs.Prelude.{◌≡◌, ℕ, ℤ, ◌<◌, ◌≤ℤ◌, pos, negsuc, OnOk, Some, length, ◌++◌};
 ghost use Rattle.std.specs.BTreeMap.{get};
 ghost use Rattle.life_tile.specs.Cells.{row_cells, block_cells, tiles_cells};
-ghost use Rattle.life_tile.specs.Tiles.{place_cmp, IsInside};
+ghost use Rattle.life_tile.specs.Places.{place_cmp, IsInside};
+ghost use Rattle.life_tile.specs.Slots.{shown, tile_of};
 
-use crate::tile::Tile;
+use life_bits::Tile;
 use std::alloc::AllocError;
 use std::collections::BTreeMap;
 
@@ -48,16 +49,26 @@ fn push_tile(
     Ok(())
 }
 
-/// Appends the live cells of all tiles.
+/// The tile of a slot.
+pub fn tile_in(tiles: &[Tile], slot: usize) -> &Tile
+    requires { slot < length tiles.now }
+    ensures { result.now ≡ tile_of tiles.now slot }
+{
+    &tiles[slot]
+}
+
+/// Appends the live cells of the tiles of all slots of an index.
 pub fn push_tiles(
     cells: &mut Vec<(i32, i32)>,
-    tiles: &BTreeMap<(i32, i32), Tile>,
+    index: &BTreeMap<(i32, i32), usize>,
+    tiles: &[Tile],
 ) -> Result<(), AllocError>
-    requires inside { (k : ℤ × ℤ) → IsSome (get place_cmp tiles.now k) → IsInside k }
-    ensures { OnOk result (cells.new.items ≡ cells.old.items ++ tiles_cells tiles.now.entries) }
+    requires inside { (p : ℤ × ℤ) (k : ℕ) → get place_cmp index.now p ≡ Some k → IsInside p }
+    requires slots { (p : ℤ × ℤ) (k : ℕ) → get place_cmp index.now p ≡ Some k → k < length tiles.now }
+    ensures { OnOk result (cells.new.items ≡ cells.old.items ++ tiles_cells (shown index.now.entries tiles.now)) }
 {
-    for (place, tile) in tiles.iter() {
-        push_tile(cells, place.0 * 64, place.1 * 64, tile)?;
+    for (place, slot) in index.iter() {
+        push_tile(cells, place.0 * 64, place.1 * 64, tile_in(tiles, *slot))?;
     }
     Ok(())
 }

@@ -1,29 +1,22 @@
-//! A plane of tiles.
+//! The plane of a slab.
 ghost use Rattle.std.specs.Prelude.{◌≡◌, IfOk};
-ghost use Rattle.life_tile.specs.Cells.{generation_of};
-ghost use Rattle.life_tile.specs.Planes.{IsHeld};
+ghost use Rattle.life_tile.specs.Slabs.{IsKept, members_of};
 
-use crate::counting::count_cells;
-use crate::listing::push_tiles;
-use crate::stepping::next_tiles;
-use crate::tile::Tile;
-use crate::tiles::put;
+use crate::slab::Slab;
 use life_cells::cell_list::CellList;
 use life_cells::order::put_in_order;
 use life_cells::rule::Rule;
 use life_plane::plane::Plane;
 use std::alloc::{AllocError, Global};
-use std::collections::BTreeMap;
 use std::marker::Model;
 
-/// A plane that keeps its live cells in tiles: a map, ordered by place, from the place of a tile to the tile. The tile
-/// at place `(column, row)` holds the cells from `(64 * column, 64 * row)` to `(64 * column + 63, 64 * row + 63)`, and no
-/// tile of the map is empty. A step takes time in proportion to the number of tiles times its logarithm.
+/// A plane that keeps its live cells in tiles which stay where they are. A step works out the tiles that may change, those in or
+/// next to which a cell changed between the last two generations, and of the others only sees that they may not.
 #[derive(Drop)]
 pub struct TilePlane {
-    tiles: BTreeMap<(i32, i32), Tile>,
-    age: u32,
-    alloc: Global,
+    slab: Slab,
+    /// With how many slots the slab is to be made anew, without those whose tile has no live cell.
+    limit: usize,
 }
 
 impl Model for TilePlane {
@@ -31,16 +24,34 @@ impl Model for TilePlane {
     ghost use Rattle.std.specs.Coded.{coded×, coded_ℕ};
     ghost use Rattle.life_model.specs.Coded.{coded_generation};
     ghost use Rattle.life_model.specs.Generation.{Generation};
-    ghost use Rattle.life_tile.specs.Cells.{generation_of};
-    ghost use Rattle.life_tile.specs.Planes.{IsHeld};
+    ghost use Rattle.life_tile.specs.Slabs.{IsKept, members_of};
 
     ghost Value = { Generation × ℕ };
 
     ghost coded = { coded× coded_generation coded_ℕ };
 
-    ghost view = { λ p. (generation_of p.tiles, p.age) };
+    ghost view = { λ p. (members_of p.slab, p.slab.age) };
 
-    ghost invariant = { λ p. IsHeld p.age p.tiles };
+    ghost invariant = { λ p. IsKept p.slab };
+}
+
+/// With how many slots a slab is to be made anew that was made anew just now.
+fn limit_of(slab: &Slab) -> usize {
+    slab.slots.len().saturating_mul(2).saturating_add(32)
+}
+
+impl TilePlane {
+    /// Makes the slab anew where it has many slots.
+    fn compact(&mut self) -> Result<(), AllocError>
+        ensures { self.new ≡ self.old }
+    {
+        if self.slab.slots.len() > self.limit {
+            let slab = self.slab.compacted()?;
+            self.limit = limit_of(&slab);
+            self.slab = slab;
+        }
+        Ok(())
+    }
 }
 
 impl Plane for TilePlane {
@@ -49,45 +60,36 @@ impl Plane for TilePlane {
     ghost steps_made = { λ p. p.1 };
 
     fn from_cells(alloc: Global, list: &CellList) -> Result<Self, AllocError> {
-        let mut tiles = BTreeMap::new(alloc);
-        for cell in list.as_slice() {
-            put(&mut tiles, cell.0 as u32, cell.1 as u32)?;
-        }
-        Ok(TilePlane {
-            tiles,
-            age: 0,
-            alloc,
-        })
+        let slab = Slab::of(alloc, list.as_slice(), 0)?;
+        let limit = limit_of(&slab);
+        Ok(TilePlane { slab, limit })
     }
 
     fn step(&mut self, rule: &Rule) -> Result<(), AllocError> {
-        let next = next_tiles(self.alloc, &self.tiles, rule)?;
-        self.tiles = next;
-        self.age += 1;
+        self.compact()?;
+        self.slab.follow(rule);
+        self.slab.grow()?;
+        self.slab.advance();
         Ok(())
     }
 
     fn population(&self) -> u64 {
-        count_cells(&self.tiles)
+        self.slab.population()
     }
 
     fn age(&self) -> u32 {
-        self.age
+        self.slab.age
     }
 
     fn cells(&self) -> Result<CellList, AllocError> {
-        let mut cells = Vec::new(self.alloc);
-        push_tiles(&mut cells, &self.tiles)?;
+        let mut cells = self.slab.cells()?;
         put_in_order(&mut cells);
         Ok(CellList::from_ordered(cells))
     }
 
     fn copy(&self) -> Result<Self, AllocError> {
-        let tiles = self.tiles.clone()?;
-        Ok(TilePlane {
-            tiles,
-            age: self.age,
-            alloc: self.alloc,
-        })
+        let slab = self.slab.compacted()?;
+        let limit = limit_of(&slab);
+        Ok(TilePlane { slab, limit })
     }
 }

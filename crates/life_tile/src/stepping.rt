@@ -1,136 +1,101 @@
-//! The next generation of a map of tiles.
-ghost use Rattle.std.specs.Prelude.{◌≡◌, ℕ, ℤ, ◌<◌, ◌≤ℤ◌, ◌↔◌, pos, negsuc, OnOk, IfOk, IsSome};
-ghost use Rattle.std.specs.Int.{bit_at};
-ghost use Rattle.std.specs.BTreeMap.{IsOrdered, get};
-ghost use Rattle.life_model.specs.Evolution.{next};
-ghost use Rattle.life_tile.specs.Area.{tile_cell, next_in_area};
-ghost use Rattle.life_tile.specs.Cells.{generation_of};
-ghost use Rattle.life_tile.specs.Tiles.{place_cmp, nine_at, IsPart, IsVisited, IsVisitedBeside, IsVisitedAround, IsInside, IsNextOf};
+//! The next generation of the tiles that may change.
+ghost use Rattle.std.specs.Prelude.{◌≡◌, ℕ, ◌<◌, true, false, length, slice_index};
+ghost use Rattle.life_bits.specs.declared.tile.Tile.{Tile};
+ghost use Rattle.life_bits.specs.Area.{tile_cell, next_in_area, nine_of};
+ghost use Rattle.life_model.specs.Rule.{Rule};
+ghost use Rattle.life_band.specs.Logics.{IsLogicOf};
+ghost use Rattle.life_tile.specs.Slots.{nine_linked};
+ghost use Rattle.life_tile.specs.Rims.{IsRimOf, IsStill};
+ghost use Rattle.life_tile.specs.Work.{mark_of, IsLinked, IsWorkedOut};
 
-use crate::tile::{Around, Tile};
-use crate::tiles::tile_or_empty;
+use crate::rim::{Rim, difference};
+use crate::slot::{HERE, Slot};
+use life_band::{Logic, Window, band};
+use life_bits::{Around, Tile};
 use life_cells::rule::Rule;
-use std::alloc::{AllocError, Global};
-use std::collections::BTreeMap;
 
-/// The next generation of the tile at a place.
-fn next_at(tiles: &BTreeMap<(i32, i32), Tile>, column: i32, row: i32, rule: &Rule) -> Tile
-    requires west { negsuc 100000000 ≤ℤ column }
-    requires east { column ≤ℤ pos 100000000 }
-    requires north { negsuc 100000000 ≤ℤ row }
-    requires south { row ≤ℤ pos 100000000 }
-    ensures { (x y : ℕ) → x < 64 → y < 64 →
-        tile_cell result x y ≡ next_in_area rule.now (nine_at tiles.now column row) x y }
+/// The next generation of a tile among the eight around it, eight rows at a time.
+fn next_by_bands<'a>(here: &'a Tile, around: &Around<'a>, logic: &Logic) -> Tile
+    ensures { (rule : Rule) → IsLogicOf logic.now rule → (x y : ℕ) → x < 64 → y < 64 →
+        tile_cell result x y ≡ next_in_area rule (nine_of here.now around.now) x y }
+{
+    let mut next = Tile::EMPTY;
+    for index in 0..8 {
+        let window = Window::of(here, around, 8 * index);
+        let _ = band(logic, &window, &mut next);
+    }
+    next
+}
+
+/// The next generation of the tile in the middle of nine slots.
+fn next_of(tiles: &[Tile], links: &[usize; 9], logic: &Logic) -> Tile
+    requires { (m : ℕ) → m < 9 → slice_index links.now m < length tiles.now }
+    ensures { (rule : Rule) → IsLogicOf logic.now rule → (x y : ℕ) → x < 64 → y < 64 →
+        tile_cell result x y ≡ next_in_area rule (nine_linked tiles.now links.now) x y }
 {
     let around = Around {
-        north: tile_or_empty(tiles, column, row - 1),
-        north_east: tile_or_empty(tiles, column + 1, row - 1),
-        east: tile_or_empty(tiles, column + 1, row),
-        south_east: tile_or_empty(tiles, column + 1, row + 1),
-        south: tile_or_empty(tiles, column, row + 1),
-        south_west: tile_or_empty(tiles, column - 1, row + 1),
-        west: tile_or_empty(tiles, column - 1, row),
-        north_west: tile_or_empty(tiles, column - 1, row - 1),
+        north_west: &tiles[links[0]],
+        north: &tiles[links[1]],
+        north_east: &tiles[links[2]],
+        west: &tiles[links[3]],
+        east: &tiles[links[5]],
+        south_west: &tiles[links[6]],
+        south: &tiles[links[7]],
+        south_east: &tiles[links[8]],
     };
-    tile_or_empty(tiles, column, row).next(&around, rule)
+    next_by_bands(&tiles[links[HERE]], &around, logic)
 }
 
-/// Works out the tile at a place where that is wanted, unless it is there already. An empty one is left out.
-fn visit(
-    tiles: &BTreeMap<(i32, i32), Tile>,
-    next: &mut BTreeMap<(i32, i32), Tile>,
-    column: i32,
-    row: i32,
-    wanted: bool,
-    rule: &Rule,
-) -> Result<(), AllocError>
-    requires west { negsuc 100000000 ≤ℤ column }
-    requires east { column ≤ℤ pos 100000000 }
-    requires north { negsuc 100000000 ≤ℤ row }
-    requires south { row ≤ℤ pos 100000000 }
-    requires part { IsPart tiles.now rule.now next.old }
-    ensures { OnOk result (IsVisited tiles.now rule.now next.old next.new column row wanted) }
+/// Marks the slots around a tile that one of the cells of a rim is in or next to.
+fn mark_around(marks: &mut [bool], links: &[usize; 9], rim: &Rim)
+    requires { (m : ℕ) → m < 9 → slice_index links.now m < length marks.old }
+    ensures length { length marks.new ≡ length marks.old }
+    ensures kept { (k : ℕ) → mark_of marks.old k ≡ true → mark_of marks.new k ≡ true }
+    ensures marked { (tile : Tile) → IsRimOf rim.now tile → (m : ℕ) → m < 9 →
+        mark_of marks.new (slice_index links.now m) ≡ false → IsStill tile m }
 {
-    if wanted && !next.contains_key(&(column, row)) {
-        let tile = next_at(tiles, column, row, rule);
-        if !tile.is_empty() {
-            next.insert((column, row), tile)?;
+    for direction in 0..9 {
+        if rim.reaches(direction) {
+            marks[links[direction]] = true;
         }
     }
-    Ok(())
 }
 
-/// Works out three tiles side by side, each only where one of the 64 bits above or below it, or in it, is set within one
-/// column of it. The bits stand in the columns of the middle one.
-fn visit_three(
-    tiles: &BTreeMap<(i32, i32), Tile>,
-    next: &mut BTreeMap<(i32, i32), Tile>,
-    column: i32,
-    row: i32,
-    bits: u64,
-    rule: &Rule,
-) -> Result<(), AllocError>
-    requires west { negsuc 10000000 ≤ℤ column }
-    requires east { column ≤ℤ pos 10000000 }
-    requires north { negsuc 100000000 ≤ℤ row }
-    requires south { row ≤ℤ pos 100000000 }
-    requires part { IsPart tiles.now rule.now next.old }
-    ensures { OnOk result (IsVisitedBeside tiles.now rule.now next.old next.new column row bits) }
+/// Makes each of the marks the same.
+pub fn mark_all(marks: &mut [bool], value: bool)
+    ensures length { length marks.new ≡ length marks.old }
+    ensures marks { (k : ℕ) → k < length marks.old → mark_of marks.new k ≡ value }
 {
-    visit(tiles, next, column - 1, row, bits & 1 == 1, rule)?;
-    visit(tiles, next, column, row, bits != 0, rule)?;
-    visit(tiles, next, column + 1, row, bits >> 63 == 1, rule)?;
-    Ok(())
-}
-
-/// At each column whether one of its cells is live.
-fn live_columns(tile: &Tile) -> u64
-    ensures { (x : ℕ) → x < 64 → (bit_at result x ≡ 0) ↔ ((y : ℕ) → y < 64 → tile_cell tile.now x y ≡ 0) }
-{
-    let mut columns = 0;
-    for row in &tile.rows {
-        columns |= *row;
+    for mark in marks.iter_mut() {
+        *mark = value;
     }
-    columns
 }
 
-/// Works out the tile at a place, and those around it that one of its live cells is next to.
-fn visit_around(
-    tiles: &BTreeMap<(i32, i32), Tile>,
-    next: &mut BTreeMap<(i32, i32), Tile>,
-    column: i32,
-    row: i32,
-    rule: &Rule,
-) -> Result<(), AllocError>
-    requires west { negsuc 10000000 ≤ℤ column }
-    requires east { column ≤ℤ pos 10000000 }
-    requires north { negsuc 10000000 ≤ℤ row }
-    requires south { row ≤ℤ pos 10000000 }
-    requires part { IsPart tiles.now rule.now next.old }
-    ensures { OnOk result (IsVisitedAround tiles.now rule.now next.old next.new column row) }
-{
-    let tile = tile_or_empty(tiles, column, row);
-    visit_three(tiles, next, column, row - 1, tile.rows[0], rule)?;
-    visit_three(tiles, next, column, row, live_columns(tile), rule)?;
-    visit_three(tiles, next, column, row + 1, tile.rows[63], rule)?;
-    Ok(())
-}
-
-/// The next generation of all tiles, those that are empty left out.
+/// Works out the tiles of all slots but the first that have something to do: each becomes the next generation of the tile that
+/// `cur` has in its slot. Marks the slots that a cell which changed is in or next to.
 pub fn next_tiles(
-    alloc: Global,
-    tiles: &BTreeMap<(i32, i32), Tile>,
+    slots: &[Slot],
+    cur: &[Tile],
+    alt: &mut [Tile],
+    todo: &[bool],
+    marks: &mut [bool],
     rule: &Rule,
-) -> Result<BTreeMap<(i32, i32), Tile>, AllocError>
-    requires inside { (k : ℤ × ℤ) → IsSome (get place_cmp tiles.now k) → IsInside k }
-    ensures tiles { IfOk result (λ after. IsNextOf tiles.now rule.now after) }
-    ensures ordered { IfOk result (λ after. IsOrdered place_cmp after) }
-    ensures cells { IfOk result (λ after. generation_of after ≡ next rule.now (generation_of tiles.now)) }
+)
+    requires linked { IsLinked slots.now }
+    requires cur { length cur.now ≡ length slots.now }
+    requires alt { length alt.old ≡ length slots.now }
+    requires todo { length todo.now ≡ length slots.now }
+    requires marks { length marks.old ≡ length slots.now }
+    ensures { IsWorkedOut slots.now cur.now todo.now rule.now alt.old alt.new marks.old marks.new (length slots.now) }
 {
-    let mut next = BTreeMap::new(alloc);
-    for place in tiles.keys() {
-        visit_around(tiles, &mut next, place.0, place.1, rule)?;
+    let logic = Logic::of(rule);
+    for slot in 1..slots.len() {
+        if todo[slot] {
+            let links = slots[slot].links;
+            let next = next_of(cur, &links, &logic);
+            let rim = Rim::of(&difference(&alt[slot], &next));
+            alt[slot] = next;
+            mark_around(marks, &links, &rim);
+        }
     }
-    let _count = next.len();
-    Ok(next)
 }

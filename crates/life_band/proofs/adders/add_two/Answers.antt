@@ -1,4 +1,4 @@
-use Rattle.life_tile.proofs.BitSums.{add_two_at}
+use Rattle.life_bits.proofs.BitSums.{add_two_at}
 use Rattle.life_band.proofs.adders.add_two.Goals as goal
 
 pub returns : goal.returns

@@ -1,4 +1,4 @@
-use Rattle.life_tile.proofs.BitSums.{choose_at}
+use Rattle.life_bits.proofs.BitSums.{choose_at}
 use Rattle.life_band.proofs.adders.choose.Goals as goal
 
 pub returns : goal.returns

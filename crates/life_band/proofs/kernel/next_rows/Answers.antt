@@ -1,7 +1,7 @@
 use Rattle.std.proofs.Common.{◌≡◌, ℕ, ◌+◌, ◌<◌, ◌≤◌, length, refl, ◌∙◌, rules, arith}
 use Rattle.std.specs.Int.{bit_at}
-use Rattle.life_tile.specs.Area.{sum_around}
-use Rattle.life_tile.proofs.Filling.{filled_more}
+use Rattle.life_bits.specs.Area.{sum_around}
+use Rattle.life_bits.proofs.Filling.{filled_more}
 use Rattle.life_band.specs.Sums.{number_at}
 use Rattle.life_band.specs.Windows.{window_cell, next_in_window}
 use Rattle.life_band.proofs.Counting.{eight_around, next_at}

@@ -1,6 +1,6 @@
 use Rattle.std.proofs.Common.{sym, ap, ◌∙◌}
 use Rattle.std.proofs.lemmas.Nat.Bits.{bit_at_ones}
-use Rattle.life_tile.specs.Flags.{as_bit}
+use Rattle.life_bits.specs.Flags.{as_bit}
 use Rattle.life_band.proofs.logic.word_of.Goals as goal
 
 pub returns-then-answer : goal.returns-then-answer

@@ -1,8 +1,8 @@
 use Rattle.std.proofs.Common.{◌+◌, sym, ap, ◌∙◌, arith}
 use Rattle.std.specs.Int.{bit_at}
 use Rattle.std.proofs.lemmas.Nat.Bits.{bit_at-lt}
-use Rattle.life_tile.specs.Bits.{strip}
-use Rattle.life_tile.proofs.Strips.{strip_middle}
+use Rattle.life_bits.specs.Bits.{strip}
+use Rattle.life_bits.proofs.Strips.{strip_middle}
 use Rattle.life_band.proofs.EdgeBits.{beside_at, with_itself}
 use Rattle.life_band.proofs.row_sums.sums.Goals as goal
 

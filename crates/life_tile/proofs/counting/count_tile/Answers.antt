@@ -1,5 +1,5 @@
 use Rattle.std.proofs.Common.{arith}
-use Rattle.life_tile.proofs.Sizes.{counted_none, counted_more}
+use Rattle.life_tile.proofs.Counted.{counted_none, counted_more}
 use Rattle.life_tile.proofs.counting.count_tile.Goals as goal
 
 pub loop-row-init : goal.loop-row-init

@@ -1,11 +1,13 @@
-use Rattle.std.proofs.Common.{◌≡◌, ◌++◌, All}
+use Rattle.std.proofs.Common.{◌≡◌, ◌<◌, ◌++◌, All, length}
 use Rattle.life_tile.specs.Cells.{tiles_cells}
-use Rattle.life_tile.specs.Tiles.{IsInside}
+use Rattle.life_tile.specs.Places.{IsInside}
+use Rattle.life_tile.specs.Slots.{shown}
 use Rattle.life_tile.proofs.listing.push_tiles.Given as goal
 
 abbrev pub invariant-loop-place : goal.invariant-loop-place
 invariant-loop-place l = record {
   next_is : (goal.iterator-loop-place).can_next l.place-iterator × (goal.iterator-loop-place).is_finite l.place-iterator;
   inside : All (λ e. IsInside e.0) l.place-iterator;
-  pushed : l.cells.items ++ tiles_cells l.place-iterator ≡ l.initial.cells.items ++ tiles_cells l.tiles.entries;
+  slots : All (λ e. e.1 < length l.tiles) l.place-iterator;
+  pushed : l.cells.items ++ tiles_cells (shown l.place-iterator l.tiles) ≡ l.initial.cells.items ++ tiles_cells (shown l.index.entries l.tiles);
 }

@@ -1,73 +1,32 @@
-use Rattle.std.proofs.Common.{◌≡◌, ℤ, List, rules, sym, ◌∙◌, ap, subst, inl, All, FitsSigned, w32, arith}
-use Rattle.std.proofs.lemmas.Int.{ints, to_z-of_z}
-use Rattle.std.specs.List.{list_any}
-use Rattle.std.specs.Ordering.{eq_by_cmp}
-use Rattle.life_tile.specs.Tiles.{place_cmp, IsInside, IsVisitedAround}
-use Rattle.life_tile.proofs.Finish.{all_settled, inside_first, inside_rest, around_more, around_all, none_of_empty, test_from_some}
-use Rattle.life_tile.specs.Tiles.{IsNextOf}
-use Rattle.life_tile.proofs.Hinge.{FindsAll, finds_all}
-use Rattle.life_tile.proofs.Windows.{next_law}
+use Rattle.std.proofs.Common.{◌≡◌, ◌+◌, ◌<◌, List, Bool, length, slice_set, subst, sym, arith}
+use Rattle.life_bits.specs.declared.tile.Tile.{Tile}
+use Rattle.life_tile.specs.Work.{IsWorkedOut}
+use Rattle.life_tile.proofs.Working.{worked_idle, worked_busy}
 use Rattle.life_tile.proofs.stepping.next_tiles.Goals as goal
+use Rattle.life_tile.proofs.stepping.next_tiles.Goals.{then-todo-slot, else-todo-slot}
 
-pub loop-place-init : goal.loop-place-init
-loop-place-init c =
-    let gives : c.into_iter-place-iterator.result ≡ c.keys-place-items.result = c.into_iter-place-iterator.ensures.into_iter_gives in
-    record {
-      next_is = search rules;
-      inside = subst (λ (xs : List (ℤ × ℤ)). All IsInside xs) (sym (gives ∙ c.keys-place-items.ensures.rest)) (λ k d below. c.requires.inside _ (c.keys-place-items.ensures.found k d below));
-      part = record { settled = λ column row some. absurd (none_of_empty c.new-next.result c.new-next.ensures.empty (column, row) some) };
-      no_empty = record { live = λ column row some. absurd (none_of_empty c.new-next.result c.new-next.ensures.empty (column, row) some) };
-      around = λ k some. inl (ap (list_any (eq_by_cmp place_cmp k)) gives ∙ sym (c.keys-place-items.ensures.has k) ∙ test_from_some _ some);
-    }
+abbrev Worked : (c : goal.Joined-todo-slot) → List Tile → List Bool → Type 0
+Worked c alt marks = IsWorkedOut c.args.slots.now c.args.cur.now c.args.todo.now c.args.rule.now c.args.alt.now alt c.args.marks.now marks (c.loop-slot.slot + 1)
 
-pub visit_around-requires-clause-west : goal.visit_around-requires-clause-west
-visit_around-requires-clause-west c =
-    let here : IsInside c.in-Some.place.now = inside_first _ _ _ c.in-Some.ensures.steps c.loop-place.invariant.inside in
-    omega (arith, ints, here.west, here.east, here.north, here.south)
-
-pub visit_around-requires-clause-east : goal.visit_around-requires-clause-east
-visit_around-requires-clause-east c =
-    let here : IsInside c.in-Some.place.now = inside_first _ _ _ c.in-Some.ensures.steps c.loop-place.invariant.inside in
-    omega (arith, ints, here.west, here.east, here.north, here.south)
-
-pub visit_around-requires-clause-north : goal.visit_around-requires-clause-north
-visit_around-requires-clause-north c =
-    let here : IsInside c.in-Some.place.now = inside_first _ _ _ c.in-Some.ensures.steps c.loop-place.invariant.inside in
-    omega (arith, ints, here.west, here.east, here.north, here.south)
-
-pub visit_around-requires-clause-south : goal.visit_around-requires-clause-south
-visit_around-requires-clause-south c =
-    let here : IsInside c.in-Some.place.now = inside_first _ _ _ c.in-Some.ensures.steps c.loop-place.invariant.inside in
-    omega (arith, ints, here.west, here.east, here.north, here.south)
-
-pub loop-place-preserved : goal.loop-place-preserved
-loop-place-preserved c =
-    let here : IsInside c.in-Some.place.now = inside_first _ _ _ c.in-Some.ensures.steps c.loop-place.invariant.inside in
-    let column : FitsSigned w32 c.in-Some.place.now.0 = omega (arith, ints, here.west, here.east) in
-    let row : FitsSigned w32 c.in-Some.place.now.1 = omega (arith, ints, here.north, here.south) in
-    let visited : IsVisitedAround c.args.tiles.now c.args.rule.now c.loop-place.next c.visit_around.new.next c.in-Some.place.now.0 c.in-Some.place.now.1 =
-    simp to_z-of_z at c.in_ok-visit_around.ensures in
-    record {
-      next_is = search rules;
-      inside = inside_rest _ _ _ c.in-Some.ensures.steps c.loop-place.invariant.inside;
-      part = visited.part;
-      no_empty = visited.no_empty c.loop-place.invariant.no_empty;
-      around = λ k some.
-          around_more c.args.tiles.now c.args.rule.now c.loop-place.next c.visit_around.new.next _ _ _ c.in-Some.ensures.steps
-          visited.kept visited.around k (c.loop-place.invariant.around k some);
-    }
-
-found : (c : goal.After-len-count) → FindsAll c.args.tiles.now
-found c = finds_all c.args.tiles.now c.keys-place-items.ensures.ordered
-
-settled : (c : goal.After-len-count) → IsNextOf c.args.tiles.now c.args.rule.now c.loop-place.next
-settled c =
-    all_settled c.args.tiles.now c.args.rule.now c.loop-place.next (found c) c.loop-place.invariant.part c.loop-place.invariant.no_empty
-    (λ k some. around_all c.args.tiles.now c.args.rule.now c.loop-place.next _ c.in-None.ensures.steps.0 k (c.loop-place.invariant.around k some))
-
-pub returns-clause-tiles : goal.returns-clause-tiles
-returns-clause-tiles c = settled c
-
-pub returns-clause-cells : goal.returns-clause-cells
-returns-clause-cells c =
-    next_law c.args.tiles.now c.args.rule.now c.loop-place.next (found c) (finds_all c.loop-place.next c.len-count.ensures.ordered) (settled c)
+pub loop-slot-preserved : goal.loop-slot-preserved
+loop-slot-preserved c =
+    let later : 0 < c.loop-slot.slot = omega arith in
+    let inside : c.loop-slot.slot < length c.args.slots.now = omega arith in
+    let room : length c.loop-slot.alt ≡ length c.args.slots.now = omega arith in
+    elim c.if-todo-slot.branch [
+      | then-todo-slot w ↦
+          subst (λ (alt : List Tile). Worked c alt c.if-todo-slot.marks) (sym w.alt-is)
+          (subst (λ (marks : List Bool). Worked c (slice_set c.loop-slot.alt c.loop-slot.slot w.next_of-next.result) marks) (sym w.marks-is)
+          (worked_busy c.args.slots.now c.args.cur.now c.args.todo.now c.args.rule.now c.args.alt.now c.loop-slot.alt c.args.marks.now c.loop-slot.marks c.loop-slot.slot later inside c.loop-slot.invariant
+          w.next_of-next.result w.mark_around.new.marks room w.if-todo-slot.true
+          (record { cell = w.next_of-next.ensures c.args.rule.now c.of-logic.ensures })
+          w.mark_around.ensures.length
+          w.mark_around.ensures.kept
+          (λ m small clear. record {
+            same = λ x y wide high edge. w.difference.ensures x y wide high ((w.mark_around.ensures.marked w.difference.result w.of-rim.ensures m small clear).still x y wide high edge);
+          })))
+      | else-todo-slot w ↦
+          subst (λ (alt : List Tile). Worked c alt c.if-todo-slot.marks) (sym w.alt-is)
+          (subst (λ (marks : List Bool). Worked c c.loop-slot.alt marks) (sym w.marks-is)
+          (worked_idle c.args.slots.now c.args.cur.now c.args.todo.now c.args.rule.now c.args.alt.now c.loop-slot.alt c.args.marks.now c.loop-slot.marks c.loop-slot.slot later inside c.loop-slot.invariant w.if-todo-slot.false))
+    ]

@@ -1,6 +1,6 @@
 use Rattle.std.proofs.Common.{sym, ap, ◌∙◌, arith}
 use Rattle.std.specs.Int.{bit_at}
-use Rattle.life_tile.specs.Bits.{next_state}
+use Rattle.life_bits.specs.Bits.{next_state}
 use Rattle.life_band.specs.Sums.{number_at}
 use Rattle.life_band.proofs.LifeCases.{life_at}
 use Rattle.life_band.proofs.logic.LifeBranch.next.Goals as goal

@@ -1,7 +1,7 @@
 use Rattle.std.proofs.Common.{◌≡◌, ℕ, ◌<◌, slice_index, length}
 use Rattle.std.specs.Int.{bit_at}
 use Rattle.life_model.specs.Rule.{born, stays}
-use Rattle.life_tile.specs.Flags.{as_bit}
+use Rattle.life_bits.specs.Flags.{as_bit}
 use Rattle.life_band.proofs.logic.Spread.of.Given as goal
 
 abbrev pub invariant-loop-number : goal.invariant-loop-number

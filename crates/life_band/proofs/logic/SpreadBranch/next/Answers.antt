@@ -2,8 +2,8 @@ use Rattle.std.proofs.Common.{◌≡◌, ℕ, ◌<◌, ◌≤◌, ◌∙◌, sli
 use Rattle.std.specs.Int.{bit_at}
 use Rattle.std.proofs.lemmas.Nat.Bits.{bit_at-lt}
 use Rattle.life_model.specs.Rule.{Rule}
-use Rattle.life_tile.specs.Bits.{next_state}
-use Rattle.life_tile.proofs.Trees.{tree}
+use Rattle.life_bits.specs.Bits.{next_state}
+use Rattle.life_bits.proofs.Trees.{tree}
 use Rattle.life_band.specs.declared.logic.Spread.{Spread}
 use Rattle.life_band.specs.Sums.{number_at}
 use Rattle.life_band.specs.Logics.{IsSpreadOf, mask_at}

@@ -1,5 +1,5 @@
 use Rattle.std.proofs.Common.{◌∙◌, ap, refl, arith}
-use Rattle.life_tile.specs.Area.{nine_of}
+use Rattle.life_bits.specs.Area.{nine_of}
 use Rattle.life_band.specs.Windows.{triple_strip}
 use Rattle.life_band.proofs.Joining.{window_from, above_first, above_later, below_last, below_others}
 use Rattle.life_band.proofs.window.Window.of.Goals as goal

@@ -2,13 +2,12 @@ use Rattle.std.proofs.Common.{ℕ, All, subst}
 use Rattle.life_model.specs.Generation.{Generation, cells}
 use Rattle.life_model.proofs.Generations.{contains-cells}
 use Rattle.life_cells.specs.Limits.{IsWithin}
-use Rattle.life_tile.specs.Cells.{generation_of}
-use Rattle.life_tile.proofs.Held.{all_listed}
+use Rattle.life_tile.proofs.Inserted.{all_listed}
+use Rattle.life_tile.specs.Slabs.{members_of}
 use Rattle.life_tile.proofs.plane.TilePlanePlane.age.Goals as goal
 
 pub returns-clause-within : goal.returns-clause-within
 returns-clause-within c =
-    let here : All (IsWithin c.self.inside.age) (cells (generation_of c.self.inside.tiles)) =
-    all_listed (IsWithin c.self.inside.age) (generation_of c.self.inside.tiles) (cells (generation_of c.self.inside.tiles)) (contains-cells (generation_of c.self.inside.tiles))
-    c.self.invariant.within in
+    let here : All (IsWithin c.self.inside.slab.age) (cells (members_of c.self.inside.slab)) =
+    all_listed (IsWithin c.self.inside.slab.age) (members_of c.self.inside.slab) (cells (members_of c.self.inside.slab)) (contains-cells (members_of c.self.inside.slab)) c.self.invariant.within in
     subst (λ (v : Generation × ℕ). All (IsWithin v.1) (cells v.0)) c.self.view_is here

@@ -1,0 +1,13 @@
+//! Rows of 64 cells worked at a time, and tiles of 64 by 64 cells with their next generation.
+#![tactic(auto)]
+
+mod answers;
+mod strand;
+mod sums;
+#[cfg(test)]
+mod tests;
+mod tile;
+
+pub use answers::next_row;
+pub use strand::{Strand, count_planes};
+pub use tile::{Around, Tile};

@@ -1,0 +1,249 @@
+-- What a slab keeps as it grows.
+use Rattle.std.proofs.Common.{◌≡◌, ◌≢◌, ℕ, ℤ, pos, ◌+ℤ◌, ◌-ℤ◌, ◌*ℤ◌, ◌+◌, ◌%◌, ◌/◌, ◌<◌, ◌≤◌, ◌≤ℤ◌, ◌⊎◌, inl, inr, ⊎_elim, Bool, true, false, List, ◌++◌, length, take, drop, refl, sym, subst, ap, ◌∙◌, arith}
+use Rattle.std.specs.Option.{unwrap_or}
+use Rattle.std.specs.BTreeMap.{get, is_at}
+use Rattle.std.specs.Map.{keys_of, lookup}
+use Rattle.std.specs.List.Sorted.{IsStrictlySortedBy}
+use Rattle.std.proofs.lemmas.Bool.{cases_eq, cases_lt}
+use Rattle.std.proofs.lemmas.Int.{ints, by_lt_z}
+use Rattle.std.proofs.lemmas.Nat.Bits.{bit_at-lt}
+use Rattle.std.proofs.lemmas.List.{take_at}
+use Rattle.life_model.specs.Generation.{Generation, contains}
+use Rattle.life_model.specs.Evolution.{next}
+use Rattle.life_cells.specs.Limits.{IsWithin}
+use Rattle.life_bits.specs.declared.tile.Tile.{Tile}
+use Rattle.life_bits.specs.Flags.{as_bit}
+use Rattle.life_bits.specs.Area.{tile_cell}
+use Rattle.life_tile.specs.Places.{place_cmp, IsInside}
+use Rattle.life_tile.proofs.Splits.{not_one}
+use Rattle.life_tile.specs.declared.slot.Slot.{Slot}
+use Rattle.life_tile.specs.declared.slab.Slab.{Slab}
+use Rattle.life_tile.specs.Slots.{slot_at, neighbour_at, place_of, link_of, tile_of, empty_tile, IsReached}
+use Rattle.life_tile.specs.Rims.{IsEdge, IsAtEdge, IsStill}
+use Rattle.life_tile.specs.Work.{mark_of}
+use Rattle.life_tile.specs.Slabs.{state_at, IsSlab, members_of, earlier_of, IsClosed, IsSettled, IsKept, IsAlike, IsExtended}
+use Rattle.life_tile.proofs.Shown.{empty_cell, shown_state, same_states}
+use Rattle.life_tile.proofs.Places.{state_of_slot}
+
+-- what is written back through a borrow of all elements
+pub written_back : {A : Type 0} (n : ℕ) (new old : List A) → length new ≡ n → take n (new ++ drop (length new) old) ≡ new
+written_back n new old count = take_at new (drop (length new) old) n count
+
+pub inside_from_reached : (age : ℕ) (place : ℤ × ℤ) → age ≤ 4194304 → IsReached age place → IsInside place
+inside_from_reached age place young reached = record {
+  west = omega (arith, ints, reached.west);
+  east = omega (arith, ints, reached.east);
+  north = omega (arith, ints, reached.north);
+  south = omega (arith, ints, reached.south);
+}
+
+pub empty_still : (tile : Tile) (m : ℕ) → tile ≡ empty_tile → IsStill tile m
+empty_still tile m is = record { still = λ x y wide high edge. ap (λ (t : Tile). tile_cell t x y) is ∙ empty_cell x y }
+
+-- ---- the same slab, lying elsewhere
+
+module _ (before after : Slab) (alike : IsAlike before after) where
+  get_alike : (p : ℤ × ℤ) → get place_cmp after.index p ≡ get place_cmp before.index p
+  get_alike p = ap (lookup (is_at (place_cmp p))) alike.index
+
+  at_alike : (p : ℤ × ℤ) → slot_at after.index p ≡ slot_at before.index p
+  at_alike p = ap (λ o. unwrap_or o 0) (get_alike p)
+
+  places_alike : (k : ℕ) → place_of after.slots.items k ≡ place_of before.slots.items k
+  places_alike k = ap (λ (ss : List Slot). place_of ss k) alike.slots
+
+  links_alike : (k m : ℕ) → link_of after.slots.items k m ≡ link_of before.slots.items k m
+  links_alike k m = ap (λ (ss : List Slot). link_of ss k m) alike.slots
+
+  counts_alike : length after.slots.items ≡ length before.slots.items
+  counts_alike = ap (λ (ss : List Slot). length ss) alike.slots
+
+  pub slab_alike : IsSlab before → IsSlab after
+  slab_alike slab =
+      let count : length after.slots.items ≡ length before.slots.items = counts_alike in
+      let some : 0 < length before.slots.items = slab.indexed.some in
+      record {
+        indexed = record {
+          ordered = subst (λ (es : List ((ℤ × ℤ) × ℕ)). IsStrictlySortedBy place_cmp (keys_of es)) (sym alike.index) slab.indexed.ordered;
+          some = omega arith;
+          indexed = λ k later inside. get_alike (place_of after.slots.items k) ∙ ap (get place_cmp before.index) (places_alike k) ∙ slab.indexed.indexed k later (omega arith);
+          later = λ p k is. slab.indexed.later p k (sym (get_alike p) ∙ is);
+          inside = λ p k is. (let h : k < length before.slots.items = slab.indexed.inside p k (sym (get_alike p) ∙ is) in omega arith);
+          placed = λ p k is. places_alike k ∙ slab.indexed.placed p k (sym (get_alike p) ∙ is);
+          linked = λ k m later inside small.
+              links_alike k m ∙ slab.indexed.linked k m later (omega arith) small
+              ∙ ap (λ (q : ℤ × ℤ). slot_at before.index (neighbour_at q m)) (sym (places_alike k)) ∙ sym (at_alike (neighbour_at (place_of after.slots.items k) m));
+        };
+        cur_length = ap (λ (ts : List Tile). length ts) alike.cur ∙ slab.cur_length ∙ sym counts_alike;
+        alt_length = ap (λ (ts : List Tile). length ts) alike.alt ∙ slab.alt_length ∙ sym counts_alike;
+        todo_length = ap (λ (bs : List Bool). length bs) alike.todo ∙ slab.todo_length ∙ sym counts_alike;
+        marks_length = ap (λ (bs : List Bool). length bs) alike.marks ∙ slab.marks_length ∙ sym counts_alike;
+        cur_none = ap (λ (ts : List Tile). tile_of ts 0) alike.cur ∙ slab.cur_none;
+        alt_none = ap (λ (ts : List Tile). tile_of ts 0) alike.alt ∙ slab.alt_none;
+      }
+
+  pub extended_alike : IsExtended before after
+  extended_alike =
+      let count : length after.slots.items ≡ length before.slots.items = counts_alike in
+      record {
+        age = alike.age;
+        rule = alike.rule;
+        fresh = alike.fresh;
+        more = omega arith;
+        place = λ k inside. places_alike k;
+        link = λ k m later inside small none. sym (links_alike k m) ∙ none;
+        cur = λ k inside. ap (λ (ts : List Tile). tile_of ts k) alike.cur;
+        alt = λ k inside. ap (λ (ts : List Tile). tile_of ts k) alike.alt;
+        cur_new = λ k past inside. absurd (omega arith);
+        alt_new = λ k past inside. absurd (omega arith);
+        todo = λ k later inside clear. (omega arith, sym (ap (λ (bs : List Bool). mark_of bs k) alike.todo) ∙ clear);
+        cur_at = λ p. (λ i. tile_of (alike.cur i) (at_alike p i));
+        alt_at = λ p. (λ i. tile_of (alike.alt i) (at_alike p i));
+      }
+
+pub alike_itself : (s : Slab) → IsAlike s s
+alike_itself s = record { age = refl; rule = refl; fresh = refl; index = refl; slots = refl; cur = refl; alt = refl; todo = refl; marks = refl }
+
+pub extended_itself : (s : Slab) → IsExtended s s
+extended_itself s = extended_alike s s (alike_itself s)
+
+-- ---- slots more
+
+pub extended_more : (a b c : Slab) → IsExtended a b → IsExtended b c → IsExtended a c
+extended_more a b c first second =
+    let more_ab : length a.slots.items ≤ length b.slots.items = first.more in
+    let more_bc : length b.slots.items ≤ length c.slots.items = second.more in
+    record {
+      age = second.age ∙ first.age;
+      rule = second.rule ∙ first.rule;
+      fresh = second.fresh ∙ first.fresh;
+      more = omega arith;
+      place = λ k inside. second.place k (omega arith) ∙ first.place k inside;
+      link = λ k m later inside small none. first.link k m later inside small (second.link k m later (omega arith) small none);
+      cur = λ k inside. second.cur k (omega arith) ∙ first.cur k inside;
+      alt = λ k inside. second.alt k (omega arith) ∙ first.alt k inside;
+      cur_new = λ k past inside.
+          ⊎_elim (λ (old : k < length b.slots.items). second.cur k old ∙ first.cur_new k past old) (λ new. second.cur_new k new inside) (cases_lt k (length b.slots.items));
+      alt_new = λ k past inside.
+          ⊎_elim (λ (old : k < length b.slots.items). second.alt k old ∙ first.alt_new k past old) (λ new. second.alt_new k new inside) (cases_lt k (length b.slots.items));
+      todo = λ k later inside clear. (let h = second.todo k later inside clear in first.todo k later h.0 h.1);
+      cur_at = λ p. second.cur_at p ∙ first.cur_at p;
+      alt_at = λ p. second.alt_at p ∙ first.alt_at p;
+    }
+
+pub closed_extended : (a b : Slab) (k : ℕ) → IsExtended a b → 0 < k → k < length a.slots.items → IsClosed a.slots.items a.cur.items k → IsClosed b.slots.items b.cur.items k
+closed_extended a b k extended later inside closed = record {
+  closed = λ m small none. subst (λ (t : Tile). IsStill t m) (sym (extended.cur k inside)) (closed.closed m small (extended.link k m later inside small none));
+}
+
+pub closed_new : (a b : Slab) (k : ℕ) → IsExtended a b → length a.slots.items ≤ k → k < length b.slots.items → IsClosed b.slots.items b.cur.items k
+closed_new a b k extended past inside = record { closed = λ m small none. empty_still (tile_of b.cur.items k) m (extended.cur_new k past inside) }
+
+module _ (before after : Slab) (whole_before : IsSlab before) (whole_after : IsSlab after) (extended : IsExtended before after) where
+  pub members_extended : members_of after ≡ members_of before
+  members_extended =
+      same_states (members_of after) (members_of before)
+      (λ column row x y wide high.
+      shown_state after.index after.cur.items whole_after.indexed.ordered whole_after.cur_none column row x y wide high
+      ∙ ap (λ (t : Tile). tile_cell t x y) (extended.cur_at (column, row))
+      ∙ sym (shown_state before.index before.cur.items whole_before.indexed.ordered whole_before.cur_none column row x y wide high))
+
+  earlier_extended : earlier_of after ≡ earlier_of before
+  earlier_extended =
+      same_states (earlier_of after) (earlier_of before)
+      (λ column row x y wide high.
+      shown_state after.index after.alt.items whole_after.indexed.ordered whole_after.alt_none column row x y wide high
+      ∙ ap (λ (t : Tile). tile_cell t x y) (extended.alt_at (column, row))
+      ∙ sym (shown_state before.index before.alt.items whole_before.indexed.ordered whole_before.alt_none column row x y wide high))
+
+  settled_extended : (k : ℕ) → k < length before.slots.items → 0 < k → IsSettled before k → IsSettled after k
+  settled_extended k inside later settled = record {
+    known = extended.fresh ∙ settled.known;
+    closed = closed_extended before after k extended later inside settled.closed;
+    cell = λ x y wide high.
+        ap (λ (t : Tile). tile_cell t x y) (extended.alt k inside)
+        ∙ settled.cell x y wide high
+        ∙ sym
+        (λ i. state_at (next (extended.rule i) (members_extended i)) (pos 64 *ℤ (extended.place k inside i).0 +ℤ pos x) (pos 64 *ℤ (extended.place k inside i).1 +ℤ pos y));
+  }
+
+  pub kept_extended : IsKept before → ((k : ℕ) → length before.slots.items ≤ k → k < length after.slots.items → IsReached before.age (place_of after.slots.items k)) → IsKept after
+  kept_extended kept new =
+      let age_is : after.age ≡ before.age = extended.age in
+      let young : before.age ≤ 4194304 = kept.young in
+      record {
+        whole = whole_after;
+        young = omega arith;
+        within = λ c has. subst (λ (a : ℕ). IsWithin a c) (sym extended.age) (kept.within c (sym (ap (λ (G : Generation). contains G c) members_extended) ∙ has));
+        reached = λ k later inside. subst (λ (a : ℕ). IsReached a (place_of after.slots.items k)) (sym extended.age)
+            (⊎_elim
+            (λ (old : k < length before.slots.items). subst (IsReached before.age) (sym (extended.place k old)) (kept.reached k later old))
+            (λ past. new k past inside)
+            (cases_lt k (length before.slots.items)));
+        earlier = λ known. members_extended ∙ kept.earlier (sym extended.fresh ∙ known) ∙ sym (λ i. next (extended.rule i) (earlier_extended i));
+        earlier_closed = λ known k later inside.
+            ⊎_elim
+            (λ (old : k < length before.slots.items).
+            record {
+              closed = λ m small none. subst (λ (t : Tile). IsStill t m) (sym (extended.alt k old)) ((kept.earlier_closed (sym extended.fresh ∙ known) k later old).closed m small (extended.link k m later old small none));
+            })
+            (λ past. record { closed = λ m small none. empty_still (tile_of after.alt.items k) m (extended.alt_new k past inside) })
+            (cases_lt k (length before.slots.items));
+        settled = λ k later inside clear. (let old = extended.todo k later inside clear in settled_extended k old.0 later (kept.settled k later old.0 old.1));
+      }
+
+-- ---- where a slab may grow
+
+le_or_not : (a b : ℤ) → (a ≤ℤ b) ⊎ (a ≤ℤ b → ⊥)
+le_or_not a b = by_lt_z b a (λ less. inr (λ le. omega (arith, ints))) (λ not_less. inl (omega (arith, ints)))
+
+low_side : (age side x : ℕ) (s : ℤ) → x < 64 → side < 3 → IsEdge side x → (pos 0 -ℤ pos age) ≤ℤ (pos 64 *ℤ s +ℤ pos x) → (pos 0 -ℤ pos (age + 64)) ≤ℤ (pos 64 *ℤ ((s +ℤ pos side) -ℤ pos 1))
+low_side age side x s wide small edge low =
+    ⊎_elim
+    (λ (none : side ≡ 0). let x_is : x ≡ 0 = edge.first none in omega (arith, ints))
+    (λ (some : side ≢ 0). omega (arith, ints))
+    (cases_eq side 0)
+
+high_side : (age side x : ℕ) (s : ℤ) → x < 64 → side < 3 → IsEdge side x → (pos 64 *ℤ s +ℤ pos x) ≤ℤ pos (1048575 + age) → (pos 64 *ℤ ((s +ℤ pos side) -ℤ pos 1)) ≤ℤ pos (1048576 + age)
+high_side age side x s wide small edge high =
+    ⊎_elim
+    (λ (two : side ≡ 2). let x_is : x ≡ 63 = edge.last two in omega (arith, ints))
+    (λ (other : side ≢ 2). omega (arith, ints))
+    (cases_eq side 2)
+
+flag_from_bit : (b : Bool) → as_bit b ≡ 1 → b ≡ true
+flag_from_bit true is = refl
+flag_from_bit false is = absurd (omega arith)
+
+module _ (s : Slab) (kept : IsKept s) (k m : ℕ) (later : 0 < k) (inside : k < length s.slots.items) (small : m < 9) where
+  reached_by : (x y : ℕ) → x < 64 → y < 64 → IsAtEdge m x y → tile_cell (tile_of s.cur.items k) x y ≡ 1 → IsReached s.age (neighbour_at (place_of s.slots.items k) m)
+  reached_by x y wide high edge one =
+      let c : ℤ = (place_of s.slots.items k).0 in
+      let r : ℤ = (place_of s.slots.items k).1 in
+      let live : contains (members_of s) (pos 64 *ℤ c +ℤ pos x, pos 64 *ℤ r +ℤ pos y) ≡ true =
+      flag_from_bit _ (state_of_slot s.index s.slots.items kept.whole.indexed s.cur.items kept.whole.cur_none k later inside x y wide high ∙ one) in
+      let within : IsWithin s.age (pos 64 *ℤ c +ℤ pos x, pos 64 *ℤ r +ℤ pos y) = kept.within (pos 64 *ℤ c +ℤ pos x, pos 64 *ℤ r +ℤ pos y) live in
+      let column_small : m % 3 < 3 = omega arith in
+      let row_small : m / 3 < 3 = omega arith in
+      let w = low_side s.age (m % 3) x c wide column_small edge.column (omega (arith, ints, within.left)) in
+      let e = high_side s.age (m % 3) x c wide column_small edge.column within.right in
+      let n = low_side s.age (m / 3) y r high row_small edge.row (omega (arith, ints, within.above)) in
+      let t = high_side s.age (m / 3) y r high row_small edge.row within.below in
+      record { west = omega (arith, ints, w); east = e; north = omega (arith, ints, n); south = t }
+
+  by_live : (P : Type 0) → P ⊎ (P → ⊥) → (IsStill (tile_of s.cur.items k) m → ⊥) → (IsReached s.age (neighbour_at (place_of s.slots.items k) m) → P) → P
+  by_live P decided live gives =
+      ⊎_elim (λ p. p)
+      (λ not. absurd (live (record {
+        still = λ x y wide high edge. not_one _ (bit_at-lt _ x) (λ one. not (gives (reached_by x y wide high edge one)));
+      })))
+      decided
+
+  -- where a live cell is next to a place, that may have a tile
+  pub reached_beyond : (IsStill (tile_of s.cur.items k) m → ⊥) → IsReached s.age (neighbour_at (place_of s.slots.items k) m)
+  reached_beyond live = record {
+    west = by_live _ (le_or_not _ _) live (λ reached. reached.west);
+    east = by_live _ (le_or_not _ _) live (λ reached. reached.east);
+    north = by_live _ (le_or_not _ _) live (λ reached. reached.north);
+    south = by_live _ (le_or_not _ _) live (λ reached. reached.south);
+  }

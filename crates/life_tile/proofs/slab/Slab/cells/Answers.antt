@@ -1,0 +1,38 @@
+use Rattle.std.proofs.Common.{◌≡◌, List, ◌++◌, sym, subst, ap, ◌∙◌}
+use Rattle.life_model.specs.Cell.{Cell}
+use Rattle.life_model.specs.Generation.{Generation, contains, from_list}
+use Rattle.life_model.proofs.Generations.{contains-from_list}
+use Rattle.life_cells.specs.Limits.{IsWithin}
+use Rattle.life_bits.specs.declared.tile.Tile.{Tile}
+use Rattle.life_tile.specs.Cells.{tiles_cells}
+use Rattle.life_tile.proofs.Inserted.{all_listed}
+use Rattle.life_tile.specs.Slots.{shown, generation_shown, IsReached}
+use Rattle.life_tile.specs.Slabs.{members_of}
+use Rattle.life_tile.proofs.Kept.{inside_from_reached}
+use Rattle.life_tile.proofs.slab.Slab.cells.Goals as goal
+
+pub push_tiles-requires-clause-inside : goal.push_tiles-requires-clause-inside
+push_tiles-requires-clause-inside c = λ p k is.
+    inside_from_reached c.args.self.now.age p c.requires.young
+    (subst (IsReached c.args.self.now.age) (c.requires.whole.indexed.placed p k is)
+    (c.requires.reached k (c.requires.whole.indexed.later p k is) (c.requires.whole.indexed.inside p k is)))
+
+module _ (c : goal.In_ok-push_tiles) where
+  pushed : c.push_tiles.new.cells.items ≡ tiles_cells (shown c.args.self.now.index.entries c.args.self.now.cur.items)
+  pushed =
+      c.in_ok-push_tiles.ensures
+      ∙ ap (λ (ts : List Tile). c.new-cells.result.items ++ tiles_cells (shown c.args.self.now.index.entries ts)) c.deref.ensures.value
+      ∙ ap (λ (xs : List Cell). xs ++ tiles_cells (shown c.args.self.now.index.entries c.args.self.now.cur.items)) c.new-cells.ensures.items
+
+  members : from_list c.push_tiles.new.cells.items ≡ members_of c.args.self.now
+  unfolding generation_shown
+  members = ap from_list pushed
+
+pub returns-clause-members : goal.returns-clause-members
+returns-clause-members c = members c
+
+pub returns-clause-within : goal.returns-clause-within
+returns-clause-within c =
+    all_listed (IsWithin c.args.self.now.age) (members_of c.args.self.now) c.push_tiles.new.cells.items
+    (λ q. sym (ap (λ (G : Generation). contains G q) (members c)) ∙ contains-from_list c.push_tiles.new.cells.items q)
+    c.requires.within

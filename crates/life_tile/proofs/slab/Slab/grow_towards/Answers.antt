@@ -1,0 +1,10 @@
+use Rattle.std.proofs.Common.{sym, subst, ap, ◌∙◌}
+use Rattle.life_tile.specs.Slots.{neighbour_at, tile_of, IsReached}
+use Rattle.life_tile.proofs.Kept.{reached_beyond}
+use Rattle.life_tile.proofs.slab.Slab.grow_towards.Goals as goal
+
+pub add-requires-clause-reached : goal.add-requires-clause-reached
+add-requires-clause-reached c =
+    subst (IsReached c.args.self.now.age) (sym (c.neighbour.ensures ∙ ap (λ p. neighbour_at p c.args.direction) c.place.ensures))
+    (reached_beyond c.args.self.now c.requires.kept c.args.slot c.args.direction c.requires.later c.requires.slot c.requires.direction
+    (c.reaches.ensures.live (tile_of c.args.self.now.cur.items c.args.slot) c.requires.rim c.if-reaches.true))

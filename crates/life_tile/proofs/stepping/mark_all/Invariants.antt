@@ -1,0 +1,6 @@
+use Rattle.std.proofs.Common.{◌≡◌, ℕ, ◌<◌}
+use Rattle.life_tile.specs.Work.{mark_of}
+use Rattle.life_tile.proofs.stepping.mark_all.Given as goal
+
+abbrev pub invariant-loop-mark : goal.invariant-loop-mark
+invariant-loop-mark l = (k : ℕ) → k < l.mark-index → mark_of l.marks k ≡ l.value

@@ -1,0 +1,20 @@
+-- The places of tiles, and how near a cell is to the tile at a place.
+use Rattle.std.specs.Prelude.{ℤ, pos, negsuc, ◌+ℤ◌, ◌-ℤ◌, ◌*ℤ◌, ◌≤ℤ◌}
+use Rattle.std.specs.Ordering.{int_cmp, ordering_then}
+use Rattle.std.specs.declared.cmp.Ordering.{Ordering}
+
+-- the order of the places of tiles, a column and a row
+abbrev pub place_cmp : ℤ × ℤ → ℤ × ℤ → Ordering
+place_cmp a b = ordering_then (int_cmp a.0 b.0) (int_cmp a.1 b.1)
+
+-- a place whose neighbours are numbers of 32 bits, by far
+pub record IsInside (place : ℤ × ℤ) : Type 0 where
+  pub west : negsuc 10000000 ≤ℤ place.0
+  pub east : place.0 ≤ℤ pos 10000000
+  pub north : negsuc 10000000 ≤ℤ place.1
+  pub south : place.1 ≤ℤ pos 10000000
+
+-- a cell's x within one of the columns of the tiles in a column, or its y within one of the rows of those in a row
+pub record IsBeside (z tile : ℤ) : Type 0 where
+  pub from : (pos 64 *ℤ tile -ℤ pos 1) ≤ℤ z
+  pub to : z ≤ℤ (pos 64 *ℤ tile +ℤ pos 64)

@@ -1,0 +1,137 @@
+-- What a slab of tiles keeps.
+use Rattle.std.specs.Prelude.{◌≡◌, ◌≢◌, ◌⊎◌, ℕ, ℤ, pos, ◌+ℤ◌, ◌*ℤ◌, ◌<◌, ◌≤◌, true, false, List, [], ◌∷◌, ◌++◌, Some, length, vec_len}
+use Rattle.std.specs.Vec.{vec_capacity}
+use Rattle.std.specs.BTreeMap.{IsOrdered, get}
+use Rattle.life_model.specs.Cell.{Cell}
+use Rattle.life_model.specs.Generation.{Generation, contains}
+use Rattle.life_model.specs.Evolution.{next}
+use Rattle.life_cells.specs.Limits.{IsWithin}
+use Rattle.life_bits.specs.declared.tile.Tile.{Tile}
+use Rattle.life_bits.specs.Flags.{as_bit}
+use Rattle.life_bits.specs.Area.{tile_cell}
+use Rattle.life_tile.specs.Places.{place_cmp}
+use Rattle.life_tile.specs.declared.slot.Slot.{Slot}
+use Rattle.life_tile.specs.declared.slab.Slab.{Slab}
+use Rattle.life_tile.specs.Slots.{Index, slot_at, neighbour_at, place_of, link_of, tile_of, empty_tile, generation_shown, IsReached}
+use Rattle.life_tile.specs.Rims.{IsStill}
+use Rattle.life_tile.specs.Work.{mark_of}
+
+-- 1 for a live cell, 0 for a dead one
+abbrev pub state_at : Generation → ℤ → ℤ → ℕ
+state_at G x y = as_bit (contains G (x, y))
+
+-- The index has each slot but the first at its place and no other, and each slot's links are the slots around its place.
+pub record IsIndexed (index : Index) (slots : List Slot) : Type 0 where
+  pub ordered : IsOrdered place_cmp index
+  pub some : 0 < length slots
+  pub indexed : (k : ℕ) → 0 < k → k < length slots → get place_cmp index (place_of slots k) ≡ Some k
+  pub later : (place : ℤ × ℤ) (k : ℕ) → get place_cmp index place ≡ Some k → 0 < k
+  pub inside : (place : ℤ × ℤ) (k : ℕ) → get place_cmp index place ≡ Some k → k < length slots
+  pub placed : (place : ℤ × ℤ) (k : ℕ) → get place_cmp index place ≡ Some k → place_of slots k ≡ place
+  pub linked : (k m : ℕ) → 0 < k → k < length slots → m < 9 → link_of slots k m ≡ slot_at index (neighbour_at (place_of slots k) m)
+
+-- a place has this slot
+pub record IsSlotOf (slots : List Slot) (p : ℤ × ℤ) (k : ℕ) : Type 0 where
+  pub later : 0 < k
+  pub inside : k < length slots
+  pub place : place_of slots k ≡ p
+
+-- a slab without regard to what its tiles hold: slot 0 has the empty tile
+pub record IsSlab (slab : Slab) : Type 0 where
+  pub indexed : IsIndexed slab.index slab.slots.items
+  pub cur_length : length slab.cur.items ≡ length slab.slots.items
+  pub alt_length : length slab.alt.items ≡ length slab.slots.items
+  pub todo_length : length slab.todo.items ≡ length slab.slots.items
+  pub marks_length : length slab.marks.items ≡ length slab.slots.items
+  pub cur_none : tile_of slab.cur.items 0 ≡ empty_tile
+  pub alt_none : tile_of slab.alt.items 0 ≡ empty_tile
+
+-- this generation
+abbrev pub members_of : Slab → Generation
+members_of slab = generation_shown slab.index slab.cur.items
+
+-- what the other tiles show, the generation before where the slab is not fresh
+abbrev pub earlier_of : Slab → Generation
+earlier_of slab = generation_shown slab.index slab.alt.items
+
+-- where a slot has no neighbour, its tile has no live cell at that edge
+pub record IsClosed (slots : List Slot) (tiles : List Tile) (k : ℕ) : Type 0 where
+  pub closed : (m : ℕ) → m < 9 → link_of slots k m ≡ 0 → IsStill (tile_of tiles k) m
+
+-- the tile of a slot is in the next generation what it was in the one before this
+pub record IsSettled (slab : Slab) (k : ℕ) : Type 0 where
+  pub known : slab.fresh ≡ false
+  pub closed : IsClosed slab.slots.items slab.cur.items k
+  pub cell : (x y : ℕ) → x < 64 → y < 64 →
+      tile_cell (tile_of slab.alt.items k) x y
+      ≡ state_at (next slab.rule (members_of slab)) (pos 64 *ℤ (place_of slab.slots.items k).0 +ℤ pos x) (pos 64 *ℤ (place_of slab.slots.items k).1 +ℤ pos y)
+
+-- what a slab keeps between steps
+pub record IsKept (slab : Slab) : Type 0 where
+  pub whole : IsSlab slab
+  pub young : slab.age ≤ 4194304
+  pub within : (c : Cell) → contains (members_of slab) c ≡ true → IsWithin slab.age c
+  pub reached : (k : ℕ) → 0 < k → k < length slab.slots.items → IsReached slab.age (place_of slab.slots.items k)
+  pub earlier : slab.fresh ≡ false → members_of slab ≡ next slab.rule (earlier_of slab)
+  pub earlier_closed : slab.fresh ≡ false → (k : ℕ) → 0 < k → k < length slab.slots.items → IsClosed slab.slots.items slab.alt.items k
+  pub settled : (k : ℕ) → 0 < k → k < length slab.slots.items → mark_of slab.todo.items k ≡ false → IsSettled slab k
+
+-- every place that a live cell is in or next to has a slot
+pub record IsGrown (slab : Slab) : Type 0 where
+  pub closed : (k : ℕ) → 0 < k → k < length slab.slots.items → IsClosed slab.slots.items slab.cur.items k
+
+-- the same slab, but for how it lies in memory
+pub record IsAlike (before after : Slab) : Type 0 where
+  pub age : after.age ≡ before.age
+  pub rule : after.rule ≡ before.rule
+  pub fresh : after.fresh ≡ before.fresh
+  pub index : after.index.entries ≡ before.index.entries
+  pub slots : after.slots.items ≡ before.slots.items
+  pub cur : after.cur.items ≡ before.cur.items
+  pub alt : after.alt.items ≡ before.alt.items
+  pub todo : after.todo.items ≡ before.todo.items
+  pub marks : after.marks.items ≡ before.marks.items
+
+-- there is room for one slot more
+pub record HasRoom (slab : Slab) : Type 0 where
+  pub slots : vec_len slab.slots < vec_capacity slab.slots
+  pub cur : vec_len slab.cur < vec_capacity slab.cur
+  pub alt : vec_len slab.alt < vec_capacity slab.alt
+  pub todo : vec_len slab.todo < vec_capacity slab.todo
+  pub marks : vec_len slab.marks < vec_capacity slab.marks
+
+-- one slot more at the end, with the empty tile twice, and something to do
+pub record IsAppended (before after : Slab) (slot : Slot) : Type 0 where
+  pub age : after.age ≡ before.age
+  pub rule : after.rule ≡ before.rule
+  pub fresh : after.fresh ≡ before.fresh
+  pub index : after.index ≡ before.index
+  pub slots : after.slots.items ≡ before.slots.items ++ slot ∷ []
+  pub cur : after.cur.items ≡ before.cur.items ++ empty_tile ∷ []
+  pub alt : after.alt.items ≡ before.alt.items ++ empty_tile ∷ []
+  pub todo : after.todo.items ≡ before.todo.items ++ true ∷ []
+  pub marks : after.marks.items ≡ before.marks.items ++ false ∷ []
+
+-- `after` is `before`, perhaps with slots more that have the empty tile twice
+pub record IsExtended (before after : Slab) : Type 0 where
+  pub age : after.age ≡ before.age
+  pub rule : after.rule ≡ before.rule
+  pub fresh : after.fresh ≡ before.fresh
+  pub more : length before.slots.items ≤ length after.slots.items
+  pub place : (k : ℕ) → k < length before.slots.items → place_of after.slots.items k ≡ place_of before.slots.items k
+  pub link : (k m : ℕ) → 0 < k → k < length before.slots.items → m < 9 → link_of after.slots.items k m ≡ 0 → link_of before.slots.items k m ≡ 0
+  pub cur : (k : ℕ) → k < length before.slots.items → tile_of after.cur.items k ≡ tile_of before.cur.items k
+  pub alt : (k : ℕ) → k < length before.slots.items → tile_of after.alt.items k ≡ tile_of before.alt.items k
+  pub cur_new : (k : ℕ) → length before.slots.items ≤ k → k < length after.slots.items → tile_of after.cur.items k ≡ empty_tile
+  pub alt_new : (k : ℕ) → length before.slots.items ≤ k → k < length after.slots.items → tile_of after.alt.items k ≡ empty_tile
+  pub todo : (k : ℕ) → 0 < k → k < length after.slots.items → mark_of after.todo.items k ≡ false → (k < length before.slots.items) × (mark_of before.todo.items k ≡ false)
+  pub cur_at : (place : ℤ × ℤ) → tile_of after.cur.items (slot_at after.index place) ≡ tile_of before.cur.items (slot_at before.index place)
+  pub alt_at : (place : ℤ × ℤ) → tile_of after.alt.items (slot_at after.index place) ≡ tile_of before.alt.items (slot_at before.index place)
+
+-- `after` is `before` with one cell of the tile of a slot made live
+pub record IsSet (before after : Slab) (slot x y : ℕ) : Type 0 where
+  pub same : after ≡ record before { cur = after.cur }
+  pub count : length after.cur.items ≡ length before.cur.items
+  pub apart : (k : ℕ) → k ≢ slot → tile_of after.cur.items k ≡ tile_of before.cur.items k
+  pub here : tile_cell (tile_of after.cur.items slot) x y ≡ 1
+  pub others : (k a b : ℕ) → a < 64 → (k ≢ slot) ⊎ ((a ≢ x) ⊎ (b ≢ y)) → tile_cell (tile_of after.cur.items k) a b ≡ tile_cell (tile_of before.cur.items k) a b

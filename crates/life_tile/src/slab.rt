@@ -1,0 +1,352 @@
+//! A slab: tiles in slots, in this generation and in the one before.
+ghost use Rattle.std.specs.Prelude.{◌≡◌, ◌≢◌, ℕ, pos, ◌+ℤ◌, ◌*ℤ◌, ◌+◌, ◌<◌, ◌≤◌, true, All, OnOk, IfOk, length};
+ghost use Rattle.life_model.specs.Evolution.{next};
+ghost use Rattle.life_model.specs.Generation.{empty, from_list, insert, size};
+ghost use Rattle.life_cells.specs.Limits.{IsWithin};
+ghost use Rattle.life_tile.specs.Slots.{slot_at, place_of, link_of, tile_of, IsReached};
+ghost use Rattle.life_tile.specs.Work.{mark_of};
+ghost use Rattle.life_tile.specs.Rims.{IsRimOf, IsStill};
+
+use crate::counting::count_cells;
+use crate::listing::push_tiles;
+use crate::rim::Rim;
+use crate::slot::{HERE, Slot, connect, links_around, neighbour, slot_or_none, with_link};
+use crate::stepping::{mark_all, next_tiles};
+use life_bits::Tile;
+use life_cells::rule::Rule;
+use std::alloc::{AllocError, Global};
+use std::collections::BTreeMap;
+use std::mem::swap;
+
+/// Tiles in slots. Slot 0 has the empty tile and no place.
+#[derive(Drop)]
+pub struct Slab {
+    /// From the place of each tile to its slot.
+    pub index: BTreeMap<(i32, i32), usize>,
+    pub slots: Vec<Slot>,
+    /// The tiles of this generation.
+    pub cur: Vec<Tile>,
+    /// The tiles of the generation before, where the slab is not fresh. They become the next.
+    pub alt: Vec<Tile>,
+    /// Which slots may have another tile in the next generation than in the one before.
+    pub todo: Vec<bool>,
+    /// Room for the same of the generation after.
+    pub marks: Vec<bool>,
+    /// The rule by which this generation came of the one before.
+    pub rule: Rule,
+    /// Whether `alt` is no generation. Then every slot has something to do.
+    pub fresh: bool,
+    /// How many steps it has made.
+    pub age: u32,
+}
+
+/// In which column of tiles a column of cells is, and which of its 64 it is. The same for rows.
+fn split(z: i32) -> (i32, usize)
+    ensures small { result.1 < 64 }
+    ensures is { z ≡ ((pos 64 *ℤ result.0) +ℤ pos result.1) }
+{
+    (z.div_euclid(64), z.rem_euclid(64) as usize)
+}
+
+impl Slab {
+    ghost use Rattle.life_tile.specs.Slabs.{HasRoom, IsAlike, IsAppended, IsClosed, IsExtended, IsGrown, IsKept, IsSet, IsSlotOf, members_of};
+
+    /// The slab without a live cell.
+    pub fn new(alloc: Global, age: u32) -> Result<Slab, AllocError>
+        requires { age ≤ 4194304 }
+        ensures kept { IfOk result IsKept }
+        ensures members { IfOk result (λ slab. members_of slab ≡ empty) }
+        ensures age { IfOk result (λ slab. slab.age ≡ age) }
+        ensures fresh { IfOk result (λ slab. slab.fresh ≡ true) }
+    {
+        let mut slab = Slab {
+            index: BTreeMap::new(alloc),
+            slots: Vec::new(alloc),
+            cur: Vec::new(alloc),
+            alt: Vec::new(alloc),
+            todo: Vec::new(alloc),
+            marks: Vec::new(alloc),
+            rule: Rule::life(),
+            fresh: true,
+            age,
+        };
+        slab.reserve_one()?;
+        slab.append(Slot {
+            place: (0, 0),
+            links: [0; 9],
+        });
+        Ok(slab)
+    }
+
+    /// Room for one slot more.
+    fn reserve_one(&mut self) -> Result<(), AllocError>
+        ensures alike { IsAlike self.old self.new }
+        ensures index { self.new.index ≡ self.old.index }
+        ensures room { OnOk result (HasRoom self.new) }
+    {
+        self.slots.reserve(1)?;
+        self.cur.reserve(1)?;
+        self.alt.reserve(1)?;
+        self.todo.reserve(1)?;
+        self.marks.reserve(1)?;
+        Ok(())
+    }
+
+    /// One slot more at the end, with the empty tile twice, and something to do.
+    fn append(&mut self, slot: Slot)
+        requires { HasRoom self.old }
+        ensures { IsAppended self.old self.new slot }
+    {
+        let _ = self.slots.push(slot);
+        let _ = self.cur.push(Tile::EMPTY);
+        let _ = self.alt.push(Tile::EMPTY);
+        let _ = self.todo.push(true);
+        let _ = self.marks.push(false);
+    }
+
+    /// Makes a slot for a place that has none.
+    fn add(&mut self, place: (i32, i32)) -> Result<(), AllocError>
+        requires kept { IsKept self.old }
+        requires reached { IsReached self.old.age place }
+        requires absent { slot_at self.old.index place ≡ 0 }
+        ensures kept { IsKept self.new }
+        ensures extended { IsExtended self.old self.new }
+        ensures slot { OnOk result (IsSlotOf self.new.slots.items place (length self.old.slots.items)) }
+        ensures indexed { OnOk result (slot_at self.new.index place ≡ length self.old.slots.items) }
+    {
+        let slot = self.slots.len();
+        let links = with_link(links_around(&self.index, place), HERE, slot);
+        self.reserve_one()?;
+        self.index.insert(place, slot)?;
+        self.append(Slot { place, links });
+        connect(&mut self.slots, &links, slot);
+        Ok(())
+    }
+
+    /// The rim of the tile of a slot.
+    fn rim_of(&self, slot: usize) -> Rim
+        requires { slot < length self.now.cur.items }
+        ensures { IsRimOf result (tile_of self.now.cur.items slot) }
+    {
+        Rim::of(&self.cur[slot])
+    }
+
+    /// The slot in a direction from a slot, 0 where there is none.
+    fn link(&self, slot: usize, direction: usize) -> usize
+        requires slot { slot < length self.now.slots.items }
+        requires direction { direction < 9 }
+        ensures { result ≡ link_of self.now.slots.items slot direction }
+    {
+        self.slots[slot].links[direction]
+    }
+
+    /// The place of a slot.
+    fn place(&self, slot: usize) -> (i32, i32)
+        requires { slot < length self.now.slots.items }
+        ensures { result ≡ place_of self.now.slots.items slot }
+    {
+        self.slots[slot].place
+    }
+
+    /// Whether there is a slot in each direction from a slot.
+    fn is_surrounded(&self, slot: usize) -> bool
+        requires { slot < length self.now.slots.items }
+        ensures { result ≡ true → (m : ℕ) → m < 9 → link_of self.now.slots.items slot m ≢ 0 }
+    {
+        for direction in 0..9 {
+            if self.link(slot, direction) == 0 {
+                return false;
+            }
+        }
+        true
+    }
+
+    /// Whether a slot has something to do.
+    fn is_busy(&self, slot: usize) -> bool
+        requires { slot < length self.now.todo.items }
+        ensures { result ≡ mark_of self.now.todo.items slot }
+    {
+        self.todo[slot]
+    }
+
+    /// Makes a slot for the place in a direction from a slot, if it has none and a live cell is next to it.
+    fn grow_towards(&mut self, slot: usize, rim: &Rim, direction: usize) -> Result<(), AllocError>
+        requires kept { IsKept self.old }
+        requires later { 0 < slot }
+        requires slot { slot < length self.old.slots.items }
+        requires rim { IsRimOf rim.now (tile_of self.old.cur.items slot) }
+        requires direction { direction < 9 }
+        ensures kept { IsKept self.new }
+        ensures extended { IsExtended self.old self.new }
+        ensures grown { OnOk result (link_of self.new.slots.items slot direction ≡ 0 → IsStill (tile_of self.old.cur.items slot) direction) }
+    {
+        if self.link(slot, direction) == 0 && rim.reaches(direction) {
+            self.add(neighbour(self.place(slot), direction))?;
+        }
+        Ok(())
+    }
+
+    /// Makes slots for the places around a slot that a live cell of its tile is next to.
+    fn grow_around(&mut self, slot: usize) -> Result<(), AllocError>
+        requires kept { IsKept self.old }
+        requires later { 0 < slot }
+        requires slot { slot < length self.old.slots.items }
+        ensures kept { IsKept self.new }
+        ensures extended { IsExtended self.old self.new }
+        ensures closed { OnOk result (IsClosed self.new.slots.items self.new.cur.items slot) }
+    {
+        if self.is_surrounded(slot) {
+            return Ok(());
+        }
+        let rim = self.rim_of(slot);
+        for direction in 0..9 {
+            self.grow_towards(slot, &rim, direction)?;
+        }
+        Ok(())
+    }
+
+    /// Makes slots for all places that a live cell is in or next to.
+    pub fn grow(&mut self) -> Result<(), AllocError>
+        requires { IsKept self.old }
+        ensures kept { IsKept self.new }
+        ensures members { members_of self.new ≡ members_of self.old }
+        ensures rule { self.new.rule ≡ self.old.rule }
+        ensures age { self.new.age ≡ self.old.age }
+        ensures grown { OnOk result (IsGrown self.new) }
+    {
+        for slot in 1..self.slots.len() {
+            if self.is_busy(slot) {
+                self.grow_around(slot)?;
+            }
+        }
+        Ok(())
+    }
+
+    /// Has every slot do its work, if the last step was by another rule.
+    pub fn follow(&mut self, rule: &Rule)
+        requires { IsKept self.old }
+        ensures kept { IsKept self.new }
+        ensures members { members_of self.new ≡ members_of self.old }
+        ensures rule { self.new.rule ≡ rule.now }
+        ensures age { self.new.age ≡ self.old.age }
+    {
+        if self.rule != *rule {
+            self.rule = *rule;
+            self.fresh = true;
+            mark_all(&mut self.todo, true);
+        }
+    }
+
+    /// The next generation.
+    pub fn advance(&mut self)
+        requires kept { IsKept self.old }
+        requires grown { IsGrown self.old }
+        requires young { self.old.age < 4194304 }
+        ensures kept { IsKept self.new }
+        ensures members { members_of self.new ≡ next self.old.rule (members_of self.old) }
+        ensures age { self.new.age ≡ self.old.age + 1 }
+    {
+        mark_all(&mut self.marks, self.fresh);
+        next_tiles(
+            &self.slots,
+            &self.cur,
+            &mut self.alt,
+            &self.todo,
+            &mut self.marks,
+            &self.rule,
+        );
+        swap(&mut self.cur, &mut self.alt);
+        swap(&mut self.todo, &mut self.marks);
+        self.fresh = false;
+        self.age += 1;
+    }
+
+    /// The slot of a place, which is made if there is none.
+    fn slot_for(&mut self, place: (i32, i32)) -> Result<usize, AllocError>
+        requires kept { IsKept self.old }
+        requires reached { IsReached self.old.age place }
+        ensures kept { IsKept self.new }
+        ensures extended { IsExtended self.old self.new }
+        ensures slot { IfOk result (IsSlotOf self.new.slots.items place) }
+    {
+        let slot = slot_or_none(&self.index, place);
+        if slot != 0 {
+            return Ok(slot);
+        }
+        let slot = self.slots.len();
+        self.add(place)?;
+        Ok(slot)
+    }
+
+    /// Makes the cell in column `x` and row `y` of a slot's tile live.
+    fn set(&mut self, slot: usize, x: usize, y: usize)
+        requires slot { slot < length self.old.cur.items }
+        requires column { x < 64 }
+        requires row { y < 64 }
+        ensures { IsSet self.old self.new slot x y }
+    {
+        self.cur[slot].set(x, y, true);
+    }
+
+    /// Makes one cell live.
+    fn put(&mut self, cell: (i32, i32)) -> Result<(), AllocError>
+        requires kept { IsKept self.old }
+        requires fresh { self.old.fresh ≡ true }
+        requires within { IsWithin self.old.age cell }
+        ensures kept { OnOk result (IsKept self.new) }
+        ensures fresh { OnOk result (self.new.fresh ≡ true) }
+        ensures age { OnOk result (self.new.age ≡ self.old.age) }
+        ensures members { OnOk result (members_of self.new ≡ insert (members_of self.old) cell) }
+    {
+        let (column, x) = split(cell.0);
+        let (row, y) = split(cell.1);
+        let slot = self.slot_for((column, row))?;
+        self.set(slot, x, y);
+        Ok(())
+    }
+
+    /// The slab of these cells, which may come in any order and with repeats.
+    pub fn of(alloc: Global, cells: &[(i32, i32)], age: u32) -> Result<Slab, AllocError>
+        requires young { age ≤ 4194304 }
+        requires within { All (IsWithin age) cells.now }
+        ensures kept { IfOk result IsKept }
+        ensures members { IfOk result (λ slab. members_of slab ≡ from_list cells.now) }
+        ensures age { IfOk result (λ slab. slab.age ≡ age) }
+    {
+        let mut slab = Slab::new(alloc, age)?;
+        for cell in cells {
+            slab.put(*cell)?;
+        }
+        Ok(slab)
+    }
+
+    /// The live cells, in no order that is told.
+    pub fn cells(&self) -> Result<Vec<(i32, i32)>, AllocError>
+        requires { IsKept self.now }
+        ensures members { IfOk result (λ cells. from_list cells.items ≡ members_of self.now) }
+        ensures within { IfOk result (λ cells. All (IsWithin self.now.age) cells.items) }
+    {
+        let mut cells = Vec::new(*self.slots.allocator());
+        push_tiles(&mut cells, &self.index, &self.cur)?;
+        Ok(cells)
+    }
+
+    /// How many live cells there are.
+    pub fn population(&self) -> u64
+        requires { IsKept self.now }
+        ensures { result ≡ size (members_of self.now) }
+    {
+        count_cells(&self.index, &self.cur)
+    }
+
+    /// The same cells at the same age in a slab that has no slot for a tile without a live cell.
+    pub fn compacted(&self) -> Result<Slab, AllocError>
+        requires { IsKept self.now }
+        ensures kept { IfOk result IsKept }
+        ensures members { IfOk result (λ slab. members_of slab ≡ members_of self.now) }
+        ensures age { IfOk result (λ slab. slab.age ≡ self.now.age) }
+    {
+        let cells = self.cells()?;
+        Slab::of(*self.slots.allocator(), cells.as_slice(), self.age)
+    }
+}
