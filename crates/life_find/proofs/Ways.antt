@@ -102,8 +102,10 @@ none_missed P (Some d) none missed = absurd (true≢false none)
 
 -- ---- of two sets, by their sizes
 
-pub apart_by_size : (G H : Generation) → size G ≢ size H → normal G ≡ normal H → ⊥
-apart_by_size G H differ e =
+pub same_size : (G H : Generation) → normal G ≡ normal H → size G ≡ size H
+same_size G H e =
     let m = (normal_decides G H).0 e in
-    differ
-    (size-cells G ∙ sym (length-map (cells G) (λ c. plus c m.0)) ∙ ap length (sym (cells-moved G m.0)) ∙ ap (λ X. length (cells X)) (sym m.1) ∙ sym (size-cells H))
+    size-cells G ∙ sym (length-map (cells G) (λ c. plus c m.0)) ∙ ap length (sym (cells-moved G m.0)) ∙ ap (λ X. length (cells X)) (sym m.1) ∙ sym (size-cells H)
+
+pub apart_by_size : (G H : Generation) → size G ≢ size H → normal G ≡ normal H → ⊥
+apart_by_size G H differ e = differ (same_size G H e)

@@ -62,7 +62,7 @@ fn answer_on<P: Plane>(alloc: Global, text: &[u8], bound: u32) -> Result<Answer,
 /// What is found of an RLE text within the bound: the rule and the finding of the pattern that it means, or the number of
 /// its fault.
 ///
-/// It may look at generations past the bound, up to three times the bound.
+/// It may look at generations past the bound, up to twice the bound.
 pub fn answer(alloc: Global, text: &[u8], bound: u32) -> Result<Answer, AllocError>
     requires { 1 ≤ bound × bound ≤ BOUND_LIMIT }
     ensures { IfOk result (λ answer. answer ≡ answer_of text.now bound) }

@@ -49,7 +49,7 @@ pub fn find_cells<P: Plane>(
 {
     let start = P::from_cells(alloc, cells)?;
     let population = start.population();
-    match settling(&start, rule, bound)? {
+    match settling(alloc, &start, rule, bound)? {
         None => Ok(Finding::Unresolved { population }),
         Some((recurrence, plane)) => {
             let code = code_of(alloc, plane, rule, &recurrence)?;
@@ -61,7 +61,7 @@ pub fn find_cells<P: Plane>(
 /// What is found of a pattern within the bound, over planes of any kind: its population, and where some generation up to
 /// the bound stands again later, moved as a whole, also its onset, period, displacement and apgcode, as on LifeWiki.
 ///
-/// It may look at generations past the bound, up to three times the bound.
+/// It may look at generations past the bound, up to twice the bound.
 pub fn find<P: Plane>(alloc: Global, pattern: &Pattern, bound: u32) -> Result<Finding, AllocError>
     requires { 1 ≤ bound × bound ≤ BOUND_LIMIT }
     ensures { IfOk result (λ found. found ≡ finding_of pattern.now.rule pattern.now.cells bound) }

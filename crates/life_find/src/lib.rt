@@ -3,6 +3,7 @@
 
 pub mod answer;
 mod apgcode;
+mod candidates;
 pub mod find;
 pub mod limit;
 pub mod same_object;

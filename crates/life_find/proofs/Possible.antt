@@ -1,0 +1,165 @@
+-- Which periods the populations leave possible.
+use Rattle.std.proofs.Common.{◌≡◌, ℕ, suc, ◌+◌, ◌-◌, ◌<◌, ◌≤◌, Bool, true, false, cond, List, [], ◌∷◌, ◌++◌, length, get_or, inl, inr, sym, ap, subst, ◌∙◌, arith}
+use Rattle.std.specs.List.{Contains, filter, range_with_len}
+use Rattle.std.proofs.lemmas.List.Elements.{filter-append, Contains-append_right, Contains-append_cases, Contains-push_cases}
+use Rattle.std.proofs.lemmas.Bool.{cases_lt}
+use Rattle.std.proofs.lemmas.List.{get_or_append_left, length-append}
+use Rattle.std.proofs.Math.Seq.{get_or-append_seam}
+use Rattle.std.proofs.lemmas.List.FromFn.{length-range_with_len, get_or-range_with_len}
+use Rattle.std.proofs.lemmas.Bool.Decides.{Decides-and, Decides-not, Decides-ltb, Decides-eqb}
+use Rattle.life_model.specs.Rule.{Rule}
+use Rattle.life_model.specs.Generation.{Generation, size}
+use Rattle.life_model.specs.Evolution.{generation}
+use Rattle.life_model.specs.Recurrence.{SettlesAt}
+use Rattle.life_model.proofs.Orbits.{along}
+use Rattle.life_model.proofs.Recurrences.{shape, shape-follows, shape_from_move}
+use Rattle.life_find.specs.Search.{ArePopulations, changes_at, ends_alike}
+use Rattle.life_find.proofs.Ahead.{Ahead}
+use Rattle.life_find.proofs.Leasts.{range-more}
+use Rattle.life_find.proofs.Ways.{same_size}
+
+-- ---- the elements at which a test gives true
+
+nothing_inside : {X : Type 0} (x : X) → Contains [] x → ⊥
+nothing_inside x h = let below : h.0 < 0 = h.1 in omega arith
+
+pub Contains-filter : {X : Type 0} (test : X → Bool) (xs : List X) (x : X) → Contains xs x → test x ≡ true → Contains (filter test xs) x
+Contains-filter test [] x h e = absurd (nothing_inside x h)
+Contains-filter test (y ∷ ys) x h e =
+    let rest = filter test ys in
+    elim (Contains-append_cases (y ∷ []) ys x h) [
+      | inl here ↦ elim (Contains-push_cases [] y x here) [
+        | inl never ↦ absurd (nothing_inside x never)
+        | inr same ↦
+            let passes : true ≡ test y = sym e ∙ ap test (sym same) in
+            subst (λ b. Contains (cond b (y ∷ rest) rest) x) passes (0, omega arith, same)
+      ]
+      | inr there ↦
+          let later : Contains rest x = Contains-filter test ys x there e in
+          elim (test y) as (λ b. Contains (cond b (y ∷ rest) rest) x) [ true ↦ Contains-append_right (y ∷ []) rest x later | false ↦ later ]
+    ]
+
+Contains-range : (b p : ℕ) → 1 ≤ p → p ≤ b → Contains (range_with_len 1 b) p
+Contains-range b p h k =
+    let inside : p - 1 < b = omega arith in
+    (p - 1, omega (arith, length-range_with_len 1 b), get_or-range_with_len 1 b (p - 1) p inside ∙ (let e : 1 + (p - 1) ≡ p = omega arith in e))
+
+pub candidates-more : (test : ℕ → Bool) (xs ys : List ℕ) (p : ℕ) → 1 ≤ p → xs ≡ filter test (range_with_len 1 (p - 1)) → ys ≡ xs ++ cond (test p) (p ∷ []) [] → ys ≡ filter test (range_with_len 1 (p + 1 - 1))
+candidates-more test xs ys p h e f =
+    f
+    ∙ ap (λ l. l ++ cond (test p) (p ∷ []) []) e
+    ∙ ap (λ q. filter test (range_with_len 1 (p - 1)) ++ cond (test q) (q ∷ []) []) (let same : p ≡ 1 + (p - 1) = omega arith in same)
+    ∙ sym (filter-append test (range_with_len 1 (p - 1)) ((1 + (p - 1)) ∷ []))
+    ∙ ap (filter test) (sym (range-more 1 (p - 1)))
+    ∙ ap (λ n. filter test (range_with_len 1 n)) (let same : suc (p - 1) ≡ p + 1 - 1 = omega arith in same)
+
+-- ---- populations
+
+module _ (R : Rule) (G : Generation) (list new : List ℕ) (x n : ℕ) (e : new ≡ list ++ x ∷ []) (count : length list ≡ n) where
+  pub length-more : length new ≡ n + 1
+  length-more = ap length e ∙ length-append list (x ∷ []) ∙ ap (λ m. m + 1) count
+
+  pub ArePopulations-more : ArePopulations R G list → x ≡ size (generation R G n) → ArePopulations R G new
+  ArePopulations-more are counted = record {
+    each = λ k below.
+        let longer : length new ≡ n + 1 = length-more in
+        ap (λ l. get_or l k 0) e
+        ∙ elim (cases_lt k (length list)) [
+          | inl less ↦ get_or_append_left list (x ∷ []) 0 k less ∙ are.each k less
+          | inr last ↦
+              ap (λ j. get_or (list ++ x ∷ []) j 0) (let q : k ≡ length list = omega arith in q)
+              ∙ get_or-append_seam list x [] 0
+              ∙ counted
+              ∙ ap (λ j. size (generation R G j)) (let q : n ≡ k = omega arith in q)
+        ];
+  }
+
+pub ArePopulations-none : (R : Rule) (G : Generation) (list : List ℕ) → list ≡ [] → ArePopulations R G list
+ArePopulations-none R G list e = record { each = λ k below. absurd (let none : length list ≡ 0 = ap length e in omega arith) }
+
+-- ---- possible periods
+
+-- Each generation from b on is that p generations before it, moved. So it is where a set settles within b.
+pub record IsPossible (R : Rule) (G : Generation) (b p : ℕ) : Type 0 where
+  pub least : 1 ≤ p
+  pub most : p ≤ b
+  pub again : (n : ℕ) → b ≤ n → shape R G n ≡ shape R G (n - p)
+
+module _ (R : Rule) (G : Generation) (b : ℕ) where
+  pub possible_by_settling : (g : ℕ) → SettlesAt R G b g → (p : ℕ) × IsPossible R G b p
+  possible_by_settling g s =
+      let p = s.steps in
+      let later : 1 ≤ p = s.later in
+      let within : g + p ≤ b = s.within in
+      let e : shape R G (g + p) ≡ shape R G g = shape_from_move R G g p s.by s.again in (
+        p,
+        record {
+          least = later;
+          most = omega arith;
+          again = λ n h.
+              let k : ℕ = n - (g + p) in
+              ap (shape R G) (let q : n ≡ (g + p) + k = omega arith in q)
+              ∙ along (shape R G) (shape-follows R G) k (g + p) g e
+              ∙ ap (shape R G) (let q : g + k ≡ n - p = omega arith in q);
+        },
+      )
+
+  ends_alike-possible : (list : List ℕ) (p : ℕ) → ArePopulations R G list → b < length list → IsPossible R G b p → ends_alike list p ≡ true
+  ends_alike-possible list p are far possible =
+      let least : 1 ≤ p = possible.least in
+      let most : p ≤ b = possible.most in
+      let last : ℕ = length list - 1 in
+      let same : get_or list (length list - 1 - p) 0 ≡ get_or list (length list - 1) 0 =
+      are.each (length list - 1 - p) (omega arith)
+      ∙ sym (same_size _ _ (possible.again (length list - 1) (omega arith)))
+      ∙ sym (are.each (length list - 1) (omega arith)) in
+      (Decides-and _ _ (Decides-ltb p (length list)) (Decides-eqb _ _)).1 (omega arith, same)
+
+  -- each possible period is still among the candidates
+  pub record AreLeft (periods : List ℕ) : Type 0 where
+    pub each : (p : ℕ) → IsPossible R G b p → Contains periods p
+
+  pub AreLeft-start : (list periods : List ℕ) → ArePopulations R G list → length list ≡ b + 1 → periods ≡ filter (ends_alike list) (range_with_len 1 b) → AreLeft periods
+  AreLeft-start list periods are count e = record {
+    each = λ p possible.
+        subst (λ l. Contains l p) (sym e)
+        (Contains-filter (ends_alike list) (range_with_len 1 b) p (Contains-range b p possible.least possible.most) (ends_alike-possible list p are (omega arith) possible));
+  }
+
+  pub AreLeft-next : (list before periods : List ℕ) → ArePopulations R G list → b < length list → AreLeft before → periods ≡ filter (ends_alike list) before → AreLeft periods
+  AreLeft-next list before periods are far left e = record {
+    each = λ p possible. subst (λ l. Contains l p) (sym e) (Contains-filter (ends_alike list) before p (left.each p possible) (ends_alike-possible list p are far possible));
+  }
+
+  pub nowhere_left : (periods : List ℕ) → length periods ≡ 0 → AreLeft periods → (g : ℕ) → SettlesAt R G b g → ⊥
+  nowhere_left periods none left g s =
+      let possible = possible_by_settling g s in
+      let inside = left.each possible.0 possible.1 in
+      let below : inside.0 < length periods = inside.1 in
+      omega arith
+
+  pub nowhere_past : Ahead R G b (b + b) → (g : ℕ) → SettlesAt R G b g → ⊥
+  nowhere_past ahead g s =
+      let possible = possible_by_settling g s in
+      let p = possible.0 in
+      let most : p ≤ b = possible.1.most in
+      ahead.none p possible.1.least (omega arith) (possible.1.again (b + p) (omega arith) ∙ ap (shape R G) (let q : b + p - p ≡ b = omega arith in q))
+
+-- ---- the onset
+
+module _ (R : Rule) (G : Generation) (list : List ℕ) (are : ArePopulations R G list) (p first : ℕ) (change : (i : ℕ) → first ≡ i + 1 → changes_at list p i ≡ true) where
+  -- no generation before the first that the populations leave comes again after p steps
+  pub none_before : (h : ℕ) → h < first → shape R G (h + p) ≡ shape R G h → ⊥
+  none_before h below e =
+      let i : ℕ = first - 1 in
+      let k : ℕ = i - h in
+      let differ = (Decides-and _ _ (Decides-ltb (i + p) (length list)) (Decides-not _ (Decides-eqb (get_or list i 0) (get_or list (i + p) 0)))).0
+      (change i (omega arith)) in
+      let inside : i + p < length list = differ.0 in
+      differ.1
+      (are.each i (omega arith)
+      ∙ sym (same_size _ _
+      (ap (shape R G) (let q : i + p ≡ (h + p) + k = omega arith in q)
+      ∙ along (shape R G) (shape-follows R G) k (h + p) h e
+      ∙ ap (shape R G) (let q : h + k ≡ i = omega arith in q)))
+      ∙ sym (are.each (i + p) inside))
