@@ -1,7 +1,8 @@
 -- A slot more.
-use Rattle.std.proofs.Common.{◌≡◌, ◌≢◌, ℕ, ℤ, pos, ◌+ℤ◌, ◌-ℤ◌, ◌+◌, ◌-◌, ◌%◌, ◌/◌, ◌<◌, ◌⊎◌, inl, inr, ⊎_elim, Bool, true, false, List, [], ◌∷◌, ◌++◌, Some, length, length-append, get_or, slice_index, refl, sym, subst, ap, ◌∙◌, arith}
+use Rattle.std.proofs.Common.{◌≡◌, ◌≢◌, ℕ, ℤ, pos, ◌+ℤ◌, ◌-ℤ◌, ◌+◌, ◌-◌, ◌%◌, ◌/◌, ◌<◌, ◌⊎◌, inl, inr, ⊎_elim, true, false, List, [], ◌∷◌, ◌++◌, Some, length, length-append, get_or, slice_index, refl, sym, subst, ap, ◌∙◌, arith}
 use Rattle.std.specs.Option.{unwrap_or}
 use Rattle.std.specs.BTreeMap.{IsOrdered, get, is_at}
+use Rattle.std.specs.Int.{bit_at}
 use Rattle.std.proofs.Math.ListN.{get_or-append}
 use Rattle.std.proofs.Math.Seq.{get_or-append_seam}
 use Rattle.std.proofs.lemmas.Bool.{cases_eq, cases_lt}
@@ -11,11 +12,13 @@ use Rattle.life_tile.specs.Places.{place_cmp}
 use Rattle.std.specs.Ordering.{is_eq}
 use Rattle.std.specs.Cmp.{tied_itself}
 use Rattle.life_tile.proofs.Orders.{same_or_other, place_total}
+use Rattle.life_tile.specs.declared.bands.Bands.{Bands}
 use Rattle.life_tile.specs.declared.slot.Slot.{Slot}
 use Rattle.life_tile.specs.declared.slab.Slab.{Slab}
 use Rattle.life_tile.specs.Slots.{Index, slot_at, neighbour_at, place_of, link_of, tile_of, empty_tile, no_slot}
 use Rattle.life_tile.specs.Work.{mark_of}
-use Rattle.life_tile.specs.Slabs.{IsIndexed, IsSlotOf, IsSlab, IsExtended}
+use Rattle.life_tile.specs.Slabs.{IsIndexed, IsSlotOf, IsSlab, IsExtended, all_bands, no_bands}
+use Rattle.life_tile.proofs.Lists.{all_marked}
 use Rattle.life_tile.proofs.Places.{slot_cases, slot_of_place}
 
 opposite_side : (a b : ℤ) (d : ℕ) → d < 3 → ((a +ℤ pos d) -ℤ pos 1) ≡ b → ((b +ℤ pos (2 - d)) -ℤ pos 1) ≡ a
@@ -61,8 +64,8 @@ pub record IsAdded (before after : Slab) (place : ℤ × ℤ) (links : List ℕ)
   pub fresh : after.fresh ≡ before.fresh
   pub cur : after.cur.items ≡ before.cur.items ++ empty_tile ∷ []
   pub alt : after.alt.items ≡ before.alt.items ++ empty_tile ∷ []
-  pub todo : after.todo.items ≡ before.todo.items ++ true ∷ []
-  pub marks : after.marks.items ≡ before.marks.items ++ false ∷ []
+  pub todo : after.todo.items ≡ before.todo.items ++ all_bands ∷ []
+  pub marks : after.marks.items ≡ before.marks.items ++ no_bands ∷ []
 
 one_longer : {A : Type 0} (xs : List A) (x : A) → length (xs ++ x ∷ []) ≡ length xs + 1
 one_longer xs x = length-append xs (x ∷ [])
@@ -223,8 +226,8 @@ module _ (before after : Slab) (place : ℤ × ℤ) (links : List ℕ) (whole : 
         indexed = added_indexed;
         cur_length = ap (λ (ts : List Tile). length ts) added.cur ∙ one_longer before.cur.items empty_tile ∙ ap (λ n. n + 1) whole.cur_length ∙ sym count_is;
         alt_length = ap (λ (ts : List Tile). length ts) added.alt ∙ one_longer before.alt.items empty_tile ∙ ap (λ n. n + 1) whole.alt_length ∙ sym count_is;
-        todo_length = ap (λ (bs : List Bool). length bs) added.todo ∙ one_longer before.todo.items true ∙ ap (λ n. n + 1) whole.todo_length ∙ sym count_is;
-        marks_length = ap (λ (bs : List Bool). length bs) added.marks ∙ one_longer before.marks.items false ∙ ap (λ n. n + 1) whole.marks_length ∙ sym count_is;
+        todo_length = ap (λ (bs : List Bands). length bs) added.todo ∙ one_longer before.todo.items all_bands ∙ ap (λ n. n + 1) whole.todo_length ∙ sym count_is;
+        marks_length = ap (λ (bs : List Bands). length bs) added.marks ∙ one_longer before.marks.items no_bands ∙ ap (λ n. n + 1) whole.marks_length ∙ sym count_is;
         cur_none = tile_old before.cur.items after.cur.items added.cur 0 (let h = whole.cur_length in omega arith) ∙ whole.cur_none;
         alt_none = tile_old before.alt.items after.alt.items added.alt 0 (let h = whole.alt_length in omega arith) ∙ whole.alt_none;
       }
@@ -268,13 +271,18 @@ module _ (before after : Slab) (place : ℤ × ℤ) (links : List ℕ) (whole : 
         alt = λ k inside. tile_old before.alt.items after.alt.items added.alt k (omega arith);
         cur_new = λ k past inside. tile_new before.cur.items after.cur.items added.cur k (omega arith);
         alt_new = λ k past inside. tile_new before.alt.items after.alt.items added.alt k (omega arith);
-        todo = λ k later inside clear.
+        todo = λ k band inside small clear.
             ⊎_elim
-            (λ (old : k < length before.slots.items).
-            (old, sym (ap (λ (bs : List Bool). mark_of bs k) added.todo ∙ get_or-append before.todo.items (true ∷ []) false k (omega arith)) ∙ clear))
+            (λ (old : k < length before.slots.items). (
+              old,
+              sym (ap (λ (bs : List Bands). mark_of bs k band) added.todo
+                  ∙ ap (λ (v : Bands). bit_at v.bits band) (get_or-append before.todo.items (all_bands ∷ []) no_bands k (omega arith))) ∙ clear,
+            ))
             (λ past.
-            let never : true ≡ false = sym (ap (λ (bs : List Bool). mark_of bs k) added.todo ∙ at_end before.todo.items true false k (omega arith)) ∙ clear in
-            absurd (cc))
+            let never : 1 ≡ 0 =
+            sym (ap (λ (bs : List Bands). mark_of bs k band) added.todo ∙ ap (λ (v : Bands). bit_at v.bits band) (at_end before.todo.items all_bands no_bands k (omega arith)) ∙ all_marked band small)
+            ∙ clear in
+            absurd (omega arith))
             (cases_lt k (length before.slots.items));
         cur_at = shown_at before.cur.items after.cur.items whole.cur_length whole.cur_none added.cur;
         alt_at = shown_at before.alt.items after.alt.items whole.alt_length whole.alt_none added.alt;

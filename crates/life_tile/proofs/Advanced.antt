@@ -1,5 +1,5 @@
 -- What a slab keeps in a step.
-use Rattle.std.proofs.Common.{◌≡◌, ℕ, ℤ, pos, ◌+ℤ◌, ◌*ℤ◌, ◌+◌, ◌<◌, ⊎_elim, Bool, true, false, List, length, refl, sym, subst, ap, ◌∙◌, arith}
+use Rattle.std.proofs.Common.{◌≡◌, ℕ, ℤ, pos, ◌+ℤ◌, ◌*ℤ◌, ◌+◌, ◌/◌, ◌<◌, ⊎_elim, true, false, List, length, refl, sym, subst, ap, ◌∙◌, arith}
 use Rattle.std.proofs.lemmas.Int.{ints}
 use Rattle.life_model.specs.Cell.{Cell, IsNear}
 use Rattle.life_model.specs.Rule.{Rule}
@@ -8,13 +8,15 @@ use Rattle.life_model.specs.Evolution.{next}
 use Rattle.life_model.proofs.Near.{next_near}
 use Rattle.life_cells.specs.Limits.{IsWithin}
 use Rattle.life_bits.specs.declared.tile.Tile.{Tile}
+use Rattle.life_bits.specs.Flags.{as_bit}
 use Rattle.life_bits.specs.Area.{tile_cell}
 use Rattle.life_tile.proofs.Orders.{true_or_false}
+use Rattle.life_tile.specs.declared.bands.Bands.{Bands}
 use Rattle.life_tile.specs.declared.slot.Slot.{Slot}
 use Rattle.life_tile.specs.declared.slab.Slab.{Slab}
 use Rattle.life_tile.specs.Slots.{place_of, tile_of, generation_shown, IsReached}
 use Rattle.life_tile.specs.Work.{mark_of, IsWorkedOut}
-use Rattle.life_tile.specs.Slabs.{state_at, members_of, IsClosed, IsKept, IsGrown}
+use Rattle.life_tile.specs.Slabs.{state_at, members_of, IsClosed, IsCalm, IsKept, IsGrown}
 use Rattle.life_tile.proofs.Steps.{advanced, settled_again, closed_again}
 
 within_near : (age : ℕ) (g c : Cell) → IsWithin age g → IsNear c g → IsWithin (age + 1) c
@@ -33,34 +35,40 @@ reached_later age place reached = record {
   south = omega (arith, ints, reached.south);
 }
 
-pub worked_at : (slots slots' : List Slot) (cur cur' : List Tile) (todo todo' : List Bool) (rule : Rule) (alt alt' after : List Tile) (marks marked : List Bool) →
+pub worked_at : (slots slots' : List Slot) (cur cur' : List Tile) (todo todo' : List Bands) (rule : Rule) (alt alt' after : List Tile) (marks marked : List Bands) →
     slots ≡ slots' → cur ≡ cur' → todo ≡ todo' → alt ≡ alt' →
     IsWorkedOut slots cur todo rule alt after marks marked (length slots) → IsWorkedOut slots' cur' todo' rule alt' after marks marked (length slots')
 worked_at slots slots' cur cur' todo todo' rule alt alt' after marks marked p q r s worked =
     subst (λ (z : List Slot). IsWorkedOut z cur' todo' rule alt' after marks marked (length z)) p
     (subst (λ (z : List Tile). IsWorkedOut slots z todo' rule alt' after marks marked (length slots)) q
-    (subst (λ (z : List Bool). IsWorkedOut slots cur z rule alt' after marks marked (length slots)) r
+    (subst (λ (z : List Bands). IsWorkedOut slots cur z rule alt' after marks marked (length slots)) r
     (subst (λ (z : List Tile). IsWorkedOut slots cur todo rule z after marks marked (length slots)) s worked)))
 
-module _ (s u : Slab) (after : List Tile) (marks marked : List Bool) (kept : IsKept s) (grown : IsGrown s) (young : s.age < 4194304)
+module _ (s u : Slab) (after : List Tile) (marks marked : List Bands) (kept : IsKept s) (grown : IsGrown s) (young : s.age < 4194304)
     (worked : IsWorkedOut s.slots.items s.cur.items s.todo.items s.rule s.alt.items after marks marked (length s.slots.items))
-    (marks_count : length marks ≡ length s.slots.items) (marks_are : (k : ℕ) → k < length marks → mark_of marks k ≡ s.fresh)
+    (marks_count : length marks ≡ length s.slots.items) (marks_are : (k band : ℕ) → k < length marks → band < 8 → mark_of marks k band ≡ as_bit s.fresh)
     (cur_is : u.cur.items ≡ after) (alt_is : u.alt.items ≡ s.cur.items) (todo_is : u.todo.items ≡ marked) (marks_length : length u.marks.items ≡ length s.slots.items) where
   after_is : generation_shown s.index after ≡ next s.rule (members_of s)
   after_is =
       advanced s.index s.slots.items kept.whole.indexed s.cur.items s.alt.items after s.todo.items marks marked s.rule kept.whole.cur_none kept.whole.alt_none worked
-      grown.closed (λ k later inside clear x y wide high. (kept.settled k later inside clear).cell x y wide high)
+      grown.closed (λ k x y later inside wide high clear. (kept.settled k (y / 8) later inside (omega arith) clear).cell x y wide high refl)
 
-  -- in a fresh slab every slot is marked
-  known : (k : ℕ) → 0 < k → k < length s.slots.items → mark_of marked k ≡ false → s.fresh ≡ false
-  known k later inside clear =
+  -- in a fresh slab every band is marked
+  known : (k band : ℕ) → k < length s.slots.items → band < 8 → mark_of marked k band ≡ 0 → s.fresh ≡ false
+  known k band inside small clear =
       ⊎_elim
       (λ (fresh : s.fresh ≡ true).
-      let mark : mark_of marks k ≡ true = marks_are k (omega arith) ∙ fresh in
-      let never : true ≡ false = sym (worked.kept k mark) ∙ clear in
-      absurd (cc))
+      let mark : mark_of marks k band ≡ 1 = marks_are k band (omega arith) small ∙ ap as_bit fresh in
+      let never : 1 ≡ 0 = sym (worked.kept k band mark) ∙ clear in
+      absurd (omega arith))
       (λ not. not)
       (true_or_false s.fresh)
+
+  calm_marks : IsCalm u.todo.items → IsCalm marked
+  calm_marks calm = λ band small. sym (ap (λ (bs : List Bands). mark_of bs 0 band) todo_is) ∙ calm band small
+
+  known_calm : IsCalm u.todo.items → s.fresh ≡ false
+  known_calm calm = known 0 0 kept.whole.indexed.some (omega arith) (calm_marks calm 0 (omega arith))
 
   pub members_next : generation_shown s.index u.cur.items ≡ next s.rule (members_of s)
   members_next = ap (generation_shown s.index) cur_is ∙ after_is
@@ -74,7 +82,7 @@ module _ (s u : Slab) (after : List Tile) (marks marked : List Bool) (kept : IsK
       indexed = kept.whole.indexed;
       cur_length = ap (λ (ts : List Tile). length ts) cur_is ∙ worked.length_after ∙ kept.whole.alt_length;
       alt_length = ap (λ (ts : List Tile). length ts) alt_is ∙ kept.whole.cur_length;
-      todo_length = ap (λ (bs : List Bool). length bs) todo_is ∙ worked.length_marked ∙ marks_count;
+      todo_length = ap (λ (bs : List Bands). length bs) todo_is ∙ worked.length_marked ∙ marks_count;
       marks_length = marks_length;
       cur_none = ap (λ (ts : List Tile). tile_of ts 0) cur_is ∙ worked.first ∙ kept.whole.alt_none;
       alt_none = ap (λ (ts : List Tile). tile_of ts 0) alt_is ∙ kept.whole.cur_none;
@@ -86,18 +94,22 @@ module _ (s u : Slab) (after : List Tile) (marks marked : List Bool) (kept : IsK
     reached = λ k later inside. reached_later s.age (place_of s.slots.items k) (kept.reached k later inside);
     earlier = λ _. members_next ∙ ap (next s.rule) (sym earlier_is);
     earlier_closed = λ _ k later inside. subst (λ (ts : List Tile). IsClosed s.slots.items ts k) (sym alt_is) (grown.closed k later inside);
-    settled = λ k later inside clear.
-        let clear_mark : mark_of marked k ≡ false = sym (ap (λ (bs : List Bool). mark_of bs k) todo_is) ∙ clear in
-        let was_known : s.fresh ≡ false = known k later inside clear_mark in
+    settled = λ k band later inside small clear.
+        let clear_mark : mark_of marked k band ≡ 0 = sym (ap (λ (bs : List Bands). mark_of bs k band) todo_is) ∙ clear in
+        let was_known : s.fresh ≡ false = known k band inside small clear_mark in
         record {
           known = refl;
-          closed = subst (λ (ts : List Tile). IsClosed s.slots.items ts k) (sym cur_is)
-              (closed_again s.index s.slots.items kept.whole.indexed s.cur.items s.alt.items after s.todo.items marks marked s.rule kept.whole.cur_none kept.whole.alt_none worked
-              (kept.earlier_closed was_known) k later inside clear_mark);
-          cell = λ x y wide high.
+          cell = λ x y wide high in_band.
               ap (λ (ts : List Tile). tile_cell (tile_of ts k) x y) alt_is
               ∙ settled_again s.index s.slots.items kept.whole.indexed s.cur.items s.alt.items after s.todo.items marks marked s.rule kept.whole.cur_none kept.whole.alt_none worked
-              (kept.earlier was_known) k later inside clear_mark x y wide high
+              (kept.earlier was_known) k x y later inside wide high (ap (mark_of marked k) in_band ∙ clear_mark)
               ∙ ap (λ (ts : List Tile). state_at (next s.rule (generation_shown s.index ts)) (pos 64 *ℤ (place_of s.slots.items k).0 +ℤ pos x) (pos 64 *ℤ (place_of s.slots.items k).1 +ℤ pos y)) (sym cur_is);
         };
+    calm = λ _. refl;
+    grown = λ calm. record {
+      closed = λ k later inside.
+          subst (λ (ts : List Tile). IsClosed s.slots.items ts k) (sym cur_is)
+          (closed_again s.index s.slots.items kept.whole.indexed s.cur.items s.alt.items after s.todo.items marks marked s.rule kept.whole.cur_none kept.whole.alt_none worked
+          (calm_marks calm) (kept.earlier_closed (known_calm calm)) k later inside);
+    };
   }

@@ -16,12 +16,13 @@ use Rattle.life_bits.specs.Flags.{as_bit}
 use Rattle.life_bits.specs.Area.{tile_cell}
 use Rattle.life_tile.specs.Places.{place_cmp, IsInside}
 use Rattle.life_tile.proofs.Splits.{not_one}
+use Rattle.life_tile.specs.declared.bands.Bands.{Bands}
 use Rattle.life_tile.specs.declared.slot.Slot.{Slot}
 use Rattle.life_tile.specs.declared.slab.Slab.{Slab}
 use Rattle.life_tile.specs.Slots.{slot_at, neighbour_at, place_of, link_of, tile_of, empty_tile, IsReached}
 use Rattle.life_tile.specs.Rims.{IsEdge, IsAtEdge, IsStill}
 use Rattle.life_tile.specs.Work.{mark_of}
-use Rattle.life_tile.specs.Slabs.{state_at, IsSlab, members_of, earlier_of, IsClosed, IsSettled, IsKept, IsAlike, IsExtended}
+use Rattle.life_tile.specs.Slabs.{state_at, IsSlab, members_of, earlier_of, IsClosed, IsSettled, IsCalm, IsKept, IsAlike, IsExtended}
 use Rattle.life_tile.proofs.Shown.{empty_cell, shown_state, same_states}
 use Rattle.life_tile.proofs.Places.{state_of_slot}
 
@@ -76,8 +77,8 @@ module _ (before after : Slab) (alike : IsAlike before after) where
         };
         cur_length = ap (λ (ts : List Tile). length ts) alike.cur ∙ slab.cur_length ∙ sym counts_alike;
         alt_length = ap (λ (ts : List Tile). length ts) alike.alt ∙ slab.alt_length ∙ sym counts_alike;
-        todo_length = ap (λ (bs : List Bool). length bs) alike.todo ∙ slab.todo_length ∙ sym counts_alike;
-        marks_length = ap (λ (bs : List Bool). length bs) alike.marks ∙ slab.marks_length ∙ sym counts_alike;
+        todo_length = ap (λ (bs : List Bands). length bs) alike.todo ∙ slab.todo_length ∙ sym counts_alike;
+        marks_length = ap (λ (bs : List Bands). length bs) alike.marks ∙ slab.marks_length ∙ sym counts_alike;
         cur_none = ap (λ (ts : List Tile). tile_of ts 0) alike.cur ∙ slab.cur_none;
         alt_none = ap (λ (ts : List Tile). tile_of ts 0) alike.alt ∙ slab.alt_none;
       }
@@ -96,7 +97,7 @@ module _ (before after : Slab) (alike : IsAlike before after) where
         alt = λ k inside. ap (λ (ts : List Tile). tile_of ts k) alike.alt;
         cur_new = λ k past inside. absurd (omega arith);
         alt_new = λ k past inside. absurd (omega arith);
-        todo = λ k later inside clear. (omega arith, sym (ap (λ (bs : List Bool). mark_of bs k) alike.todo) ∙ clear);
+        todo = λ k band inside small clear. (omega arith, sym (ap (λ (bs : List Bands). mark_of bs k band) alike.todo) ∙ clear);
         cur_at = λ p. (λ i. tile_of (alike.cur i) (at_alike p i));
         alt_at = λ p. (λ i. tile_of (alike.alt i) (at_alike p i));
       }
@@ -126,7 +127,7 @@ extended_more a b c first second =
           ⊎_elim (λ (old : k < length b.slots.items). second.cur k old ∙ first.cur_new k past old) (λ new. second.cur_new k new inside) (cases_lt k (length b.slots.items));
       alt_new = λ k past inside.
           ⊎_elim (λ (old : k < length b.slots.items). second.alt k old ∙ first.alt_new k past old) (λ new. second.alt_new k new inside) (cases_lt k (length b.slots.items));
-      todo = λ k later inside clear. (let h = second.todo k later inside clear in first.todo k later h.0 h.1);
+      todo = λ k band inside small clear. (let h = second.todo k band inside small clear in first.todo k band h.0 small h.1);
       cur_at = λ p. second.cur_at p ∙ first.cur_at p;
       alt_at = λ p. second.alt_at p ∙ first.alt_at p;
     }
@@ -156,16 +157,18 @@ module _ (before after : Slab) (whole_before : IsSlab before) (whole_after : IsS
       ∙ ap (λ (t : Tile). tile_cell t x y) (extended.alt_at (column, row))
       ∙ sym (shown_state before.index before.alt.items whole_before.indexed.ordered whole_before.alt_none column row x y wide high))
 
-  settled_extended : (k : ℕ) → k < length before.slots.items → 0 < k → IsSettled before k → IsSettled after k
-  settled_extended k inside later settled = record {
+  settled_extended : (k band : ℕ) → k < length before.slots.items → IsSettled before k band → IsSettled after k band
+  settled_extended k band inside settled = record {
     known = extended.fresh ∙ settled.known;
-    closed = closed_extended before after k extended later inside settled.closed;
-    cell = λ x y wide high.
+    cell = λ x y wide high in_band.
         ap (λ (t : Tile). tile_cell t x y) (extended.alt k inside)
-        ∙ settled.cell x y wide high
+        ∙ settled.cell x y wide high in_band
         ∙ sym
         (λ i. state_at (next (extended.rule i) (members_extended i)) (pos 64 *ℤ (extended.place k inside i).0 +ℤ pos x) (pos 64 *ℤ (extended.place k inside i).1 +ℤ pos y));
   }
+
+  calm_extended : IsCalm after.todo.items → IsCalm before.todo.items
+  calm_extended calm = λ band small. (extended.todo 0 band whole_after.indexed.some small (calm band small)).1
 
   pub kept_extended : IsKept before → ((k : ℕ) → length before.slots.items ≤ k → k < length after.slots.items → IsReached before.age (place_of after.slots.items k)) → IsKept after
   kept_extended kept new =
@@ -189,7 +192,15 @@ module _ (before after : Slab) (whole_before : IsSlab before) (whole_after : IsS
             })
             (λ past. record { closed = λ m small none. empty_still (tile_of after.alt.items k) m (extended.alt_new k past inside) })
             (cases_lt k (length before.slots.items));
-        settled = λ k later inside clear. (let old = extended.todo k later inside clear in settled_extended k old.0 later (kept.settled k later old.0 old.1));
+        settled = λ k band later inside small clear. (let old = extended.todo k band inside small clear in settled_extended k band old.0 (kept.settled k band later old.0 small old.1));
+        calm = λ calm. extended.fresh ∙ kept.calm (calm_extended calm);
+        grown = λ calm. record {
+          closed = λ k later inside.
+              ⊎_elim
+              (λ (old : k < length before.slots.items). closed_extended before after k extended later old ((kept.grown (calm_extended calm)).closed k later old))
+              (λ past. closed_new before after k extended past inside)
+              (cases_lt k (length before.slots.items));
+        };
       }
 
 -- ---- where a slab may grow

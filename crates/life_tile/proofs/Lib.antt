@@ -7,6 +7,7 @@ pub mod Counted
 pub mod Lists
 pub mod Linking
 pub mod RimLemmas
+pub mod Marking
 pub mod Working
 pub mod Shown
 pub mod Windows

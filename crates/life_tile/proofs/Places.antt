@@ -61,19 +61,6 @@ direction_of s p x y wide high beside_x beside_y =
       edge = record { column = subst (λ (n : ℕ). IsEdge n x) (sym across) a.edge; row = subst (λ (n : ℕ). IsEdge n y) (sym down) b.edge };
     }
 
--- each cell of a tile is at the edge towards the tile itself
-pub edge_here : (x y : ℕ) → IsAtEdge 4 x y
-edge_here x y = record {
-  column = record { first = λ never. absurd (omega arith); last = λ never. absurd (omega arith) };
-  row = record { first = λ never. absurd (omega arith); last = λ never. absurd (omega arith) };
-}
-
-neighbour_here : (p : ℤ × ℤ) → neighbour_at p 4 ≡ p
-neighbour_here p =
-    let across : ((p.0 +ℤ pos 1) -ℤ pos 1) ≡ p.0 = omega (arith, ints) in
-    let down : ((p.1 +ℤ pos 1) -ℤ pos 1) ≡ p.1 = omega (arith, ints) in
-    λ i. (across i, down i)
-
 -- ---- slots of an index
 
 option_cases : (o : Option ℕ) → (o ≡ None) ⊎ ((k : ℕ) × (o ≡ Some k))
@@ -99,10 +86,6 @@ module _ (index : Index) (slots : List Slot) (whole : IsIndexed index slots) whe
 
   pub slot_of_place : (k : ℕ) → 0 < k → k < length slots → slot_at index (place_of slots k) ≡ k
   slot_of_place k later inside = ap (λ o. unwrap_or o 0) (whole.indexed k later inside)
-
-  pub link_here : (k : ℕ) → 0 < k → k < length slots → link_of slots k 4 ≡ k
-  link_here k later inside =
-      whole.linked k 4 later inside (omega arith) ∙ ap (slot_at index) (neighbour_here (place_of slots k)) ∙ slot_of_place k later inside
 
   module _ (tiles : List Tile) (none : tile_of tiles 0 ≡ empty_tile) where
     -- what is at the cell of an absent place

@@ -1,5 +1,5 @@
 -- Cells put into a fresh slab.
-use Rattle.std.proofs.Common.{◌≡◌, ◌≢◌, ℕ, ℤ, pos, negsuc, ◌+ℤ◌, ◌*ℤ◌, ◌<◌, ◌≤◌, ◌⊎◌, inl, inr, ⊎_elim, Bool, true, false, ◌||◌, List, [], ◌∷◌, Some, None, length, sym, subst, ap, ◌∙◌, arith}
+use Rattle.std.proofs.Common.{◌≡◌, ◌≢◌, ℕ, ℤ, pos, negsuc, ◌+ℤ◌, ◌*ℤ◌, ◌<◌, ◌≤◌, ◌⊎◌, inl, inr, ⊎_elim, true, false, ◌||◌, List, [], ◌∷◌, Some, None, length, sym, subst, ap, ◌∙◌, arith}
 use Rattle.std.specs.Int.{int_div_euclid, int_rem_euclid}
 use Rattle.std.specs.Map.{lookup}
 use Rattle.std.specs.BTreeMap.{IsOrdered, get, is_at}
@@ -17,11 +17,13 @@ use Rattle.life_tile.specs.Cells.{tiles_cells}
 use Rattle.life_tile.specs.Places.{place_cmp}
 use Rattle.life_tile.proofs.Orders.{true_or_false}
 use Rattle.life_tile.proofs.Inserted.{inserted_cases}
+use Rattle.life_tile.specs.declared.bands.Bands.{Bands}
 use Rattle.life_tile.specs.declared.slot.Slot.{Slot}
 use Rattle.life_tile.specs.declared.slab.Slab.{Slab}
 use Rattle.life_tile.specs.Slots.{slot_at, place_of, tile_of, empty_tile, shown, generation_shown, IsReached}
 use Rattle.life_tile.specs.Work.{mark_of}
-use Rattle.life_tile.specs.Slabs.{state_at, IsSlotOf, IsSlab, members_of, IsKept}
+use Rattle.life_tile.specs.Slabs.{state_at, IsSlotOf, IsSlab, members_of, IsCalm, IsKept, all_bands, no_bands}
+use Rattle.life_tile.proofs.Lists.{bit_cases}
 use Rattle.life_tile.proofs.Shown.{shown_state, same_states}
 use Rattle.life_tile.proofs.Places.{slot_cases, slot_of_place}
 
@@ -32,22 +34,27 @@ euclid (negsuc n) = omega (arith, ints)
 -- a fresh slab keeps little
 pub kept_fresh : (s : Slab) → IsSlab s → s.age ≤ 4194304 → ((c : Cell) → contains (members_of s) c ≡ true → IsWithin s.age c) →
     ((k : ℕ) → 0 < k → k < length s.slots.items → IsReached s.age (place_of s.slots.items k)) → s.fresh ≡ true →
-    ((k : ℕ) → 0 < k → k < length s.slots.items → mark_of s.todo.items k ≡ true) → IsKept s
-kept_fresh s whole young within reached fresh busy = record {
+    ((k band : ℕ) → 0 < k → k < length s.slots.items → band < 8 → mark_of s.todo.items k band ≡ 1) → (IsCalm s.todo.items → ⊥) → IsKept s
+kept_fresh s whole young within reached fresh busy stirred = record {
   whole = whole;
   young = young;
   within = within;
   reached = reached;
   earlier = λ known. (let never : true ≡ false = sym fresh ∙ known in absurd (cc));
   earlier_closed = λ known. (let never : true ≡ false = sym fresh ∙ known in absurd (cc));
-  settled = λ k later inside clear. (let never : true ≡ false = sym (busy k later inside) ∙ clear in absurd (cc));
+  settled = λ k band later inside small clear. (let never : 1 ≡ 0 = sym (busy k band later inside small) ∙ clear in absurd (omega arith));
+  calm = λ calm. absurd (stirred calm);
+  grown = λ calm. absurd (stirred calm);
 }
 
-pub busy_fresh : (s : Slab) → IsKept s → s.fresh ≡ true → (k : ℕ) → 0 < k → k < length s.slots.items → mark_of s.todo.items k ≡ true
-busy_fresh s kept fresh k later inside =
+pub busy_fresh : (s : Slab) → IsKept s → s.fresh ≡ true → (k band : ℕ) → 0 < k → k < length s.slots.items → band < 8 → mark_of s.todo.items k band ≡ 1
+busy_fresh s kept fresh k band later inside small =
     ⊎_elim (λ busy. busy)
-    (λ (clear : mark_of s.todo.items k ≡ false). let never : true ≡ false = sym fresh ∙ (kept.settled k later inside clear).known in absurd (cc))
-    (true_or_false (mark_of s.todo.items k))
+    (λ (clear : mark_of s.todo.items k band ≡ 0). let never : true ≡ false = sym fresh ∙ (kept.settled k band later inside small clear).known in absurd (cc))
+    (bit_cases _ band)
+
+pub stirred_fresh : (s : Slab) → IsKept s → s.fresh ≡ true → IsCalm s.todo.items → ⊥
+stirred_fresh s kept fresh calm = let never : true ≡ false = sym fresh ∙ kept.calm calm in absurd (cc)
 
 different : (k j : ℤ × ℤ) → same_cell k j ≡ false → k ≡ j → ⊥
 different k j other same = let never : true ≡ false = sym ((same_cell-is k j).1 same) ∙ other in absurd (cc)
@@ -124,11 +131,11 @@ module _ (s u : Slab) (k x y : ℕ) (place : ℤ × ℤ) (cell : Cell) (kept : I
       (λ same. subst (IsWithin s.age) (sym same) within)
       (λ old. kept.within c old)
       (inserted_cases (members_of s) cell c (sym (ap (λ (G : Generation). contains G c) members_put) ∙ has)))
-      kept.reached fresh (busy_fresh s kept fresh)
+      kept.reached fresh (busy_fresh s kept fresh) (stirred_fresh s kept fresh)
 
 -- the slab with slot 0 alone
 module _ (s : Slab) (slot : Slot) (none : s.index.entries ≡ []) (ordered : IsOrdered place_cmp s.index) (slots : s.slots.items ≡ slot ∷ [])
-    (cur : s.cur.items ≡ empty_tile ∷ []) (alt : s.alt.items ≡ empty_tile ∷ []) (todo : s.todo.items ≡ true ∷ []) (marks : s.marks.items ≡ false ∷ [])
+    (cur : s.cur.items ≡ empty_tile ∷ []) (alt : s.alt.items ≡ empty_tile ∷ []) (todo : s.todo.items ≡ all_bands ∷ []) (marks : s.marks.items ≡ no_bands ∷ [])
     (young : s.age ≤ 4194304) (fresh : s.fresh ≡ true) where
   not_found : (p : ℤ × ℤ) (k : ℕ) → get place_cmp s.index p ≡ Some k → ⊥
   not_found p k is =
@@ -159,8 +166,8 @@ module _ (s : Slab) (slot : Slot) (none : s.index.entries ≡ []) (ordered : IsO
         };
         cur_length = ap (λ (ts : List Tile). length ts) cur ∙ sym one;
         alt_length = ap (λ (ts : List Tile). length ts) alt ∙ sym one;
-        todo_length = ap (λ (bs : List Bool). length bs) todo ∙ sym one;
-        marks_length = ap (λ (bs : List Bool). length bs) marks ∙ sym one;
+        todo_length = ap (λ (bs : List Bands). length bs) todo ∙ sym one;
+        marks_length = ap (λ (bs : List Bands). length bs) marks ∙ sym one;
         cur_none = ap (λ (ts : List Tile). tile_of ts 0) cur;
         alt_none = ap (λ (ts : List Tile). tile_of ts 0) alt;
       })
@@ -170,4 +177,5 @@ module _ (s : Slab) (slot : Slot) (none : s.index.entries ≡ []) (ordered : IsO
       absurd (cc))
       (λ k later inside. absurd (omega arith))
       fresh
-      (λ k later inside. absurd (omega arith))
+      (λ k band later inside. absurd (omega arith))
+      (λ calm. let never : 1 ≡ 0 = sym (ap (λ (bs : List Bands). mark_of bs 0 0) todo) ∙ calm 0 (omega arith) in omega arith)

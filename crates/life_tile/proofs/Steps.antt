@@ -1,5 +1,6 @@
 -- The next generation, once the tiles that may change are worked out.
-use Rattle.std.proofs.Common.{◌≡◌, ℕ, ℤ, pos, ◌+ℤ◌, ◌*ℤ◌, ◌<◌, ⊎_elim, Bool, true, false, List, length, sym, subst, ap, ◌∙◌, arith}
+use Rattle.std.proofs.Common.{◌≡◌, ℕ, ℤ, pos, ◌+ℤ◌, ◌-ℤ◌, ◌*ℤ◌, ◌+◌, ◌*◌, ◌/◌, ◌<◌, ◌≤◌, ◌≢◌, ◌≤ℤ◌, ⊎_elim, List, length, sym, subst, ap, ◌∙◌, arith}
+use Rattle.std.proofs.lemmas.Bool.{cases_eq}
 use Rattle.std.proofs.lemmas.Int.{ints}
 use Rattle.life_model.specs.Rule.{Rule}
 use Rattle.life_model.specs.Generation.{Generation}
@@ -7,17 +8,48 @@ use Rattle.life_model.specs.Evolution.{next}
 use Rattle.life_bits.specs.declared.tile.Tile.{Tile}
 use Rattle.life_bits.specs.Area.{tile_cell}
 use Rattle.life_tile.specs.Places.{IsBeside}
-use Rattle.life_tile.proofs.Orders.{true_or_false}
 use Rattle.life_tile.proofs.Splits.{Split, split}
+use Rattle.life_tile.specs.declared.bands.Bands.{Bands}
 use Rattle.life_tile.specs.declared.slot.Slot.{Slot}
 use Rattle.life_tile.specs.Slots.{Index, slot_at, neighbour_at, place_of, link_of, tile_of, empty_tile, generation_shown}
+use Rattle.life_tile.specs.Rims.{IsAtEdge, IsNextToBand}
 use Rattle.life_tile.specs.Work.{mark_of, IsWorkedOut}
-use Rattle.life_tile.specs.Slabs.{state_at, IsIndexed, IsSlotOf, IsClosed}
+use Rattle.life_tile.specs.Slabs.{state_at, IsIndexed, IsSlotOf, IsClosed, IsCalm}
+use Rattle.life_tile.proofs.Lists.{bit_cases}
 use Rattle.life_tile.proofs.Shown.{shown_state, same_states}
 use Rattle.life_tile.proofs.Windows.{next_alike}
-use Rattle.life_tile.proofs.Places.{Direction, direction_of, edge_here, slot_cases, slot_of_place, link_here, state_absent, state_of_slot, next_linked, quiet, dead_next}
+use Rattle.life_tile.proofs.Places.{Direction, direction_of, slot_cases, slot_of_place, state_absent, state_of_slot, next_linked, quiet, dead_next}
 
-module _ (index : Index) (slots : List Slot) (whole : IsIndexed index slots) (cur alt after : List Tile) (todo marks marked : List Bool) (rule : Rule)
+-- the rows next to a band, counted from the tile that they are in
+next_to : (m band y : ℕ) (row p Y : ℤ) → ((row +ℤ pos (m / 3)) -ℤ pos 1) ≡ p → Y ≡ (pos 64 *ℤ row +ℤ pos y) →
+    ((pos 64 *ℤ p +ℤ pos (8 * band)) -ℤ pos 1) ≤ℤ Y → Y ≤ℤ (pos 64 *ℤ p +ℤ pos (8 * band + 8)) →
+    (8 * (8 * (m / 3) + band) ≤ y + 65) × (y + 56 ≤ 8 * (8 * (m / 3) + band))
+next_to m band y row p Y is at low high = (omega (arith, ints), omega (arith, ints))
+
+record BandBeyond (m x y : ℕ) : Type 0 where
+  pub band : ℕ
+  pub small : band < 8
+  pub near : IsNextToBand m band x y
+
+-- each cell at the edge in a direction is next to a band of the tile there
+beyond : (m x y : ℕ) → m < 9 → y < 64 → IsAtEdge m x y → BandBeyond m x y
+beyond m x y small high edge =
+    ⊎_elim
+    (λ (north : m / 3 ≡ 0).
+    let y_is : y ≡ 0 = edge.row.first north in
+    record { band = 7; small = omega arith; near = record { column = edge.column; from = omega arith; to = omega arith } })
+    (λ (not_north : m / 3 ≢ 0).
+    ⊎_elim
+    (λ (south : m / 3 ≡ 2).
+    let y_is : y ≡ 63 = edge.row.last south in
+    record { band = 0; small = omega arith; near = record { column = edge.column; from = omega arith; to = omega arith } })
+    (λ (not_south : m / 3 ≢ 2).
+    let here : m / 3 ≡ 1 = omega arith in
+    record { band = y / 8; small = omega arith; near = record { column = edge.column; from = omega arith; to = omega arith } })
+    (cases_eq (m / 3) 2))
+    (cases_eq (m / 3) 0)
+
+module _ (index : Index) (slots : List Slot) (whole : IsIndexed index slots) (cur alt after : List Tile) (todo marks marked : List Bands) (rule : Rule)
     (cur_none : tile_of cur 0 ≡ empty_tile) (alt_none : tile_of alt 0 ≡ empty_tile)
     (worked : IsWorkedOut slots cur todo rule alt after marks marked (length slots)) where
   pub after_none : tile_of after 0 ≡ empty_tile
@@ -26,7 +58,7 @@ module _ (index : Index) (slots : List Slot) (whole : IsIndexed index slots) (cu
   -- every tile is worked out, or was so before
   pub advanced :
       ((k : ℕ) → 0 < k → k < length slots → IsClosed slots cur k) →
-      ((k : ℕ) → 0 < k → k < length slots → mark_of todo k ≡ false → (x y : ℕ) → x < 64 → y < 64 →
+      ((k x y : ℕ) → 0 < k → k < length slots → x < 64 → y < 64 → mark_of todo k (y / 8) ≡ 0 →
       tile_cell (tile_of alt k) x y ≡ state_at (next rule (generation_shown index cur)) (pos 64 *ℤ (place_of slots k).0 +ℤ pos x) (pos 64 *ℤ (place_of slots k).1 +ℤ pos y)) →
       generation_shown index after ≡ next rule (generation_shown index cur)
   advanced closed settled =
@@ -44,18 +76,20 @@ module _ (index : Index) (slots : List Slot) (whole : IsIndexed index slots) (cu
       let k : ℕ = slot_at index (column, row) in
       shown_state index after whole.ordered after_none column row x y wide high
       ∙ ⊎_elim
-      (λ (busy : mark_of todo (slot_at index (column, row)) ≡ true).
-      (worked.next k there.later there.inside busy).cell x y wide high ∙ next_linked index slots whole cur cur_none rule k there.later there.inside x y wide high)
-      (λ (idle : mark_of todo (slot_at index (column, row)) ≡ false).
-      ap (λ (t : Tile). tile_cell t x y) (worked.idle k there.inside idle) ∙ settled k there.later there.inside idle x y wide high)
-      (true_or_false (mark_of todo (slot_at index (column, row))))
+      (λ (busy : mark_of todo (slot_at index (column, row)) (y / 8) ≡ 1).
+      worked.next k x y there.later there.inside wide high busy ∙ next_linked index slots whole cur cur_none rule k there.later there.inside x y wide high)
+      (λ (idle : mark_of todo (slot_at index (column, row)) (y / 8) ≡ 0).
+      worked.idle k x y wide high idle ∙ settled k x y there.later there.inside wide high idle)
+      (bit_cases _ (y / 8))
       ∙ ap (λ (p : ℤ × ℤ). state_at (next rule (generation_shown index cur)) (pos 64 *ℤ p.0 +ℤ pos x) (pos 64 *ℤ p.1 +ℤ pos y)) there.place)
       (slot_cases index slots whole (column, row)))
 
-  -- in and next to a slot that is not marked nothing changed
-  unchanged : (j : ℕ) → 0 < j → j < length slots → mark_of marked j ≡ false → (X Y : ℤ) → IsBeside X (place_of slots j).0 → IsBeside Y (place_of slots j).1 →
+  -- in and next to a band that is not marked nothing changed
+  unchanged : (j band : ℕ) → 0 < j → j < length slots → band < 8 → mark_of marked j band ≡ 0 → (X Y : ℤ) → IsBeside X (place_of slots j).0 →
+      ((pos 64 *ℤ (place_of slots j).1 +ℤ pos (8 * band)) -ℤ pos 1) ≤ℤ Y → Y ≤ℤ (pos 64 *ℤ (place_of slots j).1 +ℤ pos (8 * band + 8)) →
       state_at (generation_shown index after) X Y ≡ state_at (generation_shown index alt) X Y
-  unchanged j later inside clear X Y beside_x beside_y =
+  unchanged j band later inside b_small clear X Y beside_x low high =
+      let beside_y : IsBeside Y (place_of slots j).1 = record { from = omega (arith, ints); to = omega (arith, ints) } in
       let s : Split X = split X in
       let t : Split Y = split Y in
       (λ i. state_at (generation_shown index after) (s.is i) (t.is i))
@@ -70,33 +104,36 @@ module _ (index : Index) (slots : List Slot) (whole : IsIndexed index slots) (cu
       (subst (λ (z : ℤ). IsBeside z (place_of slots j).0) s.is beside_x) (subst (λ (z : ℤ). IsBeside z (place_of slots j).1) t.is beside_y) in
       let link : link_of slots k d.m ≡ j =
       whole.linked k d.m there.later there.inside d.small ∙ ap (λ (z : ℤ × ℤ). slot_at index (neighbour_at z d.m)) there.place ∙ ap (slot_at index) d.is ∙ slot_of_place index slots whole j later inside in
+      let rows = next_to d.m band t.remainder t.quotient (place_of slots j).1 Y (ap (λ (z : ℤ × ℤ). z.1) d.is) t.is low high in
       shown_state index after whole.ordered after_none s.quotient t.quotient s.remainder t.remainder s.small t.small
-      ∙ (worked.around k d.m there.later there.inside d.small (ap (mark_of marked) link ∙ clear)).same s.remainder t.remainder s.small t.small d.edge
+      ∙ worked.around k d.m band s.remainder t.remainder there.later there.inside d.small b_small s.small t.small
+      (record { column = d.edge.column; from = rows.0; to = rows.1 }) (ap (λ i. mark_of marked i band) link ∙ clear)
       ∙ sym (shown_state index alt whole.ordered alt_none s.quotient t.quotient s.remainder t.remainder s.small t.small))
       (slot_cases index slots whole (s.quotient, t.quotient))
       ∙ sym (λ i. state_at (generation_shown index alt) (s.is i) (t.is i))
 
   -- so it will be again what it is now
   pub settled_again : generation_shown index cur ≡ next rule (generation_shown index alt) →
-      (j : ℕ) → 0 < j → j < length slots → mark_of marked j ≡ false → (x y : ℕ) → x < 64 → y < 64 →
+      (j x y : ℕ) → 0 < j → j < length slots → x < 64 → y < 64 → mark_of marked j (y / 8) ≡ 0 →
       tile_cell (tile_of cur j) x y ≡ state_at (next rule (generation_shown index after)) (pos 64 *ℤ (place_of slots j).0 +ℤ pos x) (pos 64 *ℤ (place_of slots j).1 +ℤ pos y)
-  settled_again earlier j later inside clear x y wide high =
-      let X : ℤ = pos 64 *ℤ (place_of slots j).0 +ℤ pos x in
-      let Y : ℤ = pos 64 *ℤ (place_of slots j).1 +ℤ pos y in
+  settled_again earlier j x y later inside wide high clear =
+      let row : 8 * (y / 8) ≤ y = omega arith in
+      let end : y < 8 * (y / 8) + 8 = omega arith in
       sym (state_of_slot index slots whole cur cur_none j later inside x y wide high)
       ∙ ap (λ (G : Generation). state_at G (pos 64 *ℤ (place_of slots j).0 +ℤ pos x) (pos 64 *ℤ (place_of slots j).1 +ℤ pos y)) earlier
       ∙ sym
       (next_alike rule (generation_shown index after) (generation_shown index alt) (pos 64 *ℤ (place_of slots j).0 +ℤ pos x) (pos 64 *ℤ (place_of slots j).1 +ℤ pos y)
       (λ a b a1 a2 b1 b2.
-      unchanged j later inside clear a b
-      (record { from = omega (arith, ints); to = omega (arith, ints) }) (record { from = omega (arith, ints); to = omega (arith, ints) })))
+      unchanged j (y / 8) later inside (omega arith) clear a b
+      (record { from = omega (arith, ints); to = omega (arith, ints) }) (omega (arith, ints)) (omega (arith, ints))))
 
-  -- and its live cells are next to no absent place, as they were
-  pub closed_again : ((k : ℕ) → 0 < k → k < length slots → IsClosed slots alt k) → (j : ℕ) → 0 < j → j < length slots → mark_of marked j ≡ false → IsClosed slots after j
-  closed_again closed j later inside clear = record {
+  -- and where no band is marked that places without a slot stand for, no live cell is next to one
+  pub closed_again : IsCalm marked → ((k : ℕ) → 0 < k → k < length slots → IsClosed slots alt k) → (j : ℕ) → 0 < j → j < length slots → IsClosed slots after j
+  closed_again calm closed j later inside = record {
     closed = λ m small link. record {
       still = λ x y wide high edge.
-          (worked.around j 4 later inside (omega arith) (ap (mark_of marked) (link_here index slots whole j later inside) ∙ clear)).same x y wide high (edge_here x y)
+          let b : BandBeyond m x y = beyond m x y small high edge in
+          worked.around j m b.band x y later inside small b.small wide high b.near (ap (λ k. mark_of marked k b.band) link ∙ calm b.band b.small)
           ∙ ((closed j later inside).closed m small link).still x y wide high edge;
     };
   }

@@ -1,74 +1,139 @@
--- One slot more of a step.
-use Rattle.std.proofs.Common.{◌≡◌, ◌≢◌, ℕ, ◌+◌, ◌<◌, ⊎_elim, Bool, true, false, List, [], length, slice_set, sym, subst, ap, ◌∙◌, arith}
-use Rattle.std.proofs.lemmas.Bool.{cases_eq}
+-- One band more of a tile in a step, and one slot more.
+use Rattle.std.proofs.Common.{◌≡◌, ◌≢◌, ℕ, ◌+◌, ◌-◌, ◌*◌, ◌/◌, ◌<◌, ◌≤◌, ◌⊎◌, inl, inr, ⊎_elim, List, [], length, slice_index, slice_set, sym, subst, ap, ◌∙◌, arith}
+use Rattle.std.specs.Int.{bit_at}
+use Rattle.std.proofs.lemmas.Bool.{cases_eq, cases_lt}
 use Rattle.std.proofs.Math.ListN.{length-set}
 use Rattle.life_model.specs.Rule.{Rule}
 use Rattle.life_bits.specs.declared.tile.Tile.{Tile}
-use Rattle.life_bits.specs.Area.{tile_cell}
+use Rattle.life_bits.specs.Area.{tile_cell, next_in_area}
+use Rattle.life_tile.specs.declared.bands.Bands.{Bands}
 use Rattle.life_tile.specs.declared.slot.Slot.{Slot}
-use Rattle.life_tile.specs.Slots.{link_of, tile_of}
-use Rattle.life_tile.specs.Work.{mark_of, IsNextAt, IsSameAt, IsWorkedOut}
+use Rattle.life_tile.specs.Slots.{links_of, link_of, tile_of, nine_linked}
+use Rattle.life_tile.specs.Rims.{IsNextToBand}
+use Rattle.life_tile.specs.Work.{bands_of, mark_of, IsTileWorkedOut, IsWorkedOut}
 use Rattle.life_tile.proofs.Lists.{set_here, set_there, clear_before}
 
-pub same_itself : (before after : Tile) (m : ℕ) → after ≡ before → IsSameAt before after m
-same_itself before after m is = record { same = λ x y wide high edge. ap (λ (t : Tile). tile_cell t x y) is }
+module _ (cur : List Tile) (links : List ℕ) (todo : Bands) (rule : Rule) (before tile : Tile) (marks marked : List Bands) (n : ℕ)
+    (worked : IsTileWorkedOut cur links todo rule before tile marks marked n) where
+  -- a band that has nothing to do
+  pub band_idle : bit_at todo.bits n ≡ 0 → IsTileWorkedOut cur links todo rule before tile marks marked (n + 1)
+  band_idle idle = record {
+    length_marked = worked.length_marked;
+    next = λ x y wide high less busy.
+        ⊎_elim
+        (λ (same : y / 8 ≡ n). let never : 1 ≡ 0 = sym busy ∙ ap (bit_at todo.bits) same ∙ idle in absurd (omega arith))
+        (λ (apart : y / 8 ≢ n). worked.next x y wide high (omega arith) busy)
+        (cases_eq (y / 8) n);
+    idle = worked.idle;
+    later = λ x y wide high past. worked.later x y wide high (omega arith);
+    around = λ m band x y small b_small wide high less near clear.
+        ⊎_elim
+        (λ (same : y / 8 ≡ n). worked.later x y wide high (omega arith))
+        (λ (apart : y / 8 ≢ n). worked.around m band x y small b_small wide high (omega arith) near clear)
+        (cases_eq (y / 8) n);
+    kept = worked.kept;
+  }
 
-module _ (slots : List Slot) (cur : List Tile) (todo : List Bool) (rule : Rule) (before after : List Tile) (marks marked : List Bool) (n : ℕ) (later : 0 < n) (inside : n < length slots)
+  -- a band that is worked out
+  module _ (after : Tile) (more : List Bands) (busy : bit_at todo.bits n ≡ 1)
+      (law : (x y : ℕ) → x < 64 → y < 8 → tile_cell after x (8 * n + y) ≡ next_in_area rule (nine_linked cur links) x (8 * n + y))
+      (others : (x y : ℕ) → (y < 8 * n) ⊎ (8 * n + 8 ≤ y) → tile_cell after x y ≡ tile_cell tile x y)
+      (same_length : length more ≡ length marked) (kept : (k band : ℕ) → mark_of marked k band ≡ 1 → mark_of more k band ≡ 1)
+      (around : (m band x y : ℕ) → m < 9 → band < 8 → x < 64 → y < 8 → IsNextToBand m band x (8 * n + y) → mark_of more (slice_index links m) band ≡ 0 →
+      tile_cell after x (8 * n + y) ≡ tile_cell tile x (8 * n + y)) where
+    apart_from : (x y : ℕ) → y / 8 ≢ n → tile_cell after x y ≡ tile_cell tile x y
+    apart_from x y apart = others x y (⊎_elim (λ (less : y < 8 * n). inl less) (λ (past : 8 * n ≤ y). inr (omega arith)) (cases_lt y (8 * n)))
+
+    row_is : (y : ℕ) → y / 8 ≡ n → 8 * n + (y - 8 * n) ≡ y
+    row_is y same = omega arith
+
+    pub band_busy : IsTileWorkedOut cur links todo rule before after marks more (n + 1)
+    band_busy = record {
+      length_marked = same_length ∙ worked.length_marked;
+      next = λ x y wide high less wanted.
+          ⊎_elim
+          (λ (same : y / 8 ≡ n).
+          subst (λ z. tile_cell after x z ≡ next_in_area rule (nine_linked cur links) x z) (row_is y same) (law x (y - 8 * n) wide (omega arith)))
+          (λ (apart : y / 8 ≢ n). apart_from x y apart ∙ worked.next x y wide high (omega arith) wanted)
+          (cases_eq (y / 8) n);
+      idle = λ x y wide high idle.
+          ⊎_elim
+          (λ (same : y / 8 ≡ n). let never : 1 ≡ 0 = sym busy ∙ ap (bit_at todo.bits) (sym same) ∙ idle in absurd (omega arith))
+          (λ (apart : y / 8 ≢ n). apart_from x y apart ∙ worked.idle x y wide high idle)
+          (cases_eq (y / 8) n);
+      later = λ x y wide high past. (let apart : y / 8 ≢ n = omega arith in apart_from x y apart ∙ worked.later x y wide high (omega arith));
+      around = λ m band x y small b_small wide high less near clear.
+          ⊎_elim
+          (λ (same : y / 8 ≡ n).
+          subst (λ z. IsNextToBand m band x z → tile_cell after x z ≡ tile_cell tile x z) (row_is y same)
+          (λ beside. around m band x (y - 8 * n) small b_small wide (omega arith) beside clear) near
+          ∙ worked.later x y wide high (omega arith))
+          (λ (apart : y / 8 ≢ n).
+          apart_from x y apart
+          ∙ worked.around m band x y small b_small wide high (omega arith) near (clear_before marked more (slice_index links m) band (kept (slice_index links m) band) clear))
+          (cases_eq (y / 8) n);
+      kept = λ k band set. kept k band (worked.kept k band set);
+    }
+
+module _ (slots : List Slot) (cur : List Tile) (todo : List Bands) (rule : Rule) (before after : List Tile) (marks marked : List Bands) (n : ℕ) (later : 0 < n) (inside : n < length slots)
     (worked : IsWorkedOut slots cur todo rule before after marks marked n) where
   -- a slot that has nothing to do
-  pub worked_idle : mark_of todo n ≡ false → IsWorkedOut slots cur todo rule before after marks marked (n + 1)
+  pub worked_idle : ((band : ℕ) → mark_of todo n band ≡ 0) → IsWorkedOut slots cur todo rule before after marks marked (n + 1)
   worked_idle idle = record {
     length_after = worked.length_after;
     length_marked = worked.length_marked;
-    next = λ k positive less busy.
+    next = λ k x y positive less wide high busy.
         ⊎_elim
-        (λ (same : k ≡ n). let never : true ≡ false = sym busy ∙ ap (mark_of todo) same ∙ idle in absurd (cc))
-        (λ (apart : k ≢ n). worked.next k positive (omega arith) busy)
+        (λ (same : k ≡ n). let never : 1 ≡ 0 = sym busy ∙ ap (λ j. mark_of todo j (y / 8)) same ∙ idle (y / 8) in absurd (omega arith))
+        (λ (apart : k ≢ n). worked.next k x y positive (omega arith) wide high busy)
         (cases_eq k n);
     idle = worked.idle;
     first = worked.first;
     later = λ k past. worked.later k (omega arith);
-    around = λ k m positive less small clear.
+    around = λ k m band x y positive less small b_small wide high near clear.
         ⊎_elim
-        (λ (same : k ≡ n). same_itself (tile_of before k) (tile_of after k) m (worked.later k (omega arith)))
-        (λ (apart : k ≢ n). worked.around k m positive (omega arith) small clear)
+        (λ (same : k ≡ n). ap (λ (t : Tile). tile_cell t x y) (worked.later k (omega arith)))
+        (λ (apart : k ≢ n). worked.around k m band x y positive (omega arith) small b_small wide high near clear)
         (cases_eq k n);
     kept = worked.kept;
   }
 
-  -- a slot whose tile is worked out
-  pub worked_busy : (tile : Tile) (more : List Bool) → length after ≡ length slots → mark_of todo n ≡ true → IsNextAt slots cur rule n tile → length more ≡ length marked →
-      ((k : ℕ) → mark_of marked k ≡ true → mark_of more k ≡ true) →
-      ((m : ℕ) → m < 9 → mark_of more (link_of slots n m) ≡ false → IsSameAt (tile_of after n) tile m) →
+  -- a slot of which some bands are worked out
+  pub worked_busy : (tile : Tile) (more : List Bands) → length after ≡ length slots →
+      IsTileWorkedOut cur (links_of slots n) (bands_of todo n) rule (tile_of after n) tile marked more 8 →
       IsWorkedOut slots cur todo rule before (slice_set after n tile) marks more (n + 1)
-  worked_busy tile more count busy law same_length kept around =
+  worked_busy tile more count law =
       let room : n < length after = omega arith in
       let there : (k : ℕ) → k ≢ n → tile_of (slice_set after n tile) k ≡ tile_of after k = λ k apart. set_there after n k tile (record { rows = [] }) apart in
       let here : tile_of (slice_set after n tile) n ≡ tile = set_here after n tile (record { rows = [] }) room in
+      let at : (k x y : ℕ) → k ≡ n → tile_cell (tile_of (slice_set after n tile) k) x y ≡ tile_cell tile x y =
+      λ k x y same. ap (λ j. tile_cell (tile_of (slice_set after n tile) j) x y) same ∙ ap (λ (t : Tile). tile_cell t x y) here in
+      let was : (k x y : ℕ) → k ≡ n → tile_cell (tile_of after n) x y ≡ tile_cell (tile_of before k) x y =
+      λ k x y same. ap (λ (t : Tile). tile_cell t x y) (worked.later n (omega arith)) ∙ ap (λ j. tile_cell (tile_of before j) x y) (sym same) in
       record {
         length_after = length-set after n tile ∙ worked.length_after;
-        length_marked = same_length ∙ worked.length_marked;
-        next = λ k positive less k_busy.
+        length_marked = law.length_marked ∙ worked.length_marked;
+        next = λ k x y positive less wide high busy.
             ⊎_elim
-            (λ (same : k ≡ n). subst (λ (j : ℕ). IsNextAt slots cur rule j (tile_of (slice_set after n tile) j)) (sym same) (subst (IsNextAt slots cur rule n) (sym here) law))
-            (λ (apart : k ≢ n). subst (IsNextAt slots cur rule k) (sym (there k apart)) (worked.next k positive (omega arith) k_busy))
+            (λ (same : k ≡ n).
+            at k x y same ∙ law.next x y wide high (omega arith) (ap (λ j. mark_of todo j (y / 8)) (sym same) ∙ busy)
+            ∙ ap (λ j. next_in_area rule (nine_linked cur (links_of slots j)) x y) (sym same))
+            (λ (apart : k ≢ n). ap (λ (t : Tile). tile_cell t x y) (there k apart) ∙ worked.next k x y positive (omega arith) wide high busy)
             (cases_eq k n);
-        idle = λ k k_inside idle.
+        idle = λ k x y wide high idle.
             ⊎_elim
-            (λ (same : k ≡ n). let never : true ≡ false = sym busy ∙ ap (mark_of todo) (sym same) ∙ idle in absurd (cc))
-            (λ (apart : k ≢ n). there k apart ∙ worked.idle k k_inside idle)
+            (λ (same : k ≡ n). at k x y same ∙ law.idle x y wide high (ap (λ j. mark_of todo j (y / 8)) (sym same) ∙ idle) ∙ was k x y same)
+            (λ (apart : k ≢ n). ap (λ (t : Tile). tile_cell t x y) (there k apart) ∙ worked.idle k x y wide high idle)
             (cases_eq k n);
         first = (let apart : 0 ≢ n = omega arith in there 0 apart ∙ worked.first);
         later = λ k past. (let apart : k ≢ n = omega arith in there k apart ∙ worked.later k (omega arith));
-        around = λ k m positive less small clear.
+        around = λ k m band x y positive less small b_small wide high near clear.
             ⊎_elim
             (λ (same : k ≡ n).
-            subst (λ (j : ℕ). IsSameAt (tile_of before j) (tile_of (slice_set after n tile) j) m) (sym same)
-            (subst (λ (t : Tile). IsSameAt (tile_of before n) t m) (sym here)
-            (subst (λ (t : Tile). IsSameAt t tile m) (worked.later n (omega arith)) (around m small (ap (λ j. mark_of more (link_of slots j m)) (sym same) ∙ clear)))))
+            at k x y same ∙ law.around m band x y small b_small wide high (omega arith) near (ap (λ j. mark_of more (link_of slots j m) band) (sym same) ∙ clear) ∙ was k x y same)
             (λ (apart : k ≢ n).
-            subst (λ (t : Tile). IsSameAt (tile_of before k) t m) (sym (there k apart))
-            (worked.around k m positive (omega arith) small (clear_before marked more (link_of slots k m) (kept (link_of slots k m)) clear)))
+            ap (λ (t : Tile). tile_cell t x y) (there k apart)
+            ∙ worked.around k m band x y positive (omega arith) small b_small wide high near (clear_before marked more (link_of slots k m) band (law.kept (link_of slots k m) band) clear))
             (cases_eq k n);
-        kept = λ k marked_before. kept k (worked.kept k marked_before);
+        kept = λ k band set. law.kept k band (worked.kept k band set);
       }

@@ -1,5 +1,5 @@
 -- The cells of a tile that are next to another tile.
-use Rattle.std.specs.Prelude.{◌≡◌, ℕ, ◌%◌, ◌/◌, ◌<◌, ◌↔◌}
+use Rattle.std.specs.Prelude.{◌≡◌, ℕ, ◌+◌, ◌*◌, ◌%◌, ◌/◌, ◌<◌, ◌≤◌, ◌↔◌}
 use Rattle.std.specs.Int.{bit_at}
 use Rattle.life_bits.specs.declared.tile.Tile.{Tile}
 use Rattle.life_bits.specs.Area.{tile_cell}
@@ -14,6 +14,13 @@ pub record IsEdge (side z : ℕ) : Type 0 where
 pub record IsAtEdge (m x y : ℕ) : Type 0 where
   pub column : IsEdge (m % 3) x
   pub row : IsEdge (m / 3) y
+
+-- Column x and row y of a tile are in or next to a band of the tile in a direction. Of three tiles one above the other, of which
+-- this is the middle one, that band is the one with number 8 * (m / 3) + band.
+pub record IsNextToBand (m band x y : ℕ) : Type 0 where
+  pub column : IsEdge (m % 3) x
+  pub from : 8 * (8 * (m / 3) + band) ≤ y + 65
+  pub to : y + 56 ≤ 8 * (8 * (m / 3) + band)
 
 -- no cell of a tile at its edge in a direction is live
 pub record IsStill (tile : Tile) (m : ℕ) : Type 0 where

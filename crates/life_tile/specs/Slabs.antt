@@ -1,5 +1,5 @@
 -- What a slab of tiles keeps.
-use Rattle.std.specs.Prelude.{◌≡◌, ◌≢◌, ◌⊎◌, ℕ, ℤ, pos, ◌+ℤ◌, ◌*ℤ◌, ◌<◌, ◌≤◌, true, false, List, [], ◌∷◌, ◌++◌, Some, length, vec_len}
+use Rattle.std.specs.Prelude.{◌≡◌, ◌≢◌, ◌⊎◌, ℕ, ℤ, pos, ◌+ℤ◌, ◌*ℤ◌, ◌/◌, ◌<◌, ◌≤◌, true, false, List, [], ◌∷◌, ◌++◌, Some, length, vec_len}
 use Rattle.std.specs.Vec.{vec_capacity}
 use Rattle.std.specs.BTreeMap.{IsOrdered, get}
 use Rattle.life_model.specs.Cell.{Cell}
@@ -15,6 +15,7 @@ use Rattle.life_tile.specs.declared.slab.Slab.{Slab}
 use Rattle.life_tile.specs.Slots.{Index, slot_at, neighbour_at, place_of, link_of, tile_of, empty_tile, generation_shown, IsReached}
 use Rattle.life_tile.specs.Rims.{IsStill}
 use Rattle.life_tile.specs.Work.{mark_of}
+use Rattle.life_tile.specs.declared.bands.Bands.{Bands}
 
 -- 1 for a live cell, 0 for a dead one
 abbrev pub state_at : Generation → ℤ → ℤ → ℕ
@@ -58,13 +59,20 @@ earlier_of slab = generation_shown slab.index slab.alt.items
 pub record IsClosed (slots : List Slot) (tiles : List Tile) (k : ℕ) : Type 0 where
   pub closed : (m : ℕ) → m < 9 → link_of slots k m ≡ 0 → IsStill (tile_of tiles k) m
 
--- the tile of a slot is in the next generation what it was in the one before this
-pub record IsSettled (slab : Slab) (k : ℕ) : Type 0 where
+-- the band of a slot is in the next generation what it was in the one before this
+pub record IsSettled (slab : Slab) (k band : ℕ) : Type 0 where
   pub known : slab.fresh ≡ false
-  pub closed : IsClosed slab.slots.items slab.cur.items k
-  pub cell : (x y : ℕ) → x < 64 → y < 64 →
+  pub cell : (x y : ℕ) → x < 64 → y < 64 → y / 8 ≡ band →
       tile_cell (tile_of slab.alt.items k) x y
       ≡ state_at (next slab.rule (members_of slab)) (pos 64 *ℤ (place_of slab.slots.items k).0 +ℤ pos x) (pos 64 *ℤ (place_of slab.slots.items k).1 +ℤ pos y)
+
+-- every place that a live cell is in or next to has a slot
+pub record IsGrown (slab : Slab) : Type 0 where
+  pub closed : (k : ℕ) → 0 < k → k < length slab.slots.items → IsClosed slab.slots.items slab.cur.items k
+
+-- no band is marked that places without a slot stand for
+abbrev pub IsCalm : List Bands → Type 0
+IsCalm marks = (band : ℕ) → band < 8 → mark_of marks 0 band ≡ 0
 
 -- what a slab keeps between steps
 pub record IsKept (slab : Slab) : Type 0 where
@@ -74,11 +82,9 @@ pub record IsKept (slab : Slab) : Type 0 where
   pub reached : (k : ℕ) → 0 < k → k < length slab.slots.items → IsReached slab.age (place_of slab.slots.items k)
   pub earlier : slab.fresh ≡ false → members_of slab ≡ next slab.rule (earlier_of slab)
   pub earlier_closed : slab.fresh ≡ false → (k : ℕ) → 0 < k → k < length slab.slots.items → IsClosed slab.slots.items slab.alt.items k
-  pub settled : (k : ℕ) → 0 < k → k < length slab.slots.items → mark_of slab.todo.items k ≡ false → IsSettled slab k
-
--- every place that a live cell is in or next to has a slot
-pub record IsGrown (slab : Slab) : Type 0 where
-  pub closed : (k : ℕ) → 0 < k → k < length slab.slots.items → IsClosed slab.slots.items slab.cur.items k
+  pub settled : (k band : ℕ) → 0 < k → k < length slab.slots.items → band < 8 → mark_of slab.todo.items k band ≡ 0 → IsSettled slab k band
+  pub calm : IsCalm slab.todo.items → slab.fresh ≡ false
+  pub grown : IsCalm slab.todo.items → IsGrown slab
 
 -- the same slab, but for how it lies in memory
 pub record IsAlike (before after : Slab) : Type 0 where
@@ -100,7 +106,13 @@ pub record HasRoom (slab : Slab) : Type 0 where
   pub todo : vec_len slab.todo < vec_capacity slab.todo
   pub marks : vec_len slab.marks < vec_capacity slab.marks
 
--- one slot more at the end, with the empty tile twice, and something to do
+abbrev pub no_bands : Bands
+no_bands = record { bits = 0 }
+
+abbrev pub all_bands : Bands
+all_bands = record { bits = 255 }
+
+-- one slot more at the end, with the empty tile twice, and all bands to do
 pub record IsAppended (before after : Slab) (slot : Slot) : Type 0 where
   pub age : after.age ≡ before.age
   pub rule : after.rule ≡ before.rule
@@ -109,8 +121,8 @@ pub record IsAppended (before after : Slab) (slot : Slot) : Type 0 where
   pub slots : after.slots.items ≡ before.slots.items ++ slot ∷ []
   pub cur : after.cur.items ≡ before.cur.items ++ empty_tile ∷ []
   pub alt : after.alt.items ≡ before.alt.items ++ empty_tile ∷ []
-  pub todo : after.todo.items ≡ before.todo.items ++ true ∷ []
-  pub marks : after.marks.items ≡ before.marks.items ++ false ∷ []
+  pub todo : after.todo.items ≡ before.todo.items ++ all_bands ∷ []
+  pub marks : after.marks.items ≡ before.marks.items ++ no_bands ∷ []
 
 -- `after` is `before`, perhaps with slots more that have the empty tile twice
 pub record IsExtended (before after : Slab) : Type 0 where
@@ -124,7 +136,7 @@ pub record IsExtended (before after : Slab) : Type 0 where
   pub alt : (k : ℕ) → k < length before.slots.items → tile_of after.alt.items k ≡ tile_of before.alt.items k
   pub cur_new : (k : ℕ) → length before.slots.items ≤ k → k < length after.slots.items → tile_of after.cur.items k ≡ empty_tile
   pub alt_new : (k : ℕ) → length before.slots.items ≤ k → k < length after.slots.items → tile_of after.alt.items k ≡ empty_tile
-  pub todo : (k : ℕ) → 0 < k → k < length after.slots.items → mark_of after.todo.items k ≡ false → (k < length before.slots.items) × (mark_of before.todo.items k ≡ false)
+  pub todo : (k band : ℕ) → k < length after.slots.items → band < 8 → mark_of after.todo.items k band ≡ 0 → (k < length before.slots.items) × (mark_of before.todo.items k band ≡ 0)
   pub cur_at : (place : ℤ × ℤ) → tile_of after.cur.items (slot_at after.index place) ≡ tile_of before.cur.items (slot_at before.index place)
   pub alt_at : (place : ℤ × ℤ) → tile_of after.alt.items (slot_at after.index place) ≡ tile_of before.alt.items (slot_at before.index place)
 

@@ -1,36 +1,46 @@
 -- What one step makes of the tiles of slots.
-use Rattle.std.specs.Prelude.{◌≡◌, ℕ, ◌<◌, ◌≤◌, Bool, true, false, List, length, slice_index_or}
+use Rattle.std.specs.Prelude.{◌≡◌, ℕ, ◌/◌, ◌<◌, ◌≤◌, List, length, slice_index, slice_index_or}
+use Rattle.std.specs.Int.{bit_at}
 use Rattle.life_model.specs.Rule.{Rule}
 use Rattle.life_bits.specs.declared.tile.Tile.{Tile}
 use Rattle.life_bits.specs.Area.{tile_cell, next_in_area}
+use Rattle.life_tile.specs.declared.bands.Bands.{Bands}
 use Rattle.life_tile.specs.declared.slot.Slot.{Slot}
 use Rattle.life_tile.specs.Slots.{links_of, link_of, tile_of, nine_linked}
-use Rattle.life_tile.specs.Rims.{IsAtEdge}
+use Rattle.life_tile.specs.Rims.{IsNextToBand}
 
--- whether a slot is marked
-abbrev pub mark_of : List Bool → ℕ → Bool
-mark_of marks k = slice_index_or marks k false
+-- the marked bands of a slot
+abbrev pub bands_of : List Bands → ℕ → Bands
+bands_of marks k = slice_index_or marks k (record { bits = 0 })
+
+-- 1 where a band of a slot is marked, else 0
+abbrev pub mark_of : List Bands → ℕ → ℕ → ℕ
+mark_of marks k band = bit_at (bands_of marks k).bits band
 
 -- each link of each slot but the first is a slot
 pub record IsLinked (slots : List Slot) : Type 0 where
   pub inside : (k m : ℕ) → 0 < k → k < length slots → m < 9 → link_of slots k m < length slots
 
--- a tile is the next generation of the tile of a slot
-pub record IsNextAt (slots : List Slot) (cur : List Tile) (rule : Rule) (k : ℕ) (tile : Tile) : Type 0 where
-  pub cell : (x y : ℕ) → x < 64 → y < 64 → tile_cell tile x y ≡ next_in_area rule (nine_linked cur (links_of slots k)) x y
+-- Of the tile in the middle of nine slots the bands before band n that had something to do are worked out, the others are what they
+-- were, and each band is marked that a cell which changed is in or next to.
+pub record IsTileWorkedOut (cur : List Tile) (links : List ℕ) (todo : Bands) (rule : Rule) (before after : Tile) (marks marked : List Bands) (n : ℕ) : Type 0 where
+  pub length_marked : length marked ≡ length marks
+  pub next : (x y : ℕ) → x < 64 → y < 64 → y / 8 < n → bit_at todo.bits (y / 8) ≡ 1 → tile_cell after x y ≡ next_in_area rule (nine_linked cur links) x y
+  pub idle : (x y : ℕ) → x < 64 → y < 64 → bit_at todo.bits (y / 8) ≡ 0 → tile_cell after x y ≡ tile_cell before x y
+  pub later : (x y : ℕ) → x < 64 → y < 64 → n ≤ y / 8 → tile_cell after x y ≡ tile_cell before x y
+  pub around : (m band x y : ℕ) → m < 9 → band < 8 → x < 64 → y < 64 → y / 8 < n → IsNextToBand m band x y → mark_of marked (slice_index links m) band ≡ 0 →
+      tile_cell after x y ≡ tile_cell before x y
+  pub kept : (k band : ℕ) → mark_of marks k band ≡ 1 → mark_of marked k band ≡ 1
 
--- in the cells next to a direction two tiles are the same
-pub record IsSameAt (before after : Tile) (m : ℕ) : Type 0 where
-  pub same : (x y : ℕ) → x < 64 → y < 64 → IsAtEdge m x y → tile_cell after x y ≡ tile_cell before x y
-
--- The tiles of the slots from 1 to n that had something to do are worked out, the others are what they were, and
--- each slot is marked that a cell which changed is in or next to.
-pub record IsWorkedOut (slots : List Slot) (cur : List Tile) (todo : List Bool) (rule : Rule) (before after : List Tile) (marks marked : List Bool) (n : ℕ) : Type 0 where
+-- The bands of the slots from 1 to n that had something to do are worked out, the others are what they were, and each band is
+-- marked that a cell which changed is in or next to.
+pub record IsWorkedOut (slots : List Slot) (cur : List Tile) (todo : List Bands) (rule : Rule) (before after : List Tile) (marks marked : List Bands) (n : ℕ) : Type 0 where
   pub length_after : length after ≡ length before
   pub length_marked : length marked ≡ length marks
-  pub next : (k : ℕ) → 0 < k → k < n → mark_of todo k ≡ true → IsNextAt slots cur rule k (tile_of after k)
-  pub idle : (k : ℕ) → k < length slots → mark_of todo k ≡ false → tile_of after k ≡ tile_of before k
+  pub next : (k x y : ℕ) → 0 < k → k < n → x < 64 → y < 64 → mark_of todo k (y / 8) ≡ 1 → tile_cell (tile_of after k) x y ≡ next_in_area rule (nine_linked cur (links_of slots k)) x y
+  pub idle : (k x y : ℕ) → x < 64 → y < 64 → mark_of todo k (y / 8) ≡ 0 → tile_cell (tile_of after k) x y ≡ tile_cell (tile_of before k) x y
   pub first : tile_of after 0 ≡ tile_of before 0
   pub later : (k : ℕ) → n ≤ k → tile_of after k ≡ tile_of before k
-  pub around : (k m : ℕ) → 0 < k → k < n → m < 9 → mark_of marked (link_of slots k m) ≡ false → IsSameAt (tile_of before k) (tile_of after k) m
-  pub kept : (k : ℕ) → mark_of marks k ≡ true → mark_of marked k ≡ true
+  pub around : (k m band x y : ℕ) → 0 < k → k < n → m < 9 → band < 8 → x < 64 → y < 64 → IsNextToBand m band x y → mark_of marked (link_of slots k m) band ≡ 0 →
+      tile_cell (tile_of after k) x y ≡ tile_cell (tile_of before k) x y
+  pub kept : (k band : ℕ) → mark_of marks k band ≡ 1 → mark_of marked k band ≡ 1

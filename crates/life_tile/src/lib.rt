@@ -1,6 +1,7 @@
 //! The plane of tiles that stay where they are, of which each step works out only those that may change.
 #![tactic(auto)]
 
+mod bands;
 mod counting;
 mod listing;
 mod plane;

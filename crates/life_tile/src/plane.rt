@@ -93,3 +93,21 @@ impl Plane for TilePlane {
         Ok(TilePlane { slab, limit })
     }
 }
+
+#[cfg(test)]
+mod tests {
+    use super::*;
+    use crate::tests::{after, moved};
+    use life_cells::cell_list::CellFault;
+
+    #[test]
+    fn the_tiles_behind_a_glider_are_dropped(rt: HostRuntime) -> Result<(), CellFault> {
+        let alloc = rt.alloc();
+        let cells = [(63, 62), (64, 63), (62, 64), (63, 64), (64, 64)];
+        let plane = after(alloc, &cells, &Rule::life(), 6000)?;
+        assert!(rt; plane.slab.slots.len() < 45);
+        assert!(rt; plane.cells()?.as_slice() == moved(alloc, &cells, 1500)?.as_slice());
+        assert!(rt; plane.population() == 5);
+        Ok(())
+    }
+}

@@ -43,7 +43,7 @@ impl Rim {
 }
 
 /// Whether one of 64 bits is set: of those next to the 64 bits before them, of all of them, or of those next to the 64 behind.
-fn has_at_side(bits: u64, side: usize) -> bool
+pub fn has_at_side(bits: u64, side: usize) -> bool
     requires { side < 3 }
     ensures clear { result ≡ false → (x : ℕ) → x < 64 → IsEdge side x → bit_at bits x ≡ 0 }
     ensures set { result ≡ true → ((x : ℕ) → x < 64 → IsEdge side x → bit_at bits x ≡ 0) → ⊥ }
@@ -64,15 +64,4 @@ fn live_columns(tile: &Tile) -> u64
         columns |= *row;
     }
     columns
-}
-
-/// The cells that two tiles differ in.
-pub fn difference(old: &Tile, new: &Tile) -> Tile
-    ensures { (x y : ℕ) → x < 64 → y < 64 → tile_cell result x y ≡ 0 → tile_cell new.now x y ≡ tile_cell old.now x y }
-{
-    let mut rows = [0; 64];
-    for y in 0..64 {
-        rows[y] = old.rows[y] ^ new.rows[y];
-    }
-    Tile { rows }
 }

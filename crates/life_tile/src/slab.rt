@@ -4,9 +4,9 @@ ghost use Rattle.life_model.specs.Evolution.{next};
 ghost use Rattle.life_model.specs.Generation.{empty, from_list, insert, size};
 ghost use Rattle.life_cells.specs.Limits.{IsWithin};
 ghost use Rattle.life_tile.specs.Slots.{slot_at, place_of, link_of, tile_of, IsReached};
-ghost use Rattle.life_tile.specs.Work.{mark_of};
 ghost use Rattle.life_tile.specs.Rims.{IsRimOf, IsStill};
 
+use crate::bands::Bands;
 use crate::counting::count_cells;
 use crate::listing::push_tiles;
 use crate::rim::Rim;
@@ -28,13 +28,14 @@ pub struct Slab {
     pub cur: Vec<Tile>,
     /// The tiles of the generation before, where the slab is not fresh. They become the next.
     pub alt: Vec<Tile>,
-    /// Which slots may have another tile in the next generation than in the one before.
-    pub todo: Vec<bool>,
+    /// Which bands of the slots may be other in the next generation than in the one before. A band of slot 0 is marked where
+    /// a place without a slot may get a live cell.
+    pub todo: Vec<Bands>,
     /// Room for the same of the generation after.
-    pub marks: Vec<bool>,
+    pub marks: Vec<Bands>,
     /// The rule by which this generation came of the one before.
     pub rule: Rule,
-    /// Whether `alt` is no generation. Then every slot has something to do.
+    /// Whether `alt` is no generation. Then every band has something to do.
     pub fresh: bool,
     /// How many steps it has made.
     pub age: u32,
@@ -49,7 +50,7 @@ fn split(z: i32) -> (i32, usize)
 }
 
 impl Slab {
-    ghost use Rattle.life_tile.specs.Slabs.{HasRoom, IsAlike, IsAppended, IsClosed, IsExtended, IsGrown, IsKept, IsSet, IsSlotOf, members_of};
+    ghost use Rattle.life_tile.specs.Slabs.{HasRoom, IsAlike, IsCalm, IsAppended, IsClosed, IsExtended, IsGrown, IsKept, IsSet, IsSlotOf, members_of};
 
     /// The slab without a live cell.
     pub fn new(alloc: Global, age: u32) -> Result<Slab, AllocError>
@@ -100,8 +101,8 @@ impl Slab {
         let _ = self.slots.push(slot);
         let _ = self.cur.push(Tile::EMPTY);
         let _ = self.alt.push(Tile::EMPTY);
-        let _ = self.todo.push(true);
-        let _ = self.marks.push(false);
+        let _ = self.todo.push(Bands::ALL);
+        let _ = self.marks.push(Bands::NONE);
     }
 
     /// Makes a slot for a place that has none.
@@ -161,14 +162,6 @@ impl Slab {
         true
     }
 
-    /// Whether a slot has something to do.
-    fn is_busy(&self, slot: usize) -> bool
-        requires { slot < length self.now.todo.items }
-        ensures { result ≡ mark_of self.now.todo.items slot }
-    {
-        self.todo[slot]
-    }
-
     /// Makes a slot for the place in a direction from a slot, if it has none and a live cell is next to it.
     fn grow_towards(&mut self, slot: usize, rim: &Rim, direction: usize) -> Result<(), AllocError>
         requires kept { IsKept self.old }
@@ -205,6 +198,14 @@ impl Slab {
         Ok(())
     }
 
+    /// Whether no place without a slot can have got a live cell next to it.
+    fn is_closed(&self) -> bool
+        requires { 0 < length self.now.todo.items }
+        ensures { result ≡ true → IsCalm self.now.todo.items }
+    {
+        self.todo[0].is_empty()
+    }
+
     /// Makes slots for all places that a live cell is in or next to.
     pub fn grow(&mut self) -> Result<(), AllocError>
         requires { IsKept self.old }
@@ -214,10 +215,11 @@ impl Slab {
         ensures age { self.new.age ≡ self.old.age }
         ensures grown { OnOk result (IsGrown self.new) }
     {
+        if self.is_closed() {
+            return Ok(());
+        }
         for slot in 1..self.slots.len() {
-            if self.is_busy(slot) {
-                self.grow_around(slot)?;
-            }
+            self.grow_around(slot)?;
         }
         Ok(())
     }
@@ -233,7 +235,7 @@ impl Slab {
         if self.rule != *rule {
             self.rule = *rule;
             self.fresh = true;
-            mark_all(&mut self.todo, true);
+            mark_all(&mut self.todo, Bands::ALL);
         }
     }
 
@@ -246,7 +248,7 @@ impl Slab {
         ensures members { members_of self.new ≡ next self.old.rule (members_of self.old) }
         ensures age { self.new.age ≡ self.old.age + 1 }
     {
-        mark_all(&mut self.marks, self.fresh);
+        mark_all(&mut self.marks, Bands::all_or_none(self.fresh));
         next_tiles(
             &self.slots,
             &self.cur,

@@ -1,84 +1,104 @@
-//! The next generation of the tiles that may change.
-ghost use Rattle.std.specs.Prelude.{◌≡◌, ℕ, ◌<◌, true, false, length, slice_index};
-ghost use Rattle.life_bits.specs.declared.tile.Tile.{Tile};
-ghost use Rattle.life_bits.specs.Area.{tile_cell, next_in_area, nine_of};
+//! The next generation of the bands that may change.
+ghost use Rattle.std.specs.Prelude.{◌≡◌, ℕ, ◌+◌, ◌*◌, ◌%◌, ◌/◌, ◌<◌, length, slice_index};
+ghost use Rattle.std.specs.Int.{bit_at};
 ghost use Rattle.life_model.specs.Rule.{Rule};
+ghost use Rattle.life_bits.specs.declared.tile.Tile.{Tile};
 ghost use Rattle.life_band.specs.Logics.{IsLogicOf};
-ghost use Rattle.life_tile.specs.Slots.{nine_linked};
-ghost use Rattle.life_tile.specs.Rims.{IsRimOf, IsStill};
-ghost use Rattle.life_tile.specs.Work.{mark_of, IsLinked, IsWorkedOut};
+ghost use Rattle.life_band.specs.Changes.{IsChange, IsSameCell};
+ghost use Rattle.life_tile.specs.Rims.{IsEdge, IsNextToBand};
+ghost use Rattle.life_tile.specs.Work.{mark_of, IsLinked, IsTileWorkedOut, IsWorkedOut};
 
-use crate::rim::{Rim, difference};
+use crate::bands::Bands;
+use crate::rim::has_at_side;
 use crate::slot::{HERE, Slot};
-use life_band::{Logic, Window, band};
+use life_band::{Change, Logic, Window, band};
 use life_bits::{Around, Tile};
 use life_cells::rule::Rule;
 
-/// The next generation of a tile among the eight around it, eight rows at a time.
-fn next_by_bands<'a>(here: &'a Tile, around: &Around<'a>, logic: &Logic) -> Tile
-    ensures { (rule : Rule) → IsLogicOf logic.now rule → (x y : ℕ) → x < 64 → y < 64 →
-        tile_cell result x y ≡ next_in_area rule (nine_of here.now around.now) x y }
-{
-    let mut next = Tile::EMPTY;
-    for index in 0..8 {
-        let window = Window::of(here, around, 8 * index);
-        let _ = band(logic, &window, &mut next);
-    }
-    next
-}
-
-/// The next generation of the tile in the middle of nine slots.
-fn next_of(tiles: &[Tile], links: &[usize; 9], logic: &Logic) -> Tile
-    requires { (m : ℕ) → m < 9 → slice_index links.now m < length tiles.now }
-    ensures { (rule : Rule) → IsLogicOf logic.now rule → (x y : ℕ) → x < 64 → y < 64 →
-        tile_cell result x y ≡ next_in_area rule (nine_linked tiles.now links.now) x y }
-{
-    let around = Around {
-        north_west: &tiles[links[0]],
-        north: &tiles[links[1]],
-        north_east: &tiles[links[2]],
-        west: &tiles[links[3]],
-        east: &tiles[links[5]],
-        south_west: &tiles[links[6]],
-        south: &tiles[links[7]],
-        south_east: &tiles[links[8]],
-    };
-    next_by_bands(&tiles[links[HERE]], &around, logic)
-}
-
-/// Marks the slots around a tile that one of the cells of a rim is in or next to.
-fn mark_around(marks: &mut [bool], links: &[usize; 9], rim: &Rim)
-    requires { (m : ℕ) → m < 9 → slice_index links.now m < length marks.old }
-    ensures length { length marks.new ≡ length marks.old }
-    ensures kept { (k : ℕ) → mark_of marks.old k ≡ true → mark_of marks.new k ≡ true }
-    ensures marked { (tile : Tile) → IsRimOf rim.now tile → (m : ℕ) → m < 9 →
-        mark_of marks.new (slice_index links.now m) ≡ false → IsStill tile m }
-{
-    for direction in 0..9 {
-        if rim.reaches(direction) {
-            marks[links[direction]] = true;
-        }
-    }
-}
-
 /// Makes each of the marks the same.
-pub fn mark_all(marks: &mut [bool], value: bool)
+pub fn mark_all(marks: &mut [Bands], value: Bands)
     ensures length { length marks.new ≡ length marks.old }
-    ensures marks { (k : ℕ) → k < length marks.old → mark_of marks.new k ≡ value }
+    ensures marks { (k band : ℕ) → k < length marks.old → mark_of marks.new k band ≡ bit_at value.bits band }
 {
     for mark in marks.iter_mut() {
         *mark = value;
     }
 }
 
-/// Works out the tiles of all slots but the first that have something to do: each becomes the next generation of the tile that
-/// `cur` has in its slot. Marks the slots that a cell which changed is in or next to.
+/// Marks a band of each of three tiles side by side that one of the cells of a row above it, in it or below it is in or next to. Of
+/// the nine tiles the bands are counted from the northernmost on, from 0 to 23. The row is that of the middle column of tiles.
+fn mark_beside(marks: &mut [Bands], links: &[usize; 9], at: usize, row: u64)
+    requires links { (m : ℕ) → m < 9 → slice_index links.now m < length marks.old }
+    requires at { at < 24 }
+    ensures length { length marks.new ≡ length marks.old }
+    ensures kept { (k band : ℕ) → mark_of marks.old k band ≡ 1 → mark_of marks.new k band ≡ 1 }
+    ensures marked { (side : ℕ) → side < 3 → mark_of marks.new (slice_index links.now (3 * (at / 8) + side)) (at % 8) ≡ 0 →
+        (x : ℕ) → x < 64 → IsEdge side x → bit_at row x ≡ 0 }
+{
+    for side in 0..3 {
+        if has_at_side(row, side) {
+            let slot = links[3 * (at / 8) + side];
+            marks[slot] = marks[slot].with(at % 8);
+        }
+    }
+}
+
+/// Marks the bands that a cell of a tile's band which changed is in or next to.
+fn mark_around(marks: &mut [Bands], links: &[usize; 9], index: usize, change: &Change)
+    requires links { (m : ℕ) → m < 9 → slice_index links.now m < length marks.old }
+    requires index { index < 8 }
+    ensures length { length marks.new ≡ length marks.old }
+    ensures kept { (k band : ℕ) → mark_of marks.old k band ≡ 1 → mark_of marks.new k band ≡ 1 }
+    ensures marked { (old new : Tile) → IsChange change.now old new (8 * index) → (m band x y : ℕ) → m < 9 → band < 8 → x < 64 → y < 8 →
+        IsNextToBand m band x (8 * index + y) → mark_of marks.new (slice_index links.now m) band ≡ 0 → IsSameCell old new x (8 * index + y) }
+{
+    mark_beside(marks, links, index + 7, change.first);
+    mark_beside(marks, links, index + 8, change.all);
+    mark_beside(marks, links, index + 9, change.last);
+}
+
+/// Works out the bands of the tile in the middle of nine slots that have something to do, into the tile of the generation before.
+/// Marks the bands that a cell which changed is in or next to.
+fn work_out(
+    tile: &mut Tile,
+    cur: &[Tile],
+    links: &[usize; 9],
+    todo: Bands,
+    logic: &Logic,
+    marks: &mut [Bands],
+)
+    requires tiles { (m : ℕ) → m < 9 → slice_index links.now m < length cur.now }
+    requires marks { (m : ℕ) → m < 9 → slice_index links.now m < length marks.old }
+    ensures { (rule : Rule) → IsLogicOf logic.now rule → IsTileWorkedOut cur.now links.now todo rule tile.old tile.new marks.old marks.new 8 }
+{
+    let here = &cur[links[HERE]];
+    let around = Around {
+        north_west: &cur[links[0]],
+        north: &cur[links[1]],
+        north_east: &cur[links[2]],
+        west: &cur[links[3]],
+        east: &cur[links[5]],
+        south_west: &cur[links[6]],
+        south: &cur[links[7]],
+        south_east: &cur[links[8]],
+    };
+    for index in 0..8 {
+        if todo.contains(index) {
+            let window = Window::of(here, &around, 8 * index);
+            let change = band(logic, &window, tile);
+            mark_around(marks, links, index, &change);
+        }
+    }
+}
+
+/// Works out the bands of all slots but the first that have something to do: each becomes the next generation of the band that
+/// `cur` has there. Marks the bands that a cell which changed is in or next to.
 pub fn next_tiles(
     slots: &[Slot],
     cur: &[Tile],
     alt: &mut [Tile],
-    todo: &[bool],
-    marks: &mut [bool],
+    todo: &[Bands],
+    marks: &mut [Bands],
     rule: &Rule,
 )
     requires linked { IsLinked slots.now }
@@ -90,12 +110,10 @@ pub fn next_tiles(
 {
     let logic = Logic::of(rule);
     for slot in 1..slots.len() {
-        if todo[slot] {
+        let bands = todo[slot];
+        if !bands.is_empty() {
             let links = slots[slot].links;
-            let next = next_of(cur, &links, &logic);
-            let rim = Rim::of(&difference(&alt[slot], &next));
-            alt[slot] = next;
-            mark_around(marks, &links, &rim);
+            work_out(&mut alt[slot], cur, &links, bands, &logic, marks);
         }
     }
 }

@@ -9,13 +9,13 @@ use life_plane::plane::Plane;
 use std::alloc::{AllocError, Global};
 
 /// The plane of these cells after some steps.
-fn after(
+pub fn after(
     alloc: Global,
     cells: &[(i32, i32)],
     rule: &Rule,
     steps: u32,
 ) -> Result<TilePlane, CellFault>
-    requires { steps ≤ 1000 }
+    requires { steps ≤ 10000 }
     ensures { IfOk result (λ plane. plane.1 ≡ steps) }
 {
     let list = CellList::of(alloc, cells)?;
@@ -39,7 +39,7 @@ fn shifted(alloc: Global, cells: &[(i32, i32)], by: i32) -> Result<Vec<(i32, i32
 }
 
 /// The same cells as a list, each moved by one distance both ways.
-fn moved(alloc: Global, cells: &[(i32, i32)], by: i32) -> Result<CellList, CellFault> {
+pub fn moved(alloc: Global, cells: &[(i32, i32)], by: i32) -> Result<CellList, CellFault> {
     CellList::of(alloc, &shifted(alloc, cells, by)?)
 }
 

@@ -1,14 +1,21 @@
-use Rattle.std.proofs.Common.{◌≡◌, ◌+◌, ◌<◌, List, [], ◌∷◌, ◌++◌, Some, true, false, Bool, length, length-append, slice_index, subst, sym, ap, ◌∙◌, arith}
+use Rattle.std.proofs.Common.{◌≡◌, ◌+◌, ◌<◌, List, [], ◌∷◌, ◌++◌, Some, length, length-append, slice_index, subst, sym, ap, ◌∙◌, arith}
 use Rattle.std.specs.Vec.{with_items}
 use Rattle.std.specs.BTreeMap.{IsOrdered, get}
 use Rattle.life_bits.specs.declared.tile.Tile.{Tile}
 use Rattle.life_tile.specs.Places.{place_cmp}
+use Rattle.life_tile.specs.declared.bands.Bands.{Bands}
 use Rattle.life_tile.specs.declared.slot.Slot.{Slot}
 use Rattle.life_tile.specs.Slots.{Index, place_of, link_of, empty_tile, IsReached}
-use Rattle.life_tile.specs.Slabs.{IsAlike}
+use Rattle.life_tile.specs.Slabs.{IsAlike, all_bands, no_bands}
 use Rattle.life_tile.proofs.Kept.{written_back, slab_alike, extended_alike, kept_extended}
 use Rattle.life_tile.proofs.Added.{IsAdded, links_small, added_slab, added_extended, added_slot}
 use Rattle.life_tile.proofs.slab.Slab.add.Goals as goal
+
+pub returns-in_err-reserve_one-clause-kept : goal.returns-in_err-reserve_one-clause-kept
+returns-in_err-reserve_one-clause-kept c =
+    kept_extended c.args.self.now c.reserve_one.new.self c.requires.kept.whole
+    (slab_alike _ _ c.reserve_one.ensures.alike c.requires.kept.whole) (extended_alike _ _ c.reserve_one.ensures.alike) c.requires.kept
+    (λ k past inside. let same : length c.reserve_one.new.self.slots.items ≡ length c.args.self.now.slots.items = ap (λ (ss : List Slot). length ss) c.reserve_one.ensures.alike.slots in absurd (omega arith))
 
 pub returns-in_err-insert-clause-kept : goal.returns-in_err-insert-clause-kept
 returns-in_err-insert-clause-kept c =
@@ -72,8 +79,8 @@ module _ (c : goal.After-self-1) where
     fresh = c.append.ensures.fresh ∙ c.reserve_one.ensures.alike.fresh;
     cur = c.append.ensures.cur ∙ ap (λ (ts : List Tile). ts ++ empty_tile ∷ []) c.reserve_one.ensures.alike.cur;
     alt = c.append.ensures.alt ∙ ap (λ (ts : List Tile). ts ++ empty_tile ∷ []) c.reserve_one.ensures.alike.alt;
-    todo = c.append.ensures.todo ∙ ap (λ (bs : List Bool). bs ++ true ∷ []) c.reserve_one.ensures.alike.todo;
-    marks = c.append.ensures.marks ∙ ap (λ (bs : List Bool). bs ++ false ∷ []) c.reserve_one.ensures.alike.marks;
+    todo = c.append.ensures.todo ∙ ap (λ (bs : List Bands). bs ++ all_bands ∷ []) c.reserve_one.ensures.alike.todo;
+    marks = c.append.ensures.marks ∙ ap (λ (bs : List Bands). bs ++ no_bands ∷ []) c.reserve_one.ensures.alike.marks;
   }
 
 abbrev added_after : (c : goal.After-self-1) → List Slot

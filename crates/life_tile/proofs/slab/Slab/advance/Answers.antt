@@ -1,4 +1,6 @@
-use Rattle.std.proofs.Common.{◌≡◌, ℕ, ◌<◌, Bool, List, length, ap, ◌∙◌, arith}
+use Rattle.std.proofs.Common.{◌≡◌, ℕ, ◌<◌, List, length, ap, ◌∙◌, arith}
+use Rattle.life_bits.specs.Flags.{as_bit}
+use Rattle.life_tile.specs.declared.bands.Bands.{Bands}
 use Rattle.life_tile.specs.Work.{mark_of, IsWorkedOut}
 use Rattle.life_tile.proofs.Kept.{written_back}
 use Rattle.life_tile.proofs.Advanced.{worked_at, kept_next, members_next}
@@ -12,12 +14,12 @@ module _ (c : goal.After-self-5-1) where
 
   marks_count : length c.deref_mut-3.result.now ≡ length c.args.self.now.slots.items
   marks_count =
-      ap (λ (bs : List Bool). length bs) marks_written ∙ c.mark_all.ensures.length ∙ ap (λ (bs : List Bool). length bs) c.deref_mut.ensures.value ∙ c.requires.kept.whole.marks_length
+      ap (λ (bs : List Bands). length bs) marks_written ∙ c.mark_all.ensures.length ∙ ap (λ (bs : List Bands). length bs) c.deref_mut.ensures.value ∙ c.requires.kept.whole.marks_length
 
-  marks_are : (k : ℕ) → k < length c.deref_mut-3.result.now → mark_of c.deref_mut-3.result.now k ≡ c.args.self.now.fresh
-  marks_are k inside =
-      let same : length c.deref_mut-3.result.now ≡ length c.deref_mut.result.now = ap (λ (bs : List Bool). length bs) marks_written ∙ c.mark_all.ensures.length in
-      ap (λ (bs : List Bool). mark_of bs k) marks_written ∙ c.mark_all.ensures.marks k (omega arith)
+  marks_are : (k band : ℕ) → k < length c.deref_mut-3.result.now → band < 8 → mark_of c.deref_mut-3.result.now k band ≡ as_bit c.args.self.now.fresh
+  marks_are k band inside small =
+      let same : length c.deref_mut-3.result.now ≡ length c.deref_mut.result.now = ap (λ (bs : List Bands). length bs) marks_written ∙ c.mark_all.ensures.length in
+      ap (λ (bs : List Bands). mark_of bs k band) marks_written ∙ c.mark_all.ensures.marks k band (omega arith) ∙ c.all_or_none.ensures band small
 
   worked : IsWorkedOut c.args.self.now.slots.items c.args.self.now.cur.items c.args.self.now.todo.items c.args.self.now.rule c.args.self.now.alt.items c.next_tiles.new.alt c.deref_mut-3.result.now c.next_tiles.new.marks (length c.args.self.now.slots.items)
   worked =

@@ -1,9 +1,11 @@
-use Rattle.std.proofs.Common.{◌≡◌, ℕ, ◌≤◌, pos, true, false, Bool, List, [], ◌∷◌, ◌++◌, sym, subst, ap, ◌∙◌}
+use Rattle.std.proofs.Common.{◌≡◌, ℕ, ◌≤◌, pos, true, List, [], ◌∷◌, ◌++◌, sym, subst, ap, ◌∙◌}
 use Rattle.std.specs.BTreeMap.{IsOrdered}
 use Rattle.life_bits.specs.declared.tile.Tile.{Tile}
 use Rattle.life_tile.specs.Places.{place_cmp}
+use Rattle.life_tile.specs.declared.bands.Bands.{Bands}
 use Rattle.life_tile.specs.declared.slot.Slot.{Slot}
 use Rattle.life_tile.specs.Slots.{Index, empty_tile}
+use Rattle.life_tile.specs.Slabs.{all_bands, no_bands}
 use Rattle.life_tile.proofs.Put.{kept_new, members_new}
 use Rattle.life_tile.proofs.slab.Slab.new.Goals as goal
 
@@ -29,11 +31,11 @@ module _ (c : goal.After-append) where
   alt : c.append.new.self.alt.items ≡ empty_tile ∷ []
   alt = c.append.ensures.alt ∙ ap (λ (ts : List Tile). ts ++ empty_tile ∷ []) (c.reserve_one.ensures.alike.alt ∙ c.new-4.ensures.items)
 
-  todo : c.append.new.self.todo.items ≡ true ∷ []
-  todo = c.append.ensures.todo ∙ ap (λ (bs : List Bool). bs ++ true ∷ []) (c.reserve_one.ensures.alike.todo ∙ c.new-5.ensures.items)
+  todo : c.append.new.self.todo.items ≡ all_bands ∷ []
+  todo = c.append.ensures.todo ∙ ap (λ (bs : List Bands). bs ++ all_bands ∷ []) (c.reserve_one.ensures.alike.todo ∙ c.new-5.ensures.items)
 
-  marks : c.append.new.self.marks.items ≡ false ∷ []
-  marks = c.append.ensures.marks ∙ ap (λ (bs : List Bool). bs ++ false ∷ []) (c.reserve_one.ensures.alike.marks ∙ c.new-6.ensures.items)
+  marks : c.append.new.self.marks.items ≡ no_bands ∷ []
+  marks = c.append.ensures.marks ∙ ap (λ (bs : List Bands). bs ++ no_bands ∷ []) (c.reserve_one.ensures.alike.marks ∙ c.new-6.ensures.items)
 
   young : c.append.new.self.age ≤ 4194304
   young = subst (λ (n : ℕ). n ≤ 4194304) (sym (c.append.ensures.age ∙ c.reserve_one.ensures.alike.age)) c.requires

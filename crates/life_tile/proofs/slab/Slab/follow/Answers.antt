@@ -1,0 +1,37 @@
+use Rattle.std.proofs.Common.{◌≡◌, ℕ, ◌<◌, List, length, refl, sym, ap, ◌∙◌, arith}
+use Rattle.std.specs.Vec.{with_items}
+use Rattle.life_tile.specs.declared.bands.Bands.{Bands}
+use Rattle.life_tile.specs.Work.{mark_of}
+use Rattle.life_tile.specs.Slabs.{IsCalm}
+use Rattle.life_tile.proofs.Lists.{all_marked}
+use Rattle.life_tile.proofs.Kept.{written_back}
+use Rattle.life_tile.proofs.Put.{kept_fresh}
+use Rattle.life_tile.proofs.slab.Slab.follow.Goals as goal
+
+module _ (c : goal.After-self-then-ne-3-1) where
+  written : (with_items c.args.self.now.todo c.mark_all.new.marks).items ≡ c.mark_all.new.marks
+  written = written_back c.args.self.now.todo.len c.mark_all.new.marks c.args.self.now.todo.items (c.mark_all.ensures.length ∙ c.deref_mut.ensures.len)
+
+  count : length c.deref_mut.result.now ≡ length c.args.self.now.slots.items
+  count = ap (λ (bs : List Bands). length bs) c.deref_mut.ensures.value ∙ c.requires.whole.todo_length
+
+  marked : (k band : ℕ) → k < length c.args.self.now.slots.items → band < 8 → mark_of (with_items c.args.self.now.todo c.mark_all.new.marks).items k band ≡ 1
+  marked k band inside small =
+      let same = count in
+      ap (λ (bs : List Bands). mark_of bs k band) written ∙ c.mark_all.ensures.marks k band (omega arith) ∙ all_marked band small
+
+pub returns-then-ne-clause-kept : goal.returns-then-ne-clause-kept
+returns-then-ne-clause-kept c =
+    kept_fresh _
+    (record {
+      indexed = c.requires.whole.indexed;
+      cur_length = c.requires.whole.cur_length;
+      alt_length = c.requires.whole.alt_length;
+      todo_length = ap (λ (bs : List Bands). length bs) (written c) ∙ c.mark_all.ensures.length ∙ count c;
+      marks_length = c.requires.whole.marks_length;
+      cur_none = c.requires.whole.cur_none;
+      alt_none = c.requires.whole.alt_none;
+    })
+    c.requires.young c.requires.within c.requires.reached refl
+    (λ k band later inside small. marked c k band inside small)
+    (λ (calm : IsCalm (with_items c.args.self.now.todo c.mark_all.new.marks).items). let never : 1 ≡ 0 = sym (marked c 0 0 c.requires.whole.indexed.some (omega arith)) ∙ calm 0 (omega arith) in omega arith)

@@ -1,0 +1,51 @@
+//! Marks for the bands of a tile.
+ghost use Rattle.std.specs.Prelude.{◌≡◌, ◌≢◌, ℕ, ◌<◌, true};
+ghost use Rattle.std.specs.Int.{bit_at};
+ghost use Rattle.life_bits.specs.Flags.{as_bit};
+
+/// Which of the eight bands of a tile are marked. Band `k` is rows `8 * k` to `8 * k + 7`, and its mark is bit `k`.
+#[derive(Clone, Copy)]
+pub struct Bands {
+    pub bits: u8,
+}
+
+impl Bands {
+    /// No band.
+    pub const NONE: Bands = Bands { bits: 0 };
+
+    /// All eight bands.
+    pub const ALL: Bands = Bands { bits: 255 };
+
+    /// All bands, or none.
+    pub fn all_or_none(all: bool) -> Bands
+        ensures { (band : ℕ) → band < 8 → bit_at result.bits band ≡ as_bit all }
+    {
+        if all { Bands::ALL } else { Bands::NONE }
+    }
+
+    /// Whether no band is marked.
+    pub fn is_empty(self) -> bool
+        ensures { result ≡ true → (k : ℕ) → bit_at self.bits k ≡ 0 }
+    {
+        self.bits == 0
+    }
+
+    /// Whether a band is marked.
+    pub fn contains(self, band: usize) -> bool
+        requires { band < 8 }
+        ensures { as_bit result ≡ bit_at self.bits band }
+    {
+        (self.bits >> band) & 1 == 1
+    }
+
+    /// These bands and one more.
+    pub fn with(self, band: usize) -> Bands
+        requires { band < 8 }
+        ensures here { bit_at result.bits band ≡ 1 }
+        ensures others { (k : ℕ) → k ≢ band → bit_at result.bits k ≡ bit_at self.bits k }
+    {
+        Bands {
+            bits: self.bits | (1 << band),
+        }
+    }
+}
