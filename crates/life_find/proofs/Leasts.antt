@@ -9,7 +9,9 @@ use Rattle.life_model.specs.Rule.{Rule}
 use Rattle.life_model.specs.Generation.{Generation, size}
 use Rattle.life_model.specs.Evolution.{generation}
 use Rattle.life_model.specs.Symmetry.{normal, Orientation, turned}
+use Rattle.life_model.proofs.Moves.{normal-next}
 use Rattle.life_model.proofs.Objects.{normal-turned}
+use Rattle.life_model.proofs.Recurrences.{generation-zero, generation-next, shape}
 use Rattle.life_shape.specs.declared.orient.Orient.{Orient}
 use Rattle.life_shape.specs.declared.orient.Orient.TheVariants as orient
 use Rattle.life_shape.specs.Orients.{orientation}
@@ -19,6 +21,7 @@ use Rattle.life_shape.proofs.Boxes.{normal_normal}
 use Rattle.life_answer.specs.Apgcode.{orientations, turned_bodies, bodies, prefix, code_of}
 use Rattle.life_answer.proofs.Codes.{body-normal, body_by_shape}
 use Rattle.life_find.specs.Least.{with_text}
+use Rattle.life_find.proofs.Ways.{same_size}
 
 -- ---- the text of a set is that of its normal form
 
@@ -93,3 +96,22 @@ pub code-parts : (R : Rule) (H : Generation) (period population : ℕ) (d : Cell
 unfolding code_of
 code-parts R H period population d front back code counted e f g =
     g ∙ (λ i. e i ++ f i) ∙ ap (λ n. prefix n period d ++ codes "_" ++ least_text (bodies R H period)) counted
+
+-- ---- a set and one moved have one code
+
+shapes_together : (R : Rule) (G H : Generation) (n : ℕ) → normal G ≡ normal H → shape R G n ≡ shape R H n
+shapes_together R G H zero e = ap normal (generation-zero R G) ∙ e ∙ ap normal (sym (generation-zero R H))
+shapes_together R G H (suc n) e =
+    let more : suc n ≡ n + 1 = omega arith in
+    ap (shape R G) more
+    ∙ ap normal (generation-next R G n)
+    ∙ normal-next R (generation R G n) (generation R H n) (shapes_together R G H n e)
+    ∙ ap normal (sym (generation-next R H n))
+    ∙ ap (shape R H) (sym more)
+
+pub code_by_shape : (R : Rule) (G H : Generation) (period : ℕ) (d : Cell) → normal G ≡ normal H → code_of R G period d ≡ code_of R H period d
+unfolding code_of
+code_by_shape R G H period d e =
+    let each : (n : ℕ) → turned_bodies (generation R G n) ≡ turned_bodies (generation R H n) = λ n.
+    sym (turned_bodies-normal (generation R G n)) ∙ ap turned_bodies (shapes_together R G H n e) ∙ turned_bodies-normal (generation R H n) in
+    λ i. prefix (same_size G H e i) period d ++ codes "_" ++ least_text (flat_map (λ n. each n i) (range_with_len 0 period))

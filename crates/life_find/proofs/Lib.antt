@@ -1,5 +1,5 @@
 pub mod Ways
-pub mod Ahead
+pub mod Apart
 pub mod Possible
 pub mod Leasts
 pub mod Found

@@ -11,10 +11,11 @@ use Rattle.life_model.specs.Rule.{Rule}
 use Rattle.life_model.specs.Generation.{Generation, size}
 use Rattle.life_model.specs.Evolution.{generation}
 use Rattle.life_model.specs.Recurrence.{SettlesAt}
+use Rattle.life_model.specs.Symmetry.{normal}
 use Rattle.life_model.proofs.Orbits.{along}
-use Rattle.life_model.proofs.Recurrences.{shape, shape-follows, shape_from_move}
+use Rattle.life_model.proofs.Recurrences.{generation-add, generation-zero, shape, shape-follows, shape_from_move}
 use Rattle.life_find.specs.Search.{ArePopulations, changes_at, ends_alike}
-use Rattle.life_find.proofs.Ahead.{Ahead}
+use Rattle.life_find.proofs.Apart.{IsApart}
 use Rattle.life_find.proofs.Leasts.{range-more}
 use Rattle.life_find.proofs.Ways.{same_size}
 
@@ -77,6 +78,13 @@ module _ (R : Rule) (G : Generation) (list new : List ℕ) (x n : ℕ) (e : new 
 pub ArePopulations-none : (R : Rule) (G : Generation) (list : List ℕ) → list ≡ [] → ArePopulations R G list
 ArePopulations-none R G list e = record { each = λ k below. absurd (let none : length list ≡ 0 = ap length e in omega arith) }
 
+pub ArePopulations-first : (R : Rule) (G : Generation) (list new : List ℕ) (x : ℕ) → list ≡ [] → new ≡ list ++ x ∷ [] → x ≡ size G → (length new ≡ 0 + 1) × ArePopulations R G new
+ArePopulations-first R G list new x none e counted =
+    let count : length list ≡ 0 = ap length none in (
+      length-more R G list new x 0 e count,
+      ArePopulations-more R G list new x 0 e count (ArePopulations-none R G list none) (counted ∙ ap size (sym (generation-zero R G))),
+    )
+
 -- ---- possible periods
 
 -- Each generation from b on is that p generations before it, moved. So it is where a set settles within b.
@@ -138,12 +146,15 @@ module _ (R : Rule) (G : Generation) (b : ℕ) where
       let below : inside.0 < length periods = inside.1 in
       omega arith
 
-  pub nowhere_past : Ahead R G b (b + b) → (g : ℕ) → SettlesAt R G b g → ⊥
-  nowhere_past ahead g s =
+  pub nowhere_past : IsApart R (generation R G b) b → (g : ℕ) → SettlesAt R G b g → ⊥
+  nowhere_past apart g s =
       let possible = possible_by_settling g s in
       let p = possible.0 in
       let most : p ≤ b = possible.1.most in
-      ahead.none p possible.1.least (omega arith) (possible.1.again (b + p) (omega arith) ∙ ap (shape R G) (let q : b + p - p ≡ b = omega arith in q))
+      apart.none p possible.1.least most
+      (ap normal (generation-add R G b p)
+      ∙ possible.1.again (b + p) (omega arith)
+      ∙ ap (shape R G) (let q : b + p - p ≡ b = omega arith in q))
 
 -- ---- the onset
 

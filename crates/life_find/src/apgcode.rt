@@ -8,7 +8,7 @@ ghost use Rattle.life_shape.specs.Wechsler.{body};
 ghost use Rattle.life_answer.specs.Apgcode.{bodies, code_of, prefix, turned_bodies};
 ghost use Rattle.life_find.specs.Least.{with_text};
 
-use crate::search::Recurrence;
+use crate::recurrence::Recurrence;
 use itoa::Buffer;
 use life_answer::code::Code;
 use life_cells::rule::Rule;
@@ -81,14 +81,15 @@ fn least_body<P: Plane>(
     rule: &Rule,
     period: u32,
 ) -> Result<Vec<u8>, AllocError>
-    requires { P.steps_made plane + period ≤ AGE_LIMIT }
+    requires period { 1 ≤ period }
+    requires young { P.steps_made plane + period ≤ AGE_LIMIT }
     ensures { IfOk result (λ text. text.items ≡ least_text (bodies rule.now (P.members plane) period)) }
 {
     let mut plane = plane;
-    let mut least = None;
-    for _ in 0..period {
-        least = with_shape(alloc, least, &shape_of(alloc, &plane)?)?;
+    let mut least = with_shape(alloc, None, &shape_of(alloc, &plane)?)?;
+    for _ in 1..period {
         plane.step(rule)?;
+        least = with_shape(alloc, least, &shape_of(alloc, &plane)?)?;
     }
     match least {
         Some(text) => Ok(text),
@@ -125,7 +126,8 @@ pub fn code_of<P: Plane>(
     rule: &Rule,
     recurrence: &Recurrence,
 ) -> Result<Code, AllocError>
-    requires { P.steps_made plane + recurrence.now.period ≤ AGE_LIMIT }
+    requires period { 1 ≤ recurrence.now.period }
+    requires young { P.steps_made plane + recurrence.now.period ≤ AGE_LIMIT }
     ensures { IfOk result (λ code. code ≡ code_of rule.now (P.members plane) recurrence.now.period recurrence.now.displacement) }
 {
     let mut text = prefix(

@@ -51,11 +51,13 @@ pub fn first_alike(numbers: &[u64], places: u32, last: u32) -> u32
     ensures change { (i : ℕ) → result ≡ i + 1 → changes_at numbers.now places i ≡ true }
     ensures rest { (i : ℕ) → result ≤ i → i ≤ last → changes_at numbers.now places i ≡ false }
 {
-    let mut first = 0;
-    for at in 0..last + 1 {
-        if changes(numbers, places, at) {
-            first = at + 1;
+    let known = numbers.len().saturating_sub(places as usize);
+    let mut end = known.min(last as usize + 1) as u32;
+    'places: while end > 0 {
+        if changes(numbers, places, end - 1) {
+            return end;
         }
+        end -= 1;
     }
-    first
+    0
 }

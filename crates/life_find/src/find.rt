@@ -7,7 +7,8 @@ ghost use Rattle.life_answer.specs.declared.finding.Finding.TheVariants.{Recurs}
 
 use crate::apgcode::code_of;
 use crate::limit::BOUND_LIMIT;
-use crate::search::{Recurrence, settling};
+use crate::recurrence::Recurrence;
+use crate::search::settling;
 use life_answer::code::Code;
 use life_answer::finding::Finding;
 use life_cells::cell_list::CellList;
@@ -47,9 +48,8 @@ pub fn find_cells<P: Plane>(
     requires bound { 1 ≤ bound × bound ≤ BOUND_LIMIT }
     ensures { IfOk result (λ found. found ≡ finding_of rule.now cells.now bound) }
 {
-    let start = P::from_cells(alloc, cells)?;
-    let population = start.population();
-    match settling(alloc, &start, rule, bound)? {
+    let population = cells.len() as u64;
+    match settling::<P>(alloc, cells, rule, bound)? {
         None => Ok(Finding::Unresolved { population }),
         Some((recurrence, plane)) => {
             let code = code_of(alloc, plane, rule, &recurrence)?;

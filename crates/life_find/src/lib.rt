@@ -6,7 +6,10 @@ mod apgcode;
 mod candidates;
 pub mod find;
 pub mod limit;
+mod recurrence;
 pub mod same_object;
 mod search;
+mod sighting;
 #[cfg(test)]
 mod tests;
+mod way;

@@ -1,4 +1,4 @@
-use Rattle.std.proofs.Common.{◌≡◌, ◌+◌, None}
+use Rattle.std.proofs.Common.{◌≡◌, ◌+◌, ◌-◌, None}
 use Rattle.std.specs.List.{fold}
 use Rattle.std.specs.Option.{option_map}
 use Rattle.life_model.specs.Evolution.{generation}
@@ -11,7 +11,7 @@ abbrev pub invariant-loop : goal.invariant-loop
 invariant-loop g l =
     let first = g.P.Plane.members l.fn.plane in
     record {
-      cells : g.P.Plane.members l.plane ≡ generation l.rule first l.counter;
-      age : g.P.Plane.steps_made l.plane ≡ g.P.Plane.steps_made l.fn.plane + l.counter;
+      cells : g.P.Plane.members l.plane ≡ generation l.rule first (l.counter - 1);
+      age : g.P.Plane.steps_made l.plane + 1 ≡ g.P.Plane.steps_made l.fn.plane + l.counter;
       least : option_map (λ t. t.items) l.least ≡ fold with_text None (bodies l.rule first l.counter);
     }

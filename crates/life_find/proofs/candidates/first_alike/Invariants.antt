@@ -1,10 +1,13 @@
-use Rattle.std.proofs.Common.{◌≡◌, ℕ, ◌+◌, ◌<◌, ◌≤◌, true, false}
+use Rattle.std.proofs.Common.{◌≡◌, ℕ, ◌+◌, ◌≤◌, false}
 use Rattle.life_find.specs.Search.{changes_at}
 use Rattle.life_find.proofs.candidates.first_alike.Given as goal
 
-abbrev pub invariant-loop-at : goal.invariant-loop-at
-invariant-loop-at l = record {
-  end : l.first ≤ l.at;
-  change : (i : ℕ) → l.first ≡ i + 1 → changes_at l.numbers l.places i ≡ true;
-  rest : (i : ℕ) → l.first ≤ i → i < l.at → changes_at l.numbers l.places i ≡ false;
+-- no place from the end on has a change
+abbrev pub invariant-places : goal.invariant-places
+invariant-places l = record {
+  end : l.end ≤ l.last + 1;
+  rest : (i : ℕ) → l.end ≤ i → i ≤ l.last → changes_at l.numbers l.places i ≡ false;
 }
+
+abbrev pub decreases-places : goal.decreases-places
+decreases-places l = l.end

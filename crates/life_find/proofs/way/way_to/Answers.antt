@@ -2,7 +2,7 @@ use Rattle.std.proofs.Common.{◌∙◌, length, sym, ap}
 use Rattle.life_model.specs.Generation.{cells}
 use Rattle.life_model.proofs.Generations.{size-cells}
 use Rattle.life_find.proofs.Ways.{way_of_sets, apart_sets, apart_by_size}
-use Rattle.life_find.proofs.search.way.Goals as goal
+use Rattle.life_find.proofs.way.way_to.Goals as goal
 
 pub returns-then-as_slice-population-clause-apart : goal.returns-then-as_slice-population-clause-apart
 returns-then-as_slice-population-clause-apart g c =

@@ -1,0 +1,14 @@
+use Rattle.std.proofs.Common.{◌≡◌, ℕ, ◌+◌, ◌<◌}
+use Rattle.life_model.specs.Evolution.{generation}
+use Rattle.life_model.proofs.Recurrences.{shape}
+use Rattle.life_find.proofs.search.settling_from.Given as goal
+
+-- No generation so far comes again after the period.
+abbrev pub invariant-loop-onset : goal.invariant-loop-onset
+invariant-loop-onset g l = record {
+  here : g.P.Plane.members l.plane ≡ generation l.rule l.cells l.onset;
+  there : g.P.Plane.members l.later ≡ generation l.rule l.cells (l.onset + l.period);
+  aged : g.P.Plane.steps_made l.plane ≡ l.onset;
+  later_aged : g.P.Plane.steps_made l.later ≡ l.onset + l.period;
+  none : (h : ℕ) → h < l.onset → shape l.rule l.cells (h + l.period) ≡ shape l.rule l.cells h → ⊥;
+}

@@ -1,0 +1,17 @@
+use Rattle.std.proofs.Common.{◌≡◌, ◌+◌, ◌-◌, ◌≤◌, length}
+use Rattle.life_model.specs.Evolution.{generation}
+use Rattle.life_find.specs.Search.{ArePopulations}
+use Rattle.life_find.proofs.sighting.seen_within.Given as goal
+
+abbrev pub invariant-marks : goal.invariant-marks
+invariant-marks g l = record {
+  later : 1 ≤ l.onset;
+  within : l.onset ≤ l.bound;
+  there : g.P.Plane.members l.runner ≡ generation l.rule l.cells l.onset;
+  aged : g.P.Plane.steps_made l.runner ≡ l.onset;
+  counted : length l.populations.items ≡ l.onset + 1;
+  populations : ArePopulations l.rule l.cells l.populations.items;
+}
+
+abbrev pub decreases-marks : goal.decreases-marks
+decreases-marks g l = l.bound - l.onset

@@ -1,0 +1,9 @@
+//! A generation that comes again.
+
+/// A generation that comes again, after how many steps it first does, and how far away.
+#[derive(Clone, Copy)]
+pub struct Recurrence {
+    pub onset: u32,
+    pub period: u32,
+    pub displacement: (i32, i32),
+}

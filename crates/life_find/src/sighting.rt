@@ -1,0 +1,143 @@
+//! The walk along the generations of a pattern, until one of them is seen again.
+ghost use Rattle.std.specs.Prelude.{◌≡◌, ℕ, ◌+◌, ◌*◌, ◌<◌, ◌≤◌, IfNone, IfOk, IfSome, OnOk, [], length};
+ghost use Rattle.life_model.specs.Evolution.{generation};
+ghost use Rattle.life_model.specs.Generation.{Generation};
+ghost use Rattle.life_model.specs.Recurrence.{SettlesAt};
+ghost use Rattle.life_find.specs.Search.{ArePopulations, IsReturn};
+
+use crate::candidates::{candidates, keep_candidates};
+use crate::limit::BOUND_LIMIT;
+use crate::recurrence::Recurrence;
+use crate::way::way_to;
+use life_cells::cell_list::CellList;
+use life_cells::rule::Rule;
+use life_plane::plane::{AGE_LIMIT, Plane};
+use std::alloc::{AllocError, Global};
+
+/// How many generations are compared with the first one.
+const FIRST_LEAD: u32 = 4;
+
+/// Steps on, at most so many times, until the cells stand again that the plane began with, which are listed: after how many
+/// steps, and how far away. Notes the population of each generation.
+fn watch<P: Plane>(
+    runner: &mut P,
+    listed: &CellList,
+    rule: &Rule,
+    steps: u32,
+    populations: &mut Vec<u64>,
+) -> Result<Option<(u32, (i32, i32))>, AllocError>
+    requires listed { listed.now ≡ P.members runner.old }
+    requires young { P.steps_made runner.old + steps ≤ AGE_LIMIT }
+    ensures found { IfOk result (λ answer. IfSome answer (λ r. IsReturn rule.now (P.members runner.old) r.0 r.1)) }
+    ensures within { IfOk result (λ answer. IfSome answer (λ r. r.0 ≤ steps)) }
+    ensures seen { IfOk result (λ answer. IfSome answer (λ r. P.members runner.new ≡ generation rule.now (P.members runner.old) r.0)) }
+    ensures seen_age { IfOk result (λ answer. IfSome answer (λ r. P.steps_made runner.new ≡ P.steps_made runner.old + r.0)) }
+    ensures there { IfOk result (λ answer. IfNone answer (P.members runner.new ≡ generation rule.now (P.members runner.old) steps)) }
+    ensures age { IfOk result (λ answer. IfNone answer (P.steps_made runner.new ≡ P.steps_made runner.old + steps)) }
+    ensures count { IfOk result (λ answer. IfNone answer (length populations.new.items ≡ length populations.old.items + steps)) }
+    ensures populations { OnOk result ((first : Generation) (age : ℕ) → P.members runner.old ≡ generation rule.now first age →
+        length populations.old.items ≡ age + 1 → ArePopulations rule.now first populations.old.items →
+        ArePopulations rule.now first populations.new.items) }
+{
+    for taken in 0..steps {
+        runner.step(rule)?;
+        let population = runner.population();
+        populations.push(population)?;
+        if let Some(displacement) = way_to(listed, runner, population)? {
+            return Ok(Some((taken + 1, displacement)));
+        }
+    }
+    Ok(None)
+}
+
+/// A generation that comes again so soon that this shows up to the bound. Each generation stands beside the one that is the
+/// greatest power of two before it, and the first few beside the first.
+fn seen_within<P: Plane>(
+    runner: &mut P,
+    cells: &CellList,
+    rule: &Rule,
+    bound: u32,
+    populations: &mut Vec<u64>,
+) -> Result<Option<Recurrence>, AllocError>
+    requires bound { 1 ≤ bound × bound ≤ BOUND_LIMIT }
+    requires cells { cells.now ≡ P.members runner.old }
+    requires new { P.steps_made runner.old ≡ 0 }
+    requires none { populations.old.items ≡ [] }
+    ensures found { IfOk result (λ answer. IfSome answer (λ r. IsReturn rule.now (generation rule.now cells.now r.onset) r.period r.displacement)) }
+    ensures within { IfOk result (λ answer. IfSome answer (λ r. r.onset + r.period ≤ bound)) }
+    ensures seen { IfOk result (λ answer. IfSome answer (λ r. P.members runner.new ≡ generation rule.now cells.now (r.onset + r.period))) }
+    ensures seen_age { IfOk result (λ answer. IfSome answer (λ r. P.steps_made runner.new ≡ r.onset + r.period)) }
+    ensures there { IfOk result (λ answer. IfNone answer (P.members runner.new ≡ generation rule.now cells.now bound)) }
+    ensures age { IfOk result (λ answer. IfNone answer (P.steps_made runner.new ≡ bound)) }
+    ensures count { IfOk result (λ answer. IfNone answer (length populations.new.items ≡ bound + 1)) }
+    ensures populations { OnOk result (ArePopulations rule.now cells.now populations.new.items) }
+{
+    populations.push(cells.len() as u64)?;
+    let mut onset = FIRST_LEAD.min(bound);
+    if let Some((period, displacement)) = watch(runner, cells, rule, onset, populations)? {
+        return Ok(Some(Recurrence {
+            onset: 0,
+            period,
+            displacement,
+        }));
+    }
+    'marks: while onset < bound {
+        let anchor = runner.cells()?;
+        let steps = onset.min(bound - onset);
+        if let Some((period, displacement)) = watch(runner, &anchor, rule, steps, populations)? {
+            return Ok(Some(Recurrence {
+                onset,
+                period,
+                displacement,
+            }));
+        }
+        onset += steps;
+    }
+    Ok(None)
+}
+
+/// A generation that comes again, where one does within the bound at all. It may be found where none does. Goes past the
+/// bound only while the populations leave a period possible, and notes the population of each generation.
+pub fn seen_again<P: Plane>(
+    alloc: Global,
+    runner: &mut P,
+    cells: &CellList,
+    rule: &Rule,
+    bound: u32,
+    populations: &mut Vec<u64>,
+) -> Result<Option<Recurrence>, AllocError>
+    requires bound { 1 ≤ bound × bound ≤ BOUND_LIMIT }
+    requires cells { cells.now ≡ P.members runner.old }
+    requires new { P.steps_made runner.old ≡ 0 }
+    requires none { populations.old.items ≡ [] }
+    ensures found { IfOk result (λ answer. IfSome answer (λ r. IsReturn rule.now (generation rule.now cells.now r.onset) r.period r.displacement)) }
+    ensures onset { IfOk result (λ answer. IfSome answer (λ r. r.onset ≤ bound)) }
+    ensures period { IfOk result (λ answer. IfSome answer (λ r. r.period ≤ bound)) }
+    ensures seen { IfOk result (λ answer. IfSome answer (λ r. P.members runner.new ≡ generation rule.now cells.now (r.onset + r.period))) }
+    ensures seen_age { IfOk result (λ answer. IfSome answer (λ r. P.steps_made runner.new ≡ r.onset + r.period)) }
+    ensures populations { OnOk result (ArePopulations rule.now cells.now populations.new.items) }
+    ensures none { IfOk result (λ answer. IfNone answer ((g : ℕ) → SettlesAt rule.now cells.now bound g → ⊥)) }
+{
+    if let Some(seen) = seen_within(runner, cells, rule, bound, populations)? {
+        return Ok(Some(seen));
+    }
+    let anchor = runner.cells()?;
+    let mut periods = candidates(alloc, populations, bound)?;
+    for lead in 0..bound {
+        if periods.is_empty() {
+            return Ok(None);
+        }
+        runner.step(rule)?;
+        let population = runner.population();
+        populations.push(population)?;
+        if let Some(displacement) = way_to(&anchor, runner, population)? {
+            return Ok(Some(Recurrence {
+                onset: bound,
+                period: lead + 1,
+                displacement,
+            }));
+        }
+        keep_candidates(&mut periods, populations);
+    }
+    Ok(None)
+}

@@ -1,0 +1,74 @@
+//! How far one set of cells is from another that is the same, moved as a whole.
+ghost use Rattle.std.specs.Prelude.{◌≡◌, ◌≤◌, Decides, IfNone, IfOk, IfSome, T, List, All};
+ghost use Rattle.life_model.specs.Cell.{Cell, opposite, origin, plus};
+ghost use Rattle.life_model.specs.Generation.{from_list, is_rising, size};
+ghost use Rattle.life_model.specs.Symmetry.{moved, normal};
+ghost use Rattle.life_cells.specs.Limits.{IsPlace};
+ghost use Rattle.life_find.specs.Search.{IsWay};
+
+use life_cells::cell_list::CellList;
+use life_plane::plane::Plane;
+use std::alloc::AllocError;
+
+/// The move from one cell to another.
+fn move_between(from: (i32, i32), to: (i32, i32)) -> (i32, i32)
+    requires from_placed { IsPlace from }
+    requires to_placed { IsPlace to }
+    ensures { result ≡ plus to (opposite from) }
+{
+    (to.0 - from.0, to.1 - from.1)
+}
+
+/// How far the second list is from the first, where it is the first list moved as a whole. No cell is moved by nothing.
+pub fn way_between(from: &[(i32, i32)], to: &[(i32, i32)]) -> Option<(i32, i32)>
+    requires from_rising { T (is_rising from.now) }
+    requires to_rising { T (is_rising to.now) }
+    requires from_placed { All IsPlace from.now }
+    requires to_placed { All IsPlace to.now }
+    ensures way { IfSome result (λ d. IsWay (from_list from.now) (from_list to.now) d) }
+    ensures apart { IfNone result ((d : Cell) → from_list to.now ≡ moved (from_list from.now) d → ⊥) }
+{
+    if from.len() != to.len() {
+        return None;
+    }
+    if from.is_empty() {
+        return Some((0, 0));
+    }
+    let way = move_between(from[0], to[0]);
+    for i in 0..from.len() {
+        if move_between(from[i], to[i]) != way {
+            return None;
+        }
+    }
+    Some(way)
+}
+
+/// How far the cells of the plane, of which there are so many, are from the listed ones, where they are those moved as a
+/// whole.
+pub fn way_to<P: Plane>(
+    from: &CellList,
+    to: &P,
+    population: u64,
+) -> Result<Option<(i32, i32)>, AllocError>
+    requires { population ≡ size (P.members to.now) }
+    ensures way { IfOk result (λ found. IfSome found (λ d. IsWay from.now (P.members to.now) d)) }
+    ensures apart { IfOk result (λ found. IfNone found (normal from.now ≡ normal (P.members to.now) → ⊥)) }
+{
+    if from.as_slice().len() as u64 != population {
+        return Ok(None);
+    }
+    let to = to.cells()?;
+    Ok(way_between(from.as_slice(), to.as_slice()))
+}
+
+/// How far the second plane's cells are from the first's, where they are those moved as a whole.
+pub fn way<P: Plane>(from: &P, to: &P) -> Result<Option<(i32, i32)>, AllocError>
+    ensures way { IfOk result (λ found. IfSome found (λ d. IsWay (P.members from.now) (P.members to.now) d)) }
+    ensures apart { IfOk result (λ found. IfNone found (normal (P.members from.now) ≡ normal (P.members to.now) → ⊥)) }
+{
+    let population = to.population();
+    if from.population() != population {
+        return Ok(None);
+    }
+    way_to(&from.cells()?, to, population)
+}
