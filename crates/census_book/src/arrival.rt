@@ -75,6 +75,10 @@ impl<'r, 'a> Arrival<'r, 'a> {
         requires { has_ticket self.now.taken ticket ≡ true }
         ensures { IsFound self.now.bundle self.now.bound ticket result.now }
     {
+        let own = self.done.ticket();
+        if ticket.folder == own.folder && ticket.number == own.number {
+            return self.done.answer();
+        }
         match self.results.answer(ticket) {
             Some(answer) => answer,
             None => self.done.answer(),

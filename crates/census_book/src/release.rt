@@ -182,6 +182,9 @@ fn folder_at(folders: &[Folder], c: u32) -> &Folder
     &folders[c as usize - 1]
 }
 
+/// How many bytes of text are made room for at first, which most lines fit in.
+const TEXT_LEN: usize = 128;
+
 /// What this result releases beside those that were taken.
 pub fn released<'a>(
     alloc: Global,
@@ -201,7 +204,7 @@ pub fn released<'a>(
     let k = front.runs[c as usize - 1] as usize;
     let m = run_count(&arrival, c, folder, k);
     let first_open = next_open(&front.runs, folders, c, m as u32, front.first_open);
-    let mut text = Vec::new(alloc);
+    let mut text = Vec::with_capacity(alloc, TEXT_LEN)?;
     push_folder(alloc, &mut text, &arrival, c, folder, k, m)?;
     if first_open == folders.len() {
         push_end(&mut text, folders)?;

@@ -1,5 +1,5 @@
 //! Collecting what workers send.
-ghost use Rattle.std.specs.Prelude.{◌≡◌, [], true, false, MatchResult, OnOk};
+ghost use Rattle.std.specs.Prelude.{◌≡◌, [], true, false, MatchResult, IfNone, IfOk, OnOk};
 ghost use Rattle.watched.specs.Watching.{inner_of, has_failed};
 ghost use Rattle.census_crew.specs.Writing.{StaysInStep, StopsInStep};
 
@@ -51,7 +51,7 @@ impl<'c, 'a, W: Write> Task for Collecting<'c, 'a, W> {
         × MatchResult r.written
         (λ _. StaysInStep (W.contents (inner_of s.out.now)) s.gathering.collector (W.contents (inner_of r.out.now)) r.gathering.collector)
         (λ _. StopsInStep (W.contents (inner_of s.out.now)) s.gathering.collector (W.contents (inner_of r.out.now)))
-        × OnOk r.written (s.gathering.collector.unsent ≡ [] → r.gathering.collector.unsent ≡ []) };
+        × OnOk r.written (r.gathering.collector.unsent ≡ []) };
 
     fn run<R: Wait>(self, rt: &R) -> Collected<'c, 'a, W> {
         let Collecting {
@@ -68,7 +68,34 @@ impl<'c, 'a, W: Write> Task for Collecting<'c, 'a, W> {
     }
 }
 
+/// As many bytes are written although more results stand in the channel.
+const BLOCK_LEN: usize = 65_536;
+
 impl<'a> Gathering<'a> {
+    // The next result, or none once the channel is closed. All that was released is written before the wait for it.
+    fn next_result<R: Wait, W: Write>(
+        &mut self,
+        rt: &R,
+        results: &Receiver<Done<'a>, Global>,
+        out: &mut Watched<W>,
+    ) -> Result<Option<Done<'a>>, Failed>
+        requires sound { has_failed out.old ≡ false }
+        ensures failed { MatchResult result (λ _. has_failed out.new ≡ false) (λ _. has_failed out.new ≡ true) }
+        ensures same { (self.new.bundle.now ≡ self.old.bundle.now) × (self.new.bound ≡ self.old.bound) }
+        ensures step { MatchResult result
+            (λ _. StaysInStep (W.contents (inner_of out.old)) self.old.collector (W.contents (inner_of out.new)) self.new.collector)
+            (λ _. StopsInStep (W.contents (inner_of out.old)) self.old.collector (W.contents (inner_of out.new))) }
+        ensures sent { IfOk result (λ next. IfNone next (self.new.collector.unsent ≡ [])) }
+    {
+        if let Ok(done) = results.try_recv(rt) {
+            return Ok(Some(done));
+        }
+        match self.send(out) {
+            Ok(()) => Ok(results.recv(rt).ok()),
+            Err(failed) => Err(failed),
+        }
+    }
+
     // Takes what comes and writes what it releases, until the channel is closed. After a failed write the channel is
     // closed from this end.
     fn collect<R: Wait, W: Write>(
@@ -83,15 +110,20 @@ impl<'a> Gathering<'a> {
         ensures step { MatchResult result
             (λ _. StaysInStep (W.contents (inner_of out.old)) self.old.collector (W.contents (inner_of out.new)) self.new.collector)
             (λ _. StopsInStep (W.contents (inner_of out.old)) self.old.collector (W.contents (inner_of out.new))) }
-        ensures sent { OnOk result (self.old.collector.unsent ≡ [] → self.new.collector.unsent ≡ []) }
+        ensures sent { OnOk result (self.new.collector.unsent ≡ []) }
     {
         for _ in rt.forever() {
-            let Ok(done) = results.recv(rt) else {
-                return Ok(());
-            };
-            match self.arrive(done, out) {
-                Ok(_) => {}
+            let done = match self.next_result(rt, &results, out) {
+                Ok(Some(done)) => done,
+                Ok(None) => return Ok(()),
                 Err(failed) => return Err(failed),
+            };
+            self.take(done);
+            if self.collector.unsent().len() >= BLOCK_LEN {
+                match self.send(out) {
+                    Ok(()) => {}
+                    Err(failed) => return Err(failed),
+                }
             }
         }
         unreachable!()

@@ -1,5 +1,5 @@
 //! Gathering results, and writing the report that they release.
-ghost use Rattle.std.specs.Prelude.{◌≡◌, ◌≢◌, ◌<◌, ◌≤◌, ◌^◌, [], true, false, MatchBool, MatchResult, OnOk, IfOk, IfSome, IfNone};
+ghost use Rattle.std.specs.Prelude.{◌≡◌, ◌≢◌, ◌<◌, ◌≤◌, ◌^◌, ℕ, List, [], Option, true, false, MatchBool, MatchResult, OnOk, IfOk, IfSome, IfNone};
 ghost use Rattle.watched.specs.Watching.{inner_of, has_failed};
 ghost use Rattle.census_bundle.specs.Sizes.{IsSmall};
 ghost use Rattle.census_book.specs.Collecting.{after_offer, Judged, Offered};
@@ -83,6 +83,7 @@ impl<'a> Gathering<'a> {
         ensures same { (self.new.bundle.now ≡ self.old.bundle.now) × (self.new.bound ≡ self.old.bound) }
         ensures offered { IfSome result (λ o. Offered self.old.collector done.entry.ticket done.entry.entry.text done.entry.bound self.new.collector o) }
         ensures no_room { IfNone result (self.new.collector ≡ self.old.collector) }
+        ensures step { (written : Option (List ℕ)) → StaysInStep written self.old.collector written self.new.collector }
         ensures strangers { NotesStranger self.old.bundle.now self.old.bound done.entry self.old.tally.strangers self.new.tally.strangers }
     {
         let counted = self.tally.with(done.answer());

@@ -1,4 +1,5 @@
-//! Worked runs.
+//! Worked runs. The crate `worked_rows` has those of a whole report by any number of workers, of a ticket taken before,
+//! and of results in their order.
 
 mod bundles;
 mod ends;
@@ -6,5 +7,3 @@ mod faults;
 mod fronts;
 mod gates;
 mod memory;
-mod reports;
-mod results;

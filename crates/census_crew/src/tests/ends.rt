@@ -84,20 +84,9 @@ fn fills_its_room<R: Threads + Wait + Abort + Sync>(
 }
 
 #[test]
-fn a_writer_that_fails_early_has_taken_the_front_of_the_report(
-    rt: HostRuntime,
-) -> Result<(), Fail> {
+fn a_writer_that_fails_has_taken_the_front_of_the_report(rt: HostRuntime) -> Result<(), Fail> {
     let bundle = read_bundle(rt.alloc(), DEMO)?;
-    for room in 0..DEMO_REPORT.len() / 2 {
-        fills_its_room(&rt, rt.alloc(), &bundle, room);
-    }
-    Ok(())
-}
-
-#[test]
-fn a_writer_that_fails_late_has_taken_the_front_of_the_report(rt: HostRuntime) -> Result<(), Fail> {
-    let bundle = read_bundle(rt.alloc(), DEMO)?;
-    for room in DEMO_REPORT.len() / 2..DEMO_REPORT.len() {
+    for room in 0..DEMO_REPORT.len() {
         fills_its_room(&rt, rt.alloc(), &bundle, room);
     }
     Ok(())

@@ -110,22 +110,6 @@ fn as_many_workers_as_were_asked_for_meet_at_the_gate(rt: HostRuntime) -> Result
 }
 
 #[test]
-fn a_ticket_taken_before_is_worked_by_the_caller(rt: HostRuntime) -> Result<(), Fail> {
-    let bundle = read_bundle(rt.alloc(), DEMO)?;
-    let (feed, mut hands) = Feed::fill(rt.alloc(), &bundle, 2)?;
-    if let Some(hand) = hands.get_mut(0) {
-        hand.take(&rt);
-    }
-    let gate = Crowd::of(0);
-    let mut out = Watched::new(Vec::new(rt.alloc()));
-    let tally = run_on(&rt, rt.alloc(), &bundle, 50, feed, hands, &gate, &mut out)?;
-    assert_eq!(rt; tally, demo_tally(1));
-    assert_eq!(rt; gate.entered.load(Ordering::SeqCst), 4);
-    assert!(rt; out.into_inner().as_slice() == DEMO_REPORT);
-    Ok(())
-}
-
-#[test]
 fn tickets_of_hands_that_took_all_are_worked_by_the_caller(rt: HostRuntime) -> Result<(), Fail> {
     let bundle = read_bundle(rt.alloc(), DEMO)?;
     let (feed, mut hands) = Feed::fill(rt.alloc(), &bundle, 1)?;

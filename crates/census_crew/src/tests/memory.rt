@@ -5,14 +5,15 @@
 ghost use Rattle.std.specs.Prelude.{◌≤◌};
 
 use super::bundles::{DEMO, DEMO_REPORT, TWO_FOLDERS_REPORT, two_folders};
-use super::results::results_of;
 use crate::bytes::{BytesFault, run_bytes};
 use crate::fault::RunFault;
 use crate::gate::OpenGate;
 use crate::run::run;
 use crate::settling::settle;
+use census_book::done::Done;
 use census_bundle::bundle::Bundle;
 use census_bundle::reading::read_bundle;
+use census_bundle::ticket::Ticket;
 use std::alloc::{AllocError, Global};
 use std::process::Abort;
 use std::sync::Wait;
@@ -59,6 +60,29 @@ fn text_run_is_whole<R: Threads + Wait + Abort + Sync>(
     let fault = run_bytes(rt, alloc, &mut reader, 50, workers, &OpenGate, &mut out).err();
     assert!(rt; fault.is_none() || fault == Some(BytesFault::Memory));
     Ok(check(rt, fault.is_none(), out, DEMO_REPORT))
+}
+
+// Results of the first folder within bound 10: each number with the number of the pattern that was worked for it.
+fn results_of<'a>(
+    alloc: Global,
+    bundle: &'a Bundle,
+    numbers: &[(u32, u32)],
+) -> Result<Vec<Done<'a>>, AllocError> {
+    let mut results = Vec::new(alloc);
+    for pair in numbers {
+        let place = Ticket {
+            folder: 1,
+            number: pair.1,
+        };
+        if let Some(entry) = bundle.entry(place) {
+            let ticket = Ticket {
+                folder: 1,
+                number: pair.0,
+            };
+            results.push(Done::work(alloc, ticket, entry, 10)?)?;
+        }
+    }
+    Ok(results)
 }
 
 // The same of a list of results.

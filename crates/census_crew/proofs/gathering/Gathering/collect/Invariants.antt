@@ -1,4 +1,4 @@
-use Rattle.std.proofs.Common.{◌≡◌, [], false}
+use Rattle.std.proofs.Common.{◌≡◌, false}
 use Rattle.watched.specs.Watching.{inner_of, has_failed}
 use Rattle.census_crew.specs.Writing.{StaysInStep}
 use Rattle.census_crew.proofs.gathering.Gathering.collect.Given as goal
@@ -9,6 +9,5 @@ invariant-loop g l =
     × (goal.iterator-loop g).is_finite l.iterator'
     × StaysInStep (g.W.Write.contents (inner_of l.fn.out)) l.fn.self.collector (g.W.Write.contents (inner_of l.out)) l.self.collector
     × (has_failed l.out ≡ false)
-    × (l.fn.self.collector.unsent ≡ [] → l.self.collector.unsent ≡ [])
     × (l.self.bundle.now ≡ l.fn.self.bundle.now)
     × (l.self.bound ≡ l.fn.self.bound)

@@ -1,5 +1,6 @@
 use Rattle.std.proofs.Common.{refl}
 use Rattle.census_crew.proofs.Gathers.{gathers_few, gathers_kept, gathers_one, gathers_double, gathers_stranger}
+use Rattle.census_crew.proofs.Steps.{stays_offered}
 use Rattle.census_crew.proofs.gathering.Gathering.take.Goals as goal
 
 pub with-counted-requires-clause-patterns : goal.with-counted-requires-clause-patterns
@@ -25,3 +26,6 @@ invariant_of-self-in-Ok-Stranger c = record { sound = gathers_stranger _ _ _ _ _
 
 pub invariant_of-self-in-Err : goal.invariant_of-self-in-Err
 invariant_of-self-in-Err c = record { sound = gathers_kept _ _ _ _ _ _ c.args.self.now.sound c.in-Err.ensures.unchanged refl refl refl refl }
+
+pub returns-in-Ok-Taken-clause-step : goal.returns-in-Ok-Taken-clause-step
+returns-in-Ok-Taken-clause-step c written = stays_offered written _ _ _ _ _ _ c.in-Ok-Taken.ensures.ok
