@@ -18,7 +18,7 @@ use Rattle.life_tile.specs.declared.slab.Slab.{Slab}
 use Rattle.life_tile.specs.Slots.{Index, slot_at, neighbour_at, place_of, link_of, tile_of, empty_tile, no_slot}
 use Rattle.life_tile.specs.Work.{mark_of}
 use Rattle.life_tile.specs.Slabs.{IsIndexed, IsSlotOf, IsSlab, IsExtended, all_bands, no_bands}
-use Rattle.life_tile.proofs.Lists.{all_marked}
+use Rattle.life_tile.proofs.Marks.{all_marked}
 use Rattle.life_tile.proofs.Places.{slot_cases, slot_of_place}
 
 opposite_side : (a b : ℤ) (d : ℕ) → d < 3 → ((a +ℤ pos d) -ℤ pos 1) ≡ b → ((b +ℤ pos (2 - d)) -ℤ pos 1) ≡ a

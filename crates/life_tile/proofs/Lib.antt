@@ -5,6 +5,8 @@ pub mod Pushed
 pub mod Inserted
 pub mod Counted
 pub mod Lists
+pub mod Bits
+pub mod Marks
 pub mod Linking
 pub mod RimLemmas
 pub mod Marking

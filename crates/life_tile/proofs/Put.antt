@@ -23,7 +23,7 @@ use Rattle.life_tile.specs.declared.slab.Slab.{Slab}
 use Rattle.life_tile.specs.Slots.{slot_at, place_of, tile_of, empty_tile, shown, generation_shown, IsReached}
 use Rattle.life_tile.specs.Work.{mark_of}
 use Rattle.life_tile.specs.Slabs.{state_at, IsSlotOf, IsSlab, members_of, IsCalm, IsKept, all_bands, no_bands}
-use Rattle.life_tile.proofs.Lists.{bit_cases}
+use Rattle.life_tile.proofs.Bits.{bit_cases}
 use Rattle.life_tile.proofs.Shown.{shown_state, same_states}
 use Rattle.life_tile.proofs.Places.{slot_cases, slot_of_place}
 

@@ -15,7 +15,7 @@ use Rattle.life_tile.specs.Slots.{Index, slot_at, neighbour_at, place_of, link_o
 use Rattle.life_tile.specs.Rims.{IsAtEdge, IsNextToBand}
 use Rattle.life_tile.specs.Work.{mark_of, IsWorkedOut}
 use Rattle.life_tile.specs.Slabs.{state_at, IsIndexed, IsSlotOf, IsClosed, IsCalm}
-use Rattle.life_tile.proofs.Lists.{bit_cases}
+use Rattle.life_tile.proofs.Bits.{bit_cases}
 use Rattle.life_tile.proofs.Shown.{shown_state, same_states}
 use Rattle.life_tile.proofs.Windows.{next_alike}
 use Rattle.life_tile.proofs.Places.{Direction, direction_of, slot_cases, slot_of_place, state_absent, state_of_slot, next_linked, quiet, dead_next}

@@ -1,5 +1,5 @@
 -- One band more of a tile in a step, and one slot more.
-use Rattle.std.proofs.Common.{◌≡◌, ◌≢◌, ℕ, ◌+◌, ◌-◌, ◌*◌, ◌/◌, ◌<◌, ◌≤◌, ◌⊎◌, inl, inr, ⊎_elim, List, [], length, slice_index, slice_set, sym, subst, ap, ◌∙◌, arith}
+use Rattle.std.proofs.Common.{◌≡◌, ◌≢◌, ℕ, ◌+◌, ◌-◌, ◌*◌, ◌/◌, ◌<◌, ◌≤◌, ◌⊎◌, inl, inr, ⊎_elim, List, [], length, slice_index, slice_set, refl, sym, subst, ap, ◌∙◌, arith}
 use Rattle.std.specs.Int.{bit_at}
 use Rattle.std.proofs.lemmas.Bool.{cases_eq, cases_lt}
 use Rattle.std.proofs.Math.ListN.{length-set}
@@ -11,26 +11,38 @@ use Rattle.life_tile.specs.declared.slot.Slot.{Slot}
 use Rattle.life_tile.specs.Slots.{links_of, link_of, tile_of, nine_linked}
 use Rattle.life_tile.specs.Rims.{IsNextToBand}
 use Rattle.life_tile.specs.Work.{bands_of, mark_of, IsTileWorkedOut, IsWorkedOut}
-use Rattle.life_tile.proofs.Lists.{set_here, set_there, clear_before}
+use Rattle.life_tile.proofs.Lists.{set_here, set_there}
+use Rattle.life_tile.proofs.Marks.{clear_before}
+
+-- no band yet
+pub nothing_done : (cur : List Tile) (links : List ℕ) (todo : Bands) (rule : Rule) (tile : Tile) (marks : List Bands) → IsTileWorkedOut cur links todo rule tile tile marks marks 0
+nothing_done cur links todo rule tile marks = record {
+  length_marked = refl;
+  next = λ x y wide high less. absurd (omega arith);
+  idle = λ x y wide high clear. refl;
+  later = λ x y wide high past. refl;
+  around = λ m band x y small b_small wide high less. absurd (omega arith);
+  kept = λ k band set. set;
+}
 
 module _ (cur : List Tile) (links : List ℕ) (todo : Bands) (rule : Rule) (before tile : Tile) (marks marked : List Bands) (n : ℕ)
     (worked : IsTileWorkedOut cur links todo rule before tile marks marked n) where
-  -- a band that has nothing to do
-  pub band_idle : bit_at todo.bits n ≡ 0 → IsTileWorkedOut cur links todo rule before tile marks marked (n + 1)
-  band_idle idle = record {
+  -- bands that have nothing to do
+  pub bands_idle : (later : ℕ) → n ≤ later → ((band : ℕ) → n ≤ band → band < later → bit_at todo.bits band ≡ 0) → IsTileWorkedOut cur links todo rule before tile marks marked later
+  bands_idle later more idle = record {
     length_marked = worked.length_marked;
     next = λ x y wide high less busy.
         ⊎_elim
-        (λ (same : y / 8 ≡ n). let never : 1 ≡ 0 = sym busy ∙ ap (bit_at todo.bits) same ∙ idle in absurd (omega arith))
-        (λ (apart : y / 8 ≢ n). worked.next x y wide high (omega arith) busy)
-        (cases_eq (y / 8) n);
+        (λ (old : y / 8 < n). worked.next x y wide high old busy)
+        (λ (new : n ≤ y / 8). let never : 1 ≡ 0 = sym busy ∙ idle (y / 8) new less in absurd (omega arith))
+        (cases_lt (y / 8) n);
     idle = worked.idle;
     later = λ x y wide high past. worked.later x y wide high (omega arith);
     around = λ m band x y small b_small wide high less near clear.
         ⊎_elim
-        (λ (same : y / 8 ≡ n). worked.later x y wide high (omega arith))
-        (λ (apart : y / 8 ≢ n). worked.around m band x y small b_small wide high (omega arith) near clear)
-        (cases_eq (y / 8) n);
+        (λ (old : y / 8 < n). worked.around m band x y small b_small wide high old near clear)
+        (λ (new : n ≤ y / 8). worked.later x y wide high new)
+        (cases_lt (y / 8) n);
     kept = worked.kept;
   }
 

@@ -70,7 +70,7 @@ pub record IsSettled (slab : Slab) (k band : ℕ) : Type 0 where
 pub record IsGrown (slab : Slab) : Type 0 where
   pub closed : (k : ℕ) → 0 < k → k < length slab.slots.items → IsClosed slab.slots.items slab.cur.items k
 
--- no band is marked that places without a slot stand for
+-- no band of slot 0 is marked, which stands for every place without a slot
 abbrev pub IsCalm : List Bands → Type 0
 IsCalm marks = (band : ℕ) → band < 8 → mark_of marks 0 band ≡ 0
 

@@ -1,9 +1,10 @@
 -- What one step makes of the tiles of slots.
-use Rattle.std.specs.Prelude.{◌≡◌, ℕ, ◌/◌, ◌<◌, ◌≤◌, List, length, slice_index, slice_index_or}
+use Rattle.std.specs.Prelude.{◌≡◌, ℕ, ◌+◌, ◌*◌, ◌%◌, ◌/◌, ◌<◌, ◌≤◌, List, length, slice_index, slice_index_or}
 use Rattle.std.specs.Int.{bit_at}
 use Rattle.life_model.specs.Rule.{Rule}
 use Rattle.life_bits.specs.declared.tile.Tile.{Tile}
 use Rattle.life_bits.specs.Area.{tile_cell, next_in_area}
+use Rattle.life_band.specs.Changes.{IsSameCell}
 use Rattle.life_tile.specs.declared.bands.Bands.{Bands}
 use Rattle.life_tile.specs.declared.slot.Slot.{Slot}
 use Rattle.life_tile.specs.Slots.{links_of, link_of, tile_of, nine_linked}
@@ -20,6 +21,11 @@ mark_of marks k band = bit_at (bands_of marks k).bits band
 -- each link of each slot but the first is a slot
 pub record IsLinked (slots : List Slot) : Type 0 where
   pub inside : (k m : ℕ) → 0 < k → k < length slots → m < 9 → link_of slots k m < length slots
+
+-- each band of the tiles on one side is marked that a cell which changed is in or next to, of a band of the tile in the middle
+pub record IsMarkedAround (marks : List Bands) (links : List ℕ) (index : ℕ) (old new : Tile) (side : ℕ) : Type 0 where
+  pub same : (m band x y : ℕ) → m < 9 → m % 3 ≡ side → band < 8 → x < 64 → y < 8 → IsNextToBand m band x (8 * index + y) →
+      mark_of marks (slice_index links m) band ≡ 0 → IsSameCell old new x (8 * index + y)
 
 -- Of the tile in the middle of nine slots the bands before band n that had something to do are worked out, the others are what they
 -- were, and each band is marked that a cell which changed is in or next to.

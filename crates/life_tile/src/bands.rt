@@ -1,5 +1,5 @@
 //! Marks for the bands of a tile.
-ghost use Rattle.std.specs.Prelude.{◌≡◌, ◌≢◌, ℕ, ◌<◌, true};
+ghost use Rattle.std.specs.Prelude.{◌≡◌, ◌≢◌, ℕ, ◌<◌, ◌≤◌, max, true};
 ghost use Rattle.std.specs.Int.{bit_at};
 ghost use Rattle.life_bits.specs.Flags.{as_bit};
 
@@ -30,22 +30,30 @@ impl Bands {
         self.bits == 0
     }
 
-    /// Whether a band is marked.
-    pub fn contains(self, band: usize) -> bool
-        requires { band < 8 }
-        ensures { as_bit result ≡ bit_at self.bits band }
+    /// The first marked band from a band on, 8 where there is none.
+    pub fn first_from(self, band: usize) -> usize
+        requires { band ≤ 8 }
+        ensures small { result ≤ 8 }
+        ensures from { band ≤ result }
+        ensures marked { result < 8 → bit_at self.bits result ≡ 1 }
+        ensures between { (k : ℕ) → band ≤ k → k < result → bit_at self.bits k ≡ 0 }
     {
-        (self.bits >> band) & 1 == 1
+        let rest = u32::from(self.bits) >> band;
+        if rest == 0 {
+            8
+        } else {
+            band + rest.trailing_zeros() as usize
+        }
     }
 
-    /// These bands and one more.
-    pub fn with(self, band: usize) -> Bands
+    /// These bands, and one more where that is wanted.
+    pub fn with_if(self, band: usize, wanted: bool) -> Bands
         requires { band < 8 }
-        ensures here { bit_at result.bits band ≡ 1 }
+        ensures here { bit_at result.bits band ≡ max (bit_at self.bits band) (as_bit wanted) }
         ensures others { (k : ℕ) → k ≢ band → bit_at result.bits k ≡ bit_at self.bits k }
     {
         Bands {
-            bits: self.bits | (1 << band),
+            bits: self.bits | (u8::from(wanted) << band),
         }
     }
 }

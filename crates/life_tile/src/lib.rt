@@ -1,4 +1,4 @@
-//! The plane of tiles that stay where they are, of which each step works out only those that may change.
+//! The plane of tiles that stay where they are, of which each step works out only the rows that may change.
 #![tactic(auto)]
 
 mod bands;

@@ -10,8 +10,9 @@ use life_plane::plane::Plane;
 use std::alloc::{AllocError, Global};
 use std::marker::Model;
 
-/// A plane that keeps its live cells in tiles which stay where they are. A step works out the tiles that may change, those in or
-/// next to which a cell changed between the last two generations, and of the others only sees that they may not.
+/// A plane that keeps its live cells in tiles which stay where they are. A step works out the bands of eight rows that may
+/// change, those in or next to which a cell changed between the last two generations, and of the other tiles only sees that they
+/// have none.
 #[derive(Drop)]
 pub struct TilePlane {
     slab: Slab,

@@ -4,9 +4,9 @@ ghost use Rattle.std.specs.Int.{bit_at};
 ghost use Rattle.life_model.specs.Rule.{Rule};
 ghost use Rattle.life_bits.specs.declared.tile.Tile.{Tile};
 ghost use Rattle.life_band.specs.Logics.{IsLogicOf};
-ghost use Rattle.life_band.specs.Changes.{IsChange, IsSameCell};
-ghost use Rattle.life_tile.specs.Rims.{IsEdge, IsNextToBand};
-ghost use Rattle.life_tile.specs.Work.{mark_of, IsLinked, IsTileWorkedOut, IsWorkedOut};
+ghost use Rattle.life_band.specs.Changes.{IsChange};
+ghost use Rattle.life_tile.specs.Rims.{IsEdge};
+ghost use Rattle.life_tile.specs.Work.{mark_of, IsLinked, IsMarkedAround, IsTileWorkedOut, IsWorkedOut};
 
 use crate::bands::Bands;
 use crate::rim::has_at_side;
@@ -25,36 +25,49 @@ pub fn mark_all(marks: &mut [Bands], value: Bands)
     }
 }
 
-/// Marks a band of each of three tiles side by side that one of the cells of a row above it, in it or below it is in or next to. Of
-/// the nine tiles the bands are counted from the northernmost on, from 0 to 23. The row is that of the middle column of tiles.
-fn mark_beside(marks: &mut [Bands], links: &[usize; 9], at: usize, row: u64)
+/// Of nine tiles, marks a band in the western (0), the middle (1) or the eastern (2) column, if a set bit of a row of the middle
+/// column is in or next to that column. The 24 bands of the three tiles of a column are counted from the north.
+fn mark_beside(marks: &mut [Bands], links: &[usize; 9], at: usize, side: usize, row: u64)
     requires links { (m : ℕ) → m < 9 → slice_index links.now m < length marks.old }
     requires at { at < 24 }
+    requires side { side < 3 }
     ensures length { length marks.new ≡ length marks.old }
     ensures kept { (k band : ℕ) → mark_of marks.old k band ≡ 1 → mark_of marks.new k band ≡ 1 }
-    ensures marked { (side : ℕ) → side < 3 → mark_of marks.new (slice_index links.now (3 * (at / 8) + side)) (at % 8) ≡ 0 →
+    ensures marked { mark_of marks.new (slice_index links.now (3 * (at / 8) + side)) (at % 8) ≡ 0 →
         (x : ℕ) → x < 64 → IsEdge side x → bit_at row x ≡ 0 }
 {
-    for side in 0..3 {
-        if has_at_side(row, side) {
-            let slot = links[3 * (at / 8) + side];
-            marks[slot] = marks[slot].with(at % 8);
-        }
-    }
+    let slot = links[3 * (at / 8) + side];
+    marks[slot] = marks[slot].with_if(at % 8, has_at_side(row, side));
 }
 
-/// Marks the bands that a cell of a tile's band which changed is in or next to.
+/// Marks the bands of one column of nine tiles that a cell which changed in band `index` of the middle tile is in or next to.
+fn mark_column(marks: &mut [Bands], links: &[usize; 9], index: usize, side: usize, change: &Change)
+    requires links { (m : ℕ) → m < 9 → slice_index links.now m < length marks.old }
+    requires index { index < 8 }
+    requires side { side < 3 }
+    ensures length { length marks.new ≡ length marks.old }
+    ensures kept { (k band : ℕ) → mark_of marks.old k band ≡ 1 → mark_of marks.new k band ≡ 1 }
+    ensures marked { (old new : Tile) → IsChange change.now old new (8 * index) → IsMarkedAround marks.new links.now index old new side }
+{
+    mark_beside(marks, links, index + 7, side, change.first);
+    mark_beside(marks, links, index + 8, side, change.all);
+    mark_beside(marks, links, index + 9, side, change.last);
+}
+
+/// Marks the bands of nine tiles that a cell which changed in band `index` of the middle tile is in or next to.
 fn mark_around(marks: &mut [Bands], links: &[usize; 9], index: usize, change: &Change)
     requires links { (m : ℕ) → m < 9 → slice_index links.now m < length marks.old }
     requires index { index < 8 }
     ensures length { length marks.new ≡ length marks.old }
     ensures kept { (k band : ℕ) → mark_of marks.old k band ≡ 1 → mark_of marks.new k band ≡ 1 }
-    ensures marked { (old new : Tile) → IsChange change.now old new (8 * index) → (m band x y : ℕ) → m < 9 → band < 8 → x < 64 → y < 8 →
-        IsNextToBand m band x (8 * index + y) → mark_of marks.new (slice_index links.now m) band ≡ 0 → IsSameCell old new x (8 * index + y) }
+    ensures marked { (old new : Tile) → IsChange change.now old new (8 * index) → (side : ℕ) → side < 3 →
+        IsMarkedAround marks.new links.now index old new side }
 {
-    mark_beside(marks, links, index + 7, change.first);
-    mark_beside(marks, links, index + 8, change.all);
-    mark_beside(marks, links, index + 9, change.last);
+    for side in 0..3 {
+        if has_at_side(change.all, side) {
+            mark_column(marks, links, index, side, change);
+        }
+    }
 }
 
 /// Works out the bands of the tile in the middle of nine slots that have something to do, into the tile of the generation before.
@@ -82,12 +95,12 @@ fn work_out(
         south: &cur[links[7]],
         south_east: &cur[links[8]],
     };
-    for index in 0..8 {
-        if todo.contains(index) {
-            let window = Window::of(here, &around, 8 * index);
-            let change = band(logic, &window, tile);
-            mark_around(marks, links, index, &change);
-        }
+    let mut index = todo.first_from(0);
+    while index < 8 {
+        let window = Window::of(here, &around, 8 * index);
+        let change = band(logic, &window, tile);
+        mark_around(marks, links, index, &change);
+        index = todo.first_from(index + 1);
     }
 }
 
@@ -112,8 +125,8 @@ pub fn next_tiles(
     for slot in 1..slots.len() {
         let bands = todo[slot];
         if !bands.is_empty() {
-            let links = slots[slot].links;
-            work_out(&mut alt[slot], cur, &links, bands, &logic, marks);
+            let links = &slots[slot].links;
+            work_out(&mut alt[slot], cur, links, bands, &logic, marks);
         }
     }
 }

@@ -1,7 +1,16 @@
+use Rattle.std.proofs.Common.{◌≡◌, ◌-◌, ◌<◌, ◌≤◌}
+use Rattle.std.specs.Int.{bit_at}
 use Rattle.life_model.specs.Rule.{Rule}
 use Rattle.life_band.specs.Logics.{IsLogicOf}
 use Rattle.life_tile.specs.Work.{IsTileWorkedOut}
 use Rattle.life_tile.proofs.stepping.work_out.Given as goal
 
 abbrev pub invariant-loop-index : goal.invariant-loop-index
-invariant-loop-index l = (rule : Rule) → IsLogicOf l.logic rule → IsTileWorkedOut l.cur l.links l.todo rule l.initial.tile l.tile l.initial.marks l.marks l.index
+invariant-loop-index l = record {
+  small : l.index ≤ 8;
+  marked : l.index < 8 → bit_at l.todo.bits l.index ≡ 1;
+  worked : (rule : Rule) → IsLogicOf l.logic rule → IsTileWorkedOut l.cur l.links l.todo rule l.initial.tile l.tile l.initial.marks l.marks l.index;
+}
+
+abbrev pub decreases-loop-index : goal.decreases-loop-index
+decreases-loop-index l = 8 - l.index

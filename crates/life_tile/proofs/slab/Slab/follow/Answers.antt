@@ -1,12 +1,15 @@
-use Rattle.std.proofs.Common.{◌≡◌, ℕ, ◌<◌, List, length, refl, sym, ap, ◌∙◌, arith}
+use Rattle.std.proofs.Common.{◌≡◌, ℕ, ◌<◌, List, length, refl, ap, ◌∙◌, arith}
 use Rattle.std.specs.Vec.{with_items}
 use Rattle.life_tile.specs.declared.bands.Bands.{Bands}
 use Rattle.life_tile.specs.Work.{mark_of}
 use Rattle.life_tile.specs.Slabs.{IsCalm}
-use Rattle.life_tile.proofs.Lists.{all_marked}
+use Rattle.life_tile.proofs.Marks.{all_marked}
 use Rattle.life_tile.proofs.Kept.{written_back}
 use Rattle.life_tile.proofs.Put.{kept_fresh}
 use Rattle.life_tile.proofs.slab.Slab.follow.Goals as goal
+
+not_both : (n : ℕ) → n ≡ 1 → n ≡ 0 → ⊥
+not_both n one none = omega arith
 
 module _ (c : goal.After-self-then-ne-3-1) where
   written : (with_items c.args.self.now.todo c.mark_all.new.marks).items ≡ c.mark_all.new.marks
@@ -19,6 +22,12 @@ module _ (c : goal.After-self-then-ne-3-1) where
   marked k band inside small =
       let same = count in
       ap (λ (bs : List Bands). mark_of bs k band) written ∙ c.mark_all.ensures.marks k band (omega arith) ∙ all_marked band small
+
+  stirred : IsCalm (with_items c.args.self.now.todo c.mark_all.new.marks).items → ⊥
+  stirred calm =
+      let clear : mark_of (with_items c.args.self.now.todo c.mark_all.new.marks).items 0 0 ≡ 0 = calm 0 (omega arith) in
+      let set : mark_of (with_items c.args.self.now.todo c.mark_all.new.marks).items 0 0 ≡ 1 = marked 0 0 c.requires.whole.indexed.some (omega arith) in
+      not_both (mark_of (with_items c.args.self.now.todo c.mark_all.new.marks).items 0 0) set clear
 
 pub returns-then-ne-clause-kept : goal.returns-then-ne-clause-kept
 returns-then-ne-clause-kept c =
@@ -34,4 +43,4 @@ returns-then-ne-clause-kept c =
     })
     c.requires.young c.requires.within c.requires.reached refl
     (λ k band later inside small. marked c k band inside small)
-    (λ (calm : IsCalm (with_items c.args.self.now.todo c.mark_all.new.marks).items). let never : 1 ≡ 0 = sym (marked c 0 0 c.requires.whole.indexed.some (omega arith)) ∙ calm 0 (omega arith) in omega arith)
+    (stirred c)
