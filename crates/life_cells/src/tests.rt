@@ -88,3 +88,30 @@ fn lists_outside(rt: HostRuntime) {
         }
     }
 }
+
+// The two tests below hold as well where any one growth is refused, which `rt try --test --fail-alloc N` does for the
+// growth of number N.
+#[test]
+fn a_text_that_is_refused_memory_is_as_it_was(rt: HostRuntime) -> Result<(), Fail> {
+    let mut text = Vec::from_slice(rt.alloc(), b"rule = ")?;
+    if Rule::life().text_into(&mut text).is_err() {
+        assert_eq!(rt; text.as_slice(), b"rule = ".as_slice());
+        Rule::life().text_into(&mut text)?;
+    }
+    assert_eq!(rt; text.as_slice(), b"rule = B3/S23".as_slice());
+    Ok(())
+}
+
+#[test]
+fn a_list_that_is_refused_memory_can_be_made_again(rt: HostRuntime) -> Result<(), Fail> {
+    let cells = [(1, 1), (0, 0), (2, 0), (1, 1)];
+    let list = match CellList::of(rt.alloc(), &cells) {
+        Ok(list) => list,
+        Err(fault) => {
+            assert_eq!(rt; fault, CellFault::Memory);
+            CellList::of(rt.alloc(), &cells)?
+        }
+    };
+    assert_eq!(rt; list.as_slice(), [(0, 0), (2, 0), (1, 1)].as_slice());
+    Ok(())
+}

@@ -1,18 +1,23 @@
 // Worked rows of Wechsler texts and shapes.
+mod memory;
+
 use crate::code_text::{body_of, shorter};
 use crate::orient::Orient;
 use crate::reader::{CodeFault, read_wechsler};
 use crate::shape::Shape;
-use life_cells::cell_list::CellList;
+use life_cells::cell_list::{CellFault, CellList};
 use std::alloc::{AllocError, Global};
 use std::cmp::Ordering;
+use std::process::Abort;
+use std::test::Fail;
 
-fn shape_of(alloc: Global, cells: &[(i32, i32)]) -> Option<(Shape, (i32, i32))> {
-    let list = CellList::of(alloc, cells).ok()?;
+// The shape of cells of the field, and its corner.
+fn shape_of(alloc: Global, cells: &[(i32, i32)]) -> Result<(Shape, (i32, i32)), CellFault> {
+    let list = CellList::of(alloc, cells)?;
     if !list.fits() {
-        return None;
+        return Err(CellFault::OutOfField);
     }
-    Shape::of(alloc, &list).ok()
+    Ok(Shape::of(alloc, &list)?)
 }
 
 fn text_of(alloc: Global, shape: &Shape) -> Result<Vec<u8>, AllocError> {
@@ -21,38 +26,30 @@ fn text_of(alloc: Global, shape: &Shape) -> Result<Vec<u8>, AllocError> {
     Ok(text)
 }
 
-fn writes(alloc: Global, cells: &[(i32, i32)], text: &[u8]) -> bool {
-    let Some((shape, _)) = shape_of(alloc, cells) else {
-        return false;
-    };
-    match text_of(alloc, &shape) {
-        Ok(written) => written.as_slice() == text,
-        Err(_) => false,
+fn writes(rt: &impl Abort, alloc: Global, cells: &[(i32, i32)], text: &[u8]) -> Result<(), Fail> {
+    let (shape, _) = shape_of(alloc, cells)?;
+    assert_eq!(rt; text_of(alloc, &shape)?.as_slice(), text);
+    Ok(())
+}
+
+fn reads(rt: &impl Abort, alloc: Global, text: &[u8], cells: &[(i32, i32)]) -> Result<(), Fail> {
+    assert_eq!(rt; read_wechsler(alloc, text)?.list().as_slice(), cells);
+    Ok(())
+}
+
+// The fault of a text, if it has one. Want of memory is none of a text.
+fn refused(alloc: Global, text: &[u8]) -> Result<Option<CodeFault>, AllocError> {
+    match read_wechsler(alloc, text) {
+        Ok(_) => Ok(None),
+        Err(CodeFault::Memory) => Err(AllocError),
+        Err(fault) => Ok(Some(fault)),
     }
 }
 
-fn reads(alloc: Global, text: &[u8], cells: &[(i32, i32)]) -> bool {
-    match read_wechsler(alloc, text) {
-        Ok(shape) => shape.list().as_slice() == cells,
-        Err(_) => false,
-    }
-}
-
-fn refuses(alloc: Global, text: &[u8], fault: CodeFault) -> bool {
-    match read_wechsler(alloc, text) {
-        Ok(_) => false,
-        Err(told) => told == fault,
-    }
-}
-
-fn comes_back(alloc: Global, text: &[u8]) -> bool {
-    match read_wechsler(alloc, text) {
-        Ok(shape) => match text_of(alloc, &shape) {
-            Ok(written) => written.as_slice() == text,
-            Err(_) => false,
-        },
-        Err(_) => false,
-    }
+fn comes_back(rt: &impl Abort, alloc: Global, text: &[u8]) -> Result<(), Fail> {
+    let shape = read_wechsler(alloc, text)?;
+    assert_eq!(rt; text_of(alloc, &shape)?.as_slice(), text);
+    Ok(())
 }
 
 fn strips_then(alloc: Global, strips: usize, last: u8) -> Result<Vec<u8>, AllocError> {
@@ -62,41 +59,47 @@ fn strips_then(alloc: Global, strips: usize, last: u8) -> Result<Vec<u8>, AllocE
 }
 
 #[test]
-fn refuses_what_offends(rt: HostRuntime) {
+fn refuses_what_offends(rt: HostRuntime) -> Result<(), Fail> {
     let alloc = rt.alloc();
-    assert!(rt; refuses(alloc, b"", CodeFault::Empty));
-    assert!(rt; refuses(alloc, b"y", CodeFault::CutRun { at: 0 }));
-    assert!(rt; refuses(alloc, b"1yA", CodeFault::CutRun { at: 1 }));
-    assert!(rt; refuses(alloc, b"A", CodeFault::BadChar { at: 0 }));
+    assert_eq!(rt; refused(alloc, b"")?, Some(CodeFault::Empty));
+    assert_eq!(rt; refused(alloc, b"y")?, Some(CodeFault::CutRun { at: 0 }));
+    assert_eq!(rt; refused(alloc, b"1yA")?, Some(CodeFault::CutRun { at: 1 }));
+    assert_eq!(rt; refused(alloc, b"A")?, Some(CodeFault::BadChar { at: 0 }));
+    Ok(())
 }
 
 #[test]
-fn reads_every_spelling(rt: HostRuntime) {
+fn reads_every_spelling(rt: HostRuntime) -> Result<(), Fail> {
     let alloc = rt.alloc();
-    assert!(rt; reads(alloc, b"1yz1", &[(0, 0), (40, 0)]));
-    assert!(rt; reads(alloc, b"001w", &[(0, 0)]));
-    assert!(rt; reads(alloc, b"z0", &[]));
+    reads(&rt, alloc, b"1yz1", &[(0, 0), (40, 0)])?;
+    reads(&rt, alloc, b"001w", &[(0, 0)])?;
+    reads(&rt, alloc, b"z0", &[])?;
+    Ok(())
 }
 
 #[test]
-fn reads_up_to_the_limit_of_places(rt: HostRuntime) {
+fn reads_up_to_the_limit_of_places(rt: HostRuntime) -> Result<(), Fail> {
     let alloc = rt.alloc();
-    let near = strips_then(alloc, 13_107, b'1').expect(&rt, "memory");
-    assert!(rt; reads(alloc, &near, &[(0, 0)]));
-    let lower = strips_then(alloc, 13_107, b'2').expect(&rt, "memory");
-    assert!(rt; reads(alloc, &lower, &[(0, 0)]));
-    let last = strips_then(alloc, 209_715, b'1').expect(&rt, "memory");
-    assert!(rt; reads(alloc, &last, &[(0, 0)]));
-    let past = strips_then(alloc, 209_715, b'2').expect(&rt, "memory");
-    assert!(rt; refuses(alloc, &past, CodeFault::TooFar { at: 209_715 }));
+    let near = strips_then(alloc, 13_107, b'1')?;
+    reads(&rt, alloc, &near, &[(0, 0)])?;
+    let lower = strips_then(alloc, 13_107, b'2')?;
+    reads(&rt, alloc, &lower, &[(0, 0)])?;
+    let last = strips_then(alloc, 209_715, b'1')?;
+    reads(&rt, alloc, &last, &[(0, 0)])?;
+    let past = strips_then(alloc, 209_715, b'2')?;
+    assert_eq!(rt;
+        refused(alloc, &past)?,
+        Some(CodeFault::TooFar { at: 209_715 })
+    );
+    Ok(())
 }
 
 #[test]
-fn writes_runs_of_zeros(rt: HostRuntime) {
+fn writes_runs_of_zeros(rt: HostRuntime) -> Result<(), Fail> {
     let alloc = rt.alloc();
-    assert!(rt; writes(alloc, &[(0, 0), (41, 0)], b"1yz01"));
-    assert!(rt; writes(alloc, &[(0, 0), (79, 0)], b"1yzyz1"));
-    assert!(rt; writes(alloc, &[], b"0"));
+    writes(&rt, alloc, &[(0, 0), (41, 0)], b"1yz01")?;
+    writes(&rt, alloc, &[(0, 0), (79, 0)], b"1yzyz1")?;
+    writes(&rt, alloc, &[], b"0")?;
     let far = [
         (0, 0),
         (1, 0),
@@ -107,11 +110,12 @@ fn writes_runs_of_zeros(rt: HostRuntime) {
         (8, 1),
         (9, 1),
     ];
-    assert!(rt; writes(alloc, &far, b"33y233"));
+    writes(&rt, alloc, &far, b"33y233")?;
+    Ok(())
 }
 
 #[test]
-fn writes_empty_strips(rt: HostRuntime) {
+fn writes_empty_strips(rt: HostRuntime) -> Result<(), Fail> {
     let low = [
         (0, 0),
         (1, 0),
@@ -122,48 +126,49 @@ fn writes_empty_strips(rt: HostRuntime) {
         (0, 16),
         (1, 16),
     ];
-    assert!(rt; writes(rt.alloc(), &low, b"33zzz33"));
+    writes(&rt, rt.alloc(), &low, b"33zzz33")?;
+    Ok(())
 }
 
 // The bodies are those of LifeWiki's pages on these objects.
 #[test]
-fn writes_what_was_read(rt: HostRuntime) {
+fn writes_what_was_read(rt: HostRuntime) -> Result<(), Fail> {
     let alloc = rt.alloc();
-    assert!(rt; comes_back(alloc, b"33"));
-    assert!(rt; comes_back(alloc, b"696"));
-    assert!(rt; comes_back(alloc, b"2596"));
-    assert!(rt; comes_back(alloc, b"253"));
-    assert!(rt; comes_back(alloc, b"356"));
-    assert!(rt; comes_back(alloc, b"252"));
-    assert!(rt; comes_back(alloc, b"6996"));
-    assert!(rt; comes_back(alloc, b"7"));
-    assert!(rt; comes_back(alloc, b"7e"));
-    assert!(rt; comes_back(alloc, b"318c"));
-    assert!(rt; comes_back(alloc, b"153"));
-    assert!(rt; comes_back(alloc, b"6frc"));
-    assert!(rt; comes_back(alloc, b"27dee6"));
-    assert!(rt; comes_back(alloc, b"27deee6"));
-    assert!(rt; comes_back(alloc, b"co9nas0san9oczgoldlo0oldlogz1047210127401"));
-    assert!(rt; comes_back(alloc, b"4r4z4r4"));
-    assert!(rt; comes_back(alloc, b"0drz32"));
+    comes_back(&rt, alloc, b"33")?;
+    comes_back(&rt, alloc, b"696")?;
+    comes_back(&rt, alloc, b"2596")?;
+    comes_back(&rt, alloc, b"253")?;
+    comes_back(&rt, alloc, b"356")?;
+    comes_back(&rt, alloc, b"252")?;
+    comes_back(&rt, alloc, b"6996")?;
+    comes_back(&rt, alloc, b"7")?;
+    comes_back(&rt, alloc, b"7e")?;
+    comes_back(&rt, alloc, b"318c")?;
+    comes_back(&rt, alloc, b"153")?;
+    comes_back(&rt, alloc, b"6frc")?;
+    comes_back(&rt, alloc, b"27dee6")?;
+    comes_back(&rt, alloc, b"27deee6")?;
+    comes_back(&rt, alloc, b"co9nas0san9oczgoldlo0oldlogz1047210127401")?;
+    comes_back(&rt, alloc, b"4r4z4r4")?;
+    comes_back(&rt, alloc, b"0drz32")?;
+    Ok(())
 }
 
 #[test]
-fn turns_the_glider(rt: HostRuntime) {
+fn turns_the_glider(rt: HostRuntime) -> Result<(), Fail> {
     let alloc = rt.alloc();
-    let (glider, corner) = shape_of(alloc, &[(6, 8), (7, 9), (5, 10), (6, 10), (7, 10)]).expect(
-        &rt, "a glider",
-    );
+    let (glider, corner) = shape_of(alloc, &[(6, 8), (7, 9), (5, 10), (6, 10), (7, 10)])?;
     assert!(rt; corner == (5, 8));
     assert!(rt; glider.width() == 3 && glider.height() == 3);
-    let turned = glider.turned(Orient::Swap).expect(&rt, "memory");
+    let turned = glider.turned(Orient::Swap)?;
     assert!(rt; turned.list().as_slice() == [(2, 0), (0, 1), (2, 1), (1, 2), (2, 2)].as_slice());
     assert!(rt; turned != glider);
-    assert!(rt; turned.turned(Orient::Swap).expect(&rt, "memory") == glider);
+    assert!(rt; turned.turned(Orient::Swap)? == glider);
     for orient in Orient::ALL {
-        let kept = glider.turned(orient).expect(&rt, "memory") == glider;
+        let kept = glider.turned(orient)? == glider;
         assert!(rt; kept == (orient == Orient::Same));
     }
+    Ok(())
 }
 
 #[test]

@@ -4,7 +4,7 @@ use crate::rle::{RleFault, read_rle};
 use crate::write::write_rle;
 use life_cells::cell_list::CellList;
 use life_cells::rule::Rule;
-use std::alloc::Global;
+use std::alloc::{AllocError, Global};
 use std::test::Fail;
 
 // The text of Conway's Life and these cells.
@@ -94,11 +94,12 @@ fn a_text_is_appended_and_moved_to_its_box(rt: HostRuntime) -> Result<(), Fail> 
     Ok(())
 }
 
-// The fault of a text, if it has one.
-fn refused(alloc: Global, text: &[u8]) -> Option<RleFault> {
+// The fault of a text, if it has one. Want of memory is none of a text.
+fn refused(alloc: Global, text: &[u8]) -> Result<Option<RleFault>, AllocError> {
     match read_rle(alloc, text) {
-        Ok(_) => None,
-        Err(fault) => Some(fault),
+        Ok(_) => Ok(None),
+        Err(RleFault::Memory) => Err(AllocError),
+        Err(fault) => Ok(Some(fault)),
     }
 }
 
@@ -111,7 +112,7 @@ fn with_header(alloc: Global, body: &[u8]) -> Result<Vec<u8>, Fail> {
 
 // The fault of such a text.
 fn body_refused(alloc: Global, body: &[u8]) -> Result<Option<RleFault>, Fail> {
-    Ok(refused(alloc, with_header(alloc, body)?.as_slice()))
+    Ok(refused(alloc, with_header(alloc, body)?.as_slice())?)
 }
 
 // A byte so many times, behind such a header and before a rest.
@@ -162,7 +163,7 @@ fn a_header_of_few_blanks(rt: HostRuntime) -> Result<(), Fail> {
 }
 
 #[test]
-fn faults_of_the_header(rt: HostRuntime) {
+fn faults_of_the_header(rt: HostRuntime) -> Result<(), Fail> {
     for (text, fault) in [
         (b"".as_slice(), RleFault::NoHeader),
         (b"#C a\n", RleFault::NoHeader),
@@ -171,8 +172,9 @@ fn faults_of_the_header(rt: HostRuntime) {
         (b"x = 3, y = 3, rule = Life\no!", RleFault::RuleNotLifeLike),
         (b"x = 3, y = 3, rule = B03/S23\no!", RleFault::RuleHasB0),
     ] {
-        assert_eq!(rt; refused(rt.alloc(), text), Some(fault));
+        assert_eq!(rt; refused(rt.alloc(), text)?, Some(fault));
     }
+    Ok(())
 }
 
 #[test]
@@ -220,7 +222,7 @@ fn cells_up_to_the_limit(rt: HostRuntime) -> Result<(), Fail> {
     );
     let one_more = with_rows(rt.alloc(), 16, b"o!")?;
     assert_eq!(rt;
-        refused(rt.alloc(), one_more.as_slice()),
+        refused(rt.alloc(), one_more.as_slice())?,
         Some(RleFault::TooMany { at: 125 })
     );
     Ok(())
@@ -237,11 +239,11 @@ fn counts_of_any_length(rt: HostRuntime) -> Result<(), Fail> {
         (b"o!", RleFault::TooFar { at: 13 }),
     ] {
         let text = with_run(rt.alloc(), b'9', 200, rest)?;
-        assert_eq!(rt; refused(rt.alloc(), text.as_slice()), Some(fault));
+        assert_eq!(rt; refused(rt.alloc(), text.as_slice())?, Some(fault));
     }
     let none = with_run(rt.alloc(), b'0', 200, b"o!")?;
     assert_eq!(rt;
-        refused(rt.alloc(), none.as_slice()),
+        refused(rt.alloc(), none.as_slice())?,
         Some(RleFault::BadRun { at: 13 })
     );
     let three = with_run(rt.alloc(), b'0', 200, b"3o!")?;
@@ -263,12 +265,13 @@ fn cut_fault(length: usize) -> Option<RleFault> {
 }
 
 #[test]
-fn cut_texts(rt: HostRuntime) {
+fn cut_texts(rt: HostRuntime) -> Result<(), Fail> {
     let text = b"x = 3, y = 3, rule = B3/S23\r\nbo$2bo$3o!";
     assert_eq!(rt; text.len(), 39);
     for length in 0..40 {
-        assert_eq!(rt; refused(rt.alloc(), &text[..length]), cut_fault(length));
+        assert_eq!(rt; refused(rt.alloc(), &text[..length])?, cut_fault(length));
     }
+    Ok(())
 }
 
 #[test]
@@ -286,5 +289,39 @@ fn a_list_that_does_not_fit_comes_back(rt: HostRuntime) -> Result<(), Fail> {
         Ok(pattern) => assert_eq!(rt; pattern.cells().len(), 1),
         Err(_) => assert!(rt; false),
     }
+    Ok(())
+}
+
+// The two tests below hold as well where any one growth is refused, which `rt try --test --fail-alloc N` does for the
+// growth of number N.
+#[test]
+fn a_text_that_is_refused_memory_can_be_read_again(rt: HostRuntime) -> Result<(), Fail> {
+    let text = b"x = 3, y = 3\nbo$2bo$3o!";
+    let pattern = match read_rle(rt.alloc(), text) {
+        Ok(pattern) => pattern,
+        Err(fault) => {
+            assert_eq!(rt; fault, RleFault::Memory);
+            read_rle(rt.alloc(), text)?
+        }
+    };
+    assert_eq!(rt;
+        pattern.cells().as_slice(),
+        [(1, 0), (2, 1), (0, 2), (1, 2), (2, 2)].as_slice()
+    );
+    Ok(())
+}
+
+#[test]
+fn a_vector_that_is_refused_memory_is_as_it_was(rt: HostRuntime) -> Result<(), Fail> {
+    let cells = CellList::of(rt.alloc(), &[(0, 0), (0, 3), (1, 3)])?;
+    let mut text = Vec::from_slice(rt.alloc(), b"#C\n")?;
+    if write_rle(&Rule::life(), &cells, &mut text).is_err() {
+        assert_eq!(rt; text.as_slice(), b"#C\n".as_slice());
+        write_rle(&Rule::life(), &cells, &mut text)?;
+    }
+    assert_eq!(rt;
+        text.as_slice(),
+        b"#C\nx = 2, y = 4, rule = B3/S23\no3$2o!\n".as_slice()
+    );
     Ok(())
 }

@@ -195,3 +195,20 @@ fn faults_say_what_happened(rt: HostRuntime) -> Result<(), Fail> {
     }
     Ok(())
 }
+
+// This holds as well where any one growth is refused, which `rt try --test --fail-alloc N` does for the growth of
+// number N.
+#[test]
+fn a_reading_that_is_refused_memory_has_not_failed(rt: HostRuntime) -> Result<(), Fail> {
+    let mut reader = Watched::new(TEXT);
+    let bytes = match read_all(rt.alloc(), &mut reader, 100) {
+        Ok(bytes) => bytes,
+        Err(fault) => {
+            assert_eq!(rt; fault, ReadFault::Memory);
+            read_all(rt.alloc(), &mut Watched::new(TEXT), 100)?
+        }
+    };
+    assert!(rt; !reader.failed());
+    assert_eq!(rt; bytes.as_slice(), TEXT);
+    Ok(())
+}
