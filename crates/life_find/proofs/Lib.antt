@@ -1,5 +1,6 @@
 pub mod Ways
 pub mod Apart
+pub mod Outlines
 pub mod Possible
 pub mod Leasts
 pub mod Found

@@ -1,23 +1,25 @@
--- Which periods the populations leave possible.
-use Rattle.std.proofs.Common.{◌≡◌, ℕ, suc, ◌+◌, ◌-◌, ◌<◌, ◌≤◌, Bool, true, false, cond, List, [], ◌∷◌, ◌++◌, length, get_or, inl, inr, sym, ap, subst, ◌∙◌, arith}
+-- Which periods the outlines leave possible.
+use Rattle.std.proofs.Common.{◌≡◌, ℕ, suc, ◌+◌, ◌-◌, ◌<◌, ◌≤◌, Bool, true, false, cond, ◌&&◌, Decides, List, [], ◌∷◌, ◌++◌, length, get_or, inl, inr, sym, ap, subst, ◌∙◌, arith}
 use Rattle.std.specs.List.{Contains, filter, range_with_len}
 use Rattle.std.proofs.lemmas.List.Elements.{filter-append, Contains-append_right, Contains-append_cases, Contains-push_cases}
 use Rattle.std.proofs.lemmas.Bool.{cases_lt}
 use Rattle.std.proofs.lemmas.List.{get_or_append_left, length-append}
 use Rattle.std.proofs.Math.Seq.{get_or-append_seam}
 use Rattle.std.proofs.lemmas.List.FromFn.{length-range_with_len, get_or-range_with_len}
-use Rattle.std.proofs.lemmas.Bool.Decides.{Decides-and, Decides-not, Decides-ltb, Decides-eqb}
+use Rattle.std.proofs.lemmas.Bool.Decides.{Decides-and, Decides-not, Decides-ltb}
 use Rattle.life_model.specs.Rule.{Rule}
-use Rattle.life_model.specs.Generation.{Generation, size}
+use Rattle.life_model.specs.Generation.{Generation}
 use Rattle.life_model.specs.Evolution.{generation}
 use Rattle.life_model.specs.Recurrence.{SettlesAt}
 use Rattle.life_model.specs.Symmetry.{normal}
 use Rattle.life_model.proofs.Orbits.{along}
 use Rattle.life_model.proofs.Recurrences.{generation-add, generation-zero, shape, shape-follows, shape_from_move}
-use Rattle.life_find.specs.Search.{ArePopulations, changes_at, ends_alike}
+use Rattle.life_find.specs.declared.outline.Outline.{Outline}
+use Rattle.life_find.specs.Outline.{IsOutline, agree, no_outline}
+use Rattle.life_find.specs.Search.{AreOutlines, changes_at, ends_alike}
 use Rattle.life_find.proofs.Apart.{IsApart}
 use Rattle.life_find.proofs.Leasts.{range-more}
-use Rattle.life_find.proofs.Ways.{same_size}
+use Rattle.life_find.proofs.Outlines.{agree_by_shape}
 
 -- ---- the elements at which a test gives true
 
@@ -56,33 +58,33 @@ candidates-more test xs ys p h e f =
 
 -- ---- populations
 
-module _ (R : Rule) (G : Generation) (list new : List ℕ) (x n : ℕ) (e : new ≡ list ++ x ∷ []) (count : length list ≡ n) where
+module _ (R : Rule) (G : Generation) (list new : List Outline) (x : Outline) (n : ℕ) (e : new ≡ list ++ x ∷ []) (count : length list ≡ n) where
   pub length-more : length new ≡ n + 1
   length-more = ap length e ∙ length-append list (x ∷ []) ∙ ap (λ m. m + 1) count
 
-  pub ArePopulations-more : ArePopulations R G list → x ≡ size (generation R G n) → ArePopulations R G new
-  ArePopulations-more are counted = record {
+  pub AreOutlines-more : AreOutlines R G list → IsOutline (generation R G n) x → AreOutlines R G new
+  AreOutlines-more are told = record {
     each = λ k below.
         let longer : length new ≡ n + 1 = length-more in
-        ap (λ l. get_or l k 0) e
-        ∙ elim (cases_lt k (length list)) [
-          | inl less ↦ get_or_append_left list (x ∷ []) 0 k less ∙ are.each k less
+        elim (cases_lt k (length list)) [
+          | inl less ↦
+              subst (IsOutline (generation R G k)) (sym (ap (λ l. get_or l k no_outline) e ∙ get_or_append_left list (x ∷ []) no_outline k less)) (are.each k less)
           | inr last ↦
-              ap (λ j. get_or (list ++ x ∷ []) j 0) (let q : k ≡ length list = omega arith in q)
-              ∙ get_or-append_seam list x [] 0
-              ∙ counted
-              ∙ ap (λ j. size (generation R G j)) (let q : n ≡ k = omega arith in q)
+              let here : k ≡ length list = omega arith in
+              subst (IsOutline (generation R G k))
+              (sym (ap (λ l. get_or l k no_outline) e ∙ ap (λ j. get_or (list ++ x ∷ []) j no_outline) here ∙ get_or-append_seam list x [] no_outline))
+              (subst (λ j. IsOutline (generation R G j) x) (let q : n ≡ k = omega arith in q) told)
         ];
   }
 
-pub ArePopulations-none : (R : Rule) (G : Generation) (list : List ℕ) → list ≡ [] → ArePopulations R G list
-ArePopulations-none R G list e = record { each = λ k below. absurd (let none : length list ≡ 0 = ap length e in omega arith) }
+AreOutlines-none : (R : Rule) (G : Generation) (list : List Outline) → list ≡ [] → AreOutlines R G list
+AreOutlines-none R G list e = record { each = λ k below. absurd (let none : length list ≡ 0 = ap length e in omega arith) }
 
-pub ArePopulations-first : (R : Rule) (G : Generation) (list new : List ℕ) (x : ℕ) → list ≡ [] → new ≡ list ++ x ∷ [] → x ≡ size G → (length new ≡ 0 + 1) × ArePopulations R G new
-ArePopulations-first R G list new x none e counted =
+pub AreOutlines-first : (R : Rule) (G : Generation) (list new : List Outline) (x : Outline) → list ≡ [] → new ≡ list ++ x ∷ [] → IsOutline G x → (length new ≡ 0 + 1) × AreOutlines R G new
+AreOutlines-first R G list new x none e told =
     let count : length list ≡ 0 = ap length none in (
       length-more R G list new x 0 e count,
-      ArePopulations-more R G list new x 0 e count (ArePopulations-none R G list none) (counted ∙ ap size (sym (generation-zero R G))),
+      AreOutlines-more R G list new x 0 e count (AreOutlines-none R G list none) (subst (λ H. IsOutline H x) (sym (generation-zero R G)) told),
     )
 
 -- ---- possible periods
@@ -112,29 +114,27 @@ module _ (R : Rule) (G : Generation) (b : ℕ) where
         },
       )
 
-  ends_alike-possible : (list : List ℕ) (p : ℕ) → ArePopulations R G list → b < length list → IsPossible R G b p → ends_alike list p ≡ true
+  ends_alike-possible : (list : List Outline) (p : ℕ) → AreOutlines R G list → b < length list → IsPossible R G b p → ends_alike list p ≡ true
   ends_alike-possible list p are far possible =
       let least : 1 ≤ p = possible.least in
       let most : p ≤ b = possible.most in
-      let last : ℕ = length list - 1 in
-      let same : get_or list (length list - 1 - p) 0 ≡ get_or list (length list - 1) 0 =
-      are.each (length list - 1 - p) (omega arith)
-      ∙ sym (same_size _ _ (possible.again (length list - 1) (omega arith)))
-      ∙ sym (are.each (length list - 1) (omega arith)) in
-      (Decides-and _ _ (Decides-ltb p (length list)) (Decides-eqb _ _)).1 (omega arith, same)
+      let inside = (Decides-ltb p (length list)).1 (omega arith) in
+      let alike = agree_by_shape (generation R G (length list - 1 - p)) (generation R G (length list - 1)) _ _
+      (sym (possible.again (length list - 1) (omega arith))) (are.each (length list - 1 - p) (omega arith)) (are.each (length list - 1) (omega arith)) in
+      λ i. inside i && alike i
 
   -- each possible period is still among the candidates
   pub record AreLeft (periods : List ℕ) : Type 0 where
     pub each : (p : ℕ) → IsPossible R G b p → Contains periods p
 
-  pub AreLeft-start : (list periods : List ℕ) → ArePopulations R G list → length list ≡ b + 1 → periods ≡ filter (ends_alike list) (range_with_len 1 b) → AreLeft periods
+  pub AreLeft-start : (list : List Outline) (periods : List ℕ) → AreOutlines R G list → length list ≡ b + 1 → periods ≡ filter (ends_alike list) (range_with_len 1 b) → AreLeft periods
   AreLeft-start list periods are count e = record {
     each = λ p possible.
         subst (λ l. Contains l p) (sym e)
         (Contains-filter (ends_alike list) (range_with_len 1 b) p (Contains-range b p possible.least possible.most) (ends_alike-possible list p are (omega arith) possible));
   }
 
-  pub AreLeft-next : (list before periods : List ℕ) → ArePopulations R G list → b < length list → AreLeft before → periods ≡ filter (ends_alike list) before → AreLeft periods
+  pub AreLeft-next : (list : List Outline) (before periods : List ℕ) → AreOutlines R G list → b < length list → AreLeft before → periods ≡ filter (ends_alike list) before → AreLeft periods
   AreLeft-next list before periods are far left e = record {
     each = λ p possible. subst (λ l. Contains l p) (sym e) (Contains-filter (ends_alike list) before p (left.each p possible) (ends_alike-possible list p are far possible));
   }
@@ -158,19 +158,19 @@ module _ (R : Rule) (G : Generation) (b : ℕ) where
 
 -- ---- the onset
 
-module _ (R : Rule) (G : Generation) (list : List ℕ) (are : ArePopulations R G list) (p first : ℕ) (change : (i : ℕ) → first ≡ i + 1 → changes_at list p i ≡ true) where
-  -- no generation before the first that the populations leave comes again after p steps
+module _ (R : Rule) (G : Generation) (list : List Outline) (are : AreOutlines R G list) (p first : ℕ) (change : (i : ℕ) → first ≡ i + 1 → changes_at list p i ≡ true) where
+  -- no generation before the first that the outlines leave comes again after p steps
   pub none_before : (h : ℕ) → h < first → shape R G (h + p) ≡ shape R G h → ⊥
   none_before h below e =
       let i : ℕ = first - 1 in
       let k : ℕ = i - h in
-      let differ = (Decides-and _ _ (Decides-ltb (i + p) (length list)) (Decides-not _ (Decides-eqb (get_or list i 0) (get_or list (i + p) 0)))).0
-      (change i (omega arith)) in
+      let here = get_or list i no_outline in
+      let there = get_or list (i + p) no_outline in
+      let alike : Decides (agree here there) (agree here there ≡ true) = (λ same. same, λ same. same) in
+      let differ = (Decides-and _ _ (Decides-ltb (i + p) (length list)) (Decides-not _ alike)).0 (change i (omega arith)) in
       let inside : i + p < length list = differ.0 in
-      differ.1
-      (are.each i (omega arith)
-      ∙ sym (same_size _ _
-      (ap (shape R G) (let q : i + p ≡ (h + p) + k = omega arith in q)
+      let again : shape R G (i + p) ≡ shape R G i =
+      ap (shape R G) (let q : i + p ≡ (h + p) + k = omega arith in q)
       ∙ along (shape R G) (shape-follows R G) k (h + p) h e
-      ∙ ap (shape R G) (let q : h + k ≡ i = omega arith in q)))
-      ∙ sym (are.each (i + p) inside))
+      ∙ ap (shape R G) (let q : h + k ≡ i = omega arith in q) in
+      differ.1 (agree_by_shape (generation R G i) (generation R G (i + p)) here there (sym again) (are.each i (omega arith)) (are.each (i + p) inside))

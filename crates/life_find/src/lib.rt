@@ -6,6 +6,7 @@ mod apgcode;
 mod candidates;
 pub mod find;
 pub mod limit;
+mod outline;
 mod recurrence;
 pub mod same_object;
 mod search;

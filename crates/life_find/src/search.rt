@@ -44,13 +44,13 @@ pub fn settling<P: Plane>(
     ensures none { IfOk result (λ answer. IfNone answer ((g : ℕ) → SettlesAt rule.now cells.now bound g → ⊥)) }
 {
     let mut runner = P::from_cells(alloc, cells)?;
-    let mut populations = Vec::new(alloc);
-    let seen = match seen_again(alloc, &mut runner, cells, rule, bound, &mut populations)? {
+    let mut outlines = Vec::new(alloc);
+    let seen = match seen_again(alloc, &mut runner, cells, rule, bound, &mut outlines)? {
         Some(seen) => seen,
         None => return Ok(None),
     };
     let last = bound - seen.period;
-    let first = first_alike(&populations, seen.period, last);
+    let first = first_alike(&outlines, seen.period, last);
     if first > last {
         return Ok(None);
     }

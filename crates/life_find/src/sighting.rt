@@ -3,10 +3,11 @@ ghost use Rattle.std.specs.Prelude.{◌≡◌, ℕ, ◌+◌, ◌*◌, ◌<◌, �
 ghost use Rattle.life_model.specs.Evolution.{generation};
 ghost use Rattle.life_model.specs.Generation.{Generation};
 ghost use Rattle.life_model.specs.Recurrence.{SettlesAt};
-ghost use Rattle.life_find.specs.Search.{ArePopulations, IsReturn};
+ghost use Rattle.life_find.specs.Search.{AreOutlines, IsReturn};
 
 use crate::candidates::{candidates, keep_candidates};
 use crate::limit::BOUND_LIMIT;
+use crate::outline::{Outline, outline_of, outline_on};
 use crate::recurrence::Recurrence;
 use crate::way::way_to;
 use life_cells::cell_list::CellList;
@@ -17,14 +18,17 @@ use std::alloc::{AllocError, Global};
 /// How many generations are compared with the first one.
 const FIRST_LEAD: u32 = 4;
 
+/// Once in so many generations the span is looked at whatever the population is.
+const SPAN_STEP: u32 = 16;
+
 /// Steps on, at most so many times, until the cells stand again that the plane began with, which are listed: after how many
-/// steps, and how far away. Notes the population of each generation.
+/// steps, and how far away. Notes the outline of each generation.
 fn watch<P: Plane>(
     runner: &mut P,
     listed: &CellList,
     rule: &Rule,
     steps: u32,
-    populations: &mut Vec<u64>,
+    outlines: &mut Vec<Outline>,
 ) -> Result<Option<(u32, (i32, i32))>, AllocError>
     requires listed { listed.now ≡ P.members runner.old }
     requires young { P.steps_made runner.old + steps ≤ AGE_LIMIT }
@@ -34,16 +38,19 @@ fn watch<P: Plane>(
     ensures seen_age { IfOk result (λ answer. IfSome answer (λ r. P.steps_made runner.new ≡ P.steps_made runner.old + r.0)) }
     ensures there { IfOk result (λ answer. IfNone answer (P.members runner.new ≡ generation rule.now (P.members runner.old) steps)) }
     ensures age { IfOk result (λ answer. IfNone answer (P.steps_made runner.new ≡ P.steps_made runner.old + steps)) }
-    ensures count { IfOk result (λ answer. IfNone answer (length populations.new.items ≡ length populations.old.items + steps)) }
-    ensures populations { OnOk result ((first : Generation) (age : ℕ) → P.members runner.old ≡ generation rule.now first age →
-        length populations.old.items ≡ age + 1 → ArePopulations rule.now first populations.old.items →
-        ArePopulations rule.now first populations.new.items) }
+    ensures count { IfOk result (λ answer. IfNone answer (length outlines.new.items ≡ length outlines.old.items + steps)) }
+    ensures outlines { OnOk result ((first : Generation) (age : ℕ) → P.members runner.old ≡ generation rule.now first age →
+        length outlines.old.items ≡ age + 1 → AreOutlines rule.now first outlines.old.items →
+        AreOutlines rule.now first outlines.new.items) }
 {
+    let marked = outline_of(listed);
     for taken in 0..steps {
         runner.step(rule)?;
         let population = runner.population();
-        populations.push(population)?;
-        if let Some(displacement) = way_to(listed, runner, population)? {
+        let spanned = population == marked.population || taken % SPAN_STEP == SPAN_STEP - 1;
+        let outline = outline_on(runner, population, spanned)?;
+        outlines.push(outline)?;
+        if let Some(displacement) = way_to(listed, marked, runner, outline)? {
             return Ok(Some((taken + 1, displacement)));
         }
     }
@@ -57,24 +64,24 @@ fn seen_within<P: Plane>(
     cells: &CellList,
     rule: &Rule,
     bound: u32,
-    populations: &mut Vec<u64>,
+    outlines: &mut Vec<Outline>,
 ) -> Result<Option<Recurrence>, AllocError>
     requires bound { 1 ≤ bound × bound ≤ BOUND_LIMIT }
     requires cells { cells.now ≡ P.members runner.old }
     requires new { P.steps_made runner.old ≡ 0 }
-    requires none { populations.old.items ≡ [] }
+    requires none { outlines.old.items ≡ [] }
     ensures found { IfOk result (λ answer. IfSome answer (λ r. IsReturn rule.now (generation rule.now cells.now r.onset) r.period r.displacement)) }
     ensures within { IfOk result (λ answer. IfSome answer (λ r. r.onset + r.period ≤ bound)) }
     ensures seen { IfOk result (λ answer. IfSome answer (λ r. P.members runner.new ≡ generation rule.now cells.now (r.onset + r.period))) }
     ensures seen_age { IfOk result (λ answer. IfSome answer (λ r. P.steps_made runner.new ≡ r.onset + r.period)) }
     ensures there { IfOk result (λ answer. IfNone answer (P.members runner.new ≡ generation rule.now cells.now bound)) }
     ensures age { IfOk result (λ answer. IfNone answer (P.steps_made runner.new ≡ bound)) }
-    ensures count { IfOk result (λ answer. IfNone answer (length populations.new.items ≡ bound + 1)) }
-    ensures populations { OnOk result (ArePopulations rule.now cells.now populations.new.items) }
+    ensures count { IfOk result (λ answer. IfNone answer (length outlines.new.items ≡ bound + 1)) }
+    ensures outlines { OnOk result (AreOutlines rule.now cells.now outlines.new.items) }
 {
-    populations.push(cells.len() as u64)?;
+    outlines.push(outline_of(cells))?;
     let mut onset = FIRST_LEAD.min(bound);
-    if let Some((period, displacement)) = watch(runner, cells, rule, onset, populations)? {
+    if let Some((period, displacement)) = watch(runner, cells, rule, onset, outlines)? {
         return Ok(Some(Recurrence {
             onset: 0,
             period,
@@ -84,7 +91,7 @@ fn seen_within<P: Plane>(
     'marks: while onset < bound {
         let anchor = runner.cells()?;
         let steps = onset.min(bound - onset);
-        if let Some((period, displacement)) = watch(runner, &anchor, rule, steps, populations)? {
+        if let Some((period, displacement)) = watch(runner, &anchor, rule, steps, outlines)? {
             return Ok(Some(Recurrence {
                 onset,
                 period,
@@ -97,47 +104,48 @@ fn seen_within<P: Plane>(
 }
 
 /// A generation that comes again, where one does within the bound at all. It may be found where none does. Goes past the
-/// bound only while the populations leave a period possible, and notes the population of each generation.
+/// bound only while the outlines leave a period possible, and notes the outline of each generation.
 pub fn seen_again<P: Plane>(
     alloc: Global,
     runner: &mut P,
     cells: &CellList,
     rule: &Rule,
     bound: u32,
-    populations: &mut Vec<u64>,
+    outlines: &mut Vec<Outline>,
 ) -> Result<Option<Recurrence>, AllocError>
     requires bound { 1 ≤ bound × bound ≤ BOUND_LIMIT }
     requires cells { cells.now ≡ P.members runner.old }
     requires new { P.steps_made runner.old ≡ 0 }
-    requires none { populations.old.items ≡ [] }
+    requires none { outlines.old.items ≡ [] }
     ensures found { IfOk result (λ answer. IfSome answer (λ r. IsReturn rule.now (generation rule.now cells.now r.onset) r.period r.displacement)) }
     ensures onset { IfOk result (λ answer. IfSome answer (λ r. r.onset ≤ bound)) }
     ensures period { IfOk result (λ answer. IfSome answer (λ r. r.period ≤ bound)) }
     ensures seen { IfOk result (λ answer. IfSome answer (λ r. P.members runner.new ≡ generation rule.now cells.now (r.onset + r.period))) }
     ensures seen_age { IfOk result (λ answer. IfSome answer (λ r. P.steps_made runner.new ≡ r.onset + r.period)) }
-    ensures populations { OnOk result (ArePopulations rule.now cells.now populations.new.items) }
+    ensures outlines { OnOk result (AreOutlines rule.now cells.now outlines.new.items) }
     ensures none { IfOk result (λ answer. IfNone answer ((g : ℕ) → SettlesAt rule.now cells.now bound g → ⊥)) }
 {
-    if let Some(seen) = seen_within(runner, cells, rule, bound, populations)? {
+    if let Some(seen) = seen_within(runner, cells, rule, bound, outlines)? {
         return Ok(Some(seen));
     }
     let anchor = runner.cells()?;
-    let mut periods = candidates(alloc, populations, bound)?;
+    let marked = outline_of(&anchor);
+    let mut periods = candidates(alloc, outlines, bound)?;
     for lead in 0..bound {
         if periods.is_empty() {
             return Ok(None);
         }
         runner.step(rule)?;
-        let population = runner.population();
-        populations.push(population)?;
-        if let Some(displacement) = way_to(&anchor, runner, population)? {
+        let outline = outline_on(runner, runner.population(), true)?;
+        outlines.push(outline)?;
+        if let Some(displacement) = way_to(&anchor, marked, runner, outline)? {
             return Ok(Some(Recurrence {
                 onset: bound,
                 period: lead + 1,
                 displacement,
             }));
         }
-        keep_candidates(&mut periods, populations);
+        keep_candidates(&mut periods, outlines);
     }
     Ok(None)
 }

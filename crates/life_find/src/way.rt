@@ -1,11 +1,13 @@
 //! How far one set of cells is from another that is the same, moved as a whole.
 ghost use Rattle.std.specs.Prelude.{◌≡◌, ◌≤◌, Decides, IfNone, IfOk, IfSome, T, List, All};
 ghost use Rattle.life_model.specs.Cell.{Cell, opposite, origin, plus};
-ghost use Rattle.life_model.specs.Generation.{from_list, is_rising, size};
+ghost use Rattle.life_model.specs.Generation.{from_list, is_rising};
 ghost use Rattle.life_model.specs.Symmetry.{moved, normal};
 ghost use Rattle.life_cells.specs.Limits.{IsPlace};
+ghost use Rattle.life_find.specs.Outline.{IsOutline};
 ghost use Rattle.life_find.specs.Search.{IsWay};
 
+use crate::outline::{Outline, agree};
 use life_cells::cell_list::CellList;
 use life_plane::plane::Plane;
 use std::alloc::AllocError;
@@ -43,22 +45,24 @@ pub fn way_between(from: &[(i32, i32)], to: &[(i32, i32)]) -> Option<(i32, i32)>
     Some(way)
 }
 
-/// How far the cells of the plane, of which there are so many, are from the listed ones, where they are those moved as a
-/// whole.
+/// How far the cells of the plane are from the listed ones, where they are those moved as a whole. They are looked at where
+/// the outlines agree.
 pub fn way_to<P: Plane>(
     from: &CellList,
+    marked: Outline,
     to: &P,
-    population: u64,
+    outline: Outline,
 ) -> Result<Option<(i32, i32)>, AllocError>
-    requires { population ≡ size (P.members to.now) }
+    requires marked { IsOutline from.now marked }
+    requires outlined { IsOutline (P.members to.now) outline }
     ensures way { IfOk result (λ found. IfSome found (λ d. IsWay from.now (P.members to.now) d)) }
     ensures apart { IfOk result (λ found. IfNone found (normal from.now ≡ normal (P.members to.now) → ⊥)) }
 {
-    if from.as_slice().len() as u64 != population {
-        return Ok(None);
+    if agree(marked, outline) {
+        let to = to.cells()?;
+        return Ok(way_between(from.as_slice(), to.as_slice()));
     }
-    let to = to.cells()?;
-    Ok(way_between(from.as_slice(), to.as_slice()))
+    Ok(None)
 }
 
 /// How far the second plane's cells are from the first's, where they are those moved as a whole.
@@ -66,9 +70,10 @@ pub fn way<P: Plane>(from: &P, to: &P) -> Result<Option<(i32, i32)>, AllocError>
     ensures way { IfOk result (λ found. IfSome found (λ d. IsWay (P.members from.now) (P.members to.now) d)) }
     ensures apart { IfOk result (λ found. IfNone found (normal (P.members from.now) ≡ normal (P.members to.now) → ⊥)) }
 {
-    let population = to.population();
-    if from.population() != population {
+    if from.population() != to.population() {
         return Ok(None);
     }
-    way_to(&from.cells()?, to, population)
+    let from = from.cells()?;
+    let to = to.cells()?;
+    Ok(way_between(from.as_slice(), to.as_slice()))
 }

@@ -1,5 +1,6 @@
 pub mod Field
 pub mod Kept
+pub mod Span
 pub use Rattle.life_cells.specs.Limits
 pub use Rattle.life_model.specs.Cell
 pub use Rattle.life_model.specs.Generation

@@ -4,5 +4,6 @@
 mod evolve;
 pub mod list_plane;
 pub mod plane;
+pub mod span;
 #[cfg(test)]
 mod tests;

@@ -4,7 +4,9 @@ ghost use Rattle.life_model.specs.Evolution.{next};
 ghost use Rattle.life_model.specs.Generation.{Generation};
 ghost use Rattle.life_model.specs.Generation as generation;
 ghost use Rattle.life_cells.specs.Limits.{IsWithin};
+ghost use Rattle.life_plane.specs.Span.{set_span};
 
+use crate::span::span_of;
 use life_cells::cell_list::CellList;
 use life_cells::rule::Rule;
 use std::alloc::{AllocError, Global};
@@ -47,6 +49,15 @@ pub trait Plane: Sized + Drop {
     /// The live cells in order.
     fn cells(&self) -> Result<CellList, AllocError>
         ensures cells { IfOk result (λ list. list ≡ members self.now) };
+
+    /// How far the last of its cells, by y and then by x, is from the first, or (0, 0) where there is none. Sets that are
+    /// equal up to a move have one span, and few others do.
+    fn span(&self) -> Result<(i32, i32), AllocError>
+        ensures { IfOk result (λ span. span ≡ set_span (members self.now)) }
+    {
+        let cells = self.cells()?;
+        Ok(span_of(cells.as_slice()))
+    }
 
     /// Another plane with the same cells and the same age.
     fn copy(&self) -> Result<Self, AllocError>

@@ -33,6 +33,7 @@ fn glider_goes_down<P: Plane>(rt: &impl Abort, alloc: Global) -> Result<(), Fail
     let moved = [(113, 112), (114, 113), (112, 114), (113, 114), (114, 114)];
     assert_eq!(rt; plane.cells()?.as_slice(), moved.as_slice());
     assert_eq!(rt; plane.population(), 5);
+    assert_eq!(rt; plane.span()?, (1, 2));
     assert_eq!(rt; plane.age(), 200);
     Ok(())
 }
@@ -74,6 +75,17 @@ fn copy_keeps_older_cells<P: Plane>(rt: &impl Abort, alloc: Global) -> Result<()
     );
     assert_eq!(rt; plane.age(), 1);
     Ok(())
+}
+
+fn no_cell_spans_nothing<P: Plane>(rt: &impl Abort, alloc: Global) -> Result<(), Fail> {
+    let plane: P = plane_of(rt, alloc, &[])?;
+    assert_eq!(rt; plane.span()?, (0, 0));
+    Ok(())
+}
+
+#[test]
+fn list_no_cell_spans_nothing(rt: HostRuntime) -> Result<(), Fail> {
+    no_cell_spans_nothing::<ListPlane>(&rt, rt.alloc())
 }
 
 #[test]

@@ -1,13 +1,13 @@
 use Rattle.std.proofs.Common.{◌≡◌, ◌+◌, length, sym, ap, subst, ◌∙◌, arith}
 use borrow.Author.Tests.{eqb-true}
 use Rattle.std.specs.List.{filter, range_with_len}
-use Rattle.life_model.specs.Generation.{size}
 use Rattle.life_model.specs.Evolution.{next, generation}
 use Rattle.life_model.specs.Symmetry.{normal}
 use Rattle.life_model.proofs.Recurrences.{generation-next, generation-add}
-use Rattle.life_find.specs.Search.{ArePopulations, IsWay, ends_alike}
+use Rattle.life_find.specs.Outline.{IsOutline}
+use Rattle.life_find.specs.Search.{AreOutlines, IsWay, ends_alike}
 use Rattle.life_find.proofs.Apart.{IsApart, IsApart-start, IsApart-next, IsReturn-found}
-use Rattle.life_find.proofs.Possible.{length-more, ArePopulations-more, AreLeft-start, AreLeft-next, nowhere_left, nowhere_past}
+use Rattle.life_find.proofs.Possible.{length-more, AreOutlines-more, AreLeft-start, AreLeft-next, nowhere_left, nowhere_past}
 use Rattle.life_find.proofs.sighting.seen_again.Goals as goal
 
 pub loop-lead-init : goal.loop-lead-init
@@ -15,7 +15,7 @@ loop-lead-init g c =
     let R = c.args.rule.now in
     let G = c.args.cells.now in
     let b = c.args.bound in
-    let list = c.seen_within.new.populations.items in
+    let list = c.seen_within.new.outlines.items in
     let there = rw c.in_default.is at c.in_ok-seen.ensures.there in
     let age = rw c.in_default.is at c.in_ok-seen.ensures.age in
     let count : length list ≡ b + 1 = rw c.in_default.is at c.in_ok-seen.ensures.count in
@@ -24,9 +24,9 @@ loop-lead-init g c =
       there = there ∙ ap (generation R G) here;
       aged = age ∙ here;
       counted = count ∙ ap (λ n. n + 1) here;
-      populations = c.in_ok-seen.ensures.populations;
+      outlines = c.in_ok-seen.ensures.outlines;
       apart = IsApart-start R (generation R G b);
-      left = AreLeft-start R G b list c.in_ok-periods.periods.items c.in_ok-seen.ensures.populations count
+      left = AreLeft-start R G b list c.in_ok-periods.periods.items c.in_ok-seen.ensures.outlines count
           (c.in_ok-periods.ensures ∙ ap (λ l. filter (ends_alike l) (range_with_len 1 b)) c.deref.ensures.value);
     }
 
@@ -58,15 +58,15 @@ returns-in-Some-2-clause-seen g c =
     c.in_ok-step.ensures.cells ∙ ap (next R) c.loop-lead.invariant.there ∙ sym (generation-next R G n)
     ∙ ap (generation R G) (let e : n + 1 ≡ c.args.bound + (c.loop-lead.lead + 1) = omega arith in e)
 
-pub returns-in-Some-2-clause-populations : goal.returns-in-Some-2-clause-populations
-returns-in-Some-2-clause-populations g c =
+pub returns-in-Some-2-clause-outlines : goal.returns-in-Some-2-clause-outlines
+returns-in-Some-2-clause-outlines g c =
     let R = c.args.rule.now in
     let G = c.args.cells.now in
     let age = c.args.bound + c.loop-lead.lead in
     let at = c.loop-lead.invariant in
     let there = c.in_ok-step.ensures.cells ∙ ap (next R) at.there ∙ sym (generation-next R G age) in
-    ArePopulations-more R G c.loop-lead.populations.items c.push.new.self.items c.population-population.result (age + 1)
-    c.in_ok-push.ensures.items at.counted at.populations (c.population-population.ensures ∙ ap size there)
+    AreOutlines-more R G c.loop-lead.outlines.items c.push.new.self.items c.in_ok-outline.outline (age + 1)
+    c.in_ok-push.ensures.items at.counted at.outlines (subst (λ H. IsOutline H c.in_ok-outline.outline) there c.in_ok-outline.ensures)
 
 pub loop-lead-preserved : goal.loop-lead-preserved
 loop-lead-preserved g c =
@@ -77,7 +77,7 @@ loop-lead-preserved g c =
     let age = b + n in
     let H = generation R G b in
     let at = c.loop-lead.invariant in
-    let before = c.loop-lead.populations.items in
+    let before = c.loop-lead.outlines.items in
     let after = c.push.new.self.items in
     let later : age + 1 ≡ b + (n + 1) = omega arith in
     let here : c.in_ok-anchor.anchor ≡ H = c.in_ok-anchor.ensures.cells ∙ rw c.in_default.is at c.in_ok-seen.ensures.there in
@@ -86,16 +86,16 @@ loop-lead-preserved g c =
     let again : g.P.Plane.members c.step.new.self ≡ generation R H (n + 1) = there ∙ ap (generation R G) later ∙ sym (generation-add R G b (n + 1)) in
     let aged : g.P.Plane.steps_made c.step.new.self ≡ age + 1 = c.in_ok-step.ensures.age ∙ ap (λ k. k + 1) at.aged in
     let missed = rw c.in_default-2.is at c.in_ok-displacement.ensures.apart in
-    let counted : length after ≡ (age + 1) + 1 = length-more R G before after c.population-population.result (age + 1) c.in_ok-push.ensures.items at.counted in
-    let populations : ArePopulations R G after = ArePopulations-more R G before after c.population-population.result (age + 1)
-    c.in_ok-push.ensures.items at.counted at.populations (c.population-population.ensures ∙ ap size there) in
+    let counted : length after ≡ (age + 1) + 1 = length-more R G before after c.in_ok-outline.outline (age + 1) c.in_ok-push.ensures.items at.counted in
+    let outlines : AreOutlines R G after = AreOutlines-more R G before after c.in_ok-outline.outline (age + 1)
+    c.in_ok-push.ensures.items at.counted at.outlines (subst (λ H. IsOutline H c.in_ok-outline.outline) there c.in_ok-outline.ensures) in
     record {
       there = there ∙ ap (generation R G) later;
       aged = aged ∙ later;
       counted = counted ∙ ap (λ k. k + 1) later;
-      populations = populations;
+      outlines = outlines;
       apart = IsApart-next R H n at.apart (λ e. missed (ap normal here ∙ e ∙ ap normal (sym again)));
-      left = AreLeft-next R G b after c.loop-lead.periods.items c.keep_candidates.new.periods.items populations (omega arith) at.left
+      left = AreLeft-next R G b after c.loop-lead.periods.items c.keep_candidates.new.periods.items outlines (omega arith) at.left
           (c.keep_candidates.ensures ∙ ap (λ l. filter (ends_alike l) c.loop-lead.periods.items) c.deref-in-loop-lead.ensures.value);
     }
 

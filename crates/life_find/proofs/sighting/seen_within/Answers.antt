@@ -1,9 +1,8 @@
 use Rattle.std.proofs.Common.{◌≡◌, ◌+◌, ◌≤◌, length, sym, ap, subst, ◌∙◌, zero-add, arith}
-use Rattle.life_model.specs.Generation.{size}
 use Rattle.life_model.specs.Evolution.{generation}
 use Rattle.life_model.proofs.Recurrences.{generation-zero, generation-add}
-use Rattle.life_find.specs.Search.{ArePopulations, IsReturn}
-use Rattle.life_find.proofs.Possible.{ArePopulations-first}
+use Rattle.life_find.specs.Search.{AreOutlines, IsReturn}
+use Rattle.life_find.proofs.Possible.{AreOutlines-first}
 use Rattle.life_find.proofs.sighting.seen_within.Goals as goal
 
 pub returns-in-Some-clause-found : goal.returns-in-Some-clause-found
@@ -13,12 +12,12 @@ returns-in-Some-clause-found g c =
     let found = rw c.in-Some.is at c.in_ok-period.ensures.found in
     subst (λ H. IsReturn R H c.in-Some.period c.in-Some.displacement) (sym c.requires.cells ∙ sym (generation-zero R G)) found
 
-pub returns-in-Some-clause-populations : goal.returns-in-Some-clause-populations
-returns-in-Some-clause-populations g c =
+pub returns-in-Some-clause-outlines : goal.returns-in-Some-clause-outlines
+returns-in-Some-clause-outlines g c =
     let R = c.args.rule.now in
     let G = c.args.cells.now in
-    let first = ArePopulations-first R G c.args.populations.now.items c.push.new.self.items c.len.result c.requires.none c.in_ok-push.ensures.items c.len.ensures in
-    c.in_ok-period.ensures.populations G 0 (sym c.requires.cells ∙ sym (generation-zero R G)) first.0 first.1
+    let first = AreOutlines-first R G c.args.outlines.now.items c.push.new.self.items c.outline_of.result c.requires.none c.in_ok-push.ensures.items c.outline_of.ensures in
+    c.in_ok-period.ensures.outlines G 0 (sym c.requires.cells ∙ sym (generation-zero R G)) first.0 first.1
 
 pub marks-init : goal.marks-init
 marks-init g c =
@@ -27,18 +26,18 @@ marks-init g c =
     let n = c.min-onset.result in
     let bound = c.requires.bound in
     let least = c.min-onset.ensures in
-    let first = ArePopulations-first R G c.args.populations.now.items c.push.new.self.items c.len.result c.requires.none c.in_ok-push.ensures.items c.len.ensures in
+    let first = AreOutlines-first R G c.args.outlines.now.items c.push.new.self.items c.outline_of.result c.requires.none c.in_ok-push.ensures.items c.outline_of.ensures in
     let one : length c.push.new.self.items ≡ 0 + 1 = first.0 in
     let there = rw c.in_default.is at c.in_ok-period.ensures.there in
     let age = rw c.in_default.is at c.in_ok-period.ensures.age in
-    let count : length c.watch.new.populations.items ≡ length c.push.new.self.items + n = rw c.in_default.is at c.in_ok-period.ensures.count in
+    let count : length c.watch.new.outlines.items ≡ length c.push.new.self.items + n = rw c.in_default.is at c.in_ok-period.ensures.count in
     record {
       later = omega arith;
       within = omega arith;
       there = there ∙ ap (λ H. generation R H n) (sym c.requires.cells);
       aged = age ∙ ap (λ k. k + n) c.requires.new ∙ zero-add n;
       counted = omega arith;
-      populations = c.in_ok-period.ensures.populations G 0 (sym c.requires.cells ∙ sym (generation-zero R G)) first.0 first.1;
+      outlines = c.in_ok-period.ensures.outlines G 0 (sym c.requires.cells ∙ sym (generation-zero R G)) first.0 first.1;
     }
 
 pub returns-in-Some-2-clause-seen : goal.returns-in-Some-2-clause-seen
@@ -60,13 +59,13 @@ marks-preserved g c =
     let inside = c.marks-test.true in
     let there = rw c.in_default-2.is at c.in_ok-period-2.ensures.there in
     let age = rw c.in_default-2.is at c.in_ok-period-2.ensures.age in
-    let before : length c.marks.populations.items ≡ o + 1 = at.counted in
-    let count : length c.watch-in-marks.new.populations.items ≡ length c.marks.populations.items + n = rw c.in_default-2.is at c.in_ok-period-2.ensures.count in
+    let before : length c.marks.outlines.items ≡ o + 1 = at.counted in
+    let count : length c.watch-in-marks.new.outlines.items ≡ length c.marks.outlines.items + n = rw c.in_default-2.is at c.in_ok-period-2.ensures.count in
     record {
       later = omega arith;
       within = omega arith;
       there = there ∙ ap (λ H. generation R H n) at.there ∙ generation-add R G o n;
       aged = age ∙ ap (λ k. k + n) at.aged;
       counted = omega arith;
-      populations = c.in_ok-period-2.ensures.populations G o at.there at.counted at.populations;
+      outlines = c.in_ok-period-2.ensures.outlines G o at.there at.counted at.outlines;
     }

@@ -1,11 +1,11 @@
 use Rattle.std.proofs.Common.{◌≡◌, ◌+◌, length, refl, sym, ap, subst, ◌∙◌, arith, add-zero, add_assoc}
-use Rattle.life_model.specs.Generation.{size}
 use Rattle.life_model.specs.Evolution.{next, generation}
 use Rattle.life_model.specs.Symmetry.{normal}
 use Rattle.life_model.proofs.Recurrences.{generation-zero, generation-next, generation-add}
+use Rattle.life_find.specs.Outline.{IsOutline}
 use Rattle.life_find.specs.Search.{IsWay}
 use Rattle.life_find.proofs.Apart.{IsApart-start, IsApart-next, IsReturn-found}
-use Rattle.life_find.proofs.Possible.{ArePopulations-more, length-more}
+use Rattle.life_find.proofs.Possible.{AreOutlines-more, length-more}
 use Rattle.life_find.proofs.sighting.watch.Goals as goal
 
 pub loop-taken-init : goal.loop-taken-init
@@ -14,7 +14,7 @@ loop-taken-init g c = record {
   aged = sym (add-zero _);
   apart = IsApart-start _ _;
   counted = sym (add-zero _);
-  populations = λ first age e n are. are;
+  outlines = λ first age e n are. are;
 }
 
 pub returns-in-Some-clause-found : goal.returns-in-Some-clause-found
@@ -34,17 +34,17 @@ returns-in-Some-clause-seen g c =
     let R = c.args.rule.now in
     c.in_ok-step.ensures.cells ∙ ap (next R) c.loop-taken.invariant.there ∙ sym (generation-next R (g.P.Plane.members c.args.runner.now) c.loop-taken.taken)
 
-pub returns-in-Some-clause-populations : goal.returns-in-Some-clause-populations
-returns-in-Some-clause-populations g c first age e count are =
+pub returns-in-Some-clause-outlines : goal.returns-in-Some-clause-outlines
+returns-in-Some-clause-outlines g c first age e count are =
     let R = c.args.rule.now in
     let G = g.P.Plane.members c.args.runner.now in
     let n = c.loop-taken.taken in
     let at = c.loop-taken.invariant in
-    let counted : length c.loop-taken.populations.items ≡ length c.args.populations.now.items + n = at.counted in
+    let counted : length c.loop-taken.outlines.items ≡ length c.args.outlines.now.items + n = at.counted in
     let there : g.P.Plane.members c.step.new.self ≡ generation R first (age + (n + 1)) =
     c.in_ok-step.ensures.cells ∙ ap (next R) at.there ∙ sym (generation-next R G n) ∙ ap (λ H. generation R H (n + 1)) e ∙ generation-add R first age (n + 1) in
-    ArePopulations-more R first c.loop-taken.populations.items c.push.new.self.items c.population-population.result (age + (n + 1))
-    c.in_ok-push.ensures.items (omega arith) (at.populations first age e count are) (c.population-population.ensures ∙ ap size there)
+    AreOutlines-more R first c.loop-taken.outlines.items c.push.new.self.items c.in_ok-outline.outline (age + (n + 1))
+    c.in_ok-push.ensures.items (omega arith) (at.outlines first age e count are) (subst (λ H. IsOutline H c.in_ok-outline.outline) there c.in_ok-outline.ensures)
 
 pub loop-taken-preserved : goal.loop-taken-preserved
 loop-taken-preserved g c =
@@ -55,17 +55,17 @@ loop-taken-preserved g c =
     let there : g.P.Plane.members c.step.new.self ≡ generation R G (n + 1) =
     c.in_ok-step.ensures.cells ∙ ap (next R) at.there ∙ sym (generation-next R G n) in
     let missed = rw c.in_default.is at c.in_ok-displacement.ensures.apart in
-    let counted : length c.loop-taken.populations.items ≡ length c.args.populations.now.items + n = at.counted in
-    let more : length c.push.new.self.items ≡ length c.loop-taken.populations.items + 1 =
-    length-more R G c.loop-taken.populations.items c.push.new.self.items c.population-population.result (length c.loop-taken.populations.items) c.in_ok-push.ensures.items refl in
+    let counted : length c.loop-taken.outlines.items ≡ length c.args.outlines.now.items + n = at.counted in
+    let more : length c.push.new.self.items ≡ length c.loop-taken.outlines.items + 1 =
+    length-more R G c.loop-taken.outlines.items c.push.new.self.items c.in_ok-outline.outline (length c.loop-taken.outlines.items) c.in_ok-push.ensures.items refl in
     record {
       there = there;
       aged = c.in_ok-step.ensures.age ∙ ap (λ k. k + 1) at.aged ∙ add_assoc _ _ _;
       apart = IsApart-next R G n at.apart (λ e. missed (ap normal c.requires.listed ∙ e ∙ ap normal (sym there)));
       counted = omega arith;
-      populations = λ first age e count are.
+      outlines = λ first age e count are.
           let later : g.P.Plane.members c.step.new.self ≡ generation R first (age + (n + 1)) =
           there ∙ ap (λ H. generation R H (n + 1)) e ∙ generation-add R first age (n + 1) in
-          ArePopulations-more R first c.loop-taken.populations.items c.push.new.self.items c.population-population.result (age + (n + 1))
-          c.in_ok-push.ensures.items (omega arith) (at.populations first age e count are) (c.population-population.ensures ∙ ap size later);
+          AreOutlines-more R first c.loop-taken.outlines.items c.push.new.self.items c.in_ok-outline.outline (age + (n + 1))
+          c.in_ok-push.ensures.items (omega arith) (at.outlines first age e count are) (subst (λ H. IsOutline H c.in_ok-outline.outline) later c.in_ok-outline.ensures);
     }

@@ -1,0 +1,24 @@
+-- Outlines of sets that are equal up to a move agree.
+use Rattle.std.proofs.Common.{◌≡◌, ◌&&◌, true, Option, Some, None, IfSome, refl, sym, ap, subst, ◌∙◌}
+use Rattle.std.proofs.lemmas.Bool.Decides.{Decides-and, Decides-eqb, Decides-int_eq}
+use Rattle.life_model.specs.Cell.{Cell}
+use Rattle.life_model.specs.Generation.{Generation}
+use Rattle.life_model.specs.Symmetry.{normal}
+use Rattle.life_plane.specs.Span.{set_span}
+use Rattle.life_plane.proofs.Spans.{set_span_by_shape}
+use Rattle.life_find.specs.declared.outline.Outline.{Outline}
+use Rattle.life_find.specs.Outline.{IsOutline, agree, spans_agree}
+use Rattle.life_find.proofs.Ways.{same_size}
+
+one_span : (s t : Option Cell) (c : Cell) → IfSome s (λ x. x ≡ c) → IfSome t (λ x. x ≡ c) → spans_agree s t ≡ true
+one_span None t c h k = refl
+one_span (Some a) None c h k = refl
+one_span (Some a) (Some b) c h k =
+    let same : a ≡ b = h ∙ sym k in
+    (Decides-and _ _ (Decides-int_eq a.0 b.0) (Decides-int_eq a.1 b.1)).1 (ap (λ x. x.0) same, ap (λ x. x.1) same)
+
+pub agree_by_shape : (G H : Generation) (a b : Outline) → normal G ≡ normal H → IsOutline G a → IsOutline H b → agree a b ≡ true
+agree_by_shape G H a b e one other =
+    let populations = (Decides-eqb a.population b.population).1 (one.population ∙ same_size G H e ∙ sym other.population) in
+    let spans = one_span a.span b.span (set_span G) one.span (subst (λ c. IfSome b.span (λ x. x ≡ c)) (sym (set_span_by_shape G H e)) other.span) in
+    λ i. populations i && spans i

@@ -1,0 +1,26 @@
+-- What is noted of a generation, by which most generations are told apart without their cells.
+use Rattle.std.specs.Prelude.{◌≡◌, ◌&&◌, Bool, true, Option, Some, None, IfSome, eqb}
+use Rattle.std.specs.Ordering.{int_eq}
+use Rattle.life_model.specs.Cell.{Cell}
+use Rattle.life_model.specs.Generation.{Generation, size}
+use Rattle.life_plane.specs.Span.{set_span}
+use Rattle.life_find.specs.declared.outline.Outline.{Outline}
+
+-- what the outline says is so
+pub record IsOutline (G : Generation) (o : Outline) : Type 0 where
+  pub population : o.population ≡ size G
+  pub span : IfSome o.span (λ s. s ≡ set_span G)
+
+-- whether two spans, where both are known, are equal
+abbrev pub spans_agree : Option Cell → Option Cell → Bool
+spans_agree None other = true
+spans_agree (Some a) None = true
+spans_agree (Some a) (Some b) = int_eq a.0 b.0 && int_eq a.1 b.1
+
+-- whether two outlines may be those of one shape
+abbrev pub agree : Outline → Outline → Bool
+agree a b = eqb a.population b.population && spans_agree a.span b.span
+
+-- that of no cell
+abbrev pub no_outline : Outline
+no_outline = record { population = 0; span = None }

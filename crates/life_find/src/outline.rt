@@ -1,0 +1,68 @@
+//! What is noted of a generation, by which most generations are told apart without their cells.
+ghost use Rattle.std.specs.Prelude.{◌≡◌, IfOk};
+ghost use Rattle.life_model.specs.Generation as generations;
+ghost use Rattle.life_find.specs.Outline.{IsOutline, agree, spans_agree};
+
+use life_cells::cell_list::CellList;
+use life_plane::plane::Plane;
+use life_plane::span::span_of;
+use std::alloc::AllocError;
+
+/// How many cells a generation has, and how far the last of them is from the first where that was looked at.
+#[derive(Clone, Copy)]
+pub struct Outline {
+    pub population: u64,
+    pub span: Option<(i32, i32)>,
+}
+
+/// Whether two spans may be those of one shape: they are equal where both are known.
+fn spans_agree(one: Option<(i32, i32)>, other: Option<(i32, i32)>) -> bool
+    ensures { result ≡ spans_agree one other }
+{
+    match one {
+        None => true,
+        Some(one) => match other {
+            None => true,
+            Some(other) => one == other,
+        },
+    }
+}
+
+/// Whether two outlines may be those of one shape.
+pub fn agree(one: Outline, other: Outline) -> bool
+    ensures { result ≡ agree one other }
+{
+    one.population == other.population && spans_agree(one.span, other.span)
+}
+
+/// The outline of a list of cells.
+pub fn outline_of(list: &CellList) -> Outline
+    ensures { IsOutline list.now result }
+{
+    Outline {
+        population: list.len() as u64,
+        span: Some(span_of(list.as_slice())),
+    }
+}
+
+/// The outline of what a plane holds, of which there are so many cells, with its span where that is wanted.
+pub fn outline_on<P: Plane>(
+    plane: &P,
+    population: u64,
+    spanned: bool,
+) -> Result<Outline, AllocError>
+    requires { population ≡ generations.size (P.members plane.now) }
+    ensures { IfOk result (IsOutline (P.members plane.now)) }
+{
+    if !spanned {
+        return Ok(Outline {
+            population,
+            span: None,
+        });
+    }
+    let span = plane.span()?;
+    Ok(Outline {
+        population,
+        span: Some(span),
+    })
+}

@@ -1,0 +1,9 @@
+use Rattle.std.proofs.Common.{ap, ◌∙◌}
+use Rattle.life_model.specs.Generation.{cells}
+use Rattle.life_plane.proofs.Spans.{set_span_of_cells}
+use Rattle.life_plane.proofs.plane.Plane.span.Goals as goal
+
+pub returns : goal.returns
+returns g c =
+    set_span_of_cells (g.Self.Plane.members c.args.self.now) c.as_slice.result.now c.span_of.result
+    (c.as_slice.ensures.cells ∙ ap cells c.in_ok-cells.ensures.cells) c.span_of.ensures

@@ -1,0 +1,12 @@
+-- How far the last of some cells is from the first.
+use Rattle.std.specs.Prelude.{◌-◌, List, length, slice_index_or}
+use Rattle.life_model.specs.Cell.{Cell, origin, plus, opposite}
+use Rattle.life_model.specs.Generation.{Generation, cells}
+
+-- the origin where there is none
+abbrev pub list_span : List Cell → Cell
+list_span cs = plus (slice_index_or cs (length cs - 1) origin) (opposite (slice_index_or cs 0 origin))
+
+-- how far the last cell of a set, by y and then by x, is from the first
+unfoldable pub set_span : Generation → Cell
+set_span G = list_span (cells G)
