@@ -99,6 +99,14 @@ fn a_copy_keeps_the_older_cells(rt: HostRuntime) -> Result<(), CellFault> {
 }
 
 #[test]
+fn the_r_pentomino_settles_with_its_known_population(rt: HostRuntime) -> Result<(), CellFault> {
+    let cells = [(1, 0), (2, 0), (0, 1), (1, 1), (1, 2)];
+    let plane = after(rt.alloc(), &cells, &Rule::life(), 1103)?;
+    assert!(rt; plane.population() == 116);
+    Ok(())
+}
+
+#[test]
 fn two_cells_die_and_leave_nothing(rt: HostRuntime) -> Result<(), CellFault> {
     let plane = after(rt.alloc(), &[(63, 63), (64, 64)], &Rule::life(), 3)?;
     assert!(rt; plane.cells()?.is_empty());
