@@ -1,6 +1,6 @@
 //! How far one set of cells is from another that is the same, moved as a whole.
 ghost use Rattle.std.specs.Prelude.{◌≡◌, ◌≤◌, Decides, IfNone, IfOk, IfSome, T, List, All};
-ghost use Rattle.life_model.specs.Cell.{Cell, opposite, origin, plus};
+ghost use Rattle.life_model.specs.Cell.{Cell, opposite, plus};
 ghost use Rattle.life_model.specs.Generation.{from_list, is_rising};
 ghost use Rattle.life_model.specs.Symmetry.{moved, normal};
 ghost use Rattle.life_cells.specs.Limits.{IsPlace};
@@ -10,16 +10,8 @@ ghost use Rattle.life_find.specs.Search.{IsWay};
 use crate::outline::{Outline, agree};
 use life_cells::cell_list::CellList;
 use life_plane::plane::Plane;
+use life_plane::span::move_between;
 use std::alloc::AllocError;
-
-/// The move from one cell to another.
-fn move_between(from: (i32, i32), to: (i32, i32)) -> (i32, i32)
-    requires from_placed { IsPlace from }
-    requires to_placed { IsPlace to }
-    ensures { result ≡ plus to (opposite from) }
-{
-    (to.0 - from.0, to.1 - from.1)
-}
 
 /// How far the second list is from the first, where it is the first list moved as a whole. No cell is moved by nothing.
 pub fn way_between(from: &[(i32, i32)], to: &[(i32, i32)]) -> Option<(i32, i32)>

@@ -5,7 +5,7 @@ ghost use Rattle.life_cells.specs.Limits.{IsPlace};
 ghost use Rattle.life_plane.specs.Span.{list_span};
 
 /// The move from one cell to another.
-fn move_between(from: (i32, i32), to: (i32, i32)) -> (i32, i32)
+pub fn move_between(from: (i32, i32), to: (i32, i32)) -> (i32, i32)
     requires from_placed { IsPlace from }
     requires to_placed { IsPlace to }
     ensures { result ≡ plus to (opposite from) }
