@@ -4,7 +4,6 @@ ghost use Rattle.std.specs.List.{fold};
 ghost use Rattle.std.specs.Option.{option_map};
 ghost use Rattle.life_model.specs.Symmetry.{normal};
 ghost use Rattle.life_shape.specs.TextOrder.{least_text, lesser};
-ghost use Rattle.life_shape.specs.Wechsler.{body};
 ghost use Rattle.life_answer.specs.Apgcode.{bodies, code_of, prefix, turned_bodies};
 ghost use Rattle.life_find.specs.Least.{with_text};
 
@@ -18,15 +17,6 @@ use life_shape::orient::Orient;
 use life_shape::shape::Shape;
 use std::alloc::{AllocError, Global};
 use std::cmp::Ordering;
-
-/// The Wechsler text of a shape.
-fn body(alloc: Global, shape: &Shape) -> Result<Vec<u8>, AllocError>
-    ensures { IfOk result (λ text. text.items ≡ body shape.now) }
-{
-    let mut text = Vec::new(alloc);
-    shape.encode(&mut text)?;
-    Ok(text)
-}
 
 /// The lesser of two texts.
 fn lesser(one: Vec<u8>, other: Vec<u8>) -> Vec<u8>
@@ -49,16 +39,12 @@ fn with_text(least: Option<Vec<u8>>, text: Vec<u8>) -> Vec<u8>
 }
 
 /// The least text so far, with those of a shape turned by each of the eight maps.
-fn with_shape(
-    alloc: Global,
-    least: Option<Vec<u8>>,
-    shape: &Shape,
-) -> Result<Option<Vec<u8>>, AllocError>
+fn with_shape(least: Option<Vec<u8>>, shape: &Shape) -> Result<Option<Vec<u8>>, AllocError>
     ensures { IfOk result (λ new. option_map (λ t. t.items) new ≡ fold with_text (option_map (λ t. t.items) least) (turned_bodies shape.now)) }
 {
     let mut least = least;
     for orient in &Orient::ALL {
-        let text = body(alloc, &shape.turned(*orient)?)?;
+        let text = shape.turned(*orient)?.text()?;
         least = Some(with_text(least, text));
     }
     Ok(least)
@@ -86,10 +72,10 @@ fn least_body<P: Plane>(
     ensures { IfOk result (λ text. text.items ≡ least_text (bodies rule.now (P.members plane) period)) }
 {
     let mut plane = plane;
-    let mut least = with_shape(alloc, None, &shape_of(alloc, &plane)?)?;
+    let mut least = with_shape(None, &shape_of(alloc, &plane)?)?;
     for _ in 1..period {
         plane.step(rule)?;
-        least = with_shape(alloc, least, &shape_of(alloc, &plane)?)?;
+        least = with_shape(least, &shape_of(alloc, &plane)?)?;
     }
     match least {
         Some(text) => Ok(text),

@@ -173,13 +173,20 @@ impl Shape {
         Ok(shape)
     }
 
+    /// Its Wechsler text.
+    pub fn text(&self) -> Result<Vec<u8>, AllocError>
+        ensures { IfOk result (λ text. text.items ≡ body self.now) }
+    {
+        let strips = self.height().div_ceil(5);
+        text_of(self.alloc, self.list.as_slice(), strips)
+    }
+
     /// Appends its Wechsler text. After an `Err` the vector is what it was.
     pub fn encode(&self, out: &mut Vec<u8>) -> Result<(), AllocError>
         ensures ok { OnOk result (out.new.items ≡ out.old.items ++ body self.now) }
         ensures err { OnErr result (out.new.items ≡ out.old.items) }
     {
-        let strips = self.height().div_ceil(5);
-        let text = text_of(self.alloc, self.list.as_slice(), strips)?;
+        let text = self.text()?;
         out.extend_from_slice(&text)?;
         Ok(())
     }
