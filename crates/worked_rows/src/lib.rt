@@ -10,11 +10,15 @@ mod bundles;
 #[cfg(test)]
 mod commands;
 #[cfg(test)]
+mod ends;
+#[cfg(test)]
 mod objects;
 #[cfg(test)]
 mod patterns;
 #[cfg(test)]
 mod planes;
+#[cfg(test)]
+mod refusals;
 #[cfg(test)]
 mod reports;
 #[cfg(test)]

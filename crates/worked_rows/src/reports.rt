@@ -11,7 +11,7 @@ use census_crew::gate::OpenGate;
 use census_crew::run::run;
 use census_crew::settling::settle;
 use census_crew::tally::Tally;
-use std::alloc::Global;
+use std::alloc::{AllocError, Global};
 use std::process::Abort;
 use std::sync::Wait;
 use std::test::Fail;
@@ -114,12 +114,38 @@ close 1 3 3 0 0
 end 2 3
 ";
 
-// The result of an arrival, under the bound 10.
+// A collector under the bound 10. Where memory is refused it is made again.
+fn collector_of<'a>(alloc: Global, bundle: &'a Bundle) -> Result<Collector<'a>, AllocError> {
+    match Collector::new(alloc, bundle, 10) {
+        Ok(collector) => Ok(collector),
+        Err(_) => Collector::new(alloc, bundle, 10),
+    }
+}
+
+// The result of an arrival, under the bound 10. What is refused memory is worked again.
 fn result_of<'a>(alloc: Global, bundle: &'a Bundle, arrival: &Arrival) -> Result<Done<'a>, Fail> {
     let entry = bundle
         .entry(ticket_of(arrival.worked))
         .ok_or("no such pattern")?;
-    Ok(Done::work(alloc, ticket_of(arrival.ticket), entry, 10)?)
+    let ticket = ticket_of(arrival.ticket);
+    match Done::work(alloc, ticket, entry, 10) {
+        Ok(done) => Ok(done),
+        Err(_) => Ok(Done::work(alloc, ticket, entry, 10)?),
+    }
+}
+
+// What becomes of a result. Where memory is refused nothing has changed, and the result is offered again.
+fn offered<'a>(rt: &impl Abort, collector: &mut Collector<'a>, done: Done<'a>) -> Option<Offer> {
+    let missing = collector.missing();
+    let length = collector.unsent().len();
+    match collector.offer(done) {
+        Ok(offer) => Some(offer),
+        Err(refused) => {
+            assert_eq!(rt; collector.missing(), missing);
+            assert_eq!(rt; collector.unsent().len(), length);
+            collector.offer(refused.done).ok()
+        }
+    }
 }
 
 // Whether this is the unsent text, which is sent then.
@@ -130,16 +156,16 @@ fn sends(collector: &mut Collector, text: &[u8]) -> bool {
     is_text
 }
 
+// This holds as well where any one growth is refused, which `rt try --test --fail-alloc N` does for the growth of
+// number N.
 #[test]
 fn lines_wait_for_the_patterns_before_them(rt: HostRuntime) -> Result<(), Fail> {
     let bundle = two_folders(rt.alloc())?;
-    let mut collector = Collector::new(rt.alloc(), &bundle, 10)?;
+    let mut collector = collector_of(rt.alloc(), &bundle)?;
     assert!(rt; sends(&mut collector, START));
     for arrival in ARRIVALS {
-        match collector.offer(result_of(rt.alloc(), &bundle, arrival)?) {
-            Ok(offer) => assert_eq!(rt; offer, arrival.offer),
-            Err(_) => assert!(rt; false, "want of memory"),
-        }
+        let done = result_of(rt.alloc(), &bundle, arrival)?;
+        assert_eq!(rt; offered(&rt, &mut collector, done), Some(arrival.offer));
         assert!(rt; sends(&mut collector, arrival.released));
         assert_eq!(rt; collector.missing(), arrival.missing.map(ticket_of));
     }

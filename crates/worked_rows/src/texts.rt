@@ -15,10 +15,14 @@ fn fault_number(answer: &Answer) -> Option<u8> {
     }
 }
 
-// The fault of a text, and the number by which the answer names it.
+// The fault of a text, and the number by which the answer names it. Want of memory is no fault of a text.
 fn refused(alloc: Global, text: &[u8]) -> Result<(Option<RleFault>, Option<u8>), AllocError> {
     let number = fault_number(&answer(alloc, text, 1)?);
-    Ok((read_rle(alloc, text).err(), number))
+    match read_rle(alloc, text) {
+        Ok(_) => Ok((None, number)),
+        Err(RleFault::Memory) => Err(AllocError),
+        Err(fault) => Ok((Some(fault), number)),
+    }
 }
 
 const GLIDER: &[u8] = b"x = 3, y = 3, rule = B3/S23\r\nbo$2bo$3o!";

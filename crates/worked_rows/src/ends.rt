@@ -1,0 +1,146 @@
+//! Standard input that fails, and standard output that is full, after each number of bytes.
+
+use crate::bundles::{DEMO, DEMO_REPORT};
+use census_command::dispatch::dispatch;
+use std::alloc::{AllocError, Global};
+use std::io;
+use std::io::{ErrorKind, Read, Write};
+use std::process::Abort;
+use std::rt::Files;
+use std::sync::Wait;
+use std::test::Fail;
+use std::thread::Threads;
+use watched::watched::Watched;
+
+/// Gives its bytes, and fails once they are gone.
+#[derive(Drop)]
+struct FailingReader<'a> {
+    left: &'a [u8],
+}
+
+impl<'a> Read for FailingReader<'a> {
+    fn read(&mut self, buffer: &mut [u8]) -> io::Result<usize> {
+        if self.left.is_empty() {
+            return Err(io::Error::from(ErrorKind::ConnectionReset));
+        }
+        self.left.read(buffer)
+    }
+}
+
+/// Takes bytes until it holds as many as it has room for, and fails then.
+#[derive(Drop)]
+struct FailingWriter {
+    written: Vec<u8>,
+    room: usize,
+}
+
+impl Write for FailingWriter {
+    fn write(&mut self, bytes: &[u8]) -> io::Result<usize> {
+        let left = self.room.saturating_sub(self.written.len());
+        if left == 0 {
+            return Err(io::Error::from(ErrorKind::BrokenPipe));
+        }
+        let most = bytes.len().min(left);
+        self.written.extend_from_slice(&bytes[..most])?;
+        Ok(most)
+    }
+
+    fn flush(&mut self) -> io::Result<()> {
+        Ok(())
+    }
+}
+
+const GLIDER: &[u8] = b"x = 3, y = 3, rule = B3/S23\r\nbo$2bo$3o!";
+
+// The words, standard input, and what stands on standard output where no end fails.
+type Call = (&'static [&'static str], &'static [u8], &'static [u8]);
+
+const ADVANCE: Call = (
+    &["advance", "1"],
+    GLIDER,
+    b"x = 3, y = 3, rule = B3/S23\nobo$b2o$bo!\n",
+);
+
+const DRAW: Call = (
+    &["draw", "xq4_153"],
+    b"",
+    b"x = 3, y = 3, rule = B3/S23\n3o$2bo$bo!\n",
+);
+
+const RUN: Call = (
+    &["run", "--bound", "50", "--workers", "2"],
+    DEMO,
+    DEMO_REPORT,
+);
+
+// Standard output with room for so many bytes is filled by the first of them.
+fn fills_its_room<R: Threads + Wait + Sync + Files + Alloc + Clone + Drop + Abort>(
+    rt: &R,
+    alloc: Global,
+    call: &Call,
+    room: usize,
+) -> Result<(), AllocError> {
+    let (words, text, whole) = call;
+    let mut input = Watched::new(*text);
+    let mut output = Watched::new(FailingWriter {
+        written: Vec::with_capacity(alloc, room)?,
+        room,
+    });
+    let mut errors = Watched::new(Vec::with_capacity(alloc, 30)?);
+    let status = dispatch(rt, alloc, words, &mut input, &mut output, &mut errors);
+    if status == 3 {
+        return Err(AllocError);
+    }
+    assert_eq!(rt; status, 4, "{room} bytes of room");
+    let written = output.into_inner().written;
+    assert!(rt; whole.starts_with(written.as_slice()));
+    assert_eq!(rt; written.len(), room);
+    assert_eq!(rt;
+        errors.into_inner().as_slice(),
+        b"census: write failed\n".as_slice()
+    );
+    Ok(())
+}
+
+#[test]
+fn standard_output_that_is_full_holds_the_front(rt: HostRuntime) -> Result<(), Fail> {
+    for call in [&ADVANCE, &DRAW, &RUN] {
+        for room in 0..call.2.len() {
+            fills_its_room(&rt, rt.alloc(), call, room)?;
+        }
+    }
+    Ok(())
+}
+
+// Nothing is written where standard input fails behind these bytes.
+fn writes_nothing<R: Threads + Wait + Sync + Files + Alloc + Clone + Drop + Abort>(
+    rt: &R,
+    alloc: Global,
+    words: &[&str],
+    front: &[u8],
+) -> Result<(), AllocError> {
+    let mut input = Watched::new(FailingReader { left: front });
+    let mut output = Watched::new(Vec::with_capacity(alloc, 300)?);
+    let mut errors = Watched::new(Vec::with_capacity(alloc, 30)?);
+    let status = dispatch(rt, alloc, words, &mut input, &mut output, &mut errors);
+    assert!(rt; output.into_inner().is_empty());
+    if status == 3 {
+        return Err(AllocError);
+    }
+    assert_eq!(rt; status, 4, "after {} bytes", front.len());
+    assert_eq!(rt;
+        errors.into_inner().as_slice(),
+        b"census: read failed\n".as_slice()
+    );
+    Ok(())
+}
+
+#[test]
+fn nothing_is_written_where_standard_input_fails(rt: HostRuntime) -> Result<(), Fail> {
+    for call in [&ADVANCE, &RUN] {
+        for length in 0..call.1.len() {
+            writes_nothing(&rt, rt.alloc(), call.0, &call.1[..length])?;
+        }
+    }
+    Ok(())
+}

@@ -1,0 +1,149 @@
+//! Planes, bundles and feeds that may be refused memory.
+//!
+//! With memory to spare these tests see whole answers. They hold as well where any one growth is refused, which
+//! `rt try --test --fail-alloc N` does for the growth of number N: what was refused is as it was, and the same call
+//! again gives the answer.
+
+use crate::bundles::{BLINKER, BLOCK, DEMO, folder_of};
+use census_bundle::bundle::{AddFault, Bundle};
+use census_bundle::fault::BundleFault;
+use census_bundle::reading::read_bundle;
+use census_bundle::ticket::Ticket;
+use census_feed::handles::Feed;
+use life_cells::cell_list::CellList;
+use life_cells::rule::Rule;
+use life_plane::list_plane::ListPlane;
+use life_plane::plane::{AGE_LIMIT, Plane};
+use life_tile::TilePlane;
+use std::alloc::{AllocError, Global};
+use std::process::Abort;
+use std::test::Fail;
+
+// A glider across the corner of four tiles, and the same after four generations.
+const GLIDER: &[(i32, i32)] = &[(63, 62), (64, 63), (62, 64), (63, 64), (64, 64)];
+
+const LATER: &[(i32, i32)] = &[(64, 63), (65, 64), (63, 65), (64, 65), (65, 65)];
+
+// The cells of a plane, which may be refused once.
+fn cells_of<P: Plane>(plane: &P) -> Result<CellList, AllocError> {
+    match plane.cells() {
+        Ok(cells) => Ok(cells),
+        Err(_) => plane.cells(),
+    }
+}
+
+fn a_glider_goes_on<P: Plane>(rt: &impl Abort, alloc: Global) -> Result<(), Fail> {
+    let list = CellList::of(alloc, GLIDER)?;
+    assert!(rt; list.fits());
+    let mut plane = match P::from_cells(alloc, &list) {
+        Ok(plane) => plane,
+        Err(_) => P::from_cells(alloc, &list)?,
+    };
+    for age in 0..4 {
+        let before = cells_of(&plane)?;
+        assert!(rt; plane.age() < AGE_LIMIT);
+        if plane.step(&Rule::life()).is_err() {
+            assert_eq!(rt; plane.age(), age);
+            assert_eq!(rt; cells_of(&plane)?.as_slice(), before.as_slice());
+            assert!(rt; plane.age() < AGE_LIMIT);
+            plane.step(&Rule::life())?;
+        }
+    }
+    let copy = match plane.copy() {
+        Ok(copy) => copy,
+        Err(_) => plane.copy()?,
+    };
+    for made in [&plane, &copy] {
+        assert_eq!(rt; made.age(), 4);
+        assert_eq!(rt; cells_of(made)?.as_slice(), LATER);
+    }
+    Ok(())
+}
+
+#[test]
+fn a_glider_goes_on_on_the_list_plane(rt: HostRuntime) -> Result<(), Fail> {
+    a_glider_goes_on::<ListPlane>(&rt, rt.alloc())
+}
+
+#[test]
+fn a_glider_goes_on_on_the_tile_plane(rt: HostRuntime) -> Result<(), Fail> {
+    a_glider_goes_on::<TilePlane>(&rt, rt.alloc())
+}
+
+// Whether the first folder has these patterns and no more.
+fn holds(bundle: &Bundle, patterns: &[(&[u8], &[u8])]) -> bool {
+    let [folder] = bundle.folders() else {
+        return false;
+    };
+    let entries = folder.entries.as_slice();
+    entries.len() == patterns.len()
+        && entries.iter().zip(patterns).all(|(entry, (name, text))| {
+            entry.name.as_slice() == *name && entry.text.as_slice() == *text
+        })
+}
+
+#[test]
+fn a_bundle_that_is_refused_memory_is_as_it_was(rt: HostRuntime) -> Result<(), Fail> {
+    let patterns: [(&[u8], &[u8]); 2] = [(b"a", BLOCK), (b"b", BLINKER)];
+    let mut bundle = Bundle::empty(rt.alloc());
+    if let Err(fault) = bundle.add_folder(b"f") {
+        assert_eq!(rt; fault, AddFault::Memory);
+        assert!(rt; bundle.folders().is_empty());
+        bundle.add_folder(b"f")?;
+    }
+    for (count, (name, text)) in patterns.iter().enumerate() {
+        if let Err(fault) = bundle.add_entry(name, text) {
+            assert_eq!(rt; fault, AddFault::Memory);
+            assert!(rt; holds(&bundle, &patterns[..count]));
+            bundle.add_entry(name, text)?;
+        }
+    }
+    assert!(rt; holds(&bundle, &patterns));
+    Ok(())
+}
+
+#[test]
+fn a_bundle_text_that_is_refused_memory_can_be_read_again(rt: HostRuntime) -> Result<(), Fail> {
+    let bundle = match read_bundle(rt.alloc(), DEMO) {
+        Ok(bundle) => bundle,
+        Err(fault) => {
+            assert_eq!(rt; fault, BundleFault::Memory);
+            read_bundle(rt.alloc(), DEMO)?
+        }
+    };
+    assert!(rt;
+        holds(
+            &bundle,
+            &[
+                (b"block", b"x = 2, y = 2, rule = B3/S23\n2o$2o!\n"),
+                (b"glider", b"x = 3, y = 3, rule = B3/S23\nbo$2bo$3o!\n"),
+                (b"block2", b"x = 2, y = 2, rule = 23/3\n2o$2o!\n"),
+                (b"rpent", b"x = 3, y = 3, rule = B3/S23\nb2o$2o$bo!\n"),
+                (b"broken", b"x = 3, y = 1, rule = B3/S23\n3o\n"),
+            ]
+        )
+    );
+    Ok(())
+}
+
+#[test]
+fn a_feed_that_is_refused_memory_can_be_filled_again(rt: HostRuntime) -> Result<(), Fail> {
+    let mut bundle = folder_of(rt.alloc(), b"f", &[(b"a", BLOCK), (b"b", BLINKER)])?;
+    bundle.add_folder(b"g")?;
+    bundle.add_entry(b"c", BLOCK)?;
+    let (_feed, mut hands) = match Feed::fill(rt.alloc(), &bundle, 2) {
+        Ok(filled) => filled,
+        Err(_) => Feed::fill(rt.alloc(), &bundle, 2)?,
+    };
+    let ticket = |folder, number| Some(Ticket { folder, number });
+    for (hand, taken) in [
+        (0, ticket(1, 1)),
+        (1, ticket(1, 2)),
+        (0, ticket(2, 1)),
+        (0, None),
+        (1, None),
+    ] {
+        assert_eq!(rt; hands.get_mut(hand).and_then(|hand| hand.take(&rt)), taken);
+    }
+    Ok(())
+}
