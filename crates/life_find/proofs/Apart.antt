@@ -6,7 +6,7 @@ use Rattle.life_model.specs.Rule.{Rule}
 use Rattle.life_model.specs.Generation.{Generation}
 use Rattle.life_model.specs.Evolution.{generation}
 use Rattle.life_model.specs.Symmetry.{normal}
-use Rattle.life_model.specs.Recurrence.{RecursBy, IsPeriodAt}
+use Rattle.life_model.specs.Recurrence.{IsPeriodAt}
 use Rattle.life_model.proofs.Moves.{normal-moved}
 use Rattle.life_find.specs.Search.{IsReturn, IsWay}
 

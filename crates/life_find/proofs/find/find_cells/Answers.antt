@@ -1,4 +1,4 @@
-use Rattle.std.proofs.Common.{refl, ◌≡◌, ◌+◌, ◌≤◌, ◌∙◌, arith}
+use Rattle.std.proofs.Common.{refl, ◌+◌, ◌≤◌, ◌∙◌, arith}
 use Rattle.life_model.specs.Evolution.{generation}
 use Rattle.life_model.proofs.Recurrences.{onset-period-le}
 use Rattle.life_find.proofs.Found.{unresolved-found, recurs-found}

@@ -1,7 +1,6 @@
-use Rattle.std.proofs.Common.{◌≡◌, ◌+◌, ◌≤◌, sym, ap, subst, ◌∙◌, arith}
+use Rattle.std.proofs.Common.{◌+◌, ◌≤◌, sym, ap, subst, ◌∙◌, arith}
 use Rattle.life_model.specs.Evolution.{generation}
-use Rattle.life_model.specs.Symmetry.{moved, normal}
-use Rattle.life_model.specs.Recurrence.{IsPeriodAt}
+use Rattle.life_model.specs.Symmetry.{normal}
 use Rattle.life_model.proofs.Moves.{normal-moved}
 use Rattle.life_model.proofs.Recurrences.{generation-add, settles_by_period, Settles_from_first}
 use Rattle.life_find.specs.Search.{AreOutlines}

@@ -1,7 +1,7 @@
 use Rattle.std.proofs.Common.{◌≡◌, ◌+◌, ◌≤◌, length, sym, ap, subst, ◌∙◌, zero-add, arith}
 use Rattle.life_model.specs.Evolution.{generation}
 use Rattle.life_model.proofs.Recurrences.{generation-zero, generation-add}
-use Rattle.life_find.specs.Search.{AreOutlines, IsReturn}
+use Rattle.life_find.specs.Search.{IsReturn}
 use Rattle.life_find.proofs.Possible.{AreOutlines-first}
 use Rattle.life_find.proofs.sighting.seen_within.Goals as goal
 
