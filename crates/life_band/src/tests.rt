@@ -6,8 +6,8 @@ use crate::kernel::{Change, band};
 use crate::logic::{Count, Logic, Spread};
 use crate::row_sums::{RowSums, sums};
 use crate::window::Window;
-use life_cells::rule::{Rule, RuleFault};
 use life_bits::{Around, Tile};
+use life_cells::rule::{Rule, RuleFault};
 
 #[test]
 fn of_the_words_beside_a_row_only_the_nearest_bits_count(rt: HostRuntime) {
