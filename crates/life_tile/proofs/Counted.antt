@@ -1,5 +1,5 @@
 -- How many cells tiles hold: no cell comes twice, and they are no more than a square that holds them all.
-use Rattle.std.proofs.Common.{◌≡◌, ℕ, zero, suc, ℤ, pos, ◌+ℤ◌, ◌*ℤ◌, ◌+◌, ◌<◌, ◌^◌, ◌%◌, ◌==◌, ⊎_elim, Bool, true, false, cond, List, [], ◌∷◌, length, length-append, slice_index, refl, sym, ap, ◌∙◌, arith, eqb-true, eq-eqb, true≢false}
+use Rattle.std.proofs.Common.{◌≡◌, ℕ, zero, suc, ℤ, pos, ◌+ℤ◌, ◌+◌, ◌<◌, ◌^◌, ◌%◌, ◌==◌, ⊎_elim, Bool, true, false, cond, List, [], ◌∷◌, length, length-append, slice_index, refl, sym, ap, ◌∙◌, arith, eqb-true, eq-eqb, true≢false}
 use Rattle.std.specs.Int.{bit_at}
 use Rattle.std.specs.Int.RustNames.{count_ones}
 use Rattle.std.specs.FinMap as finmap
@@ -10,8 +10,7 @@ use Rattle.life_model.specs.Cell.{Cell, cell_cmp}
 use Rattle.life_model.specs.Generation.{Generation, contains, empty, insert, from_list, size}
 use Rattle.life_model.proofs.Cells.{cell_cmp_total}
 use Rattle.life_model.proofs.Generations.{contains-from_list}
-use Rattle.life_bits.specs.declared.tile.Tile.{Tile}
-use Rattle.life_tile.specs.Cells.{row_cells, block_cells, tiles_cells}
+use Rattle.life_tile.specs.Cells.{row_cells, block_cells}
 use Rattle.life_tile.proofs.Orders.{true_or_false}
 use Rattle.life_tile.proofs.Members.{Has}
 use Rattle.life_tile.proofs.Splits.{not_one}
@@ -109,22 +108,15 @@ pub counted_none : (rows : List ℕ) (left top : ℤ) → 0 ≡ length (block_ce
 unfolding block_cells
 counted_none rows left top = refl
 
--- one tile more counted
-length-tiles_cells : (e : (ℤ × ℤ) × Tile) (es : List ((ℤ × ℤ) × Tile)) →
-    length (tiles_cells (e ∷ es)) ≡ length (block_cells (pos 64 *ℤ e.0.0) (pos 64 *ℤ e.0.1) e.1.rows 64) + length (tiles_cells es)
-unfolding tiles_cells
-length-tiles_cells e es = length-append (block_cells (pos 64 *ℤ e.0.0) (pos 64 *ℤ e.0.1) e.1.rows 64) (tiles_cells es)
-
-pub length-tiles_none : (es : List ((ℤ × ℤ) × Tile)) → es ≡ [] → length (tiles_cells es) ≡ 0
-unfolding tiles_cells
-length-tiles_none es none = ap (λ (ds : List ((ℤ × ℤ) × Tile)). length (tiles_cells ds)) none
-
--- one tile more counted: what has been counted and what is left are all cells
-pub tiles_counted : (e : (ℤ × ℤ) × Tile) (all rest : List ((ℤ × ℤ) × Tile)) (count tile whole : ℕ) → all ≡ e ∷ rest →
-    ((left top : ℤ) → tile ≡ length (block_cells left top e.1.rows 64)) →
-    count + length (tiles_cells all) ≡ whole → count + tile + length (tiles_cells rest) ≡ whole
-tiles_counted e all rest count tile whole is counts before =
-    let here : tile ≡ length (block_cells (pos 64 *ℤ e.0.0) (pos 64 *ℤ e.0.1) e.1.rows 64) = counts (pos 64 *ℤ e.0.0) (pos 64 *ℤ e.0.1) in
-    let more : length (tiles_cells all) ≡ length (block_cells (pos 64 *ℤ e.0.0) (pos 64 *ℤ e.0.1) e.1.rows 64) + length (tiles_cells rest) =
-    ap (λ (es : List ((ℤ × ℤ) × Tile)). length (tiles_cells es)) is ∙ length-tiles_cells e rest in
-    omega arith
+-- a tile has as many cells wherever it stands
+pub length-block : (left top : ℤ) (rows : List ℕ) (n : ℕ) → length (block_cells left top rows n) ≡ length (block_cells (pos 0) (pos 0) rows n)
+unfolding block_cells
+length-block left top rows zero = refl
+length-block left top rows (suc n) =
+    let word : ℕ = slice_index rows n in
+    let row : length (row_cells left (top +ℤ pos n) word 64) ≡ length (row_cells (pos 0) (pos 0 +ℤ pos n) word 64) =
+    length-row_cells left (top +ℤ pos n) word 64 ∙ sym (length-row_cells (pos 0) (pos 0 +ℤ pos n) word 64) in
+    let rest : length (block_cells left top rows n) ≡ length (block_cells (pos 0) (pos 0) rows n) = length-block left top rows n in
+    length-append (row_cells left (top +ℤ pos n) word 64) (block_cells left top rows n)
+    ∙ (λ i. row i + rest i)
+    ∙ sym (length-append (row_cells (pos 0) (pos 0 +ℤ pos n) word 64) (block_cells (pos 0) (pos 0) rows n))

@@ -21,3 +21,7 @@ pub mod Advanced
 pub mod Put
 pub mod Listed
 pub mod Sizes
+pub mod EndBits
+pub mod EndCells
+pub mod Edges
+pub mod Placed

@@ -47,12 +47,12 @@ pub has_none : (q : ℤ × ℤ) → Has [] q → ⊥
 unfolding Has
 has_none q is = absurd (cc)
 
-has_front : (q : ℤ × ℤ) (xs ys : List (ℤ × ℤ)) → Has xs q → Has (xs ++ ys) q
+pub has_front : (q : ℤ × ℤ) (xs ys : List (ℤ × ℤ)) → Has xs q → Has (xs ++ ys) q
 has_front q [] ys is = absurd (has_none q is)
 has_front q (x ∷ xs) ys is =
     ⊎_elim (λ first. subst (λ (p : ℤ × ℤ). Has (p ∷ (xs ++ ys)) q) first (has_head q (xs ++ ys))) (λ later. has_tail x q (xs ++ ys) (has_front q xs ys later)) (has_cases x q xs is)
 
-has_back : (q : ℤ × ℤ) (xs ys : List (ℤ × ℤ)) → Has ys q → Has (xs ++ ys) q
+pub has_back : (q : ℤ × ℤ) (xs ys : List (ℤ × ℤ)) → Has ys q → Has (xs ++ ys) q
 has_back q [] ys is = is
 has_back q (x ∷ xs) ys is = has_tail x q (xs ++ ys) (has_back q xs ys is)
 

@@ -1,29 +1,18 @@
 -- How many cells tiles hold: no cell comes twice, and they are no more than a square that holds them all.
-use Rattle.std.proofs.Common.{◌≡◌, ℕ, zero, suc, ℤ, pos, negsuc, ◌+ℤ◌, ◌*ℤ◌, ◌≤ℤ◌, ◌<ℤ◌, ◌+◌, ◌<◌, ◌≤◌, ◌^◌, ◌==◌, ◌⊎◌, inl, inr, ⊎_elim, Bool, true, false, cond, ◌&&◌, T, List, [], ◌∷◌, ◌++◌, Ordering, Less, Equal, Greater, length, slice_index, refl, sym, subst, ap, ◌∙◌, arith}
+use Rattle.std.proofs.Common.{◌≡◌, ℕ, zero, suc, ℤ, pos, negsuc, ◌+ℤ◌, ◌*ℤ◌, ◌≤ℤ◌, ◌<ℤ◌, ◌<◌, ◌≤◌, ◌^◌, ◌==◌, ◌⊎◌, inl, inr, ⊎_elim, Bool, true, false, cond, ◌&&◌, T, List, [], ◌∷◌, ◌++◌, Ordering, Less, Equal, Greater, length, slice_index, refl, sym, subst, ap, ◌∙◌, arith}
 use Rattle.std.specs.Int.{bit_at}
 use Rattle.std.specs.Ordering.{is_lt, int_cmp, ordering_then, MatchOrdering}
-use Rattle.std.specs.Cmp.{int_ranks, tied_itself}
-use Rattle.std.specs.Map.{keys_of}
-use Rattle.std.specs.List.{AllByRecursion}
-use Rattle.std.specs.List.Sorted.{IsStrictlySortedBy}
-use Rattle.std.specs.BTreeMap.{IsOrdered}
+use Rattle.std.specs.Cmp.{int_ranks}
 use Rattle.std.proofs.lemmas.Int.{ints}
-use Rattle.std.proofs.lemmas.Map.Keys.{sorted_head, sorted_tail}
 use Rattle.life_model.specs.Cell.{Cell, cell_cmp}
 use Rattle.life_model.specs.Generation.{Generation, contains, cells, size, below_all, is_rising}
 use Rattle.life_model.proofs.Generations.{contains-cells, cells-rise, size-cells}
 use Rattle.life_cells.specs.Limits.{IsWithin}
-use Rattle.life_bits.specs.declared.tile.Tile.{Tile}
-use Rattle.life_tile.specs.Places.{place_cmp}
-use Rattle.life_tile.specs.Cells.{row_cells, block_cells, tiles_cells}
-use Rattle.life_tile.proofs.Orders.{place_total}
+use Rattle.life_tile.specs.Cells.{row_cells, block_cells}
 use Rattle.life_tile.proofs.Members.{Has, has_none, has_head, has_tail, has_cases, has_parts, RowHas, row_has, BlockHas, block_has}
-use Rattle.life_tile.proofs.Splits.{same_quotient}
-use Rattle.life_tile.proofs.Counted.{IsFresh, size-fresh, length-tiles_none, tiles_counted}
-use Rattle.life_tile.specs.Slots.{Index, tile_of, shown, generation_shown}
-use Rattle.life_tile.proofs.Listed.{shown_more, shown_none}
+use Rattle.life_tile.proofs.Counted.{IsFresh}
 
-fresh-append : (xs ys : List Cell) → IsFresh xs → IsFresh ys → ((q : Cell) → Has xs q → Has ys q → ⊥) → IsFresh (xs ++ ys)
+pub fresh-append : (xs ys : List Cell) → IsFresh xs → IsFresh ys → ((q : Cell) → Has xs q → Has ys q → ⊥) → IsFresh (xs ++ ys)
 fresh-append [] ys one other apart = other
 fresh-append (x ∷ xs) ys one other apart = (
   λ has. ⊎_elim (λ front. one.0 front) (λ back. apart x (has_head x xs) back) (has_parts x xs ys has),
@@ -49,7 +38,7 @@ fresh_row left y word (suc n) =
       | false ↦ fresh_row left y word n
     ]
 
-fresh_block : (left top : ℤ) (rows : List ℕ) (n : ℕ) → IsFresh (block_cells left top rows n)
+pub fresh_block : (left top : ℤ) (rows : List ℕ) (n : ℕ) → IsFresh (block_cells left top rows n)
 unfolding block_cells
 fresh_block left top rows zero = tt
 fresh_block left top rows (suc n) =
@@ -63,55 +52,21 @@ fresh_block left top rows (suc n) =
     let never : n ≡ b.i = omega (arith, ints) in
     omega arith)
 
-abbrev tile_block : (ℤ × ℤ) × Tile → List Cell
-tile_block e = block_cells (pos 64 *ℤ e.0.0) (pos 64 *ℤ e.0.1) e.1.rows 64
-
--- a cell of two tiles is one of one place
-one_place : (e f : (ℤ × ℤ) × Tile) (q : Cell) → Has (tile_block e) q → Has (tile_block f) q → e.0 ≡ f.0
-one_place e f q in_e in_f =
-    let a : BlockHas (pos 64 *ℤ e.0.0) (pos 64 *ℤ e.0.1) e.1.rows 64 q = block_has (pos 64 *ℤ e.0.0) (pos 64 *ℤ e.0.1) e.1.rows 64 q in_e in
-    let b : BlockHas (pos 64 *ℤ f.0.0) (pos 64 *ℤ f.0.1) f.1.rows 64 q = block_has (pos 64 *ℤ f.0.0) (pos 64 *ℤ f.0.1) f.1.rows 64 q in_f in
-    let is : (pos 64 *ℤ e.0.0 +ℤ pos a.row.j, pos 64 *ℤ e.0.1 +ℤ pos a.i) ≡ (pos 64 *ℤ f.0.0 +ℤ pos b.row.j, pos 64 *ℤ f.0.1 +ℤ pos b.i) = sym a.row.is ∙ b.row.is in
-    let across : e.0.0 ≡ f.0.0 = same_quotient e.0.0 f.0.0 a.row.j b.row.j a.row.inside b.row.inside (ap (λ (c : Cell). c.0) is) in
-    let down : e.0.1 ≡ f.0.1 = same_quotient e.0.1 f.0.1 a.i b.i a.inside b.inside (ap (λ (c : Cell). c.1) is) in
-    λ i. (across i, down i)
-
-elsewhere : (e : (ℤ × ℤ) × Tile) (es : List ((ℤ × ℤ) × Tile)) → AllByRecursion (λ p. place_cmp e.0 p ≡ Less) (keys_of es) →
-    (q : Cell) → Has (tile_block e) q → Has (tiles_cells es) q → ⊥
-unfolding tiles_cells
-elsewhere e [] later q in_e in_rest = has_none q in_rest
-elsewhere e (f ∷ fs) later q in_e in_rest =
-    ⊎_elim
-    (λ here.
-    let never : Equal ≡ Less = sym (tied_itself place_total e.0) ∙ ap (place_cmp e.0) (one_place e f q in_e here) ∙ later.0 in
-    absurd (cc))
-    (λ rest. elsewhere e fs later.1 q in_e rest)
-    (has_parts q (tile_block f) (tiles_cells fs) in_rest)
-
-fresh_tiles : (es : List ((ℤ × ℤ) × Tile)) → IsStrictlySortedBy place_cmp (keys_of es) → IsFresh (tiles_cells es)
-unfolding tiles_cells
-fresh_tiles [] ordered = tt
-fresh_tiles (e ∷ es) ordered =
-    fresh-append (tile_block e) (tiles_cells es)
-    (fresh_block (pos 64 *ℤ e.0.0) (pos 64 *ℤ e.0.1) e.1.rows 64)
-    (fresh_tiles es (sorted_tail place_cmp e.0 (keys_of es) ordered))
-    (elsewhere e es (sorted_head place_cmp e.0 (keys_of es) ordered))
-
 -- ---- how many cells there can be
 
 -- a place in the reading order of a square that is 16,777,216 wide
 abbrev rank : Cell → ℤ
 rank c = c.1 *ℤ pos 16777216 +ℤ c.0
 
-lesser : (r s : Ordering) → ordering_then r s ≡ Less → (r ≡ Less) ⊎ ((r ≡ Equal) × (s ≡ Less))
+pub lesser : (r s : Ordering) → ordering_then r s ≡ Less → (r ≡ Less) ⊎ ((r ≡ Equal) × (s ≡ Less))
 lesser Less s e = inl refl
 lesser Equal s e = inr (refl, e)
 lesser Greater s e = absurd (cc)
 
-int_less : (x y : ℤ) → int_cmp x y ≡ Less → x <ℤ y
+pub int_less : (x y : ℤ) → int_cmp x y ≡ Less → x <ℤ y
 int_less x y e = subst (λ (r : Ordering). MatchOrdering r (x <ℤ y) (x ≡ y) (y <ℤ x)) e (int_ranks x y)
 
-int_same : (x y : ℤ) → int_cmp x y ≡ Equal → x ≡ y
+pub int_same : (x y : ℤ) → int_cmp x y ≡ Equal → x ≡ y
 int_same x y e = subst (λ (r : Ordering). MatchOrdering r (x <ℤ y) (x ≡ y) (y <ℤ x)) e (int_ranks x y)
 
 rank_rises : (age : ℕ) (a b : Cell) → age ≤ 4194304 → IsWithin age a → IsWithin age b → cell_cmp a b ≡ Less → (rank a +ℤ pos 1) ≤ℤ rank b
@@ -121,7 +76,7 @@ rank_rises age a b young in_a in_b less =
     (λ beside. let same : a.1 ≡ b.1 = int_same a.1 b.1 beside.0 in let across : a.0 <ℤ b.0 = int_less a.0 b.0 beside.1 in omega (arith, ints))
     (lesser (int_cmp a.1 b.1) (int_cmp a.0 b.0) less)
 
-both_hold : (a b : Bool) → T (a && b) → T a × T b
+pub both_hold : (a b : Bool) → T (a && b) → T a × T b
 both_hold true b h = (tt, h)
 both_hold false b h = absurd h
 
@@ -130,7 +85,7 @@ less_is Less h = refl
 less_is Equal h = absurd h
 less_is Greater h = absurd h
 
-below_has : (c : Cell) (cs : List Cell) → T (below_all c cs) → (q : Cell) → Has cs q → cell_cmp c q ≡ Less
+pub below_has : (c : Cell) (cs : List Cell) → T (below_all c cs) → (q : Cell) → Has cs q → cell_cmp c q ≡ Less
 below_has c [] below q has = absurd (has_none q has)
 below_has c (d ∷ ds) below q has =
     let parts = both_hold (is_lt (cell_cmp c d)) (below_all c ds) below in
@@ -155,7 +110,7 @@ few_from age young (c ∷ cs) rising within low below least =
     one_more : (low here : ℤ) (n : ℕ) → low ≤ℤ here → ((here +ℤ pos 1) +ℤ pos n) ≤ℤ pos 90000000000000 → (low +ℤ pos (suc n)) ≤ℤ pos 90000000000000
     one_more low here n first rest = omega (arith, ints)
 
-member_has : (G : Generation) (q : Cell) → Has (cells G) q → contains G q ≡ true
+pub member_has : (G : Generation) (q : Cell) → Has (cells G) q → contains G q ≡ true
 unfolding Has
 member_has G q has = contains-cells G q ∙ has
 
@@ -164,16 +119,6 @@ lowest age q young within = omega (arith, ints, within.left, within.above)
 
 few_cells : (n : ℕ) → (negsuc 80000000000000 +ℤ pos n) ≤ℤ pos 90000000000000 → n < 2 ^ 64
 few_cells n few = omega (arith, ints)
-
-keys-shown : (es : List ((ℤ × ℤ) × ℕ)) (tiles : List Tile) → keys_of (shown es tiles) ≡ keys_of es
-keys-shown [] tiles = refl
-keys-shown (e ∷ es) tiles = ap (λ (ks : List (ℤ × ℤ)). e.0 ∷ ks) (keys-shown es tiles)
-
-pub size_shown : (index : Index) (tiles : List Tile) → IsOrdered place_cmp index → size (generation_shown index tiles) ≡ length (tiles_cells (shown index.entries tiles))
-unfolding generation_shown
-size_shown index tiles ordered =
-    size-fresh (tiles_cells (shown index.entries tiles))
-    (fresh_tiles (shown index.entries tiles) (subst (λ (ks : List (ℤ × ℤ)). IsStrictlySortedBy place_cmp ks) (sym (keys-shown index.entries tiles)) ordered))
 
 pub size_fits : (G : Generation) (age : ℕ) → age ≤ 4194304 → ((q : Cell) → contains G q ≡ true → IsWithin age q) → size G < 2 ^ 64
 size_fits G age young each =
@@ -184,13 +129,3 @@ size_fits G age young each =
     let is : size G ≡ length (cells G) = size-cells G in
     let small : length (cells G) < 2 ^ 64 = few_cells (length (cells G)) few in
     omega arith
-
--- one slot more counted: what has been counted and what is left are all cells
-pub slots_counted : (e : (ℤ × ℤ) × ℕ) (tiles : List Tile) (all rest : List ((ℤ × ℤ) × ℕ)) (count tile whole : ℕ) → all ≡ e ∷ rest →
-    ((left top : ℤ) → tile ≡ length (block_cells left top (tile_of tiles e.1).rows 64)) →
-    count + length (tiles_cells (shown all tiles)) ≡ whole → count + tile + length (tiles_cells (shown rest tiles)) ≡ whole
-slots_counted e tiles all rest count tile whole is counts before =
-    tiles_counted (e.0, tile_of tiles e.1) (shown all tiles) (shown rest tiles) count tile whole (shown_more tiles all e rest is) counts before
-
-pub length-shown_none : (tiles : List Tile) (es : List ((ℤ × ℤ) × ℕ)) → es ≡ [] → length (tiles_cells (shown es tiles)) ≡ 0
-length-shown_none tiles es none = length-tiles_none (shown es tiles) (shown_none tiles es none)

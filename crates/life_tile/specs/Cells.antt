@@ -1,5 +1,5 @@
 -- The cells of tiles at their places.
-use Rattle.std.specs.Prelude.{ℕ, zero, suc, ℤ, pos, ◌+ℤ◌, ◌*ℤ◌, ◌==◌, List, [], ◌∷◌, ◌++◌, slice_index, if◌then◌else◌}
+use Rattle.std.specs.Prelude.{ℕ, zero, suc, ℤ, pos, ◌+ℤ◌, ◌*ℤ◌, ◌==◌, List, [], ◌∷◌, ◌++◌, length, slice_index, if◌then◌else◌}
 use Rattle.std.specs.Int.{bit_at}
 use Rattle.life_model.specs.Cell.{Cell}
 use Rattle.life_bits.specs.declared.tile.Tile.{Tile}
@@ -19,3 +19,7 @@ block_cells left top rows (suc n) = row_cells left (top +ℤ pos n) (slice_index
 unfoldable pub tiles_cells : List (Cell × Tile) → List Cell
 tiles_cells [] = []
 tiles_cells (e ∷ es) = block_cells (pos 64 *ℤ e.0.0) (pos 64 *ℤ e.0.1) e.1.rows 64 ++ tiles_cells es
+
+-- how many cells of a tile are live
+abbrev pub tile_count : Tile → ℕ
+tile_count tile = length (block_cells (pos 0) (pos 0) tile.rows 64)

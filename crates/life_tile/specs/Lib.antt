@@ -4,3 +4,4 @@ pub mod Slots
 pub mod Rims
 pub mod Work
 pub mod Slabs
+pub mod Ends

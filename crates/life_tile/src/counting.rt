@@ -1,13 +1,9 @@
 //! How many cells of tiles are live.
-ghost use Rattle.std.specs.Prelude.{◌≡◌, ℕ, ℤ, ◌<◌, ◌≤◌, ◌^◌, Some, length};
-ghost use Rattle.std.specs.BTreeMap.{get};
-ghost use Rattle.life_tile.specs.Places.{place_cmp};
-ghost use Rattle.life_tile.specs.Slots.{shown};
-ghost use Rattle.life_tile.specs.Cells.{row_cells, block_cells, tiles_cells};
+ghost use Rattle.std.specs.Prelude.{◌≡◌, ℤ, ◌<◌, ◌≤◌, ◌^◌, length};
+ghost use Rattle.std.specs.List.{sum_by};
+ghost use Rattle.life_tile.specs.Cells.{row_cells, block_cells, tile_count};
 
-use crate::listing::tile_in;
 use life_bits::Tile;
-use std::collections::BTreeMap;
 
 /// How many cells of a row are live.
 fn count_row(row: u64) -> u64
@@ -28,15 +24,14 @@ fn count_tile(tile: &Tile) -> u64
     count
 }
 
-/// How many cells of the tiles of all slots of an index are live.
-pub fn count_cells(index: &BTreeMap<(i32, i32), usize>, tiles: &[Tile]) -> u64
-    requires slots { (p : ℤ × ℤ) (k : ℕ) → get place_cmp index.now p ≡ Some k → k < length tiles.now }
-    requires few { length (tiles_cells (shown index.now.entries tiles.now)) < 2 ^ 64 }
-    ensures { result ≡ length (tiles_cells (shown index.now.entries tiles.now)) }
+/// How many cells of tiles are live.
+pub fn count_cells(tiles: &[Tile]) -> u64
+    requires { sum_by tile_count tiles.now < 2 ^ 64 }
+    ensures { result ≡ sum_by tile_count tiles.now }
 {
     let mut count = 0;
-    for (_place, slot) in index.iter() {
-        count += count_tile(tile_in(tiles, *slot));
+    for tile in tiles {
+        count += count_tile(tile);
     }
     count
 }

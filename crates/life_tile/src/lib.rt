@@ -3,6 +3,7 @@
 
 mod bands;
 mod counting;
+mod ends;
 mod listing;
 mod plane;
 mod rim;

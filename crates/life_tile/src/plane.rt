@@ -7,6 +7,7 @@ use life_cells::cell_list::CellList;
 use life_cells::order::put_in_order;
 use life_cells::rule::Rule;
 use life_plane::plane::Plane;
+use life_plane::span::move_between;
 use std::alloc::{AllocError, Global};
 use std::marker::Model;
 
@@ -86,6 +87,13 @@ impl Plane for TilePlane {
         let mut cells = self.slab.cells()?;
         put_in_order(&mut cells);
         Ok(CellList::from_ordered(cells))
+    }
+
+    fn span(&self) -> Result<(i32, i32), AllocError> {
+        Ok(match self.slab.ends() {
+            Some(ends) => move_between(ends.first, ends.last),
+            None => (0, 0),
+        })
     }
 
     fn copy(&self) -> Result<Self, AllocError> {

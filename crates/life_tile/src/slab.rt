@@ -3,11 +3,13 @@ ghost use Rattle.std.specs.Prelude.{◌≡◌, ◌≢◌, ℕ, pos, ◌+ℤ◌, 
 ghost use Rattle.life_model.specs.Evolution.{next};
 ghost use Rattle.life_model.specs.Generation.{empty, from_list, insert, size};
 ghost use Rattle.life_cells.specs.Limits.{IsWithin};
+ghost use Rattle.life_tile.specs.Ends.{AreEnds, IsMember};
 ghost use Rattle.life_tile.specs.Slots.{slot_at, place_of, link_of, tile_of, IsReached};
 ghost use Rattle.life_tile.specs.Rims.{IsRimOf, IsStill};
 
 use crate::bands::Bands;
 use crate::counting::count_cells;
+use crate::ends::{Ends, ends_of};
 use crate::listing::push_tiles;
 use crate::rim::Rim;
 use crate::slot::{HERE, Slot, connect, links_around, neighbour, slot_or_none, with_link};
@@ -333,12 +335,20 @@ impl Slab {
         Ok(cells)
     }
 
+    /// The first and the last live cell.
+    pub fn ends(&self) -> Option<Ends>
+        requires { IsKept self.now }
+        ensures { AreEnds (IsMember (members_of self.now)) result }
+    {
+        ends_of(&self.slots, &self.cur)
+    }
+
     /// How many live cells there are.
     pub fn population(&self) -> u64
         requires { IsKept self.now }
         ensures { result ≡ size (members_of self.now) }
     {
-        count_cells(&self.index, &self.cur)
+        count_cells(&self.cur)
     }
 
     /// The same cells at the same age in a slab that has no slot for a tile without a live cell.

@@ -115,6 +115,19 @@ fn two_cells_die_and_leave_nothing(rt: HostRuntime) -> Result<(), CellFault> {
     Ok(())
 }
 
+#[test]
+fn the_span_is_from_the_first_cell_to_the_last(rt: HostRuntime) -> Result<(), CellFault> {
+    let alloc = rt.alloc();
+    let glider = [(63, 62), (64, 63), (62, 64), (63, 64), (64, 64)];
+    let across_a_corner = after(alloc, &glider, &Rule::life(), 0)?;
+    assert!(rt; across_a_corner.span()? == (1, 2));
+    let far_apart = after(alloc, &[(5, 1000), (900, 3)], &Rule::life(), 0)?;
+    assert!(rt; far_apart.span()? == (-895, 997));
+    let none = after(alloc, &[(63, 63), (64, 64)], &Rule::life(), 3)?;
+    assert!(rt; none.span()? == (0, 0));
+    Ok(())
+}
+
 /// Whether the plane shows the same cells as the slow one in each of 100 generations.
 fn planes_agree(alloc: Global, text: &[u8], start: &CellList) -> Result<bool, CellFault> {
     let Ok(rule) = Rule::parse(text) else {

@@ -1,0 +1,122 @@
+//! The first and the last of the live cells, by y and then by x.
+ghost use Rattle.std.specs.Prelude.{◌≡◌, ℕ, pos, ◌+ℤ◌, ◌*ℤ◌, ◌<◌, ◌⊎◌, true, false, length, MatchOption};
+ghost use Rattle.life_tile.specs.Ends.{AreEnds, AreJoined, IsFirstIn, IsLastIn, IsLiveAt, IsLiveIn, IsNoLater, IsVoid};
+ghost use Rattle.life_tile.specs.Places.{IsInside};
+ghost use Rattle.life_tile.specs.Slots.{place_of};
+
+use crate::slot::Slot;
+use life_bits::Tile;
+
+/// The first and the last of some cells, by y and then by x.
+#[derive(Clone, Copy)]
+pub struct Ends {
+    pub first: (i32, i32),
+    pub last: (i32, i32),
+}
+
+/// Whether a cell comes before another, by y and then by x.
+fn is_before(cell: (i32, i32), other: (i32, i32)) -> bool
+    ensures before { result ≡ true → IsNoLater cell other }
+    ensures behind { result ≡ false → IsNoLater other cell }
+{
+    cell.1 < other.1 || (cell.1 == other.1 && cell.0 < other.0)
+}
+
+/// The one of two cells that comes first.
+fn earlier(a: (i32, i32), b: (i32, i32)) -> (i32, i32)
+    ensures one { (result ≡ a) ⊎ (result ≡ b) }
+    ensures before_a { IsNoLater result a }
+    ensures before_b { IsNoLater result b }
+{
+    if is_before(a, b) { a } else { b }
+}
+
+/// The one of two cells that comes last.
+fn later(a: (i32, i32), b: (i32, i32)) -> (i32, i32)
+    ensures one { (result ≡ a) ⊎ (result ≡ b) }
+    ensures behind_a { IsNoLater a result }
+    ensures behind_b { IsNoLater b result }
+{
+    if is_before(a, b) { b } else { a }
+}
+
+/// The first live cell of a tile by rows: its column and its row.
+fn first_in(tile: &Tile) -> Option<(usize, usize)>
+    ensures { MatchOption result (IsVoid tile.now) (λ at. IsFirstIn tile.now at.0 at.1) }
+{
+    for (y, row) in tile.rows.iter().enumerate() {
+        if *row != 0 {
+            return Some((row.trailing_zeros() as usize, y));
+        }
+    }
+    None
+}
+
+/// The last live cell of a tile by rows: its column and its row.
+fn last_in(tile: &Tile) -> Option<(usize, usize)>
+    ensures { MatchOption result (IsVoid tile.now) (λ at. IsLastIn tile.now at.0 at.1) }
+{
+    let mut y = 64usize;
+    while y > 0 {
+        y -= 1;
+        let row = tile.rows[y];
+        if row != 0 {
+            return Some((63 - row.leading_zeros() as usize, y));
+        }
+    }
+    None
+}
+
+/// The cell in a column and a row of the tile at a place.
+fn cell_at(place: (i32, i32), x: usize, y: usize) -> (i32, i32)
+    requires inside { IsInside place }
+    requires column { x < 64 }
+    requires row { y < 64 }
+    ensures { result ≡ ((pos 64 *ℤ place.0) +ℤ pos x, (pos 64 *ℤ place.1) +ℤ pos y) }
+{
+    (place.0 * 64 + x as i32, place.1 * 64 + y as i32)
+}
+
+impl Ends {
+    /// The ends of the live cells of the tile at a place.
+    fn of_tile(tile: &Tile, place: (i32, i32)) -> Option<Ends>
+        requires { IsInside place }
+        ensures { AreEnds (IsLiveIn tile.now place) result }
+    {
+        let (left, top) = first_in(tile)?;
+        let (right, bottom) = last_in(tile)?;
+        Some(Ends {
+            first: cell_at(place, left, top),
+            last: cell_at(place, right, bottom),
+        })
+    }
+
+    /// The ends of these cells and of others together.
+    fn joined(self, other: Ends) -> Ends
+        ensures { AreJoined self other result }
+    {
+        Ends {
+            first: earlier(self.first, other.first),
+            last: later(self.last, other.last),
+        }
+    }
+}
+
+/// The ends of the live cells of the tiles of all slots but the first.
+pub fn ends_of(slots: &[Slot], tiles: &[Tile]) -> Option<Ends>
+    requires some { 0 < length slots.now }
+    requires tiles { length tiles.now ≡ length slots.now }
+    requires inside { (k : ℕ) → 0 < k → k < length slots.now → IsInside (place_of slots.now k) }
+    ensures { AreEnds (IsLiveAt slots.now tiles.now (length slots.now)) result }
+{
+    let mut ends: Option<Ends> = None;
+    for slot in 1..slots.len() {
+        if let Some(more) = Ends::of_tile(&tiles[slot], slots[slot].place) {
+            ends = match ends {
+                Some(before) => Some(before.joined(more)),
+                None => Some(more),
+            };
+        }
+    }
+    ends
+}
