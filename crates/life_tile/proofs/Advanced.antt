@@ -1,5 +1,5 @@
 -- What a slab keeps in a step.
-use Rattle.std.proofs.Common.{◌≡◌, ℕ, ℤ, pos, ◌+ℤ◌, ◌*ℤ◌, ◌+◌, ◌/◌, ◌<◌, ⊎_elim, true, false, List, length, refl, sym, subst, ap, ◌∙◌, arith}
+use Rattle.std.proofs.Common.{◌≡◌, ℕ, ℤ, pos, ◌+ℤ◌, ◌+◌, ◌/◌, ◌<◌, ⊎_elim, true, false, List, length, refl, sym, subst, ap, ◌∙◌, arith}
 use Rattle.std.proofs.lemmas.Int.{ints}
 use Rattle.life_model.specs.Cell.{Cell, IsNear}
 use Rattle.life_model.specs.Rule.{Rule}
@@ -10,6 +10,7 @@ use Rattle.life_cells.specs.Limits.{IsWithin}
 use Rattle.life_bits.specs.declared.tile.Tile.{Tile}
 use Rattle.life_bits.specs.Flags.{as_bit}
 use Rattle.life_bits.specs.Area.{tile_cell}
+use Rattle.life_tile.specs.Places.{start_at}
 use Rattle.life_tile.proofs.Orders.{true_or_false}
 use Rattle.life_tile.specs.declared.bands.Bands.{Bands}
 use Rattle.life_tile.specs.declared.slot.Slot.{Slot}
@@ -103,7 +104,7 @@ module _ (s u : Slab) (after : List Tile) (marks marked : List Bands) (kept : Is
               ap (λ (ts : List Tile). tile_cell (tile_of ts k) x y) alt_is
               ∙ settled_again s.index s.slots.items kept.whole.indexed s.cur.items s.alt.items after s.todo.items marks marked s.rule kept.whole.cur_none kept.whole.alt_none worked
               (kept.earlier was_known) k x y later inside wide high (ap (mark_of marked k) in_band ∙ clear_mark)
-              ∙ ap (λ (ts : List Tile). state_at (next s.rule (generation_shown s.index ts)) (pos 64 *ℤ (place_of s.slots.items k).0 +ℤ pos x) (pos 64 *ℤ (place_of s.slots.items k).1 +ℤ pos y)) (sym cur_is);
+              ∙ ap (λ (ts : List Tile). state_at (next s.rule (generation_shown s.index ts)) (start_at (place_of s.slots.items k).0 +ℤ pos x) (start_at (place_of s.slots.items k).1 +ℤ pos y)) (sym cur_is);
         };
     calm = λ _. refl;
     grown = λ calm. record {

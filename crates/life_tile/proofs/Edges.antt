@@ -1,5 +1,5 @@
 -- The first and the last member of a set.
-use Rattle.std.proofs.Common.{◌≡◌, ℕ, ℤ, pos, ◌-◌, ◌+ℤ◌, ◌*ℤ◌, ◌<ℤ◌, ⊎_elim, true, T, List, [], ◌∷◌, Less, length, get_or, Option, Some, None, refl, sym, subst, ap, ◌∙◌, arith}
+use Rattle.std.proofs.Common.{◌≡◌, ℕ, ℤ, pos, ◌-◌, ◌+ℤ◌, ◌<ℤ◌, ⊎_elim, true, T, List, [], ◌∷◌, Less, length, get_or, Option, Some, None, refl, sym, subst, ap, ◌∙◌, arith}
 use Rattle.std.specs.Ordering.{int_cmp}
 use Rattle.std.proofs.lemmas.Int.{ints}
 use Rattle.life_model.specs.Cell.{Cell, cell_cmp, origin, plus, opposite}
@@ -8,6 +8,7 @@ use Rattle.life_model.proofs.Generations.{contains-cells, cells-rise}
 use Rattle.life_plane.specs.Span.{list_span, set_span}
 use Rattle.life_plane.proofs.Spans.{set_span_of_cells}
 use Rattle.life_bits.specs.Flags.{as_bit}
+use Rattle.life_tile.specs.Places.{start_at}
 use Rattle.life_tile.specs.declared.ends.Ends.{Ends}
 use Rattle.life_tile.specs.declared.slab.Slab.{Slab}
 use Rattle.life_tile.specs.Slots.{slot_at, place_of}
@@ -91,12 +92,12 @@ module _ (slab : Slab) (kept : IsKept slab) where
   member_live c is =
       let s : Split c.0 = split c.0 in
       let t : Split c.1 = split c.1 in
-      let at : c ≡ (pos 64 *ℤ s.quotient +ℤ pos s.remainder, pos 64 *ℤ t.quotient +ℤ pos t.remainder) = λ i. (s.is i, t.is i) in
-      let one : state_at members (pos 64 *ℤ s.quotient +ℤ pos s.remainder) (pos 64 *ℤ t.quotient +ℤ pos t.remainder) ≡ 1 =
+      let at : c ≡ (start_at s.quotient +ℤ pos s.remainder, start_at t.quotient +ℤ pos t.remainder) = λ i. (s.is i, t.is i) in
+      let one : state_at members (start_at s.quotient +ℤ pos s.remainder) (start_at t.quotient +ℤ pos t.remainder) ≡ 1 =
       sym (ap (λ (d : Cell). as_bit (contains members d)) at) ∙ ap as_bit is in
       ⊎_elim
       (λ absent.
-      let none : state_at members (pos 64 *ℤ s.quotient +ℤ pos s.remainder) (pos 64 *ℤ t.quotient +ℤ pos t.remainder) ≡ 0 =
+      let none : state_at members (start_at s.quotient +ℤ pos s.remainder) (start_at t.quotient +ℤ pos t.remainder) ≡ 0 =
       state_absent slab.index slab.slots.items kept.whole.indexed slab.cur.items kept.whole.cur_none (s.quotient, t.quotient) s.remainder t.remainder s.small t.small absent in
       absurd (never_both _ one none))
       (λ (there : IsSlotOf slab.slots.items (s.quotient, t.quotient) (slot_at slab.index (s.quotient, t.quotient))).
@@ -110,7 +111,7 @@ module _ (slab : Slab) (kept : IsKept slab) where
           wide = s.small;
           high = t.small;
           live = sym (shown_state slab.index slab.cur.items kept.whole.indexed.ordered kept.whole.cur_none s.quotient t.quotient s.remainder t.remainder s.small t.small) ∙ one;
-          is = at ∙ ap (λ (p : ℤ × ℤ). (pos 64 *ℤ p.0 +ℤ pos s.remainder, pos 64 *ℤ p.1 +ℤ pos t.remainder)) (sym there.place);
+          is = at ∙ ap (λ (p : ℤ × ℤ). (start_at p.0 +ℤ pos s.remainder, start_at p.1 +ℤ pos t.remainder)) (sym there.place);
         };
       })
       (slot_cases slab.index slab.slots.items kept.whole.indexed (s.quotient, t.quotient))
@@ -118,7 +119,7 @@ module _ (slab : Slab) (kept : IsKept slab) where
   pub live_member : (c : Cell) → IsLiveAt slab.slots.items slab.cur.items (length slab.slots.items) c → IsMember members c
   live_member c live =
       let here = live.here in
-      let one : state_at members (pos 64 *ℤ (place_of slab.slots.items live.k).0 +ℤ pos here.x) (pos 64 *ℤ (place_of slab.slots.items live.k).1 +ℤ pos here.y) ≡ 1 =
+      let one : state_at members (start_at (place_of slab.slots.items live.k).0 +ℤ pos here.x) (start_at (place_of slab.slots.items live.k).1 +ℤ pos here.y) ≡ 1 =
       state_of_slot slab.index slab.slots.items kept.whole.indexed slab.cur.items kept.whole.cur_none live.k live.later live.before here.x here.y here.wide here.high ∙ here.live in
       ap (contains members) here.is ∙ same_flag _ true one
 

@@ -1,10 +1,11 @@
 -- The first and the last of the cells of tiles.
-use Rattle.std.proofs.Common.{◌≡◌, ℕ, ℤ, pos, ◌+ℤ◌, ◌*ℤ◌, ◌+◌, ◌<◌, ◌≤◌, ◌⊎◌, inl, inr, ⊎_elim, List, Option, Some, None, sym, subst, subst₂, ap, ◌∙◌, arith}
+use Rattle.std.proofs.Common.{◌≡◌, ℕ, ℤ, pos, ◌+ℤ◌, ◌+◌, ◌<◌, ◌≤◌, ◌⊎◌, inl, inr, ⊎_elim, List, Option, Some, None, sym, subst, subst₂, ap, ◌∙◌, arith}
 use Rattle.std.proofs.lemmas.Bool.{cases_eq, cases_lt}
 use Rattle.std.proofs.lemmas.Int.{ints}
 use Rattle.life_model.specs.Cell.{Cell}
 use Rattle.life_bits.specs.declared.tile.Tile.{Tile}
 use Rattle.life_bits.specs.Area.{tile_cell}
+use Rattle.life_tile.specs.Places.{start_at}
 use Rattle.life_tile.specs.declared.slot.Slot.{Slot}
 use Rattle.life_tile.specs.declared.ends.Ends.{Ends}
 use Rattle.life_tile.specs.Slots.{place_of, tile_of}
@@ -28,7 +29,7 @@ later_than a b c first second = record {
 
 -- of a tile's cells by rows
 module _ (place : ℤ × ℤ) (x y p q : ℕ) where
-  cells_rise : (y < q) ⊎ ((y ≡ q) × (x ≤ p)) → IsNoLater (pos 64 *ℤ place.0 +ℤ pos x, pos 64 *ℤ place.1 +ℤ pos y) (pos 64 *ℤ place.0 +ℤ pos p, pos 64 *ℤ place.1 +ℤ pos q)
+  cells_rise : (y < q) ⊎ ((y ≡ q) × (x ≤ p)) → IsNoLater (start_at place.0 +ℤ pos x, start_at place.1 +ℤ pos y) (start_at place.0 +ℤ pos p, start_at place.1 +ℤ pos q)
   cells_rise order =
       ⊎_elim
       (λ (down : y < q). record { above = omega (arith, ints); left = λ same. absurd (omega (arith, ints)) })
@@ -58,7 +59,7 @@ last_order tile x y p q last wide high live =
     (cases_lt y q)
 
 pub tile_ends : (tile : Tile) (place : ℤ × ℤ) (left top right bottom : ℕ) (a b : Cell) → IsFirstIn tile left top → IsLastIn tile right bottom →
-    a ≡ (pos 64 *ℤ place.0 +ℤ pos left, pos 64 *ℤ place.1 +ℤ pos top) → b ≡ (pos 64 *ℤ place.0 +ℤ pos right, pos 64 *ℤ place.1 +ℤ pos bottom) →
+    a ≡ (start_at place.0 +ℤ pos left, start_at place.1 +ℤ pos top) → b ≡ (start_at place.0 +ℤ pos right, start_at place.1 +ℤ pos bottom) →
     HasEnds (IsLiveIn tile place) (record { first = a; last = b })
 tile_ends tile place left top right bottom a b first last a_is b_is = record {
   first = record { x = left; y = top; wide = first.wide; high = first.high; live = first.live; is = a_is };

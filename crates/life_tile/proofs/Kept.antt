@@ -1,5 +1,5 @@
 -- What a slab keeps as it grows.
-use Rattle.std.proofs.Common.{◌≡◌, ◌≢◌, ℕ, ℤ, pos, ◌+ℤ◌, ◌-ℤ◌, ◌*ℤ◌, ◌+◌, ◌%◌, ◌/◌, ◌<◌, ◌≤◌, ◌≤ℤ◌, ◌⊎◌, inl, inr, ⊎_elim, Bool, true, false, List, ◌++◌, length, take, drop, refl, sym, subst, ap, ◌∙◌, arith}
+use Rattle.std.proofs.Common.{◌≡◌, ◌≢◌, ℕ, ℤ, pos, ◌+ℤ◌, ◌-ℤ◌, ◌+◌, ◌%◌, ◌/◌, ◌<◌, ◌≤◌, ◌≤ℤ◌, ◌⊎◌, inl, inr, ⊎_elim, Bool, true, false, List, ◌++◌, length, take, drop, refl, sym, subst, ap, ◌∙◌, arith}
 use Rattle.std.specs.Option.{unwrap_or}
 use Rattle.std.specs.BTreeMap.{get, is_at}
 use Rattle.std.specs.Map.{keys_of, lookup}
@@ -14,7 +14,7 @@ use Rattle.life_cells.specs.Limits.{IsWithin}
 use Rattle.life_bits.specs.declared.tile.Tile.{Tile}
 use Rattle.life_bits.specs.Flags.{as_bit}
 use Rattle.life_bits.specs.Area.{tile_cell}
-use Rattle.life_tile.specs.Places.{place_cmp, IsInside}
+use Rattle.life_tile.specs.Places.{place_cmp, IsInside, start_at}
 use Rattle.life_tile.proofs.Splits.{not_one}
 use Rattle.life_tile.specs.declared.bands.Bands.{Bands}
 use Rattle.life_tile.specs.declared.slot.Slot.{Slot}
@@ -164,7 +164,7 @@ module _ (before after : Slab) (whole_before : IsSlab before) (whole_after : IsS
         ap (λ (t : Tile). tile_cell t x y) (extended.alt k inside)
         ∙ settled.cell x y wide high in_band
         ∙ sym
-        (λ i. state_at (next (extended.rule i) (members_extended i)) (pos 64 *ℤ (extended.place k inside i).0 +ℤ pos x) (pos 64 *ℤ (extended.place k inside i).1 +ℤ pos y));
+        (λ i. state_at (next (extended.rule i) (members_extended i)) (start_at (extended.place k inside i).0 +ℤ pos x) (start_at (extended.place k inside i).1 +ℤ pos y));
   }
 
   calm_extended : IsCalm after.todo.items → IsCalm before.todo.items
@@ -208,14 +208,14 @@ module _ (before after : Slab) (whole_before : IsSlab before) (whole_after : IsS
 le_or_not : (a b : ℤ) → (a ≤ℤ b) ⊎ (a ≤ℤ b → ⊥)
 le_or_not a b = by_lt_z b a (λ less. inr (λ le. omega (arith, ints))) (λ not_less. inl (omega (arith, ints)))
 
-low_side : (age side x : ℕ) (s : ℤ) → x < 64 → side < 3 → IsEdge side x → (pos 0 -ℤ pos age) ≤ℤ (pos 64 *ℤ s +ℤ pos x) → (pos 0 -ℤ pos (age + 64)) ≤ℤ (pos 64 *ℤ ((s +ℤ pos side) -ℤ pos 1))
+low_side : (age side x : ℕ) (s : ℤ) → x < 64 → side < 3 → IsEdge side x → (pos 0 -ℤ pos age) ≤ℤ (start_at s +ℤ pos x) → (pos 0 -ℤ pos (age + 64)) ≤ℤ (start_at ((s +ℤ pos side) -ℤ pos 1))
 low_side age side x s wide small edge low =
     ⊎_elim
     (λ (none : side ≡ 0). let x_is : x ≡ 0 = edge.first none in omega (arith, ints))
     (λ (some : side ≢ 0). omega (arith, ints))
     (cases_eq side 0)
 
-high_side : (age side x : ℕ) (s : ℤ) → x < 64 → side < 3 → IsEdge side x → (pos 64 *ℤ s +ℤ pos x) ≤ℤ pos (1048575 + age) → (pos 64 *ℤ ((s +ℤ pos side) -ℤ pos 1)) ≤ℤ pos (1048576 + age)
+high_side : (age side x : ℕ) (s : ℤ) → x < 64 → side < 3 → IsEdge side x → (start_at s +ℤ pos x) ≤ℤ pos (1048575 + age) → (start_at ((s +ℤ pos side) -ℤ pos 1)) ≤ℤ pos (1048576 + age)
 high_side age side x s wide small edge high =
     ⊎_elim
     (λ (two : side ≡ 2). let x_is : x ≡ 63 = edge.last two in omega (arith, ints))
@@ -231,9 +231,9 @@ module _ (s : Slab) (kept : IsKept s) (k m : ℕ) (later : 0 < k) (inside : k < 
   reached_by x y wide high edge one =
       let c : ℤ = (place_of s.slots.items k).0 in
       let r : ℤ = (place_of s.slots.items k).1 in
-      let live : contains (members_of s) (pos 64 *ℤ c +ℤ pos x, pos 64 *ℤ r +ℤ pos y) ≡ true =
+      let live : contains (members_of s) (start_at c +ℤ pos x, start_at r +ℤ pos y) ≡ true =
       flag_from_bit _ (state_of_slot s.index s.slots.items kept.whole.indexed s.cur.items kept.whole.cur_none k later inside x y wide high ∙ one) in
-      let within : IsWithin s.age (pos 64 *ℤ c +ℤ pos x, pos 64 *ℤ r +ℤ pos y) = kept.within (pos 64 *ℤ c +ℤ pos x, pos 64 *ℤ r +ℤ pos y) live in
+      let within : IsWithin s.age (start_at c +ℤ pos x, start_at r +ℤ pos y) = kept.within (start_at c +ℤ pos x, start_at r +ℤ pos y) live in
       let column_small : m % 3 < 3 = omega arith in
       let row_small : m / 3 < 3 = omega arith in
       let w = low_side s.age (m % 3) x c wide column_small edge.column (omega (arith, ints, within.left)) in

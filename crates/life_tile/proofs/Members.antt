@@ -1,5 +1,5 @@
 -- A cell is in the generation of a map of tiles exactly where its bit is set.
-use Rattle.std.proofs.Common.{◌≡◌, ◌≢◌, ℕ, zero, suc, ℤ, pos, ◌+ℤ◌, ◌*ℤ◌, ◌<◌, ◌==◌, ◌⊎◌, inl, inr, ⊎_elim, Bool, true, false, cond, ◌||◌, List, [], ◌∷◌, ◌++◌, Some, length, get_or, slice_index, refl, sym, subst, ap, ◌∙◌, arith, eqb-true, eq-eqb}
+use Rattle.std.proofs.Common.{◌≡◌, ◌≢◌, ℕ, zero, suc, ℤ, pos, ◌+ℤ◌, ◌<◌, ◌==◌, ◌⊎◌, inl, inr, ⊎_elim, Bool, true, false, cond, ◌||◌, List, [], ◌∷◌, ◌++◌, Some, length, get_or, slice_index, refl, sym, subst, ap, ◌∙◌, arith, eqb-true, eq-eqb}
 use Rattle.std.specs.Int.{bit_at}
 use Rattle.std.specs.List.{list_any}
 use Rattle.std.specs.Map.{lookup}
@@ -8,7 +8,7 @@ use Rattle.std.specs.Cmp.{Equal-is, tied_itself}
 use Rattle.std.proofs.lemmas.Bool.{cases_eq}
 use Rattle.std.specs.BTreeMap.{is_at}
 use Rattle.life_bits.specs.declared.tile.Tile.{Tile}
-use Rattle.life_tile.specs.Places.{place_cmp}
+use Rattle.life_tile.specs.Places.{place_cmp, start_at}
 use Rattle.life_model.specs.Cell.{cell_cmp, same_cell}
 use Rattle.life_model.proofs.Cells.{cell_cmp_total, cell_cmp-IsAntisymmetric}
 use Rattle.life_tile.specs.Cells.{row_cells, block_cells, tiles_cells}
@@ -142,19 +142,19 @@ block_in left top rows (suc n) i q inside has =
 pub record EntryHas (es : List ((ℤ × ℤ) × Tile)) (q : ℤ × ℤ) : Type 0 where
   pub k : ℕ
   pub inside : k < length es
-  pub block : (d : (ℤ × ℤ) × Tile) → BlockHas (pos 64 *ℤ (get_or es k d).0.0) (pos 64 *ℤ (get_or es k d).0.1) (get_or es k d).1.rows 64 q
+  pub block : (d : (ℤ × ℤ) × Tile) → BlockHas (start_at (get_or es k d).0.0) (start_at (get_or es k d).0.1) (get_or es k d).1.rows 64 q
 
 pub tiles_has : (es : List ((ℤ × ℤ) × Tile)) (q : ℤ × ℤ) → Has (tiles_cells es) q → EntryHas es q
 unfolding tiles_cells
 tiles_has [] q is = absurd (has_none q is)
 tiles_has (e ∷ es) q is =
     ⊎_elim
-    (λ here. record { k = 0; inside = omega arith; block = λ d. block_has (pos 64 *ℤ e.0.0) (pos 64 *ℤ e.0.1) e.1.rows 64 q here })
+    (λ here. record { k = 0; inside = omega arith; block = λ d. block_has (start_at e.0.0) (start_at e.0.1) e.1.rows 64 q here })
     (λ later. let r : EntryHas es q = tiles_has es q later in record { k = suc r.k; inside = (let below = r.inside in omega arith); block = r.block })
-    (has_parts q (block_cells (pos 64 *ℤ e.0.0) (pos 64 *ℤ e.0.1) e.1.rows 64) (tiles_cells es) is)
+    (has_parts q (block_cells (start_at e.0.0) (start_at e.0.1) e.1.rows 64) (tiles_cells es) is)
 
 pub tiles_in : (es : List ((ℤ × ℤ) × Tile)) (p : ℤ × ℤ) (tile : Tile) (q : ℤ × ℤ) → lookup (is_at (place_cmp p)) es ≡ Some tile →
-    Has (block_cells (pos 64 *ℤ p.0) (pos 64 *ℤ p.1) tile.rows 64) q → Has (tiles_cells es) q
+    Has (block_cells (start_at p.0) (start_at p.1) tile.rows 64) q → Has (tiles_cells es) q
 unfolding tiles_cells
 tiles_in [] p tile q found has = absurd (cc)
 tiles_in (e ∷ es) p tile q found has =
@@ -163,10 +163,10 @@ tiles_in (e ∷ es) p tile q found has =
     let same : p ≡ e.0 = place_exact p e.0 ((Equal-is (place_cmp p e.0)).0 here) in
     let value : Some e.1 ≡ Some tile = subst (λ (b : Bool). cond b (Some e.1) (lookup (is_at (place_cmp p)) es) ≡ Some tile) here found in
     let tile_is : tile ≡ e.1 = cc in
-    has_front q (block_cells (pos 64 *ℤ e.0.0) (pos 64 *ℤ e.0.1) e.1.rows 64) (tiles_cells es)
-    (subst (λ (t : Tile). Has (block_cells (pos 64 *ℤ e.0.0) (pos 64 *ℤ e.0.1) t.rows 64) q) tile_is
-    (subst (λ (r : ℤ × ℤ). Has (block_cells (pos 64 *ℤ r.0) (pos 64 *ℤ r.1) tile.rows 64) q) same has)))
+    has_front q (block_cells (start_at e.0.0) (start_at e.0.1) e.1.rows 64) (tiles_cells es)
+    (subst (λ (t : Tile). Has (block_cells (start_at e.0.0) (start_at e.0.1) t.rows 64) q) tile_is
+    (subst (λ (r : ℤ × ℤ). Has (block_cells (start_at r.0) (start_at r.1) tile.rows 64) q) same has)))
     (λ (other : is_at (place_cmp p) e.0 ≡ false).
-    has_back q (block_cells (pos 64 *ℤ e.0.0) (pos 64 *ℤ e.0.1) e.1.rows 64) (tiles_cells es)
+    has_back q (block_cells (start_at e.0.0) (start_at e.0.1) e.1.rows 64) (tiles_cells es)
     (tiles_in es p tile q (subst (λ (b : Bool). cond b (Some e.1) (lookup (is_at (place_cmp p)) es) ≡ Some tile) other found) has))
     (true_or_false (is_at (place_cmp p) e.0))

@@ -1,5 +1,5 @@
 -- The cells of the tiles of slots, one slot after another: they are the members, and no cell comes twice.
-use Rattle.std.proofs.Common.{◌≡◌, ℕ, zero, suc, ℤ, pos, ◌+ℤ◌, ◌*ℤ◌, ◌+◌, ◌<◌, ◌≤◌, ⊎_elim, Bool, true, false, List, [], ◌++◌, length, length-append, slice_index, take, refl, sym, subst, ap, ◌∙◌, arith}
+use Rattle.std.proofs.Common.{◌≡◌, ℕ, zero, suc, ℤ, pos, ◌+ℤ◌, ◌+◌, ◌<◌, ◌≤◌, ⊎_elim, Bool, true, false, List, [], ◌++◌, length, length-append, slice_index, take, refl, sym, subst, ap, ◌∙◌, arith}
 use Rattle.std.specs.List.{sum_by}
 use Rattle.std.proofs.lemmas.Bool.{cases_eq}
 use Rattle.std.proofs.lemmas.List.{take_all}
@@ -9,6 +9,7 @@ use Rattle.life_model.specs.Generation.{contains, from_list, size}
 use Rattle.life_model.proofs.Generations.{contains-from_list, same_members}
 use Rattle.life_bits.specs.declared.tile.Tile.{Tile}
 use Rattle.life_bits.specs.Area.{tile_cell}
+use Rattle.life_tile.specs.Places.{start_at}
 use Rattle.life_tile.specs.Cells.{row_cells, block_cells, tile_count}
 use Rattle.life_tile.specs.declared.slot.Slot.{Slot}
 use Rattle.life_tile.specs.declared.slab.Slab.{Slab}
@@ -30,7 +31,7 @@ both_ways false true there back = back refl
 both_ways false false there back = refl
 
 abbrev slot_cells : List Slot → List Tile → ℕ → List Cell
-slot_cells slots tiles k = block_cells (pos 64 *ℤ (place_of slots k).0) (pos 64 *ℤ (place_of slots k).1) (tile_of tiles k).rows 64
+slot_cells slots tiles k = block_cells (start_at (place_of slots k).0) (start_at (place_of slots k).1) (tile_of tiles k).rows 64
 
 -- the cells of the tiles of the slots before slot n
 abbrev slots_cells : List Slot → List Tile → ℕ → List Cell
@@ -43,7 +44,7 @@ length-slots_cells slots tiles (suc n) inside =
     let next : suc n ≡ n + 1 = omega arith in
     let below : n < length tiles = omega arith in
     let here : length (slot_cells slots tiles n) ≡ tile_count (tile_of tiles n) =
-    length-block (pos 64 *ℤ (place_of slots n).0) (pos 64 *ℤ (place_of slots n).1) (tile_of tiles n).rows 64 in
+    length-block (start_at (place_of slots n).0) (start_at (place_of slots n).1) (tile_of tiles n).rows 64 in
     let rest : length (slots_cells slots tiles n) ≡ sum_by tile_count (take n tiles) = length-slots_cells slots tiles n (omega arith) in
     let turned : tile_count (tile_of tiles n) + sum_by tile_count (take n tiles) ≡ sum_by tile_count (take n tiles) + tile_count (tile_of tiles n) = omega arith in
     length-append (slot_cells slots tiles n) (slots_cells slots tiles n)
@@ -55,14 +56,14 @@ length-slots_cells slots tiles (suc n) inside =
 module _ (slots : List Slot) (tiles : List Tile) where
   slot_live : (k : ℕ) (q : Cell) → Has (slot_cells slots tiles k) q → IsLiveIn (tile_of tiles k) (place_of slots k) q
   slot_live k q has =
-      let b : BlockHas (pos 64 *ℤ (place_of slots k).0) (pos 64 *ℤ (place_of slots k).1) (tile_of tiles k).rows 64 q =
-      block_has (pos 64 *ℤ (place_of slots k).0) (pos 64 *ℤ (place_of slots k).1) (tile_of tiles k).rows 64 q has in
+      let b : BlockHas (start_at (place_of slots k).0) (start_at (place_of slots k).1) (tile_of tiles k).rows 64 q =
+      block_has (start_at (place_of slots k).0) (start_at (place_of slots k).1) (tile_of tiles k).rows 64 q has in
       record { x = b.row.j; y = b.i; wide = b.row.inside; high = b.inside; live = b.row.set_bit; is = b.row.is }
 
   live_slot : (k : ℕ) (q : Cell) → IsLiveIn (tile_of tiles k) (place_of slots k) q → Has (slot_cells slots tiles k) q
   live_slot k q here =
-      let left : ℤ = pos 64 *ℤ (place_of slots k).0 in
-      let top : ℤ = pos 64 *ℤ (place_of slots k).1 in
+      let left : ℤ = start_at (place_of slots k).0 in
+      let top : ℤ = start_at (place_of slots k).1 in
       let rows : List ℕ = (tile_of tiles k).rows in
       block_in left top rows 64 here.y q here.high
       (subst (λ (c : Cell). Has (row_cells left (top +ℤ pos here.y) (slice_index rows here.y) 64) c) (sym here.is)
@@ -105,8 +106,8 @@ module _ (slots : List Slot) (tiles : List Tile) where
           let b : IsLiveAt slots tiles n q = has_live n q in_rest in
           let c : IsLiveIn (tile_of tiles b.k) (place_of slots b.k) q = b.here in
           let before : b.k < n = b.before in
-          let is : ◌≡◌ {A = Cell} (pos 64 *ℤ (place_of slots n).0 +ℤ pos a.x, pos 64 *ℤ (place_of slots n).1 +ℤ pos a.y)
-          (pos 64 *ℤ (place_of slots b.k).0 +ℤ pos c.x, pos 64 *ℤ (place_of slots b.k).1 +ℤ pos c.y) = sym a.is ∙ c.is in
+          let is : ◌≡◌ {A = Cell} (start_at (place_of slots n).0 +ℤ pos a.x, start_at (place_of slots n).1 +ℤ pos a.y)
+          (start_at (place_of slots b.k).0 +ℤ pos c.x, start_at (place_of slots b.k).1 +ℤ pos c.y) = sym a.is ∙ c.is in
           let across : (place_of slots n).0 ≡ (place_of slots b.k).0 = same_quotient (place_of slots n).0 (place_of slots b.k).0 a.x c.x a.wide c.wide (ap (λ (d : Cell). d.0) is) in
           let down : (place_of slots n).1 ≡ (place_of slots b.k).1 = same_quotient (place_of slots n).1 (place_of slots b.k).1 a.y c.y a.high c.high (ap (λ (d : Cell). d.1) is) in
           let same : n ≡ b.k =
@@ -118,7 +119,7 @@ module _ (slots : List Slot) (tiles : List Tile) where
       fresh_slots zero inside = tt
       fresh_slots (suc n) inside =
           fresh-append (slot_cells slots tiles n) (slots_cells slots tiles n)
-          (fresh_block (pos 64 *ℤ (place_of slots n).0) (pos 64 *ℤ (place_of slots n).1) (tile_of tiles n).rows 64)
+          (fresh_block (start_at (place_of slots n).0) (start_at (place_of slots n).1) (tile_of tiles n).rows 64)
           (fresh_slots n (omega arith))
           (one_slot n (omega arith))
 

@@ -1,5 +1,5 @@
 -- Slots and their places.
-use Rattle.std.proofs.Common.{◌≡◌, ℕ, ℤ, pos, ◌+ℤ◌, ◌-ℤ◌, ◌*ℤ◌, ◌+◌, ◌*◌, ◌%◌, ◌/◌, ◌<◌, ◌≤ℤ◌, ◌⊎◌, inl, inr, ⊎_elim, true, false, List, Option, Some, None, length, refl, sym, subst, ap, ◌∙◌, arith}
+use Rattle.std.proofs.Common.{◌≡◌, ℕ, ℤ, pos, ◌+ℤ◌, ◌-ℤ◌, ◌+◌, ◌*◌, ◌%◌, ◌/◌, ◌<◌, ◌≤ℤ◌, ◌⊎◌, inl, inr, ⊎_elim, true, false, List, Option, Some, None, length, refl, sym, subst, ap, ◌∙◌, arith}
 use Rattle.std.specs.Option.{unwrap_or}
 use Rattle.std.specs.BTreeMap.{get}
 use Rattle.std.proofs.lemmas.Int.{ints, by_lt_z}
@@ -10,7 +10,7 @@ use Rattle.life_model.proofs.Near.{next_near}
 use Rattle.life_bits.specs.declared.tile.Tile.{Tile}
 use Rattle.life_bits.specs.Flags.{as_bit}
 use Rattle.life_bits.specs.Area.{tile_cell, next_in_area}
-use Rattle.life_tile.specs.Places.{place_cmp, IsBeside}
+use Rattle.life_tile.specs.Places.{place_cmp, IsBeside, start_at}
 use Rattle.life_tile.proofs.Orders.{true_or_false}
 use Rattle.life_tile.proofs.Splits.{Split, split}
 use Rattle.life_tile.specs.declared.slot.Slot.{Slot}
@@ -29,7 +29,7 @@ pub record Side (s p : ℤ) (x : ℕ) : Type 0 where
   pub is : ((s +ℤ pos side) -ℤ pos 1) ≡ p
   pub edge : IsEdge side x
 
-side_of : (s p : ℤ) (x : ℕ) → x < 64 → IsBeside (pos 64 *ℤ s +ℤ pos x) p → Side s p x
+side_of : (s p : ℤ) (x : ℕ) → x < 64 → IsBeside (start_at s +ℤ pos x) p → Side s p x
 side_of s p x inside beside =
     let from = beside.from in
     let to = beside.to in
@@ -46,7 +46,7 @@ pub record Direction (s p : ℤ × ℤ) (x y : ℕ) : Type 0 where
   pub is : neighbour_at s m ≡ p
   pub edge : IsAtEdge m x y
 
-pub direction_of : (s p : ℤ × ℤ) (x y : ℕ) → x < 64 → y < 64 → IsBeside (pos 64 *ℤ s.0 +ℤ pos x) p.0 → IsBeside (pos 64 *ℤ s.1 +ℤ pos y) p.1 → Direction s p x y
+pub direction_of : (s p : ℤ × ℤ) (x y : ℕ) → x < 64 → y < 64 → IsBeside (start_at s.0 +ℤ pos x) p.0 → IsBeside (start_at s.1 +ℤ pos y) p.1 → Direction s p x y
 direction_of s p x y wide high beside_x beside_y =
     let a : Side s.0 p.0 x = side_of s.0 p.0 x wide beside_x in
     let b : Side s.1 p.1 y = side_of s.1 p.1 y high beside_y in
@@ -90,14 +90,14 @@ module _ (index : Index) (slots : List Slot) (whole : IsIndexed index slots) whe
   module _ (tiles : List Tile) (none : tile_of tiles 0 ≡ empty_tile) where
     -- what is at the cell of an absent place
     pub state_absent : (p : ℤ × ℤ) (x y : ℕ) → x < 64 → y < 64 → slot_at index p ≡ 0 →
-        state_at (generation_shown index tiles) (pos 64 *ℤ p.0 +ℤ pos x) (pos 64 *ℤ p.1 +ℤ pos y) ≡ 0
+        state_at (generation_shown index tiles) (start_at p.0 +ℤ pos x) (start_at p.1 +ℤ pos y) ≡ 0
     state_absent p x y wide high absent =
         shown_state index tiles whole.ordered none p.0 p.1 x y wide high
         ∙ ap (λ k. tile_cell (tile_of tiles k) x y) absent ∙ ap (λ (t : Tile). tile_cell t x y) none ∙ empty_cell x y
 
     -- what is at the cell of a slot's place
     pub state_of_slot : (k : ℕ) → 0 < k → k < length slots → (x y : ℕ) → x < 64 → y < 64 →
-        state_at (generation_shown index tiles) (pos 64 *ℤ (place_of slots k).0 +ℤ pos x) (pos 64 *ℤ (place_of slots k).1 +ℤ pos y) ≡ tile_cell (tile_of tiles k) x y
+        state_at (generation_shown index tiles) (start_at (place_of slots k).0 +ℤ pos x) (start_at (place_of slots k).1 +ℤ pos y) ≡ tile_cell (tile_of tiles k) x y
     state_of_slot k later inside x y wide high =
         shown_state index tiles whole.ordered none (place_of slots k).0 (place_of slots k).1 x y wide high
         ∙ ap (λ j. tile_cell (tile_of tiles j) x y) (slot_of_place k later inside)
@@ -108,7 +108,7 @@ module _ (index : Index) (slots : List Slot) (whole : IsIndexed index slots) whe
     -- what the links of a slot show is what is around its place
     pub next_linked : (rule : Rule) (k : ℕ) → 0 < k → k < length slots → (x y : ℕ) → x < 64 → y < 64 →
         next_in_area rule (nine_linked tiles (links_of slots k)) x y
-        ≡ state_at (next rule (generation_shown index tiles)) (pos 64 *ℤ (place_of slots k).0 +ℤ pos x) (pos 64 *ℤ (place_of slots k).1 +ℤ pos y)
+        ≡ state_at (next rule (generation_shown index tiles)) (start_at (place_of slots k).0 +ℤ pos x) (start_at (place_of slots k).1 +ℤ pos y)
     next_linked rule k later inside x y wide high =
         let c : ℤ = (place_of slots k).0 in
         let r : ℤ = (place_of slots k).1 in

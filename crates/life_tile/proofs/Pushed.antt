@@ -1,8 +1,9 @@
 -- The cells of tiles appended to a list, one after another.
-use Rattle.std.proofs.Common.{◌≡◌, ℕ, zero, suc, ℤ, pos, ◌+ℤ◌, ◌*ℤ◌, ◌==◌, Bool, false, cond, List, [], ◌∷◌, ◌++◌, slice_index, refl, sym, ap, ◌∙◌, append_assoc, eq-eqb}
+use Rattle.std.proofs.Common.{◌≡◌, ℕ, zero, suc, ℤ, pos, ◌+ℤ◌, ◌==◌, Bool, false, cond, List, [], ◌∷◌, ◌++◌, slice_index, refl, sym, ap, ◌∙◌, append_assoc, eq-eqb}
 use Rattle.std.specs.Int.{bit_at}
 use Rattle.std.proofs.lemmas.Nat.Bits.{bit_at-zero}
 use Rattle.life_bits.specs.declared.tile.Tile.{Tile}
+use Rattle.life_tile.specs.Places.{start_at}
 use Rattle.life_tile.specs.Cells.{row_cells, block_cells, tiles_cells}
 
 row_set : (left y : ℤ) (word n : ℕ) → bit_at word n ≡ 1 → row_cells left y word (suc n) ≡ (left +ℤ pos n, y) ∷ row_cells left y word n
@@ -40,12 +41,12 @@ block_pushed left top rows n m items new start next before after =
     ∙ before
 
 pub tiles_pushed : (e : (ℤ × ℤ) × Tile) (all rest : List ((ℤ × ℤ) × Tile)) (items new start : List (ℤ × ℤ)) → all ≡ e ∷ rest →
-    items ++ tiles_cells all ≡ start → new ≡ items ++ block_cells (pos 64 *ℤ e.0.0) (pos 64 *ℤ e.0.1) e.1.rows 64 →
+    items ++ tiles_cells all ≡ start → new ≡ items ++ block_cells (start_at e.0.0) (start_at e.0.1) e.1.rows 64 →
     new ++ tiles_cells rest ≡ start
 unfolding tiles_cells
 tiles_pushed e all rest items new start is before after =
     ap (λ (xs : List (ℤ × ℤ)). xs ++ tiles_cells rest) after
-    ∙ append_assoc items (block_cells (pos 64 *ℤ e.0.0) (pos 64 *ℤ e.0.1) e.1.rows 64) (tiles_cells rest)
+    ∙ append_assoc items (block_cells (start_at e.0.0) (start_at e.0.1) e.1.rows 64) (tiles_cells rest)
     ∙ sym (ap (λ (xs : List ((ℤ × ℤ) × Tile)). items ++ tiles_cells xs) is)
     ∙ before
 

@@ -1,10 +1,8 @@
 -- Cells put into a fresh slab.
-use Rattle.std.proofs.Common.{◌≡◌, ◌≢◌, ℕ, ℤ, pos, negsuc, ◌+ℤ◌, ◌*ℤ◌, ◌<◌, ◌≤◌, ◌⊎◌, inl, inr, ⊎_elim, true, false, ◌||◌, List, [], ◌∷◌, Some, None, length, sym, subst, ap, ◌∙◌, arith}
-use Rattle.std.specs.Int.{int_div_euclid, int_rem_euclid}
+use Rattle.std.proofs.Common.{◌≡◌, ◌≢◌, ℕ, ℤ, pos, ◌+ℤ◌, ◌<◌, ◌≤◌, ◌⊎◌, inl, inr, ⊎_elim, true, false, ◌||◌, List, [], ◌∷◌, Some, None, length, sym, subst, ap, ◌∙◌, arith}
 use Rattle.std.specs.Map.{lookup}
 use Rattle.std.specs.BTreeMap.{IsOrdered, get, is_at}
 use Rattle.std.proofs.lemmas.Bool.{cases_eq}
-use Rattle.std.proofs.lemmas.Int.{ints}
 use Rattle.life_model.specs.Cell.{Cell, same_cell}
 use Rattle.life_model.specs.Generation.{Generation, contains, insert, empty, from_list}
 use Rattle.life_model.proofs.Cells.{same_cell-is}
@@ -14,7 +12,7 @@ use Rattle.life_bits.specs.declared.tile.Tile.{Tile}
 use Rattle.life_bits.specs.Flags.{as_bit}
 use Rattle.life_bits.specs.Area.{tile_cell}
 use Rattle.life_tile.specs.Cells.{tiles_cells}
-use Rattle.life_tile.specs.Places.{place_cmp}
+use Rattle.life_tile.specs.Places.{place_cmp, start_at}
 use Rattle.life_tile.proofs.Orders.{true_or_false}
 use Rattle.life_tile.proofs.Inserted.{inserted_cases}
 use Rattle.life_tile.specs.declared.bands.Bands.{Bands}
@@ -26,10 +24,6 @@ use Rattle.life_tile.specs.Slabs.{state_at, IsSlotOf, IsSlab, members_of, IsCalm
 use Rattle.life_tile.proofs.Bits.{bit_cases}
 use Rattle.life_tile.proofs.Shown.{shown_state, same_states}
 use Rattle.life_tile.proofs.Places.{slot_cases, slot_of_place}
-
-pub euclid : (z : ℤ) → z ≡ (pos 64 *ℤ int_div_euclid z (pos 64) +ℤ int_rem_euclid z (pos 64))
-euclid (pos n) = omega (arith, ints)
-euclid (negsuc n) = omega (arith, ints)
 
 -- a fresh slab keeps little
 pub kept_fresh : (s : Slab) → IsSlab s → s.age ≤ 4194304 → ((c : Cell) → contains (members_of s) c ≡ true → IsWithin s.age c) →
@@ -60,20 +54,20 @@ different : (k j : ℤ × ℤ) → same_cell k j ≡ false → k ≡ j → ⊥
 different k j other same = let never : true ≡ false = sym ((same_cell-is k j).1 same) ∙ other in absurd (cc)
 
 module _ (s u : Slab) (k x y : ℕ) (place : ℤ × ℤ) (cell : Cell) (kept : IsKept s) (fresh : s.fresh ≡ true) (slot : IsSlotOf s.slots.items place k) (wide : x < 64) (high : y < 64)
-    (cell_is : cell ≡ (pos 64 *ℤ place.0 +ℤ pos x, pos 64 *ℤ place.1 +ℤ pos y)) (within : IsWithin s.age cell)
+    (cell_is : cell ≡ (start_at place.0 +ℤ pos x, start_at place.1 +ℤ pos y)) (within : IsWithin s.age cell)
     (count : length u.cur.items ≡ length s.cur.items) (here : tile_cell (tile_of u.cur.items k) x y ≡ 1)
     (others : (j a b : ℕ) → a < 64 → (j ≢ k) ⊎ ((a ≢ x) ⊎ (b ≢ y)) → tile_cell (tile_of u.cur.items j) a b ≡ tile_cell (tile_of s.cur.items j) a b)
     (none : tile_of u.cur.items 0 ≡ empty_tile) where
   at_slot : slot_at s.index place ≡ k
   at_slot = ap (slot_at s.index) (sym slot.place) ∙ slot_of_place s.index s.slots.items kept.whole.indexed k slot.later slot.inside
 
-  live_now : state_at (generation_shown s.index u.cur.items) (pos 64 *ℤ place.0 +ℤ pos x) (pos 64 *ℤ place.1 +ℤ pos y) ≡ 1
+  live_now : state_at (generation_shown s.index u.cur.items) (start_at place.0 +ℤ pos x) (start_at place.1 +ℤ pos y) ≡ 1
   live_now =
       shown_state s.index u.cur.items kept.whole.indexed.ordered none place.0 place.1 x y wide high
       ∙ ap (λ j. tile_cell (tile_of u.cur.items j) x y) at_slot ∙ here
 
   same_else : (column row : ℤ) (a b : ℕ) → a < 64 → b < 64 →
-      (◌≡◌ {A = ℤ × ℤ} (pos 64 *ℤ column +ℤ pos a, pos 64 *ℤ row +ℤ pos b) cell → ⊥) →
+      (◌≡◌ {A = ℤ × ℤ} (start_at column +ℤ pos a, start_at row +ℤ pos b) cell → ⊥) →
       tile_cell (tile_of u.cur.items (slot_at s.index (column, row))) a b ≡ tile_cell (tile_of s.cur.items (slot_at s.index (column, row))) a b
   same_else column row a b a_wide b_high apart =
       others (slot_at s.index (column, row)) a b a_wide
@@ -89,7 +83,7 @@ module _ (s u : Slab) (k x y : ℕ) (place : ℤ × ℤ) (cell : Cell) (kept : I
       let place_is : place ≡ (column, row) = sym slot.place ∙ ap (place_of s.slots.items) (sym same_slot) ∙ there.place in
       apart
       (sym
-      (cell_is ∙ (λ i. (pos 64 *ℤ (place_is i).0 +ℤ pos (sym same_x i), pos 64 *ℤ (place_is i).1 +ℤ pos (sym same_y i))))))
+      (cell_is ∙ (λ i. (start_at (place_is i).0 +ℤ pos (sym same_x i), start_at (place_is i).1 +ℤ pos (sym same_y i))))))
       (slot_cases s.index s.slots.items kept.whole.indexed (column, row))))
       (λ other. inl other)
       (cases_eq a x)))
@@ -100,18 +94,18 @@ module _ (s u : Slab) (k x y : ℕ) (place : ℤ × ℤ) (cell : Cell) (kept : I
   members_put =
       same_states (generation_shown s.index u.cur.items) (insert (members_of s) cell)
       (λ column row a b a_wide b_high.
-      let q : ℤ × ℤ = (pos 64 *ℤ column +ℤ pos a, pos 64 *ℤ row +ℤ pos b) in
+      let q : ℤ × ℤ = (start_at column +ℤ pos a, start_at row +ℤ pos b) in
       ⊎_elim
-      (λ (same : same_cell (pos 64 *ℤ column +ℤ pos a, pos 64 *ℤ row +ℤ pos b) cell ≡ true).
-      let q_is : (pos 64 *ℤ column +ℤ pos a, pos 64 *ℤ row +ℤ pos b) ≡ cell = (same_cell-is (pos 64 *ℤ column +ℤ pos a, pos 64 *ℤ row +ℤ pos b) cell).0 same in
+      (λ (same : same_cell (start_at column +ℤ pos a, start_at row +ℤ pos b) cell ≡ true).
+      let q_is : (start_at column +ℤ pos a, start_at row +ℤ pos b) ≡ cell = (same_cell-is (start_at column +ℤ pos a, start_at row +ℤ pos b) cell).0 same in
       ap (λ (j : ℤ × ℤ). state_at (generation_shown s.index u.cur.items) j.0 j.1) (q_is ∙ cell_is) ∙ live_now
-      ∙ sym (ap as_bit (contains-insert (members_of s) cell (pos 64 *ℤ column +ℤ pos a, pos 64 *ℤ row +ℤ pos b) ∙ ap (λ t. t || contains (members_of s) (pos 64 *ℤ column +ℤ pos a, pos 64 *ℤ row +ℤ pos b)) same)))
-      (λ (other : same_cell (pos 64 *ℤ column +ℤ pos a, pos 64 *ℤ row +ℤ pos b) cell ≡ false).
+      ∙ sym (ap as_bit (contains-insert (members_of s) cell (start_at column +ℤ pos a, start_at row +ℤ pos b) ∙ ap (λ t. t || contains (members_of s) (start_at column +ℤ pos a, start_at row +ℤ pos b)) same)))
+      (λ (other : same_cell (start_at column +ℤ pos a, start_at row +ℤ pos b) cell ≡ false).
       shown_state s.index u.cur.items kept.whole.indexed.ordered none column row a b a_wide b_high
       ∙ same_else column row a b a_wide b_high (different _ _ other)
       ∙ sym (shown_state s.index s.cur.items kept.whole.indexed.ordered kept.whole.cur_none column row a b a_wide b_high)
-      ∙ sym (ap as_bit (contains-insert (members_of s) cell (pos 64 *ℤ column +ℤ pos a, pos 64 *ℤ row +ℤ pos b) ∙ ap (λ t. t || contains (members_of s) (pos 64 *ℤ column +ℤ pos a, pos 64 *ℤ row +ℤ pos b)) other)))
-      (true_or_false (same_cell (pos 64 *ℤ column +ℤ pos a, pos 64 *ℤ row +ℤ pos b) cell)))
+      ∙ sym (ap as_bit (contains-insert (members_of s) cell (start_at column +ℤ pos a, start_at row +ℤ pos b) ∙ ap (λ t. t || contains (members_of s) (start_at column +ℤ pos a, start_at row +ℤ pos b)) other)))
+      (true_or_false (same_cell (start_at column +ℤ pos a, start_at row +ℤ pos b) cell)))
 
   pub kept_put : IsKept (record s { cur = u.cur })
   kept_put =

@@ -1,5 +1,5 @@
 -- The next generation, once the tiles that may change are worked out.
-use Rattle.std.proofs.Common.{◌≡◌, ℕ, ℤ, pos, ◌+ℤ◌, ◌-ℤ◌, ◌*ℤ◌, ◌+◌, ◌*◌, ◌/◌, ◌<◌, ◌≤◌, ◌≢◌, ◌≤ℤ◌, ⊎_elim, List, length, sym, subst, ap, ◌∙◌, arith}
+use Rattle.std.proofs.Common.{◌≡◌, ℕ, ℤ, pos, ◌+ℤ◌, ◌-ℤ◌, ◌+◌, ◌*◌, ◌/◌, ◌<◌, ◌≤◌, ◌≢◌, ◌≤ℤ◌, ⊎_elim, List, length, sym, subst, ap, ◌∙◌, arith}
 use Rattle.std.proofs.lemmas.Bool.{cases_eq}
 use Rattle.std.proofs.lemmas.Int.{ints}
 use Rattle.life_model.specs.Rule.{Rule}
@@ -7,7 +7,7 @@ use Rattle.life_model.specs.Generation.{Generation}
 use Rattle.life_model.specs.Evolution.{next}
 use Rattle.life_bits.specs.declared.tile.Tile.{Tile}
 use Rattle.life_bits.specs.Area.{tile_cell}
-use Rattle.life_tile.specs.Places.{IsBeside}
+use Rattle.life_tile.specs.Places.{IsBeside, start_at}
 use Rattle.life_tile.proofs.Splits.{Split, split}
 use Rattle.life_tile.specs.declared.bands.Bands.{Bands}
 use Rattle.life_tile.specs.declared.slot.Slot.{Slot}
@@ -21,8 +21,8 @@ use Rattle.life_tile.proofs.Windows.{next_alike}
 use Rattle.life_tile.proofs.Places.{Direction, direction_of, slot_cases, slot_of_place, state_absent, state_of_slot, next_linked, quiet, dead_next}
 
 -- the rows next to a band, counted from the tile that they are in
-next_to : (m band y : ℕ) (row p Y : ℤ) → ((row +ℤ pos (m / 3)) -ℤ pos 1) ≡ p → Y ≡ (pos 64 *ℤ row +ℤ pos y) →
-    ((pos 64 *ℤ p +ℤ pos (8 * band)) -ℤ pos 1) ≤ℤ Y → Y ≤ℤ (pos 64 *ℤ p +ℤ pos (8 * band + 8)) →
+next_to : (m band y : ℕ) (row p Y : ℤ) → ((row +ℤ pos (m / 3)) -ℤ pos 1) ≡ p → Y ≡ (start_at row +ℤ pos y) →
+    ((start_at p +ℤ pos (8 * band)) -ℤ pos 1) ≤ℤ Y → Y ≤ℤ (start_at p +ℤ pos (8 * band + 8)) →
     (8 * (8 * (m / 3) + band) ≤ y + 65) × (y + 56 ≤ 8 * (8 * (m / 3) + band))
 next_to m band y row p Y is at low high = (omega (arith, ints), omega (arith, ints))
 
@@ -59,7 +59,7 @@ module _ (index : Index) (slots : List Slot) (whole : IsIndexed index slots) (cu
   pub advanced :
       ((k : ℕ) → 0 < k → k < length slots → IsClosed slots cur k) →
       ((k x y : ℕ) → 0 < k → k < length slots → x < 64 → y < 64 → mark_of todo k (y / 8) ≡ 0 →
-      tile_cell (tile_of alt k) x y ≡ state_at (next rule (generation_shown index cur)) (pos 64 *ℤ (place_of slots k).0 +ℤ pos x) (pos 64 *ℤ (place_of slots k).1 +ℤ pos y)) →
+      tile_cell (tile_of alt k) x y ≡ state_at (next rule (generation_shown index cur)) (start_at (place_of slots k).0 +ℤ pos x) (start_at (place_of slots k).1 +ℤ pos y)) →
       generation_shown index after ≡ next rule (generation_shown index cur)
   advanced closed settled =
       same_states (generation_shown index after) (next rule (generation_shown index cur))
@@ -68,7 +68,7 @@ module _ (index : Index) (slots : List Slot) (whole : IsIndexed index slots) (cu
       (λ (absent : slot_at index (column, row) ≡ 0).
       state_absent index slots whole after after_none (column, row) x y wide high absent
       ∙ sym
-      (dead_next rule (generation_shown index cur) (pos 64 *ℤ column +ℤ pos x) (pos 64 *ℤ row +ℤ pos y)
+      (dead_next rule (generation_shown index cur) (start_at column +ℤ pos x) (start_at row +ℤ pos y)
       (λ a b a1 a2 b1 b2.
       quiet index slots whole cur cur_none closed (column, row) absent a b
       (record { from = omega (arith, ints); to = omega (arith, ints) }) (record { from = omega (arith, ints); to = omega (arith, ints) }))))
@@ -81,12 +81,12 @@ module _ (index : Index) (slots : List Slot) (whole : IsIndexed index slots) (cu
       (λ (idle : mark_of todo (slot_at index (column, row)) (y / 8) ≡ 0).
       worked.idle k x y wide high idle ∙ settled k x y there.later there.inside wide high idle)
       (bit_cases _ (y / 8))
-      ∙ ap (λ (p : ℤ × ℤ). state_at (next rule (generation_shown index cur)) (pos 64 *ℤ p.0 +ℤ pos x) (pos 64 *ℤ p.1 +ℤ pos y)) there.place)
+      ∙ ap (λ (p : ℤ × ℤ). state_at (next rule (generation_shown index cur)) (start_at p.0 +ℤ pos x) (start_at p.1 +ℤ pos y)) there.place)
       (slot_cases index slots whole (column, row)))
 
   -- in and next to a band that is not marked nothing changed
   unchanged : (j band : ℕ) → 0 < j → j < length slots → band < 8 → mark_of marked j band ≡ 0 → (X Y : ℤ) → IsBeside X (place_of slots j).0 →
-      ((pos 64 *ℤ (place_of slots j).1 +ℤ pos (8 * band)) -ℤ pos 1) ≤ℤ Y → Y ≤ℤ (pos 64 *ℤ (place_of slots j).1 +ℤ pos (8 * band + 8)) →
+      ((start_at (place_of slots j).1 +ℤ pos (8 * band)) -ℤ pos 1) ≤ℤ Y → Y ≤ℤ (start_at (place_of slots j).1 +ℤ pos (8 * band + 8)) →
       state_at (generation_shown index after) X Y ≡ state_at (generation_shown index alt) X Y
   unchanged j band later inside b_small clear X Y beside_x low high =
       let beside_y : IsBeside Y (place_of slots j).1 = record { from = omega (arith, ints); to = omega (arith, ints) } in
@@ -115,14 +115,14 @@ module _ (index : Index) (slots : List Slot) (whole : IsIndexed index slots) (cu
   -- so it will be again what it is now
   pub settled_again : generation_shown index cur ≡ next rule (generation_shown index alt) →
       (j x y : ℕ) → 0 < j → j < length slots → x < 64 → y < 64 → mark_of marked j (y / 8) ≡ 0 →
-      tile_cell (tile_of cur j) x y ≡ state_at (next rule (generation_shown index after)) (pos 64 *ℤ (place_of slots j).0 +ℤ pos x) (pos 64 *ℤ (place_of slots j).1 +ℤ pos y)
+      tile_cell (tile_of cur j) x y ≡ state_at (next rule (generation_shown index after)) (start_at (place_of slots j).0 +ℤ pos x) (start_at (place_of slots j).1 +ℤ pos y)
   settled_again earlier j x y later inside wide high clear =
       let row : 8 * (y / 8) ≤ y = omega arith in
       let end : y < 8 * (y / 8) + 8 = omega arith in
       sym (state_of_slot index slots whole cur cur_none j later inside x y wide high)
-      ∙ ap (λ (G : Generation). state_at G (pos 64 *ℤ (place_of slots j).0 +ℤ pos x) (pos 64 *ℤ (place_of slots j).1 +ℤ pos y)) earlier
+      ∙ ap (λ (G : Generation). state_at G (start_at (place_of slots j).0 +ℤ pos x) (start_at (place_of slots j).1 +ℤ pos y)) earlier
       ∙ sym
-      (next_alike rule (generation_shown index after) (generation_shown index alt) (pos 64 *ℤ (place_of slots j).0 +ℤ pos x) (pos 64 *ℤ (place_of slots j).1 +ℤ pos y)
+      (next_alike rule (generation_shown index after) (generation_shown index alt) (start_at (place_of slots j).0 +ℤ pos x) (start_at (place_of slots j).1 +ℤ pos y)
       (λ a b a1 a2 b1 b2.
       unchanged j (y / 8) later inside (omega arith) clear a b
       (record { from = omega (arith, ints); to = omega (arith, ints) }) (omega (arith, ints)) (omega (arith, ints))))

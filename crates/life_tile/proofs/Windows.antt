@@ -1,5 +1,5 @@
 -- The nine tiles around a place show the plane from 64 columns west to 127 columns east of it, and so the next generation.
-use Rattle.std.proofs.Common.{◌≡◌, ℕ, ℤ, pos, neg_ℤ, Bool, true, false, cond, List, [], ◌∷◌, count_by, refl, ◌+ℤ◌, ◌-ℤ◌, ◌*ℤ◌, ◌+◌, ◌-◌, ◌<◌, ◌≤◌, ◌≤ℤ◌, ⊎_elim, slice_index, nat_lt, sym, ap, ◌∙◌, arith}
+use Rattle.std.proofs.Common.{◌≡◌, ℕ, ℤ, pos, neg_ℤ, Bool, true, false, cond, List, [], ◌∷◌, count_by, refl, ◌+ℤ◌, ◌-ℤ◌, ◌+◌, ◌-◌, ◌<◌, ◌≤◌, ◌≤ℤ◌, ⊎_elim, slice_index, nat_lt, sym, ap, ◌∙◌, arith}
 use Rattle.std.specs.Int.{bit_at}
 use Rattle.std.proofs.lemmas.Int.{ints}
 use lib.Signed.{le_z_yes}
@@ -15,6 +15,7 @@ use Rattle.life_bits.specs.Bits.{next_state}
 use Rattle.life_bits.specs.Area.{Nine, three_wide, area_row, area_cell, sum_around, tile_cell, next_in_area}
 use Rattle.life_bits.specs.Flags.{as_bit}
 use Rattle.life_bits.proofs.Strips.{strip_low, strip_middle, strip_high}
+use Rattle.life_tile.specs.Places.{start_at}
 use Rattle.life_tile.specs.Slabs.{state_at}
 
 -- the nine tiles at and around a place
@@ -33,7 +34,7 @@ nine_around at column row = record {
 
 -- the tiles at each place show a generation
 pub record Shows (G : Generation) (at : ℤ → ℤ → Tile) : Type 0 where
-  pub state : (column row : ℤ) (x y : ℕ) → x < 64 → y < 64 → state_at G (pos 64 *ℤ column +ℤ pos x) (pos 64 *ℤ row +ℤ pos y) ≡ tile_cell (at column row) x y
+  pub state : (column row : ℤ) (x y : ℕ) → x < 64 → y < 64 → state_at G (start_at column +ℤ pos x) (start_at row +ℤ pos y) ≡ tile_cell (at column row) x y
 
 first_row : (nine : Nine) (b : ℕ) → b < 64 → area_row nine b ≡ three_wide nine.north_west nine.north nine.north_east b
 first_row nine b less = let test : nat_lt b 64 ≡ true = grind arith in rw test
@@ -84,7 +85,7 @@ state_next rule G c =
 module _ (G : Generation) (at : ℤ → ℤ → Tile) (shows : Shows G at) where
   -- a column of three tiles side by side
   three_tiles : (column row : ℤ) (a y : ℕ) (across down : ℤ) → a < 192 → y < 64 →
-      across ≡ ((pos 64 *ℤ column -ℤ pos 64) +ℤ pos a) → down ≡ (pos 64 *ℤ row +ℤ pos y) →
+      across ≡ ((start_at column -ℤ pos 64) +ℤ pos a) → down ≡ (start_at row +ℤ pos y) →
       state_at G across down ≡ bit_at (three_wide (at (column -ℤ pos 1) row) (at column row) (at (column +ℤ pos 1) row) y) a
   three_tiles column row a y across down wide high across_is down_is =
       let west : Tile = at (column -ℤ pos 1) row in
@@ -92,7 +93,7 @@ module _ (G : Generation) (at : ℤ → ℤ → Tile) (shows : Shows G at) where
       let east : Tile = at (column +ℤ pos 1) row in
       ⊎_elim
       (λ (first : a < 64).
-      let e : across ≡ (pos 64 *ℤ (column -ℤ pos 1) +ℤ pos a) = omega (arith, ints) in
+      let e : across ≡ (start_at (column -ℤ pos 1) +ℤ pos a) = omega (arith, ints) in
       (λ i. state_at G (e i) (down_is i))
       ∙ shows.state (column -ℤ pos 1) row a y first high
       ∙ sym (strip_low (slice_index west.rows y) (slice_index here.rows y) (slice_index east.rows y) a first))
@@ -100,7 +101,7 @@ module _ (G : Generation) (at : ℤ → ℤ → Tile) (shows : Shows G at) where
       ⊎_elim
       (λ (second : a < 128).
       let inside : a - 64 < 64 = omega arith in
-      let e : across ≡ (pos 64 *ℤ column +ℤ pos (a - 64)) = omega (arith, ints) in
+      let e : across ≡ (start_at column +ℤ pos (a - 64)) = omega (arith, ints) in
       let back : a - 64 + 64 ≡ a = omega arith in
       (λ i. state_at G (e i) (down_is i))
       ∙ shows.state column row (a - 64) y inside high
@@ -108,7 +109,7 @@ module _ (G : Generation) (at : ℤ → ℤ → Tile) (shows : Shows G at) where
       ∙ ap (bit_at (three_wide west here east y)) back)
       (λ (past_second : 128 ≤ a).
       let inside : a - 128 < 64 = omega arith in
-      let e : across ≡ (pos 64 *ℤ (column +ℤ pos 1) +ℤ pos (a - 128)) = omega (arith, ints) in
+      let e : across ≡ (start_at (column +ℤ pos 1) +ℤ pos (a - 128)) = omega (arith, ints) in
       let back : a - 128 + 128 ≡ a = omega arith in
       (λ i. state_at G (e i) (down_is i))
       ∙ shows.state (column +ℤ pos 1) row (a - 128) y inside high
@@ -118,31 +119,31 @@ module _ (G : Generation) (at : ℤ → ℤ → Tile) (shows : Shows G at) where
       (cases_lt a 64)
 
   window : (column row : ℤ) (a b : ℕ) (across down : ℤ) → a < 192 → b < 192 →
-      across ≡ ((pos 64 *ℤ column -ℤ pos 64) +ℤ pos a) → down ≡ ((pos 64 *ℤ row -ℤ pos 64) +ℤ pos b) →
+      across ≡ ((start_at column -ℤ pos 64) +ℤ pos a) → down ≡ ((start_at row -ℤ pos 64) +ℤ pos b) →
       state_at G across down ≡ area_cell (nine_around at column row) a b
   window column row a b across down wide high across_is down_is =
       ⊎_elim
       (λ (first : b < 64).
-      let e : down ≡ (pos 64 *ℤ (row -ℤ pos 1) +ℤ pos b) = omega (arith, ints) in
+      let e : down ≡ (start_at (row -ℤ pos 1) +ℤ pos b) = omega (arith, ints) in
       three_tiles column (row -ℤ pos 1) a b across down wide first across_is e
       ∙ sym (ap (λ w. bit_at w a) (first_row (nine_around at column row) b first)))
       (λ (past_first : 64 ≤ b).
       ⊎_elim
       (λ (second : b < 128).
       let inside : b - 64 < 64 = omega arith in
-      let e : down ≡ (pos 64 *ℤ row +ℤ pos (b - 64)) = omega (arith, ints) in
+      let e : down ≡ (start_at row +ℤ pos (b - 64)) = omega (arith, ints) in
       three_tiles column row a (b - 64) across down wide inside across_is e
       ∙ sym (ap (λ w. bit_at w a) (second_row (nine_around at column row) b past_first second)))
       (λ (past_second : 128 ≤ b).
       let inside : b - 128 < 64 = omega arith in
-      let e : down ≡ (pos 64 *ℤ (row +ℤ pos 1) +ℤ pos (b - 128)) = omega (arith, ints) in
+      let e : down ≡ (start_at (row +ℤ pos 1) +ℤ pos (b - 128)) = omega (arith, ints) in
       three_tiles column (row +ℤ pos 1) a (b - 128) across down wide inside across_is e
       ∙ sym (ap (λ w. bit_at w a) (third_row (nine_around at column row) b past_second)))
       (cases_lt b 128))
       (cases_lt b 64)
 
   counts : (column row : ℤ) (x y : ℕ) (across down : ℤ) → x < 64 → y < 64 →
-      across ≡ (pos 64 *ℤ column +ℤ pos x) → down ≡ (pos 64 *ℤ row +ℤ pos y) →
+      across ≡ (start_at column +ℤ pos x) → down ≡ (start_at row +ℤ pos y) →
       bits_of (contains G) (around (across, down)) ≡ sum_around (area_cell (nine_around at column row)) (x + 63) (y + 63)
   counts column row x y across down p q across_is down_is =
       let look = window column row in
@@ -158,17 +159,17 @@ module _ (G : Generation) (at : ℤ → ℤ → Tile) (shows : Shows G at) where
 
   -- the next generation of the cells of a place is that of the nine tiles around
   pub next_shown : (rule : Rule) (column row : ℤ) (x y : ℕ) → x < 64 → y < 64 →
-      next_in_area rule (nine_around at column row) x y ≡ state_at (next rule G) (pos 64 *ℤ column +ℤ pos x) (pos 64 *ℤ row +ℤ pos y)
+      next_in_area rule (nine_around at column row) x y ≡ state_at (next rule G) (start_at column +ℤ pos x) (start_at row +ℤ pos y)
   next_shown rule column row x y p q =
       let wide : x + 64 < 192 = omega arith in
       let high : y + 64 < 192 = omega arith in
-      let across : (pos 64 *ℤ column +ℤ pos x) ≡ ((pos 64 *ℤ column -ℤ pos 64) +ℤ pos (x + 64)) = omega (arith, ints) in
-      let down : (pos 64 *ℤ row +ℤ pos y) ≡ ((pos 64 *ℤ row -ℤ pos 64) +ℤ pos (y + 64)) = omega (arith, ints) in
+      let across : (start_at column +ℤ pos x) ≡ ((start_at column -ℤ pos 64) +ℤ pos (x + 64)) = omega (arith, ints) in
+      let down : (start_at row +ℤ pos y) ≡ ((start_at row -ℤ pos 64) +ℤ pos (y + 64)) = omega (arith, ints) in
       sym
-      (state_next rule G (pos 64 *ℤ column +ℤ pos x, pos 64 *ℤ row +ℤ pos y)
+      (state_next rule G (start_at column +ℤ pos x, start_at row +ℤ pos y)
       ∙ (λ i. next_state rule
-      (window column row (x + 64) (y + 64) (pos 64 *ℤ column +ℤ pos x) (pos 64 *ℤ row +ℤ pos y) wide high across down i)
-      (counts column row x y (pos 64 *ℤ column +ℤ pos x) (pos 64 *ℤ row +ℤ pos y) p q refl refl i)))
+      (window column row (x + 64) (y + 64) (start_at column +ℤ pos x) (start_at row +ℤ pos y) wide high across down i)
+      (counts column row x y (start_at column +ℤ pos x) (start_at row +ℤ pos y) p q refl refl i)))
 
 -- the next state of a cell is the same where the states in and around it are
 pub next_alike : (rule : Rule) (G H : Generation) (X Y : ℤ) →

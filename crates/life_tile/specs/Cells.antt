@@ -1,8 +1,9 @@
 -- The cells of tiles at their places.
-use Rattle.std.specs.Prelude.{ℕ, zero, suc, ℤ, pos, ◌+ℤ◌, ◌*ℤ◌, ◌==◌, List, [], ◌∷◌, ◌++◌, length, slice_index, if◌then◌else◌}
+use Rattle.std.specs.Prelude.{ℕ, zero, suc, ℤ, pos, ◌+ℤ◌, ◌==◌, List, [], ◌∷◌, ◌++◌, length, slice_index, if◌then◌else◌}
 use Rattle.std.specs.Int.{bit_at}
 use Rattle.life_model.specs.Cell.{Cell}
 use Rattle.life_bits.specs.declared.tile.Tile.{Tile}
+use Rattle.life_tile.specs.Places.{start_at}
 
 -- the cells of the first n bits of a word, whose bit 0 is at (left, y)
 unfoldable pub row_cells : ℤ → ℤ → ℕ → ℕ → List Cell
@@ -18,7 +19,7 @@ block_cells left top rows (suc n) = row_cells left (top +ℤ pos n) (slice_index
 -- the cells of tiles at their places
 unfoldable pub tiles_cells : List (Cell × Tile) → List Cell
 tiles_cells [] = []
-tiles_cells (e ∷ es) = block_cells (pos 64 *ℤ e.0.0) (pos 64 *ℤ e.0.1) e.1.rows 64 ++ tiles_cells es
+tiles_cells (e ∷ es) = block_cells (start_at e.0.0) (start_at e.0.1) e.1.rows 64 ++ tiles_cells es
 
 -- how many cells of a tile are live
 abbrev pub tile_count : Tile → ℕ

@@ -1,9 +1,10 @@
 -- The first and the last of some cells, by y and then by x.
-use Rattle.std.specs.Prelude.{◌≡◌, ◌⊎◌, ℕ, ℤ, pos, ◌+ℤ◌, ◌*ℤ◌, ◌<◌, ◌≤ℤ◌, true, List, Option, Some, None}
+use Rattle.std.specs.Prelude.{◌≡◌, ◌⊎◌, ℕ, ℤ, pos, ◌+ℤ◌, ◌<◌, ◌≤ℤ◌, true, List, Option, Some, None}
 use Rattle.life_model.specs.Cell.{Cell}
 use Rattle.life_model.specs.Generation.{Generation, contains}
 use Rattle.life_bits.specs.declared.tile.Tile.{Tile}
 use Rattle.life_bits.specs.Area.{tile_cell}
+use Rattle.life_tile.specs.Places.{start_at}
 use Rattle.life_tile.specs.declared.slot.Slot.{Slot}
 use Rattle.life_tile.specs.declared.ends.Ends.{Ends}
 use Rattle.life_tile.specs.Slots.{place_of, tile_of}
@@ -40,7 +41,7 @@ pub record IsLiveIn (tile : Tile) (place : ℤ × ℤ) (c : Cell) : Type 0 where
   pub wide : x < 64
   pub high : y < 64
   pub live : tile_cell tile x y ≡ 1
-  pub is : c ≡ (pos 64 *ℤ place.0 +ℤ pos x, pos 64 *ℤ place.1 +ℤ pos y)
+  pub is : c ≡ (start_at place.0 +ℤ pos x, start_at place.1 +ℤ pos y)
 
 -- a cell is one of the tile of a slot from 1 to n - 1, and live
 pub record IsLiveAt (slots : List Slot) (tiles : List Tile) (n : ℕ) (c : Cell) : Type 0 where

@@ -14,7 +14,12 @@ pub record IsInside (place : ℤ × ℤ) : Type 0 where
   pub north : negsuc 10000000 ≤ℤ place.1
   pub south : place.1 ≤ℤ pos 10000000
 
+-- The first of the columns of the tiles in a column, or of the rows of those in a row. The tiles stand off by 24 to the north
+-- west, so that a pattern of up to 40 cells a side that is read at (0, 0) lies in one tile.
+abbrev pub start_at : ℤ → ℤ
+start_at tile = pos 64 *ℤ tile -ℤ pos 24
+
 -- a cell's x within one of the columns of the tiles in a column, or its y within one of the rows of those in a row
 pub record IsBeside (z tile : ℤ) : Type 0 where
-  pub from : (pos 64 *ℤ tile -ℤ pos 1) ≤ℤ z
-  pub to : z ≤ℤ (pos 64 *ℤ tile +ℤ pos 64)
+  pub from : (start_at tile -ℤ pos 1) ≤ℤ z
+  pub to : z ≤ℤ (start_at tile +ℤ pos 64)

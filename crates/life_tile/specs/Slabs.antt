@@ -1,5 +1,5 @@
 -- What a slab of tiles keeps.
-use Rattle.std.specs.Prelude.{◌≡◌, ◌≢◌, ◌⊎◌, ℕ, ℤ, pos, ◌+ℤ◌, ◌*ℤ◌, ◌/◌, ◌<◌, ◌≤◌, true, false, List, [], ◌∷◌, ◌++◌, Some, length, vec_len}
+use Rattle.std.specs.Prelude.{◌≡◌, ◌≢◌, ◌⊎◌, ℕ, ℤ, pos, ◌+ℤ◌, ◌/◌, ◌<◌, ◌≤◌, true, false, List, [], ◌∷◌, ◌++◌, Some, length, vec_len}
 use Rattle.std.specs.Vec.{vec_capacity}
 use Rattle.std.specs.BTreeMap.{IsOrdered, get}
 use Rattle.life_model.specs.Cell.{Cell}
@@ -9,7 +9,7 @@ use Rattle.life_cells.specs.Limits.{IsWithin}
 use Rattle.life_bits.specs.declared.tile.Tile.{Tile}
 use Rattle.life_bits.specs.Flags.{as_bit}
 use Rattle.life_bits.specs.Area.{tile_cell}
-use Rattle.life_tile.specs.Places.{place_cmp}
+use Rattle.life_tile.specs.Places.{place_cmp, start_at}
 use Rattle.life_tile.specs.declared.slot.Slot.{Slot}
 use Rattle.life_tile.specs.declared.slab.Slab.{Slab}
 use Rattle.life_tile.specs.Slots.{Index, slot_at, neighbour_at, place_of, link_of, tile_of, empty_tile, generation_shown, IsReached}
@@ -64,7 +64,7 @@ pub record IsSettled (slab : Slab) (k band : ℕ) : Type 0 where
   pub known : slab.fresh ≡ false
   pub cell : (x y : ℕ) → x < 64 → y < 64 → y / 8 ≡ band →
       tile_cell (tile_of slab.alt.items k) x y
-      ≡ state_at (next slab.rule (members_of slab)) (pos 64 *ℤ (place_of slab.slots.items k).0 +ℤ pos x) (pos 64 *ℤ (place_of slab.slots.items k).1 +ℤ pos y)
+      ≡ state_at (next slab.rule (members_of slab)) (start_at (place_of slab.slots.items k).0 +ℤ pos x) (start_at (place_of slab.slots.items k).1 +ℤ pos y)
 
 -- every place that a live cell is in or next to has a slot
 pub record IsGrown (slab : Slab) : Type 0 where

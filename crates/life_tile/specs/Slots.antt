@@ -1,12 +1,12 @@
 -- Slots: where the tile of each stands, and which slots are around it.
-use Rattle.std.specs.Prelude.{ℕ, ℤ, pos, ◌+ℤ◌, ◌-ℤ◌, ◌*ℤ◌, ◌%◌, ◌/◌, ◌+◌, ◌≤ℤ◌, neg_ℤ, List, [], ◌∷◌, slice_index, slice_index_or, replicate}
+use Rattle.std.specs.Prelude.{ℕ, ℤ, pos, ◌+ℤ◌, ◌-ℤ◌, ◌%◌, ◌/◌, ◌+◌, ◌≤ℤ◌, neg_ℤ, List, [], ◌∷◌, slice_index, slice_index_or, replicate}
 use Rattle.std.specs.Option.{unwrap_or}
 use Rattle.std.specs.BTreeMap.{BTreeMap, get}
 use Rattle.life_model.specs.Generation.{Generation, from_list}
 use Rattle.life_bits.specs.declared.tile.Tile.{Tile}
 use Rattle.life_bits.specs.Area.{Nine}
 use Rattle.life_tile.specs.Cells.{tiles_cells}
-use Rattle.life_tile.specs.Places.{place_cmp}
+use Rattle.life_tile.specs.Places.{place_cmp, start_at}
 use Rattle.life_tile.specs.declared.slot.Slot.{Slot}
 
 -- from places to slots
@@ -67,7 +67,7 @@ generation_shown index tiles = from_list (tiles_cells (shown index.entries tiles
 
 -- where tiles may stand at age a: where a cell of that age may be, or next to it
 pub record IsReached (a : ℕ) (place : ℤ × ℤ) : Type 0 where
-  pub west : neg_ℤ (pos (a + 64)) ≤ℤ (pos 64 *ℤ place.0)
-  pub east : (pos 64 *ℤ place.0) ≤ℤ pos (1048576 + a)
-  pub north : neg_ℤ (pos (a + 64)) ≤ℤ (pos 64 *ℤ place.1)
-  pub south : (pos 64 *ℤ place.1) ≤ℤ pos (1048576 + a)
+  pub west : neg_ℤ (pos (a + 64)) ≤ℤ start_at place.0
+  pub east : start_at place.0 ≤ℤ pos (1048576 + a)
+  pub north : neg_ℤ (pos (a + 64)) ≤ℤ start_at place.1
+  pub south : start_at place.1 ≤ℤ pos (1048576 + a)

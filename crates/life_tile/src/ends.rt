@@ -1,9 +1,10 @@
 //! The first and the last of the live cells, by y and then by x.
-ghost use Rattle.std.specs.Prelude.{◌≡◌, ℕ, pos, ◌+ℤ◌, ◌*ℤ◌, ◌<◌, ◌⊎◌, true, false, length, MatchOption};
+ghost use Rattle.std.specs.Prelude.{◌≡◌, ℕ, pos, ◌+ℤ◌, ◌<◌, ◌⊎◌, true, false, length, MatchOption};
 ghost use Rattle.life_tile.specs.Ends.{AreEnds, AreJoined, IsFirstIn, IsLastIn, IsLiveAt, IsLiveIn, IsNoLater, IsVoid};
-ghost use Rattle.life_tile.specs.Places.{IsInside};
+ghost use Rattle.life_tile.specs.Places.{start_at, IsInside};
 ghost use Rattle.life_tile.specs.Slots.{place_of};
 
+use crate::grid::corner_of;
 use crate::slot::Slot;
 use life_bits::Tile;
 
@@ -72,9 +73,10 @@ fn cell_at(place: (i32, i32), x: usize, y: usize) -> (i32, i32)
     requires inside { IsInside place }
     requires column { x < 64 }
     requires row { y < 64 }
-    ensures { result ≡ ((pos 64 *ℤ place.0) +ℤ pos x, (pos 64 *ℤ place.1) +ℤ pos y) }
+    ensures { result ≡ (start_at place.0 +ℤ pos x, start_at place.1 +ℤ pos y) }
 {
-    (place.0 * 64 + x as i32, place.1 * 64 + y as i32)
+    let corner = corner_of(place);
+    (corner.0 + x as i32, corner.1 + y as i32)
 }
 
 impl Ends {

@@ -4,6 +4,7 @@
 mod bands;
 mod counting;
 mod ends;
+mod grid;
 mod listing;
 mod plane;
 mod rim;

@@ -5,6 +5,7 @@ ghost use Rattle.life_tile.specs.Cells.{row_cells, block_cells, tiles_cells};
 ghost use Rattle.life_tile.specs.Places.{place_cmp, IsInside};
 ghost use Rattle.life_tile.specs.Slots.{shown, tile_of};
 
+use crate::grid::corner_of;
 use life_bits::Tile;
 use std::alloc::AllocError;
 use std::collections::BTreeMap;
@@ -68,7 +69,8 @@ pub fn push_tiles(
     ensures { OnOk result (cells.new.items ≡ cells.old.items ++ tiles_cells (shown index.now.entries tiles.now)) }
 {
     for (place, slot) in index.iter() {
-        push_tile(cells, place.0 * 64, place.1 * 64, tile_in(tiles, *slot))?;
+        let (left, top) = corner_of(*place);
+        push_tile(cells, left, top, tile_in(tiles, *slot))?;
     }
     Ok(())
 }

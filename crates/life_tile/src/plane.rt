@@ -110,6 +110,13 @@ mod tests {
     use life_cells::cell_list::CellFault;
 
     #[test]
+    fn a_small_pattern_lies_in_one_tile(rt: HostRuntime) -> Result<(), CellFault> {
+        let plane = after(rt.alloc(), &[(0, 0), (39, 39)], &Rule::life(), 0)?;
+        assert!(rt; plane.slab.slots.len() == 2);
+        Ok(())
+    }
+
+    #[test]
     fn the_tiles_behind_a_glider_are_dropped(rt: HostRuntime) -> Result<(), CellFault> {
         let alloc = rt.alloc();
         let cells = [(63, 62), (64, 63), (62, 64), (63, 64), (64, 64)];

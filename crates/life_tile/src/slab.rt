@@ -1,5 +1,5 @@
 //! A slab: tiles in slots, in this generation and in the one before.
-ghost use Rattle.std.specs.Prelude.{◌≡◌, ◌≢◌, ℕ, pos, ◌+ℤ◌, ◌*ℤ◌, ◌+◌, ◌<◌, ◌≤◌, true, All, OnOk, IfOk, length};
+ghost use Rattle.std.specs.Prelude.{◌≡◌, ◌≢◌, ℕ, ◌+◌, ◌<◌, ◌≤◌, true, All, OnOk, IfOk, length};
 ghost use Rattle.life_model.specs.Evolution.{next};
 ghost use Rattle.life_model.specs.Generation.{empty, from_list, insert, size};
 ghost use Rattle.life_cells.specs.Limits.{IsWithin};
@@ -10,6 +10,7 @@ ghost use Rattle.life_tile.specs.Rims.{IsRimOf, IsStill};
 use crate::bands::Bands;
 use crate::counting::count_cells;
 use crate::ends::{Ends, ends_of};
+use crate::grid::split;
 use crate::listing::push_tiles;
 use crate::rim::Rim;
 use crate::slot::{HERE, Slot, connect, links_around, neighbour, slot_or_none, with_link};
@@ -41,14 +42,6 @@ pub struct Slab {
     pub fresh: bool,
     /// How many steps it has made.
     pub age: u32,
-}
-
-/// In which column of tiles a column of cells is, and which of its 64 it is. The same for rows.
-fn split(z: i32) -> (i32, usize)
-    ensures small { result.1 < 64 }
-    ensures is { z ≡ ((pos 64 *ℤ result.0) +ℤ pos result.1) }
-{
-    (z.div_euclid(64), z.rem_euclid(64) as usize)
 }
 
 impl Slab {

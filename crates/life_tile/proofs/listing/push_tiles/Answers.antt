@@ -1,6 +1,6 @@
-use Rattle.std.proofs.Common.{◌≡◌, ℕ, ℤ, pos, ◌*ℤ◌, ◌<◌, ◌++◌, List, append-nil, length, w32, to_z, of_z, All, sym, ap, subst, ◌∙◌, arith, rules}
+use Rattle.std.proofs.Common.{◌≡◌, ℕ, ℤ, ◌<◌, ◌++◌, List, append-nil, length, w32, to_z, of_z, All, sym, ap, subst, ◌∙◌, arith, rules}
 use Rattle.std.proofs.lemmas.Int.{ints}
-use Rattle.life_tile.specs.Places.{IsInside}
+use Rattle.life_tile.specs.Places.{start_at, IsInside}
 use Rattle.life_tile.specs.Cells.{block_cells, tiles_cells}
 use Rattle.life_tile.proofs.Pushed.{tiles_pushed, tiles_none}
 use Rattle.life_tile.specs.Slots.{tile_of, shown}
@@ -17,50 +17,57 @@ loop-place-init c =
       pushed = ap (λ (xs : List ((ℤ × ℤ) × ℕ)). c.args.cells.now.items ++ tiles_cells (shown xs c.args.tiles.now)) gives;
     }
 
-pub overflow_mul-place : goal.overflow_mul-place
-overflow_mul-place c =
-    let here : IsInside c.in-Some.place.now = all_first (λ e. IsInside e.0) _ _ _ c.in-Some.ensures.steps c.loop-place.invariant.inside in
-    omega (arith, ints, here.west, here.east, here.north, here.south)
+-- the column and the row of a tile's first cell, in 32 bits and out of them
+record IsCorner (place corner : ℤ × ℤ) : Type 0 where
+  across : to_z w32 (of_z w32 corner.0) ≡ start_at place.0
+  down : to_z w32 (of_z w32 corner.1) ≡ start_at place.1
+  inside : IsInside place
 
-pub overflow_mul-place-in-loop-place : goal.overflow_mul-place-in-loop-place
-overflow_mul-place-in-loop-place c =
-    let here : IsInside c.in-Some.place.now = all_first (λ e. IsInside e.0) _ _ _ c.in-Some.ensures.steps c.loop-place.invariant.inside in
-    omega (arith, ints, here.west, here.east, here.north, here.south)
+corner : (place at : ℤ × ℤ) → IsInside place → at ≡ (start_at place.0, start_at place.1) → IsCorner place at
+corner place at inside is =
+    let left : at.0 ≡ start_at place.0 = ap (λ (r : ℤ × ℤ). r.0) is in
+    let top : at.1 ≡ start_at place.1 = ap (λ (r : ℤ × ℤ). r.1) is in
+    record {
+      across = omega (arith, ints, inside.west, inside.east);
+      down = omega (arith, ints, inside.north, inside.south);
+      inside = inside;
+    }
+
+pub corner_of-left-requires : goal.corner_of-left-requires
+corner_of-left-requires c = all_first (λ e. IsInside e.0) _ _ _ c.in-Some.ensures.steps c.loop-place.invariant.inside
 
 pub push_tile-requires-clause-west : goal.push_tile-requires-clause-west
 push_tile-requires-clause-west c =
-    let here : IsInside c.in-Some.place.now = all_first (λ e. IsInside e.0) _ _ _ c.in-Some.ensures.steps c.loop-place.invariant.inside in
-    omega (arith, ints, here.west, here.east, here.north, here.south)
+    let here : IsCorner c.in-Some.place.now c.corner_of-left.result = corner _ _ (all_first (λ e. IsInside e.0) _ _ _ c.in-Some.ensures.steps c.loop-place.invariant.inside) c.corner_of-left.ensures in
+    omega (arith, ints, here.across, here.inside.west)
 
 pub push_tile-requires-clause-east : goal.push_tile-requires-clause-east
 push_tile-requires-clause-east c =
-    let here : IsInside c.in-Some.place.now = all_first (λ e. IsInside e.0) _ _ _ c.in-Some.ensures.steps c.loop-place.invariant.inside in
-    omega (arith, ints, here.west, here.east, here.north, here.south)
+    let here : IsCorner c.in-Some.place.now c.corner_of-left.result = corner _ _ (all_first (λ e. IsInside e.0) _ _ _ c.in-Some.ensures.steps c.loop-place.invariant.inside) c.corner_of-left.ensures in
+    omega (arith, ints, here.across, here.inside.east)
 
 pub push_tile-requires-clause-north : goal.push_tile-requires-clause-north
 push_tile-requires-clause-north c =
-    let here : IsInside c.in-Some.place.now = all_first (λ e. IsInside e.0) _ _ _ c.in-Some.ensures.steps c.loop-place.invariant.inside in
-    omega (arith, ints, here.west, here.east, here.north, here.south)
+    let here : IsCorner c.in-Some.place.now c.corner_of-left.result = corner _ _ (all_first (λ e. IsInside e.0) _ _ _ c.in-Some.ensures.steps c.loop-place.invariant.inside) c.corner_of-left.ensures in
+    omega (arith, ints, here.down, here.inside.north)
 
 pub push_tile-requires-clause-south : goal.push_tile-requires-clause-south
 push_tile-requires-clause-south c =
-    let here : IsInside c.in-Some.place.now = all_first (λ e. IsInside e.0) _ _ _ c.in-Some.ensures.steps c.loop-place.invariant.inside in
-    omega (arith, ints, here.west, here.east, here.north, here.south)
+    let here : IsCorner c.in-Some.place.now c.corner_of-left.result = corner _ _ (all_first (λ e. IsInside e.0) _ _ _ c.in-Some.ensures.steps c.loop-place.invariant.inside) c.corner_of-left.ensures in
+    omega (arith, ints, here.down, here.inside.south)
 
 pub tile_in-requires : goal.tile_in-requires
 tile_in-requires c = all_first (λ e. e.1 < length c.args.tiles.now) _ _ _ c.in-Some.ensures.steps c.loop-place.invariant.slots
 
 pub loop-place-preserved : goal.loop-place-preserved
 loop-place-preserved c =
-    let here : IsInside c.in-Some.place.now = all_first (λ e. IsInside e.0) _ _ _ c.in-Some.ensures.steps c.loop-place.invariant.inside in
-    let across : to_z w32 (of_z w32 (to_z w32 (of_z w32 c.in-Some.place.now.0) *ℤ pos 64)) ≡ pos 64 *ℤ c.in-Some.place.now.0 = omega (arith, ints, here.west, here.east) in
-    let down : to_z w32 (of_z w32 (to_z w32 (of_z w32 c.in-Some.place.now.1) *ℤ pos 64)) ≡ pos 64 *ℤ c.in-Some.place.now.1 = omega (arith, ints, here.north, here.south) in
+    let here : IsCorner c.in-Some.place.now c.corner_of-left.result = corner _ _ (all_first (λ e. IsInside e.0) _ _ _ c.in-Some.ensures.steps c.loop-place.invariant.inside) c.corner_of-left.ensures in
     record {
       next_is = search rules;
       inside = all_rest (λ e. IsInside e.0) _ _ _ c.in-Some.ensures.steps c.loop-place.invariant.inside;
       slots = all_rest (λ e. e.1 < length c.args.tiles.now) _ _ _ c.in-Some.ensures.steps c.loop-place.invariant.slots;
       pushed = tiles_pushed (c.in-Some.place.now, tile_of c.args.tiles.now c.in-Some.slot.now) _ _ _ _ _ (shown_more c.args.tiles.now _ _ _ c.in-Some.ensures.steps) c.loop-place.invariant.pushed
-          (c.in_ok-push_tile.ensures ∙ (λ i. c.loop-place.cells.items ++ block_cells (across i) (down i) (c.tile_in.ensures i).rows 64));
+          (c.in_ok-push_tile.ensures ∙ (λ i. c.loop-place.cells.items ++ block_cells (here.across i) (here.down i) (c.tile_in.ensures i).rows 64));
     }
 
 pub returns : goal.returns

@@ -1,7 +1,13 @@
 use Rattle.std.proofs.Common.{sym, subst, ap, ◌∙◌}
-use Rattle.life_tile.specs.Slots.{neighbour_at, tile_of, IsReached}
-use Rattle.life_tile.proofs.Kept.{reached_beyond}
+use Rattle.life_tile.specs.Places.{IsInside}
+use Rattle.life_tile.specs.Slots.{neighbour_at, place_of, tile_of, IsReached}
+use Rattle.life_tile.proofs.Kept.{inside_from_reached, reached_beyond}
 use Rattle.life_tile.proofs.slab.Slab.grow_towards.Goals as goal
+
+pub neighbour-requires-clause-inside : goal.neighbour-requires-clause-inside
+neighbour-requires-clause-inside c =
+    subst IsInside (sym c.place.ensures)
+    (inside_from_reached c.args.self.now.age (place_of c.args.self.now.slots.items c.args.slot) c.requires.kept.young (c.requires.kept.reached c.args.slot c.requires.later c.requires.slot))
 
 pub add-requires-clause-reached : goal.add-requires-clause-reached
 add-requires-clause-reached c =

@@ -1,7 +1,8 @@
 use Rattle.std.proofs.lemmas.Int.{ints}
-use Rattle.std.proofs.Common.{◌≡◌, ◌≢◌, ℕ, ℤ, pos, ◌+ℤ◌, ◌*ℤ◌, w32, to_z, of_z, ◌<◌, true, sym, subst, ap, ◌∙◌, arith}
+use Rattle.std.proofs.Common.{◌≡◌, ◌≢◌, ℕ, ℤ, pos, ◌+ℤ◌, w32, to_z, of_z, ◌<◌, true, sym, subst, ap, ◌∙◌, arith}
 use Rattle.life_model.specs.Generation.{Generation, insert}
 use Rattle.life_cells.specs.Limits.{IsWithin}
+use Rattle.life_tile.specs.Places.{start_at}
 use Rattle.life_tile.specs.Slots.{tile_of, empty_tile}
 use Rattle.life_tile.specs.Slabs.{IsKept, IsSlotOf, members_of}
 use Rattle.life_tile.proofs.Kept.{members_extended}
@@ -9,11 +10,11 @@ use Rattle.life_tile.proofs.Put.{members_put, kept_put}
 use Rattle.life_tile.proofs.slab.Slab.put.Goals as goal
 
 module _ (c : goal.After-set) where
-  cell_is : c.args.cell ≡ (pos 64 *ℤ c.split-column.result.0 +ℤ pos c.split-column.result.1, pos 64 *ℤ c.split-row.result.0 +ℤ pos c.split-row.result.1)
+  cell_is : c.args.cell ≡ (start_at c.split-column.result.0 +ℤ pos c.split-column.result.1, start_at c.split-row.result.0 +ℤ pos c.split-row.result.1)
   cell_is =
       let young = c.requires.kept.young in
-      let across : c.args.cell.0 ≡ (pos 64 *ℤ c.split-column.result.0 +ℤ pos c.split-column.result.1) = omega (arith, ints, c.split-column.ensures.is, c.requires.within.left, c.requires.within.right) in
-      let down : c.args.cell.1 ≡ (pos 64 *ℤ c.split-row.result.0 +ℤ pos c.split-row.result.1) = omega (arith, ints, c.split-row.ensures.is, c.requires.within.above, c.requires.within.below) in
+      let across : c.args.cell.0 ≡ (start_at c.split-column.result.0 +ℤ pos c.split-column.result.1) = omega (arith, ints, c.split-column.ensures.is, c.requires.within.left, c.requires.within.right) in
+      let down : c.args.cell.1 ≡ (start_at c.split-row.result.0 +ℤ pos c.split-row.result.1) = omega (arith, ints, c.split-row.ensures.is, c.requires.within.above, c.requires.within.below) in
       λ i. (across i, down i)
 
   place_is : ◌≡◌ {A = ℤ × ℤ} (to_z w32 (of_z w32 c.split-column.result.0), to_z w32 (of_z w32 c.split-row.result.0)) (c.split-column.result.0, c.split-row.result.0)
