@@ -15,12 +15,12 @@ pub record Split (z : ℤ) : Type 0 where
   pub small : remainder < 64
   pub is : z ≡ (start_at quotient +ℤ pos remainder)
 
-split_from : (z t : ℤ) → t ≡ (z +ℤ pos 24) → Split z
+split_from : (z t : ℤ) → t ≡ (z +ℤ pos 26) → Split z
 split_from z (pos n) is = record { quotient = pos (n / 64); remainder = n % 64; small = omega arith; is = omega (arith, ints) }
 split_from z (negsuc n) is = record { quotient = negsuc (n / 64); remainder = 63 - n % 64; small = omega arith; is = omega (arith, ints) }
 
 pub split : (z : ℤ) → Split z
-split z = split_from z (z +ℤ pos 24) refl
+split z = split_from z (z +ℤ pos 26) refl
 
 pub not_one : (n : ℕ) → n < 2 → (n ≡ 1 → ⊥) → n ≡ 0
 not_one n small not = ⊎_elim (λ one. absurd (not one)) (λ other. omega arith) (cases_eq n 1)

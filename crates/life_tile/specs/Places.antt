@@ -14,10 +14,10 @@ pub record IsInside (place : ℤ × ℤ) : Type 0 where
   pub north : negsuc 10000000 ≤ℤ place.1
   pub south : place.1 ≤ℤ pos 10000000
 
--- The first of the columns of the tiles in a column, or of the rows of those in a row. The tiles stand off by 24 to the north
--- west, so that a pattern of up to 40 cells a side that is read at (0, 0) lies in one tile.
+-- The first of the columns of the tiles in a column, or of the rows of those in a row. The tiles stand off by 26 to the north
+-- west, so that a pattern of up to 38 cells a side that is read at (0, 0) lies in one tile.
 abbrev pub start_at : ℤ → ℤ
-start_at tile = pos 64 *ℤ tile -ℤ pos 24
+start_at tile = pos 64 *ℤ tile -ℤ pos 26
 
 -- a cell's x within one of the columns of the tiles in a column, or its y within one of the rows of those in a row
 pub record IsBeside (z tile : ℤ) : Type 0 where

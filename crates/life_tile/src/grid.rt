@@ -2,9 +2,9 @@
 ghost use Rattle.std.specs.Prelude.{◌≡◌, pos, ◌+ℤ◌, ◌<◌, ◌≤ℤ◌};
 ghost use Rattle.life_tile.specs.Places.{start_at, IsInside};
 
-/// By how much the tiles stand off to the north west, so that a pattern of up to 40 cells a side that is read at `(0, 0)` lies in
+/// By how much the tiles stand off to the north west, so that a pattern of up to 38 cells a side that is read at `(0, 0)` lies in
 /// one tile.
-const STAND_OFF: i32 = 24;
+const STAND_OFF: i32 = 26;
 
 /// In which column of tiles a column of cells is, and which of its 64 it is. The same for rows.
 pub fn split(z: i32) -> (i32, usize)

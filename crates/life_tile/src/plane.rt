@@ -111,7 +111,7 @@ mod tests {
 
     #[test]
     fn a_small_pattern_lies_in_one_tile(rt: HostRuntime) -> Result<(), CellFault> {
-        let plane = after(rt.alloc(), &[(0, 0), (39, 39)], &Rule::life(), 0)?;
+        let plane = after(rt.alloc(), &[(0, 0), (37, 37)], &Rule::life(), 0)?;
         assert!(rt; plane.slab.slots.len() == 2);
         Ok(())
     }

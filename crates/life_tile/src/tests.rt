@@ -46,7 +46,7 @@ pub fn moved(alloc: Global, cells: &[(i32, i32)], by: i32) -> Result<CellList, C
 #[test]
 fn a_glider_moves_across_corners(rt: HostRuntime) -> Result<(), CellFault> {
     let alloc = rt.alloc();
-    let cells = [(39, 38), (40, 39), (38, 40), (39, 40), (40, 40)];
+    let cells = [(37, 36), (38, 37), (36, 38), (37, 38), (38, 38)];
     let plane = after(alloc, &cells, &Rule::life(), 200)?;
     assert!(rt; plane.cells()?.as_slice() == moved(alloc, &cells, 50)?.as_slice());
     assert!(rt; plane.population() == 5);
@@ -87,7 +87,7 @@ fn one_cell_spreads_to_a_square(rt: HostRuntime) -> Result<(), CellFault> {
 #[test]
 fn a_copy_keeps_the_older_cells(rt: HostRuntime) -> Result<(), CellFault> {
     let alloc = rt.alloc();
-    let cells = [(39, 38), (40, 39), (38, 40), (39, 40), (40, 40)];
+    let cells = [(37, 36), (38, 37), (36, 38), (37, 38), (38, 38)];
     let mut plane = after(alloc, &cells, &Rule::life(), 0)?;
     let copy = plane.copy()?;
     plane.step(&Rule::life())?;
@@ -108,7 +108,7 @@ fn the_r_pentomino_settles_with_its_known_population(rt: HostRuntime) -> Result<
 
 #[test]
 fn two_cells_die_and_leave_nothing(rt: HostRuntime) -> Result<(), CellFault> {
-    let plane = after(rt.alloc(), &[(39, 39), (40, 40)], &Rule::life(), 3)?;
+    let plane = after(rt.alloc(), &[(37, 37), (38, 38)], &Rule::life(), 3)?;
     assert!(rt; plane.cells()?.is_empty());
     assert!(rt; plane.population() == 0);
     assert!(rt; plane.age() == 3);
@@ -118,12 +118,12 @@ fn two_cells_die_and_leave_nothing(rt: HostRuntime) -> Result<(), CellFault> {
 #[test]
 fn the_span_is_from_the_first_cell_to_the_last(rt: HostRuntime) -> Result<(), CellFault> {
     let alloc = rt.alloc();
-    let glider = [(39, 38), (40, 39), (38, 40), (39, 40), (40, 40)];
+    let glider = [(37, 36), (38, 37), (36, 38), (37, 38), (38, 38)];
     let across_a_corner = after(alloc, &glider, &Rule::life(), 0)?;
     assert!(rt; across_a_corner.span()? == (1, 2));
     let far_apart = after(alloc, &[(5, 1000), (900, 3)], &Rule::life(), 0)?;
     assert!(rt; far_apart.span()? == (-895, 997));
-    let none = after(alloc, &[(39, 39), (40, 40)], &Rule::life(), 3)?;
+    let none = after(alloc, &[(37, 37), (38, 38)], &Rule::life(), 3)?;
     assert!(rt; none.span()? == (0, 0));
     Ok(())
 }
@@ -153,8 +153,8 @@ fn planes_agree(alloc: Global, text: &[u8], start: &CellList) -> Result<bool, Ce
 fn soup(alloc: Global, seed: u64) -> Result<CellList, CellFault> {
     let mut cells = Vec::new(alloc);
     let mut state = seed;
-    for x in 32..48 {
-        for y in 32..48 {
+    for x in 30..46 {
+        for y in 30..46 {
             state ^= state << 13;
             state ^= state >> 7;
             state ^= state << 17;
@@ -200,18 +200,18 @@ fn the_planes_agree_in_five_rules_that_grow(rt: HostRuntime) -> Result<(), CellF
 fn a_glider_runs_into_a_block_and_a_blinker(rt: HostRuntime) -> Result<(), CellFault> {
     let alloc = rt.alloc();
     let cells = [
-        (91, 90),
-        (92, 91),
-        (90, 92),
-        (91, 92),
-        (92, 92),
-        (110, 110),
-        (111, 110),
-        (110, 111),
-        (111, 111),
-        (104, 60),
-        (104, 61),
-        (104, 62),
+        (89, 88),
+        (90, 89),
+        (88, 90),
+        (89, 90),
+        (90, 90),
+        (108, 108),
+        (109, 108),
+        (108, 109),
+        (109, 109),
+        (102, 58),
+        (102, 59),
+        (102, 60),
     ];
     assert!(rt; planes_agree(alloc, b"B3/S23", &CellList::of(alloc, &cells)?)?);
     Ok(())
@@ -223,13 +223,13 @@ fn another_rule_is_followed_at_once(rt: HostRuntime) -> Result<(), CellFault> {
     let Ok(all_stay) = Rule::parse(b"B/S012345678") else {
         return Err(CellFault::OutOfField);
     };
-    let row = [(39, 40), (40, 40), (41, 40)];
+    let row = [(37, 38), (38, 38), (39, 38)];
     let mut plane = after(alloc, &row, &Rule::life(), 4)?;
     plane.step(&all_stay)?;
     assert!(rt; plane.cells()?.as_slice() == row.as_slice());
     plane.step(&all_stay)?;
     assert!(rt; plane.cells()?.as_slice() == row.as_slice());
     plane.step(&Rule::life())?;
-    assert!(rt; plane.cells()?.as_slice() == [(40, 39), (40, 40), (40, 41)].as_slice());
+    assert!(rt; plane.cells()?.as_slice() == [(38, 37), (38, 38), (38, 39)].as_slice());
     Ok(())
 }
