@@ -56,7 +56,7 @@ fn replace(tile: &mut Tile, top: usize, next: &[u64; 8]) -> Change
 
 /// Writes the next generation of the eight rows of a window over rows `window.top` to `window.top + 7` of `out`, and says what
 /// that changed there. Every other row of `out` stays as it was.
-#[inline]
+#[inline(always)]
 pub fn band(logic: &Logic, window: &Window, out: &mut Tile) -> Change
     requires { window.now.top ≤ 56 }
     ensures next { (rule : Rule) → IsLogicOf logic.now rule → (x y : ℕ) → x < 64 → y < 8 →

@@ -87,29 +87,44 @@ module _ (cur : List Tile) (links : List ℕ) (todo : Bands) (rule : Rule) (befo
       kept = λ k band set. kept k band (worked.kept k band set);
     }
 
+-- slots that have nothing to do
+pub slots_idle : (slots : List Slot) (cur : List Tile) (todo : List Bands) (rule : Rule) (before after : List Tile) (marks marked : List Bands) (n : ℕ) →
+    IsWorkedOut slots cur todo rule before after marks marked n →
+    (later : ℕ) → n ≤ later → ((k band : ℕ) → n ≤ k → k < later → mark_of todo k band ≡ 0) → IsWorkedOut slots cur todo rule before after marks marked later
+slots_idle slots cur todo rule before after marks marked n worked later more idle = record {
+  length_after = worked.length_after;
+  length_marked = worked.length_marked;
+  next = λ k x y positive less wide high busy.
+      ⊎_elim
+      (λ (old : k < n). worked.next k x y positive old wide high busy)
+      (λ (new : n ≤ k). let never : 1 ≡ 0 = sym busy ∙ idle k (y / 8) new less in absurd (omega arith))
+      (cases_lt k n);
+  idle = worked.idle;
+  first = worked.first;
+  later = λ k past. worked.later k (omega arith);
+  around = λ k m band x y positive less small b_small wide high near clear.
+      ⊎_elim
+      (λ (old : k < n). worked.around k m band x y positive old small b_small wide high near clear)
+      (λ (new : n ≤ k). ap (λ (t : Tile). tile_cell t x y) (worked.later k new))
+      (cases_lt k n);
+  kept = worked.kept;
+}
+
+-- no slot yet
+pub no_slot_done : (slots : List Slot) (cur : List Tile) (todo : List Bands) (rule : Rule) (tiles : List Tile) (marks : List Bands) → IsWorkedOut slots cur todo rule tiles tiles marks marks 1
+no_slot_done slots cur todo rule tiles marks = record {
+  length_after = refl;
+  length_marked = refl;
+  next = λ k x y positive less. absurd (omega arith);
+  idle = λ k x y wide high idle. refl;
+  first = refl;
+  later = λ k past. refl;
+  around = λ k m band x y positive less. absurd (omega arith);
+  kept = λ k band set. set;
+}
+
 module _ (slots : List Slot) (cur : List Tile) (todo : List Bands) (rule : Rule) (before after : List Tile) (marks marked : List Bands) (n : ℕ) (later : 0 < n) (inside : n < length slots)
     (worked : IsWorkedOut slots cur todo rule before after marks marked n) where
-  -- a slot that has nothing to do
-  pub worked_idle : ((band : ℕ) → mark_of todo n band ≡ 0) → IsWorkedOut slots cur todo rule before after marks marked (n + 1)
-  worked_idle idle = record {
-    length_after = worked.length_after;
-    length_marked = worked.length_marked;
-    next = λ k x y positive less wide high busy.
-        ⊎_elim
-        (λ (same : k ≡ n). let never : 1 ≡ 0 = sym busy ∙ ap (λ j. mark_of todo j (y / 8)) same ∙ idle (y / 8) in absurd (omega arith))
-        (λ (apart : k ≢ n). worked.next k x y positive (omega arith) wide high busy)
-        (cases_eq k n);
-    idle = worked.idle;
-    first = worked.first;
-    later = λ k past. worked.later k (omega arith);
-    around = λ k m band x y positive less small b_small wide high near clear.
-        ⊎_elim
-        (λ (same : k ≡ n). ap (λ (t : Tile). tile_cell t x y) (worked.later k (omega arith)))
-        (λ (apart : k ≢ n). worked.around k m band x y positive (omega arith) small b_small wide high near clear)
-        (cases_eq k n);
-    kept = worked.kept;
-  }
-
   -- a slot of which some bands are worked out
   pub worked_busy : (tile : Tile) (more : List Bands) → length after ≡ length slots →
       IsTileWorkedOut cur (links_of slots n) (bands_of todo n) rule (tile_of after n) tile marked more 8 →

@@ -1,5 +1,5 @@
 //! The next generation of the bands that may change.
-ghost use Rattle.std.specs.Prelude.{◌≡◌, ℕ, ◌+◌, ◌*◌, ◌%◌, ◌/◌, ◌<◌, length, slice_index};
+ghost use Rattle.std.specs.Prelude.{◌≡◌, ℕ, ◌+◌, ◌*◌, ◌%◌, ◌/◌, ◌<◌, ◌≤◌, length, slice_index};
 ghost use Rattle.std.specs.Int.{bit_at};
 ghost use Rattle.life_model.specs.Rule.{Rule};
 ghost use Rattle.life_bits.specs.declared.tile.Tile.{Tile};
@@ -72,6 +72,7 @@ fn mark_around(marks: &mut [Bands], links: &[usize; 9], index: usize, change: &C
 
 /// Works out the bands of the tile in the middle of nine slots that have something to do, into the tile of the generation before.
 /// Marks the bands that a cell which changed is in or next to.
+#[inline(always)]
 fn work_out(
     tile: &mut Tile,
     cur: &[Tile],
@@ -104,6 +105,47 @@ fn work_out(
     }
 }
 
+/// The first slot from a slot on that has something to do, or one past the last where there is none.
+///
+/// It stands apart in the program too: within `next_tiles` compilers would count slots in memory.
+#[inline(never)]
+fn first_busy(todo: &[Bands], from: usize) -> usize
+    ensures from { from ≤ result }
+    ensures idle { (k band : ℕ) → from ≤ k → k < result → mark_of todo.now k band ≡ 0 }
+{
+    let mut slot = from;
+    while slot < todo.len() && todo[slot].is_empty() {
+        slot += 1;
+    }
+    slot
+}
+
+/// Works out the bands of all slots but the first that have something to do, as `next_tiles` says, by a logic.
+#[inline(always)]
+fn next_tiles_by(
+    logic: &Logic,
+    slots: &[Slot],
+    cur: &[Tile],
+    alt: &mut [Tile],
+    todo: &[Bands],
+    marks: &mut [Bands],
+)
+    requires linked { IsLinked slots.now }
+    requires cur { length cur.now ≡ length slots.now }
+    requires alt { length alt.old ≡ length slots.now }
+    requires todo { length todo.now ≡ length slots.now }
+    requires marks { length marks.old ≡ length slots.now }
+    ensures { (rule : Rule) → IsLogicOf logic.now rule →
+        IsWorkedOut slots.now cur.now todo.now rule alt.old alt.new marks.old marks.new (length slots.now) }
+{
+    let mut slot = first_busy(todo, 1);
+    while slot < slots.len() {
+        let links = &slots[slot].links;
+        work_out(&mut alt[slot], cur, links, todo[slot], logic, marks);
+        slot = first_busy(todo, slot + 1);
+    }
+}
+
 /// Works out the bands of all slots but the first that have something to do: each becomes the next generation of the band that
 /// `cur` has there. Marks the bands that a cell which changed is in or next to.
 pub fn next_tiles(
@@ -121,12 +163,9 @@ pub fn next_tiles(
     requires marks { length marks.old ≡ length slots.now }
     ensures { IsWorkedOut slots.now cur.now todo.now rule.now alt.old alt.new marks.old marks.new (length slots.now) }
 {
-    let logic = Logic::of(rule);
-    for slot in 1..slots.len() {
-        let bands = todo[slot];
-        if !bands.is_empty() {
-            let links = &slots[slot].links;
-            work_out(&mut alt[slot], cur, links, bands, &logic, marks);
-        }
+    // Which logic it is, is found out here once for all bands.
+    match Logic::of(rule) {
+        Logic::Life => next_tiles_by(&Logic::Life, slots, cur, alt, todo, marks),
+        logic => next_tiles_by(&logic, slots, cur, alt, todo, marks),
     }
 }

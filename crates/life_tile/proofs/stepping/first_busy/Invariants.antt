@@ -1,0 +1,12 @@
+use Rattle.std.proofs.Common.{◌≡◌, ℕ, ◌-◌, ◌<◌, ◌≤◌, length}
+use Rattle.life_tile.specs.Work.{mark_of}
+use Rattle.life_tile.proofs.stepping.first_busy.Given as goal
+
+abbrev pub invariant-loop-slot : goal.invariant-loop-slot
+invariant-loop-slot l = record {
+  from : l.from ≤ l.slot;
+  idle : (k band : ℕ) → l.from ≤ k → k < l.slot → mark_of l.todo k band ≡ 0;
+}
+
+abbrev pub decreases-loop-slot : goal.decreases-loop-slot
+decreases-loop-slot l = length l.todo - l.slot
