@@ -8,7 +8,8 @@ use Rattle.life_model.specs.Evolution.{generation}
 use Rattle.life_model.specs.Symmetry.{normal}
 use Rattle.life_model.specs.Recurrence.{IsPeriodAt}
 use Rattle.life_model.proofs.Moves.{normal-moved}
-use Rattle.life_find.specs.Search.{IsReturn, IsWay}
+use Rattle.life_plane.specs.Ways.{IsWay}
+use Rattle.life_find.specs.Search.{IsReturn}
 
 pub record IsApart (R : Rule) (G : Generation) (a : ℕ) : Type 0 where
   pub none : (n : ℕ) → 1 ≤ n → n ≤ a → normal (generation R G n) ≡ normal G → ⊥

@@ -1,3 +1,4 @@
 pub mod Later
 pub mod Walks
 pub mod Spans
+pub mod Ways

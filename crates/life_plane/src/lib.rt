@@ -7,3 +7,4 @@ pub mod plane;
 pub mod span;
 #[cfg(test)]
 mod tests;
+pub mod way;

@@ -28,12 +28,14 @@ fn glider_goes_down<P: Plane>(rt: &impl Abort, alloc: Global) -> Result<(), Fail
         alloc,
         &[(63, 62), (64, 63), (62, 64), (63, 64), (64, 64)],
     )?;
+    let start = plane.cells()?;
     assert_eq!(rt; plane.age(), 0);
     steps(rt, &mut plane, b"B3/S23", 200)?;
     let moved = [(113, 112), (114, 113), (112, 114), (113, 114), (114, 114)];
     assert_eq!(rt; plane.cells()?.as_slice(), moved.as_slice());
     assert_eq!(rt; plane.population(), 5);
     assert_eq!(rt; plane.span()?, (1, 2));
+    assert_eq!(rt; plane.way_from(&start)?, Some((50, 50)));
     assert_eq!(rt; plane.age(), 200);
     Ok(())
 }

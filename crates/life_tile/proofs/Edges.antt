@@ -34,7 +34,7 @@ not_behind a b less behind =
     absurd (omega (arith, ints)))
     (lesser (int_cmp a.1 b.1) (int_cmp a.0 b.0) less)
 
-head_is : (c : Cell) (cs : List Cell) (first : Cell) → T (is_rising (c ∷ cs)) → Has (c ∷ cs) first → IsNoLater first c → c ≡ first
+pub head_is : (c : Cell) (cs : List Cell) (first : Cell) → T (is_rising (c ∷ cs)) → Has (c ∷ cs) first → IsNoLater first c → c ≡ first
 head_is c cs first rising has least =
     let parts = both_hold (below_all c cs) (is_rising cs) rising in
     ⊎_elim (λ is. sym is) (λ rest. absurd (not_behind c first (below_has c cs parts.0 first rest) least)) (has_cases c first cs has)
@@ -64,7 +64,7 @@ none_is : (cs : List Cell) → ((c : Cell) → Has cs c → ⊥) → origin ≡ 
 none_is [] none = refl
 none_is (c ∷ cs) none = absurd (none c (has_head c cs))
 
-has_member : (G : Generation) (q : Cell) → contains G q ≡ true → Has (cells G) q
+pub has_member : (G : Generation) (q : Cell) → contains G q ≡ true → Has (cells G) q
 unfolding Has
 has_member G q is = sym (contains-cells G q) ∙ is
 

@@ -25,3 +25,4 @@ pub mod EndBits
 pub mod EndCells
 pub mod Edges
 pub mod Placed
+pub mod SameCells

@@ -5,3 +5,4 @@ pub mod Rims
 pub mod Work
 pub mod Slabs
 pub mod Ends
+pub mod Reach

@@ -8,6 +8,7 @@ mod grid;
 mod listing;
 mod plane;
 mod rim;
+mod sameness;
 mod slab;
 mod slot;
 mod stepping;

@@ -2,6 +2,7 @@
 ghost use Rattle.std.specs.Prelude.{◌≡◌, IfOk};
 ghost use Rattle.life_tile.specs.Slabs.{IsKept, members_of};
 
+use crate::sameness;
 use crate::slab::Slab;
 use life_cells::cell_list::CellList;
 use life_cells::order::put_in_order;
@@ -94,6 +95,10 @@ impl Plane for TilePlane {
             Some(ends) => move_between(ends.first, ends.last),
             None => (0, 0),
         })
+    }
+
+    fn way_from(&self, list: &CellList) -> Result<Option<(i32, i32)>, AllocError> {
+        Ok(sameness::way_from(&self.slab, list.as_slice()))
     }
 
     fn copy(&self) -> Result<Self, AllocError> {

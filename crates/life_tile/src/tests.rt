@@ -128,6 +128,21 @@ fn the_span_is_from_the_first_cell_to_the_last(rt: HostRuntime) -> Result<(), Ce
     Ok(())
 }
 
+#[test]
+fn the_way_of_a_glider_is_found_across_corners(rt: HostRuntime) -> Result<(), CellFault> {
+    let alloc = rt.alloc();
+    let cells = [(39, 38), (40, 39), (38, 40), (39, 40), (40, 40)];
+    let list = CellList::of(alloc, &cells)?;
+    let later = after(alloc, &cells, &Rule::life(), 100)?;
+    assert!(rt; later.way_from(&list)? == Some((25, 25)));
+    let turned = after(alloc, &cells, &Rule::life(), 102)?;
+    assert!(rt; turned.way_from(&list)? == None);
+    let none = after(alloc, &[], &Rule::life(), 0)?;
+    assert!(rt; none.way_from(&list)? == None);
+    assert!(rt; none.way_from(&none.cells()?)? == Some((0, 0)));
+    Ok(())
+}
+
 /// Whether the plane shows the same cells as the slow one in each of 100 generations.
 fn planes_agree(alloc: Global, text: &[u8], start: &CellList) -> Result<bool, CellFault> {
     let Ok(rule) = Rule::parse(text) else {

@@ -5,7 +5,8 @@ use Rattle.life_model.specs.Evolution.{next, generation}
 use Rattle.life_model.specs.Symmetry.{normal}
 use Rattle.life_model.proofs.Recurrences.{generation-next, generation-add}
 use Rattle.life_find.specs.Outline.{IsOutline}
-use Rattle.life_find.specs.Search.{AreOutlines, IsWay, ends_alike}
+use Rattle.life_plane.specs.Ways.{IsWay}
+use Rattle.life_find.specs.Search.{AreOutlines, ends_alike}
 use Rattle.life_find.proofs.Apart.{IsApart, IsApart-start, IsApart-next, IsReturn-found}
 use Rattle.life_find.proofs.Possible.{length-more, AreOutlines-more, AreLeft-start, AreLeft-next, nowhere_left, nowhere_past}
 use Rattle.life_find.proofs.sighting.seen_again.Goals as goal

@@ -3,7 +3,7 @@ use Rattle.life_model.specs.Evolution.{next, generation}
 use Rattle.life_model.specs.Symmetry.{normal}
 use Rattle.life_model.proofs.Recurrences.{generation-zero, generation-next, generation-add}
 use Rattle.life_find.specs.Outline.{IsOutline}
-use Rattle.life_find.specs.Search.{IsWay}
+use Rattle.life_plane.specs.Ways.{IsWay}
 use Rattle.life_find.proofs.Apart.{IsApart-start, IsApart-next, IsReturn-found}
 use Rattle.life_find.proofs.Possible.{AreOutlines-more, length-more}
 use Rattle.life_find.proofs.sighting.watch.Goals as goal

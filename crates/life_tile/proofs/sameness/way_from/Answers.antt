@@ -1,0 +1,42 @@
+use Rattle.std.proofs.Common.{◌≡◌, ◌<◌, true≢false, length, get_or, refl, sym, subst, ap, ◌∙◌, arith}
+use Rattle.life_model.specs.Cell.{origin, plus, opposite}
+use Rattle.life_model.specs.Generation.{size, from_list}
+use Rattle.life_plane.specs.Ways.{IsWay}
+use Rattle.life_tile.specs.Ends.{AreEnds, IsMember}
+use Rattle.life_tile.specs.Slabs.{members_of}
+use Rattle.life_tile.proofs.SameCells.{some_by_ends, way_of_nothing, apart_by_count, way_of_all, apart_by_missing}
+use Rattle.life_tile.proofs.sameness.way_from.Goals as goal
+
+pub returns-then-population-cells-clause-apart : goal.returns-then-population-cells-clause-apart
+returns-then-population-cells-clause-apart c =
+    apart_by_count c.args.cells.now (members_of c.args.slab.now) c.requires.rising (λ same. c.if-population-cells.true (c.population.ensures ∙ same))
+
+pub bounds-cells-0 : goal.bounds-cells-0
+bounds-cells-0 c = some_by_ends (members_of c.args.slab.now) (length c.args.cells.now) c.in-Some.ends c.in-Some.ensures (omega arith)
+
+pub are_live-requires-clause-from : goal.are_live-requires-clause-from
+are_live-requires-clause-from c =
+    c.requires.placed 0 origin (some_by_ends (members_of c.args.slab.now) (length c.args.cells.now) c.in-Some.ends c.in-Some.ensures (omega arith))
+
+pub returns-then-not-are_live-clause-apart : goal.returns-then-not-are_live-clause-apart
+returns-then-not-are_live-clause-apart c =
+    apart_by_missing c.args.cells.now (members_of c.args.slab.now) c.requires.rising c.in-Some.ends c.in-Some.ensures
+    (λ all. true≢false (sym (c.are_live.ensures.1 all) ∙ c.if-not-are_live.true))
+
+pub move_between-requires-clause-from_placed : goal.move_between-requires-clause-from_placed
+move_between-requires-clause-from_placed c =
+    c.requires.placed 0 origin (some_by_ends (members_of c.args.slab.now) (length c.args.cells.now) c.in-Some.ends c.in-Some.ensures (omega arith))
+
+pub returns-in-None-clause-way : goal.returns-in-None-clause-way
+returns-in-None-clause-way c =
+    let as_many : size (members_of c.args.slab.now) ≡ length c.args.cells.now = omega arith in
+    way_of_nothing c.args.cells.now (members_of c.args.slab.now) c.requires.rising
+    (subst (AreEnds (IsMember (members_of c.args.slab.now))) c.in-None.is c.ends.ensures) as_many
+
+pub returns-else-not-are_live-clause-way : goal.returns-else-not-are_live-clause-way
+returns-else-not-are_live-clause-way c =
+    let as_many : size (members_of c.args.slab.now) ≡ length c.args.cells.now = omega arith in
+    subst (IsWay (from_list c.args.cells.now) (members_of c.args.slab.now)) (sym c.move_between.ensures)
+    (way_of_all c.args.cells.now (members_of c.args.slab.now) c.requires.rising (plus c.in-Some.ends.first (opposite (get_or c.args.cells.now 0 origin)))
+    (some_by_ends (members_of c.args.slab.now) (length c.args.cells.now) c.in-Some.ends c.in-Some.ensures as_many) as_many
+    (c.are_live.ensures.0 c.if-not-are_live.false))

@@ -1,0 +1,78 @@
+//! Whether the cells of a slab are others, moved as a whole.
+ghost use Rattle.std.specs.Prelude.{◌≡◌, ◌↔◌, All, IfNone, IfSome, IsTrue, T};
+ghost use Rattle.life_model.specs.Cell.{opposite, plus};
+ghost use Rattle.life_model.specs.Generation.{contains, from_list, is_rising};
+ghost use Rattle.life_cells.specs.Limits.{IsPlace};
+ghost use Rattle.life_plane.specs.Ways.{AreApart, IsWay};
+ghost use Rattle.life_tile.specs.Ends.{IsMember};
+ghost use Rattle.life_tile.specs.Reach.{IsInReach};
+ghost use Rattle.life_tile.specs.Slabs.{IsKept, members_of};
+
+use crate::grid::split;
+use crate::listing::tile_in;
+use crate::slab::Slab;
+use crate::slot::slot_or_none;
+use life_plane::span::move_between;
+
+/// Whether a cell is live.
+fn is_live(slab: &Slab, cell: (i32, i32)) -> bool
+    requires kept { IsKept slab.now }
+    requires reach { IsInReach cell }
+    ensures { result ≡ contains (members_of slab.now) cell }
+{
+    let (column, x) = split(cell.0);
+    let (row, y) = split(cell.1);
+    let slot = slot_or_none(&slab.index, (column, row));
+    tile_in(&slab.cur, slot).get(x, y)
+}
+
+/// The cell, moved as one place is from another.
+fn moved(cell: (i32, i32), from: (i32, i32), to: (i32, i32)) -> (i32, i32)
+    requires cell { IsPlace cell }
+    requires from { IsPlace from }
+    requires to { IsPlace to }
+    ensures is { result ≡ plus cell (plus to (opposite from)) }
+    ensures reach { IsInReach result }
+{
+    (cell.0 - from.0 + to.0, cell.1 - from.1 + to.1)
+}
+
+/// Whether each of some cells is live, moved as one place is from another.
+fn are_live(slab: &Slab, cells: &[(i32, i32)], from: (i32, i32), to: (i32, i32)) -> bool
+    requires kept { IsKept slab.now }
+    requires placed { All IsPlace cells.now }
+    requires from { IsPlace from }
+    requires to { IsPlace to }
+    ensures { IsTrue result ↔ All (λ c. IsMember (members_of slab.now) (plus c (plus to (opposite from)))) cells.now }
+{
+    for cell in cells {
+        if !is_live(slab, moved(*cell, from, to)) {
+            return false;
+        }
+    }
+    true
+}
+
+/// How far the live cells are from those of a list, where they are those moved as a whole. They are if there are as many, and
+/// each of the list is live where the first of them would be moved to.
+pub fn way_from(slab: &Slab, cells: &[(i32, i32)]) -> Option<(i32, i32)>
+    requires kept { IsKept slab.now }
+    requires rising { T (is_rising cells.now) }
+    requires placed { All IsPlace cells.now }
+    ensures way { IfSome result (λ d. IsWay (from_list cells.now) (members_of slab.now) d) }
+    ensures apart { IfNone result (AreApart (from_list cells.now) (members_of slab.now)) }
+{
+    if slab.population() != cells.len() as u64 {
+        return None;
+    }
+    match slab.ends() {
+        None => Some((0, 0)),
+        Some(ends) => {
+            let from = cells[0];
+            if !are_live(slab, cells, from, ends.first) {
+                return None;
+            }
+            Some(move_between(from, ends.first))
+        }
+    }
+}
