@@ -5,9 +5,9 @@ ghost use Rattle.life_band.specs.Sums.{number_at};
 ghost use Rattle.life_band.specs.Windows.{window_cell, IsSumsOf};
 ghost use Rattle.life_band.specs.declared.window.Window.{Window};
 
-use crate::adders::add_three;
 use crate::logic::Count;
 use crate::window::Window;
+use life_bits::add_three;
 
 /// Of each row of a window, in the middle 64 columns: how many of the two cells beside a cell are live in each of the eight
 /// rows, and how many of those and itself in each of the ten.

@@ -1,7 +1,6 @@
 //! The next generation of eight rows of a tile at a time, 64 cells to a word.
 #![tactic(auto)]
 
-mod adders;
 mod band_sums;
 mod kernel;
 mod logic;
@@ -10,8 +9,8 @@ mod row_sums;
 mod tests;
 mod window;
 
-pub use adders::Sum;
 pub use kernel::{Change, band};
+pub use life_bits::Sum;
 pub use logic::{Count, Logic, Spread};
 pub use row_sums::{RowSums, sums};
 pub use window::{RowTriple, Window};

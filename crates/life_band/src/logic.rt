@@ -7,7 +7,7 @@ ghost use Rattle.life_bits.specs.Bits.{spelt, next_state};
 ghost use Rattle.life_band.specs.Sums.{number_at};
 ghost use Rattle.life_band.specs.Logics.{IsSpreadOf, IsLogicOf, mask_at};
 
-use crate::adders::{add_two, choose};
+use life_bits::{add_two, choose};
 use life_cells::rule::Rule;
 
 /// At each of 64 places a number of live neighbours, from 0 to 8: bit `j` of `ones`, and twice the sum of bit `j` of the

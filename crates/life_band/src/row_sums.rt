@@ -2,7 +2,7 @@
 ghost use Rattle.life_bits.specs.Bits.{strip};
 ghost use Rattle.life_band.specs.Rows.{IsRowSumsOf};
 
-use crate::adders::{Sum, add_three};
+use life_bits::{Sum, add_three};
 
 /// Of each of 64 cells of a row how many of the two beside it are live, and how many of those and itself.
 #[derive(Clone, Copy, PartialEq, Eq, Debug)]

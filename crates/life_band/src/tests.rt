@@ -1,12 +1,11 @@
 //! Rows and windows worked by hand, and random windows in eleven rules beside the step of a whole tile.
 ghost use Rattle.std.specs.Prelude.{◌≤◌};
 
-use crate::adders::Sum;
 use crate::kernel::{Change, band};
 use crate::logic::{Count, Logic, Spread};
 use crate::row_sums::{RowSums, sums};
 use crate::window::Window;
-use life_bits::{Around, Tile};
+use life_bits::{Around, Sum, Tile};
 use life_cells::rule::{Rule, RuleFault};
 
 #[test]

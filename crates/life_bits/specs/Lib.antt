@@ -1,3 +1,4 @@
 pub mod Flags
 pub mod Bits
 pub mod Area
+pub mod Sums

@@ -10,4 +10,5 @@ mod tile;
 
 pub use answers::next_row;
 pub use strand::{Strand, count_planes};
+pub use sums::{Sum, add_three, add_two, choose};
 pub use tile::{Around, Tile};
