@@ -1,30 +1,13 @@
--- What a map of results keeps.
-use Rattle.std.proofs.Common.{◌≡◌, ℕ, suc, ◌+◌, true, false, cond, List, Some, refl, sym, ap, subst, ◌∙◌, arith, slice_get}
-use Rattle.std.specs.BTreeMap.{BTreeMap, get}
-use Rattle.std.specs.Ordering.{eq_by_cmp}
+-- What a result says of its ticket's pattern.
+use Rattle.std.proofs.Common.{◌≡◌, ℕ, suc, ◌+◌, List, Some, refl, sym, ap, subst, ◌∙◌, arith, slice_get}
 use Rattle.census_bundle.specs.declared.bundle.Folder.{Folder}
 use Rattle.census_bundle.specs.declared.ticket.Ticket.{Ticket}
 use Rattle.census_bundle.specs.declared.bundle.Entry.{Entry}
-use Rattle.census_bundle.specs.Tickets.{ticket, ticket_cmp, numbered, entry_in}
+use Rattle.census_bundle.specs.Tickets.{ticket, numbered, entry_in}
 use Rattle.life_answer.specs.Answers.{answer_of}
 use Rattle.life_answer.specs.declared.finding.Answer.{Answer}
 use Rattle.census_book.specs.Work.{Work}
 use Rattle.census_book.specs.Collecting.{Belongs, IsFound}
-use Rattle.census_book.specs.Keeping.{KeepsResults}
-use Rattle.census_book.proofs.TicketSets.{one_ticket}
-
--- one more result that belongs there
-pub keeps_insert : (b : List Folder) (bound : ℕ) (old new : BTreeMap Ticket Work) (t : Ticket) (w : Work) → KeepsResults b bound old → Belongs b bound t w.entry.text w.bound
-    → ((q : Ticket) → get ticket_cmp new q ≡ cond (eq_by_cmp ticket_cmp t q) (Some w) (get ticket_cmp old q)) → KeepsResults b bound new
-keeps_insert b bound old new t w keeps belongs each = record {
-  belongs = λ q v at.
-      elim (eq_by_cmp ticket_cmp t q) as (λ x. eq_by_cmp ticket_cmp t q ≡ x → cond x (Some w) (get ticket_cmp old q) ≡ Some v → Belongs b bound q v.entry.text v.bound) [
-        | true ↦ λ is here.
-            let same : w ≡ v = cc in
-            subst (λ (u : Work). Belongs b bound q u.entry.text u.bound) same (subst (λ s. Belongs b bound s w.entry.text w.bound) (one_ticket t q is) belongs)
-        | false ↦ λ _ there. keeps.belongs q v there
-      ] refl (sym (each q) ∙ at);
-}
 
 -- what a result says is what was found of its ticket's pattern
 pub found_at : (b : List Folder) (bound : ℕ) (t : Ticket) (w : Work) (found : Answer) → Belongs b bound t w.entry.text w.bound → found ≡ answer_of w.entry.text w.bound → IsFound b bound t found

@@ -1,6 +1,7 @@
 pub mod Fields
 pub mod TicketSets
 pub mod Kept
+pub mod Rows
 pub mod Runs
 pub mod Owning
 pub mod Releases

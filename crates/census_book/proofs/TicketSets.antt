@@ -59,28 +59,12 @@ eq_reversed Less = refl
 eq_reversed Equal = refl
 eq_reversed Greater = refl
 
-eq_symm : (q t : Ticket) → eq_by_cmp ticket_cmp t q ≡ eq_by_cmp ticket_cmp q t
+pub eq_symm : (q t : Ticket) → eq_by_cmp ticket_cmp t q ≡ eq_by_cmp ticket_cmp q t
 eq_symm q t = ap is_eq (ticket_cmp_total.antisymm t q) ∙ eq_reversed (ticket_cmp q t)
 
-some_or : {X : Type 0} (b : Bool) (v : X) (o : Option X) → is_some (cond b (Some v) o) ≡ (b || is_some o)
+pub some_or : {X : Type 0} (b : Bool) (v : X) (o : Option X) → is_some (cond b (Some v) o) ≡ (b || is_some o)
 some_or true v o = refl
 some_or false v o = refl
-
-keys_any : {X : Type 0} (test : Ticket → Bool) (es : List (Ticket × X)) → list_any test (keys_of es) ≡ is_some (lookup test es)
-keys_any test [] = refl
-keys_any test (e ∷ es) = ap (λ b. test e.0 || b) (keys_any test es) ∙ sym (some_or (test e.0) e.1 (lookup test es))
-
--- the tickets at which a map has a value
-pub has_get : {X : Type 0} (m : BTreeMap Ticket X) (q : Ticket) → has_ticket (tickets_of (keys m)) q ≡ is_some (get ticket_cmp m q)
-has_get m q = has_list (keys m) q ∙ keys_any (eq_by_cmp ticket_cmp q) m.entries
-
--- a map with a value at one ticket more
-pub tickets_insert : {X : Type 0} (old new : BTreeMap Ticket X) (t : Ticket) (v : X) → ((q : Ticket) → get ticket_cmp new q ≡ cond (eq_by_cmp ticket_cmp t q) (Some v) (get ticket_cmp old q))
-    → tickets_of (keys new) ≡ with_ticket (tickets_of (keys old)) t
-tickets_insert old new t v each =
-    same_set ticket_cmp_total ticket_cmp_same (tickets_of (keys new)) (with_ticket (tickets_of (keys old)) t) (λ q.
-    has_get new q ∙ ap is_some (each q) ∙ some_or (eq_by_cmp ticket_cmp t q) v (get ticket_cmp old q) ∙ ap (λ b. b || is_some (get ticket_cmp old q)) (eq_symm q t)
-    ∙ ap (λ b. eq_by_cmp ticket_cmp q t || b) (sym (has_get old q)) ∙ sym (contains-insert ticket_cmp_total (tickets_of (keys old)) t q))
 
 -- tickets that tie are one
 pub one_ticket : (t q : Ticket) → eq_by_cmp ticket_cmp t q ≡ true → t ≡ q

@@ -8,7 +8,7 @@ pub mod Progress
 pub mod Coded
 pub mod Collecting
 pub mod Tallying
-pub mod Keeping
+pub mod Slots
 pub mod Front
 pub mod ObjectCounts
 pub mod Released

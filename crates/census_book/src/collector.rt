@@ -66,23 +66,15 @@ fn accept<'a>(
     ensures results { OnErr result (results.new ≡ results.old) }
     ensures unsent { OnErr result (unsent.new.items ≡ unsent.old.items) }
 {
-    let before = unsent.len();
-    let place = done.ticket().folder as usize - 1;
     match unsent.extend_from_slice(&release.text) {
         Ok(()) => {}
         Err(_) => return Err(NoRoom { done }),
     }
-    match results.add(done) {
-        Ok(()) => {
-            front.runs[place] = release.run;
-            front.first_open = release.first_open;
-            Ok(())
-        }
-        Err(done) => {
-            unsent.truncate(before);
-            Err(NoRoom { done })
-        }
-    }
+    let place = done.ticket().folder as usize - 1;
+    results.add(done);
+    front.runs[place] = release.run;
+    front.first_open = release.first_open;
+    Ok(())
 }
 
 impl<'a> Collector<'a> {
@@ -97,8 +89,9 @@ impl<'a> Collector<'a> {
         let front = Front::new(alloc, folders)?;
         let mut unsent = Vec::new(alloc);
         push_start(alloc, &mut unsent, folders, bound)?;
+        let results = Results::new(alloc, bundle, bound)?;
         Ok(Collector {
-            results: Results::new(alloc, bundle, bound),
+            results,
             front,
             unsent,
             alloc,

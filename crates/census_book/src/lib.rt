@@ -12,5 +12,6 @@ mod lines;
 pub mod offer;
 mod release;
 mod results;
+mod slots;
 #[cfg(test)]
 mod tests;

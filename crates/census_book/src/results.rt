@@ -1,16 +1,16 @@
 //! The results that were taken.
-ghost use Rattle.std.specs.Prelude.{◌≡◌, ◌≢◌, true, false, Some, IfSome, IfNone, IfErr, OnOk, OnErr, MatchBool};
+ghost use Rattle.std.specs.Prelude.{◌≡◌, ◌≢◌, true, false, Some, IfOk, IfSome, IfNone, MatchBool};
 ghost use Rattle.census_bundle.specs.Tickets.{has_ticket, no_tickets, with_ticket};
 ghost use Rattle.census_book.specs.Collecting.{Belongs, IsFound, Judged};
 ghost use Rattle.census_book.specs.Progress.{taken_of};
 
 use crate::done::Done;
 use crate::offer::Offer;
+use crate::slots::Slots;
 use census_bundle::bundle::{Bundle, Folder};
 use census_bundle::ticket::Ticket;
 use life_answer::finding::Answer;
-use std::alloc::Global;
-use std::collections::BTreeMap;
+use std::alloc::{AllocError, Global};
 use std::marker::Model;
 
 /// The results of a bundle's tickets under a bound that were taken.
@@ -18,23 +18,21 @@ use std::marker::Model;
 pub struct Results<'a> {
     bundle: &'a Bundle,
     bound: u32,
-    taken: BTreeMap<Ticket, Done<'a>>,
+    slots: Slots<'a>,
 }
 
 impl<'a> Model for Results<'a> {
-    ghost use Rattle.std.specs.BTreeMap.{keys};
-    ghost use Rattle.census_bundle.specs.Tickets.{tickets_of};
     ghost use Rattle.census_book.specs.Coded.{taken_code};
-    ghost use Rattle.census_book.specs.Keeping.{KeepsResults};
     ghost use Rattle.census_book.specs.Progress.{Taken};
+    ghost use Rattle.census_book.specs.Slots.{KeepsResults, taken_in};
 
     ghost Value = { Taken };
 
     ghost coded = { taken_code };
 
-    ghost view = { λ r. record { bundle = r.bundle.now; bound = r.bound; taken = tickets_of (keys r.taken) } };
+    ghost view = { λ r. record { bundle = r.bundle.now; bound = r.bound; taken = taken_in r.slots } };
 
-    ghost invariant = { λ r. KeepsResults r.bundle.now r.bound r.taken };
+    ghost invariant = { λ r. KeepsResults r.bundle.now r.bound r.slots };
 }
 
 // Whether two texts are the same.
@@ -46,14 +44,15 @@ fn same_bytes(one: &[u8], other: &[u8]) -> bool
 
 impl<'a> Results<'a> {
     /// No result yet.
-    pub fn new(alloc: Global, bundle: &'a Bundle, bound: u32) -> Results<'a>
-        ensures { result ≡ taken_of bundle.now bound no_tickets }
+    pub fn new(alloc: Global, bundle: &'a Bundle, bound: u32) -> Result<Results<'a>, AllocError>
+        ensures { IfOk result (λ r. r ≡ taken_of bundle.now bound no_tickets) }
     {
-        Results {
+        let slots = Slots::new(alloc, bundle.folders())?;
+        Ok(Results {
             bundle,
             bound,
-            taken: BTreeMap::new(alloc),
-        }
+            slots,
+        })
     }
 
     /// The bundle.
@@ -74,7 +73,7 @@ impl<'a> Results<'a> {
     pub fn holds(&self, ticket: Ticket) -> bool
         ensures { result ≡ has_ticket self.now.taken ticket }
     {
-        self.taken.contains_key(&ticket)
+        self.slots.get(ticket).is_some()
     }
 
     /// What was found of this ticket's pattern, where it was taken.
@@ -82,7 +81,7 @@ impl<'a> Results<'a> {
         ensures found { IfSome result (λ a. IsFound self.now.bundle self.now.bound ticket a.now) }
         ensures missing { IfNone result (has_ticket self.now.taken ticket ≡ false) }
     {
-        match self.taken.get(&ticket) {
+        match self.slots.get(ticket) {
             Some(done) => Some(done.answer()),
             None => None,
         }
@@ -109,17 +108,12 @@ impl<'a> Results<'a> {
         }
     }
 
-    /// Takes a result. Where there is no room for it, it comes back.
-    pub fn add(&mut self, done: Done<'a>) -> Result<(), Done<'a>>
+    /// Takes a result.
+    pub fn add(&mut self, done: Done<'a>)
         requires belongs { Belongs self.old.bundle self.old.bound done.ticket done.entry.text done.bound }
         requires new { has_ticket self.old.taken done.ticket ≡ false }
-        ensures added { OnOk result (self.new ≡ taken_of self.old.bundle self.old.bound (with_ticket self.old.taken done.entry.ticket)) }
-        ensures back { IfErr result (λ d. d ≡ done.entry) }
-        ensures unchanged { OnErr result (self.new ≡ self.old) }
+        ensures { self.new ≡ taken_of self.old.bundle self.old.bound (with_ticket self.old.taken done.entry.ticket) }
     {
-        match self.taken.insert(done.ticket(), done) {
-            Ok(_) => Ok(()),
-            Err(refused) => Err(refused.value.1),
-        }
+        self.slots.put(done);
     }
 }

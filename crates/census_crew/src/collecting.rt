@@ -1,11 +1,10 @@
 //! Collecting what workers send.
-ghost use Rattle.std.specs.Prelude.{◌≡◌, [], true, false, MatchResult, IfNone, IfOk, OnOk};
+ghost use Rattle.std.specs.Prelude.{◌≡◌, ℕ, List, [], Option, true, false, MatchResult, IfNone, IfOk, OnOk};
 ghost use Rattle.watched.specs.Watching.{inner_of, has_failed};
 ghost use Rattle.census_crew.specs.Writing.{StaysInStep, StopsInStep};
 
 use crate::gathering::Gathering;
-use crate::working::Task;
-use census_book::done::Done;
+use crate::working::{Batch, Task};
 use crossbeam_channel::Receiver;
 use std::alloc::Global;
 use std::io::Write;
@@ -15,7 +14,7 @@ use watched::watched::{Failed, Watched};
 /// What is gathered while the workers work, and where it is written.
 pub(crate) struct Collecting<'c, 'a, W> {
     pub(crate) gathering: Gathering<'a>,
-    pub(crate) results: Receiver<Done<'a>, Global>,
+    pub(crate) results: Receiver<Batch<'a>, Global>,
     pub(crate) out: &'c mut Watched<W>,
 }
 
@@ -72,13 +71,13 @@ impl<'c, 'a, W: Write> Task for Collecting<'c, 'a, W> {
 const BLOCK_LEN: usize = 65_536;
 
 impl<'a> Gathering<'a> {
-    // The next result, or none once the channel is closed. All that was released is written before the wait for it.
-    fn next_result<R: Wait, W: Write>(
+    // The next batch, or none once the channel is closed. All that was released is written before the wait for it.
+    fn next_batch<R: Wait, W: Write>(
         &mut self,
         rt: &R,
-        results: &Receiver<Done<'a>, Global>,
+        results: &Receiver<Batch<'a>, Global>,
         out: &mut Watched<W>,
-    ) -> Result<Option<Done<'a>>, Failed>
+    ) -> Result<Option<Batch<'a>>, Failed>
         requires sound { has_failed out.old ≡ false }
         ensures failed { MatchResult result (λ _. has_failed out.new ≡ false) (λ _. has_failed out.new ≡ true) }
         ensures same { (self.new.bundle.now ≡ self.old.bundle.now) × (self.new.bound ≡ self.old.bound) }
@@ -87,12 +86,22 @@ impl<'a> Gathering<'a> {
             (λ _. StopsInStep (W.contents (inner_of out.old)) self.old.collector (W.contents (inner_of out.new))) }
         ensures sent { IfOk result (λ next. IfNone next (self.new.collector.unsent ≡ [])) }
     {
-        if let Ok(done) = results.try_recv(rt) {
-            return Ok(Some(done));
+        if let Ok(batch) = results.try_recv(rt) {
+            return Ok(Some(batch));
         }
         match self.send(out) {
             Ok(()) => Ok(results.recv(rt).ok()),
             Err(failed) => Err(failed),
+        }
+    }
+
+    // Takes the results of a batch.
+    fn take_batch(&mut self, batch: Batch<'a>)
+        ensures same { (self.new.bundle.now ≡ self.old.bundle.now) × (self.new.bound ≡ self.old.bound) }
+        ensures step { (written : Option (List ℕ)) → StaysInStep written self.old.collector written self.new.collector }
+    {
+        for done in batch {
+            self.take(done);
         }
     }
 
@@ -101,7 +110,7 @@ impl<'a> Gathering<'a> {
     fn collect<R: Wait, W: Write>(
         &mut self,
         rt: &R,
-        results: Receiver<Done<'a>, Global>,
+        results: Receiver<Batch<'a>, Global>,
         out: &mut Watched<W>,
     ) -> Result<(), Failed>
         requires sound { has_failed out.old ≡ false }
@@ -113,12 +122,12 @@ impl<'a> Gathering<'a> {
         ensures sent { OnOk result (self.new.collector.unsent ≡ []) }
     {
         for _ in rt.forever() {
-            let done = match self.next_result(rt, &results, out) {
-                Ok(Some(done)) => done,
+            let batch = match self.next_batch(rt, &results, out) {
+                Ok(Some(batch)) => batch,
                 Ok(None) => return Ok(()),
                 Err(failed) => return Err(failed),
             };
-            self.take(done);
+            self.take_batch(batch);
             if self.collector.unsent().len() >= BLOCK_LEN {
                 match self.send(out) {
                     Ok(()) => {}

@@ -6,7 +6,9 @@ use census_book::done::Done;
 use census_bundle::bundle::Bundle;
 use census_feed::handles::Hand;
 use crossbeam_channel::{SendError, Sender};
+use life_answer::finding::{Answer, Finding};
 use std::alloc::Global;
+use std::mem;
 use std::sync::Wait;
 use std::thread;
 use std::thread::Threads;
@@ -24,8 +26,48 @@ pub(crate) trait Task: Drop {
         ensures { run_gives self result };
 }
 
-// Takes tickets until none is left, works them, and sends what was found. A ticket that met want of memory is left to
-// the caller.
+/// Results that a worker sends together.
+pub(crate) type Batch<'a> = Vec<Done<'a>>;
+
+/// As many results a worker sends together at most.
+const BATCH_LEN: usize = 16;
+
+/// A pattern that has come again by this generation was quick work.
+const QUICK: u32 = 64;
+
+// Whether this was found by quick work, as the next of a collection is then likely to be too.
+fn was_quick(answer: &Answer) -> bool {
+    match answer {
+        Answer::Found { finding, .. } => match finding {
+            Finding::Recurs { onset, period, .. } => *onset <= QUICK && *period <= QUICK,
+            Finding::Unresolved { .. } => false,
+        },
+        Answer::Refused(_) => true,
+    }
+}
+
+// An empty batch, with room where there is memory for it.
+fn new_batch<'a>(alloc: Global) -> Batch<'a> {
+    match Vec::with_capacity(alloc, BATCH_LEN) {
+        Ok(batch) => batch,
+        Err(_) => Vec::new(alloc),
+    }
+}
+
+// Sends a batch and empties it, and says whether anybody is there to take it. Where there is no memory to send it, its
+// tickets are left to the caller.
+fn send_batch<'a, R: Wait>(
+    rt: &R,
+    alloc: Global,
+    batch: &mut Batch<'a>,
+    results: &Sender<Batch<'a>, Global>,
+) -> bool {
+    let full = mem::replace(batch, new_batch(alloc));
+    !matches!(results.send(rt, full), Err(SendError::Disconnected(_)))
+}
+
+// Takes tickets until none is left, works them, and sends what was found: the results of quick work several together,
+// any other at once. A ticket that met want of memory is left to the caller.
 fn work<'a, G: Gate, R: Wait>(
     rt: &R,
     alloc: Global,
@@ -33,13 +75,14 @@ fn work<'a, G: Gate, R: Wait>(
     bound: u32,
     mut hand: Hand,
     gate: &G,
-    results: Sender<Done<'a>, Global>,
+    results: Sender<Batch<'a>, Global>,
 )
     requires { (1 ≤ bound) × (bound ≤ 1000000) }
 {
+    let mut batch = new_batch(alloc);
     for _ in rt.forever() {
         let Some(ticket) = hand.take(rt) else {
-            return;
+            break;
         };
         gate.enter(ticket);
         let Some(entry) = bundle.entry(ticket) else {
@@ -48,10 +91,16 @@ fn work<'a, G: Gate, R: Wait>(
         let Ok(done) = Done::work(alloc, ticket, entry, bound) else {
             continue;
         };
-        if let Err(SendError::Disconnected(_)) = results.send(rt, done) {
+        let waits = was_quick(done.answer());
+        let kept = batch.push(done).is_ok();
+        if kept && waits && batch.len() < BATCH_LEN {
+            continue;
+        }
+        if !send_batch(rt, alloc, &mut batch, &results) {
             return;
         }
     }
+    let _ = results.send(rt, batch);
 }
 
 /// Gives each hand to a worker, and runs the task beside them. The workers' results come by the channel, which closes
@@ -64,7 +113,7 @@ pub(crate) fn work_beside<'a, G: Gate, R: Threads + Wait + Sync, S: Task>(
     bound: u32,
     hands: Vec<Hand>,
     gate: &G,
-    results: Sender<Done<'a>, Global>,
+    results: Sender<Batch<'a>, Global>,
     task: S,
 ) -> S::Output
     requires bound { (1 ≤ bound) × (bound ≤ 1000000) }

@@ -9,22 +9,22 @@ pub loop-preserved : goal.loop-preserved
 loop-preserved g c = (
   tt,
   tt,
-  stays_trans _ _ _ _ _ _ (stays_trans _ _ _ _ _ _ c.loop.invariant.2 c.in-Ok-Some.ensures.step) (c.take.ensures.step _),
+  stays_trans _ _ _ _ _ _ (stays_trans _ _ _ _ _ _ c.loop.invariant.2 c.in-Ok-Some.ensures.step) (c.take_batch.ensures.step _),
   c.in-Ok-Some.ensures.failed,
-  c.take.ensures.same.0 ∙ c.in-Ok-Some.ensures.same.0 ∙ c.loop.invariant.4,
-  c.take.ensures.same.1 ∙ c.in-Ok-Some.ensures.same.1 ∙ c.loop.invariant.5,
+  c.take_batch.ensures.same.0 ∙ c.in-Ok-Some.ensures.same.0 ∙ c.loop.invariant.4,
+  c.take_batch.ensures.same.1 ∙ c.in-Ok-Some.ensures.same.1 ∙ c.loop.invariant.5,
 )
 
 pub loop-preserved-in-Ok : goal.loop-preserved-in-Ok
 loop-preserved-in-Ok g c = (
   tt,
   tt,
-  stays_trans _ _ _ _ _ _ (stays_trans _ _ _ _ _ _ (stays_trans _ _ _ _ _ _ c.loop.invariant.2 c.in-Ok-Some.ensures.step) (c.take.ensures.step _)) c.in-Ok.ensures.step,
+  stays_trans _ _ _ _ _ _ (stays_trans _ _ _ _ _ _ (stays_trans _ _ _ _ _ _ c.loop.invariant.2 c.in-Ok-Some.ensures.step) (c.take_batch.ensures.step _)) c.in-Ok.ensures.step,
   c.in-Ok.ensures.failed,
-  c.in-Ok.ensures.same.0 ∙ c.take.ensures.same.0 ∙ c.in-Ok-Some.ensures.same.0 ∙ c.loop.invariant.4,
-  c.in-Ok.ensures.same.1 ∙ c.take.ensures.same.1 ∙ c.in-Ok-Some.ensures.same.1 ∙ c.loop.invariant.5,
+  c.in-Ok.ensures.same.0 ∙ c.take_batch.ensures.same.0 ∙ c.in-Ok-Some.ensures.same.0 ∙ c.loop.invariant.4,
+  c.in-Ok.ensures.same.1 ∙ c.take_batch.ensures.same.1 ∙ c.in-Ok-Some.ensures.same.1 ∙ c.loop.invariant.5,
 )
 
 pub returns-in-Err-send-clause-step : goal.returns-in-Err-send-clause-step
 returns-in-Err-send-clause-step g c =
-    stops_after _ _ _ _ _ (stays_trans _ _ _ _ _ _ (stays_trans _ _ _ _ _ _ c.loop.invariant.2 c.in-Ok-Some.ensures.step) (c.take.ensures.step _)) c.in-Err-send.ensures.step
+    stops_after _ _ _ _ _ (stays_trans _ _ _ _ _ _ (stays_trans _ _ _ _ _ _ c.loop.invariant.2 c.in-Ok-Some.ensures.step) (c.take_batch.ensures.step _)) c.in-Err-send.ensures.step
