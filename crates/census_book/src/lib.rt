@@ -13,5 +13,3 @@ pub mod offer;
 mod release;
 mod results;
 mod slots;
-#[cfg(test)]
-mod tests;

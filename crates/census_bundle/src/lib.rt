@@ -7,6 +7,4 @@ mod last;
 mod lines;
 mod names;
 pub mod reading;
-#[cfg(test)]
-mod tests;
 pub mod ticket;

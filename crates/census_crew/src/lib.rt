@@ -9,7 +9,5 @@ mod gathering;
 pub mod run;
 pub mod settling;
 pub mod tally;
-#[cfg(test)]
-mod tests;
 mod working;
 mod writing;

@@ -8,10 +8,9 @@ use census_feed::handles::Hand;
 use crossbeam_channel::{SendError, Sender};
 use life_answer::finding::{Answer, Finding};
 use std::alloc::Global;
-use std::mem;
 use std::sync::Wait;
-use std::thread;
 use std::thread::Threads;
+use std::{mem, thread};
 
 /// What the caller does beside its workers. It is handed in by value, and what it borrowed comes back.
 pub(crate) trait Task: Drop {

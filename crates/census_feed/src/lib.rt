@@ -4,14 +4,10 @@
 #![tactic(auto)]
 
 mod closing;
-#[cfg(test)]
-mod draining;
 pub mod feed;
 mod filling;
 pub mod hand;
 pub mod handles;
 pub mod item;
-#[cfg(test)]
-mod tests;
 pub mod turns;
 pub mod view;

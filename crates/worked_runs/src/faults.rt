@@ -1,8 +1,8 @@
 //! What faults say.
 
-use crate::bytes::BytesFault;
-use crate::fault::RunFault;
 use census_bundle::fault::BundleFault;
+use census_crew::bytes::BytesFault;
+use census_crew::fault::RunFault;
 use std::alloc::{AllocError, Global};
 use std::fmt::Display;
 use std::test::Fail;

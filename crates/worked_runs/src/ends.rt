@@ -1,13 +1,13 @@
 //! Readers and writers that fail, take little at a time, or never end.
 
-use super::bundles::{DEMO, DEMO_REPORT, TWO_FOLDERS_REPORT, demo_tally, two_folders};
-use crate::bytes::{BytesFault, run_bytes};
-use crate::fault::RunFault;
-use crate::gate::OpenGate;
-use crate::run::run;
-use crate::settling::settle;
+use crate::bundles::{DEMO, DEMO_REPORT, TWO_FOLDERS_REPORT, demo_tally, two_folders};
 use census_bundle::bundle::Bundle;
 use census_bundle::reading::read_bundle;
+use census_crew::bytes::{BytesFault, run_bytes};
+use census_crew::fault::RunFault;
+use census_crew::gate::OpenGate;
+use census_crew::run::run;
+use census_crew::settling::settle;
 use std::alloc::Global;
 use std::io;
 use std::io::{ErrorKind, Read, Write};

@@ -1,29 +1,11 @@
 //! Worked rows of bundles and bundle texts.
-use crate::bundle::{AddFault, Bundle};
-use crate::fault::BundleFault;
-use crate::reading::read_bundle;
-use crate::ticket::Ticket;
+use crate::bundles::DEMO;
+use census_bundle::bundle::{AddFault, Bundle};
+use census_bundle::fault::BundleFault;
+use census_bundle::reading::read_bundle;
+use census_bundle::ticket::Ticket;
 use std::alloc::Global;
 use std::test::Fail;
-
-// A folder `demo` of five patterns.
-const DEMO: &[u8] = b"@folder demo
-@file block
-x = 2, y = 2, rule = B3/S23
-2o$2o!
-@file glider
-x = 3, y = 3, rule = B3/S23
-bo$2bo$3o!
-@file block2
-x = 2, y = 2, rule = 23/3
-2o$2o!
-@file rpent
-x = 3, y = 3, rule = B3/S23
-b2o$2o$bo!
-@file broken
-x = 3, y = 1, rule = B3/S23
-3o
-";
 
 fn fault_of(alloc: Global, text: &[u8]) -> Option<BundleFault> {
     match read_bundle(alloc, text) {

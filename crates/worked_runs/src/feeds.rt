@@ -1,7 +1,8 @@
+//! Feeds that hands draw from, in one thread and in several.
 use crate::draining::{drain, take_at};
-use crate::handles::Feed;
 use census_bundle::bundle::Bundle;
 use census_bundle::ticket::Ticket;
+use census_feed::handles::Feed;
 use std::alloc::Global;
 use std::sync::Mutex;
 use std::test::*;

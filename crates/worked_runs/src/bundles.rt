@@ -1,11 +1,11 @@
 //! Bundles and their reports.
 
-use crate::tally::Tally;
 use census_bundle::bundle::{AddFault, Bundle};
+use census_crew::tally::Tally;
 use std::alloc::Global;
 
 // A folder `demo` of five patterns.
-pub(super) const DEMO: &[u8] = b"@folder demo
+pub(crate) const DEMO: &[u8] = b"@folder demo
 @file block
 x = 2, y = 2, rule = B3/S23
 2o$2o!
@@ -24,7 +24,7 @@ x = 3, y = 1, rule = B3/S23
 ";
 
 // The report of `DEMO` with bound 50.
-pub(super) const DEMO_REPORT: &[u8] = b"open 1 5 demo
+pub(crate) const DEMO_REPORT: &[u8] = b"open 1 5 demo
 line 1 1 ok B3/S23 4 0 1 0 0 xs4_33 block
 line 1 2 ok B3/S23 5 0 4 1 1 xq4_153 glider
 line 1 3 ok B3/S23 4 0 1 0 0 xs4_33 block2
@@ -37,7 +37,7 @@ end 1 5
 ";
 
 // What is counted of `DEMO`, where the caller worked so many tickets.
-pub(super) fn demo_tally(caught_up: u64) -> Tally {
+pub(crate) fn demo_tally(caught_up: u64) -> Tally {
     Tally {
         patterns: 5,
         resolved: 3,
@@ -50,7 +50,7 @@ pub(super) fn demo_tally(caught_up: u64) -> Tally {
 }
 
 // Three patterns in a folder `f`, the first and the third alike, and a folder `e` without any.
-pub(super) fn two_folders(alloc: Global) -> Result<Bundle, AddFault> {
+pub(crate) fn two_folders(alloc: Global) -> Result<Bundle, AddFault> {
     let mut bundle = Bundle::empty(alloc);
     bundle.add_folder(b"f")?;
     bundle.add_entry(b"a", b"x = 3, y = 3\n2o$2o!")?;
@@ -61,7 +61,7 @@ pub(super) fn two_folders(alloc: Global) -> Result<Bundle, AddFault> {
 }
 
 // The report of the two folders with bound 10.
-pub(super) const TWO_FOLDERS_REPORT: &[u8] = b"open 1 3 f
+pub(crate) const TWO_FOLDERS_REPORT: &[u8] = b"open 1 3 f
 open 2 0 e
 close 2 0 0 0 0
 line 1 1 ok B3/S23 4 0 1 0 0 xs4_33 a
@@ -74,7 +74,7 @@ end 2 3
 ";
 
 // A folder of so many blinkers.
-pub(super) fn blinkers(alloc: Global, count: u32) -> Result<Bundle, AddFault> {
+pub(crate) fn blinkers(alloc: Global, count: u32) -> Result<Bundle, AddFault> {
     let mut bundle = Bundle::empty(alloc);
     bundle.add_folder(b"blinkers")?;
     for _ in 0..count {

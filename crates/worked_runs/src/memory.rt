@@ -4,16 +4,16 @@
 //! `rt try --test --fail-alloc N` does for the growth of number N.
 ghost use Rattle.std.specs.Prelude.{◌≤◌};
 
-use super::bundles::{DEMO, DEMO_REPORT, TWO_FOLDERS_REPORT, two_folders};
-use crate::bytes::{BytesFault, run_bytes};
-use crate::fault::RunFault;
-use crate::gate::OpenGate;
-use crate::run::run;
-use crate::settling::settle;
+use crate::bundles::{DEMO, DEMO_REPORT, TWO_FOLDERS_REPORT, two_folders};
 use census_book::done::Done;
 use census_bundle::bundle::Bundle;
 use census_bundle::reading::read_bundle;
 use census_bundle::ticket::Ticket;
+use census_crew::bytes::{BytesFault, run_bytes};
+use census_crew::fault::RunFault;
+use census_crew::gate::OpenGate;
+use census_crew::run::run;
+use census_crew::settling::settle;
 use std::alloc::{AllocError, Global};
 use std::process::Abort;
 use std::sync::Wait;

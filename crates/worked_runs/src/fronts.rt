@@ -1,9 +1,9 @@
 //! Bundle texts that are cut short.
 
-use super::bundles::DEMO;
-use crate::bytes::{BytesFault, run_bytes};
-use crate::gate::OpenGate;
+use crate::bundles::DEMO;
 use census_bundle::fault::BundleFault;
+use census_crew::bytes::{BytesFault, run_bytes};
+use census_crew::gate::OpenGate;
 use std::test::Fail;
 use watched::watched::Watched;
 

@@ -1,10 +1,10 @@
 //! Gates that count, or hold workers until others have come.
 
-use super::bundles::{DEMO, DEMO_REPORT, blinkers, demo_tally};
-use crate::gate::{Gate, OpenGate};
-use crate::run::{run, run_on};
+use crate::bundles::{DEMO, DEMO_REPORT, blinkers, demo_tally};
 use census_bundle::reading::read_bundle;
 use census_bundle::ticket::Ticket;
+use census_crew::gate::{Gate, OpenGate};
+use census_crew::run::{run, run_on};
 use census_feed::handles::Feed;
 use std::sync::atomic::{AtomicU64, Ordering};
 use std::test::Fail;
