@@ -13,7 +13,7 @@ use Rattle.census_bundle.specs.declared.bundle.Folder.{Folder}
 use Rattle.census_bundle.specs.declared.ticket.Ticket.{Ticket}
 use Rattle.census_bundle.specs.Tickets.{entry_at, entry_in, folder_of, has_ticket, no_tickets, number_of, numbered, ticket, ticket_cmp, tickets_of, with_ticket}
 use Rattle.census_book.specs.Collecting.{Belongs}
-use Rattle.census_book.specs.Slots.{Row, HasSlot, KeepsResults, empty_slots, held, in_front, result_at, row_tickets, rows_tickets, slot_at, slot_in, taken_in, with_result}
+use Rattle.census_book.specs.Slots.{Row, HasSlot, KeepsResults, empty_slots, held, result_at, row_tickets, rows_tickets, slot_at, slot_in, taken_in, with_result}
 use Rattle.census_book.specs.Work.{Work}
 use Rattle.census_book.proofs.TicketSets.{apart, eq_symm, has_list, one_ticket, some_or, ticket_cmp_same, ticket_cmp_total}
 
