@@ -14,7 +14,7 @@ use crate::trouble::Trouble;
 use census_words::fault::WordsFault;
 use census_words::request::{Request, read_words};
 use std::alloc::Global;
-use std::io::{Read, Write};
+use std::io::{Cursor, Read, Write};
 use std::rt::Files;
 use std::sync::Wait;
 use std::thread::Threads;
@@ -57,21 +57,19 @@ fn obey<I: Read, O: Write, R: Threads + Wait + Sync + Files + Alloc + Clone + Dr
     }
 }
 
-// Writes why there is nothing to show, in one line. That it can't be written changes nothing.
-fn tell<E: Write>(alloc: Global, trouble: Trouble, errors: &mut Watched<E>) {
-    let told = match trouble {
-        Trouble::Memory => put_all(errors, b"census: out of memory\n"),
-        _ => match format!(in alloc; "census: {trouble}\n") {
-            Ok(line) => put_all(errors, line.as_bytes()),
-            Err(_) => put_all(errors, b"census: out of memory\n"),
-        },
-    };
-    let _ = told;
+// The most bytes of a line that tells what is wrong.
+const LINE_LIMIT: usize = 80;
+
+// Writes why there is nothing to show, in one line, and asks for no memory. That it can't be written changes nothing.
+fn tell<E: Write>(trouble: Trouble, errors: &mut Watched<E>) {
+    let mut line = Cursor::new([0u8; LINE_LIMIT]);
+    let _ = writeln!(line, "census: {trouble}");
+    let length = line.position().min(LINE_LIMIT as u64) as usize;
+    let _ = put_all(errors, &line.into_inner()[..length]);
 }
 
 // Writes why words ask for nothing that can be done, and gives the exit status.
 fn answer<O: Write, E: Write>(
-    alloc: Global,
     fault: &WordsFault,
     output: &mut Watched<O>,
     errors: &mut Watched<E>,
@@ -83,7 +81,7 @@ fn answer<O: Write, E: Write>(
         WordsFault::Help(text) => match put_all(output, text.as_bytes()) {
             Ok(()) => 0,
             Err(_) => {
-                tell(alloc, Trouble::Write, errors);
+                tell(Trouble::Write, errors);
                 Trouble::Write.status()
             }
         },
@@ -92,7 +90,7 @@ fn answer<O: Write, E: Write>(
             2
         }
         WordsFault::Memory => {
-            tell(alloc, Trouble::Memory, errors);
+            tell(Trouble::Memory, errors);
             Trouble::Memory.status()
         }
     }
@@ -148,12 +146,12 @@ pub fn dispatch<
 {
     let request = match read_words(alloc, &*words) {
         Ok(asked) => asked,
-        Err(fault) => return answer(alloc, &fault, output, errors),
+        Err(fault) => return answer(&fault, output, errors),
     };
     match obey(rt, alloc, &request, input, output) {
         Ok(()) => 0,
         Err(trouble) => {
-            tell(alloc, trouble, errors);
+            tell(trouble, errors);
             trouble.status()
         }
     }

@@ -6,6 +6,4 @@ pub mod dispatch;
 pub mod draw;
 pub mod evolving;
 pub mod running;
-#[cfg(test)]
-mod tests;
 pub mod trouble;

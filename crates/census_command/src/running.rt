@@ -15,9 +15,6 @@ use std::sync::Wait;
 use std::thread::Threads;
 use watched::watched::Watched;
 
-#[cfg(test)]
-mod tests;
-
 // Reads a bundle to the reader's end and writes its report.
 fn run_input<I: Read, O: Write, R: Threads + Wait + Sync>(
     rt: &R,

@@ -5,5 +5,3 @@ pub mod fault;
 mod files;
 mod listing;
 pub mod reading;
-#[cfg(test)]
-mod tests;

@@ -6,5 +6,3 @@ mod command;
 pub mod fault;
 mod help;
 pub mod request;
-#[cfg(test)]
-mod tests;

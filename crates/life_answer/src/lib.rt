@@ -5,5 +5,3 @@
 pub mod code;
 pub mod finding;
 pub mod laws;
-#[cfg(test)]
-mod tests;

@@ -4,5 +4,3 @@
 pub mod cell_list;
 pub mod order;
 pub mod rule;
-#[cfg(test)]
-mod tests;

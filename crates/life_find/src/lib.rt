@@ -11,6 +11,4 @@ mod recurrence;
 pub mod same_object;
 mod search;
 mod sighting;
-#[cfg(test)]
-mod tests;
 mod way;

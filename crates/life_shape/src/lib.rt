@@ -6,6 +6,4 @@ pub mod laws;
 pub mod orient;
 pub mod reader;
 pub mod shape;
-#[cfg(test)]
-mod tests;
 mod writer;

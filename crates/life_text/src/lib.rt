@@ -7,8 +7,6 @@ pub mod lines;
 pub mod pattern;
 mod pen;
 pub mod rle;
-#[cfg(test)]
-mod tests;
 mod token;
 pub mod write;
 

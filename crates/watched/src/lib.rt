@@ -6,7 +6,5 @@
 #![tactic(auto)]
 
 pub mod reading;
-#[cfg(test)]
-mod tests;
 pub mod watched;
 pub mod writing;

@@ -1,6 +1,7 @@
 //! What the program answers to a command line: its exit status and what stands on its standard streams.
 
-use crate::bundles::{DEMO, DEMO_REPORT};
+use crate::bundles::{BLINKER, BLOCK, DEMO, DEMO_REPORT};
+use crate::ends::FailingReader;
 use census_command::dispatch::dispatch;
 use std::alloc::{AllocError, Global};
 use std::io::Read;
@@ -28,8 +29,18 @@ fn check<R: Threads + Wait + Sync + Files + Alloc + Clone + Drop + Abort>(
     alloc: Global,
     call: &Call,
 ) -> Result<(), AllocError> {
-    let (words, text, status, written, told) = call;
-    let mut input = Watched::new(*text);
+    check_from(rt, alloc, call.1, call)
+}
+
+// The same, with another reader in the place of standard input.
+fn check_from<I: Read + Drop, R: Threads + Wait + Sync + Files + Alloc + Clone + Drop + Abort>(
+    rt: &R,
+    alloc: Global,
+    input: I,
+    call: &Call,
+) -> Result<(), AllocError> {
+    let (words, _, status, written, told) = call;
+    let mut input = Watched::new(input);
     let mut output = Watched::new(Vec::with_capacity(alloc, 300)?);
     let mut errors = Watched::new(Vec::with_capacity(alloc, 300)?);
     let answered = dispatch(rt, alloc, words, &mut input, &mut output, &mut errors);
@@ -74,6 +85,14 @@ fn patterns_advance(rt: HostRuntime) -> Result<(), Fail> {
             b"x = 0, y = 0, rule = B3/S23\n!\n",
             b"",
         ),
+        (
+            &["advance", "1"],
+            b"x = 3, y = 3\n3o1 2b!",
+            1,
+            b"",
+            b"census: rle fault 7 at 15\n",
+        ),
+        (&["advance", "1"], b"", 1, b"", b"census: rle fault 1\n"),
     ];
     for call in CALLS {
         check(&rt, rt.alloc(), call)?;
@@ -93,6 +112,13 @@ fn codes_are_drawn(rt: HostRuntime) -> Result<(), Fail> {
         ),
         (
             &["draw", "xs4_33", "--rule", "B36/S23"],
+            b"",
+            0,
+            b"x = 2, y = 2, rule = B36/S23\n2o$2o!\n",
+            b"",
+        ),
+        (
+            &["draw", "--rule", "23/36", "xs4_33"],
             b"",
             0,
             b"x = 2, y = 2, rule = B36/S23\n2o$2o!\n",
@@ -128,24 +154,51 @@ fn codes_are_drawn(rt: HostRuntime) -> Result<(), Fail> {
     Ok(())
 }
 
+// The status that the words have, where nothing can be read, and what stands on standard output and standard error.
+fn answered<R: Threads + Wait + Sync + Files + Alloc + Clone + Drop>(
+    rt: &R,
+    alloc: Global,
+    words: &[&str],
+) -> Result<(u8, Vec<u8>, Vec<u8>), AllocError> {
+    let mut input = Watched::new(Endless);
+    let mut output = Watched::new(Vec::with_capacity(alloc, 3000)?);
+    let mut errors = Watched::new(Vec::with_capacity(alloc, 1000)?);
+    let status = dispatch(rt, alloc, words, &mut input, &mut output, &mut errors);
+    if status == 3 {
+        return Err(AllocError);
+    }
+    Ok((status, output.into_inner(), errors.into_inner()))
+}
+
 #[test]
-fn words_out_of_range_are_no_command(rt: HostRuntime) -> Result<(), Fail> {
+fn words_that_are_no_command(rt: HostRuntime) -> Result<(), Fail> {
     const CALLS: &[&[&str]] = &[
+        &[],
         &["advance", "4194305"],
         &["run", "--bound", "1000001"],
         &["run", "--workers", "17"],
+        &["draw", "0", "1"],
     ];
     for words in CALLS {
-        let mut input = Watched::new(GLIDER);
-        let mut output = Watched::new(Vec::with_capacity(rt.alloc(), 300)?);
-        let mut errors = Watched::new(Vec::with_capacity(rt.alloc(), 1000)?);
-        let status = dispatch(&rt, rt.alloc(), words, &mut input, &mut output, &mut errors);
-        assert!(rt; output.into_inner().is_empty());
-        if status == 3 {
-            return Err(Fail::from(AllocError));
-        }
+        let (status, output, errors) = answered(&rt, rt.alloc(), words)?;
         assert_eq!(rt; status, 2);
-        assert!(rt; !errors.into_inner().is_empty());
+        assert!(rt; output.is_empty());
+        assert!(rt; errors.as_slice().starts_with(b"error: "));
+        assert!(rt; errors.as_slice().ends_with(b"\n"));
+    }
+    Ok(())
+}
+
+#[test]
+fn help_is_written_to_standard_output(rt: HostRuntime) -> Result<(), Fail> {
+    const CALLS: &[&[&str]] = &[&["--help"], &["help", "draw"], &["advance", "-h"]];
+    for words in CALLS {
+        let (status, output, errors) = answered(&rt, rt.alloc(), words)?;
+        assert_eq!(rt; status, 0);
+        assert!(rt; errors.is_empty());
+        let text = str::from_utf8(output.as_slice()).expect(&rt, "text");
+        assert!(rt; text.contains("Usage: census"));
+        assert!(rt; text.contains("Exit status: 0 done"));
     }
     Ok(())
 }
@@ -154,7 +207,7 @@ fn words_out_of_range_are_no_command(rt: HostRuntime) -> Result<(), Fail> {
 fn bundles_on_standard_input_are_reported(rt: HostRuntime) -> Result<(), Fail> {
     const CALLS: &[Call] = &[
         (
-            &["run", "--bound", "50", "--workers", "1"],
+            &["run", "--bound=50", "--workers", "1"],
             DEMO,
             0,
             DEMO_REPORT,
@@ -175,10 +228,24 @@ fn bundles_on_standard_input_are_reported(rt: HostRuntime) -> Result<(), Fail> {
             b"",
             b"census: bundle fault 1 at line 1\n",
         ),
-        (&["run", " "], b"", 1, b"", b"census: folder fault 1\n"),
         (
-            &["run", "no_such_folder"],
+            &["run"],
+            b"@file a",
+            1,
             b"",
+            b"census: bundle fault 2 at line 1\n",
+        ),
+        (&["run", " a"], b"", 1, b"", b"census: folder fault 1\n"),
+        (
+            &["run", "", "no_such_folder"],
+            b"",
+            1,
+            b"",
+            b"census: folder fault 1\n",
+        ),
+        (
+            &["run", "no_such_folder", ""],
+            DEMO,
             4,
             b"",
             b"census: read failed\n",
@@ -203,51 +270,39 @@ impl Read for Endless {
 
 #[test]
 fn endless_input_is_too_long(rt: HostRuntime) -> Result<(), Fail> {
-    let mut input = Watched::new(Endless);
-    let mut output = Watched::new(Vec::with_capacity(rt.alloc(), 300)?);
-    let mut errors = Watched::new(Vec::with_capacity(rt.alloc(), 300)?);
-    let status = dispatch(
-        &rt,
-        rt.alloc(),
-        &["run"],
-        &mut input,
-        &mut output,
-        &mut errors,
-    );
-    assert!(rt; output.into_inner().is_empty());
-    if status == 3 {
-        return Err(Fail::from(AllocError));
-    }
-    assert_eq!(rt; status, 1);
-    assert_eq!(rt;
-        errors.into_inner().as_slice(),
-        b"census: input too long\n".as_slice()
-    );
+    const CALL: Call = (&["run"], b"", 1, b"", b"census: input too long\n");
+    check_from(&rt, rt.alloc(), Endless, &CALL)?;
     Ok(())
 }
 
+const FOLDERS: Call = (
+    &["run", "--bound", "10", "worked_folder"],
+    b"",
+    0,
+    b"open 1 2 worked_folder
+line 1 1 ok B3/S23 3 0 2 0 0 xp2_7 a.rle
+line 1 2 ok B3/S23 4 0 1 0 0 xs4_33 b.rle
+code 1 B3/S23 xp2_7 1
+code 1 B3/S23 xs4_33 1
+close 1 2 2 0 0
+end 1 2
+",
+    b"",
+);
+
 #[test]
-fn folders_are_collections(rt: HostRuntime) -> Result<(), Fail> {
+fn folders_are_collections_and_standard_input_is_not_read(rt: HostRuntime) -> Result<(), Fail> {
+    const FILES: &[(&str, &[u8])] = &[
+        ("worked_folder/b.rle", BLOCK),
+        ("worked_folder/a.rle", BLINKER),
+        ("worked_folder/note.txt", b"no pattern"),
+    ];
     let _ = fs::remove_dir_all(&rt, "worked_folder");
     fs::create_dir(&rt, "worked_folder")?;
-    fs::write(
-        &rt,
-        "worked_folder/b.rle",
-        b"x = 3, y = 3\n2o$2o!".as_slice(),
-    )?;
-    fs::write(&rt, "worked_folder/a.rle", b"x = 3, y = 3\n3o!".as_slice())?;
-    fs::write(&rt, "worked_folder/note.txt", b"".as_slice())?;
-    check(
-        &rt,
-        rt.alloc(),
-        &(
-            &["run", "--bound", "10", "worked_folder"],
-            b"",
-            0,
-            b"open 1 2 worked_folder\nline 1 1 ok B3/S23 3 0 2 0 0 xp2_7 a.rle\nline 1 2 ok B3/S23 4 0 1 0 0 xs4_33 b.rle\ncode 1 B3/S23 xp2_7 1\ncode 1 B3/S23 xs4_33 1\nclose 1 2 2 0 0\nend 1 2\n",
-            b"",
-        ),
-    )?;
+    for (path, text) in FILES {
+        fs::write(&rt, path, *text)?;
+    }
+    check_from(&rt, rt.alloc(), FailingReader { left: b"" }, &FOLDERS)?;
     fs::remove_dir_all(&rt, "worked_folder")?;
     Ok(())
 }

@@ -14,8 +14,8 @@ use watched::watched::Watched;
 
 /// Gives its bytes, and fails once they are gone.
 #[derive(Drop)]
-struct FailingReader<'a> {
-    left: &'a [u8],
+pub(crate) struct FailingReader<'a> {
+    pub(crate) left: &'a [u8],
 }
 
 impl<'a> Read for FailingReader<'a> {
@@ -109,6 +109,7 @@ fn standard_output_that_is_full_holds_the_front(rt: HostRuntime) -> Result<(), F
             fills_its_room(&rt, rt.alloc(), call, room)?;
         }
     }
+    fills_its_room(&rt, rt.alloc(), &(&["--help"], b"", b""), 0)?;
     Ok(())
 }
 
@@ -141,6 +142,26 @@ fn nothing_is_written_where_standard_input_fails(rt: HostRuntime) -> Result<(), 
         for length in 0..call.1.len() {
             writes_nothing(&rt, rt.alloc(), call.0, &call.1[..length])?;
         }
+    }
+    Ok(())
+}
+
+#[test]
+fn standard_error_that_fails_changes_no_status(rt: HostRuntime) -> Result<(), Fail> {
+    const CALLS: &[(&[&str], u8)] = &[(&["run"], 4), (&["draw", "A"], 1), (&["draw"], 2)];
+    for (words, known) in CALLS {
+        let mut input = Watched::new(FailingReader { left: b"" });
+        let mut output = Watched::new(Vec::new(rt.alloc()));
+        let mut errors = Watched::new(FailingWriter {
+            written: Vec::new(rt.alloc()),
+            room: 0,
+        });
+        let status = dispatch(&rt, rt.alloc(), words, &mut input, &mut output, &mut errors);
+        if status == 3 {
+            return Err(Fail::from(AllocError));
+        }
+        assert_eq!(rt; status, *known);
+        assert!(rt; output.into_inner().is_empty());
     }
     Ok(())
 }

@@ -1,4 +1,4 @@
-//! Planes, bundles and feeds that may be refused memory.
+//! Bundles and feeds that may be refused memory.
 //!
 //! With memory to spare these tests see whole answers. They hold as well where any one growth is refused, which
 //! `rt try --test --fail-alloc N` does for the growth of number N: what was refused is as it was, and the same call
@@ -10,65 +10,7 @@ use census_bundle::fault::BundleFault;
 use census_bundle::reading::read_bundle;
 use census_bundle::ticket::Ticket;
 use census_feed::handles::Feed;
-use life_cells::cell_list::CellList;
-use life_cells::rule::Rule;
-use life_plane::list_plane::ListPlane;
-use life_plane::plane::{AGE_LIMIT, Plane};
-use life_tile::TilePlane;
-use std::alloc::{AllocError, Global};
-use std::process::Abort;
 use std::test::Fail;
-
-// A glider across the corner of four tiles, and the same after four generations.
-const GLIDER: &[(i32, i32)] = &[(63, 62), (64, 63), (62, 64), (63, 64), (64, 64)];
-
-const LATER: &[(i32, i32)] = &[(64, 63), (65, 64), (63, 65), (64, 65), (65, 65)];
-
-// The cells of a plane, which may be refused once.
-fn cells_of<P: Plane>(plane: &P) -> Result<CellList, AllocError> {
-    match plane.cells() {
-        Ok(cells) => Ok(cells),
-        Err(_) => plane.cells(),
-    }
-}
-
-fn a_glider_goes_on<P: Plane>(rt: &impl Abort, alloc: Global) -> Result<(), Fail> {
-    let list = CellList::of(alloc, GLIDER)?;
-    assert!(rt; list.fits());
-    let mut plane = match P::from_cells(alloc, &list) {
-        Ok(plane) => plane,
-        Err(_) => P::from_cells(alloc, &list)?,
-    };
-    for age in 0..4 {
-        let before = cells_of(&plane)?;
-        assert!(rt; plane.age() < AGE_LIMIT);
-        if plane.step(&Rule::life()).is_err() {
-            assert_eq!(rt; plane.age(), age);
-            assert_eq!(rt; cells_of(&plane)?.as_slice(), before.as_slice());
-            assert!(rt; plane.age() < AGE_LIMIT);
-            plane.step(&Rule::life())?;
-        }
-    }
-    let copy = match plane.copy() {
-        Ok(copy) => copy,
-        Err(_) => plane.copy()?,
-    };
-    for made in [&plane, &copy] {
-        assert_eq!(rt; made.age(), 4);
-        assert_eq!(rt; cells_of(made)?.as_slice(), LATER);
-    }
-    Ok(())
-}
-
-#[test]
-fn a_glider_goes_on_on_the_list_plane(rt: HostRuntime) -> Result<(), Fail> {
-    a_glider_goes_on::<ListPlane>(&rt, rt.alloc())
-}
-
-#[test]
-fn a_glider_goes_on_on_the_tile_plane(rt: HostRuntime) -> Result<(), Fail> {
-    a_glider_goes_on::<TilePlane>(&rt, rt.alloc())
-}
 
 // Whether the first folder has these patterns and no more.
 fn holds(bundle: &Bundle, patterns: &[(&[u8], &[u8])]) -> bool {

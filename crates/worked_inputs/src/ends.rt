@@ -1,10 +1,11 @@
 //! Readers and writers that end, fail, stop or go on without end, watched.
-use crate::reading::{ReadFault, read_all};
-use crate::watched::{Failed, Watched};
-use crate::writing::put_all;
+
 use std::io;
 use std::io::{ErrorKind, Read, Write};
 use std::test::Fail;
+use watched::reading::{ReadFault, read_all};
+use watched::watched::{Failed, Watched};
+use watched::writing::put_all;
 
 /// Gives its bytes one at a time, fails once they are gone, and counts the calls.
 #[derive(Drop)]
@@ -193,22 +194,5 @@ fn faults_say_what_happened(rt: HostRuntime) -> Result<(), Fail> {
         let shown = format!(in rt.alloc(); "{fault}")?;
         assert_eq!(rt; shown.as_str(), text);
     }
-    Ok(())
-}
-
-// This holds as well where any one growth is refused, which `rt try --test --fail-alloc N` does for the growth of
-// number N.
-#[test]
-fn a_reading_that_is_refused_memory_has_not_failed(rt: HostRuntime) -> Result<(), Fail> {
-    let mut reader = Watched::new(TEXT);
-    let bytes = match read_all(rt.alloc(), &mut reader, 100) {
-        Ok(bytes) => bytes,
-        Err(fault) => {
-            assert_eq!(rt; fault, ReadFault::Memory);
-            read_all(rt.alloc(), &mut Watched::new(TEXT), 100)?
-        }
-    };
-    assert!(rt; !reader.failed());
-    assert_eq!(rt; bytes.as_slice(), TEXT);
     Ok(())
 }

@@ -15,24 +15,9 @@ pub enum Behind {
     BytesWithoutEnd,
 }
 
-/// A file, or a folder, whose path ends in a slash and whose bytes are its names, each ended by a byte 0.
-#[derive(Clone, Copy)]
-pub struct Item<'a> {
-    pub path: &'a str,
-    pub bytes: &'a [u8],
-    pub behind: Behind,
-}
-
-impl<'a> Item<'a> {
-    /// An item with nothing behind its bytes.
-    pub fn whole(path: &'a str, bytes: &'a [u8]) -> Item<'a> {
-        Item {
-            path,
-            bytes,
-            behind: Behind::End,
-        }
-    }
-}
+/// A file, or a folder, whose path ends in a slash and whose bytes are its names, each ended by a byte 0: its path, its
+/// bytes and what comes behind these.
+pub type Item<'a> = (&'a str, &'a [u8], Behind);
 
 /// All the folders and files that there are.
 #[derive(Clone, Copy)]
@@ -50,11 +35,11 @@ pub struct Opened<'a> {
 
 impl<'a> Shelf<'a> {
     fn open(&self, path: &str) -> io::Result<Opened<'a>> {
-        for item in self.items {
-            if item.path == path {
+        for (known, bytes, behind) in self.items {
+            if *known == path {
                 return Ok(Opened {
-                    left: item.bytes,
-                    behind: item.behind,
+                    left: bytes,
+                    behind: *behind,
                 });
             }
         }

@@ -110,6 +110,13 @@ const OSCILLATORS: &[Example] = &[
         settled: Some((0, 2, (0, 0), b"xp2_7")),
     },
     Example {
+        text: b"x = 4, y = 2\nb3o$3o!",
+        bound: 10,
+        rule: b"B3/S23",
+        population: 6,
+        settled: Some((0, 2, (0, 0), b"xp2_7e")),
+    },
+    Example {
         text: b"x = 3, y = 3\n2bo4bo$2ob4ob2o$2bo4bo!",
         bound: 15,
         rule: b"B3/S23",
@@ -198,6 +205,27 @@ const TURNED: &[Example] = &[
         rule: b"B3/S23",
         population: 8,
         settled: Some((0, 1, (0, 0), b"xs8_33y933")),
+    },
+    Example {
+        text: b"x = 4, y = 4\n2o$obo$2bo$2b2o!",
+        bound: 10,
+        rule: b"B3/S23",
+        population: 7,
+        settled: Some((0, 1, (0, 0), b"xs7_178c")),
+    },
+    Example {
+        text: b"x = 4, y = 4\n2b2o$bobo$bo$2o!",
+        bound: 10,
+        rule: b"B3/S23",
+        population: 7,
+        settled: Some((0, 1, (0, 0), b"xs7_178c")),
+    },
+    Example {
+        text: b"x = 3, y = 3\n2o$obo$bo!",
+        bound: 10,
+        rule: b"B3/S23",
+        population: 5,
+        settled: Some((0, 1, (0, 0), b"xs5_253")),
     },
 ];
 

@@ -1,6 +1,6 @@
 use Rattle.std.proofs.Common.{arith}
 use Rattle.life_shape.proofs.Boxes.{width_at_age, height_at_age}
-use Rattle.life_shape.proofs.tests.shape_of.Goals as goal
+use Rattle.worked_patterns.proofs.shapes.shape_of.Goals as goal
 
 pub of-requires-2-clause-wide : goal.of-requires-2-clause-wide
 of-requires-2-clause-wide c =
