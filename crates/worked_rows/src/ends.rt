@@ -53,21 +53,21 @@ impl Write for FailingWriter {
 const GLIDER: &[u8] = b"x = 3, y = 3, rule = B3/S23\r\nbo$2bo$3o!";
 
 // The words, standard input, and what stands on standard output where no end fails.
-type Call = (&'static [&'static str], &'static [u8], &'static [u8]);
+pub(crate) type Call = (&'static [&'static str], &'static [u8], &'static [u8]);
 
-const ADVANCE: Call = (
+pub(crate) const ADVANCE: Call = (
     &["advance", "1"],
     GLIDER,
     b"x = 3, y = 3, rule = B3/S23\nobo$b2o$bo!\n",
 );
 
-const DRAW: Call = (
+pub(crate) const DRAW: Call = (
     &["draw", "xq4_153"],
     b"",
     b"x = 3, y = 3, rule = B3/S23\n3o$2bo$bo!\n",
 );
 
-const RUN: Call = (
+pub(crate) const RUN: Call = (
     &["run", "--bound", "50", "--workers", "2"],
     DEMO,
     DEMO_REPORT,

@@ -1,16 +1,23 @@
-//! Bundles and feeds that may be refused memory.
+//! Bundles, feeds and commands that may be refused memory.
 //!
 //! With memory to spare these tests see whole answers. They hold as well where any one growth is refused, which
 //! `rt try --test --fail-alloc N` does for the growth of number N: what was refused is as it was, and the same call
 //! again gives the answer.
 
 use crate::bundles::{BLINKER, BLOCK, DEMO, folder_of};
+use crate::ends::{ADVANCE, Call, DRAW, RUN};
 use census_bundle::bundle::{AddFault, Bundle};
 use census_bundle::fault::BundleFault;
 use census_bundle::reading::read_bundle;
 use census_bundle::ticket::Ticket;
+use census_command::dispatch::dispatch;
 use census_feed::handles::Feed;
+use std::alloc::{AllocError, Global};
+use std::rt::Files;
+use std::sync::Wait;
 use std::test::Fail;
+use std::thread::Threads;
+use watched::watched::Watched;
 
 // Whether the first folder has these patterns and no more.
 fn holds(bundle: &Bundle, patterns: &[(&[u8], &[u8])]) -> bool {
@@ -86,6 +93,33 @@ fn a_feed_that_is_refused_memory_can_be_filled_again(rt: HostRuntime) -> Result<
         (1, None),
     ] {
         assert_eq!(rt; hands.get_mut(hand).and_then(|hand| hand.take(&rt)), taken);
+    }
+    Ok(())
+}
+
+// The status of a command, and what it wrote.
+fn answered<R: Threads + Wait + Sync + Files + Alloc + Clone + Drop>(
+    rt: &R,
+    alloc: Global,
+    call: &Call,
+) -> Result<(u8, Vec<u8>), AllocError> {
+    let mut input = Watched::new(call.1);
+    let mut output = Watched::new(Vec::with_capacity(alloc, 300)?);
+    let mut errors = Watched::new(Vec::with_capacity(alloc, 30)?);
+    let status = dispatch(rt, alloc, call.0, &mut input, &mut output, &mut errors);
+    Ok((status, output.into_inner()))
+}
+
+#[test]
+fn a_command_that_is_refused_memory_can_be_given_again(rt: HostRuntime) -> Result<(), Fail> {
+    for call in [&ADVANCE, &DRAW, &RUN] {
+        let (mut status, mut written) = answered(&rt, rt.alloc(), call)?;
+        if status == 3 {
+            assert!(rt; call.2.starts_with(written.as_slice()));
+            (status, written) = answered(&rt, rt.alloc(), call)?;
+        }
+        assert_eq!(rt; status, 0);
+        assert_eq!(rt; written.as_slice(), call.2);
     }
     Ok(())
 }
