@@ -20,7 +20,11 @@ const EXAMPLES: &[Example] = &[
     Example {
         words: &["t"],
         items: &[
-            ("t/", b"b.rle\0note.txt\0a.rle\0rle\0c.RLE\0B.rle\0.rle\0aa.rle\0a.rle~\0", Behind::End),
+            (
+                "t/",
+                b"b.rle\0note.txt\0a.rle\0rle\0c.RLE\0B.rle\0.rle\0aa.rle\0a.rle~\0",
+                Behind::End,
+            ),
             ("t/b.rle", b"2o$2o!", Behind::End),
             ("t/a.rle", b"3o!", Behind::End),
             ("t/B.rle", b"B", Behind::End),
@@ -122,7 +126,11 @@ const FAILING: &[Item<'static>] = &[
     ("sound/a.rle", b"3o!", Behind::End),
     ("cut/", b"b.rle\0a.rle\0", Behind::End),
     ("cut/b.rle", b"3o!", Behind::End),
-    ("cut/a.rle", b"3o", Behind::Error(ErrorKind::ConnectionReset)),
+    (
+        "cut/a.rle",
+        b"3o",
+        Behind::Error(ErrorKind::ConnectionReset),
+    ),
     ("lost/", b"a.rle\0", Behind::End),
     ("badly/", b" a.rle\0", Behind::End),
     ("badly/ a.rle", b"3o!", Behind::End),
@@ -137,7 +145,10 @@ const FAILING: &[Item<'static>] = &[
 // Words, and the first failure.
 const CASES: &[(&[&str], FoldersFault)] = &[
     (&["sound", "missing", ""], FoldersFault::Read),
-    (&["sound", "", "missing"], FoldersFault::Add(AddFault::BadName)),
+    (
+        &["sound", "", "missing"],
+        FoldersFault::Add(AddFault::BadName),
+    ),
     (&["\n"], FoldersFault::Add(AddFault::BadName)),
     (&["cut", ""], FoldersFault::Read),
     (&["lost", ""], FoldersFault::Read),
@@ -147,7 +158,10 @@ const CASES: &[(&[&str], FoldersFault)] = &[
     (&["broken"], FoldersFault::Read),
     (&["full"], FoldersFault::Memory),
     (&["long", ""], FoldersFault::TooLong),
-    (&["sound", "sound", " sound"], FoldersFault::Add(AddFault::BadName)),
+    (
+        &["sound", "sound", " sound"],
+        FoldersFault::Add(AddFault::BadName),
+    ),
 ];
 
 #[test]

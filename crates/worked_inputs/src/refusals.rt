@@ -56,8 +56,7 @@ fn words_can_be_read_again(rt: HostRuntime) -> Result<(), Fail> {
 // Words that ask for help, and words that are refused.
 #[test]
 fn words_are_answered_with_text_or_want_of_memory(rt: HostRuntime) {
-    const ANSWERED: &[(&[&str], &str)] =
-        &[(&["--help"], "Usage: census"), (&["advance"], "<N>")];
+    const ANSWERED: &[(&[&str], &str)] = &[(&["--help"], "Usage: census"), (&["advance"], "<N>")];
     for (words, part) in ANSWERED {
         match read_words(rt.alloc(), words) {
             Err(WordsFault::Help(text) | WordsFault::Refused(text)) => {

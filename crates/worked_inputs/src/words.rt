@@ -178,10 +178,7 @@ const RUN_PARTS: Words = &[
 
 const ADVANCE_PARTS: Words = &["Usage: census advance <N>", "0 to 4194304"];
 
-const DRAW_PARTS: Words = &[
-    "Usage: census draw [OPTIONS] <CODE>",
-    "[default: B3/S23]",
-];
+const DRAW_PARTS: Words = &["Usage: census draw [OPTIONS] <CODE>", "[default: B3/S23]"];
 
 // Words that ask for help, and parts of it.
 const HELPED: &[(Words, [Words; 2])] = &[

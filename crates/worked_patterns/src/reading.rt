@@ -51,7 +51,11 @@ fn faults_of_the_header(rt: HostRuntime) -> Result<(), Fail> {
         (b"#C a\n", RleFault::NoHeader, 1),
         (b"bo$!", RleFault::NoHeader, 1),
         (b"x = 3, y", RleFault::BadHeader, 2),
-        (b"x = 3, y = 3, rule = Life\no!", RleFault::RuleNotLifeLike, 3),
+        (
+            b"x = 3, y = 3, rule = Life\no!",
+            RleFault::RuleNotLifeLike,
+            3,
+        ),
         (b"x = 3, y = 3, rule = B03/S23\no!", RleFault::RuleHasB0, 4),
     ];
     for (text, fault, number) in TEXTS {
@@ -89,7 +93,11 @@ fn faults_of_the_body(rt: HostRuntime) -> Result<(), Fail> {
         ((b"1048576bo!", 1, b""), RleFault::TooFar { at: 21 }, 8),
         ((b"1048577o!", 1, b""), RleFault::TooFar { at: 13 }, 8),
         ((b"4294967297o!", 1, b""), RleFault::TooFar { at: 13 }, 8),
-        ((b"18446744073709551617o!", 1, b""), RleFault::TooFar { at: 13 }, 8),
+        (
+            (b"18446744073709551617o!", 1, b""),
+            RleFault::TooFar { at: 13 },
+            8,
+        ),
         ((b"9", 200, b"o!"), RleFault::TooFar { at: 13 }, 8),
         ((b"9", 200, b"$o!"), RleFault::TooFar { at: 214 }, 8),
         ((b"1048576o$o!", 1, b""), RleFault::TooMany { at: 22 }, 9),

@@ -67,13 +67,14 @@ const ROWS: &[Row] = &[
 ];
 
 #[test]
-fn a_line_ends_before_the_token_that_would_pass_70_characters(
-    rt: HostRuntime,
-) -> Result<(), Fail> {
+fn a_line_ends_before_the_token_that_would_pass_70_characters(rt: HostRuntime) -> Result<(), Fail> {
     for row in ROWS {
         let cells = spaced(rt.alloc(), row.count, row.last)?;
         let expected = alternating(rt.alloc(), row.header, row.pairs, row.rest)?;
-        assert_eq!(rt; written(rt.alloc(), &cells)?.as_slice(), expected.as_slice());
+        assert_eq!(rt;
+            written(rt.alloc(), &cells)?.as_slice(),
+            expected.as_slice()
+        );
     }
     Ok(())
 }
