@@ -2,7 +2,7 @@
 
 use crate::bundles::{BLINKER, BLOCK, DEMO, DEMO_REPORT};
 use crate::ends::FailingReader;
-use census_command::dispatch::dispatch;
+use crate::program::called;
 use std::alloc::{AllocError, Global};
 use std::io::Read;
 use std::process::Abort;
@@ -11,7 +11,6 @@ use std::sync::Wait;
 use std::test::Fail;
 use std::thread::Threads;
 use std::{fs, io};
-use watched::watched::Watched;
 
 const GLIDER: &[u8] = b"x = 3, y = 3, rule = B3/S23\r\nbo$2bo$3o!";
 
@@ -40,17 +39,16 @@ fn check_from<I: Read + Drop, R: Threads + Wait + Sync + Files + Alloc + Clone +
     call: &Call,
 ) -> Result<(), AllocError> {
     let (words, _, status, written, told) = call;
-    let mut input = Watched::new(input);
-    let mut output = Watched::new(Vec::with_capacity(alloc, 300)?);
-    let mut errors = Watched::new(Vec::with_capacity(alloc, 300)?);
-    let answered = dispatch(rt, alloc, words, &mut input, &mut output, &mut errors);
+    let output = Vec::with_capacity(alloc, 300)?;
+    let errors = Vec::with_capacity(alloc, 300)?;
+    let (answered, output, errors) = called(rt, alloc, words, input, output, errors);
     if answered == 3 {
-        assert!(rt; written.starts_with(output.into_inner().as_slice()));
+        assert!(rt; written.starts_with(output.as_slice()));
         return Err(AllocError);
     }
     assert_eq!(rt; answered, *status);
-    assert_eq!(rt; output.into_inner().as_slice(), *written);
-    assert_eq!(rt; errors.into_inner().as_slice(), *told);
+    assert_eq!(rt; output.as_slice(), *written);
+    assert_eq!(rt; errors.as_slice(), *told);
     Ok(())
 }
 
@@ -154,20 +152,18 @@ fn codes_are_drawn(rt: HostRuntime) -> Result<(), Fail> {
     Ok(())
 }
 
-// The status that the words have, where nothing can be read, and what stands on standard output and standard error.
+// The status that words have, and what stands on standard output and standard error.
 fn answered<R: Threads + Wait + Sync + Files + Alloc + Clone + Drop>(
     rt: &R,
     alloc: Global,
     words: &[&str],
 ) -> Result<(u8, Vec<u8>, Vec<u8>), AllocError> {
-    let mut input = Watched::new(Endless);
-    let mut output = Watched::new(Vec::with_capacity(alloc, 3000)?);
-    let mut errors = Watched::new(Vec::with_capacity(alloc, 1000)?);
-    let status = dispatch(rt, alloc, words, &mut input, &mut output, &mut errors);
-    if status == 3 {
-        return Err(AllocError);
+    let output = Vec::with_capacity(alloc, 3000)?;
+    let errors = Vec::with_capacity(alloc, 1000)?;
+    match called(rt, alloc, words, Endless, output, errors) {
+        (3, _, _) => Err(AllocError),
+        known => Ok(known),
     }
-    Ok((status, output.into_inner(), errors.into_inner()))
 }
 
 #[test]

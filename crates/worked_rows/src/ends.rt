@@ -1,7 +1,7 @@
 //! Standard input that fails, and standard output that is full, after each number of bytes.
 
 use crate::bundles::{DEMO, DEMO_REPORT};
-use census_command::dispatch::dispatch;
+use crate::program::called;
 use std::alloc::{AllocError, Global};
 use std::io;
 use std::io::{ErrorKind, Read, Write};
@@ -10,7 +10,6 @@ use std::rt::Files;
 use std::sync::Wait;
 use std::test::Fail;
 use std::thread::Threads;
-use watched::watched::Watched;
 
 /// Gives its bytes, and fails once they are gone.
 #[derive(Drop)]
@@ -81,24 +80,19 @@ fn fills_its_room<R: Threads + Wait + Sync + Files + Alloc + Clone + Drop + Abor
     room: usize,
 ) -> Result<(), AllocError> {
     let (words, text, whole) = call;
-    let mut input = Watched::new(*text);
-    let mut output = Watched::new(FailingWriter {
+    let output = FailingWriter {
         written: Vec::with_capacity(alloc, room)?,
         room,
-    });
-    let mut errors = Watched::new(Vec::with_capacity(alloc, 30)?);
-    let status = dispatch(rt, alloc, words, &mut input, &mut output, &mut errors);
+    };
+    let errors = Vec::with_capacity(alloc, 30)?;
+    let (status, output, errors) = called(rt, alloc, words, *text, output, errors);
     if status == 3 {
         return Err(AllocError);
     }
     assert_eq!(rt; status, 4, "{room} bytes of room");
-    let written = output.into_inner().written;
-    assert!(rt; whole.starts_with(written.as_slice()));
-    assert_eq!(rt; written.len(), room);
-    assert_eq!(rt;
-        errors.into_inner().as_slice(),
-        b"census: write failed\n".as_slice()
-    );
+    assert!(rt; whole.starts_with(output.written.as_slice()));
+    assert_eq!(rt; output.written.len(), room);
+    assert_eq!(rt; errors.as_slice(), b"census: write failed\n".as_slice());
     Ok(())
 }
 
@@ -120,19 +114,16 @@ fn writes_nothing<R: Threads + Wait + Sync + Files + Alloc + Clone + Drop + Abor
     words: &[&str],
     front: &[u8],
 ) -> Result<(), AllocError> {
-    let mut input = Watched::new(FailingReader { left: front });
-    let mut output = Watched::new(Vec::with_capacity(alloc, 300)?);
-    let mut errors = Watched::new(Vec::with_capacity(alloc, 30)?);
-    let status = dispatch(rt, alloc, words, &mut input, &mut output, &mut errors);
-    assert!(rt; output.into_inner().is_empty());
+    let input = FailingReader { left: front };
+    let output = Vec::with_capacity(alloc, 300)?;
+    let errors = Vec::with_capacity(alloc, 30)?;
+    let (status, output, errors) = called(rt, alloc, words, input, output, errors);
+    assert!(rt; output.is_empty());
     if status == 3 {
         return Err(AllocError);
     }
     assert_eq!(rt; status, 4, "after {} bytes", front.len());
-    assert_eq!(rt;
-        errors.into_inner().as_slice(),
-        b"census: read failed\n".as_slice()
-    );
+    assert_eq!(rt; errors.as_slice(), b"census: read failed\n".as_slice());
     Ok(())
 }
 
@@ -150,18 +141,18 @@ fn nothing_is_written_where_standard_input_fails(rt: HostRuntime) -> Result<(), 
 fn standard_error_that_fails_changes_no_status(rt: HostRuntime) -> Result<(), Fail> {
     const CALLS: &[(&[&str], u8)] = &[(&["run"], 4), (&["draw", "A"], 1), (&["draw"], 2)];
     for (words, known) in CALLS {
-        let mut input = Watched::new(FailingReader { left: b"" });
-        let mut output = Watched::new(Vec::new(rt.alloc()));
-        let mut errors = Watched::new(FailingWriter {
+        let input = FailingReader { left: b"" };
+        let output = Vec::new(rt.alloc());
+        let errors = FailingWriter {
             written: Vec::new(rt.alloc()),
             room: 0,
-        });
-        let status = dispatch(&rt, rt.alloc(), words, &mut input, &mut output, &mut errors);
+        };
+        let (status, output, _) = called(&rt, rt.alloc(), words, input, output, errors);
         if status == 3 {
             return Err(Fail::from(AllocError));
         }
         assert_eq!(rt; status, *known);
-        assert!(rt; output.into_inner().is_empty());
+        assert!(rt; output.is_empty());
     }
     Ok(())
 }

@@ -10,6 +10,8 @@ mod commands;
 #[cfg(test)]
 mod ends;
 #[cfg(test)]
+mod program;
+#[cfg(test)]
 mod refusals;
 #[cfg(test)]
 mod reports;

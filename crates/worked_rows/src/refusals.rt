@@ -6,18 +6,17 @@
 
 use crate::bundles::{BLINKER, BLOCK, DEMO, folder_of};
 use crate::ends::{ADVANCE, Call, DRAW, RUN};
+use crate::program::called;
 use census_bundle::bundle::{AddFault, Bundle};
 use census_bundle::fault::BundleFault;
 use census_bundle::reading::read_bundle;
 use census_bundle::ticket::Ticket;
-use census_command::dispatch::dispatch;
 use census_feed::handles::Feed;
 use std::alloc::{AllocError, Global};
 use std::rt::Files;
 use std::sync::Wait;
 use std::test::Fail;
 use std::thread::Threads;
-use watched::watched::Watched;
 
 // Whether the first folder has these patterns and no more.
 fn holds(bundle: &Bundle, patterns: &[(&[u8], &[u8])]) -> bool {
@@ -103,11 +102,10 @@ fn answered<R: Threads + Wait + Sync + Files + Alloc + Clone + Drop>(
     alloc: Global,
     call: &Call,
 ) -> Result<(u8, Vec<u8>), AllocError> {
-    let mut input = Watched::new(call.1);
-    let mut output = Watched::new(Vec::with_capacity(alloc, 300)?);
-    let mut errors = Watched::new(Vec::with_capacity(alloc, 30)?);
-    let status = dispatch(rt, alloc, call.0, &mut input, &mut output, &mut errors);
-    Ok((status, output.into_inner()))
+    let output = Vec::with_capacity(alloc, 300)?;
+    let errors = Vec::with_capacity(alloc, 30)?;
+    let (status, written, _) = called(rt, alloc, call.0, call.1, output, errors);
+    Ok((status, written))
 }
 
 #[test]
