@@ -10,6 +10,8 @@ type Tile = [u64; 64];
 const EMPTY: Tile = [0; 64];
 const ROWS: usize = 8;
 const BANDS: usize = 64 / ROWS;
+/// By how much the tiles stand off to the north west.
+const STAND_OFF: i32 = 26;
 
 /// The next state of 64 cells, of the bits that their live neighbours' number is made of:
 /// ones + 2 (a + 2 b + c + 2 d).
@@ -297,7 +299,7 @@ fn read(text: &str) -> (u16, u16, Plane) {
     let header = lines.next().unwrap_or("");
     let rule = header.split("rule =").nth(1).unwrap_or("B3/S23").trim();
     let (birth, survival) = rule.split_once('/').unwrap_or(("B3", "S23"));
-    let (mut x, mut y, mut run) = (0i32, 0i32, 0i32);
+    let (mut x, mut y, mut run) = (STAND_OFF, STAND_OFF, 0i32);
     let mut plane = Plane::new();
     for byte in lines.flat_map(str::bytes) {
         match byte {
@@ -311,7 +313,7 @@ fn read(text: &str) -> (u16, u16, Plane) {
                 run = 0;
             }
             b'b' => (x, run) = (x + run.max(1), 0),
-            b'$' => (x, y, run) = (0, y + run.max(1), 0),
+            b'$' => (x, y, run) = (STAND_OFF, y + run.max(1), 0),
             _ => {}
         }
     }
