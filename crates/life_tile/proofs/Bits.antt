@@ -14,7 +14,7 @@ bit_cases n x =
     (cases_eq (bit_at n x) 1)
 
 -- the bits from bit b on
-bit_at_rest : (n b j : ℕ) → bit_at (n / 2 ^ b) j ≡ bit_at n (b + j)
+pub bit_at_rest : (n b j : ℕ) → bit_at (n / 2 ^ b) j ≡ bit_at n (b + j)
 bit_at_rest n b j =
     let some : 0 < 2 ^ b = pow_pos b in
     let small : n % 2 ^ b < 2 ^ b = omega arith in

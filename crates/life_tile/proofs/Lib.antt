@@ -26,3 +26,4 @@ pub mod EndCells
 pub mod Edges
 pub mod Placed
 pub mod SameCells
+pub mod Covered

@@ -16,7 +16,7 @@ use Rattle.life_model.proofs.Symmetries.{contains-moved}
 use Rattle.life_plane.specs.Ways.{AreApart, IsWay}
 use Rattle.life_plane.proofs.Ways.{apart_by_length, plus_back, way_of_none}
 use Rattle.life_tile.specs.declared.ends.Ends.{Ends}
-use Rattle.life_tile.specs.Ends.{IsMember, HasEnds}
+use Rattle.life_tile.specs.Ends.{IsMember, IsNoLater, HasEnds}
 use Rattle.life_tile.proofs.Members.{Has, has_head, has_cases, has_none}
 use Rattle.life_tile.proofs.Sizes.{below_has, both_hold, lesser, int_less, int_same, member_has}
 use Rattle.life_tile.proofs.Edges.{head_is, has_member}
@@ -167,3 +167,49 @@ pub apart_by_missing : (cs : List Cell) (H : Generation) → T (is_rising cs) �
     (All (λ c. IsMember H (plus c (plus ends.first (opposite (get_or cs 0 origin))))) cs → ⊥) → AreApart (from_list cs) H
 apart_by_missing cs H rising ends has missing d is =
     missing (subst (λ m. All (λ c. IsMember H (plus c m)) cs) (sym (first_moved cs H rising ends has d is)) (members_moved cs H rising d is))
+
+-- ---- two sets
+
+all_members : (G : Generation) (P : Cell → Type 0) → ((c : Cell) → IsMember G c → P c) → All P (cells G)
+unfolding Has
+all_members G P each = All-from_any (eq_by_cmp_equiv cell_cmp_total) P (cells G) (λ q has. each q (member_has G q has))
+
+first_of_list : (cs : List Cell) (first : Cell) → T (is_rising cs) → Has cs first → ((c : Cell) → Has cs c → IsNoLater first c) → get_or cs 0 origin ≡ first
+first_of_list [] first rising has none_before = absurd (has_none first has)
+first_of_list (c ∷ cs) first rising has none_before = head_is c cs first rising has (none_before c (has_head c cs))
+
+first_member : (G : Generation) (ends : Ends) → HasEnds (IsMember G) ends → get_or (cells G) 0 origin ≡ ends.first
+first_member G ends has =
+    first_of_list (cells G) ends.first (cells-rise G) (has_member G ends.first has.first) (λ c in_list. has.none_before c (member_has G c in_list))
+
+pub size_of_none : (G : Generation) → ((c : Cell) → IsMember G c → ⊥) → size G ≡ 0
+size_of_none G none = size-cells G ∙ none_listed (cells G) (λ c has. none c (member_has G c has))
+
+module _ (G H : Generation) where
+  listed_again : from_list (cells G) ≡ G
+  listed_again = from_list-cells G
+
+  pub way_of_no_cell : size G ≡ 0 → size H ≡ 0 → IsWay G H origin
+  way_of_no_cell none none_too =
+      subst (λ X. IsWay X H origin) listed_again
+      (subst (λ X. IsWay (from_list (cells G)) X origin) (from_list-cells H) (way_of_none (cells G) (cells H) (sym (size-cells G) ∙ none) (sym (size-cells H) ∙ none_too)))
+
+  pub sets_apart_by_count : size H ≢ size G → AreApart G H
+  sets_apart_by_count differ =
+      subst (λ X. AreApart X H) listed_again (apart_by_count (cells G) H (cells-rise G) (λ same. differ (same ∙ sym (size-cells G))))
+
+  pub way_of_members : (d : Cell) → 0 < size G → size H ≡ size G → ((c : Cell) → IsMember G c → IsMember H (plus c d)) → IsWay G H d
+  way_of_members d some same each =
+      let more : 0 < length (cells G) = subst (λ n. 0 < n) (size-cells G) some in
+      subst (λ X. IsWay X H d) listed_again
+      (way_of_all (cells G) H (cells-rise G) d more (same ∙ size-cells G) (all_members G (λ c. IsMember H (plus c d)) each))
+
+  pub sets_apart_by_missing : (from to : Ends) → HasEnds (IsMember G) from → HasEnds (IsMember H) to →
+      (((c : Cell) → IsMember G c → IsMember H (plus c (plus to.first (opposite from.first)))) → ⊥) → AreApart G H
+  sets_apart_by_missing from to has_from has_to missing d is =
+      let by : plus to.first (opposite from.first) ≡ d =
+      ap (λ c. plus to.first (opposite c)) (sym (first_member G from has_from))
+      ∙ first_moved (cells G) H (cells-rise G) to has_to d (is ∙ ap (λ X. moved X d) (sym listed_again)) in
+      missing
+      (subst (λ m. (c : Cell) → IsMember G c → IsMember H (plus c m)) (sym by)
+      (λ c in_set. ap (λ X. contains X (plus c d)) is ∙ contains-moved G d (plus c d) ∙ ap (contains G) (plus-opposite c d) ∙ in_set))

@@ -1,6 +1,12 @@
 -- Cells that are looked at when sets are compared.
-use Rattle.std.specs.Prelude.{pos, negsuc, ◌≤ℤ◌}
-use Rattle.life_model.specs.Cell.{Cell}
+use Rattle.std.specs.Prelude.{◌≡◌, ℕ, ℤ, pos, negsuc, ◌≤ℤ◌, ◌+ℤ◌, ◌<◌}
+use Rattle.std.specs.Int.{bit_at}
+use Rattle.life_model.specs.Cell.{Cell, plus}
+use Rattle.life_model.specs.Generation.{Generation}
+use Rattle.life_bits.specs.declared.tile.Tile.{Tile}
+use Rattle.life_bits.specs.Area.{tile_cell}
+use Rattle.life_tile.specs.Ends.{IsMember}
+use Rattle.life_tile.specs.Places.{start_at}
 
 -- both places are numbers of 32 bits, by far
 pub record IsInReach (c : Cell) : Type 0 where
@@ -8,3 +14,15 @@ pub record IsInReach (c : Cell) : Type 0 where
   pub east : c.0 ≤ℤ pos 1000000000
   pub north : negsuc 1000000000 ≤ℤ c.1
   pub south : c.1 ≤ℤ pos 1000000000
+
+-- each of the 64 bits of a word that is set is a member, where bit 0 is at this cell
+pub record IsRowIn (G : Generation) (word : ℕ) (start : Cell) : Type 0 where
+  pub each : (j : ℕ) → j < 64 → bit_at word j ≡ 1 → IsMember G (start.0 +ℤ pos j, start.1)
+
+-- each live cell of a tile whose first cell is at this corner is a member, moved by d
+pub record IsTileIn (G : Generation) (tile : Tile) (corner d : Cell) : Type 0 where
+  pub each : (x y : ℕ) → x < 64 → y < 64 → tile_cell tile x y ≡ 1 → IsMember G (plus (corner.0 +ℤ pos x, corner.1 +ℤ pos y) d)
+
+-- the first cell of the tile at a place
+abbrev pub corner_at : ℤ × ℤ → Cell
+corner_at place = (start_at place.0, start_at place.1)

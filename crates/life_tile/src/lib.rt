@@ -3,6 +3,7 @@
 
 mod bands;
 mod counting;
+mod covering;
 mod ends;
 mod grid;
 mod listing;

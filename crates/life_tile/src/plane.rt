@@ -101,6 +101,10 @@ impl Plane for TilePlane {
         Ok(sameness::way_from(&self.slab, list.as_slice()))
     }
 
+    fn way_from_plane(&self, other: &Self) -> Result<Option<(i32, i32)>, AllocError> {
+        Ok(sameness::way_from_slab(&self.slab, &other.slab))
+    }
+
     fn copy(&self) -> Result<Self, AllocError> {
         let slab = self.slab.compacted()?;
         let limit = limit_of(&slab);

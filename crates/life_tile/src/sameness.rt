@@ -8,6 +8,7 @@ ghost use Rattle.life_tile.specs.Ends.{IsMember};
 ghost use Rattle.life_tile.specs.Reach.{IsInReach};
 ghost use Rattle.life_tile.specs.Slabs.{IsKept, members_of};
 
+use crate::covering::has_slab;
 use crate::grid::split;
 use crate::listing::tile_in;
 use crate::slab::Slab;
@@ -27,7 +28,7 @@ fn is_live(slab: &Slab, cell: (i32, i32)) -> bool
 }
 
 /// The cell, moved as one place is from another.
-fn moved(cell: (i32, i32), from: (i32, i32), to: (i32, i32)) -> (i32, i32)
+pub fn moved(cell: (i32, i32), from: (i32, i32), to: (i32, i32)) -> (i32, i32)
     requires cell { IsPlace cell }
     requires from { IsPlace from }
     requires to { IsPlace to }
@@ -74,5 +75,30 @@ pub fn way_from(slab: &Slab, cells: &[(i32, i32)]) -> Option<(i32, i32)>
             }
             Some(move_between(from, ends.first))
         }
+    }
+}
+
+/// How far the live cells are from those of another slab, where they are those moved as a whole. They are if there are as many,
+/// and each of the other is live where the first of them would be moved to.
+pub fn way_from_slab(slab: &Slab, other: &Slab) -> Option<(i32, i32)>
+    requires kept { IsKept slab.now }
+    requires other { IsKept other.now }
+    ensures way { IfSome result (λ d. IsWay (members_of other.now) (members_of slab.now) d) }
+    ensures apart { IfNone result (AreApart (members_of other.now) (members_of slab.now)) }
+{
+    if slab.population() != other.population() {
+        return None;
+    }
+    match other.ends() {
+        None => Some((0, 0)),
+        Some(from) => match slab.ends() {
+            None => Some((0, 0)),
+            Some(to) => {
+                if !has_slab(slab, other, from.first, to.first) {
+                    return None;
+                }
+                Some(move_between(from.first, to.first))
+            }
+        },
     }
 }

@@ -135,10 +135,16 @@ fn the_way_of_a_glider_is_found_across_corners(rt: HostRuntime) -> Result<(), Ce
     let list = CellList::of(alloc, &cells)?;
     let later = after(alloc, &cells, &Rule::life(), 100)?;
     assert!(rt; later.way_from(&list)? == Some((25, 25)));
+    let start = after(alloc, &cells, &Rule::life(), 0)?;
+    assert!(rt; later.way_from_plane(&start)? == Some((25, 25)));
+    assert!(rt; start.way_from_plane(&later)? == Some((-25, -25)));
     let turned = after(alloc, &cells, &Rule::life(), 102)?;
     assert!(rt; turned.way_from(&list)? == None);
+    assert!(rt; turned.way_from_plane(&start)? == None);
     let none = after(alloc, &[], &Rule::life(), 0)?;
     assert!(rt; none.way_from(&list)? == None);
+    assert!(rt; none.way_from_plane(&start)? == None);
+    assert!(rt; none.way_from_plane(&none)? == Some((0, 0)));
     assert!(rt; none.way_from(&none.cells()?)? == Some((0, 0)));
     Ok(())
 }

@@ -1,0 +1,119 @@
+//! Whether the live cells of a slab, moved as a whole, are live in another slab, by rows of 64.
+ghost use Rattle.std.specs.Prelude.{◌≡◌, ◌↔◌, ◌+◌, ◌-◌, ◌+ℤ◌, ◌<◌, ◌≤◌, ℕ, pos, IsTrue, length};
+ghost use Rattle.std.specs.Int.{bit_at};
+ghost use Rattle.life_model.specs.Cell.{Cell, opposite, plus};
+ghost use Rattle.life_cells.specs.Limits.{IsPlace};
+ghost use Rattle.life_tile.specs.Ends.{IsMember};
+ghost use Rattle.life_tile.specs.Places.{start_at};
+ghost use Rattle.life_tile.specs.Reach.{corner_at, IsInReach, IsRowIn, IsTileIn};
+ghost use Rattle.life_tile.specs.Slots.{place_of};
+ghost use Rattle.life_tile.specs.Slabs.{IsKept, members_of, state_at};
+
+use crate::grid::{corner_of, split};
+use crate::listing::tile_in;
+use crate::sameness::moved;
+use crate::slab::Slab;
+use crate::slot::{Slot, slot_or_none};
+use life_bits::Tile;
+
+/// The 64 bits of two words side by side from bit `shift` of the first on.
+fn joined(west: u64, east: u64, shift: usize) -> u64
+    requires { shift < 64 }
+    ensures near { (j : ℕ) → shift + j < 64 → bit_at result j ≡ bit_at west (shift + j) }
+    ensures far { (j : ℕ) → j < 64 → 64 ≤ shift + j → bit_at result j ≡ bit_at east (shift + j - 64) }
+{
+    if shift == 0 {
+        west
+    } else {
+        (west >> shift) | (east << (64 - shift))
+    }
+}
+
+/// Row `y` of the tile in a column and a row of tiles.
+fn row_at(slab: &Slab, column: i32, row: i32, y: usize) -> u64
+    requires kept { IsKept slab.now }
+    requires y { y < 64 }
+    ensures { (x : ℕ) → x < 64 → bit_at result x ≡ state_at (members_of slab.now) (start_at column +ℤ pos x) (start_at row +ℤ pos y) }
+{
+    tile_in(&slab.cur, slot_or_none(&slab.index, (column, row))).rows[y]
+}
+
+/// The cell and the 63 to the east of it.
+fn row_from(slab: &Slab, cell: (i32, i32)) -> u64
+    requires kept { IsKept slab.now }
+    requires reach { IsInReach cell }
+    ensures { (j : ℕ) → j < 64 → bit_at result j ≡ state_at (members_of slab.now) (cell.0 +ℤ pos j) cell.1 }
+{
+    let (column, shift) = split(cell.0);
+    let (row, y) = split(cell.1);
+    let west = row_at(slab, column, row, y);
+    let east = row_at(slab, column + 1, row, y);
+    joined(west, east, shift)
+}
+
+/// Whether each set bit of a word is a live cell, where bit 0 is at this cell.
+fn has_row(slab: &Slab, word: u64, start: (i32, i32)) -> bool
+    requires kept { IsKept slab.now }
+    requires reach { IsInReach start }
+    ensures { IsTrue result ↔ IsRowIn (members_of slab.now) word start }
+{
+    if word == 0 {
+        return true;
+    }
+    word & !row_from(slab, start) == 0
+}
+
+/// Whether each live cell of a tile whose first cell is here is live in the slab, moved as one place is from another.
+fn has_tile(slab: &Slab, tile: &Tile, corner: (i32, i32), from: (i32, i32), to: (i32, i32)) -> bool
+    requires kept { IsKept slab.now }
+    requires corner { IsPlace corner }
+    requires lower { IsPlace (corner.0, corner.1 +ℤ pos 63) }
+    requires from { IsPlace from }
+    requires to { IsPlace to }
+    ensures { IsTrue result ↔ IsTileIn (members_of slab.now) tile.now corner (plus to (opposite from)) }
+{
+    for y in 0..64 {
+        let start = moved((corner.0, corner.1 + y as i32), from, to);
+        if !has_row(slab, tile.rows[y], start) {
+            return false;
+        }
+    }
+    true
+}
+
+/// The place of a slot.
+fn place_in(slots: &[Slot], slot: usize) -> (i32, i32)
+    requires { slot < length slots.now }
+    ensures { result ≡ place_of slots.now slot }
+{
+    slots[slot].place
+}
+
+/// The first cell of the tile of a slot.
+fn corner_in(slab: &Slab, slot: usize) -> (i32, i32)
+    requires kept { IsKept slab.now }
+    requires later { 0 < slot }
+    requires slot { slot < length slab.now.slots.items }
+    ensures is { result ≡ corner_at (place_of slab.now.slots.items slot) }
+    ensures first { IsPlace result }
+    ensures last { IsPlace (result.0, result.1 +ℤ pos 63) }
+{
+    corner_of(place_in(&slab.slots, slot))
+}
+
+/// Whether each live cell of another slab is live, moved as one place is from another.
+pub fn has_slab(slab: &Slab, other: &Slab, from: (i32, i32), to: (i32, i32)) -> bool
+    requires kept { IsKept slab.now }
+    requires other { IsKept other.now }
+    requires from { IsPlace from }
+    requires to { IsPlace to }
+    ensures { IsTrue result ↔ ((c : Cell) → IsMember (members_of other.now) c → IsMember (members_of slab.now) (plus c (plus to (opposite from)))) }
+{
+    for slot in 1..other.slots.len() {
+        let tile = tile_in(&other.cur, slot);
+        if !has_tile(slab, tile, corner_in(other, slot), from, to) {
+            return false;
+        }
+    }
+    true
+}
