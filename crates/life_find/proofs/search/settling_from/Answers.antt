@@ -36,6 +36,9 @@ returns-in-Some-clause-found g c =
     (sym at.there ∙ way.move ∙ ap (λ H. moved H d) at.here)
     (λ none. way.unmoved (at.here ∙ none)) at.none
 
+pub returns-in-Some-clause-shape : goal.returns-in-Some-clause-shape
+returns-in-Some-clause-shape g c = ap normal c.loop-onset.invariant.here
+
 pub loop-onset-preserved : goal.loop-onset-preserved
 loop-onset-preserved g c =
     let R = c.args.rule.now in
