@@ -31,7 +31,7 @@ pub(crate) type Batch<'a> = Vec<Done<'a>>;
 /// As many results a worker sends together at most.
 const BATCH_LEN: usize = 16;
 
-/// A pattern that has come again by this generation was quick work.
+/// A pattern whose onset and period are at most this was quick work.
 const QUICK: u32 = 64;
 
 // Whether this was found by quick work, as the next of a collection is then likely to be too.

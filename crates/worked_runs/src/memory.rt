@@ -12,8 +12,9 @@ use census_bundle::ticket::Ticket;
 use census_crew::bytes::{BytesFault, run_bytes};
 use census_crew::fault::RunFault;
 use census_crew::gate::OpenGate;
-use census_crew::run::run;
+use census_crew::run::{run, run_on};
 use census_crew::settling::settle;
+use census_feed::handles::Feed;
 use std::alloc::{AllocError, Global};
 use std::process::Abort;
 use std::sync::Wait;
@@ -43,6 +44,19 @@ fn run_is_whole<R: Threads + Wait + Abort + Sync>(
 {
     let mut out = Watched::new(Vec::with_capacity(alloc, DEMO_REPORT.len())?);
     let fault = run(rt, alloc, bundle, 50, workers, &OpenGate, &mut out).err();
+    assert!(rt; fault.is_none() || fault == Some(RunFault::Memory));
+    Ok(check(rt, fault.is_none(), out, DEMO_REPORT))
+}
+
+// The same of a run from a feed that was filled before.
+fn fed_run_is_whole<R: Threads + Wait + Abort + Sync>(
+    rt: &R,
+    alloc: Global,
+    bundle: &Bundle,
+) -> Result<bool, AllocError> {
+    let mut out = Watched::new(Vec::with_capacity(alloc, DEMO_REPORT.len())?);
+    let (feed, hands) = Feed::fill(alloc, bundle, 2)?;
+    let fault = run_on(rt, alloc, bundle, 50, feed, hands, &OpenGate, &mut out).err();
     assert!(rt; fault.is_none() || fault == Some(RunFault::Memory));
     Ok(check(rt, fault.is_none(), out, DEMO_REPORT))
 }
@@ -103,6 +117,16 @@ fn a_run_for_want_of_memory_can_be_made_again(rt: HostRuntime) {
         if let Ok(false) = run_is_whole(&rt, rt.alloc(), &bundle, workers) {
             assert_eq!(rt; run_is_whole(&rt, rt.alloc(), &bundle, workers), Ok(true));
         }
+    }
+}
+
+#[test]
+fn a_fed_run_for_want_of_memory_can_be_made_again(rt: HostRuntime) {
+    let Ok(bundle) = read_bundle(rt.alloc(), DEMO) else {
+        return;
+    };
+    if fed_run_is_whole(&rt, rt.alloc(), &bundle) != Ok(true) {
+        assert_eq!(rt; fed_run_is_whole(&rt, rt.alloc(), &bundle), Ok(true));
     }
 }
 
