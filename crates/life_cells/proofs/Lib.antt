@@ -2,3 +2,4 @@ pub mod RuleLemmas
 pub mod FormLemmas
 pub mod Sorted
 pub mod PrintLemmas
+pub mod Corners

@@ -2,5 +2,6 @@
 #![tactic(auto)]
 
 pub mod cell_list;
+pub mod corner;
 pub mod order;
 pub mod rule;

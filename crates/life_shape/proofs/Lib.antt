@@ -1,6 +1,5 @@
 pub mod Members
 pub mod Boxes
-pub mod Corners
 pub mod TextOrders
 pub mod Marks
 pub mod Drawings

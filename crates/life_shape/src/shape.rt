@@ -12,6 +12,7 @@ ghost use Rattle.life_shape.specs.Wechsler.{body};
 use crate::orient::Orient;
 use crate::writer::text_of;
 use life_cells::cell_list::CellList;
+use life_cells::corner::corner;
 use life_cells::order::put_in_order;
 use std::alloc::{AllocError, Global};
 use std::marker::Model;
@@ -59,23 +60,6 @@ impl Eq for Shape {
     ghost use Rattle.life_shape.specs.Alike.{same_cells_equiv};
 
     ghost laws = { same_cells_equiv };
-}
-
-// The least x and the least y of the cells, or (0, 0) where there is none.
-fn corner(cells: &[(i32, i32)]) -> (i32, i32)
-    ensures { result ≡ corner_of cells.now }
-{
-    match cells {
-        [] => (0, 0),
-        [first, rest @ ..] => {
-            let (mut x, mut y) = *first;
-            for cell in rest {
-                x = x.min(cell.0);
-                y = y.min(cell.1);
-            }
-            (x, y)
-        }
-    }
 }
 
 // The cell, moved so that the corner comes to the origin.

@@ -7,9 +7,6 @@ use Rattle.life_model.specs.Cell.{Cell}
 use Rattle.life_model.specs.Symmetry.{least_by, corner_of}
 use Rattle.life_cells.specs.Limits.{IsPlace}
 
-min_of_three : (a b c : ℤ) → int_min a (int_min b c) ≡ int_min (int_min a b) c
-min_of_three a b c = omega (arith, ints, clamps)
-
 min_left : (a b : ℤ) → int_min a b ≤ℤ a
 min_left a b = omega (arith, ints, clamps)
 
@@ -23,15 +20,6 @@ min_is : (P : ℤ → Type 0) (a b : ℤ) → P a → P b → P (int_min a b)
 min_is P a b first second = elim (int_lt b a) as (λ t. P (cond t b a)) [ true ↦ second | false ↦ first ]
 
 module _ (f : Cell → ℤ) where
-  least_by-suc : (c : Cell) (cs : List Cell) (i : ℕ) (d : Cell) → i < length cs → least_by f c (take (suc i) cs) ≡ int_min (least_by f c (take i cs)) (f (get_or cs i d))
-  least_by-suc c [] i d h = absurd (omega arith)
-  least_by-suc c (b ∷ bs) zero d h = refl
-  least_by-suc c (b ∷ bs) (suc i) d h = ap (int_min (f c)) (least_by-suc b bs i d (omega arith)) ∙ min_of_three (f c) _ _
-
-  -- the least of one cell more
-  pub least_by_more : (c : Cell) (cs : List Cell) (i : ℕ) (d : Cell) → i < length cs → least_by f c (take (i + 1) cs) ≡ int_min (least_by f c (take i cs)) (f (get_or cs i d))
-  least_by_more c cs i d h = rw add-one (least_by-suc c cs i d h)
-
   -- it is at most that of each cell
   least_at : (c : Cell) (cs : List Cell) (i : ℕ) (d : Cell) → i < suc (length cs) → least_by f c cs ≤ℤ f (get_or (c ∷ cs) i d)
   least_at c [] zero d h = le_itself (f c)

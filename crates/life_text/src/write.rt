@@ -16,6 +16,7 @@ ghost use Rattle.life_text.specs.Writer.{places_from, tokens_from, unwritten};
 use crate::lines::put_token;
 use itoa::Buffer;
 use life_cells::cell_list::CellList;
+use life_cells::corner::corner;
 use life_cells::rule::Rule;
 use std::alloc::AllocError;
 
@@ -27,23 +28,6 @@ struct Nib {
     y: u32,
     x: u32,
     run: u32,
-}
-
-// The least x and the least y of the cells, or (0, 0) where there is none.
-fn corner(cells: &[(i32, i32)]) -> (i32, i32)
-    ensures { result ≡ corner_of cells.now }
-{
-    match cells {
-        [] => (0, 0),
-        [first, rest @ ..] => {
-            let (mut x, mut y) = *first;
-            for cell in rest {
-                x = x.min(cell.0);
-                y = y.min(cell.1);
-            }
-            (x, y)
-        }
-    }
 }
 
 // The column and the row of a cell, counted from the corner.

@@ -1,6 +1,6 @@
 use Rattle.std.proofs.Common.{◌≡◌, get_or, take, pos}
 use Rattle.life_model.specs.Symmetry.{least_by}
-use Rattle.life_text.proofs.write.corner.Given as goal
+use Rattle.life_cells.proofs.corner.corner.Given as goal
 
 -- the least places of the first cell and of those seen so far
 abbrev pub invariant-loop-cell : goal.invariant-loop-cell

@@ -1,7 +1,7 @@
 use Rattle.std.proofs.Common.{◌-◌, length, get_or, take, drop, pos, arith}
 use Rattle.std.proofs.lemmas.Int.{ints, to_z-of_z}
-use Rattle.life_shape.proofs.Corners.{least_by_more}
-use Rattle.life_shape.proofs.shape.corner.Goals as goal
+use Rattle.life_cells.proofs.Corners.{least_by_more}
+use Rattle.life_cells.proofs.corner.corner.Goals as goal
 
 pub loop-cell-preserved : goal.loop-cell-preserved
 loop-cell-preserved c =
