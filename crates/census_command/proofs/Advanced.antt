@@ -10,7 +10,8 @@ use Rattle.life_model.specs.Rule.{Rule}
 use Rattle.life_text.specs.Picture.{Picture, picture_of}
 use Rattle.life_text.specs.Rle.{reading}
 use Rattle.life_text.specs.RleText.{rle_text}
-use Rattle.census_command.specs.Commands.{Advances, AdvancesInPart, IsAdvanced, ReadsAll}
+use Rattle.census_crew.specs.Bytes.{ReadsText}
+use Rattle.census_command.specs.Commands.{Advances, AdvancesInPart, IsAdvanced}
 
 pub is_advanced : (text : List ℕ) (n : ℕ) (old new : List ℕ) (pattern : Picture) (R : Rule) (G : Generation) → picture_of (reading text) ≡ Ok pattern
     → R ≡ pattern.rule → G ≡ generation pattern.rule pattern.cells n → old ≡ [] → new ≡ old ++ rle_text R G → IsAdvanced text n new
@@ -24,7 +25,7 @@ module _ (text bytes : List ℕ) (n : ℕ) (written : List ℕ) (same : bytes �
   means : picture_of (reading text) ≡ Ok a.pattern
   means = subst (λ xs. picture_of (reading xs) ≡ Ok a.pattern) same a.means
 
-  pub advances : (out : List ℕ) (input_old input_new output_old output_new : Option (List ℕ)) → out ≡ written → ReadsAll input_old input_new text
+  pub advances : (out : List ℕ) (input_old input_new output_old output_new : Option (List ℕ)) → out ≡ written → ReadsText input_old input_new text
       → Appends output_old output_new out → Advances n input_old input_new output_old output_new
   advances out input_old input_new output_old output_new e read appended = record {
     text = text;
@@ -34,7 +35,7 @@ module _ (text bytes : List ℕ) (n : ℕ) (written : List ℕ) (same : bytes �
     written = subst (λ xs. Appends output_old output_new xs) (e ∙ a.is) appended;
   }
 
-  pub advances_in_part : (out : List ℕ) (input_old input_new output_old output_new : Option (List ℕ)) → out ≡ written → ReadsAll input_old input_new text
+  pub advances_in_part : (out : List ℕ) (input_old input_new output_old output_new : Option (List ℕ)) → out ≡ written → ReadsText input_old input_new text
       → AppendsFront output_old output_new out → AdvancesInPart n input_old input_new output_old output_new
   advances_in_part out input_old input_new output_old output_new e read appended = record {
     text = text;

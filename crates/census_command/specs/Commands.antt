@@ -1,23 +1,14 @@
 -- What a command reads and writes, and what its trouble says.
-use Rattle.std.specs.Prelude.{◌≡◌, ℕ, ◌≤◌, Bool, true, false, List, Option, Ok, Some, length}
-use Rattle.std.specs.Io.KnownBytes.{Appends, Consumes, IsAtEnd, Keeps}
+use Rattle.std.specs.Prelude.{◌≡◌, ℕ, Bool, true, false, List, Option, Ok, Some}
+use Rattle.std.specs.Io.KnownBytes.{Appends, Keeps}
 use Rattle.watched.specs.Watching.{AppendsFront, ConsumesMoreThan}
+use Rattle.census_crew.specs.Bytes.{ReadsText, input_limit}
 use Rattle.life_model.specs.Evolution.{generation}
 use Rattle.life_text.specs.Picture.{Picture, picture_of}
 use Rattle.life_text.specs.Rle.{reading, refusal}
 use Rattle.life_text.specs.RleText.{rle_text}
 use Rattle.census_command.specs.declared.trouble.Trouble.{Trouble}
 use Rattle.census_command.specs.declared.trouble.Trouble.TheVariants.{Text, RuleText, CodeText, BundleText, Folders, TooLong, Words, Memory, Read, Write}
-
--- the most bytes of one text
-abbrev pub input_limit : ℕ
-input_limit = 67108864
-
--- all the bytes up to the reader's end are this text, which has no more bytes than one may have
-pub record ReadsAll (old new : Option (List ℕ)) (text : List ℕ) : Type 0 where
-  pub consumed : Consumes old new text
-  pub ended : IsAtEnd new
-  pub within : length text ≤ input_limit
 
 -- the text of generation n of a rule and a set
 abbrev pub advanced_text : Picture → ℕ → List ℕ
@@ -28,7 +19,7 @@ advanced_text pattern n = rle_text pattern.rule (generation pattern.rule pattern
 pub record Advances (n : ℕ) (input_old input_new output_old output_new : Option (List ℕ)) : Type 0 where
   pub text : List ℕ
   pub pattern : Picture
-  pub read : ReadsAll input_old input_new text
+  pub read : ReadsText input_old input_new text
   pub means : picture_of (reading text) ≡ Ok pattern
   pub written : Appends output_old output_new (advanced_text pattern n)
 
@@ -36,14 +27,14 @@ pub record Advances (n : ℕ) (input_old input_new output_old output_new : Optio
 pub record AdvancesInPart (n : ℕ) (input_old input_new output_old output_new : Option (List ℕ)) : Type 0 where
   pub text : List ℕ
   pub pattern : Picture
-  pub read : ReadsAll input_old input_new text
+  pub read : ReadsText input_old input_new text
   pub means : picture_of (reading text) ≡ Ok pattern
   pub written : AppendsFront output_old output_new (advanced_text pattern n)
 
 -- Why generation n was not written. Where the writer didn't fail, nothing was.
 abbrev pub Hinders : Trouble → ℕ → Option (List ℕ) → Option (List ℕ) → Option (List ℕ) → Option (List ℕ) → Bool → Bool → Type 0
 Hinders (Text fault) n input_old input_new output_old output_new read_failed write_failed =
-    ((text : List ℕ) × ReadsAll input_old input_new text × (refusal text ≡ Some fault))
+    ((text : List ℕ) × ReadsText input_old input_new text × (refusal text ≡ Some fault))
     × Keeps output_old output_new × (read_failed ≡ false) × (write_failed ≡ false)
 Hinders TooLong n input_old input_new output_old output_new read_failed write_failed =
     ConsumesMoreThan input_limit input_old input_new × Keeps output_old output_new × (read_failed ≡ false) × (write_failed ≡ false)

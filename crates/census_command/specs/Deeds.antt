@@ -11,14 +11,14 @@ use Rattle.life_text.specs.declared.rle.RleFault.{RleFault}
 use Rattle.life_text.specs.Rle.{refusal}
 use Rattle.census_bundle.specs.declared.bundle.AddFault.{AddFault}
 use Rattle.census_bundle.specs.declared.fault.BundleFault.{BundleFault}
-use Rattle.census_crew.specs.Bytes.{ReadsFault}
+use Rattle.census_crew.specs.Bytes.{ReadsFault, ReadsText, input_limit}
 use Rattle.census_folders.specs.Faults.{StopsAtWord}
 use Rattle.census_folders.specs.declared.fault.FoldersFault.TheVariants.{Add, Read, TooLong}
 use Rattle.census_words.specs.Asking.{AsksAdvance, AsksDraw, AsksRun}
 use Rattle.census_words.specs.Refusing.{AsksHelp}
 use Rattle.census_words.specs.declared.fault.WordsFault.{WordsFault}
 use Rattle.census_words.specs.declared.fault.WordsFault.TheVariants.{Help, Refused, Memory}
-use Rattle.census_command.specs.Commands.{Advances, ReadsAll, input_limit}
+use Rattle.census_command.specs.Commands.{Advances}
 use Rattle.census_command.specs.Drawings.{Draws}
 use Rattle.census_command.specs.Runs.{ReportsFoldersInPart, ReportsInputInPart, Runs}
 
@@ -79,7 +79,7 @@ pub record IsFaultyRun (words : List (List ℕ)) (input_old input_new : Option (
 pub record HasFault (input_old input_new : Option (List ℕ)) : Type 0 where
   pub text : List ℕ
   pub fault : RleFault
-  pub read : ReadsAll input_old input_new text
+  pub read : ReadsText input_old input_new text
   pub refused : refusal text ≡ Some fault
 
 -- a pattern was to be advanced, and what was read has a fault or is too long
