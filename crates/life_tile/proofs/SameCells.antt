@@ -1,5 +1,5 @@
 -- When the cells of a list, moved, are all the members of a set.
-use Rattle.std.proofs.Common.{◌≡◌, ◌≢◌, ℕ, ◌<◌, ◌≤◌, ◌<ℤ◌, ⊎_elim, true, T, All, List, [], ◌∷◌, Less, map, length, get_or, slice_index_or, refl, sym, subst, ap, ◌∙◌, arith}
+use Rattle.std.proofs.Common.{◌≡◌, ◌≢◌, ℕ, ◌<◌, ◌≤◌, ◌<ℤ◌, ⊎_elim, T, All, List, [], ◌∷◌, Less, map, length, get_or, slice_index_or, refl, sym, subst, ap, ◌∙◌, arith}
 use Rattle.std.specs.Ordering.{int_cmp}
 use Rattle.std.proofs.lemmas.Int.{ints}
 use Rattle.std.proofs.lemmas.Cmp.{eq_by_cmp_equiv}

@@ -1,4 +1,4 @@
-use Rattle.std.proofs.Common.{◌≡◌, ℤ, sym, subst, ap, pos, ◌+ℤ◌, ◌∙◌}
+use Rattle.std.proofs.Common.{◌≡◌, sym, subst, ap, pos, ◌+ℤ◌, ◌∙◌}
 use Rattle.life_model.specs.Cell.{Cell}
 use Rattle.life_cells.specs.Limits.{IsPlace}
 use Rattle.life_tile.specs.Places.{IsInside}

@@ -1,4 +1,4 @@
-use Rattle.std.proofs.Common.{◌≡◌, ◌<◌, true≢false, length, get_or, refl, sym, subst, ap, ◌∙◌, arith}
+use Rattle.std.proofs.Common.{◌≡◌, true≢false, length, get_or, sym, subst, ◌∙◌, arith}
 use Rattle.life_model.specs.Cell.{origin, plus, opposite}
 use Rattle.life_model.specs.Generation.{size, from_list}
 use Rattle.life_plane.specs.Ways.{IsWay}

@@ -1,4 +1,4 @@
-use Rattle.std.proofs.Common.{◌≡◌, ◌<◌, true≢false, refl, sym, subst, ap, ◌∙◌, arith}
+use Rattle.std.proofs.Common.{◌≡◌, true≢false, refl, sym, subst, ◌∙◌, arith}
 use Rattle.life_model.specs.Cell.{plus, opposite}
 use Rattle.life_model.specs.Generation.{size}
 use Rattle.life_plane.specs.Ways.{IsWay}
