@@ -1,14 +1,14 @@
 -- When one list in order is another, moved.
-use Rattle.std.proofs.Common.{Option, is_some, Some, None, IfSome, IfNone, subst, Bool, true, false, not, ◌&&◌, int_eq, Decides, true≢false, ◌≡◌, ℕ, ◌<◌, ◌≢◌, List, [], ◌∷◌, map, length, get_or, T, sym, refl, ap, ◌∙◌, arith}
+use Rattle.std.proofs.Common.{Option, IfSome, IfNone, subst, Bool, true, false, not, ◌&&◌, int_eq, Decides, true≢false, ◌≡◌, ℕ, ◌<◌, ◌≢◌, List, [], ◌∷◌, map, length, get_or, T, sym, refl, ap, ◌∙◌, arith}
 use Rattle.std.proofs.lemmas.List.{same_lists, get_or-map, get_or_default, length-map}
 use Rattle.std.proofs.lemmas.Bool.Decides.{Decides-and, Decides-int_eq}
 use Rattle.life_model.specs.Cell.{Cell, origin, plus, opposite}
-use Rattle.life_model.specs.Generation.{Generation, from_list, cells, is_rising, size}
-use Rattle.life_model.specs.Symmetry.{moved, normal}
+use Rattle.life_model.specs.Generation.{Generation, from_list, cells, is_rising}
+use Rattle.life_model.specs.Symmetry.{moved}
 use Rattle.life_model.proofs.Cells.{pair}
-use Rattle.life_model.proofs.Generations.{cells-from_list, from_list-cells, size-cells}
-use Rattle.life_model.proofs.Lists.{cells-moved, moved-from_list}
-use Rattle.life_model.proofs.Moves.{moved-empty, normal_decides}
+use Rattle.life_model.proofs.Generations.{cells-from_list, from_list-cells}
+use Rattle.life_model.proofs.Lists.{moved-from_list}
+use Rattle.life_model.proofs.Moves.{moved-empty}
 use Rattle.life_plane.specs.Ways.{AreApart, IsWay}
 use Rattle.std.proofs.lemmas.Int.{ints}
 
