@@ -1,5 +1,5 @@
 -- When one set is another, moved.
-use Rattle.std.proofs.Common.{Option, is_some, Some, None, Result, Ok, Err, IfOk, IfSome, IfNone, Bool, true, false, true≢false, ◌≡◌, ◌≢◌, map, length, sym, ap, ◌∙◌}
+use Rattle.std.proofs.Common.{Option, is_some, Some, None, Result, Ok, Err, IfOk, IfSome, IfNone, true, false, true≢false, ◌≡◌, ◌≢◌, length, sym, ap, ◌∙◌}
 use Rattle.std.proofs.lemmas.List.{length-map}
 use Rattle.life_model.specs.Cell.{Cell, plus}
 use Rattle.life_model.specs.Generation.{Generation, cells, size}
