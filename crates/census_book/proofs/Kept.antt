@@ -1,28 +1,49 @@
 -- What a result says of its ticket's pattern.
-use Rattle.std.proofs.Common.{◌≡◌, ℕ, suc, ◌+◌, List, Some, sym, ap, subst, ◌∙◌, arith, slice_get}
+use Rattle.std.proofs.Common.{◌≡◌, ℕ, suc, ◌+◌, List, Option, None, Some, IfSome, IfNone, unwrap_or, sym, ap, subst, ◌∙◌, arith, slice_get}
 use Rattle.census_bundle.specs.declared.bundle.Folder.{Folder}
 use Rattle.census_bundle.specs.declared.ticket.Ticket.{Ticket}
 use Rattle.census_bundle.specs.declared.bundle.Entry.{Entry}
 use Rattle.census_bundle.specs.Tickets.{ticket, numbered, entry_in}
 use Rattle.life_answer.specs.Answers.{answer_of}
-use Rattle.life_answer.specs.declared.finding.Answer.{Answer}
 use Rattle.census_book.specs.Work.{Work}
-use Rattle.census_book.specs.Collecting.{Belongs, IsFound}
+use Rattle.census_book.specs.Collecting.{Belongs, IsResult}
+use Rattle.census_book.specs.Heads.{headed, line_head}
+use Rattle.census_book.specs.Lines.{pattern_line}
+use Rattle.census_book.proofs.Fields.{headed_line}
 
--- what a result says is what was found of its ticket's pattern
-pub found_at : (b : List Folder) (bound : ℕ) (t : Ticket) (w : Work) (found : Answer) → Belongs b bound t w.entry.text w.bound → found ≡ answer_of w.entry.text w.bound → IsFound b bound t found
-found_at b bound t w found belongs is = record {
-  entry = belongs.entry;
-  at = belongs.at;
-  answer = is ∙ ap (λ text. answer_of text w.bound) (sym belongs.same_text) ∙ ap (answer_of belongs.entry.text) (sym belongs.same_bound);
+-- what is told of a `None` follows from what was told of it
+pub none_then : {X N M : Type 0} (o : Option X) → IfNone o N → (N → M) → IfNone o M
+none_then None n f = f n
+none_then (Some x) n f = n
+
+-- what holds of the value in a `Some`, and else of another, holds of the one that is chosen
+pub chosen : {X N : Type 0} (P : X → Type 0) (o : Option X) {other x : X} → x ≡ unwrap_or o other → IfSome o P → IfNone o N → (N → P other) → P x
+chosen P None is some none given = subst P (sym is) (given none)
+chosen P (Some y) is some none given = subst P (sym is) some
+
+-- a result that belongs to the bundle and the bound at its own ticket
+pub result_at_own : (b : List Folder) (bound : ℕ) (t : Ticket) (w : Work) → w.ticket ≡ t → Belongs b bound w.ticket w.entry.text w.bound → IsResult b bound t w
+result_at_own b bound t w own belongs = record {
+  own = own;
+  belongs = subst (λ s. Belongs b bound s w.entry.text w.bound) own belongs;
 }
 
--- what was found of a ticket is what the definition gives for the pattern of that number
-pub found_entry : (b : List Folder) (bound c n : ℕ) (f : Folder) (e : Entry) (a : Answer) → IsFound b bound (ticket c n) a → numbered b c ≡ Some f → numbered f.entries n ≡ Some e → a ≡ answer_of e.text bound
-found_entry b bound c n f e a found at here =
-    let one : Some found.entry ≡ Some e = sym found.at ∙ ap (λ o. entry_in o n) at ∙ here in
-    let same : found.entry ≡ e = cc in
-    found.answer ∙ ap (λ (x : Entry). answer_of x.text bound) same
+-- what a result says is what the definition gives for the pattern of its ticket's number
+pub result_answer : (b : List Folder) (bound c n : ℕ) (f : Folder) (e : Entry) (w : Work) → IsResult b bound (ticket c n) w → numbered b c ≡ Some f → numbered f.entries n ≡ Some e
+    → answer_of w.entry.text w.bound ≡ answer_of e.text bound
+result_answer b bound c n f e w is at here =
+    let mine = is.belongs in
+    let one : Some mine.entry ≡ Some e = sym mine.at ∙ ap (λ o. entry_in o n) at ∙ here in
+    let same : mine.entry ≡ e = cc in
+    ap (λ text. answer_of text w.bound) (sym mine.same_text) ∙ ap (answer_of mine.entry.text) (sym mine.same_bound) ∙ ap (λ (x : Entry). answer_of x.text bound) same
+
+-- a result's head begins the line of the pattern of its ticket's number
+pub result_line : (b : List Folder) (bound c n : ℕ) (f : Folder) (e : Entry) (w : Work) (head : List ℕ) → IsResult b bound (ticket c n) w → numbered b c ≡ Some f → numbered f.entries n ≡ Some e
+    → head ≡ line_head w.ticket.folder w.ticket.number (answer_of w.entry.text w.bound) → headed head e ≡ pattern_line bound c n e
+result_line b bound c n f e w head is at here head_is =
+    ap (λ h. headed h e)
+    (head_is ∙ ap (λ (t : Ticket). line_head t.folder t.number (answer_of w.entry.text w.bound)) is.own ∙ ap (line_head c n) (result_answer b bound c n f e w is at here))
+    ∙ headed_line bound c n e
 
 pub numbered_next : {A : Type 0} (xs : List A) (i : ℕ) (x : A) → slice_get xs i ≡ Some x → numbered xs (i + 1) ≡ Some x
 numbered_next xs i x at = let n : suc i ≡ i + 1 = omega arith in subst (λ m. numbered xs m ≡ Some x) n at

@@ -12,9 +12,10 @@ use Rattle.census_bundle.specs.declared.bundle.Entry.{Entry}
 use Rattle.census_bundle.specs.declared.bundle.Folder.{Folder}
 use Rattle.census_bundle.specs.declared.ticket.Ticket.{Ticket}
 use Rattle.census_bundle.specs.Tickets.{entry_at, entry_in, folder_of, has_ticket, no_tickets, number_of, numbered, ticket, ticket_cmp, tickets_of, with_ticket}
-use Rattle.census_book.specs.Collecting.{Belongs}
+use Rattle.census_book.specs.Collecting.{Belongs, IsResult}
 use Rattle.census_book.specs.Slots.{Row, HasSlot, KeepsResults, empty_slots, held, result_at, row_tickets, rows_tickets, slot_at, slot_in, taken_in, with_result}
 use Rattle.census_book.specs.Work.{Work}
+use Rattle.census_book.proofs.Kept.{result_at_own}
 use Rattle.census_book.proofs.TicketSets.{apart, eq_symm, has_list, one_ticket, some_or, ticket_cmp_same, ticket_cmp_total}
 
 get_set_same : {X : Type 0} (xs : List X) (i : ℕ) (y : X) → i < length xs → slice_get (set xs i y) i ≡ Some y
@@ -191,12 +192,12 @@ keeps_put b bound rows w keeps belongs =
       slots = λ k f at.
           let kept = keeps.slots k f at in
           slots k (length f.entries) kept.0 kept.1 kept.2;
-      belongs = λ q v at.
-          elim (eq_by_cmp ticket_cmp w.ticket q) as (λ x. eq_by_cmp ticket_cmp w.ticket q ≡ x → cond x (Some w) (result_at rows q) ≡ Some v → Belongs b bound q v.entry.text v.bound) [
+      results = λ q v at.
+          elim (eq_by_cmp ticket_cmp w.ticket q) as (λ x. eq_by_cmp ticket_cmp w.ticket q ≡ x → cond x (Some w) (result_at rows q) ≡ Some v → IsResult b bound q v) [
             | true ↦ λ is here.
                 let same : w ≡ v = cc in
-                subst (λ (u : Work). Belongs b bound q u.entry.text u.bound) same (subst (λ s. Belongs b bound s w.entry.text w.bound) (one_ticket w.ticket q is) belongs)
-            | false ↦ λ _ there. keeps.belongs q v there
+                subst (IsResult b bound q) same (result_at_own b bound q w (one_ticket w.ticket q is) belongs)
+            | false ↦ λ _ there. keeps.results q v there
           ] refl (sym (result_put rows w q has) ∙ at);
     }
   where
@@ -259,5 +260,5 @@ empty_row (g ∷ b) (suc k) f at = empty_row b k f at
 pub keeps_empty : (b : List Folder) (bound : ℕ) → KeepsResults b bound (empty_slots b)
 keeps_empty b bound = record {
   slots = empty_row b;
-  belongs = λ t w at. absurd (let none = result_empty b t in cc);
+  results = λ t w at. absurd (let none = result_empty b t in cc);
 }

@@ -4,12 +4,11 @@ use Rattle.std.specs.declared.cmp.Ordering.TheVariants.{Less}
 use Rattle.census_bundle.specs.declared.bundle.Entry.{Entry}
 use Rattle.census_bundle.specs.declared.bundle.Folder.{Folder}
 use Rattle.census_bundle.specs.declared.ticket.Ticket.{Ticket}
-use Rattle.life_answer.specs.Answers.{answer_of}
-use Rattle.life_answer.specs.declared.finding.Answer.{Answer}
 use Rattle.census_book.specs.declared.offer.Offer.{Offer}
 use Rattle.census_book.specs.declared.offer.Offer.TheVariants.{Stranger, Double, Taken}
 use Rattle.census_bundle.specs.Tickets.{Tickets, entry_at, has_ticket, ticket_cmp, IsTicketOf}
 use Rattle.census_book.specs.Progress.{Progress, with_taken}
+use Rattle.census_book.specs.Work.{Work}
 
 -- the ticket is one of the bundle's, the text is the text of that ticket, and the bounds agree
 pub record Belongs (b : List Folder) (bound : ℕ) (t : Ticket) (text : List ℕ) (n : ℕ) : Type 0 where
@@ -18,11 +17,10 @@ pub record Belongs (b : List Folder) (bound : ℕ) (t : Ticket) (text : List ℕ
   pub same_text : entry.text ≡ text
   pub same_bound : bound ≡ n
 
--- what was found of the pattern of this ticket
-pub record IsFound (b : List Folder) (bound : ℕ) (t : Ticket) (found : Answer) : Type 0 where
-  pub entry : Entry
-  pub at : entry_at b t ≡ Some entry
-  pub answer : found ≡ answer_of entry.text bound
+-- this is the result of a ticket of the bundle
+pub record IsResult (b : List Folder) (bound : ℕ) (t : Ticket) (w : Work) : Type 0 where
+  pub own : w.ticket ≡ t
+  pub belongs : Belongs b bound t w.entry.text w.bound
 
 -- what is answered to a result where these tickets were taken
 abbrev pub Judged : List Folder → ℕ → Tickets → Ticket → List ℕ → ℕ → Offer → Type 0

@@ -1,4 +1,5 @@
 pub mod Lines
+pub mod Heads
 pub mod Objects
 pub mod ObjectCode
 pub mod ObjectLaws

@@ -3,7 +3,7 @@ use Rattle.std.specs.Prelude.{◌≡◌, ℕ, suc, ◌-◌, ◌<◌, ◌≤◌, 
 use Rattle.census_bundle.specs.declared.bundle.Folder.{Folder}
 use Rattle.census_bundle.specs.declared.ticket.Ticket.{Ticket}
 use Rattle.census_bundle.specs.Tickets.{Tickets, numbered, ticket, tickets_of}
-use Rattle.census_book.specs.Collecting.{Belongs}
+use Rattle.census_book.specs.Collecting.{IsResult}
 use Rattle.census_book.specs.Work.{Work}
 
 -- the slots of a collection
@@ -59,7 +59,7 @@ rows_tickets c (row ∷ rows) = row_tickets c 1 row ++ rows_tickets (suc c) rows
 abbrev pub taken_in : List Row → Tickets
 taken_in rows = tickets_of (rows_tickets 1 rows)
 
--- each ticket of the bundle has a slot, and each result in a slot belongs to the bundle and the bound at its ticket
+-- each ticket of the bundle has a slot, and each result in a slot is that of its ticket
 pub record KeepsResults (b : List Folder) (bound : ℕ) (rows : List Row) : Type 0 where
   pub slots : (k : ℕ) (f : Folder) → slice_get b k ≡ Some f → (row : Row) × (slice_get rows k ≡ Some row) × (length row ≡ length f.entries)
-  pub belongs : (t : Ticket) (w : Work) → result_at rows t ≡ Some w → Belongs b bound t w.entry.text w.bound
+  pub results : (t : Ticket) (w : Work) → result_at rows t ≡ Some w → IsResult b bound t w

@@ -1,14 +1,13 @@
 //! A result beside those that were taken before.
 ghost use Rattle.std.specs.Prelude.{◌≡◌, true, false};
 ghost use Rattle.census_bundle.specs.Tickets.{has_ticket, with_ticket};
-ghost use Rattle.census_book.specs.Collecting.{Belongs, IsFound};
+ghost use Rattle.census_book.specs.Collecting.{Belongs, IsResult};
 ghost use Rattle.census_book.specs.Progress.{taken_of};
 
 use crate::done::Done;
 use crate::results::Results;
 use census_bundle::bundle::Bundle;
 use census_bundle::ticket::Ticket;
-use life_answer::finding::Answer;
 use std::marker::Model;
 
 /// A result that is to be taken, beside those that were. It is seen as the tickets of all of them.
@@ -70,18 +69,15 @@ impl<'r, 'a> Arrival<'r, 'a> {
         true
     }
 
-    /// What was found of this ticket's pattern.
-    pub fn answer(&self, ticket: Ticket) -> &'r Answer
+    /// The result of this ticket.
+    pub fn get(&self, ticket: Ticket) -> &'r Done<'a>
         requires { has_ticket self.now.taken ticket ≡ true }
-        ensures { IsFound self.now.bundle self.now.bound ticket result.now }
+        ensures { IsResult self.now.bundle self.now.bound ticket result.now }
     {
         let own = self.done.ticket();
         if ticket.folder == own.folder && ticket.number == own.number {
-            return self.done.answer();
+            return self.done;
         }
-        match self.results.answer(ticket) {
-            Some(answer) => answer,
-            None => self.done.answer(),
-        }
+        self.results.get(ticket).unwrap_or(self.done)
     }
 }

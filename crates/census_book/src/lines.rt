@@ -1,11 +1,12 @@
 //! The lines of a report.
 ghost use Rattle.std.specs.Prelude.{◌≡◌, ◌≤◌, ◌++◌, ℕ, [], ◌∷◌, List, length, OnOk, decimal};
 ghost use Rattle.std.specs.Fmt.{signed_decimal};
-ghost use Rattle.life_answer.specs.Answers.{answer_of};
 ghost use Rattle.life_cells.specs.Rules.{rule_text};
-ghost use Rattle.census_book.specs.Lines.{answer_fields, behind, end_line, open_line, pattern_count, pattern_line};
+ghost use Rattle.census_book.specs.Heads.{finding_fields, headed, line_head};
+ghost use Rattle.census_book.specs.Lines.{behind, end_line, open_line, pattern_count};
 
 use census_bundle::bundle::{Bundle, Entry, Folder};
+use census_bundle::ticket::Ticket;
 use itoa::{Buffer, Integer};
 use life_answer::finding::{Answer, Finding};
 use life_cells::rule::Rule;
@@ -79,9 +80,9 @@ fn push_recurrence(
     push_number(text, *dy)
 }
 
-// What was found of a pattern, and the pattern's name.
-fn push_answer(text: &mut Vec<u8>, answer: &Answer, name: &[u8]) -> Result<(), AllocError>
-    ensures { OnOk result (text.new.items ≡ text.old.items ++ behind (answer_fields answer.now name.now)) }
+// What was found of a pattern.
+fn push_finding(text: &mut Vec<u8>, answer: &Answer) -> Result<(), AllocError>
+    ensures { OnOk result (text.new.items ≡ text.old.items ++ behind (finding_fields answer.now)) }
 {
     match answer {
         Answer::Found { rule, finding } => match finding {
@@ -95,42 +96,36 @@ fn push_answer(text: &mut Vec<u8>, answer: &Answer, name: &[u8]) -> Result<(), A
             } => {
                 push_population(text, b"ok", rule, *population)?;
                 push_recurrence(text, *onset, *period, dx, dy)?;
-                push_field(text, code.as_slice())?;
-                push_field(text, name)?;
-                Ok(())
+                push_field(text, code.as_slice())
             }
             Finding::Unresolved { population } => {
-                push_population(text, b"none", rule, *population)?;
-                push_field(text, name)?;
-                Ok(())
+                push_population(text, b"none", rule, *population)
             }
         },
         Answer::Refused(number) => {
             push_field(text, b"bad")?;
-            push_number(text, *number)?;
-            push_field(text, name)?;
-            Ok(())
+            push_number(text, *number)
         }
     }
 }
 
-/// The line of a pattern, of which this was found.
-#[tactic(auto, unfolding(crate::specs::Lines::pattern_line))]
-pub fn push_pattern(
-    text: &mut Vec<u8>,
-    bound: u32,
-    c: u32,
-    i: u32,
-    entry: &Entry,
-    answer: &Answer,
-) -> Result<(), AllocError>
-    requires { answer.now ≡ answer_of entry.now.text bound }
-    ensures { OnOk result (text.new.items ≡ text.old.items ++ pattern_line bound c i entry.now) }
+/// The line of a pattern of which this was found, as far as its name.
+#[tactic(auto, unfolding(crate::specs::Heads::line_head))]
+pub fn push_head(text: &mut Vec<u8>, ticket: Ticket, answer: &Answer) -> Result<(), AllocError>
+    ensures { OnOk result (text.new.items ≡ text.old.items ++ line_head ticket.folder ticket.number answer.now) }
 {
     text.extend_from_slice(b"line")?;
-    push_number(text, c)?;
-    push_number(text, i)?;
-    push_answer(text, answer, entry.name.as_slice())?;
+    push_number(text, ticket.folder)?;
+    push_number(text, ticket.number)?;
+    push_finding(text, answer)
+}
+
+/// The line of a pattern, which begins with this head.
+pub fn push_pattern(text: &mut Vec<u8>, head: &[u8], entry: &Entry) -> Result<(), AllocError>
+    ensures { OnOk result (text.new.items ≡ text.old.items ++ headed head.now entry.now) }
+{
+    text.extend_from_slice(head)?;
+    push_field(text, entry.name.as_slice())?;
     text.push(b'\n')?;
     Ok(())
 }

@@ -56,11 +56,11 @@ fn push_patterns(
 {
     let entries = folder.entries.as_slice();
     for i in k..m {
-        let answer = arrival.answer(Ticket {
+        let done = arrival.get(Ticket {
             folder: c,
             number: i as u32 + 1,
         });
-        push_pattern(text, arrival.bound(), c, i as u32 + 1, &entries[i], answer)?;
+        push_pattern(text, done.head(), &entries[i])?;
     }
     Ok(())
 }
@@ -79,11 +79,11 @@ fn folder_answers<'r>(
 {
     let mut found = Vec::new(alloc);
     for i in 0..folder.entries.as_slice().len() {
-        let answer = arrival.answer(Ticket {
+        let done = arrival.get(Ticket {
             folder: c,
             number: i as u32 + 1,
         });
-        found.push(answer)?;
+        found.push(done.answer())?;
     }
     Ok(found)
 }

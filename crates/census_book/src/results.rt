@@ -1,7 +1,7 @@
 //! The results that were taken.
 ghost use Rattle.std.specs.Prelude.{◌≡◌, ◌≢◌, true, false, Some, IfOk, IfSome, IfNone, MatchBool};
 ghost use Rattle.census_bundle.specs.Tickets.{has_ticket, no_tickets, with_ticket};
-ghost use Rattle.census_book.specs.Collecting.{Belongs, IsFound, Judged};
+ghost use Rattle.census_book.specs.Collecting.{Belongs, IsResult, Judged};
 ghost use Rattle.census_book.specs.Progress.{taken_of};
 
 use crate::done::Done;
@@ -9,7 +9,6 @@ use crate::offer::Offer;
 use crate::slots::Slots;
 use census_bundle::bundle::{Bundle, Folder};
 use census_bundle::ticket::Ticket;
-use life_answer::finding::Answer;
 use std::alloc::{AllocError, Global};
 use std::marker::Model;
 
@@ -76,15 +75,12 @@ impl<'a> Results<'a> {
         self.slots.get(ticket).is_some()
     }
 
-    /// What was found of this ticket's pattern, where it was taken.
-    pub fn answer(&self, ticket: Ticket) -> Option<&Answer>
-        ensures found { IfSome result (λ a. IsFound self.now.bundle self.now.bound ticket a.now) }
+    /// The result of this ticket, where it was taken.
+    pub fn get(&self, ticket: Ticket) -> Option<&Done<'a>>
+        ensures found { IfSome result (λ d. IsResult self.now.bundle self.now.bound ticket d.now) }
         ensures missing { IfNone result (has_ticket self.now.taken ticket ≡ false) }
     {
-        match self.slots.get(ticket) {
-            Some(done) => Some(done.answer()),
-            None => None,
-        }
+        self.slots.get(ticket)
     }
 
     /// What becomes of a result that is offered.

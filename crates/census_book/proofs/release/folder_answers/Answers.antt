@@ -3,14 +3,14 @@ use Rattle.std.proofs.lemmas.List.{map-append}
 use Rattle.census_bundle.specs.Tickets.{has_ticket, ticket}
 use Rattle.census_book.specs.Lines.{answers}
 use Rattle.census_book.specs.Reports.{run_of}
-use Rattle.census_book.proofs.Kept.{found_entry, numbered_next}
+use Rattle.census_book.proofs.Kept.{result_answer, numbered_next}
 use Rattle.census_book.proofs.Releases.{entry_here}
 use Rattle.census_book.proofs.Runs.{run_before}
 use Rattle.census_book.proofs.Texts.{answers_more}
 use Rattle.census_book.proofs.release.folder_answers.Goals as goal
 
-pub answer-answer-requires : goal.answer-answer-requires
-answer-answer-requires c =
+pub get-done-requires : goal.get-done-requires
+get-done-requires c =
     let p = λ (i : ℕ). has_ticket c.args.arrival.now.taken (ticket c.args.c i) in
     let i = c.loop-i.i in
     let size : length c.as_slice-i-end.result.now ≡ length c.args.folder.now.entries = ap length c.as_slice-i-end.ensures in
@@ -26,6 +26,6 @@ loop-i-preserved c =
     let size : length c.as_slice-i-end.result.now ≡ length es = ap length c.as_slice-i-end.ensures in
     let lt : i < length es = omega arith in
     let e = entry_here es i lt in
-    let is = found_entry _ _ c.args.c (i + 1) c.args.folder.now e.0 _ c.answer-answer.ensures c.requires.at (numbered_next es i e.0 e.1) in
-    ap (map (λ a. a.now)) c.in_ok-push.ensures.items ∙ map-append (λ a. a.now) c.loop-i.found.items (c.answer-answer.result ∷ [])
-    ∙ ap (λ xs. xs ++ c.answer-answer.result.now ∷ []) c.loop-i.invariant ∙ ap (λ a. answers c.args.arrival.now.bound (take i es) ++ a ∷ []) is ∙ sym (answers_more c.args.arrival.now.bound i es e.0 e.1)
+    let is = c.answer.ensures ∙ result_answer _ _ c.args.c (i + 1) c.args.folder.now e.0 _ c.get-done.ensures c.requires.at (numbered_next es i e.0 e.1) in
+    ap (map (λ a. a.now)) c.in_ok-push.ensures.items ∙ map-append (λ a. a.now) c.loop-i.found.items (c.answer.result ∷ [])
+    ∙ ap (λ xs. xs ++ c.answer.result.now ∷ []) c.loop-i.invariant ∙ ap (λ a. answers c.args.arrival.now.bound (take i es) ++ a ∷ []) is ∙ sym (answers_more c.args.arrival.now.bound i es e.0 e.1)
