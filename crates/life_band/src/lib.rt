@@ -5,8 +5,6 @@ mod band_sums;
 mod kernel;
 mod logic;
 mod row_sums;
-#[cfg(test)]
-mod tests;
 mod window;
 
 pub use kernel::{Change, band};

@@ -4,8 +4,6 @@
 mod answers;
 mod strand;
 mod sums;
-#[cfg(test)]
-mod tests;
 mod tile;
 
 pub use answers::next_row;

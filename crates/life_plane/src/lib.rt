@@ -5,6 +5,4 @@ mod evolve;
 pub mod list_plane;
 pub mod plane;
 pub mod span;
-#[cfg(test)]
-mod tests;
 pub mod way;

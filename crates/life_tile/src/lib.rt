@@ -13,8 +13,6 @@ mod sameness;
 mod slab;
 mod slot;
 mod stepping;
-#[cfg(test)]
-mod tests;
 
 pub use life_bits::{Around, Strand, Tile, count_planes, next_row};
 pub use life_plane::list_plane::ListPlane;

@@ -115,24 +115,40 @@ impl Plane for TilePlane {
 #[cfg(test)]
 mod tests {
     use super::*;
-    use crate::tests::{after, moved};
-    use life_cells::cell_list::CellFault;
+    use life_plane::plane::AGE_LIMIT;
+    use std::process::Abort;
+    use std::test::Fail;
+
+    /// The plane of these cells after so many generations of Life.
+    fn after(
+        rt: &impl Abort,
+        alloc: Global,
+        cells: &[(i32, i32)],
+        steps: u32,
+    ) -> Result<TilePlane, Fail> {
+        let list = CellList::of(alloc, cells)?;
+        assert!(rt; list.fits());
+        let mut plane = TilePlane::from_cells(alloc, &list)?;
+        for _ in 0..steps {
+            assert!(rt; plane.age() < AGE_LIMIT);
+            plane.step(&Rule::life())?;
+        }
+        Ok(plane)
+    }
 
     #[test]
-    fn a_small_pattern_lies_in_one_tile(rt: HostRuntime) -> Result<(), CellFault> {
-        let plane = after(rt.alloc(), &[(0, 0), (37, 37)], &Rule::life(), 0)?;
-        assert!(rt; plane.slab.slots.len() == 2);
+    fn a_small_pattern_lies_in_one_tile(rt: HostRuntime) -> Result<(), Fail> {
+        let plane = after(&rt, rt.alloc(), &[(0, 0), (37, 37)], 0)?;
+        assert_eq!(rt; plane.slab.slots.len(), 2);
         Ok(())
     }
 
     #[test]
-    fn the_tiles_behind_a_glider_are_dropped(rt: HostRuntime) -> Result<(), CellFault> {
-        let alloc = rt.alloc();
-        let cells = [(63, 62), (64, 63), (62, 64), (63, 64), (64, 64)];
-        let plane = after(alloc, &cells, &Rule::life(), 6000)?;
+    fn the_tiles_behind_a_glider_are_dropped(rt: HostRuntime) -> Result<(), Fail> {
+        let glider = [(63, 62), (64, 63), (62, 64), (63, 64), (64, 64)];
+        let plane = after(&rt, rt.alloc(), &glider, 6000)?;
         assert!(rt; plane.slab.slots.len() < 45);
-        assert!(rt; plane.cells()?.as_slice() == moved(alloc, &cells, 1500)?.as_slice());
-        assert!(rt; plane.population() == 5);
+        assert_eq!(rt; plane.population(), 5);
         Ok(())
     }
 }

@@ -11,8 +11,6 @@ mod objects;
 #[cfg(test)]
 mod patterns;
 #[cfg(test)]
-mod planes;
-#[cfg(test)]
 mod reading;
 #[cfg(test)]
 mod refusals;

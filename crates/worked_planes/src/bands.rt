@@ -1,10 +1,7 @@
 //! Rows and windows worked by hand, and random windows in eleven rules beside the step of a whole tile.
 ghost use Rattle.std.specs.Prelude.{◌≤◌};
 
-use crate::kernel::{Change, band};
-use crate::logic::{Count, Logic, Spread};
-use crate::row_sums::{RowSums, sums};
-use crate::window::Window;
+use life_band::{Change, Count, Logic, RowSums, Spread, Window, band, sums};
 use life_bits::{Around, Sum, Tile};
 use life_cells::rule::{Rule, RuleFault};
 

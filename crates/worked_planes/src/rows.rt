@@ -1,7 +1,5 @@
 //! Worked rows of bits, and a cell born where four tiles meet.
-use crate::answers::next_row;
-use crate::strand::{Strand, count_planes};
-use crate::tile::{Around, Tile};
+use life_bits::{Around, Strand, Tile, count_planes, next_row};
 use life_cells::rule::Rule;
 
 #[test]

@@ -1,0 +1,33 @@
+//! Planes after some generations.
+
+use life_cells::cell_list::CellList;
+use life_cells::rule::Rule;
+use life_plane::plane::{AGE_LIMIT, Plane};
+use std::alloc::Global;
+use std::process::Abort;
+use std::test::Fail;
+
+/// One generation more.
+pub fn step<P: Plane>(rt: &impl Abort, plane: &mut P, rule: &Rule) -> Result<(), Fail> {
+    assert!(rt; plane.age() < AGE_LIMIT);
+    plane.step(rule)?;
+    Ok(())
+}
+
+/// The plane of these cells after so many generations.
+pub fn after<P: Plane>(
+    rt: &impl Abort,
+    alloc: Global,
+    cells: &[(i32, i32)],
+    rule: &[u8],
+    steps: u32,
+) -> Result<P, Fail> {
+    let list = CellList::of(alloc, cells)?;
+    assert!(rt; list.fits());
+    let rule = Rule::parse(rule)?;
+    let mut plane = P::from_cells(alloc, &list)?;
+    for _ in 0..steps {
+        step(rt, &mut plane, &rule)?;
+    }
+    Ok(plane)
+}
