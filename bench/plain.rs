@@ -28,36 +28,54 @@ impl Logic for Life {
     }
 }
 
-/// For each number of live neighbours all ones where a dead cell, or a live one, is live next.
-struct Answers {
+/// The answers of a rule as sums without carries of terms: of the first eight those whose places have no bit but the ones of the
+/// number of live neighbours, and the last where that number is 8. A live cell adds to each what `turn` has.
+struct Terms {
     dead: [u64; 9],
-    live: [u64; 9],
+    turn: [u64; 9],
 }
 
-impl Answers {
-    fn of(birth: u16, survival: u16) -> Answers {
-        let spread = |set: u16, n: usize| if set >> n & 1 == 1 { !0 } else { 0 };
-        Answers {
-            dead: std::array::from_fn(|n| spread(birth, n)),
-            live: std::array::from_fn(|n| spread(survival, n)),
+fn four_terms(words: [u64; 4]) -> [u64; 4] {
+    let both = words[0] ^ words[1];
+    [
+        words[0],
+        both,
+        words[0] ^ words[2],
+        both ^ words[2] ^ words[3],
+    ]
+}
+
+fn terms(words: [u64; 9]) -> [u64; 9] {
+    let low = four_terms([words[0], words[1], words[2], words[3]]);
+    let high = four_terms(std::array::from_fn(|n| words[n] ^ words[n + 4]));
+    std::array::from_fn(|n| match n {
+        0..=3 => low[n],
+        4..=7 => high[n - 4],
+        _ => words[0] ^ words[8],
+    })
+}
+
+impl Terms {
+    fn of(birth: u16, survival: u16) -> Terms {
+        let word = |set: u16, n: usize| if set >> n & 1 == 1 { !0 } else { 0 };
+        let spread = |set: u16| terms(std::array::from_fn(|n| word(set, n)));
+        let (dead, live) = (spread(birth), spread(survival));
+        Terms {
+            dead,
+            turn: std::array::from_fn(|n| dead[n] ^ live[n]),
         }
     }
 }
 
-#[inline(always)]
-fn choose(bit: u64, zero: u64, one: u64) -> u64 {
-    zero ^ (bit & (zero ^ one))
-}
-
-impl Logic for Answers {
+impl Logic for Terms {
     #[inline(always)]
     fn next(&self, here: u64, ones: u64, a: u64, b: u64, c: u64, d: u64) -> u64 {
         let (twos, carry) = (a ^ c, a & c);
         let (fours, eights) = (b ^ d ^ carry, b & d);
-        let at = |n: usize| choose(here, self.dead[n], self.live[n]);
-        let low = choose(twos, choose(ones, at(0), at(1)), choose(ones, at(2), at(3)));
-        let high = choose(twos, choose(ones, at(4), at(5)), choose(ones, at(6), at(7)));
-        choose(eights, choose(fours, low, high), at(8))
+        let at = |n: usize| self.dead[n] ^ (here & self.turn[n]);
+        let low = (at(0) ^ (ones & at(1))) ^ (twos & (at(2) ^ (ones & at(3))));
+        let high = (at(4) ^ (ones & at(5))) ^ (twos & (at(6) ^ (ones & at(7))));
+        low ^ (fours & high) ^ (eights & at(8))
     }
 }
 
@@ -334,8 +352,8 @@ fn main() {
     if (birth, survival) == (1 << 3, 1 << 2 | 1 << 3) {
         (0..generations).for_each(|_| plane.step(&Life));
     } else {
-        let answers = Answers::of(birth, survival);
-        (0..generations).for_each(|_| plane.step(&answers));
+        let terms = Terms::of(birth, survival);
+        (0..generations).for_each(|_| plane.step(&terms));
     }
     let cells: u32 = plane.now.iter().flatten().map(|row| row.count_ones()).sum();
     println!("{cells}");
