@@ -10,10 +10,7 @@ use Rattle.life_model.specs.Generation.{Generation, contains, from_list, insert}
 use Rattle.life_model.proofs.Cells.{cell_cmp_total, same_cell-is}
 use Rattle.life_model.proofs.Generations.{same_members, contains-insert, contains-from_list}
 use Rattle.life_cells.specs.Limits.{IsPlace, IsWithin}
-
-either_true : (a b : Bool) → (a || b) ≡ true → (a ≡ true) ⊎ (b ≡ true)
-either_true true b is = inl refl
-either_true false b is = inr is
+use Rattle.life_tile.proofs.Orders.{either_true}
 
 -- a member after one cell more is that cell or was one
 pub inserted_cases : (G : Generation) (c d : Cell) → contains (insert G c) d ≡ true → (d ≡ c) ⊎ (contains G d ≡ true)

@@ -12,15 +12,11 @@ use Rattle.life_tile.specs.Places.{place_cmp, start_at}
 use Rattle.life_model.specs.Cell.{cell_cmp, same_cell}
 use Rattle.life_model.proofs.Cells.{cell_cmp_total, cell_cmp-IsAntisymmetric}
 use Rattle.life_tile.specs.Cells.{row_cells, block_cells, tiles_cells}
-use Rattle.life_tile.proofs.Orders.{true_or_false, place_exact}
+use Rattle.life_tile.proofs.Orders.{either_true, true_or_false, place_exact}
 
 -- the cell is in the list
 unfoldable pub Has : List (ℤ × ℤ) → ℤ × ℤ → Type 0
 Has cells q = list_any (same_cell q) cells ≡ true
-
-either_true : (a b : Bool) → (a || b) ≡ true → (a ≡ true) ⊎ (b ≡ true)
-either_true true b is = inl refl
-either_true false b is = inr is
 
 true_left : (a b : Bool) → a ≡ true → (a || b) ≡ true
 true_left a b is = ap (λ c. c || b) is
