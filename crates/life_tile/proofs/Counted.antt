@@ -1,16 +1,16 @@
 -- How many cells tiles hold: no cell comes twice, and they are no more than a square that holds them all.
-use Rattle.std.proofs.Common.{◌≡◌, ℕ, zero, suc, ℤ, pos, ◌+ℤ◌, ◌+◌, ◌<◌, ◌^◌, ◌%◌, ◌==◌, ⊎_elim, Bool, true, false, cond, List, [], ◌∷◌, length, length-append, slice_index, refl, sym, ap, ◌∙◌, arith, eqb-true, eq-eqb, true≢false}
+use Rattle.std.proofs.Common.{◌≡◌, ℕ, zero, suc, ℤ, pos, ◌+ℤ◌, ◌+◌, ◌<◌, ◌^◌, ◌%◌, ◌==◌, ⊎_elim, Bool, true, false, cond, List, [], ◌∷◌, length, length-append, slice_index, ◌*◌, ◌≤◌, bit_or, refl, sym, subst, ap, ◌∙◌, arith, eqb-true, eq-eqb, true≢false}
 use Rattle.std.specs.Int.{bit_at}
 use Rattle.std.specs.Int.RustNames.{count_ones}
 use Rattle.std.specs.FinMap as finmap
-use Rattle.std.proofs.lemmas.Nat.{pow_pos, mod-pow-add}
+use Rattle.std.proofs.lemmas.Nat.{pow_pos, mod-pow-add, le_or_l, le_or_r}
 use Rattle.std.proofs.lemmas.Nat.Bits.{bit_at-lt}
 use lib.Count.{ones, ones_in, ones_cat}
 use Rattle.life_model.specs.Cell.{Cell, cell_cmp}
 use Rattle.life_model.specs.Generation.{Generation, contains, empty, insert, from_list, size}
 use Rattle.life_model.proofs.Cells.{cell_cmp_total}
 use Rattle.life_model.proofs.Generations.{contains-from_list}
-use Rattle.life_tile.specs.Cells.{row_cells, block_cells}
+use Rattle.life_tile.specs.Cells.{row_cells, block_cells, IsCountFrom}
 use Rattle.life_tile.proofs.Orders.{true_or_false}
 use Rattle.life_tile.proofs.Members.{Has}
 use Rattle.life_tile.proofs.Splits.{not_one}
@@ -89,15 +89,14 @@ length-whole_row left y word fits =
     sym (length-row_cells left y word 64 ∙ ap count_ones whole)
 
 -- one row more of a tile counted
-pub counted_more : (rows : List ℕ) (n count row : ℕ) →
+counted_more_at : (rows : List ℕ) (n count row : ℕ) (left top : ℤ) →
     ((left y : ℤ) → row ≡ length (row_cells left y (slice_index rows n) 64)) →
-    ((left top : ℤ) → count ≡ length (block_cells left top rows n)) →
-    (left top : ℤ) → count + row ≡ length (block_cells left top rows (n + 1))
+    count ≡ length (block_cells left top rows n) → count + row ≡ length (block_cells left top rows (n + 1))
 unfolding block_cells
-counted_more rows n count row counts before left top =
+counted_more_at rows n count row left top counts before =
     let next : suc n ≡ n + 1 = omega arith in
     joined count row (length (row_cells left (top +ℤ pos n) (slice_index rows n) 64)) (length (block_cells left top rows n)) _
-    (before left top) (counts left (top +ℤ pos n))
+    before (counts left (top +ℤ pos n))
     (length-append (row_cells left (top +ℤ pos n) (slice_index rows n) 64) (block_cells left top rows n))
     ∙ ap (λ (k : ℕ). length (block_cells left top rows k)) next
   where
@@ -120,3 +119,63 @@ length-block left top rows (suc n) =
     length-append (row_cells left (top +ℤ pos n) word 64) (block_cells left top rows n)
     ∙ (λ i. row i + rest i)
     ∙ sym (length-append (row_cells (pos 0) (pos 0 +ℤ pos n) word 64) (block_cells (pos 0) (pos 0) rows n))
+
+-- no row counted yet
+pub counted_from_none : (rows : List ℕ) (from : ℕ) → IsCountFrom rows from 0 0
+counted_from_none rows from left top =
+    let same : from ≡ from + 0 = omega arith in
+    none_more _ ∙ ap (λ (k : ℕ). length (block_cells left top rows k)) same
+  where
+    none_more : (a : ℕ) → a + 0 ≡ a
+    none_more a = omega arith
+
+-- one row more counted
+pub counted_from : (rows : List ℕ) (from n count row : ℕ) →
+    ((left y : ℤ) → row ≡ length (row_cells left y (slice_index rows (from + n)) 64)) →
+    IsCountFrom rows from n count → IsCountFrom rows from (n + 1) (count + row)
+counted_from rows from n count row counts before left top =
+    let next : from + n + 1 ≡ from + (n + 1) = omega arith in
+    regroup _ count row
+    ∙ counted_more_at rows (from + n) (length (block_cells left top rows from) + count) row left top counts (before left top)
+    ∙ ap (λ (k : ℕ). length (block_cells left top rows k)) next
+  where
+    regroup : (a b d : ℕ) → a + (b + d) ≡ a + b + d
+    regroup a b d = omega arith
+
+-- rows without a live cell add none
+none_in : (left y : ℤ) (word : ℕ) → word ≡ 0 → 0 ≡ length (row_cells left y word 64)
+unfolding count_ones
+none_in left y word is =
+    let none : count_ones (0 % 2 ^ 64) ≡ 0 = refl in
+    sym (length-row_cells left y word 64 ∙ ap (λ (w : ℕ). count_ones (w % 2 ^ 64)) is ∙ none)
+
+some_void : (rows : List ℕ) (from : ℕ) → ((y : ℕ) → y < 8 → slice_index rows (from + y) ≡ 0) → (n : ℕ) → n ≤ 8 → IsCountFrom rows from n 0
+some_void rows from void zero few = counted_from_none rows from
+some_void rows from void (suc n) few =
+    let after : n + 1 ≡ suc n = omega arith in
+    subst (λ (k : ℕ). IsCountFrom rows from k 0) after
+    (counted_from rows from n 0 0 (λ left y. none_in left y (slice_index rows (from + n)) (void n (omega arith))) (some_void rows from void n (omega arith)))
+
+counted_void : (rows : List ℕ) (from : ℕ) → ((y : ℕ) → y < 8 → slice_index rows (from + y) ≡ 0) → IsCountFrom rows from 8 0
+counted_void rows from void = some_void rows from void 8 (omega arith)
+
+-- eight rows more of a tile
+pub counted_band : (rows : List ℕ) (band count more : ℕ) →
+    ((left top : ℤ) → count ≡ length (block_cells left top rows (8 * band))) → IsCountFrom rows (8 * band) 8 more →
+    (left top : ℤ) → count + more ≡ length (block_cells left top rows (8 * (band + 1)))
+counted_band rows band count more before is left top =
+    let next : 8 * band + 8 ≡ 8 * (band + 1) = omega arith in
+    ap (λ (k : ℕ). k + more) (before left top) ∙ is left top ∙ ap (λ (k : ℕ). length (block_cells left top rows k)) next
+
+pub counted_past : (rows : List ℕ) (band count : ℕ) →
+    ((left top : ℤ) → count ≡ length (block_cells left top rows (8 * band))) → ((y : ℕ) → y < 8 → slice_index rows (8 * band + y) ≡ 0) →
+    (left top : ℤ) → count ≡ length (block_cells left top rows (8 * (band + 1)))
+counted_past rows band count before void left top =
+    let same : count ≡ count + 0 = omega arith in
+    same ∙ counted_band rows band count 0 before (counted_void rows (8 * band) void) left top
+
+pub or_none_left : (a b : ℕ) → bit_or a b ≡ 0 → a ≡ 0
+or_none_left a b none = omega (arith, le_or_l a b, none)
+
+pub or_none_right : (a b : ℕ) → bit_or a b ≡ 0 → b ≡ 0
+or_none_right a b none = omega (arith, le_or_r a b, none)

@@ -4,6 +4,7 @@
 mod bands;
 mod counting;
 mod covering;
+mod eights;
 mod ends;
 mod grid;
 mod listing;

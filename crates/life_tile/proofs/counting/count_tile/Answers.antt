@@ -1,12 +1,27 @@
-use Rattle.std.proofs.Common.{arith}
-use Rattle.life_tile.proofs.Counted.{counted_none, counted_more}
+use Rattle.std.proofs.Common.{◌∙◌, arith}
+use Rattle.life_tile.proofs.Counted.{counted_none, counted_band, counted_past}
 use Rattle.life_tile.proofs.counting.count_tile.Goals as goal
+use Rattle.life_tile.proofs.counting.count_tile.Goals.{then-has_cells, else-has_cells}
 
-pub loop-row-init : goal.loop-row-init
-loop-row-init c = record { few = omega arith; counted = counted_none c.args.tile.now.rows }
+pub loop-band-init : goal.loop-band-init
+loop-band-init c = record { few = omega arith; counted = counted_none c.args.tile.now.rows }
 
-pub loop-row-preserved : goal.loop-row-preserved
-loop-row-preserved c = record {
-  few = omega arith;
-  counted = counted_more c.args.tile.now.rows c.loop-row.row-index c.loop-row.count c.count_row-count.result c.count_row-count.ensures.cells c.loop-row.invariant.counted;
-}
+pub loop-band-preserved : goal.loop-band-preserved
+loop-band-preserved c =
+    elim c.if-has_cells.branch [
+      | then-has_cells w ↦
+          let before = c.loop-band.invariant.few in
+          let more = w.count_rows-count.ensures.few in
+          let is = w.count-is in
+          record {
+            few = omega arith;
+            counted = λ left top. w.count-is ∙ counted_band c.args.tile.now.rows c.loop-band.band c.loop-band.count w.count_rows-count.result c.loop-band.invariant.counted w.count_rows-count.ensures.cells left top;
+          }
+      | else-has_cells w ↦
+          let before = c.loop-band.invariant.few in
+          let is = w.count-is in
+          record {
+            few = omega arith;
+            counted = λ left top. w.count-is ∙ counted_past c.args.tile.now.rows c.loop-band.band c.loop-band.count c.loop-band.invariant.counted (c.has_cells.ensures w.if-has_cells.false) left top;
+          }
+    ]

@@ -1,0 +1,12 @@
+use Rattle.std.proofs.Common.{◌≡◌, ◌+◌, arith, below_more, slice_index}
+use Rattle.life_tile.proofs.Counted.{or_none_left, or_none_right}
+use Rattle.life_tile.proofs.eights.has_cells.Goals as goal
+
+pub loop-y-init : goal.loop-y-init
+loop-y-init c = λ none k below. absurd (omega arith)
+
+pub loop-y-preserved : goal.loop-y-preserved
+loop-y-preserved c = λ none.
+    below_more (λ k. slice_index c.args.tile.now.rows (c.args.top + k) ≡ 0) c.loop-y.y
+    (c.loop-y.invariant (or_none_left c.loop-y.all _ none))
+    (or_none_right c.loop-y.all _ none)
