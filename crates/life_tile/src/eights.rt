@@ -14,3 +14,31 @@ pub fn has_cells(tile: &Tile, top: usize) -> bool
     }
     all != 0
 }
+
+/// The first of the first eight rows of a tile that have a live cell, or 64 where no row has one.
+pub fn first_eight(tile: &Tile) -> usize
+    ensures small { result ≤ 64 }
+    ensures void { (y : ℕ) → y < result → slice_index tile.now.rows y ≡ 0 }
+{
+    for band in 0..8 {
+        if has_cells(tile, 8 * band) {
+            return 8 * band;
+        }
+    }
+    64
+}
+
+/// The row behind the last eight rows of a tile that have a live cell, or 0 where no row has one.
+pub fn end_of_eights(tile: &Tile) -> usize
+    ensures small { result ≤ 64 }
+    ensures void { (y : ℕ) → result ≤ y → y < 64 → slice_index tile.now.rows y ≡ 0 }
+{
+    let mut band = 8usize;
+    while band > 0 {
+        band -= 1;
+        if has_cells(tile, 8 * band) {
+            return 8 * band + 8;
+        }
+    }
+    0
+}

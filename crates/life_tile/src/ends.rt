@@ -4,6 +4,7 @@ ghost use Rattle.life_tile.specs.Ends.{AreEnds, AreJoined, IsFirstIn, IsLastIn, 
 ghost use Rattle.life_tile.specs.Places.{start_at, IsInside};
 ghost use Rattle.life_tile.specs.Slots.{place_of};
 
+use crate::eights::{end_of_eights, first_eight};
 use crate::grid::corner_of;
 use crate::slot::Slot;
 use life_bits::Tile;
@@ -45,8 +46,9 @@ fn later(a: (i32, i32), b: (i32, i32)) -> (i32, i32)
 fn first_in(tile: &Tile) -> Option<(usize, usize)>
     ensures { MatchOption result (IsVoid tile.now) (λ at. IsFirstIn tile.now at.0 at.1) }
 {
-    for (y, row) in tile.rows.iter().enumerate() {
-        if *row != 0 {
+    for y in first_eight(tile)..64 {
+        let row = tile.rows[y];
+        if row != 0 {
             return Some((row.trailing_zeros() as usize, y));
         }
     }
@@ -57,7 +59,7 @@ fn first_in(tile: &Tile) -> Option<(usize, usize)>
 fn last_in(tile: &Tile) -> Option<(usize, usize)>
     ensures { MatchOption result (IsVoid tile.now) (λ at. IsLastIn tile.now at.0 at.1) }
 {
-    let mut y = 64usize;
+    let mut y = end_of_eights(tile);
     while y > 0 {
         y -= 1;
         let row = tile.rows[y];
