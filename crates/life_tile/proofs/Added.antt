@@ -19,7 +19,7 @@ use Rattle.life_tile.specs.Slots.{Index, slot_at, neighbour_at, place_of, link_o
 use Rattle.life_tile.specs.Work.{mark_of}
 use Rattle.life_tile.specs.Slabs.{IsIndexed, IsSlotOf, IsSlab, IsExtended, all_bands, no_bands}
 use Rattle.life_tile.proofs.Marks.{all_marked}
-use Rattle.life_tile.proofs.Places.{slot_cases, slot_of_place}
+use Rattle.life_tile.proofs.Places.{here_is, slot_cases, slot_of_place}
 
 opposite_side : (a b : ℤ) (d : ℕ) → d < 3 → ((a +ℤ pos d) -ℤ pos 1) ≡ b → ((b +ℤ pos (2 - d)) -ℤ pos 1) ≡ a
 opposite_side a b d small is = omega (arith, ints)
@@ -42,12 +42,6 @@ only_here p m small is =
     let a : m % 3 ≡ 1 = same_side p.0 (m % 3) (ap (λ (z : ℤ × ℤ). z.0) is) in
     let b : m / 3 ≡ 1 = same_side p.1 (m / 3) (ap (λ (z : ℤ × ℤ). z.1) is) in
     omega arith
-
-here_is : (p : ℤ × ℤ) → neighbour_at p 4 ≡ p
-here_is p =
-    let across : ((p.0 +ℤ pos 1) -ℤ pos 1) ≡ p.0 = omega (arith, ints) in
-    let down : ((p.1 +ℤ pos 1) -ℤ pos 1) ≡ p.1 = omega (arith, ints) in
-    λ i. (across i, down i)
 
 pub record IsAdded (before after : Slab) (place : ℤ × ℤ) (links : List ℕ) : Type 0 where
   pub ordered : IsOrdered place_cmp after.index

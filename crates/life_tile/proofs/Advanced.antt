@@ -17,8 +17,8 @@ use Rattle.life_tile.specs.declared.slot.Slot.{Slot}
 use Rattle.life_tile.specs.declared.slab.Slab.{Slab}
 use Rattle.life_tile.specs.Slots.{place_of, tile_of, generation_shown, IsReached}
 use Rattle.life_tile.specs.Work.{mark_of, IsWorkedOut}
-use Rattle.life_tile.specs.Slabs.{state_at, members_of, IsClosed, IsCalm, IsKept, IsGrown}
-use Rattle.life_tile.proofs.Steps.{advanced, settled_again, closed_again}
+use Rattle.life_tile.specs.Slabs.{state_at, members_of, IsClosed, IsIdle, IsCalm, IsKept, IsGrown}
+use Rattle.life_tile.proofs.Steps.{advanced, settled_again, closed_again, closed_idle}
 
 within_near : (age : ℕ) (g c : Cell) → IsWithin age g → IsNear c g → IsWithin (age + 1) c
 within_near age g c within near = record {
@@ -65,8 +65,11 @@ module _ (s u : Slab) (after : List Tile) (marks marked : List Bands) (kept : Is
       (λ not. not)
       (true_or_false s.fresh)
 
+  idle_marks : (k : ℕ) → IsIdle u.todo.items k → IsIdle marked k
+  idle_marks k idle = λ band small. sym (ap (λ (bs : List Bands). mark_of bs k band) todo_is) ∙ idle band small
+
   calm_marks : IsCalm u.todo.items → IsCalm marked
-  calm_marks calm = λ band small. sym (ap (λ (bs : List Bands). mark_of bs 0 band) todo_is) ∙ calm band small
+  calm_marks = idle_marks 0
 
   known_calm : IsCalm u.todo.items → s.fresh ≡ false
   known_calm calm = known 0 0 kept.whole.indexed.some (omega arith) (calm_marks calm 0 (omega arith))
@@ -106,6 +109,11 @@ module _ (s u : Slab) (after : List Tile) (marks marked : List Bands) (kept : Is
               (kept.earlier was_known) k x y later inside wide high (ap (mark_of marked k) in_band ∙ clear_mark)
               ∙ ap (λ (ts : List Tile). state_at (next s.rule (generation_shown s.index ts)) (start_at (place_of s.slots.items k).0 +ℤ pos x) (start_at (place_of s.slots.items k).1 +ℤ pos y)) (sym cur_is);
         };
+    closed = λ k later inside idle.
+        let was_known : s.fresh ≡ false = known k 0 inside (omega arith) (idle_marks k idle 0 (omega arith)) in
+        subst (λ (ts : List Tile). IsClosed s.slots.items ts k) (sym cur_is)
+        (closed_idle s.index s.slots.items kept.whole.indexed s.cur.items s.alt.items after s.todo.items marks marked s.rule kept.whole.cur_none kept.whole.alt_none worked
+        k later inside (idle_marks k idle) (kept.earlier_closed was_known k later inside));
     calm = λ _. refl;
     grown = λ calm. record {
       closed = λ k later inside.

@@ -193,6 +193,12 @@ module _ (before after : Slab) (whole_before : IsSlab before) (whole_after : IsS
             (λ past. record { closed = λ m small none. empty_still (tile_of after.alt.items k) m (extended.alt_new k past inside) })
             (cases_lt k (length before.slots.items));
         settled = λ k band later inside small clear. (let old = extended.todo k band inside small clear in settled_extended k band old.0 (kept.settled k band later old.0 small old.1));
+        closed = λ k later inside idle.
+            ⊎_elim
+            (λ (old : k < length before.slots.items).
+            closed_extended before after k extended later old (kept.closed k later old (λ band small. (extended.todo k band inside small (idle band small)).1)))
+            (λ past. closed_new before after k extended past inside)
+            (cases_lt k (length before.slots.items));
         calm = λ calm. extended.fresh ∙ kept.calm (calm_extended calm);
         grown = λ calm. record {
           closed = λ k later inside.

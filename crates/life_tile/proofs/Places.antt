@@ -22,6 +22,13 @@ use Rattle.life_tile.proofs.Windows.{Shows, next_shown}
 
 -- ---- directions
 
+-- the middle direction leads to the place itself
+pub here_is : (p : ℤ × ℤ) → neighbour_at p 4 ≡ p
+here_is p =
+    let across : ((p.0 +ℤ pos 1) -ℤ pos 1) ≡ p.0 = omega (arith, ints) in
+    let down : ((p.1 +ℤ pos 1) -ℤ pos 1) ≡ p.1 = omega (arith, ints) in
+    λ i. (across i, down i)
+
 -- a side of 64 columns or rows on which other 64 are
 pub record Side (s p : ℤ) (x : ℕ) : Type 0 where
   pub side : ℕ

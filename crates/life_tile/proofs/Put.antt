@@ -37,6 +37,7 @@ kept_fresh s whole young within reached fresh busy stirred = record {
   earlier = λ known. (let never : true ≡ false = sym fresh ∙ known in absurd (cc));
   earlier_closed = λ known. (let never : true ≡ false = sym fresh ∙ known in absurd (cc));
   settled = λ k band later inside small clear. (let never : 1 ≡ 0 = sym (busy k band later inside small) ∙ clear in absurd (omega arith));
+  closed = λ k later inside idle. (let never : 1 ≡ 0 = sym (busy k 0 later inside (omega arith)) ∙ idle 0 (omega arith) in absurd (omega arith));
   calm = λ calm. absurd (stirred calm);
   grown = λ calm. absurd (stirred calm);
 }

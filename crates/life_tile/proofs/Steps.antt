@@ -14,11 +14,11 @@ use Rattle.life_tile.specs.declared.slot.Slot.{Slot}
 use Rattle.life_tile.specs.Slots.{Index, slot_at, neighbour_at, place_of, link_of, tile_of, empty_tile, generation_shown}
 use Rattle.life_tile.specs.Rims.{IsAtEdge, IsNextToBand}
 use Rattle.life_tile.specs.Work.{mark_of, IsWorkedOut}
-use Rattle.life_tile.specs.Slabs.{state_at, IsIndexed, IsSlotOf, IsClosed, IsCalm}
+use Rattle.life_tile.specs.Slabs.{state_at, IsIndexed, IsSlotOf, IsClosed, IsIdle, IsCalm}
 use Rattle.life_tile.proofs.Bits.{bit_cases}
 use Rattle.life_tile.proofs.Shown.{shown_state, same_states}
 use Rattle.life_tile.proofs.Windows.{next_alike}
-use Rattle.life_tile.proofs.Places.{Direction, direction_of, slot_cases, slot_of_place, state_absent, state_of_slot, next_linked, quiet, dead_next}
+use Rattle.life_tile.proofs.Places.{here_is, Direction, direction_of, slot_cases, slot_of_place, state_absent, state_of_slot, next_linked, quiet, dead_next}
 
 -- the rows next to a band, counted from the tile that they are in
 next_to : (m band y : ℕ) (row p Y : ℤ) → ((row +ℤ pos (m / 3)) -ℤ pos 1) ≡ p → Y ≡ (start_at row +ℤ pos y) →
@@ -48,6 +48,14 @@ beyond m x y small high edge =
     record { band = y / 8; small = omega arith; near = record { column = edge.column; from = omega arith; to = omega arith } })
     (cases_eq (m / 3) 2))
     (cases_eq (m / 3) 0)
+
+-- and each cell is next to its own band
+in_own : (x y : ℕ) → y < 64 → IsNextToBand 4 (y / 8) x y
+in_own x y high = record {
+  column = record { first = λ is. absurd (omega arith); last = λ is. absurd (omega arith) };
+  from = omega arith;
+  to = omega arith;
+}
 
 module _ (index : Index) (slots : List Slot) (whole : IsIndexed index slots) (cur alt after : List Tile) (todo marks marked : List Bands) (rule : Rule)
     (cur_none : tile_of cur 0 ≡ empty_tile) (alt_none : tile_of alt 0 ≡ empty_tile)
@@ -137,3 +145,16 @@ module _ (index : Index) (slots : List Slot) (whole : IsIndexed index slots) (cu
           ∙ ((closed j later inside).closed m small link).still x y wide high edge;
     };
   }
+
+  -- nor next to a slot of which no band is marked, since no cell of its tile changed
+  pub closed_idle : (j : ℕ) → 0 < j → j < length slots → IsIdle marked j → IsClosed slots alt j → IsClosed slots after j
+  closed_idle j later inside idle closed =
+      let own : link_of slots j 4 ≡ j =
+      whole.linked j 4 later inside (omega arith) ∙ ap (slot_at index) (here_is (place_of slots j)) ∙ slot_of_place index slots whole j later inside in
+      record {
+        closed = λ m small link. record {
+          still = λ x y wide high edge.
+              worked.around j 4 (y / 8) x y later inside (omega arith) (omega arith) wide high (in_own x y high) (ap (λ k. mark_of marked k (y / 8)) own ∙ idle (y / 8) (omega arith))
+              ∙ (closed.closed m small link).still x y wide high edge;
+        };
+      }

@@ -70,9 +70,13 @@ pub record IsSettled (slab : Slab) (k band : ℕ) : Type 0 where
 pub record IsGrown (slab : Slab) : Type 0 where
   pub closed : (k : ℕ) → 0 < k → k < length slab.slots.items → IsClosed slab.slots.items slab.cur.items k
 
+-- no band of a slot is marked
+abbrev pub IsIdle : List Bands → ℕ → Type 0
+IsIdle marks k = (band : ℕ) → band < 8 → mark_of marks k band ≡ 0
+
 -- no band of slot 0 is marked, which stands for every place without a slot
 abbrev pub IsCalm : List Bands → Type 0
-IsCalm marks = (band : ℕ) → band < 8 → mark_of marks 0 band ≡ 0
+IsCalm marks = IsIdle marks 0
 
 -- what a slab keeps between steps
 pub record IsKept (slab : Slab) : Type 0 where
@@ -83,6 +87,7 @@ pub record IsKept (slab : Slab) : Type 0 where
   pub earlier : slab.fresh ≡ false → members_of slab ≡ next slab.rule (earlier_of slab)
   pub earlier_closed : slab.fresh ≡ false → (k : ℕ) → 0 < k → k < length slab.slots.items → IsClosed slab.slots.items slab.alt.items k
   pub settled : (k band : ℕ) → 0 < k → k < length slab.slots.items → band < 8 → mark_of slab.todo.items k band ≡ 0 → IsSettled slab k band
+  pub closed : (k : ℕ) → 0 < k → k < length slab.slots.items → IsIdle slab.todo.items k → IsClosed slab.slots.items slab.cur.items k
   pub calm : IsCalm slab.todo.items → slab.fresh ≡ false
   pub grown : IsCalm slab.todo.items → IsGrown slab
 

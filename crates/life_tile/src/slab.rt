@@ -45,7 +45,7 @@ pub struct Slab {
 }
 
 impl Slab {
-    ghost use Rattle.life_tile.specs.Slabs.{HasRoom, IsAlike, IsCalm, IsAppended, IsClosed, IsExtended, IsGrown, IsKept, IsSet, IsSlotOf, members_of};
+    ghost use Rattle.life_tile.specs.Slabs.{HasRoom, IsAlike, IsCalm, IsAppended, IsClosed, IsExtended, IsGrown, IsIdle, IsKept, IsSet, IsSlotOf, members_of};
 
     /// The slab without a live cell.
     pub fn new(alloc: Global, age: u32) -> Result<Slab, AllocError>
@@ -174,6 +174,14 @@ impl Slab {
         Ok(())
     }
 
+    /// Whether no band of a slot is marked. Then no cell of its tile changed in the last step.
+    fn is_idle(&self, slot: usize) -> bool
+        requires { slot < length self.now.todo.items }
+        ensures { result ≡ true → IsIdle self.now.todo.items slot }
+    {
+        self.todo[slot].is_empty()
+    }
+
     /// Makes slots for the places around a slot that a live cell of its tile is next to.
     fn grow_around(&mut self, slot: usize) -> Result<(), AllocError>
         requires kept { IsKept self.old }
@@ -183,6 +191,9 @@ impl Slab {
         ensures extended { IsExtended self.old self.new }
         ensures closed { OnOk result (IsClosed self.new.slots.items self.new.cur.items slot) }
     {
+        if self.is_idle(slot) {
+            return Ok(());
+        }
         if self.is_surrounded(slot) {
             return Ok(());
         }
@@ -198,7 +209,7 @@ impl Slab {
         requires { 0 < length self.now.todo.items }
         ensures { result ≡ true → IsCalm self.now.todo.items }
     {
-        self.todo[0].is_empty()
+        self.is_idle(0)
     }
 
     /// Makes slots for all places that a live cell is in or next to.

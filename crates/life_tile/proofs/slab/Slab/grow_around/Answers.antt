@@ -52,3 +52,9 @@ returns-then-is_surrounded-clause-extended c = extended_itself c.args.self.now
 
 pub returns-then-is_surrounded-clause-closed : goal.returns-then-is_surrounded-clause-closed
 returns-then-is_surrounded-clause-closed c = record { closed = λ m small none. absurd (c.is_surrounded.ensures c.if-is_surrounded.true m small none) }
+
+pub returns-then-is_idle-clause-extended : goal.returns-then-is_idle-clause-extended
+returns-then-is_idle-clause-extended c = extended_itself c.args.self.now
+
+pub returns-then-is_idle-clause-closed : goal.returns-then-is_idle-clause-closed
+returns-then-is_idle-clause-closed c = c.requires.kept.closed c.args.slot c.requires.later c.requires.slot (c.is_idle.ensures c.if-is_idle.true)
