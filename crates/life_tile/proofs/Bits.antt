@@ -1,10 +1,10 @@
 -- Bits of a byte.
-use Rattle.std.proofs.Common.{◌≡◌, ◌≢◌, ℕ, ◌+◌, ◌-◌, ◌*◌, ◌/◌, ◌%◌, ◌^◌, ◌<◌, ◌≤◌, ◌⊎◌, inl, inr, ⊎_elim, Bool, true, false, w32, refl, sym, ap, ◌∙◌, arith}
-use Rattle.std.specs.Int.{bit_at, trailing_zeros, from_bool}
+use Rattle.std.proofs.Common.{◌≡◌, ◌≢◌, ℕ, ◌+◌, ◌-◌, ◌*◌, ◌/◌, ◌%◌, ◌^◌, ◌<◌, ◌≤◌, ◌⊎◌, inl, inr, ⊎_elim, w32, sym, ap, ◌∙◌, arith}
+use Rattle.std.specs.Int.{bit_at, trailing_zeros}
 use Rattle.std.proofs.lemmas.Bool.{cases_eq, cases_lt}
-use Rattle.std.proofs.lemmas.Nat.{pow_pos, pow_below}
-use Rattle.std.proofs.lemmas.Nat.Bits.{bit_at-lt, bit_at_cat_high, bit_at_above, bit_at-trailing_zeros, bit_at-zero, bit_at-pow_same, bit_at-pow_other}
-use Rattle.life_bits.specs.Flags.{as_bit}
+use Rattle.std.proofs.lemmas.Nat.{pow_pos}
+use Rattle.std.proofs.lemmas.Nat.Bits.{bit_at-lt, bit_at_cat_high, bit_at_above, bit_at-trailing_zeros}
+use Rattle.life_bits.proofs.Strips.{bit_at_mod}
 use Rattle.life_tile.proofs.Splits.{not_one}
 
 pub bit_cases : (n x : ℕ) → (bit_at n x ≡ 1) ⊎ (bit_at n x ≡ 0)
@@ -50,25 +50,12 @@ first_bit n w b is byte some =
       between = λ k from before. bit_from n w b k is from ∙ first.2 (k - b) (omega arith);
     }
 
-pub flag_number : (b : Bool) → from_bool b ≡ as_bit b
-flag_number true = refl
-flag_number false = refl
-
-pub flag_small : (b : Bool) → as_bit b < 2
-flag_small true = omega arith
-flag_small false = omega arith
-
--- a flag moved to a bit of a byte
-pub flag_moved_same : (b : Bool) (k : ℕ) → k < 8 → bit_at (as_bit b * 2 ^ k % 256) k ≡ as_bit b
-flag_moved_same true k small =
-    let less : 2 ^ k < 2 ^ 8 = pow_below k 8 small in
-    let value : 1 * 2 ^ k % 256 ≡ 2 ^ k = omega arith in
-    ap (λ v. bit_at v k) value ∙ bit_at-pow_same k
-flag_moved_same false k small = let value : 0 * 2 ^ k % 256 ≡ 0 = omega arith in ap (λ v. bit_at v k) value ∙ bit_at-zero k
-
-pub flag_moved_other : (b : Bool) (k i : ℕ) → k < 8 → i ≢ k → bit_at (as_bit b * 2 ^ k % 256) i ≡ 0
-flag_moved_other true k i small apart =
-    let less : 2 ^ k < 2 ^ 8 = pow_below k 8 small in
-    let value : 1 * 2 ^ k % 256 ≡ 2 ^ k = omega arith in
-    ap (λ v. bit_at v i) value ∙ bit_at-pow_other k i apart
-flag_moved_other false k i small apart = let value : 0 * 2 ^ k % 256 ≡ 0 = omega arith in ap (λ v. bit_at v i) value ∙ bit_at-zero i
+-- a number moved up
+pub bit_at_moved : (n at w k : ℕ) → at + k < w → bit_at (n * 2 ^ at % 2 ^ w) (at + k) ≡ bit_at n k
+bit_at_moved n at w k inside =
+    let none : n * 2 ^ at ≡ n * 2 ^ at + 0 = omega arith in
+    let back : at + k - at ≡ k = omega arith in
+    bit_at_mod (n * 2 ^ at) w (at + k) inside
+    ∙ ap (λ v. bit_at v (at + k)) none
+    ∙ bit_at_cat_high n at 0 (at + k) (pow_pos at) (omega arith)
+    ∙ ap (bit_at n) back

@@ -1,5 +1,5 @@
 -- One band more of a tile in a step, and one slot more.
-use Rattle.std.proofs.Common.{◌≡◌, ◌≢◌, ℕ, ◌+◌, ◌-◌, ◌*◌, ◌/◌, ◌<◌, ◌≤◌, ◌⊎◌, inl, inr, ⊎_elim, List, [], length, slice_index, slice_set, refl, sym, subst, ap, ◌∙◌, arith}
+use Rattle.std.proofs.Common.{◌≡◌, ◌≢◌, ℕ, ◌+◌, ◌-◌, ◌*◌, ◌%◌, ◌/◌, ◌<◌, ◌≤◌, ◌⊎◌, inl, inr, ⊎_elim, List, [], length, slice_index, slice_set, refl, sym, subst, ap, ◌∙◌, arith}
 use Rattle.std.specs.Int.{bit_at}
 use Rattle.std.proofs.lemmas.Bool.{cases_eq, cases_lt}
 use Rattle.std.proofs.Math.ListN.{length-set}
@@ -10,27 +10,25 @@ use Rattle.life_tile.specs.declared.bands.Bands.{Bands}
 use Rattle.life_tile.specs.declared.slot.Slot.{Slot}
 use Rattle.life_tile.specs.Slots.{links_of, link_of, tile_of, nine_linked}
 use Rattle.life_tile.specs.Rims.{IsNextToBand}
-use Rattle.life_tile.specs.Work.{bands_of, mark_of, IsTileWorkedOut, IsWorkedOut}
+use Rattle.life_tile.specs.Work.{bands_of, mark_of, touch_of, IsTouchedAround, IsTileWorkedOut, IsWorkedOut}
 use Rattle.life_tile.proofs.Lists.{set_here, set_there}
 use Rattle.life_tile.proofs.Marks.{clear_before}
+use Rattle.life_tile.proofs.Marking.{bit_before}
 
 -- no band yet
-pub nothing_done : (cur : List Tile) (links : List ℕ) (todo : Bands) (rule : Rule) (tile : Tile) (marks : List Bands) → IsTileWorkedOut cur links todo rule tile tile marks marks 0
-nothing_done cur links todo rule tile marks = record {
-  length_marked = refl;
+pub nothing_done : (cur : List Tile) (links : List ℕ) (todo : Bands) (rule : Rule) (tile : Tile) (columns : List ℕ) → IsTileWorkedOut cur links todo rule tile tile columns 0
+nothing_done cur links todo rule tile columns = record {
   next = λ x y wide high less. absurd (omega arith);
   idle = λ x y wide high clear. refl;
   later = λ x y wide high past. refl;
   around = λ m band x y small b_small wide high less. absurd (omega arith);
-  kept = λ k band set. set;
 }
 
-module _ (cur : List Tile) (links : List ℕ) (todo : Bands) (rule : Rule) (before tile : Tile) (marks marked : List Bands) (n : ℕ)
-    (worked : IsTileWorkedOut cur links todo rule before tile marks marked n) where
+module _ (cur : List Tile) (links : List ℕ) (todo : Bands) (rule : Rule) (before tile : Tile) (columns : List ℕ) (n : ℕ)
+    (worked : IsTileWorkedOut cur links todo rule before tile columns n) where
   -- bands that have nothing to do
-  pub bands_idle : (later : ℕ) → n ≤ later → ((band : ℕ) → n ≤ band → band < later → bit_at todo.bits band ≡ 0) → IsTileWorkedOut cur links todo rule before tile marks marked later
+  pub bands_idle : (later : ℕ) → n ≤ later → ((band : ℕ) → n ≤ band → band < later → bit_at todo.bits band ≡ 0) → IsTileWorkedOut cur links todo rule before tile columns later
   bands_idle later more idle = record {
-    length_marked = worked.length_marked;
     next = λ x y wide high less busy.
         ⊎_elim
         (λ (old : y / 8 < n). worked.next x y wide high old busy)
@@ -43,25 +41,22 @@ module _ (cur : List Tile) (links : List ℕ) (todo : Bands) (rule : Rule) (befo
         (λ (old : y / 8 < n). worked.around m band x y small b_small wide high old near clear)
         (λ (new : n ≤ y / 8). worked.later x y wide high new)
         (cases_lt (y / 8) n);
-    kept = worked.kept;
   }
 
   -- a band that is worked out
-  module _ (after : Tile) (more : List Bands) (busy : bit_at todo.bits n ≡ 1)
+  module _ (after : Tile) (more : List ℕ) (busy : bit_at todo.bits n ≡ 1)
       (law : (x y : ℕ) → x < 64 → y < 8 → tile_cell after x (8 * n + y) ≡ next_in_area rule (nine_linked cur links) x (8 * n + y))
       (others : (x y : ℕ) → (y < 8 * n) ⊎ (8 * n + 8 ≤ y) → tile_cell after x y ≡ tile_cell tile x y)
-      (same_length : length more ≡ length marked) (kept : (k band : ℕ) → mark_of marked k band ≡ 1 → mark_of more k band ≡ 1)
-      (around : (m band x y : ℕ) → m < 9 → band < 8 → x < 64 → y < 8 → IsNextToBand m band x (8 * n + y) → mark_of more (slice_index links m) band ≡ 0 →
-      tile_cell after x (8 * n + y) ≡ tile_cell tile x (8 * n + y)) where
+      (kept : (side k : ℕ) → side < 3 → bit_at (slice_index columns side) k ≡ 1 → bit_at (slice_index more side) k ≡ 1)
+      (around : IsTouchedAround more n tile after) where
     apart_from : (x y : ℕ) → y / 8 ≢ n → tile_cell after x y ≡ tile_cell tile x y
     apart_from x y apart = others x y (⊎_elim (λ (less : y < 8 * n). inl less) (λ (past : 8 * n ≤ y). inr (omega arith)) (cases_lt y (8 * n)))
 
     row_is : (y : ℕ) → y / 8 ≡ n → 8 * n + (y - 8 * n) ≡ y
     row_is y same = omega arith
 
-    pub band_busy : IsTileWorkedOut cur links todo rule before after marks more (n + 1)
+    pub band_busy : IsTileWorkedOut cur links todo rule before after more (n + 1)
     band_busy = record {
-      length_marked = same_length ∙ worked.length_marked;
       next = λ x y wide high less wanted.
           ⊎_elim
           (λ (same : y / 8 ≡ n).
@@ -78,13 +73,13 @@ module _ (cur : List Tile) (links : List ℕ) (todo : Bands) (rule : Rule) (befo
           ⊎_elim
           (λ (same : y / 8 ≡ n).
           subst (λ z. IsNextToBand m band x z → tile_cell after x z ≡ tile_cell tile x z) (row_is y same)
-          (λ beside. around m band x (y - 8 * n) small b_small wide (omega arith) beside clear) near
+          (λ beside. around.same m band x (y - 8 * n) small b_small wide (omega arith) beside clear) near
           ∙ worked.later x y wide high (omega arith))
           (λ (apart : y / 8 ≢ n).
           apart_from x y apart
-          ∙ worked.around m band x y small b_small wide high (omega arith) near (clear_before marked more (slice_index links m) band (kept (slice_index links m) band) clear))
+          ∙ worked.around m band x y small b_small wide high (omega arith) near
+          (bit_before (slice_index columns (m % 3)) (slice_index more (m % 3)) (8 * (m / 3) + band) (kept (m % 3) (8 * (m / 3) + band) (omega arith)) clear))
           (cases_eq (y / 8) n);
-      kept = λ k band set. kept k band (worked.kept k band set);
     }
 
 -- slots that have nothing to do
@@ -126,10 +121,12 @@ no_slot_done slots cur todo rule tiles marks = record {
 module _ (slots : List Slot) (cur : List Tile) (todo : List Bands) (rule : Rule) (before after : List Tile) (marks marked : List Bands) (n : ℕ) (later : 0 < n) (inside : n < length slots)
     (worked : IsWorkedOut slots cur todo rule before after marks marked n) where
   -- a slot of which some bands are worked out
-  pub worked_busy : (tile : Tile) (more : List Bands) → length after ≡ length slots →
-      IsTileWorkedOut cur (links_of slots n) (bands_of todo n) rule (tile_of after n) tile marked more 8 →
+  pub worked_busy : (tile : Tile) (columns : List ℕ) (more : List Bands) → length after ≡ length slots →
+      IsTileWorkedOut cur (links_of slots n) (bands_of todo n) rule (tile_of after n) tile columns 8 →
+      length more ≡ length marked → ((k band : ℕ) → mark_of marked k band ≡ 1 → mark_of more k band ≡ 1) →
+      ((m band : ℕ) → m < 9 → band < 8 → mark_of more (link_of slots n m) band ≡ 0 → touch_of columns m band ≡ 0) →
       IsWorkedOut slots cur todo rule before (slice_set after n tile) marks more (n + 1)
-  worked_busy tile more count law =
+  worked_busy tile columns more count law same_length kept touched =
       let room : n < length after = omega arith in
       let there : (k : ℕ) → k ≢ n → tile_of (slice_set after n tile) k ≡ tile_of after k = λ k apart. set_there after n k tile (record { rows = [] }) apart in
       let here : tile_of (slice_set after n tile) n ≡ tile = set_here after n tile (record { rows = [] }) room in
@@ -139,7 +136,7 @@ module _ (slots : List Slot) (cur : List Tile) (todo : List Bands) (rule : Rule)
       λ k x y same. ap (λ (t : Tile). tile_cell t x y) (worked.later n (omega arith)) ∙ ap (λ j. tile_cell (tile_of before j) x y) (sym same) in
       record {
         length_after = length-set after n tile ∙ worked.length_after;
-        length_marked = law.length_marked ∙ worked.length_marked;
+        length_marked = same_length ∙ worked.length_marked;
         next = λ k x y positive less wide high busy.
             ⊎_elim
             (λ (same : k ≡ n).
@@ -157,10 +154,10 @@ module _ (slots : List Slot) (cur : List Tile) (todo : List Bands) (rule : Rule)
         around = λ k m band x y positive less small b_small wide high near clear.
             ⊎_elim
             (λ (same : k ≡ n).
-            at k x y same ∙ law.around m band x y small b_small wide high (omega arith) near (ap (λ j. mark_of more (link_of slots j m) band) (sym same) ∙ clear) ∙ was k x y same)
+            at k x y same ∙ law.around m band x y small b_small wide high (omega arith) near (touched m band small b_small (ap (λ j. mark_of more (link_of slots j m) band) (sym same) ∙ clear)) ∙ was k x y same)
             (λ (apart : k ≢ n).
             ap (λ (t : Tile). tile_cell t x y) (there k apart)
-            ∙ worked.around k m band x y positive (omega arith) small b_small wide high near (clear_before marked more (link_of slots k m) band (law.kept (link_of slots k m) band) clear))
+            ∙ worked.around k m band x y positive (omega arith) small b_small wide high near (clear_before marked more (link_of slots k m) band (kept (link_of slots k m) band) clear))
             (cases_eq k n);
-        kept = λ k band set. law.kept k band (worked.kept k band set);
+        kept = λ k band set. kept k band (worked.kept k band set);
       }

@@ -10,6 +10,10 @@ pub record IsEdge (side z : ℕ) : Type 0 where
   pub first : side ≡ 0 → z ≡ 0
   pub last : side ≡ 2 → z ≡ 63
 
+-- none of those of 64 bits is set that are next to the 64 before them, to themselves, or to the 64 behind them
+abbrev pub IsSideClear : ℕ → ℕ → Type 0
+IsSideClear side bits = (x : ℕ) → x < 64 → IsEdge side x → bit_at bits x ≡ 0
+
 -- column x and row y of a tile are at its edge in a direction
 pub record IsAtEdge (m x y : ℕ) : Type 0 where
   pub column : IsEdge (m % 3) x

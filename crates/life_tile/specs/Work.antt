@@ -22,21 +22,28 @@ mark_of marks k band = bit_at (bands_of marks k).bits band
 pub record IsLinked (slots : List Slot) : Type 0 where
   pub inside : (k m : ℕ) → 0 < k → k < length slots → m < 9 → link_of slots k m < length slots
 
--- each band of the tiles on one side is marked that a cell which changed is in or next to, of a band of the tile in the middle
-pub record IsMarkedAround (marks : List Bands) (links : List ℕ) (index : ℕ) (old new : Tile) (side : ℕ) : Type 0 where
+-- of the tiles on one side each band has its bit set that a cell which changed is in or next to, of a band of the tile in the middle
+pub record IsTouchedBeside (column index : ℕ) (old new : Tile) (side : ℕ) : Type 0 where
   pub same : (m band x y : ℕ) → m < 9 → m % 3 ≡ side → band < 8 → x < 64 → y < 8 → IsNextToBand m band x (8 * index + y) →
-      mark_of marks (slice_index links m) band ≡ 0 → IsSameCell old new x (8 * index + y)
+      bit_at column (8 * (m / 3) + band) ≡ 0 → IsSameCell old new x (8 * index + y)
+
+-- the bit of a band of the tile in a direction, in the words of three columns
+abbrev pub touch_of : List ℕ → ℕ → ℕ → ℕ
+touch_of columns m band = bit_at (slice_index columns (m % 3)) (8 * (m / 3) + band)
+
+-- the same of all nine tiles
+pub record IsTouchedAround (columns : List ℕ) (index : ℕ) (old new : Tile) : Type 0 where
+  pub same : (m band x y : ℕ) → m < 9 → band < 8 → x < 64 → y < 8 → IsNextToBand m band x (8 * index + y) → touch_of columns m band ≡ 0 →
+      IsSameCell old new x (8 * index + y)
 
 -- Of the tile in the middle of nine slots the bands before band n that had something to do are worked out, the others are what they
--- were, and each band is marked that a cell which changed is in or next to.
-pub record IsTileWorkedOut (cur : List Tile) (links : List ℕ) (todo : Bands) (rule : Rule) (before after : Tile) (marks marked : List Bands) (n : ℕ) : Type 0 where
-  pub length_marked : length marked ≡ length marks
+-- were, and each band has its bit set that a cell which changed is in or next to.
+pub record IsTileWorkedOut (cur : List Tile) (links : List ℕ) (todo : Bands) (rule : Rule) (before after : Tile) (columns : List ℕ) (n : ℕ) : Type 0 where
   pub next : (x y : ℕ) → x < 64 → y < 64 → y / 8 < n → bit_at todo.bits (y / 8) ≡ 1 → tile_cell after x y ≡ next_in_area rule (nine_linked cur links) x y
   pub idle : (x y : ℕ) → x < 64 → y < 64 → bit_at todo.bits (y / 8) ≡ 0 → tile_cell after x y ≡ tile_cell before x y
   pub later : (x y : ℕ) → x < 64 → y < 64 → n ≤ y / 8 → tile_cell after x y ≡ tile_cell before x y
-  pub around : (m band x y : ℕ) → m < 9 → band < 8 → x < 64 → y < 64 → y / 8 < n → IsNextToBand m band x y → mark_of marked (slice_index links m) band ≡ 0 →
+  pub around : (m band x y : ℕ) → m < 9 → band < 8 → x < 64 → y < 64 → y / 8 < n → IsNextToBand m band x y → touch_of columns m band ≡ 0 →
       tile_cell after x y ≡ tile_cell before x y
-  pub kept : (k band : ℕ) → mark_of marks k band ≡ 1 → mark_of marked k band ≡ 1
 
 -- The bands of the slots from 1 to n that had something to do are worked out, the others are what they were, and each band is
 -- marked that a cell which changed is in or next to.

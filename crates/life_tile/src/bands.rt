@@ -1,5 +1,5 @@
 //! Marks for the bands of a tile.
-ghost use Rattle.std.specs.Prelude.{◌≡◌, ◌≢◌, ℕ, ◌<◌, ◌≤◌, max, true};
+ghost use Rattle.std.specs.Prelude.{◌≡◌, ℕ, ◌<◌, ◌≤◌, max, true};
 ghost use Rattle.std.specs.Int.{bit_at};
 ghost use Rattle.life_bits.specs.Flags.{as_bit};
 
@@ -46,14 +46,12 @@ impl Bands {
         }
     }
 
-    /// These bands, and one more where that is wanted.
-    pub fn with_if(self, band: usize, wanted: bool) -> Bands
-        requires { band < 8 }
-        ensures here { bit_at result.bits band ≡ max (bit_at self.bits band) (as_bit wanted) }
-        ensures others { (k : ℕ) → k ≢ band → bit_at result.bits k ≡ bit_at self.bits k }
+    /// These bands and others.
+    pub fn union(self, others: Bands) -> Bands
+        ensures { (k : ℕ) → bit_at result.bits k ≡ max (bit_at self.bits k) (bit_at others.bits k) }
     {
         Bands {
-            bits: self.bits | (u8::from(wanted) << band),
+            bits: self.bits | others.bits,
         }
     }
 }

@@ -14,6 +14,7 @@ mod sameness;
 mod slab;
 mod slot;
 mod stepping;
+mod touched;
 
 pub use life_bits::{Around, Strand, Tile, count_planes, next_row};
 pub use life_plane::list_plane::ListPlane;

@@ -2,16 +2,13 @@
 ghost use Rattle.std.specs.Prelude.{◌≡◌, ℕ, ◌+◌, ◌*◌, ◌%◌, ◌/◌, ◌<◌, ◌≤◌, length, slice_index};
 ghost use Rattle.std.specs.Int.{bit_at};
 ghost use Rattle.life_model.specs.Rule.{Rule};
-ghost use Rattle.life_bits.specs.declared.tile.Tile.{Tile};
 ghost use Rattle.life_band.specs.Logics.{IsLogicOf};
-ghost use Rattle.life_band.specs.Changes.{IsChange};
-ghost use Rattle.life_tile.specs.Rims.{IsEdge};
-ghost use Rattle.life_tile.specs.Work.{mark_of, IsLinked, IsMarkedAround, IsTileWorkedOut, IsWorkedOut};
+ghost use Rattle.life_tile.specs.Work.{mark_of, IsLinked, IsTileWorkedOut, IsWorkedOut};
 
 use crate::bands::Bands;
-use crate::rim::has_at_side;
 use crate::slot::{HERE, Slot};
-use life_band::{Change, Logic, Window, band};
+use crate::touched::Touched;
+use life_band::{Logic, Window, band};
 use life_bits::{Around, Tile};
 use life_cells::rule::Rule;
 
@@ -25,53 +22,8 @@ pub fn mark_all(marks: &mut [Bands], value: Bands)
     }
 }
 
-/// Of nine tiles, marks a band in the western (0), the middle (1) or the eastern (2) column, if a set bit of a row of the middle
-/// column is in or next to that column. The 24 bands of the three tiles of a column are counted from the north.
-fn mark_beside(marks: &mut [Bands], links: &[usize; 9], at: usize, side: usize, row: u64)
-    requires links { (m : ℕ) → m < 9 → slice_index links.now m < length marks.old }
-    requires at { at < 24 }
-    requires side { side < 3 }
-    ensures length { length marks.new ≡ length marks.old }
-    ensures kept { (k band : ℕ) → mark_of marks.old k band ≡ 1 → mark_of marks.new k band ≡ 1 }
-    ensures marked { mark_of marks.new (slice_index links.now (3 * (at / 8) + side)) (at % 8) ≡ 0 →
-        (x : ℕ) → x < 64 → IsEdge side x → bit_at row x ≡ 0 }
-{
-    let slot = links[3 * (at / 8) + side];
-    marks[slot] = marks[slot].with_if(at % 8, has_at_side(row, side));
-}
-
-/// Marks the bands of one column of nine tiles that a cell which changed in band `index` of the middle tile is in or next to.
-fn mark_column(marks: &mut [Bands], links: &[usize; 9], index: usize, side: usize, change: &Change)
-    requires links { (m : ℕ) → m < 9 → slice_index links.now m < length marks.old }
-    requires index { index < 8 }
-    requires side { side < 3 }
-    ensures length { length marks.new ≡ length marks.old }
-    ensures kept { (k band : ℕ) → mark_of marks.old k band ≡ 1 → mark_of marks.new k band ≡ 1 }
-    ensures marked { (old new : Tile) → IsChange change.now old new (8 * index) → IsMarkedAround marks.new links.now index old new side }
-{
-    mark_beside(marks, links, index + 7, side, change.first);
-    mark_beside(marks, links, index + 8, side, change.all);
-    mark_beside(marks, links, index + 9, side, change.last);
-}
-
-/// Marks the bands of nine tiles that a cell which changed in band `index` of the middle tile is in or next to.
-fn mark_around(marks: &mut [Bands], links: &[usize; 9], index: usize, change: &Change)
-    requires links { (m : ℕ) → m < 9 → slice_index links.now m < length marks.old }
-    requires index { index < 8 }
-    ensures length { length marks.new ≡ length marks.old }
-    ensures kept { (k band : ℕ) → mark_of marks.old k band ≡ 1 → mark_of marks.new k band ≡ 1 }
-    ensures marked { (old new : Tile) → IsChange change.now old new (8 * index) → (side : ℕ) → side < 3 →
-        IsMarkedAround marks.new links.now index old new side }
-{
-    for side in 0..3 {
-        if has_at_side(change.all, side) {
-            mark_column(marks, links, index, side, change);
-        }
-    }
-}
-
 /// Works out the bands of the tile in the middle of nine slots that have something to do, into the tile of the generation before.
-/// Marks the bands that a cell which changed is in or next to.
+/// Answers which bands of the nine tiles a cell that changed is in or next to.
 #[inline(always)]
 fn work_out(
     tile: &mut Tile,
@@ -79,11 +31,10 @@ fn work_out(
     links: &[usize; 9],
     todo: Bands,
     logic: &Logic,
-    marks: &mut [Bands],
-)
-    requires tiles { (m : ℕ) → m < 9 → slice_index links.now m < length cur.now }
-    requires marks { (m : ℕ) → m < 9 → slice_index links.now m < length marks.old }
-    ensures { (rule : Rule) → IsLogicOf logic.now rule → IsTileWorkedOut cur.now links.now todo rule tile.old tile.new marks.old marks.new 8 }
+) -> Touched
+    requires { (m : ℕ) → m < 9 → slice_index links.now m < length cur.now }
+    ensures { (rule : Rule) → IsLogicOf logic.now rule →
+        IsTileWorkedOut cur.now links.now todo rule tile.old tile.new result.columns 8 }
 {
     let here = &cur[links[HERE]];
     let around = Around {
@@ -96,13 +47,15 @@ fn work_out(
         south: &cur[links[7]],
         south_east: &cur[links[8]],
     };
+    let mut touched = Touched::NONE;
     let mut index = todo.first_from(0);
     while index < 8 {
         let window = Window::of(here, &around, 8 * index);
         let change = band(logic, &window, tile);
-        mark_around(marks, links, index, &change);
+        touched = touched.with_band(index, &change);
         index = todo.first_from(index + 1);
     }
+    touched
 }
 
 /// The first slot from a slot on that has something to do, or one past the last where there is none.
@@ -141,7 +94,8 @@ fn next_tiles_by(
     let mut slot = first_busy(todo, 1);
     while slot < slots.len() {
         let links = &slots[slot].links;
-        work_out(&mut alt[slot], cur, links, todo[slot], logic, marks);
+        let touched = work_out(&mut alt[slot], cur, links, todo[slot], logic);
+        touched.mark(marks, links);
         slot = first_busy(todo, slot + 1);
     }
 }

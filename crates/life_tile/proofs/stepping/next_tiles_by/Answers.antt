@@ -21,9 +21,9 @@ loop-slot-preserved c =
     record {
       later = omega arith;
       worked = λ rule of.
-          slots_idle c.args.slots.now c.args.cur.now c.args.todo.now rule c.args.alt.now (slice_set c.loop-slot.alt c.loop-slot.slot c.work_out.new.tile) c.args.marks.now c.work_out.new.marks (c.loop-slot.slot + 1)
+          slots_idle c.args.slots.now c.args.cur.now c.args.todo.now rule c.args.alt.now (slice_set c.loop-slot.alt c.loop-slot.slot c.work_out-touched.new.tile) c.args.marks.now c.mark.new.marks (c.loop-slot.slot + 1)
           (worked_busy c.args.slots.now c.args.cur.now c.args.todo.now rule c.args.alt.now c.loop-slot.alt c.args.marks.now c.loop-slot.marks c.loop-slot.slot later inside (c.loop-slot.invariant.worked rule of)
-          c.work_out.new.tile c.work_out.new.marks room (c.work_out.ensures rule of))
+          c.work_out-touched.new.tile c.work_out-touched.result.columns c.mark.new.marks room (c.work_out-touched.ensures rule of) c.mark.ensures.length c.mark.ensures.kept c.mark.ensures.marked)
           c.first_busy-slot-in-loop-slot.result from c.first_busy-slot-in-loop-slot.ensures.idle;
     }
 

@@ -1,4 +1,4 @@
-use Rattle.std.proofs.Common.{◌≡◌, ◌+◌, ◌*◌, ◌%◌, ◌<◌, ◌≤◌, ◌⊎◌, refl, sym, subst, ap, ◌∙◌, arith}
+use Rattle.std.proofs.Common.{◌≡◌, ◌+◌, ◌*◌, ◌<◌, ◌≤◌, ◌⊎◌, sym, subst, ap, ◌∙◌, arith}
 use Rattle.std.specs.Int.{bit_at}
 use Rattle.life_bits.specs.Area.{tile_cell}
 use Rattle.life_band.specs.Changes.{IsChange}
@@ -13,8 +13,8 @@ loop-index-init c = record {
   small = c.first_from-index.ensures.small;
   marked = c.first_from-index.ensures.marked;
   worked = λ rule of.
-      bands_idle c.args.cur.now c.args.links.now c.args.todo rule c.args.tile.now c.args.tile.now c.args.marks.now c.args.marks.now 0
-      (nothing_done c.args.cur.now c.args.links.now c.args.todo rule c.args.tile.now c.args.marks.now)
+      bands_idle c.args.cur.now c.args.links.now c.args.todo rule c.args.tile.now c.args.tile.now _ 0
+      (nothing_done c.args.cur.now c.args.links.now c.args.todo rule c.args.tile.now _)
       c.first_from-index.result (omega arith) c.first_from-index.ensures.between;
 }
 
@@ -26,20 +26,17 @@ loop-index-preserved c =
       small = c.first_from-index-in-loop-index.ensures.small;
       marked = c.first_from-index-in-loop-index.ensures.marked;
       worked = λ rule of.
-          bands_idle c.args.cur.now c.args.links.now c.args.todo rule c.args.tile.now c.band-change.new.out c.args.marks.now c.mark_around.new.marks (c.loop-index.index + 1)
-          (band_busy c.args.cur.now c.args.links.now c.args.todo rule c.args.tile.now c.loop-index.tile c.args.marks.now c.loop-index.marks c.loop-index.index (c.loop-index.invariant.worked rule of)
-          c.band-change.new.out c.mark_around.new.marks
+          bands_idle c.args.cur.now c.args.links.now c.args.todo rule c.args.tile.now c.band-change.new.out c.with_band-touched.result.columns (c.loop-index.index + 1)
+          (band_busy c.args.cur.now c.args.links.now c.args.todo rule c.args.tile.now c.loop-index.tile c.loop-index.touched.columns c.loop-index.index (c.loop-index.invariant.worked rule of)
+          c.band-change.new.out c.with_band-touched.result.columns
           (c.loop-index.invariant.marked inside)
           (λ x y wide high.
           ap (λ z. tile_cell c.band-change.new.out x (z + y)) (sym top)
           ∙ c.band-change.ensures.next rule of x y wide high
           ∙ next_in_nine rule c.of-window.result (nine_linked c.args.cur.now c.args.links.now) (8 * c.loop-index.index) c.of-window.ensures x y wide high)
           (λ x y apart. ap (λ v. bit_at v x) (c.band-change.ensures.others y (subst (λ z. (y < z) ⊎ (z + 8 ≤ y)) (sym top) apart)))
-          c.mark_around.ensures.length
-          c.mark_around.ensures.kept
-          (λ m band x y small b_small wide high near clear.
-          (c.mark_around.ensures.marked c.loop-index.tile c.band-change.new.out (subst (IsChange c.band-change.result c.loop-index.tile c.band-change.new.out) top c.band-change.ensures.change) (m % 3) (omega arith)).same
-          m band x y small refl b_small wide high near clear))
+          c.with_band-touched.ensures.kept
+          (c.with_band-touched.ensures.touched c.loop-index.tile c.band-change.new.out (subst (IsChange c.band-change.result c.loop-index.tile c.band-change.new.out) top c.band-change.ensures.change)))
           c.first_from-index-in-loop-index.result c.first_from-index-in-loop-index.ensures.from c.first_from-index-in-loop-index.ensures.between;
     }
 
@@ -47,4 +44,4 @@ pub returns : goal.returns
 returns c = λ rule of.
     let small : c.loop-index.index ≤ 8 = c.loop-index.invariant.small in
     let done : c.loop-index.index ≡ 8 = omega arith in
-    subst (λ n. IsTileWorkedOut c.args.cur.now c.args.links.now c.args.todo rule c.args.tile.now c.loop-index.tile c.args.marks.now c.loop-index.marks n) done (c.loop-index.invariant.worked rule of)
+    subst (λ n. IsTileWorkedOut c.args.cur.now c.args.links.now c.args.todo rule c.args.tile.now c.loop-index.tile c.loop-index.touched.columns n) done (c.loop-index.invariant.worked rule of)

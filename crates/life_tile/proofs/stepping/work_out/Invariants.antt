@@ -9,7 +9,7 @@ abbrev pub invariant-loop-index : goal.invariant-loop-index
 invariant-loop-index l = record {
   small : l.index ≤ 8;
   marked : l.index < 8 → bit_at l.todo.bits l.index ≡ 1;
-  worked : (rule : Rule) → IsLogicOf l.logic rule → IsTileWorkedOut l.cur l.links l.todo rule l.initial.tile l.tile l.initial.marks l.marks l.index;
+  worked : (rule : Rule) → IsLogicOf l.logic rule → IsTileWorkedOut l.cur l.links l.todo rule l.initial.tile l.tile l.touched.columns l.index;
 }
 
 abbrev pub decreases-loop-index : goal.decreases-loop-index
