@@ -10,8 +10,8 @@ use Rattle.life_model.specs.Rule.{Rule}
 use Rattle.life_cells.specs.Rules.{rule_text}
 use Rattle.census_bundle.specs.declared.bundle.Entry.{Entry}
 use Rattle.life_answer.specs.Answers.{answer_of}
-use Rattle.census_book.specs.Heads.{finding_fields, headed, line_head}
-use Rattle.census_book.specs.Lines.{behind, answer_fields, pattern_line}
+use Rattle.census_book.specs.Heads.{headed, line_head}
+use Rattle.census_book.specs.Lines.{behind, finding_fields, pattern_line}
 
 pub behind-append : (xs ys : List (List ℕ)) → behind (xs ++ ys) ≡ behind xs ++ behind ys
 behind-append [] ys = refl
@@ -45,11 +45,6 @@ recurs_fields r t₀ t₁ t₂ t₃ answer rule finding population onset period 
     one two (last ∙ ap (λ bytes. t₂ ++ 32 ∷ bytes) is_code)
     ∙ ap (λ a. t₀ ++ behind (finding_fields a)) (sym (is_found ∙ ap (Found rule) is_recurs)))
 
-named_fields : (found : Answer) (name : List ℕ) → finding_fields found ++ name ∷ [] ≡ answer_fields found name
-named_fields (Found rule (Recurs population onset period dx dy code)) name = refl
-named_fields (Found rule (Unresolved population)) name = refl
-named_fields (Refused number) name = refl
-
 -- a word and fields, and then one more field
 one_more : (word name : List ℕ) (xs : List (List ℕ)) → word ++ behind xs ++ 32 ∷ name ≡ word ++ behind (xs ++ name ∷ [])
 one_more word name xs =
@@ -63,4 +58,3 @@ unfolding line_head pattern_line
 headed_line bound c i e =
     let found = answer_of e.text bound in
     ap (λ text. text ++ codes "\n") (one_more (codes "line") e.name (decimal c ∷ decimal i ∷ finding_fields found))
-    ∙ ap (λ fields. codes "line" ++ behind (decimal c ∷ decimal i ∷ fields) ++ codes "\n") (named_fields found e.name)

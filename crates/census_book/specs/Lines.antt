@@ -31,13 +31,17 @@ text_of (l ∷ ls) = l ++ text_of ls
 unfoldable pub open_line : ℕ → Folder → Line
 open_line c f = line (codes "open") (decimal c ∷ decimal (length f.entries) ∷ f.name ∷ [])
 
--- What is found of a pattern, and its name. `ok`: the rule, the population of generation 0, the onset, the period, the
--- displacement and the code. `none`: the rule and the population. `bad`: the number of the text's fault.
+-- What is found of a pattern. `ok`: the rule, the population of generation 0, the onset, the period, the displacement
+-- and the code. `none`: the rule and the population. `bad`: the number of the text's fault.
+abbrev pub finding_fields : Answer → List (List ℕ)
+finding_fields (Found rule (Recurs population onset period dx dy code)) =
+    codes "ok" ∷ rule_text rule ∷ decimal population ∷ decimal onset ∷ decimal period ∷ signed_decimal dx ∷ signed_decimal dy ∷ code ∷ []
+finding_fields (Found rule (Unresolved population)) = codes "none" ∷ rule_text rule ∷ decimal population ∷ []
+finding_fields (Refused number) = codes "bad" ∷ decimal number ∷ []
+
+-- what is found of a pattern, and its name
 abbrev pub answer_fields : Answer → List ℕ → List (List ℕ)
-answer_fields (Found rule (Recurs population onset period dx dy code)) name =
-    codes "ok" ∷ rule_text rule ∷ decimal population ∷ decimal onset ∷ decimal period ∷ signed_decimal dx ∷ signed_decimal dy ∷ code ∷ name ∷ []
-answer_fields (Found rule (Unresolved population)) name = codes "none" ∷ rule_text rule ∷ decimal population ∷ name ∷ []
-answer_fields (Refused number) name = codes "bad" ∷ decimal number ∷ name ∷ []
+answer_fields found name = finding_fields found ++ name ∷ []
 
 -- `line`, the collection, the pattern's number, and what is found of it
 unfoldable pub pattern_line : ℕ → ℕ → ℕ → Entry → Line

@@ -30,6 +30,8 @@ pub struct Collector<'a> {
     results: Results<'a>,
     front: Front,
     unsent: Vec<u8>,
+    // What a result releases is made here; between two results only its room counts.
+    text: Vec<u8>,
     alloc: Global,
 }
 
@@ -53,12 +55,13 @@ fn accept<'a>(
     front: &mut Front,
     unsent: &mut Vec<u8>,
     done: Done<'a>,
+    text: &[u8],
     release: Release,
 ) -> Result<(), NoRoom<'a>>
     requires belongs { Belongs results.old.bundle results.old.bound done.ticket done.entry.text done.bound }
     requires new { has_ticket results.old.taken done.ticket ≡ false }
     requires front { IsFront results.old.bundle results.old.taken front.old.runs.items front.old.first_open }
-    requires release { IsRelease results.old.bundle results.old.bound results.old.taken front.old.runs.items front.old.first_open done.ticket release.text.items release.run release.first_open }
+    requires release { IsRelease results.old.bundle results.old.bound results.old.taken front.old.runs.items front.old.first_open done.ticket text.now release.run release.first_open }
     ensures taken { OnOk result (results.new ≡ taken_of results.old.bundle results.old.bound (with_ticket results.old.taken done.entry.ticket)) }
     ensures released { OnOk result (unsent.new.items ≡ unsent.old.items ++ out results.old.bundle results.old.bound results.old.taken done.entry.ticket) }
     ensures front { IsFront results.new.bundle results.new.taken front.new.runs.items front.new.first_open }
@@ -66,7 +69,7 @@ fn accept<'a>(
     ensures results { OnErr result (results.new ≡ results.old) }
     ensures unsent { OnErr result (unsent.new.items ≡ unsent.old.items) }
 {
-    match unsent.extend_from_slice(&release.text) {
+    match unsent.extend_from_slice(text) {
         Ok(()) => {}
         Err(_) => return Err(NoRoom { done }),
     }
@@ -94,6 +97,7 @@ impl<'a> Collector<'a> {
             results,
             front,
             unsent,
+            text: Vec::new(alloc),
             alloc,
         })
     }
@@ -112,7 +116,13 @@ impl<'a> Collector<'a> {
             Offer::Double => return Ok(Offer::Double),
             Offer::Taken => {}
         }
-        let made = released(self.alloc, &self.results, &done, &self.front);
+        let made = released(
+            self.alloc,
+            &self.results,
+            &done,
+            &self.front,
+            &mut self.text,
+        );
         let Ok(release) = made else {
             return Err(NoRoom { done });
         };
@@ -121,6 +131,7 @@ impl<'a> Collector<'a> {
             &mut self.front,
             &mut self.unsent,
             done,
+            &self.text,
             release,
         ) {
             Ok(()) => Ok(Offer::Taken),

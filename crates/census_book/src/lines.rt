@@ -2,8 +2,8 @@
 ghost use Rattle.std.specs.Prelude.{◌≡◌, ◌≤◌, ◌++◌, ℕ, [], ◌∷◌, List, length, OnOk, decimal};
 ghost use Rattle.std.specs.Fmt.{signed_decimal};
 ghost use Rattle.life_cells.specs.Rules.{rule_text};
-ghost use Rattle.census_book.specs.Heads.{finding_fields, headed, line_head};
-ghost use Rattle.census_book.specs.Lines.{behind, end_line, open_line, pattern_count};
+ghost use Rattle.census_book.specs.Heads.{headed, line_head};
+ghost use Rattle.census_book.specs.Lines.{behind, end_line, finding_fields, open_line, pattern_count};
 
 use census_bundle::bundle::{Bundle, Entry, Folder};
 use census_bundle::ticket::Ticket;

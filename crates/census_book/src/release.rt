@@ -164,10 +164,10 @@ fn push_folder(
     Ok(())
 }
 
-/// What a result releases: the text, how far its collection has come then, and the first collection that is then open.
-#[derive(Drop)]
+/// What a result brings about beside its text: how far its collection has come then, and the first collection that is
+/// then open.
+#[derive(Clone, Copy)]
 pub struct Release {
-    pub text: Vec<u8>,
     pub run: u32,
     pub first_open: usize,
 }
@@ -182,20 +182,18 @@ fn folder_at(folders: &[Folder], c: u32) -> &Folder
     &folders[c as usize - 1]
 }
 
-/// How many bytes of text are made room for at first, which most lines fit in.
-const TEXT_LEN: usize = 128;
-
-/// What this result releases beside those that were taken.
+/// Puts in place of the text what this result releases beside those that were taken.
 pub fn released<'a>(
     alloc: Global,
     results: &Results<'a>,
     done: &Done<'a>,
     front: &Front,
+    text: &mut Vec<u8>,
 ) -> Result<Release, AllocError>
     requires belongs { Belongs results.now.bundle results.now.bound done.now.ticket done.now.entry.text done.now.bound }
     requires new { has_ticket results.now.taken done.now.ticket ≡ false }
     requires front { IsFront results.now.bundle results.now.taken front.now.runs.items front.now.first_open }
-    ensures { IfOk result (λ r. IsRelease results.now.bundle results.now.bound results.now.taken front.now.runs.items front.now.first_open done.now.ticket r.text.items r.run r.first_open) }
+    ensures { IfOk result (λ r. IsRelease results.now.bundle results.now.bound results.now.taken front.now.runs.items front.now.first_open done.now.ticket text.new.items r.run r.first_open) }
 {
     let arrival = Arrival::new(results, done);
     let folders = results.bundle().folders();
@@ -204,13 +202,12 @@ pub fn released<'a>(
     let k = front.runs[c as usize - 1] as usize;
     let m = run_count(&arrival, c, folder, k);
     let first_open = next_open(&front.runs, folders, c, m as u32, front.first_open);
-    let mut text = Vec::with_capacity(alloc, TEXT_LEN)?;
-    push_folder(alloc, &mut text, &arrival, c, folder, k, m)?;
+    text.clear();
+    push_folder(alloc, text, &arrival, c, folder, k, m)?;
     if first_open == folders.len() {
-        push_end(&mut text, folders)?;
+        push_end(text, folders)?;
     }
     Ok(Release {
-        text,
         run: m as u32,
         first_open,
     })

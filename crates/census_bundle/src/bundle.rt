@@ -99,8 +99,8 @@ pub struct Folder {
 fn entry_of(alloc: Global, name: &[u8], text: &[u8]) -> Result<Entry, AllocError>
     ensures { IfOk result (λ e. e ≡ record { name = name.now; text = text.now }) }
 {
-    let name = Text::of(name.to_vec(alloc)?);
-    let text = Text::of(text.to_vec(alloc)?);
+    let name = Text::of(Vec::from_slice(alloc, name)?);
+    let text = Text::of(Vec::from_slice(alloc, text)?);
     Ok(Entry { name, text })
 }
 
@@ -108,7 +108,7 @@ fn entry_of(alloc: Global, name: &[u8], text: &[u8]) -> Result<Entry, AllocError
 fn folder_of(alloc: Global, name: &[u8]) -> Result<Folder, AllocError>
     ensures { IfOk result (λ f. f ≡ record { name = name.now; entries = [] }) }
 {
-    let name = Text::of(name.to_vec(alloc)?);
+    let name = Text::of(Vec::from_slice(alloc, name)?);
     let entries = Entries::of(Vec::new(alloc));
     Ok(Folder { name, entries })
 }

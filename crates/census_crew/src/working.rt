@@ -29,7 +29,7 @@ pub(crate) trait Task: Drop {
 pub(crate) type Batch<'a> = Vec<Done<'a>>;
 
 /// As many results a worker sends together at most.
-const BATCH_LEN: usize = 16;
+const BATCH_LEN: usize = 64;
 
 /// A pattern whose onset and period are at most this was quick work.
 const QUICK: u32 = 64;

@@ -52,7 +52,7 @@ returns c =
     let come : (g : Folder) → numbered b t.folder ≡ Some g → c.run_count-m.result ≡ run_of (with_ticket taken t) t.folder g = λ g is. m ∙ ap (run_of (with_ticket taken t) t.folder) (same_folder _ f g at is) in
     let next : IsNextOpen b runs t.folder c.run_count-m.result c.args.front.now.first_open c.next_open-first_open.result = rw (folders, c.deref.ensures.value, own) at c.next_open-first_open.ensures in
     let front = front_after b c.args.results.now.bound taken runs c.args.front.now.first_open c.next_open-first_open.result t c.run_count-m.result _ _ c.requires.front c.requires.belongs c.requires.new come next in
-    let lines : c.push_folder.new.text.items ≡ [] ++ text_of (folder_out c.args.results.now.bound t.folder f c.index.result.now c.run_count-m.result) = rw (c.in_ok-text.ensures.items, c.new-arrival.ensures, own) at c.in_ok-push_folder.ensures in
+    let lines : c.push_folder.new.text.items ≡ [] ++ text_of (folder_out c.args.results.now.bound t.folder f c.index.result.now c.run_count-m.result) = rw (c.clear.ensures.items, c.new-arrival.ensures, own) at c.in_ok-push_folder.ensures in
     record {
       released =
           elim c.if-first_open-folders.branch [
