@@ -2,13 +2,13 @@
 use Rattle.std.proofs.Common.{◌≡◌, ℕ, zero, suc, ◌+◌, ◌≤◌, Bool, true, false, cond, List, [], ◌∷◌, map, length, sym, refl, ap, ◌∙◌, arith}
 use Rattle.std.proofs.lemmas.List.{length-map}
 use Rattle.std.specs.FinMap as finmap
-use Rattle.life_model.specs.Cell.{Cell, cell_cmp, plus}
+use Rattle.life_model.specs.Cell.{Cell, plus}
 use Rattle.life_model.specs.Rule.{Rule}
 use Rattle.life_model.specs.Generation.{Generation, contains, empty, insert, from_list, cells, size}
 use Rattle.life_model.specs.Evolution.{next, generation}
 use Rattle.life_model.specs.Symmetry.{image, normal, Orientation, turn, turned}
 use Rattle.life_model.proofs.Cells.{cell_cmp_total}
-use Rattle.life_model.proofs.Generations.{contains-empty, same_members, size-cells}
+use Rattle.life_model.proofs.Generations.{contains-empty, same_members, size-cells, size-empty}
 use Rattle.life_model.proofs.Lists.{cells-moved}
 use Rattle.life_model.proofs.Moves.{normal_decides}
 use Rattle.life_model.proofs.Near.{next_near}
@@ -24,10 +24,6 @@ size-insert G c =
     let e = finmap.len-insert cell_cmp_total G c tt in
     let h = at_most (finmap.contains_key G c) (finmap.len G) in
     omega arith
-
-size-empty : size empty ≡ 0
-unfolding size empty
-size-empty = finmap.len-empty cell_cmp (Unit {0})
 
 size-from_list : (cs : List Cell) → size (from_list cs) ≤ length cs
 size-from_list [] = let e = size-empty in omega arith

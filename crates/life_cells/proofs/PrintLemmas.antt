@@ -127,7 +127,7 @@ digit_in set (suc n) a m lo hi = by_place (λ more. digit_in set n (a + 1) m mor
         ap (λ ds. is_in ds (48 + m)) (digits_step set a n false e) ∙ rest more
 
 -- one number more
-range_more : (a n : ℕ) → range_with_len a (suc n) ≡ range_with_len a n ++ (a + n) ∷ []
+pub range_more : (a n : ℕ) → range_with_len a (suc n) ≡ range_with_len a n ++ (a + n) ∷ []
 range_more a zero = let same : a ≡ a + 0 = omega arith in ap (λ k. k ∷ []) same
 range_more a (suc n) = let same : a + 1 + n ≡ a + suc n = omega arith in ap (λ ks. a ∷ ks) (range_more (a + 1) n ∙ ap (λ k. range_with_len (a + 1) n ++ k ∷ []) same)
 

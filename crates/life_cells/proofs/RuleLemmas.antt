@@ -1,13 +1,13 @@
 -- Lemmas on the sets of digits.
-use Rattle.std.proofs.Common.{◌≡◌, ℕ, zero, suc, ◌-◌, ◌*◌, ◌^◌, ◌<◌, ◌≤◌, ◌%◌, Bool, true, false, ◌||◌, eqb, List, [], ◌∷◌, length, get_or, take, bit_or, ap, ◌∙◌, refl, arith}
+use Rattle.std.proofs.Common.{◌≡◌, ℕ, zero, suc, ◌-◌, ◌*◌, ◌^◌, ◌<◌, ◌≤◌, ◌%◌, Bool, true, false, eqb, List, [], ◌∷◌, length, get_or, take, bit_or, ap, ◌∙◌, arith}
 use Rattle.std.proofs.Math.Pow.{pow-lt}
 use Rattle.std.proofs.lemmas.List.{get_or-take}
+use Rattle.std.proofs.lemmas.Bool.{or_parts}
 use Rattle.std.proofs.lemmas.Nat.{or_lt, or_mod}
 use Rattle.std.proofs.lemmas.Bool.Decides.{nat_tests}
 use Rattle.std.proofs.lemmas.List.Sums.{AllPass-from_list_all, list_all-from_AllPass, prefix_len_passes}
 use Rattle.std.proofs.lemmas.List.Folds.{length-prefix_len}
 use Rattle.std.specs.List.{list_all, prefix_len}
-use Rattle.std.proofs.Math.Bool.{true≢false}
 use Rattle.life_cells.specs.Bytes.{is_in}
 use Rattle.life_cells.specs.Rules.{is_count}
 
@@ -38,19 +38,11 @@ even_more set c even lo hi =
     let p : 2 ^ (c - 48) % 2 ≡ 0 = rw k (even_power (c - 49)) in
     rw s.0 (or_mod set (2 ^ (c - 48)) 1 ∙ ap (λ n. bit_or n (2 ^ (c - 48) % 2)) even ∙ p)
 
-or_false_left : (a b : Bool) → (a || b) ≡ false → a ≡ false
-or_false_left true b h = h
-or_false_left false b h = refl
-
-or_false_right : (a b : Bool) → (a || b) ≡ false → b ≡ false
-or_false_right true b h = absurd (true≢false h)
-or_false_right false b h = h
-
 -- a byte that a text lacks is at none of its places
 absent : (xs : List ℕ) (c : ℕ) (i : ℕ) → is_in xs c ≡ false → i < length xs → eqb (get_or xs i 0) c ≡ false
 absent [] c i h lt = absurd (omega arith)
-absent (x ∷ xs) c zero h lt = or_false_left (eqb x c) (is_in xs c) h
-absent (x ∷ xs) c (suc i) h lt = absent xs c i (or_false_right (eqb x c) (is_in xs c) h) (omega arith)
+absent (x ∷ xs) c zero h lt = (or_parts (eqb x c) (is_in xs c) h).0
+absent (x ∷ xs) c (suc i) h lt = absent xs c i (or_parts (eqb x c) (is_in xs c) h).1 (omega arith)
 
 pub not_zero : (digits : List ℕ) (i : ℕ) → is_in digits 48 ≡ false → i < length digits → 48 ≤ get_or digits i 0 → 48 < get_or digits i 0
 not_zero digits i h lt lo = let ne = absent digits 48 i h lt in grind (arith, nat_tests)

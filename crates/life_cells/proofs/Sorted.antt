@@ -70,11 +70,12 @@ module _ (sorted : List Cell) (left : List Cell) (filtered : IsFiltered (Differs
   pub left_all : (P : Cell → Type 0) → All P sorted → All P left
   left_all P all = subst (λ cs. All P cs) (sym left_is) (All-dedup same_pair P sorted all)
 
-first_holds : (a b : Bool) → T (a && b) → T a
+-- each of two that hold together
+pub first_holds : (a b : Bool) → T (a && b) → T a
 first_holds true b h = tt
 first_holds false b h = h
 
-second_holds : (a b : Bool) → T (a && b) → T b
+pub second_holds : (a b : Bool) → T (a && b) → T b
 second_holds true b h = h
 second_holds false b h = absurd h
 

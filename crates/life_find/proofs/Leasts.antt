@@ -1,5 +1,5 @@
 -- The least of the texts of all phases in all orientations, as they come one after another.
-use Rattle.std.proofs.Common.{◌≡◌, codes, ℕ, zero, suc, ◌+◌, List, [], ◌∷◌, ◌++◌, map, flat_map, length, take, get_or, ◌<◌, Option, Some, None, sym, refl, ap, ◌∙◌, arith}
+use Rattle.std.proofs.Common.{◌≡◌, codes, ℕ, zero, suc, ◌+◌, List, [], ◌∷◌, ◌++◌, map, flat_map, length, take, get_or, ◌<◌, Option, Some, None, sym, refl, ap, ◌∙◌, arith, append-nil}
 use Rattle.std.specs.List.{fold, range_with_len}
 use Rattle.std.proofs.lemmas.List.{map-append, take_more}
 use Rattle.std.proofs.lemmas.List.Sums.{fold-append}
@@ -12,6 +12,7 @@ use Rattle.life_model.specs.Symmetry.{normal, Orientation, turned}
 use Rattle.life_model.proofs.Moves.{normal-next}
 use Rattle.life_model.proofs.Objects.{normal-turned}
 use Rattle.life_model.proofs.Recurrences.{generation-zero, generation-next, shape}
+use Rattle.life_cells.proofs.PrintLemmas.{range_more}
 use Rattle.life_shape.specs.declared.orient.Orient.{Orient}
 use Rattle.life_shape.specs.declared.orient.Orient.TheVariants as orient
 use Rattle.life_shape.specs.Orients.{orientation}
@@ -20,8 +21,8 @@ use Rattle.life_shape.specs.TextOrder.{lesser, least_text}
 use Rattle.life_shape.proofs.Boxes.{normal_normal}
 use Rattle.life_answer.specs.Apgcode.{orientations, turned_bodies, bodies, prefix, code_of}
 use Rattle.life_answer.proofs.Codes.{body-normal, body_by_shape}
+use Rattle.life_answer.proofs.Sizes.{size_by_shape}
 use Rattle.life_find.specs.Least.{with_text}
-use Rattle.life_find.proofs.Ways.{same_size}
 
 -- ---- the text of a set is that of its normal form
 
@@ -46,19 +47,11 @@ least_none (u ∷ us) e = absurd (let apart : None ≡ Some (least_text (u ∷ u
 
 -- ---- one phase after another
 
-pub range-more : (a n : ℕ) → range_with_len a (suc n) ≡ range_with_len a n ++ (a + n) ∷ []
-range-more a zero = ap (λ k. k ∷ []) (let e : a ≡ a + 0 = omega arith in e)
-range-more a (suc n) = ap (λ r. a ∷ r) (range-more (a + 1) n ∙ ap (λ k. range_with_len (a + 1) n ++ k ∷ []) (let e : (a + 1) + n ≡ a + suc n = omega arith in e))
-
-pub append-nil : {X : Type 0} (xs : List X) → xs ++ [] ≡ xs
-append-nil [] = refl
-append-nil (x ∷ xs) = ap (λ r. x ∷ r) (append-nil xs)
-
 pub bodies-more : (R : Rule) (H : Generation) (n : ℕ) → bodies R H (n + 1) ≡ bodies R H n ++ turned_bodies (generation R H n)
 bodies-more R H n =
     let f = λ (k : ℕ). turned_bodies (generation R H k) in
     ap (bodies R H) (let e : n + 1 ≡ suc n = omega arith in e)
-    ∙ ap (flat_map f) (range-more 0 n)
+    ∙ ap (flat_map f) (range_more 0 n)
     ∙ flat_map-append f (range_with_len 0 n) ((0 + n) ∷ [])
     ∙ ap (λ r. bodies R H n ++ r) (append-nil (f (0 + n)))
     ∙ ap (λ k. bodies R H n ++ f k) (let e : 0 + n ≡ n = omega arith in e)
@@ -114,4 +107,4 @@ unfolding code_of
 code_by_shape R G H period d e =
     let each : (n : ℕ) → turned_bodies (generation R G n) ≡ turned_bodies (generation R H n) = λ n.
     sym (turned_bodies-normal (generation R G n)) ∙ ap turned_bodies (shapes_together R G H n e) ∙ turned_bodies-normal (generation R H n) in
-    λ i. prefix (same_size G H e i) period d ++ codes "_" ++ least_text (flat_map (λ n. each n i) (range_with_len 0 period))
+    λ i. prefix (size_by_shape G H e i) period d ++ codes "_" ++ least_text (flat_map (λ n. each n i) (range_with_len 0 period))

@@ -8,7 +8,7 @@ use Rattle.life_plane.specs.Span.{set_span}
 use Rattle.life_plane.proofs.Spans.{set_span_by_shape}
 use Rattle.life_find.specs.declared.outline.Outline.{Outline}
 use Rattle.life_find.specs.Outline.{IsOutline, agree, spans_agree}
-use Rattle.life_find.proofs.Ways.{same_size}
+use Rattle.life_answer.proofs.Sizes.{size_by_shape}
 
 one_span : (s t : Option Cell) (c : Cell) → IfSome s (λ x. x ≡ c) → IfSome t (λ x. x ≡ c) → spans_agree s t ≡ true
 one_span None t c h k = refl
@@ -19,6 +19,6 @@ one_span (Some a) (Some b) c h k =
 
 pub agree_by_shape : (G H : Generation) (a b : Outline) → normal G ≡ normal H → IsOutline G a → IsOutline H b → agree a b ≡ true
 agree_by_shape G H a b e one other =
-    let populations = (Decides-eqb a.population b.population).1 (one.population ∙ same_size G H e ∙ sym other.population) in
+    let populations = (Decides-eqb a.population b.population).1 (one.population ∙ size_by_shape G H e ∙ sym other.population) in
     let spans = one_span a.span b.span (set_span G) one.span (subst (λ c. IfSome b.span (λ x. x ≡ c)) (sym (set_span_by_shape G H e)) other.span) in
     λ i. populations i && spans i

@@ -18,7 +18,7 @@ use Rattle.life_find.specs.declared.outline.Outline.{Outline}
 use Rattle.life_find.specs.Outline.{IsOutline, agree, no_outline}
 use Rattle.life_find.specs.Search.{AreOutlines, changes_at, ends_alike}
 use Rattle.life_find.proofs.Apart.{IsApart}
-use Rattle.life_find.proofs.Leasts.{range-more}
+use Rattle.life_cells.proofs.PrintLemmas.{range_more}
 use Rattle.life_find.proofs.Outlines.{agree_by_shape}
 
 -- ---- the elements at which a test gives true
@@ -53,7 +53,7 @@ candidates-more test xs ys p h e f =
     ∙ ap (λ l. l ++ cond (test p) (p ∷ []) []) e
     ∙ ap (λ q. filter test (range_with_len 1 (p - 1)) ++ cond (test q) (q ∷ []) []) (let same : p ≡ 1 + (p - 1) = omega arith in same)
     ∙ sym (filter-append test (range_with_len 1 (p - 1)) ((1 + (p - 1)) ∷ []))
-    ∙ ap (filter test) (sym (range-more 1 (p - 1)))
+    ∙ ap (filter test) (sym (range_more 1 (p - 1)))
     ∙ ap (λ n. filter test (range_with_len 1 n)) (let same : suc (p - 1) ≡ p + 1 - 1 = omega arith in same)
 
 -- ---- populations

@@ -1,12 +1,10 @@
 -- When one set is another, moved.
-use Rattle.std.proofs.Common.{Option, is_some, Some, None, Result, Ok, Err, IfOk, IfSome, IfNone, true, false, true≢false, ◌≡◌, ◌≢◌, length, sym, ap, ◌∙◌}
-use Rattle.std.proofs.lemmas.List.{length-map}
-use Rattle.life_model.specs.Cell.{Cell, plus}
-use Rattle.life_model.specs.Generation.{Generation, cells, size}
+use Rattle.std.proofs.Common.{Option, is_some, Some, None, Result, Ok, Err, IfOk, IfSome, IfNone, true, false, true≢false, ◌≡◌, ◌≢◌, sym}
+use Rattle.life_model.specs.Cell.{Cell}
+use Rattle.life_model.specs.Generation.{Generation, size}
 use Rattle.life_model.specs.Symmetry.{normal}
-use Rattle.life_model.proofs.Generations.{size-cells}
-use Rattle.life_model.proofs.Lists.{cells-moved}
 use Rattle.life_model.proofs.Moves.{normal_decides}
+use Rattle.life_answer.proofs.Sizes.{size_by_shape}
 use Rattle.life_plane.specs.Ways.{AreApart, IsWay}
 
 apart_by_move : (G H : Generation) (r : Option Cell) → IfNone r (AreApart G H) → IfNone r (normal G ≡ normal H → ⊥)
@@ -27,10 +25,5 @@ none_missed P (Some d) none missed = absurd (true≢false none)
 
 -- ---- of two sets, by their sizes
 
-pub same_size : (G H : Generation) → normal G ≡ normal H → size G ≡ size H
-same_size G H e =
-    let m = (normal_decides G H).0 e in
-    size-cells G ∙ sym (length-map (cells G) (λ c. plus c m.0)) ∙ ap length (sym (cells-moved G m.0)) ∙ ap (λ X. length (cells X)) (sym m.1) ∙ sym (size-cells H)
-
 pub apart_by_size : (G H : Generation) → size G ≢ size H → normal G ≡ normal H → ⊥
-apart_by_size G H differ e = differ (same_size G H e)
+apart_by_size G H differ e = differ (size_by_shape G H e)

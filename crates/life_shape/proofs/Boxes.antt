@@ -1,10 +1,12 @@
 -- The box of a set, and where the cells of a normal form stand.
-use Rattle.std.proofs.Common.{◌≡◌, ℕ, zero, suc, length, get_or, take, add-one, ◌+◌, ◌<◌, ◌≤◌, ℤ, pos, negsuc, neg_ℤ, ◌+ℤ◌, ◌≤ℤ◌, ◌<ℤ◌, true, List, [], ◌∷◌, map, inl, inr, sym, ap, subst, ◌∙◌, true≢false, arith}
+use Rattle.std.proofs.Common.{◌≡◌, ℕ, length, get_or, take, ◌+◌, ◌<◌, ◌≤◌, ℤ, pos, negsuc, neg_ℤ, ◌+ℤ◌, ◌≤ℤ◌, ◌<ℤ◌, true, List, [], ◌∷◌, map, inl, inr, sym, refl, ap, subst, ◌∙◌, true≢false, arith}
 use Rattle.std.specs.Prelude.{All, nat_abs, max}
 use Rattle.std.specs.List.{list_any, AllByRecursion}
+use Rattle.std.proofs.lemmas.Bool.{or_cases}
 use Rattle.std.proofs.lemmas.Int.{ints}
 use Rattle.std.proofs.lemmas.List.Elements.{All-from_recursion, All-map, All-weaker}
-use Rattle.std.proofs.lemmas.List.{take_all}
+use Rattle.std.proofs.lemmas.List.{take_all, take_more}
+use Rattle.std.proofs.lemmas.List.Recursion.{max_push}
 use Rattle.life_model.specs.Box.{extent, width, height}
 use Rattle.life_model.specs.Cell.{Cell, same_cell, origin, plus, opposite}
 use Rattle.life_model.specs.Generation.{Generation, contains, cells, from_list}
@@ -17,7 +19,7 @@ use Rattle.life_model.proofs.Moves.{corner-is, normal-corner, normal-moved}
 use Rattle.life_cells.specs.Limits.{IsPlace, IsWithin}
 use Rattle.life_shape.specs.Dots.{IsInField}
 use Rattle.life_shape.specs.NormalForms.{IsAhead}
-use Rattle.life_shape.proofs.Members.{or_cases, member_has, all_members}
+use Rattle.life_shape.proofs.Members.{member_has, all_members}
 
 -- ---- the greatest of some places
 
@@ -29,9 +31,6 @@ below_others a b c h = omega arith
 
 both_within : (b c n : ℕ) → b < n → c ≤ n → max (b + 1) c ≤ n
 both_within b c n h k = omega arith
-
-max_step : (a b c d : ℕ) → b ≡ max c d → max (a + 1) b ≡ max (max (a + 1) c) d
-max_step a b c d h = omega arith
 
 module _ (f : Cell → ℤ) where
   pub below_extent : (cs : List Cell) (c : Cell) → list_any (same_cell c) cs ≡ true → nat_abs (f c) < extent (map (λ b. nat_abs (f b)) cs)
@@ -46,13 +45,10 @@ module _ (f : Cell → ℤ) where
   extent_within [] n h = omega arith
   extent_within (d ∷ ds) n h = both_within _ _ _ h.0 (extent_within ds n h.1)
 
-  extent-suc : (cs : List Cell) (i : ℕ) (d : Cell) → i < length cs → extent (map (λ b. nat_abs (f b)) (take (suc i) cs)) ≡ max (extent (map (λ b. nat_abs (f b)) (take i cs))) (nat_abs (f (get_or cs i d)) + 1)
-  extent-suc [] i d h = absurd (omega arith)
-  extent-suc (b ∷ bs) zero d h = omega arith
-  extent-suc (b ∷ bs) (suc i) d h = max_step _ _ _ _ (extent-suc bs i d (omega arith))
-
   pub extent_more : (cs : List Cell) (i : ℕ) (d : Cell) → i < length cs → extent (map (λ b. nat_abs (f b)) (take (i + 1) cs)) ≡ max (extent (map (λ b. nat_abs (f b)) (take i cs))) (nat_abs (f (get_or cs i d)) + 1)
-  extent_more cs i d h = rw add-one (extent-suc cs i d h)
+  extent_more cs i d h =
+      ap (λ bs. extent (map (λ b. nat_abs (f b)) bs)) (take_more cs i d h)
+      ∙ max_push (λ bs. extent (map (λ b. nat_abs (f b)) bs)) (λ b. nat_abs (f b) + 1) refl (λ b bs. refl) (take i cs) (get_or cs i d)
 
 -- ---- the places of a normal form
 

@@ -5,6 +5,7 @@ use Rattle.std.proofs.lemmas.Bool.Decides.{nat_tests}
 use Rattle.std.specs.List.{range_with_len, join_with_byte}
 use Rattle.life_shape.specs.Wechsler.{digit, short_zeros, full_runs, zeros, columns_text, strips_text}
 use Rattle.std.proofs.lemmas.List.{map-append}
+use Rattle.life_cells.proofs.PrintLemmas.{range_more}
 use Rattle.life_shape.specs.Dots.{strip_mark}
 
 -- ---- runs of zeros
@@ -77,14 +78,6 @@ module _ (v : ℕ → ℕ) where
 
 -- ---- strips
 
-range-push : (a n : ℕ) → range_with_len a (suc n) ≡ range_with_len a n ++ (a + n) ∷ []
-range-push a zero =
-    let at : a ≡ a + 0 = omega arith in
-    ap (λ b. b ∷ []) at
-range-push a (suc n) =
-    let at : a + 1 + n ≡ a + suc n = omega arith in
-    ap (λ r. a ∷ r) (range-push (a + 1) n ∙ ap (λ b. range_with_len (a + 1) n ++ b ∷ []) at)
-
 join-push : (c : ℕ) (x y : List ℕ) (xs : List (List ℕ)) → join_with_byte c ((x ∷ xs) ++ y ∷ []) ≡ join_with_byte c (x ∷ xs) ++ c ∷ y
 join-push c x y [] = refl
 join-push c x y (z ∷ zs) = ap (λ r. x ++ c ∷ r) (join-push c z y zs) ∙ sym (append_assoc x (c ∷ join_with_byte c (z ∷ zs)) (c ∷ y))
@@ -98,7 +91,7 @@ joined-first text = refl
 
 joined-more : (text : ℕ → List ℕ) (n : ℕ) → joined text (suc (suc n)) ≡ joined text (suc n) ++ 122 ∷ text (suc n)
 joined-more text n =
-    ap (λ r. join_with_byte 122 (map text r)) (range-push 0 (suc n)) ∙ ap (join_with_byte 122) (map-append text (range_with_len 0 (suc n)) ((0 + suc n) ∷ []))
+    ap (λ r. join_with_byte 122 (map text r)) (range_more 0 (suc n)) ∙ ap (join_with_byte 122) (map-append text (range_with_len 0 (suc n)) ((0 + suc n) ∷ []))
     ∙ join-push 122 (text 0) (text (0 + suc n)) (map text (range_with_len 1 n))
     ∙ ap (λ k. joined text (suc n) ++ 122 ∷ text k) (let same : 0 + suc n ≡ suc n = omega arith in same)
 

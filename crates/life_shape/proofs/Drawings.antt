@@ -4,6 +4,7 @@ use Rattle.std.specs.Prelude.{nat_le, ◌==◌}
 use Rattle.std.specs.List.{after_last, suffix_len, prefix_len, list_any, sum_by, filter, range_with_len}
 use Rattle.std.specs.Option.{option_or}
 use Rattle.std.specs.Int.{bit_at}
+use Rattle.std.proofs.lemmas.Bool.{or_parts}
 use Rattle.std.proofs.lemmas.Bool.Decides.{nat_tests}
 use Rattle.std.proofs.lemmas.List.{reverse-append, drop-append-le, length-append, drop_all, map-append}
 use Rattle.std.proofs.lemmas.List.Sums.{sum_by-append}
@@ -104,14 +105,10 @@ module _ (k l x y : ℕ) (strips : AreNear k l) (columns : AreNear x y) where
   near_column : (j : ℕ) → (nat_le place_limit x || nat_le place_limit (5 * k + j)) ≡ false → (x ≡ y) × (k ≡ l)
   near_column j h = (grind (arith, nat_tests), grind (arith, nat_tests))
 
-  first_near : (a b : Bool) → (a || b) ≡ false → a ≡ false
-  first_near true b h = h
-  first_near false b h = refl
-
   same_column : (rows : List ℕ) → list_any is_far (map {B = ℕ × ℕ} (λ j. (x, 5 * k + j)) rows) ≡ false → map {B = ℕ × ℕ} (λ j. (x, 5 * k + j)) rows ≡ map (λ j. (y, 5 * l + j)) rows
   same_column [] h = refl
   same_column (j ∷ rows) h =
-      let e = near_column j (first_near _ _ h) in
+      let e = near_column j (or_parts _ _ h).0 in
       λ i. map {B = ℕ × ℕ} (λ r. (e.0 i, 5 * e.1 i + r)) (j ∷ rows)
 
 near_more : (x y n : ℕ) → AreNear x y → AreNear (x + n) (y + n)
@@ -170,7 +167,7 @@ bit_clear v j h = other (bit_at v j) h
 is_far_one : (x y : ℕ) → (place_limit ≤ x) ⊎ (place_limit ≤ y) → is_far (x, y) ≡ true
 is_far_one x y h = grind (arith, nat_tests)
 
-is_near_one : (x y : ℕ) → x < place_limit → y < place_limit → is_far (x, y) ≡ false
+pub is_near_one : (x y : ℕ) → x < place_limit → y < place_limit → is_far (x, y) ≡ false
 is_near_one x y h g = grind (arith, nat_tests)
 
 pub left_far : (k x v j : ℕ) → j < 5 → (bit_at v j == 1) ≡ true → (place_limit ≤ x) ⊎ (place_limit ≤ 5 * k + j) → list_any is_far (cells_left k x v j) ≡ true

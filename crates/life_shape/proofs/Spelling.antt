@@ -6,21 +6,22 @@ use Rattle.std.specs.Int.{bit_at}
 use Rattle.std.specs.Option.{option_or}
 use Rattle.std.specs.Cmp.{both_ways}
 use Rattle.std.proofs.lemmas.Int.{ints}
+use Rattle.std.proofs.lemmas.Bool.{or_cases, or_left, or_parts, or_right}
 use Rattle.std.proofs.lemmas.Bool.Decides.{nat_tests}
 use Rattle.std.proofs.lemmas.List.Folds.{list_any-append}
 use Rattle.life_model.specs.Box.{extent, width, height}
 use Rattle.life_model.specs.Cell.{Cell, same_cell}
 use Rattle.life_model.specs.Generation.{Generation, contains, cells, empty, from_list}
 use Rattle.life_model.specs.Symmetry.{normal}
-use Rattle.life_model.proofs.Cells.{same_cell-is}
 use Rattle.life_model.proofs.Generations.{contains-from_list, same_members, cells-from_list}
+use Rattle.life_model.proofs.Moves.{same_cell_itself}
 use Rattle.life_shape.specs.Wechsler.{digit, column_value, short_zeros, full_runs, zeros, columns_text, strip_text, strips_text, body}
 use Rattle.life_shape.specs.declared.reader.CodeFault.TheVariants.{BadChar, CutRun}
 use Rattle.life_shape.specs.Reading.{is_far, place_limit, first_fault, refusal, Column, Zeros, NextStrip, Offence, digit_value, is_digit, mark_of, run_of, marks, marks_of, live_rows, column_cells, placed, spelt}
 use Rattle.life_shape.specs.Drawing.{cells_from, fault_from}
-use Rattle.life_shape.proofs.Members.{holds_in, or_cases, or_left, or_right}
+use Rattle.life_shape.proofs.Members.{holds_in}
 use Rattle.life_shape.proofs.Boxes.{IsInBox, normal_in_box, normal_normal}
-use Rattle.life_shape.proofs.Drawings.{cells_after_is, first_fault_is, near_fault}
+use Rattle.life_shape.proofs.Drawings.{cells_after_is, first_fault_is, is_near_one, near_fault}
 use Rattle.life_shape.proofs.Weights.{live_value, live_value-lt}
 
 -- ---- digits
@@ -65,14 +66,6 @@ pub record Spells (k x y : ℕ) (text : List ℕ) (cs : List (ℕ × ℕ)) : Typ
 spells_nothing : (k x : ℕ) → Spells k x x [] []
 spells_nothing k x = record { goes = λ at rest. (at, record { cells = refl; faults = λ _. refl }) }
 
-first_near : (a b : Bool) → (a || b) ≡ false → a ≡ false
-first_near true b h = h
-first_near false b h = refl
-
-second_near : (a b : Bool) → (a || b) ≡ false → b ≡ false
-second_near true b h = cc
-second_near false b h = h
-
 spells_more : (k x y z : ℕ) (a b : List ℕ) (cs ds : List (ℕ × ℕ)) → Spells k x y a cs → Spells k y z b ds → Spells k x z (a ++ b) (cs ++ ds)
 spells_more k x y z a b cs ds s t = record {
   goes = λ at rest.
@@ -83,7 +76,7 @@ spells_more k x y z a b cs ds s t = record {
           cells = ap (λ text. cells_from k x (marks None at text)) (append_assoc a b rest) ∙ first.1.cells ∙ ap (λ ms. cs ++ ms) second.1.cells ∙ sym (append_assoc cs ds (cells_from k z (marks None second.0 rest)));
           faults = λ near.
               let parts = sym (list_any-append is_far cs ds) ∙ near in
-              ap (λ text. fault_from k x (marks None at text)) (append_assoc a b rest) ∙ first.1.faults (first_near _ _ parts) ∙ second.1.faults (second_near (list_any is_far cs) _ parts);
+              ap (λ text. fault_from k x (marks None at text)) (append_assoc a b rest) ∙ first.1.faults (or_parts _ _ parts).0 ∙ second.1.faults (or_parts (list_any is_far cs) _ parts).1;
         },
       );
 }
@@ -180,11 +173,11 @@ module _ (values : ℕ → List ℕ) (small : (k : ℕ) → AllByRecursion (λ v
   lawful_strips zero k at near =
       let s = (strip k).goes at [] in
       let parts = sym (list_any-append is_far (columns_cells k 0 (values k)) []) ∙ near in
-      ap (λ text. fault_from k 0 (marks None at text)) (sym (append-nil (columns_text 0 (values k)))) ∙ s.1.faults (first_near _ _ parts)
+      ap (λ text. fault_from k 0 (marks None at text)) (sym (append-nil (columns_text 0 (values k)))) ∙ s.1.faults (or_parts _ _ parts).0
   lawful_strips (suc n) k at near =
       let s = (strip k).goes at (122 ∷ join_with_byte 122 (map (λ i. columns_text 0 (values i)) (range_with_len (k + 1) (suc n)))) in
       let parts = sym (list_any-append is_far (columns_cells k 0 (values k)) (strips_cells (k + 1) (suc n))) ∙ near in
-      s.1.faults (first_near _ _ parts) ∙ lawful_strips n (k + 1) (s.0 + 1) (second_near (list_any is_far (columns_cells k 0 (values k))) _ parts)
+      s.1.faults (or_parts _ _ parts).0 ∙ lawful_strips n (k + 1) (s.0 + 1) (or_parts (list_any is_far (columns_cells k 0 (values k))) _ parts).1
 
 -- ---- the bits of a column
 
@@ -282,9 +275,6 @@ has_left d ds es h = list_any-append _ ds es ∙ or_left _ _ h
 has_right : (d : ℕ × ℕ) (ds es : List (ℕ × ℕ)) → has d es → has d (ds ++ es)
 has_right d ds es h = list_any-append _ ds es ∙ or_right _ _ h
 
-same_itself : (c : Cell) → same_cell c c ≡ true
-same_itself c = (same_cell-is c c).1 refl
-
 row_kept : (N : Generation) (k x j a n : ℕ) → live_at N k x j ≡ true → a ≤ j → j < a + n → has (x, 5 * k + j) (map {B = ℕ × ℕ} (λ i. (x, 5 * k + i)) (filter (live_at N k x) (range_with_len a n)))
 row_kept N k x j a zero e h l = absurd (omega arith)
 row_kept N k x j a (suc n) e h l =
@@ -292,7 +282,7 @@ row_kept N k x j a (suc n) e h l =
       | inl same ↦
           subst (λ b. has (x, 5 * k + j) (map {B = ℕ × ℕ} (λ i. (x, 5 * k + i)) (cond b (a ∷ filter (live_at N k x) (range_with_len (a + 1) n)) (filter (live_at N k x) (range_with_len (a + 1) n)))))
           (sym (ap (live_at N k x) same ∙ e))
-          (or_left _ _ (ap (λ i. same_cell (placed (x, 5 * k + j)) (placed (x, 5 * k + i))) same ∙ same_itself (placed (x, 5 * k + j))))
+          (or_left _ _ (ap (λ i. same_cell (placed (x, 5 * k + j)) (placed (x, 5 * k + i))) same ∙ same_cell_itself (placed (x, 5 * k + j))))
       | inr behind ↦
           elim (live_at N k x a) as (λ b. has (x, 5 * k + j) (map {B = ℕ × ℕ} (λ i. (x, 5 * k + i)) (cond b (a ∷ filter (live_at N k x) (range_with_len (a + 1) n)) (filter (live_at N k x) (range_with_len (a + 1) n))))) [
             | true ↦ or_right _ _ (row_kept N k x j (a + 1) n e behind (omega arith))
@@ -389,9 +379,6 @@ same_bodies G H = (
 
 -- ---- the text of a set within the limit of places
 
-near_one : (x y : ℕ) → x < place_limit → y < place_limit → is_far (x, y) ≡ false
-near_one x y h k = grind (arith, nat_tests)
-
 inside : (x n m : ℕ) → pos x <ℤ pos n → n ≤ m → x < m
 inside x n m h k = omega (arith, ints)
 
@@ -399,7 +386,7 @@ all_near : (G : Generation) → width G ≤ place_limit → height G ≤ place_l
 all_near G wide high [] all = refl
 all_near G wide high ((x, y) ∷ ds) all =
     let b = normal_in_box G (pos x, pos y) all.0 in
-    λ i. near_one x y (inside x (width G) place_limit b.right wide) (inside y (height G) place_limit b.below high) i || all_near G wide high ds all.1 i
+    λ i. is_near_one x y (inside x (width G) place_limit b.right wide) (inside y (height G) place_limit b.below high) i || all_near G wide high ds all.1 i
 
 no_fault : (G : Generation) (n : ℕ) → list_any is_far (strips_cells (values_of (normal G) (width G)) (λ i. small_values (normal G) i 0 (width G)) 0 n) ≡ false → fault_from 0 0 (marks_of (strips_text (strip_text (normal G) (width G)) n)) ≡ None
 no_fault G zero near = refl

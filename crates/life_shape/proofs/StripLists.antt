@@ -17,11 +17,12 @@ use Rattle.life_model.specs.Box.{width, height}
 use Rattle.life_model.specs.Cell.{Cell, cell_cmp}
 use Rattle.life_model.specs.Generation.{Generation, cells, contains, below_all, is_rising}
 use Rattle.life_model.specs.Symmetry.{normal}
+use Rattle.life_cells.proofs.Sorted.{first_holds, second_holds}
 use Rattle.life_shape.specs.Wechsler.{column_value, strips_text, body}
 use Rattle.life_shape.proofs.Members.{member_has, all_members}
 use Rattle.life_shape.proofs.Boxes.{height_within, normal_in_box}
 use Rattle.life_shape.specs.Dots.{weight, weights, dot, dots_value, IsInStrip, IsInField, IsLeftOf, values_text}
-use Rattle.life_shape.proofs.Weights.{first_holds, second_holds, weight_above, weight_below, weights_nothing, weights_of_dots, column_value_is}
+use Rattle.life_shape.proofs.Weights.{weight_above, weight_below, weights_nothing, weights_of_dots, column_value_is}
 
 -- ---- lists in order
 

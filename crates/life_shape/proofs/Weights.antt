@@ -12,6 +12,7 @@ use Rattle.life_model.specs.Cell.{Cell, cell_cmp, same_cell}
 use Rattle.life_model.specs.Generation.{Generation, cells, below_all, is_rising}
 use Rattle.life_model.proofs.Cells.{same_cell-is}
 use Rattle.life_model.proofs.Generations.{contains-cells, cells-rise}
+use Rattle.life_cells.proofs.Sorted.{first_holds, second_holds}
 use Rattle.life_shape.specs.Wechsler.{column_value}
 use Rattle.life_shape.specs.Dots.{weight, weights, dot, dots_value, IsInStrip}
 
@@ -21,14 +22,6 @@ unlike : (r : Ordering) → T (is_lt r) → is_eq r ≡ false
 unlike Less h = refl
 unlike Equal h = absurd h
 unlike Greater h = absurd h
-
-pub first_holds : (a b : Bool) → T (a && b) → T a
-first_holds true b h = tt
-first_holds false b h = h
-
-pub second_holds : (a b : Bool) → T (a && b) → T b
-second_holds true b h = h
-second_holds false b h = absurd h
 
 none_below : (c : Cell) (cs : List Cell) → T (below_all c cs) → list_any (same_cell c) cs ≡ false
 none_below c [] h = refl

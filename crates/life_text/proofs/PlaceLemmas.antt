@@ -1,11 +1,13 @@
 -- Cells in order, counted from their corner.
-use Rattle.std.proofs.Common.{Bool, true, false, ◌&&◌, ◌≡◌, ℕ, zero, suc, ◌+◌, ◌<◌, ◌≤◌, max, ℤ, ◌+ℤ◌, neg_ℤ, ◌≤ℤ◌, ◌<ℤ◌, int_cmp, T, Ordering, Less, Equal, Greater, ◌⊎◌, inl, inr, List, [], ◌∷◌, length, get_or, take, drop, map, nat_abs, All, add-one, sym, refl, ap, subst, ◌∙◌, arith}
+use Rattle.std.proofs.Common.{◌≡◌, ℕ, ◌+◌, ◌<◌, ◌≤◌, max, ℤ, ◌+ℤ◌, neg_ℤ, ◌≤ℤ◌, ◌<ℤ◌, int_cmp, T, Ordering, Less, Equal, Greater, ◌⊎◌, inl, inr, List, [], ◌∷◌, length, get_or, take, drop, map, nat_abs, All, add-one, sym, refl, ap, subst, ◌∙◌, arith}
 use Rattle.std.specs.Ordering.{ordering_then, is_lt, MatchOrdering}
 use Rattle.std.specs.Cmp.{int_ranks}
 use Rattle.std.specs.Int.{int_min}
 use Rattle.std.proofs.Math.Seq.{drop-cons}
 use Rattle.std.proofs.lemmas.Int.{ints, clamps}
+use Rattle.std.proofs.lemmas.List.{take_more}
 use Rattle.std.proofs.lemmas.List.Elements.{All-head, All-tail}
+use Rattle.std.proofs.lemmas.List.Recursion.{max_push}
 use Rattle.std.proofs.lemmas.Simd.{map-map}
 use Rattle.life_model.specs.Box.{extent, width, height}
 use Rattle.life_model.specs.Cell.{Cell, cell_cmp, plus, opposite}
@@ -13,6 +15,7 @@ use Rattle.life_model.specs.Generation.{Generation, cells, from_list, below_all,
 use Rattle.life_model.specs.Symmetry.{corner, corner_of, least_by, normal}
 use Rattle.life_model.proofs.Generations.{cells-from_list}
 use Rattle.life_model.proofs.Lists.{cells-moved}
+use Rattle.life_cells.proofs.Sorted.{first_holds, second_holds}
 use Rattle.life_text.specs.Places.{place, places}
 use Rattle.life_text.specs.Writer.{places_from}
 use Rattle.life_text.proofs.CornerLemmas.{corner_left, corner_above}
@@ -56,18 +59,10 @@ same_le a b h = omega (arith, ints)
 -- # All cells
 
 first_of : (c d : Cell) (ds : List Cell) → T (below_all c (d ∷ ds)) → T (is_lt (cell_cmp c d))
-first_of c d ds h = holds (is_lt (cell_cmp c d)) (below_all c ds) h
-  where
-    holds : (a b : Bool) → T (a && b) → T a
-    holds true b h = tt
-    holds false b h = h
+first_of c d ds h = first_holds (is_lt (cell_cmp c d)) (below_all c ds) h
 
 rest_of : (c : Cell) (cs : List Cell) → T (is_rising (c ∷ cs)) → T (below_all c cs) × T (is_rising cs)
-rest_of c cs h = holds (below_all c cs) (is_rising cs) h
-  where
-    holds : (a b : Bool) → T (a && b) → T a × T b
-    holds true b h = (tt, h)
-    holds false b h = absurd h
+rest_of c cs h = (first_holds (below_all c cs) (is_rising cs) h, second_holds (below_all c cs) (is_rising cs) h)
 
 -- no cell is left of the corner or above it
 abbrev IsAhead : Cell → Cell → Type 0
@@ -140,20 +135,11 @@ places_at k cs i d lt = ap (places_from k) (from_place cs i d lt)
 
 -- # The box
 
-max_step : (a b c d : ℕ) → b ≡ max c d → max (a + 1) b ≡ max (max (a + 1) c) d
-max_step a b c d h = omega arith
-
-max_none : (a : ℕ) → max (a + 1) 0 ≡ max 0 (a + 1)
-max_none a = omega arith
-
 module _ (f : ℕ × ℕ → ℕ) (k : Cell) where
-  extent-suc : (cs : List Cell) (i : ℕ) (d : Cell) → i < length cs → extent (map f (places_from k (take (suc i) cs))) ≡ max (extent (map f (places_from k (take i cs)))) (f (place_from k (get_or cs i d)) + 1)
-  extent-suc [] i d h = absurd (omega arith)
-  extent-suc (b ∷ bs) zero d h = max_none (f (place_from k b))
-  extent-suc (b ∷ bs) (suc i) d h = max_step _ _ _ _ (extent-suc bs i d (omega arith))
-
   pub extent_more : (cs : List Cell) (i : ℕ) (d : Cell) → i < length cs → extent (map f (places_from k (take (i + 1) cs))) ≡ max (extent (map f (places_from k (take i cs)))) (f (place (plus (get_or cs i d) (opposite k))) + 1)
-  extent_more cs i d h = rw add-one (extent-suc cs i d h)
+  extent_more cs i d h =
+      ap (λ bs. extent (map f (places_from k bs))) (take_more cs i d h)
+      ∙ max_push (λ bs. extent (map f (places_from k bs))) (λ b. f (place_from k b) + 1) refl (λ b bs. refl) (take i cs) (get_or cs i d)
 
 -- # The normal form
 

@@ -6,10 +6,10 @@ use Rattle.std.specs.FinMap as finmap
 use Rattle.std.proofs.lemmas.Nat.{pow_pos, mod-pow-add, le_or_l, le_or_r}
 use Rattle.std.proofs.lemmas.Nat.Bits.{bit_at-lt}
 use lib.Count.{ones, ones_in, ones_cat}
-use Rattle.life_model.specs.Cell.{Cell, cell_cmp}
-use Rattle.life_model.specs.Generation.{Generation, contains, empty, insert, from_list, size}
+use Rattle.life_model.specs.Cell.{Cell}
+use Rattle.life_model.specs.Generation.{Generation, contains, insert, from_list, size}
 use Rattle.life_model.proofs.Cells.{cell_cmp_total}
-use Rattle.life_model.proofs.Generations.{contains-from_list}
+use Rattle.life_model.proofs.Generations.{contains-from_list, size-empty}
 use Rattle.life_tile.specs.Cells.{row_cells, block_cells, IsCountFrom}
 use Rattle.life_tile.proofs.Orders.{true_or_false}
 use Rattle.life_tile.proofs.Members.{Has}
@@ -20,10 +20,6 @@ use Rattle.life_tile.proofs.Splits.{not_one}
 abbrev pub IsFresh : List Cell → Type 0
 IsFresh [] = Unit {0}
 IsFresh (c ∷ cs) = (Has cs c → ⊥) × IsFresh cs
-
-size-empty : size empty ≡ 0
-unfolding size empty
-size-empty = finmap.len-empty cell_cmp (Unit {0})
 
 size-insert : (G : Generation) (c : Cell) → contains G c ≡ false → size (insert G c) ≡ size G + 1
 unfolding size insert contains

@@ -1,6 +1,5 @@
-use Rattle.std.proofs.Common.{◌++◌, ◌∷◌, [], cond, sym, ap, ◌∙◌}
+use Rattle.std.proofs.Common.{◌++◌, ◌∷◌, [], cond, sym, ap, ◌∙◌, append-nil}
 use Rattle.life_find.specs.Search.{ends_alike}
-use Rattle.life_find.proofs.Leasts.{append-nil}
 use Rattle.life_find.proofs.Possible.{candidates-more}
 use Rattle.life_find.proofs.candidates.candidates.Goals as goal
 use Rattle.life_find.proofs.candidates.candidates.Goals.{then-ends_alike+in_ok-push, else-ends_alike}
