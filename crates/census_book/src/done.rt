@@ -4,7 +4,7 @@ ghost use Rattle.life_answer.specs.Answers.{answer_of};
 ghost use Rattle.census_book.specs.Heads.{line_head};
 
 use crate::lines::push_head;
-use census_bundle::bundle::Entry;
+use census_bundle::bundle::{Entry, Text};
 use census_bundle::ticket::Ticket;
 use life_answer::finding::Answer;
 use life_find::answer::answer;
@@ -23,7 +23,7 @@ pub struct Done<'a> {
     entry: &'a Entry,
     bound: u32,
     answer: Answer,
-    head: Vec<u8>,
+    head: Text,
 }
 
 impl<'a> Model for Done<'a> {
@@ -38,7 +38,7 @@ impl<'a> Model for Done<'a> {
 
     ghost view = { λ d. record { ticket = d.ticket; entry = d.entry.now; bound = d.bound } };
 
-    ghost invariant = { λ d. (d.answer ≡ answer_of d.entry.now.text d.bound) × (d.head.items ≡ line_head d.ticket.folder d.ticket.number d.answer) };
+    ghost invariant = { λ d. (d.answer ≡ answer_of d.entry.now.text d.bound) × (d.head ≡ line_head d.ticket.folder d.ticket.number d.answer) };
 }
 
 impl<'a> Done<'a> {
@@ -62,7 +62,7 @@ impl<'a> Done<'a> {
             entry,
             bound,
             answer,
-            head,
+            head: Text::of(alloc, &head)?,
         })
     }
 

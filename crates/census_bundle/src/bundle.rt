@@ -4,6 +4,7 @@ ghost use Rattle.std.specs.Prelude.{◌≡◌, ℕ, List, [], IfOk};
 use crate::last::{last_len, push_to_last};
 use crate::names::is_lawful;
 use crate::ticket::Ticket;
+use smallvec::SmallVec;
 use std::alloc::{AllocError, AllocFailed, Global};
 use std::marker::Model;
 use thiserror::Error;
@@ -11,10 +12,13 @@ use thiserror::Error;
 /// The most folders of a bundle, and the most entries of a folder.
 const COUNT_LIMIT: usize = 65_535;
 
+/// So many bytes of a text need no memory of their own, which are enough for most names and for small patterns.
+const SHORT_LEN: usize = 48;
+
 /// Bytes as they stand in a bundle.
 #[derive(Drop)]
 pub struct Text {
-    bytes: Vec<u8>,
+    bytes: SmallVec<u8, SHORT_LEN>,
 }
 
 impl Model for Text {
@@ -24,11 +28,13 @@ impl Model for Text {
 }
 
 impl Text {
-    /// These bytes.
-    pub fn of(bytes: Vec<u8>) -> Text
-        ensures { result ≡ bytes.items }
+    /// A copy of these bytes. It takes no memory where they are at most 48.
+    pub fn of(alloc: Global, bytes: &[u8]) -> Result<Text, AllocError>
+        ensures { IfOk result (λ t. t ≡ bytes.now) }
     {
-        Text { bytes }
+        Ok(Text {
+            bytes: SmallVec::from_slice(alloc, bytes)?,
+        })
     }
 
     /// The bytes.
@@ -99,8 +105,8 @@ pub struct Folder {
 fn entry_of(alloc: Global, name: &[u8], text: &[u8]) -> Result<Entry, AllocError>
     ensures { IfOk result (λ e. e ≡ record { name = name.now; text = text.now }) }
 {
-    let name = Text::of(Vec::from_slice(alloc, name)?);
-    let text = Text::of(Vec::from_slice(alloc, text)?);
+    let name = Text::of(alloc, name)?;
+    let text = Text::of(alloc, text)?;
     Ok(Entry { name, text })
 }
 
@@ -108,7 +114,7 @@ fn entry_of(alloc: Global, name: &[u8], text: &[u8]) -> Result<Entry, AllocError
 fn folder_of(alloc: Global, name: &[u8]) -> Result<Folder, AllocError>
     ensures { IfOk result (λ f. f ≡ record { name = name.now; entries = [] }) }
 {
-    let name = Text::of(Vec::from_slice(alloc, name)?);
+    let name = Text::of(alloc, name)?;
     let entries = Entries::of(Vec::new(alloc));
     Ok(Folder { name, entries })
 }
