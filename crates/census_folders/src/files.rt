@@ -1,12 +1,14 @@
 //! Pattern files.
-ghost use Rattle.std.specs.Prelude.{◌≡◌, ◌<◌, ◌≤◌, true, length, vec_len, IfErr, IfOk, OnOk};
+ghost use Rattle.std.specs.Prelude.{◌≡◌, ◌<◌, ◌≤◌, true, length, vec_len, Err, IfErr, IfOk, IfSome, OnOk};
 ghost use Rattle.census_folders.specs.Faults.{IsFolderFault};
 ghost use Rattle.census_folders.specs.Folders.{AddsFile, file_limit, is_pattern_name};
+ghost use Rattle.census_folders.specs.declared.fault.FoldersFault.TheVariants.{TooLong};
 
 use crate::fault::FoldersFault;
 use census_bundle::bundle::Bundle;
 use std::alloc::Global;
 use std::fs;
+use std::io::Read;
 use std::path::Path;
 use std::rt::Files;
 use watched::reading::read_all;
@@ -14,6 +16,18 @@ use watched::watched::Watched;
 
 /// The most bytes of a file.
 const FILE_LIMIT: usize = 67_108_864;
+
+// The bytes of a file, up to its end.
+fn read_whole<R: Read + Drop>(alloc: Global, file: R) -> Result<Vec<u8>, FoldersFault>
+    ensures within { IfOk result (λ bytes. vec_len bytes ≤ file_limit) }
+    ensures whole { IfOk result (λ bytes. IfSome (R.remaining file) (λ all. bytes.items ≡ all)) }
+    ensures too_long { result ≡ Err TooLong → IfSome (R.remaining file) (λ all. file_limit < length all) }
+    ensures fault { IfErr result IsFolderFault }
+{
+    let mut file = Watched::new(file);
+    let bytes = read_all(alloc, &mut file, FILE_LIMIT)?;
+    Ok(bytes)
+}
 
 // The bytes of a file of a folder.
 fn read_file<R: Files>(
@@ -26,9 +40,7 @@ fn read_file<R: Files>(
     ensures fault { IfErr result IsFolderFault }
 {
     let path = Path::new(folder).join(alloc, name)?;
-    let mut file = Watched::new(fs::open(rt, path.as_path())?);
-    let bytes = read_all(alloc, &mut file, FILE_LIMIT)?;
-    Ok(bytes)
+    read_whole(alloc, fs::open(rt, path.as_path())?)
 }
 
 // Reads a pattern file of a folder and adds it, under its name, to the bundle's last folder.
