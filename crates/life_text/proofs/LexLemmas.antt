@@ -134,7 +134,7 @@ no_digit true c h = by_lf (c == 10)
     by_lf false = refl
 no_digit false c h = h
 
-digit_no_space : (c : ℕ) → is_digit c ≡ true → is_space c ≡ false
+pub digit_no_space : (c : ℕ) → is_digit c ≡ true → is_space c ≡ false
 digit_no_space c h = grind (arith, nat_tests)
 
 -- # Counts

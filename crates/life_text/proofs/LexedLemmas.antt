@@ -11,6 +11,7 @@ use Rattle.life_cells.proofs.FormLemmas.{and_left, and_right}
 use Rattle.life_text.specs.Filled.{filled}
 use Rattle.life_text.specs.Rle.{Lexeme, Count, Tag, Token, lexemes, tokens}
 use Rattle.life_text.specs.RleText.{token_text}
+use Rattle.life_text.proofs.LexLemmas.{digit_no_space}
 
 -- # Digits
 
@@ -43,9 +44,6 @@ front_digits (d ∷ ds) c rest h stop =
     let more : prefix_len is_digit (d ∷ (ds ++ c ∷ rest)) ≡ suc (prefix_len is_digit (ds ++ c ∷ rest)) =
     ap (λ b. cond b (1 + prefix_len is_digit (ds ++ c ∷ rest)) 0) (and_left (is_digit d) (list_all is_digit ds) h) ∙ omega arith in
     ap (λ k. take k (d ∷ (ds ++ c ∷ rest))) more ∙ ap (λ t. d ∷ t) (front_digits ds c rest (and_right (is_digit d) (list_all is_digit ds) h) stop)
-
-digit_no_space : (c : ℕ) → is_digit c ≡ true → is_space c ≡ false
-digit_no_space c h = grind (arith, nat_tests)
 
 -- # Lexemes
 
