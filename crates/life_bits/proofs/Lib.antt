@@ -4,3 +4,4 @@ pub mod Trees
 pub mod Filling
 pub mod Rows
 pub mod OneCell
+pub mod EmptyRows

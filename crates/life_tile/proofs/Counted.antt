@@ -1,9 +1,9 @@
 -- How many cells tiles hold: no cell comes twice, and they are no more than a square that holds them all.
-use Rattle.std.proofs.Common.{◌≡◌, ℕ, zero, suc, ℤ, pos, ◌+ℤ◌, ◌+◌, ◌<◌, ◌^◌, ◌%◌, ◌==◌, ⊎_elim, Bool, true, false, cond, List, [], ◌∷◌, length, length-append, slice_index, ◌*◌, ◌≤◌, bit_or, refl, sym, subst, ap, ◌∙◌, arith, eqb-true, eq-eqb, true≢false}
+use Rattle.std.proofs.Common.{◌≡◌, ℕ, zero, suc, ℤ, pos, ◌+ℤ◌, ◌+◌, ◌<◌, ◌^◌, ◌%◌, ◌==◌, ⊎_elim, Bool, true, false, cond, List, [], ◌∷◌, length, length-append, slice_index, ◌*◌, ◌≤◌, refl, sym, subst, ap, ◌∙◌, arith, eqb-true, eq-eqb, true≢false}
 use Rattle.std.specs.Int.{bit_at}
 use Rattle.std.specs.Int.RustNames.{count_ones}
 use Rattle.std.specs.FinMap as finmap
-use Rattle.std.proofs.lemmas.Nat.{pow_pos, mod-pow-add, le_or_l, le_or_r}
+use Rattle.std.proofs.lemmas.Nat.{pow_pos, mod-pow-add}
 use Rattle.std.proofs.lemmas.Nat.Bits.{bit_at-lt}
 use lib.Count.{ones, ones_in, ones_cat}
 use Rattle.life_model.specs.Cell.{Cell}
@@ -169,9 +169,3 @@ pub counted_past : (rows : List ℕ) (band count : ℕ) →
 counted_past rows band count before void left top =
     let same : count ≡ count + 0 = omega arith in
     same ∙ counted_band rows band count 0 before (counted_void rows (8 * band) void) left top
-
-pub or_none_left : (a b : ℕ) → bit_or a b ≡ 0 → a ≡ 0
-or_none_left a b none = omega (arith, le_or_l a b, none)
-
-pub or_none_right : (a b : ℕ) → bit_or a b ≡ 0 → b ≡ 0
-or_none_right a b none = omega (arith, le_or_r a b, none)

@@ -1,7 +1,6 @@
 -- The first and the last live cell of a tile.
-use Rattle.std.proofs.Common.{◌≡◌, ℕ, suc, ◌+◌, ◌-◌, ◌*◌, ◌%◌, ◌^◌, ◌<◌, ◌≤◌, ⊎_elim, List, w64, slice_index, sym, ap, subst, ◌∙◌, arith}
+use Rattle.std.proofs.Common.{◌≡◌, ℕ, suc, ◌-◌, ◌*◌, ◌%◌, ◌^◌, ◌<◌, ◌≤◌, w64, slice_index, sym, ap, subst, ◌∙◌, arith}
 use Rattle.std.specs.Int.{bit_at, trailing_zeros, leading_zeros}
-use Rattle.std.proofs.lemmas.Bool.{cases_lt}
 use Rattle.std.proofs.Math.Nat.{pow-suc, div-eq_of_lt-le}
 use Rattle.std.proofs.lemmas.Nat.{leading_top}
 use Rattle.std.proofs.lemmas.Nat.Bits.{bit_at-zero, bit_at-trailing_zeros, bit_at_above}
@@ -45,19 +44,3 @@ last_found tile y high fits some clear =
       below = λ p q wide less inside. clear_row (slice_index tile.rows q) p (clear q less inside);
       behind = λ p past wide. bit_at_above word (suc top.0) p top.3 (let h = past in omega arith);
     })
-
--- eight rows more without a live cell, from the north and from the south
-pub void_before : (rows : List ℕ) (band : ℕ) → ((y : ℕ) → y < 8 * band → slice_index rows y ≡ 0) → ((y : ℕ) → y < 8 → slice_index rows (8 * band + y) ≡ 0) →
-    (y : ℕ) → y < 8 * (band + 1) → slice_index rows y ≡ 0
-void_before rows band before here y less =
-    ⊎_elim (λ (old : y < 8 * band). before y old)
-    (λ (new : 8 * band ≤ y). let is : y ≡ 8 * band + (y - 8 * band) = omega arith in ap (slice_index rows) is ∙ here (y - 8 * band) (omega arith))
-    (cases_lt y (8 * band))
-
-pub void_behind : (rows : List ℕ) (band : ℕ) → ((y : ℕ) → 8 * band + 8 ≤ y → y < 64 → slice_index rows y ≡ 0) → ((y : ℕ) → y < 8 → slice_index rows (8 * band + y) ≡ 0) →
-    (y : ℕ) → 8 * band ≤ y → y < 64 → slice_index rows y ≡ 0
-void_behind rows band behind here y from inside =
-    ⊎_elim
-    (λ (new : y < 8 * band + 8). let is : y ≡ 8 * band + (y - 8 * band) = omega arith in ap (slice_index rows) is ∙ here (y - 8 * band) (omega arith))
-    (λ (old : 8 * band + 8 ≤ y). behind y old inside)
-    (cases_lt y (8 * band + 8))

@@ -3,8 +3,7 @@ ghost use Rattle.std.specs.Prelude.{◌≡◌, ℤ, ◌<◌, ◌≤◌, ◌^◌,
 ghost use Rattle.std.specs.List.{sum_by};
 ghost use Rattle.life_tile.specs.Cells.{row_cells, block_cells, tile_count, IsCountFrom};
 
-use crate::eights::has_cells;
-use life_bits::Tile;
+use life_bits::{Tile, has_cells};
 
 /// How many cells of a row are live.
 fn count_row(row: u64) -> u64

@@ -4,10 +4,9 @@ ghost use Rattle.life_tile.specs.Ends.{AreEnds, AreJoined, IsFirstIn, IsLastIn, 
 ghost use Rattle.life_tile.specs.Places.{start_at, IsInside};
 ghost use Rattle.life_tile.specs.Slots.{place_of};
 
-use crate::eights::{end_of_eights, first_eight};
 use crate::grid::corner_of;
 use crate::slot::Slot;
-use life_bits::Tile;
+use life_bits::{Tile, end_of_eights, first_eight};
 
 /// The first and the last of some cells, by y and then by x.
 #[derive(Clone, Copy)]

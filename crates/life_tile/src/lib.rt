@@ -4,7 +4,6 @@
 mod bands;
 mod counting;
 mod covering;
-mod eights;
 mod ends;
 mod grid;
 mod listing;

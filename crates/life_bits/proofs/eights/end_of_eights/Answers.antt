@@ -1,6 +1,6 @@
 use Rattle.std.proofs.Common.{◌-◌, ◌<◌, arith}
-use Rattle.life_tile.proofs.EndBits.{void_behind}
-use Rattle.life_tile.proofs.eights.end_of_eights.Goals as goal
+use Rattle.life_bits.proofs.EmptyRows.{void_behind}
+use Rattle.life_bits.proofs.eights.end_of_eights.Goals as goal
 
 pub loop-band-preserved : goal.loop-band-preserved
 loop-band-preserved c =

@@ -1,6 +1,6 @@
 use Rattle.std.proofs.Common.{◌≡◌, ◌+◌, arith, below_more, slice_index}
-use Rattle.life_tile.proofs.Counted.{or_none_left, or_none_right}
-use Rattle.life_tile.proofs.eights.has_cells.Goals as goal
+use Rattle.life_bits.proofs.EmptyRows.{or_none_left, or_none_right}
+use Rattle.life_bits.proofs.eights.has_cells.Goals as goal
 
 pub loop-y-init : goal.loop-y-init
 loop-y-init c = λ none k below. absurd (omega arith)

@@ -1,5 +1,5 @@
 use Rattle.std.proofs.Common.{◌≡◌, ℕ, ◌+◌, ◌<◌, slice_index}
-use Rattle.life_tile.proofs.eights.has_cells.Given as goal
+use Rattle.life_bits.proofs.eights.has_cells.Given as goal
 
 abbrev pub invariant-loop-y : goal.invariant-loop-y
 invariant-loop-y l = l.all ≡ 0 → (k : ℕ) → k < l.y → slice_index l.tile.rows (l.top + k) ≡ 0

@@ -1,5 +1,5 @@
 use Rattle.std.proofs.Common.{◌≡◌, ℕ, ◌*◌, ◌<◌, ◌≤◌, slice_index}
-use Rattle.life_tile.proofs.eights.end_of_eights.Given as goal
+use Rattle.life_bits.proofs.eights.end_of_eights.Given as goal
 
 abbrev pub invariant-loop-band : goal.invariant-loop-band
 invariant-loop-band l = record {

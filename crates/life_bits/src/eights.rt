@@ -1,7 +1,7 @@
 //! Rows of a tile without a live cell, eight at a time.
 ghost use Rattle.std.specs.Prelude.{◌≡◌, ℕ, ◌+◌, ◌<◌, ◌≤◌, false, slice_index};
 
-use life_bits::Tile;
+use crate::tile::Tile;
 
 /// Whether eight rows of a tile, from `top` on, have a live cell.
 pub fn has_cells(tile: &Tile, top: usize) -> bool
