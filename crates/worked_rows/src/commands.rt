@@ -99,6 +99,27 @@ fn patterns_advance(rt: HostRuntime) -> Result<(), Fail> {
 }
 
 #[test]
+fn faults_of_a_text_are_told_by_number_and_place(rt: HostRuntime) -> Result<(), Fail> {
+    const TOLD: &[(&[u8], &[u8])] = &[
+        (b"x = 3, y", b"census: rle fault 2\n"),
+        (b"x = 3, y = 3, rule = Life\no!", b"census: rle fault 3\n"),
+        (
+            b"x = 3, y = 3, rule = B03/S23\no!",
+            b"census: rle fault 4\n",
+        ),
+        (b"x = 3, y = 3\n0C!", b"census: rle fault 5 at 14\n"),
+        (b"x = 3, y = 3\n3o@!", b"census: rle fault 6 at 15\n"),
+        (b"x = 3, y = 3\n1048576bo!", b"census: rle fault 8 at 21\n"),
+        (b"x = 3, y = 3\n1048576o$o!", b"census: rle fault 9 at 22\n"),
+        (b"x = 3, y = 3\nbo$2bo$3o", b"census: rle fault 10\n"),
+    ];
+    for (text, line) in TOLD {
+        check(&rt, rt.alloc(), &(&["advance", "1"], text, 1, b"", line))?;
+    }
+    Ok(())
+}
+
+#[test]
 fn codes_are_drawn(rt: HostRuntime) -> Result<(), Fail> {
     const CALLS: &[Call] = &[
         (
@@ -139,11 +160,25 @@ fn codes_are_drawn(rt: HostRuntime) -> Result<(), Fail> {
             b"census: code fault 2 at 0\n",
         ),
         (
+            &["draw", "1yA"],
+            b"",
+            1,
+            b"",
+            b"census: code fault 3 at 1\n",
+        ),
+        (
             &["draw", "A", "--rule", "Life"],
             b"",
             1,
             b"",
             b"census: rule fault 1\n",
+        ),
+        (
+            &["draw", "A", "--rule", "B03/S23"],
+            b"",
+            1,
+            b"",
+            b"census: rule fault 2\n",
         ),
     ];
     for call in CALLS {
@@ -230,6 +265,20 @@ fn bundles_on_standard_input_are_reported(rt: HostRuntime) -> Result<(), Fail> {
             1,
             b"",
             b"census: bundle fault 2 at line 1\n",
+        ),
+        (
+            &["run"],
+            b"@folder a\n@fold b",
+            1,
+            b"",
+            b"census: bundle fault 3 at line 2\n",
+        ),
+        (
+            &["run"],
+            b"@folder ",
+            1,
+            b"",
+            b"census: bundle fault 4 at line 1\n",
         ),
         (&["run", " a"], b"", 1, b"", b"census: folder fault 1\n"),
         (
