@@ -1,5 +1,5 @@
 -- Rows without a set bit, eight at a time.
-use Rattle.std.proofs.Common.{◌≡◌, ℕ, ◌+◌, ◌-◌, ◌*◌, ◌<◌, ◌≤◌, ⊎_elim, List, slice_index, bit_or, ap, ◌∙◌, arith}
+use Rattle.std.proofs.Common.{◌≡◌, ℕ, ◌+◌, ◌-◌, ◌*◌, ◌<◌, ◌≤◌, ⊎_elim, List, slice_index, bit_or, refl, ap, ◌∙◌, arith}
 use Rattle.std.proofs.lemmas.Bool.{cases_lt}
 use Rattle.std.proofs.lemmas.Nat.{le_or_l, le_or_r}
 
@@ -8,6 +8,9 @@ or_none_left a b none = omega (arith, le_or_l a b, none)
 
 pub or_none_right : (a b : ℕ) → bit_or a b ≡ 0 → b ≡ 0
 or_none_right a b none = omega (arith, le_or_r a b, none)
+
+pub or_none : (a b : ℕ) → a ≡ 0 → b ≡ 0 → bit_or a b ≡ 0
+or_none a b left right = (λ i. bit_or (left i) (right i)) ∙ refl
 
 -- eight rows more without a live cell, from the north and from the south
 pub void_before : (rows : List ℕ) (band : ℕ) → ((y : ℕ) → y < 8 * band → slice_index rows y ≡ 0) → ((y : ℕ) → y < 8 → slice_index rows (8 * band + y) ≡ 0) →

@@ -8,5 +8,5 @@ loop-band-preserved c =
     let some : 0 < c.loop-band.band = c.loop-band-test.true in
     record {
       high = omega arith;
-      void = void_behind c.args.tile.now.rows (c.loop-band.band - 1) (λ y from inside. c.loop-band.invariant.void y (omega arith) inside) (c.has_cells.ensures c.if-has_cells.false);
+      void = void_behind c.args.tile.now.rows (c.loop-band.band - 1) (λ y from inside. c.loop-band.invariant.void y (omega arith) inside) (c.has_cells.ensures.void c.if-has_cells.false);
     }

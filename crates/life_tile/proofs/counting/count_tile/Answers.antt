@@ -22,6 +22,6 @@ loop-band-preserved c =
           let is = w.count-is in
           record {
             few = omega arith;
-            counted = λ left top. w.count-is ∙ counted_past c.args.tile.now.rows c.loop-band.band c.loop-band.count c.loop-band.invariant.counted (c.has_cells.ensures w.if-has_cells.false) left top;
+            counted = λ left top. w.count-is ∙ counted_past c.args.tile.now.rows c.loop-band.band c.loop-band.count c.loop-band.invariant.counted (c.has_cells.ensures.void w.if-has_cells.false) left top;
           }
     ]
