@@ -1,3 +1,4 @@
+pub mod FirstFeed
 pub mod Growth
 pub mod Lasts
 pub mod Joining

@@ -5,6 +5,8 @@ ghost use Rattle.census_bundle.specs.Lines.{whole_lines, content, is_space};
 ghost use Rattle.census_bundle.specs.Kinds.{IsKind};
 ghost use Rattle.census_bundle.specs.Scan.{line_len, begins_section, IsTextOf};
 
+use memchr::memchr;
+
 // What a line begins.
 #[derive(Clone, Copy)]
 pub enum Line<'a> {
@@ -31,12 +33,10 @@ fn line_len(text: &[u8]) -> usize
     ensures value { result ≡ line_len text.now }
     ensures within { result ≤ length text.now }
 {
-    for (i, byte) in text.iter().enumerate() {
-        if *byte == b'\n' {
-            return i + 1;
-        }
+    match memchr(b'\n', text) {
+        Some(at) => at + 1,
+        None => text.len(),
     }
-    text.len()
 }
 
 // The first line with its ending, and what stands behind it.

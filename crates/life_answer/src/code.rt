@@ -1,12 +1,17 @@
 //! Codes of objects.
-ghost use Rattle.std.specs.Prelude.{◌≡◌};
+ghost use Rattle.std.specs.Prelude.{◌≡◌, IfOk};
 
+use smallvec::SmallVec;
+use std::alloc::{AllocError, Global};
 use std::marker::Model;
+
+/// So many bytes of a code need no memory of their own, which are enough for those of most small objects.
+const SHORT_LEN: usize = 32;
 
 /// An apgcode, as on LifeWiki: the bytes of its text.
 #[derive(Drop)]
 pub struct Code {
-    bytes: Vec<u8>,
+    bytes: SmallVec<u8, SHORT_LEN>,
 }
 
 impl Model for Code {
@@ -18,18 +23,19 @@ impl Model for Code {
 }
 
 impl Code {
+    /// A copy of these bytes. It takes no memory where they are at most 32.
+    pub fn of(alloc: Global, bytes: &[u8]) -> Result<Code, AllocError>
+        ensures { IfOk result (λ c. c ≡ bytes.now) }
+    {
+        Ok(Code {
+            bytes: SmallVec::from_slice(alloc, bytes)?,
+        })
+    }
+
     /// The bytes of its text.
     pub fn as_slice(&self) -> &[u8]
         ensures { result.now ≡ self.now }
     {
         self.bytes.as_slice()
-    }
-}
-
-impl From<Vec<u8>> for Code {
-    ghost from_gives = { λ bytes code. code ≡ bytes.items };
-
-    fn from(bytes: Vec<u8>) -> Code {
-        Code { bytes }
     }
 }

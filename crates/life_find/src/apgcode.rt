@@ -124,5 +124,5 @@ pub fn code_of<P: Plane>(
     )?;
     let body = least_body(alloc, plane, rule, recurrence.period)?;
     text.extend_from_slice(&body)?;
-    Ok(Code::from(text))
+    Code::of(alloc, &text)
 }

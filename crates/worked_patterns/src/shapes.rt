@@ -195,7 +195,9 @@ fn codes_are_ordered_by_length_first(rt: HostRuntime) {
 
 #[test]
 fn a_code_lends_its_bytes(rt: HostRuntime) -> Result<(), Fail> {
-    let code = Code::from(Vec::from_slice(rt.alloc(), b"xq4_153")?);
-    assert_eq!(rt; code.as_slice(), b"xq4_153".as_slice());
+    for bytes in [b"xq4_153".as_slice(), &[b'z'; 32], &[b'z'; 33]] {
+        let code = Code::of(rt.alloc(), bytes)?;
+        assert_eq!(rt; code.as_slice(), bytes);
+    }
     Ok(())
 }
