@@ -3,9 +3,9 @@ use Rattle.std.proofs.Common.{◌≡◌, ℕ, List, [], ◌∷◌, ◌++◌, ref
 use Rattle.std.specs.Prelude.{codes, decimal, ℤ}
 use Rattle.std.specs.Fmt.{signed_decimal}
 use Rattle.life_answer.specs.declared.finding.Answer.{Answer}
-use Rattle.life_answer.specs.declared.finding.Answer.TheVariants.{Found, Refused}
+use Rattle.life_answer.specs.declared.finding.Answer.TheVariants.{Found}
 use Rattle.life_answer.specs.declared.finding.Finding.{Finding}
-use Rattle.life_answer.specs.declared.finding.Finding.TheVariants.{Recurs, Unresolved}
+use Rattle.life_answer.specs.declared.finding.Finding.TheVariants.{Recurs}
 use Rattle.life_model.specs.Rule.{Rule}
 use Rattle.life_cells.specs.Rules.{rule_text}
 use Rattle.census_bundle.specs.declared.bundle.Entry.{Entry}

@@ -1,4 +1,5 @@
 pub mod Fields
+pub mod Padding
 pub mod TicketSets
 pub mod Kept
 pub mod Rows

@@ -1,6 +1,6 @@
 -- The counts of a closing count objects.
 use Rattle.std.proofs.Common.{◌≡◌, ℕ, zero, suc, ◌+◌, ◌<◌, Bool, true, false, cond, ◌||◌, List, [], ◌∷◌, length, map, get_or, Ok, Err, Result, refl, sym, ap, subst, ◌∙◌, arith, Decides, ℤ, zero-add}
-use Rattle.std.proofs.lemmas.Bool.{false≢true}
+use Rattle.std.proofs.lemmas.Bool.{false≢true, or_right}
 use Rattle.std.proofs.lemmas.List.Folds.{list_any-append}
 use Rattle.std.proofs.lemmas.List.Elements.{All-map, Contains-append_right}
 use Rattle.std.specs.List.{All, Contains, list_any, count_by}
@@ -144,14 +144,10 @@ origin bound k (e ∷ es) holds =
     (λ r is. record { pattern = e; among = (0, omega arith, refl); resolves = r; named = is })
     (λ rest. let o = origin bound k es rest in record { pattern = o.pattern; among = Contains-append_right (e ∷ []) es o.pattern o.among; resolves = o.resolves; named = o.named })
 
-or-true : (b : Bool) → (b || true) ≡ true
-or-true true = refl
-or-true false = refl
-
 any_at : {A : Type 0} (p : A → Bool) (xs : List A) (i : ℕ) (d : A) → i < length xs → p (get_or xs i d) ≡ true → list_any p xs ≡ true
 any_at p [] i d lt holds = absurd (omega arith)
 any_at p (x ∷ xs) zero d lt holds = ap (λ b. b || list_any p xs) holds
-any_at p (x ∷ xs) (suc i) d lt holds = ap (λ b. p x || b) (any_at p xs i d (omega arith) holds) ∙ or-true (p x)
+any_at p (x ∷ xs) (suc i) d lt holds = ap (λ b. p x || b) (any_at p xs i d (omega arith) holds) ∙ or_right (p x) true refl
 
 each_line : (bound : ℕ) (es : List Entry) → All (CountsObject bound es) (tally same_object (objects (answers bound es)))
 each_line bound es =
@@ -181,7 +177,7 @@ objects_any bound k e (x ∷ es) zero lt is one =
     ∙ ap (λ b. b || list_any (same_object k) (objects (answers bound es))) one
 objects_any bound k e (x ∷ es) (suc i) lt is one =
     objects_first k (answer_of x.text bound) (answers bound es) ∙ ap (λ b. list_any (same_object k) (objects (answer_of x.text bound ∷ [])) || b) (objects_any bound k e es i (omega arith) is one)
-    ∙ or-true (list_any (same_object k) (objects (answer_of x.text bound ∷ [])))
+    ∙ or_right (list_any (same_object k) (objects (answer_of x.text bound ∷ []))) true refl
 
 each_pattern : (bound : ℕ) (es : List Entry) (e : Entry) → Contains es e → (r : Resolves bound e)
     → count_by (λ line. same_object (settled_object bound e r) line.0) (tally same_object (objects (answers bound es))) ≡ 1

@@ -16,7 +16,7 @@ use Rattle.census_book.specs.Collecting.{Belongs, IsResult}
 use Rattle.census_book.specs.Slots.{Row, HasSlot, KeepsResults, empty_slots, held, result_at, row_tickets, rows_tickets, slot_at, slot_in, taken_in, with_result}
 use Rattle.census_book.specs.Work.{Work}
 use Rattle.census_book.proofs.Kept.{result_at_own}
-use Rattle.census_book.proofs.TicketSets.{apart, eq_symm, has_list, one_ticket, some_or, ticket_cmp_same, ticket_cmp_total}
+use Rattle.census_book.proofs.TicketSets.{apart, eq_symm, has_list, one_ticket, or_none, some_or, ticket_cmp_same, ticket_cmp_total}
 
 get_set_same : {X : Type 0} (xs : List X) (i : ℕ) (y : X) → i < length xs → slice_get (set xs i y) i ≡ Some y
 get_set_same [] i y h = absurd (omega arith)
@@ -37,10 +37,6 @@ tied : (q t : Ticket) → q.folder ≡ t.folder → q.number ≡ t.number → eq
 tied q t p n =
     let e : q ≡ t = λ i. record { folder = p i; number = n i } in
     ap (λ u. eq_by_cmp ticket_cmp q u) (sym e) ∙ ap is_eq (tied_itself ticket_cmp_total q)
-
-or_none : (b : Bool) → (b || false) ≡ b
-or_none true = refl
-or_none false = refl
 
 row_other : (test : Ticket → Bool) (c i : ℕ) (row : Row) → ((j : ℕ) → i ≤ j → test (ticket c j) ≡ false) → list_any test (row_tickets c i row) ≡ false
 row_other test c i [] none = refl

@@ -1,5 +1,6 @@
 -- Sets of tickets.
 use Rattle.std.proofs.Common.{◌≡◌, Bool, true, false, ◌||◌, refl, sym, ap, ◌∙◌, Ordering, cond, Option, Some, is_some, List}
+use Rattle.std.proofs.lemmas.Bool.{or_right}
 use Rattle.std.specs.declared.cmp.Ordering.TheVariants.{Less, Equal, Greater}
 use Rattle.std.specs.Ordering.{nat_cmp, ordering_then, ordering_reverse, is_eq, eq_by_cmp}
 use Rattle.std.specs.Cmp.{IsTotalOrder, nat_cmp_total, then_total, on_total, tied_itself}
@@ -37,12 +38,12 @@ has_other taken t q ne = contains-insert ticket_cmp_total taken t q ∙ ap (λ b
 pub has_same : (taken : Tickets) (t : Ticket) → has_ticket (with_ticket taken t) t ≡ true
 has_same taken t = contains-insert ticket_cmp_total taken t t ∙ ap (λ r. is_eq r || has_ticket taken t) (tied_itself ticket_cmp_total t)
 
-or-true : (b : Bool) → (b || true) ≡ true
-or-true true = refl
-or-true false = refl
+pub or_none : (b : Bool) → (b || false) ≡ b
+or_none true = refl
+or_none false = refl
 
 pub has_kept : (taken : Tickets) (t q : Ticket) → has_ticket taken q ≡ true → has_ticket (with_ticket taken t) q ≡ true
-has_kept taken t q has = contains-insert ticket_cmp_total taken t q ∙ ap (λ b. eq_by_cmp ticket_cmp q t || b) has ∙ or-true _
+has_kept taken t q has = contains-insert ticket_cmp_total taken t q ∙ ap (λ b. eq_by_cmp ticket_cmp q t || b) has ∙ or_right (eq_by_cmp ticket_cmp q t) true refl
 
 pub has_list : (ks : List Ticket) (q : Ticket) → has_ticket (tickets_of ks) q ≡ list_any (eq_by_cmp ticket_cmp q) ks
 has_list ks q = contains-from_list ticket_cmp_total ks q
@@ -77,7 +78,3 @@ one_ticket t q e =
 pub new_ticket : (taken : Tickets) (t q : Ticket) → has_ticket taken q ≡ false → has_ticket (with_ticket taken t) q ≡ true → q ≡ t
 new_ticket taken t q not has =
     one_ticket q t (sym (or_none (eq_by_cmp ticket_cmp q t)) ∙ ap (λ b. eq_by_cmp ticket_cmp q t || b) (sym not) ∙ sym (contains-insert ticket_cmp_total taken t q) ∙ has)
-  where
-    or_none : (b : Bool) → (b || false) ≡ b
-    or_none true = refl
-    or_none false = refl

@@ -10,6 +10,10 @@ use Rattle.census_book.specs.Work.{Work}
 abbrev pub Row : Type 0
 Row = List (Option Work)
 
+-- these slots, and empty ones behind them, up to so many in all
+abbrev pub padded : ℕ → Row → Row
+padded len row = row ++ replicate (len - length row) None
+
 -- what stands in a slot, where there is one
 abbrev pub held : Option (Option Work) → Option Work
 held None = None

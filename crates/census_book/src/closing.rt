@@ -86,11 +86,7 @@ fn count_object<'a>(
     ensures { (ks : List codes.Object) → counts.old.entries ≡ tally same_object ks →
         OnOk result (counts.new.entries ≡ tally same_object (ks ++ object.entry ∷ [])) }
 {
-    let count = match counts.get(&object) {
-        Some(count) => *count,
-        None => 0,
-    };
-    counts.insert(object, count + 1)?;
+    *counts.entry(object)?.or_insert(0) += 1;
     Ok(())
 }
 

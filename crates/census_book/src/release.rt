@@ -77,8 +77,9 @@ fn folder_answers<'r>(
     requires whole { length folder.now.entries ≡ run_of arrival.now.taken c folder.now }
     ensures { IfOk result (λ v. map (λ a. a.now) v.items ≡ answers arrival.now.bound folder.now.entries) }
 {
-    let mut found = Vec::new(alloc);
-    for i in 0..folder.entries.as_slice().len() {
+    let len = folder.entries.as_slice().len();
+    let mut found = Vec::with_capacity(alloc, len)?;
+    for i in 0..len {
         let done = arrival.get(Ticket {
             folder: c,
             number: i as u32 + 1,

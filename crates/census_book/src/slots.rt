@@ -1,6 +1,6 @@
 //! A slot for the result of each pattern of a bundle.
-ghost use Rattle.std.specs.Prelude.{◌≡◌, IfSome, IfNone, IfOk, None, Some, length, replicate, slice_set, ◌-◌, ◌<◌, ◌≤◌};
-ghost use Rattle.census_book.specs.Slots.{empty_slots, result_at, slot_at, with_result, HasSlot};
+ghost use Rattle.std.specs.Prelude.{◌≡◌, IfSome, IfNone, IfOk, None, Some, length, replicate, slice_set, vec_capacity, ◌-◌, ◌<◌, ◌≤◌};
+ghost use Rattle.census_book.specs.Slots.{empty_slots, padded, result_at, slot_at, with_result, HasSlot};
 
 use crate::done::Done;
 use census_bundle::bundle::Folder;
@@ -8,18 +8,34 @@ use census_bundle::ticket::Ticket;
 use std::alloc::{AllocError, Global};
 use std::marker::Model;
 
-/// The slots of a collection. They are seen as what stands in each.
+/// The slots of a collection. They are seen as what stands in each. Those behind the last result are only made room for,
+/// so that their memory is first touched where a result is put.
 #[derive(Drop)]
 pub struct Row<'a> {
     slots: Vec<Option<Done<'a>>>,
+    len: usize,
 }
 
 impl<'a> Model for Row<'a> {
-    ghost use Rattle.census_book.specs.Slots.{Row};
+    ghost use Rattle.std.specs.Prelude.{◌≤◌, length, vec_capacity};
+    ghost use Rattle.census_book.specs.Slots.{Row, padded};
 
     ghost Value = { Row };
 
-    ghost view = { λ r. r.slots.items };
+    ghost view = { λ r. padded r.len r.slots.items };
+
+    ghost invariant = { λ r. (length r.slots.items ≤ r.len) × (r.len ≤ vec_capacity r.slots) };
+}
+
+// Appends empty slots, up to so many in all.
+fn fill<'a>(slots: &mut Vec<Option<Done<'a>>>, len: usize)
+    requires { len ≤ vec_capacity slots.old }
+    ensures items { slots.new.items ≡ padded len slots.old.items }
+    ensures capacity { vec_capacity slots.new ≡ vec_capacity slots.old }
+{
+    for _ in slots.len()..len {
+        slots.push_reserved(None);
+    }
 }
 
 impl<'a> Row<'a> {
@@ -27,11 +43,8 @@ impl<'a> Row<'a> {
     pub fn new(alloc: Global, len: usize) -> Result<Row<'a>, AllocError>
         ensures { IfOk result (λ r. r ≡ replicate len None) }
     {
-        let mut slots = Vec::with_capacity(alloc, len)?;
-        for _ in 0..len {
-            slots.push(None)?;
-        }
-        Ok(Row { slots })
+        let slots = Vec::with_capacity(alloc, len)?;
+        Ok(Row { slots, len })
     }
 
     /// The result in the slot of this number, from 1.
@@ -53,6 +66,7 @@ impl<'a> Row<'a> {
         requires { (0 < number) × (number ≤ length self.old) }
         ensures { self.new ≡ slice_set self.old (number - 1) (Some done.entry) }
     {
+        fill(&mut self.slots, number as usize);
         self.slots[number as usize - 1] = Some(done);
     }
 }

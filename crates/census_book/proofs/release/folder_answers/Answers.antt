@@ -13,7 +13,7 @@ pub get-done-requires : goal.get-done-requires
 get-done-requires c =
     let p = λ (i : ℕ). has_ticket c.args.arrival.now.taken (ticket c.args.c i) in
     let i = c.loop-i.i in
-    let size : length c.as_slice-i-end.result.now ≡ length c.args.folder.now.entries = ap length c.as_slice-i-end.ensures in
+    let size : length c.as_slice-len.result.now ≡ length c.args.folder.now.entries = ap length c.as_slice-len.ensures in
     let part : i < length c.args.folder.now.entries = omega arith in
     let within : i < run_of c.args.arrival.now.taken c.args.c c.args.folder.now = subst (λ n. i < n) c.requires.whole part in
     let n : 1 + i ≡ i + 1 = omega arith in
@@ -23,7 +23,7 @@ pub loop-i-preserved : goal.loop-i-preserved
 loop-i-preserved c =
     let es = c.args.folder.now.entries in
     let i = c.loop-i.i in
-    let size : length c.as_slice-i-end.result.now ≡ length es = ap length c.as_slice-i-end.ensures in
+    let size : length c.as_slice-len.result.now ≡ length es = ap length c.as_slice-len.ensures in
     let lt : i < length es = omega arith in
     let e = entry_here es i lt in
     let is = c.answer.ensures ∙ result_answer _ _ c.args.c (i + 1) c.args.folder.now e.0 _ c.get-done.ensures c.requires.at (numbered_next es i e.0 e.1) in

@@ -1,0 +1,12 @@
+use Rattle.std.proofs.Common.{◌≡◌, ◌≤◌, ◌-◌, length}
+use Rattle.std.specs.Prelude.{vec_capacity}
+use Rattle.census_book.specs.Slots.{padded}
+use Rattle.census_book.proofs.slots.fill.Given as goal
+
+abbrev pub invariant-loop : goal.invariant-loop
+invariant-loop l = record {
+  items : l.slots.items ≡ padded l.counter l.fn.slots.items;
+  few : length l.fn.slots.items ≤ l.counter;
+  most : l.counter - length l.fn.slots.items ≤ l.len - length l.fn.slots.items;
+  capacity : vec_capacity l.slots ≡ vec_capacity l.fn.slots;
+}
