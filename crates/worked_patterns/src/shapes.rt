@@ -201,3 +201,12 @@ fn a_code_lends_its_bytes(rt: HostRuntime) -> Result<(), Fail> {
     }
     Ok(())
 }
+
+#[test]
+fn faults_of_cells_and_codes_are_told_by_their_numbers(rt: HostRuntime) -> Result<(), Fail> {
+    let outside = format!(in rt.alloc(); "{}", CellFault::OutOfField)?;
+    assert_eq!(rt; outside.as_str(), "cell fault 1");
+    let far = format!(in rt.alloc(); "{}", CodeFault::TooFar { at: 209_715 })?;
+    assert_eq!(rt; far.as_str(), "code fault 4 at 209715");
+    Ok(())
+}
