@@ -1,7 +1,7 @@
 -- Slots with empty ones behind them.
-use Rattle.std.proofs.Common.{◌≡◌, ℕ, ◌+◌, ◌-◌, ◌<◌, ◌≤◌, ◌++◌, [], ◌∷◌, length, replicate, Option, None, sym, ap, ◌∙◌, arith, append_assoc, append-nil}
+use Rattle.std.proofs.Common.{◌≡◌, ℕ, ◌+◌, ◌-◌, ◌<◌, ◌≤◌, ◌++◌, length, replicate, Option, None, sym, ap, ◌∙◌, arith, append_assoc, append-nil}
 use Rattle.std.specs.Prelude.{slice_set}
-use Rattle.std.proofs.lemmas.List.{set-append_left, length-set, length-append, length-replicate, replicate-append-replicate, replicate_more}
+use Rattle.std.proofs.lemmas.List.{set-append_left, length-set, length-append, length-replicate, replicate-append-replicate}
 use Rattle.census_book.specs.Slots.{Row, padded}
 use Rattle.census_book.specs.Work.{Work}
 
@@ -27,13 +27,6 @@ put_padded n len row w within few =
     ap (λ k. slice_set made n w ++ replicate (len - k) None) (length-set made n w)
     ∙ sym (set-append_left made behind n w there)
     ∙ ap (λ xs. slice_set xs n w) (padded_twice (n + 1) len row (omega arith) few)
-
--- one more
-pub padded_more : (n : ℕ) (row : Row) → length row ≤ n → padded n row ++ None ∷ [] ≡ padded (n + 1) row
-padded_more n row few =
-    append_assoc row (replicate (n - length row) None) (None ∷ [])
-    ∙ ap (λ xs. row ++ xs) (replicate_more (n - length row) None)
-    ∙ ap (λ k. row ++ replicate k None) (omega arith)
 
 -- none more
 pub padded_none : (row : Row) → row ≡ padded (length row) row

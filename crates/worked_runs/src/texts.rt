@@ -278,5 +278,7 @@ fn faults_are_told_by_their_numbers(rt: HostRuntime) -> Result<(), Fail> {
     assert_eq!(rt; many.as_str(), "bundle fault 5 at line 12");
     let name = format!(in rt.alloc(); "{}", AddFault::BadName)?;
     assert_eq!(rt; name.as_str(), "folder fault 1");
+    let none = format!(in rt.alloc(); "{}", AddFault::NoFolder)?;
+    assert_eq!(rt; none.as_str(), "folder fault 2");
     Ok(())
 }
