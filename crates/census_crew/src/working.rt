@@ -8,7 +8,8 @@ use census_feed::handles::Hand;
 use crossbeam_channel::{SendError, Sender};
 use life_answer::finding::{Answer, Finding};
 use std::alloc::Global;
-use std::sync::Wait;
+use std::hint::spin_loop;
+use std::sync::{Mutex, Wait};
 use std::thread::Threads;
 use std::{mem, thread};
 
@@ -53,6 +54,25 @@ fn new_batch<'a>(alloc: Global) -> Batch<'a> {
     }
 }
 
+/// How often a worker looks whether it may begin, which takes some tenths of a millisecond in all.
+const LOOKS: u32 = 4096;
+
+// The first batch of a worker, which it makes once all workers are started, and while no other makes its own. The first
+// growth in a thread maps memory for its later ones, as does the start of a thread, and a system lets in one thread at a
+// time there: those that meet fall asleep, and may be woken on one processor and share it while another has nothing to do.
+// A worker that has looked often enough begins anyhow.
+fn first_batch<'a>(alloc: Global, beginning: &Mutex<()>) -> Batch<'a> {
+    for _ in 0..LOOKS {
+        if let Some(turn) = beginning.try_lock() {
+            let batch = new_batch(alloc);
+            drop(turn);
+            return batch;
+        }
+        spin_loop();
+    }
+    new_batch(alloc)
+}
+
 // Sends a batch and empties it, and says whether anybody is there to take it. Where there is no memory to send it, its
 // tickets are left to the caller.
 fn send_batch<'a, R: Wait>(
@@ -74,11 +94,12 @@ fn work<'a, G: Gate, R: Wait>(
     bound: u32,
     mut hand: Hand,
     gate: &G,
+    beginning: &Mutex<()>,
     results: Sender<Batch<'a>, Global>,
 )
     requires { (1 ≤ bound) × (bound ≤ 1000000) }
 {
-    let mut batch = new_batch(alloc);
+    let mut batch = first_batch(alloc, beginning);
     for _ in rt.forever() {
         let Some(ticket) = hand.take(rt) else {
             break;
@@ -119,6 +140,8 @@ pub(crate) fn work_beside<'a, G: Gate, R: Threads + Wait + Sync, S: Task>(
     requires task { S.can_run task }
     ensures { S.run_gives task result }
 {
+    let lock = Mutex::new(());
+    let beginning = &lock;
     thread::scope(
         thread::scope_env(),
         rt,
@@ -126,17 +149,20 @@ pub(crate) fn work_beside<'a, G: Gate, R: Threads + Wait + Sync, S: Task>(
             requires { (1 ≤ bound) × (bound ≤ 1000000) × S.can_run task }
             ensures { S.run_gives task result }
         {
+            // No worker begins before this is dropped, unless it gave up waiting.
+            let turn = beginning.try_lock();
             for hand in hands {
                 let Ok(mine) = results.clone() else {
                     break;
                 };
                 let one = move ||
                     requires { (1 ≤ bound) × (bound ≤ 1000000) }
-                { work(rt, alloc, bundle, bound, hand, gate, mine) };
+                { work(rt, alloc, bundle, bound, hand, gate, beginning, mine) };
                 if scope.spawn(one).is_err() {
                     break;
                 }
             }
+            drop(turn);
             // The channel closes only once no sender is left.
             drop(results);
             task.run(rt)
