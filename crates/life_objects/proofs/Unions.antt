@@ -1,0 +1,42 @@
+-- Which cells are in a union.
+use Rattle.std.proofs.Common.{◌≡◌, true, ◌||◌, List, [], ◌∷◌, ◌++◌, ◌⊎◌, sym, ap, ◌∙◌, true≢false}
+use Rattle.std.specs.List.{list_any}
+use Rattle.std.proofs.lemmas.Bool.{or_cases, or_left, or_right}
+use Rattle.std.proofs.lemmas.List.Folds.{list_any-append}
+use Rattle.life_model.specs.Cell.{Cell, same_cell}
+use Rattle.life_model.specs.Generation.{Generation, contains, empty, cells}
+use Rattle.life_model.proofs.Generations.{contains-empty, contains-from_list, contains-cells, same_members}
+use Rattle.life_model.proofs.Tests.{or-false, or-comm}
+use Rattle.life_objects.specs.Union.{union, union_of}
+
+pub contains-union : (P Q : Generation) (c : Cell) → contains (union P Q) c ≡ (contains P c || contains Q c)
+unfolding union
+contains-union P Q c =
+    contains-from_list (cells P ++ cells Q) c ∙ list_any-append (same_cell c) (cells P) (cells Q)
+    ∙ (λ i. sym (contains-cells P c) i || sym (contains-cells Q c) i)
+
+pub contains-union_of : (Ps : List Generation) (c : Cell) → contains (union_of Ps) c ≡ list_any (λ P. contains P c) Ps
+contains-union_of [] c = contains-empty c
+contains-union_of (P ∷ Ps) c = contains-union P (union_of Ps) c ∙ ap (λ b. contains P c || b) (contains-union_of Ps c)
+
+pub union-comm : (P Q : Generation) → union P Q ≡ union Q P
+union-comm P Q = same_members _ _ (λ c.
+    contains-union P Q c ∙ or-comm (contains P c) (contains Q c) ∙ sym (contains-union Q P c))
+
+pub union-empty : (P : Generation) → union P empty ≡ P
+union-empty P = same_members _ _ (λ c.
+    contains-union P empty c ∙ ap (λ b. contains P c || b) (contains-empty c) ∙ or-false (contains P c))
+
+-- no cell is in the empty set
+pub in_empty : (c : Cell) → contains empty c ≡ true → ⊥
+in_empty c h = true≢false (sym h ∙ contains-empty c)
+
+pub in_union : (P Q : Generation) (c : Cell) → contains (union P Q) c ≡ true →
+    (contains P c ≡ true) ⊎ (contains Q c ≡ true)
+in_union P Q c h = or_cases (contains P c) (contains Q c) (sym (contains-union P Q c) ∙ h)
+
+pub in_first : (P Q : Generation) (c : Cell) → contains P c ≡ true → contains (union P Q) c ≡ true
+in_first P Q c h = contains-union P Q c ∙ or_left _ _ h
+
+pub in_second : (P Q : Generation) (c : Cell) → contains Q c ≡ true → contains (union P Q) c ≡ true
+in_second P Q c h = contains-union P Q c ∙ or_right _ _ h

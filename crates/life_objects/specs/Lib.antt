@@ -1,0 +1,6 @@
+pub mod Apart
+pub mod Union
+pub mod Piece
+pub mod Ash
+pub mod Whole
+pub mod Drift
