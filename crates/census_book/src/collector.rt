@@ -1,7 +1,8 @@
 //! The collector of results, which releases the lines of the report.
 ghost use Rattle.std.specs.Prelude.{◌≡◌, ◌≤◌, ◌++◌, true, false, length, IfOk, IfErr, OnOk, OnErr, MatchOption};
 ghost use Rattle.census_bundle.specs.Tickets.{HasAll, has_ticket, with_ticket};
-ghost use Rattle.census_book.specs.Collecting.{Belongs, IsLeastMissing, Offered};
+ghost use Rattle.census_book.specs.Collecting.{Belongs, IsLeastMissing, Judged, Offered};
+ghost use Rattle.census_book.specs.declared.offer.Offer.TheVariants.{Taken};
 ghost use Rattle.census_book.specs.Front.{IsFront, IsRelease};
 ghost use Rattle.census_book.specs.Progress.{sent_of, started, taken_of};
 ghost use Rattle.census_book.specs.Reports.{out};
@@ -104,11 +105,12 @@ impl<'a> Collector<'a> {
 
     /// Offers a result. `Stranger` and `Double` change nothing and take no memory. `Taken` releases the lines of the
     /// patterns up to the end of the longest run of its collection that has arrived, at the collection's end also its
-    /// `code` lines and its closing line, and where nothing is missing any more the last line. `NoRoom` is want of memory:
-    /// it hands the result back, and changes nothing.
+    /// `code` lines and its closing line, and where nothing is missing any more the last line. `NoRoom` is out of memory: it
+    /// hands back a result that would have been `Taken`, and changes nothing.
     pub fn offer(&mut self, done: Done<'a>) -> Result<Offer, NoRoom<'a>>
         ensures ok { IfOk result (λ o. Offered self.old done.entry.ticket done.entry.entry.text done.entry.bound self.new o) }
         ensures no_room { IfErr result (λ e. e.done ≡ done.entry) }
+        ensures fits { OnErr result (Judged self.old.bundle self.old.bound self.old.taken done.entry.ticket done.entry.entry.text done.entry.bound Taken) }
         ensures unchanged { OnErr result (self.new ≡ self.old) }
     {
         match self.results.judge(&done) {

@@ -1,4 +1,8 @@
 //! Tickets.
+ghost use Rattle.std.specs.Prelude.{◌≡◌};
+ghost use Rattle.census_bundle.specs.Tickets.{ticket_cmp};
+
+use std::cmp::Ordering;
 
 /// The place of a pattern: its folder, and its number in that folder, both from 1. Tickets are ordered by folder and
 /// then by number.
@@ -6,4 +10,13 @@
 pub struct Ticket {
     pub folder: u32,
     pub number: u32,
+}
+
+impl Ticket {
+    /// How two tickets are ordered: by folder and then by number. It is what `cmp` answers, as a contract.
+    pub fn compare(self, other: Ticket) -> Ordering
+        ensures { result ≡ ticket_cmp self other }
+    {
+        self.cmp(&other)
+    }
 }

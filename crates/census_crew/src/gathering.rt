@@ -5,7 +5,7 @@ ghost use Rattle.census_bundle.specs.Sizes.{IsSmall};
 ghost use Rattle.census_book.specs.Collecting.{after_offer, Judged, Offered};
 ghost use Rattle.census_book.specs.Progress.{started};
 ghost use Rattle.census_crew.specs.Gathering.{Gathers};
-ghost use Rattle.census_crew.specs.Strangers.{IsResultOf, NotesStranger};
+ghost use Rattle.census_crew.specs.Strangers.{NotesStranger};
 ghost use Rattle.census_crew.specs.Writing.{StaysInStep, StopsInStep};
 
 use crate::tally::Tally;
@@ -33,26 +33,6 @@ fn is_small(bundle: &Bundle)
     ensures { IsSmall bundle.now }
 {
     bundle.folders();
-}
-
-// Whether two texts are the same.
-fn same_bytes(one: &[u8], other: &[u8]) -> bool
-    ensures { MatchBool result (one.now ≡ other.now) (one.now ≢ other.now) }
-{
-    one == other
-}
-
-// Whether a result is of this bundle and bound.
-fn is_result_of(bundle: &Bundle, bound: u32, done: &Done) -> bool
-    ensures { MatchBool result (IsResultOf bundle.now bound done.now) (IsResultOf bundle.now bound done.now → ⊥) }
-{
-    let Some(entry) = bundle.entry(done.ticket()) else {
-        return false;
-    };
-    if bound != done.bound() {
-        return false;
-    }
-    same_bytes(entry.text.as_slice(), done.entry().text.as_slice())
 }
 
 impl<'a> Gathering<'a> {
@@ -100,13 +80,7 @@ impl<'a> Gathering<'a> {
                 self.tally.strangers = self.tally.strangers.saturating_add(1);
                 Some(Offer::Stranger)
             }
-            Err(refused) => {
-                if is_result_of(self.bundle, self.bound, &refused.done) {
-                    return None;
-                }
-                self.tally.strangers = self.tally.strangers.saturating_add(1);
-                Some(Offer::Stranger)
-            }
+            Err(_) => return None,
         }
     }
 

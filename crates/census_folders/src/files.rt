@@ -1,5 +1,6 @@
 //! Pattern files.
 ghost use Rattle.std.specs.Prelude.{◌≡◌, ◌<◌, ◌≤◌, true, length, vec_len, Err, IfErr, IfOk, IfSome, OnOk};
+ghost use Rattle.census_bundle.specs.Growing.{with_entry};
 ghost use Rattle.census_folders.specs.Faults.{IsFolderFault};
 ghost use Rattle.census_folders.specs.Folders.{AddsFile, file_limit, is_pattern_name};
 ghost use Rattle.census_folders.specs.declared.fault.FoldersFault.TheVariants.{TooLong};
@@ -29,18 +30,22 @@ fn read_whole<R: Read + Drop>(alloc: Global, file: R) -> Result<Vec<u8>, Folders
     Ok(bytes)
 }
 
-// The bytes of a file of a folder.
-fn read_file<R: Files>(
-    rt: &R,
+// Adds what a reader gives up to its end, under a name, to the bundle's last folder.
+fn add_read<R: Read + Drop>(
     alloc: Global,
-    folder: &str,
+    bundle: &mut Bundle,
     name: &str,
-) -> Result<Vec<u8>, FoldersFault>
-    ensures within { IfOk result (λ bytes. vec_len bytes ≤ file_limit) }
+    file: R,
+) -> Result<(), FoldersFault>
+    requires kind { is_pattern_name name.now ≡ true }
+    requires open { 0 < length bundle.old }
+    ensures added { OnOk result (AddsFile name.now bundle.old bundle.new) }
+    ensures text { OnOk result (IfSome (R.remaining file) (λ all. bundle.new ≡ with_entry bundle.old (record { name = name.now; text = all }))) }
     ensures fault { IfErr result IsFolderFault }
 {
-    let path = Path::new(folder).join(alloc, name)?;
-    read_whole(alloc, fs::open(rt, path.as_path())?)
+    let bytes = read_whole(alloc, file)?;
+    bundle.add_entry(name.as_bytes(), bytes.as_slice())?;
+    Ok(())
 }
 
 // Reads a pattern file of a folder and adds it, under its name, to the bundle's last folder.
@@ -56,7 +61,6 @@ pub fn add_file<R: Files>(
     ensures added { OnOk result (AddsFile name.now bundle.old bundle.new) }
     ensures fault { IfErr result IsFolderFault }
 {
-    let bytes = read_file(rt, alloc, folder, name)?;
-    bundle.add_entry(name.as_bytes(), bytes.as_slice())?;
-    Ok(())
+    let path = Path::new(folder).join(alloc, name)?;
+    add_read(alloc, bundle, name, fs::open(rt, path.as_path())?)
 }

@@ -38,22 +38,21 @@ impl Model for TilePlane {
     ghost invariant = { λ p. IsKept p.slab };
 }
 
-/// With how many slots a slab is to be made anew that was made anew just now.
+/// With how many slots a slab is to be made anew that now has room for what its tiles may grow into.
 fn limit_of(slab: &Slab) -> usize {
     slab.slots.len().saturating_mul(2).saturating_add(32)
 }
 
 impl TilePlane {
-    /// Makes the slab anew where it has many slots.
-    fn compact(&mut self) -> Result<(), AllocError>
+    /// Makes the slab anew where it has many slots, and says whether it did.
+    fn compact(&mut self) -> Result<bool, AllocError>
         ensures { self.new ≡ self.old }
     {
-        if self.slab.slots.len() > self.limit {
-            let slab = self.slab.compacted()?;
-            self.limit = limit_of(&slab);
-            self.slab = slab;
+        if self.slab.slots.len() <= self.limit {
+            return Ok(false);
         }
-        Ok(())
+        self.slab = self.slab.compacted()?;
+        Ok(true)
     }
 }
 
@@ -69,9 +68,13 @@ impl Plane for TilePlane {
     }
 
     fn step(&mut self, rule: &Rule) -> Result<(), AllocError> {
-        self.compact()?;
+        let is_new = self.compact()?;
         self.slab.follow(rule);
         self.slab.grow()?;
+        if is_new {
+            // (a slab that was just made anew has no slot yet for the tiles around the live ones)
+            self.limit = limit_of(&self.slab);
+        }
         self.slab.advance();
         Ok(())
     }
