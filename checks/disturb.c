@@ -1,0 +1,107 @@
+/* Disturbs a program, for LD_PRELOAD: refuses memory, and makes its reads and writes short or failing. By the environment:
+
+   REFUSE_AT=N     the Nth growth (malloc or realloc) is refused
+   REFUSE_FROM=N   the Nth growth and each later one are
+   GROWTHS=FILE    FILE gets the number of growths, when the program ends
+   FAIL_READ=N     the Nth read (of anything) and each later one fail
+   FAIL_WRITE=N    the Nth write to standard output and each later one fail
+   SHORT=1         each read and write moves one byte */
+#define _GNU_SOURCE
+#include <dlfcn.h>
+#include <errno.h>
+#include <fcntl.h>
+#include <stdatomic.h>
+#include <stddef.h>
+#include <stdio.h>
+#include <stdlib.h>
+#include <sys/syscall.h>
+#include <sys/types.h>
+#include <unistd.h>
+
+extern void *__libc_malloc(size_t);
+extern void *__libc_realloc(void *, size_t);
+
+static long refuse_at, refuse_from, fail_read, fail_write, is_short;
+static const char *growths_file;
+static atomic_long growths, reads, writes;
+
+static long number(const char *name) {
+    const char *text = getenv(name);
+    return text ? atol(text) : 0;
+}
+
+static void tell_growths(void) {
+    char line[32];
+    int length = snprintf(line, sizeof line, "%ld\n", atomic_load(&growths));
+    int file = open(growths_file, O_WRONLY | O_CREAT | O_TRUNC, 0644);
+    if (file >= 0) {
+        ssize_t (*put)(int, const void *, size_t) = dlsym(RTLD_NEXT, "write");
+        put(file, line, (size_t)length);
+        close(file);
+    }
+}
+
+__attribute__((constructor)) static void begin(void) {
+    refuse_at = number("REFUSE_AT");
+    refuse_from = number("REFUSE_FROM");
+    fail_read = number("FAIL_READ");
+    fail_write = number("FAIL_WRITE");
+    is_short = number("SHORT");
+    growths_file = getenv("GROWTHS");
+    atomic_store(&growths, 0);
+}
+
+/* the program ends by this call, and runs nothing that was left for its end */
+void _exit(int status) {
+    if (growths_file)
+        tell_growths();
+    syscall(SYS_exit_group, status);
+    __builtin_unreachable();
+}
+
+static int refused(void) {
+    long count = atomic_fetch_add(&growths, 1) + 1;
+    return count == refuse_at || (refuse_from && count >= refuse_from);
+}
+
+void *malloc(size_t size) {
+    if (refused()) {
+        errno = ENOMEM;
+        return NULL;
+    }
+    return __libc_malloc(size);
+}
+
+void *realloc(void *block, size_t size) {
+    if (refused()) {
+        errno = ENOMEM;
+        return NULL;
+    }
+    return __libc_realloc(block, size);
+}
+
+ssize_t read(int file, void *bytes, size_t count) {
+    static ssize_t (*get)(int, void *, size_t);
+    if (!get)
+        get = dlsym(RTLD_NEXT, "read");
+    if (fail_read && atomic_fetch_add(&reads, 1) + 1 >= fail_read) {
+        errno = EIO;
+        return -1;
+    }
+    return get(file, bytes, is_short && count > 1 ? 1 : count);
+}
+
+ssize_t write(int file, const void *bytes, size_t count) {
+    static ssize_t (*put)(int, const void *, size_t);
+    if (!put)
+        put = dlsym(RTLD_NEXT, "write");
+    if (file == 1 && fail_write && atomic_fetch_add(&writes, 1) + 1 >= fail_write) {
+        errno = ENOSPC;
+        return -1;
+    }
+    return put(file, bytes, is_short && count > 1 ? 1 : count);
+}
+
+ssize_t __write(int file, const void *bytes, size_t count) {
+    return write(file, bytes, count);
+}
