@@ -1,7 +1,6 @@
 -- The least of the texts of all phases in all orientations, as they come one after another.
-use Rattle.std.proofs.Common.{◌≡◌, codes, ℕ, zero, suc, ◌+◌, List, [], ◌∷◌, ◌++◌, map, flat_map, length, take, get_or, ◌<◌, Option, Some, None, sym, refl, ap, ◌∙◌, arith, append-nil}
+use Rattle.std.proofs.Common.{◌≡◌, codes, ℕ, zero, suc, ◌+◌, List, [], ◌∷◌, ◌++◌, map, flat_map, Some, None, unwrap_or, sym, refl, ap, ◌∙◌, arith, append-nil}
 use Rattle.std.specs.List.{fold, range_with_len}
-use Rattle.std.proofs.lemmas.List.{map-append, take_more}
 use Rattle.std.proofs.lemmas.List.Sums.{fold-append}
 use Rattle.std.proofs.lemmas.Grind.{flat_map-append}
 use Rattle.life_model.specs.Cell.{Cell}
@@ -13,16 +12,13 @@ use Rattle.life_model.proofs.Moves.{normal-next}
 use Rattle.life_model.proofs.Objects.{normal-turned}
 use Rattle.life_model.proofs.Recurrences.{generation-zero, generation-next, shape}
 use Rattle.life_cells.proofs.PrintLemmas.{range_more}
-use Rattle.life_shape.specs.declared.orient.Orient.{Orient}
-use Rattle.life_shape.specs.declared.orient.Orient.TheVariants as orient
-use Rattle.life_shape.specs.Orients.{orientation}
 use Rattle.life_shape.specs.Wechsler.{body}
 use Rattle.life_shape.specs.TextOrder.{lesser, least_text}
 use Rattle.life_shape.proofs.Boxes.{normal_normal}
 use Rattle.life_answer.specs.Apgcode.{orientations, turned_bodies, bodies, prefix, code_of}
-use Rattle.life_answer.proofs.Codes.{body-normal, body_by_shape}
+use Rattle.life_answer.proofs.Codes.{body_by_shape}
 use Rattle.life_answer.proofs.Sizes.{size_by_shape}
-use Rattle.life_find.specs.Least.{with_text}
+use Rattle.life_codes.specs.Least.{with_text}
 
 -- ---- the text of a set is that of its normal form
 
@@ -37,13 +33,9 @@ fold-Some : (t : List ℕ) (ts : List (List ℕ)) → fold with_text (Some t) ts
 fold-Some t [] = refl
 fold-Some t (u ∷ us) = fold-Some (lesser t u) us
 
-pub least_some : (ts : List (List ℕ)) (t : List ℕ) → Some t ≡ fold with_text None ts → t ≡ least_text ts
-least_some [] t e = absurd cc
-least_some (u ∷ us) t e = let same : Some t ≡ Some (least_text (u ∷ us)) = e ∙ fold-Some u us in cc
-
-pub least_none : (ts : List (List ℕ)) → None ≡ fold with_text None ts → [] ≡ least_text ts
-least_none [] e = refl
-least_none (u ∷ us) e = absurd (let apart : None ≡ Some (least_text (u ∷ us)) = e ∙ fold-Some u us in cc)
+pub least_or_none : (ts : List (List ℕ)) → unwrap_or (fold with_text None ts) [] ≡ least_text ts
+least_or_none [] = refl
+least_or_none (u ∷ us) = ap (λ o. unwrap_or o []) (fold-Some u us)
 
 -- ---- one phase after another
 
@@ -56,32 +48,11 @@ bodies-more R H n =
     ∙ ap (λ r. bodies R H n ++ r) (append-nil (f (0 + n)))
     ∙ ap (λ k. bodies R H n ++ f k) (let e : 0 + n ≡ n = omega arith in e)
 
-pub least-more : (R : Rule) (H S : Generation) (n : ℕ) → S ≡ normal (generation R H n) → fold with_text (fold with_text None (bodies R H n)) (turned_bodies S) ≡ fold with_text None (bodies R H (n + 1))
+pub least-more : (R : Rule) (H S : Generation) (n : ℕ) → S ≡ generation R H n → fold with_text (fold with_text None (bodies R H n)) (turned_bodies S) ≡ fold with_text None (bodies R H (n + 1))
 least-more R H S n e =
     ap (λ G. fold with_text (fold with_text None (bodies R H n)) (turned_bodies G)) e
-    ∙ ap (fold with_text (fold with_text None (bodies R H n))) (turned_bodies-normal (generation R H n))
     ∙ sym (fold-append with_text None (bodies R H n) (turned_bodies (generation R H n)))
     ∙ ap (fold with_text None) (sym (bodies-more R H n))
-
--- ---- one map after another
-
-abbrev pub orients : List Orient
-orients =
-    orient.Same ∷ orient.FlipX ∷ orient.FlipY ∷ orient.Half ∷ orient.Swap ∷ orient.SwapFlipX ∷ orient.SwapFlipY ∷ orient.SwapHalf ∷ []
-
-abbrev pub turned_body : Generation → Orient → List ℕ
-turned_body S o = body (turned S (orientation o))
-
-module _ (S : Generation) (first : Option (List ℕ)) (os : List Orient) (d : Orient) where
-  pub turned-more : (i : ℕ) (so_far : Option (List ℕ)) (N : Generation) (text new : List ℕ) → i < length os → so_far ≡ fold with_text first (map (turned_body S) (take i os)) → N ≡ normal (turned S (orientation (get_or os i d))) → text ≡ body N → Some new ≡ with_text so_far text → Some new ≡ fold with_text first (map (turned_body S) (take (i + 1) os))
-  turned-more i so_far N text new below e f g h =
-      let o = get_or os i d in
-      let one : text ≡ turned_body S o = g ∙ ap body f ∙ body-normal (turned S (orientation o)) in
-      h
-      ∙ (λ i. with_text (e i) (one i))
-      ∙ sym (fold-append with_text first (map (turned_body S) (take i os)) (turned_body S o ∷ []))
-      ∙ ap (fold with_text first) (sym (map-append (turned_body S) (take i os) (o ∷ [])))
-      ∙ ap (λ l. fold with_text first (map (turned_body S) l)) (sym (take_more os i d below))
 
 -- ---- a code from its parts
 

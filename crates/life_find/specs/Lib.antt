@@ -1,4 +1,3 @@
 pub mod Outline
 pub mod Search
-pub mod Least
 pub mod Objects

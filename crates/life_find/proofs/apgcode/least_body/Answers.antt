@@ -1,12 +1,10 @@
-use Rattle.std.proofs.Common.{◌≡◌, ◌≤◌, ◌+◌, ◌-◌, None, refl, sym, ap, ◌∙◌, arith}
+use Rattle.std.proofs.Common.{◌≡◌, ◌≤◌, ◌+◌, ◌-◌, [], None, unwrap_or, refl, sym, ap, ◌∙◌, arith}
 use Rattle.std.specs.List.{fold}
-use Rattle.std.specs.Option.{option_map}
 use Rattle.life_answer.specs.Apgcode.{bodies, turned_bodies}
-use Rattle.life_find.specs.Least.{with_text}
+use Rattle.life_codes.specs.Least.{with_text}
 use Rattle.life_model.specs.Evolution.{next, generation}
-use Rattle.life_model.specs.Symmetry.{normal}
 use Rattle.life_model.proofs.Recurrences.{generation-zero, generation-next}
-use Rattle.life_find.proofs.Leasts.{least-more, least_some, least_none}
+use Rattle.life_find.proofs.Leasts.{least-more, least_or_none}
 use Rattle.life_find.proofs.apgcode.least_body.Goals as goal
 
 pub loop-init : goal.loop-init
@@ -16,7 +14,9 @@ loop-init g c =
     record {
       cells = sym (generation-zero R H);
       age = refl;
-      least = c.in_ok-least.ensures ∙ least-more R H c.in_ok-shape_of.field-0 0 (c.in_ok-shape_of.ensures ∙ ap normal (sym (generation-zero R H)));
+      least = c.in_ok-add_phase.ensures
+          ∙ ap (λ o. fold with_text o (turned_bodies H)) c.new-least.ensures
+          ∙ least-more R H H 0 (sym (generation-zero R H));
     }
 
 pub loop-preserved : goal.loop-preserved
@@ -24,7 +24,6 @@ loop-preserved g c =
     let R = c.args.rule.now in
     let H = g.P.Plane.members c.args.plane in
     let n = c.loop.counter in
-    let S = c.in_ok-shape_of-2.field-0 in
     let at = c.loop.invariant in
     let first : 1 ≤ n = omega arith in
     let there : g.P.Plane.members c.step.new.self ≡ generation R H n =
@@ -34,18 +33,10 @@ loop-preserved g c =
     record {
       cells = there ∙ ap (generation R H) (let e : n ≡ n + 1 - 1 = omega arith in e);
       age = omega arith;
-      least = c.in_ok-least-2.ensures
-          ∙ ap (λ o. fold with_text o (turned_bodies S)) at.least
-          ∙ least-more R H S n (c.in_ok-shape_of-2.ensures ∙ ap normal there);
+      least = c.in_ok-add_phase-2.ensures
+          ∙ ap (λ o. fold with_text o (turned_bodies (g.P.Plane.members c.step.new.self))) at.least
+          ∙ least-more R H (g.P.Plane.members c.step.new.self) n there;
     }
-
-pub returns-in-Some : goal.returns-in-Some
-returns-in-Some g c =
-    let R = c.args.rule.now in
-    let H = g.P.Plane.members c.args.plane in
-    let inside : c.loop.counter ≤ c.args.period = c.loop.auto.counter-end c.requires.period in
-    let past = c.loop-test.false in
-    least_some (bodies R H c.args.period) _ (ap (option_map (λ t. t.items)) (sym c.in-Some.is) ∙ c.loop.invariant.least ∙ ap (λ n. fold with_text None (bodies R H n)) (let e : c.loop.counter ≡ c.args.period = omega arith in e))
 
 pub returns : goal.returns
 returns g c =
@@ -53,5 +44,7 @@ returns g c =
     let H = g.P.Plane.members c.args.plane in
     let inside : c.loop.counter ≤ c.args.period = c.loop.auto.counter-end c.requires.period in
     let past = c.loop-test.false in
-    c.new.ensures.items
-    ∙ least_none (bodies R H c.args.period) (ap (option_map (λ t. t.items)) (sym c.in-None.is) ∙ c.loop.invariant.least ∙ ap (λ n. fold with_text None (bodies R H n)) (let e : c.loop.counter ≡ c.args.period = omega arith in e))
+    c.into_text.ensures
+    ∙ ap (λ o. unwrap_or o []) c.loop.invariant.least
+    ∙ ap (λ n. unwrap_or (fold with_text None (bodies R H n)) []) (let e : c.loop.counter ≡ c.args.period = omega arith in e)
+    ∙ least_or_none (bodies R H c.args.period)

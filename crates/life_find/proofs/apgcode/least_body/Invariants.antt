@@ -1,9 +1,8 @@
 use Rattle.std.proofs.Common.{◌≡◌, ◌+◌, ◌-◌, None}
 use Rattle.std.specs.List.{fold}
-use Rattle.std.specs.Option.{option_map}
 use Rattle.life_model.specs.Evolution.{generation}
 use Rattle.life_answer.specs.Apgcode.{bodies}
-use Rattle.life_find.specs.Least.{with_text}
+use Rattle.life_codes.specs.Least.{with_text}
 use Rattle.life_find.proofs.apgcode.least_body.Given as goal
 
 -- the least of the phases so far
@@ -13,5 +12,5 @@ invariant-loop g l =
     record {
       cells : g.P.Plane.members l.plane ≡ generation l.rule first (l.counter - 1);
       age : g.P.Plane.steps_made l.plane + 1 ≡ g.P.Plane.steps_made l.fn.plane + l.counter;
-      least : option_map (λ t. t.items) l.least ≡ fold with_text None (bodies l.rule first l.counter);
+      least : l.least ≡ fold with_text None (bodies l.rule first l.counter);
     }

@@ -1,0 +1,5 @@
+pub mod Framed
+pub mod Written
+pub mod Filled
+pub mod Bodies
+pub mod Leasts

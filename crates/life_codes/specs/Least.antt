@@ -1,0 +1,19 @@
+-- The least of some texts, as they come one after another.
+use Rattle.std.specs.Prelude.{ℕ, Bool, List, [], ◌∷◌, Option, Some, None, if◌then◌else◌}
+use Rattle.life_model.specs.Generation.{Generation}
+use Rattle.life_model.specs.Symmetry.{Orientation, FlipX, turned}
+use Rattle.life_shape.specs.TextOrder.{lesser}
+use Rattle.life_shape.specs.Wechsler.{body}
+
+-- the least so far, with one more text
+abbrev pub with_text : Option (List ℕ) → List ℕ → Option (List ℕ)
+with_text None text = Some text
+with_text (Some least) text = Some (lesser least text)
+
+-- the text, where there is one
+abbrev pub kept : Bool → List ℕ → Option (List ℕ)
+kept some text = if some then Some text else None
+
+-- the text of a set that is turned, and that of its mirror image
+abbrev pub two_bodies : Generation → Orientation → List (List ℕ)
+two_bodies G m = body (turned G m) ∷ body (turned (turned G m) FlipX) ∷ []

@@ -1,0 +1,3 @@
+pub mod Frames
+pub mod Grids
+pub mod Least

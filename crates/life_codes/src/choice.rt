@@ -1,0 +1,74 @@
+//! The least of some texts.
+ghost use Rattle.std.specs.Prelude.{◌≡◌, ◌<◌, IsSomeAnd, IsTrue, None, OnOk, [], length, unwrap_or};
+ghost use Rattle.life_codes.specs.Least.{with_text};
+
+use life_shape::code_text::shorter;
+use std::alloc::{AllocError, Global};
+use std::cmp::Ordering;
+use std::marker::Model;
+use std::mem::swap;
+
+/// The least of the texts so far, where there is one.
+#[derive(Drop)]
+pub struct Choice {
+    text: Vec<u8>,
+    some: bool,
+}
+
+impl Model for Choice {
+    ghost use Rattle.std.specs.Prelude.{◌≡◌, List, Option, [], false, ℕ};
+    ghost use Rattle.life_codes.specs.Least.{kept};
+
+    ghost Value = { Option (List ℕ) };
+
+    ghost view = { λ c. kept c.some c.text.items };
+
+    // no byte where there is no text
+    ghost invariant = { λ c. c.some ≡ false → c.text.items ≡ [] };
+}
+
+impl Choice {
+    /// That of no text. Takes no memory.
+    pub fn new(alloc: Global) -> Choice
+        ensures { result ≡ None }
+    {
+        Choice {
+            text: Vec::new(alloc),
+            some: false,
+        }
+    }
+
+    /// Becomes what the other is.
+    pub fn copy(&mut self, other: &Choice) -> Result<(), AllocError>
+        ensures { OnOk result (self.new ≡ other.now) }
+    {
+        self.text.clear();
+        self.text.extend_from_slice(&other.text)?;
+        self.some = other.some;
+        Ok(())
+    }
+
+    /// Whether there is a text of fewer bytes.
+    pub fn is_shorter(&self, bytes: usize) -> bool
+        ensures { IsTrue result → IsSomeAnd self.now (λ t. length t < bytes) }
+    {
+        self.some && self.text.len() < bytes
+    }
+
+    /// Takes one more text. The text that is not the least is left in its place.
+    pub fn offer(&mut self, text: &mut Vec<u8>)
+        ensures { self.new ≡ with_text self.old text.old.items }
+    {
+        if !self.some || shorter(&self.text, text) == Ordering::Greater {
+            swap(&mut self.text, text);
+            self.some = true;
+        }
+    }
+
+    /// The text itself; no byte where there is none.
+    pub fn into_text(self) -> Vec<u8>
+        ensures { result.items ≡ unwrap_or self [] }
+    {
+        self.text
+    }
+}

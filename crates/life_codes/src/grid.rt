@@ -1,0 +1,64 @@
+//! Grids of the values of columns, strip by strip.
+ghost use Rattle.std.specs.Prelude.{◌≡◌, ◌*◌, ◌/◌, ◌<◌, ℕ, All, OnOk, length, map, pos};
+ghost use Rattle.life_model.specs.Symmetry.{turn};
+ghost use Rattle.life_cells.specs.Limits.{IsPlace};
+ghost use Rattle.life_shape.specs.Dots.{weights};
+ghost use Rattle.life_shape.specs.Orients.{orientation};
+ghost use Rattle.life_codes.specs.Frames.{IsBounded, IsInFrame, placed, strips_of, wide_of};
+ghost use Rattle.life_codes.specs.Grids.{HoldsWeights};
+
+use crate::frame::Frame;
+use life_shape::orient::Orient;
+use std::alloc::AllocError;
+
+/// Where the map takes the cell, seen from the corner of the frame.
+fn place_in(cell: (i32, i32), orient: Orient, frame: Frame) -> (usize, usize)
+    requires placed { IsPlace cell }
+    requires bounded { IsBounded frame }
+    requires inside { IsInFrame frame (turn (orientation orient) cell) }
+    ensures place { (pos result.0, pos result.1) ≡ placed (orientation orient) frame cell }
+    ensures column { result.0 < wide_of frame }
+    ensures strip { result.1 / 5 < strips_of frame }
+{
+    let (x, y) = orient.turn(cell);
+    ((x - frame.left) as usize, (y - frame.top) as usize)
+}
+
+/// Adds to each column what the cells weigh there that the map takes these cells to. They stand in the frame, which has
+/// as many columns in each of its strips.
+fn fill(values: &mut [u8], cells: &[(i32, i32)], orient: Orient, frame: Frame)
+    requires room { length values.old ≡ strips_of frame * wide_of frame }
+    requires empty { All (λ v. v ≡ 0) values.old }
+    requires bounded { IsBounded frame }
+    requires placed { All IsPlace cells.now }
+    requires inside { All (λ c. IsInFrame frame (turn (orientation orient) c)) cells.now }
+    requires small { (k x : ℕ) → weights k (map (placed (orientation orient) frame) cells.now) x < 32 }
+    ensures len { length values.new ≡ length values.old }
+    ensures weights { HoldsWeights values.new (wide_of frame) (strips_of frame) (map (placed (orientation orient) frame) cells.now) }
+{
+    let wide = frame.width();
+    for cell in cells {
+        let (column, row) = place_in(*cell, orient, frame);
+        values[row / 5 * wide + column] += 1 << (row % 5);
+    }
+}
+
+/// Makes a grid of what the cells weigh that the map takes these cells to. They stand in the frame.
+pub fn make_grid(
+    values: &mut Vec<u8>,
+    cells: &[(i32, i32)],
+    orient: Orient,
+    frame: Frame,
+) -> Result<(), AllocError>
+    requires bounded { IsBounded frame }
+    requires placed { All IsPlace cells.now }
+    requires inside { All (λ c. IsInFrame frame (turn (orientation orient) c)) cells.now }
+    requires small { (k x : ℕ) → weights k (map (placed (orientation orient) frame) cells.now) x < 32 }
+    ensures room { OnOk result (length values.new.items ≡ strips_of frame * wide_of frame) }
+    ensures weights { OnOk result (HoldsWeights values.new.items (wide_of frame) (strips_of frame) (map (placed (orientation orient) frame) cells.now)) }
+{
+    values.clear();
+    values.resize(frame.strips() * frame.width(), 0)?;
+    fill(values, cells, orient, frame);
+    Ok(())
+}

@@ -1,0 +1,183 @@
+//! The least text of sets in all eight orientations.
+ghost use Rattle.std.specs.Prelude.{◌≡◌, ◌*◌, ◌<◌, ◌≤◌, All, None, OnErr, OnOk, T, [], length, unwrap_or};
+ghost use Rattle.std.specs.List.{fold};
+ghost use Rattle.life_model.specs.Box.{height, width};
+ghost use Rattle.life_model.specs.Generation.{from_list, is_rising};
+ghost use Rattle.life_cells.specs.Limits.{IsPlace};
+ghost use Rattle.life_shape.specs.Orients.{orientation};
+ghost use Rattle.life_answer.specs.Apgcode.{turned_bodies};
+ghost use Rattle.life_codes.specs.Frames.{IsBounded, frame_of};
+ghost use Rattle.life_codes.specs.Grids.{grid_text};
+ghost use Rattle.life_codes.specs.Least.{two_bodies, with_text};
+
+use crate::choice::Choice;
+use crate::frame::{Frame, frame_of};
+use crate::grid::make_grid;
+use crate::writing::write_text;
+use life_cells::cell_list::CellList;
+use life_shape::orient::Orient;
+use life_shape::shape::Shape;
+use std::alloc::{AllocError, Global};
+use std::marker::Model;
+use std::mem::swap;
+
+/// The least Wechsler text of sets in all eight orientations, by length and then by bytes, found set by set.
+#[derive(Drop)]
+pub struct LeastText {
+    least: Choice,
+    next: Choice,
+    room: Room,
+    alloc: Global,
+}
+
+impl Model for LeastText {
+    ghost use Rattle.std.specs.Prelude.{List, Option, ℕ};
+
+    ghost Value = { Option (List ℕ) };
+
+    ghost view = { λ l. l.least };
+}
+
+/// Room for what is written.
+#[derive(Drop)]
+struct Room {
+    values: Vec<u8>,
+    text: Vec<u8>,
+}
+
+/// Takes the text of a grid.
+fn add_grid(
+    least: &mut Choice,
+    text: &mut Vec<u8>,
+    values: &[u8],
+    wide: usize,
+    strips: usize,
+    back: bool,
+) -> Result<(), AllocError>
+    requires some { 0 < strips }
+    requires room { length values.now ≡ strips * wide }
+    requires small { All (λ v. v < 36) values.now }
+    ensures { OnOk result (least.new ≡ with_text least.old (grid_text values.now wide strips back)) }
+{
+    if write_text(text, values, wide, strips, back, least)? {
+        least.offer(text);
+    }
+    Ok(())
+}
+
+/// Takes the text of cells, turned by a map, and that of their mirror image.
+fn add_turned(
+    least: &mut Choice,
+    room: &mut Room,
+    cells: &[(i32, i32)],
+    frame: Frame,
+    orient: Orient,
+) -> Result<(), AllocError>
+    requires some { 0 < length cells.now }
+    requires rising { T (is_rising cells.now) }
+    requires placed { All IsPlace cells.now }
+    requires frame { frame ≡ frame_of cells.now }
+    requires bounded { IsBounded frame }
+    ensures { OnOk result (least.new ≡ fold with_text least.old (two_bodies (from_list cells.now) (orientation orient))) }
+{
+    let turned = frame.turned(orient);
+    make_grid(&mut room.values, cells, orient, turned)?;
+    let wide = turned.width();
+    let strips = turned.strips();
+    add_grid(least, &mut room.text, &room.values, wide, strips, false)?;
+    add_grid(least, &mut room.text, &room.values, wide, strips, true)
+}
+
+/// Takes the texts of cells, turned by each of the eight maps.
+fn add_cells(
+    least: &mut Choice,
+    room: &mut Room,
+    cells: &[(i32, i32)],
+    frame: Frame,
+) -> Result<(), AllocError>
+    requires some { 0 < length cells.now }
+    requires rising { T (is_rising cells.now) }
+    requires placed { All IsPlace cells.now }
+    requires frame { frame ≡ frame_of cells.now }
+    requires bounded { IsBounded frame }
+    ensures { OnOk result (least.new ≡ fold with_text least.old (turned_bodies (from_list cells.now))) }
+{
+    add_turned(least, room, cells, frame, Orient::Same)?;
+    add_turned(least, room, cells, frame, Orient::FlipY)?;
+    add_turned(least, room, cells, frame, Orient::Swap)?;
+    add_turned(least, room, cells, frame, Orient::SwapFlipY)
+}
+
+/// Takes the texts of a shape, turned by each of the eight maps.
+fn add_shape(least: &mut Choice, shape: &Shape) -> Result<(), AllocError>
+    ensures { OnOk result (least.new ≡ fold with_text least.old (turned_bodies shape.now)) }
+{
+    for orient in &Orient::ALL {
+        let mut text = shape.turned(*orient)?.text()?;
+        least.offer(&mut text);
+    }
+    Ok(())
+}
+
+/// Takes the texts of a set, turned by each of the eight maps: from grids, unless those were mostly empty.
+fn add_list(
+    alloc: Global,
+    least: &mut Choice,
+    room: &mut Room,
+    list: &CellList,
+) -> Result<(), AllocError>
+    requires wide { width list.now ≤ 16_777_216 }
+    requires high { height list.now ≤ 16_777_216 }
+    ensures { OnOk result (least.new ≡ fold with_text least.old (turned_bodies list.now)) }
+{
+    let cells = list.as_slice();
+    match frame_of(cells) {
+        Some(frame) if frame.is_dense(cells.len()) => add_cells(least, room, cells, frame),
+        _ => {
+            let (shape, _) = Shape::of(alloc, list)?;
+            add_shape(least, &shape)
+        }
+    }
+}
+
+impl LeastText {
+    /// That of no set. Takes no memory.
+    pub fn new(alloc: Global) -> LeastText
+        ensures { result ≡ None }
+    {
+        LeastText {
+            least: Choice::new(alloc),
+            next: Choice::new(alloc),
+            room: Room {
+                values: Vec::new(alloc),
+                text: Vec::new(alloc),
+            },
+            alloc,
+        }
+    }
+
+    /// Adds the texts of a set. After an `Err` it is what it was.
+    ///
+    /// Their box is at most 16,777,216 wide and high.
+    pub fn add(&mut self, list: &CellList) -> Result<(), AllocError>
+        requires wide { width list.now ≤ 16_777_216 }
+        requires high { height list.now ≤ 16_777_216 }
+        ensures ok { OnOk result (self.new ≡ fold with_text self.old (turned_bodies list.now)) }
+        ensures err { OnErr result (self.new ≡ self.old) }
+    {
+        self.next.copy(&self.least)?;
+        add_list(self.alloc, &mut self.next, &mut self.room, list)?;
+        swap(&mut self.least, &mut self.next);
+        Ok(())
+    }
+
+    /// The text itself; no byte where no set was added.
+    pub fn into_text(self) -> Vec<u8>
+        ensures { result.items ≡ unwrap_or self [] }
+    {
+        self.least.into_text()
+    }
+}
+
+#[cfg(test)]
+mod tests;

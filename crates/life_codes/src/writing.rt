@@ -1,0 +1,122 @@
+//! Writing the texts of grids.
+ghost use Rattle.std.specs.Prelude.{◌≡◌, ◌*◌, ◌<◌, ◌++◌, ◌+◌, ◌≤◌, All, Bool, IfOk, IsSomeAnd, OnOk, false, length, slice_index, true};
+ghost use Rattle.life_shape.specs.Dots.{strip_mark};
+ghost use Rattle.life_shape.specs.Wechsler.{columns_text, digit, short_zeros, zeros};
+ghost use Rattle.life_codes.specs.Grids.{facing, grid_text, strip_of};
+
+use crate::choice::Choice;
+use std::alloc::AllocError;
+
+/// `0` to `9` and then `a` to `z`.
+fn digit(n: u8) -> u8
+    requires { n < 36 }
+    ensures { result ≡ digit n }
+{
+    if n < 10 { b'0' + n } else { b'a' + (n - 10) }
+}
+
+/// Adds a run of fewer than 39 zeros.
+fn push_short(text: &mut Vec<u8>, count: usize) -> Result<(), AllocError>
+    requires { count < 39 }
+    ensures { OnOk result (text.new.items ≡ text.old.items ++ short_zeros count) }
+{
+    match count {
+        0 => {}
+        1 => text.push(b'0')?,
+        2 => text.push(b'w')?,
+        3 => text.push(b'x')?,
+        _ => {
+            text.push(b'y')?;
+            text.push(digit(count as u8 - 4))?;
+        }
+    }
+    Ok(())
+}
+
+/// Adds a run of so many zeros.
+fn push_zeros(text: &mut Vec<u8>, count: usize) -> Result<(), AllocError>
+    ensures { OnOk result (text.new.items ≡ text.old.items ++ zeros count) }
+{
+    let mut left = count;
+    'runs: while left >= 39 {
+        text.push(b'y')?;
+        text.push(b'z')?;
+        left -= 39;
+    }
+    push_short(text, left)
+}
+
+/// The value at a place of a strip, which is read from either end.
+fn value_at(strip: &[u8], place: usize, back: bool) -> u8
+    requires { place < length strip.now }
+    ensures { result ≡ slice_index (facing back strip.now) place }
+{
+    if back {
+        strip[strip.len() - 1 - place]
+    } else {
+        strip[place]
+    }
+}
+
+/// Adds the text of a strip.
+fn push_strip(text: &mut Vec<u8>, strip: &[u8], back: bool) -> Result<(), AllocError>
+    requires { All (λ v. v < 36) strip.now }
+    ensures { OnOk result (text.new.items ≡ text.old.items ++ columns_text 0 (facing back strip.now)) }
+{
+    let mut skipped = 0;
+    'columns: for place in 0..strip.len() {
+        let value = value_at(strip, place, back);
+        if value == 0 {
+            skipped += 1;
+        } else {
+            push_zeros(text, skipped)?;
+            text.push(digit(value))?;
+            skipped = 0;
+        }
+    }
+    Ok(())
+}
+
+/// A strip of a grid.
+fn strip_of(values: &[u8], wide: usize, strip: usize) -> &[u8]
+    requires { strip * wide + wide ≤ length values.now }
+    ensures { result.now ≡ strip_of values.now wide strip }
+{
+    &values[strip * wide..strip * wide + wide]
+}
+
+/// Adds what stands before a strip.
+fn begin_strip(text: &mut Vec<u8>, strip: usize) -> Result<(), AllocError>
+    ensures { OnOk result (text.new.items ≡ text.old.items ++ strip_mark strip) }
+{
+    if strip > 0 {
+        text.push(b'z')?;
+    }
+    Ok(())
+}
+
+/// Writes the text of a grid, or as much of it as makes it longer than the least text. Answers whether it is whole.
+pub fn write_text(
+    text: &mut Vec<u8>,
+    values: &[u8],
+    wide: usize,
+    strips: usize,
+    back: bool,
+    least: &Choice,
+) -> Result<bool, AllocError>
+    requires some { 0 < strips }
+    requires room { length values.now ≡ strips * wide }
+    requires small { All (λ v. v < 36) values.now }
+    ensures whole { IfOk result (λ whole. whole ≡ true → text.new.items ≡ grid_text values.now wide strips back) }
+    ensures longer { IfOk result (λ whole. whole ≡ false → IsSomeAnd least.now (λ t. length t < length (grid_text values.now wide strips back))) }
+{
+    text.clear();
+    'strips: for strip in 0..strips {
+        begin_strip(text, strip)?;
+        push_strip(text, strip_of(values, wide, strip), back)?;
+        if least.is_shorter(text.len()) {
+            return Ok(false);
+        }
+    }
+    Ok(true)
+}
