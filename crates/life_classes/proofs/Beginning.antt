@@ -1,0 +1,54 @@
+-- At first each cell is a class of its own.
+use Rattle.std.proofs.Common.{◌≡◌, ℕ, true, ◌||◌, List, [], ◌∷◌, map, get_or, sym, refl, ap, ◌∙◌, arith}
+use Rattle.std.specs.List.{All, AllPairs}
+use Rattle.std.proofs.lemmas.List.{get_or_default}
+use Rattle.std.proofs.lemmas.List.Elements.{All-map}
+use Rattle.std.proofs.lemmas.List.Folds.{list_any_at}
+use Rattle.life_model.specs.Cell.{Cell, same_cell}
+use Rattle.life_model.specs.Rule.{Rule}
+use Rattle.life_model.specs.Generation.{Generation, cells, contains, from_list}
+use Rattle.life_model.specs.Evolution.{generation}
+use Rattle.life_model.proofs.Cells.{same_cell-is}
+use Rattle.life_model.proofs.Generations.{contains-cells, contains-from_list, from_list-cells, same_members}
+use Rattle.life_model.proofs.Recurrences.{generation-zero}
+use Rattle.life_model.proofs.Tests.{or-false}
+use Rattle.life_objects.specs.Union.{union_of}
+use Rattle.life_objects.specs.Whole.{StaysWhole}
+use Rattle.life_objects.specs.Apart.{AreApartBefore}
+use Rattle.life_objects.proofs.Staying.{cell_stays}
+use Rattle.life_objects.proofs.Unions.{contains-union}
+use Rattle.life_classes.specs.declared.class.Class.{Class}
+use Rattle.life_classes.specs.Tracking.{AreTracked, alone, firsts}
+
+contains-one : (c q : Cell) → contains (from_list (c ∷ [])) q ≡ same_cell q c
+contains-one c q = contains-from_list (c ∷ []) q ∙ or-false (same_cell q c)
+
+all_together : (cs : List Cell) → union_of (firsts (map alone cs)) ≡ from_list cs
+all_together [] = refl
+all_together (c ∷ cs) = same_members _ _ (λ q.
+    contains-union (from_list (c ∷ [])) (union_of (firsts (map alone cs))) q
+    ∙ (λ i. contains-one c q i || (ap (λ H. contains H q) (all_together cs) ∙ contains-from_list cs q) i)
+    ∙ sym (contains-from_list (c ∷ cs) q))
+
+-- each listed cell is a member
+listed : (G : Generation) → All (λ c. contains G c ≡ true) (cells G)
+listed G k d h =
+    let c = get_or (cells G) k d in
+    contains-cells G c
+    ∙ list_any_at (same_cell c) (cells G) k c h
+    ((same_cell-is c (get_or (cells G) k c)).1 (get_or_default (cells G) k d c h))
+
+module _ (R : Rule) (b : ℕ) (G : Generation) where
+  nothing_before : (cs : List Class) → AllPairs (λ c d. AreApartBefore R 0 c.first d.first) cs
+  nothing_before cs i j d h k m l = absurd (omega arith)
+
+  pub alone_tracked : AreTracked R b 0 G (map alone (cells G))
+  alone_tracked = record {
+    together = all_together (cells G) ∙ from_list-cells G;
+    whole =
+        All-map (λ c. StaysWhole R b G c.first) alone (cells G) (λ k d h. cell_stays R b G _ (listed G k d h));
+    before = nothing_before (map alone (cells G));
+    later =
+        All-map (λ c. c.last ≡ generation R c.first 0) alone (cells G)
+        (λ k d h. sym (generation-zero R _));
+  }

@@ -1,0 +1,9 @@
+pub mod Orders
+pub mod Reaches
+pub mod RowsRise
+pub mod Kept
+pub mod Owners
+pub mod Tracked
+pub mod Beginning
+pub mod Merging
+pub mod Later

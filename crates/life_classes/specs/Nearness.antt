@@ -1,0 +1,13 @@
+-- Which cells a set reaches.
+use Rattle.std.specs.Prelude.{ℕ, ◌-ℤ◌, Bool, ◌&&◌, nat_le, unsigned_abs}
+use Rattle.std.specs.List.{list_any}
+use Rattle.life_model.specs.Cell.{Cell}
+use Rattle.life_model.specs.Generation.{Generation, cells}
+
+-- whether two cells are at most r from each other in both directions
+abbrev pub are_within : ℕ → Cell → Cell → Bool
+are_within r c d = nat_le (unsigned_abs (c.0 -ℤ d.0)) r && nat_le (unsigned_abs (c.1 -ℤ d.1)) r
+
+-- whether a cell of P is at most r from c in both directions
+abbrev pub reaches : ℕ → Generation → Cell → Bool
+reaches r P c = list_any (are_within r c) (cells P)

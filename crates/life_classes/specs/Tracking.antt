@@ -1,0 +1,44 @@
+-- Classes as they are followed from generation to generation.
+use Rattle.std.specs.Prelude.{◌≡◌, ℕ, ◌≤◌, List, [], ◌∷◌, ◌++◌, map}
+use Rattle.std.specs.List.{All, AllPairs}
+use Rattle.life_model.specs.Cell.{Cell}
+use Rattle.life_model.specs.Rule.{Rule}
+use Rattle.life_model.specs.Generation.{Generation, from_list, keep}
+use Rattle.life_model.specs.Evolution.{generation}
+use Rattle.life_objects.specs.Apart.{AreApart, AreApartBefore}
+use Rattle.life_objects.specs.Union.{union_of}
+use Rattle.life_objects.specs.Whole.{StaysWhole}
+use Rattle.life_classes.specs.declared.class.Class.{Class}
+use Rattle.life_classes.specs.Nearness.{reaches}
+
+abbrev pub firsts : List Class → List Generation
+firsts cs = map (λ c. c.first) cs
+
+abbrev pub lasts : List Class → List Generation
+lasts cs = map (λ c. c.last) cs
+
+-- the class of one cell
+abbrev pub alone : Cell → Class
+alone c = record { first = from_list (c ∷ []); last = from_list (c ∷ []) }
+
+-- a class a generation later, of whose cells these are all
+abbrev pub moved_on : Generation → Class → Class
+moved_on G c = record { first = c.first; last = keep G (reaches 1 c.last) }
+
+-- what has become of any two classes is apart
+abbrev pub AreApartNow : List Class → Type 0
+AreApartNow cs = AllPairs (λ c d. AreApart c.last d.last) cs
+
+-- G is these classes after n generations, in each of which but the last any two of them were apart, and none of which a
+-- split for b generations tears.
+pub record AreTracked (R : Rule) (b n : ℕ) (G : Generation) (cs : List Class) : Type 0 where
+  pub together : union_of (firsts cs) ≡ G
+  pub whole : All (λ c. StaysWhole R b G c.first) cs
+  pub before : AllPairs (λ c d. AreApartBefore R n c.first d.first) cs
+  pub later : All (λ c. c.last ≡ generation R c.first n) cs
+
+-- among any other classes, these may be replaced by those, as they are joined
+abbrev pub LeadTo : List Class → List Class → Type 0
+LeadTo cs ds =
+    (R : Rule) (b n : ℕ) (G : Generation) (rest : List Class) → n ≤ b → AreTracked R b n G (cs ++ rest) →
+    AreTracked R b n G (ds ++ rest)

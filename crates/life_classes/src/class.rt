@@ -1,0 +1,9 @@
+//! A set of a pattern's cells, and what has become of it.
+use life_cells::cell_list::CellList;
+
+/// A class: its cells at first, and those that have become of them.
+#[derive(Drop)]
+pub struct Class {
+    pub first: CellList,
+    pub last: CellList,
+}

@@ -1,0 +1,9 @@
+//! The sets that a pattern falls apart into where it is torn as finely as sets that stay apart allow.
+#![tactic(auto)]
+
+pub mod class;
+pub mod classes;
+mod joining;
+mod nearness;
+mod rows;
+mod stepping;

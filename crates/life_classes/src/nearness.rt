@@ -1,0 +1,50 @@
+//! Which cells are near each other.
+ghost use Rattle.std.specs.Prelude.{◌≡◌};
+ghost use Rattle.std.specs.List.{list_any};
+ghost use Rattle.life_model.specs.Generation.{cells};
+ghost use Rattle.life_classes.specs.Nearness.{are_within, reaches};
+
+use crate::rows::{rows, rows_about};
+use life_cells::cell_list::CellList;
+
+/// Whether two cells are at most so far from each other in both directions.
+fn are_within(reach: u32, cell: (i32, i32), other: (i32, i32)) -> bool
+    ensures { result ≡ are_within reach cell other }
+{
+    cell.0.abs_diff(other.0) <= reach && cell.1.abs_diff(other.1) <= reach
+}
+
+/// Whether some of the cells is at most so far from this one in both directions.
+fn is_any_within(reach: u32, cells: &[(i32, i32)], cell: (i32, i32)) -> bool
+    ensures { result ≡ list_any (are_within reach cell) cells.now }
+{
+    cells.iter().any(|other| are_within(reach, cell, *other))
+}
+
+/// Whether some cell of a set is at most so far from this one in both directions.
+pub fn reaches(reach: u32, set: &CellList, cell: (i32, i32)) -> bool
+    ensures { result ≡ reaches reach set.now cell }
+{
+    let row = i64::from(cell.1);
+    let reach_rows = i64::from(reach);
+    is_any_within(
+        reach,
+        rows(set.as_slice(), row - reach_rows, row + reach_rows),
+        cell,
+    )
+}
+
+/// Whether a set reaches some of the cells.
+fn is_any_reached(reach: u32, set: &CellList, cells: &[(i32, i32)]) -> bool
+    ensures { result ≡ list_any (reaches reach set.now) cells.now }
+{
+    cells.iter().any(|cell| reaches(reach, set, *cell))
+}
+
+/// Whether some cell of the one set is near a cell of the other.
+pub fn are_near(one: &CellList, other: &CellList) -> bool
+    ensures { result ≡ list_any (reaches 2 other.now) (cells one.now) }
+{
+    let (top, bottom) = rows_about(2, other);
+    is_any_reached(2, other, rows(one.as_slice(), top, bottom))
+}

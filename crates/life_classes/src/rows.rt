@@ -1,0 +1,37 @@
+//! The rows that cells in order stand in.
+ghost use Rattle.std.specs.Prelude.{◌≡◌, ◌≤ℤ◌, Bool, T, filter, true};
+ghost use Rattle.life_model.specs.Cell.{Cell};
+ghost use Rattle.life_model.specs.Generation.{is_rising};
+ghost use Rattle.life_classes.specs.Nearness.{reaches};
+
+use life_cells::cell_list::CellList;
+
+/// Those of the cells that stand in the rows from one to another.
+///
+/// No cell that passes a test is left out, where the test is passed in these rows alone.
+pub fn rows(cells: &[(i32, i32)], top: i64, bottom: i64) -> &[(i32, i32)]
+    requires { T (is_rising cells.now) }
+    ensures { (p : Cell → Bool) → ((c : Cell) → p c ≡ true → (top ≤ℤ c.1) × (c.1 ≤ℤ bottom)) →
+        filter p result.now ≡ filter p cells.now }
+{
+    let start = cells.partition_point(|cell| i64::from(cell.1) < top);
+    let from = &cells[start..];
+    let count = from.partition_point(|cell| i64::from(cell.1) <= bottom);
+    &from[..count]
+}
+
+/// The first and the last row in which a cell may stand that is at most so far from a cell of the set.
+pub fn rows_about(reach: u32, set: &CellList) -> (i64, i64)
+    ensures { (c : Cell) → reaches reach set.now c ≡ true → (result.0 ≤ℤ c.1) × (c.1 ≤ℤ result.1) }
+{
+    let cells = set.as_slice();
+    if cells.is_empty() {
+        return (0, -1);
+    }
+    let first = cells[0].1;
+    let last = cells[cells.len() - 1].1;
+    (
+        i64::from(first) - i64::from(reach),
+        i64::from(last) + i64::from(reach),
+    )
+}

@@ -1,0 +1,136 @@
+-- Two sets that recur, at one time.
+use Rattle.std.proofs.Common.{◌≡◌, ℕ, ◌+◌, ◌/◌, ◌%◌, true, List, inl, inr, sym, ap, subst, ◌∙◌, mod-lt, arith}
+use Rattle.std.proofs.lemmas.Bool.{cases_lt}
+use Rattle.std.proofs.lemmas.Int.{ints}
+use Rattle.std.specs.List.{list_any}
+use Rattle.life_model.specs.Cell.{Cell, opposite, plus, same_cell}
+use Rattle.life_model.specs.Evolution.{generation}
+use Rattle.life_model.specs.Generation.{Generation, cells, contains}
+use Rattle.life_model.specs.Recurrence.{RecursBy}
+use Rattle.life_model.specs.Rule.{Rule}
+use Rattle.life_model.specs.Symmetry.{moved}
+use Rattle.life_model.proofs.Generations.{contains-cells}
+use Rattle.life_model.proofs.Cells.{plus-opposite}
+use Rattle.life_model.proofs.Symmetries.{contains-moved}
+use Rattle.life_objects.specs.Apart.{AreApart, AreApartBefore, AreNear}
+use Rattle.life_objects.specs.Drift.{times}
+use Rattle.life_objects.proofs.Moving.{generation-wrapped}
+use Rattle.life_orbit.specs.Clear.{AreClear, IsClearOf}
+use Rattle.life_orbit.specs.Course.{Course, IsCourse}
+use Rattle.life_orbit.specs.Hulls.{AreFar, IsHullOf}
+use Rattle.life_orbit.specs.declared.hull.Hull.{Hull}
+use Rattle.life_orbit.proofs.Lists.{of_all_members, of_member}
+
+-- no cell of P, moved, is near one of Q
+abbrev pub AreApartBy : Generation → Cell → Generation → Type 0
+AreApartBy P by Q = (c d : Cell) → contains P c ≡ true → contains Q d ≡ true → AreNear (plus c by) d → ⊥
+
+pub apart_from_clear : (P Q : Generation) (by : Cell) (cs ds : List Cell) → cs ≡ cells P → ds ≡ cells Q →
+    AreClear cs by ds → AreApartBy P by Q
+apart_from_clear P Q by cs ds first second clear c d in_P in_Q near =
+    of_member (λ b. AreNear (plus c by) b → ⊥) ds
+    (of_member (λ b. IsClearOf (plus b by) ds) cs clear c
+    (sym (contains-cells P c ∙ ap (λ l. list_any (same_cell c) l) (sym first)) ∙ in_P))
+    d (sym (contains-cells Q d ∙ ap (λ l. list_any (same_cell d) l) (sym second)) ∙ in_Q) near
+
+pub clear_from_apart : (P Q : Generation) (by : Cell) (cs ds : List Cell) → cs ≡ cells P → ds ≡ cells Q →
+    AreApartBy P by Q → AreClear cs by ds
+clear_from_apart P Q by cs ds first second apart =
+    of_all_members (λ b. IsClearOf (plus b by) ds) cs (λ c in_P.
+    of_all_members (λ b. AreNear (plus c by) b → ⊥) ds (λ d in_Q near.
+    apart c d (contains-cells P c ∙ ap (λ l. list_any (same_cell c) l) (sym first) ∙ in_P)
+    (contains-cells Q d ∙ ap (λ l. list_any (same_cell d) l) (sym second) ∙ in_Q) near))
+
+near_back : (c d s t : Cell) → AreNear c d →
+    AreNear (plus (plus c (opposite s)) (plus s (opposite t))) (plus d (opposite t))
+near_back c d s t h = record {
+  left = omega (arith, ints);
+  right = omega (arith, ints);
+  above = omega (arith, ints);
+  below = omega (arith, ints);
+}
+
+near_forth : (c d s t : Cell) → AreNear (plus c (plus s (opposite t))) d → AreNear (plus c s) (plus d t)
+near_forth c d s t h = record {
+  left = omega (arith, ints);
+  right = omega (arith, ints);
+  above = omega (arith, ints);
+  below = omega (arith, ints);
+}
+
+-- two moved sets are apart where the one, moved as far as it is from the other, is apart from that
+apart_forth : (P Q : Generation) (s t : Cell) → AreApartBy P (plus s (opposite t)) Q → AreApart (moved P s) (moved Q t)
+apart_forth P Q s t apart c d in_P in_Q near =
+    apart (plus c (opposite s)) (plus d (opposite t)) (sym (contains-moved P s c) ∙ in_P)
+    (sym (contains-moved Q t d) ∙ in_Q) (near_back c d s t near)
+
+apart_back : (P Q : Generation) (s t : Cell) → AreApart (moved P s) (moved Q t) → AreApartBy P (plus s (opposite t)) Q
+apart_back P Q s t apart c d in_P in_Q near =
+    apart (plus c s) (plus d t) (contains-moved P s (plus c s) ∙ ap (contains P) (plus-opposite c s) ∙ in_P)
+    (contains-moved Q t (plus d t) ∙ ap (contains Q) (plus-opposite d t) ∙ in_Q) (near_forth c d s t near)
+
+module _ (R : Rule) (P Q : Generation) (p q : ℕ) (d e : Cell) (r : RecursBy R P p d) (s : RecursBy R Q q e)
+    (t : ℕ) where
+  abbrev first : Generation
+  first = generation R P (t % p)
+
+  abbrev second : Generation
+  second = generation R Q (t % q)
+
+  abbrev way : Cell
+  way = plus (times (t / p) d) (opposite (times (t / q) e))
+
+  pub apart_at : AreApartBy first way second → AreApart (generation R P t) (generation R Q t)
+  apart_at apart =
+      subst (λ H. AreApart H (generation R Q t)) (sym (generation-wrapped R P p d r t))
+      (subst (AreApart (moved first (times (t / p) d))) (sym (generation-wrapped R Q q e s t))
+      (apart_forth first second (times (t / p) d) (times (t / q) e) apart))
+
+  pub apart_then : AreApart (generation R P t) (generation R Q t) → AreApartBy first way second
+  apart_then apart =
+      apart_back first second (times (t / p) d) (times (t / q) e)
+      (subst (λ H. AreApart (moved first (times (t / p) d)) H) (generation-wrapped R Q q e s t)
+      (subst (λ H. AreApart H (generation R Q t)) (generation-wrapped R P p d r t) apart))
+
+-- what the phases tell of a time
+module _ (o w : Course) (rule : o.rule ≡ w.rule) (is_o : IsCourse o) (is_w : IsCourse w) (t : ℕ) (by : Cell)
+    (by_is : by ≡ plus (times (t / o.period) o.displacement) (opposite (times (t / w.period) w.displacement))) where
+  again : RecursBy o.rule w.set w.period w.displacement
+  again = subst (λ S. RecursBy S w.set w.period w.displacement) (sym rule) is_w.recurs
+
+  abbrev here : Generation
+  here = generation o.rule o.set (t % o.period)
+
+  abbrev there : Generation
+  there = generation w.rule w.set (t % w.period)
+
+  abbrev between : Cell
+  between = way o.rule o.set w.set o.period w.period o.displacement w.displacement is_o.recurs again t
+
+  pub apart_by_phases : AreApartBy here by there → AreApart (generation o.rule o.set t) (generation o.rule w.set t)
+  apart_by_phases apart =
+      apart_at o.rule o.set w.set o.period w.period o.displacement w.displacement is_o.recurs again t
+      (subst (λ S. AreApartBy here between
+      (generation S w.set (t % w.period))) (sym rule) (subst (λ z. AreApartBy here z there) by_is apart))
+
+  pub phases_apart : AreApart (generation o.rule o.set t) (generation o.rule w.set t) → AreApartBy here by there
+  phases_apart apart =
+      subst (λ z. AreApartBy here z there) (sym by_is)
+      (subst (λ S. AreApartBy here between
+      (generation S w.set (t % w.period))) rule
+      (apart_then o.rule o.set w.set o.period w.period o.displacement w.displacement is_o.recurs again t apart))
+
+  pub apart_by_hulls : (g h : Hull) → IsHullOf g o → IsHullOf h w → AreFar g by h →
+      AreApart (generation o.rule o.set t) (generation o.rule w.set t)
+  apart_by_hulls g h in_g in_h far =
+      apart_by_phases (λ c d in_P in_Q near.
+      far c d (in_g (t % o.period) c (mod-lt t is_o.recurs.later) in_P)
+      (in_h (t % w.period) d (mod-lt t is_w.recurs.later) in_Q) near)
+
+pub before_more : (R : Rule) (P Q : Generation) (n : ℕ) → AreApartBefore R n P Q →
+    AreApart (generation R P n) (generation R Q n) → AreApartBefore R (n + 1) P Q
+before_more R P Q n before now m h =
+    elim (cases_lt m n) [
+      | inl early ↦ before m early
+      | inr late ↦ subst (λ k. AreApart (generation R P k) (generation R Q k)) (let z : n ≡ m = omega arith in z) now
+    ]

@@ -1,0 +1,47 @@
+use Rattle.std.proofs.Common.{◌+◌, sym, subst, arith}
+use Rattle.std.proofs.lemmas.List.Elements.{All-weaker}
+use Rattle.life_model.specs.Generation.{cells}
+use Rattle.life_cells.specs.Limits.{IsWithin}
+use Rattle.life_plane.proofs.Later.{within_later}
+use Rattle.life_orbit.specs.Kept.{IsWalk}
+use Rattle.life_orbit.proofs.Walking.{kept_set, kept_whole, walk_more, walk_start}
+use Rattle.life_orbit.proofs.orbit.Orbit.of.Goals as goal
+
+pub loop-taken-init : goal.loop-taken-init
+loop-taken-init c =
+    subst (λ list. IsWalk c.args.rule.now c.args.cells.now 0 list c.in_ok-phase.phase) (sym c.new-phases.ensures.items)
+    (walk_start c.args.rule.now c.args.cells.now c.in_ok-phase.phase c.in_ok-phase.ensures c.requires.within)
+
+pub next_list-requires : goal.next_list-requires
+next_list-requires c =
+    All-weaker (IsWithin (4000000 + c.loop-taken.taken)) (IsWithin 4194303)
+    (λ b h. within_later (4000000 + c.loop-taken.taken) 4194303 b (omega arith) h) (cells c.loop-taken.phase)
+    c.loop-taken.invariant.within
+
+pub invariant_of-result : goal.invariant_of-result
+invariant_of-result c =
+    kept_whole c.args.rule.now c.args.cells.now c.loop-taken.taken c.loop-taken.phases.items c.loop-taken.phase
+    c.loop-taken.invariant c.in_ok-next.next c.in-Some.displacement c.in-Some.ensures.way c.push.new.self.items
+    c.in_ok-next.ensures.next (omega arith) c.in_ok-push.ensures.items
+
+pub returns-in-Some-clause-set : goal.returns-in-Some-clause-set
+returns-in-Some-clause-set c =
+    kept_set c.args.rule.now c.args.cells.now c.loop-taken.taken c.loop-taken.phases.items c.loop-taken.phase
+    c.loop-taken.invariant c.in_ok-next.next c.in-Some.displacement c.in-Some.ensures.way c.push.new.self.items
+    c.in_ok-next.ensures.next (omega arith) c.in_ok-push.ensures.items
+
+pub returns-in-Some-clause-recurs : goal.returns-in-Some-clause-recurs
+returns-in-Some-clause-recurs c =
+    let held =
+    kept_whole c.args.rule.now c.args.cells.now c.loop-taken.taken c.loop-taken.phases.items c.loop-taken.phase
+    c.loop-taken.invariant c.in_ok-next.next c.in-Some.displacement c.in-Some.ensures.way c.push.new.self.items
+    c.in_ok-next.ensures.next (omega arith) c.in_ok-push.ensures.items in
+    record { recurs = held.recurs; least = held.least }
+
+pub loop-taken-preserved : goal.loop-taken-preserved
+loop-taken-preserved c =
+    subst (λ list. IsWalk c.args.rule.now c.args.cells.now (c.loop-taken.taken + 1) list c.in_ok-next.next)
+    (sym c.in_ok-push.ensures.items)
+    (walk_more c.args.rule.now c.args.cells.now c.loop-taken.taken c.loop-taken.phases.items c.loop-taken.phase
+    c.loop-taken.invariant c.in_ok-next.next c.in_ok-next.ensures.next c.in_default.ensures.apart
+    (c.in_ok-next.ensures.within (4000000 + c.loop-taken.taken) c.loop-taken.invariant.within))

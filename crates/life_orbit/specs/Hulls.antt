@@ -1,0 +1,34 @@
+-- Boxes around cells.
+use Rattle.std.specs.Prelude.{◌≡◌, ℕ, ◌<◌, true, ◌≤ℤ◌}
+use Rattle.life_model.specs.Cell.{Cell, plus}
+use Rattle.life_model.specs.Evolution.{generation}
+use Rattle.life_model.specs.Generation.{contains}
+use Rattle.life_objects.specs.Apart.{AreNear}
+use Rattle.life_orbit.specs.Course.{Course}
+use Rattle.life_orbit.specs.declared.hull.Hull.{Hull}
+
+-- the cell is in the box
+pub record IsInside (h : Hull) (c : Cell) : Type 0 where
+  pub left : h.left ≤ℤ c.0
+  pub right : c.0 ≤ℤ h.right
+  pub above : h.top ≤ℤ c.1
+  pub below : c.1 ≤ℤ h.bottom
+
+-- the one box is in the other
+pub record IsPartOf (a b : Hull) : Type 0 where
+  pub left : b.left ≤ℤ a.left
+  pub right : a.right ≤ℤ b.right
+  pub above : b.top ≤ℤ a.top
+  pub below : a.bottom ≤ℤ b.bottom
+
+-- no cell of the one box, moved, is near one of the other
+abbrev pub AreFar : Hull → Cell → Hull → Type 0
+AreFar a by b = (c d : Cell) → IsInside a c → IsInside b d → AreNear (plus c by) d → ⊥
+
+-- the box has all cells of the first n generations
+abbrev pub HoldsPhases : Hull → Course → ℕ → Type 0
+HoldsPhases h o n = (k : ℕ) (c : Cell) → k < n → contains (generation o.rule o.set k) c ≡ true → IsInside h c
+
+-- the box has all cells of all generations over a period
+abbrev pub IsHullOf : Hull → Course → Type 0
+IsHullOf h o = HoldsPhases h o o.period

@@ -1,0 +1,130 @@
+//! Until when two sets that recur have to be watched.
+ghost use Rattle.std.specs.Prelude.{◌≡◌, ◌+◌, ◌*◌, ◌<◌, ◌≤◌, ◌^◌, pos, neg_ℤ, ◌+ℤ◌, ◌<ℤ◌, ◌≤ℤ◌};
+ghost use Rattle.std.specs.Int.{int_max, int_min};
+ghost use Rattle.life_objects.specs.Apart.{AreApartBefore, AreApartForEver};
+ghost use Rattle.life_orbit.specs.Hulls.{IsHullOf};
+ghost use Rattle.life_orbit.specs.Passing.{IsPassed, IsWatch};
+ghost use Rattle.life_orbit.specs.Reach.{IsReach};
+
+use crate::hull::Hull;
+use crate::orbit::Orbit;
+use crate::shift::repeated;
+
+/// After how many periods of each of two sets both stand as they began, for the first time.
+fn rounds_together(first: u32, second: u32) -> (u32, u32)
+    requires first { 1 ≤ first × first ≤ 100000 }
+    requires second { 1 ≤ second × second ≤ 100000 }
+    ensures together { result.0 * first ≡ result.1 * second }
+    ensures first { 1 ≤ result.0 × result.0 ≤ 100000 }
+    ensures second { 1 ≤ result.1 × result.1 ≤ 100000 }
+{
+    for rounds in 1..second {
+        let steps = rounds as u64 * first as u64;
+        if steps % second as u64 == 0 {
+            return (rounds, (steps / second as u64) as u32);
+        }
+    }
+    (second, first)
+}
+
+/// After how many rounds so many places are made good, where each round gains some.
+fn rounds_to_gain(missing: u128, gain: u128) -> u128
+    requires gain { 1 ≤ gain }
+    requires missing { missing < 2 ^ 52 }
+    ensures enough { missing ≤ result * gain }
+    ensures few { result ≤ 2 ^ 52 }
+{
+    missing / gain + 1
+}
+
+/// How much greater the first number is.
+fn difference(greater: i128, less: i128) -> u128
+    requires order { less ≤ℤ greater }
+    requires low { neg_ℤ (pos (2 ^ 50)) ≤ℤ less }
+    requires high { greater ≤ℤ pos (2 ^ 50 + 3) }
+    ensures value { greater ≡ less +ℤ pos result }
+    ensures few { result < 2 ^ 52 }
+{
+    (greater - less) as u128
+}
+
+/// Where the first of some places begin over a round of moves.
+fn low_end(left: i32, by: i128) -> i128
+    requires low { neg_ℤ (pos (2 ^ 49)) ≤ℤ by }
+    ensures end { result ≡ left +ℤ int_min (pos 0) by }
+    ensures low { neg_ℤ (pos (2 ^ 50)) ≤ℤ result }
+    ensures high { result ≤ℤ pos (2 ^ 50) }
+{
+    if by < 0 {
+        return left as i128 + by;
+    }
+    left as i128
+}
+
+/// Where the last of some places end over a round of moves.
+fn high_end(right: i32, by: i128) -> i128
+    requires high { by ≤ℤ pos (2 ^ 49) }
+    ensures end { result ≡ right +ℤ int_max (pos 0) by }
+    ensures low { neg_ℤ (pos (2 ^ 50)) ≤ℤ result }
+    ensures high { result ≤ℤ pos (2 ^ 50) }
+{
+    if by > 0 {
+        return right as i128 + by;
+    }
+    right as i128
+}
+
+/// After how many rounds what is at the left or further on has passed what is at the right or before it, for good,
+/// where it moves further on in each.
+fn rounds_to_pass(left: i32, forward: i128, right: i32, back: i128) -> u128
+    requires faster { back <ℤ forward }
+    requires low { neg_ℤ (pos (2 ^ 49)) ≤ℤ back }
+    requires high { forward ≤ℤ pos (2 ^ 49) }
+    ensures passed { IsPassed left right result forward back }
+    ensures few { result ≤ 2 ^ 52 }
+{
+    let low = low_end(left, forward);
+    let high = high_end(right, back);
+    if high + 3 <= low {
+        return 0;
+    }
+    rounds_to_gain(difference(high + 3, low), difference(forward, back))
+}
+
+/// How many rounds of two sets have to be watched, where they move so far in each.
+fn rounds_to_watch(hull: Hull, by: (i128, i128), other_hull: Hull, other_by: (i128, i128)) -> u128
+    requires reach { IsReach (2 ^ 49) by }
+    requires other_reach { IsReach (2 ^ 49) other_by }
+    ensures watch { IsWatch hull by other_hull other_by result }
+    ensures few { result ≤ 2 ^ 52 }
+{
+    if other_by.0 < by.0 {
+        return rounds_to_pass(hull.left, by.0, other_hull.right, other_by.0);
+    }
+    if by.0 < other_by.0 {
+        return rounds_to_pass(other_hull.left, other_by.0, hull.right, by.0);
+    }
+    if other_by.1 < by.1 {
+        return rounds_to_pass(hull.top, by.1, other_hull.bottom, other_by.1);
+    }
+    if by.1 < other_by.1 {
+        return rounds_to_pass(other_hull.top, other_by.1, hull.bottom, by.1);
+    }
+    1
+}
+
+/// A number of generations: two sets that are apart until then stay apart for ever.
+pub fn horizon(orbit: &Orbit, hull: Hull, other: &Orbit, other_hull: Hull) -> u128
+    requires rule { orbit.now.rule ≡ other.now.rule }
+    requires hull { IsHullOf hull orbit.now }
+    requires other_hull { IsHullOf other_hull other.now }
+    ensures enough { AreApartBefore orbit.now.rule result orbit.now.set other.now.set →
+        AreApartForEver orbit.now.rule orbit.now.set other.now.set }
+    ensures few { result < 2 ^ 94 }
+{
+    let period = orbit.period();
+    let (rounds, other_rounds) = rounds_together(period, other.period());
+    let by = repeated(rounds as u128, orbit.displacement());
+    let other_by = repeated(other_rounds as u128, other.displacement());
+    rounds_to_watch(hull, by, other_hull, other_by) * (rounds as u128 * period as u128)
+}

@@ -1,0 +1,56 @@
+//! Whether two sets that recur stay apart.
+ghost use Rattle.std.specs.Prelude.{◌≡◌, ◌%◌, ◌<◌, ◌^◌, ◌↔◌, IsTrue};
+ghost use Rattle.life_model.specs.Evolution.{generation};
+ghost use Rattle.life_objects.specs.Apart.{AreApart, AreApartForEver};
+ghost use Rattle.life_orbit.specs.Hulls.{IsHullOf};
+
+use crate::horizon::horizon;
+use crate::hull::{Hull, are_far, hull_of};
+use crate::near::are_clear;
+use crate::orbit::Orbit;
+use crate::shift::way_at;
+use life_cells::cell_list::CellList;
+
+/// The phase that a set has after so many generations.
+fn phase_at(orbit: &Orbit, time: u128) -> &CellList
+    ensures { result.now ≡ generation orbit.now.rule orbit.now.set (time % orbit.now.period) }
+{
+    orbit.phase((time % orbit.period() as u128) as u32)
+}
+
+/// Whether two sets are apart after so many generations.
+fn is_apart_at(orbit: &Orbit, hull: Hull, other: &Orbit, other_hull: Hull, time: u128) -> bool
+    requires rule { orbit.now.rule ≡ other.now.rule }
+    requires hull { IsHullOf hull orbit.now }
+    requires other_hull { IsHullOf other_hull other.now }
+    requires time { time < 2 ^ 94 }
+    ensures { IsTrue result ↔ AreApart (generation orbit.now.rule orbit.now.set time)
+        (generation orbit.now.rule other.now.set time) }
+{
+    let by = way_at(orbit, other, time);
+    if are_far(hull, by, other_hull) {
+        return true;
+    }
+    are_clear(
+        phase_at(orbit, time).as_slice(),
+        by,
+        phase_at(other, time).as_slice(),
+    )
+}
+
+impl Orbit {
+    /// Whether the two sets stay apart for ever.
+    pub fn is_apart_for_ever_from(&self, other: &Orbit) -> bool
+        requires { self.now.rule ≡ other.now.rule }
+        ensures { IsTrue result ↔ AreApartForEver self.now.rule self.now.set other.now.set }
+    {
+        let hull = hull_of(self);
+        let other_hull = hull_of(other);
+        for time in 0..horizon(self, hull, other, other_hull) {
+            if !is_apart_at(self, hull, other, other_hull, time) {
+                return false;
+            }
+        }
+        true
+    }
+}

@@ -1,0 +1,109 @@
+//! Sets that recur.
+ghost use Rattle.std.specs.Prelude.{◌≡◌, ◌<◌, ◌≤◌, All, IfNone, IfOk, IfSome};
+ghost use Rattle.life_model.specs.Evolution.{generation};
+ghost use Rattle.life_model.specs.Generation as generations;
+ghost use Rattle.life_cells.specs.Limits.{IsWithin};
+ghost use Rattle.life_objects.specs.Ash.{RecursWithin};
+ghost use Rattle.life_orbit.specs.Course.{IsCourse};
+
+use crate::walk::{copied, next_list, way};
+use life_cells::cell_list::CellList;
+use life_cells::rule::Rule;
+use std::alloc::{AllocError, Global};
+use std::marker::Model;
+
+/// The greatest number of generations within which a set is looked for again.
+pub const BOUND_LIMIT: u32 = 100_000;
+
+/// A set of cells that recurs: its generations over one period, and how far it has moved then.
+#[derive(Drop)]
+pub struct Orbit {
+    rule: Rule,
+    phases: Vec<CellList>,
+    displacement: (i32, i32),
+}
+
+impl Model for Orbit {
+    ghost use Rattle.std.specs.Prelude.{length, slice_index_or};
+    ghost use Rattle.life_model.specs.Generation.{empty};
+    ghost use Rattle.life_orbit.specs.Course.{Course, coded_course};
+    ghost use Rattle.life_orbit.specs.Kept.{IsKept};
+
+    ghost Value = { Course };
+
+    ghost coded = { coded_course };
+
+    ghost view = { λ o. record {
+      rule = o.rule;
+      set = slice_index_or o.phases.items 0 empty;
+      period = length o.phases.items;
+      displacement = o.displacement;
+    } };
+
+    ghost invariant = { λ o. IsKept o.rule (slice_index_or o.phases.items 0 empty) o.phases.items o.displacement };
+}
+
+impl Orbit {
+    /// The orbit of a set, where it recurs within the bound.
+    pub fn of(
+        alloc: Global,
+        rule: &Rule,
+        cells: &CellList,
+        bound: u32,
+    ) -> Result<Option<Orbit>, AllocError>
+        requires bound { 1 ≤ bound × bound ≤ BOUND_LIMIT }
+        requires within { All (IsWithin 4000000) (generations.cells cells.now) }
+        ensures rule { IfOk result (λ found. IfSome found (λ orbit. orbit.rule ≡ rule.now)) }
+        ensures set { IfOk result (λ found. IfSome found (λ orbit. orbit.set ≡ cells.now)) }
+        ensures period { IfOk result (λ found. IfSome found (λ orbit. orbit.period ≤ bound)) }
+        ensures recurs { IfOk result (λ found. IfSome found (λ orbit. IsCourse orbit)) }
+        ensures none { IfOk result (λ found. IfNone found (RecursWithin rule.now bound cells.now → ⊥)) }
+    {
+        let mut phases = Vec::new(alloc);
+        let mut phase = copied(alloc, cells)?;
+        for taken in 0..bound {
+            let next = next_list(alloc, rule, &phase)?;
+            phases.push(phase)?;
+            if let Some(displacement) = way(cells, &next) {
+                return Ok(Some(Orbit {
+                    rule: *rule,
+                    phases,
+                    displacement,
+                }));
+            }
+            phase = next;
+        }
+        Ok(None)
+    }
+
+    /// The rule by which it evolves.
+    pub fn rule(&self) -> Rule
+        ensures { result ≡ self.now.rule }
+    {
+        self.rule
+    }
+
+    /// After how many generations it first comes again.
+    pub fn period(&self) -> u32
+        ensures value { result ≡ self.now.period }
+        ensures recurs { IsCourse self.now }
+        ensures short { result ≤ BOUND_LIMIT }
+    {
+        self.phases.len() as u32
+    }
+
+    /// How far it has moved after a period.
+    pub fn displacement(&self) -> (i32, i32)
+        ensures { result ≡ self.now.displacement }
+    {
+        self.displacement
+    }
+
+    /// One of its generations before it comes again.
+    pub fn phase(&self, n: u32) -> &CellList
+        requires { n < self.now.period }
+        ensures { result.now ≡ generation self.now.rule self.now.set n }
+    {
+        &self.phases[n as usize]
+    }
+}

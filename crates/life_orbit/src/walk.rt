@@ -1,0 +1,37 @@
+//! Steps from one list of cells to the next.
+ghost use Rattle.std.specs.Prelude.{◌≡◌, ℕ, ◌+◌, All, IfNone, IfOk, IfSome};
+ghost use Rattle.life_model.specs.Evolution.{next};
+ghost use Rattle.life_model.specs.Generation as generations;
+ghost use Rattle.life_cells.specs.Limits.{IsWithin};
+ghost use Rattle.life_plane.specs.Ways.{AreApart, IsWay};
+
+use crate::evolve::next_cells;
+use life_cells::cell_list::CellList;
+use life_cells::rule::Rule;
+use life_plane::way::way_between;
+use std::alloc::{AllocError, Global};
+
+/// The same set again.
+pub fn copied(alloc: Global, cells: &CellList) -> Result<CellList, AllocError>
+    ensures { IfOk result (λ copy. copy ≡ cells.now) }
+{
+    Ok(CellList::from_ordered(cells.as_slice().to_vec(alloc)?))
+}
+
+/// The next generation.
+pub fn next_list(alloc: Global, rule: &Rule, cells: &CellList) -> Result<CellList, AllocError>
+    requires { All (IsWithin 4194303) (generations.cells cells.now) }
+    ensures next { IfOk result (λ later. later ≡ next rule.now cells.now) }
+    ensures within { IfOk result (λ later. (a : ℕ) → All (IsWithin a) (generations.cells cells.now) →
+        All (IsWithin (a + 1)) (generations.cells later)) }
+{
+    Ok(CellList::from_ordered(next_cells(alloc, rule, cells.as_slice())?))
+}
+
+/// How far the second set is from the first, where it is the first moved as a whole. No cell is moved by nothing.
+pub fn way(from: &CellList, to: &CellList) -> Option<(i32, i32)>
+    ensures way { IfSome result (λ d. IsWay from.now to.now d) }
+    ensures apart { IfNone result (AreApart from.now to.now) }
+{
+    way_between(from.as_slice(), to.as_slice())
+}

@@ -1,0 +1,67 @@
+//! Pairs of sets that recur, and whether they stay apart for ever.
+ghost use Rattle.std.specs.Prelude.{◌≡◌, IfOk, IfSome};
+ghost use Rattle.life_cells.specs.Rules.{life};
+
+use life_cells::cell_list::{CellFault, CellList};
+use life_cells::rule::Rule;
+use life_orbit::orbit::Orbit;
+use std::alloc::Global;
+use std::test::Fail;
+
+/// A list of cells.
+type Cells = &'static [(i32, i32)];
+
+const BLOCK: Cells = &[(0, 10), (1, 10), (0, 11), (1, 11)];
+
+const FAR_BLINKER: Cells = &[(5, 9), (5, 10), (5, 11)];
+
+// It lies flat in the next generation, and is then near the block.
+const NEAR_BLINKER: Cells = &[(4, 9), (4, 10), (4, 11)];
+
+// It flies to the right and down.
+const GLIDER: Cells = &[(1, 0), (2, 1), (0, 2), (1, 2), (2, 2)];
+
+const SECOND_GLIDER: Cells = &[(21, 0), (22, 1), (20, 2), (21, 2), (22, 2)];
+
+// It flies to the left and up, to where the first one comes from.
+const MEETING_GLIDER: Cells = &[(41, 42), (40, 41), (42, 40), (41, 40), (40, 40)];
+
+// The same, past the first one.
+const MISSING_GLIDER: Cells = &[(61, 42), (60, 41), (62, 40), (61, 40), (60, 40)];
+
+const PAIRS: &[(Cells, Cells, bool)] = &[
+    (BLOCK, FAR_BLINKER, true),
+    (BLOCK, NEAR_BLINKER, false),
+    (GLIDER, SECOND_GLIDER, true),
+    (GLIDER, MEETING_GLIDER, false),
+    (GLIDER, MISSING_GLIDER, true),
+];
+
+fn orbit_of(alloc: Global, cells: &[(i32, i32)]) -> Result<Option<Orbit>, CellFault>
+    ensures { IfOk result (λ found. IfSome found (λ orbit. orbit.rule ≡ life)) }
+{
+    let list = CellList::of(alloc, cells)?;
+    if !list.fits() {
+        return Ok(None);
+    }
+    Ok(Orbit::of(alloc, &Rule::life(), &list, 100)?)
+}
+
+fn is_apart(alloc: Global, first: Cells, second: Cells) -> Result<Option<bool>, CellFault> {
+    let Some(one) = orbit_of(alloc, first)? else {
+        return Ok(None);
+    };
+    let Some(other) = orbit_of(alloc, second)? else {
+        return Ok(None);
+    };
+    Ok(Some(one.is_apart_for_ever_from(&other)))
+}
+
+#[test]
+fn pairs_that_stay_apart(rt: HostRuntime) -> Result<(), Fail> {
+    for (first, second, apart) in PAIRS {
+        assert_eq!(rt; is_apart(rt.alloc(), first, second)?, Some(*apart));
+        assert_eq!(rt; is_apart(rt.alloc(), second, first)?, Some(*apart));
+    }
+    Ok(())
+}
