@@ -1,0 +1,12 @@
+pub mod Tests
+pub mod Orders
+pub mod Splitting
+pub mod Joining
+pub mod Undivided
+pub mod Periods
+pub mod Kept
+pub mod Candidates
+pub mod Reaching
+pub mod Passing
+pub mod Deciding
+pub mod Lasting

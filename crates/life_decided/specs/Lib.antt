@@ -1,0 +1,4 @@
+pub mod Tests
+pub mod Classes
+pub mod Parts
+pub mod Decided
