@@ -1,7 +1,7 @@
 //! Planes: sets of cells that evolve.
 #![tactic(auto)]
 
-mod evolve;
+pub mod evolve;
 pub mod list_plane;
 pub mod plane;
 pub mod span;

@@ -45,6 +45,11 @@ impl Plane for ListPlane {
         })
     }
 
+    fn at_age(alloc: Global, list: &CellList, age: u32) -> Result<Self, AllocError> {
+        let items = list.as_slice().to_vec(alloc)?;
+        Ok(ListPlane { items, age })
+    }
+
     fn step(&mut self, rule: &Rule) -> Result<(), AllocError> {
         let alloc = *self.items.allocator();
         let items = next_cells(alloc, rule, self.items.as_slice())?;

@@ -1,5 +1,5 @@
 //! A set of cells that evolves.
-ghost use Rattle.std.specs.Prelude.{◌≡◌, ℕ, ◌+◌, ◌<◌, All, OnOk, OnErr, IfNone, IfOk, IfSome};
+ghost use Rattle.std.specs.Prelude.{◌≡◌, ℕ, ◌+◌, ◌<◌, ◌≤◌, All, OnOk, OnErr, IfNone, IfOk, IfSome};
 ghost use Rattle.life_model.specs.Evolution.{next};
 ghost use Rattle.life_model.specs.Generation.{Generation};
 ghost use Rattle.life_model.specs.Generation as generation;
@@ -31,6 +31,13 @@ pub trait Plane: Sized + Drop {
         requires { All (IsWithin 0) (generation.cells list.now) }
         ensures cells { IfOk result (λ plane. members plane ≡ list.now) }
         ensures age { IfOk result (λ plane. steps_made plane ≡ 0) };
+
+    /// The plane of these cells at some age, at which their places may be.
+    fn at_age(alloc: Global, list: &CellList, age: u32) -> Result<Self, AllocError>
+        requires age { age ≤ AGE_LIMIT }
+        requires within { All (IsWithin age) (generation.cells list.now) }
+        ensures cells { IfOk result (λ plane. members plane ≡ list.now) }
+        ensures age { IfOk result (λ plane. steps_made plane ≡ age) };
 
     /// Makes the next generation. After an `Err` the cells and the age are what they were.
     fn step(&mut self, rule: &Rule) -> Result<(), AllocError>

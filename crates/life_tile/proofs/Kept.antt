@@ -228,7 +228,7 @@ high_side age side x s wide small edge high =
     (λ (other : side ≢ 2). omega (arith, ints))
     (cases_eq side 2)
 
-flag_from_bit : (b : Bool) → as_bit b ≡ 1 → b ≡ true
+pub flag_from_bit : (b : Bool) → as_bit b ≡ 1 → b ≡ true
 flag_from_bit true is = refl
 flag_from_bit false is = absurd (omega arith)
 

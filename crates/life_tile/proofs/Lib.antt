@@ -19,6 +19,7 @@ pub mod Kept
 pub mod Added
 pub mod Advanced
 pub mod Put
+pub mod Copied
 pub mod Listed
 pub mod Sizes
 pub mod EndBits
@@ -27,3 +28,4 @@ pub mod Edges
 pub mod Placed
 pub mod SameCells
 pub mod Covered
+pub mod Halved

@@ -1,5 +1,5 @@
 -- The cells of tiles appended to a list, one after another.
-use Rattle.std.proofs.Common.{◌≡◌, ℕ, zero, suc, ℤ, pos, ◌+ℤ◌, ◌==◌, Bool, false, cond, List, [], ◌∷◌, ◌++◌, slice_index, refl, sym, ap, ◌∙◌, append_assoc, eq-eqb}
+use Rattle.std.proofs.Common.{◌≡◌, ℕ, zero, suc, ℤ, pos, ◌+ℤ◌, ◌+◌, ◌<◌, ◌≤◌, ◌==◌, Bool, false, cond, List, [], ◌∷◌, ◌++◌, slice_index, refl, sym, ap, ◌∙◌, append_assoc, eq-eqb, arith}
 use Rattle.std.specs.Int.{bit_at}
 use Rattle.std.proofs.lemmas.Nat.Bits.{bit_at-zero}
 use Rattle.life_bits.specs.declared.tile.Tile.{Tile}
@@ -66,3 +66,35 @@ pub row_of_zeros : (left y : ℤ) (word n : ℕ) → word ≡ 0 → row_cells le
 row_of_zeros left y word zero none = row_none left y word
 row_of_zeros left y word (suc n) none =
     row_clear left y word n (ap (λ (w : ℕ). bit_at w n) none ∙ bit_at-zero n) ∙ row_of_zeros left y word n none
+
+-- where no bit is set below n, and from n on
+pub row_empty : (left y : ℤ) (word n : ℕ) → ((j : ℕ) → j < n → bit_at word j ≡ 0) → row_cells left y word n ≡ []
+row_empty left y word zero none = row_none left y word
+row_empty left y word (suc n) none =
+    row_clear left y word n (none n (omega arith)) ∙ row_empty left y word n (λ j less. none j (omega arith))
+
+pub row_short : (left y : ℤ) (word n k m : ℕ) → k + n ≡ m → ((j : ℕ) → n ≤ j → j < m → bit_at word j ≡ 0) → row_cells left y word m ≡ row_cells left y word n
+row_short left y word n zero m sum none = let same : m ≡ n = omega arith in ap (row_cells left y word) same
+row_short left y word n (suc k) m sum none =
+    let next : m ≡ suc (k + n) = omega arith in
+    ap (row_cells left y word) next
+    ∙ row_clear left y word (k + n) (none (k + n) (omega arith) (omega arith))
+    ∙ row_short left y word n k (k + n) refl (λ j from less. none j from (omega arith))
+
+block_skipped : (left top : ℤ) (rows : List ℕ) (n : ℕ) → slice_index rows n ≡ 0 → block_cells left top rows (suc n) ≡ block_cells left top rows n
+unfolding block_cells
+block_skipped left top rows n none = ap (λ (xs : List (ℤ × ℤ)). xs ++ block_cells left top rows n) (row_of_zeros left (top +ℤ pos n) (slice_index rows n) 64 none)
+
+-- and where no row has a live cell
+pub block_empty : (left top : ℤ) (rows : List ℕ) (n : ℕ) → ((j : ℕ) → j < n → slice_index rows j ≡ 0) → block_cells left top rows n ≡ []
+block_empty left top rows zero none = block_none left top rows
+block_empty left top rows (suc n) none =
+    block_skipped left top rows n (none n (omega arith)) ∙ block_empty left top rows n (λ j less. none j (omega arith))
+
+pub block_short : (left top : ℤ) (rows : List ℕ) (n k m : ℕ) → k + n ≡ m → ((j : ℕ) → n ≤ j → j < m → slice_index rows j ≡ 0) → block_cells left top rows m ≡ block_cells left top rows n
+block_short left top rows n zero m sum none = let same : m ≡ n = omega arith in ap (block_cells left top rows) same
+block_short left top rows n (suc k) m sum none =
+    let next : m ≡ suc (k + n) = omega arith in
+    ap (block_cells left top rows) next
+    ∙ block_skipped left top rows (k + n) (none (k + n) (omega arith) (omega arith))
+    ∙ block_short left top rows n k (k + n) refl (λ j from less. none j from (omega arith))

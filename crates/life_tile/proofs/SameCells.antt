@@ -152,7 +152,7 @@ module _ (cs : List Cell) (H : Generation) (rising : T (is_rising cs)) where
       ∙ contains-from_list cs q ∙ has)
 
 -- a set that is the list's, moved, has its first member where the list's first cell is moved to
-first_moved : (cs : List Cell) (H : Generation) → T (is_rising cs) → (ends : Ends) → HasEnds (IsMember H) ends → (d : Cell) → H ≡ moved (from_list cs) d →
+pub first_moved : (cs : List Cell) (H : Generation) → T (is_rising cs) → (ends : Ends) → HasEnds (IsMember H) ends → (d : Cell) → H ≡ moved (from_list cs) d →
     plus ends.first (opposite (get_or cs 0 origin)) ≡ d
 first_moved [] H rising ends has d is =
     absurd (has_none ends.first (subst (λ l. Has l ends.first) (listed_moved [] H rising d is) (has_member H ends.first has.first)))

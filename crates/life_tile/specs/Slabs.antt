@@ -152,3 +152,22 @@ pub record IsSet (before after : Slab) (slot x y : ℕ) : Type 0 where
   pub apart : (k : ℕ) → k ≢ slot → tile_of after.cur.items k ≡ tile_of before.cur.items k
   pub here : tile_cell (tile_of after.cur.items slot) x y ≡ 1
   pub others : (k a b : ℕ) → a < 64 → (k ≢ slot) ⊎ ((a ≢ x) ⊎ (b ≢ y)) → tile_cell (tile_of after.cur.items k) a b ≡ tile_cell (tile_of before.cur.items k) a b
+
+-- the cell in a column and a row of the tile at a place
+abbrev pub cell_of : ℤ × ℤ → ℕ → ℕ → Cell
+cell_of place x y = (start_at place.0 +ℤ pos x, start_at place.1 +ℤ pos y)
+
+-- the cells of a set at a place are those of a tile
+pub record IsTileAt (G : Generation) (tile : Tile) (place : ℤ × ℤ) : Type 0 where
+  pub cell : (x y : ℕ) → x < 64 → y < 64 → state_at G (cell_of place x y).0 (cell_of place x y).1 ≡ tile_cell tile x y
+
+-- two sets are the same but for the cells at a place
+pub record IsSameBut (G H : Generation) (place : ℤ × ℤ) : Type 0 where
+  pub cell : (p : ℤ × ℤ) (x y : ℕ) → x < 64 → y < 64 → p ≢ place → state_at H (cell_of p x y).0 (cell_of p x y).1 ≡ state_at G (cell_of p x y).0 (cell_of p x y).1
+
+-- `after` is `before` with another tile in a slot
+pub record IsShowing (before after : Slab) (slot : ℕ) (tile : Tile) : Type 0 where
+  pub same : after ≡ record before { cur = after.cur }
+  pub count : length after.cur.items ≡ length before.cur.items
+  pub apart : (k : ℕ) → k ≢ slot → tile_of after.cur.items k ≡ tile_of before.cur.items k
+  pub here : tile_of after.cur.items slot ≡ tile

@@ -35,7 +35,7 @@ fn row_at(slab: &Slab, column: i32, row: i32, y: usize) -> u64
     requires y { y < 64 }
     ensures { (x : ℕ) → x < 64 → bit_at result x ≡ state_at (members_of slab.now) (start_at column +ℤ pos x) (start_at row +ℤ pos y) }
 {
-    tile_in(&slab.cur, slot_or_none(&slab.index, (column, row))).rows[y]
+    tile_in(&slab.cur, slot_or_none(&slab.index, (column, row)) as usize).rows[y]
 }
 
 /// The cell and the 63 to the east of it.
@@ -90,7 +90,7 @@ fn place_in(slots: &[Slot], slot: usize) -> (i32, i32)
 }
 
 /// The first cell of the tile of a slot.
-fn corner_in(slab: &Slab, slot: usize) -> (i32, i32)
+pub fn corner_in(slab: &Slab, slot: usize) -> (i32, i32)
     requires kept { IsKept slab.now }
     requires later { 0 < slot }
     requires slot { slot < length slab.now.slots.items }

@@ -16,7 +16,7 @@ pub struct Ends {
 }
 
 /// Whether a cell comes before another, by y and then by x.
-fn is_before(cell: (i32, i32), other: (i32, i32)) -> bool
+pub fn is_before(cell: (i32, i32), other: (i32, i32)) -> bool
     ensures before { result ≡ true → IsNoLater cell other }
     ensures behind { result ≡ false → IsNoLater other cell }
 {
@@ -52,6 +52,13 @@ fn first_in(tile: &Tile) -> Option<(usize, usize)>
         }
     }
     None
+}
+
+/// Whether no cell of a tile is live.
+pub fn is_void(tile: &Tile) -> bool
+    ensures { result ≡ true → IsVoid tile.now }
+{
+    first_in(tile).is_none()
 }
 
 /// The last live cell of a tile by rows: its column and its row.

@@ -2,6 +2,7 @@
 #![tactic(auto)]
 
 mod bands;
+mod changed;
 mod counting;
 mod covering;
 mod ends;

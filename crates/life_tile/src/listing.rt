@@ -6,7 +6,7 @@ ghost use Rattle.life_tile.specs.Places.{place_cmp, IsInside};
 ghost use Rattle.life_tile.specs.Slots.{shown, tile_of};
 
 use crate::grid::corner_of;
-use life_bits::Tile;
+use life_bits::{Tile, end_of_eights, first_eight};
 use std::alloc::AllocError;
 use std::collections::BTreeMap;
 
@@ -19,8 +19,9 @@ fn push_row(cells: &mut Vec<(i32, i32)>, left: i32, y: i32, word: u64) -> Result
     if word == 0 {
         return Ok(());
     }
-    let mut x = 64u32;
-    while x > 0 {
+    let first = word.trailing_zeros();
+    let mut x = 64 - word.leading_zeros();
+    while x > first {
         x -= 1;
         if (word >> x) & 1 == 1 {
             cells.push((left + x as i32, y))?;
@@ -42,8 +43,9 @@ fn push_tile(
     requires south { top ≤ℤ pos 1000000000 }
     ensures { OnOk result (cells.new.items ≡ cells.old.items ++ block_cells left top tile.now.rows 64) }
 {
-    let mut y = 64usize;
-    while y > 0 {
+    let first = first_eight(tile);
+    let mut y = end_of_eights(tile);
+    while y > first {
         y -= 1;
         push_row(cells, left, top + y as i32, tile.rows[y])?;
     }
@@ -61,7 +63,7 @@ pub fn tile_in(tiles: &[Tile], slot: usize) -> &Tile
 /// Appends the live cells of the tiles of all slots of an index.
 pub fn push_tiles(
     cells: &mut Vec<(i32, i32)>,
-    index: &BTreeMap<(i32, i32), usize>,
+    index: &BTreeMap<(i32, i32), u32>,
     tiles: &[Tile],
 ) -> Result<(), AllocError>
     requires inside { (p : ℤ × ℤ) (k : ℕ) → get place_cmp index.now p ≡ Some k → IsInside p }
@@ -70,7 +72,7 @@ pub fn push_tiles(
 {
     for (place, slot) in index.iter() {
         let (left, top) = corner_of(*place);
-        push_tile(cells, left, top, tile_in(tiles, *slot))?;
+        push_tile(cells, left, top, tile_in(tiles, *slot as usize))?;
     }
     Ok(())
 }

@@ -2,6 +2,7 @@
 ghost use Rattle.std.specs.Prelude.{◌≡◌, IfOk};
 ghost use Rattle.life_tile.specs.Slabs.{IsKept, members_of};
 
+use crate::ends::is_void;
 use crate::sameness;
 use crate::slab::Slab;
 use life_cells::cell_list::CellList;
@@ -43,12 +44,22 @@ fn limit_of(slab: &Slab) -> usize {
     slab.slots.len().saturating_mul(2).saturating_add(32)
 }
 
+/// Whether at most half of a slab's slots have a live cell, so that it is worth while to make it anew.
+fn is_sparse(slab: &Slab) -> bool {
+    let live = slab.cur.iter().filter(|tile| !is_void(tile)).count();
+    live <= slab.slots.len() / 2
+}
+
 impl TilePlane {
-    /// Makes the slab anew where it has many slots, and says whether it did.
+    /// Makes the slab anew where it has many slots, most of them without a live cell, and says whether it did.
     fn compact(&mut self) -> Result<bool, AllocError>
         ensures { self.new ≡ self.old }
     {
         if self.slab.slots.len() <= self.limit {
+            return Ok(false);
+        }
+        if !is_sparse(&self.slab) {
+            self.limit = limit_of(&self.slab);
             return Ok(false);
         }
         self.slab = self.slab.compacted()?;
@@ -63,6 +74,12 @@ impl Plane for TilePlane {
 
     fn from_cells(alloc: Global, list: &CellList) -> Result<Self, AllocError> {
         let slab = Slab::of(alloc, list.as_slice(), 0)?;
+        let limit = limit_of(&slab);
+        Ok(TilePlane { slab, limit })
+    }
+
+    fn at_age(alloc: Global, list: &CellList, age: u32) -> Result<Self, AllocError> {
+        let slab = Slab::of(alloc, list.as_slice(), age)?;
         let limit = limit_of(&slab);
         Ok(TilePlane { slab, limit })
     }

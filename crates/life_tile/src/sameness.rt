@@ -8,6 +8,7 @@ ghost use Rattle.life_tile.specs.Ends.{IsMember};
 ghost use Rattle.life_tile.specs.Reach.{IsInReach};
 ghost use Rattle.life_tile.specs.Slabs.{IsKept, members_of};
 
+use crate::changed::lists_changed;
 use crate::covering::has_slab;
 use crate::grid::split;
 use crate::listing::tile_in;
@@ -24,7 +25,7 @@ fn is_live(slab: &Slab, cell: (i32, i32)) -> bool
     let (column, x) = split(cell.0);
     let (row, y) = split(cell.1);
     let slot = slot_or_none(&slab.index, (column, row));
-    tile_in(&slab.cur, slot).get(x, y)
+    tile_in(&slab.cur, slot as usize).get(x, y)
 }
 
 /// The cell, moved as one place is from another.
@@ -55,7 +56,7 @@ fn are_live(slab: &Slab, cells: &[(i32, i32)], from: (i32, i32), to: (i32, i32))
 }
 
 /// How far the live cells are from those of a list, where they are those moved as a whole. They are if there are as many, and
-/// each of the list is live where the first of them would be moved to.
+/// each of the list is live where the first of them would be moved to. What may have changed is looked at first.
 pub fn way_from(slab: &Slab, cells: &[(i32, i32)]) -> Option<(i32, i32)>
     requires kept { IsKept slab.now }
     requires rising { T (is_rising cells.now) }
@@ -70,6 +71,9 @@ pub fn way_from(slab: &Slab, cells: &[(i32, i32)]) -> Option<(i32, i32)>
         None => Some((0, 0)),
         Some(ends) => {
             let from = cells[0];
+            if !lists_changed(slab, cells, ends.first, from) {
+                return None;
+            }
             if !are_live(slab, cells, from, ends.first) {
                 return None;
             }

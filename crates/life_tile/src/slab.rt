@@ -1,5 +1,6 @@
 //! A slab: tiles in slots, in this generation and in the one before.
 ghost use Rattle.std.specs.Prelude.{◌≡◌, ◌≢◌, ℕ, ◌+◌, ◌<◌, ◌≤◌, true, All, OnOk, IfOk, length};
+ghost use Rattle.life_bits.specs.Area.{tile_cell};
 ghost use Rattle.life_model.specs.Evolution.{next};
 ghost use Rattle.life_model.specs.Generation.{empty, from_list, insert, size};
 ghost use Rattle.life_cells.specs.Limits.{IsWithin};
@@ -9,9 +10,9 @@ ghost use Rattle.life_tile.specs.Rims.{IsRimOf, IsStill};
 
 use crate::bands::Bands;
 use crate::counting::count_cells;
-use crate::ends::{Ends, ends_of};
+use crate::ends::{Ends, ends_of, is_void};
 use crate::grid::split;
-use crate::listing::push_tiles;
+use crate::listing::{push_tiles, tile_in};
 use crate::rim::Rim;
 use crate::slot::{HERE, Slot, connect, links_around, neighbour, slot_or_none, with_link};
 use crate::stepping::{mark_all, next_tiles};
@@ -21,11 +22,14 @@ use std::alloc::{AllocError, Global};
 use std::collections::BTreeMap;
 use std::mem::swap;
 
+/// So many cells are few: a list begins with room for them.
+const FEW: usize = 32;
+
 /// Tiles in slots. Slot 0 has the empty tile and no place.
 #[derive(Drop)]
 pub struct Slab {
     /// From the place of each tile to its slot.
-    pub index: BTreeMap<(i32, i32), usize>,
+    pub index: BTreeMap<(i32, i32), u32>,
     pub slots: Vec<Slot>,
     /// The tiles of this generation.
     pub cur: Vec<Tile>,
@@ -45,7 +49,7 @@ pub struct Slab {
 }
 
 impl Slab {
-    ghost use Rattle.life_tile.specs.Slabs.{HasRoom, IsAlike, IsCalm, IsAppended, IsClosed, IsExtended, IsGrown, IsIdle, IsKept, IsSet, IsSlotOf, members_of};
+    ghost use Rattle.life_tile.specs.Slabs.{HasRoom, IsAlike, IsCalm, IsAppended, IsClosed, IsExtended, IsGrown, IsIdle, IsKept, IsSameBut, IsSet, IsShowing, IsSlotOf, IsTileAt, cell_of, members_of};
 
     /// The slab without a live cell.
     pub fn new(alloc: Global, age: u32) -> Result<Slab, AllocError>
@@ -100,6 +104,13 @@ impl Slab {
         let _ = self.marks.push(Bands::NONE);
     }
 
+    /// The slot that would be made next. There are no more than fit into a link.
+    fn next_slot(&self) -> Result<u32, AllocError>
+        ensures { IfOk result (λ slot. slot ≡ length self.now.slots.items) }
+    {
+        u32::try_from(self.slots.len()).map_err(|_| AllocError)
+    }
+
     /// Makes a slot for a place that has none.
     fn add(&mut self, place: (i32, i32)) -> Result<(), AllocError>
         requires kept { IsKept self.old }
@@ -110,7 +121,7 @@ impl Slab {
         ensures slot { OnOk result (IsSlotOf self.new.slots.items place (length self.old.slots.items)) }
         ensures indexed { OnOk result (slot_at self.new.index place ≡ length self.old.slots.items) }
     {
-        let slot = self.slots.len();
+        let slot = self.next_slot()?;
         let links = with_link(links_around(&self.index, place), HERE, slot);
         self.reserve_one()?;
         self.index.insert(place, slot)?;
@@ -128,7 +139,7 @@ impl Slab {
     }
 
     /// The slot in a direction from a slot, 0 where there is none.
-    fn link(&self, slot: usize, direction: usize) -> usize
+    fn link(&self, slot: usize, direction: usize) -> u32
         requires slot { slot < length self.now.slots.items }
         requires direction { direction < 9 }
         ensures { result ≡ link_of self.now.slots.items slot direction }
@@ -175,7 +186,7 @@ impl Slab {
     }
 
     /// Whether no band of a slot is marked. Then no cell of its tile changed in the last step.
-    fn is_idle(&self, slot: usize) -> bool
+    pub fn is_idle(&self, slot: usize) -> bool
         requires { slot < length self.now.todo.items }
         ensures { result ≡ true → IsIdle self.now.todo.items slot }
     {
@@ -279,7 +290,7 @@ impl Slab {
     {
         let slot = slot_or_none(&self.index, place);
         if slot != 0 {
-            return Ok(slot);
+            return Ok(slot as usize);
         }
         let slot = self.slots.len();
         self.add(place)?;
@@ -313,6 +324,31 @@ impl Slab {
         Ok(())
     }
 
+    /// Has a slot show another tile.
+    fn show(&mut self, slot: usize, tile: &Tile)
+        requires { slot < length self.old.cur.items }
+        ensures { IsShowing self.old self.new slot tile.now }
+    {
+        self.cur[slot] = *tile;
+    }
+
+    /// Makes the tile at a place another one.
+    fn put_tile(&mut self, place: (i32, i32), tile: &Tile) -> Result<(), AllocError>
+        requires kept { IsKept self.old }
+        requires fresh { self.old.fresh ≡ true }
+        requires reached { IsReached self.old.age place }
+        requires within { (x y : ℕ) → x < 64 → y < 64 → tile_cell tile.now x y ≡ 1 → IsWithin self.old.age (cell_of place x y) }
+        ensures kept { OnOk result (IsKept self.new) }
+        ensures fresh { OnOk result (self.new.fresh ≡ true) }
+        ensures age { OnOk result (self.new.age ≡ self.old.age) }
+        ensures tile { OnOk result (IsTileAt (members_of self.new) tile.now place) }
+        ensures others { OnOk result (IsSameBut (members_of self.old) (members_of self.new) place) }
+    {
+        let slot = self.slot_for(place)?;
+        self.show(slot, tile);
+        Ok(())
+    }
+
     /// The slab of these cells, which may come in any order and with repeats.
     pub fn of(alloc: Global, cells: &[(i32, i32)], age: u32) -> Result<Slab, AllocError>
         requires young { age ≤ 4194304 }
@@ -334,8 +370,10 @@ impl Slab {
         ensures members { IfOk result (λ cells. from_list cells.items ≡ members_of self.now) }
         ensures within { IfOk result (λ cells. All (IsWithin self.now.age) cells.items) }
     {
-        let mut cells = Vec::new(*self.slots.allocator());
+        let mut cells = Vec::with_capacity(*self.slots.allocator(), FEW)?;
         push_tiles(&mut cells, &self.index, &self.cur)?;
+        // (tiles are listed from their last cell to their first, and a list in order is sorted at once)
+        cells.reverse();
         Ok(cells)
     }
 
@@ -355,14 +393,21 @@ impl Slab {
         count_cells(&self.cur)
     }
 
-    /// The same cells at the same age in a slab that has no slot for a tile without a live cell.
+    /// The same cells at the same age in a slab that has no slot for a tile without a live cell. Beside the new slab it
+    /// takes no memory.
     pub fn compacted(&self) -> Result<Slab, AllocError>
         requires { IsKept self.now }
         ensures kept { IfOk result IsKept }
         ensures members { IfOk result (λ slab. members_of slab ≡ members_of self.now) }
         ensures age { IfOk result (λ slab. slab.age ≡ self.now.age) }
     {
-        let cells = self.cells()?;
-        Slab::of(*self.slots.allocator(), cells.as_slice(), self.age)
+        let mut slab = Slab::new(*self.slots.allocator(), self.age)?;
+        for slot in 1..self.slots.len() {
+            let tile = tile_in(&self.cur, slot);
+            if !is_void(tile) {
+                slab.put_tile(self.place(slot), tile)?;
+            }
+        }
+        Ok(slab)
     }
 }

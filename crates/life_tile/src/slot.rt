@@ -13,11 +13,11 @@ pub const HERE: usize = 4;
 #[derive(Clone, Copy)]
 pub struct Slot {
     pub place: (i32, i32),
-    pub links: [usize; 9],
+    pub links: [u32; 9],
 }
 
 /// The slot of a place, 0 where it has none.
-pub fn slot_or_none(index: &BTreeMap<(i32, i32), usize>, place: (i32, i32)) -> usize
+pub fn slot_or_none(index: &BTreeMap<(i32, i32), u32>, place: (i32, i32)) -> u32
     ensures { result ≡ slot_at index.now place }
 {
     match index.get(&place) {
@@ -39,7 +39,7 @@ pub fn neighbour(place: (i32, i32), direction: usize) -> (i32, i32)
 }
 
 /// The slots at and around a place.
-pub fn links_around(index: &BTreeMap<(i32, i32), usize>, place: (i32, i32)) -> [usize; 9]
+pub fn links_around(index: &BTreeMap<(i32, i32), u32>, place: (i32, i32)) -> [u32; 9]
     requires { IsInside place }
     ensures { (m : ℕ) → m < 9 → slice_index result m ≡ slot_at index.now (neighbour_at place m) }
 {
@@ -51,7 +51,7 @@ pub fn links_around(index: &BTreeMap<(i32, i32), usize>, place: (i32, i32)) -> [
 }
 
 /// The links with another one in a direction.
-pub fn with_link(mut links: [usize; 9], direction: usize, slot: usize) -> [usize; 9]
+pub fn with_link(mut links: [u32; 9], direction: usize, slot: u32) -> [u32; 9]
     requires { direction < 9 }
     ensures here { slice_index result direction ≡ slot }
     ensures others { (m : ℕ) → m ≢ direction → slice_index result m ≡ slice_index links m }
@@ -61,7 +61,7 @@ pub fn with_link(mut links: [usize; 9], direction: usize, slot: usize) -> [usize
 }
 
 /// Makes a slot the one that those around it have in the direction towards it.
-pub fn connect(slots: &mut [Slot], links: &[usize; 9], slot: usize)
+pub fn connect(slots: &mut [Slot], links: &[u32; 9], slot: u32)
     requires { (m : ℕ) → m < 9 → slice_index links.now m < length slots.old }
     ensures length { length slots.new ≡ length slots.old }
     ensures place { (k : ℕ) → place_of slots.new k ≡ place_of slots.old k }
@@ -69,8 +69,9 @@ pub fn connect(slots: &mut [Slot], links: &[usize; 9], slot: usize)
     ensures others { (k m : ℕ) → m < 9 → slice_index links.now (8 - m) ≢ k → link_of slots.new k m ≡ link_of slots.old k m }
 {
     for direction in 0..9 {
-        let Slot { place, links: old } = slots[links[direction]];
-        slots[links[direction]] = Slot {
+        let beside = links[direction] as usize;
+        let Slot { place, links: old } = slots[beside];
+        slots[beside] = Slot {
             place,
             links: with_link(old, 8 - direction, slot),
         };

@@ -25,27 +25,21 @@ pub fn mark_all(marks: &mut [Bands], value: Bands)
 /// Works out the bands of the tile in the middle of nine slots that have something to do, into the tile of the generation before.
 /// Answers which bands of the nine tiles a cell that changed is in or next to.
 #[inline(always)]
-fn work_out(
-    tile: &mut Tile,
-    cur: &[Tile],
-    links: &[usize; 9],
-    todo: Bands,
-    logic: &Logic,
-) -> Touched
+fn work_out(tile: &mut Tile, cur: &[Tile], links: &[u32; 9], todo: Bands, logic: &Logic) -> Touched
     requires { (m : ℕ) → m < 9 → slice_index links.now m < length cur.now }
     ensures { (rule : Rule) → IsLogicOf logic.now rule →
         IsTileWorkedOut cur.now links.now todo rule tile.old tile.new result.columns 8 }
 {
-    let here = &cur[links[HERE]];
+    let here = &cur[links[HERE] as usize];
     let around = Around {
-        north_west: &cur[links[0]],
-        north: &cur[links[1]],
-        north_east: &cur[links[2]],
-        west: &cur[links[3]],
-        east: &cur[links[5]],
-        south_west: &cur[links[6]],
-        south: &cur[links[7]],
-        south_east: &cur[links[8]],
+        north_west: &cur[links[0] as usize],
+        north: &cur[links[1] as usize],
+        north_east: &cur[links[2] as usize],
+        west: &cur[links[3] as usize],
+        east: &cur[links[5] as usize],
+        south_west: &cur[links[6] as usize],
+        south: &cur[links[7] as usize],
+        south_east: &cur[links[8] as usize],
     };
     let mut touched = Touched::NONE;
     let mut index = todo.first_from(0);

@@ -66,7 +66,7 @@ fn bands_in(column: u32, row: usize) -> Bands
 }
 
 /// Marks the bands of one column.
-fn mark_column(marks: &mut [Bands], links: &[usize; 9], side: usize, column: u32)
+fn mark_column(marks: &mut [Bands], links: &[u32; 9], side: usize, column: u32)
     requires links { (m : ℕ) → m < 9 → slice_index links.now m < length marks.old }
     requires side { side < 3 }
     ensures length { length marks.new ≡ length marks.old }
@@ -75,7 +75,7 @@ fn mark_column(marks: &mut [Bands], links: &[usize; 9], side: usize, column: u32
         bit_at column (8 * (m / 3) + band) ≡ 0 }
 {
     for row in 0..3 {
-        let slot = links[3 * row + side];
+        let slot = links[3 * row + side] as usize;
         marks[slot] = marks[slot].union(bands_in(column, row));
     }
 }
@@ -102,7 +102,7 @@ impl Touched {
     }
 
     /// Marks these bands, where the nine tiles are in these slots.
-    pub fn mark(&self, marks: &mut [Bands], links: &[usize; 9])
+    pub fn mark(&self, marks: &mut [Bands], links: &[u32; 9])
         requires { (m : ℕ) → m < 9 → slice_index links.now m < length marks.old }
         ensures length { length marks.new ≡ length marks.old }
         ensures kept { (k band : ℕ) → mark_of marks.old k band ≡ 1 → mark_of marks.new k band ≡ 1 }

@@ -4,7 +4,7 @@ use crate::evolved::{after, step};
 use life_cells::cell_list::CellList;
 use life_cells::rule::Rule;
 use life_plane::list_plane::ListPlane;
-use life_plane::plane::Plane;
+use life_plane::plane::{AGE_LIMIT, Plane};
 use life_tile::TilePlane;
 use std::alloc::Global;
 use std::process::Abort;
@@ -78,6 +78,21 @@ fn a_copy_keeps_older_cells<P: Plane>(rt: &impl Abort, alloc: Global) -> Result<
     Ok(())
 }
 
+fn a_plane_begins_at_an_age<P: Plane>(rt: &impl Abort, alloc: Global) -> Result<(), Fail> {
+    let walked: P = after(rt, alloc, UP, b"B3/S23", 196)?;
+    let list = walked.cells()?;
+    let age = walked.age();
+    assert!(rt; age <= AGE_LIMIT);
+    let mut plane = P::at_age(alloc, &list, age)?;
+    assert_eq!(rt; plane.age(), 196);
+    for _ in 0..4 {
+        step(rt, &mut plane, &Rule::life())?;
+    }
+    assert_eq!(rt; plane.cells()?.as_slice(), UP_50);
+    assert_eq!(rt; plane.age(), 200);
+    Ok(())
+}
+
 #[test]
 fn gliders_move_on_the_list_plane(rt: HostRuntime) -> Result<(), Fail> {
     gliders_move::<ListPlane>(&rt, rt.alloc())
@@ -126,4 +141,14 @@ fn no_cell_spans_nothing_on_the_list_plane(rt: HostRuntime) -> Result<(), Fail> 
 #[test]
 fn no_cell_spans_nothing_on_the_tile_plane(rt: HostRuntime) -> Result<(), Fail> {
     no_cell_spans_nothing::<TilePlane>(&rt, rt.alloc())
+}
+
+#[test]
+fn a_list_plane_begins_at_an_age(rt: HostRuntime) -> Result<(), Fail> {
+    a_plane_begins_at_an_age::<ListPlane>(&rt, rt.alloc())
+}
+
+#[test]
+fn a_tile_plane_begins_at_an_age(rt: HostRuntime) -> Result<(), Fail> {
+    a_plane_begins_at_an_age::<TilePlane>(&rt, rt.alloc())
 }

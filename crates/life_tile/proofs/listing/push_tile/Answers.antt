@@ -1,7 +1,7 @@
-use Rattle.std.proofs.Common.{◌≡◌, suc, ℤ, pos, ◌+ℤ◌, ◌-◌, ◌++◌, slice_index, List, append-nil, FitsSigned, w32, to_z, sym, ap, ◌∙◌, arith}
+use Rattle.std.proofs.Common.{◌≡◌, suc, ℤ, pos, ◌+ℤ◌, ◌+◌, ◌-◌, ◌++◌, slice_index, List, append-nil, FitsSigned, w32, to_z, sym, ap, ◌∙◌, arith}
 use Rattle.std.proofs.lemmas.Int.{ints, to_z-of_z}
-use Rattle.life_tile.specs.Cells.{row_cells, block_cells}
-use Rattle.life_tile.proofs.Pushed.{block_pushed, block_none}
+use Rattle.life_tile.specs.Cells.{row_cells}
+use Rattle.life_tile.proofs.Pushed.{block_pushed, block_empty, block_short}
 use Rattle.life_tile.proofs.listing.push_tile.Goals as goal
 
 pub loop-y-preserved : goal.loop-y-preserved
@@ -20,11 +20,23 @@ loop-y-preserved c =
           pushed;
     })
 
+pub loop-y-init : goal.loop-y-init
+loop-y-init c =
+    let more : (64 - c.end_of_eights-y.result) + c.end_of_eights-y.result ≡ 64 = (let small = c.end_of_eights-y.ensures.small in omega arith) in
+    let left = c.ranges.left in
+    let top = c.ranges.top in
+    simp to_z-of_z (record {
+      inside = c.end_of_eights-y.ensures.small;
+      pushed = ap (λ (xs : List (ℤ × ℤ)). c.args.cells.now.items ++ xs)
+          (sym (block_short c.args.left c.args.top c.args.tile.now.rows c.end_of_eights-y.result (64 - c.end_of_eights-y.result) 64 more
+          c.end_of_eights-y.ensures.void));
+    })
+
 pub returns : goal.returns
 returns c =
     let left = c.ranges.left in
     let top = c.ranges.top in
-    let last : c.loop-y.y ≡ 0 = omega arith in
     sym (append-nil c.loop-y.cells.items)
-    ∙ ap (λ (xs : List (ℤ × ℤ)). c.loop-y.cells.items ++ xs) (sym (ap (block_cells c.args.left c.args.top c.args.tile.now.rows) last ∙ block_none c.args.left c.args.top c.args.tile.now.rows))
+    ∙ ap (λ (xs : List (ℤ × ℤ)). c.loop-y.cells.items ++ xs) (sym (block_empty c.args.left c.args.top c.args.tile.now.rows c.loop-y.y
+    (λ j less. c.first_eight-first.ensures.void j (omega arith))))
     ∙ simp to_z-of_z at c.loop-y.invariant.pushed

@@ -5,6 +5,7 @@ use Rattle.life_plane.specs.Ways.{IsWay}
 use Rattle.life_tile.specs.Ends.{AreEnds, IsMember}
 use Rattle.life_tile.specs.Slabs.{members_of}
 use Rattle.life_tile.proofs.SameCells.{some_by_ends, way_of_nothing, apart_by_count, way_of_all, apart_by_missing}
+use Rattle.life_tile.proofs.Halved.{apart_by_stranger}
 use Rattle.life_tile.proofs.sameness.way_from.Goals as goal
 
 pub returns-then-population-cells-clause-apart : goal.returns-then-population-cells-clause-apart
@@ -13,6 +14,14 @@ returns-then-population-cells-clause-apart c =
 
 pub bounds-cells-0 : goal.bounds-cells-0
 bounds-cells-0 c = some_by_ends (members_of c.args.slab.now) (length c.args.cells.now) c.in-Some.ends c.in-Some.ensures (omega arith)
+
+pub lists_changed-requires-clause-to : goal.lists_changed-requires-clause-to
+lists_changed-requires-clause-to c =
+    c.requires.placed 0 origin (some_by_ends (members_of c.args.slab.now) (length c.args.cells.now) c.in-Some.ends c.in-Some.ensures (omega arith))
+
+pub returns-then-not-lists_changed-clause-apart : goal.returns-then-not-lists_changed-clause-apart
+returns-then-not-lists_changed-clause-apart c =
+    apart_by_stranger c.args.cells.now (members_of c.args.slab.now) c.requires.rising c.in-Some.ends c.in-Some.ensures (c.lists_changed.ensures c.if-not-lists_changed.true)
 
 pub are_live-requires-clause-from : goal.are_live-requires-clause-from
 are_live-requires-clause-from c =

@@ -36,7 +36,7 @@ returns-in_err-insert-clause-kept c =
 
 pub connect-requires : goal.connect-requires
 connect-requires c = λ m small.
-    let len_is : c.len-slot.result ≡ length c.args.self.now.slots.items = omega (arith, c.len-slot.ensures, c.args.self.now.slots.ok.0) in
+    let len_is : c.in_ok-slot.slot ≡ length c.args.self.now.slots.items = c.in_ok-slot.ensures in
     let first : length c.deref_mut.result.now ≡ length c.args.self.now.slots.items + 1 =
     ap (λ (ss : List Slot). length ss) (c.deref_mut.ensures.value ∙ c.append.ensures.slots ∙ ap (λ (ss : List Slot). ss ++ record { place = c.args.place; links = c.with_link-links.result } ∷ []) c.reserve_one.ensures.alike.slots)
     ∙ length-append c.args.self.now.slots.items (record { place = c.args.place; links = c.with_link-links.result } ∷ []) in
@@ -47,8 +47,8 @@ connect-requires c = λ m small.
     omega arith
 
 module _ (c : goal.After-self-1) where
-  len_is : c.len-slot.result ≡ length c.args.self.now.slots.items
-  len_is = omega (arith, c.len-slot.ensures, c.args.self.now.slots.ok.0)
+  len_is : c.in_ok-slot.slot ≡ length c.args.self.now.slots.items
+  len_is = c.in_ok-slot.ensures
 
   first_is : c.deref_mut.result.now ≡ c.args.self.now.slots.items ++ record { place = c.args.place; links = c.with_link-links.result } ∷ []
   first_is = c.deref_mut.ensures.value ∙ c.append.ensures.slots ∙ ap (λ (ss : List Slot). ss ++ record { place = c.args.place; links = c.with_link-links.result } ∷ []) c.reserve_one.ensures.alike.slots

@@ -1,7 +1,8 @@
-use Rattle.std.proofs.Common.{◌≡◌, List, ◌++◌, sym, subst, ap, ◌∙◌}
-use Rattle.life_model.specs.Cell.{Cell}
+use Rattle.std.proofs.Common.{◌≡◌, List, ◌++◌, reverse, sym, subst, ap, ◌∙◌}
+use Rattle.life_model.specs.Cell.{Cell, same_cell}
 use Rattle.life_model.specs.Generation.{Generation, contains, from_list}
-use Rattle.life_model.proofs.Generations.{contains-from_list}
+use Rattle.life_model.proofs.Generations.{contains-from_list, same_members}
+use Rattle.life_model.proofs.Tests.{list_any-reverse}
 use Rattle.life_cells.specs.Limits.{IsWithin}
 use Rattle.life_bits.specs.declared.tile.Tile.{Tile}
 use Rattle.life_tile.specs.Cells.{tiles_cells}
@@ -17,22 +18,27 @@ push_tiles-requires-clause-inside c = λ p k is.
     (subst (IsReached c.args.self.now.age) (c.requires.whole.indexed.placed p k is)
     (c.requires.reached k (c.requires.whole.indexed.later p k is) (c.requires.whole.indexed.inside p k is)))
 
-module _ (c : goal.In_ok-push_tiles) where
+-- a list says the same from its end
+from_list-reverse : (xs : List Cell) → from_list (reverse xs) ≡ from_list xs
+from_list-reverse xs =
+    same_members _ _ (λ q. contains-from_list (reverse xs) q ∙ list_any-reverse (same_cell q) xs ∙ sym (contains-from_list xs q))
+
+module _ (c : goal.After-reverse) where
   pushed : c.push_tiles.new.cells.items ≡ tiles_cells (shown c.args.self.now.index.entries c.args.self.now.cur.items)
   pushed =
       c.in_ok-push_tiles.ensures
-      ∙ ap (λ (ts : List Tile). c.new-cells.result.items ++ tiles_cells (shown c.args.self.now.index.entries ts)) c.deref.ensures.value
-      ∙ ap (λ (xs : List Cell). xs ++ tiles_cells (shown c.args.self.now.index.entries c.args.self.now.cur.items)) c.new-cells.ensures.items
+      ∙ ap (λ (ts : List Tile). c.in_ok-cells.cells.items ++ tiles_cells (shown c.args.self.now.index.entries ts)) c.deref.ensures.value
+      ∙ ap (λ (xs : List Cell). xs ++ tiles_cells (shown c.args.self.now.index.entries c.args.self.now.cur.items)) c.in_ok-cells.ensures.items
 
-  members : from_list c.push_tiles.new.cells.items ≡ members_of c.args.self.now
+  members : from_list c.reverse.new.self.items ≡ members_of c.args.self.now
   unfolding generation_shown
-  members = ap from_list pushed
+  members = ap from_list c.reverse.ensures.items ∙ from_list-reverse c.push_tiles.new.cells.items ∙ ap from_list pushed
 
 pub returns-clause-members : goal.returns-clause-members
 returns-clause-members c = members c
 
 pub returns-clause-within : goal.returns-clause-within
 returns-clause-within c =
-    all_listed (IsWithin c.args.self.now.age) (members_of c.args.self.now) c.push_tiles.new.cells.items
-    (λ q. sym (ap (λ (G : Generation). contains G q) (members c)) ∙ contains-from_list c.push_tiles.new.cells.items q)
+    all_listed (IsWithin c.args.self.now.age) (members_of c.args.self.now) c.reverse.new.self.items
+    (λ q. sym (ap (λ (G : Generation). contains G q) (members c)) ∙ contains-from_list c.reverse.new.self.items q)
     c.requires.within

@@ -1,17 +1,80 @@
-use Rattle.std.proofs.Common.{◌≡◌, subst, ap, ◌∙◌}
-use Rattle.std.specs.Prelude.{IfOk}
-use Rattle.life_model.specs.Generation.{Generation, from_list}
+use Rattle.std.proofs.Common.{◌≡◌, ℕ, ℤ, ◌+◌, subst, sym, ap, ◌∙◌, arith}
+use Rattle.life_bits.specs.declared.tile.Tile.{Tile}
+use Rattle.life_bits.specs.Area.{tile_cell}
+use Rattle.life_cells.specs.Limits.{IsWithin}
 use Rattle.life_tile.specs.declared.slab.Slab.{Slab}
-use Rattle.life_tile.specs.Slabs.{members_of}
+use Rattle.life_tile.specs.Ends.{IsVoid}
+use Rattle.life_tile.specs.Slots.{place_of, tile_of}
+use Rattle.life_tile.specs.Slabs.{IsTileAt, IsSameBut, cell_of, members_of}
+use Rattle.life_tile.proofs.Copied.{IsCopying, copied_none, copied_void, copied_more, copied_all, within_slot}
 use Rattle.life_tile.proofs.slab.Slab.compacted.Goals as goal
+use Rattle.life_tile.proofs.slab.Slab.compacted.Goals.{then-not-is_void+in_ok-put_tile, else-not-is_void}
 
-pub of-requires-clause-within : goal.of-requires-clause-within
-of-requires-clause-within c = rw c.as_slice.ensures.value c.in_ok-cells.ensures.within
+pub loop-slot-init : goal.loop-slot-init
+loop-slot-init c = record {
+  copying = record {
+    kept = c.in_ok-slab.ensures.kept;
+    fresh = c.in_ok-slab.ensures.fresh;
+    age = c.in_ok-slab.ensures.age;
+    cells = copied_none c.args.self.now c.requires (members_of c.in_ok-slab.slab) c.in_ok-slab.ensures.members;
+  };
+}
+
+pub put_tile-requires-clause-kept : goal.put_tile-requires-clause-kept
+put_tile-requires-clause-kept c = c.loop-slot.invariant.copying.kept
+
+pub put_tile-requires-clause-fresh : goal.put_tile-requires-clause-fresh
+put_tile-requires-clause-fresh c = c.loop-slot.invariant.copying.fresh
+
+pub put_tile-requires-clause-within : goal.put_tile-requires-clause-within
+put_tile-requires-clause-within c = λ x y wide high live.
+    let tile_is : c.tile_in-tile.result.now ≡ tile_of c.args.self.now.cur.items c.loop-slot.slot =
+    c.tile_in-tile.ensures ∙ ap (λ tiles. tile_of tiles c.loop-slot.slot) c.deref.ensures.value in
+    subst (λ (n : ℕ). IsWithin n (cell_of c.place.result x y)) (sym c.loop-slot.invariant.copying.age)
+    (subst (λ (p : ℤ × ℤ). IsWithin c.args.self.now.age (cell_of p x y)) (sym c.place.ensures)
+    (within_slot c.args.self.now c.requires c.loop-slot.slot x y (omega arith) (omega arith) wide high
+    (sym (ap (λ (t : Tile). tile_cell t x y) tile_is) ∙ live)))
+
+pub loop-slot-preserved : goal.loop-slot-preserved
+loop-slot-preserved c =
+    let s : Slab = c.args.self.now in
+    let n : ℕ = c.loop-slot.slot in
+    let before : IsCopying c.args.self.now c.loop-slot.slab c.loop-slot.slot = c.loop-slot.invariant.copying in
+    let tile_is : c.tile_in-tile.result.now ≡ tile_of c.args.self.now.cur.items c.loop-slot.slot =
+    c.tile_in-tile.ensures ∙ ap (λ tiles. tile_of tiles c.loop-slot.slot) c.deref.ensures.value in
+    record {
+      copying = elim c.if-not-is_void.branch [
+        | then-not-is_void+in_ok-put_tile w ↦
+            subst (λ (slab : Slab). IsCopying c.args.self.now slab (c.loop-slot.slot + 1)) (sym w.slab-is)
+            (record {
+              kept = w.in_ok-put_tile.ensures.kept;
+              fresh = w.in_ok-put_tile.ensures.fresh;
+              age = w.in_ok-put_tile.ensures.age ∙ c.loop-slot.invariant.copying.age;
+              cells =
+                  copied_more c.args.self.now c.requires (members_of c.loop-slot.slab) (members_of w.put_tile.new.self) c.loop-slot.slot (omega arith) (omega arith)
+                  c.loop-slot.invariant.copying.cells
+                  (subst (λ (t : Tile). IsTileAt (members_of w.put_tile.new.self) t (place_of c.args.self.now.slots.items c.loop-slot.slot)) tile_is
+                  (subst (λ (p : ℤ × ℤ). IsTileAt (members_of w.put_tile.new.self) c.tile_in-tile.result.now p) w.place.ensures w.in_ok-put_tile.ensures.tile))
+                  (subst (λ (p : ℤ × ℤ). IsSameBut (members_of c.loop-slot.slab) (members_of w.put_tile.new.self) p) w.place.ensures w.in_ok-put_tile.ensures.others);
+            })
+        | else-not-is_void w ↦
+            subst (λ (slab : Slab). IsCopying c.args.self.now slab (c.loop-slot.slot + 1)) (sym w.slab-is)
+            (record {
+              kept = c.loop-slot.invariant.copying.kept;
+              fresh = c.loop-slot.invariant.copying.fresh;
+              age = c.loop-slot.invariant.copying.age;
+              cells =
+                  copied_void c.args.self.now c.requires (members_of c.loop-slot.slab) c.loop-slot.slot c.loop-slot.invariant.copying.cells
+                  (subst IsVoid tile_is (c.is_void.ensures w.if-not-is_void.false));
+            })
+      ];
+    }
+
+pub returns-clause-kept : goal.returns-clause-kept
+returns-clause-kept c = c.loop-slot.invariant.copying.kept
 
 pub returns-clause-members : goal.returns-clause-members
-returns-clause-members c =
-    subst (λ (G : Generation). IfOk c.of.result (λ (slab : Slab). members_of slab ≡ G))
-    (ap from_list c.as_slice.ensures.value ∙ c.in_ok-cells.ensures.members) c.of.ensures.members
+returns-clause-members c = copied_all c.args.self.now c.requires (members_of c.loop-slot.slab) c.loop-slot.slot (omega arith) c.loop-slot.invariant.copying.cells
 
 pub returns-clause-age : goal.returns-clause-age
-returns-clause-age c = c.of.ensures.age
+returns-clause-age c = c.loop-slot.invariant.copying.age

@@ -1,0 +1,98 @@
+//! A quick look at whether the cells of a slab that may have changed are others, moved as a whole.
+ghost use Rattle.std.specs.Prelude.{◌≡◌, ℕ, pos, ◌+ℤ◌, false, T};
+ghost use Rattle.life_model.specs.Cell.{Cell, opposite, plus};
+ghost use Rattle.life_model.specs.Generation.{contains, from_list, is_rising};
+ghost use Rattle.life_cells.specs.Limits.{IsPlace};
+ghost use Rattle.life_tile.specs.Ends.{IsMember};
+ghost use Rattle.life_tile.specs.Reach.{IsInReach, IsRowIn, IsTileIn};
+ghost use Rattle.life_tile.specs.Slabs.{IsKept, members_of};
+
+use crate::covering::corner_in;
+use crate::ends::is_before;
+use crate::listing::tile_in;
+use crate::sameness::moved;
+use crate::slab::Slab;
+use life_bits::Tile;
+
+/// Whether a cell is in a list, which is halved until it shows.
+fn is_listed(cells: &[(i32, i32)], cell: (i32, i32)) -> bool
+    requires { T (is_rising cells.now) }
+    ensures { result ≡ false → contains (from_list cells.now) cell ≡ false }
+{
+    let mut low = 0;
+    let mut high = cells.len();
+    while low < high {
+        let middle = low + (high - low) / 2;
+        let there = cells[middle];
+        if there.0 == cell.0 && there.1 == cell.1 {
+            return true;
+        }
+        if is_before(there, cell) {
+            low = middle + 1;
+        } else {
+            high = middle;
+        }
+    }
+    false
+}
+
+/// Whether each set bit of a word is a listed cell, where bit 0 is at this cell.
+fn lists_row(cells: &[(i32, i32)], word: u64, start: (i32, i32)) -> bool
+    requires rising { T (is_rising cells.now) }
+    requires reach { IsInReach start }
+    ensures { result ≡ false → IsRowIn (from_list cells.now) word start → ⊥ }
+{
+    if word == 0 {
+        return true;
+    }
+    for x in 0..64usize {
+        if (word >> x) & 1 == 1 && !is_listed(cells, (start.0 + x as i32, start.1)) {
+            return false;
+        }
+    }
+    true
+}
+
+/// Whether each live cell of a tile whose first cell is here is listed, moved as one place is from another.
+fn lists_tile(
+    cells: &[(i32, i32)],
+    tile: &Tile,
+    corner: (i32, i32),
+    from: (i32, i32),
+    to: (i32, i32),
+) -> bool
+    requires rising { T (is_rising cells.now) }
+    requires corner { IsPlace corner }
+    requires lower { IsPlace (corner.0, corner.1 +ℤ pos 63) }
+    requires from { IsPlace from }
+    requires to { IsPlace to }
+    ensures { result ≡ false → IsTileIn (from_list cells.now) tile.now corner (plus to (opposite from)) → ⊥ }
+{
+    for y in 0..64 {
+        let start = moved((corner.0, corner.1 + y as i32), from, to);
+        if !lists_row(cells, tile.rows[y], start) {
+            return false;
+        }
+    }
+    true
+}
+
+/// Whether each live cell of the tiles that have something to do is listed, moved as one place is from another. If one is not,
+/// the live cells are none of those listed, moved so.
+pub fn lists_changed(slab: &Slab, cells: &[(i32, i32)], from: (i32, i32), to: (i32, i32)) -> bool
+    requires kept { IsKept slab.now }
+    requires rising { T (is_rising cells.now) }
+    requires from { IsPlace from }
+    requires to { IsPlace to }
+    ensures { result ≡ false → ((c : Cell) → IsMember (members_of slab.now) c → IsMember (from_list cells.now) (plus c (plus to (opposite from)))) → ⊥ }
+{
+    for slot in 1..slab.slots.len() {
+        if !slab.is_idle(slot) {
+            let tile = tile_in(&slab.cur, slot);
+            if !lists_tile(cells, tile, corner_in(slab, slot), from, to) {
+                return false;
+            }
+        }
+    }
+    true
+}
