@@ -152,7 +152,7 @@ strip_ends : (k strips wide : ℕ) → k < strips → k * wide + wide ≤ strips
 strip_ends k strips wide h = let more = mul-le-mul_right wide h in omega arith
 
 module _ (values : List ℕ) (wide strips : ℕ) (room : length values ≡ strips * wide) where
-  length-strip_of : (k : ℕ) → k < strips → length (strip_of values wide k) ≡ wide
+  pub length-strip_of : (k : ℕ) → k < strips → length (strip_of values wide k) ≡ wide
   length-strip_of k h =
       let ends = strip_ends k strips wide h in
       let a = length-take {A = ℕ} wide (drop (k * wide) values) in

@@ -1,5 +1,5 @@
 //! The least of some texts.
-ghost use Rattle.std.specs.Prelude.{◌≡◌, ◌<◌, IsSomeAnd, IsTrue, None, OnOk, [], length, unwrap_or};
+ghost use Rattle.std.specs.Prelude.{◌≡◌, ◌<◌, ◌∷◌, IsSomeAnd, IsTrue, List, None, OnOk, [], length, unwrap_or, ℕ};
 ghost use Rattle.life_codes.specs.Least.{with_text};
 
 use life_shape::code_text::shorter;
@@ -53,6 +53,16 @@ impl Choice {
         ensures { IsTrue result → IsSomeAnd self.now (λ t. length t < bytes) }
     {
         self.some && self.text.len() < bytes
+    }
+
+    /// Whether there is a text that is less than each of so many bytes of which this is the first.
+    pub fn is_before(&self, bytes: usize, first: u8) -> bool
+        ensures { IsTrue result → (rest : List ℕ) → length (first ∷ rest) ≡ bytes → with_text self.now (first ∷ rest) ≡ self.now }
+    {
+        if !self.some || self.text.len() != bytes || bytes == 0 {
+            return false;
+        }
+        self.text[0] < first
     }
 
     /// Takes one more text. The text that is not the least is left in its place.

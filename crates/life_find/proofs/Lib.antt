@@ -2,6 +2,5 @@ pub mod Ways
 pub mod Apart
 pub mod Outlines
 pub mod Possible
-pub mod Leasts
 pub mod Found
 pub mod SameObjects

@@ -16,7 +16,7 @@ use Rattle.life_model.proofs.Orbits.{along}
 use Rattle.life_model.proofs.Recurrences.{generation-add, generation-zero, shape, shape-follows, shape_from_move}
 use Rattle.life_find.specs.declared.outline.Outline.{Outline}
 use Rattle.life_find.specs.Outline.{IsOutline, agree, no_outline}
-use Rattle.life_find.specs.Search.{AreOutlines, changes_at, ends_alike}
+use Rattle.life_find.specs.Search.{AreOutlines, changes_at, ends_alike, from_first}
 use Rattle.life_find.proofs.Apart.{IsApart}
 use Rattle.life_cells.proofs.PrintLemmas.{range_more}
 use Rattle.life_find.proofs.Outlines.{agree_by_shape}
@@ -40,6 +40,22 @@ Contains-filter test (y ∷ ys) x h e =
       | inr there ↦
           let later : Contains rest x = Contains-filter test ys x there e in
           elim (test y) as (λ b. Contains (cond b (y ∷ rest) rest) x) [ true ↦ Contains-append_right (y ∷ []) rest x later | false ↦ later ]
+    ]
+
+Contains-from_first : (test : ℕ → Bool) (ps : List ℕ) (p : ℕ) → Contains ps p → test p ≡ true → Contains (from_first test ps) p
+Contains-from_first test [] p h e = absurd (nothing_inside p h)
+Contains-from_first test (q ∷ ps) p h e =
+    let rest = from_first test ps in
+    elim (Contains-append_cases (q ∷ []) ps p h) [
+      | inl here ↦ elim (Contains-push_cases [] q p here) [
+        | inl never ↦ absurd (nothing_inside p never)
+        | inr same ↦
+            let passes : true ≡ test q = sym e ∙ ap test (sym same) in
+            subst (λ b. Contains (cond b (q ∷ ps) rest) p) passes (0, omega arith, same)
+      ]
+      | inr there ↦
+          let later : Contains rest p = Contains-from_first test ps p there e in
+          elim (test q) as (λ b. Contains (cond b (q ∷ ps) rest) p) [ true ↦ Contains-append_right (q ∷ []) ps p there | false ↦ later ]
     ]
 
 Contains-range : (b p : ℕ) → 1 ≤ p → p ≤ b → Contains (range_with_len 1 b) p
@@ -134,9 +150,9 @@ module _ (R : Rule) (G : Generation) (b : ℕ) where
         (Contains-filter (ends_alike list) (range_with_len 1 b) p (Contains-range b p possible.least possible.most) (ends_alike-possible list p are (omega arith) possible));
   }
 
-  pub AreLeft-next : (list : List Outline) (before periods : List ℕ) → AreOutlines R G list → b < length list → AreLeft before → periods ≡ filter (ends_alike list) before → AreLeft periods
+  pub AreLeft-next : (list : List Outline) (before periods : List ℕ) → AreOutlines R G list → b < length list → AreLeft before → periods ≡ from_first (ends_alike list) before → AreLeft periods
   AreLeft-next list before periods are far left e = record {
-    each = λ p possible. subst (λ l. Contains l p) (sym e) (Contains-filter (ends_alike list) before p (left.each p possible) (ends_alike-possible list p are far possible));
+    each = λ p possible. subst (λ l. Contains l p) (sym e) (Contains-from_first (ends_alike list) before p (left.each p possible) (ends_alike-possible list p are far possible));
   }
 
   pub nowhere_left : (periods : List ℕ) → length periods ≡ 0 → AreLeft periods → (g : ℕ) → SettlesAt R G b g → ⊥

@@ -1,20 +1,20 @@
 //! Codes of objects.
-ghost use Rattle.std.specs.Prelude.{◌≡◌, ◌+◌, ◌≤◌, ◌++◌, codes, decimal, IfOk, OnOk};
+ghost use Rattle.std.specs.Prelude.{◌≡◌, ◌+◌, ◌≤◌, IfOk, OnOk};
 ghost use Rattle.std.specs.List.{fold};
 ghost use Rattle.life_shape.specs.TextOrder.{least_text};
-ghost use Rattle.life_answer.specs.Apgcode.{bodies, code_of, prefix, turned_bodies};
+ghost use Rattle.life_answer.specs.Apgcode.{bodies, code_of, turned_bodies};
 ghost use Rattle.life_codes.specs.Least.{with_text};
 
 use crate::recurrence::Recurrence;
-use itoa::Buffer;
 use life_answer::code::Code;
 use life_cells::rule::Rule;
 use life_codes::least_text::LeastText;
+use life_codes::prefix::prefix;
 use life_plane::plane::{AGE_LIMIT, Plane};
 use std::alloc::{AllocError, Global};
 
-/// Adds the texts of what a plane holds, in all eight orientations.
-fn add_phase<P: Plane>(least: &mut LeastText, plane: &P) -> Result<(), AllocError>
+/// Adds the texts of what a plane holds.
+fn add_plane<P: Plane>(least: &mut LeastText, plane: &P) -> Result<(), AllocError>
     requires { P.steps_made plane.now ≤ AGE_LIMIT }
     ensures { OnOk result (least.new ≡ fold with_text least.old (turned_bodies (P.members plane.now))) }
 {
@@ -35,34 +35,12 @@ fn least_body<P: Plane>(
 {
     let mut plane = plane;
     let mut least = LeastText::new(alloc);
-    add_phase(&mut least, &plane)?;
+    add_plane(&mut least, &plane)?;
     for _ in 1..period {
         plane.step(rule)?;
-        add_phase(&mut least, &plane)?;
+        add_plane(&mut least, &plane)?;
     }
     Ok(least.into_text())
-}
-
-/// The prefix of a code, with the `_` behind it.
-fn prefix(
-    alloc: Global,
-    population: u64,
-    period: u32,
-    displacement: (i32, i32),
-) -> Result<Vec<u8>, AllocError>
-    ensures { IfOk result (λ text. text.items ≡ prefix population period displacement ++ codes "_") }
-{
-    let (mark, number) = if displacement != (0, 0) {
-        (b'q', u64::from(period))
-    } else if period == 1 {
-        (b's', population)
-    } else {
-        (b'p', u64::from(period))
-    };
-    let mut text = Vec::from_slice(alloc, &[b'x', mark])?;
-    text.extend_from_slice(Buffer::new().format(number).as_bytes())?;
-    text.push(b'_')?;
-    Ok(text)
 }
 
 /// The code of what a plane holds, which comes again as the recurrence says.

@@ -1,7 +1,7 @@
 //! The periods and onsets that the outlines of the generations so far leave possible.
 ghost use Rattle.std.specs.Prelude.{◌≡◌, ℕ, ◌+◌, ◌<◌, ◌≤◌, true, false, IfOk};
 ghost use Rattle.std.specs.List.{filter, range_with_len};
-ghost use Rattle.life_find.specs.Search.{changes_at, ends_alike};
+ghost use Rattle.life_find.specs.Search.{changes_at, ends_alike, from_first};
 
 use crate::outline::{Outline, agree};
 use std::alloc::{AllocError, Global};
@@ -32,11 +32,20 @@ pub fn candidates(alloc: Global, outlines: &[Outline], bound: u32) -> Result<Vec
     Ok(periods)
 }
 
-/// Keeps the periods that the last outline leaves possible too.
-pub fn keep_candidates(periods: &mut Vec<u32>, outlines: &[Outline])
-    ensures { periods.new.items ≡ filter (ends_alike outlines.now) periods.old.items }
+/// Strikes the periods before the first that the last outline leaves possible. Those after it are not looked at: as the walk
+/// goes on, each period is struck at most once and one look a generation tells that none was, so that all looks together
+/// are no more than the generations and the periods.
+pub fn strike_periods<'a>(periods: &'a [u32], outlines: &[Outline]) -> &'a [u32]
+    ensures { result.now ≡ from_first (ends_alike outlines.now) periods.now }
 {
-    periods.retain(|period| ends_alike(outlines, *period));
+    let mut left = periods;
+    'left: while let [period, rest @ ..] = left {
+        if ends_alike(outlines, *period) {
+            return left;
+        }
+        left = rest;
+    }
+    left
 }
 
 /// Whether the outline so many places further on disagrees.

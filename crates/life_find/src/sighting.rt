@@ -5,7 +5,7 @@ ghost use Rattle.life_model.specs.Generation.{Generation};
 ghost use Rattle.life_model.specs.Recurrence.{SettlesAt};
 ghost use Rattle.life_find.specs.Search.{AreOutlines, IsReturn};
 
-use crate::candidates::{candidates, keep_candidates};
+use crate::candidates::{candidates, strike_periods};
 use crate::limit::BOUND_LIMIT;
 use crate::outline::{Outline, outline_of, outline_on};
 use crate::recurrence::Recurrence;
@@ -130,7 +130,8 @@ pub fn seen_again<P: Plane>(
     }
     let anchor = runner.cells()?;
     let marked = outline_of(&anchor);
-    let mut periods = candidates(alloc, outlines, bound)?;
+    let candidates = candidates(alloc, outlines, bound)?;
+    let mut periods = candidates.as_slice();
     for lead in 0..bound {
         if periods.is_empty() {
             return Ok(None);
@@ -145,7 +146,7 @@ pub fn seen_again<P: Plane>(
                 displacement,
             }));
         }
-        keep_candidates(&mut periods, outlines);
+        periods = strike_periods(periods, outlines);
     }
     Ok(None)
 }

@@ -1,4 +1,4 @@
-//! Worked examples of cells, rules, texts, shapes and what patterns become.
+//! Worked examples of cells, rules, texts, shapes, codes and what patterns become.
 //!
 //! Each example's answer is known from elsewhere: patterns of LifeWiki by their period, displacement and apgcode, gliders
 //! by where they go, texts as their format has them.
@@ -6,6 +6,8 @@
 
 #[cfg(test)]
 mod cells;
+#[cfg(test)]
+mod codes;
 #[cfg(test)]
 mod objects;
 #[cfg(test)]

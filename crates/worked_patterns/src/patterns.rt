@@ -43,6 +43,7 @@ impl Example {
             Finding::Unresolved { population } => {
                 *population == self.population && self.settled.is_none()
             }
+            Finding::Ash { .. } => false,
         }
     }
 }

@@ -115,7 +115,9 @@ fn population(alloc: Global, text: &[u8]) -> Result<Option<u64>, AllocError> {
     match answer(alloc, text, 1)? {
         Answer::Found {
             rule: _,
-            finding: Finding::Recurs { population, .. } | Finding::Unresolved { population },
+            finding: Finding::Recurs { population, .. }
+            | Finding::Unresolved { population }
+            | Finding::Ash { population, .. },
         } => Ok(Some(population)),
         Answer::Refused(_) => Ok(None),
     }

@@ -183,6 +183,7 @@ fn is_beehive(finding: &Finding) -> bool {
             ..
         } => (*onset, *period) == (2, 1) && code.as_slice() == b"xs6_696".as_slice(),
         Finding::Unresolved { .. } => false,
+        Finding::Ash { .. } => false,
     }
 }
 

@@ -25,8 +25,7 @@ add_grid-requires-clause-small c =
     let cs = c.args.cells.now in
     let m = orientation c.args.orient in
     let some : 0 < wide_of f = omega arith in
-    subst (All (λ v. v < 36)) (sym c.deref.ensures.value)
-    (small_values c.make_grid.new.values.items (wide_of f) (strips_of f) (map (placed m f) cs) some c.in_ok-make_grid.ensures.room c.in_ok-make_grid.ensures.weights (placed-lt cs m f c.requires.rising))
+    small_values c.make_grid.new.values.items (wide_of f) (strips_of f) (map (placed m f) cs) some c.in_ok-make_grid.ensures.room c.in_ok-make_grid.ensures.weights (placed-lt cs m f c.requires.rising)
 
 pub add_grid-requires-2-clause-small : goal.add_grid-requires-2-clause-small
 add_grid-requires-2-clause-small c =
@@ -34,7 +33,7 @@ add_grid-requires-2-clause-small c =
     let cs = c.args.cells.now in
     let m = orientation c.args.orient in
     let some : 0 < wide_of f = omega arith in
-    subst (All (λ v. v < 36)) (sym c.deref-2.ensures.value)
+    subst (λ values. All (λ v. v < 36) values) (ap (λ v. v.items) (sym c.in_ok-add_grid.ensures.values))
     (small_values c.make_grid.new.values.items (wide_of f) (strips_of f) (map (placed m f) cs) some c.in_ok-make_grid.ensures.room c.in_ok-make_grid.ensures.weights (placed-lt cs m f c.requires.rising))
 
 pub returns : goal.returns
@@ -44,12 +43,12 @@ returns c =
     let m = orientation c.args.orient in
     let values = c.make_grid.new.values.items in
     let framed = framed_cells cs m c.args.frame f c.requires.some c.requires.frame c.turned-turned.ensures.frame in
-    let first : grid_text c.deref.result.now c.width-wide.result c.strips-strips.result false ≡ body (turned (from_list cs) m) =
-    (λ i. grid_text (c.deref.ensures.value i) (c.width-wide.ensures i) (c.strips-strips.ensures i) false)
+    let first : grid_text values c.width-wide.result c.strips-strips.result false ≡ body (turned (from_list cs) m) =
+    (λ i. grid_text values (c.width-wide.ensures i) (c.strips-strips.ensures i) false)
     ∙ text_forward cs m f framed c.requires.rising values c.in_ok-make_grid.ensures.room c.in_ok-make_grid.ensures.weights in
-    let second : grid_text c.deref-2.result.now c.width-wide.result c.strips-strips.result true ≡ body (turned (turned (from_list cs) m) FlipX) =
-    (λ i. grid_text (c.deref-2.ensures.value i) (c.width-wide.ensures i) (c.strips-strips.ensures i) true)
+    let second : grid_text c.add_grid.new.room.values.items c.width-wide.result c.strips-strips.result true ≡ body (turned (turned (from_list cs) m) FlipX) =
+    (λ i. grid_text (c.in_ok-add_grid.ensures.values i).items (c.width-wide.ensures i) (c.strips-strips.ensures i) true)
     ∙ text_backward cs m f framed c.requires.rising values c.in_ok-make_grid.ensures.room c.in_ok-make_grid.ensures.weights in
     on_ok_weaker c.add_grid-2.result
-    (λ new. new ∙ (λ i. with_text ((c.in_ok-add_grid.ensures ∙ ap (with_text c.args.least.now) first) i) (second i)))
-    c.add_grid-2.ensures
+    (λ new. new ∙ (λ i. with_text ((c.in_ok-add_grid.ensures.text ∙ ap (with_text c.args.least.now) first) i) (second i)))
+    c.add_grid-2.ensures.text

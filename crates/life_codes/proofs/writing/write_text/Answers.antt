@@ -1,8 +1,8 @@
-use Rattle.std.proofs.Common.{◌≡◌, ℕ, ◌≤◌, ◌+◌, ◌++◌, refl, length, ◌∙◌, ap, arith}
+use Rattle.std.proofs.Common.{◌≡◌, ℕ, ◌++◌, refl, ◌∙◌, ap, arith}
 use Rattle.life_shape.specs.Wechsler.{columns_text}
 use Rattle.life_shape.proofs.Columns.{joined, joined_turn, strips_text_is}
 use Rattle.life_codes.specs.Grids.{facing, strip_of}
-use Rattle.life_codes.proofs.Written.{joined_within, shorter_still, strip_within}
+use Rattle.life_codes.proofs.Written.{strip_within}
 use Rattle.life_codes.proofs.writing.write_text.Goals as goal
 
 pub strip_of-requires : goal.strip_of-requires
@@ -14,22 +14,8 @@ strips-preserved c =
     joined_turn text c.strips.strip c.strips.text.items _ (text c.strips.strip) c.strips.invariant refl
     (c.in_ok-push_strip.ensures ∙ (λ i. c.in_ok-begin_strip.ensures i ++ columns_text 0 (facing c.args.back (c.strip_of.ensures i))))
 
-pub returns-then-is_shorter-clause-longer : goal.returns-then-is_shorter-clause-longer
-returns-then-is_shorter-clause-longer c = λ e.
-    let text = λ (k : ℕ). columns_text 0 (facing c.args.back (strip_of c.args.values.now c.args.wide k)) in
-    let strip = c.strips.strip in
-    let more =
-    joined_turn text strip c.strips.text.items _ (text strip) c.strips.invariant refl
-    (c.in_ok-push_strip.ensures ∙ (λ i. c.in_ok-begin_strip.ensures i ++ columns_text 0 (facing c.args.back (c.strip_of.ensures i)))) in
-    let below = c.strips-test.true in
-    let inside : strip + 1 ≤ c.args.strips = omega arith in
-    let within = joined_within text (strip + 1) c.args.strips inside in
-    let whole = ap length (strips_text_is text c.args.strips c.requires.some) in
-    let long = ap length more in
-    shorter_still c.args.least.now _ _ (let size = c.len.ensures in omega arith) (c.is_shorter.ensures c.if-is_shorter.true)
-
-pub returns-clause-whole : goal.returns-clause-whole
-returns-clause-whole c = λ e.
+pub returns : goal.returns
+returns c =
     let text = λ (k : ℕ). columns_text 0 (facing c.args.back (strip_of c.args.values.now c.args.wide k)) in
     let last : c.strips.strip ≡ c.args.strips = omega arith in
     c.strips.invariant ∙ ap (joined text) last ∙ strips_text_is text c.args.strips c.requires.some

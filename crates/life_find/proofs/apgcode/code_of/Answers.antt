@@ -1,6 +1,6 @@
 use Rattle.std.proofs.Common.{◌∙◌}
 use Rattle.std.proofs.lemmas.Result.{IfOk-weaker}
-use Rattle.life_find.proofs.Leasts.{code-parts}
+use Rattle.life_codes.proofs.Phases.{code-parts}
 use Rattle.life_find.proofs.apgcode.code_of.Goals as goal
 
 pub returns : goal.returns

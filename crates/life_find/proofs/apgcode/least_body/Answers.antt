@@ -1,10 +1,11 @@
-use Rattle.std.proofs.Common.{◌≡◌, ◌≤◌, ◌+◌, ◌-◌, [], None, unwrap_or, refl, sym, ap, ◌∙◌, arith}
+use Rattle.std.proofs.Common.{◌≡◌, ◌≤◌, ◌+◌, ◌-◌, [], None, refl, sym, ap, ◌∙◌, arith}
+use Rattle.std.specs.Prelude.{unwrap_or}
 use Rattle.std.specs.List.{fold}
 use Rattle.life_answer.specs.Apgcode.{bodies, turned_bodies}
 use Rattle.life_codes.specs.Least.{with_text}
 use Rattle.life_model.specs.Evolution.{next, generation}
 use Rattle.life_model.proofs.Recurrences.{generation-zero, generation-next}
-use Rattle.life_find.proofs.Leasts.{least-more, least_or_none}
+use Rattle.life_codes.proofs.Phases.{least-more, least_is}
 use Rattle.life_find.proofs.apgcode.least_body.Goals as goal
 
 pub loop-init : goal.loop-init
@@ -14,9 +15,7 @@ loop-init g c =
     record {
       cells = sym (generation-zero R H);
       age = refl;
-      least = c.in_ok-add_phase.ensures
-          ∙ ap (λ o. fold with_text o (turned_bodies H)) c.new-least.ensures
-          ∙ least-more R H H 0 (sym (generation-zero R H));
+      least = c.in_ok-add_plane.ensures ∙ ap (λ o. fold with_text o (turned_bodies H)) c.new-least.ensures ∙ least-more R H H 0 (sym (generation-zero R H));
     }
 
 pub loop-preserved : goal.loop-preserved
@@ -33,7 +32,7 @@ loop-preserved g c =
     record {
       cells = there ∙ ap (generation R H) (let e : n ≡ n + 1 - 1 = omega arith in e);
       age = omega arith;
-      least = c.in_ok-add_phase-2.ensures
+      least = c.in_ok-add_plane-2.ensures
           ∙ ap (λ o. fold with_text o (turned_bodies (g.P.Plane.members c.step.new.self))) at.least
           ∙ least-more R H (g.P.Plane.members c.step.new.self) n there;
     }
@@ -45,6 +44,5 @@ returns g c =
     let inside : c.loop.counter ≤ c.args.period = c.loop.auto.counter-end c.requires.period in
     let past = c.loop-test.false in
     c.into_text.ensures
-    ∙ ap (λ o. unwrap_or o []) c.loop.invariant.least
-    ∙ ap (λ n. unwrap_or (fold with_text None (bodies R H n)) []) (let e : c.loop.counter ≡ c.args.period = omega arith in e)
-    ∙ least_or_none (bodies R H c.args.period)
+    ∙ ap (λ o. unwrap_or o []) (c.loop.invariant.least ∙ ap (λ n. fold with_text None (bodies R H n)) (let e : c.loop.counter ≡ c.args.period = omega arith in e))
+    ∙ least_is (bodies R H c.args.period)

@@ -2,7 +2,7 @@ use Rattle.std.proofs.Common.{refl, ◌+◌, ◌≤◌, ◌∙◌, arith}
 use Rattle.life_model.specs.Evolution.{generation}
 use Rattle.life_model.proofs.Recurrences.{onset-period-le}
 use Rattle.life_find.proofs.Found.{unresolved-found, recurs-found}
-use Rattle.life_find.proofs.Leasts.{code_by_shape}
+use Rattle.life_codes.proofs.Phases.{code_by_shape}
 use Rattle.life_find.proofs.find.find_cells.Goals as goal
 
 pub returns-in-None : goal.returns-in-None

@@ -1,4 +1,5 @@
 use Rattle.std.proofs.Common.{sym, ◌∙◌}
+use Rattle.life_answer.proofs.Findings.{finding-no_ash}
 use Rattle.life_find.proofs.SameObjects.{HasCode_by_finding, nowhere_found}
 use Rattle.life_find.proofs.same_object.settled_code.Goals as goal
 
@@ -10,3 +11,7 @@ returns-in-Recurs-clause-settled g c =
 pub returns-in-Unresolved-clause-unsettled : goal.returns-in-Unresolved-clause-unsettled
 returns-in-Unresolved-clause-unsettled g c =
     nowhere_found c.args.rule.now c.args.cells.now c.args.bound c.in-Unresolved.population (sym c.in-Unresolved.is ∙ c.in_ok-code.ensures)
+
+pub unreachable-requires : goal.unreachable-requires
+unreachable-requires g c =
+    finding-no_ash c.args.rule.now c.args.cells.now c.args.bound c.in-Ash.population c.in-Ash.parts (sym c.in_ok-code.ensures ∙ c.in-Ash.is)

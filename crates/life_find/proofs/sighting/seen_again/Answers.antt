@@ -6,7 +6,7 @@ use Rattle.life_model.specs.Symmetry.{normal}
 use Rattle.life_model.proofs.Recurrences.{generation-next, generation-add}
 use Rattle.life_find.specs.Outline.{IsOutline}
 use Rattle.life_plane.specs.Ways.{IsWay}
-use Rattle.life_find.specs.Search.{AreOutlines, ends_alike}
+use Rattle.life_find.specs.Search.{AreOutlines, ends_alike, from_first}
 use Rattle.life_find.proofs.Apart.{IsApart, IsApart-start, IsApart-next, IsReturn-found}
 use Rattle.life_find.proofs.Possible.{length-more, AreOutlines-more, AreLeft-start, AreLeft-next, nowhere_left, nowhere_past}
 use Rattle.life_find.proofs.sighting.seen_again.Goals as goal
@@ -27,14 +27,14 @@ loop-lead-init g c =
       counted = count ∙ ap (λ n. n + 1) here;
       outlines = c.in_ok-seen.ensures.outlines;
       apart = IsApart-start R (generation R G b);
-      left = AreLeft-start R G b list c.in_ok-periods.periods.items c.in_ok-seen.ensures.outlines count
-          (c.in_ok-periods.ensures ∙ ap (λ l. filter (ends_alike l) (range_with_len 1 b)) c.deref.ensures.value);
+      left = AreLeft-start R G b list _ c.in_ok-seen.ensures.outlines count
+          (c.as_slice-periods.ensures.value ∙ c.in_ok-candidates.ensures ∙ ap (λ l. filter (ends_alike l) (range_with_len 1 b)) c.deref.ensures.value);
     }
 
 pub returns-then-is_empty-clause-none : goal.returns-then-is_empty-clause-none
 returns-then-is_empty-clause-none g c =
-    let none : length c.loop-lead.periods.items ≡ 0 = omega (arith, eqb-true _ 0 (sym c.is_empty.ensures ∙ c.if-is_empty.true)) in
-    nowhere_left c.args.rule.now c.args.cells.now c.args.bound c.loop-lead.periods.items none c.loop-lead.invariant.left
+    let none : length c.loop-lead.periods.now ≡ 0 = omega (arith, eqb-true _ 0 (sym c.is_empty.ensures ∙ c.if-is_empty.true)) in
+    nowhere_left c.args.rule.now c.args.cells.now c.args.bound c.loop-lead.periods.now none c.loop-lead.invariant.left
 
 pub returns-in-Some-2-clause-found : goal.returns-in-Some-2-clause-found
 returns-in-Some-2-clause-found g c =
@@ -96,8 +96,8 @@ loop-lead-preserved g c =
       counted = counted ∙ ap (λ k. k + 1) later;
       outlines = outlines;
       apart = IsApart-next R H n at.apart (λ e. missed (ap normal here ∙ e ∙ ap normal (sym again)));
-      left = AreLeft-next R G b after c.loop-lead.periods.items c.keep_candidates.new.periods.items outlines (omega arith) at.left
-          (c.keep_candidates.ensures ∙ ap (λ l. filter (ends_alike l) c.loop-lead.periods.items) c.deref-in-loop-lead.ensures.value);
+      left = AreLeft-next R G b after c.loop-lead.periods.now _ outlines (omega arith) at.left
+          (c.strike_periods-periods.ensures ∙ ap (λ l. from_first (ends_alike l) c.loop-lead.periods.now) c.deref-in-loop-lead.ensures.value);
     }
 
 pub returns-clause-none : goal.returns-clause-none

@@ -1,4 +1,6 @@
-use super::LeastText;
+//! The least texts of sets in all eight orientations.
+
+use life_codes::least_text::LeastText;
 use life_shape::reader::read_wechsler;
 use std::alloc::Global;
 use std::process::Abort;

@@ -1,6 +1,8 @@
 -- The least of the texts of all phases in all orientations, as they come one after another.
-use Rattle.std.proofs.Common.{◌≡◌, codes, ℕ, zero, suc, ◌+◌, List, [], ◌∷◌, ◌++◌, map, flat_map, Some, None, unwrap_or, sym, refl, ap, ◌∙◌, arith, append-nil}
+use Rattle.std.proofs.Common.{◌≡◌, codes, ℕ, zero, suc, ◌+◌, List, [], ◌∷◌, ◌++◌, map, flat_map, length, take, get_or, ◌<◌, Option, Some, None, sym, refl, ap, ◌∙◌, arith, append-nil}
+use Rattle.std.specs.Prelude.{unwrap_or}
 use Rattle.std.specs.List.{fold, range_with_len}
+use Rattle.std.proofs.lemmas.List.{map-append, take_more}
 use Rattle.std.proofs.lemmas.List.Sums.{fold-append}
 use Rattle.std.proofs.lemmas.Grind.{flat_map-append}
 use Rattle.life_model.specs.Cell.{Cell}
@@ -12,20 +14,17 @@ use Rattle.life_model.proofs.Moves.{normal-next}
 use Rattle.life_model.proofs.Objects.{normal-turned}
 use Rattle.life_model.proofs.Recurrences.{generation-zero, generation-next, shape}
 use Rattle.life_cells.proofs.PrintLemmas.{range_more}
+use Rattle.life_shape.specs.declared.orient.Orient.{Orient}
+use Rattle.life_shape.specs.declared.orient.Orient.TheVariants as orient
+use Rattle.life_shape.specs.Orients.{orientation}
 use Rattle.life_shape.specs.Wechsler.{body}
 use Rattle.life_shape.specs.TextOrder.{lesser, least_text}
 use Rattle.life_shape.proofs.Boxes.{normal_normal}
 use Rattle.life_answer.specs.Apgcode.{orientations, turned_bodies, bodies, prefix, code_of}
-use Rattle.life_answer.proofs.Codes.{body_by_shape}
+use Rattle.life_answer.proofs.Codes.{body-normal, body_by_shape}
 use Rattle.life_answer.proofs.Sizes.{size_by_shape}
 use Rattle.life_codes.specs.Least.{with_text}
-
--- ---- the text of a set is that of its normal form
-
-pub turned_bodies-normal : (G : Generation) → turned_bodies (normal G) ≡ turned_bodies G
-turned_bodies-normal G =
-    let each : (m : Orientation) → body (turned (normal G) m) ≡ body (turned G m) = λ m. body_by_shape _ _ (normal-turned (normal G) G m (normal_normal G)) in
-    λ i. map (λ m. each m i) orientations
+use Rattle.life_codes.proofs.Leasts.{turned_bodies-normal}
 
 -- ---- one text after another
 
@@ -33,9 +32,9 @@ fold-Some : (t : List ℕ) (ts : List (List ℕ)) → fold with_text (Some t) ts
 fold-Some t [] = refl
 fold-Some t (u ∷ us) = fold-Some (lesser t u) us
 
-pub least_or_none : (ts : List (List ℕ)) → unwrap_or (fold with_text None ts) [] ≡ least_text ts
-least_or_none [] = refl
-least_or_none (u ∷ us) = ap (λ o. unwrap_or o []) (fold-Some u us)
+pub least_is : (ts : List (List ℕ)) → unwrap_or (fold with_text None ts) [] ≡ least_text ts
+least_is [] = refl
+least_is (u ∷ us) = ap (λ o. unwrap_or o []) (fold-Some u us)
 
 -- ---- one phase after another
 

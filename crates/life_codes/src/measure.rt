@@ -1,0 +1,92 @@
+//! How long the texts of grids are.
+ghost use Rattle.std.specs.Prelude.{◌≡◌, ◌*◌, ◌<◌, ◌≤◌, false, length, true};
+ghost use Rattle.life_shape.specs.Dots.{strip_mark};
+ghost use Rattle.life_shape.specs.Wechsler.{columns_text, short_zeros, zeros};
+ghost use Rattle.life_codes.specs.Grids.{facing, grid_text};
+
+use crate::writing::strip_of;
+
+/// How long a text is, read from either side.
+#[derive(Clone, Copy)]
+pub struct Lengths {
+    pub forward: usize,
+    pub backward: usize,
+}
+
+/// How long the text of fewer than 39 zeros is.
+fn short_length(count: usize) -> usize
+    requires { count < 39 }
+    ensures length { result ≡ length (short_zeros count) }
+    ensures small { result ≤ count }
+{
+    match count {
+        0 => 0,
+        1..=3 => 1,
+        _ => 2,
+    }
+}
+
+/// How long the text of so many zeros is.
+fn zeros_length(count: usize) -> usize
+    ensures length { result ≡ length (zeros count) }
+    ensures small { result ≤ count }
+{
+    if count < 39 {
+        short_length(count)
+    } else {
+        2 * (count / 39) + short_length(count % 39)
+    }
+}
+
+/// How long the text of a strip is.
+fn strip_lengths(strip: &[u8]) -> Lengths
+    ensures forward { result.forward ≡ length (columns_text 0 (facing false strip.now)) }
+    ensures backward { result.backward ≡ length (columns_text 0 (facing true strip.now)) }
+    ensures small_forward { result.forward ≤ length strip.now }
+    ensures small_backward { result.backward ≤ length strip.now }
+{
+    let mut skipped = 0;
+    let mut forward = 0;
+    let mut backward = 0;
+    'columns: for (place, value) in strip.iter().enumerate() {
+        if *value == 0 {
+            skipped += 1;
+        } else {
+            let run = zeros_length(skipped);
+            forward += run + 1;
+            backward += if skipped < place { run + 1 } else { 1 };
+            skipped = 0;
+        }
+    }
+    if skipped < strip.len() {
+        backward += zeros_length(skipped);
+    }
+    Lengths { forward, backward }
+}
+
+/// How long it is what stands before a strip.
+fn mark_length(strip: usize) -> usize
+    ensures length { result ≡ length (strip_mark strip) }
+    ensures small { result ≤ 1 }
+{
+    if strip > 0 { 1 } else { 0 }
+}
+
+/// How long the text of a grid is.
+pub fn text_lengths(values: &[u8], wide: usize, strips: usize) -> Lengths
+    requires some { 0 < strips }
+    requires wide { 0 < wide }
+    requires room { length values.now ≡ strips * wide }
+    ensures forward { result.forward ≡ length (grid_text values.now wide strips false) }
+    ensures backward { result.backward ≡ length (grid_text values.now wide strips true) }
+{
+    let mut forward = 0;
+    let mut backward = 0;
+    'strips: for strip in 0..strips {
+        let lengths = strip_lengths(strip_of(values, wide, strip));
+        let mark = mark_length(strip);
+        forward += lengths.forward + mark;
+        backward += lengths.backward + mark;
+    }
+    Lengths { forward, backward }
+}
