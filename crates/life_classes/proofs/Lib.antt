@@ -7,3 +7,4 @@ pub mod Tracked
 pub mod Beginning
 pub mod Merging
 pub mod Later
+pub mod Few

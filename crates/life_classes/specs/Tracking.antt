@@ -1,9 +1,9 @@
 -- Classes as they are followed from generation to generation.
-use Rattle.std.specs.Prelude.{◌≡◌, ℕ, ◌≤◌, List, [], ◌∷◌, ◌++◌, map}
+use Rattle.std.specs.Prelude.{◌≡◌, ◌≢◌, ℕ, ◌≤◌, ◌<◌, length, get_or, List, [], ◌∷◌, ◌++◌, map}
 use Rattle.std.specs.List.{All, AllPairs}
 use Rattle.life_model.specs.Cell.{Cell}
 use Rattle.life_model.specs.Rule.{Rule}
-use Rattle.life_model.specs.Generation.{Generation, from_list, keep}
+use Rattle.life_model.specs.Generation.{Generation, empty, from_list, keep}
 use Rattle.life_model.specs.Evolution.{generation}
 use Rattle.life_objects.specs.Apart.{AreApart, AreApartBefore}
 use Rattle.life_objects.specs.Union.{union_of}
@@ -36,6 +36,14 @@ pub record AreTracked (R : Rule) (b n : ℕ) (G : Generation) (cs : List Class) 
   pub whole : All (λ c. StaysWhole R b G c.first) cs
   pub before : AllPairs (λ c d. AreApartBefore R n c.first d.first) cs
   pub later : All (λ c. c.last ≡ generation R c.first n) cs
+
+-- nothing is left of the classes from place n on
+abbrev pub HaveDied : List Class → ℕ → Type 0
+HaveDied cs n = (k : ℕ) (d : Class) → n ≤ k → k < length cs → (get_or cs k d).last ≡ empty
+
+-- of no two classes is something left
+abbrev pub AreFew : List Class → Type 0
+AreFew cs = AllPairs (λ c d. c.last ≢ empty → d.last ≢ empty → ⊥) cs
 
 -- among any other classes, these may be replaced by those, as they are joined
 abbrev pub LeadTo : List Class → List Class → Type 0

@@ -42,7 +42,7 @@ fn each_alone(alloc: Global, cells: &[(i32, i32)]) -> Result<Vec<Class>, AllocEr
 
 /// The cells as classes of those that are near each other. The cells are halved again and again, so that few classes
 /// are left where many are looked at.
-fn first_classes(alloc: Global, cells: &[(i32, i32)]) -> Result<Vec<Class>, AllocError>
+pub fn first_classes(alloc: Global, cells: &[(i32, i32)]) -> Result<Vec<Class>, AllocError>
     requires { All IsPlace cells.now }
     ensures tracked { IfOk result (λ all. LeadTo (map alone cells.now) all.items) }
     ensures apart { IfOk result (λ all. AreApartNow all.items) }

@@ -7,3 +7,4 @@ mod joining;
 mod nearness;
 mod rows;
 mod stepping;
+pub mod undivided;

@@ -83,6 +83,13 @@ impl Orbit {
         self.rule
     }
 
+    /// The set itself.
+    pub fn set(&self) -> &CellList
+        ensures { result.now ≡ self.now.set }
+    {
+        &self.phases[0]
+    }
+
     /// After how many generations it first comes again.
     pub fn period(&self) -> u32
         ensures value { result ≡ self.now.period }

@@ -1,0 +1,15 @@
+-- What is said of nothing that is found.
+use Rattle.std.proofs.Common.{◌≡◌, Option, None, Some, IfNone, IfSome, subst}
+
+-- where nothing is found, what follows from what is so there
+pub none_then : {X N M : Type 0} (o : Option X) → IfNone o N → (N → M) → IfNone o M
+none_then None h then = then h
+none_then (Some x) h then = tt
+
+-- what is said of nothing, where nothing is found
+pub of_none : {X N : Type 0} {o : Option X} → o ≡ None → IfNone o N → N
+of_none {N = N} e h = subst (λ p. IfNone p N) e h
+
+-- what is said of what is found
+pub of_some : {X : Type 0} {o : Option X} {x : X} (P : X → Type 0) → o ≡ Some x → IfSome o P → P x
+of_some P e h = subst (λ p. IfSome p P) e h

@@ -1,0 +1,14 @@
+pub mod Lists
+pub mod Places
+pub mod Moving
+pub mod Finding
+pub mod Turning
+pub mod Survivors
+pub mod Ends
+pub mod Cores
+pub mod Following
+pub mod Together
+pub mod Pairs
+pub mod Objects
+pub mod Later
+pub mod Firsts

@@ -1,0 +1,69 @@
+-- What a set was that comes again and again.
+use Rattle.std.proofs.Common.{◌≡◌, ℕ, ◌+◌, ◌-◌, ◌*◌, ◌/◌, ◌%◌, ◌<◌, ◌≤◌, sym, ap, subst, ◌∙◌, div-add-mod', mod-lt, arith}
+use Rattle.life_model.specs.Cell.{Cell, opposite}
+use Rattle.life_model.specs.Rule.{Rule}
+use Rattle.life_model.specs.Generation.{Generation}
+use Rattle.life_model.specs.Evolution.{generation}
+use Rattle.life_model.specs.Symmetry.{moved}
+use Rattle.life_model.specs.Recurrence.{RecursBy}
+use Rattle.life_model.proofs.Recurrences.{generation-add}
+use Rattle.life_objects.specs.Drift.{times}
+use Rattle.life_objects.proofs.Moving.{RecursBy-times}
+use Rattle.life_objects.proofs.Recurring.{RecursBy-later, RecursBy-sooner, moved_back}
+use Rattle.life_objects.specs.Ash.{RecursWithin}
+use Rattle.life_orbit.specs.Course.{Course, IsCourse}
+use Rattle.life_ash.specs.Parts.{IsEnd}
+
+-- P becomes the set in b generations, and after k more it stands again
+pub moved_to_before : (R : Rule) (P : Generation) (p : ℕ) (d : Cell) → RecursBy R P p d → (b k m : ℕ) (set : Generation) →
+    b + k ≡ m * p → 1 ≤ m → generation R P b ≡ set → moved (generation R set k) (opposite (times m d)) ≡ P
+moved_to_before R P p d r b k m set e one end =
+    ap (λ H. moved (generation R H k) (opposite (times m d))) (sym end)
+    ∙ ap (λ H. moved H (opposite (times m d)))
+    (generation-add R P b k ∙ ap (generation R P) e ∙ (RecursBy-times R P p d r m one).again)
+    ∙ moved_back P (times m d)
+
+-- how many whole periods reach back so far, and how far on it then is
+pub rounds_back : (n p : ℕ) → 1 ≤ n → 1 ≤ p → n + ((p - 1) - (n - 1) % p) ≡ ((n - 1) / p + 1) * p
+rounds_back n p one some =
+    let parts = div-add-mod' (n - 1) p in
+    let rest : (n - 1) % p < p = mod-lt (n - 1) some in
+    omega arith
+
+-- P becomes the set of an orbit, and recurs as this does
+module _ (o : Course) (P : Generation) (ago : ℕ) (one : 1 ≤ ago) (some : 1 ≤ o.period)
+    (r : RecursBy o.rule P o.period o.displacement) (end : generation o.rule P ago ≡ o.set) where
+  pub turned_back : (phase : Generation) (by : Cell) →
+      phase ≡ generation o.rule o.set ((o.period - 1) - (ago - 1) % o.period) →
+      by ≡ times ((ago - 1) / o.period + 1) o.displacement → moved phase (opposite by) ≡ P
+  turned_back phase by e f =
+      (λ i. moved (e i) (opposite (f i)))
+      ∙ moved_to_before o.rule P o.period o.displacement r ago ((o.period - 1) - (ago - 1) % o.period)
+      ((ago - 1) / o.period + 1) o.set (rounds_back ago o.period one some) (omega arith) end
+
+module _ (R : Rule) (b : ℕ) (last P : Generation) (is_end : IsEnd R b last P) where
+  pub end_recurs : RecursWithin R b last
+  end_recurs = record {
+    steps = is_end.recurs.steps;
+    by = is_end.recurs.by;
+    within = is_end.recurs.within;
+    recurs = subst (λ H. RecursBy R H is_end.recurs.steps is_end.recurs.by) is_end.end
+        (RecursBy-later R P is_end.recurs.steps is_end.recurs.by is_end.recurs.recurs b);
+  }
+
+  -- P recurs as what it becomes does
+  pub end_tells : (n : ℕ) (d : Cell) → RecursBy R last n d → RecursBy R P n d
+  end_tells n d r =
+      RecursBy-sooner R P is_end.recurs.steps is_end.recurs.by is_end.recurs.recurs b n d
+      (subst (λ H. RecursBy R H n d) (sym is_end.end) r)
+
+  -- P goes round as the orbit of what it becomes
+  module _ (o : Course) (rule : o.rule ≡ R) (set : o.set ≡ last) (course : IsCourse o) where
+    pub end_goes_round : RecursBy o.rule P o.period o.displacement
+    end_goes_round =
+        subst (λ S. RecursBy S P o.period o.displacement) (sym rule)
+        (end_tells o.period o.displacement (subst (λ H. RecursBy R H o.period o.displacement) set
+        (subst (λ S. RecursBy S o.set o.period o.displacement) rule course.recurs)))
+
+    pub end_reached : generation o.rule P b ≡ o.set
+    end_reached = ap (λ S. generation S P b) rule ∙ is_end.end ∙ sym set

@@ -1,0 +1,74 @@
+use Rattle.std.proofs.Common.{◌≡◌, filter, ap, subst, ◌∙◌, arith}
+use Rattle.std.specs.List.{All, Contains}
+use Rattle.std.proofs.lemmas.List.Elements.{All-same}
+use Rattle.std.proofs.lemmas.Option.{IfSome_then}
+use Rattle.std.proofs.lemmas.Result.{IfOk-weaker}
+use Rattle.life_model.specs.Generation.{cells}
+use Rattle.life_cells.specs.Limits.{IsWithin}
+use Rattle.life_objects.specs.Union.{generations}
+use Rattle.life_objects.specs.Whole.{StaysWhole}
+use Rattle.life_classes.specs.Tracking.{firsts}
+use Rattle.life_ash.specs.Living.{lives}
+use Rattle.life_ash.specs.Parts.{AreEnds}
+use Rattle.life_ash.proofs.Cores.{ash_by_ends, no_end}
+use Rattle.life_ash.proofs.Finding.{none_then}
+use Rattle.life_ash.proofs.Following.{ends_within}
+use Rattle.life_ash.proofs.Places.{placed_at}
+use Rattle.life_ash.proofs.Survivors.{ends}
+use Rattle.life_ash.proofs.parts.only_parts.Given.{Over}
+use Rattle.life_ash.proofs.parts.only_parts.Goals as goal
+
+pub parts_of-requires-clause-within : goal.parts_of-requires-clause-within
+parts_of-requires-clause-within g c =
+    let R = c.args.rule.now in
+    let b = c.args.bound in
+    let Ls = firsts c.in_ok-classes.field-0.items in
+    let age = c.in_ok-copy.ensures.age in
+    let young = c.requires.young in
+    let few = c.requires.bound in
+    let listed : c.as_slice.result.now ≡ ends R b Ls =
+    c.as_slice.ensures.value ∙ c.in_ok-lasts.ensures
+    ∙ ap (filter lives) {y = generations R Ls b} c.in_ok-classes.ensures.later in
+    All-same (λ Q. All (IsWithin 4000000) (cells Q)) _ _ listed
+    (ends_within R (g.P.Plane.steps_made c.in_ok-copy.copy) b 4000000 (g.P.Plane.members c.in_ok-copy.copy) Ls
+    c.in_ok-classes.ensures.together (omega arith) c.age-age.ensures.within)
+
+-- what has become of the classes that live on
+listed : (g : Over) (c : goal.After-drop-lasts g) →
+    c.as_slice.result.now ≡ ends c.args.rule.now c.args.bound (firsts c.in_ok-classes.field-0.items)
+listed g c = c.as_slice.ensures.value ∙ c.in_ok-lasts.ensures ∙ ap (filter lives) c.in_ok-classes.ensures.later
+
+-- none of the classes is torn
+stay : (g : Over) (c : goal.After-drop-lasts g) →
+    All (StaysWhole c.args.rule.now c.args.bound (g.P.Plane.members c.args.plane.now))
+    (firsts c.in_ok-classes.field-0.items)
+stay g c =
+    subst (λ H. All (StaysWhole c.args.rule.now c.args.bound H) (firsts c.in_ok-classes.field-0.items))
+    c.in_ok-copy.ensures.cells c.in_ok-classes.ensures.whole
+
+placed : (g : Over) (c : goal.After-drop-lasts g) → All (IsWithin 400000) (cells (g.P.Plane.members c.args.plane.now))
+placed g c =
+    let young = c.requires.young in
+    let age = c.in_ok-copy.ensures.age in
+    placed_at (g.P.Plane.steps_made c.in_ok-copy.copy) _ (g.P.Plane.members c.args.plane.now) c.in_ok-copy.ensures.cells
+    (omega arith) c.age-age.ensures.within
+
+pub returns-clause-only : goal.returns-clause-only
+returns-clause-only g c =
+    IfOk-weaker c.parts_of.result _ _
+    (λ found h. IfSome_then found h
+    (λ orbits told parts ash. ash_by_ends c.args.rule.now c.args.bound (g.P.Plane.members c.args.plane.now)
+    (firsts c.in_ok-classes.field-0.items) (c.in_ok-classes.ensures.together ∙ c.in_ok-copy.ensures.cells) (stay g c)
+    c.in_ok-classes.ensures.apart parts ash (placed g c) orbits.items
+    (subst (λ Qs. AreEnds c.args.rule.now c.args.bound Qs orbits.items) (listed g c) told)))
+    c.parts_of.ensures.sets
+
+pub returns-clause-none : goal.returns-clause-none
+returns-clause-none g c =
+    IfOk-weaker c.parts_of.result _ _
+    (λ found h. none_then found h
+    (λ no parts ash. no_end c.args.rule.now c.args.bound (g.P.Plane.members c.args.plane.now)
+    (firsts c.in_ok-classes.field-0.items) (c.in_ok-classes.ensures.together ∙ c.in_ok-copy.ensures.cells) (stay g c)
+    c.in_ok-classes.ensures.apart parts ash (placed g c) no.0
+    (subst (λ Qs. Contains Qs no.0) (listed g c) no.1) no.2))
+    c.parts_of.ensures.none

@@ -1,0 +1,31 @@
+use Rattle.std.proofs.Common.{◌+◌, ◌++◌, ◌∷◌, [], length, sym, ap, ◌∙◌}
+use Rattle.std.proofs.lemmas.List.{length-append}
+use Rattle.std.proofs.lemmas.List.Elements.{All-push, All-same}
+use Rattle.life_ash.specs.Parts.{IsFit, IsOnlyOne}
+use Rattle.life_ash.proofs.Finding.{of_none, of_some}
+use Rattle.life_ash.proofs.Following.{only_next}
+use Rattle.life_ash.proofs.parts.parts_of.Goals as goal
+
+pub returns-in-None-clause-none : goal.returns-in-None-clause-none
+returns-in-None-clause-none c =
+    let Q = c.last-item.result in
+    let i = c.loop-last.last-index in
+    let none = of_none c.in-None.is c.in_ok-part.ensures.none in
+    (Q, (i, c.loop-last-test.true, sym c.last-item.is), none)
+
+pub loop-last-preserved : goal.loop-last-preserved
+loop-last-preserved c =
+    let R = c.args.rule.now in
+    let b = c.args.bound in
+    let os = c.loop-last.parts.items in
+    let o = c.in-Some.part in
+    let grown = c.in_ok-push-in-Some.ensures.items in
+    let at = c.loop-last.invariant in
+    record {
+      fit = All-same (IsFit R b) _ (os ++ o ∷ []) grown
+          (All-push (IsFit R b) os o at.fit (of_some (IsFit R b) c.in-Some.is c.in_ok-part.ensures.fit));
+      count = ap length grown ∙ length-append os (o ∷ []) ∙ ap (λ n. n + 1) at.count;
+      only = only_next R b c.args.lasts.now os c.push.new.self.items o c.last-item.result c.loop-last.last-index at.count
+          c.loop-last-test.true c.last-item.is grown at.only
+          (of_some (IsOnlyOne R b c.last-item.result) c.in-Some.is c.in_ok-part.ensures.set);
+    }

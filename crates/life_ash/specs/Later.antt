@@ -1,0 +1,12 @@
+-- Sets that recur, some generations later.
+use Rattle.std.specs.Prelude.{ℕ, List, map}
+use Rattle.life_model.specs.Evolution.{generation}
+use Rattle.life_orbit.specs.Course.{Course}
+
+-- what recurs so, n generations later
+abbrev pub later : ℕ → Course → Course
+later n o = record { rule = o.rule; set = generation o.rule o.set n; period = o.period; displacement = o.displacement }
+
+-- each, n generations later
+abbrev pub all_later : ℕ → List Course → List Course
+all_later n os = map (later n) os

@@ -1,0 +1,44 @@
+-- What the parts of ash must be.
+use Rattle.std.specs.Prelude.{◌≡◌, ℕ, ◌<◌, ◌≤◌, List, length, map, slice_index_or}
+use Rattle.std.specs.List.{All}
+use Rattle.life_model.specs.Evolution.{generation}
+use Rattle.life_model.specs.Generation.{Generation, cells}
+use Rattle.life_model.specs.Rule.{Rule}
+use Rattle.life_cells.specs.Limits.{IsWithin}
+use Rattle.life_objects.specs.Ash.{RecursWithin}
+use Rattle.life_orbit.specs.Course.{Course, IsCourse}
+
+-- the sets that recur so
+abbrev pub sets_of : List Course → List Generation
+sets_of courses = map (λ o. o.set) courses
+
+-- it recurs by this rule
+abbrev pub IsOf : Rule → Course → Type 0
+IsOf R o = o.rule ≡ R
+
+-- it stands in the field at age 400,000
+abbrev pub IsPlaced : Course → Type 0
+IsPlaced o = All (IsWithin 400000) (cells o.set)
+
+-- it recurs by this rule within the bound, and stands in the field at age 400,000
+pub record IsFit (R : Rule) (b : ℕ) (o : Course) : Type 0 where
+  pub rule : o.rule ≡ R
+  pub recurs : IsCourse o
+  pub period : o.period ≤ b
+  pub within : IsPlaced o
+
+-- P is in the field at age 400,000, recurs within the bound, and becomes the set last after as many generations
+pub record IsEnd (R : Rule) (b : ℕ) (last P : Generation) : Type 0 where
+  pub within : All (IsWithin 400000) (cells P)
+  pub recurs : RecursWithin R b P
+  pub end : generation R P b ≡ last
+
+-- Only the set that recurs so may have become the set last.
+abbrev pub IsOnlyOne : Rule → ℕ → Generation → Course → Type 0
+IsOnlyOne R b last o = (P : Generation) → IsEnd R b last P → o.set ≡ P
+
+-- one for each of the sets, in order
+pub record AreEnds (R : Rule) (b : ℕ) (ends : List Generation) (courses : List Course) : Type 0 where
+  pub count : length courses ≡ length ends
+  pub only : (k : ℕ) (e : Course) (d : Generation) → k < length courses →
+      IsOnlyOne R b (slice_index_or ends k d) (slice_index_or courses k e)

@@ -1,0 +1,71 @@
+//! What a set was that comes again and again.
+ghost use Rattle.std.specs.Prelude.{◌≡◌, ℕ, ◌≤◌, ◌^◌, All, IfNone, IfOk, IfSome};
+ghost use Rattle.life_model.specs.Cell.{opposite, plus};
+ghost use Rattle.life_model.specs.Evolution.{generation};
+ghost use Rattle.life_model.specs.Generation.{Generation};
+ghost use Rattle.life_model.specs.Generation as generations;
+ghost use Rattle.life_model.specs.Recurrence.{RecursBy};
+ghost use Rattle.life_model.specs.Symmetry.{moved};
+ghost use Rattle.life_cells.specs.Limits.{IsWithin};
+ghost use Rattle.life_orbit.specs.Reach.{IsReach};
+
+use life_cells::cell_list::CellList;
+use life_orbit::orbit::{BOUND_LIMIT, Orbit};
+use life_orbit::shift::repeated;
+use std::alloc::{AllocError, Global};
+
+/// The cell, moved back, where it then is in the field at age 400,000.
+fn cell_before(cell: (i32, i32), by: (i128, i128)) -> Option<(i32, i32)>
+    requires { IsReach (2 ^ 126) by }
+    ensures moved { IfSome result (λ place. place ≡ plus cell (opposite by)) }
+    ensures within { IfSome result (λ place. IsWithin 400000 place) }
+    ensures outside { IfNone result (IsWithin 400000 (plus cell (opposite by)) → ⊥) }
+{
+    let x = cell.0 as i128 - by.0;
+    let y = cell.1 as i128 - by.1;
+    if -400_000 <= x && x <= 1_448_575 && -400_000 <= y && y <= 1_448_575 {
+        return Some((x as i32, y as i32));
+    }
+    None
+}
+
+/// The cells, moved back, where they then are in the field at age 400,000.
+fn cells_before(
+    alloc: Global,
+    cells: &CellList,
+    by: (i128, i128),
+) -> Result<Option<CellList>, AllocError>
+    requires { IsReach (2 ^ 126) by }
+    ensures moved { IfOk result (λ found. IfSome found (λ set. set ≡ moved cells.now (opposite by))) }
+    ensures within { IfOk result (λ found. IfSome found (λ set. All (IsWithin 400000) (generations.cells set))) }
+    ensures outside { IfOk result (λ found. IfNone found
+        (All (IsWithin 400000) (generations.cells (moved cells.now (opposite by))) → ⊥)) }
+{
+    let places = cells.as_slice();
+    let mut items = Vec::new(alloc);
+    for cell in places {
+        match cell_before(*cell, by) {
+            Some(place) => items.push(place)?,
+            None => return Ok(None),
+        }
+    }
+    Ok(Some(CellList::from_ordered(items)))
+}
+
+/// What a set was so many generations ago that comes again as this orbit does, where it was in the field at age 400,000.
+pub fn set_before(alloc: Global, orbit: &Orbit, ago: u32) -> Result<Option<CellList>, AllocError>
+    requires { 1 ≤ ago × ago ≤ BOUND_LIMIT }
+    ensures within { IfOk result (λ found. IfSome found (λ set. All (IsWithin 400000) (generations.cells set))) }
+    ensures set { IfOk result (λ found. IfSome found (λ set. (P : Generation) →
+        RecursBy orbit.now.rule P orbit.now.period orbit.now.displacement →
+        generation orbit.now.rule P ago ≡ orbit.now.set → set ≡ P)) }
+    ensures outside { IfOk result (λ found. IfNone found ((P : Generation) →
+        RecursBy orbit.now.rule P orbit.now.period orbit.now.displacement →
+        generation orbit.now.rule P ago ≡ orbit.now.set → All (IsWithin 400000) (generations.cells P) → ⊥)) }
+{
+    let period = orbit.period();
+    let rounds = (ago - 1) / period + 1;
+    let rest = period - 1 - (ago - 1) % period;
+    let by = repeated(rounds as u128, orbit.displacement());
+    cells_before(alloc, orbit.phase(rest), by)
+}

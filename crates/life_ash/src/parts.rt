@@ -1,0 +1,88 @@
+//! What must be the parts of ash, if there is ash at all.
+ghost use Rattle.std.specs.Prelude.{◌≡◌, ◌≤◌, All, IfNone, IfOk, IfSome, List};
+ghost use Rattle.life_model.specs.Generation.{Generation};
+ghost use Rattle.life_model.specs.Generation as generations;
+ghost use Rattle.std.specs.List.{Contains};
+ghost use Rattle.life_cells.specs.Limits.{IsWithin};
+ghost use Rattle.life_objects.specs.Ash.{IsAsh};
+ghost use Rattle.life_ash.specs.Parts.{AreEnds, IsEnd, IsFit, sets_of};
+
+use crate::before::set_before;
+use crate::living::living;
+use life_cells::cell_list::CellList;
+use life_cells::rule::Rule;
+use life_classes::classes::classes;
+use life_orbit::orbit::{BOUND_LIMIT, Orbit};
+use life_plane::plane::Plane;
+use std::alloc::{AllocError, Global};
+
+/// The only set that may have become this one after so many generations and that comes again within as many.
+fn part_of(
+    alloc: Global,
+    rule: &Rule,
+    last: &CellList,
+    bound: u32,
+) -> Result<Option<Orbit>, AllocError>
+    requires bound { 1 ≤ bound × bound ≤ BOUND_LIMIT }
+    requires within { All (IsWithin 4000000) (generations.cells last.now) }
+    ensures fit { IfOk result (λ found. IfSome found (λ orbit. IsFit rule.now bound orbit)) }
+    ensures set { IfOk result (λ found. IfSome found (λ orbit. (P : Generation) →
+        IsEnd rule.now bound last.now P → orbit.set ≡ P)) }
+    ensures none { IfOk result (λ found. IfNone found ((P : Generation) → IsEnd rule.now bound last.now P → ⊥)) }
+{
+    let Some(orbit) = Orbit::of(alloc, rule, last, bound)? else {
+        return Ok(None);
+    };
+    let Some(set) = set_before(alloc, &orbit, bound)? else {
+        return Ok(None);
+    };
+    Orbit::of(alloc, rule, &set, bound)
+}
+
+/// The only sets that may have become these ones.
+fn parts_of(
+    alloc: Global,
+    rule: &Rule,
+    lasts: &[CellList],
+    bound: u32,
+) -> Result<Option<Vec<Orbit>>, AllocError>
+    requires bound { 1 ≤ bound × bound ≤ BOUND_LIMIT }
+    requires within { All (λ G. All (IsWithin 4000000) (generations.cells G)) lasts.now }
+    ensures fit { IfOk result (λ found. IfSome found (λ orbits. All (IsFit rule.now bound) orbits.items)) }
+    ensures sets { IfOk result (λ found. IfSome found (λ orbits.
+        AreEnds rule.now bound lasts.now orbits.items)) }
+    ensures none { IfOk result (λ found. IfNone found ((last : Generation) × Contains lasts.now last
+        × ((P : Generation) → IsEnd rule.now bound last P → ⊥))) }
+{
+    let mut parts = Vec::new(alloc);
+    for last in lasts {
+        match part_of(alloc, rule, last, bound)? {
+            Some(part) => parts.push(part)?,
+            None => return Ok(None),
+        }
+    }
+    Ok(Some(parts))
+}
+
+/// The only parts of which the cells of a plane may be ash.
+pub fn only_parts<P: Plane>(
+    alloc: Global,
+    plane: &P,
+    rule: &Rule,
+    bound: u32,
+) -> Result<Option<Vec<Orbit>>, AllocError>
+    requires bound { 1 ≤ bound × bound ≤ BOUND_LIMIT }
+    requires young { P.steps_made plane.now ≤ 400000 }
+    ensures fit { IfOk result (λ found. IfSome found (λ orbits. All (IsFit rule.now bound) orbits.items)) }
+    ensures only { IfOk result (λ found. IfSome found (λ orbits. (parts : List Generation) →
+        IsAsh rule.now bound (P.members plane.now) parts →
+        IsAsh rule.now bound (P.members plane.now) (sets_of orbits.items))) }
+    ensures none { IfOk result (λ found. IfNone found ((parts : List Generation) →
+        IsAsh rule.now bound (P.members plane.now) parts → ⊥)) }
+{
+    let copy = plane.copy()?;
+    // (at its age no cell is too far out)
+    let age = copy.age();
+    let lasts = living(alloc, classes(alloc, copy, rule, bound)?)?;
+    parts_of(alloc, rule, lasts.as_slice(), bound)
+}

@@ -1,0 +1,81 @@
+//! Whether sets that recur are objects.
+ghost use Rattle.std.specs.Prelude.{◌≡◌, ◌≤◌, ◌<◌, ◌↔◌, All, IfOk, IsTrue};
+ghost use Rattle.life_model.specs.Generation as generations;
+ghost use Rattle.life_cells.specs.Limits.{IsWithin};
+ghost use Rattle.life_objects.specs.Ash.{IsObject};
+ghost use Rattle.life_objects.specs.Piece.{IsOnePiece, IsUndivided};
+ghost use Rattle.life_ash.specs.Parts.{IsFit, sets_of};
+
+use life_cells::cell_list::CellList;
+use life_cells::rule::Rule;
+use life_classes::undivided;
+use life_orbit::orbit::{BOUND_LIMIT, Orbit};
+use life_plane::plane::Plane;
+use std::alloc::{AllocError, Global};
+
+/// Whether of no two sets into which the cells split do both live on.
+fn is_undivided<P: Plane>(
+    alloc: Global,
+    cells: &CellList,
+    rule: &Rule,
+    bound: u32,
+) -> Result<bool, AllocError>
+    requires bound { bound ≤ BOUND_LIMIT }
+    requires within { All (IsWithin 500000) (generations.cells cells.now) }
+    ensures { IfOk result (λ is. IsTrue is ↔ IsUndivided rule.now bound cells.now) }
+{
+    let plane = P::at_age(alloc, cells, 500_000)?;
+    undivided::is_undivided(alloc, plane, rule, bound)
+}
+
+/// Whether no generation of a set that recurs is divided.
+fn is_one_piece<P: Plane>(
+    alloc: Global,
+    orbit: &Orbit,
+    rule: &Rule,
+    bound: u32,
+) -> Result<bool, AllocError>
+    requires bound { bound ≤ BOUND_LIMIT }
+    requires fit { IsFit rule.now bound orbit.now }
+    ensures { IfOk result (λ is. IsTrue is ↔ IsOnePiece rule.now bound orbit.now.set) }
+{
+    for phase in 0..orbit.period() {
+        if !is_undivided::<P>(alloc, orbit.phase(phase), rule, bound)? {
+            return Ok(false);
+        }
+    }
+    Ok(true)
+}
+
+/// Whether a set that recurs is an object.
+fn is_object<P: Plane>(
+    alloc: Global,
+    orbit: &Orbit,
+    rule: &Rule,
+    bound: u32,
+) -> Result<bool, AllocError>
+    requires bound { bound ≤ BOUND_LIMIT }
+    requires fit { IsFit rule.now bound orbit.now }
+    ensures { IfOk result (λ is. IsTrue is ↔ IsObject rule.now bound orbit.now.set) }
+{
+    Ok(!orbit.set().is_empty() && is_one_piece::<P>(alloc, orbit, rule, bound)?)
+}
+
+/// Whether sets that recur are objects, all of them.
+pub fn are_objects<P: Plane>(
+    alloc: Global,
+    orbits: &[Orbit],
+    rule: &Rule,
+    bound: u32,
+) -> Result<bool, AllocError>
+    requires bound { bound ≤ BOUND_LIMIT }
+    requires fit { All (IsFit rule.now bound) orbits.now }
+    ensures { IfOk result (λ are. IsTrue are ↔ All (IsObject rule.now bound) (sets_of orbits.now)) }
+{
+    for orbit in orbits {
+        if !is_object::<P>(alloc, orbit, rule, bound)? {
+            return Ok(false);
+        }
+    }
+    Ok(true)
+}
