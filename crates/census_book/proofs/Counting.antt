@@ -4,11 +4,12 @@ use Rattle.census_bundle.specs.declared.bundle.Entry.{Entry}
 use Rattle.census_bundle.specs.declared.bundle.Folder.{Folder}
 use Rattle.census_bundle.specs.declared.ticket.Ticket.{Ticket}
 use Rattle.life_answer.specs.declared.finding.Answer.{Answer}
-use Rattle.life_answer.specs.Answers.{answer_of}
+use Rattle.life_answer.specs.Questions.{answer_to_question}
 use Rattle.census_bundle.specs.Tickets.{Tickets, ticket, numbered, entry_at, has_ticket, with_ticket, IsTicketOf}
 use Rattle.census_book.specs.Counts.{numbered_sum, bundle_weight, one_if, taken_count, missing_count, CountsStep}
 use Rattle.census_book.proofs.TicketSets.{has_other, has_same}
 use Rattle.census_book.proofs.Releases.{folder_at}
+use Rattle.life_answer.specs.declared.question.Question.{Question}
 
 sum_same : {A : Type 0} (g h : ℕ → A → ℕ) (i : ℕ) (xs : List A) → ((j : ℕ) (x : A) → i ≤ j → h j x ≡ g j x) → numbered_sum h i xs ≡ numbered_sum g i xs
 sum_same g h i [] same = refl
@@ -48,12 +49,12 @@ weight_step w v n b t e same more at =
     j.2
 
 -- a ticket that is taken adds its pattern to those of its kind
-pub count_more : (kind : Answer → Bool) (b : List Folder) (bound : ℕ) (taken : Tickets) (t : Ticket) (e : Entry) → entry_at b t ≡ Some e → has_ticket taken t ≡ false
-    → taken_count kind b bound (with_ticket taken t) ≡ taken_count kind b bound taken + one_if (kind (answer_of e.text bound))
-count_more kind b bound taken t e at not =
-    weight_step _ _ _ b t e (λ u x other. ap (λ (has : Bool). cond has (one_if (kind (answer_of x.text bound))) 0) (has_other taken t u other))
-    (ap (λ (has : Bool). cond has (one_if (kind (answer_of e.text bound))) 0) (has_same taken t)
-    ∙ sym (ap (λ (has : Bool). cond has (one_if (kind (answer_of e.text bound))) 0 + one_if (kind (answer_of e.text bound))) not ∙ omega arith))
+pub count_more : (kind : Answer → Bool) (b : List Folder) (question : Question) (taken : Tickets) (t : Ticket) (e : Entry) → entry_at b t ≡ Some e → has_ticket taken t ≡ false
+    → taken_count kind b question (with_ticket taken t) ≡ taken_count kind b question taken + one_if (kind (answer_to_question question e.text))
+count_more kind b question taken t e at not =
+    weight_step _ _ _ b t e (λ u x other. ap (λ (has : Bool). cond has (one_if (kind (answer_to_question question x.text))) 0) (has_other taken t u other))
+    (ap (λ (has : Bool). cond has (one_if (kind (answer_to_question question e.text))) 0) (has_same taken t)
+    ∙ sym (ap (λ (has : Bool). cond has (one_if (kind (answer_to_question question e.text))) 0 + one_if (kind (answer_to_question question e.text))) not ∙ omega arith))
     at
 
 -- and leaves one less missing
@@ -65,7 +66,7 @@ missing_less b taken t of not =
 
 pub counts_step : CountsStep
 counts_step b taken t e at not =
-    (λ kind bound. count_more kind b bound taken t e at not, missing_less b taken t (e, at) not)
+    (λ kind question. count_more kind b question taken t e at not, missing_less b taken t (e, at) not)
 
 pub missing_smaller : (b b' : List Folder) (taken taken' : Tickets) (t u : Ticket) → b' ≡ b → taken' ≡ with_ticket taken u → u ≡ t → IsTicketOf b t → has_ticket taken t ≡ false → missing_count b' taken' < missing_count b taken
 missing_smaller b b' taken taken' t u same_b is same of not =

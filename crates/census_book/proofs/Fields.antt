@@ -9,9 +9,10 @@ use Rattle.life_answer.specs.declared.finding.Finding.TheVariants.{Recurs}
 use Rattle.life_model.specs.Rule.{Rule}
 use Rattle.life_cells.specs.Rules.{rule_text}
 use Rattle.census_bundle.specs.declared.bundle.Entry.{Entry}
-use Rattle.life_answer.specs.Answers.{answer_of}
-use Rattle.census_book.specs.Heads.{headed, line_head}
-use Rattle.census_book.specs.Lines.{behind, finding_fields, pattern_line}
+use Rattle.life_answer.specs.Questions.{answer_to_question}
+use Rattle.census_book.specs.Heads.{headed, line_head, line_tail}
+use Rattle.census_book.specs.Lines.{behind, finding_fields, part_lines, pattern_line, pattern_text, text_of}
+use Rattle.life_answer.specs.declared.question.Question.{Question}
 
 pub behind-append : (xs ys : List (List ℕ)) → behind (xs ++ ys) ≡ behind xs ++ behind ys
 behind-append [] ys = refl
@@ -52,9 +53,9 @@ one_more word name xs =
     ∙ ap (λ r. word ++ (behind xs ++ 32 ∷ r)) (sym (append-nil name))
     ∙ ap (λ r. word ++ r) (sym (behind-append xs (name ∷ [])))
 
--- a pattern's line begins with its head
-pub headed_line : (bound c i : ℕ) (e : Entry) → headed (line_head c i (answer_of e.text bound)) e ≡ pattern_line bound c i e
-unfolding line_head pattern_line
-headed_line bound c i e =
-    let found = answer_of e.text bound in
-    ap (λ text. text ++ codes "\n") (one_more (codes "line") e.name (decimal c ∷ decimal i ∷ finding_fields found))
+-- a pattern's lines are its head, its name and its tail
+pub headed_line : (question : Question) (c i : ℕ) (e : Entry) → headed (line_head c i (answer_to_question question e.text)) (line_tail c i (answer_to_question question e.text)) e ≡ pattern_text question c i e
+unfolding line_head line_tail pattern_line pattern_text
+headed_line question c i e =
+    let found = answer_to_question question e.text in
+    ap (λ text. (text ++ codes "\n") ++ text_of (part_lines c i found)) (one_more (codes "line") e.name (decimal c ∷ decimal i ∷ finding_fields found))

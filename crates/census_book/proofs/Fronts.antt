@@ -18,6 +18,7 @@ use Rattle.census_bundle.specs.Sizes.{IsSmall}
 use Rattle.census_book.proofs.Releases.{all_each, all_not, run_none, folder_at, not_whole}
 use Rattle.census_book.proofs.Texts.{ticket_in}
 use Rattle.census_book.proofs.Owning.{eqb_same, eqb_apart}
+use Rattle.life_answer.specs.declared.question.Question.{Question}
 
 -- the runs are those of these tickets, and the first open collection was looked for from one before which all are whole
 pub next_front : (b : List Folder) (taken : Tickets) (new runs : List ℕ) (c m from first : ℕ) → length new ≡ length b
@@ -137,9 +138,9 @@ run_kept taken t c k f is j lt =
     has_kept taken t (ticket c (1 + j)) (run_before (λ i. has_ticket taken (ticket c i)) 1 f.entries j within)
 
 -- the front after a result that belongs there
-pub front_after : (b : List Folder) (bound : ℕ) (taken : Tickets) (runs : List ℕ) (first next : ℕ) (t : Ticket) (m : ℕ) (text : List ℕ) (n : ℕ) → IsFront b taken runs first → Belongs b bound t text n → has_ticket taken t ≡ false
+pub front_after : (b : List Folder) (question : Question) (taken : Tickets) (runs : List ℕ) (first next : ℕ) (t : Ticket) (m : ℕ) (text : List ℕ) (asked : Question) → IsFront b taken runs first → Belongs b question t text asked → has_ticket taken t ≡ false
     → ((f : Folder) → numbered b t.folder ≡ Some f → m ≡ run_of (with_ticket taken t) t.folder f) → IsNextOpen b runs t.folder m first next → IsFront b (with_ticket taken t) (set runs (t.folder - 1) m) next
-front_after b bound taken runs first next t m text n front belongs new here behind =
+front_after b question taken runs first next t m text n front belongs new here behind =
     let at = folder_at (numbered b t.folder) t.number belongs.entry belongs.at in
     front_with b taken runs first next t m front (ticket_in b t belongs.entry belongs.at) here
     (λ f is whole.
@@ -156,14 +157,14 @@ pub no_end_when : (b : List Folder) (taken : Tickets) (runs : List ℕ) (first :
 no_end_when b taken runs first front apart = ap (λ x. end_if x b) (sym (part_front b taken runs first front apart))
 
 -- the text that a result releases
-pub released_text : (b : List Folder) (bound : ℕ) (taken : Tickets) (t : Ticket) (f : Folder) (k m : ℕ) (text ended : List ℕ) → numbered b t.folder ≡ Some f → k ≡ run_of taken t.folder f → m ≡ run_of (with_ticket taken t) t.folder f
-    → ended ≡ end_if (has_all b (with_ticket taken t)) b → text ≡ text_of (folder_out bound t.folder f k m) ++ ended → text ≡ out b bound taken t
-released_text b bound taken t f k m text ended at is_k is_m is_ended is =
+pub released_text : (b : List Folder) (question : Question) (taken : Tickets) (t : Ticket) (f : Folder) (k m : ℕ) (text ended : List ℕ) → numbered b t.folder ≡ Some f → k ≡ run_of taken t.folder f → m ≡ run_of (with_ticket taken t) t.folder f
+    → ended ≡ end_if (has_all b (with_ticket taken t)) b → text ≡ text_of (folder_out question t.folder f k m) ++ ended → text ≡ out b question taken t
+released_text b question taken t f k m text ended at is_k is_m is_ended is =
     let after = with_ticket taken t in
-    is ∙ ap (λ x. text_of (folder_out bound t.folder f k m) ++ x) is_ended
-    ∙ ap (λ n. text_of (folder_out bound t.folder f n m) ++ end_if (has_all b after) b) is_k
-    ∙ ap (λ n. text_of (folder_out bound t.folder f (run_of taken t.folder f) n) ++ end_if (has_all b after) b) is_m
-    ∙ ap (λ o. out_of bound o taken t ++ end_if (has_all b after) b) (sym at)
+    is ∙ ap (λ x. text_of (folder_out question t.folder f k m) ++ x) is_ended
+    ∙ ap (λ n. text_of (folder_out question t.folder f n m) ++ end_if (has_all b after) b) is_k
+    ∙ ap (λ n. text_of (folder_out question t.folder f (run_of taken t.folder f) n) ++ end_if (has_all b after) b) is_m
+    ∙ ap (λ o. out_of question o taken t ++ end_if (has_all b after) b) (sym at)
 
 pub same_folder : (o : Option Folder) (f g : Folder) → o ≡ Some f → o ≡ Some g → f ≡ g
 same_folder o f g one other = let both : Some f ≡ Some g = sym one ∙ other in cc

@@ -10,6 +10,7 @@ pub mod Texts
 pub mod Missing
 pub mod Orders
 pub mod Counting
+pub mod AshParts
 pub mod Tallies
 pub mod Fronts
 pub mod ObjectCounts

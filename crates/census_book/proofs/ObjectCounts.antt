@@ -10,10 +10,11 @@ use Rattle.life_answer.specs.Apgcode.{code_of}
 use Rattle.life_answer.specs.declared.finding.Answer.{Answer}
 use Rattle.life_answer.specs.declared.finding.Answer.TheVariants.{Found, Refused}
 use Rattle.life_answer.specs.declared.finding.Finding.{Finding}
-use Rattle.life_answer.specs.declared.finding.Finding.TheVariants.{Recurs, Unresolved}
+use Rattle.life_answer.specs.declared.finding.Finding.TheVariants.{Recurs, Unresolved, Ash}
+use Rattle.life_answer.specs.declared.question.Question.TheVariants as question
 use Rattle.life_answer.proofs.Codes.{codes_tell_objects}
 use Rattle.life_answer.proofs.Findings.{finding-settled, settles_by_finding}
-use Rattle.life_answer.proofs.Texts.{answer-found}
+use Rattle.life_answer.proofs.Texts.{answer-found, answer-no_ash}
 use Rattle.life_model.specs.Evolution.{generation}
 use Rattle.life_model.specs.Generation.{size}
 use Rattle.life_model.specs.Recurrence.{AreOneObject, Settles}
@@ -61,24 +62,27 @@ to_say bound e s =
 says : Object → Answer → Bool
 says k (Found rule (Recurs population onset period dx dy code)) = same_object k (object rule code)
 says k (Found rule (Unresolved population)) = false
+says k (Found rule (Ash population parts)) = false
 says k (Refused number) = false
 
-count_objects : (k : Object) (found : List Answer) → count_by (same_object k) (objects found) ≡ count_by (says k) found
+count_said : (bound : ℕ) (k : Object) (e : Entry) (a : Answer) (rest : List Answer) → answer_of e.text bound ≡ a
+    → count_by (same_object k) (objects (a ∷ rest)) ≡ cond (says k a) 1 0 + count_by (same_object k) (objects rest)
 unfolding says
-count_objects k [] = refl
-count_objects k (Found rule (Recurs population onset period dx dy code) ∷ found) =
-    count_first (same_object k) (object rule code) (objects found) ∙ ap (λ n. cond (same_object k (object rule code)) 1 0 + n) (count_objects k found)
-    ∙ sym (count_first (says k) (Found rule (Recurs population onset period dx dy code)) found)
-count_objects k (Found rule (Unresolved population) ∷ found) =
-    count_objects k found ∙ sym (count_first (says k) (Found rule (Unresolved population)) found ∙ zero-add (count_by (says k) found))
-count_objects k (Refused number ∷ found) = count_objects k found ∙ sym (count_first (says k) (Refused number) found ∙ zero-add (count_by (says k) found))
+count_said bound k e (Found rule (Recurs population onset period dx dy code)) rest is = count_first (same_object k) (object rule code) (objects rest)
+count_said bound k e (Found rule (Unresolved population)) rest is = sym (zero-add (count_by (same_object k) (objects rest)))
+count_said bound k e (Found rule (Ash population parts)) rest is = absurd (answer-no_ash e.text bound rule population parts is)
+count_said bound k e (Refused number) rest is = sym (zero-add (count_by (same_object k) (objects rest)))
 
 count_map : {A B : Type 0} (f : A → B) (p : B → Bool) (xs : List A) → count_by p (map f xs) ≡ count_by (λ x. p (f x)) xs
 count_map f p [] = refl
 count_map f p (x ∷ xs) = count_first p (f x) (map f xs) ∙ ap (λ n. cond (p (f x)) 1 0 + n) (count_map f p xs) ∙ sym (count_first (λ y. p (f y)) x xs)
 
-count_of_object : (bound : ℕ) (k : Object) (es : List Entry) → count_by (same_object k) (objects (answers bound es)) ≡ count_by (λ (e : Entry). says k (answer_of e.text bound)) es
-count_of_object bound k es = count_objects k (answers bound es) ∙ count_map (λ (e : Entry). answer_of e.text bound) (says k) es
+count_of_object : (bound : ℕ) (k : Object) (es : List Entry) → count_by (same_object k) (objects (answers (question.Settles bound) es)) ≡ count_by (λ (e : Entry). says k (answer_of e.text bound)) es
+count_of_object bound k [] = refl
+count_of_object bound k (e ∷ es) =
+    count_said bound k e (answer_of e.text bound) (answers (question.Settles bound) es) refl
+    ∙ ap (λ n. cond (says k (answer_of e.text bound)) 1 0 + n) (count_of_object bound k es)
+    ∙ sym (count_first (λ (x : Entry). says k (answer_of x.text bound)) e es)
 
 module _ (bound : ℕ) (pattern : Entry) (s : Resolves bound pattern) where
   abbrev into : Entry → Type 0
@@ -113,6 +117,7 @@ module _ (bound : ℕ) (pattern : Entry) (s : Resolves bound pattern) where
       let r = said bound e rule population onset period dx dy code is (picture_of (reading e.text)) refl in
       one_code e r.0 (one_object (settled_object bound pattern s) (object rule code) holds ∙ r.1)
   tells_by e (Found rule (Unresolved population)) is fails = absurd (false≢true fails)
+  tells_by e (Found rule (Ash population parts)) is fails = absurd (false≢true fails)
   tells_by e (Refused number) is fails = absurd (false≢true fails)
 
   test_tells : (e : Entry) → Decides (says (settled_object bound pattern s) (answer_of e.text bound)) (into e)
@@ -128,6 +133,7 @@ shown_object bound k e (Found rule (Recurs population onset period dx dy code)) 
       | false ↦ λ _ rest'. there rest'
     ] refl holds
 shown_object bound k e (Found rule (Unresolved population)) rest is holds P here there = there holds
+shown_object bound k e (Found rule (Ash population parts)) rest is holds P here there = absurd (answer-no_ash e.text bound rule population parts is)
 shown_object bound k e (Refused number) rest is holds P here there = there holds
 
 record IsFrom (bound : ℕ) (es : List Entry) (k : Object) : Type 0 where
@@ -137,10 +143,10 @@ record IsFrom (bound : ℕ) (es : List Entry) (k : Object) : Type 0 where
   named : k ≡ settled_object bound pattern resolves
 
 -- each object among these is that of a pattern
-origin : (bound : ℕ) (k : Object) (es : List Entry) → list_any (same_object k) (objects (answers bound es)) ≡ true → IsFrom bound es k
+origin : (bound : ℕ) (k : Object) (es : List Entry) → list_any (same_object k) (objects (answers (question.Settles bound) es)) ≡ true → IsFrom bound es k
 origin bound k [] fails = absurd (false≢true fails)
 origin bound k (e ∷ es) holds =
-    shown_object bound k e (answer_of e.text bound) (answers bound es) refl holds (IsFrom bound (e ∷ es) k)
+    shown_object bound k e (answer_of e.text bound) (answers (question.Settles bound) es) refl holds (IsFrom bound (e ∷ es) k)
     (λ r is. record { pattern = e; among = (0, omega arith, refl); resolves = r; named = is })
     (λ rest. let o = origin bound k es rest in record { pattern = o.pattern; among = Contains-append_right (e ∷ []) es o.pattern o.among; resolves = o.resolves; named = o.named })
 
@@ -149,9 +155,9 @@ any_at p [] i d lt holds = absurd (omega arith)
 any_at p (x ∷ xs) zero d lt holds = ap (λ b. b || list_any p xs) holds
 any_at p (x ∷ xs) (suc i) d lt holds = ap (λ b. p x || b) (any_at p xs i d (omega arith) holds) ∙ or_right (p x) true refl
 
-each_line : (bound : ℕ) (es : List Entry) → All (CountsObject bound es) (tally same_object (objects (answers bound es)))
+each_line : (bound : ℕ) (es : List Entry) → All (CountsObject bound es) (tally same_object (objects (answers (question.Settles bound) es)))
 each_line bound es =
-    let ks = objects (answers bound es) in
+    let ks = objects (answers (question.Settles bound) es) in
     All-map (CountsObject bound es) (λ k. (k, count_by (same_object k) ks)) (distinct same_object ks) (λ i d lt.
     let k = get_or (distinct same_object ks) i d in
     let any : list_any (same_object k) ks ≡ true = sym (any_distinct same_object one_object same_itself k ks) ∙ any_at (same_object k) (distinct same_object ks) i d lt (same_itself k) in
@@ -170,19 +176,19 @@ objects_first : (k : Object) (a : Answer) (rest : List Answer) → list_any (sam
 objects_first k a rest = ap (list_any (same_object k)) (objects-append (a ∷ []) rest) ∙ list_any-append (same_object k) (objects (a ∷ [])) (objects rest)
 
 -- the object of a pattern is among these
-objects_any : (bound : ℕ) (k : Object) (e : Entry) (es : List Entry) (i : ℕ) → i < length es → get_or es i e ≡ e → list_any (same_object k) (objects (answer_of e.text bound ∷ [])) ≡ true → list_any (same_object k) (objects (answers bound es)) ≡ true
+objects_any : (bound : ℕ) (k : Object) (e : Entry) (es : List Entry) (i : ℕ) → i < length es → get_or es i e ≡ e → list_any (same_object k) (objects (answer_of e.text bound ∷ [])) ≡ true → list_any (same_object k) (objects (answers (question.Settles bound) es)) ≡ true
 objects_any bound k e [] i lt is one = absurd (omega arith)
 objects_any bound k e (x ∷ es) zero lt is one =
-    objects_first k (answer_of x.text bound) (answers bound es) ∙ ap (λ (y : Entry). list_any (same_object k) (objects (answer_of y.text bound ∷ [])) || list_any (same_object k) (objects (answers bound es))) is
-    ∙ ap (λ b. b || list_any (same_object k) (objects (answers bound es))) one
+    objects_first k (answer_of x.text bound) (answers (question.Settles bound) es) ∙ ap (λ (y : Entry). list_any (same_object k) (objects (answer_of y.text bound ∷ [])) || list_any (same_object k) (objects (answers (question.Settles bound) es))) is
+    ∙ ap (λ b. b || list_any (same_object k) (objects (answers (question.Settles bound) es))) one
 objects_any bound k e (x ∷ es) (suc i) lt is one =
-    objects_first k (answer_of x.text bound) (answers bound es) ∙ ap (λ b. list_any (same_object k) (objects (answer_of x.text bound ∷ [])) || b) (objects_any bound k e es i (omega arith) is one)
+    objects_first k (answer_of x.text bound) (answers (question.Settles bound) es) ∙ ap (λ b. list_any (same_object k) (objects (answer_of x.text bound ∷ [])) || b) (objects_any bound k e es i (omega arith) is one)
     ∙ or_right (list_any (same_object k) (objects (answer_of x.text bound ∷ []))) true refl
 
 each_pattern : (bound : ℕ) (es : List Entry) (e : Entry) → Contains es e → (r : Resolves bound e)
-    → count_by (λ line. same_object (settled_object bound e r) line.0) (tally same_object (objects (answers bound es))) ≡ 1
+    → count_by (λ line. same_object (settled_object bound e r) line.0) (tally same_object (objects (answers (question.Settles bound) es))) ≡ 1
 each_pattern bound es e at r =
-    let ks = objects (answers bound es) in
+    let ks = objects (answers (question.Settles bound) es) in
     let k = settled_object bound e r in
     let one : list_any (same_object k) (objects (answer_of e.text bound ∷ [])) ≡ true =
     ap (λ a. list_any (same_object k) (objects (a ∷ []))) (to_say bound e r) ∙ ap (λ b. b || false) (same_itself k) in

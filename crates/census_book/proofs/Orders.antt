@@ -12,48 +12,49 @@ use Rattle.census_book.specs.Orders.{AreNew, outs, with_all, OrdersAreLawful, Of
 use Rattle.census_book.specs.Progress.{Progress, started}
 use Rattle.census_book.specs.Work.{Work}
 use Rattle.census_book.proofs.Releases.{released_start, released_more, released_front, released_whole}
+use Rattle.life_answer.specs.declared.question.Question.{Question}
 
-released_all : (b : List Folder) (bound : ℕ) (taken : Tickets) (text : List ℕ) (ts : List Ticket) → IsReleased b bound taken text → AreNew b taken ts → IsReleased b bound (with_all taken ts) (text ++ outs b bound taken ts)
-released_all b bound taken text [] released new = subst (IsReleased b bound taken) (sym (append-nil text)) released
-released_all b bound taken text (t ∷ ts) released new =
-    subst (IsReleased b bound (with_all (with_ticket taken t) ts)) (append_assoc text (out b bound taken t) (outs b bound (with_ticket taken t) ts))
-    (released_all b bound (with_ticket taken t) (text ++ out b bound taken t) ts (released_more b bound taken text t released new.0 new.1) new.2)
+released_all : (b : List Folder) (question : Question) (taken : Tickets) (text : List ℕ) (ts : List Ticket) → IsReleased b question taken text → AreNew b taken ts → IsReleased b question (with_all taken ts) (text ++ outs b question taken ts)
+released_all b question taken text [] released new = subst (IsReleased b question taken) (sym (append-nil text)) released
+released_all b question taken text (t ∷ ts) released new =
+    subst (IsReleased b question (with_all (with_ticket taken t) ts)) (append_assoc text (out b question taken t) (outs b question (with_ticket taken t) ts))
+    (released_all b question (with_ticket taken t) (text ++ out b question taken t) ts (released_more b question taken text t released new.0 new.1) new.2)
 
 pub orders_are_lawful : OrdersAreLawful
-orders_are_lawful b bound ts new =
-    let whole = start b bound ++ outs b bound no_tickets ts in
-    let released = released_all b bound no_tickets (start b bound) ts (released_start b bound) new in (
-      released_front b bound (with_all no_tickets ts) whole [] (subst (IsReleased b bound (with_all no_tickets ts)) (sym (append-nil whole)) released),
-      λ all. released_whole b bound (with_all no_tickets ts) whole released all,
+orders_are_lawful b question ts new =
+    let whole = start b question ++ outs b question no_tickets ts in
+    let released = released_all b question no_tickets (start b question) ts (released_start b question) new in (
+      released_front b question (with_all no_tickets ts) whole [] (subst (IsReleased b question (with_all no_tickets ts)) (sym (append-nil whole)) released),
+      λ all. released_whole b question (with_all no_tickets ts) whole released all,
     )
 
--- what was released so far, and for which bundle and bound
-record IsUnderWay (b : List Folder) (bound : ℕ) (p : Progress) : Type 0 where
+-- what was released so far, and for which bundle and question
+record IsUnderWay (b : List Folder) (question : Question) (p : Progress) : Type 0 where
   same_bundle : p.bundle ≡ b
-  same_bound : p.bound ≡ bound
-  released : IsReleased b bound p.taken p.unsent
+  same_question : p.question ≡ question
+  released : IsReleased b question p.taken p.unsent
 
-way_step : (b : List Folder) (bound : ℕ) (p q : Progress) (t : Ticket) (text : List ℕ) (n : ℕ) (o : Offer) → IsUnderWay b bound p → Offered p t text n q o → IsUnderWay b bound q
-way_step b bound p q t text n Stranger way offered = subst (IsUnderWay b bound) (sym offered.1) way
-way_step b bound p q t text n Double way offered = subst (IsUnderWay b bound) (sym offered.1) way
-way_step b bound p q t text n Taken way offered =
+way_step : (b : List Folder) (question : Question) (p q : Progress) (t : Ticket) (text : List ℕ) (asked : Question) (o : Offer) → IsUnderWay b question p → Offered p t text asked q o → IsUnderWay b question q
+way_step b question p q t text n Stranger way offered = subst (IsUnderWay b question) (sym offered.1) way
+way_step b question p q t text n Double way offered = subst (IsUnderWay b question) (sym offered.1) way
+way_step b question p q t text n Taken way offered =
     let belongs = offered.0.0 in
     let of : IsTicketOf b t = (belongs.entry, ap (λ fs. entry_at fs t) (sym way.same_bundle) ∙ belongs.at) in
-    let more : IsReleased b bound (with_ticket p.taken t) (p.unsent ++ out b bound p.taken t) = released_more b bound p.taken p.unsent t way.released of offered.0.1 in
-    let told : out b bound p.taken t ≡ out p.bundle p.bound p.taken t = ap (λ fs. out fs bound p.taken t) (sym way.same_bundle) ∙ ap (λ m. out p.bundle m p.taken t) (sym way.same_bound) in
-    subst (IsUnderWay b bound) (sym offered.1) (record {
+    let more : IsReleased b question (with_ticket p.taken t) (p.unsent ++ out b question p.taken t) = released_more b question p.taken p.unsent t way.released of offered.0.1 in
+    let told : out b question p.taken t ≡ out p.bundle p.question p.taken t = ap (λ fs. out fs question p.taken t) (sym way.same_bundle) ∙ ap (λ m. out p.bundle m p.taken t) (sym way.same_question) in
+    subst (IsUnderWay b question) (sym offered.1) (record {
       same_bundle = way.same_bundle;
-      same_bound = way.same_bound;
-      released = subst (λ x. IsReleased b bound (with_ticket p.taken t) (p.unsent ++ x)) told more;
+      same_question = way.same_question;
+      released = subst (λ x. IsReleased b question (with_ticket p.taken t) (p.unsent ++ x)) told more;
     })
 
-way_all : (b : List Folder) (bound : ℕ) (p r : Progress) (ws : List Work) → IsUnderWay b bound p → OfferedAll p ws r → IsUnderWay b bound r
-way_all b bound p r [] way all = subst (IsUnderWay b bound) (sym all) way
-way_all b bound p r (w ∷ ws) way all = way_all b bound all.0 r ws (way_step b bound p all.0 w.ticket w.entry.text w.bound all.1 way all.2) all.3
+way_all : (b : List Folder) (question : Question) (p r : Progress) (ws : List Work) → IsUnderWay b question p → OfferedAll p ws r → IsUnderWay b question r
+way_all b question p r [] way all = subst (IsUnderWay b question) (sym all) way
+way_all b question p r (w ∷ ws) way all = way_all b question all.0 r ws (way_step b question p all.0 w.ticket w.entry.text w.question all.1 way all.2) all.3
 
 pub arrivals_are_lawful : ArrivalsAreLawful
-arrivals_are_lawful b bound ws p all =
-    let way = way_all b bound (started b bound) p ws (record { same_bundle = refl; same_bound = refl; released = released_start b bound }) all in (
-      released_front b bound p.taken p.unsent [] (subst (IsReleased b bound p.taken) (sym (append-nil p.unsent)) way.released),
-      λ whole. released_whole b bound p.taken p.unsent way.released whole,
+arrivals_are_lawful b question ws p all =
+    let way = way_all b question (started b question) p ws (record { same_bundle = refl; same_question = refl; released = released_start b question }) all in (
+      released_front b question p.taken p.unsent [] (subst (IsReleased b question p.taken) (sym (append-nil p.unsent)) way.released),
+      λ whole. released_whole b question p.taken p.unsent way.released whole,
     )

@@ -16,6 +16,7 @@ use Rattle.census_book.specs.Released.{IsReleased, shown, shown_of, shown_lines}
 use Rattle.census_book.proofs.TicketSets.{has_other, has_kept}
 use Rattle.census_book.proofs.Runs.{run_grows, run_same, run_whole, run_all}
 use Rattle.census_book.proofs.Owning.{own, gathered, given, eqb_same, eqb_apart, lines_of-append, lines_of-own, lines_of-other, owned_text-append, owned_text-own, lines_of-gathered}
+use Rattle.life_answer.specs.declared.question.Question.{Question}
 
 -- cases on a number's test
 cases : (P : Type 0) (m n : ℕ) → (m ≡ n → P) → ((m ≡ n → ⊥) → P) → P
@@ -25,9 +26,9 @@ cases P m n same apart =
       | false ↦ λ e. apart (λ is. absurd (false≢true (sym e ∙ eqb_same m n is)))
     ] refl
 
-length-pattern_lines : (bound c i : ℕ) (es : List Entry) → length (pattern_lines bound c i es) ≡ length es
-length-pattern_lines bound c i [] = refl
-length-pattern_lines bound c i (e ∷ es) = ap suc (length-pattern_lines bound c (suc i) es)
+length-pattern_lines : (question : Question) (c i : ℕ) (es : List Entry) → length (pattern_lines question c i es) ≡ length es
+length-pattern_lines question c i [] = refl
+length-pattern_lines question c i (e ∷ es) = ap suc (length-pattern_lines question c (suc i) es)
 
 -- the folder of a pattern
 pub folder_at : (o : Option Folder) (i : ℕ) (e : Entry) → entry_in o i ≡ Some e → (f : Folder) × (o ≡ Some f) × (numbered f.entries i ≡ Some e)
@@ -74,11 +75,11 @@ all_each taken c (f ∷ fs) each =
     ∙ all_each taken (suc c) fs (λ j g at. subst (λ n. run_of taken n g ≡ length g.entries) (omega arith) (each (suc j) g at))
 
 -- where a collection's run grows, what it shows grows by what is released
-shown_step : (bound c : ℕ) (f : Folder) (k m : ℕ) → k ≤ m → (k ≡ length f.entries → ⊥) → shown_lines bound c f k ++ folder_out bound c f k m ≡ shown_lines bound c f m
-shown_step bound c f k m le part =
-    let ls = pattern_lines bound c 1 f.entries in
-    let more = closing_if (eqb m (length f.entries)) bound c f in
-    let unclosed : closing_if (eqb k (length f.entries)) bound c f ≡ [] = ap (λ b. closing_if b bound c f) (eqb_apart k (length f.entries) part) in
+shown_step : (question : Question) (c : ℕ) (f : Folder) (k m : ℕ) → k ≤ m → (k ≡ length f.entries → ⊥) → shown_lines question c f k ++ folder_out question c f k m ≡ shown_lines question c f m
+shown_step question c f k m le part =
+    let ls = pattern_lines question c 1 f.entries in
+    let more = closing_if (eqb m (length f.entries)) question c f in
+    let unclosed : closing_if (eqb k (length f.entries)) question c f ≡ [] = ap (λ b. closing_if b question c f) (eqb_apart k (length f.entries) part) in
     let sum : k + (m - k) ≡ m = omega arith in
     let joined : take k ls ++ (take (m - k) (drop k ls) ++ more) ≡ take m ls ++ more =
     sym (append_assoc (take k ls) (take (m - k) (drop k ls)) more) ∙ ap (λ xs. xs ++ more) (sym (take-add k (m - k) ls) ∙ ap (λ n. take n ls) sum) in
@@ -87,54 +88,54 @@ shown_step bound c f k m le part =
     ∙ ap (λ xs. open_line c f ∷ xs) joined
 
 -- what a collection shows once it has arrived whole is its section
-shown_all : (bound c : ℕ) (f : Folder) (k : ℕ) → k ≡ length f.entries → shown_lines bound c f k ≡ folder_section bound c f
-shown_all bound c f k whole =
-    let ls = pattern_lines bound c 1 f.entries in
-    let n : k ≡ length ls = whole ∙ sym (length-pattern_lines bound c 1 f.entries) in
-    ap (λ b. open_line c f ∷ (take k ls ++ closing_if b bound c f)) (eqb_same k (length f.entries) whole)
-    ∙ ap (λ xs. open_line c f ∷ (xs ++ closing bound c f)) (ap (λ m. take m ls) n ∙ take-length ls)
+shown_all : (question : Question) (c : ℕ) (f : Folder) (k : ℕ) → k ≡ length f.entries → shown_lines question c f k ≡ folder_section question c f
+shown_all question c f k whole =
+    let ls = pattern_lines question c 1 f.entries in
+    let n : k ≡ length ls = whole ∙ sym (length-pattern_lines question c 1 f.entries) in
+    ap (λ b. open_line c f ∷ (take k ls ++ closing_if b question c f)) (eqb_same k (length f.entries) whole)
+    ∙ ap (λ xs. open_line c f ∷ (xs ++ closing question c f)) (ap (λ m. take m ls) n ∙ take-length ls)
 
 -- the lines of a collection that are not shown yet
-hidden_lines : ℕ → ℕ → Folder → ℕ → List Line
-hidden_lines bound c f k = drop k (pattern_lines bound c 1 f.entries) ++ cond (eqb k (length f.entries)) [] (closing bound c f)
+hidden_lines : Question → ℕ → Folder → ℕ → List Line
+hidden_lines question c f k = drop k (pattern_lines question c 1 f.entries) ++ cond (eqb k (length f.entries)) [] (closing question c f)
 
-shown_and_hidden : (bound c : ℕ) (f : Folder) (k : ℕ) → shown_lines bound c f k ++ hidden_lines bound c f k ≡ folder_section bound c f
+shown_and_hidden : (question : Question) (c : ℕ) (f : Folder) (k : ℕ) → shown_lines question c f k ++ hidden_lines question c f k ≡ folder_section question c f
 unfolding hidden_lines
-shown_and_hidden bound c f k =
-    let ls = pattern_lines bound c 1 f.entries in
+shown_and_hidden question c f k =
+    let ls = pattern_lines question c 1 f.entries in
     cases _ k (length f.entries) (λ whole.
-    let n : k ≡ length ls = whole ∙ sym (length-pattern_lines bound c 1 f.entries) in
+    let n : k ≡ length ls = whole ∙ sym (length-pattern_lines question c 1 f.entries) in
     let none : drop k ls ≡ [] = ap (λ m. drop m ls) n ∙ drop_whole ls in
-    ap (λ b. shown_lines bound c f k ++ (drop k ls ++ cond b [] (closing bound c f))) (eqb_same k (length f.entries) whole)
-    ∙ ap (λ xs. shown_lines bound c f k ++ (xs ++ [])) none
-    ∙ append-nil (shown_lines bound c f k)
-    ∙ shown_all bound c f k whole) (λ part.
+    ap (λ b. shown_lines question c f k ++ (drop k ls ++ cond b [] (closing question c f))) (eqb_same k (length f.entries) whole)
+    ∙ ap (λ xs. shown_lines question c f k ++ (xs ++ [])) none
+    ∙ append-nil (shown_lines question c f k)
+    ∙ shown_all question c f k whole) (λ part.
     let e = eqb_apart k (length f.entries) part in
-    ap (λ b. (open_line c f ∷ (take k ls ++ cond b (closing bound c f) [])) ++ (drop k ls ++ cond b [] (closing bound c f))) e
-    ∙ ap (λ xs. open_line c f ∷ (xs ++ (drop k ls ++ closing bound c f))) (append-nil (take k ls))
-    ∙ ap (λ xs. open_line c f ∷ xs) (sym (append_assoc (take k ls) (drop k ls) (closing bound c f)) ∙ ap (λ xs. xs ++ closing bound c f) (take-append-drop k ls)))
+    ap (λ b. (open_line c f ∷ (take k ls ++ cond b (closing question c f) [])) ++ (drop k ls ++ cond b [] (closing question c f))) e
+    ∙ ap (λ xs. open_line c f ∷ (xs ++ (drop k ls ++ closing question c f))) (append-nil (take k ls))
+    ∙ ap (λ xs. open_line c f ∷ xs) (sym (append_assoc (take k ls) (drop k ls) (closing question c f)) ∙ ap (λ xs. xs ++ closing question c f) (take-append-drop k ls)))
   where
     drop_whole : (xs : List Line) → drop (length xs) xs ≡ []
     drop_whole [] = refl
     drop_whole (x ∷ xs) = drop_whole xs
 
-abbrev opened : ℕ → ℕ → Folder → List Line
-opened bound c f = open_line c f ∷ closing_if (eqb 0 (length f.entries)) bound c f
+abbrev opened : Question → ℕ → Folder → List Line
+opened question c f = open_line c f ∷ closing_if (eqb 0 (length f.entries)) question c f
 
 pub run_none : (c i : ℕ) (es : List Entry) → run_from (λ j. has_ticket no_tickets (ticket c j)) i es ≡ 0
 run_none c i [] = refl
 run_none c i (e ∷ es) = ap (λ b. cond b (suc (run_from (λ j. has_ticket no_tickets (ticket c j)) (suc i) es)) 0) (contains-empty ticket_cmp (ticket c i))
 
-opened_shown : (bound d : ℕ) (o : Option Folder) → given (opened bound) d o ≡ shown_of bound d o no_tickets
-opened_shown bound d None = refl
-opened_shown bound d (Some f) = ap (shown_lines bound d f) (sym (run_none d 1 f.entries))
+opened_shown : (question : Question) (d : ℕ) (o : Option Folder) → given (opened question) d o ≡ shown_of question d o no_tickets
+opened_shown question d None = refl
+opened_shown question d (Some f) = ap (shown_lines question d f) (sym (run_none d 1 f.entries))
 
-opening_owned : (bound c : ℕ) (fs : List Folder) → opening bound c fs ≡ owned_text (gathered (opened bound) c fs)
-opening_owned bound c [] = refl
-opening_owned bound c (f ∷ fs) =
-    ap (λ xs. (open_line c f ++ text_of (closing_if (eqb 0 (length f.entries)) bound c f)) ++ xs) (opening_owned bound (suc c) fs)
-    ∙ ap (λ xs. xs ++ owned_text (gathered (opened bound) (suc c) fs)) (sym (owned_text-own c (opened bound c f)))
-    ∙ sym (owned_text-append (own c (opened bound c f)) (gathered (opened bound) (suc c) fs))
+opening_owned : (question : Question) (c : ℕ) (fs : List Folder) → opening question c fs ≡ owned_text (gathered (opened question) c fs)
+opening_owned question c [] = refl
+opening_owned question c (f ∷ fs) =
+    ap (λ xs. (open_line c f ++ text_of (closing_if (eqb 0 (length f.entries)) question c f)) ++ xs) (opening_owned question (suc c) fs)
+    ∙ ap (λ xs. xs ++ owned_text (gathered (opened question) (suc c) fs)) (sym (owned_text-own c (opened question c f)))
+    ∙ sym (owned_text-append (own c (opened question c f)) (gathered (opened question) (suc c) fs))
 
 none_here : (n m : ℕ) (b : Bool) → b ≡ eqb m 0 → (eqb 0 n && b) ≡ eqb (n + m) 0
 none_here zero m b e = e ∙ ap (λ k. eqb k 0) (omega arith)
@@ -147,25 +148,25 @@ none_all c (f ∷ fs) =
     ap (λ n. eqb n (length f.entries) && all_from no_tickets (suc c) fs) (run_none c 1 f.entries)
     ∙ none_here (length f.entries) (pattern_count fs) _ (none_all (suc c) fs)
 
-pub released_start : (b : List Folder) (bound : ℕ) → IsReleased b bound no_tickets (start b bound)
-released_start b bound = record {
-  lines = gathered (opened bound) 1 b;
-  sections = λ d. lines_of-gathered (opened bound) d b ∙ opened_shown bound d (numbered b d);
-  whole = ap (λ xs. xs ++ end_if (eqb (pattern_count b) 0) b) (opening_owned bound 1 b) ∙ ap (λ x. owned_text (gathered (opened bound) 1 b) ++ end_if x b) (sym (none_all 1 b));
+pub released_start : (b : List Folder) (question : Question) → IsReleased b question no_tickets (start b question)
+released_start b question = record {
+  lines = gathered (opened question) 1 b;
+  sections = λ d. lines_of-gathered (opened question) d b ∙ opened_shown question d (numbered b d);
+  whole = ap (λ xs. xs ++ end_if (eqb (pattern_count b) 0) b) (opening_owned question 1 b) ∙ ap (λ x. owned_text (gathered (opened question) 1 b) ++ end_if x b) (sym (none_all 1 b));
 }
 
 -- a collection that a ticket is not of shows the same
-shown_other : (bound d : ℕ) (taken : Tickets) (t : Ticket) (o : Option Folder) → (t.folder ≡ d → ⊥) → shown_of bound d o taken ≡ shown_of bound d o (with_ticket taken t)
-shown_other bound d taken t None other = refl
-shown_other bound d taken t (Some f) other =
-    ap (shown_lines bound d f) (run_same (λ i. has_ticket taken (ticket d i)) (λ i. has_ticket (with_ticket taken t) (ticket d i)) (λ j. sym (has_other taken t (ticket d j) (λ e. other (sym (ap (λ (u : Ticket). u.folder) e))))) 1 f.entries)
+shown_other : (question : Question) (d : ℕ) (taken : Tickets) (t : Ticket) (o : Option Folder) → (t.folder ≡ d → ⊥) → shown_of question d o taken ≡ shown_of question d o (with_ticket taken t)
+shown_other question d taken t None other = refl
+shown_other question d taken t (Some f) other =
+    ap (shown_lines question d f) (run_same (λ i. has_ticket taken (ticket d i)) (λ i. has_ticket (with_ticket taken t) (ticket d i)) (λ j. sym (has_other taken t (ticket d j) (λ e. other (sym (ap (λ (u : Ticket). u.folder) e))))) 1 f.entries)
 
 not_all_with : (b : List Folder) (taken : Tickets) (c : ℕ) (f : Folder) → numbered b c ≡ Some f → (run_of taken c f ≡ length f.entries → ⊥) → has_all b taken ≡ false
 not_all_with b taken zero f at part = absurd (cc)
 not_all_with b taken (suc j) f at part = all_not taken (suc j) 1 j b f (omega arith) at part
 
-pub released_more : (b : List Folder) (bound : ℕ) (taken : Tickets) (text : List ℕ) (t : Ticket) → IsReleased b bound taken text → IsTicketOf b t → has_ticket taken t ≡ false → IsReleased b bound (with_ticket taken t) (text ++ out b bound taken t)
-released_more b bound taken text t released of not =
+pub released_more : (b : List Folder) (question : Question) (taken : Tickets) (text : List ℕ) (t : Ticket) → IsReleased b question taken text → IsTicketOf b t → has_ticket taken t ≡ false → IsReleased b question (with_ticket taken t) (text ++ out b question taken t)
+released_more b question taken text t released of not =
     let at = folder_at (numbered b t.folder) t.number of.0 of.1 in
     let f = at.0 in
     let c = t.folder in
@@ -174,9 +175,9 @@ released_more b bound taken text t released of not =
     let m = run_of after c f in
     let grows : k ≤ m = run_grows (λ i. has_ticket taken (ticket c i)) (λ i. has_ticket after (ticket c i)) (λ j. has_kept taken t (ticket c j)) 1 f.entries in
     let part : k ≡ length f.entries → ⊥ = not_whole taken f t of.0 at.2 not in
-    let more = folder_out bound c f k m in
+    let more = folder_out question c f k m in
     let parted : has_all b taken ≡ false = not_all_with b taken c f at.1 part in
-    let given_out : out b bound taken t ≡ text_of more ++ end_if (has_all b after) b = ap (λ o. out_of bound o taken t ++ end_if (has_all b after) b) at.1 in
+    let given_out : out b question taken t ≡ text_of more ++ end_if (has_all b after) b = ap (λ o. out_of question o taken t ++ end_if (has_all b after) b) at.1 in
     record {
       lines = released.lines ++ own c more;
       sections = λ d.
@@ -184,18 +185,18 @@ released_more b bound taken text t released of not =
           lines_of-append d released.lines (own c more)
           ∙ ap (λ xs. lines_of d released.lines ++ xs) (lines_of-own c d more same)
           ∙ ap (λ xs. xs ++ more) (released.sections d)
-          ∙ ap (λ n. shown b bound taken n ++ more) (sym same)
-          ∙ ap (λ o. shown_of bound c o taken ++ more) at.1
-          ∙ shown_step bound c f k m grows part
-          ∙ ap (λ o. shown_of bound c o after) (sym at.1)
-          ∙ ap (λ n. shown b bound after n) same) (λ other.
+          ∙ ap (λ n. shown b question taken n ++ more) (sym same)
+          ∙ ap (λ o. shown_of question c o taken ++ more) at.1
+          ∙ shown_step question c f k m grows part
+          ∙ ap (λ o. shown_of question c o after) (sym at.1)
+          ∙ ap (λ n. shown b question after n) same) (λ other.
           lines_of-append d released.lines (own c more)
           ∙ ap (λ xs. lines_of d released.lines ++ xs) (lines_of-other c d more other)
           ∙ append-nil (lines_of d released.lines)
           ∙ released.sections d
-          ∙ shown_other bound d taken t (numbered b d) other);
+          ∙ shown_other question d taken t (numbered b d) other);
       whole =
-          ap (λ xs. xs ++ out b bound taken t) (released.whole ∙ ap (λ x. owned_text released.lines ++ end_if x b) parted ∙ append-nil (owned_text released.lines))
+          ap (λ xs. xs ++ out b question taken t) (released.whole ∙ ap (λ x. owned_text released.lines ++ end_if x b) parted ∙ append-nil (owned_text released.lines))
           ∙ ap (λ xs. owned_text released.lines ++ xs) given_out
           ∙ sym (append_assoc (owned_text released.lines) (text_of more) (end_if (has_all b after) b))
           ∙ ap (λ xs. (owned_text released.lines ++ xs) ++ end_if (has_all b after) b) (sym (owned_text-own c more))
@@ -207,24 +208,24 @@ entry_here [] k lt = absurd (omega arith)
 entry_here (e ∷ es) zero lt = (e, refl)
 entry_here (e ∷ es) (suc k) lt = entry_here es k (omega arith)
 
-section_shown : (bound d : ℕ) (taken : Tickets) (o : Option Folder) → ((f : Folder) → o ≡ Some f → run_of taken d f ≡ length f.entries) → shown_of bound d o taken ≡ section_of bound d o
-section_shown bound d taken None all = refl
-section_shown bound d taken (Some f) all = shown_all bound d f (run_of taken d f) (all f refl)
+section_shown : (question : Question) (d : ℕ) (taken : Tickets) (o : Option Folder) → ((f : Folder) → o ≡ Some f → run_of taken d f ≡ length f.entries) → shown_of question d o taken ≡ section_of question d o
+section_shown question d taken None all = refl
+section_shown question d taken (Some f) all = shown_all question d f (run_of taken d f) (all f refl)
 
 whole_at : (b : List Folder) (taken : Tickets) (d : ℕ) (f : Folder) → has_all b taken ≡ true → numbered b d ≡ Some f → run_of taken d f ≡ length f.entries
 whole_at b taken zero f all at = absurd (cc)
 whole_at b taken (suc j) f all at = all_at taken (suc j) 1 j b f (omega arith) at all
 
-report_when : (b : List Folder) (bound : ℕ) (taken : Tickets) (text : List ℕ) → IsReleased b bound taken text → has_all b taken ≡ true → IsReport b bound text
-report_when b bound taken text released all = record {
+report_when : (b : List Folder) (question : Question) (taken : Tickets) (text : List ℕ) → IsReleased b question taken text → has_all b taken ≡ true → IsReport b question text
+report_when b question taken text released all = record {
   lines = released.lines;
-  sections = λ d. released.sections d ∙ section_shown bound d taken (numbered b d) (λ f at. whole_at b taken d f all at);
+  sections = λ d. released.sections d ∙ section_shown question d taken (numbered b d) (λ f at. whole_at b taken d f all at);
   whole = released.whole ∙ ap (λ x. owned_text released.lines ++ end_if x b) all;
 }
 
-completed : (bound d : ℕ) (taken : Tickets) (o : Option Folder) → shown_of bound d o taken ++ given (λ c f. hidden_lines bound c f (run_of taken c f)) d o ≡ section_of bound d o
-completed bound d taken None = refl
-completed bound d taken (Some f) = shown_and_hidden bound d f (run_of taken d f)
+completed : (question : Question) (d : ℕ) (taken : Tickets) (o : Option Folder) → shown_of question d o taken ++ given (λ c f. hidden_lines question c f (run_of taken c f)) d o ≡ section_of question d o
+completed question d taken None = refl
+completed question d taken (Some f) = shown_and_hidden question d f (run_of taken d f)
 
 -- where each ticket is taken, each collection has arrived whole
 pub has_all-each : (b : List Folder) (taken : Tickets) → HasAll b taken → has_all b taken ≡ true
@@ -238,12 +239,12 @@ has_all-each b taken all = all_each taken 1 b (λ j f at. run_all (λ i. has_tic
         let has : has_ticket taken (ticket (suc j) (suc k)) ≡ true = all (ticket (suc j) (suc k)) (e.0, ap (λ o. entry_in o (suc k)) at ∙ e.1) in
         subst (λ m. has_ticket taken (ticket m (1 + k)) ≡ true) one (subst (λ n. has_ticket taken (ticket (suc j) n) ≡ true) two has)
 
-pub released_front : (b : List Folder) (bound : ℕ) (taken : Tickets) (text rest : List ℕ) → IsReleased b bound taken (text ++ rest) → IsReportFront b bound text
-released_front b bound taken text rest released =
-    elim (has_all b taken) as (λ x. has_all b taken ≡ x → IsReportFront b bound text) [
-      | true ↦ λ all. record { rest = rest; report = report_when b bound taken (text ++ rest) released all }
+pub released_front : (b : List Folder) (question : Question) (taken : Tickets) (text rest : List ℕ) → IsReleased b question taken (text ++ rest) → IsReportFront b question text
+released_front b question taken text rest released =
+    elim (has_all b taken) as (λ x. has_all b taken ≡ x → IsReportFront b question text) [
+      | true ↦ λ all. record { rest = rest; report = report_when b question taken (text ++ rest) released all }
       | false ↦ λ part.
-          let hidden = gathered (λ c f. hidden_lines bound c f (run_of taken c f)) 1 b in
+          let hidden = gathered (λ c f. hidden_lines question c f (run_of taken c f)) 1 b in
           let shown_text : text ++ rest ≡ owned_text released.lines = released.whole ∙ ap (λ x. owned_text released.lines ++ end_if x b) part ∙ append-nil (owned_text released.lines) in
           record {
             rest = rest ++ (owned_text hidden ++ end_line b);
@@ -252,8 +253,8 @@ released_front b bound taken text rest released =
               sections = λ d.
                   lines_of-append d released.lines hidden
                   ∙ ap (λ xs. xs ++ lines_of d hidden) (released.sections d)
-                  ∙ ap (λ xs. shown b bound taken d ++ xs) (lines_of-gathered (λ c f. hidden_lines bound c f (run_of taken c f)) d b)
-                  ∙ completed bound d taken (numbered b d);
+                  ∙ ap (λ xs. shown b question taken d ++ xs) (lines_of-gathered (λ c f. hidden_lines question c f (run_of taken c f)) d b)
+                  ∙ completed question d taken (numbered b d);
               whole =
                   sym (append_assoc text rest (owned_text hidden ++ end_line b))
                   ∙ ap (λ xs. xs ++ (owned_text hidden ++ end_line b)) shown_text
@@ -263,5 +264,5 @@ released_front b bound taken text rest released =
           }
     ] refl
 
-pub released_whole : (b : List Folder) (bound : ℕ) (taken : Tickets) (text : List ℕ) → IsReleased b bound taken text → HasAll b taken → IsReport b bound text
-released_whole b bound taken text released all = report_when b bound taken text released (has_all-each b taken all)
+pub released_whole : (b : List Folder) (question : Question) (taken : Tickets) (text : List ℕ) → IsReleased b question taken text → HasAll b taken → IsReport b question text
+released_whole b question taken text released all = report_when b question taken text released (has_all-each b taken all)

@@ -17,6 +17,7 @@ use Rattle.census_book.specs.Slots.{Row, HasSlot, KeepsResults, empty_slots, hel
 use Rattle.census_book.specs.Work.{Work}
 use Rattle.census_book.proofs.Kept.{result_at_own}
 use Rattle.census_book.proofs.TicketSets.{apart, eq_symm, has_list, one_ticket, or_none, some_or, ticket_cmp_same, ticket_cmp_total}
+use Rattle.life_answer.specs.declared.question.Question.{Question}
 
 get_set_same : {X : Type 0} (xs : List X) (i : ℕ) (y : X) → i < length xs → slice_get (set xs i y) i ≡ Some y
 get_set_same [] i y h = absurd (omega arith)
@@ -163,8 +164,8 @@ tickets_put rows w has =
     ∙ ap (λ b. eq_by_cmp ticket_cmp q w.ticket || b) (sym (has_result rows q)) ∙ sym (contains-insert ticket_cmp_total (taken_in rows) w.ticket q))
 
 -- a ticket of the bundle has a slot
-pub has_slot : (b : List Folder) (bound : ℕ) (rows : List Row) (t : Ticket) (e : Entry) → KeepsResults b bound rows → entry_at b t ≡ Some e → HasSlot rows t
-has_slot b bound rows t e keeps at = slot t.folder t.number at
+pub has_slot : (b : List Folder) (question : Question) (rows : List Row) (t : Ticket) (e : Entry) → KeepsResults b question rows → entry_at b t ≡ Some e → HasSlot rows t
+has_slot b question rows t e keeps at = slot t.folder t.number at
   where
     in_row : (k i : ℕ) (f : Folder) (row : Row) → slice_get rows k ≡ Some row → length row ≡ length f.entries → numbered f.entries i ≡ Some e → HasSlot rows (ticket (suc k) i)
     in_row k zero f row here len is = absurd (cc)
@@ -181,18 +182,18 @@ has_slot b bound rows t e keeps at = slot t.folder t.number at
         ] refl is
 
 -- one more result that belongs there
-pub keeps_put : (b : List Folder) (bound : ℕ) (rows : List Row) (w : Work) → KeepsResults b bound rows → Belongs b bound w.ticket w.entry.text w.bound → KeepsResults b bound (with_result rows w)
-keeps_put b bound rows w keeps belongs =
-    let has = has_slot b bound rows w.ticket belongs.entry keeps belongs.at in
+pub keeps_put : (b : List Folder) (question : Question) (rows : List Row) (w : Work) → KeepsResults b question rows → Belongs b question w.ticket w.entry.text w.question → KeepsResults b question (with_result rows w)
+keeps_put b question rows w keeps belongs =
+    let has = has_slot b question rows w.ticket belongs.entry keeps belongs.at in
     record {
       slots = λ k f at.
           let kept = keeps.slots k f at in
           slots k (length f.entries) kept.0 kept.1 kept.2;
       results = λ q v at.
-          elim (eq_by_cmp ticket_cmp w.ticket q) as (λ x. eq_by_cmp ticket_cmp w.ticket q ≡ x → cond x (Some w) (result_at rows q) ≡ Some v → IsResult b bound q v) [
+          elim (eq_by_cmp ticket_cmp w.ticket q) as (λ x. eq_by_cmp ticket_cmp w.ticket q ≡ x → cond x (Some w) (result_at rows q) ≡ Some v → IsResult b question q v) [
             | true ↦ λ is here.
                 let same : w ≡ v = cc in
-                subst (IsResult b bound q) same (result_at_own b bound q w (one_ticket w.ticket q is) belongs)
+                subst (IsResult b question q) same (result_at_own b question q w (one_ticket w.ticket q is) belongs)
             | false ↦ λ _ there. keeps.results q v there
           ] refl (sym (result_put rows w q has) ∙ at);
     }
@@ -253,8 +254,8 @@ empty_row (g ∷ b) zero f at =
 empty_row (g ∷ b) (suc k) f at = empty_row b k f at
 
 -- empty slots keep nothing that doesn't belong
-pub keeps_empty : (b : List Folder) (bound : ℕ) → KeepsResults b bound (empty_slots b)
-keeps_empty b bound = record {
+pub keeps_empty : (b : List Folder) (question : Question) → KeepsResults b question (empty_slots b)
+keeps_empty b question = record {
   slots = empty_row b;
   results = λ t w at. absurd (let none = result_empty b t in cc);
 }

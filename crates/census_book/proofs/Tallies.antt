@@ -1,7 +1,6 @@
 -- What is counted one after another.
-use Rattle.std.proofs.Common.{◌≡◌, ℕ, ◌+◌, ◌≤◌, Bool, true, false, cond, not, ◌||◌, List, [], ◌∷◌, ◌++◌, length, map, take, filter, Some, None, refl, sym, ap, ◌∙◌, arith, append-nil, zero-add}
+use Rattle.std.proofs.Common.{◌≡◌, ℕ, zero, suc, ◌+◌, ◌≤◌, Bool, true, false, cond, not, ◌||◌, List, [], ◌∷◌, ◌++◌, map, filter, Some, None, refl, sym, ap, ◌∙◌, arith, append_assoc, append-nil, zero-add, replicate}
 use Rattle.std.proofs.lemmas.Bool.{false≢true}
-use Rattle.std.proofs.lemmas.List.{length-map, length-take}
 use Rattle.std.proofs.lemmas.List.Sums.{sum_by-append}
 use Rattle.std.specs.List.{list_any, count_by}
 use Rattle.std.specs.Map.{lookup}
@@ -11,9 +10,10 @@ use Rattle.std.specs.Prelude.{ℤ}
 use Rattle.life_answer.specs.declared.finding.Answer.{Answer}
 use Rattle.life_answer.specs.declared.finding.Answer.TheVariants.{Found, Refused}
 use Rattle.life_answer.specs.declared.finding.Finding.{Finding}
-use Rattle.life_answer.specs.declared.finding.Finding.TheVariants.{Recurs, Unresolved}
+use Rattle.life_answer.specs.declared.finding.Finding.TheVariants.{Recurs, Unresolved, Ash}
+use Rattle.life_answer.specs.declared.part.Part.{Part}
 use Rattle.life_model.specs.Rule.{Rule}
-use Rattle.census_book.specs.Objects.{Object, distinct, tally, object, objects, same_object}
+use Rattle.census_book.specs.Objects.{Object, distinct, tally, object, objects, part_objects, same_object}
 
 count_push : {A : Type 0} (p : A → Bool) (xs : List A) (x : A) → count_by p (xs ++ x ∷ []) ≡ count_by p xs + cond (p x) 1 0
 count_push p xs x = sum_by-append (λ y. cond (p y) 1 0) xs (x ∷ []) ∙ ap (λ n. count_by p xs + n) (zero-add (cond (p x) 1 0))
@@ -139,6 +139,30 @@ module _ {A : Type 0} (same : A → A → Bool) (exact : (x y : A) → same x y 
       ∙ ap (λ b. H (cond b ds (ds ++ k ∷ []))) (any_distinct k xs)
       ∙ ap H (sym (distinct_push k xs))
 
+  insert_twice : (es : List (A × ℕ)) (k : A) (v w : ℕ) → insert_entry same (insert_entry same es k v) k w ≡ insert_entry same es k w
+  insert_twice [] k v w = ap (λ b. cond b ((k, w) ∷ []) ((k, v) ∷ (k, w) ∷ [])) (own k)
+  insert_twice (e ∷ es) k v w =
+      elim (same k e.0) as (λ b. same k e.0 ≡ b → insert_entry same (cond b ((e.0, v) ∷ es) (e ∷ insert_entry same es k v)) k w ≡ cond b ((e.0, w) ∷ es) (e ∷ insert_entry same es k w)) [
+        | true ↦ λ is. ap (λ b. cond b ((e.0, w) ∷ es) ((e.0, v) ∷ insert_entry same es k w)) is
+        | false ↦ λ is. ap (λ b. cond b ((e.0, w) ∷ insert_entry same es k v) (e ∷ insert_entry same (insert_entry same es k v) k w)) is ∙ ap (λ zs. e ∷ zs) (insert_twice es k v w)
+      ] refl
+
+  tally_more : (n : ℕ) (xs : List A) (k : A) (v : ℕ) → v ≡ count_by (same k) xs + suc n → insert_entry same (tally same xs) k v ≡ tally same (xs ++ replicate (suc n) k)
+  tally_more zero xs k v is = tally_push xs k v is
+  tally_more (suc n) xs k v is =
+      let w = count_by (same k) xs + 1 in
+      let one : count_by (same k) (xs ++ k ∷ []) ≡ count_by (same k) xs + 1 = count_push (same k) xs k ∙ ap (λ b. count_by (same k) xs + cond b 1 0) (own k) in
+      let left : v ≡ count_by (same k) (xs ++ k ∷ []) + suc n = omega arith in
+      sym (insert_twice (tally same xs) k w v)
+      ∙ ap (λ es. insert_entry same es k v) (tally_push xs k w refl)
+      ∙ tally_more n (xs ++ k ∷ []) k v left
+      ∙ ap (tally same) (append_assoc xs (k ∷ []) (replicate (suc n) k))
+
+  -- some more, with their count raised by so many
+  pub tally_push_all : (xs : List A) (k : A) (n v : ℕ) → 1 ≤ n → v ≡ count_by (same k) xs + n → insert_entry same (tally same xs) k v ≡ tally same (xs ++ replicate n k)
+  tally_push_all xs k zero v some is = absurd (omega arith)
+  tally_push_all xs k (suc n) v some is = tally_more n xs k v is
+
   found : (g : A → ℕ) (k : A) (ds : List A) → lookup (same k) (map {B = A × ℕ} (λ y. (y, g y)) ds) ≡ cond (list_any (same k) ds) (Some (g k)) None
   found g k [] = refl
   found g k (x ∷ xs) =
@@ -198,19 +222,15 @@ pub objects-append : (xs ys : List Answer) → objects (xs ++ ys) ≡ objects xs
 objects-append [] ys = refl
 objects-append (Found rule (Recurs population onset period dx dy code) ∷ xs) ys = ap (λ ks. object rule code ∷ ks) (objects-append xs ys)
 objects-append (Found rule (Unresolved population) ∷ xs) ys = objects-append xs ys
+objects-append (Found rule (Ash population parts) ∷ xs) ys =
+    ap (λ ks. part_objects rule parts ++ ks) (objects-append xs ys) ∙ sym (append_assoc (part_objects rule parts) (objects xs) (objects ys))
 objects-append (Refused number ∷ xs) ys = objects-append xs ys
-
-pub length-objects : (xs : List Answer) → length (objects xs) ≤ length xs
-length-objects [] = omega arith
-length-objects (Found rule (Recurs population onset period dx dy code) ∷ xs) = omega (arith, length-objects xs)
-length-objects (Found rule (Unresolved population) ∷ xs) = omega (arith, length-objects xs)
-length-objects (Refused number ∷ xs) = omega (arith, length-objects xs)
 
 -- one more answer, which is not resolved
 pub none_more : (es : List (Object × ℕ)) (before : List Answer) (a : Answer) → objects (a ∷ []) ≡ [] → es ≡ tally same_object (objects before) → es ≡ tally same_object (objects (before ++ a ∷ []))
 none_more es before a none is = is ∙ ap (tally same_object) (sym (objects-append before (a ∷ []) ∙ ap (λ ks. objects before ++ ks) none ∙ append-nil (objects before)))
 
--- one more answer, which is resolved
+-- one more answer, which comes again
 pub one_more : (before : List Answer) (a : Answer) (rule : Rule) (finding : Finding) (population onset period : ℕ) (dx dy : ℤ) (code shown : List ℕ)
     → a ≡ Found rule finding → finding ≡ Recurs population onset period dx dy code → shown ≡ code
     → tally same_object (objects before ++ object rule shown ∷ []) ≡ tally same_object (objects (before ++ a ∷ []))
@@ -219,5 +239,12 @@ one_more before a rule finding population onset period dx dy code shown is_found
     ∙ ap (λ x. tally same_object (objects before ++ objects (x ∷ []))) (sym (is_found ∙ ap (Found rule) is_recurs))
     ∙ ap (tally same_object) (sym (objects-append before (a ∷ [])))
 
-pub few_objects : (B : Type 0) (f : B → Answer) (xs : List B) (n : ℕ) → length (objects (map f (take n xs))) ≤ length xs
-few_objects B f xs n = omega (arith, length-objects (map f (take n xs)), length-map (take n xs) f, length-take n xs)
+-- one more answer, which has fallen apart
+pub parts_more : (before : List Answer) (a : Answer) (rule : Rule) (finding : Finding) (population : ℕ) (parts shown : List Part)
+    → a ≡ Found rule finding → finding ≡ Ash population parts → shown ≡ parts
+    → tally same_object (objects before ++ part_objects rule shown) ≡ tally same_object (objects (before ++ a ∷ []))
+parts_more before a rule finding population parts shown is_found is_ash is_shown =
+    ap (λ ps. tally same_object (objects before ++ part_objects rule ps)) is_shown
+    ∙ ap (λ ks. tally same_object (objects before ++ ks)) (sym (append-nil (part_objects rule parts)))
+    ∙ ap (λ x. tally same_object (objects before ++ objects (x ∷ []))) (sym (is_found ∙ ap (Found rule) is_ash))
+    ∙ ap (tally same_object) (sym (objects-append before (a ∷ [])))

@@ -4,40 +4,41 @@ use Rattle.std.proofs.lemmas.Option.{slice_get_read}
 use Rattle.census_bundle.specs.declared.bundle.Entry.{Entry}
 use Rattle.census_bundle.specs.declared.bundle.Folder.{Folder}
 use Rattle.census_bundle.specs.declared.ticket.Ticket.{Ticket}
-use Rattle.life_answer.specs.Answers.{answer_of}
+use Rattle.life_answer.specs.Questions.{answer_to_question}
 use Rattle.census_book.proofs.Releases.{folder_at, numbered_bounds}
 use Rattle.census_bundle.specs.Tickets.{Tickets, with_ticket, numbered, entry_at}
 use Rattle.life_answer.specs.declared.finding.Answer.{Answer}
 use Rattle.census_book.specs.Objects.{code_line, code_lines, objects, same_object, tally}
-use Rattle.census_book.specs.Lines.{answers, close_line, text_of, end_line, pattern_line, pattern_lines, pattern_count}
+use Rattle.census_book.specs.Lines.{answers, close_line, text_of, end_line, pattern_text, pattern_lines, pattern_count}
 use Rattle.census_book.specs.Reports.{out, out_of, folder_out, closing, closing_if, end_if, run_of, has_all}
 use Rattle.census_book.proofs.Owning.{text_of-append, eqb_same, eqb_apart}
+use Rattle.life_answer.specs.declared.question.Question.{Question}
 
-lines_at : (bound c s : ℕ) (es : List Entry) (k : ℕ) (e : Entry) → slice_get es k ≡ Some e → drop k (pattern_lines bound c s es) ≡ pattern_line bound c (s + k) e ∷ drop (k + 1) (pattern_lines bound c s es)
-lines_at bound c s [] k e at = absurd (cc)
-lines_at bound c s (e' ∷ es) zero e at =
+lines_at : (question : Question) (c s : ℕ) (es : List Entry) (k : ℕ) (e : Entry) → slice_get es k ≡ Some e → drop k (pattern_lines question c s es) ≡ pattern_text question c (s + k) e ∷ drop (k + 1) (pattern_lines question c s es)
+lines_at question c s [] k e at = absurd (cc)
+lines_at question c s (e' ∷ es) zero e at =
     let same : e' ≡ e = cc in
     let n : s ≡ s + zero = omega arith in
     let one : suc zero ≡ zero + 1 = omega arith in
-    ap (λ m. pattern_line bound c m e' ∷ pattern_lines bound c (suc s) es) n
-    ∙ ap (λ (x : Entry). pattern_line bound c (s + zero) x ∷ pattern_lines bound c (suc s) es) same
-    ∙ ap (λ m. pattern_line bound c (s + zero) e ∷ drop m (pattern_lines bound c s (e' ∷ es))) one
-lines_at bound c s (e' ∷ es) (suc k) e at =
+    ap (λ m. pattern_text question c m e' ∷ pattern_lines question c (suc s) es) n
+    ∙ ap (λ (x : Entry). pattern_text question c (s + zero) x ∷ pattern_lines question c (suc s) es) same
+    ∙ ap (λ m. pattern_text question c (s + zero) e ∷ drop m (pattern_lines question c s (e' ∷ es))) one
+lines_at question c s (e' ∷ es) (suc k) e at =
     let n : suc s + k ≡ s + suc k = omega arith in
     let one : suc (k + 1) ≡ suc k + 1 = omega arith in
-    lines_at bound c (suc s) es k e at
-    ∙ ap (λ m. pattern_line bound c m e ∷ drop (k + 1) (pattern_lines bound c (suc s) es)) n
-    ∙ ap (λ m. pattern_line bound c (s + suc k) e ∷ drop m (pattern_lines bound c s (e' ∷ es))) one
+    lines_at question c (suc s) es k e at
+    ∙ ap (λ m. pattern_text question c m e ∷ drop (k + 1) (pattern_lines question c (suc s) es)) n
+    ∙ ap (λ m. pattern_text question c (s + suc k) e ∷ drop m (pattern_lines question c s (e' ∷ es))) one
 
-pub text_step : (bound c m i : ℕ) (es : List Entry) (e : Entry) → i < m → slice_get es i ≡ Some e
-    → pattern_line bound c (i + 1) e ++ text_of (take (m - (i + 1)) (drop (i + 1) (pattern_lines bound c 1 es))) ≡ text_of (take (m - i) (drop i (pattern_lines bound c 1 es)))
-text_step bound c m i es e lt at =
-    let ls = pattern_lines bound c 1 es in
+pub text_step : (question : Question) (c m i : ℕ) (es : List Entry) (e : Entry) → i < m → slice_get es i ≡ Some e
+    → pattern_text question c (i + 1) e ++ text_of (take (m - (i + 1)) (drop (i + 1) (pattern_lines question c 1 es))) ≡ text_of (take (m - i) (drop i (pattern_lines question c 1 es)))
+text_step question c m i es e lt at =
+    let ls = pattern_lines question c 1 es in
     let n : 1 + i ≡ i + 1 = omega arith in
     let left : m - i ≡ suc (m - (i + 1)) = omega arith in
     sym
-    (ap (λ xs. text_of (take (m - i) xs)) (lines_at bound c 1 es i e at ∙ ap (λ k. pattern_line bound c k e ∷ drop (i + 1) ls) n)
-    ∙ ap (λ k. text_of (take k (pattern_line bound c (i + 1) e ∷ drop (i + 1) ls))) left)
+    (ap (λ xs. text_of (take (m - i) xs)) (lines_at question c 1 es i e at ∙ ap (λ k. pattern_text question c k e ∷ drop (i + 1) ls) n)
+    ∙ ap (λ k. text_of (take k (pattern_text question c (i + 1) e ∷ drop (i + 1) ls))) left)
 
 pub numbered_read : {A : Type 0} (xs : List A) (i : ℕ) (x : A) → 0 < i → i ≤ length xs → x ≡ get_or xs (i - 1) x → numbered xs i ≡ Some x
 numbered_read xs zero x pos le is = absurd (omega arith)
@@ -45,29 +46,29 @@ numbered_read xs (suc i) x pos le is =
     let n : suc i - 1 ≡ i = omega arith in
     slice_get_read xs (length xs) i x refl (omega arith) (is ∙ ap (λ k. get_or xs k x) n)
 
-pub out_text : (b : List Folder) (bound : ℕ) (taken : Tickets) (t : Ticket) (f : Folder) (k m : ℕ) (closed ended : List ℕ) → numbered b t.folder ≡ Some f → k ≡ run_of taken t.folder f → m ≡ run_of (with_ticket taken t) t.folder f
-    → closed ≡ text_of (closing_if (eqb m (length f.entries)) bound t.folder f) → ended ≡ end_if (has_all b (with_ticket taken t)) b
-    → (text_of (take (m - k) (drop k (pattern_lines bound t.folder 1 f.entries))) ++ closed) ++ ended ≡ out b bound taken t
-out_text b bound taken t f k m closed ended at is_k is_m is_closed is_ended =
+pub out_text : (b : List Folder) (question : Question) (taken : Tickets) (t : Ticket) (f : Folder) (k m : ℕ) (closed ended : List ℕ) → numbered b t.folder ≡ Some f → k ≡ run_of taken t.folder f → m ≡ run_of (with_ticket taken t) t.folder f
+    → closed ≡ text_of (closing_if (eqb m (length f.entries)) question t.folder f) → ended ≡ end_if (has_all b (with_ticket taken t)) b
+    → (text_of (take (m - k) (drop k (pattern_lines question t.folder 1 f.entries))) ++ closed) ++ ended ≡ out b question taken t
+out_text b question taken t f k m closed ended at is_k is_m is_closed is_ended =
     let c = t.folder in
     let after = with_ticket taken t in
-    let first = take (m - k) (drop k (pattern_lines bound c 1 f.entries)) in
+    let first = take (m - k) (drop k (pattern_lines question c 1 f.entries)) in
     ap (λ x. (text_of first ++ x) ++ ended) is_closed
-    ∙ ap (λ y. (text_of first ++ text_of (closing_if (eqb m (length f.entries)) bound c f)) ++ y) is_ended
-    ∙ ap (λ x. x ++ end_if (has_all b after) b) (sym (text_of-append first (closing_if (eqb m (length f.entries)) bound c f)))
-    ∙ ap (λ n. text_of (folder_out bound c f n m) ++ end_if (has_all b after) b) is_k
-    ∙ ap (λ n. text_of (folder_out bound c f (run_of taken c f) n) ++ end_if (has_all b after) b) is_m
-    ∙ ap (λ o. out_of bound o taken t ++ end_if (has_all b after) b) (sym at)
+    ∙ ap (λ y. (text_of first ++ text_of (closing_if (eqb m (length f.entries)) question c f)) ++ y) is_ended
+    ∙ ap (λ x. x ++ end_if (has_all b after) b) (sym (text_of-append first (closing_if (eqb m (length f.entries)) question c f)))
+    ∙ ap (λ n. text_of (folder_out question c f n m) ++ end_if (has_all b after) b) is_k
+    ∙ ap (λ n. text_of (folder_out question c f (run_of taken c f) n) ++ end_if (has_all b after) b) is_m
+    ∙ ap (λ o. out_of question o taken t ++ end_if (has_all b after) b) (sym at)
 
 pub joined : (t₀ t₁ t₂ t₃ p x y o : List ℕ) → t₁ ≡ t₀ ++ p → t₂ ≡ t₁ ++ x → t₃ ≡ t₂ ++ y → (p ++ x) ++ y ≡ o → t₃ ≡ t₀ ++ o
 joined t₀ t₁ t₂ t₃ p x y o one two three is =
     three ∙ ap (λ t. t ++ y) (two ∙ ap (λ t. t ++ x) one) ∙ ap (λ t. t ++ y) (append_assoc t₀ p x) ∙ append_assoc t₀ (p ++ x) y ∙ ap (λ t. t₀ ++ t) is
 
-pub closed_then : (m n bound c : ℕ) (f : Folder) → m ≡ n → text_of (closing bound c f) ≡ text_of (closing_if (eqb m n) bound c f)
-closed_then m n bound c f e = ap (λ b. text_of (closing_if b bound c f)) (sym (eqb_same m n e))
+pub closed_then : (m n : ℕ) (question : Question) (c : ℕ) (f : Folder) → m ≡ n → text_of (closing question c f) ≡ text_of (closing_if (eqb m n) question c f)
+closed_then m n question c f e = ap (λ b. text_of (closing_if b question c f)) (sym (eqb_same m n e))
 
-pub closed_else : (m n bound c : ℕ) (f : Folder) → (m ≡ n → ⊥) → [] ≡ text_of (closing_if (eqb m n) bound c f)
-closed_else m n bound c f ne = ap (λ b. text_of (closing_if b bound c f)) (sym (eqb_apart m n ne))
+pub closed_else : (m n : ℕ) (question : Question) (c : ℕ) (f : Folder) → (m ≡ n → ⊥) → [] ≡ text_of (closing_if (eqb m n) question c f)
+closed_else m n question c f ne = ap (λ b. text_of (closing_if b question c f)) (sym (eqb_apart m n ne))
 
 pub end_then : (whole : Bool) (b : List Folder) → whole ≡ true → end_line b ≡ end_if whole b
 end_then whole b e = ap (λ x. end_if x b) (sym e)
@@ -82,25 +83,25 @@ pub ticket_in : (b : List Folder) (t : Ticket) (e : Entry) → entry_at b t ≡ 
 ticket_in b t e at = let f = folder_at (numbered b t.folder) t.number e at in numbered_bounds b t.folder f.0 f.1
 
 -- what ends a section is its `code` lines and its last line
-pub closing_text : (bound c : ℕ) (f : Folder) → text_of (closing bound c f) ≡ text_of (code_lines bound c f) ++ close_line bound c f
+pub closing_text : (question : Question) (c : ℕ) (f : Folder) → text_of (closing question c f) ≡ text_of (code_lines question c f) ++ close_line question c f
 unfolding closing
-closing_text bound c f = text_of-append (code_lines bound c f) (close_line bound c f ∷ []) ∙ ap (λ t. text_of (code_lines bound c f) ++ t) (append-nil (close_line bound c f))
+closing_text question c f = text_of-append (code_lines question c f) (close_line question c f ∷ []) ∙ ap (λ t. text_of (code_lines question c f) ++ t) (append-nil (close_line question c f))
 
-pub ended : (bound c : ℕ) (f : Folder) (found : List Answer) (t₀ t₁ t₂ : List ℕ) → found ≡ answers bound f.entries
-    → t₁ ≡ t₀ ++ text_of (map (λ e. code_line c e.0 e.1) (tally same_object (objects found))) → t₂ ≡ t₁ ++ close_line bound c f → t₂ ≡ t₀ ++ text_of (closing bound c f)
-ended bound c f found t₀ t₁ t₂ is one two =
-    two ∙ ap (λ t. t ++ close_line bound c f) (one ∙ ap (λ xs. t₀ ++ text_of (map (λ e. code_line c e.0 e.1) (tally same_object (objects xs)))) is)
-    ∙ append_assoc t₀ (text_of (code_lines bound c f)) (close_line bound c f)
-    ∙ ap (λ t. t₀ ++ t) (sym (closing_text bound c f))
+pub ended : (question : Question) (c : ℕ) (f : Folder) (found : List Answer) (t₀ t₁ t₂ : List ℕ) → found ≡ answers question f.entries
+    → t₁ ≡ t₀ ++ text_of (map (λ e. code_line c e.0 e.1) (tally same_object (objects found))) → t₂ ≡ t₁ ++ close_line question c f → t₂ ≡ t₀ ++ text_of (closing question c f)
+ended question c f found t₀ t₁ t₂ is one two =
+    two ∙ ap (λ t. t ++ close_line question c f) (one ∙ ap (λ xs. t₀ ++ text_of (map (λ e. code_line c e.0 e.1) (tally same_object (objects xs)))) is)
+    ∙ append_assoc t₀ (text_of (code_lines question c f)) (close_line question c f)
+    ∙ ap (λ t. t₀ ++ t) (sym (closing_text question c f))
 
-pub answers_more : (bound i : ℕ) (es : List Entry) (e : Entry) → slice_get es i ≡ Some e → answers bound (take (i + 1) es) ≡ answers bound (take i es) ++ answer_of e.text bound ∷ []
-answers_more bound i [] e at = absurd (cc)
-answers_more bound zero (x ∷ es) e at =
+pub answers_more : (question : Question) (i : ℕ) (es : List Entry) (e : Entry) → slice_get es i ≡ Some e → answers question (take (i + 1) es) ≡ answers question (take i es) ++ answer_to_question question e.text ∷ []
+answers_more question i [] e at = absurd (cc)
+answers_more question zero (x ∷ es) e at =
     let same : x ≡ e = cc in
-    ap (λ (y : Entry). answer_of y.text bound ∷ []) same
-answers_more bound (suc i) (x ∷ es) e at =
+    ap (λ (y : Entry). answer_to_question question y.text ∷ []) same
+answers_more question (suc i) (x ∷ es) e at =
     let n : suc i + 1 ≡ suc (i + 1) = omega arith in
-    ap (λ m. answers bound (take m (x ∷ es))) n ∙ ap (λ xs. answer_of x.text bound ∷ xs) (answers_more bound i es e at)
+    ap (λ m. answers question (take m (x ∷ es))) n ∙ ap (λ xs. answer_to_question question x.text ∷ xs) (answers_more question i es e at)
 
 pub count_at : (i : ℕ) (fs : List Folder) (f : Folder) → slice_get fs i ≡ Some f → pattern_count (drop i fs) ≡ length f.entries + pattern_count (drop (i + 1) fs)
 count_at i [] f at = absurd (cc)
@@ -111,9 +112,9 @@ count_at (suc i) (g ∷ fs) f at =
     let n : suc i + 1 ≡ suc (i + 1) = omega arith in
     count_at i fs f at ∙ ap (λ m. length f.entries + pattern_count (drop m (g ∷ fs))) (sym n)
 
-pub folder_text : (bound c : ℕ) (f : Folder) (k m : ℕ) (t₀ t₁ t₂ : List ℕ) → text_of (closing bound c f) ≡ text_of (closing_if (eqb m (length f.entries)) bound c f)
-    → t₁ ≡ t₀ ++ text_of (take (m - k) (drop k (pattern_lines bound c 1 f.entries))) → t₂ ≡ t₁ ++ text_of (closing bound c f) → t₂ ≡ t₀ ++ text_of (folder_out bound c f k m)
-folder_text bound c f k m t₀ t₁ t₂ is one two =
-    let first = take (m - k) (drop k (pattern_lines bound c 1 f.entries)) in
-    two ∙ ap (λ t. t ++ text_of (closing bound c f)) one ∙ append_assoc t₀ (text_of first) (text_of (closing bound c f)) ∙ ap (λ t. t₀ ++ (text_of first ++ t)) is
-    ∙ ap (λ t. t₀ ++ t) (sym (text_of-append first (closing_if (eqb m (length f.entries)) bound c f)))
+pub folder_text : (question : Question) (c : ℕ) (f : Folder) (k m : ℕ) (t₀ t₁ t₂ : List ℕ) → text_of (closing question c f) ≡ text_of (closing_if (eqb m (length f.entries)) question c f)
+    → t₁ ≡ t₀ ++ text_of (take (m - k) (drop k (pattern_lines question c 1 f.entries))) → t₂ ≡ t₁ ++ text_of (closing question c f) → t₂ ≡ t₀ ++ text_of (folder_out question c f k m)
+folder_text question c f k m t₀ t₁ t₂ is one two =
+    let first = take (m - k) (drop k (pattern_lines question c 1 f.entries)) in
+    two ∙ ap (λ t. t ++ text_of (closing question c f)) one ∙ append_assoc t₀ (text_of first) (text_of (closing question c f)) ∙ ap (λ t. t₀ ++ (text_of first ++ t)) is
+    ∙ ap (λ t. t₀ ++ t) (sym (text_of-append first (closing_if (eqb m (length f.entries)) question c f)))

@@ -9,24 +9,25 @@ use Rattle.census_book.specs.declared.offer.Offer.TheVariants.{Stranger, Double,
 use Rattle.census_bundle.specs.Tickets.{Tickets, entry_at, has_ticket, ticket_cmp, IsTicketOf}
 use Rattle.census_book.specs.Progress.{Progress, with_taken}
 use Rattle.census_book.specs.Work.{Work}
+use Rattle.life_answer.specs.declared.question.Question.{Question}
 
--- the ticket is one of the bundle's, the text is the text of that ticket, and the bounds agree
-pub record Belongs (b : List Folder) (bound : ℕ) (t : Ticket) (text : List ℕ) (n : ℕ) : Type 0 where
+-- the ticket is one of the bundle's, the text is the text of that ticket, and the questions agree
+pub record Belongs (b : List Folder) (question : Question) (t : Ticket) (text : List ℕ) (asked : Question) : Type 0 where
   pub entry : Entry
   pub at : entry_at b t ≡ Some entry
   pub same_text : entry.text ≡ text
-  pub same_bound : bound ≡ n
+  pub same_question : question ≡ asked
 
 -- this is the result of a ticket of the bundle
-pub record IsResult (b : List Folder) (bound : ℕ) (t : Ticket) (w : Work) : Type 0 where
+pub record IsResult (b : List Folder) (question : Question) (t : Ticket) (w : Work) : Type 0 where
   pub own : w.ticket ≡ t
-  pub belongs : Belongs b bound t w.entry.text w.bound
+  pub belongs : Belongs b question t w.entry.text w.question
 
 -- what is answered to a result where these tickets were taken
-abbrev pub Judged : List Folder → ℕ → Tickets → Ticket → List ℕ → ℕ → Offer → Type 0
-Judged b bound taken t text n Stranger = Belongs b bound t text n → ⊥
-Judged b bound taken t text n Double = Belongs b bound t text n × (has_ticket taken t ≡ true)
-Judged b bound taken t text n Taken = Belongs b bound t text n × (has_ticket taken t ≡ false)
+abbrev pub Judged : List Folder → Question → Tickets → Ticket → List ℕ → Question → Offer → Type 0
+Judged b question taken t text asked Stranger = Belongs b question t text asked → ⊥
+Judged b question taken t text asked Double = Belongs b question t text asked × (has_ticket taken t ≡ true)
+Judged b question taken t text asked Taken = Belongs b question t text asked × (has_ticket taken t ≡ false)
 
 -- the collector afterwards
 abbrev pub after_offer : Progress → Ticket → Offer → Progress
@@ -35,8 +36,8 @@ after_offer p t Double = p
 after_offer p t Taken = with_taken p t
 
 -- what becomes of a collector to which this result was offered
-abbrev pub Offered : Progress → Ticket → List ℕ → ℕ → Progress → Offer → Type 0
-Offered p t text n q o = Judged p.bundle p.bound p.taken t text n o × (q ≡ after_offer p t o)
+abbrev pub Offered : Progress → Ticket → List ℕ → Question → Progress → Offer → Type 0
+Offered p t text asked q o = Judged p.bundle p.question p.taken t text asked o × (q ≡ after_offer p t o)
 
 -- the least ticket that is not taken
 pub record IsLeastMissing (b : List Folder) (taken : Tickets) (t : Ticket) : Type 0 where

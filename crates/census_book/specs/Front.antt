@@ -4,6 +4,7 @@ use Rattle.census_bundle.specs.declared.bundle.Folder.{Folder}
 use Rattle.census_bundle.specs.declared.ticket.Ticket.{Ticket}
 use Rattle.census_bundle.specs.Tickets.{Tickets, numbered, with_ticket}
 use Rattle.census_book.specs.Reports.{run_of, out}
+use Rattle.life_answer.specs.declared.question.Question.{Question}
 
 -- for each collection its run, and the first collection that has not arrived whole, or how many there are
 pub record IsFront (b : List Folder) (taken : Tickets) (runs : List ℕ) (first : ℕ) : Type 0 where
@@ -25,7 +26,7 @@ pub record IsNextOpen (b : List Folder) (runs : List ℕ) (c m from first : ℕ)
   pub part : (f : Folder) → slice_get b first ≡ Some f → run_at runs c m first ≡ length f.entries → ⊥
 
 -- what a ticket's result releases, its collection's run then, and the first collection that is then open
-pub record IsRelease (b : List Folder) (bound : ℕ) (taken : Tickets) (runs : List ℕ) (first : ℕ) (t : Ticket) (text : List ℕ) (run next : ℕ) : Type 0 where
-  pub released : text ≡ out b bound taken t
+pub record IsRelease (b : List Folder) (question : Question) (taken : Tickets) (runs : List ℕ) (first : ℕ) (t : Ticket) (text : List ℕ) (run next : ℕ) : Type 0 where
+  pub released : text ≡ out b question taken t
   pub come_to : (f : Folder) → numbered b t.folder ≡ Some f → run ≡ run_of (with_ticket taken t) t.folder f
   pub then_open : IsNextOpen b runs t.folder run first next

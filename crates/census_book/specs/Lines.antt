@@ -3,13 +3,16 @@ use Rattle.std.specs.Prelude.{ℕ, suc, ◌+◌, List, [], ◌∷◌, ◌++◌, 
 use Rattle.std.specs.Fmt.{signed_decimal}
 use Rattle.census_bundle.specs.declared.bundle.Entry.{Entry}
 use Rattle.census_bundle.specs.declared.bundle.Folder.{Folder}
-use Rattle.life_answer.specs.Answers.{answer_of}
+use Rattle.life_answer.specs.Questions.{answer_to_question}
 use Rattle.life_answer.specs.declared.finding.Answer.{Answer}
 use Rattle.life_answer.specs.declared.finding.Answer.TheVariants.{Found, Refused}
-use Rattle.life_answer.specs.declared.finding.Finding.TheVariants.{Recurs, Unresolved}
+use Rattle.life_answer.specs.declared.finding.Finding.TheVariants.{Recurs, Unresolved, Ash}
+use Rattle.life_answer.specs.declared.part.Part.{Part}
+use Rattle.life_answer.specs.declared.question.Question.{Question}
+use Rattle.life_answer.specs.Parts.{objects_in}
 use Rattle.life_cells.specs.Rules.{rule_text}
 
--- a line's bytes
+-- the bytes of a line, or those of the lines of one pattern, which stand together
 abbrev pub Line : Type 0
 Line = List ℕ
 
@@ -32,11 +35,13 @@ unfoldable pub open_line : ℕ → Folder → Line
 open_line c f = line (codes "open") (decimal c ∷ decimal (length f.entries) ∷ f.name ∷ [])
 
 -- What is found of a pattern. `ok`: the rule, the population of generation 0, the onset, the period, the displacement
--- and the code. `none`: the rule and the population. `bad`: the number of the text's fault.
+-- and the code. `ash`: the rule, the population and how many objects. `none`: the rule and the population. `bad`: the
+-- number of the text's fault.
 abbrev pub finding_fields : Answer → List (List ℕ)
 finding_fields (Found rule (Recurs population onset period dx dy code)) =
     codes "ok" ∷ rule_text rule ∷ decimal population ∷ decimal onset ∷ decimal period ∷ signed_decimal dx ∷ signed_decimal dy ∷ code ∷ []
 finding_fields (Found rule (Unresolved population)) = codes "none" ∷ rule_text rule ∷ decimal population ∷ []
+finding_fields (Found rule (Ash population parts)) = codes "ash" ∷ rule_text rule ∷ decimal population ∷ decimal (objects_in parts) ∷ []
 finding_fields (Refused number) = codes "bad" ∷ decimal number ∷ []
 
 -- what is found of a pattern, and its name
@@ -44,36 +49,55 @@ abbrev pub answer_fields : Answer → List ℕ → List (List ℕ)
 answer_fields found name = finding_fields found ++ name ∷ []
 
 -- `line`, the collection, the pattern's number, and what is found of it
-unfoldable pub pattern_line : ℕ → ℕ → ℕ → Entry → Line
-pattern_line bound c i e = line (codes "line") (decimal c ∷ decimal i ∷ answer_fields (answer_of e.text bound) e.name)
+unfoldable pub pattern_line : ℕ → ℕ → Answer → List ℕ → Line
+pattern_line c i found name = line (codes "line") (decimal c ∷ decimal i ∷ answer_fields found name)
 
--- the lines of these patterns, the first of which has the number i
-abbrev pub pattern_lines : ℕ → ℕ → ℕ → List Entry → List Line
-pattern_lines bound c i [] = []
-pattern_lines bound c i (e ∷ es) = pattern_line bound c i e ∷ pattern_lines bound c (suc i) es
+-- `part`, the collection, the pattern's number, the code of an object, and how many parts are that object
+unfoldable pub part_line : ℕ → ℕ → Part → Line
+part_line c i part = line (codes "part") (decimal c ∷ decimal i ∷ part.code ∷ decimal part.count ∷ [])
+
+-- the `part` lines of a pattern of which this was found
+abbrev pub part_lines : ℕ → ℕ → Answer → List Line
+part_lines c i (Found rule (Recurs population onset period dx dy code)) = []
+part_lines c i (Found rule (Unresolved population)) = []
+part_lines c i (Found rule (Ash population parts)) = map (part_line c i) parts
+part_lines c i (Refused number) = []
+
+-- the `line` line of a pattern, and behind it its `part` lines
+unfoldable pub pattern_text : Question → ℕ → ℕ → Entry → Line
+pattern_text question c i e =
+    pattern_line c i (answer_to_question question e.text) e.name ++ text_of (part_lines c i (answer_to_question question e.text))
+
+-- the texts of these patterns, the first of which has the number i
+abbrev pub pattern_lines : Question → ℕ → ℕ → List Entry → List Line
+pattern_lines question c i [] = []
+pattern_lines question c i (e ∷ es) = pattern_text question c i e ∷ pattern_lines question c (suc i) es
 
 -- what is found of each of these patterns
-abbrev pub answers : ℕ → List Entry → List Answer
-answers bound es = map (λ (e : Entry). answer_of e.text bound) es
+abbrev pub answers : Question → List Entry → List Answer
+answers question es = map (λ (e : Entry). answer_to_question question e.text) es
 
 abbrev pub is_resolved : Answer → Bool
 is_resolved (Found rule (Recurs population onset period dx dy code)) = true
 is_resolved (Found rule (Unresolved population)) = false
+is_resolved (Found rule (Ash population parts)) = true
 is_resolved (Refused number) = false
 
 abbrev pub is_unresolved : Answer → Bool
 is_unresolved (Found rule (Recurs population onset period dx dy code)) = false
 is_unresolved (Found rule (Unresolved population)) = true
+is_unresolved (Found rule (Ash population parts)) = false
 is_unresolved (Refused number) = false
 
 abbrev pub is_refused : Answer → Bool
 is_refused (Found rule finding) = false
 is_refused (Refused number) = true
 
--- `close`, the collection, how many patterns it has, and of how many of them it is said `ok`, `none` and `bad`
-unfoldable pub close_line : ℕ → ℕ → Folder → Line
-close_line bound c f =
-    let found = answers bound f.entries in
+-- `close`, the collection, how many patterns it has, and of how many of them it is said `ok` or `ash`,
+-- `none`, and `bad`
+unfoldable pub close_line : Question → ℕ → Folder → Line
+close_line question c f =
+    let found = answers question f.entries in
     line (codes "close")
     (decimal c ∷ decimal (length f.entries) ∷ decimal (count_by is_resolved found) ∷ decimal (count_by is_unresolved found) ∷ decimal (count_by is_refused found) ∷ [])
 

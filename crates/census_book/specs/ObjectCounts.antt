@@ -11,6 +11,7 @@ use Rattle.life_model.specs.Recurrence.{AreOneObject, Settles}
 use Rattle.life_model.specs.Rule.{Rule}
 use Rattle.life_text.specs.Picture.{picture_of}
 use Rattle.life_text.specs.Rle.{reading}
+use Rattle.life_answer.specs.declared.question.Question.TheVariants as question
 use Rattle.census_book.specs.Lines.{answers}
 use Rattle.census_book.specs.Objects.{Object, object, objects, same_object, tally}
 
@@ -53,5 +54,5 @@ pub record CountsObject (bound : ℕ) (es : List Entry) (line : Object × ℕ) :
 abbrev pub CodesCountObjects : Type 0
 CodesCountObjects =
     (bound : ℕ) (es : List Entry)
-    → All (CountsObject bound es) (tally same_object (objects (answers bound es)))
-    × ((e : Entry) → Contains es e → (r : Resolves bound e) → count_by (λ line. same_object (settled_object bound e r) line.0) (tally same_object (objects (answers bound es))) ≡ 1)
+    → All (CountsObject bound es) (tally same_object (objects (answers (question.Settles bound) es)))
+    × ((e : Entry) → Contains es e → (r : Resolves bound e) → count_by (λ line. same_object (settled_object bound e r) line.0) (tally same_object (objects (answers (question.Settles bound) es))) ≡ 1)

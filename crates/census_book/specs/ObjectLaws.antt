@@ -1,5 +1,5 @@
 -- Two objects are the same exactly where they are one.
-use Rattle.std.proofs.Common.{◌≡◌, ℕ, Bool, true, false, ◌&&◌, eqb, List, refl, sym, ap, ◌∙◌, Decides, nat_eq}
+use Rattle.std.proofs.Common.{◌≡◌, ℕ, Bool, true, false, ◌&&◌, eqb, List, ◌++◌, refl, sym, ap, ◌∙◌, Decides, nat_eq}
 use Rattle.std.proofs.lemmas.Bool.{false≢true}
 use Rattle.std.proofs.lemmas.Bool.Decides.{Decides-eqb}
 use Rattle.std.proofs.lemmas.Slice.Eq.{slice_eq-Decides}
@@ -51,6 +51,10 @@ same_object_equivalence = record {
 pub same_object_partial : IsPartialEquivalence same_object
 same_object_partial = partial_equiv_from_equiv same_object_equivalence
 
+-- what an object feeds a hasher: the two sets of its rule, and the bytes of its code
+abbrev pub fed_object : Object → fed.HashWrites
+fed_object o = (fed.u16 o.rule.birth ++ fed.u16 o.rule.survival) ++ fed.slice fed.u8 o.code
+
 -- objects that are the same feed a hasher the same
-pub same_object_fed : (k l : Object) → same_object k l ≡ true → fed.slice fed.u8 k.code ≡ fed.slice fed.u8 l.code
-same_object_fed k l e = ap (λ (z : Object). fed.slice fed.u8 z.code) (one_object k l e)
+pub same_object_fed : (k l : Object) → same_object k l ≡ true → fed_object k ≡ fed_object l
+same_object_fed k l e = ap fed_object (one_object k l e)

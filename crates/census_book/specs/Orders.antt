@@ -8,6 +8,7 @@ use Rattle.census_book.specs.Collecting.{Offered}
 use Rattle.census_book.specs.Progress.{Progress, started}
 use Rattle.census_book.specs.Reports.{IsReport, IsReportFront, start, out}
 use Rattle.census_book.specs.Work.{Work}
+use Rattle.life_answer.specs.declared.question.Question.{Question}
 
 -- the tickets are the bundle's, none of them taken, and each stands once
 abbrev pub AreNew : List Folder → Tickets → List Ticket → Type 0
@@ -15,9 +16,9 @@ AreNew b taken [] = Unit {0}
 AreNew b taken (t ∷ ts) = IsTicketOf b t × (has_ticket taken t ≡ false) × AreNew b (with_ticket taken t) ts
 
 -- what taking each of the tickets in turn releases
-abbrev pub outs : List Folder → ℕ → Tickets → List Ticket → List ℕ
-outs b bound taken [] = []
-outs b bound taken (t ∷ ts) = out b bound taken t ++ outs b bound (with_ticket taken t) ts
+abbrev pub outs : List Folder → Question → Tickets → List Ticket → List ℕ
+outs b question taken [] = []
+outs b question taken (t ∷ ts) = out b question taken t ++ outs b question (with_ticket taken t) ts
 
 -- these, and then the tickets in turn
 abbrev pub with_all : Tickets → List Ticket → Tickets
@@ -27,18 +28,18 @@ with_all taken (t ∷ ts) = with_all (with_ticket taken t) ts
 -- whatever the order of arrival, what is released begins a report, and it is one where all tickets arrived
 abbrev pub OrdersAreLawful : Type 0
 OrdersAreLawful =
-    (b : List Folder) (bound : ℕ) (ts : List Ticket) → AreNew b no_tickets ts
-    → IsReportFront b bound (start b bound ++ outs b bound no_tickets ts)
-    × (HasAll b (with_all no_tickets ts) → IsReport b bound (start b bound ++ outs b bound no_tickets ts))
+    (b : List Folder) (question : Question) (ts : List Ticket) → AreNew b no_tickets ts
+    → IsReportFront b question (start b question ++ outs b question no_tickets ts)
+    × (HasAll b (with_all no_tickets ts) → IsReport b question (start b question ++ outs b question no_tickets ts))
 
 -- the second is what becomes of the first, to which these results were offered in turn
 abbrev pub OfferedAll : Progress → List Work → Progress → Type 0
 OfferedAll p [] r = r ≡ p
-OfferedAll p (w ∷ ws) r = (q : Progress) × (o : Offer) × Offered p w.ticket w.entry.text w.bound q o × OfferedAll q ws r
+OfferedAll p (w ∷ ws) r = (q : Progress) × (o : Offer) × Offered p w.ticket w.entry.text w.question q o × OfferedAll q ws r
 
--- Whatever results are offered, in whatever order, some of them twice or of another bundle or bound: what is released
+-- Whatever results are offered, in whatever order, some of them twice or of another bundle or question: what is released
 -- begins a report, and it is one where no ticket is missing.
 abbrev pub ArrivalsAreLawful : Type 0
 ArrivalsAreLawful =
-    (b : List Folder) (bound : ℕ) (ws : List Work) (p : Progress) → OfferedAll (started b bound) ws p
-    → IsReportFront b bound p.unsent × (HasAll b p.taken → IsReport b bound p.unsent)
+    (b : List Folder) (question : Question) (ws : List Work) (p : Progress) → OfferedAll (started b question) ws p
+    → IsReportFront b question p.unsent × (HasAll b p.taken → IsReport b question p.unsent)

@@ -4,34 +4,35 @@ use Rattle.census_bundle.specs.declared.bundle.Folder.{Folder}
 use Rattle.census_bundle.specs.declared.ticket.Ticket.{Ticket}
 use Rattle.census_bundle.specs.Tickets.{Tickets, no_tickets, with_ticket}
 use Rattle.census_book.specs.Reports.{start, out}
+use Rattle.life_answer.specs.declared.question.Question.{Question}
 
 -- the tickets of a bundle that were taken
 pub record Taken : Type 0 where
   pub bundle : List Folder
-  pub bound : ℕ
+  pub question : Question
   pub taken : Tickets
 
-abbrev pub taken_of : List Folder → ℕ → Tickets → Taken
-taken_of b bound taken = record { bundle = b; bound = bound; taken = taken }
+abbrev pub taken_of : List Folder → Question → Tickets → Taken
+taken_of b question taken = record { bundle = b; question = question; taken = taken }
 
 -- the tickets taken, and the text that was released and not yet written
 pub record Progress : Type 0 where
   pub bundle : List Folder
-  pub bound : ℕ
+  pub question : Question
   pub taken : Tickets
   pub unsent : List ℕ
 
-abbrev pub started : List Folder → ℕ → Progress
-started b bound = record { bundle = b; bound = bound; taken = no_tickets; unsent = start b bound }
+abbrev pub started : List Folder → Question → Progress
+started b question = record { bundle = b; question = question; taken = no_tickets; unsent = start b question }
 
 abbrev pub with_taken : Progress → Ticket → Progress
 with_taken p t = record {
   bundle = p.bundle;
-  bound = p.bound;
+  question = p.question;
   taken = with_ticket p.taken t;
-  unsent = p.unsent ++ out p.bundle p.bound p.taken t;
+  unsent = p.unsent ++ out p.bundle p.question p.taken t;
 }
 
 -- without the first n bytes of the text
 abbrev pub sent_of : Progress → ℕ → Progress
-sent_of p n = record { bundle = p.bundle; bound = p.bound; taken = p.taken; unsent = drop n p.unsent }
+sent_of p n = record { bundle = p.bundle; question = p.question; taken = p.taken; unsent = drop n p.unsent }

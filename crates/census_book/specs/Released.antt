@@ -4,21 +4,23 @@ use Rattle.census_bundle.specs.declared.bundle.Folder.{Folder}
 use Rattle.census_bundle.specs.Tickets.{Tickets, numbered}
 use Rattle.census_book.specs.Lines.{Line, open_line, pattern_lines}
 use Rattle.census_book.specs.Reports.{Owned, lines_of, owned_text, has_all, end_if, run_of, closing_if}
+use Rattle.life_answer.specs.declared.question.Question.{Question}
 
 -- the lines of a collection that are released where its first k patterns have arrived
-abbrev pub shown_lines : ℕ → ℕ → Folder → ℕ → List Line
-shown_lines bound c f k = open_line c f ∷ (take k (pattern_lines bound c 1 f.entries) ++ closing_if (k == length f.entries) bound c f)
+abbrev pub shown_lines : Question → ℕ → Folder → ℕ → List Line
+shown_lines question c f k = open_line c f ∷ (take k (pattern_lines question c 1 f.entries) ++ closing_if (k == length f.entries) question c f)
 
-abbrev pub shown_of : ℕ → ℕ → Option Folder → Tickets → List Line
-shown_of bound c None taken = []
-shown_of bound c (Some f) taken = shown_lines bound c f (run_of taken c f)
+abbrev pub shown_of : Question → ℕ → Option Folder → Tickets → List Line
+shown_of question c None taken = []
+shown_of question c (Some f) taken = shown_lines question c f (run_of taken c f)
 
 -- the lines of the collection c that are released where these tickets are taken
-abbrev pub shown : List Folder → ℕ → Tickets → ℕ → List Line
-shown b bound taken c = shown_of bound c (numbered b c) taken
+abbrev pub shown : List Folder → Question → Tickets → ℕ → List Line
+shown b question taken c = shown_of question c (numbered b c) taken
 
--- the text is the lines that are released where these tickets are taken, interleaved line by line
-pub record IsReleased (b : List Folder) (bound : ℕ) (taken : Tickets) (text : List ℕ) : Type 0 where
+-- The text is the lines that are released where these tickets are taken, interleaved line by line. The lines of one pattern
+-- stay together.
+pub record IsReleased (b : List Folder) (question : Question) (taken : Tickets) (text : List ℕ) : Type 0 where
   pub lines : List Owned
-  pub sections : (c : ℕ) → lines_of c lines ≡ shown b bound taken c
+  pub sections : (c : ℕ) → lines_of c lines ≡ shown b question taken c
   pub whole : text ≡ owned_text lines ++ end_if (has_all b taken) b

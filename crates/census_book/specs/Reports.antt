@@ -6,21 +6,22 @@ use Rattle.census_bundle.specs.declared.bundle.Entry.{Entry}
 use Rattle.census_bundle.specs.Tickets.{Tickets, ticket, with_ticket, has_ticket, numbered}
 use Rattle.census_book.specs.Lines.{Line, text_of, open_line, pattern_lines, close_line, pattern_count, end_line}
 use Rattle.census_book.specs.Objects.{code_lines}
+use Rattle.life_answer.specs.declared.question.Question.{Question}
 
 -- what ends a section
-unfoldable pub closing : ℕ → ℕ → Folder → List Line
-closing bound c f = code_lines bound c f ++ close_line bound c f ∷ []
+unfoldable pub closing : Question → ℕ → Folder → List Line
+closing question c f = code_lines question c f ++ close_line question c f ∷ []
 
 -- the lines of a collection
-abbrev pub folder_section : ℕ → ℕ → Folder → List Line
-folder_section bound c f = open_line c f ∷ (pattern_lines bound c 1 f.entries ++ closing bound c f)
+abbrev pub folder_section : Question → ℕ → Folder → List Line
+folder_section question c f = open_line c f ∷ (pattern_lines question c 1 f.entries ++ closing question c f)
 
-abbrev pub section_of : ℕ → ℕ → Option Folder → List Line
-section_of bound c None = []
-section_of bound c (Some f) = folder_section bound c f
+abbrev pub section_of : Question → ℕ → Option Folder → List Line
+section_of question c None = []
+section_of question c (Some f) = folder_section question c f
 
-abbrev pub section : List Folder → ℕ → ℕ → List Line
-section b bound c = section_of bound c (numbered b c)
+abbrev pub section : List Folder → Question → ℕ → List Line
+section b question c = section_of question c (numbered b c)
 
 -- a line and the collection that it belongs to
 pub record Owned : Type 0 where
@@ -37,16 +38,17 @@ abbrev pub owned_text : List Owned → List ℕ
 owned_text [] = []
 owned_text (l ∷ ls) = l.line ++ owned_text ls
 
--- the text is the sections of all collections, interleaved line by line, and then the end line
-pub record IsReport (b : List Folder) (bound : ℕ) (text : List ℕ) : Type 0 where
+-- The text is the sections of all collections, interleaved line by line, and then the end line. The lines of one pattern
+-- stay together.
+pub record IsReport (b : List Folder) (question : Question) (text : List ℕ) : Type 0 where
   pub lines : List Owned
-  pub sections : (c : ℕ) → lines_of c lines ≡ section b bound c
+  pub sections : (c : ℕ) → lines_of c lines ≡ section b question c
   pub whole : text ≡ owned_text lines ++ end_line b
 
 -- the text begins a report
-pub record IsReportFront (b : List Folder) (bound : ℕ) (text : List ℕ) : Type 0 where
+pub record IsReportFront (b : List Folder) (question : Question) (text : List ℕ) : Type 0 where
   pub rest : List ℕ
-  pub report : IsReport b bound (text ++ rest)
+  pub report : IsReport b question (text ++ rest)
 
 -- how many of these patterns, the first of which has the number i, pass before the first that does not
 abbrev pub run_from : (ℕ → Bool) → ℕ → List Entry → ℕ
@@ -70,26 +72,26 @@ abbrev pub end_if : Bool → List Folder → List ℕ
 end_if whole b = if whole then end_line b else []
 
 -- the closing lines where the collection has arrived whole
-abbrev pub closing_if : Bool → ℕ → ℕ → Folder → List Line
-closing_if whole bound c f = if whole then closing bound c f else []
+abbrev pub closing_if : Bool → Question → ℕ → Folder → List Line
+closing_if whole question c f = if whole then closing question c f else []
 
-abbrev pub opening : ℕ → ℕ → List Folder → List ℕ
-opening bound c [] = []
-opening bound c (f ∷ fs) = open_line c f ++ text_of (closing_if (0 == length f.entries) bound c f) ++ opening bound (suc c) fs
+abbrev pub opening : Question → ℕ → List Folder → List ℕ
+opening question c [] = []
+opening question c (f ∷ fs) = open_line c f ++ text_of (closing_if (0 == length f.entries) question c f) ++ opening question (suc c) fs
 
 -- what is released before any ticket is taken
-abbrev pub start : List Folder → ℕ → List ℕ
-start b bound = opening bound 1 b ++ end_if (pattern_count b == 0) b
+abbrev pub start : List Folder → Question → List ℕ
+start b question = opening question 1 b ++ end_if (pattern_count b == 0) b
 
 -- the lines of a collection that taking one of its tickets releases, where its run grows from k to m
-abbrev pub folder_out : ℕ → ℕ → Folder → ℕ → ℕ → List Line
-folder_out bound c f k m =
-    take (m - k) (drop k (pattern_lines bound c 1 f.entries)) ++ closing_if (m == length f.entries) bound c f
+abbrev pub folder_out : Question → ℕ → Folder → ℕ → ℕ → List Line
+folder_out question c f k m =
+    take (m - k) (drop k (pattern_lines question c 1 f.entries)) ++ closing_if (m == length f.entries) question c f
 
-abbrev pub out_of : ℕ → Option Folder → Tickets → Ticket → List ℕ
-out_of bound None taken t = []
-out_of bound (Some f) taken t = text_of (folder_out bound t.folder f (run_of taken t.folder f) (run_of (with_ticket taken t) t.folder f))
+abbrev pub out_of : Question → Option Folder → Tickets → Ticket → List ℕ
+out_of question None taken t = []
+out_of question (Some f) taken t = text_of (folder_out question t.folder f (run_of taken t.folder f) (run_of (with_ticket taken t) t.folder f))
 
 -- what taking a ticket releases, where these were taken before
-abbrev pub out : List Folder → ℕ → Tickets → Ticket → List ℕ
-out b bound taken t = out_of bound (numbered b t.folder) taken t ++ end_if (has_all b (with_ticket taken t)) b
+abbrev pub out : List Folder → Question → Tickets → Ticket → List ℕ
+out b question taken t = out_of question (numbered b t.folder) taken t ++ end_if (has_all b (with_ticket taken t)) b

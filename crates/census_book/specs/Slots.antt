@@ -5,6 +5,7 @@ use Rattle.census_bundle.specs.declared.ticket.Ticket.{Ticket}
 use Rattle.census_bundle.specs.Tickets.{Tickets, numbered, ticket, tickets_of}
 use Rattle.census_book.specs.Collecting.{IsResult}
 use Rattle.census_book.specs.Work.{Work}
+use Rattle.life_answer.specs.declared.question.Question.{Question}
 
 -- the slots of a collection
 abbrev pub Row : Type 0
@@ -64,6 +65,6 @@ abbrev pub taken_in : List Row → Tickets
 taken_in rows = tickets_of (rows_tickets 1 rows)
 
 -- each ticket of the bundle has a slot, and each result in a slot is that of its ticket
-pub record KeepsResults (b : List Folder) (bound : ℕ) (rows : List Row) : Type 0 where
+pub record KeepsResults (b : List Folder) (question : Question) (rows : List Row) : Type 0 where
   pub slots : (k : ℕ) (f : Folder) → slice_get b k ≡ Some f → (row : Row) × (slice_get rows k ≡ Some row) × (length row ≡ length f.entries)
-  pub results : (t : Ticket) (w : Work) → result_at rows t ≡ Some w → IsResult b bound t w
+  pub results : (t : Ticket) (w : Work) → result_at rows t ≡ Some w → IsResult b question t w

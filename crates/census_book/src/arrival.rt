@@ -8,6 +8,7 @@ use crate::done::Done;
 use crate::results::Results;
 use census_bundle::bundle::Bundle;
 use census_bundle::ticket::Ticket;
+use life_answer::question::Question;
 use std::marker::Model;
 
 /// A result that is to be taken, beside those that were. It is seen as the tickets of all of them.
@@ -27,16 +28,16 @@ impl<'r, 'a> Model for Arrival<'r, 'a> {
 
     ghost coded = { taken_code };
 
-    ghost view = { λ a. taken_of a.results.now.bundle a.results.now.bound (with_ticket a.results.now.taken a.done.now.ticket) };
+    ghost view = { λ a. taken_of a.results.now.bundle a.results.now.question (with_ticket a.results.now.taken a.done.now.ticket) };
 
-    ghost invariant = { λ a. Belongs a.results.now.bundle a.results.now.bound a.done.now.ticket a.done.now.entry.text a.done.now.bound };
+    ghost invariant = { λ a. Belongs a.results.now.bundle a.results.now.question a.done.now.ticket a.done.now.entry.text a.done.now.question };
 }
 
 impl<'r, 'a> Arrival<'r, 'a> {
-    /// A result that belongs to the bundle and the bound.
+    /// A result that belongs to the bundle and the question.
     pub fn new(results: &'r Results<'a>, done: &'r Done<'a>) -> Arrival<'r, 'a>
-        requires { Belongs results.now.bundle results.now.bound done.now.ticket done.now.entry.text done.now.bound }
-        ensures { result ≡ taken_of results.now.bundle results.now.bound (with_ticket results.now.taken done.now.ticket) }
+        requires { Belongs results.now.bundle results.now.question done.now.ticket done.now.entry.text done.now.question }
+        ensures { result ≡ taken_of results.now.bundle results.now.question (with_ticket results.now.taken done.now.ticket) }
     {
         Arrival { results, done }
     }
@@ -48,11 +49,11 @@ impl<'r, 'a> Arrival<'r, 'a> {
         self.results.bundle()
     }
 
-    /// The bound.
-    pub fn bound(&self) -> u32
-        ensures { result ≡ self.now.bound }
+    /// What was asked.
+    pub fn question(&self) -> Question
+        ensures { result ≡ self.now.question }
     {
-        self.results.bound()
+        self.results.question()
     }
 
     /// Whether this ticket was taken or is to be taken.
@@ -72,7 +73,7 @@ impl<'r, 'a> Arrival<'r, 'a> {
     /// The result of this ticket.
     pub fn get(&self, ticket: Ticket) -> &'r Done<'a>
         requires { has_ticket self.now.taken ticket ≡ true }
-        ensures { IsResult self.now.bundle self.now.bound ticket result.now }
+        ensures { IsResult self.now.bundle self.now.question ticket result.now }
     {
         let own = self.done.ticket();
         if ticket.folder == own.folder && ticket.number == own.number {

@@ -1,9 +1,10 @@
 //! The lines that end a section.
-ghost use Rattle.std.specs.Prelude.{◌≡◌, ◌<◌, ◌++◌, ◌^◌, [], ◌∷◌, List, length, map, OnOk, IfOk, count_by};
+ghost use Rattle.std.specs.Prelude.{◌≡◌, ◌<◌, ◌++◌, ◌^◌, [], ◌∷◌, List, length, map, replicate, OnOk, IfOk, count_by};
 ghost use Rattle.life_answer.specs.declared.finding.Answer as found;
+ghost use Rattle.life_answer.specs.Parts.{objects_in};
 ghost use Rattle.census_book.specs.Lines.{answers, close_line, is_refused, is_resolved, is_unresolved, text_of};
 ghost use Rattle.census_book.specs.Objects as codes;
-ghost use Rattle.census_book.specs.Objects.{code_line, object, objects, same_object, tally};
+ghost use Rattle.census_book.specs.Objects.{code_line, object, objects, part_objects, same_object, tally};
 ghost use Rattle.census_book.specs.Reports.{closing};
 ghost use Rattle.census_book.specs.Tallying.{HasTally};
 
@@ -11,6 +12,8 @@ use crate::lines::{push_field, push_number, push_rule};
 use census_bundle::bundle::Folder;
 use indexmap::IndexMap;
 use life_answer::finding::{Answer, Finding};
+use life_answer::part::Part;
+use life_answer::question::Question;
 use life_cells::rule::Rule;
 use std::alloc::{AllocError, Global};
 use std::hash::{Hash, Hasher};
@@ -54,14 +57,14 @@ impl<'a> Eq for Object<'a> {
 }
 
 impl<'a> Hash for Object<'a> {
-    ghost use Rattle.std.specs.Hash as fed;
-    ghost use Rattle.census_book.specs.ObjectLaws.{same_object_fed};
+    ghost use Rattle.census_book.specs.ObjectLaws.{fed_object, same_object_fed};
 
-    ghost hash_input = { λ o. fed.slice fed.u8 o.code };
+    ghost hash_input = { fed_object };
 
     ghost respects_eq = { same_object_fed };
 
     fn hash<H: Hasher>(&self, state: &mut H) {
+        self.rule.hash(state);
         self.code.hash(state);
     }
 }
@@ -77,35 +80,63 @@ impl<'a> Object<'a> {
     }
 }
 
-// Counts one more object.
+// Counts an object so many times more.
 fn count_object<'a>(
     counts: &mut IndexMap<Object<'a>, u64>,
     object: Object<'a>,
+    count: u64,
 ) -> Result<(), AllocError>
-    requires { HasTally counts.old.entries }
+    requires tally { HasTally counts.old.entries (2 ^ 63) }
+    requires few { count < 2 ^ 32 }
     ensures { (ks : List codes.Object) → counts.old.entries ≡ tally same_object ks →
-        OnOk result (counts.new.entries ≡ tally same_object (ks ++ object.entry ∷ [])) }
+        OnOk result (counts.new.entries ≡ tally same_object (ks ++ replicate count object.entry)) }
 {
-    *counts.entry(object)?.or_insert(0) += 1;
+    if count == 0 {
+        return Ok(());
+    }
+    *counts.entry(object)?.or_insert(0) += count;
     Ok(())
 }
 
-// Counts the object that was found, where one was.
+// Counts the objects of a pattern that has fallen apart.
+fn count_parts<'a>(
+    counts: &mut IndexMap<Object<'a>, u64>,
+    rule: &Rule,
+    parts: &'a [Part],
+) -> Result<(), AllocError>
+    requires tally { HasTally counts.old.entries (2 ^ 62) }
+    requires few { objects_in parts.now < 2 ^ 32 }
+    ensures { (ks : List codes.Object) → counts.old.entries ≡ tally same_object ks →
+        OnOk result (counts.new.entries ≡ tally same_object (ks ++ part_objects rule.now parts.now)) }
+{
+    for part in parts {
+        count_object(counts, Object::of(*rule, part.code.as_slice()), part.count)?;
+    }
+    Ok(())
+}
+
+// Counts the objects that were found, where some were.
 fn count_answer<'a>(
     counts: &mut IndexMap<Object<'a>, u64>,
     answer: &'a Answer,
 ) -> Result<(), AllocError>
-    requires { HasTally counts.old.entries }
-    ensures { (before : List found.Answer) → counts.old.entries ≡ tally same_object (objects before) →
+    requires { HasTally counts.old.entries (2 ^ 62) }
+    ensures counts { (before : List found.Answer) → counts.old.entries ≡ tally same_object (objects before) →
         OnOk result (counts.new.entries ≡ tally same_object (objects (before ++ answer.now ∷ []))) }
+    ensures few { OnOk result (length (objects (answer.now ∷ [])) < 2 ^ 32) }
 {
     match answer {
         Answer::Found { rule, finding } => match finding {
             Finding::Recurs { code, .. } => count_object(
                 counts,
                 Object::of(*rule, code.as_slice()),
+                1,
             ),
             Finding::Unresolved { .. } => Ok(()),
+            Finding::Ash {
+                population: _,
+                parts,
+            } => count_parts(counts, rule, parts.as_slice()),
         },
         Answer::Refused(_) => Ok(()),
     }
@@ -116,7 +147,7 @@ fn tally_of<'a>(
     alloc: Global,
     answers: &[&'a Answer],
 ) -> Result<IndexMap<Object<'a>, u64>, AllocError>
-    requires { length answers.now < 2 ^ 32 }
+    requires { length answers.now < 2 ^ 30 }
     ensures { IfOk result (λ m. m.entries ≡ tally same_object (objects (map (λ a. a.now) answers.now))) }
 {
     let mut counts = IndexMap::new(alloc);
@@ -149,7 +180,7 @@ fn push_codes(text: &mut Vec<u8>, c: u32, counts: &IndexMap<Object, u64>) -> Res
     Ok(())
 }
 
-// Whether it is said `ok` of this.
+// Whether it is said `ok` or `ash` of this.
 fn is_resolved(answer: &Answer) -> bool
     ensures { result ≡ is_resolved answer.now }
 {
@@ -157,6 +188,7 @@ fn is_resolved(answer: &Answer) -> bool
         Answer::Found { finding, .. } => match finding {
             Finding::Recurs { .. } => true,
             Finding::Unresolved { .. } => false,
+            Finding::Ash { .. } => true,
         },
         Answer::Refused(_) => false,
     }
@@ -170,6 +202,7 @@ fn is_unresolved(answer: &Answer) -> bool
         Answer::Found { finding, .. } => match finding {
             Finding::Recurs { .. } => false,
             Finding::Unresolved { .. } => true,
+            Finding::Ash { .. } => false,
         },
         Answer::Refused(_) => false,
     }
@@ -213,13 +246,13 @@ fn count_refused(answers: &[&Answer]) -> usize
 #[tactic(auto, unfolding(crate::specs::Lines::close_line))]
 fn push_close(
     text: &mut Vec<u8>,
-    bound: u32,
+    question: Question,
     c: u32,
     folder: &Folder,
     found: &[&Answer],
 ) -> Result<(), AllocError>
-    requires { map (λ a. a.now) found.now ≡ answers bound folder.now.entries }
-    ensures { OnOk result (text.new.items ≡ text.old.items ++ close_line bound c folder.now) }
+    requires { map (λ a. a.now) found.now ≡ answers question folder.now.entries }
+    ensures { OnOk result (text.new.items ≡ text.old.items ++ close_line question c folder.now) }
 {
     text.extend_from_slice(b"close")?;
     push_number(text, c)?;
@@ -238,7 +271,7 @@ fn push_objects(
     c: u32,
     found: &[&Answer],
 ) -> Result<(), AllocError>
-    requires { length found.now < 2 ^ 32 }
+    requires { length found.now < 2 ^ 30 }
     ensures { OnOk result (text.new.items ≡ text.old.items ++ text_of (map (λ e. code_line c e.0 e.1) (tally same_object (objects (map (λ a. a.now) found.now))))) }
 {
     let counts = tally_of(alloc, found)?;
@@ -249,16 +282,16 @@ fn push_objects(
 pub fn push_closing(
     alloc: Global,
     text: &mut Vec<u8>,
-    bound: u32,
+    question: Question,
     c: u32,
     folder: &Folder,
     found: &[&Answer],
 ) -> Result<(), AllocError>
-    requires few { length found.now < 2 ^ 32 }
-    requires found { map (λ a. a.now) found.now ≡ answers bound folder.now.entries }
-    ensures { OnOk result (text.new.items ≡ text.old.items ++ text_of (closing bound c folder.now)) }
+    requires few { length found.now < 2 ^ 30 }
+    requires found { map (λ a. a.now) found.now ≡ answers question folder.now.entries }
+    ensures { OnOk result (text.new.items ≡ text.old.items ++ text_of (closing question c folder.now)) }
 {
     push_objects(alloc, text, c, found)?;
-    push_close(text, bound, c, folder, found)?;
+    push_close(text, question, c, folder, found)?;
     Ok(())
 }

@@ -1,6 +1,7 @@
 //! The collector of results, which releases the lines of the report.
 ghost use Rattle.std.specs.Prelude.{◌≡◌, ◌≤◌, ◌++◌, true, false, length, IfOk, IfErr, OnOk, OnErr, MatchOption};
 ghost use Rattle.census_bundle.specs.Tickets.{HasAll, has_ticket, with_ticket};
+ghost use Rattle.life_answer.specs.Questions.{IsAnswered};
 ghost use Rattle.census_book.specs.Collecting.{Belongs, IsLeastMissing, Judged, Offered};
 ghost use Rattle.census_book.specs.declared.offer.Offer.TheVariants.{Taken};
 ghost use Rattle.census_book.specs.Front.{IsFront, IsRelease};
@@ -14,6 +15,7 @@ use crate::release::{Release, push_start, released};
 use crate::results::Results;
 use census_bundle::bundle::Bundle;
 use census_bundle::ticket::Ticket;
+use life_answer::question::Question;
 use std::alloc::{AllocError, Global};
 use std::marker::Model;
 
@@ -23,7 +25,7 @@ pub struct NoRoom<'a> {
     pub done: Done<'a>,
 }
 
-/// Takes the results of a bundle under a bound in any order, and releases the lines of its report: those of each
+/// Takes the results of a bundle and a question in any order, and releases the lines of its report: those of each
 /// collection in their order, and the last line of all when nothing is missing. It is seen as the tickets taken and the
 /// text that was released and not yet sent.
 #[derive(Drop)]
@@ -45,7 +47,7 @@ impl<'a> Model for Collector<'a> {
 
     ghost coded = { progress_code };
 
-    ghost view = { λ s. record { bundle = s.results.bundle; bound = s.results.bound; taken = s.results.taken; unsent = s.unsent.items } };
+    ghost view = { λ s. record { bundle = s.results.bundle; question = s.results.question; taken = s.results.taken; unsent = s.unsent.items } };
 
     ghost invariant = { λ s. IsFront s.results.bundle s.results.taken s.front.runs.items s.front.first_open };
 }
@@ -59,12 +61,12 @@ fn accept<'a>(
     text: &[u8],
     release: Release,
 ) -> Result<(), NoRoom<'a>>
-    requires belongs { Belongs results.old.bundle results.old.bound done.ticket done.entry.text done.bound }
+    requires belongs { Belongs results.old.bundle results.old.question done.ticket done.entry.text done.question }
     requires new { has_ticket results.old.taken done.ticket ≡ false }
     requires front { IsFront results.old.bundle results.old.taken front.old.runs.items front.old.first_open }
-    requires release { IsRelease results.old.bundle results.old.bound results.old.taken front.old.runs.items front.old.first_open done.ticket text.now release.run release.first_open }
-    ensures taken { OnOk result (results.new ≡ taken_of results.old.bundle results.old.bound (with_ticket results.old.taken done.entry.ticket)) }
-    ensures released { OnOk result (unsent.new.items ≡ unsent.old.items ++ out results.old.bundle results.old.bound results.old.taken done.entry.ticket) }
+    requires release { IsRelease results.old.bundle results.old.question results.old.taken front.old.runs.items front.old.first_open done.ticket text.now release.run release.first_open }
+    ensures taken { OnOk result (results.new ≡ taken_of results.old.bundle results.old.question (with_ticket results.old.taken done.entry.ticket)) }
+    ensures released { OnOk result (unsent.new.items ≡ unsent.old.items ++ out results.old.bundle results.old.question results.old.taken done.entry.ticket) }
     ensures front { IsFront results.new.bundle results.new.taken front.new.runs.items front.new.first_open }
     ensures back { IfErr result (λ e. e.done ≡ done.entry) }
     ensures results { OnErr result (results.new ≡ results.old) }
@@ -83,17 +85,21 @@ fn accept<'a>(
 
 impl<'a> Collector<'a> {
     /// A collector that has taken nothing. It has released the opening line of each collection in order, after that of
-    /// an empty one its closing line, and the last line where there is no pattern at all. The bound is 1 to 1,000,000
+    /// an empty one its closing line, and the last line where there is no pattern at all. A bound is 1 to 1,000,000
     /// generations.
-    pub fn new(alloc: Global, bundle: &'a Bundle, bound: u32) -> Result<Collector<'a>, AllocError>
-        requires { (1 ≤ bound) × (bound ≤ 1000000) }
-        ensures { IfOk result (λ c. c ≡ started bundle.now bound) }
+    pub fn new(
+        alloc: Global,
+        bundle: &'a Bundle,
+        question: Question,
+    ) -> Result<Collector<'a>, AllocError>
+        requires { IsAnswered question }
+        ensures { IfOk result (λ c. c ≡ started bundle.now question) }
     {
         let folders = bundle.folders();
         let front = Front::new(alloc, folders)?;
         let mut unsent = Vec::new(alloc);
-        push_start(alloc, &mut unsent, folders, bound)?;
-        let results = Results::new(alloc, bundle, bound)?;
+        push_start(alloc, &mut unsent, folders, question)?;
+        let results = Results::new(alloc, bundle, question)?;
         Ok(Collector {
             results,
             front,
@@ -108,9 +114,9 @@ impl<'a> Collector<'a> {
     /// `code` lines and its closing line, and where nothing is missing any more the last line. `NoRoom` is out of memory: it
     /// hands back a result that would have been `Taken`, and changes nothing.
     pub fn offer(&mut self, done: Done<'a>) -> Result<Offer, NoRoom<'a>>
-        ensures ok { IfOk result (λ o. Offered self.old done.entry.ticket done.entry.entry.text done.entry.bound self.new o) }
+        ensures ok { IfOk result (λ o. Offered self.old done.entry.ticket done.entry.entry.text done.entry.question self.new o) }
         ensures no_room { IfErr result (λ e. e.done ≡ done.entry) }
-        ensures fits { OnErr result (Judged self.old.bundle self.old.bound self.old.taken done.entry.ticket done.entry.entry.text done.entry.bound Taken) }
+        ensures fits { OnErr result (Judged self.old.bundle self.old.question self.old.taken done.entry.ticket done.entry.entry.text done.entry.question Taken) }
         ensures unchanged { OnErr result (self.new ≡ self.old) }
     {
         match self.results.judge(&done) {

@@ -1,12 +1,14 @@
 //! Patterns that were worked.
 ghost use Rattle.std.specs.Prelude.{◌≡◌, ◌≤◌, IfOk};
-ghost use Rattle.life_answer.specs.Answers.{answer_of};
-ghost use Rattle.census_book.specs.Heads.{line_head};
+ghost use Rattle.life_answer.specs.Questions.{IsAnswered, answer_to_question};
+ghost use Rattle.census_book.specs.Heads.{line_head, line_tail};
 
 use crate::lines::push_head;
+use crate::parts::push_tail;
 use census_bundle::bundle::{Entry, Text};
 use census_bundle::ticket::Ticket;
 use life_answer::finding::Answer;
+use life_answer::question::Question;
 use life_find::answer::answer;
 use std::alloc::{AllocError, Global};
 use std::marker::Model;
@@ -14,55 +16,69 @@ use std::marker::Model;
 /// How many bytes a line's head is given room for at first, which most fit in.
 const HEAD_LEN: usize = 64;
 
-/// The work of one ticket: a ticket, the entry that was worked, a bound, and what was found. What was found is what the
-/// definition gives for the entry's text and the bound. The report's line of the pattern is made here as far as the
-/// name, and so beside other work where results are collected by one thread.
+/// The work of one ticket: a ticket, the entry that was worked, what was asked, and what was found. What was found is
+/// what the definition gives for the question and the entry's text. The report's lines of the pattern are made here, all
+/// but the name, and so beside other work where results are collected by one thread.
 #[derive(Drop)]
 pub struct Done<'a> {
     ticket: Ticket,
     entry: &'a Entry,
-    bound: u32,
+    question: Question,
     answer: Answer,
     head: Text,
+    tail: Vec<u8>,
 }
 
 impl<'a> Model for Done<'a> {
     ghost use Rattle.std.specs.Prelude.{◌≡◌};
-    ghost use Rattle.life_answer.specs.Answers.{answer_of};
-    ghost use Rattle.census_book.specs.Heads.{line_head};
+    ghost use Rattle.life_answer.specs.Questions.{answer_to_question};
+    ghost use Rattle.census_book.specs.Heads.{line_head, line_tail};
     ghost use Rattle.census_book.specs.Work.{Work, work_code};
 
     ghost Value = { Work };
 
     ghost coded = { work_code };
 
-    ghost view = { λ d. record { ticket = d.ticket; entry = d.entry.now; bound = d.bound } };
+    ghost view = { λ d. record { ticket = d.ticket; entry = d.entry.now; question = d.question } };
 
-    ghost invariant = { λ d. (d.answer ≡ answer_of d.entry.now.text d.bound) × (d.head ≡ line_head d.ticket.folder d.ticket.number d.answer) };
+    ghost invariant = { λ d. (d.answer ≡ answer_to_question d.question d.entry.now.text) × (d.head ≡ line_head d.ticket.folder d.ticket.number d.answer) × (d.tail.items ≡ line_tail d.ticket.folder d.ticket.number d.answer) };
+}
+
+// What is found of an RLE text, whatever is asked.
+fn find(alloc: Global, text: &[u8], question: Question) -> Result<Answer, AllocError>
+    requires { IsAnswered question }
+    ensures { IfOk result (λ found. found ≡ answer_to_question question text.now) }
+{
+    match question {
+        Question::Settles { bound } => answer(alloc, text, bound),
+    }
 }
 
 impl<'a> Done<'a> {
-    /// Works a ticket: what is found of the entry's text within the bound, which is 1 to 1,000,000 generations.
+    /// Works a ticket: what is found of the entry's text. A bound is 1 to 1,000,000 generations.
     pub fn work(
         alloc: Global,
         ticket: Ticket,
         entry: &'a Entry,
-        bound: u32,
+        question: Question,
     ) -> Result<Done<'a>, AllocError>
-        requires { (1 ≤ bound) × (bound ≤ 1000000) }
+        requires { IsAnswered question }
         ensures ticket { IfOk result (λ d. d.ticket ≡ ticket) }
         ensures entry { IfOk result (λ d. d.entry ≡ entry.now) }
-        ensures bound { IfOk result (λ d. d.bound ≡ bound) }
+        ensures question { IfOk result (λ d. d.question ≡ question) }
     {
-        let answer = answer(alloc, entry.text.as_slice(), bound)?;
+        let answer = find(alloc, entry.text.as_slice(), question)?;
         let mut head = Vec::with_capacity(alloc, HEAD_LEN)?;
         push_head(&mut head, ticket, &answer)?;
+        let mut tail = Vec::new(alloc);
+        push_tail(&mut tail, ticket, &answer)?;
         Ok(Done {
             ticket,
             entry,
-            bound,
+            question,
             answer,
             head: Text::of(alloc, &head)?,
+            tail,
         })
     }
 
@@ -80,23 +96,30 @@ impl<'a> Done<'a> {
         self.entry
     }
 
-    /// The bound within which it was worked.
-    pub fn bound(&self) -> u32
-        ensures { result ≡ self.now.bound }
+    /// What was asked.
+    pub fn question(&self) -> Question
+        ensures { result ≡ self.now.question }
     {
-        self.bound
+        self.question
     }
 
     /// What was found.
     pub fn answer(&self) -> &Answer
-        ensures { result.now ≡ answer_of self.now.entry.text self.now.bound }
+        ensures { result.now ≡ answer_to_question self.now.question self.now.entry.text }
     {
         &self.answer
     }
 
+    // The `part` lines of the pattern.
+    pub(crate) fn tail(&self) -> &[u8]
+        ensures { result.now ≡ line_tail self.now.ticket.folder self.now.ticket.number (answer_to_question self.now.question self.now.entry.text) }
+    {
+        self.tail.as_slice()
+    }
+
     // The line of the pattern as far as its name.
     pub(crate) fn head(&self) -> &[u8]
-        ensures { result.now ≡ line_head self.now.ticket.folder self.now.ticket.number (answer_of self.now.entry.text self.now.bound) }
+        ensures { result.now ≡ line_head self.now.ticket.folder self.now.ticket.number (answer_to_question self.now.question self.now.entry.text) }
     {
         self.head.as_slice()
     }

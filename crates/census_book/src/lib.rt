@@ -10,6 +10,7 @@ pub mod done;
 mod front;
 mod lines;
 pub mod offer;
+mod parts;
 mod release;
 mod results;
 mod slots;

@@ -5,6 +5,7 @@ ghost use Rattle.life_cells.specs.Rules.{rule_text};
 ghost use Rattle.census_book.specs.Heads.{headed, line_head};
 ghost use Rattle.census_book.specs.Lines.{behind, end_line, finding_fields, open_line, pattern_count};
 
+use crate::parts::count_objects;
 use census_bundle::bundle::{Bundle, Entry, Folder};
 use census_bundle::ticket::Ticket;
 use itoa::{Buffer, Integer};
@@ -101,6 +102,10 @@ fn push_finding(text: &mut Vec<u8>, answer: &Answer) -> Result<(), AllocError>
             Finding::Unresolved { population } => {
                 push_population(text, b"none", rule, *population)
             }
+            Finding::Ash { population, parts } => {
+                push_population(text, b"ash", rule, *population)?;
+                push_number(text, count_objects(parts.as_slice()))
+            }
         },
         Answer::Refused(number) => {
             push_field(text, b"bad")?;
@@ -120,12 +125,18 @@ pub fn push_head(text: &mut Vec<u8>, ticket: Ticket, answer: &Answer) -> Result<
     push_finding(text, answer)
 }
 
-/// The line of a pattern, which begins with this head.
-pub fn push_pattern(text: &mut Vec<u8>, head: &[u8], entry: &Entry) -> Result<(), AllocError>
-    ensures { OnOk result (text.new.items ≡ text.old.items ++ headed head.now entry.now) }
+/// The lines of a pattern, which begin with this head and end with this tail.
+pub fn push_pattern(
+    text: &mut Vec<u8>,
+    head: &[u8],
+    tail: &[u8],
+    entry: &Entry,
+) -> Result<(), AllocError>
+    ensures { OnOk result (text.new.items ≡ text.old.items ++ headed head.now tail.now entry.now) }
 {
     text.extend_from_slice(head)?;
     push_field(text, entry.name.as_slice())?;
     text.push(b'\n')?;
+    text.extend_from_slice(tail)?;
     Ok(())
 }

@@ -16,6 +16,7 @@ use crate::results::Results;
 use census_bundle::bundle::Folder;
 use census_bundle::ticket::Ticket;
 use life_answer::finding::Answer;
+use life_answer::question::Question;
 use std::alloc::{AllocError, Global};
 
 // How many patterns of the collection have arrived before the first that has not, where these have.
@@ -52,7 +53,7 @@ fn push_patterns(
     requires at { numbered arrival.now.bundle c ≡ Some folder.now }
     requires run { m ≡ run_of arrival.now.taken c folder.now }
     requires within { m ≤ length folder.now.entries }
-    ensures { OnOk result (text.new.items ≡ text.old.items ++ text_of (take (m - k) (drop k (pattern_lines arrival.now.bound c 1 folder.now.entries)))) }
+    ensures { OnOk result (text.new.items ≡ text.old.items ++ text_of (take (m - k) (drop k (pattern_lines arrival.now.question c 1 folder.now.entries)))) }
 {
     let entries = folder.entries.as_slice();
     for i in k..m {
@@ -60,7 +61,7 @@ fn push_patterns(
             folder: c,
             number: i as u32 + 1,
         });
-        push_pattern(text, done.head(), &entries[i])?;
+        push_pattern(text, done.head(), done.tail(), &entries[i])?;
     }
     Ok(())
 }
@@ -75,7 +76,7 @@ fn folder_answers<'r>(
     requires small { length folder.now.entries ≤ 65535 }
     requires at { numbered arrival.now.bundle c ≡ Some folder.now }
     requires whole { length folder.now.entries ≡ run_of arrival.now.taken c folder.now }
-    ensures { IfOk result (λ v. map (λ a. a.now) v.items ≡ answers arrival.now.bound folder.now.entries) }
+    ensures { IfOk result (λ v. map (λ a. a.now) v.items ≡ answers arrival.now.question folder.now.entries) }
 {
     let len = folder.entries.as_slice().len();
     let mut found = Vec::with_capacity(alloc, len)?;
@@ -119,17 +120,17 @@ pub fn push_start(
     alloc: Global,
     text: &mut Vec<u8>,
     folders: &[Folder],
-    bound: u32,
+    question: Question,
 ) -> Result<(), AllocError>
     requires { IsSmall folders.now }
-    ensures { OnOk result (text.new.items ≡ text.old.items ++ start folders.now bound) }
+    ensures { OnOk result (text.new.items ≡ text.old.items ++ start folders.now question) }
 {
     let mut is_empty = true;
     for i in 0..folders.len() {
         let folder = &folders[i];
         push_open(text, i as u32 + 1, folder)?;
         if folder.entries.as_slice().is_empty() {
-            push_closing(alloc, text, bound, i as u32 + 1, folder, &[])?;
+            push_closing(alloc, text, question, i as u32 + 1, folder, &[])?;
         } else {
             is_empty = false;
         }
@@ -155,12 +156,12 @@ fn push_folder(
     requires at { numbered arrival.now.bundle c ≡ Some folder.now }
     requires run { m ≡ run_of arrival.now.taken c folder.now }
     requires within { m ≤ length folder.now.entries }
-    ensures { OnOk result (text.new.items ≡ text.old.items ++ text_of (folder_out arrival.now.bound c folder.now k m)) }
+    ensures { OnOk result (text.new.items ≡ text.old.items ++ text_of (folder_out arrival.now.question c folder.now k m)) }
 {
     push_patterns(text, arrival, c, folder, k, m)?;
     if m == folder.entries.as_slice().len() {
         let found = folder_answers(alloc, arrival, c, folder)?;
-        push_closing(alloc, text, arrival.bound(), c, folder, &found)?;
+        push_closing(alloc, text, arrival.question(), c, folder, &found)?;
     }
     Ok(())
 }
@@ -191,10 +192,10 @@ pub fn released<'a>(
     front: &Front,
     text: &mut Vec<u8>,
 ) -> Result<Release, AllocError>
-    requires belongs { Belongs results.now.bundle results.now.bound done.now.ticket done.now.entry.text done.now.bound }
+    requires belongs { Belongs results.now.bundle results.now.question done.now.ticket done.now.entry.text done.now.question }
     requires new { has_ticket results.now.taken done.now.ticket ≡ false }
     requires front { IsFront results.now.bundle results.now.taken front.now.runs.items front.now.first_open }
-    ensures { IfOk result (λ r. IsRelease results.now.bundle results.now.bound results.now.taken front.now.runs.items front.now.first_open done.now.ticket text.new.items r.run r.first_open) }
+    ensures { IfOk result (λ r. IsRelease results.now.bundle results.now.question results.now.taken front.now.runs.items front.now.first_open done.now.ticket text.new.items r.run r.first_open) }
 {
     let arrival = Arrival::new(results, done);
     let folders = results.bundle().folders();

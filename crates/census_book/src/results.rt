@@ -9,14 +9,15 @@ use crate::offer::Offer;
 use crate::slots::Slots;
 use census_bundle::bundle::{Bundle, Folder};
 use census_bundle::ticket::Ticket;
+use life_answer::question::Question;
 use std::alloc::{AllocError, Global};
 use std::marker::Model;
 
-/// The results of a bundle's tickets under a bound that were taken.
+/// The results of a bundle's tickets that were taken, of one question.
 #[derive(Drop)]
 pub struct Results<'a> {
     bundle: &'a Bundle,
-    bound: u32,
+    question: Question,
     slots: Slots<'a>,
 }
 
@@ -29,9 +30,9 @@ impl<'a> Model for Results<'a> {
 
     ghost coded = { taken_code };
 
-    ghost view = { λ r. record { bundle = r.bundle.now; bound = r.bound; taken = taken_in r.slots } };
+    ghost view = { λ r. record { bundle = r.bundle.now; question = r.question; taken = taken_in r.slots } };
 
-    ghost invariant = { λ r. KeepsResults r.bundle.now r.bound r.slots };
+    ghost invariant = { λ r. KeepsResults r.bundle.now r.question r.slots };
 }
 
 // Whether two texts are the same.
@@ -43,13 +44,17 @@ fn same_bytes(one: &[u8], other: &[u8]) -> bool
 
 impl<'a> Results<'a> {
     /// No result yet.
-    pub fn new(alloc: Global, bundle: &'a Bundle, bound: u32) -> Result<Results<'a>, AllocError>
-        ensures { IfOk result (λ r. r ≡ taken_of bundle.now bound no_tickets) }
+    pub fn new(
+        alloc: Global,
+        bundle: &'a Bundle,
+        question: Question,
+    ) -> Result<Results<'a>, AllocError>
+        ensures { IfOk result (λ r. r ≡ taken_of bundle.now question no_tickets) }
     {
         let slots = Slots::new(alloc, bundle.folders())?;
         Ok(Results {
             bundle,
-            bound,
+            question,
             slots,
         })
     }
@@ -61,11 +66,11 @@ impl<'a> Results<'a> {
         self.bundle
     }
 
-    /// The bound.
-    pub fn bound(&self) -> u32
-        ensures { result ≡ self.now.bound }
+    /// What was asked.
+    pub fn question(&self) -> Question
+        ensures { result ≡ self.now.question }
     {
-        self.bound
+        self.question
     }
 
     /// Whether this ticket was taken.
@@ -77,7 +82,7 @@ impl<'a> Results<'a> {
 
     /// The result of this ticket, where it was taken.
     pub fn get(&self, ticket: Ticket) -> Option<&Done<'a>>
-        ensures found { IfSome result (λ d. IsResult self.now.bundle self.now.bound ticket d.now) }
+        ensures found { IfSome result (λ d. IsResult self.now.bundle self.now.question ticket d.now) }
         ensures missing { IfNone result (has_ticket self.now.taken ticket ≡ false) }
     {
         self.slots.get(ticket)
@@ -85,13 +90,13 @@ impl<'a> Results<'a> {
 
     /// What becomes of a result that is offered.
     pub fn judge(&self, done: &Done) -> Offer
-        ensures { Judged self.now.bundle self.now.bound self.now.taken done.now.ticket done.now.entry.text done.now.bound result }
+        ensures { Judged self.now.bundle self.now.question self.now.taken done.now.ticket done.now.entry.text done.now.question result }
     {
         let ticket = done.ticket();
         let Some(entry) = self.bundle.entry(ticket) else {
             return Offer::Stranger;
         };
-        if self.bound != done.bound() {
+        if self.question != done.question() {
             return Offer::Stranger;
         }
         if !same_bytes(entry.text.as_slice(), done.entry().text.as_slice()) {
@@ -106,9 +111,9 @@ impl<'a> Results<'a> {
 
     /// Takes a result.
     pub fn add(&mut self, done: Done<'a>)
-        requires belongs { Belongs self.old.bundle self.old.bound done.ticket done.entry.text done.bound }
+        requires belongs { Belongs self.old.bundle self.old.question done.ticket done.entry.text done.question }
         requires new { has_ticket self.old.taken done.ticket ≡ false }
-        ensures { self.new ≡ taken_of self.old.bundle self.old.bound (with_ticket self.old.taken done.entry.ticket) }
+        ensures { self.new ≡ taken_of self.old.bundle self.old.question (with_ticket self.old.taken done.entry.ticket) }
     {
         self.slots.put(done);
     }

@@ -7,13 +7,14 @@ use Rattle.census_bundle.specs.Sizes.{IsSmall}
 use Rattle.std.specs.FinSet.{contains-empty}
 use Rattle.census_bundle.specs.Tickets.{Tickets, ticket_cmp, ticket, no_tickets, numbered, entry_in, has_ticket, with_ticket, HasAll}
 use Rattle.life_answer.specs.declared.finding.Answer.{Answer}
-use Rattle.life_answer.specs.Answers.{answer_of}
 use Rattle.census_book.specs.Collecting.{Belongs}
 use Rattle.census_book.specs.Counts.{numbered_sum, one_if, count_of, taken_count}
 use Rattle.census_book.specs.Lines.{is_refused, is_resolved, is_unresolved, pattern_count}
 use Rattle.census_book.proofs.Counting.{count_more}
 use Rattle.census_crew.specs.declared.tally.Tally.{Tally}
 use Rattle.census_crew.specs.Tallying.{tallied, no_tally, TalliesTaken, TalliesPatterns}
+use Rattle.life_answer.specs.Questions.{answer_to_question}
+use Rattle.life_answer.specs.declared.question.Question.{Question}
 
 -- sums of the same weights, at each place that there is
 sum_same : {A : Type 0} (g h : ℕ → A → ℕ) (i : ℕ) (xs : List A) → ((j k : ℕ) (x : A) → j ≡ i + k → slice_get xs k ≡ Some x → h j x ≡ g j x) → numbered_sum h i xs ≡ numbered_sum g i xs
@@ -48,13 +49,13 @@ times_small n le = omega (arith, le)
 square_small : (n s : ℕ) → n ≤ 65535 → s ≤ n * 65535 → s < 2 ^ 62
 square_small n s le more = omega (arith, le, more)
 
-pub count_small : (kind : Answer → Bool) (b : List Folder) (bound : ℕ) (taken : Tickets) → IsSmall b → taken_count kind b bound taken < 2 ^ 62
-count_small kind b bound taken small =
+pub count_small : (kind : Answer → Bool) (b : List Folder) (question : Question) (taken : Tickets) → IsSmall b → taken_count kind b question taken < 2 ^ 62
+count_small kind b question taken small =
     square_small (length b) _ small.folders
-    (sum_small (λ c (f : Folder). numbered_sum (λ i (e : Entry). cond (has_ticket taken (ticket c i)) (one_if (kind (answer_of e.text bound))) 0) 1 f.entries) 65535 1 b
+    (sum_small (λ c (f : Folder). numbered_sum (λ i (e : Entry). cond (has_ticket taken (ticket c i)) (one_if (kind (answer_to_question question e.text))) 0) 1 f.entries) 65535 1 b
     (λ c k f is.
-    let inner = sum_small (λ i (e : Entry). cond (has_ticket taken (ticket c i)) (one_if (kind (answer_of e.text bound))) 0) 1 1 f.entries
-    (λ i j e at. taken_small (has_ticket taken (ticket c i)) (kind (answer_of e.text bound))) in
+    let inner = sum_small (λ i (e : Entry). cond (has_ticket taken (ticket c i)) (one_if (kind (answer_to_question question e.text))) 0) 1 1 f.entries
+    (λ i j e at. taken_small (has_ticket taken (ticket c i)) (kind (answer_to_question question e.text))) in
     let few = small.entries k f is in
     omega (arith, inner, few)))
 
@@ -65,25 +66,25 @@ none_sum g i (x ∷ xs) none = let here = none i x in let rest = none_sum g (suc
 none_has : (t : Ticket) → has_ticket no_tickets t ≡ false
 none_has t = contains-empty ticket_cmp t
 
-count_none : (kind : Answer → Bool) (b : List Folder) (bound : ℕ) → taken_count kind b bound no_tickets ≡ 0
-count_none kind b bound =
-    none_sum (λ c (f : Folder). numbered_sum (λ i (e : Entry). cond (has_ticket no_tickets (ticket c i)) (one_if (kind (answer_of e.text bound))) 0) 1 f.entries) 1 b
-    (λ c f. none_sum (λ i (e : Entry). cond (has_ticket no_tickets (ticket c i)) (one_if (kind (answer_of e.text bound))) 0) 1 f.entries (λ i e. ap (λ (has : Bool). cond has (one_if (kind (answer_of e.text bound))) 0) (none_has (ticket c i))))
+count_none : (kind : Answer → Bool) (b : List Folder) (question : Question) → taken_count kind b question no_tickets ≡ 0
+count_none kind b question =
+    none_sum (λ c (f : Folder). numbered_sum (λ i (e : Entry). cond (has_ticket no_tickets (ticket c i)) (one_if (kind (answer_to_question question e.text))) 0) 1 f.entries) 1 b
+    (λ c f. none_sum (λ i (e : Entry). cond (has_ticket no_tickets (ticket c i)) (one_if (kind (answer_to_question question e.text))) 0) 1 f.entries (λ i e. ap (λ (has : Bool). cond has (one_if (kind (answer_to_question question e.text))) 0) (none_has (ticket c i))))
 
-pub none_taken : (b : List Folder) (bound : ℕ) → TalliesTaken no_tally b bound no_tickets
-none_taken b bound = record {
-  patterns = sym (count_none (λ a. true) b bound);
-  resolved = sym (count_none is_resolved b bound);
-  unresolved = sym (count_none is_unresolved b bound);
-  refused = sym (count_none is_refused b bound);
+pub none_taken : (b : List Folder) (question : Question) → TalliesTaken no_tally b question no_tickets
+none_taken b question = record {
+  patterns = sym (count_none (λ a. true) b question);
+  resolved = sym (count_none is_resolved b question);
+  unresolved = sym (count_none is_unresolved b question);
+  refused = sym (count_none is_refused b question);
 }
 
-pub one_taken : (b : List Folder) (bound n : ℕ) (taken : Tickets) (t : Ticket) (text : List ℕ) (tally : Tally) → Belongs b bound t text n → has_ticket taken t ≡ false → TalliesTaken tally b bound taken
-    → TalliesTaken (tallied tally (answer_of text n)) b bound (with_ticket taken t)
-one_taken b bound n taken t text tally belongs not counted =
-    let same : answer_of belongs.entry.text bound ≡ answer_of text n = ap (λ s. answer_of s bound) belongs.same_text ∙ ap (answer_of text) belongs.same_bound in
-    let more : (kind : Answer → Bool) (m : ℕ) → m ≡ taken_count kind b bound taken → m + one_if (kind (answer_of text n)) ≡ taken_count kind b bound (with_ticket taken t)
-    = λ kind m is. ap (λ k. k + one_if (kind (answer_of text n))) is ∙ sym (count_more kind b bound taken t belongs.entry belongs.at not ∙ ap (λ a. taken_count kind b bound taken + one_if (kind a)) same) in
+pub one_taken : (b : List Folder) (question asked : Question) (taken : Tickets) (t : Ticket) (text : List ℕ) (tally : Tally) → Belongs b question t text asked → has_ticket taken t ≡ false → TalliesTaken tally b question taken
+    → TalliesTaken (tallied tally (answer_to_question asked text)) b question (with_ticket taken t)
+one_taken b question asked taken t text tally belongs not counted =
+    let same : answer_to_question question belongs.entry.text ≡ answer_to_question asked text = ap (answer_to_question question) belongs.same_text ∙ ap (λ q. answer_to_question q text) belongs.same_question in
+    let more : (kind : Answer → Bool) (m : ℕ) → m ≡ taken_count kind b question taken → m + one_if (kind (answer_to_question asked text)) ≡ taken_count kind b question (with_ticket taken t)
+    = λ kind m is. ap (λ k. k + one_if (kind (answer_to_question asked text))) is ∙ sym (count_more kind b question taken t belongs.entry belongs.at not ∙ ap (λ a. taken_count kind b question taken + one_if (kind a)) same) in
     record {
       patterns = more (λ a. true) tally.patterns counted.patterns;
       resolved = more is_resolved tally.resolved counted.resolved;
@@ -92,24 +93,24 @@ one_taken b bound n taken t text tally belongs not counted =
     }
 
 -- where each ticket is taken, all patterns of a kind were counted
-count_all : (kind : Answer → Bool) (b : List Folder) (bound : ℕ) (taken : Tickets) → HasAll b taken → taken_count kind b bound taken ≡ count_of kind b bound
-count_all kind b bound taken all =
-    sum_same (λ c (f : Folder). numbered_sum (λ i (e : Entry). one_if (kind (answer_of e.text bound))) 1 f.entries) (λ c (f : Folder). numbered_sum (λ i (e : Entry). cond (has_ticket taken (ticket c i)) (one_if (kind (answer_of e.text bound))) 0) 1 f.entries) 1 b
-    (λ c k f is_c is. sum_same (λ i (e : Entry). one_if (kind (answer_of e.text bound))) (λ i (e : Entry). cond (has_ticket taken (ticket c i)) (one_if (kind (answer_of e.text bound))) 0) 1 f.entries
-    (λ i j e is_i at. ap (λ (has : Bool). cond has (one_if (kind (answer_of e.text bound))) 0) (all (ticket c i) (e, ap (λ o. entry_in o i) (at_number b c k f is_c is) ∙ at_number f.entries i j e is_i at))))
+count_all : (kind : Answer → Bool) (b : List Folder) (question : Question) (taken : Tickets) → HasAll b taken → taken_count kind b question taken ≡ count_of kind b question
+count_all kind b question taken all =
+    sum_same (λ c (f : Folder). numbered_sum (λ i (e : Entry). one_if (kind (answer_to_question question e.text))) 1 f.entries) (λ c (f : Folder). numbered_sum (λ i (e : Entry). cond (has_ticket taken (ticket c i)) (one_if (kind (answer_to_question question e.text))) 0) 1 f.entries) 1 b
+    (λ c k f is_c is. sum_same (λ i (e : Entry). one_if (kind (answer_to_question question e.text))) (λ i (e : Entry). cond (has_ticket taken (ticket c i)) (one_if (kind (answer_to_question question e.text))) 0) 1 f.entries
+    (λ i j e is_i at. ap (λ (has : Bool). cond has (one_if (kind (answer_to_question question e.text))) 0) (all (ticket c i) (e, ap (λ o. entry_in o i) (at_number b c k f is_c is) ∙ at_number f.entries i j e is_i at))))
 
 ones : {A : Type 0} (i : ℕ) (xs : List A) → numbered_sum (λ j (x : A). 1) i xs ≡ length xs
 ones i [] = refl
 ones i (x ∷ xs) = let rest = ones (suc i) xs in omega arith
 
-count_each : (bound i : ℕ) (b : List Folder) → numbered_sum (λ c (f : Folder). numbered_sum (λ j (e : Entry). 1) 1 f.entries) i b ≡ pattern_count b
-count_each bound i [] = refl
-count_each bound i (f ∷ fs) = let here = ones 1 f.entries in let rest = count_each bound (suc i) fs in omega arith
+count_each : (question : Question) (i : ℕ) (b : List Folder) → numbered_sum (λ c (f : Folder). numbered_sum (λ j (e : Entry). 1) 1 f.entries) i b ≡ pattern_count b
+count_each question i [] = refl
+count_each question i (f ∷ fs) = let here = ones 1 f.entries in let rest = count_each question (suc i) fs in omega arith
 
-pub all_counted : (b : List Folder) (bound : ℕ) (taken : Tickets) (tally : Tally) → HasAll b taken → TalliesTaken tally b bound taken → TalliesPatterns b bound tally
-all_counted b bound taken tally all counted = record {
-  patterns = counted.patterns ∙ count_all (λ a. true) b bound taken all ∙ count_each bound 1 b;
-  resolved = counted.resolved ∙ count_all is_resolved b bound taken all;
-  unresolved = counted.unresolved ∙ count_all is_unresolved b bound taken all;
-  refused = counted.refused ∙ count_all is_refused b bound taken all;
+pub all_counted : (b : List Folder) (question : Question) (taken : Tickets) (tally : Tally) → HasAll b taken → TalliesTaken tally b question taken → TalliesPatterns b question tally
+all_counted b question taken tally all counted = record {
+  patterns = counted.patterns ∙ count_all (λ a. true) b question taken all ∙ count_each question 1 b;
+  resolved = counted.resolved ∙ count_all is_resolved b question taken all;
+  unresolved = counted.unresolved ∙ count_all is_unresolved b question taken all;
+  refused = counted.refused ∙ count_all is_refused b question taken all;
 }

@@ -11,6 +11,7 @@ use Rattle.census_crew.specs.declared.bytes.BytesFault.TheVariants.{Read, TooLon
 use Rattle.census_crew.specs.declared.tally.Tally.{Tally}
 use Rattle.census_crew.specs.Tallying.{TalliesPatterns}
 use Rattle.census_crew.specs.Writing.{WritesFront, WritesReport}
+use Rattle.life_answer.specs.declared.question.Question.{Question}
 
 -- the most bytes of a bundle text
 abbrev pub input_limit : ℕ
@@ -47,26 +48,26 @@ ReadsBundle old new (Err Memory) = Unit {0}
 ReadsBundle old new (Err Write) = ⊥
 
 -- a report of the bundle that was read was written, and its patterns were counted
-pub record RunsAll (bound : ℕ) (source source' out out' : Option (List ℕ)) (t : Tally) : Type 0 where
+pub record RunsAll (question : Question) (source source' out out' : Option (List ℕ)) (t : Tally) : Type 0 where
   pub bundle : List Folder
   pub read : ReadsFolders source source' bundle
-  pub report : WritesReport out out' bundle bound
-  pub tally : TalliesPatterns bundle bound t
+  pub report : WritesReport out out' bundle question
+  pub tally : TalliesPatterns bundle question t
 
 -- a front of a report of the bundle that was read was written
-pub record RunsFront (bound : ℕ) (source source' out out' : Option (List ℕ)) : Type 0 where
+pub record RunsFront (question : Question) (source source' out out' : Option (List ℕ)) : Type 0 where
   pub bundle : List Folder
   pub read : ReadsFolders source source' bundle
-  pub front : WritesFront out out' bundle bound
+  pub front : WritesFront out out' bundle question
 
 -- what was read and written, by what is answered
-abbrev pub RunsBytes : ℕ → Option (List ℕ) → Option (List ℕ) → Option (List ℕ) → Option (List ℕ) → Result Tally BytesFault → Type 0
-RunsBytes bound source source' out out' (Ok t) = RunsAll bound source source' out out' t
-RunsBytes bound source source' out out' (Err Read) = out' ≡ out
-RunsBytes bound source source' out out' (Err TooLong) = ConsumesMoreThan input_limit source source' × (out' ≡ out)
-RunsBytes bound source source' out out' (Err (Bundle f)) = ReadsFault source source' f × (out' ≡ out)
-RunsBytes bound source source' out out' (Err Memory) = (out' ≡ out) ⊎ RunsFront bound source source' out out'
-RunsBytes bound source source' out out' (Err Write) = RunsFront bound source source' out out'
+abbrev pub RunsBytes : Question → Option (List ℕ) → Option (List ℕ) → Option (List ℕ) → Option (List ℕ) → Result Tally BytesFault → Type 0
+RunsBytes question source source' out out' (Ok t) = RunsAll question source source' out out' t
+RunsBytes question source source' out out' (Err Read) = out' ≡ out
+RunsBytes question source source' out out' (Err TooLong) = ConsumesMoreThan input_limit source source' × (out' ≡ out)
+RunsBytes question source source' out out' (Err (Bundle f)) = ReadsFault source source' f × (out' ≡ out)
+RunsBytes question source source' out out' (Err Memory) = (out' ≡ out) ⊎ RunsFront question source source' out out'
+RunsBytes question source source' out out' (Err Write) = RunsFront question source source' out out'
 
 -- `Write` is answered where the writer has failed, and nothing else where it has
 abbrev pub FitsBytesFault : {A : Type 0} → Result A BytesFault → Bool → Type 0

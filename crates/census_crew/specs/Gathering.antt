@@ -5,11 +5,13 @@ use Rattle.census_bundle.specs.Sizes.{IsSmall}
 use Rattle.census_book.specs.Progress.{Progress}
 use Rattle.census_crew.specs.declared.tally.Tally.{Tally}
 use Rattle.census_crew.specs.Tallying.{TalliesTaken}
+use Rattle.life_answer.specs.Questions.{IsAnswered}
+use Rattle.life_answer.specs.declared.question.Question.{Question}
 
--- the collector is of this bundle and bound, and the patterns that it took were counted
-pub record Gathers (b : List Folder) (bound : ℕ) (p : Progress) (t : Tally) : Type 0 where
+-- the collector is of this bundle and question, and the patterns that it took were counted
+pub record Gathers (b : List Folder) (question : Question) (p : Progress) (t : Tally) : Type 0 where
   pub small : IsSmall b
-  pub lawful : (1 ≤ bound) × (bound ≤ 1000000)
+  pub lawful : IsAnswered question
   pub same_bundle : p.bundle ≡ b
-  pub same_bound : p.bound ≡ bound
-  pub counted : TalliesTaken t b bound p.taken
+  pub same_question : p.question ≡ question
+  pub counted : TalliesTaken t b question p.taken

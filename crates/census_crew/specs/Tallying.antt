@@ -6,6 +6,7 @@ use Rattle.life_answer.specs.declared.finding.Answer.{Answer}
 use Rattle.census_book.specs.Counts.{count_of, one_if, taken_count}
 use Rattle.census_book.specs.Lines.{is_refused, is_resolved, is_unresolved, pattern_count}
 use Rattle.census_crew.specs.declared.tally.Tally.{Tally}
+use Rattle.life_answer.specs.declared.question.Question.{Question}
 
 -- nothing was counted
 abbrev pub no_tally : Tally
@@ -24,15 +25,15 @@ tallied t a = record {
 }
 
 -- the patterns of these tickets were counted, in all and by what was found of them
-pub record TalliesTaken (t : Tally) (b : List Folder) (bound : ℕ) (taken : Tickets) : Type 0 where
-  pub patterns : t.patterns ≡ taken_count (λ a. true) b bound taken
-  pub resolved : t.resolved ≡ taken_count is_resolved b bound taken
-  pub unresolved : t.unresolved ≡ taken_count is_unresolved b bound taken
-  pub refused : t.refused ≡ taken_count is_refused b bound taken
+pub record TalliesTaken (t : Tally) (b : List Folder) (question : Question) (taken : Tickets) : Type 0 where
+  pub patterns : t.patterns ≡ taken_count (λ a. true) b question taken
+  pub resolved : t.resolved ≡ taken_count is_resolved b question taken
+  pub unresolved : t.unresolved ≡ taken_count is_unresolved b question taken
+  pub refused : t.refused ≡ taken_count is_refused b question taken
 
 -- all patterns were counted, in all and by what is found of them: as many have an `ok`, a `none` and a `bad` line
-pub record TalliesPatterns (b : List Folder) (bound : ℕ) (t : Tally) : Type 0 where
+pub record TalliesPatterns (b : List Folder) (question : Question) (t : Tally) : Type 0 where
   pub patterns : t.patterns ≡ pattern_count b
-  pub resolved : t.resolved ≡ count_of is_resolved b bound
-  pub unresolved : t.unresolved ≡ count_of is_unresolved b bound
-  pub refused : t.refused ≡ count_of is_refused b bound
+  pub resolved : t.resolved ≡ count_of is_resolved b question
+  pub unresolved : t.unresolved ≡ count_of is_unresolved b question
+  pub refused : t.refused ≡ count_of is_refused b question

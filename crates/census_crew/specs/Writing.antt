@@ -5,35 +5,36 @@ use Rattle.census_bundle.specs.declared.bundle.Folder.{Folder}
 use Rattle.census_book.specs.Reports.{IsReport, IsReportFront}
 use Rattle.census_book.specs.Progress.{Progress}
 use Rattle.census_book.specs.Released.{IsReleased}
+use Rattle.life_answer.specs.declared.question.Question.{Question}
 
 -- a report of the bundle was written
-pub record WritesReport (old new : Option (List ℕ)) (b : List Folder) (bound : ℕ) : Type 0 where
+pub record WritesReport (old new : Option (List ℕ)) (b : List Folder) (question : Question) : Type 0 where
   pub text : List ℕ
-  pub report : IsReport b bound text
+  pub report : IsReport b question text
   pub written : Appends old new text
 
 -- a front of a report of the bundle was written
-pub record WritesFront (old new : Option (List ℕ)) (b : List Folder) (bound : ℕ) : Type 0 where
+pub record WritesFront (old new : Option (List ℕ)) (b : List Folder) (question : Question) : Type 0 where
   pub text : List ℕ
-  pub front : IsReportFront b bound text
+  pub front : IsReportFront b question text
   pub written : Appends old new text
 
 -- what was written, followed by what is unsent, is what the collector has released
 pub record IsInStep (old new : Option (List ℕ)) (p : Progress) : Type 0 where
   pub text : List ℕ
-  pub released : IsReleased p.bundle p.bound p.taken (text ++ p.unsent)
+  pub released : IsReleased p.bundle p.question p.taken (text ++ p.unsent)
   pub written : Appends old new text
 
--- the bundle and the bound stay, and whatever was in step before is so afterwards
+-- the bundle and the question stay, and whatever was in step before is so afterwards
 pub record StaysInStep (old : Option (List ℕ)) (p : Progress) (new : Option (List ℕ)) (q : Progress) : Type 0 where
   pub same_bundle : q.bundle ≡ p.bundle
-  pub same_bound : q.bound ≡ p.bound
+  pub same_question : q.question ≡ p.question
   pub in_step : (base : Option (List ℕ)) → IsInStep base old p → IsInStep base new q
 
 -- whatever was in step before, a front of the report stands there afterwards
 pub record StopsInStep (old : Option (List ℕ)) (p : Progress) (new : Option (List ℕ)) : Type 0 where
-  pub front : (base : Option (List ℕ)) → IsInStep base old p → WritesFront base new p.bundle p.bound
+  pub front : (base : Option (List ℕ)) → IsInStep base old p → WritesFront base new p.bundle p.question
 
 -- whatever was in step before, a report stands there afterwards
 pub record EndsInStep (old : Option (List ℕ)) (p : Progress) (new : Option (List ℕ)) : Type 0 where
-  pub report : (base : Option (List ℕ)) → IsInStep base old p → WritesReport base new p.bundle p.bound
+  pub report : (base : Option (List ℕ)) → IsInStep base old p → WritesReport base new p.bundle p.question

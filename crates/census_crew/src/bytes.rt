@@ -1,5 +1,6 @@
 //! The run over a bundle text.
 ghost use Rattle.std.specs.Prelude.{◌≡◌, ◌↔◌, ◌≤◌, true, false, Err};
+ghost use Rattle.life_answer.specs.Questions.{IsAnswered};
 ghost use Rattle.watched.specs.Watching.{inner_of, has_failed};
 ghost use Rattle.census_crew.specs.Bytes.{FitsBytesFault, ReadsBundle, RunsBytes};
 ghost use Rattle.census_crew.specs.declared.bytes.BytesFault.{BytesFault};
@@ -11,6 +12,7 @@ use crate::tally::Tally;
 use census_bundle::bundle::Bundle;
 use census_bundle::fault::BundleFault;
 use census_bundle::reading::read_bundle;
+use life_answer::question::Question;
 use std::alloc::Global;
 use std::io::{Read, Write};
 use std::sync::Wait;
@@ -60,8 +62,8 @@ fn read_input<R: Read>(alloc: Global, reader: &mut Watched<R>) -> Result<Bundle,
     }
 }
 
-/// Reads a bundle up to the reader's end and writes the report of its patterns under the bound, which is 1 to 1,000,000
-/// generations, by 1 to 16 workers, as `run` does. Neither reader nor writer has failed before. `Ok` says that all was written. The reader is read to its
+/// Reads a bundle up to the reader's end and writes the report of what is asked of its patterns, by 1 to 16 workers, as
+/// `run` does. A bound is 1 to 1,000,000 generations. Neither reader nor writer has failed before. `Ok` says that all was written. The reader is read to its
 /// end before the first byte is written. After `Read`, `TooLong` and `Bundle` nothing was written; after `Memory` and
 /// `Write` nothing or a front of a report of the bundle. `Read` is answered where the reader has failed, and only
 /// there; `Write` where the writer has, and only there.
@@ -69,24 +71,24 @@ pub fn run_bytes<R: Read, G: Gate, W: Write, T: Threads + Wait + Sync>(
     rt: &T,
     alloc: Global,
     reader: &mut Watched<R>,
-    bound: u32,
+    question: Question,
     workers: u32,
     gate: &G,
     out: &mut Watched<W>,
 ) -> Result<Tally, BytesFault>
-    requires bound { (1 ≤ bound) × (bound ≤ 1000000) }
+    requires question { IsAnswered question }
     requires workers { (1 ≤ workers) × (workers ≤ 16) }
     requires reader { has_failed reader.old ≡ false }
     requires sound { has_failed out.old ≡ false }
     ensures read { (result ≡ Err BytesFault.Read) ↔ (has_failed reader.new ≡ true) }
     ensures failed { FitsBytesFault result (has_failed out.new) }
-    ensures report { RunsBytes bound (R.remaining (inner_of reader.old)) (R.remaining (inner_of reader.new)) (W.contents (inner_of out.old)) (W.contents (inner_of out.new)) result }
+    ensures report { RunsBytes question (R.remaining (inner_of reader.old)) (R.remaining (inner_of reader.new)) (W.contents (inner_of out.old)) (W.contents (inner_of out.new)) result }
 {
     let bundle = match read_input(alloc, reader) {
         Ok(bundle) => bundle,
         Err(fault) => return Err(fault),
     };
-    match run(rt, alloc, &bundle, bound, workers, gate, out) {
+    match run(rt, alloc, &bundle, question, workers, gate, out) {
         Ok(tally) => Ok(tally),
         Err(RunFault::Memory) => Err(BytesFault::Memory),
         Err(RunFault::Write) => Err(BytesFault::Write),

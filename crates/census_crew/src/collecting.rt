@@ -45,7 +45,7 @@ impl<'c, 'a, W: Write> Task for Collecting<'c, 'a, W> {
     ghost run_gives = { λ s r.
         (r.out.ghost_name ≡ s.out.ghost_name)
         × (r.gathering.bundle.now ≡ s.gathering.bundle.now)
-        × (r.gathering.bound ≡ s.gathering.bound)
+        × (r.gathering.question ≡ s.gathering.question)
         × MatchResult r.written (λ _. has_failed r.out.now ≡ false) (λ _. has_failed r.out.now ≡ true)
         × MatchResult r.written
         (λ _. StaysInStep (W.contents (inner_of s.out.now)) s.gathering.collector (W.contents (inner_of r.out.now)) r.gathering.collector)
@@ -80,7 +80,7 @@ impl<'a> Gathering<'a> {
     ) -> Result<Option<Batch<'a>>, Failed>
         requires sound { has_failed out.old ≡ false }
         ensures failed { MatchResult result (λ _. has_failed out.new ≡ false) (λ _. has_failed out.new ≡ true) }
-        ensures same { (self.new.bundle.now ≡ self.old.bundle.now) × (self.new.bound ≡ self.old.bound) }
+        ensures same { (self.new.bundle.now ≡ self.old.bundle.now) × (self.new.question ≡ self.old.question) }
         ensures step { MatchResult result
             (λ _. StaysInStep (W.contents (inner_of out.old)) self.old.collector (W.contents (inner_of out.new)) self.new.collector)
             (λ _. StopsInStep (W.contents (inner_of out.old)) self.old.collector (W.contents (inner_of out.new))) }
@@ -97,7 +97,7 @@ impl<'a> Gathering<'a> {
 
     // Takes the results of a batch.
     fn take_batch(&mut self, batch: Batch<'a>)
-        ensures same { (self.new.bundle.now ≡ self.old.bundle.now) × (self.new.bound ≡ self.old.bound) }
+        ensures same { (self.new.bundle.now ≡ self.old.bundle.now) × (self.new.question ≡ self.old.question) }
         ensures step { (written : Option (List ℕ)) → StaysInStep written self.old.collector written self.new.collector }
     {
         for done in batch {
@@ -115,7 +115,7 @@ impl<'a> Gathering<'a> {
     ) -> Result<(), Failed>
         requires sound { has_failed out.old ≡ false }
         ensures failed { MatchResult result (λ _. has_failed out.new ≡ false) (λ _. has_failed out.new ≡ true) }
-        ensures same { (self.new.bundle.now ≡ self.old.bundle.now) × (self.new.bound ≡ self.old.bound) }
+        ensures same { (self.new.bundle.now ≡ self.old.bundle.now) × (self.new.question ≡ self.old.question) }
         ensures step { MatchResult result
             (λ _. StaysInStep (W.contents (inner_of out.old)) self.old.collector (W.contents (inner_of out.new)) self.new.collector)
             (λ _. StopsInStep (W.contents (inner_of out.old)) self.old.collector (W.contents (inner_of out.new))) }

@@ -1,6 +1,7 @@
 //! Gathering results, and writing the report that they release.
 ghost use Rattle.std.specs.Prelude.{◌≡◌, ◌≢◌, ◌<◌, ◌≤◌, ◌^◌, ℕ, List, [], Option, true, false, MatchBool, MatchResult, OnOk, IfOk, IfSome, IfNone};
 ghost use Rattle.watched.specs.Watching.{inner_of, has_failed};
+ghost use Rattle.life_answer.specs.Questions.{IsAnswered};
 ghost use Rattle.census_bundle.specs.Sizes.{IsSmall};
 ghost use Rattle.census_book.specs.Collecting.{after_offer, Judged, Offered};
 ghost use Rattle.census_book.specs.Progress.{started};
@@ -14,6 +15,7 @@ use census_book::collector::Collector;
 use census_book::done::Done;
 use census_book::offer::Offer;
 use census_bundle::bundle::Bundle;
+use life_answer::question::Question;
 use std::alloc::{AllocError, Global};
 use std::io::Write;
 use watched::watched::{Failed, Watched};
@@ -22,10 +24,10 @@ use watched::watched::{Failed, Watched};
 #[derive(Drop)]
 pub(crate) struct Gathering<'a> {
     pub(crate) bundle: &'a Bundle,
-    pub(crate) bound: u32,
+    pub(crate) question: Question,
     pub(crate) collector: Collector<'a>,
     pub(crate) tally: Tally,
-    ghost sound: { Gathers bundle.now bound collector tally },
+    ghost sound: { Gathers bundle.now question collector tally },
 }
 
 // A bundle is small.
@@ -40,31 +42,31 @@ impl<'a> Gathering<'a> {
     pub(crate) fn new(
         alloc: Global,
         bundle: &'a Bundle,
-        bound: u32,
+        question: Question,
     ) -> Result<Gathering<'a>, AllocError>
-        requires { (1 ≤ bound) × (bound ≤ 1000000) }
-        ensures collector { IfOk result (λ g. g.collector ≡ started bundle.now bound) }
+        requires { IsAnswered question }
+        ensures collector { IfOk result (λ g. g.collector ≡ started bundle.now question) }
         ensures bundle { IfOk result (λ g. g.bundle.now ≡ bundle.now) }
-        ensures bound { IfOk result (λ g. g.bound ≡ bound) }
+        ensures question { IfOk result (λ g. g.question ≡ question) }
         ensures strangers { IfOk result (λ g. g.tally.strangers ≡ 0) }
     {
         is_small(bundle);
-        let collector = Collector::new(alloc, bundle, bound)?;
+        let collector = Collector::new(alloc, bundle, question)?;
         Ok(Gathering {
             bundle,
-            bound,
+            question,
             collector,
             tally: Tally::new(),
         })
     }
 
-    /// Takes a result. `None` says that there was no memory to take it, though it is of this bundle and bound.
+    /// Takes a result. `None` says that there was no memory to take it, though it is of this bundle and question.
     pub(crate) fn take(&mut self, done: Done<'a>) -> Option<Offer>
-        ensures same { (self.new.bundle.now ≡ self.old.bundle.now) × (self.new.bound ≡ self.old.bound) }
-        ensures offered { IfSome result (λ o. Offered self.old.collector done.entry.ticket done.entry.entry.text done.entry.bound self.new.collector o) }
+        ensures same { (self.new.bundle.now ≡ self.old.bundle.now) × (self.new.question ≡ self.old.question) }
+        ensures offered { IfSome result (λ o. Offered self.old.collector done.entry.ticket done.entry.entry.text done.entry.question self.new.collector o) }
         ensures no_room { IfNone result (self.new.collector ≡ self.old.collector) }
         ensures step { (written : Option (List ℕ)) → StaysInStep written self.old.collector written self.new.collector }
-        ensures strangers { NotesStranger self.old.bundle.now self.old.bound done.entry self.old.tally.strangers self.new.tally.strangers }
+        ensures strangers { NotesStranger self.old.bundle.now self.old.question done.entry self.old.tally.strangers self.new.tally.strangers }
     {
         let counted = self.tally.with(done.answer());
         match self.collector.offer(done) {
@@ -92,15 +94,15 @@ impl<'a> Gathering<'a> {
     ) -> Result<Option<Offer>, Failed>
         requires sound { has_failed out.old ≡ false }
         ensures failed { MatchResult result (λ _. has_failed out.new ≡ false) (λ _. has_failed out.new ≡ true) }
-        ensures same { (self.new.bundle.now ≡ self.old.bundle.now) × (self.new.bound ≡ self.old.bound) }
+        ensures same { (self.new.bundle.now ≡ self.old.bundle.now) × (self.new.question ≡ self.old.question) }
         ensures step { MatchResult result
             (λ _. StaysInStep (W.contents (inner_of out.old)) self.old.collector (W.contents (inner_of out.new)) self.new.collector)
             (λ _. StopsInStep (W.contents (inner_of out.old)) self.old.collector (W.contents (inner_of out.new))) }
         ensures sent { OnOk result (self.old.collector.unsent ≡ [] → self.new.collector.unsent ≡ []) }
         ensures offered { IfOk result (λ o. IfSome o (λ offer.
-            Judged self.old.collector.bundle self.old.collector.bound self.old.collector.taken done.entry.ticket done.entry.entry.text done.entry.bound offer
+            Judged self.old.collector.bundle self.old.collector.question self.old.collector.taken done.entry.ticket done.entry.entry.text done.entry.question offer
             × (self.new.collector.taken ≡ (after_offer self.old.collector done.entry.ticket offer).taken))) }
-        ensures strangers { NotesStranger self.old.bundle.now self.old.bound done.entry self.old.tally.strangers self.new.tally.strangers }
+        ensures strangers { NotesStranger self.old.bundle.now self.old.question done.entry self.old.tally.strangers self.new.tally.strangers }
     {
         let Some(offer) = self.take(done) else {
             return Ok(None);
@@ -114,7 +116,7 @@ impl<'a> Gathering<'a> {
     /// Writes what is unsent.
     pub(crate) fn send<W: Write>(&mut self, out: &mut Watched<W>) -> Result<(), Failed>
         ensures failed { MatchResult result (λ _. has_failed out.new ≡ false) (λ _. has_failed out.new ≡ true) }
-        ensures same { (self.new.bundle.now ≡ self.old.bundle.now) × (self.new.bound ≡ self.old.bound) × (self.new.tally ≡ self.old.tally) }
+        ensures same { (self.new.bundle.now ≡ self.old.bundle.now) × (self.new.question ≡ self.old.question) × (self.new.tally ≡ self.old.tally) }
         ensures step { MatchResult result
             (λ _. StaysInStep (W.contents (inner_of out.old)) self.old.collector (W.contents (inner_of out.new)) self.new.collector)
             (λ _. StopsInStep (W.contents (inner_of out.old)) self.old.collector (W.contents (inner_of out.new))) }

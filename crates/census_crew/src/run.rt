@@ -1,5 +1,6 @@
 //! The parallel run.
 ghost use Rattle.std.specs.Prelude.{◌≡◌, ◌≤◌, [], true, false, MatchResult, OnOk, IfOk};
+ghost use Rattle.life_answer.specs.Questions.{IsAnswered};
 ghost use Rattle.watched.specs.Watching.{inner_of, has_failed};
 ghost use Rattle.census_crew.specs.Faults.{FitsFault};
 ghost use Rattle.census_crew.specs.Tallying.{TalliesPatterns};
@@ -13,14 +14,15 @@ use crate::tally::Tally;
 use crate::working::work_beside;
 use census_bundle::bundle::Bundle;
 use census_feed::handles::{Feed, Hand};
+use life_answer::question::Question;
 use std::alloc::Global;
 use std::io::Write;
 use std::sync::Wait;
 use std::thread::Threads;
 use watched::watched::{Failed, Watched};
 
-/// Writes the report of the bundle's patterns under the bound, which is 1 to 1,000,000 generations, to a writer that has
-/// not failed. The patterns are worked by 1 to 16 workers, each of which takes tickets and passes the gate with each
+/// Writes the report of what is asked of the bundle's patterns to a writer that has not failed. A bound is 1 to 1,000,000
+/// generations. The patterns are worked by 1 to 16 workers, each of which takes tickets and passes the gate with each
 /// before it works; the caller takes their results and writes, and then works itself what is missing. `Ok` says that all
 /// was written. After `Memory` or `Write` what was written is a front of a report; `Write` is answered where the writer
 /// has failed, and only there.
@@ -28,24 +30,24 @@ pub fn run<G: Gate, W: Write, R: Threads + Wait + Sync>(
     rt: &R,
     alloc: Global,
     bundle: &Bundle,
-    bound: u32,
+    question: Question,
     workers: u32,
     gate: &G,
     out: &mut Watched<W>,
 ) -> Result<Tally, RunFault>
-    requires bound { (1 ≤ bound) × (bound ≤ 1000000) }
+    requires question { IsAnswered question }
     requires workers { (1 ≤ workers) × (workers ≤ 16) }
     requires sound { has_failed out.old ≡ false }
     ensures failed { FitsFault result (has_failed out.new) }
     ensures report { MatchResult result
-        (λ _. WritesReport (W.contents (inner_of out.old)) (W.contents (inner_of out.new)) bundle.now bound)
-        (λ _. WritesFront (W.contents (inner_of out.old)) (W.contents (inner_of out.new)) bundle.now bound) }
-    ensures tally { IfOk result (TalliesPatterns bundle.now bound) }
+        (λ _. WritesReport (W.contents (inner_of out.old)) (W.contents (inner_of out.new)) bundle.now question)
+        (λ _. WritesFront (W.contents (inner_of out.old)) (W.contents (inner_of out.new)) bundle.now question) }
+    ensures tally { IfOk result (TalliesPatterns bundle.now question) }
 {
     let Ok((feed, hands)) = Feed::fill(alloc, bundle, workers) else {
         return Err(RunFault::Memory);
     };
-    run_on(rt, alloc, bundle, bound, feed, hands, gate, out)
+    run_on(rt, alloc, bundle, question, feed, hands, gate, out)
 }
 
 /// Does what `run` does, from a feed that the caller filled from this bundle, and all the hands of that feed: each goes
@@ -54,21 +56,21 @@ pub fn run_on<G: Gate, W: Write, R: Threads + Wait + Sync>(
     rt: &R,
     alloc: Global,
     bundle: &Bundle,
-    bound: u32,
+    question: Question,
     feed: Feed,
     hands: Vec<Hand>,
     gate: &G,
     out: &mut Watched<W>,
 ) -> Result<Tally, RunFault>
-    requires bound { (1 ≤ bound) × (bound ≤ 1000000) }
+    requires question { IsAnswered question }
     requires sound { has_failed out.old ≡ false }
     ensures failed { FitsFault result (has_failed out.new) }
     ensures report { MatchResult result
-        (λ _. WritesReport (W.contents (inner_of out.old)) (W.contents (inner_of out.new)) bundle.now bound)
-        (λ _. WritesFront (W.contents (inner_of out.old)) (W.contents (inner_of out.new)) bundle.now bound) }
-    ensures tally { IfOk result (TalliesPatterns bundle.now bound) }
+        (λ _. WritesReport (W.contents (inner_of out.old)) (W.contents (inner_of out.new)) bundle.now question)
+        (λ _. WritesFront (W.contents (inner_of out.old)) (W.contents (inner_of out.new)) bundle.now question) }
+    ensures tally { IfOk result (TalliesPatterns bundle.now question) }
 {
-    let Ok(mut gathering) = Gathering::new(alloc, bundle, bound) else {
+    let Ok(mut gathering) = Gathering::new(alloc, bundle, question) else {
         return Err(RunFault::Memory);
     };
     match gathering.send(out) {
@@ -102,7 +104,7 @@ impl<'a> Gathering<'a> {
         requires sound { has_failed out.old ≡ false }
         requires sent { self.collector.unsent ≡ [] }
         ensures failed { FitsFault result (has_failed out.new) }
-        ensures same { IfOk result (λ g. (g.bundle.now ≡ self.entry.bundle.now) × (g.bound ≡ self.entry.bound)) }
+        ensures same { IfOk result (λ g. (g.bundle.now ≡ self.entry.bundle.now) × (g.question ≡ self.entry.question)) }
         ensures step { MatchResult result
             (λ g. StaysInStep (W.contents (inner_of out.old)) self.entry.collector (W.contents (inner_of out.new)) g.collector)
             (λ _. StopsInStep (W.contents (inner_of out.old)) self.entry.collector (W.contents (inner_of out.new))) }
@@ -112,7 +114,7 @@ impl<'a> Gathering<'a> {
             return Err(RunFault::Memory);
         };
         let bundle = self.bundle;
-        let bound = self.bound;
+        let question = self.question;
         let task = Collecting {
             gathering: self,
             results: from,
@@ -122,7 +124,7 @@ impl<'a> Gathering<'a> {
             gathering,
             written,
             out,
-        } = work_beside(rt, alloc, bundle, bound, hands, gate, to, task);
+        } = work_beside(rt, alloc, bundle, question, hands, gate, to, task);
         take_back(out);
         match written {
             Ok(()) => Ok(gathering),

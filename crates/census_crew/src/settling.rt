@@ -1,6 +1,7 @@
 //! The run of a caller with workers of its own, or with none.
 ghost use Rattle.std.specs.Prelude.{◌≡◌, ◌≤◌, [], true, false, MatchResult, OnOk, IfOk};
 ghost use Rattle.watched.specs.Watching.{inner_of, has_failed};
+ghost use Rattle.life_answer.specs.Questions.{IsAnswered};
 ghost use Rattle.census_bundle.specs.Tickets.{has_ticket, with_ticket, HasAll, IsTicketOf};
 ghost use Rattle.census_crew.specs.Faults.{FitsFault};
 ghost use Rattle.census_crew.specs.Strangers.{HasStrangers};
@@ -14,31 +15,32 @@ use census_book::done::Done;
 use census_book::offer::Offer;
 use census_bundle::bundle::Bundle;
 use census_bundle::ticket::Ticket;
+use life_answer::question::Question;
 use std::alloc::Global;
 use std::io::Write;
 use watched::watched::{Failed, Watched};
 
-/// Writes the report of the bundle's patterns under the bound, which is 1 to 1,000,000 generations, to a writer that has
-/// not failed. The results are offered in their order, and each ticket that is then missing is worked here. `Ok` says
+/// Writes the report of what is asked of the bundle's patterns to a writer that has not failed. A bound is 1 to 1,000,000
+/// generations. The results are offered in their order, and each ticket that is then missing is worked here. `Ok` says
 /// that all was written. After `Memory` or `Write` what was written is a front of a report; `Write` is answered where
 /// the writer has failed, and only there. It waits for nobody.
 pub fn settle<'a, W: Write>(
     alloc: Global,
     bundle: &'a Bundle,
-    bound: u32,
+    question: Question,
     arrivals: Vec<Done<'a>>,
     out: &mut Watched<W>,
 ) -> Result<Tally, RunFault>
-    requires bound { (1 ≤ bound) × (bound ≤ 1000000) }
+    requires question { IsAnswered question }
     requires sound { has_failed out.old ≡ false }
     ensures failed { FitsFault result (has_failed out.new) }
     ensures report { MatchResult result
-        (λ _. WritesReport (W.contents (inner_of out.old)) (W.contents (inner_of out.new)) bundle.now bound)
-        (λ _. WritesFront (W.contents (inner_of out.old)) (W.contents (inner_of out.new)) bundle.now bound) }
-    ensures tally { IfOk result (TalliesPatterns bundle.now bound) }
-    ensures strangers { IfOk result (λ t. HasStrangers bundle.now bound arrivals.entry.items t.strangers) }
+        (λ _. WritesReport (W.contents (inner_of out.old)) (W.contents (inner_of out.new)) bundle.now question)
+        (λ _. WritesFront (W.contents (inner_of out.old)) (W.contents (inner_of out.new)) bundle.now question) }
+    ensures tally { IfOk result (TalliesPatterns bundle.now question) }
+    ensures strangers { IfOk result (λ t. HasStrangers bundle.now question arrivals.entry.items t.strangers) }
 {
-    let Ok(mut gathering) = Gathering::new(alloc, bundle, bound) else {
+    let Ok(mut gathering) = Gathering::new(alloc, bundle, question) else {
         return Err(RunFault::Memory);
     };
     match gathering.send(out) {
@@ -63,12 +65,12 @@ impl<'a> Gathering<'a> {
         requires sent { self.old.collector.unsent ≡ [] }
         requires none { self.old.tally.strangers ≡ 0 }
         ensures failed { MatchResult result (λ _. has_failed out.new ≡ false) (λ _. has_failed out.new ≡ true) }
-        ensures same { (self.new.bundle.now ≡ self.old.bundle.now) × (self.new.bound ≡ self.old.bound) }
+        ensures same { (self.new.bundle.now ≡ self.old.bundle.now) × (self.new.question ≡ self.old.question) }
         ensures step { MatchResult result
             (λ _. StaysInStep (W.contents (inner_of out.old)) self.old.collector (W.contents (inner_of out.new)) self.new.collector)
             (λ _. StopsInStep (W.contents (inner_of out.old)) self.old.collector (W.contents (inner_of out.new))) }
         ensures sent { OnOk result (self.new.collector.unsent ≡ []) }
-        ensures strangers { OnOk result (HasStrangers self.old.bundle.now self.old.bound arrivals.entry.items self.new.tally.strangers) }
+        ensures strangers { OnOk result (HasStrangers self.old.bundle.now self.old.question arrivals.entry.items self.new.tally.strangers) }
     {
         for done in arrivals {
             match self.arrive(done, out) {
@@ -91,7 +93,7 @@ impl<'a> Gathering<'a> {
         requires sound { has_failed out.old ≡ false }
         requires sent { self.old.collector.unsent ≡ [] }
         ensures failed { FitsFault result (has_failed out.new) }
-        ensures same { (self.new.bundle.now ≡ self.old.bundle.now) × (self.new.bound ≡ self.old.bound) }
+        ensures same { (self.new.bundle.now ≡ self.old.bundle.now) × (self.new.question ≡ self.old.question) }
         ensures step { MatchResult result
             (λ _. StaysInStep (W.contents (inner_of out.old)) self.old.collector (W.contents (inner_of out.new)) self.new.collector)
             (λ _. StopsInStep (W.contents (inner_of out.old)) self.old.collector (W.contents (inner_of out.new))) }
@@ -102,7 +104,7 @@ impl<'a> Gathering<'a> {
         let Some(entry) = self.bundle.entry(ticket) else {
             unreachable!();
         };
-        let Ok(done) = Done::work(alloc, ticket, entry, self.bound) else {
+        let Ok(done) = Done::work(alloc, ticket, entry, self.question) else {
             return Err(RunFault::Memory);
         };
         match self.arrive(done, out) {
@@ -121,7 +123,7 @@ impl<'a> Gathering<'a> {
         requires sound { has_failed out.old ≡ false }
         requires sent { self.old.collector.unsent ≡ [] }
         ensures failed { FitsFault result (has_failed out.new) }
-        ensures same { (self.new.bundle.now ≡ self.old.bundle.now) × (self.new.bound ≡ self.old.bound) }
+        ensures same { (self.new.bundle.now ≡ self.old.bundle.now) × (self.new.question ≡ self.old.question) }
         ensures step { MatchResult result
             (λ _. StaysInStep (W.contents (inner_of out.old)) self.old.collector (W.contents (inner_of out.new)) self.new.collector)
             (λ _. StopsInStep (W.contents (inner_of out.old)) self.old.collector (W.contents (inner_of out.new))) }
@@ -149,7 +151,7 @@ impl<'a> Gathering<'a> {
         ensures ends { MatchResult result
             (λ _. EndsInStep (W.contents (inner_of out.old)) self.entry.collector (W.contents (inner_of out.new)))
             (λ _. StopsInStep (W.contents (inner_of out.old)) self.entry.collector (W.contents (inner_of out.new))) }
-        ensures tally { IfOk result (TalliesPatterns self.entry.bundle.now self.entry.bound) }
+        ensures tally { IfOk result (TalliesPatterns self.entry.bundle.now self.entry.question) }
         ensures strangers { IfOk result (λ t. t.strangers ≡ self.entry.tally.strangers) }
     {
         match self.catch_up(alloc, out) {

@@ -9,7 +9,7 @@ use life_answer::finding::{Answer, Finding};
 pub struct Tally {
     /// All patterns.
     pub patterns: u64,
-    /// The patterns with an `ok` line, which come again within the bound.
+    /// The patterns with an `ok` or an `ash` line, which come again, or have fallen apart, within the bound.
     pub resolved: u64,
     /// The patterns with a `none` line, which don't.
     pub unresolved: u64,
@@ -17,7 +17,7 @@ pub struct Tally {
     pub refused: u64,
     /// The results whose tickets were taken before.
     pub doubles: u64,
-    /// The results of another bundle or bound.
+    /// The results of another bundle or question.
     pub strangers: u64,
     /// The tickets that the caller worked itself.
     pub caught_up: u64,
@@ -53,6 +53,7 @@ impl Tally {
             Answer::Found { rule: _, finding } => match finding {
                 Finding::Recurs { .. } => counted.resolved += 1,
                 Finding::Unresolved { .. } => counted.unresolved += 1,
+                Finding::Ash { .. } => counted.resolved += 1,
             },
             Answer::Refused(_) => counted.refused += 1,
         }

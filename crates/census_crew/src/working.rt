@@ -1,5 +1,6 @@
 //! Workers, and work of the caller beside them.
 ghost use Rattle.std.specs.Prelude.{◌≡◌, ◌≤◌};
+ghost use Rattle.life_answer.specs.Questions.{IsAnswered};
 
 use crate::gate::Gate;
 use census_book::done::Done;
@@ -7,6 +8,7 @@ use census_bundle::bundle::Bundle;
 use census_feed::handles::Hand;
 use crossbeam_channel::{SendError, Sender};
 use life_answer::finding::{Answer, Finding};
+use life_answer::question::Question;
 use std::alloc::Global;
 use std::hint::spin_loop;
 use std::sync::{Mutex, Wait};
@@ -41,6 +43,7 @@ fn was_quick(answer: &Answer) -> bool {
         Answer::Found { finding, .. } => match finding {
             Finding::Recurs { onset, period, .. } => *onset <= QUICK && *period <= QUICK,
             Finding::Unresolved { .. } => false,
+            Finding::Ash { .. } => false,
         },
         Answer::Refused(_) => true,
     }
@@ -91,13 +94,13 @@ fn work<'a, G: Gate, R: Wait>(
     rt: &R,
     alloc: Global,
     bundle: &'a Bundle,
-    bound: u32,
+    question: Question,
     mut hand: Hand,
     gate: &G,
     beginning: &Mutex<()>,
     results: Sender<Batch<'a>, Global>,
 )
-    requires { (1 ≤ bound) × (bound ≤ 1000000) }
+    requires { IsAnswered question }
 {
     let mut batch = first_batch(alloc, beginning);
     for _ in rt.forever() {
@@ -108,7 +111,7 @@ fn work<'a, G: Gate, R: Wait>(
         let Some(entry) = bundle.entry(ticket) else {
             continue;
         };
-        let Ok(done) = Done::work(alloc, ticket, entry, bound) else {
+        let Ok(done) = Done::work(alloc, ticket, entry, question) else {
             continue;
         };
         let waits = was_quick(done.answer());
@@ -130,13 +133,13 @@ pub(crate) fn work_beside<'a, G: Gate, R: Threads + Wait + Sync, S: Task>(
     rt: &R,
     alloc: Global,
     bundle: &'a Bundle,
-    bound: u32,
+    question: Question,
     hands: Vec<Hand>,
     gate: &G,
     results: Sender<Batch<'a>, Global>,
     task: S,
 ) -> S::Output
-    requires bound { (1 ≤ bound) × (bound ≤ 1000000) }
+    requires question { IsAnswered question }
     requires task { S.can_run task }
     ensures { S.run_gives task result }
 {
@@ -146,7 +149,7 @@ pub(crate) fn work_beside<'a, G: Gate, R: Threads + Wait + Sync, S: Task>(
         thread::scope_env(),
         rt,
         move |scope| -> S::Output
-            requires { (1 ≤ bound) × (bound ≤ 1000000) × S.can_run task }
+            requires { IsAnswered question × S.can_run task }
             ensures { S.run_gives task result }
         {
             // No worker begins before this is dropped, unless it gave up waiting.
@@ -156,8 +159,8 @@ pub(crate) fn work_beside<'a, G: Gate, R: Threads + Wait + Sync, S: Task>(
                     break;
                 };
                 let one = move ||
-                    requires { (1 ≤ bound) × (bound ≤ 1000000) }
-                { work(rt, alloc, bundle, bound, hand, gate, beginning, mine) };
+                    requires { IsAnswered question }
+                { work(rt, alloc, bundle, question, hand, gate, beginning, mine) };
                 if scope.spawn(one).is_err() {
                     break;
                 }

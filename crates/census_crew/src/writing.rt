@@ -17,7 +17,7 @@ pub(crate) fn flush<W: Write>(collector: &mut Collector, out: &mut Watched<W>) -
     ensures sent { MatchResult result (λ _. collector.new.unsent ≡ []) (λ _. collector.new ≡ collector.old) }
     ensures taken { collector.new.taken ≡ collector.old.taken }
     ensures bundle { collector.new.bundle ≡ collector.old.bundle }
-    ensures bound { collector.new.bound ≡ collector.old.bound }
+    ensures question { collector.new.question ≡ collector.old.question }
 {
     match put_all(out, collector.unsent()) {
         Ok(()) => {}

@@ -13,7 +13,8 @@ use Rattle.life_model.proofs.Cells.{same_cell-is, pair}
 use Rattle.life_model.proofs.Generations.{from_list-cells, cells-from_list}
 use Rattle.life_model.proofs.Moves.{moved-empty}
 use Rattle.life_model.proofs.Recurrences.{shape, way, move_from_shape, settles_from_shape, recurs_from_shape, shape_from_move, shape_from_recurs, Settles-one, Settles-other_bound, onset-period-least}
-use Rattle.life_answer.specs.declared.finding.Finding.TheVariants.{Recurs, Unresolved}
+use Rattle.life_answer.specs.declared.finding.Finding.TheVariants.{Recurs, Unresolved, Ash}
+use Rattle.life_answer.specs.declared.part.Part.{Part}
 use Rattle.life_answer.specs.Recurrence.{same_shape, first_from, comes_again, first_return, first_onset}
 use Rattle.life_answer.specs.Answers.{settled, finding_at, finding_from, finding_of}
 
@@ -208,6 +209,17 @@ module _ (R : Rule) (G : Generation) where
         elim settled_or_not [
           | inl found ↦ settles_same found.onset found.period population onset period found.by dx dy code (sym found.found ∙ e) found.settles
           | inr not ↦ absurd (let apart : Unresolved (size G) ≡ Recurs population onset period dx dy code = sym not.found ∙ e in cc)
+        ]
+
+    ash_apart_settled : (o p n : ℕ) (d : Cell) (parts : List Part) → settled R G o p d ≡ Ash n parts → ⊥
+    ash_apart_settled o p n d parts e = cc
+
+    -- no such finding is an ash
+    pub finding-no_ash : (population : ℕ) (parts : List Part) → finding_of R G b ≡ Ash population parts → ⊥
+    finding-no_ash population parts e =
+        elim settled_or_not [
+          | inl found ↦ ash_apart_settled found.onset found.period population found.by parts (sym found.found ∙ e)
+          | inr not ↦ (let apart : Unresolved (size G) ≡ Ash population parts = sym not.found ∙ e in cc)
         ]
 
   pub finding-more : (b c o p : ℕ) (d : Cell) → Settles R G b o p d → o + p ≤ c → finding_of R G c ≡ finding_of R G b

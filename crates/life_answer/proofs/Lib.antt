@@ -4,3 +4,5 @@ pub mod LeastTexts
 pub mod Sizes
 pub mod Objects
 pub mod Codes
+pub mod Counted
+pub mod Tallying

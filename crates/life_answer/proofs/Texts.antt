@@ -12,8 +12,12 @@ use Rattle.life_text.specs.declared.rle.RleFault.TheVariants.{NoHeader, ManyStat
 use Rattle.life_text.specs.Rle as rle
 use Rattle.life_text.specs.Rle.{Meaning, Token, reading, refusal, fault_of, with_body, unless_fault, first_fault, token_fault, fault_if, header_rule, line_rule, rule_behind, named_rule, told, rule_fault}
 use Rattle.life_text.specs.Picture.{Picture, picture_of}
+use Rattle.life_answer.specs.declared.finding.Finding.{Finding}
+use Rattle.life_answer.specs.declared.finding.Finding.TheVariants.{Ash}
 use Rattle.life_answer.specs.declared.finding.Answer.TheVariants.{Found, Refused}
+use Rattle.life_answer.specs.declared.part.Part.{Part}
 use Rattle.life_answer.specs.Answers.{finding_of, fault_number, answer_to, answer_of}
+use Rattle.life_answer.proofs.Findings.{finding-no_ash}
 
 pub answer-found : (text : List ℕ) (b : ℕ) (pattern : Picture) → picture_of (reading text) ≡ Ok pattern → answer_of text b ≡ Found pattern.rule (finding_of pattern.rule pattern.cells b)
 unfolding answer_of
@@ -102,3 +106,17 @@ pub answer-numbered : (text : List ℕ) (b number : ℕ) → answer_of text b �
 unfolding answer_of
 answer-numbered text b number e =
     numbered_by (reading text) b number (with_body-numbered (header_rule text) (rle.body_tokens text) (line_rule-numbered (rle.header_line text))) e
+
+-- ---- no ash
+
+same_finding : (r s : Rule) (f g : Finding) → Found r f ≡ Found s g → f ≡ g
+same_finding r s f g e = cc
+
+no_ash_by : (r : Result Picture RleFault) (b : ℕ) (rule : Rule) (population : ℕ) (parts : List Part) → answer_to r b ≡ Found rule (Ash population parts) → ⊥
+no_ash_by (Ok pattern) b rule population parts e = finding-no_ash pattern.rule pattern.cells b population parts (same_finding pattern.rule rule _ _ e)
+no_ash_by (Err fault) b rule population parts e = cc
+
+-- where the question is which generation comes again, no answer is an ash
+pub answer-no_ash : (text : List ℕ) (b : ℕ) (rule : Rule) (population : ℕ) (parts : List Part) → answer_of text b ≡ Found rule (Ash population parts) → ⊥
+unfolding answer_of
+answer-no_ash text b rule population parts e = no_ash_by (picture_of (reading text)) b rule population parts e

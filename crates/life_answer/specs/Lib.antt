@@ -1,3 +1,5 @@
 pub mod Apgcode
 pub mod Recurrence
 pub mod Answers
+pub mod Parts
+pub mod Questions

@@ -1,5 +1,6 @@
 //! What is found of a pattern and of a text.
 use crate::code::Code;
+use crate::parts::Parts;
 use life_cells::rule::Rule;
 
 /// What is found of a pattern within a bound.
@@ -24,6 +25,13 @@ pub enum Finding {
     Unresolved {
         /// How many live cells generation 0 has.
         population: u64,
+    },
+    /// It has fallen apart into objects.
+    Ash {
+        /// How many live cells generation 0 has.
+        population: u64,
+        /// The objects.
+        parts: Parts,
     },
 }
 

@@ -1,5 +1,5 @@
 //! The laws that tie the answer to the definition of onset, period and displacement.
-ghost use Rattle.std.specs.Prelude.{◌≡◌, ◌+◌, ◌<◌, ◌≤◌, ◌↔◌, ℕ, List, Ok, Some, ℤ};
+ghost use Rattle.std.specs.Prelude.{◌≡◌, ◌+◌, ◌<◌, ◌≤◌, ◌↔◌, ℕ, List, Ok, Some, ℤ, length};
 ghost use Rattle.life_model.specs.Cell.{Cell};
 ghost use Rattle.life_model.specs.Evolution.{generation};
 ghost use Rattle.life_model.specs.Generation.{Generation, size};
@@ -10,8 +10,11 @@ ghost use Rattle.life_text.specs.Picture.{Picture, picture_of};
 ghost use Rattle.life_text.specs.Rle.{reading, refusal};
 ghost use Rattle.life_answer.specs.Answers.{answer_of, fault_number, finding_of, settled};
 ghost use Rattle.life_answer.specs.Apgcode.{code_of};
-ghost use Rattle.life_answer.specs.declared.finding.Finding.TheVariants.{Recurs, Unresolved};
+ghost use Rattle.life_answer.specs.declared.finding.Finding.TheVariants.{Ash, Recurs, Unresolved};
 ghost use Rattle.life_answer.specs.declared.finding.Answer.TheVariants.{Found, Refused};
+ghost use Rattle.life_answer.specs.declared.part.Part.{Part};
+ghost use Rattle.life_answer.specs.Parts.{counted_codes, objects_in};
+ghost use Rattle.std.specs.List.Sorted.{IsPermutation};
 
 /// What is found of a set that settles within the bound: the population of the set itself, its onset, period and
 /// displacement, and the code of the generation at the onset. And only of such a set is it found.
@@ -45,10 +48,21 @@ pub fn a_text_is_found_or_refused()
     ensures numbered { (text : List ℕ) (b number : ℕ) → answer_of text b ≡ Refused number → (1 ≤ number) × (number ≤ 10) }
 {}
 
+/// Where it is asked which generation comes again, no answer is that a pattern has fallen apart.
+pub fn what_comes_again_is_no_ash()
+    ensures { (text : List ℕ) (b : ℕ) (rule : Rule) (population : ℕ) (parts : List Part) → answer_of text b ≡ Found rule (Ash population parts) → ⊥ }
+{}
+
 /// Of two sets that settle under one rule, the codes are equal exactly where their generations at the onset are one object.
 pub fn codes_tell_objects()
     ensures { (R : Rule) (G J : Generation) (b c onset period onset2 period2 : ℕ) (d e : Cell) → Settles R G b onset period d →
         Settles R J c onset2 period2 e →
         (code_of R (generation R G onset) period d ≡ code_of R (generation R J onset2) period2 e)
         ↔ AreOneObject R (generation R G onset) (generation R J onset2) }
+{}
+
+/// Objects are counted by their codes the same in whatever order these come, each once in all.
+pub fn counts_know_no_order()
+    ensures order { (codes others : List (List ℕ)) → IsPermutation codes others → counted_codes codes ≡ counted_codes others }
+    ensures all { (codes : List (List ℕ)) → objects_in (counted_codes codes) ≡ length codes }
 {}

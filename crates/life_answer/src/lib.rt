@@ -5,3 +5,6 @@
 pub mod code;
 pub mod finding;
 pub mod laws;
+pub mod part;
+pub mod parts;
+pub mod question;

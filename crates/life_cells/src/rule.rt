@@ -17,7 +17,7 @@ use thiserror::Error;
 /// never among the births.
 ///
 /// The notation is that of LifeWiki's article on rulestrings and of Golly's help on Life-like rules.
-#[derive(Clone, Copy, Debug, PartialEq, Eq)]
+#[derive(Clone, Copy, Debug, PartialEq, Eq, Hash)]
 pub struct Rule {
     birth: u16,
     survival: u16,

@@ -8,6 +8,7 @@ use census_crew::fault::RunFault;
 use census_crew::gate::OpenGate;
 use census_crew::run::run;
 use census_crew::settling::settle;
+use life_answer::question::Question;
 use std::alloc::Global;
 use std::io;
 use std::io::{ErrorKind, Read, Write};
@@ -75,7 +76,15 @@ fn fills_its_room<R: Threads + Wait + Abort + Sync>(
     room: usize,
 ) {
     let mut out = Watched::new(FailingWriter::after(alloc, room));
-    let answer = run(rt, alloc, bundle, 50, 2, &OpenGate, &mut out);
+    let answer = run(
+        rt,
+        alloc,
+        bundle,
+        Question::Settles { bound: 50 },
+        2,
+        &OpenGate,
+        &mut out,
+    );
     assert_eq!(rt; answer, Err(RunFault::Write), "after {room} bytes");
     assert!(rt; out.failed());
     let written = out.into_inner().written;
@@ -96,7 +105,15 @@ fn a_writer_that_fails_has_taken_the_front_of_the_report(rt: HostRuntime) -> Res
 fn a_writer_that_fails_after_30_bytes_holds_30(rt: HostRuntime) -> Result<(), Fail> {
     let mut reader = Watched::new(DEMO);
     let mut out = Watched::new(FailingWriter::after(rt.alloc(), 30));
-    let answer = run_bytes(&rt, rt.alloc(), &mut reader, 50, 2, &OpenGate, &mut out);
+    let answer = run_bytes(
+        &rt,
+        rt.alloc(),
+        &mut reader,
+        Question::Settles { bound: 50 },
+        2,
+        &OpenGate,
+        &mut out,
+    );
     assert_eq!(rt; answer, Err(BytesFault::Write));
     assert_eq!(rt;
         out.into_inner().written.as_slice(),
@@ -110,7 +127,13 @@ fn settling_ends_where_its_writer_fails(rt: HostRuntime) -> Result<(), Fail> {
     let bundle = two_folders(rt.alloc())?;
     for room in 0..TWO_FOLDERS_REPORT.len() {
         let mut out = Watched::new(FailingWriter::after(rt.alloc(), room));
-        let answer = settle(rt.alloc(), &bundle, 10, Vec::new(rt.alloc()), &mut out);
+        let answer = settle(
+            rt.alloc(),
+            &bundle,
+            Question::Settles { bound: 10 },
+            Vec::new(rt.alloc()),
+            &mut out,
+        );
         assert_eq!(rt; answer, Err(RunFault::Write), "after {room} bytes");
         assert!(rt; out.into_inner().written.as_slice() == &TWO_FOLDERS_REPORT[..room]);
     }
@@ -125,7 +148,15 @@ fn a_writer_of_single_bytes_takes_the_whole_report(rt: HostRuntime) -> Result<()
         room: usize::MAX,
         at_once: 1,
     });
-    let tally = run(&rt, rt.alloc(), &bundle, 50, 2, &OpenGate, &mut out)?;
+    let tally = run(
+        &rt,
+        rt.alloc(),
+        &bundle,
+        Question::Settles { bound: 50 },
+        2,
+        &OpenGate,
+        &mut out,
+    )?;
     assert_eq!(rt; tally, demo_tally(0));
     assert!(rt; !out.failed());
     assert!(rt; out.into_inner().written.as_slice() == DEMO_REPORT);
@@ -137,7 +168,15 @@ fn nothing_is_written_where_the_reader_fails(rt: HostRuntime) {
     for k in 0..DEMO.len() {
         let mut reader = Watched::new(FailingReader { left: &DEMO[..k] });
         let mut out = Watched::new(Vec::new(rt.alloc()));
-        let answer = run_bytes(&rt, rt.alloc(), &mut reader, 50, 2, &OpenGate, &mut out);
+        let answer = run_bytes(
+            &rt,
+            rt.alloc(),
+            &mut reader,
+            Question::Settles { bound: 50 },
+            2,
+            &OpenGate,
+            &mut out,
+        );
         assert_eq!(rt; answer, Err(BytesFault::Read), "after {k} bytes");
         assert!(rt; reader.failed());
         assert!(rt; !out.failed());
@@ -149,7 +188,15 @@ fn nothing_is_written_where_the_reader_fails(rt: HostRuntime) {
 fn a_reader_without_end_is_too_long(rt: HostRuntime) {
     let mut reader = Watched::new(io::repeat(b'@'));
     let mut out = Watched::new(Vec::new(rt.alloc()));
-    let answer = run_bytes(&rt, rt.alloc(), &mut reader, 50, 2, &OpenGate, &mut out);
+    let answer = run_bytes(
+        &rt,
+        rt.alloc(),
+        &mut reader,
+        Question::Settles { bound: 50 },
+        2,
+        &OpenGate,
+        &mut out,
+    );
     assert_eq!(rt; answer, Err(BytesFault::TooLong));
     assert!(rt; !reader.failed());
     assert!(rt; out.into_inner().is_empty());

@@ -4,6 +4,7 @@ use crate::bundles::DEMO;
 use census_bundle::fault::BundleFault;
 use census_crew::bytes::{BytesFault, run_bytes};
 use census_crew::gate::OpenGate;
+use life_answer::question::Question;
 use std::test::Fail;
 use watched::watched::Watched;
 
@@ -37,7 +38,15 @@ fn every_front_of_a_bundle_text_is_reported_or_refused(rt: HostRuntime) {
     for len in 0..=DEMO.len() {
         let mut reader = Watched::new(&DEMO[..len]);
         let mut out = Watched::new(Vec::new(rt.alloc()));
-        let answer = run_bytes(&rt, rt.alloc(), &mut reader, 50, 2, &OpenGate, &mut out);
+        let answer = run_bytes(
+            &rt,
+            rt.alloc(),
+            &mut reader,
+            Question::Settles { bound: 50 },
+            2,
+            &OpenGate,
+            &mut out,
+        );
         let written = out.into_inner();
         match end_of_front(len) {
             Ok(end) => {

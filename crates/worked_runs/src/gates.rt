@@ -6,6 +6,7 @@ use census_bundle::ticket::Ticket;
 use census_crew::gate::{Gate, OpenGate};
 use census_crew::run::{run, run_on};
 use census_feed::handles::Feed;
+use life_answer::question::Question;
 use std::sync::atomic::{AtomicU64, Ordering};
 use std::test::Fail;
 use watched::watched::Watched;
@@ -74,7 +75,15 @@ fn one_worker_waits_for_another(rt: HostRuntime) -> Result<(), Fail> {
         gave_up: AtomicU64::new(0),
     };
     let mut out = Watched::new(Vec::new(rt.alloc()));
-    let tally = run(&rt, rt.alloc(), &bundle, 50, 2, &gate, &mut out)?;
+    let tally = run(
+        &rt,
+        rt.alloc(),
+        &bundle,
+        Question::Settles { bound: 50 },
+        2,
+        &gate,
+        &mut out,
+    )?;
     assert_eq!(rt; tally, demo_tally(0));
     assert_eq!(rt; gate.gave_up.load(Ordering::SeqCst), 0);
     assert!(rt; out.into_inner().as_slice() == DEMO_REPORT);
@@ -86,7 +95,15 @@ fn five_workers_meet_at_the_gate(rt: HostRuntime) -> Result<(), Fail> {
     let bundle = read_bundle(rt.alloc(), DEMO)?;
     let gate = Crowd::of(5);
     let mut out = Watched::new(Vec::new(rt.alloc()));
-    let tally = run(&rt, rt.alloc(), &bundle, 50, 5, &gate, &mut out)?;
+    let tally = run(
+        &rt,
+        rt.alloc(),
+        &bundle,
+        Question::Settles { bound: 50 },
+        5,
+        &gate,
+        &mut out,
+    )?;
     assert_eq!(rt; tally, demo_tally(0));
     assert_eq!(rt; gate.gave_up.load(Ordering::SeqCst), 0);
     assert_eq!(rt; gate.entered.load(Ordering::SeqCst), 5);
@@ -100,7 +117,15 @@ fn as_many_workers_as_were_asked_for_meet_at_the_gate(rt: HostRuntime) -> Result
     for workers in 1..17 {
         let gate = Crowd::of(u64::from(workers));
         let mut out = Watched::new(Vec::new(rt.alloc()));
-        let tally = run(&rt, rt.alloc(), &bundle, 2, workers, &gate, &mut out)?;
+        let tally = run(
+            &rt,
+            rt.alloc(),
+            &bundle,
+            Question::Settles { bound: 2 },
+            workers,
+            &gate,
+            &mut out,
+        )?;
         assert_eq!(rt; tally.resolved, 16);
         assert_eq!(rt; tally.caught_up, 0);
         assert_eq!(rt; gate.gave_up.load(Ordering::SeqCst), 0, "{workers} workers");
@@ -123,7 +148,7 @@ fn tickets_of_hands_that_took_all_are_worked_by_the_caller(rt: HostRuntime) -> R
         &rt,
         rt.alloc(),
         &bundle,
-        50,
+        Question::Settles { bound: 50 },
         feed,
         hands,
         &OpenGate,

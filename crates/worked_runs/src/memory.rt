@@ -15,6 +15,7 @@ use census_crew::gate::OpenGate;
 use census_crew::run::{run, run_on};
 use census_crew::settling::settle;
 use census_feed::handles::Feed;
+use life_answer::question::Question;
 use std::alloc::{AllocError, Global};
 use std::process::Abort;
 use std::sync::Wait;
@@ -43,7 +44,16 @@ fn run_is_whole<R: Threads + Wait + Abort + Sync>(
     requires { (1 ≤ workers) × (workers ≤ 16) }
 {
     let mut out = Watched::new(Vec::with_capacity(alloc, DEMO_REPORT.len())?);
-    let fault = run(rt, alloc, bundle, 50, workers, &OpenGate, &mut out).err();
+    let fault = run(
+        rt,
+        alloc,
+        bundle,
+        Question::Settles { bound: 50 },
+        workers,
+        &OpenGate,
+        &mut out,
+    )
+    .err();
     assert!(rt; fault.is_none() || fault == Some(RunFault::Memory));
     Ok(check(rt, fault.is_none(), out, DEMO_REPORT))
 }
@@ -56,7 +66,17 @@ fn fed_run_is_whole<R: Threads + Wait + Abort + Sync>(
 ) -> Result<bool, AllocError> {
     let mut out = Watched::new(Vec::with_capacity(alloc, DEMO_REPORT.len())?);
     let (feed, hands) = Feed::fill(alloc, bundle, 2)?;
-    let fault = run_on(rt, alloc, bundle, 50, feed, hands, &OpenGate, &mut out).err();
+    let fault = run_on(
+        rt,
+        alloc,
+        bundle,
+        Question::Settles { bound: 50 },
+        feed,
+        hands,
+        &OpenGate,
+        &mut out,
+    )
+    .err();
     assert!(rt; fault.is_none() || fault == Some(RunFault::Memory));
     Ok(check(rt, fault.is_none(), out, DEMO_REPORT))
 }
@@ -71,7 +91,16 @@ fn text_run_is_whole<R: Threads + Wait + Abort + Sync>(
 {
     let mut reader = Watched::new(DEMO);
     let mut out = Watched::new(Vec::with_capacity(alloc, DEMO_REPORT.len())?);
-    let fault = run_bytes(rt, alloc, &mut reader, 50, workers, &OpenGate, &mut out).err();
+    let fault = run_bytes(
+        rt,
+        alloc,
+        &mut reader,
+        Question::Settles { bound: 50 },
+        workers,
+        &OpenGate,
+        &mut out,
+    )
+    .err();
     assert!(rt; fault.is_none() || fault == Some(BytesFault::Memory));
     Ok(check(rt, fault.is_none(), out, DEMO_REPORT))
 }
@@ -93,7 +122,7 @@ fn results_of<'a>(
                 folder: 1,
                 number: pair.0,
             };
-            results.push(Done::work(alloc, ticket, entry, 10)?)?;
+            results.push(Done::work(alloc, ticket, entry, Question::Settles { bound: 10 })?)?;
         }
     }
     Ok(results)
@@ -103,7 +132,14 @@ fn results_of<'a>(
 fn settling_is_whole<R: Abort>(rt: &R, alloc: Global, bundle: &Bundle) -> Result<bool, AllocError> {
     let arrivals = results_of(alloc, bundle, &[(3, 3), (1, 1), (1, 1), (4, 1), (2, 1)])?;
     let mut out = Watched::new(Vec::with_capacity(alloc, TWO_FOLDERS_REPORT.len())?);
-    let fault = settle(alloc, bundle, 10, arrivals, &mut out).err();
+    let fault = settle(
+        alloc,
+        bundle,
+        Question::Settles { bound: 10 },
+        arrivals,
+        &mut out,
+    )
+    .err();
     assert!(rt; fault.is_none() || fault == Some(RunFault::Memory));
     Ok(check(rt, fault.is_none(), out, TWO_FOLDERS_REPORT))
 }

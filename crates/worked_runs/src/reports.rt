@@ -9,6 +9,7 @@ use census_bundle::bundle::{AddFault, Bundle};
 use census_bundle::reading::read_bundle;
 use census_bundle::ticket::Ticket;
 use life_answer::finding::Answer;
+use life_answer::question::Question;
 use std::alloc::Global;
 use std::test::Fail;
 
@@ -31,7 +32,7 @@ fn offered<'a>(
     requires { (1 ≤ bound) × (bound ≤ 1000000) }
 {
     let entry = bundle.entry(place)?;
-    let done = Done::work(alloc, ticket, entry, bound).ok()?;
+    let done = Done::work(alloc, ticket, entry, Question::Settles { bound }).ok()?;
     match collector.offer(done) {
         Ok(offer) => Some(offer),
         Err(refused) => collector.offer(refused.done).ok(),
@@ -42,7 +43,7 @@ fn offered<'a>(
 fn reports(alloc: Global, bundle: &Bundle, bound: u32, report: &[u8]) -> Option<bool>
     requires { (1 ≤ bound) × (bound ≤ 1000000) }
 {
-    let mut collector = Collector::new(alloc, bundle, bound).ok()?;
+    let mut collector = Collector::new(alloc, bundle, Question::Settles { bound }).ok()?;
     for _ in 0..10 {
         if let Some(least) = collector.missing() {
             offered(alloc, &mut collector, bundle, least, least, bound)?;
@@ -123,9 +124,14 @@ end 1 2
 fn work_keeps_what_it_was_given(rt: HostRuntime) -> Result<(), Fail> {
     let bundle = folder_of(rt.alloc(), b"w", &[(b"a", b"")])?;
     if let Some(entry) = bundle.entry(ticket(1, 1)) {
-        let done = Done::work(rt.alloc(), ticket(2, 7), entry, 5)?;
+        let done = Done::work(
+            rt.alloc(),
+            ticket(2, 7),
+            entry,
+            Question::Settles { bound: 5 },
+        )?;
         assert_eq!(rt; done.ticket(), ticket(2, 7));
-        assert_eq!(rt; done.bound(), 5);
+        assert_eq!(rt; done.question(), Question::Settles { bound: 5 });
         assert_eq!(rt; done.entry().name.as_slice(), b"a".as_slice());
         assert!(rt; matches!(done.answer(), Answer::Refused(1)));
     }

@@ -28,4 +28,4 @@ loop-i-preserved c =
     let e = entry_here es i lt in
     let is = c.answer.ensures ∙ result_answer _ _ c.args.c (i + 1) c.args.folder.now e.0 _ c.get-done.ensures c.requires.at (numbered_next es i e.0 e.1) in
     ap (map (λ a. a.now)) c.in_ok-push.ensures.items ∙ map-append (λ a. a.now) c.loop-i.found.items (c.answer.result ∷ [])
-    ∙ ap (λ xs. xs ++ c.answer.result.now ∷ []) c.loop-i.invariant ∙ ap (λ a. answers c.args.arrival.now.bound (take i es) ++ a ∷ []) is ∙ sym (answers_more c.args.arrival.now.bound i es e.0 e.1)
+    ∙ ap (λ xs. xs ++ c.answer.result.now ∷ []) c.loop-i.invariant ∙ ap (λ a. answers c.args.arrival.now.question (take i es) ++ a ∷ []) is ∙ sym (answers_more c.args.arrival.now.question i es e.0 e.1)

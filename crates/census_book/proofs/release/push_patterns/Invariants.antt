@@ -4,5 +4,5 @@ use Rattle.census_book.proofs.release.push_patterns.Given as goal
 
 abbrev pub invariant-loop-i : goal.invariant-loop-i
 invariant-loop-i l =
-    l.text.items ++ text_of (take (l.m - l.i) (drop l.i (pattern_lines l.arrival.bound l.c 1 l.folder.entries)))
-    ≡ l.fn.text.items ++ text_of (take (l.m - l.k) (drop l.k (pattern_lines l.arrival.bound l.c 1 l.folder.entries)))
+    l.text.items ++ text_of (take (l.m - l.i) (drop l.i (pattern_lines l.arrival.question l.c 1 l.folder.entries)))
+    ≡ l.fn.text.items ++ text_of (take (l.m - l.k) (drop l.k (pattern_lines l.arrival.question l.c 1 l.folder.entries)))

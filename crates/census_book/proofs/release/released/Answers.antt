@@ -51,16 +51,16 @@ returns c =
     let m : c.run_count-m.result ≡ run_of (with_ticket taken t) t.folder f = rw (c.new-arrival.ensures, own) at c.run_count-m.ensures.run in
     let come : (g : Folder) → numbered b t.folder ≡ Some g → c.run_count-m.result ≡ run_of (with_ticket taken t) t.folder g = λ g is. m ∙ ap (run_of (with_ticket taken t) t.folder) (same_folder _ f g at is) in
     let next : IsNextOpen b runs t.folder c.run_count-m.result c.args.front.now.first_open c.next_open-first_open.result = rw (folders, c.deref.ensures.value, own) at c.next_open-first_open.ensures in
-    let front = front_after b c.args.results.now.bound taken runs c.args.front.now.first_open c.next_open-first_open.result t c.run_count-m.result _ _ c.requires.front c.requires.belongs c.requires.new come next in
-    let lines : c.push_folder.new.text.items ≡ [] ++ text_of (folder_out c.args.results.now.bound t.folder f c.index.result.now c.run_count-m.result) = rw (c.clear.ensures.items, c.new-arrival.ensures, own) at c.in_ok-push_folder.ensures in
+    let front = front_after b c.args.results.now.question taken runs c.args.front.now.first_open c.next_open-first_open.result t c.run_count-m.result _ _ c.requires.front c.requires.belongs c.requires.new come next in
+    let lines : c.push_folder.new.text.items ≡ [] ++ text_of (folder_out c.args.results.now.question t.folder f c.index.result.now c.run_count-m.result) = rw (c.clear.ensures.items, c.new-arrival.ensures, own) at c.in_ok-push_folder.ensures in
     record {
       released =
           elim c.if-first_open-folders.branch [
             | then-first_open-folders+in_ok-push_end w ↦
-                released_text b c.args.results.now.bound taken t f c.index.result.now c.run_count-m.result _ (end_line b) at k m (end_when b _ _ _ front (w.if-first_open-folders.true ∙ ap length folders))
+                released_text b c.args.results.now.question taken t f c.index.result.now c.run_count-m.result _ (end_line b) at k m (end_when b _ _ _ front (w.if-first_open-folders.true ∙ ap length folders))
                 (ap (λ v. v.items) w.text-is ∙ w.in_ok-push_end.ensures ∙ ap (λ fs. c.push_folder.new.text.items ++ end_line fs) folders ∙ ap (λ x. x ++ end_line b) lines)
             | else-first_open-folders w ↦
-                released_text b c.args.results.now.bound taken t f c.index.result.now c.run_count-m.result _ [] at k m (no_end_when b _ _ _ front (λ e. w.if-first_open-folders.false (e ∙ sym (ap length folders))))
+                released_text b c.args.results.now.question taken t f c.index.result.now c.run_count-m.result _ [] at k m (no_end_when b _ _ _ front (λ e. w.if-first_open-folders.false (e ∙ sym (ap length folders))))
                 (ap (λ v. v.items) w.text-is ∙ lines ∙ sym (append-nil _))
           ];
       come_to = come;

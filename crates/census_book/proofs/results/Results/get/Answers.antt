@@ -10,7 +10,7 @@ use Rattle.census_book.proofs.results.Results.get.Goals as goal
 pub returns-clause-found : goal.returns-clause-found
 returns-clause-found c =
     IfSome_then c.get.result c.get.ensures.some (λ d at.
-    subst (λ (r : Taken). IsResult r.bundle r.bound c.args.ticket d.now) c.self.view_is (c.self.invariant.results c.args.ticket d.now at))
+    subst (λ (r : Taken). IsResult r.bundle r.question c.args.ticket d.now) c.self.view_is (c.self.invariant.results c.args.ticket d.now at))
 
 pub returns-clause-missing : goal.returns-clause-missing
 returns-clause-missing c =

@@ -7,9 +7,9 @@ use Rattle.census_book.proofs.results.Results.new.Goals as goal
 pub invariant_of-result : goal.invariant_of-result
 invariant_of-result c =
     let empty = c.in_ok-slots.ensures ∙ ap empty_slots c.folders.ensures.value in
-    subst (λ rows. KeepsResults c.args.bundle.now c.args.bound rows) (sym empty) (keeps_empty c.args.bundle.now c.args.bound)
+    subst (λ rows. KeepsResults c.args.bundle.now c.args.question rows) (sym empty) (keeps_empty c.args.bundle.now c.args.question)
 
 pub returns : goal.returns
 returns c =
     let empty = c.in_ok-slots.ensures ∙ ap empty_slots c.folders.ensures.value in
-    ap (taken_of c.args.bundle.now c.args.bound) (ap taken_in empty ∙ taken_empty c.args.bundle.now)
+    ap (taken_of c.args.bundle.now c.args.question) (ap taken_in empty ∙ taken_empty c.args.bundle.now)

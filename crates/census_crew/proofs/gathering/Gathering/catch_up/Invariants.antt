@@ -10,7 +10,7 @@ invariant-loop-ticket g l = record {
   sound : has_failed l.out ≡ false;
   sent : l.self.collector.unsent ≡ [];
   bundle : l.self.bundle.now ≡ l.fn.self.bundle.now;
-  bound : l.self.bound ≡ l.fn.self.bound;
+  question : l.self.question ≡ l.fn.self.question;
   strangers : l.self.tally.strangers ≡ l.fn.self.tally.strangers;
 }
 

@@ -10,4 +10,4 @@ invariant-loop g l =
     × StaysInStep (g.W.Write.contents (inner_of l.fn.out)) l.fn.self.collector (g.W.Write.contents (inner_of l.out)) l.self.collector
     × (has_failed l.out ≡ false)
     × (l.self.bundle.now ≡ l.fn.self.bundle.now)
-    × (l.self.bound ≡ l.fn.self.bound)
+    × (l.self.question ≡ l.fn.self.question)

@@ -14,9 +14,9 @@ loop-done-preserved g c =
       sound = c.in-Ok.ensures.failed;
       sent = c.in-Ok.ensures.sent at.sent;
       bundle = c.in-Ok.ensures.same.0 ∙ at.bundle;
-      bound = c.in-Ok.ensures.same.1 ∙ at.bound;
+      question = c.in-Ok.ensures.same.1 ∙ at.question;
       small = at.small;
-      counted = counted_more _ _ _ _ _ _ _ _ _ _ at.bundle at.bound c.in-Some.ensures.steps.0 at.small at.counted c.in-Ok.ensures.strangers;
+      counted = counted_more _ _ _ _ _ _ _ _ _ _ at.bundle at.question c.in-Some.ensures.steps.0 at.small at.counted c.in-Ok.ensures.strangers;
     }
 
 pub returns-clause-strangers : goal.returns-clause-strangers

@@ -12,7 +12,7 @@ invariant-loop-done g l = record {
   sound : has_failed l.out ≡ false;
   sent : l.self.collector.unsent ≡ [];
   bundle : l.self.bundle.now ≡ l.fn.self.bundle.now;
-  bound : l.self.bound ≡ l.fn.self.bound;
+  question : l.self.question ≡ l.fn.self.question;
   small : length (into_iter_items l.initial.done-iterator) < 2 ^ 64;
-  counted : CountedBefore l.fn.self.bundle.now l.fn.self.bound (into_iter_items l.initial.done-iterator) (into_iter_items l.done-iterator) l.self.tally.strangers;
+  counted : CountedBefore l.fn.self.bundle.now l.fn.self.question (into_iter_items l.initial.done-iterator) (into_iter_items l.done-iterator) l.self.tally.strangers;
 }

@@ -6,5 +6,5 @@ pub loop-done-preserved : goal.loop-done-preserved
 loop-done-preserved c = record {
   step = λ written. stays_trans _ _ _ _ _ _ (c.loop-done.invariant.step written) (c.take.ensures.step written);
   bundle = c.take.ensures.same.0 ∙ c.loop-done.invariant.bundle;
-  bound = c.take.ensures.same.1 ∙ c.loop-done.invariant.bound;
+  question = c.take.ensures.same.1 ∙ c.loop-done.invariant.question;
 }

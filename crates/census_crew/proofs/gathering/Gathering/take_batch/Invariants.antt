@@ -6,5 +6,5 @@ abbrev pub invariant-loop-done : goal.invariant-loop-done
 invariant-loop-done l = record {
   step : (written : Option (List ℕ)) → StaysInStep written l.fn.self.collector written l.self.collector;
   bundle : l.self.bundle.now ≡ l.fn.self.bundle.now;
-  bound : l.self.bound ≡ l.fn.self.bound;
+  question : l.self.question ≡ l.fn.self.question;
 }

@@ -1,0 +1,34 @@
+-- The parts of a pattern that has fallen apart, counted by their codes.
+use Rattle.std.specs.Prelude.{ℕ, ◌+◌, List, [], ◌∷◌, fold}
+use Rattle.std.specs.declared.cmp.Ordering.{Ordering}
+use Rattle.std.specs.declared.cmp.Ordering.TheVariants.{Less, Equal, Greater}
+use Rattle.life_shape.specs.TextOrder.{shorter_cmp}
+use Rattle.life_answer.specs.declared.part.Part.{Part}
+
+-- how many objects they are in all
+abbrev pub objects_in : List Part → ℕ
+objects_in [] = 0
+objects_in (part ∷ parts) = part.count + objects_in parts
+
+-- one object with this code
+abbrev pub single : List ℕ → Part
+single code = record { code = code; count = 1 }
+
+-- one more object with the same code
+abbrev pub more : Part → Part
+more part = record { code = part.code; count = part.count + 1 }
+
+-- a code that is less than, equal to, or greater than that of a part, counted among this part and others
+abbrev pub beside : Ordering → List ℕ → Part → List Part → List Part → List Part
+beside Less code part parts rest = single code ∷ part ∷ parts
+beside Equal code part parts rest = more part ∷ parts
+beside Greater code part parts rest = part ∷ rest
+
+-- one more object with this code, counted among parts in the order of their codes, by length and then by bytes
+abbrev pub with_code : List ℕ → List Part → List Part
+with_code code [] = single code ∷ []
+with_code code (part ∷ parts) = beside (shorter_cmp code part.code) code part parts (with_code code parts)
+
+-- objects with these codes, counted: for each code one part, in the order of codes, by length and then by bytes
+abbrev pub counted_codes : List (List ℕ) → List Part
+counted_codes codes = fold (λ parts code. with_code code parts) [] codes

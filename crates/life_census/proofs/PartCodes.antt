@@ -1,0 +1,54 @@
+-- The codes of the parts of ash, whatever finds them.
+use Rattle.std.proofs.Common.{◌≡◌, ◌≢◌, ℕ, ◌+◌, ◌<◌, ◌≤◌, List, [], ◌∷◌, length, map, take, get_or}
+use Rattle.std.proofs.Common.{sym, ap, subst, ◌∙◌, arith}
+use Rattle.std.proofs.lemmas.List.{map_more}
+use Rattle.std.proofs.lemmas.List.Sums.{fold-append}
+use Rattle.life_model.specs.Cell.{Cell}
+use Rattle.life_model.specs.Generation.{empty}
+use Rattle.life_model.specs.Evolution.{generation}
+use Rattle.life_model.specs.Recurrence.{RecursBy, Settles}
+use Rattle.life_model.specs.Symmetry.{moved}
+use Rattle.life_model.proofs.Recurrences.{generation-zero}
+use Rattle.life_answer.specs.Apgcode.{code_of}
+use Rattle.life_answer.specs.Parts.{counted_codes, with_code}
+use Rattle.life_answer.proofs.Findings.{finding-settled}
+use Rattle.life_orbit.specs.Course.{Course, IsCourse}
+use Rattle.life_census.specs.Census.{code_found, course_code, part_code}
+
+-- ---- one after another
+
+pub counted_more : (os : List Course) (n : ℕ) (d : Course) → n < length os →
+    with_code (course_code (get_or os n d)) (counted_codes (map course_code (take n os)))
+    ≡ counted_codes (map course_code (take (n + 1) os))
+counted_more os n d below =
+    sym (fold-append (λ ps c. with_code c ps) [] (map course_code (take n os)) (course_code (get_or os n d) ∷ []))
+    ∙ ap counted_codes (sym (map_more course_code os n d below))
+
+-- ---- a set that recurs so, alone
+
+module _ (o : Course) (b : ℕ) (course : IsCourse o) (within : o.period ≤ b) (some : o.set ≢ empty) where
+  start : generation o.rule o.set 0 ≡ o.set
+  start = generation-zero o.rule o.set
+
+  at_start : (n : ℕ) (d : Cell) → RecursBy o.rule (generation o.rule o.set 0) n d → RecursBy o.rule o.set n d
+  at_start n d = subst (λ G. RecursBy o.rule G n d) start
+
+  settles : Settles o.rule o.set b 0 o.period o.displacement
+  settles = record {
+    settles = record {
+      steps = o.period;
+      by = o.displacement;
+      later = course.recurs.later;
+      within = let whole : 0 + o.period ≤ b = omega arith in whole;
+      again = ap (generation o.rule o.set) (let e : 0 + o.period ≡ o.period = omega arith in e) ∙ course.recurs.again ∙ ap (λ G. moved G o.displacement) (sym start);
+    };
+    first = λ g s. omega arith;
+    recurs = subst (λ G. RecursBy o.rule G o.period o.displacement) (sym start) course.recurs;
+    least = λ n d r. course.least n d (at_start n d r);
+    unmoved = λ gone. absurd (some (sym start ∙ gone));
+  }
+
+  pub code_alone : part_code o.rule b o.set ≡ course_code o
+  code_alone =
+      ap code_found (finding-settled o.rule o.set b 0 o.period o.displacement settles)
+      ∙ ap (λ G. code_of o.rule G o.period o.displacement) start

@@ -1,0 +1,5 @@
+//! The census of a pattern: the objects that it falls apart into, counted by their codes.
+#![tactic(auto)]
+
+pub mod code;
+pub mod parts;
