@@ -1,8 +1,6 @@
 -- Which fault the fault of a part is, and at which word folders are not read.
-use Rattle.std.specs.Prelude.{◌≡◌, ◌≢◌, ◌⊎◌, ℕ, ◌≤◌, true, List, take, slice_get, Some, nat_le, MatchBool}
+use Rattle.std.specs.Prelude.{◌≡◌, ℕ, ◌≤◌, true, List, take, slice_get, Some, nat_le, MatchBool}
 use Rattle.std.specs.List.{All}
-use Rattle.std.specs.declared.io.ErrorKind.{ErrorKind}
-use Rattle.std.specs.declared.io.ErrorKind.TheVariants.{OutOfMemory}
 use Rattle.watched.specs.declared.reading.ReadFault.{ReadFault}
 use Rattle.watched.specs.declared.reading.ReadFault.TheVariants as reads
 use Rattle.census_bundle.specs.declared.bundle.AddFault.{AddFault}
@@ -20,10 +18,6 @@ abbrev pub fault_of_read : ReadFault → FoldersFault
 fault_of_read reads.Read = Read
 fault_of_read reads.TooLong = TooLong
 fault_of_read reads.Memory = Memory
-
--- an error of the system is want of memory, or a failure to read
-abbrev pub TellsError : ErrorKind → FoldersFault → Type 0
-TellsError kind fault = ((kind ≡ OutOfMemory) × (fault ≡ Memory)) ⊎ ((kind ≢ OutOfMemory) × (fault ≡ Read))
 
 -- A fault at a folder whose name is lawful and for which there is room: a file's name or number, a failure to list or
 -- read, or want of memory. There is a folder for each file.

@@ -1,12 +1,11 @@
 -- Folders of pattern files.
-use Rattle.std.specs.Prelude.{◌≡◌, ℕ, ◌<◌, ◌≤◌, Bool, true, List, [], ◌∷◌, ◌++◌, length, map, codes, nat_eq}
+use Rattle.std.specs.Prelude.{◌≡◌, ℕ, ◌≤◌, Bool, true, List, length, map, codes, nat_eq}
 use Rattle.std.specs.List.{All, ends_with}
 use Rattle.std.specs.List.Sorted.{IsSorted}
 use Rattle.std.specs.Cmp.Lexicographic.{slice_cmp}
 use Rattle.std.specs.Ordering.{nat_cmp}
 use Rattle.census_bundle.specs.declared.bundle.Entry.{Entry}
 use Rattle.census_bundle.specs.declared.bundle.Folder.{Folder}
-use Rattle.census_bundle.specs.Growing.{with_entry, last_entries}
 use Rattle.census_bundle.specs.Names.{is_name}
 use Rattle.census_bundle.specs.Sizes.{count_limit}
 
@@ -43,19 +42,3 @@ pub record HoldsFolders (words : List (List ℕ)) (b : List Folder) : Type 0 whe
   pub names : map (λ f. f.name) b ≡ words
   pub folders : All IsPatternFolder b
   pub few : length b ≤ count_limit
-
--- one more pattern file in the last folder, for which there was room
-pub record AddsFile (name : List ℕ) (old new : List Folder) : Type 0 where
-  pub file : Entry
-  pub named : file.name ≡ name
-  pub is_file : IsPatternFile file
-  pub room : length (last_entries old) < count_limit
-  pub added : new ≡ with_entry old file
-
--- one more folder of pattern files, for which there was room
-pub record AddsFolder (name : List ℕ) (old new : List Folder) : Type 0 where
-  pub folder : Folder
-  pub named : folder.name ≡ name
-  pub is_folder : IsPatternFolder folder
-  pub room : length old < count_limit
-  pub added : new ≡ old ++ folder ∷ []

@@ -1,2 +1,4 @@
+pub mod Told
 pub mod Faults
 pub mod Folders
+pub mod Shelves

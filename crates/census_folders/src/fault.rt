@@ -2,8 +2,6 @@
 
 use census_bundle::bundle::AddFault;
 use std::alloc::{AllocError, AllocFailed};
-use std::io;
-use std::io::ErrorKind;
 use thiserror::Error;
 use watched::reading::ReadFault;
 
@@ -72,21 +70,6 @@ impl From<ReadFault> for FoldersFault {
             ReadFault::Read => FoldersFault::Read,
             ReadFault::TooLong => FoldersFault::TooLong,
             ReadFault::Memory => FoldersFault::Memory,
-        }
-    }
-}
-
-impl From<io::Error> for FoldersFault {
-    ghost use Rattle.std.specs.IoError.{error_kind};
-    ghost use Rattle.census_folders.specs.Faults.{TellsError};
-
-    ghost from_gives = { λ error fault. TellsError (error_kind error) fault };
-
-    /// The system's own want of memory is want of memory.
-    fn from(error: io::Error) -> FoldersFault {
-        match error.kind() {
-            ErrorKind::OutOfMemory => FoldersFault::Memory,
-            _ => FoldersFault::Read,
         }
     }
 }

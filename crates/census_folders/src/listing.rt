@@ -1,38 +1,44 @@
 //! The pattern files that a folder lists.
-ghost use Rattle.std.specs.Prelude.{◌≡◌, true, map, string_bytes, IfErr, IfOk};
-ghost use Rattle.std.specs.List.{All};
-ghost use Rattle.census_folders.specs.Faults.{IsFolderFault};
-ghost use Rattle.census_folders.specs.Folders.{AreInOrder, is_pattern_name};
+ghost use Rattle.std.specs.Prelude.{◌≡◌, ◌∷◌, ◌<◌, [], length, map, IfOk, IfSome};
+ghost use Rattle.std.specs.List.{slice_split};
+ghost use Rattle.std.specs.Option.{option_map_or};
+ghost use Rattle.census_folders.specs.Folders.{is_pattern_name};
+ghost use Rattle.census_folders.specs.Shelves.{IsChosen, is_end};
 
-use crate::fault::FoldersFault;
-use std::alloc::Global;
-use std::fs;
-use std::rt::Files;
+use memchr::memchr;
+use std::alloc::{AllocError, Global};
 
 // Whether a name ends in `.rle`.
-fn is_pattern_name(name: &str) -> bool
+fn is_pattern_name(name: &[u8]) -> bool
     ensures { result ≡ is_pattern_name name.now }
 {
-    name.as_bytes().ends_with(b".rle")
+    name.ends_with(b".rle")
 }
 
-// The names in a folder that end in `.rle`, in the order of their bytes.
-pub fn pattern_names<R: Files + Alloc + Clone + Drop>(
-    rt: &R,
-    alloc: Global,
-    folder: &str,
-) -> Result<Vec<String>, FoldersFault>
-    ensures kind { IfOk result (λ names. All (λ name. is_pattern_name (string_bytes name) ≡ true) names.items) }
-    ensures order { IfOk result (λ names. AreInOrder (map (λ name. string_bytes name) names.items)) }
-    ensures fault { IfErr result IsFolderFault }
+// The name before the first byte 0, and what stands behind that byte.
+fn split_name(listing: &[u8]) -> (&[u8], Option<&[u8]>)
+    ensures parts { slice_split is_end listing.now
+        ≡ result.0.now ∷ option_map_or (λ rest. slice_split is_end rest.now) result.1 [] }
+    ensures shorter { IfSome result.1 (λ rest. length rest.now < length listing.now) }
+{
+    match memchr(0, listing) {
+        Some(at) => (&listing[..at], Some(&listing[at + 1..])),
+        None => (listing, None),
+    }
+}
+
+// Of names that a byte 0 parts, those that end in `.rle`, in the order of their bytes.
+pub fn pattern_names(alloc: Global, listing: &[u8]) -> Result<Vec<Vec<u8>>, AllocError>
+    ensures { IfOk result (λ names. IsChosen listing.now (map (λ name. name.items) names.items)) }
 {
     let mut names = Vec::new(alloc);
-    for entry in fs::read_dir(rt, folder)? {
-        let entry = entry?;
-        let name = entry.file_name();
+    let mut left = Some(listing);
+    while let Some(rest) = left {
+        let (name, behind) = split_name(rest);
         if is_pattern_name(name) {
-            names.push(String::from_str(alloc, name)?)?;
+            names.push(name.to_vec(alloc)?)?;
         }
+        left = behind;
     }
     names.sort()?;
     Ok(names)

@@ -1,28 +1,32 @@
 //! Reading folders of pattern files.
 ghost use Rattle.std.specs.Prelude.{length, map, MatchResult};
-ghost use Rattle.census_folders.specs.Faults.{StopsAtWord, StopsFolder};
-ghost use Rattle.census_folders.specs.Folders.{AddsFolder, HoldsFolders};
+ghost use Rattle.census_folders.specs.Faults.{StopsAtWord};
+ghost use Rattle.census_folders.specs.Folders.{HoldsFolders};
+ghost use Rattle.census_folders.specs.Shelves.{AddsFolderOf, HoldsShelf, StopsAtShelf, StopsFolderOf};
 
 use crate::fault::FoldersFault;
 use crate::files::add_file;
 use crate::listing::pattern_names;
+use crate::shelf::Shelf;
 use census_bundle::bundle::Bundle;
 use std::alloc::Global;
-use std::rt::Files;
 
 // Adds the folder of a word with its pattern files.
-fn add_folder<R: Files + Alloc + Clone + Drop>(
-    rt: &R,
+fn add_folder<S: Shelf>(
+    shelf: &S,
     alloc: Global,
     bundle: &mut Bundle,
     word: &str,
 ) -> Result<(), FoldersFault>
-    ensures { MatchResult result (λ _. AddsFolder word.now bundle.old bundle.new) (StopsFolder (length bundle.old) word.now) }
+    ensures { MatchResult result
+        (λ _. AddsFolderOf (S.listed shelf.now) (S.held shelf.now) word.now bundle.old bundle.new)
+        (StopsFolderOf (S.listed shelf.now) (S.held shelf.now) (length bundle.old) word.now) }
 {
     bundle.add_folder(word.as_bytes())?;
-    let names = pattern_names(rt, alloc, word)?;
+    let listing = shelf.list(alloc, word)?;
+    let names = pattern_names(alloc, listing.as_slice())?;
     for name in &names {
-        add_file(rt, alloc, bundle, word, name.as_str())?;
+        add_file(shelf, alloc, bundle, word, name.as_slice())?;
     }
     Ok(())
 }
@@ -32,18 +36,26 @@ fn add_folder<R: Files + Alloc + Clone + Drop>(
 ///
 /// The first failure decides. A word that isn't a lawful name is refused before its folder is listed, and so is word
 /// number 65,536; a folder is listed before its first file is read, and a file is read before its name or its number is
-/// refused. `Read` is answered where a folder can't be listed or a file can't be read, `TooLong` where a file has more
-/// than 67,108,864 bytes. What a folder lists and what its files hold is the system's word.
-pub fn read_folders<R: Files + Alloc + Clone + Drop>(
-    rt: &R,
+/// refused. `Read` is answered where a folder can't be listed or a file can't be read, as one that is no regular file,
+/// which is not opened. `TooLong` is answered where a file has more than 67,108,864 bytes, and `Memory` where a growth
+/// was refused.
+///
+/// What a folder lists and what its files hold is the shelf's word. Where it tells them, the entries are exactly the
+/// names that it lists, each with the bytes of that file of that folder, and a fault is one of those that it tells. A
+/// disk tells nothing.
+pub fn read_folders<S: Shelf>(
+    shelf: &S,
     alloc: Global,
     folders: &[&str],
 ) -> Result<Bundle, FoldersFault>
-    ensures { MatchResult result (HoldsFolders (map (λ s. s.now) folders.now)) (StopsAtWord (map (λ s. s.now) folders.now)) }
+    ensures folders { MatchResult result (HoldsFolders (map (λ s. s.now) folders.now)) (StopsAtWord (map (λ s. s.now) folders.now)) }
+    ensures told { MatchResult result
+        (HoldsShelf (S.listed shelf.now) (S.held shelf.now) (map (λ s. s.now) folders.now))
+        (StopsAtShelf (S.listed shelf.now) (S.held shelf.now) (map (λ s. s.now) folders.now)) }
 {
     let mut bundle = Bundle::empty(alloc);
     for word in folders {
-        add_folder(rt, alloc, &mut bundle, word)?;
+        add_folder(shelf, alloc, &mut bundle, word)?;
     }
     Ok(bundle)
 }

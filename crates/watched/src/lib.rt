@@ -2,9 +2,10 @@
 //!
 //! A `Watched` holds a reader or a writer and a flag. The flag is raised by the first call that fails, stays from then
 //! on, and no call reaches the reader or writer while it stands. So whoever holds a `Watched` can tell a failure of the
-//! reader or writer from every other cause of an error.
+//! reader or writer from every other cause of an error. A call that a signal interrupts has not failed: it is made again.
 #![tactic(auto)]
 
+mod interrupted;
 pub mod reading;
 pub mod watched;
 pub mod writing;

@@ -3,6 +3,7 @@ ghost use Rattle.std.specs.Prelude.{◌≡◌, ◌<◌, ◌≤◌, true, false, 
 ghost use Rattle.std.specs.Io.{ReadsAtMost};
 ghost use Rattle.std.specs.Io.KnownBytes.{Appends, Keeps, ReadConsumes};
 
+use crate::interrupted::{read_through, write_through};
 use std::io::{Read, Write};
 use thiserror::Error;
 
@@ -53,7 +54,7 @@ impl<R: Read> Watched<R> {
 
     /// Reads into the front of the buffer, by one call of the reader, and returns how many bytes came: from 0 to the
     /// buffer's length, 0 only at the reader's end. `Failed` is answered where the reader's call fails, or has failed
-    /// before. In the second case the reader is not called.
+    /// before. In the second case the reader is not called. A call that a signal interrupts is made again.
     pub fn get(&mut self, buffer: &mut [u8]) -> Result<usize, Failed>
         requires { 0 < length buffer.old }
         ensures failed { MatchResult result (λ _. has_failed self.new ≡ false) (λ _. has_failed self.new ≡ true) }
@@ -67,7 +68,7 @@ impl<R: Read> Watched<R> {
         if self.failed {
             return Err(Failed);
         }
-        match self.inner.read(buffer) {
+        match read_through(&mut self.inner, buffer) {
             Ok(count) => Ok(count),
             Err(_) => {
                 self.failed = true;
@@ -82,7 +83,7 @@ impl<W: Write> Watched<W> {
 
     /// Writes a front of the bytes, by one call of the writer, and returns how many bytes it took, at least 1. `Failed`
     /// is answered where the writer's call fails or takes nothing, or one has failed before, and then nothing was
-    /// written. In the last case the writer is not called.
+    /// written. In the last case the writer is not called. A call that a signal interrupts is made again.
     pub fn put(&mut self, bytes: &[u8]) -> Result<usize, Failed>
         requires { 0 < length bytes.now }
         ensures failed { MatchResult result (λ _. has_failed self.new ≡ false) (λ _. has_failed self.new ≡ true) }
@@ -96,7 +97,7 @@ impl<W: Write> Watched<W> {
         if self.failed {
             return Err(Failed);
         }
-        match self.inner.write(bytes) {
+        match write_through(&mut self.inner, bytes) {
             Ok(count) if count > 0 => Ok(count),
             Ok(_) | Err(_) => {
                 self.failed = true;

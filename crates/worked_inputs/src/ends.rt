@@ -58,7 +58,65 @@ impl Write for FailingWriter {
     }
 }
 
+/// Passes each second call on to what it holds, one byte at a time. A signal interrupts the others.
+#[derive(Drop)]
+struct Interrupted<T> {
+    inner: T,
+    next_passes: bool,
+}
+
+impl<T> Interrupted<T> {
+    // Whether this call is interrupted.
+    fn interrupt(&mut self) -> bool {
+        self.next_passes = !self.next_passes;
+        self.next_passes
+    }
+}
+
+impl<R: Read> Read for Interrupted<R> {
+    fn read(&mut self, buffer: &mut [u8]) -> io::Result<usize> {
+        if self.interrupt() {
+            return Err(io::Error::from(ErrorKind::Interrupted));
+        }
+        let most = buffer.len().min(1);
+        self.inner.read(&mut buffer[..most])
+    }
+}
+
+impl<W: Write> Write for Interrupted<W> {
+    fn write(&mut self, bytes: &[u8]) -> io::Result<usize> {
+        if self.interrupt() {
+            return Err(io::Error::from(ErrorKind::Interrupted));
+        }
+        let most = bytes.len().min(1);
+        self.inner.write(&bytes[..most])
+    }
+
+    fn flush(&mut self) -> io::Result<()> {
+        Ok(())
+    }
+}
+
 const TEXT: &[u8] = b"x = 3, y = 3";
+
+#[test]
+fn calls_that_a_signal_interrupts_are_made_again(rt: HostRuntime) -> Result<(), Fail> {
+    let mut reader = Watched::new(Interrupted {
+        inner: TEXT,
+        next_passes: false,
+    });
+    let bytes = read_all(rt.alloc(), &mut reader, 100)?;
+    assert_eq!(rt; bytes.as_slice(), TEXT);
+    assert!(rt; !reader.failed());
+    let mut writer = Watched::new(Interrupted {
+        inner: Vec::new(rt.alloc()),
+        next_passes: false,
+    });
+    assert_eq!(rt; put_all(&mut writer, TEXT), Ok(()));
+    assert!(rt; !writer.failed());
+    assert_eq!(rt; writer.into_inner().inner.as_slice(), TEXT);
+    Ok(())
+}
 
 #[test]
 fn as_many_bytes_as_the_limit_are_read(rt: HostRuntime) -> Result<(), Fail> {

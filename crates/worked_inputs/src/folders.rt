@@ -1,12 +1,15 @@
 //! Folders that are read: which of their files, in which order, and which are refused.
 
+use crate::memory::{Leaf, Memory};
 use crate::shelf::{Behind, Item, Shelf};
 use crate::shown::{Shown, check};
 use census_bundle::bundle::AddFault;
 use census_folders::fault::FoldersFault;
 use census_folders::reading::read_folders;
 use std::fs;
-use std::io::ErrorKind;
+use std::io::{ErrorKind, pipe};
+use std::os::unix::fs::symlink;
+use std::os::unix::io::AsRawFd;
 use std::test::Fail;
 
 /// Words, what lies on the shelf, and the folders that are read.
@@ -63,6 +66,18 @@ const EXAMPLES: &[Example] = &[
                 entries: &[(b"x.rle", b"3o!")],
             },
         ],
+    },
+    // Bytes that are no UTF-8, in names that don't end in `.rle`.
+    Example {
+        words: &["foreign"],
+        items: &[
+            ("foreign/", b"\xff\0a.rle\0\xc3.txt\0", Behind::End),
+            ("foreign/a.rle", b"3o!", Behind::End),
+        ],
+        shown: &[Shown {
+            name: b"foreign",
+            entries: &[(b"a.rle", b"3o!")],
+        }],
     },
     Example {
         words: &[],
@@ -135,7 +150,11 @@ const FAILING: &[Item<'static>] = &[
     ("badly/", b" a.rle\0", Behind::End),
     ("badly/ a.rle", b"3o!", Behind::End),
     ("lost badly/", b" a.rle\0", Behind::End),
-    ("foreign/", b"\xff\0", Behind::End),
+    ("foreign/", b"a.rle\0\xff.rle\0", Behind::End),
+    ("foreign/a.rle", b"3o!", Behind::End),
+    ("piped/", b"a.rle\0b.rle\0", Behind::End),
+    ("piped/a.rle", b"3o!", Behind::PipeWithoutEnd),
+    ("piped/b.rle", b"3o!", Behind::End),
     ("broken/", b"3o", Behind::Error(ErrorKind::ConnectionReset)),
     ("full/", b"3o", Behind::Error(ErrorKind::OutOfMemory)),
     ("long/", b"a.rle\0b.rle\0", Behind::End),
@@ -155,6 +174,7 @@ const CASES: &[(&[&str], FoldersFault)] = &[
     (&["badly", "missing"], FoldersFault::Add(AddFault::BadName)),
     (&["lost badly"], FoldersFault::Read),
     (&["foreign"], FoldersFault::Read),
+    (&["piped"], FoldersFault::Read),
     (&["broken"], FoldersFault::Read),
     (&["full"], FoldersFault::Memory),
     (&["long", ""], FoldersFault::TooLong),
@@ -177,6 +197,88 @@ fn the_first_failure_decides(rt: HostRuntime) {
             "{words:?}"
         );
     }
+}
+
+const OTHERS: &str = "worked_inputs_others";
+
+// Reads a folder of the system whose one file is a link.
+fn read_link(rt: &HostRuntime, original: &str) -> Result<Option<FoldersFault>, Fail> {
+    let _ = fs::remove_dir_all(rt, OTHERS);
+    fs::create_dir(rt, OTHERS)?;
+    symlink(rt, original, "worked_inputs_others/a.rle")?;
+    let fault = read_folders(rt, rt.alloc(), &[OTHERS]).err();
+    fs::remove_dir_all(rt, OTHERS)?;
+    Ok(fault)
+}
+
+// A device without an end, a folder, a pipe that nobody writes to, and nothing.
+#[test]
+fn what_is_no_regular_file_is_never_opened(rt: HostRuntime) -> Result<(), Fail> {
+    let (reader, _writer) = pipe(&rt)?;
+    let pipe = format!(in rt.alloc(); "/proc/self/fd/{}", reader.as_raw_fd())?;
+    for original in ["/dev/zero", "/dev", pipe.as_str(), "missing"] {
+        assert_eq!(rt;
+            read_link(&rt, original)?,
+            Some(FoldersFault::Read),
+            "{original}"
+        );
+    }
+    assert_eq!(rt; read_link(&rt, "/proc/self/cmdline")?, None);
+    Ok(())
+}
+
+// A regular file, or without a name a folder.
+fn leaf(folder: &'static str, name: &'static [u8], bytes: &'static [u8]) -> Leaf<'static> {
+    Leaf {
+        folder,
+        name,
+        bytes,
+        regular: true,
+    }
+}
+
+#[test]
+fn a_shelf_in_memory_is_read(rt: HostRuntime) -> Result<(), Fail> {
+    let leaves = [
+        leaf("t", b"", b"b.rle\0note.txt\0a.rle\0"),
+        leaf("t", b"a.rle", b"3o!"),
+        leaf("t", b"b.rle", b"2o$2o!"),
+        leaf("foreign", b"", b"\xff.rle\0"),
+        leaf("foreign", b"\xff.rle", b"3o!"),
+        leaf("lost", b"", b"a.rle\0"),
+        leaf("piped", b"", b"a.rle\0b.rle\0"),
+        leaf("piped", b"b.rle", b"3o!"),
+        Leaf {
+            folder: "piped",
+            name: b"a.rle",
+            bytes: b"3o!",
+            regular: false,
+        },
+    ];
+    let shelf = Memory { leaves: &leaves };
+    let shown = [
+        Shown {
+            name: b"t",
+            entries: &[(b"a.rle", b"3o!"), (b"b.rle", b"2o$2o!")],
+        },
+        Shown {
+            name: b"foreign",
+            entries: &[(b"\xff.rle", b"3o!")],
+        },
+    ];
+    check(
+        &rt,
+        &read_folders(&shelf, rt.alloc(), &["t", "foreign"])?,
+        &shown,
+    );
+    for words in [&["t", "missing"], &["t", "lost"], &["t", "piped"]] {
+        assert_eq!(rt;
+            read_folders(&shelf, rt.alloc(), words).err(),
+            Some(FoldersFault::Read),
+            "{words:?}"
+        );
+    }
+    Ok(())
 }
 
 #[test]

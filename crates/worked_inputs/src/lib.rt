@@ -6,6 +6,7 @@
 mod ends;
 #[cfg(test)]
 mod folders;
+pub mod memory;
 #[cfg(test)]
 mod refusals;
 #[cfg(test)]

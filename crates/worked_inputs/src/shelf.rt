@@ -13,6 +13,8 @@ pub enum Behind {
     End,
     Error(ErrorKind),
     BytesWithoutEnd,
+    /// The same, of what is no regular file.
+    PipeWithoutEnd,
 }
 
 /// A file, or a folder, whose path ends in a slash and whose bytes are its names, each ended by a byte 0: its path, its
@@ -55,7 +57,7 @@ impl<'a> Read for Opened<'a> {
         match self.behind {
             Behind::End => Ok(0),
             Behind::Error(kind) => Err(io::Error::from(kind)),
-            Behind::BytesWithoutEnd => {
+            Behind::BytesWithoutEnd | Behind::PipeWithoutEnd => {
                 buffer.fill(b'@');
                 Ok(buffer.len())
             }
@@ -124,8 +126,11 @@ impl<'a> Files for Shelf<'a> {
         self.open(path)
     }
 
-    fn metadata(&self, _path: &str) -> io::Result<Metadata> {
-        unsupported()
+    fn metadata(&self, path: &str) -> io::Result<Metadata> {
+        match self.open(path)?.behind {
+            Behind::PipeWithoutEnd => Ok(Metadata::of_symlink(0)),
+            _ => Ok(Metadata::of_file(0)),
+        }
     }
 
     fn symlink_metadata(&self, _path: &str) -> io::Result<Metadata> {

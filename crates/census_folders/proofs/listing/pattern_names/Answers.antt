@@ -1,20 +1,11 @@
-use Rattle.std.proofs.Common.{◌≡◌, true, sym, ◌∙◌, string_bytes}
+use Rattle.std.proofs.Common.{◌≡◌, ◌++◌, subst}
+use Rattle.std.specs.List.{filter}
 use Rattle.census_folders.specs.Folders.{is_pattern_name}
-use Rattle.census_folders.proofs.Listings.{named_on_push, named_on_sort, ordered_on_sort}
+use Rattle.census_folders.specs.Shelves.{patterns_in}
+use Rattle.census_folders.proofs.Listings.{all_names, bytes_of, left_names}
 use Rattle.census_folders.proofs.listing.pattern_names.Goals as goal
-use Rattle.census_folders.proofs.listing.pattern_names.Goals.{then-is_pattern_name+in_ok-from_str+in_ok-push, else-is_pattern_name}
 
-pub loop-entry-preserved : goal.loop-entry-preserved
-loop-entry-preserved g c =
-    elim c.if-is_pattern_name.branch [
-      | then-is_pattern_name+in_ok-from_str+in_ok-push w ↦
-          let named : is_pattern_name (string_bytes w.in_ok-from_str.field-0) ≡ true = rw w.in_ok-from_str.ensures.ok (sym c.is_pattern_name.ensures ∙ w.if-is_pattern_name.true) in
-          rw w.names-is (named_on_push _ w.push.new.self.items w.in_ok-from_str.field-0 c.loop-entry.invariant named w.in_ok-push.ensures.items)
-      | else-is_pattern_name w ↦ rw w.names-is c.loop-entry.invariant
-    ]
-
-pub returns-clause-kind : goal.returns-clause-kind
-returns-clause-kind g c = named_on_sort _ _ c.sort.ensures.permutation c.loop-entry.invariant
-
-pub returns-clause-order : goal.returns-clause-order
-returns-clause-order g c = ordered_on_sort _ c.in_ok-sort.ensures.sorted
+pub returns : goal.returns
+returns c =
+    let whole = subst (λ left. bytes_of c.loop-left.names.items ++ filter is_pattern_name (left_names left) ≡ patterns_in c.args.listing.now) c.in_default.is c.loop-left.invariant in
+    all_names _ _ _ whole c.sort.ensures.permutation c.in_ok-sort.ensures.sorted

@@ -1,0 +1,122 @@
+-- What a shelf tells of folders that were read, and why others were not.
+use Rattle.std.specs.Prelude.{◌≡◌, ◌⊎◌, ℕ, ◌<◌, ◌≤◌, [], ◌∷◌, ◌++◌, Bool, true, false, List, length, take, slice_get, Some, nat_eq, nat_le, MatchBool}
+use Rattle.std.specs.List.{All, filter, slice_split}
+use Rattle.std.specs.List.Sorted.{IsPermutation}
+use Rattle.census_bundle.specs.declared.bundle.AddFault.TheVariants as adds
+use Rattle.census_bundle.specs.declared.bundle.Entry.{Entry}
+use Rattle.census_bundle.specs.declared.bundle.Folder.{Folder}
+use Rattle.census_bundle.specs.Growing.{last_entries, with_entry}
+use Rattle.census_bundle.specs.Names.{is_name}
+use Rattle.census_bundle.specs.Sizes.{count_limit}
+use Rattle.census_folders.specs.declared.fault.FoldersFault.{FoldersFault}
+use Rattle.census_folders.specs.declared.fault.FoldersFault.TheVariants.{Add, Read, TooLong, Memory}
+use Rattle.census_folders.specs.Folders.{AreInOrder, HoldsFolders, IsPatternFile, IsPatternFolder, file_limit, is_pattern_name, names_of}
+use Rattle.census_folders.specs.Told.{Told, GivesTold, MayExceed, MayFail}
+
+-- # Which files
+
+-- the byte that ends a name
+abbrev pub is_end : ℕ → Bool
+is_end byte = nat_eq byte 0
+
+-- the names that stand in a list and end in `.rle`
+abbrev pub patterns_in : List ℕ → List (List ℕ)
+patterns_in listing = filter is_pattern_name (slice_split is_end listing)
+
+-- exactly the names that end in `.rle`, by their bytes
+pub record IsChosen (listing : List ℕ) (names : List (List ℕ)) : Type 0 where
+  pub same : IsPermutation (patterns_in listing) names
+  pub order : AreInOrder names
+
+-- # Folders that were read
+
+-- The entries are exactly the names of this folder that end in `.rle`, in the order of their bytes, each with the bytes
+-- of that file of this folder.
+pub record IsFolderOf (listed : List ℕ → Told) (held : List ℕ → List ℕ → Told) (f : Folder) : Type 0 where
+  pub listing : List ℕ
+  pub lists : GivesTold (listed f.name) listing
+  pub chosen : IsChosen listing (names_of f.entries)
+  pub texts : All (λ e. GivesTold (held f.name e.name) e.text) f.entries
+
+-- one folder for each word, as the shelf tells
+pub record HoldsShelf (listed : List ℕ → Told) (held : List ℕ → List ℕ → Told) (words : List (List ℕ)) (b : List Folder) : Type 0 where
+  pub holds : HoldsFolders words b
+  pub told : All (IsFolderOf listed held) b
+
+-- # Why folders were not read
+
+-- the file may be short enough, and readable
+abbrev pub CanRead : Told → Type 0
+CanRead told = (bytes : List ℕ) × GivesTold told bytes × (length bytes ≤ file_limit)
+
+-- why a file is not added behind so many others of its folder
+abbrev pub StopsFile : Told → ℕ → List ℕ → FoldersFault → Type 0
+StopsFile told count name (Add adds.BadName) = CanRead told × (is_name name ≡ false)
+StopsFile told count name (Add adds.NoFolder) = ⊥
+StopsFile told count name (Add adds.TooMany) = CanRead told × (is_name name ≡ true) × (count_limit ≤ count)
+StopsFile told count name (Add adds.Memory) = ⊥
+StopsFile told count name Read = MayFail told
+StopsFile told count name TooLong = MayExceed file_limit told
+StopsFile told count name Memory = Unit {0}
+
+-- the files before this place were added; the file at this place was not
+pub record StopsAtFile (listed : List ℕ → Told) (held : List ℕ → List ℕ → Told) (word : List ℕ) (fault : FoldersFault) : Type 0 where
+  pub listing : List ℕ
+  pub lists : GivesTold (listed word) listing
+  pub names : List (List ℕ)
+  pub chosen : IsChosen listing names
+  pub place : ℕ
+  pub name : List ℕ
+  pub is : slice_get names place ≡ Some name
+  pub lawful : All (λ before. is_name before ≡ true) (take place names)
+  pub sound : All (λ before. CanRead (held word before)) (take place names)
+  pub few : place ≤ count_limit
+  pub why : StopsFile (held word name) place name fault
+
+-- why the names of a folder are not listed
+abbrev pub StopsList : Told → FoldersFault → Type 0
+StopsList told (Add fault) = ⊥
+StopsList told Read = MayFail told
+StopsList told TooLong = ⊥
+StopsList told Memory = Unit {0}
+
+-- why the folder of a word is not read behind so many others
+abbrev pub StopsFolderOf : (List ℕ → Told) → (List ℕ → List ℕ → Told) → ℕ → List ℕ → FoldersFault → Type 0
+StopsFolderOf listed held count word fault =
+    MatchBool (is_name word) (MatchBool (nat_le count_limit count) (fault ≡ Add adds.TooMany) (StopsList (listed word) fault ⊎ StopsAtFile listed held word fault)) (fault ≡ Add adds.BadName)
+
+-- the folder of a word can be read
+pub record CanReadFolder (listed : List ℕ → Told) (held : List ℕ → List ℕ → Told) (word : List ℕ) : Type 0 where
+  pub folder : Folder
+  pub named : folder.name ≡ word
+  pub lawful : IsPatternFolder folder
+  pub told : IsFolderOf listed held folder
+
+-- The folders of the words before this place were read; the folder of the word at this place was not.
+pub record StopsAtShelf (listed : List ℕ → Told) (held : List ℕ → List ℕ → Told) (words : List (List ℕ)) (fault : FoldersFault) : Type 0 where
+  pub place : ℕ
+  pub word : List ℕ
+  pub is : slice_get words place ≡ Some word
+  pub before : All (CanReadFolder listed held) (take place words)
+  pub few : place ≤ count_limit
+  pub why : StopsFolderOf listed held place word fault
+
+-- # One more
+
+-- one more pattern file in the last folder, for which there was room, with the bytes that are told
+pub record AddsFileOf (told : Told) (name : List ℕ) (old new : List Folder) : Type 0 where
+  pub file : Entry
+  pub named : file.name ≡ name
+  pub is_file : IsPatternFile file
+  pub text : GivesTold told file.text
+  pub room : length (last_entries old) < count_limit
+  pub added : new ≡ with_entry old file
+
+-- one more folder of pattern files, for which there was room, as the shelf tells
+pub record AddsFolderOf (listed : List ℕ → Told) (held : List ℕ → List ℕ → Told) (name : List ℕ) (old new : List Folder) : Type 0 where
+  pub folder : Folder
+  pub named : folder.name ≡ name
+  pub is_folder : IsPatternFolder folder
+  pub told : IsFolderOf listed held folder
+  pub room : length old < count_limit
+  pub added : new ≡ old ++ folder ∷ []

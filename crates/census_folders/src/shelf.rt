@@ -1,0 +1,43 @@
+//! What folders are read from.
+ghost use Rattle.std.specs.Prelude.{◌≡◌, ◌≤◌, ℕ, Bool, true, false, List, Ok, IfOk, IfErr, vec_len};
+ghost use Rattle.census_folders.specs.Told.{Told, Untold, GivesTold, MayFail, RefusesFile, RefusesList};
+
+use std::alloc::Global;
+use watched::reading::ReadFault;
+
+/// A shelf of folders, each with files. It may tell what stands on it: of a folder its names, of a file of a folder its
+/// bytes, or that it can't be read. A disk tells nothing.
+pub trait Shelf {
+    // What the folder of this path lists: its names, each ended by a byte 0.
+    ghost listed: { Self → List ℕ → Told } = { λ _ _. Untold };
+
+    // What the file of this name in the folder of this path holds.
+    ghost held: { Self → List ℕ → List ℕ → Told } = { λ _ _ _. Untold };
+
+    // Whether the file of this name in the folder of this path may be opened: it is a regular file, or a link to one.
+    ghost may_open: { Self → List ℕ → List ℕ → Bool } = { λ _ _ _. true };
+
+    /// The names in a folder, each ended by a byte 0.
+    fn list(&self, alloc: Global, folder: &str) -> Result<Vec<u8>, ReadFault>
+        ensures told { IfOk result (λ bytes. GivesTold (listed self.now folder.now) bytes.items) }
+        ensures fault { IfErr result (RefusesList (listed self.now folder.now)) };
+
+    /// Whether a name in a folder is that of a regular file, or of a link to one. Nothing is opened.
+    fn is_file(&self, alloc: Global, folder: &str, name: &[u8]) -> Result<bool, ReadFault>
+        ensures yes { result ≡ Ok true → may_open self.now folder.now name.now ≡ true }
+        ensures no { result ≡ Ok false → MayFail (held self.now folder.now name.now) }
+        ensures fault { IfErr result (RefusesList (held self.now folder.now name.now)) };
+
+    /// The bytes of a file in a folder, of which there may be at most `limit`.
+    fn read(
+        &self,
+        alloc: Global,
+        folder: &str,
+        name: &[u8],
+        limit: usize,
+    ) -> Result<Vec<u8>, ReadFault>
+        requires { may_open self.now folder.now name.now ≡ true }
+        ensures within { IfOk result (λ bytes. vec_len bytes ≤ limit) }
+        ensures told { IfOk result (λ bytes. GivesTold (held self.now folder.now name.now) bytes.items) }
+        ensures fault { IfErr result (RefusesFile limit (held self.now folder.now name.now)) };
+}
