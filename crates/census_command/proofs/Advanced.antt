@@ -1,5 +1,5 @@
 -- How the parts of `advance` join.
-use Rattle.std.proofs.Common.{◌≡◌, ◌++◌, ℕ, List, [], Option, Result, Ok, Err, Bool, true, false, refl, sym, ap, subst, ◌∙◌}
+use Rattle.std.proofs.Common.{◌≡◌, ◌++◌, ℕ, List, [], Result, Ok, Err, Bool, true, false, refl, sym, ap, subst, ◌∙◌}
 use Rattle.std.specs.Io.KnownBytes.{Appends}
 use Rattle.watched.specs.declared.reading.ReadFault.{ReadFault}
 use Rattle.watched.specs.declared.reading.ReadFault.TheVariants.{Read}
@@ -11,7 +11,8 @@ use Rattle.life_text.specs.Picture.{Picture, picture_of}
 use Rattle.life_text.specs.Rle.{reading}
 use Rattle.life_text.specs.RleText.{rle_text}
 use Rattle.census_crew.specs.Bytes.{ReadsText}
-use Rattle.census_command.specs.Commands.{Advances, AdvancesInPart, IsAdvanced}
+use Rattle.census_command.specs.Streams.{State}
+use Rattle.census_command.specs.Advances.{Advances, AdvancesInPart, IsAdvanced}
 
 pub is_advanced : (text : List ℕ) (n : ℕ) (old new : List ℕ) (pattern : Picture) (R : Rule) (G : Generation) → picture_of (reading text) ≡ Ok pattern
     → R ≡ pattern.rule → G ≡ generation pattern.rule pattern.cells n → old ≡ [] → new ≡ old ++ rle_text R G → IsAdvanced text n new
@@ -25,24 +26,24 @@ module _ (text bytes : List ℕ) (n : ℕ) (written : List ℕ) (same : bytes �
   means : picture_of (reading text) ≡ Ok a.pattern
   means = subst (λ xs. picture_of (reading xs) ≡ Ok a.pattern) same a.means
 
-  pub advances : (out : List ℕ) (input_old input_new output_old output_new : Option (List ℕ)) → out ≡ written → ReadsText input_old input_new text
-      → Appends output_old output_new out → Advances n input_old input_new output_old output_new
-  advances out input_old input_new output_old output_new e read appended = record {
+  pub advances : (out : List ℕ) (before after : State) → out ≡ written → ReadsText before.unread after.unread text
+      → Appends before.written after.written out → Advances n before after
+  advances out before after e read appended = record {
     text = text;
     pattern = a.pattern;
     read = read;
     means = means;
-    written = subst (λ xs. Appends output_old output_new xs) (e ∙ a.is) appended;
+    written = subst (λ xs. Appends before.written after.written xs) (e ∙ a.is) appended;
   }
 
-  pub advances_in_part : (out : List ℕ) (input_old input_new output_old output_new : Option (List ℕ)) → out ≡ written → ReadsText input_old input_new text
-      → AppendsFront output_old output_new out → AdvancesInPart n input_old input_new output_old output_new
-  advances_in_part out input_old input_new output_old output_new e read appended = record {
+  pub advances_in_part : (out : List ℕ) (before after : State) → out ≡ written → ReadsText before.unread after.unread text
+      → AppendsFront before.written after.written out → AdvancesInPart n before after
+  advances_in_part out before after e read appended = record {
     text = text;
     pattern = a.pattern;
     read = read;
     means = means;
-    written = subst (λ xs. AppendsFront output_old output_new xs) (e ∙ a.is) appended;
+    written = subst (λ xs. AppendsFront before.written after.written xs) (e ∙ a.is) appended;
   }
 
 -- the flag is down where the reader was read to its end

@@ -1,2 +1,3 @@
 pub mod Advanced
-pub mod Statuses
+pub mod Outcomes
+pub mod Reports

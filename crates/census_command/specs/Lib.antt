@@ -1,6 +1,8 @@
-pub mod Troubles
-pub mod Drawings
-pub mod Requests
-pub mod Deeds
-pub mod Commands
+pub mod Streams
+pub mod Errors
+pub mod Messages
+pub mod Advances
+pub mod Draws
 pub mod Runs
+pub mod Requests
+pub mod Outcomes

@@ -1,30 +1,36 @@
--- What is done where something is asked for, and why it stops.
-use Rattle.std.specs.Prelude.{◌≡◌, ◌≤◌, ℕ, Bool, false, List, map, Option}
+-- What is done where something is asked for, and what each error says.
+use Rattle.std.specs.Prelude.{◌≤◌, map}
 use Rattle.census_words.specs.declared.request.Request.{Request}
 use Rattle.census_words.specs.declared.request.Request.TheVariants.{Run, Advance, Draw}
-use Rattle.census_command.specs.Commands.{Advances, Hinders}
-use Rattle.census_command.specs.Drawings.{Draws, HindersDrawing}
-use Rattle.census_command.specs.Runs.{HindersRun, Runs}
-use Rattle.census_command.specs.declared.trouble.Trouble.{Trouble}
-
--- what is asked for was done
-abbrev pub Fulfils : Request → Option (List ℕ) → Option (List ℕ) → Option (List ℕ) → Option (List ℕ) → Type 0
-Fulfils (Run bound workers folders) input_old input_new output_old output_new =
-    Runs (map (λ s. s.now) folders.items) bound input_old input_new output_old output_new
-Fulfils (Advance generations) input_old input_new output_old output_new = Advances generations input_old input_new output_old output_new
-Fulfils (Draw code rule) input_old input_new output_old output_new = Draws code.now rule.now output_old output_new × (input_new ≡ input_old)
-
--- it was not done whole
-abbrev pub HindersRequest : Trouble → Request → Option (List ℕ) → Option (List ℕ) → Option (List ℕ) → Option (List ℕ) → Bool → Bool → Type 0
-HindersRequest trouble (Run bound workers folders) input_old input_new output_old output_new read_failed write_failed =
-    HindersRun trouble (map (λ s. s.now) folders.items) bound input_old input_new output_old output_new read_failed write_failed
-HindersRequest trouble (Advance generations) input_old input_new output_old output_new read_failed write_failed =
-    Hinders trouble generations input_old input_new output_old output_new read_failed write_failed
-HindersRequest trouble (Draw code rule) input_old input_new output_old output_new read_failed write_failed =
-    HindersDrawing trouble code.now rule.now output_old output_new write_failed × (input_new ≡ input_old) × (read_failed ≡ false)
+use Rattle.life_answer.specs.declared.question.Question.TheVariants as question
+use Rattle.census_command.specs.Advances.{AdvanceFails, Advances, AdvancesInPart}
+use Rattle.census_command.specs.Draws.{DrawFails, Draws, DrawsInPart}
+use Rattle.census_command.specs.Runs.{RunFails, Runs, RunsInPart}
+use Rattle.census_command.specs.Streams.{State}
+use Rattle.census_command.specs.declared.error.CommandError.{CommandError}
+use Rattle.census_command.specs.declared.error.CommandError.TheVariants as error
 
 -- its numbers are in their ranges
 abbrev pub IsLawful : Request → Type 0
 IsLawful (Run bound workers folders) = ((1 ≤ bound) × (bound ≤ 1000000)) × ((1 ≤ workers) × (workers ≤ 16))
 IsLawful (Advance generations) = generations ≤ 4194304
 IsLawful (Draw code rule) = Unit {0}
+
+-- what is asked for was done
+abbrev pub Does : Request → State → State → Type 0
+Does (Run bound workers folders) before after = Runs (map (λ s. s.now) folders.items) (question.Settles bound) before after
+Does (Advance generations) before after = Advances generations before after
+Does (Draw code rule) before after = Draws code.now rule.now before after
+
+-- it was done as far as the writer took it
+abbrev pub DoesInPart : Request → State → State → Type 0
+DoesInPart (Run bound workers folders) before after = RunsInPart (map (λ s. s.now) folders.items) (question.Settles bound) before after
+DoesInPart (Advance generations) before after = AdvancesInPart generations before after
+DoesInPart (Draw code rule) before after = DrawsInPart code.now rule.now before after
+
+-- it was not done whole, for this error
+abbrev pub Fails : CommandError → Request → State → State → Type 0
+Fails (error.Run e) (Run bound workers folders) before after = RunFails e (map (λ s. s.now) folders.items) (question.Settles bound) before after
+Fails (error.Advance e) (Advance generations) before after = AdvanceFails e generations before after
+Fails (error.Draw e) (Draw code rule) before after = DrawFails e code.now rule.now before after
+Fails e request before after = ⊥

@@ -1,82 +1,81 @@
--- What `run` reads and writes, and why it stops.
-use Rattle.std.specs.Prelude.{◌≡◌, ◌⊎◌, ℕ, Bool, true, false, List, [], ◌∷◌, Option}
-use Rattle.watched.specs.Watching.{ConsumesMoreThan}
+-- What `run` reads and writes, and what each of its errors says.
+use Rattle.std.specs.Prelude.{◌≡◌, ◌⊎◌, ℕ, List, [], ◌∷◌}
 use Rattle.census_bundle.specs.declared.bundle.Folder.{Folder}
-use Rattle.census_crew.specs.Bytes.{ReadsFault, ReadsFolders, input_limit}
+use Rattle.census_crew.specs.Bytes.{ReadsFault, ReadsFolders}
 use Rattle.census_crew.specs.Writing.{WritesFront, WritesReport}
 use Rattle.census_folders.specs.Faults.{StopsAtWord}
 use Rattle.census_folders.specs.Folders.{HoldsFolders}
-use Rattle.census_folders.specs.declared.fault.FoldersFault.TheVariants as folders
-use Rattle.census_command.specs.declared.trouble.Trouble.{Trouble}
-use Rattle.census_command.specs.declared.trouble.Trouble.TheVariants.{BundleText, Folders, TooLong, Memory, Read, Write}
+use Rattle.census_folders.specs.declared.fault.FoldersFault.TheVariants as folder_fault
+use Rattle.census_command.specs.Advances.{ReadsTooMuch}
+use Rattle.life_answer.specs.declared.question.Question.{Question}
+use Rattle.census_command.specs.Streams.{IsSound, IsUntouched, ReadFails, State, WriteFails, WritesNothing}
+use Rattle.census_command.specs.declared.run_error.RunError.{RunError}
+use Rattle.census_command.specs.declared.run_error.RunError.TheVariants.{Bundle, Folder as FolderFault, TooLong, Memory, Read, Write}
 
 -- # Standard input
 
 -- Standard input, read to its end, is the text of a bundle, and a report of that bundle was written.
-pub record ReportsInput (bound : ℕ) (input_old input_new output_old output_new : Option (List ℕ)) : Type 0 where
+pub record ReportsInput (question : Question) (before after : State) : Type 0 where
   pub bundle : List Folder
-  pub read : ReadsFolders input_old input_new bundle
-  pub report : WritesReport output_old output_new bundle bound
+  pub read : ReadsFolders before.unread after.unread bundle
+  pub report : WritesReport before.written after.written bundle question
 
 -- as far as the writer took it
-pub record ReportsInputInPart (bound : ℕ) (input_old input_new output_old output_new : Option (List ℕ)) : Type 0 where
+pub record ReportsInputInPart (question : Question) (before after : State) : Type 0 where
   pub bundle : List Folder
-  pub read : ReadsFolders input_old input_new bundle
-  pub front : WritesFront output_old output_new bundle bound
+  pub read : ReadsFolders before.unread after.unread bundle
+  pub front : WritesFront before.written after.written bundle question
 
 -- why no whole report of standard input was written
-abbrev pub HindersInput : Trouble → ℕ → Option (List ℕ) → Option (List ℕ) → Option (List ℕ) → Option (List ℕ) → Bool → Bool → Type 0
-HindersInput (BundleText fault) bound input_old input_new output_old output_new read_failed write_failed =
-    ReadsFault input_old input_new fault × (output_new ≡ output_old) × (read_failed ≡ false) × (write_failed ≡ false)
-HindersInput TooLong bound input_old input_new output_old output_new read_failed write_failed =
-    ConsumesMoreThan input_limit input_old input_new × (output_new ≡ output_old) × (read_failed ≡ false) × (write_failed ≡ false)
-HindersInput Memory bound input_old input_new output_old output_new read_failed write_failed =
-    ((output_new ≡ output_old) ⊎ ReportsInputInPart bound input_old input_new output_old output_new) × (read_failed ≡ false) × (write_failed ≡ false)
-HindersInput Read bound input_old input_new output_old output_new read_failed write_failed =
-    (output_new ≡ output_old) × (read_failed ≡ true) × (write_failed ≡ false)
-HindersInput Write bound input_old input_new output_old output_new read_failed write_failed =
-    ReportsInputInPart bound input_old input_new output_old output_new × (read_failed ≡ false) × (write_failed ≡ true)
-HindersInput trouble bound input_old input_new output_old output_new read_failed write_failed = ⊥
+abbrev pub InputFails : RunError → Question → State → State → Type 0
+InputFails (Bundle fault) question before after = ReadsFault before.unread after.unread fault × WritesNothing before after
+InputFails (FolderFault fault) question before after = ⊥
+InputFails TooLong question before after = ReadsTooMuch before after × WritesNothing before after
+InputFails Memory question before after =
+    ((after.written ≡ before.written) ⊎ ReportsInputInPart question before after) × IsSound after
+InputFails Read question before after = ReadFails before after
+InputFails Write question before after = ReportsInputInPart question before after × WriteFails after
 
 -- # Folders
 
 -- There is a folder for each word, named so, in the order of the words, and a report of these folders was written.
-pub record ReportsFolders (words : List (List ℕ)) (bound : ℕ) (output_old output_new : Option (List ℕ)) : Type 0 where
+-- Nothing was read from standard input.
+pub record ReportsFolders (words : List (List ℕ)) (question : Question) (before after : State) : Type 0 where
   pub bundle : List Folder
   pub holds : HoldsFolders words bundle
-  pub report : WritesReport output_old output_new bundle bound
+  pub report : WritesReport before.written after.written bundle question
+  pub unread : after.unread ≡ before.unread
 
 -- as far as the writer took it
-pub record ReportsFoldersInPart (words : List (List ℕ)) (bound : ℕ) (output_old output_new : Option (List ℕ)) : Type 0 where
+pub record ReportsFoldersInPart (words : List (List ℕ)) (question : Question) (before after : State) : Type 0 where
   pub bundle : List Folder
   pub holds : HoldsFolders words bundle
-  pub front : WritesFront output_old output_new bundle bound
+  pub front : WritesFront before.written after.written bundle question
+  pub unread : after.unread ≡ before.unread
 
 -- why no whole report of the folders was written
-abbrev pub HindersFolders : Trouble → List (List ℕ) → ℕ → Option (List ℕ) → Option (List ℕ) → Bool → Type 0
-HindersFolders (Folders fault) words bound output_old output_new failed =
-    StopsAtWord words (folders.Add fault) × (output_new ≡ output_old) × (failed ≡ false)
-HindersFolders TooLong words bound output_old output_new failed =
-    StopsAtWord words folders.TooLong × (output_new ≡ output_old) × (failed ≡ false)
-HindersFolders Read words bound output_old output_new failed =
-    StopsAtWord words folders.Read × (output_new ≡ output_old) × (failed ≡ false)
-HindersFolders Memory words bound output_old output_new failed =
-    ((StopsAtWord words folders.Memory × (output_new ≡ output_old)) ⊎ ReportsFoldersInPart words bound output_old output_new) × (failed ≡ false)
-HindersFolders Write words bound output_old output_new failed =
-    ReportsFoldersInPart words bound output_old output_new × (failed ≡ true)
-HindersFolders trouble words bound output_old output_new failed = ⊥
+abbrev pub FoldersFail : RunError → List (List ℕ) → Question → State → State → Type 0
+FoldersFail (Bundle fault) words question before after = ⊥
+FoldersFail (FolderFault fault) words question before after = StopsAtWord words (folder_fault.Add fault) × IsUntouched before after
+FoldersFail TooLong words question before after = StopsAtWord words folder_fault.TooLong × IsUntouched before after
+FoldersFail Memory words question before after =
+    (StopsAtWord words folder_fault.Memory × IsUntouched before after) ⊎ (ReportsFoldersInPart words question before after × IsSound after)
+FoldersFail Read words question before after = StopsAtWord words folder_fault.Read × IsUntouched before after
+FoldersFail Write words question before after = ReportsFoldersInPart words question before after × WriteFails after
 
 -- # Either
 
--- A report of the folders of these words was written, and nothing was read; without a word, one of standard input.
-abbrev pub Runs : List (List ℕ) → ℕ → Option (List ℕ) → Option (List ℕ) → Option (List ℕ) → Option (List ℕ) → Type 0
-Runs [] bound input_old input_new output_old output_new = ReportsInput bound input_old input_new output_old output_new
-Runs (word ∷ words) bound input_old input_new output_old output_new =
-    ReportsFolders (word ∷ words) bound output_old output_new × (input_new ≡ input_old)
+-- A report of the folders of these words was written; without a word, one of standard input.
+abbrev pub Runs : List (List ℕ) → Question → State → State → Type 0
+Runs [] question before after = ReportsInput question before after
+Runs (word ∷ words) question before after = ReportsFolders (word ∷ words) question before after
 
--- Why no whole report was written. By folders nothing is read from standard input, so that it has not failed.
-abbrev pub HindersRun : Trouble → List (List ℕ) → ℕ → Option (List ℕ) → Option (List ℕ) → Option (List ℕ) → Option (List ℕ) → Bool → Bool → Type 0
-HindersRun trouble [] bound input_old input_new output_old output_new read_failed write_failed =
-    HindersInput trouble bound input_old input_new output_old output_new read_failed write_failed
-HindersRun trouble (word ∷ words) bound input_old input_new output_old output_new read_failed write_failed =
-    HindersFolders trouble (word ∷ words) bound output_old output_new write_failed × (input_new ≡ input_old) × (read_failed ≡ false)
+-- as far as the writer took it
+abbrev pub RunsInPart : List (List ℕ) → Question → State → State → Type 0
+RunsInPart [] question before after = ReportsInputInPart question before after
+RunsInPart (word ∷ words) question before after = ReportsFoldersInPart (word ∷ words) question before after
+
+-- why no whole report was written
+abbrev pub RunFails : RunError → List (List ℕ) → Question → State → State → Type 0
+RunFails error [] question before after = InputFails error question before after
+RunFails error (word ∷ words) question before after = FoldersFail error (word ∷ words) question before after

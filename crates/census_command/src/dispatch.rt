@@ -1,42 +1,40 @@
 //! What the program does with its words.
-ghost use Rattle.std.specs.Prelude.{◌≡◌, ◌≤◌, ◌⊎◌, false, true, map, MatchResult};
-ghost use Rattle.std.specs.Io.KnownBytes.{Keeps};
-ghost use Rattle.watched.specs.Watching.{has_failed, inner_of};
-ghost use Rattle.census_words.specs.Asking.{IsMatched};
-ghost use Rattle.census_words.specs.Refusing.{AsksHelp, IsRefused};
-ghost use Rattle.census_command.specs.Requests.{Fulfils, IsLawful, HindersRequest};
-ghost use Rattle.census_command.specs.Deeds.{Answers, Does, DoesRunInPart, Helps, IsFaulty, MissesFolder};
+ghost use Rattle.std.specs.Prelude.{◌≡◌, false, map, IfErr, OnOk};
+ghost use Rattle.census_command.specs.Errors.{status_of};
+ghost use Rattle.census_command.specs.Messages.{error_line};
+ghost use Rattle.census_command.specs.Outcomes.{Answers, Ends};
+ghost use Rattle.census_command.specs.Requests.{Does, Fails, IsLawful};
+ghost use Rattle.census_command.specs.Streams.{IsSound, Tells};
 
 use crate::advance::advance;
 use crate::draw::draw;
+use crate::error::CommandError;
 use crate::running::run_command;
-use crate::trouble::Trouble;
+use crate::streams::{ErrorStream, Streams};
+use census_crew::gate::Gate;
 use census_words::fault::WordsFault;
 use census_words::request::{Request, read_words};
+use life_answer::question::Question;
 use std::alloc::Global;
-use std::io::{Cursor, Read, Write};
+use std::io::{Read, Write};
 use std::rt::Files;
 use std::sync::Wait;
 use std::thread::Threads;
-use watched::watched::Watched;
 use watched::writing::put_all;
 
 // Does what is asked for.
-fn obey<I: Read, O: Write, R: Threads + Wait + Sync + Files + Alloc + Clone + Drop>(
+fn execute<I: Read, O: Write, G: Gate, R: Threads + Wait + Sync + Files + Alloc + Clone + Drop>(
     rt: &R,
     alloc: Global,
     request: &Request<'_>,
-    input: &mut Watched<I>,
-    output: &mut Watched<O>,
-) -> Result<(), Trouble>
-    requires request { IsLawful request.now }
-    requires input { has_failed input.old ≡ false }
-    requires output { has_failed output.old ≡ false }
-    ensures { MatchResult result
-        (λ _. Fulfils request.now (I.remaining (inner_of input.old)) (I.remaining (inner_of input.new)) (O.contents (inner_of output.old)) (O.contents (inner_of output.new))
-        × (has_failed input.new ≡ false) × (has_failed output.new ≡ false))
-        (λ trouble. HindersRequest trouble request.now (I.remaining (inner_of input.old)) (I.remaining (inner_of input.new))
-        (O.contents (inner_of output.old)) (O.contents (inner_of output.new)) (has_failed input.new) (has_failed output.new)) }
+    gate: &G,
+    streams: &mut Streams<I, O>,
+) -> Result<(), CommandError>
+    requires lawful { IsLawful request.now }
+    requires sound { IsSound streams.old }
+    ensures done { OnOk result (Does request.now streams.old streams.new) }
+    ensures sound { OnOk result (IsSound streams.new) }
+    ensures fails { IfErr result (λ e. Fails e request.now streams.old streams.new) }
 {
     match request {
         Request::Run {
@@ -46,113 +44,93 @@ fn obey<I: Read, O: Write, R: Threads + Wait + Sync + Files + Alloc + Clone + Dr
         } => run_command(
             rt,
             alloc,
-            *bound,
+            Question::Settles { bound: *bound },
             *workers,
             folders.as_slice(),
-            input,
-            output,
-        ),
-        Request::Advance { generations } => advance(alloc, *generations, input, output),
-        Request::Draw { code, rule } => draw(alloc, code.as_bytes(), rule.as_bytes(), output),
+            gate,
+            streams,
+        )?,
+        Request::Advance { generations } => advance(alloc, *generations, streams)?,
+        Request::Draw { code, rule } => draw(alloc, code.as_bytes(), rule.as_bytes(), streams)?,
     }
+    Ok(())
 }
 
-// The most bytes of a line that tells what is wrong.
-const LINE_LIMIT: usize = 80;
-
-// Writes why there is nothing to show, in one line, and asks for no memory. That it can't be written changes nothing.
-fn tell<E: Write>(trouble: Trouble, errors: &mut Watched<E>) {
-    let mut line = Cursor::new([0u8; LINE_LIMIT]);
-    let _ = writeln!(line, "census: {trouble}");
-    let length = line.position().min(LINE_LIMIT as u64) as usize;
-    let _ = put_all(errors, &line.into_inner()[..length]);
+/// Tells an error by its line, and gives its exit status. That it can't be told changes nothing.
+pub fn stop<E: Write>(error: CommandError, errors: &mut ErrorStream<E>) -> u8
+    requires { errors.old.failed ≡ false }
+    ensures status { result ≡ status_of error }
+    ensures line { Tells (error_line error) errors.old errors.new }
+{
+    errors.tell(error.line().as_str().as_bytes());
+    error.status()
 }
 
-// Writes why words ask for nothing that can be done, and gives the exit status.
-fn answer<O: Write, E: Write>(
+/// Writes why words ask for nothing that can be done, and gives the exit status: help by its own text on standard output,
+/// and a refusal by its own text on standard error.
+pub fn answer<I: Read, O: Write, E: Write>(
     fault: &WordsFault,
-    output: &mut Watched<O>,
-    errors: &mut Watched<E>,
+    streams: &mut Streams<I, O>,
+    errors: &mut ErrorStream<E>,
 ) -> u8
-    requires output { has_failed output.old ≡ false }
-    ensures { Answers fault.now result (O.contents (inner_of output.old)) (O.contents (inner_of output.new)) (has_failed output.new) }
+    requires streams { IsSound streams.old }
+    requires errors { errors.old.failed ≡ false }
+    ensures { Answers fault.now result streams.old streams.new errors.old errors.new }
 {
     match fault {
-        WordsFault::Help(text) => match put_all(output, text.as_bytes()) {
+        WordsFault::Help(text) => match put_all(&mut streams.output, text.as_bytes()) {
             Ok(()) => 0,
-            Err(_) => {
-                tell(Trouble::Write, errors);
-                Trouble::Write.status()
-            }
+            Err(_) => stop(CommandError::Write, errors),
         },
         WordsFault::Refused(text) => {
-            let _ = put_all(errors, text.as_bytes());
+            errors.tell(text.as_bytes());
             2
         }
-        WordsFault::Memory => {
-            tell(Trouble::Memory, errors);
-            Trouble::Memory.status()
-        }
+        WordsFault::Memory => stop(CommandError::Memory, errors),
     }
 }
 
-/// Does what the program `census` does with its words, which are those behind its name, and gives its exit status.
+/// Does what the program `census` does with its words, which are those after its name, and gives its exit status.
 ///
-/// What the words mean is what clap's matches for them say.
+/// What the words mean is what clap's matches for them say. By `run` each worker passes the gate with a ticket before it
+/// works.
 ///
 /// - 0: what was asked for was done. By `run` the report of the folders, or without any of the bundle on standard input,
 ///   was written; by `advance N` standard input is an RLE text, and the text of generation N was written; by
 ///   `draw CODE [--rule R]` the text of the code's shape under the rule. Or help was asked for and written.
 /// - 1: the collections, the pattern, the rule or the code is refused, and nothing was written.
-/// - 2: clap refuses the words, and not for want of memory; nothing was read or written.
-/// - 3: memory was refused, and nothing was written, or by `run` a front of its report.
-/// - 4: standard input or standard output has failed, or a folder could not be listed or a file of it be read.
+/// - 2: clap refuses the words, and not because memory was refused; nothing was read or written.
+/// - 3: memory was refused, and nothing was written, or by `run` a prefix of its report.
+/// - 4: standard input or standard output has failed, or a folder could not be listed or a file of it be read. What was
+///   written is a prefix of what was asked for, or nothing; after a failed read it is nothing.
 ///
-/// Where the status is not 0, `errors` is told why: by one line, or by clap's own text for status 2.
+/// Where the status is 0, nothing is written to `errors`. Else the error's one line is, or for status 2 clap's own text:
+/// whole where `errors` does not fail, else a prefix of it.
 pub fn dispatch<
     I: Read,
     O: Write,
     E: Write,
+    G: Gate,
     R: Threads + Wait + Sync + Files + Alloc + Clone + Drop,
 >(
     rt: &R,
     alloc: Global,
     words: &[&str],
-    input: &mut Watched<I>,
-    output: &mut Watched<O>,
-    errors: &mut Watched<E>,
+    gate: &G,
+    streams: &mut Streams<I, O>,
+    errors: &mut ErrorStream<E>,
 ) -> u8
-    requires input { has_failed input.old ≡ false }
-    requires output { has_failed output.old ≡ false }
-    requires errors { has_failed errors.old ≡ false }
-    ensures known { result ≤ 4 }
-    ensures done { result ≡ 0 → Does (map (λ s. s.now) words.now) (I.remaining (inner_of input.old)) (I.remaining (inner_of input.new))
-        (O.contents (inner_of output.old)) (O.contents (inner_of output.new))
-        ⊎ Helps (map (λ s. s.now) words.now) (I.remaining (inner_of input.old)) (I.remaining (inner_of input.new))
-        (O.contents (inner_of output.old)) (O.contents (inner_of output.new)) }
-    ensures faulty { result ≡ 1 → IsFaulty (map (λ s. s.now) words.now) (I.remaining (inner_of input.old)) (I.remaining (inner_of input.new))
-        × Keeps (O.contents (inner_of output.old)) (O.contents (inner_of output.new)) }
-
-    ensures refused { result ≡ 2 → IsRefused (map (λ s. s.now) words.now) }
-    ensures untouched { result ≡ 2 → (I.remaining (inner_of input.new) ≡ I.remaining (inner_of input.old))
-        × (O.contents (inner_of output.new) ≡ O.contents (inner_of output.old)) }
-    ensures unmatched { (IsMatched (map (λ s. s.now) words.now) → ⊥) → (result ≡ 2) ⊎ ((result ≡ 3) ⊎ AsksHelp (map (λ s. s.now) words.now)) }
-
-    ensures memory { result ≡ 3 → Keeps (O.contents (inner_of output.old)) (O.contents (inner_of output.new))
-        ⊎ DoesRunInPart (map (λ s. s.now) words.now) (I.remaining (inner_of input.old)) (I.remaining (inner_of input.new))
-        (O.contents (inner_of output.old)) (O.contents (inner_of output.new)) }
-    ensures failed { result ≡ 4 → (has_failed input.new ≡ true) ⊎ ((has_failed output.new ≡ true) ⊎ MissesFolder (map (λ s. s.now) words.now)) }
-    ensures told { (has_failed input.new ≡ true) ⊎ (has_failed output.new ≡ true) → result ≡ 4 }
+    requires streams { IsSound streams.old }
+    requires errors { errors.old.failed ≡ false }
+    ensures { Ends (map (λ s. s.now) words.now) result
+        streams.old streams.new errors.old errors.new }
 {
     let request = match read_words(alloc, &*words) {
-        Ok(asked) => asked,
-        Err(fault) => return answer(&fault, output, errors),
+        Ok(request) => request,
+        Err(fault) => return answer(&fault, streams, errors),
     };
-    match obey(rt, alloc, &request, input, output) {
+    match execute(rt, alloc, &request, gate, streams) {
         Ok(()) => 0,
-        Err(trouble) => {
-            tell(trouble, errors);
-            trouble.status()
-        }
+        Err(error) => stop(error, errors),
     }
 }

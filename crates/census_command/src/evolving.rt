@@ -14,7 +14,8 @@ pub fn evolved<P: Plane>(
     generations: u32,
 ) -> Result<CellList, AllocError>
     requires { generations ≤ AGE_LIMIT }
-    ensures { IfOk result (λ cells. cells ≡ generation pattern.now.rule pattern.now.cells generations) }
+    ensures { IfOk result
+        (λ cells. cells ≡ generation pattern.now.rule pattern.now.cells generations) }
 {
     let rule = pattern.rule();
     let mut plane = P::from_cells(alloc, pattern.cells())?;

@@ -2,8 +2,14 @@
 #![tactic(auto)]
 
 pub mod advance;
+pub mod advance_error;
 pub mod dispatch;
 pub mod draw;
+pub mod draw_error;
+pub mod error;
 pub mod evolving;
+pub mod messages;
+pub mod program;
+pub mod run_error;
 pub mod running;
-pub mod trouble;
+pub mod streams;

@@ -8,7 +8,11 @@ mod bundles;
 #[cfg(test)]
 mod commands;
 #[cfg(test)]
+mod crowd;
+#[cfg(test)]
 mod ends;
+#[cfg(test)]
+mod lines;
 #[cfg(test)]
 mod program;
 #[cfg(test)]

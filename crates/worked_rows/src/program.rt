@@ -1,12 +1,13 @@
 //! One call of the program.
 
 use census_command::dispatch::dispatch;
+use census_command::streams::{ErrorStream, Streams};
+use census_crew::gate::{Gate, OpenGate};
 use std::alloc::Global;
 use std::io::{Read, Write};
 use std::rt::Files;
 use std::sync::Wait;
 use std::thread::Threads;
-use watched::watched::Watched;
 
 // The exit status of the program with these words, standard input, standard output and standard error, and the last two
 // as they are then.
@@ -16,9 +17,20 @@ pub(crate) fn called<
     E: Write + Drop,
     R: Threads + Wait + Sync + Files + Alloc + Clone + Drop,
 >(rt: &R, alloc: Global, words: &[&str], input: I, output: O, errors: E) -> (u8, O, E) {
-    let mut input = Watched::new(input);
-    let mut output = Watched::new(output);
-    let mut errors = Watched::new(errors);
-    let status = dispatch(rt, alloc, words, &mut input, &mut output, &mut errors);
-    (status, output.into_inner(), errors.into_inner())
+    called_through(rt, alloc, words, &OpenGate, input, output, errors)
+}
+
+// The same through a gate.
+pub(crate) fn called_through<
+    G: Gate,
+    I: Read + Drop,
+    O: Write + Drop,
+    E: Write + Drop,
+    R: Threads + Wait + Sync + Files + Alloc + Clone + Drop,
+>(rt: &R, alloc: Global, words: &[&str], gate: &G, input: I, output: O, errors: E) -> (u8, O, E) {
+    let mut streams = Streams::new(input, output);
+    let mut errors = ErrorStream::new(errors);
+    let status = dispatch(rt, alloc, words, gate, &mut streams, &mut errors);
+    let (_, output) = streams.into_inner();
+    (status, output, errors.into_inner())
 }

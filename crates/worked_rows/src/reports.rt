@@ -11,6 +11,7 @@ use census_crew::gate::OpenGate;
 use census_crew::run::run;
 use census_crew::settling::settle;
 use census_crew::tally::Tally;
+use life_answer::question::Question;
 use std::alloc::{AllocError, Global};
 use std::process::Abort;
 use std::sync::Wait;
@@ -116,9 +117,9 @@ end 2 3
 
 // A collector under the bound 10. Where memory is refused it is made again.
 fn collector_of<'a>(alloc: Global, bundle: &'a Bundle) -> Result<Collector<'a>, AllocError> {
-    match Collector::new(alloc, bundle, 10) {
+    match Collector::new(alloc, bundle, Question::Settles { bound: 10 }) {
         Ok(collector) => Ok(collector),
-        Err(_) => Collector::new(alloc, bundle, 10),
+        Err(_) => Collector::new(alloc, bundle, Question::Settles { bound: 10 }),
     }
 }
 
@@ -128,9 +129,9 @@ fn result_of<'a>(alloc: Global, bundle: &'a Bundle, arrival: &Arrival) -> Result
         .entry(ticket_of(arrival.worked))
         .ok_or("no such pattern")?;
     let ticket = ticket_of(arrival.ticket);
-    match Done::work(alloc, ticket, entry, 10) {
+    match Done::work(alloc, ticket, entry, Question::Settles { bound: 10 }) {
         Ok(done) => Ok(done),
-        Err(_) => Ok(Done::work(alloc, ticket, entry, 10)?),
+        Err(_) => Ok(Done::work(alloc, ticket, entry, Question::Settles { bound: 10 })?),
     }
 }
 
@@ -181,7 +182,13 @@ fn results_are_settled_in_their_order(rt: HostRuntime) -> Result<(), Fail> {
         results.push(result_of(rt.alloc(), &bundle, arrival)?)?;
     }
     let mut out = Watched::new(Vec::new(rt.alloc()));
-    let tally = settle(rt.alloc(), &bundle, 10, results, &mut out)?;
+    let tally = settle(
+        rt.alloc(),
+        &bundle,
+        Question::Settles { bound: 10 },
+        results,
+        &mut out,
+    )?;
     let expected = Tally {
         patterns: 3,
         resolved: 3,
@@ -200,7 +207,13 @@ fn results_are_settled_in_their_order(rt: HostRuntime) -> Result<(), Fail> {
 fn without_results_the_caller_works_all(rt: HostRuntime) -> Result<(), Fail> {
     let bundle = two_folders(rt.alloc())?;
     let mut out = Watched::new(Vec::new(rt.alloc()));
-    let tally = settle(rt.alloc(), &bundle, 10, Vec::new(rt.alloc()), &mut out)?;
+    let tally = settle(
+        rt.alloc(),
+        &bundle,
+        Question::Settles { bound: 10 },
+        Vec::new(rt.alloc()),
+        &mut out,
+    )?;
     let expected = Tally {
         patterns: 3,
         resolved: 3,
@@ -226,10 +239,24 @@ fn is_reported<R: Threads + Wait + Abort + Sync>(
     requires { (1 ≤ bound) × (bound ≤ 1000000) }
 {
     let mut out = Watched::new(Vec::new(alloc));
-    run(rt, alloc, bundle, bound, 2, &OpenGate, &mut out)?;
+    run(
+        rt,
+        alloc,
+        bundle,
+        Question::Settles { bound },
+        2,
+        &OpenGate,
+        &mut out,
+    )?;
     assert_eq!(rt; out.into_inner().as_slice(), report);
     let mut out = Watched::new(Vec::new(alloc));
-    settle(alloc, bundle, bound, Vec::new(alloc), &mut out)?;
+    settle(
+        alloc,
+        bundle,
+        Question::Settles { bound },
+        Vec::new(alloc),
+        &mut out,
+    )?;
     assert_eq!(rt; out.into_inner().as_slice(), report);
     Ok(())
 }

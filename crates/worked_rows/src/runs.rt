@@ -8,6 +8,7 @@ use census_crew::gate::{Gate, OpenGate};
 use census_crew::run::{run, run_on};
 use census_crew::tally::Tally;
 use census_feed::handles::Feed;
+use life_answer::question::Question;
 use std::sync::atomic::{AtomicU64, Ordering};
 use std::test::Fail;
 use watched::watched::Watched;
@@ -30,7 +31,15 @@ fn a_bundle_has_one_report_by_any_number_of_workers(rt: HostRuntime) -> Result<(
     let bundle = read_bundle(rt.alloc(), DEMO)?;
     for workers in [1, 2, 16] {
         let mut out = Watched::new(Vec::new(rt.alloc()));
-        let tally = run(&rt, rt.alloc(), &bundle, 50, workers, &OpenGate, &mut out)?;
+        let tally = run(
+            &rt,
+            rt.alloc(),
+            &bundle,
+            Question::Settles { bound: 50 },
+            workers,
+            &OpenGate,
+            &mut out,
+        )?;
         assert_eq!(rt; tally, demo_tally(0));
         assert_eq!(rt; out.into_inner().as_slice(), DEMO_REPORT);
     }
@@ -46,7 +55,7 @@ fn a_text_has_one_report_by_any_number_of_workers(rt: HostRuntime) -> Result<(),
             &rt,
             rt.alloc(),
             &mut reader,
-            50,
+            Question::Settles { bound: 50 },
             workers,
             &OpenGate,
             &mut out,
@@ -85,7 +94,16 @@ fn a_ticket_that_a_hand_took_before_is_worked_by_the_caller(rt: HostRuntime) -> 
         entered: AtomicU64::new(0),
     };
     let mut out = Watched::new(Vec::new(rt.alloc()));
-    let tally = run_on(&rt, rt.alloc(), &bundle, 50, feed, hands, &gate, &mut out)?;
+    let tally = run_on(
+        &rt,
+        rt.alloc(),
+        &bundle,
+        Question::Settles { bound: 50 },
+        feed,
+        hands,
+        &gate,
+        &mut out,
+    )?;
     assert_eq!(rt; tally, demo_tally(1));
     assert_eq!(rt; gate.entered.load(Ordering::SeqCst), 4);
     assert_eq!(rt; out.into_inner().as_slice(), DEMO_REPORT);

@@ -1,0 +1,234 @@
+-- What each exit status says.
+use Rattle.std.proofs.Common.{◌≡◌, ◌⊎◌, ℕ, List, [], ◌∷◌, true, false, inl, inr, ⊎_elim, refl, sym, ◌∙◌, arith, true≢false, string_bytes}
+use Rattle.census_folders.specs.Faults.{StopsAtWord}
+use Rattle.census_folders.specs.declared.fault.FoldersFault.TheVariants as folder_fault
+use Rattle.census_words.specs.Asking.{Asks}
+use Rattle.census_words.specs.Refusing.{AsksHelp, IsRefused, Refuses}
+use Rattle.census_words.specs.declared.fault.WordsFault.{WordsFault}
+use Rattle.census_words.specs.declared.fault.WordsFault.TheVariants as words_fault
+use Rattle.census_words.specs.declared.request.Request.{Request}
+use Rattle.census_words.specs.declared.request.Request.TheVariants.{Run, Advance, Draw}
+use Rattle.life_answer.specs.declared.question.Question.TheVariants as question
+use Rattle.life_answer.specs.declared.question.Question.{Question}
+use Rattle.census_command.specs.Advances.{AdvanceFails}
+use Rattle.census_command.specs.Errors.{advance_status, run_status, status_of}
+use Rattle.census_command.specs.Messages.{error_line}
+use Rattle.census_command.specs.Outcomes.{Answers, Ends, HelpsInPart}
+use Rattle.census_command.specs.Outcomes.{RefusesCollections, RefusesInput, ReportsInPart, Shows, ShowsInPart}
+use Rattle.census_command.specs.Outcomes.{StopsAtFolder, TellsError, TellsRefusal}
+use Rattle.census_command.specs.Requests.{DoesInPart, Fails}
+use Rattle.census_command.specs.Runs.{RunFails, RunsInPart}
+use Rattle.census_command.specs.Streams.{Errors, HasFailed, IsSound, IsUntouched, State, Tells, WritesNothing}
+use Rattle.census_command.specs.declared.advance_error.AdvanceError.{AdvanceError}
+use Rattle.census_command.specs.declared.advance_error.AdvanceError.TheVariants as advance
+use Rattle.census_command.specs.declared.draw_error.DrawError.TheVariants as draw
+use Rattle.census_command.specs.declared.run_error.RunError.{RunError}
+use Rattle.census_command.specs.declared.run_error.RunError.TheVariants as run
+use Rattle.census_command.specs.declared.error.CommandError.{CommandError}
+use Rattle.census_command.specs.declared.error.CommandError.TheVariants as command
+
+-- ---- streams that have not failed
+
+neither : {A : Type 0} (s : State) → IsSound s → HasFailed s → A
+neither s sound failed =
+    absurd (⊎_elim (λ (t : s.read_failed ≡ true). true≢false (sym t ∙ sound.read)) (λ (t : s.write_failed ≡ true). true≢false (sym t ∙ sound.write)) failed)
+
+-- ---- why it stops
+
+-- What an error's status says, where `Refused` says what is refused, `Report` that a prefix of a report was written,
+-- `Part` that a prefix of what was asked for was, and `Missed` that a folder was missed.
+abbrev Says : State → State → ℕ → Type 0 → Type 0 → Type 0 → Type 0 → Type 0
+Says before after status Refused Report Part Missed =
+    ((status ≡ 1) × Refused × WritesNothing before after)
+    ⊎ (((status ≡ 3) × ((after.written ≡ before.written) ⊎ Report) × IsSound after)
+    ⊎ ((status ≡ 4) × (HasFailed after ⊎ Missed) × ((after.written ≡ before.written) ⊎ Part) × (after.read_failed ≡ true → after.written ≡ before.written)))
+
+module _ (before after : State) where
+  unread_flag : {A : Type 0} → after.read_failed ≡ false → after.read_failed ≡ true → A
+  unread_flag down up = absurd (true≢false (sym up ∙ down))
+
+  advance_says : (e : AdvanceError) (n : ℕ) → AdvanceFails e n before after
+      → Says before after (advance_status e) (RefusesInput (Advance n) before after) ⊥ (DoesInPart (Advance n) before after) ⊥
+  advance_says (advance.Text fault) n h = inl (refl, inl (fault, h.0), h.1)
+  advance_says advance.TooLong n h = inl (refl, inr h.0, h.1)
+  advance_says advance.Memory n h = inr (inl (refl, inl h.written, h.sound))
+  advance_says advance.Read n h = inr (inr (refl, inl (inl h.read), inl h.written, λ up. h.written))
+  advance_says advance.Write n h = inr (inr (refl, inl (inr h.1.write), inr h.0, unread_flag h.1.read))
+
+  run_says : (e : RunError) (fs : List (List ℕ)) (question : Question) → RunFails e fs question before after
+      → Says before after (run_status e) (RefusesCollections fs before after) (RunsInPart fs question before after) (RunsInPart fs question before after)
+      (StopsAtWord fs folder_fault.Read)
+  run_says (run.Bundle fault) [] question h = inl (refl, inl (fault, h.0), h.1)
+  run_says (run.Folder fault) [] question h = absurd h
+  run_says run.TooLong [] question h = inl (refl, inr h.0, h.1)
+  run_says run.Memory [] question h = inr (inl (refl, h.0, h.1))
+  run_says run.Read [] question h = inr (inr (refl, inl (inl h.read), inl h.written, λ up. h.written))
+  run_says run.Write [] question h = inr (inr (refl, inl (inr h.1.write), inr h.0, unread_flag h.1.read))
+  run_says (run.Bundle fault) (f ∷ fs) question h = absurd h
+  run_says (run.Folder fault) (f ∷ fs) question h = inl (refl, inl (fault, h.0), record { written = h.1.written; sound = h.1.sound })
+  run_says run.TooLong (f ∷ fs) question h = inl (refl, inr h.0, record { written = h.1.written; sound = h.1.sound })
+  run_says run.Memory (f ∷ fs) question (inl h) = inr (inl (refl, inl h.1.written, h.1.sound))
+  run_says run.Memory (f ∷ fs) question (inr h) = inr (inl (refl, inr h.0, h.1))
+  run_says run.Read (f ∷ fs) question h = inr (inr (refl, inr h.0, inl h.1.written, λ up. h.1.written))
+  run_says run.Write (f ∷ fs) question h = inr (inr (refl, inl (inr h.1.write), inr h.0, unread_flag h.1.read))
+
+module _ (before after : State) where
+  says : (error : CommandError) (request : Request) → Fails error request before after
+      → Says before after (status_of error) (RefusesInput request before after) (ReportsInPart request before after) (DoesInPart request before after)
+      (StopsAtFolder request)
+  says (command.Run e) (Run bound workers folders) h = run_says before after e _ (question.Settles bound) h
+  says (command.Advance e) (Advance n) h = advance_says before after e n h
+  says (command.Draw (draw.Rule fault)) (Draw code rule) h = inl (refl, inl (fault, h.0), record { written = h.1.written; sound = h.1.sound })
+  says (command.Draw (draw.Code fault)) (Draw code rule) h = inl (refl, inr (fault, h.0.1), record { written = h.1.written; sound = h.1.sound })
+  says (command.Draw draw.Memory) (Draw code rule) h = inr (inl (refl, inl h.1.written, h.1.sound))
+  says (command.Draw draw.Write) (Draw code rule) h = inr (inr (refl, inl (inr h.1.write), inr h.0, unread_flag before after h.1.read))
+  says (command.Run e) (Advance n) h = absurd h
+  says (command.Run e) (Draw code rule) h = absurd h
+  says (command.Advance e) (Run question workers folders) h = absurd h
+  says (command.Advance e) (Draw code rule) h = absurd h
+  says (command.Draw e) (Run question workers folders) h = absurd h
+  says (command.Draw e) (Advance n) h = absurd h
+  says command.Arguments (Run question workers folders) h = absurd h
+  says command.Arguments (Advance n) h = absurd h
+  says command.Arguments (Draw code rule) h = absurd h
+  says command.Memory (Run question workers folders) h = absurd h
+  says command.Memory (Advance n) h = absurd h
+  says command.Memory (Draw code rule) h = absurd h
+  says command.Write (Run question workers folders) h = absurd h
+  says command.Write (Advance n) h = absurd h
+  says command.Write (Draw code rule) h = absurd h
+
+module _ (words : List (List ℕ)) (before after : State) (old new : Errors) where
+  module _ (request : Request) (asked : Asks words request) (error : CommandError) (fails : Fails error request before after)
+      (line : Tells (error_line error) old new) where
+    tells : TellsError words (status_of error) before after old new
+    tells = record { error = error; status_is = refl; fails = inl (record { request = request; asked = asked; fails = fails }); line = line }
+
+    -- what was asked for failed, and the error was told
+    pub ends_failed : Ends words (status_of error) before after old new
+    ends_failed = case (says before after error request fails)
+      where
+        case : Says before after (status_of error) (RefusesInput request before after) (ReportsInPart request before after)
+            (DoesInPart request before after) (StopsAtFolder request) → Ends words (status_of error) before after old new
+        case (inl (is, refused, nothing)) = record {
+          known = omega arith;
+          done = λ h. absurd (omega arith);
+          quiet = λ h. absurd (omega arith);
+          faulty = λ h. (record { request = request; asked = asked; refused = refused }, nothing);
+          refused = λ h. absurd (omega arith);
+          unmatched = λ h. absurd (h asked.0);
+          memory = λ h. absurd (omega arith);
+          failed = λ h. absurd (omega arith);
+          cut = λ h. absurd (omega arith);
+          unwritten = λ h. nothing.written;
+          noticed = neither after nothing.sound;
+          told = λ h. inl tells;
+        }
+        case (inr (inl (is, part, sound))) = record {
+          known = omega arith;
+          done = λ h. absurd (omega arith);
+          quiet = λ h. absurd (omega arith);
+          faulty = λ h. absurd (omega arith);
+          refused = λ h. absurd (omega arith);
+          unmatched = λ h. absurd (h asked.0);
+          memory = λ h. (⊎_elim (λ same. inl same) (λ report. inr (record { request = request; asked = asked; part = report })) part, sound);
+          failed = λ h. absurd (omega arith);
+          cut = λ h. absurd (omega arith);
+          unwritten = λ h. neither after sound (inl h);
+          noticed = neither after sound;
+          told = λ h. inl tells;
+        }
+        case (inr (inr (is, why, part, kept))) = record {
+          known = omega arith;
+          done = λ h. absurd (omega arith);
+          quiet = λ h. absurd (omega arith);
+          faulty = λ h. absurd (omega arith);
+          refused = λ h. absurd (omega arith);
+          unmatched = λ h. absurd (h asked.0);
+          memory = λ h. absurd (omega arith);
+          failed = λ h. ⊎_elim (λ failed. inl failed) (λ missed. inr (record { request = request; asked = asked; missed = missed })) why;
+          cut = λ h. ⊎_elim (λ same. inl same) (λ some. inr (inl (record { request = request; asked = asked; part = some }))) part;
+          unwritten = kept;
+          noticed = λ h. is;
+          told = λ h. inl tells;
+        }
+
+  module _ (status : ℕ) where
+    -- help was written
+    ends_helped : (text : List ℕ) → AsksHelp words → status ≡ 0 → Shows text before after old new → Ends words status before after old new
+    ends_helped text help is shows = record {
+      known = omega arith;
+      done = λ h. inr (record { asked = help; text = text; written = shows.written; unread = shows.unread });
+      quiet = λ h. shows.quiet;
+      faulty = λ h. absurd (omega arith);
+      refused = λ h. absurd (omega arith);
+      unmatched = λ h. inr (inr help);
+      memory = λ h. absurd (omega arith);
+      failed = λ h. absurd (omega arith);
+      cut = λ h. absurd (omega arith);
+      unwritten = λ h. neither after shows.sound (inl h);
+      noticed = neither after shows.sound;
+      told = λ h. absurd (omega arith);
+    }
+
+    -- a prefix of it was
+    ends_cut : (text : List ℕ) → AsksHelp words → status ≡ 4 → ShowsInPart text before after old new → Ends words status before after old new
+    ends_cut text help is shows =
+        let part : HelpsInPart words before after = record { asked = help; text = text; written = shows.written; unread = shows.unread } in
+        record {
+          known = omega arith;
+          done = λ h. absurd (omega arith);
+          quiet = λ h. absurd (omega arith);
+          faulty = λ h. absurd (omega arith);
+          refused = λ h. absurd (omega arith);
+          unmatched = λ h. inr (inr help);
+          memory = λ h. absurd (omega arith);
+          failed = λ h. inl (inr shows.fails.write);
+          cut = λ h. inr (inr part);
+          unwritten = unread_flag before after shows.fails.read;
+          noticed = λ h. is;
+          told = λ h. inl (record { error = command.Write; status_is = is; fails = inr (part, shows.fails); line = shows.line });
+        }
+
+    -- the words are refused
+    ends_refused : (text : List ℕ) → IsRefused words → status ≡ 2 → IsUntouched before after → Tells text old new → Ends words status before after old new
+    ends_refused text refused is untouched told =
+        let tells : TellsRefusal words before after old new = record { refused = refused; untouched = untouched; text = text; told = told } in
+        record {
+          known = omega arith;
+          done = λ h. absurd (omega arith);
+          quiet = λ h. absurd (omega arith);
+          faulty = λ h. absurd (omega arith);
+          refused = λ h. tells;
+          unmatched = λ h. inl is;
+          memory = λ h. absurd (omega arith);
+          failed = λ h. absurd (omega arith);
+          cut = λ h. absurd (omega arith);
+          unwritten = λ h. untouched.written;
+          noticed = neither after untouched.sound;
+          told = λ h. inr tells;
+        }
+
+    -- memory was refused while the words were read
+    pub ends_unread : status ≡ 3 → IsUntouched before after → Tells (error_line command.Memory) old new → Ends words status before after old new
+    ends_unread is untouched told = record {
+      known = omega arith;
+      done = λ h. absurd (omega arith);
+      quiet = λ h. absurd (omega arith);
+      faulty = λ h. absurd (omega arith);
+      refused = λ h. absurd (omega arith);
+      unmatched = λ h. inr (inl is);
+      memory = λ h. (inl untouched.written, untouched.sound);
+      failed = λ h. absurd (omega arith);
+      cut = λ h. absurd (omega arith);
+      unwritten = λ h. untouched.written;
+      noticed = neither after untouched.sound;
+      told = λ h. inl (record { error = command.Memory; status_is = is; fails = inr untouched; line = told });
+    }
+
+    -- the words ask for nothing that can be done
+    pub ends_answered : (fault : WordsFault) → Refuses words fault → Answers fault status before after old new → Ends words status before after old new
+    ends_answered (words_fault.Help text) help (inl h) = ends_helped (string_bytes text) help h.0 h.1
+    ends_answered (words_fault.Help text) help (inr h) = ends_cut (string_bytes text) help h.0 h.1
+    ends_answered (words_fault.Refused text) refused h = ends_refused (string_bytes text) refused h.0 h.1 h.2
+    ends_answered words_fault.Memory refused h = ends_unread h.0 h.1 h.2

@@ -1,0 +1,54 @@
+-- What stands in the streams of a command: one value before and one after.
+use Rattle.std.specs.Prelude.{◌≡◌, ◌⊎◌, ℕ, Bool, true, false, List, Option, MatchBool}
+use Rattle.std.specs.Io.KnownBytes.{Appends}
+use Rattle.watched.specs.Watching.{AppendsFront}
+
+-- Standard input and standard output. The bytes are those that the reader and the writer tell, if they tell any.
+pub record State : Type 0 where
+  -- what is left to read
+  pub unread : Option (List ℕ)
+  -- what was written
+  pub written : Option (List ℕ)
+  pub read_failed : Bool
+  pub write_failed : Bool
+
+-- neither stream has failed
+pub record IsSound (s : State) : Type 0 where
+  pub read : s.read_failed ≡ false
+  pub write : s.write_failed ≡ false
+
+-- nothing was read or written, and neither stream has failed
+pub record IsUntouched (before after : State) : Type 0 where
+  pub unread : after.unread ≡ before.unread
+  pub written : after.written ≡ before.written
+  pub sound : IsSound after
+
+-- nothing was written, and neither stream has failed
+pub record WritesNothing (before after : State) : Type 0 where
+  pub written : after.written ≡ before.written
+  pub sound : IsSound after
+
+-- standard input has failed, and nothing was written
+pub record ReadFails (before after : State) : Type 0 where
+  pub written : after.written ≡ before.written
+  pub read : after.read_failed ≡ true
+  pub write : after.write_failed ≡ false
+
+-- standard output has failed, and standard input has not
+pub record WriteFails (after : State) : Type 0 where
+  pub read : after.read_failed ≡ false
+  pub write : after.write_failed ≡ true
+
+-- one of the streams has failed
+abbrev pub HasFailed : State → Type 0
+HasFailed s = (s.read_failed ≡ true) ⊎ (s.write_failed ≡ true)
+
+-- Standard error: what was told on it, and whether it has failed.
+pub record Errors : Type 0 where
+  pub told : Option (List ℕ)
+  pub failed : Bool
+
+-- this text was told, whole where the stream has not failed, else a prefix of it, and nothing else
+abbrev pub Tells : List ℕ → Errors → Errors → Type 0
+Tells text before after =
+    MatchBool after.failed (AppendsFront before.told after.told text) (Appends before.told after.told text)

@@ -1,0 +1,78 @@
+//! Why `advance` writes no text.
+
+use life_text::rle::RleFault;
+use std::alloc::AllocError;
+use thiserror::Error;
+use watched::reading::ReadFault;
+use watched::watched::Failed;
+
+/// Why `advance` did not write the whole text of a generation.
+#[derive(Clone, Copy, Debug, PartialEq, Eq, Drop, Error)]
+pub enum AdvanceError {
+    /// The RLE text on standard input has this fault.
+    #[error("{0}")]
+    Text(RleFault),
+    /// Standard input has more bytes than one text may have.
+    #[error("input too long")]
+    TooLong,
+    #[error("out of memory")]
+    Memory,
+    /// Standard input has failed.
+    #[error("read failed")]
+    Read,
+    /// Standard output has failed.
+    #[error("write failed")]
+    Write,
+}
+
+impl From<AllocError> for AdvanceError {
+    ghost use Rattle.std.specs.Prelude.{◌≡◌};
+    ghost use Rattle.census_command.specs.declared.advance_error.AdvanceError.TheVariants.{Memory};
+
+    ghost from_gives = { λ _ error. error ≡ Memory };
+
+    fn from(_: AllocError) -> AdvanceError {
+        AdvanceError::Memory
+    }
+}
+
+impl From<RleFault> for AdvanceError {
+    ghost use Rattle.std.specs.Prelude.{◌≡◌};
+    ghost use Rattle.census_command.specs.Errors.{advance_error_of_text};
+
+    ghost from_gives = { λ fault error. error ≡ advance_error_of_text fault };
+
+    fn from(fault: RleFault) -> AdvanceError {
+        match fault {
+            RleFault::Memory => AdvanceError::Memory,
+            other => AdvanceError::Text(other),
+        }
+    }
+}
+
+impl From<ReadFault> for AdvanceError {
+    ghost use Rattle.std.specs.Prelude.{◌≡◌};
+    ghost use Rattle.census_command.specs.Errors.{advance_error_of_read};
+
+    ghost from_gives = { λ fault error. error ≡ advance_error_of_read fault };
+
+    fn from(fault: ReadFault) -> AdvanceError {
+        match fault {
+            ReadFault::Read => AdvanceError::Read,
+            ReadFault::TooLong => AdvanceError::TooLong,
+            ReadFault::Memory => AdvanceError::Memory,
+        }
+    }
+}
+
+impl From<Failed> for AdvanceError {
+    ghost use Rattle.std.specs.Prelude.{◌≡◌};
+    ghost use Rattle.census_command.specs.declared.advance_error.AdvanceError.TheVariants.{Write};
+
+    ghost from_gives = { λ _ error. error ≡ Write };
+
+    /// Only the writer is answered by it: the reader's failure comes as a `ReadFault`.
+    fn from(_: Failed) -> AdvanceError {
+        AdvanceError::Write
+    }
+}

@@ -1,0 +1,94 @@
+//! The streams of a command, each of which remembers that it failed.
+ghost use Rattle.std.specs.Prelude.{◌≡◌, false};
+ghost use Rattle.watched.specs.Watching.{has_failed, inner_of};
+ghost use Rattle.census_command.specs.Streams.{Errors, State, Tells};
+
+use std::io::{Read, Write};
+use std::marker::Model;
+use watched::watched::Watched;
+use watched::writing::put_all;
+
+/// Standard input and standard output. A clause sees what is left to read, what was written, and which of the two has
+/// failed.
+#[derive(Drop)]
+pub struct Streams<I: Read, O: Write> {
+    pub(crate) input: Watched<I>,
+    pub(crate) output: Watched<O>,
+}
+
+impl<I: Read, O: Write> Model for Streams<I, O> {
+    ghost Value = { State };
+
+    ghost view = { λ s. record {
+      unread = I.remaining (inner_of s.input);
+      written = O.contents (inner_of s.output);
+      read_failed = has_failed s.input;
+      write_failed = has_failed s.output;
+    } };
+}
+
+impl<I: Read, O: Write> Streams<I, O> {
+    /// A reader and a writer, neither of which has failed yet.
+    pub fn new(input: I, output: O) -> Streams<I, O>
+        ensures unread { result.unread ≡ I.remaining input }
+        ensures written { result.written ≡ O.contents output }
+        ensures sound { (result.read_failed ≡ false) × (result.write_failed ≡ false) }
+    {
+        Streams {
+            input: Watched::new(input),
+            output: Watched::new(output),
+        }
+    }
+
+    /// The reader and the writer, as the last call left them.
+    pub fn into_inner(self) -> (I, O)
+        ensures unread { I.remaining result.0 ≡ self.unread }
+        ensures written { O.contents result.1 ≡ self.written }
+    {
+        let Streams { input, output } = self;
+        (input.into_inner(), output.into_inner())
+    }
+}
+
+/// Standard error. A clause sees what was told on it, and whether it has failed.
+#[derive(Drop)]
+pub struct ErrorStream<E: Write> {
+    inner: Watched<E>,
+}
+
+impl<E: Write> Model for ErrorStream<E> {
+    ghost Value = { Errors };
+
+    ghost view = { λ s. record {
+      told = E.contents (inner_of s.inner);
+      failed = has_failed s.inner;
+    } };
+}
+
+impl<E: Write> ErrorStream<E> {
+    /// A writer that has not failed yet.
+    pub fn new(inner: E) -> ErrorStream<E>
+        ensures told { result.told ≡ E.contents inner }
+        ensures sound { result.failed ≡ false }
+    {
+        ErrorStream {
+            inner: Watched::new(inner),
+        }
+    }
+
+    /// The writer, as the last call left it.
+    pub fn into_inner(self) -> E
+        ensures { E.contents result ≡ self.told }
+    {
+        let ErrorStream { inner } = self;
+        inner.into_inner()
+    }
+
+    /// Writes a text, and asks for no memory. Where the stream fails, a prefix of the text went out.
+    pub fn tell(&mut self, text: &[u8])
+        requires { self.old.failed ≡ false }
+        ensures { Tells text.now self.old self.new }
+    {
+        let _ = put_all(&mut self.inner, text);
+    }
+}

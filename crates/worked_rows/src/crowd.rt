@@ -1,0 +1,67 @@
+//! A gate that needs as many workers as the command line asks for.
+
+use crate::bundles::{DEMO, DEMO_REPORT};
+use crate::program::called_through;
+use census_bundle::ticket::Ticket;
+use census_crew::gate::Gate;
+use std::alloc::AllocError;
+use std::sync::atomic::{AtomicU64, Ordering};
+use std::test::Fail;
+
+// How often a worker looks whether the others have come.
+const TURNS: u64 = 1_000_000_000;
+
+/// Holds each worker until so many have entered, unless it gives up.
+#[derive(Drop)]
+struct Crowd {
+    awaited: u64,
+    entered: AtomicU64,
+    gave_up: AtomicU64,
+}
+
+impl Gate for Crowd {
+    fn enter(&self, _ticket: Ticket) {
+        self.entered.fetch_add(1, Ordering::SeqCst);
+        for _ in 0..TURNS {
+            if self.entered.load(Ordering::SeqCst) >= self.awaited {
+                return;
+            }
+        }
+        self.gave_up.store(1, Ordering::SeqCst);
+    }
+}
+
+#[test]
+fn as_many_workers_as_the_words_say_meet_at_the_gate(rt: HostRuntime) -> Result<(), Fail> {
+    const CALLS: &[(&[&str], u64)] = &[
+        (&["run", "--bound", "50", "--workers", "2"], 2),
+        (&["run", "--workers", "5", "--bound", "50"], 5),
+        (&["run", "--bound", "50"], 4),
+    ];
+    for (words, awaited) in CALLS {
+        let gate = Crowd {
+            awaited: *awaited,
+            entered: AtomicU64::new(0),
+            gave_up: AtomicU64::new(0),
+        };
+        let output = Vec::with_capacity(rt.alloc(), 300)?;
+        let errors = Vec::with_capacity(rt.alloc(), 300)?;
+        let (status, output, errors) = called_through(
+            &rt,
+            rt.alloc(),
+            words,
+            &gate,
+            DEMO,
+            output,
+            errors,
+        );
+        if status == 3 {
+            return Err(Fail::from(AllocError));
+        }
+        assert_eq!(rt; status, 0);
+        assert_eq!(rt; gate.gave_up.load(Ordering::SeqCst), 0);
+        assert!(rt; output.as_slice() == DEMO_REPORT);
+        assert!(rt; errors.is_empty());
+    }
+    Ok(())
+}
