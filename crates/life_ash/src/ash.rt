@@ -3,6 +3,7 @@ ghost use Rattle.std.specs.Prelude.{◌≡◌, ℕ, ◌≤◌, ◌↔◌, All, I
 ghost use Rattle.life_model.specs.Generation.{Generation};
 ghost use Rattle.life_objects.specs.Ash.{IsAsh};
 ghost use Rattle.life_ash.specs.Later.{all_later};
+ghost use Rattle.life_orbit.specs.Course.{IsCourse};
 ghost use Rattle.life_ash.specs.Parts.{IsFit, IsOf, IsPlaced, sets_of};
 
 use crate::checks::{are_apart, are_together};
@@ -26,7 +27,7 @@ impl Model for Ash {
     ghost use Rattle.std.specs.Coded.{coded_list};
     ghost use Rattle.life_ash.specs.Later.{all_later};
     ghost use Rattle.life_ash.specs.Parts.{IsPlaced};
-    ghost use Rattle.life_orbit.specs.Course.{Course, coded_course};
+    ghost use Rattle.life_orbit.specs.Course.{Course, IsCourse, coded_course};
 
     ghost Value = { List Course };
 
@@ -34,13 +35,14 @@ impl Model for Ash {
 
     ghost view = { λ a. all_later a.age a.orbits.items };
 
-    ghost invariant = { λ a. All IsPlaced a.orbits.items };
+    ghost invariant = { λ a. All IsPlaced a.orbits.items × All IsCourse a.orbits.items };
 }
 
 impl Ash {
     /// What the sets of these orbits become after so many generations.
     pub fn of(orbits: Vec<Orbit>, age: u32) -> Ash
         requires placed { All IsPlaced orbits.items }
+        requires courses { All IsCourse orbits.items }
         ensures { result ≡ all_later age orbits.items }
     {
         Ash { orbits, age }
@@ -50,6 +52,7 @@ impl Ash {
     pub fn orbits(&self) -> &[Orbit]
         ensures later { (age : ℕ) × (self.now ≡ all_later age result.now) }
         ensures placed { All IsPlaced result.now }
+        ensures courses { All IsCourse result.now }
     {
         self.orbits.as_slice()
     }

@@ -3,6 +3,7 @@ ghost use Rattle.std.specs.Prelude.{◌≤◌, All, IfOk, IfSome};
 ghost use Rattle.life_model.specs.Generation as generations;
 ghost use Rattle.life_cells.specs.Limits.{IsWithin};
 ghost use Rattle.life_objects.specs.Ash.{IsAsh};
+ghost use Rattle.life_orbit.specs.Course.{IsCourse};
 ghost use Rattle.life_ash.specs.Parts.{IsFit, IsOf, IsPlaced, sets_of};
 
 use crate::ash::is_ash;
@@ -51,6 +52,7 @@ pub fn guessed_parts<P: Plane>(
         IsAsh rule.now bound (P.members plane.now) (sets_of parts.items))) }
     ensures rule { IfOk result (λ found. IfSome found (λ parts. All (IsOf rule.now) parts.items)) }
     ensures placed { IfOk result (λ found. IfSome found (λ parts. All IsPlaced parts.items)) }
+    ensures courses { IfOk result (λ found. IfSome found (λ parts. All IsCourse parts.items)) }
 {
     let reach = bound.min(REACH);
     let copy = plane.copy()?;

@@ -1,3 +1,4 @@
 pub mod Places
 pub mod Phases
 pub mod PartCodes
+pub mod LaterParts

@@ -33,7 +33,7 @@ module _ (o : Course) (b : ℕ) (course : IsCourse o) (within : o.period ≤ b) 
   at_start : (n : ℕ) (d : Cell) → RecursBy o.rule (generation o.rule o.set 0) n d → RecursBy o.rule o.set n d
   at_start n d = subst (λ G. RecursBy o.rule G n d) start
 
-  settles : Settles o.rule o.set b 0 o.period o.displacement
+  pub settles : Settles o.rule o.set b 0 o.period o.displacement
   settles = record {
     settles = record {
       steps = o.period;

@@ -1,8 +1,8 @@
 //! Small patterns of Life whose ash is known, and the codes of its parts.
-use life_ash::pattern::ash;
+use life_answer::finding::Finding;
 use life_cells::cell_list::CellList;
 use life_cells::rule::Rule;
-use life_census::parts::parts_of;
+use life_census::pattern::census;
 use life_plane::list_plane::ListPlane;
 use std::alloc::Global;
 use std::process::Abort;
@@ -64,18 +64,17 @@ fn check(
     let list = CellList::of(alloc, cells)?;
     assert!(rt; list.fits());
     assert!(rt; 1 <= bound && bound <= 100_000);
-    let found = ash::<ListPlane>(alloc, &Rule::life(), &list, bound)?;
-    match found {
-        None => assert!(rt; expected.is_none()),
-        Some(ash) => {
-            let counted = parts_of(alloc, ash.orbits())?;
-            let mut parts = Vec::new(alloc);
-            for part in counted.as_slice() {
-                let code = str::from_utf8(part.code.as_slice())?;
-                parts.push((code, part.count))?;
+    let found = census::<ListPlane>(alloc, &Rule::life(), &list, bound)?;
+    match (&found, expected) {
+        (Finding::Unresolved { .. }, None) => {}
+        (Finding::Ash { parts, .. }, Some(expected)) => {
+            assert_eq!(rt; parts.as_slice().len(), expected.len());
+            for (part, (code, count)) in parts.as_slice().iter().zip(expected) {
+                assert_eq!(rt; part.code.as_slice(), code.as_bytes());
+                assert_eq!(rt; part.count, *count);
             }
-            assert!(rt; expected == Some(parts.as_slice()));
         }
+        _ => panic!(rt; "another finding"),
     }
     Ok(())
 }
