@@ -1,4 +1,3 @@
-pub mod Places
 pub mod Phases
 pub mod PartCodes
 pub mod LaterParts

@@ -6,7 +6,7 @@ use Rattle.life_model.specs.Evolution.{generation}
 use Rattle.life_model.specs.Generation.{Generation, cells}
 use Rattle.life_model.specs.Rule.{Rule}
 use Rattle.life_cells.specs.Limits.{IsWithin}
-use Rattle.life_census.proofs.Places.{generation_within}
+use Rattle.life_ash.proofs.Places.{generation_within}
 use Rattle.life_shape.proofs.Boxes.{width_at_age, height_at_age}
 
 module _ (R : Rule) (G : Generation) (n : ℕ) (within : All (IsWithin 400000) (cells G)) (few : n ≤ 100000) where
