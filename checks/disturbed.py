@@ -8,7 +8,7 @@ import tempfile
 from concurrent.futures import ThreadPoolExecutor
 
 HERE = os.path.dirname(os.path.realpath(__file__))
-OF_COLLECTION = re.compile(rb"(?:open|line|code|close) ([0-9]+) ")
+OF_COLLECTION = re.compile(rb"(?:open|line|part|code|close) ([0-9]+) ")
 
 # three collections: long names and texts, long codes, a pattern that doesn't settle, and faults
 GUN = b"24bo11b$22bobo11b$12b2o6b2o12b2o$11bo3bo4b2o12b2o$2o8bo5bo3b2o14b$2o8bo3bob2o4bobo11b$10bo5bo7bo11b$11bo3bo20b$12b2o!"

@@ -9,6 +9,7 @@ use std::{env, io};
 fn main(rt: HostRuntime) -> ExitCode {
     program(
         &rt,
+        &rt,
         rt.alloc(),
         env::args(&rt),
         &mut Streams::new(rt.reader(), io::writer(&rt)),

@@ -14,3 +14,4 @@ pub mod AshParts
 pub mod Tallies
 pub mod Fronts
 pub mod ObjectCounts
+pub mod PartCounts

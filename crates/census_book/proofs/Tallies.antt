@@ -10,7 +10,7 @@ use Rattle.std.specs.Prelude.{ℤ}
 use Rattle.life_answer.specs.declared.finding.Answer.{Answer}
 use Rattle.life_answer.specs.declared.finding.Answer.TheVariants.{Found, Refused}
 use Rattle.life_answer.specs.declared.finding.Finding.{Finding}
-use Rattle.life_answer.specs.declared.finding.Finding.TheVariants.{Recurs, Unresolved, Ash}
+use Rattle.life_answer.specs.declared.finding.Finding.TheVariants.{Recurs, Unresolved, Large, Ash}
 use Rattle.life_answer.specs.declared.part.Part.{Part}
 use Rattle.life_model.specs.Rule.{Rule}
 use Rattle.census_book.specs.Objects.{Object, distinct, tally, object, objects, part_objects, same_object}
@@ -222,6 +222,7 @@ pub objects-append : (xs ys : List Answer) → objects (xs ++ ys) ≡ objects xs
 objects-append [] ys = refl
 objects-append (Found rule (Recurs population onset period dx dy code) ∷ xs) ys = ap (λ ks. object rule code ∷ ks) (objects-append xs ys)
 objects-append (Found rule (Unresolved population) ∷ xs) ys = objects-append xs ys
+objects-append (Found rule (Large population generation) ∷ xs) ys = objects-append xs ys
 objects-append (Found rule (Ash population parts) ∷ xs) ys =
     ap (λ ks. part_objects rule parts ++ ks) (objects-append xs ys) ∙ sym (append_assoc (part_objects rule parts) (objects xs) (objects ys))
 objects-append (Refused number ∷ xs) ys = objects-append xs ys

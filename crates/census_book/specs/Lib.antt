@@ -12,6 +12,7 @@ pub mod Tallying
 pub mod Slots
 pub mod Front
 pub mod ObjectCounts
+pub mod PartCounts
 pub mod Released
 pub mod Orders
 pub mod Counts

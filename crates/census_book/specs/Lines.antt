@@ -6,7 +6,7 @@ use Rattle.census_bundle.specs.declared.bundle.Folder.{Folder}
 use Rattle.life_answer.specs.Questions.{answer_to_question}
 use Rattle.life_answer.specs.declared.finding.Answer.{Answer}
 use Rattle.life_answer.specs.declared.finding.Answer.TheVariants.{Found, Refused}
-use Rattle.life_answer.specs.declared.finding.Finding.TheVariants.{Recurs, Unresolved, Ash}
+use Rattle.life_answer.specs.declared.finding.Finding.TheVariants.{Recurs, Unresolved, Large, Ash}
 use Rattle.life_answer.specs.declared.part.Part.{Part}
 use Rattle.life_answer.specs.declared.question.Question.{Question}
 use Rattle.life_answer.specs.Parts.{objects_in}
@@ -35,12 +35,13 @@ unfoldable pub open_line : ℕ → Folder → Line
 open_line c f = line (codes "open") (decimal c ∷ decimal (length f.entries) ∷ f.name ∷ [])
 
 -- What is found of a pattern. `ok`: the rule, the population of generation 0, the onset, the period, the displacement
--- and the code. `ash`: the rule, the population and how many objects. `none`: the rule and the population. `bad`: the
--- number of the text's fault.
+-- and the code. `ash`: the rule, the population and how many objects. `none`: the rule and the population. `large`:
+-- the rule, the population and the first generation that has too many cells. `bad`: the number of the text's fault.
 abbrev pub finding_fields : Answer → List (List ℕ)
 finding_fields (Found rule (Recurs population onset period dx dy code)) =
     codes "ok" ∷ rule_text rule ∷ decimal population ∷ decimal onset ∷ decimal period ∷ signed_decimal dx ∷ signed_decimal dy ∷ code ∷ []
 finding_fields (Found rule (Unresolved population)) = codes "none" ∷ rule_text rule ∷ decimal population ∷ []
+finding_fields (Found rule (Large population generation)) = codes "large" ∷ rule_text rule ∷ decimal population ∷ decimal generation ∷ []
 finding_fields (Found rule (Ash population parts)) = codes "ash" ∷ rule_text rule ∷ decimal population ∷ decimal (objects_in parts) ∷ []
 finding_fields (Refused number) = codes "bad" ∷ decimal number ∷ []
 
@@ -60,6 +61,7 @@ part_line c i part = line (codes "part") (decimal c ∷ decimal i ∷ part.code 
 abbrev pub part_lines : ℕ → ℕ → Answer → List Line
 part_lines c i (Found rule (Recurs population onset period dx dy code)) = []
 part_lines c i (Found rule (Unresolved population)) = []
+part_lines c i (Found rule (Large population generation)) = []
 part_lines c i (Found rule (Ash population parts)) = map (part_line c i) parts
 part_lines c i (Refused number) = []
 
@@ -80,12 +82,14 @@ answers question es = map (λ (e : Entry). answer_to_question question e.text) e
 abbrev pub is_resolved : Answer → Bool
 is_resolved (Found rule (Recurs population onset period dx dy code)) = true
 is_resolved (Found rule (Unresolved population)) = false
+is_resolved (Found rule (Large population generation)) = false
 is_resolved (Found rule (Ash population parts)) = true
 is_resolved (Refused number) = false
 
 abbrev pub is_unresolved : Answer → Bool
 is_unresolved (Found rule (Recurs population onset period dx dy code)) = false
 is_unresolved (Found rule (Unresolved population)) = true
+is_unresolved (Found rule (Large population generation)) = true
 is_unresolved (Found rule (Ash population parts)) = false
 is_unresolved (Refused number) = false
 
@@ -94,7 +98,7 @@ is_refused (Found rule finding) = false
 is_refused (Refused number) = true
 
 -- `close`, the collection, how many patterns it has, and of how many of them it is said `ok` or `ash`,
--- `none`, and `bad`
+-- `none` or `large`, and `bad`
 unfoldable pub close_line : Question → ℕ → Folder → Line
 close_line question c f =
     let found = answers question f.entries in

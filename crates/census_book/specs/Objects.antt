@@ -4,7 +4,7 @@ use Rattle.std.specs.Cmp.Lexicographic.{pointwise}
 use Rattle.census_bundle.specs.declared.bundle.Folder.{Folder}
 use Rattle.life_answer.specs.declared.finding.Answer.{Answer}
 use Rattle.life_answer.specs.declared.finding.Answer.TheVariants.{Found, Refused}
-use Rattle.life_answer.specs.declared.finding.Finding.TheVariants.{Recurs, Unresolved, Ash}
+use Rattle.life_answer.specs.declared.finding.Finding.TheVariants.{Recurs, Unresolved, Large, Ash}
 use Rattle.life_answer.specs.declared.part.Part.{Part}
 use Rattle.life_cells.specs.Rules.{rule_text}
 use Rattle.life_model.specs.Rule.{Rule}
@@ -36,6 +36,7 @@ abbrev pub objects : List Answer → List Object
 objects [] = []
 objects (Found rule (Recurs population onset period dx dy code) ∷ found) = object rule code ∷ objects found
 objects (Found rule (Unresolved population) ∷ found) = objects found
+objects (Found rule (Large population generation) ∷ found) = objects found
 objects (Found rule (Ash population parts) ∷ found) = part_objects rule parts ++ objects found
 objects (Refused number ∷ found) = objects found
 

@@ -133,6 +133,7 @@ fn count_answer<'a>(
                 1,
             ),
             Finding::Unresolved { .. } => Ok(()),
+            Finding::Large { .. } => Ok(()),
             Finding::Ash {
                 population: _,
                 parts,
@@ -188,13 +189,14 @@ fn is_resolved(answer: &Answer) -> bool
         Answer::Found { finding, .. } => match finding {
             Finding::Recurs { .. } => true,
             Finding::Unresolved { .. } => false,
+            Finding::Large { .. } => false,
             Finding::Ash { .. } => true,
         },
         Answer::Refused(_) => false,
     }
 }
 
-// Whether it is said `none` of this.
+// Whether it is said `none` or `large` of this.
 fn is_unresolved(answer: &Answer) -> bool
     ensures { result ≡ is_unresolved answer.now }
 {
@@ -202,6 +204,7 @@ fn is_unresolved(answer: &Answer) -> bool
         Answer::Found { finding, .. } => match finding {
             Finding::Recurs { .. } => false,
             Finding::Unresolved { .. } => true,
+            Finding::Large { .. } => true,
             Finding::Ash { .. } => false,
         },
         Answer::Refused(_) => false,

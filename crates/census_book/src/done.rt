@@ -9,7 +9,6 @@ use census_bundle::bundle::{Entry, Text};
 use census_bundle::ticket::Ticket;
 use life_answer::finding::Answer;
 use life_answer::question::Question;
-use life_find::answer::answer;
 use std::alloc::{AllocError, Global};
 use std::marker::Model;
 
@@ -50,12 +49,16 @@ fn find(alloc: Global, text: &[u8], question: Question) -> Result<Answer, AllocE
     ensures { IfOk result (λ found. found ≡ answer_to_question question text.now) }
 {
     match question {
-        Question::Settles { bound } => answer(alloc, text, bound),
+        Question::Settles { bound, cells } => life_find::answer::answer(alloc, text, bound, cells),
+        Question::Objects { bound, cells } => life_census::answer::answer(
+            alloc, text, bound, cells,
+        ),
     }
 }
 
 impl<'a> Done<'a> {
-    /// Works a ticket: what is found of the entry's text. A bound is 1 to 1,000,000 generations.
+    /// Works a ticket: what is found of the entry's text. A bound is 1 to 1,000,000 generations, and 1 to
+    /// 100,000 where objects are asked for.
     pub fn work(
         alloc: Global,
         ticket: Ticket,

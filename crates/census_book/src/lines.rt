@@ -102,6 +102,13 @@ fn push_finding(text: &mut Vec<u8>, answer: &Answer) -> Result<(), AllocError>
             Finding::Unresolved { population } => {
                 push_population(text, b"none", rule, *population)
             }
+            Finding::Large {
+                population,
+                generation,
+            } => {
+                push_population(text, b"large", rule, *population)?;
+                push_number(text, *generation)
+            }
             Finding::Ash { population, parts } => {
                 push_population(text, b"ash", rule, *population)?;
                 push_number(text, count_objects(parts.as_slice()))

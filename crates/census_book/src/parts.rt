@@ -55,6 +55,7 @@ pub fn push_tail(text: &mut Vec<u8>, ticket: Ticket, answer: &Answer) -> Result<
         Answer::Found { rule: _, finding } => match finding {
             Finding::Recurs { .. } => Ok(()),
             Finding::Unresolved { .. } => Ok(()),
+            Finding::Large { .. } => Ok(()),
             Finding::Ash {
                 population: _,
                 parts,

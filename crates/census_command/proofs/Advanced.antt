@@ -1,5 +1,5 @@
 -- How the parts of `advance` join.
-use Rattle.std.proofs.Common.{◌≡◌, ◌++◌, ℕ, List, [], Result, Ok, Err, Bool, true, false, refl, sym, ap, subst, ◌∙◌}
+use Rattle.std.proofs.Common.{◌≡◌, ◌++◌, ℕ, ◌≤◌, List, [], length, Result, Ok, Err, Bool, true, false, refl, sym, ap, subst, ◌∙◌}
 use Rattle.std.specs.Io.KnownBytes.{Appends}
 use Rattle.watched.specs.declared.reading.ReadFault.{ReadFault}
 use Rattle.watched.specs.declared.reading.ReadFault.TheVariants.{Read}
@@ -10,9 +10,11 @@ use Rattle.life_model.specs.Rule.{Rule}
 use Rattle.life_text.specs.Picture.{Picture, picture_of}
 use Rattle.life_text.specs.Rle.{reading}
 use Rattle.life_text.specs.RleText.{rle_text}
-use Rattle.census_crew.specs.Bytes.{ReadsText}
+use Rattle.census_crew.specs.Bytes.{ReadsText, input_limit}
+use Rattle.census_folders.specs.Told.{GivesTold}
+use Rattle.census_command.specs.Shelves.{Tellings}
 use Rattle.census_command.specs.Streams.{State}
-use Rattle.census_command.specs.Advances.{Advances, AdvancesInPart, IsAdvanced}
+use Rattle.census_command.specs.Advances.{Advances, AdvancesFile, AdvancesFileInPart, AdvancesInPart, IsAdvanced}
 
 pub is_advanced : (text : List ℕ) (n : ℕ) (old new : List ℕ) (pattern : Picture) (R : Rule) (G : Generation) → picture_of (reading text) ≡ Ok pattern
     → R ≡ pattern.rule → G ≡ generation pattern.rule pattern.cells n → old ≡ [] → new ≡ old ++ rle_text R G → IsAdvanced text n new
@@ -44,6 +46,31 @@ module _ (text bytes : List ℕ) (n : ℕ) (written : List ℕ) (same : bytes �
     read = read;
     means = means;
     written = subst (λ xs. AppendsFront before.written after.written xs) (e ∙ a.is) appended;
+  }
+
+module _ (text bytes : List ℕ) (n : ℕ) (written : List ℕ) (same : bytes ≡ text) (a : IsAdvanced bytes n written) (shelf : Tellings) (path : List ℕ) where
+  pub advances_file : (out : List ℕ) (before after : State) → out ≡ written → GivesTold (shelf.held [] path) text → length text ≤ input_limit
+      → after.unread ≡ before.unread → Appends before.written after.written out → AdvancesFile shelf path n before after
+  advances_file out before after e told within unread appended = record {
+    text = text;
+    pattern = a.pattern;
+    told = told;
+    within = within;
+    means = subst (λ xs. picture_of (reading xs) ≡ Ok a.pattern) same a.means;
+    written = subst (λ xs. Appends before.written after.written xs) (e ∙ a.is) appended;
+    unread = unread;
+  }
+
+  pub advances_file_in_part : (out : List ℕ) (before after : State) → out ≡ written → GivesTold (shelf.held [] path) text → length text ≤ input_limit
+      → after.unread ≡ before.unread → AppendsFront before.written after.written out → AdvancesFileInPart shelf path n before after
+  advances_file_in_part out before after e told within unread appended = record {
+    text = text;
+    pattern = a.pattern;
+    told = told;
+    within = within;
+    means = subst (λ xs. picture_of (reading xs) ≡ Ok a.pattern) same a.means;
+    written = subst (λ xs. AppendsFront before.written after.written xs) (e ∙ a.is) appended;
+    unread = unread;
   }
 
 -- the flag is down where the reader was read to its end

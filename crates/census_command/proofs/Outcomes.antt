@@ -1,23 +1,25 @@
 -- What each exit status says.
-use Rattle.std.proofs.Common.{◌≡◌, ◌⊎◌, ℕ, List, [], ◌∷◌, true, false, inl, inr, ⊎_elim, refl, sym, ◌∙◌, arith, true≢false, string_bytes}
-use Rattle.census_folders.specs.Faults.{StopsAtWord}
+use Rattle.std.proofs.Common.{◌≡◌, ◌⊎◌, ℕ, List, [], ◌∷◌, Option, None, Some, option_map, true, false, inl, inr, ⊎_elim, refl, sym, ◌∙◌, arith, true≢false, string_bytes}
 use Rattle.census_folders.specs.declared.fault.FoldersFault.TheVariants as folder_fault
 use Rattle.census_words.specs.Asking.{Asks}
 use Rattle.census_words.specs.Refusing.{AsksHelp, IsRefused, Refuses}
 use Rattle.census_words.specs.declared.fault.WordsFault.{WordsFault}
 use Rattle.census_words.specs.declared.fault.WordsFault.TheVariants as words_fault
 use Rattle.census_words.specs.declared.request.Request.{Request}
-use Rattle.census_words.specs.declared.request.Request.TheVariants.{Run, Advance, Draw}
+use Rattle.census_words.specs.declared.request.Request.TheVariants.{Run, Objects, Identify, Advance, Draw}
 use Rattle.life_answer.specs.declared.question.Question.TheVariants as question
 use Rattle.life_answer.specs.declared.question.Question.{Question}
-use Rattle.census_command.specs.Advances.{AdvanceFails}
+use Rattle.census_command.specs.Advances.{AdvanceFromFails, AdvancesFromInPart}
 use Rattle.census_command.specs.Errors.{advance_status, run_status, status_of}
 use Rattle.census_command.specs.Messages.{error_line}
 use Rattle.census_command.specs.Outcomes.{Answers, Ends, HelpsInPart}
+use Rattle.census_command.specs.Advances.{file_of}
+use Rattle.census_command.specs.Outcomes.{MissesFile, RefusesText}
 use Rattle.census_command.specs.Outcomes.{RefusesCollections, RefusesInput, ReportsInPart, Shows, ShowsInPart}
 use Rattle.census_command.specs.Outcomes.{StopsAtFolder, TellsError, TellsRefusal}
 use Rattle.census_command.specs.Requests.{DoesInPart, Fails}
-use Rattle.census_command.specs.Runs.{RunFails, RunsInPart}
+use Rattle.census_command.specs.Runs.{RunFails, RunsInPart, StopsReading}
+use Rattle.census_command.specs.Shelves.{Tellings}
 use Rattle.census_command.specs.Streams.{Errors, HasFailed, IsSound, IsUntouched, State, Tells, WritesNothing}
 use Rattle.census_command.specs.declared.advance_error.AdvanceError.{AdvanceError}
 use Rattle.census_command.specs.declared.advance_error.AdvanceError.TheVariants as advance
@@ -43,21 +45,26 @@ Says before after status Refused Report Part Missed =
     ⊎ (((status ≡ 3) × ((after.written ≡ before.written) ⊎ Report) × IsSound after)
     ⊎ ((status ≡ 4) × (HasFailed after ⊎ Missed) × ((after.written ≡ before.written) ⊎ Part) × (after.read_failed ≡ true → after.written ≡ before.written)))
 
-module _ (before after : State) where
+module _ (shelf : Tellings) (before after : State) where
   unread_flag : {A : Type 0} → after.read_failed ≡ false → after.read_failed ≡ true → A
   unread_flag down up = absurd (true≢false (sym up ∙ down))
 
-  advance_says : (e : AdvanceError) (n : ℕ) → AdvanceFails e n before after
-      → Says before after (advance_status e) (RefusesInput (Advance n) before after) ⊥ (DoesInPart (Advance n) before after) ⊥
-  advance_says (advance.Text fault) n h = inl (refl, inl (fault, h.0), h.1)
-  advance_says advance.TooLong n h = inl (refl, inr h.0, h.1)
-  advance_says advance.Memory n h = inr (inl (refl, inl h.written, h.sound))
-  advance_says advance.Read n h = inr (inr (refl, inl (inl h.read), inl h.written, λ up. h.written))
-  advance_says advance.Write n h = inr (inr (refl, inl (inr h.1.write), inr h.0, unread_flag h.1.read))
+  advance_says : (e : AdvanceError) (file : Option (List ℕ)) (n : ℕ) → AdvanceFromFails e shelf file n before after
+      → Says before after (advance_status e) (RefusesText shelf file before after) ⊥ (AdvancesFromInPart shelf file n before after) (MissesFile shelf file)
+  advance_says (advance.Text fault) None n h = inl (refl, inl (fault, h.0), h.1)
+  advance_says advance.TooLong None n h = inl (refl, inr h.0, h.1)
+  advance_says advance.Memory None n h = inr (inl (refl, inl h.written, h.sound))
+  advance_says advance.Read None n h = inr (inr (refl, inl (inl h.read), inl h.written, λ up. h.written))
+  advance_says advance.Write None n h = inr (inr (refl, inl (inr h.1.write), inr h.0, unread_flag h.1.read))
+  advance_says (advance.Text fault) (Some path) n h = inl (refl, inl (fault, h.0), record { written = h.1.written; sound = h.1.sound })
+  advance_says advance.TooLong (Some path) n h = inl (refl, inr h.0, record { written = h.1.written; sound = h.1.sound })
+  advance_says advance.Memory (Some path) n h = inr (inl (refl, inl h.written, h.sound))
+  advance_says advance.Read (Some path) n h = inr (inr (refl, inr h.0, inl h.1.written, λ up. h.1.written))
+  advance_says advance.Write (Some path) n h = inr (inr (refl, inl (inr h.1.write), inr h.0, unread_flag h.1.read))
 
-  run_says : (e : RunError) (fs : List (List ℕ)) (question : Question) → RunFails e fs question before after
-      → Says before after (run_status e) (RefusesCollections fs before after) (RunsInPart fs question before after) (RunsInPart fs question before after)
-      (StopsAtWord fs folder_fault.Read)
+  run_says : (e : RunError) (fs : List (List ℕ)) (question : Question) → RunFails e shelf fs question before after
+      → Says before after (run_status e) (RefusesCollections shelf fs before after) (RunsInPart shelf fs question before after) (RunsInPart shelf fs question before after)
+      (StopsReading shelf fs folder_fault.Read)
   run_says (run.Bundle fault) [] question h = inl (refl, inl (fault, h.0), h.1)
   run_says (run.Folder fault) [] question h = absurd h
   run_says run.TooLong [] question h = inl (refl, inr h.0, h.1)
@@ -72,44 +79,56 @@ module _ (before after : State) where
   run_says run.Read (f ∷ fs) question h = inr (inr (refl, inr h.0, inl h.1.written, λ up. h.1.written))
   run_says run.Write (f ∷ fs) question h = inr (inr (refl, inl (inr h.1.write), inr h.0, unread_flag h.1.read))
 
-module _ (before after : State) where
-  says : (error : CommandError) (request : Request) → Fails error request before after
-      → Says before after (status_of error) (RefusesInput request before after) (ReportsInPart request before after) (DoesInPart request before after)
-      (StopsAtFolder request)
-  says (command.Run e) (Run bound workers folders) h = run_says before after e _ (question.Settles bound) h
-  says (command.Advance e) (Advance n) h = advance_says before after e n h
+module _ (shelf : Tellings) (before after : State) where
+  says : (error : CommandError) (request : Request) → Fails error shelf request before after
+      → Says before after (status_of error) (RefusesInput shelf request before after) (ReportsInPart shelf request before after) (DoesInPart shelf request before after)
+      (StopsAtFolder shelf request)
+  says (command.Run e) (Run bound workers cells folders) h = run_says shelf before after e _ (question.Settles bound cells) h
+  says (command.Run e) (Objects bound workers cells folders) h = run_says shelf before after e _ (question.Objects bound (Some cells)) h
+  says (command.Advance e) (Advance n file) h = advance_says shelf before after e (file_of (option_map (λ s. s.now) file)) n h
   says (command.Draw (draw.Rule fault)) (Draw code rule) h = inl (refl, inl (fault, h.0), record { written = h.1.written; sound = h.1.sound })
   says (command.Draw (draw.Code fault)) (Draw code rule) h = inl (refl, inr (fault, h.0.1), record { written = h.1.written; sound = h.1.sound })
   says (command.Draw draw.Memory) (Draw code rule) h = inr (inl (refl, inl h.1.written, h.1.sound))
-  says (command.Draw draw.Write) (Draw code rule) h = inr (inr (refl, inl (inr h.1.write), inr h.0, unread_flag before after h.1.read))
-  says (command.Run e) (Advance n) h = absurd h
+  says (command.Draw draw.Write) (Draw code rule) h = inr (inr (refl, inl (inr h.1.write), inr h.0, unread_flag shelf before after h.1.read))
+  says (command.Run e) (Advance n file) h = absurd h
+  says (command.Run e) (Identify bound files) h = absurd h
   says (command.Run e) (Draw code rule) h = absurd h
-  says (command.Advance e) (Run question workers folders) h = absurd h
+  says (command.Advance e) (Identify bound files) h = absurd h
+  says (command.Advance e) (Run bound workers cells folders) h = absurd h
+  says (command.Advance e) (Objects bound workers cells folders) h = absurd h
   says (command.Advance e) (Draw code rule) h = absurd h
-  says (command.Draw e) (Run question workers folders) h = absurd h
-  says (command.Draw e) (Advance n) h = absurd h
-  says command.Arguments (Run question workers folders) h = absurd h
-  says command.Arguments (Advance n) h = absurd h
+  says (command.Draw e) (Run bound workers cells folders) h = absurd h
+  says (command.Draw e) (Objects bound workers cells folders) h = absurd h
+  says (command.Draw e) (Advance n file) h = absurd h
+  says (command.Draw e) (Identify bound files) h = absurd h
+  says command.Arguments (Run bound workers cells folders) h = absurd h
+  says command.Arguments (Objects bound workers cells folders) h = absurd h
+  says command.Arguments (Advance n file) h = absurd h
+  says command.Arguments (Identify bound files) h = absurd h
   says command.Arguments (Draw code rule) h = absurd h
-  says command.Memory (Run question workers folders) h = absurd h
-  says command.Memory (Advance n) h = absurd h
+  says command.Memory (Run bound workers cells folders) h = absurd h
+  says command.Memory (Objects bound workers cells folders) h = absurd h
+  says command.Memory (Advance n file) h = absurd h
+  says command.Memory (Identify bound files) h = absurd h
   says command.Memory (Draw code rule) h = absurd h
-  says command.Write (Run question workers folders) h = absurd h
-  says command.Write (Advance n) h = absurd h
+  says command.Write (Run bound workers cells folders) h = absurd h
+  says command.Write (Objects bound workers cells folders) h = absurd h
+  says command.Write (Advance n file) h = absurd h
+  says command.Write (Identify bound files) h = absurd h
   says command.Write (Draw code rule) h = absurd h
 
-module _ (words : List (List ℕ)) (before after : State) (old new : Errors) where
-  module _ (request : Request) (asked : Asks words request) (error : CommandError) (fails : Fails error request before after)
+module _ (shelf : Tellings) (words : List (List ℕ)) (before after : State) (old new : Errors) where
+  module _ (request : Request) (asked : Asks words request) (error : CommandError) (fails : Fails error shelf request before after)
       (line : Tells (error_line error) old new) where
-    tells : TellsError words (status_of error) before after old new
+    tells : TellsError shelf words (status_of error) before after old new
     tells = record { error = error; status_is = refl; fails = inl (record { request = request; asked = asked; fails = fails }); line = line }
 
     -- what was asked for failed, and the error was told
-    pub ends_failed : Ends words (status_of error) before after old new
-    ends_failed = case (says before after error request fails)
+    pub ends_failed : Ends shelf words (status_of error) before after old new
+    ends_failed = case (says shelf before after error request fails)
       where
-        case : Says before after (status_of error) (RefusesInput request before after) (ReportsInPart request before after)
-            (DoesInPart request before after) (StopsAtFolder request) → Ends words (status_of error) before after old new
+        case : Says before after (status_of error) (RefusesInput shelf request before after) (ReportsInPart shelf request before after)
+            (DoesInPart shelf request before after) (StopsAtFolder shelf request) → Ends shelf words (status_of error) before after old new
         case (inl (is, refused, nothing)) = record {
           known = omega arith;
           done = λ h. absurd (omega arith);
@@ -155,7 +174,7 @@ module _ (words : List (List ℕ)) (before after : State) (old new : Errors) whe
 
   module _ (status : ℕ) where
     -- help was written
-    ends_helped : (text : List ℕ) → AsksHelp words → status ≡ 0 → Shows text before after old new → Ends words status before after old new
+    ends_helped : (text : List ℕ) → AsksHelp words → status ≡ 0 → Shows text before after old new → Ends shelf words status before after old new
     ends_helped text help is shows = record {
       known = omega arith;
       done = λ h. inr (record { asked = help; text = text; written = shows.written; unread = shows.unread });
@@ -172,7 +191,7 @@ module _ (words : List (List ℕ)) (before after : State) (old new : Errors) whe
     }
 
     -- a prefix of it was
-    ends_cut : (text : List ℕ) → AsksHelp words → status ≡ 4 → ShowsInPart text before after old new → Ends words status before after old new
+    ends_cut : (text : List ℕ) → AsksHelp words → status ≡ 4 → ShowsInPart text before after old new → Ends shelf words status before after old new
     ends_cut text help is shows =
         let part : HelpsInPart words before after = record { asked = help; text = text; written = shows.written; unread = shows.unread } in
         record {
@@ -185,13 +204,13 @@ module _ (words : List (List ℕ)) (before after : State) (old new : Errors) whe
           memory = λ h. absurd (omega arith);
           failed = λ h. inl (inr shows.fails.write);
           cut = λ h. inr (inr part);
-          unwritten = unread_flag before after shows.fails.read;
+          unwritten = unread_flag shelf before after shows.fails.read;
           noticed = λ h. is;
           told = λ h. inl (record { error = command.Write; status_is = is; fails = inr (part, shows.fails); line = shows.line });
         }
 
     -- the words are refused
-    ends_refused : (text : List ℕ) → IsRefused words → status ≡ 2 → IsUntouched before after → Tells text old new → Ends words status before after old new
+    ends_refused : (text : List ℕ) → IsRefused words → status ≡ 2 → IsUntouched before after → Tells text old new → Ends shelf words status before after old new
     ends_refused text refused is untouched told =
         let tells : TellsRefusal words before after old new = record { refused = refused; untouched = untouched; text = text; told = told } in
         record {
@@ -210,7 +229,7 @@ module _ (words : List (List ℕ)) (before after : State) (old new : Errors) whe
         }
 
     -- memory was refused while the words were read
-    pub ends_unread : status ≡ 3 → IsUntouched before after → Tells (error_line command.Memory) old new → Ends words status before after old new
+    pub ends_unread : status ≡ 3 → IsUntouched before after → Tells (error_line command.Memory) old new → Ends shelf words status before after old new
     ends_unread is untouched told = record {
       known = omega arith;
       done = λ h. absurd (omega arith);
@@ -227,7 +246,7 @@ module _ (words : List (List ℕ)) (before after : State) (old new : Errors) whe
     }
 
     -- the words ask for nothing that can be done
-    pub ends_answered : (fault : WordsFault) → Refuses words fault → Answers fault status before after old new → Ends words status before after old new
+    pub ends_answered : (fault : WordsFault) → Refuses words fault → Answers fault status before after old new → Ends shelf words status before after old new
     ends_answered (words_fault.Help text) help (inl h) = ends_helped (string_bytes text) help h.0 h.1
     ends_answered (words_fault.Help text) help (inr h) = ends_cut (string_bytes text) help h.0 h.1
     ends_answered (words_fault.Refused text) refused h = ends_refused (string_bytes text) refused h.0 h.1 h.2

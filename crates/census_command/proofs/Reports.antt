@@ -9,13 +9,14 @@ use Rattle.census_crew.specs.declared.tally.Tally.{Tally}
 use Rattle.census_crew.specs.Faults.{FitsFault}
 use Rattle.census_crew.specs.declared.fault.RunFault.{RunFault}
 use Rattle.census_crew.specs.declared.fault.RunFault.TheVariants as runs
-use Rattle.census_folders.specs.Faults.{StopsAtWord}
 use Rattle.census_folders.specs.Folders.{HoldsFolders}
+use Rattle.census_folders.specs.Shelves.{HoldsShelf}
 use Rattle.census_folders.specs.declared.fault.FoldersFault.{FoldersFault}
 use Rattle.census_folders.specs.declared.fault.FoldersFault.TheVariants as folder_fault
 use Rattle.life_answer.specs.declared.question.Question.{Question}
 use Rattle.census_command.specs.Errors.{run_error_of_bytes, run_error_of_folders, run_error_of_run}
-use Rattle.census_command.specs.Runs.{FoldersFail, InputFails, ReportsFoldersInPart, ReportsInputInPart}
+use Rattle.census_command.specs.Runs.{FoldersFail, InputFails, ReportsFoldersInPart, ReportsInputInPart, StopsReading}
+use Rattle.census_command.specs.Shelves.{Tellings}
 use Rattle.census_command.specs.Streams.{IsSound, State}
 
 is_down : (failed : Bool) → (failed ≡ true → ⊥) → failed ≡ false
@@ -39,20 +40,21 @@ module _ (question : Question) (before after : State) where
   input_fails Write reads fits runs =
       (front runs, record { read = is_down after.read_failed (λ e. let h = reads.1 e in cc); write = fits })
 
-module _ (words : List (List ℕ)) (question : Question) where
-  pub folders_stop : (fault : FoldersFault) (state : State) → IsSound state → StopsAtWord words fault
-      → FoldersFail (run_error_of_folders fault) words question state state
+module _ (shelf : Tellings) (words : List (List ℕ)) (question : Question) where
+  pub folders_stop : (fault : FoldersFault) (state : State) → IsSound state → StopsReading shelf words fault
+      → FoldersFail (run_error_of_folders fault) shelf words question state state
   folders_stop (folder_fault.Add fault) state sound stops = (stops, record { unread = refl; written = refl; sound = sound })
   folders_stop folder_fault.Read state sound stops = (stops, record { unread = refl; written = refl; sound = sound })
   folders_stop folder_fault.TooLong state sound stops = (stops, record { unread = refl; written = refl; sound = sound })
   folders_stop folder_fault.Memory state sound stops = inl (stops, record { unread = refl; written = refl; sound = sound })
 
-  module _ (before after : State) (bundle : List Folder) (holds : HoldsFolders words bundle) (unread : after.unread ≡ before.unread)
+  module _ (before after : State) (bundle : List Folder) (holds : HoldsFolders words bundle)
+      (told : HoldsShelf shelf.listed shelf.held words bundle) (unread : after.unread ≡ before.unread)
       (down : after.read_failed ≡ false) (written : WritesFront before.written after.written bundle question) where
-    folders_front : ReportsFoldersInPart words question before after
-    folders_front = record { bundle = bundle; holds = holds; front = written; unread = unread }
+    folders_front : ReportsFoldersInPart shelf words question before after
+    folders_front = record { bundle = bundle; holds = holds; told = told; front = written; unread = unread }
 
     pub folders_fail : (fault : RunFault) → FitsFault {A = Tally} (Err fault) after.write_failed
-        → FoldersFail (run_error_of_run fault) words question before after
+        → FoldersFail (run_error_of_run fault) shelf words question before after
     folders_fail runs.Memory fits = inr (folders_front, record { read = down; write = fits })
     folders_fail runs.Write fits = (folders_front, record { read = down; write = fits })

@@ -1,5 +1,5 @@
 -- What `advance` reads and writes, and what each of its errors says.
-use Rattle.std.specs.Prelude.{◌≡◌, ℕ, List, Ok, Some}
+use Rattle.std.specs.Prelude.{◌≡◌, ℕ, ◌≤◌, List, length, Ok, Option, None, Some, if◌then◌else◌, []}
 use Rattle.std.specs.Io.KnownBytes.{Appends}
 use Rattle.watched.specs.Watching.{AppendsFront, ConsumesMoreThan}
 use Rattle.census_crew.specs.Bytes.{ReadsText, input_limit}
@@ -8,7 +8,10 @@ use Rattle.life_text.specs.Picture.{Picture, picture_of}
 use Rattle.life_text.specs.Rle.{reading, refusal}
 use Rattle.life_text.specs.RleText.{rle_text}
 use Rattle.life_text.specs.declared.rle.RleFault.{RleFault}
-use Rattle.census_command.specs.Streams.{ReadFails, State, WriteFails, WritesNothing}
+use Rattle.census_folders.specs.Told.{GivesTold, MayExceed, MayFail}
+use Rattle.census_identify.specs.Hearing.{is_input}
+use Rattle.census_command.specs.Shelves.{Tellings}
+use Rattle.census_command.specs.Streams.{IsUntouched, ReadFails, State, WriteFails, WritesNothing}
 use Rattle.census_command.specs.declared.advance_error.AdvanceError.{AdvanceError}
 use Rattle.census_command.specs.declared.advance_error.AdvanceError.TheVariants.{Text, TooLong, Memory, Read, Write}
 
@@ -27,6 +30,8 @@ abbrev pub RefusesText : AdvanceError → List ℕ → Type 0
 RefusesText (Text fault) text = refusal text ≡ Some fault
 RefusesText Memory text = Unit {0}
 RefusesText error text = ⊥
+
+-- # Standard input
 
 -- Standard input is a text that means a pattern, and the text of generation n of that pattern was written.
 pub record Advances (n : ℕ) (before after : State) : Type 0 where
@@ -61,3 +66,59 @@ AdvanceFails TooLong n before after = ReadsTooMuch before after × WritesNothing
 AdvanceFails Memory n before after = WritesNothing before after
 AdvanceFails Read n before after = ReadFails before after
 AdvanceFails Write n before after = AdvancesInPart n before after × WriteFails after
+
+-- # A file
+
+-- The file is a text that means a pattern, as the shelf tells, and the text of generation n of that pattern was written.
+-- Nothing was read from standard input.
+pub record AdvancesFile (shelf : Tellings) (path : List ℕ) (n : ℕ) (before after : State) : Type 0 where
+  pub text : List ℕ
+  pub pattern : Picture
+  pub told : GivesTold (shelf.held [] path) text
+  pub within : length text ≤ input_limit
+  pub means : picture_of (reading text) ≡ Ok pattern
+  pub written : Appends before.written after.written (advanced_text pattern n)
+  pub unread : after.unread ≡ before.unread
+
+-- as far as the writer took it
+pub record AdvancesFileInPart (shelf : Tellings) (path : List ℕ) (n : ℕ) (before after : State) : Type 0 where
+  pub text : List ℕ
+  pub pattern : Picture
+  pub told : GivesTold (shelf.held [] path) text
+  pub within : length text ≤ input_limit
+  pub means : picture_of (reading text) ≡ Ok pattern
+  pub written : AppendsFront before.written after.written (advanced_text pattern n)
+  pub unread : after.unread ≡ before.unread
+
+-- the file has this fault, as the shelf tells
+pub record HasFileFault (fault : RleFault) (shelf : Tellings) (path : List ℕ) : Type 0 where
+  pub text : List ℕ
+  pub told : GivesTold (shelf.held [] path) text
+  pub refused : refusal text ≡ Some fault
+
+-- Why generation n was not written. Where the writer didn't fail, nothing was.
+abbrev pub AdvanceFileFails : AdvanceError → Tellings → List ℕ → ℕ → State → State → Type 0
+AdvanceFileFails (Text fault) shelf path n before after = HasFileFault fault shelf path × IsUntouched before after
+AdvanceFileFails TooLong shelf path n before after = MayExceed input_limit (shelf.held [] path) × IsUntouched before after
+AdvanceFileFails Memory shelf path n before after = IsUntouched before after
+AdvanceFileFails Read shelf path n before after = MayFail (shelf.held [] path) × IsUntouched before after
+AdvanceFileFails Write shelf path n before after = AdvancesFileInPart shelf path n before after × WriteFails after
+
+-- # Either
+
+-- the file of a word: `-` is none, and neither is no word
+abbrev pub file_of : Option (List ℕ) → Option (List ℕ)
+file_of None = None
+file_of (Some word) = if is_input word then None else Some word
+
+abbrev pub AdvancesFrom : Tellings → Option (List ℕ) → ℕ → State → State → Type 0
+AdvancesFrom shelf None n before after = Advances n before after
+AdvancesFrom shelf (Some path) n before after = AdvancesFile shelf path n before after
+
+abbrev pub AdvancesFromInPart : Tellings → Option (List ℕ) → ℕ → State → State → Type 0
+AdvancesFromInPart shelf None n before after = AdvancesInPart n before after
+AdvancesFromInPart shelf (Some path) n before after = AdvancesFileInPart shelf path n before after
+
+abbrev pub AdvanceFromFails : AdvanceError → Tellings → Option (List ℕ) → ℕ → State → State → Type 0
+AdvanceFromFails error shelf None n before after = AdvanceFails error n before after
+AdvanceFromFails error shelf (Some path) n before after = AdvanceFileFails error shelf path n before after

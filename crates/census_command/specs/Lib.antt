@@ -1,4 +1,5 @@
 pub mod Streams
+pub mod Shelves
 pub mod Errors
 pub mod Messages
 pub mod Advances

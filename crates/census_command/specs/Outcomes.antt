@@ -1,5 +1,5 @@
 -- What the exit status of the program says of its arguments and of its streams.
-use Rattle.std.specs.Prelude.{◌≡◌, ℕ, ◌≤◌, ◌<◌, ◌⊎◌, true, List, [], ◌∷◌, map, Some, Err, string_bytes}
+use Rattle.std.specs.Prelude.{◌≡◌, ℕ, ◌≤◌, ◌<◌, ◌⊎◌, true, List, [], ◌∷◌, map, option_map, Option, None, Some, Err, string_bytes}
 use Rattle.std.specs.Io.KnownBytes.{Appends}
 use Rattle.std.specs.declared.io.ErrorKind.{ErrorKind}
 use Rattle.watched.specs.Watching.{AppendsFront}
@@ -11,32 +11,34 @@ use Rattle.life_shape.specs.declared.reader.CodeFault.{CodeFault}
 use Rattle.life_text.specs.declared.rle.RleFault.{RleFault}
 use Rattle.census_bundle.specs.declared.bundle.AddFault.{AddFault}
 use Rattle.census_bundle.specs.declared.fault.BundleFault.{BundleFault}
-use Rattle.census_crew.specs.Bytes.{ReadsFault}
-use Rattle.census_folders.specs.Faults.{StopsAtWord}
+use Rattle.census_crew.specs.Bytes.{ReadsFault, input_limit}
 use Rattle.census_folders.specs.declared.fault.FoldersFault.TheVariants as folder_fault
 use Rattle.census_words.specs.Asking.{Asks, IsMatched}
 use Rattle.census_words.specs.Refusing.{AsksHelp, IsRefused}
 use Rattle.census_words.specs.declared.fault.WordsFault.{WordsFault}
 use Rattle.census_words.specs.declared.fault.WordsFault.TheVariants.{Help, Refused, Memory}
 use Rattle.census_words.specs.declared.request.Request.{Request}
-use Rattle.census_words.specs.declared.request.Request.TheVariants.{Run, Advance, Draw}
+use Rattle.census_words.specs.declared.request.Request.TheVariants.{Run, Objects, Identify, Advance, Draw}
 use Rattle.life_answer.specs.declared.question.Question.TheVariants as question
-use Rattle.census_command.specs.Advances.{HasFault, ReadsTooMuch}
+use Rattle.census_folders.specs.Told.{MayExceed, MayFail}
+use Rattle.census_identify.specs.Identifies.{Identifies}
+use Rattle.census_command.specs.Advances.{HasFault, HasFileFault, ReadsTooMuch, file_of}
 use Rattle.census_command.specs.Errors.{IsArgumentsError, status_of}
 use Rattle.census_command.specs.Messages.{error_line}
 use Rattle.census_command.specs.Requests.{Does, DoesInPart, Fails}
-use Rattle.census_command.specs.Runs.{RunsInPart}
-use Rattle.census_command.specs.Streams.{Errors, HasFailed, IsSound, IsUntouched, State, Tells, WriteFails, WritesNothing}
+use Rattle.census_command.specs.Runs.{RunsInPart, StopsReading}
+use Rattle.census_command.specs.Shelves.{Tellings}
+use Rattle.census_command.specs.Streams.{Errors, all_streams, HasFailed, IsSound, IsUntouched, State, Tells, WriteFails, WritesNothing}
 use Rattle.census_command.specs.declared.error.CommandError.{CommandError}
 use Rattle.census_command.specs.declared.error.CommandError.TheVariants as command
 
 -- # What is done
 
 -- The words ask for something, and it was done.
-pub record DoesAsked (words : List (List ℕ)) (before after : State) : Type 0 where
+pub record DoesAsked (shelf : Tellings) (words : List (List ℕ)) (before after : State) : Type 0 where
   pub request : Request
   pub asked : Asks words request
-  pub done : Does request before after
+  pub done : Does shelf request before after
 
 -- The words ask for help, and some text was written; nothing was read.
 pub record Helps (words : List (List ℕ)) (before after : State) : Type 0 where
@@ -48,33 +50,40 @@ pub record Helps (words : List (List ℕ)) (before after : State) : Type 0 where
 -- # What is refused
 
 -- Folders, or without any the bundle on standard input, have a fault or are too long.
-abbrev pub RefusesCollections : List (List ℕ) → State → State → Type 0
-RefusesCollections [] before after =
+abbrev pub RefusesCollections : Tellings → List (List ℕ) → State → State → Type 0
+RefusesCollections shelf [] before after =
     ((fault : BundleFault) × ReadsFault before.unread after.unread fault) ⊎ ReadsTooMuch before after
-RefusesCollections (word ∷ words) before after =
-    ((fault : AddFault) × StopsAtWord (word ∷ words) (folder_fault.Add fault)) ⊎ StopsAtWord (word ∷ words) folder_fault.TooLong
+RefusesCollections shelf (word ∷ words) before after =
+    ((fault : AddFault) × StopsReading shelf (word ∷ words) (folder_fault.Add fault)) ⊎ StopsReading shelf (word ∷ words) folder_fault.TooLong
+
+-- a file, or without one standard input, has a fault or is too long
+abbrev pub RefusesText : Tellings → Option (List ℕ) → State → State → Type 0
+RefusesText shelf None before after = ((fault : RleFault) × HasFault fault before after) ⊎ ReadsTooMuch before after
+RefusesText shelf (Some path) before after = ((fault : RleFault) × HasFileFault fault shelf path) ⊎ MayExceed input_limit (shelf.held [] path)
 
 -- what a request is to be done with is refused
-abbrev pub RefusesInput : Request → State → State → Type 0
-RefusesInput (Run bound workers folders) before after = RefusesCollections (map (λ s. s.now) folders.items) before after
-RefusesInput (Advance generations) before after = ((fault : RleFault) × HasFault fault before after) ⊎ ReadsTooMuch before after
-RefusesInput (Draw code rule) before after =
+abbrev pub RefusesInput : Tellings → Request → State → State → Type 0
+RefusesInput shelf (Run bound workers cells folders) before after = RefusesCollections shelf (map (λ s. s.now) folders.items) before after
+RefusesInput shelf (Objects bound workers cells folders) before after = RefusesCollections shelf (map (λ s. s.now) folders.items) before after
+RefusesInput shelf (Identify bound files) before after = ⊥
+RefusesInput shelf (Advance generations file) before after = RefusesText shelf (file_of (option_map (λ s. s.now) file)) before after
+RefusesInput shelf (Draw code rule) before after =
     ((fault : RuleFault) × (rule_of rule.now ≡ Err fault))
     ⊎ ((fault : CodeFault) × (wechsler.refusal (body_of code.now) ≡ Some fault))
 
 -- The words ask for something whose input is refused.
-pub record IsFaulty (words : List (List ℕ)) (before after : State) : Type 0 where
+pub record IsFaulty (shelf : Tellings) (words : List (List ℕ)) (before after : State) : Type 0 where
   pub request : Request
   pub asked : Asks words request
-  pub refused : RefusesInput request before after
+  pub refused : RefusesInput shelf request before after
 
 -- # What is cut short
 
 -- The words ask for something, and it was done as far as the writer took it.
-pub record DoesAskedInPart (words : List (List ℕ)) (before after : State) : Type 0 where
+pub record DoesAskedInPart (shelf : Tellings) (words : List (List ℕ)) (before after : State) : Type 0 where
   pub request : Request
   pub asked : Asks words request
-  pub part : DoesInPart request before after
+  pub part : DoesInPart shelf request before after
 
 -- The words ask for help, and a prefix of some text was written; nothing was read.
 pub record HelpsInPart (words : List (List ℕ)) (before after : State) : Type 0 where
@@ -83,33 +92,43 @@ pub record HelpsInPart (words : List (List ℕ)) (before after : State) : Type 0
   pub written : AppendsFront before.written after.written text
   pub unread : after.unread ≡ before.unread
 
-abbrev pub ReportsInPart : Request → State → State → Type 0
-ReportsInPart (Run bound workers folders) before after = RunsInPart (map (λ s. s.now) folders.items) (question.Settles bound) before after
-ReportsInPart request before after = ⊥
+abbrev pub ReportsInPart : Tellings → Request → State → State → Type 0
+ReportsInPart shelf (Run bound workers cells folders) before after = RunsInPart shelf (map (λ s. s.now) folders.items) (question.Settles bound cells) before after
+ReportsInPart shelf (Objects bound workers cells folders) before after = RunsInPart shelf (map (λ s. s.now) folders.items) (question.Objects bound (Some cells)) before after
+ReportsInPart shelf request before after = ⊥
 
 -- The words ask for a census, and a prefix of its report was written.
-pub record ReportsAskedInPart (words : List (List ℕ)) (before after : State) : Type 0 where
+pub record ReportsAskedInPart (shelf : Tellings) (words : List (List ℕ)) (before after : State) : Type 0 where
   pub request : Request
   pub asked : Asks words request
-  pub part : ReportsInPart request before after
+  pub part : ReportsInPart shelf request before after
 
-abbrev pub StopsAtFolder : Request → Type 0
-StopsAtFolder (Run bound workers folders) = StopsAtWord (map (λ s. s.now) folders.items) folder_fault.Read
-StopsAtFolder request = ⊥
+-- a file may not be readable, as the shelf tells
+abbrev pub MissesFile : Tellings → Option (List ℕ) → Type 0
+MissesFile shelf None = ⊥
+MissesFile shelf (Some path) = MayFail (shelf.held [] path)
 
--- The words ask for a census of folders, one of which could not be listed or has a file that could not be read.
-pub record MissesFolder (words : List (List ℕ)) : Type 0 where
+abbrev pub StopsAtFolder : Tellings → Request → Type 0
+StopsAtFolder shelf (Run bound workers cells folders) = StopsReading shelf (map (λ s. s.now) folders.items) folder_fault.Read
+StopsAtFolder shelf (Objects bound workers cells folders) = StopsReading shelf (map (λ s. s.now) folders.items) folder_fault.Read
+StopsAtFolder shelf (Identify bound files) = ⊥
+StopsAtFolder shelf (Advance generations file) = MissesFile shelf (file_of (option_map (λ s. s.now) file))
+StopsAtFolder shelf (Draw code rule) = ⊥
+
+-- The words ask for a census of folders, one of which could not be listed or has a file that could not be read, or for a
+-- generation of a file that could not be read.
+pub record MissesFolder (shelf : Tellings) (words : List (List ℕ)) : Type 0 where
   pub request : Request
   pub asked : Asks words request
-  pub missed : StopsAtFolder request
+  pub missed : StopsAtFolder shelf request
 
 -- # What is told
 
 -- The words ask for something that failed with this error.
-pub record FailsAsked (error : CommandError) (words : List (List ℕ)) (before after : State) : Type 0 where
+pub record FailsAsked (error : CommandError) (shelf : Tellings) (words : List (List ℕ)) (before after : State) : Type 0 where
   pub request : Request
   pub asked : Asks words request
-  pub fails : Fails error request before after
+  pub fails : Fails error shelf request before after
 
 -- The words ask for nothing that can be done: memory was refused while they were read, or help could not be written.
 abbrev pub FailsReading : CommandError → List (List ℕ) → State → State → Type 0
@@ -118,10 +137,10 @@ FailsReading command.Write words before after = HelpsInPart words before after �
 FailsReading error words before after = ⊥
 
 -- There was an error of this status, and its line was told.
-pub record TellsError (words : List (List ℕ)) (status : ℕ) (before after : State) (old new : Errors) : Type 0 where
+pub record TellsError (shelf : Tellings) (words : List (List ℕ)) (status : ℕ) (before after : State) (old new : Errors) : Type 0 where
   pub error : CommandError
   pub status_is : status ≡ status_of error
-  pub fails : FailsAsked error words before after ⊎ FailsReading error words before after
+  pub fails : FailsAsked error shelf words before after ⊎ FailsReading error words before after
   pub line : Tells (error_line error) old new
 
 -- Clap refuses the words, and some text was told; nothing was read or written.
@@ -131,24 +150,49 @@ pub record TellsRefusal (words : List (List ℕ)) (before after : State) (old ne
   pub text : List ℕ
   pub told : Tells text old new
 
+-- # What patterns are
+
+-- the request asks what the patterns of these files are, within this bound
+abbrev pub IsIdentify : Request → ℕ → List (List ℕ) → Type 0
+IsIdentify (Identify bound files) b words = (b ≡ bound) × (words ≡ map (λ s. s.now) files.items)
+IsIdentify request b words = ⊥
+
+-- the words ask what the patterns of these files are, within this bound
+pub record AsksWhat (words : List (List ℕ)) (bound : ℕ) (files : List (List ℕ)) : Type 0 where
+  pub request : Request
+  pub asked : Asks words request
+  pub is : IsIdentify request bound files
+
 -- # The exit status
 
 -- What the exit status says of the words after the program's name, of standard input and output before and after, and
 -- of standard error before and after.
-pub record Ends (words : List (List ℕ)) (status : ℕ) (before after : State) (old new : Errors) : Type 0 where
+pub record Ends (shelf : Tellings) (words : List (List ℕ)) (status : ℕ) (before after : State) (old new : Errors) : Type 0 where
   pub known : status ≤ 4
-  pub done : status ≡ 0 → DoesAsked words before after ⊎ Helps words before after
+  pub done : status ≡ 0 → DoesAsked shelf words before after ⊎ Helps words before after
   pub quiet : status ≡ 0 → new ≡ old
-  pub faulty : status ≡ 1 → IsFaulty words before after × WritesNothing before after
+  pub faulty : status ≡ 1 → IsFaulty shelf words before after × WritesNothing before after
   pub refused : status ≡ 2 → TellsRefusal words before after old new
   pub unmatched : (IsMatched words → ⊥) → (status ≡ 2) ⊎ ((status ≡ 3) ⊎ AsksHelp words)
-  pub memory : status ≡ 3 → ((after.written ≡ before.written) ⊎ ReportsAskedInPart words before after) × IsSound after
-  pub failed : status ≡ 4 → HasFailed after ⊎ MissesFolder words
+  pub memory : status ≡ 3 → ((after.written ≡ before.written) ⊎ ReportsAskedInPart shelf words before after) × IsSound after
+  pub failed : status ≡ 4 → HasFailed after ⊎ MissesFolder shelf words
   pub cut : status ≡ 4 → (after.written ≡ before.written)
-      ⊎ (DoesAskedInPart words before after ⊎ HelpsInPart words before after)
+      ⊎ (DoesAskedInPart shelf words before after ⊎ HelpsInPart words before after)
   pub unwritten : after.read_failed ≡ true → after.written ≡ before.written
   pub noticed : HasFailed after → status ≡ 4
-  pub told : 0 < status → TellsError words status before after old new ⊎ TellsRefusal words before after old new
+  pub told : 0 < status → TellsError shelf words status before after old new ⊎ TellsRefusal words before after old new
+
+-- The words ask what patterns are. Each was told, or an error ended it.
+pub record IdentifiesAsked (shelf : Tellings) (words : List (List ℕ)) (status : ℕ) (before after : State) (old new : Errors) : Type 0 where
+  pub bound : ℕ
+  pub files : List (List ℕ)
+  pub asked : AsksWhat words bound files
+  pub identifies : Identifies (shelf.held []) bound files status (all_streams before old) (all_streams after new)
+
+-- Words that ask what patterns are have an outcome of their own, since there one error doesn't end all.
+abbrev pub Outcome : Tellings → List (List ℕ) → ℕ → State → State → Errors → Errors → Type 0
+Outcome shelf words status before after old new =
+    IdentifiesAsked shelf words status before after old new ⊎ Ends shelf words status before after old new
 
 -- The system gives no arguments, for an error of this kind. Nothing is read or written, and its line is told.
 pub record StopsUnread (kind : ErrorKind) (status : ℕ) (before after : State) (old new : Errors) : Type 0 where

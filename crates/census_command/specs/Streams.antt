@@ -2,6 +2,7 @@
 use Rattle.std.specs.Prelude.{◌≡◌, ◌⊎◌, ℕ, Bool, true, false, List, Option, MatchBool}
 use Rattle.std.specs.Io.KnownBytes.{Appends}
 use Rattle.watched.specs.Watching.{AppendsFront}
+use Rattle.census_identify.specs.Streams as three
 
 -- Standard input and standard output. The bytes are those that the reader and the writer tell, if they tell any.
 pub record State : Type 0 where
@@ -52,3 +53,11 @@ pub record Errors : Type 0 where
 abbrev pub Tells : List ℕ → Errors → Errors → Type 0
 Tells text before after =
     MatchBool after.failed (AppendsFront before.told after.told text) (Appends before.told after.told text)
+
+-- all three streams
+abbrev pub all_streams : State → Errors → three.Streams
+all_streams s e = record {
+  input = record { unread = s.unread; failed = s.read_failed };
+  output = record { written = s.written; failed = s.write_failed };
+  errors = record { written = e.told; failed = e.failed };
+}

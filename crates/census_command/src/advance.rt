@@ -1,11 +1,15 @@
-//! `census advance N`: generation N of the pattern on standard input.
-ghost use Rattle.std.specs.Prelude.{◌≡◌, ◌≤◌, IfErr, MatchResult, OnOk};
-ghost use Rattle.census_command.specs.Advances.{AdvanceFails, Advances, IsAdvanced, RefusesText};
+//! `census advance N [FILE]`: generation N of the pattern of a file, or of that on standard input.
+ghost use Rattle.std.specs.Prelude.{◌≡◌, ◌≤◌, option_map, IfErr, MatchResult, OnOk};
+ghost use Rattle.census_command.specs.Advances.{AdvanceFails, AdvanceFileFails, AdvanceFromFails};
+ghost use Rattle.census_command.specs.Advances.{Advances, AdvancesFile, AdvancesFrom, IsAdvanced, RefusesText, file_of};
+ghost use Rattle.census_command.specs.Shelves.{tellings};
 ghost use Rattle.census_command.specs.Streams.{IsSound};
 
 use crate::advance_error::AdvanceError;
 use crate::evolving::evolved;
 use crate::streams::Streams;
+use census_folders::shelf::Shelf;
+use census_identify::heard::{is_input, read_file};
 use life_plane::plane::AGE_LIMIT;
 use life_text::rle::read_rle;
 use life_text::write::write_rle;
@@ -32,10 +36,8 @@ fn advanced_text(alloc: Global, text: &[u8], generations: u32) -> Result<Vec<u8>
     Ok(written)
 }
 
-/// Reads an RLE text to the reader's end and writes the RLE text of generation N of its pattern.
-///
-/// The whole text stands before its first byte is written, so nothing is written where the input is refused or memory is.
-pub fn advance<I: Read, O: Write>(
+// Reads standard input to its end and writes the RLE text of generation N of its pattern.
+fn advance_input<I: Read, O: Write>(
     alloc: Global,
     generations: u32,
     streams: &mut Streams<I, O>,
@@ -50,4 +52,64 @@ pub fn advance<I: Read, O: Write>(
     let written = advanced_text(alloc, text.as_slice(), generations)?;
     put_all(&mut streams.output, written.as_slice())?;
     Ok(())
+}
+
+// Reads a file and writes the RLE text of generation N of its pattern.
+fn advance_file<S: Shelf, I: Read, O: Write>(
+    shelf: &S,
+    alloc: Global,
+    generations: u32,
+    path: &str,
+    streams: &mut Streams<I, O>,
+) -> Result<(), AdvanceError>
+    requires generations { generations ≤ AGE_LIMIT }
+    requires sound { IsSound streams.old }
+    ensures done { OnOk result (AdvancesFile (tellings (S.listed shelf.now) (S.held shelf.now))
+        path.now generations streams.old streams.new) }
+    ensures sound { OnOk result (IsSound streams.new) }
+    ensures fails { IfErr result (λ e. AdvanceFileFails e
+        (tellings (S.listed shelf.now) (S.held shelf.now))
+        path.now generations streams.old streams.new) }
+{
+    let text = read_file(shelf, alloc, path.as_bytes())?;
+    let later = advanced_text(alloc, text.as_slice(), generations)?;
+    put_all(&mut streams.output, later.as_slice())?;
+    Ok(())
+}
+
+// The file of a word: `-` is none.
+fn file_of<'a>(word: Option<&'a str>) -> Option<&'a str>
+    ensures { option_map (λ s. s.now) result ≡ file_of (option_map (λ s. s.now) word.entry) }
+{
+    match word {
+        Some(word) if !is_input(word) => Some(word),
+        _ => None,
+    }
+}
+
+/// Reads the RLE text of a file, or where there is none or it is `-` that on standard input, up to its end, and writes the
+/// RLE text of generation N of its pattern.
+///
+/// The whole text stands before its first byte is written, so nothing is written where the input is refused or memory is.
+/// A file that is no regular file is not opened, and can't be read.
+pub fn advance<S: Shelf, I: Read, O: Write>(
+    shelf: &S,
+    alloc: Global,
+    generations: u32,
+    file: Option<&str>,
+    streams: &mut Streams<I, O>,
+) -> Result<(), AdvanceError>
+    requires generations { generations ≤ AGE_LIMIT }
+    requires sound { IsSound streams.old }
+    ensures done { OnOk result (AdvancesFrom (tellings (S.listed shelf.now) (S.held shelf.now))
+        (file_of (option_map (λ s. s.now) file.entry)) generations streams.old streams.new) }
+    ensures sound { OnOk result (IsSound streams.new) }
+    ensures fails { IfErr result (λ e. AdvanceFromFails e
+        (tellings (S.listed shelf.now) (S.held shelf.now))
+        (file_of (option_map (λ s. s.now) file.entry)) generations streams.old streams.new) }
+{
+    match file_of(file) {
+        Some(path) => advance_file(shelf, alloc, generations, path, streams),
+        None => advance_input(alloc, generations, streams),
+    }
 }

@@ -9,15 +9,15 @@ use watched::watched::Failed;
 /// Why `advance` did not write the whole text of a generation.
 #[derive(Clone, Copy, Debug, PartialEq, Eq, Drop, Error)]
 pub enum AdvanceError {
-    /// The RLE text on standard input has this fault.
+    /// The RLE text has this fault.
     #[error("{0}")]
     Text(RleFault),
-    /// Standard input has more bytes than one text may have.
+    /// There are more bytes than one text may have.
     #[error("input too long")]
     TooLong,
     #[error("out of memory")]
     Memory,
-    /// Standard input has failed.
+    /// The file can't be read, or standard input has failed.
     #[error("read failed")]
     Read,
     /// Standard output has failed.

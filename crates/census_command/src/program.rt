@@ -3,19 +3,20 @@ ghost use Rattle.std.specs.Prelude.{◌≡◌, drop, false, map, string_bytes, I
 ghost use Rattle.std.specs.IoError.{error_kind};
 ghost use Rattle.std.specs.Process.{exit_status};
 ghost use Rattle.std.specs.Vec.Iter.{into_iter_items};
-ghost use Rattle.census_command.specs.Outcomes.{Ends, StopsUnread};
+ghost use Rattle.census_command.specs.Outcomes.{Outcome, StopsUnread};
+ghost use Rattle.census_command.specs.Shelves.{tellings};
 ghost use Rattle.census_command.specs.Streams.{IsSound};
 
 use crate::dispatch::{dispatch, stop};
 use crate::error::CommandError;
 use crate::streams::{ErrorStream, Streams};
 use census_crew::gate::OpenGate;
+use census_folders::shelf::Shelf;
 use std::alloc::{AllocError, Global};
 use std::env::Args;
 use std::io;
 use std::io::{Read, Write};
 use std::process::ExitCode;
-use std::rt::Files;
 use std::sync::Wait;
 use std::thread::Threads;
 
@@ -45,15 +46,18 @@ fn lent(alloc: Global, words: &[String]) -> Result<Vec<&str>, AllocError>
 }
 
 // Does what the arguments ask for, and gives the exit status.
-fn dispatch_arguments<
-    I: Read,
-    O: Write,
-    E: Write,
-    R: Threads + Wait + Sync + Files + Alloc + Clone + Drop,
->(rt: &R, alloc: Global, args: Args, streams: &mut Streams<I, O>, errors: &mut ErrorStream<E>) -> u8
+fn dispatch_arguments<S: Shelf, I: Read, O: Write, E: Write, R: Threads + Wait + Sync>(
+    rt: &R,
+    shelf: &S,
+    alloc: Global,
+    args: Args,
+    streams: &mut Streams<I, O>,
+    errors: &mut ErrorStream<E>,
+) -> u8
     requires streams { IsSound streams.old }
     requires errors { errors.old.failed ≡ false }
-    ensures { Ends (map (λ word. string_bytes word) (drop 1 (into_iter_items args))) result
+    ensures { Outcome (tellings (S.listed shelf.now) (S.held shelf.now))
+        (map (λ word. string_bytes word) (drop 1 (into_iter_items args))) result
         streams.old streams.new errors.old errors.new }
 {
     let Ok(own) = own_words(alloc, args) else {
@@ -62,21 +66,25 @@ fn dispatch_arguments<
     let Ok(words) = lent(alloc, own.as_slice()) else {
         return stop(CommandError::Memory, errors);
     };
-    dispatch(rt, alloc, words.as_slice(), &OpenGate, streams, errors)
+    dispatch(
+        rt,
+        shelf,
+        alloc,
+        words.as_slice(),
+        &OpenGate,
+        streams,
+        errors,
+    )
 }
 
-/// The whole program `census` over any streams: `dispatch` on all arguments but the first, which is the program's name,
-/// and its status as the exit status.
+/// The whole program `census` over any shelf and any streams: `dispatch` on all arguments but the first, which is the
+/// program's name, and its status as the exit status.
 ///
 /// Where the system gives no arguments, nothing is read or written, and the error's line is told: `out of memory` with
 /// status 3 where memory is refused, else `bad command line` with status 2, for an argument that is no text.
-pub fn program<
-    I: Read,
-    O: Write,
-    E: Write,
-    R: Threads + Wait + Sync + Files + Alloc + Clone + Drop,
->(
+pub fn program<S: Shelf, I: Read, O: Write, E: Write, R: Threads + Wait + Sync>(
     rt: &R,
+    shelf: &S,
     alloc: Global,
     args: io::Result<Args>,
     streams: &mut Streams<I, O>,
@@ -85,13 +93,14 @@ pub fn program<
     requires streams { IsSound streams.old }
     requires errors { errors.old.failed ≡ false }
     ensures { MatchResult args
-        (λ args. Ends (map (λ word. string_bytes word) (drop 1 (into_iter_items args)))
+        (λ args. Outcome (tellings (S.listed shelf.now) (S.held shelf.now))
+        (map (λ word. string_bytes word) (drop 1 (into_iter_items args)))
         (exit_status result) streams.old streams.new errors.old errors.new)
         (λ error. StopsUnread (error_kind error) (exit_status result)
         streams.old streams.new errors.old errors.new) }
 {
     match args {
-        Ok(args) => ExitCode::from(dispatch_arguments(rt, alloc, args, streams, errors)),
+        Ok(args) => ExitCode::from(dispatch_arguments(rt, shelf, alloc, args, streams, errors)),
         Err(error) => ExitCode::from(stop(CommandError::from(error), errors)),
     }
 }

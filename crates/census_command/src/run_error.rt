@@ -1,4 +1,4 @@
-//! Why `run` writes no whole report.
+//! Why `run` or `objects` writes no whole report.
 
 use census_bundle::bundle::AddFault;
 use census_bundle::fault::BundleFault;
@@ -7,7 +7,7 @@ use census_crew::fault::RunFault;
 use census_folders::fault::FoldersFault;
 use thiserror::Error;
 
-/// Why `run` did not write its whole report.
+/// Why `run` or `objects` did not write its whole report.
 #[derive(Clone, Copy, Debug, PartialEq, Eq, Drop, Error)]
 pub enum RunError {
     /// The bundle on standard input has this fault.

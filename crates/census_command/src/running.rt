@@ -1,8 +1,9 @@
-//! `census run`: the report of collections.
+//! `census run` and `census objects`: the report of collections.
 ghost use Rattle.std.specs.Prelude.{◌≡◌, ◌≤◌, map, IfErr, OnOk};
 ghost use Rattle.life_answer.specs.Questions.{IsAnswered};
 ghost use Rattle.census_command.specs.Runs.{FoldersFail, InputFails, ReportsFolders};
 ghost use Rattle.census_command.specs.Runs.{ReportsInput, RunFails, Runs};
+ghost use Rattle.census_command.specs.Shelves.{tellings};
 ghost use Rattle.census_command.specs.Streams.{IsSound};
 
 use crate::run_error::RunError;
@@ -11,10 +12,10 @@ use census_crew::bytes::run_bytes;
 use census_crew::gate::Gate;
 use census_crew::run::run;
 use census_folders::reading::read_folders;
+use census_folders::shelf::Shelf;
 use life_answer::question::Question;
 use std::alloc::Global;
 use std::io::{Read, Write};
-use std::rt::Files;
 use std::sync::Wait;
 use std::thread::Threads;
 
@@ -40,8 +41,9 @@ fn run_input<I: Read, O: Write, G: Gate, R: Threads + Wait + Sync>(
 }
 
 // Reads the folders of these words and writes their report.
-fn run_folders<I: Read, O: Write, G: Gate, R: Threads + Wait + Sync + Files + Alloc + Clone + Drop>(
+fn run_folders<S: Shelf, I: Read, O: Write, G: Gate, R: Threads + Wait + Sync>(
     rt: &R,
+    shelf: &S,
     alloc: Global,
     question: Question,
     workers: u32,
@@ -53,12 +55,14 @@ fn run_folders<I: Read, O: Write, G: Gate, R: Threads + Wait + Sync + Files + Al
     requires workers { (1 ≤ workers) × (workers ≤ 16) }
     requires sound { IsSound streams.old }
     ensures done { OnOk result
-        (ReportsFolders (map (λ s. s.now) folders.now) question streams.old streams.new) }
+        (ReportsFolders (tellings (S.listed shelf.now) (S.held shelf.now))
+        (map (λ s. s.now) folders.now) question streams.old streams.new) }
     ensures sound { OnOk result (IsSound streams.new) }
     ensures fails { IfErr result
-        (λ e. FoldersFail e (map (λ s. s.now) folders.now) question streams.old streams.new) }
+        (λ e. FoldersFail e (tellings (S.listed shelf.now) (S.held shelf.now))
+        (map (λ s. s.now) folders.now) question streams.old streams.new) }
 {
-    let bundle = read_folders(rt, alloc, folders)?;
+    let bundle = read_folders(shelf, alloc, folders)?;
     run(
         rt,
         alloc,
@@ -71,19 +75,16 @@ fn run_folders<I: Read, O: Write, G: Gate, R: Threads + Wait + Sync + Files + Al
     Ok(())
 }
 
-/// Writes the report of collections of whose patterns this is asked, within a bound of 1 to 1,000,000 generations,
-/// by 1 to 16 workers, each of which passes the gate with a ticket before it works. The collections are the folders of these words, as `read_folders` reads them; without a word they
-/// are those of the bundle on standard input, which is read to its end. With words nothing is read from it.
+/// Writes the report of collections, of each of whose patterns this question is asked, by 1 to 16 workers. Each of them
+/// passes the gate with a ticket before it works. The collections are the folders of these words on the shelf, as
+/// `read_folders` reads them; without a word they are those of the bundle on standard input, which is read to its end. With words nothing is
+/// read from it.
 ///
 /// All is read before the first byte is written, so nothing is written where a bundle, a folder or a file is refused or
 /// can't be read. Where memory is refused or the writer fails, what was written is nothing or a prefix of a report.
-pub fn run_command<
-    I: Read,
-    O: Write,
-    G: Gate,
-    R: Threads + Wait + Sync + Files + Alloc + Clone + Drop,
->(
+pub fn run_command<S: Shelf, I: Read, O: Write, G: Gate, R: Threads + Wait + Sync>(
     rt: &R,
+    shelf: &S,
     alloc: Global,
     question: Question,
     workers: u32,
@@ -95,14 +96,16 @@ pub fn run_command<
     requires workers { (1 ≤ workers) × (workers ≤ 16) }
     requires sound { IsSound streams.old }
     ensures done { OnOk result
-        (Runs (map (λ s. s.now) folders.now) question streams.old streams.new) }
+        (Runs (tellings (S.listed shelf.now) (S.held shelf.now))
+        (map (λ s. s.now) folders.now) question streams.old streams.new) }
     ensures sound { OnOk result (IsSound streams.new) }
     ensures fails { IfErr result
-        (λ e. RunFails e (map (λ s. s.now) folders.now) question streams.old streams.new) }
+        (λ e. RunFails e (tellings (S.listed shelf.now) (S.held shelf.now))
+        (map (λ s. s.now) folders.now) question streams.old streams.new) }
 {
     if folders.is_empty() {
         run_input(rt, alloc, question, workers, gate, streams)
     } else {
-        run_folders(rt, alloc, question, workers, folders, gate, streams)
+        run_folders(rt, shelf, alloc, question, workers, folders, gate, streams)
     }
 }

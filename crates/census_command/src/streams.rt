@@ -53,7 +53,7 @@ impl<I: Read, O: Write> Streams<I, O> {
 /// Standard error. A clause sees what was told on it, and whether it has failed.
 #[derive(Drop)]
 pub struct ErrorStream<E: Write> {
-    inner: Watched<E>,
+    pub(crate) inner: Watched<E>,
 }
 
 impl<E: Write> Model for ErrorStream<E> {

@@ -52,7 +52,7 @@ impl Tally {
         match answer {
             Answer::Found { rule: _, finding } => match finding {
                 Finding::Recurs { .. } => counted.resolved += 1,
-                Finding::Unresolved { .. } => counted.unresolved += 1,
+                Finding::Unresolved { .. } | Finding::Large { .. } => counted.unresolved += 1,
                 Finding::Ash { .. } => counted.resolved += 1,
             },
             Answer::Refused(_) => counted.refused += 1,

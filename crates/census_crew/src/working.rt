@@ -42,8 +42,7 @@ fn was_quick(answer: &Answer) -> bool {
     match answer {
         Answer::Found { finding, .. } => match finding {
             Finding::Recurs { onset, period, .. } => *onset <= QUICK && *period <= QUICK,
-            Finding::Unresolved { .. } => false,
-            Finding::Ash { .. } => false,
+            Finding::Unresolved { .. } | Finding::Large { .. } | Finding::Ash { .. } => false,
         },
         Answer::Refused(_) => true,
     }

@@ -50,7 +50,7 @@ left_names left = option_map_or (λ rest. slice_split is_end rest.now) left []
 -- # All the names
 
 -- keys are sorted where a list is sorted by them
-IsSorted-map : {X K : Type 0} (key : X → K) (cmp : K → K → Ordering) (xs : List X) → IsSortedByKey key cmp xs → IsSorted cmp (map key xs)
+pub IsSorted-map : {X K : Type 0} (key : X → K) (cmp : K → K → Ordering) (xs : List X) → IsSortedByKey key cmp xs → IsSorted cmp (map key xs)
 IsSorted-map key cmp [] sorted k d low high = absurd (omega arith)
 IsSorted-map key cmp (x ∷ xs) sorted k d low high =
     let within : k + 1 < length (x ∷ xs) = omega (arith, length-map (x ∷ xs) key) in

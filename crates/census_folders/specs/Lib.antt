@@ -2,3 +2,5 @@ pub mod Told
 pub mod Faults
 pub mod Folders
 pub mod Shelves
+pub mod Walks
+pub mod Losses

@@ -5,6 +5,7 @@ ghost use Rattle.std.specs.Path.{path_buf_bytes, path_join};
 ghost use Rattle.census_folders.specs.Told.{RefusesList, Unreadable, Untold};
 ghost use Rattle.watched.specs.declared.reading.ReadFault.{ReadFault};
 
+use crate::listing::split_name;
 use crate::shelf::Shelf;
 use std::alloc::Global;
 use std::fs::Metadata;
@@ -76,11 +77,47 @@ fn path_in(alloc: Global, folder: &str, name: &[u8]) -> Result<PathBuf, ReadFaul
     Ok(Path::new(folder).join(alloc, name)?)
 }
 
+// Whether a name is none, or that of the folder itself or of the one that it stands in.
+fn is_own(name: &[u8]) -> bool {
+    name.is_empty() || name == b".".as_slice() || name == b"..".as_slice()
+}
+
+// Whether a name in a folder is that of a folder. A link is none, whatever it leads to.
+fn is_folder<R: Files>(
+    files: &R,
+    alloc: Global,
+    folder: &str,
+    name: &[u8],
+) -> Result<bool, ReadFault>
+    ensures fault { IfErr result (RefusesList Untold) }
+{
+    let path = path_in(alloc, folder, name)?;
+    match fs::symlink_metadata(files, path) {
+        Ok(metadata) => Ok(metadata.is_dir()),
+        Err(error) => Err(fault_of(error)),
+    }
+}
+
 impl<R: Files> Shelf for R {
     fn list(&self, alloc: Global, folder: &str) -> Result<Vec<u8>, ReadFault> {
         // A path that ends in a slash is that of a folder, also behind a link.
         let path = path_in(alloc, folder, b"")?;
         list_opened(alloc, self.open_dir(path.as_str())).map_err(fault_of)
+    }
+
+    fn list_folders(&self, alloc: Global, folder: &str) -> Result<Vec<u8>, ReadFault> {
+        let listing = self.list(alloc, folder)?;
+        let mut folders = Vec::new(alloc);
+        let mut left = Some(listing.as_slice());
+        while let Some(rest) = left {
+            let (name, behind) = split_name(rest);
+            if !is_own(name) && is_folder(self, alloc, folder, name)? {
+                folders.extend_from_slice(name)?;
+                folders.extend_from_slice(b"\0")?;
+            }
+            left = behind;
+        }
+        Ok(folders)
     }
 
     fn is_file(&self, alloc: Global, folder: &str, name: &[u8]) -> Result<bool, ReadFault> {

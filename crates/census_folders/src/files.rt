@@ -15,7 +15,7 @@ use watched::reading::ReadFault;
 const FILE_LIMIT: usize = 67_108_864;
 
 // The bytes of a file in a folder, which is not opened where it is no regular file.
-fn read_file<S: Shelf>(
+pub fn read_file<S: Shelf>(
     shelf: &S,
     alloc: Global,
     folder: &str,

@@ -4,6 +4,9 @@
 mod disk;
 pub mod fault;
 mod files;
+pub mod keeping;
 mod listing;
+pub mod loss;
 pub mod reading;
 pub mod shelf;
+pub mod walking;

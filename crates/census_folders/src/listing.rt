@@ -16,7 +16,7 @@ fn is_pattern_name(name: &[u8]) -> bool
 }
 
 // The name before the first byte 0, and what stands behind that byte.
-fn split_name(listing: &[u8]) -> (&[u8], Option<&[u8]>)
+pub fn split_name(listing: &[u8]) -> (&[u8], Option<&[u8]>)
     ensures parts { slice_split is_end listing.now
         ≡ result.0.now ∷ option_map_or (λ rest. slice_split is_end rest.now) result.1 [] }
     ensures shorter { IfSome result.1 (λ rest. length rest.now < length listing.now) }

@@ -11,6 +11,9 @@ pub trait Shelf {
     // What the folder of this path lists: its names, each ended by a byte 0.
     ghost listed: { Self → List ℕ → Told } = { λ _ _. Untold };
 
+    // Which folders stand in the folder of this path: their names, each ended by a byte 0. A link to one is none.
+    ghost inner: { Self → List ℕ → Told } = { λ _ _. Untold };
+
     // What the file of this name in the folder of this path holds.
     ghost held: { Self → List ℕ → List ℕ → Told } = { λ _ _ _. Untold };
 
@@ -21,6 +24,11 @@ pub trait Shelf {
     fn list(&self, alloc: Global, folder: &str) -> Result<Vec<u8>, ReadFault>
         ensures told { IfOk result (λ bytes. GivesTold (listed self.now folder.now) bytes.items) }
         ensures fault { IfErr result (RefusesList (listed self.now folder.now)) };
+
+    /// The names of the folders in a folder, each ended by a byte 0. Links to folders are left out.
+    fn list_folders(&self, alloc: Global, folder: &str) -> Result<Vec<u8>, ReadFault>
+        ensures told { IfOk result (λ bytes. GivesTold (inner self.now folder.now) bytes.items) }
+        ensures fault { IfErr result (RefusesList (inner self.now folder.now)) };
 
     /// Whether a name in a folder is that of a regular file, or of a link to one. Nothing is opened.
     fn is_file(&self, alloc: Global, folder: &str, name: &[u8]) -> Result<bool, ReadFault>

@@ -1,5 +1,5 @@
 -- Where clap refuses nothing, the words name a command of `census`, and its matches have what it needs.
-use Rattle.std.proofs.Common.{◌≡◌, ◌||◌, ◌&&◌, ℕ, List, [], ◌∷◌, Bool, true, false, not, Option, Some, None, inl, inr, is_some, codes, refl, sym, ap, subst, true≢false}
+use Rattle.std.proofs.Common.{◌≡◌, ◌⊎◌, ◌||◌, ◌&&◌, ℕ, List, [], ◌∷◌, Bool, true, false, not, Option, Some, None, inl, inr, is_some, codes, refl, sym, ap, subst, true≢false}
 use Rattle.std.specs.Prelude.{if◌then◌else◌, option_map}
 use Rattle.std.specs.List.{find}
 use Rattle.std.specs.Option.{option_map_or}
@@ -11,14 +11,14 @@ use Rattle.clap.specs.Simple.{App, Shape, built, built_leaf, entered, inherited,
 use Rattle.clap.specs.Takes.{is_given}
 use Rattle.clap.specs.Values.{IsUnsignedIn, refused_kind}
 use Rattle.clap.specs.ValueTests.{accepts}
-use Rattle.clap.specs.Walk.{Row, Text, answers_to, nothing_held, rows_after, stop_after}
+use Rattle.clap.specs.Walk.{Row, Text, answers_to, nothing_held, one_of, rows_after, stop_after}
 use Rattle.clap.specs.declared.builder.value_parser.ValueParser.TheVariants.{Unsigned}
 use Rattle.clap.proofs.ValueTestLemmas.{accepts-Accepts}
 use Rattle.census_words.specs.Asking.{IsMatched}
-use Rattle.census_words.specs.Holding.{HasAdvance, HasDraw, HasNumberIn, HasRun, HasText, IsCommand}
-use Rattle.census_words.specs.CommandLine.{advance_shape, census_app, draw_shape, run_shape}
+use Rattle.census_words.specs.Holding.{HasAdvance, HasDraw, HasIdentify, HasLimit, HasNumberIn, HasObjects, HasRun, HasText, IsCommand}
+use Rattle.census_words.specs.CommandLine.{advance_shape, census_app, draw_shape, identify_shape, objects_shape, run_shape}
 use Rattle.census_words.proofs.Passing.{Each, found_of_each, neither_true, not_cons}
-use Rattle.census_words.proofs.Rows.{Reads, reads_of, row_of_id}
+use Rattle.census_words.proofs.Rows.{Reads, reads_of, reads_or_none, row_of_id}
 use Rattle.census_words.proofs.Uses.{RuleHolds}
 use Rattle.census_words.proofs.Walks.{StopHolds, is_help}
 use Rattle.census_words.proofs.Levels.{HasDefault, LevelHolds, checks_pass, defaults-there, given-there, level-Holds}
@@ -37,7 +37,18 @@ AnyText id v = Unit {0}
 
 abbrev RunText : Text → Text → Type 0
 RunText id v =
-    (bytes_eq id (codes "bound") ≡ true → IsUnsignedIn 1 1000000 v) × (bytes_eq id (codes "workers") ≡ true → IsUnsignedIn 1 16 v)
+    (bytes_eq id (codes "bound") ≡ true → IsUnsignedIn 1 1000000 v)
+    × (bytes_eq id (codes "workers") ≡ true → IsUnsignedIn 1 16 v)
+    × (bytes_eq id (codes "cells") ≡ true → IsUnsignedIn 1 4294967295 v)
+
+abbrev ObjectsText : Text → Text → Type 0
+ObjectsText id v =
+    (bytes_eq id (codes "bound") ≡ true → IsUnsignedIn 1 100000 v)
+    × (bytes_eq id (codes "workers") ≡ true → IsUnsignedIn 1 16 v)
+    × (bytes_eq id (codes "cells") ≡ true → IsUnsignedIn 1 4294967295 v)
+
+abbrev IdentifyText : Text → Text → Type 0
+IdentifyText id v = bytes_eq id (codes "bound") ≡ true → IsUnsignedIn 1 100000 v
 
 abbrev AdvanceText : Text → Text → Type 0
 AdvanceText id v = bytes_eq id (codes "generations") ≡ true → IsUnsignedIn 0 4194304 v
@@ -56,6 +67,12 @@ above = with_leaf_noted (marked_built census_app.top)
 abbrev built_run : Shape
 built_run = built_leaf (inherited above run_shape)
 
+abbrev built_objects : Shape
+built_objects = built_leaf (inherited above objects_shape)
+
+abbrev built_identify : Shape
+built_identify = built_leaf (inherited above identify_shape)
+
 abbrev built_advance : Shape
 built_advance = built_leaf (inherited above advance_shape)
 
@@ -67,20 +84,50 @@ top_rules = (record { own = λ v e. tt; usual = inl refl; plain = λ t. refl }, 
 
 run_rules : Each (RuleHolds RunText) built_run.rules
 run_rules = (
-  record { own = λ v e. (λ _. unsigned_in false 1 1000000 v e, absent); usual = inr (refl, refl); plain = λ t. refl },
+  record { own = λ v e. (λ _. unsigned_in false 1 1000000 v e, absent, absent); usual = inr (refl, refl); plain = λ t. refl },
   (
-    record { own = λ v e. (absent, λ _. unsigned_in false 1 16 v e); usual = inr (refl, refl); plain = λ t. refl },
+    record { own = λ v e. (absent, λ _. unsigned_in false 1 16 v e, absent); usual = inr (refl, refl); plain = λ t. refl },
     (
-      record { own = λ v e. (absent, absent); usual = inr (refl, refl); plain = λ t. refl },
-      (record { own = λ v e. (absent, absent); usual = inl refl; plain = λ t. refl }, tt),
+      record { own = λ v e. (absent, absent, λ _. unsigned_in false 1 4294967295 v e); usual = inr (refl, refl); plain = λ t. refl },
+      (
+        record { own = λ v e. (absent, absent, absent); usual = inr (refl, refl); plain = λ t. refl },
+        (record { own = λ v e. (absent, absent, absent); usual = inl refl; plain = λ t. refl }, tt),
+      ),
     ),
+  ),
+)
+
+objects_rules : Each (RuleHolds ObjectsText) built_objects.rules
+objects_rules = (
+  record { own = λ v e. (λ _. unsigned_in false 1 100000 v e, absent, absent); usual = inr (refl, refl); plain = λ t. refl },
+  (
+    record { own = λ v e. (absent, λ _. unsigned_in false 1 16 v e, absent); usual = inr (refl, refl); plain = λ t. refl },
+    (
+      record { own = λ v e. (absent, absent, λ _. unsigned_in false 1 4294967295 v e); usual = inr (refl, refl); plain = λ t. refl },
+      (
+        record { own = λ v e. (absent, absent, absent); usual = inr (refl, refl); plain = λ t. refl },
+        (record { own = λ v e. (absent, absent, absent); usual = inl refl; plain = λ t. refl }, tt),
+      ),
+    ),
+  ),
+)
+
+identify_rules : Each (RuleHolds IdentifyText) built_identify.rules
+identify_rules = (
+  record { own = λ v e _. unsigned_in false 1 100000 v e; usual = inr (refl, refl); plain = λ t. refl },
+  (
+    record { own = λ v e. absent; usual = inr (refl, refl); plain = λ t. refl },
+    (record { own = λ v e. absent; usual = inl refl; plain = λ t. refl }, tt),
   ),
 )
 
 advance_rules : Each (RuleHolds AdvanceText) built_advance.rules
 advance_rules = (
   record { own = λ v e _. unsigned_in false 0 4194304 v e; usual = inr (refl, refl); plain = λ t. refl },
-  (record { own = λ v e. absent; usual = inl refl; plain = λ t. refl }, tt),
+  (
+    record { own = λ v e. absent; usual = inr (refl, refl); plain = λ t. refl },
+    (record { own = λ v e. absent; usual = inl refl; plain = λ t. refl }, tt),
+  ),
 )
 
 draw_rules : Each (RuleHolds AnyText) built_draw.rules
@@ -105,12 +152,20 @@ module _ (Q : Text → Text → Type 0) (s : Shape) (rules : Each (RuleHolds Q) 
   read_as_given : (id : Text) → is_given id (rows_after s.rules [] words) ≡ true → Reads Q id (rows_after s.rules [] words)
   read_as_given id is = reads_of Q id _ (row_of_id Q id _ holds.rows (given-there id _ is))
 
+  read_if_used : (id : Text) → (one_of id (rows_after s.rules [] words) ≡ None) ⊎ Reads Q id (rows_after s.rules [] words)
+  read_if_used id = reads_or_none Q id _ holds.rows
+
   read_checks : check_fault s (rows_after s.rules [] words) false ≡ []
   read_checks = holds.checks
 
 number_in : (Q : Text → Text → Type 0) (low high : ℕ) (id : Text) (rows : List Row) → Reads Q id rows → ((v : Text) → Q id v → IsUnsignedIn low high v)
     → HasNumberIn low high id rows
 number_in Q low high id rows reads fits = (reads.text, reads.one, fits reads.text reads.passes)
+
+limit_in : (Q : Text → Text → Type 0) (id : Text) (rows : List Row) → (one_of id rows ≡ None) ⊎ Reads Q id rows → ((v : Text) → Q id v → IsUnsignedIn 1 4294967295 v)
+    → HasLimit id rows
+limit_in Q id rows (inl none) fits = inl none
+limit_in Q id rows (inr reads) fits = inr (number_in Q 1 4294967295 id rows reads fits)
 
 text_in : (Q : Text → Text → Type 0) (id : Text) (rows : List Row) → Reads Q id rows → HasText id rows
 text_in Q id rows reads = (reads.text, reads.first)
@@ -128,6 +183,23 @@ run_has words e = record {
       (read_by_default RunText built_run run_rules words e (codes "bound") (inl (refl, record { first = codes "1000"; rest = []; is = refl }))) (λ v q. q.0 refl);
   workers = number_in RunText 1 16 (codes "workers") _
       (read_by_default RunText built_run run_rules words e (codes "workers") (inr (inl (refl, record { first = codes "4"; rest = []; is = refl })))) (λ v q. q.1 refl);
+  cells = limit_in RunText (codes "cells") _ (read_if_used RunText built_run run_rules words e (codes "cells")) (λ v q. q.2 refl);
+}
+
+objects_has : (words : List Text) → Passes built_objects words → HasObjects (rows_after built_objects.rules [] words)
+objects_has words e = record {
+  bound = number_in ObjectsText 1 100000 (codes "bound") _
+      (read_by_default ObjectsText built_objects objects_rules words e (codes "bound") (inl (refl, record { first = codes "10000"; rest = []; is = refl }))) (λ v q. q.0 refl);
+  workers = number_in ObjectsText 1 16 (codes "workers") _
+      (read_by_default ObjectsText built_objects objects_rules words e (codes "workers") (inr (inl (refl, record { first = codes "4"; rest = []; is = refl })))) (λ v q. q.1 refl);
+  cells = number_in ObjectsText 1 4294967295 (codes "cells") _
+      (read_by_default ObjectsText built_objects objects_rules words e (codes "cells") (inr (inr (inl (refl, record { first = codes "1000000"; rest = []; is = refl }))))) (λ v q. q.2 refl);
+}
+
+identify_has : (words : List Text) → Passes built_identify words → HasIdentify (rows_after built_identify.rules [] words)
+identify_has words e = record {
+  bound = number_in IdentifyText 1 100000 (codes "bound") _
+      (read_by_default IdentifyText built_identify identify_rules words e (codes "bound") (inl (refl, record { first = codes "10000"; rest = []; is = refl }))) (λ v q. q refl);
 }
 
 advance_has : (words : List Text) → Passes built_advance words → HasAdvance (rows_after built_advance.rules [] words)
@@ -171,8 +243,14 @@ each_enters : (name : Text) (words : List Text) → Each (Enters name words) who
 each_enters name words = (
   λ stop names passes. inl (refl, run_has words passes),
   (
-    λ stop names passes. inr (inl (refl, advance_has words passes)),
-    (λ stop names passes. inr (inr (refl, draw_has words passes)), (λ stop names passes. absurd (help_is_no_command name stop names), tt)),
+    λ stop names passes. inr (inl (refl, objects_has words passes)),
+    (
+      λ stop names passes. inr (inr (inl (refl, identify_has words passes))),
+      (
+        λ stop names passes. inr (inr (inr (inl (refl, advance_has words passes)))),
+        (λ stop names passes. inr (inr (inr (inr (refl, draw_has words passes)))), (λ stop names passes. absurd (help_is_no_command name stop names), tt)),
+      ),
+    ),
   ),
 )
 
@@ -202,5 +280,7 @@ is_command words matched =
 -- the command `advance` has a number of generations
 pub advance_command : (rows : List Row) → IsCommand (Some (codes "advance", rows)) → HasAdvance rows
 advance_command rows (inl h) = absurd (true≢false (sym (ap (λ (name : Text). bytes_eq name (codes "run")) h.0)))
-advance_command rows (inr (inl h)) = h.1
-advance_command rows (inr (inr h)) = absurd (true≢false (sym (ap (λ (name : Text). bytes_eq name (codes "draw")) h.0)))
+advance_command rows (inr (inl h)) = absurd (true≢false (sym (ap (λ (name : Text). bytes_eq name (codes "objects")) h.0)))
+advance_command rows (inr (inr (inl h))) = absurd (true≢false (sym (ap (λ (name : Text). bytes_eq name (codes "identify")) h.0)))
+advance_command rows (inr (inr (inr (inl h)))) = h.1
+advance_command rows (inr (inr (inr (inr h)))) = absurd (true≢false (sym (ap (λ (name : Text). bytes_eq name (codes "draw")) h.0)))

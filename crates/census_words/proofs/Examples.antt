@@ -1,22 +1,46 @@
 -- What some words come to, by computing the definitions.
-use Rattle.std.proofs.Common.{◌≡◌, [], ◌∷◌, codes, refl, lit≤}
+use Rattle.std.proofs.Common.{◌≡◌, [], ◌∷◌, Some, None, codes, refl, lit≤}
 use Rattle.clap.specs.Faults.{fault_of}
 use Rattle.clap.specs.declared.error.kind.ErrorKind.TheVariants.{DisplayHelp, MissingSubcommand, ValueValidation}
 use Rattle.clap.proofs.OnLiterals.{clap_on_literals}
 use Rattle.census_words.specs.CommandLine.{census_app}
-use Rattle.census_words.specs.Asking.{AsksAdvance, AsksDraw, AsksRun}
+use Rattle.census_words.specs.Asking.{AsksAdvance, AsksDraw, AsksIdentify, AsksObjects, AsksRun}
 
-run_alone : AsksRun (codes "run" ∷ []) 1000 4 []
+run_alone : AsksRun (codes "run" ∷ []) 1000 4 None []
 unfolding clap_on_literals
-run_alone = (refl, record { rows = _; named = refl; bound_is = refl; bound_in = (lit≤ tt, lit≤ tt); workers_are = refl; workers_in = (lit≤ tt, lit≤ tt); folders_are = refl })
+run_alone = (refl, record { rows = _; named = refl; bound_is = refl; bound_in = (lit≤ tt, lit≤ tt); workers_are = refl; workers_in = (lit≤ tt, lit≤ tt); cells_are = refl; cells_in = tt; folders_are = refl })
 
-run_among : AsksRun (codes "run" ∷ codes "a" ∷ codes "--bound" ∷ codes "50" ∷ codes "b" ∷ codes "--workers=2" ∷ []) 50 2 (codes "a" ∷ codes "b" ∷ [])
+run_among : AsksRun (codes "run" ∷ codes "a" ∷ codes "--bound" ∷ codes "50" ∷ codes "b" ∷ codes "--workers=2" ∷ []) 50 2 None (codes "a" ∷ codes "b" ∷ [])
 unfolding clap_on_literals
-run_among = (refl, record { rows = _; named = refl; bound_is = refl; bound_in = (lit≤ tt, lit≤ tt); workers_are = refl; workers_in = (lit≤ tt, lit≤ tt); folders_are = refl })
+run_among = (refl, record { rows = _; named = refl; bound_is = refl; bound_in = (lit≤ tt, lit≤ tt); workers_are = refl; workers_in = (lit≤ tt, lit≤ tt); cells_are = refl; cells_in = tt; folders_are = refl })
 
-advance_four : AsksAdvance (codes "advance" ∷ codes "4" ∷ []) 4
+run_short : AsksRun (codes "run" ∷ codes "-b" ∷ codes "50" ∷ codes "-w2" ∷ codes "a" ∷ []) 50 2 None (codes "a" ∷ [])
 unfolding clap_on_literals
-advance_four = (refl, record { rows = _; named = refl; generations_are = refl; generations_in = lit≤ tt })
+run_short = (refl, record { rows = _; named = refl; bound_is = refl; bound_in = (lit≤ tt, lit≤ tt); workers_are = refl; workers_in = (lit≤ tt, lit≤ tt); cells_are = refl; cells_in = tt; folders_are = refl })
+
+run_small : AsksRun (codes "run" ∷ codes "--cells" ∷ codes "5" ∷ []) 1000 4 (Some 5) []
+unfolding clap_on_literals
+run_small = (refl, record { rows = _; named = refl; bound_is = refl; bound_in = (lit≤ tt, lit≤ tt); workers_are = refl; workers_in = (lit≤ tt, lit≤ tt); cells_are = refl; cells_in = (lit≤ tt, lit≤ tt); folders_are = refl })
+
+objects_alone : AsksObjects (codes "objects" ∷ []) 10000 4 1000000 []
+unfolding clap_on_literals
+objects_alone = (refl, record { rows = _; named = refl; bound_is = refl; bound_in = (lit≤ tt, lit≤ tt); workers_are = refl; workers_in = (lit≤ tt, lit≤ tt); cells_are = refl; cells_in = (lit≤ tt, lit≤ tt); folders_are = refl })
+
+identify_alone : AsksIdentify (codes "identify" ∷ []) 10000 []
+unfolding clap_on_literals
+identify_alone = (refl, record { rows = _; named = refl; bound_is = refl; bound_in = (lit≤ tt, lit≤ tt); files_are = refl })
+
+identify_among : AsksIdentify (codes "identify" ∷ codes "a" ∷ codes "-b" ∷ codes "50" ∷ codes "-" ∷ []) 50 (codes "a" ∷ codes "-" ∷ [])
+unfolding clap_on_literals
+identify_among = (refl, record { rows = _; named = refl; bound_is = refl; bound_in = (lit≤ tt, lit≤ tt); files_are = refl })
+
+advance_four : AsksAdvance (codes "advance" ∷ codes "4" ∷ []) 4 None
+unfolding clap_on_literals
+advance_four = (refl, record { rows = _; named = refl; generations_are = refl; generations_in = lit≤ tt; file_is = refl })
+
+advance_file : AsksAdvance (codes "advance" ∷ codes "4" ∷ codes "a" ∷ []) 4 (Some (codes "a"))
+unfolding clap_on_literals
+advance_file = (refl, record { rows = _; named = refl; generations_are = refl; generations_in = lit≤ tt; file_is = refl })
 
 draw_glider : AsksDraw (codes "draw" ∷ codes "xq4_153" ∷ []) (codes "xq4_153") (codes "B3/S23")
 unfolding clap_on_literals
@@ -29,6 +53,18 @@ bound_of_none = refl
 workers_17 : fault_of census_app (codes "run" ∷ codes "--workers" ∷ codes "17" ∷ []) ≡ ValueValidation ∷ []
 unfolding clap_on_literals
 workers_17 = refl
+
+objects_bound_100001 : fault_of census_app (codes "objects" ∷ codes "--bound" ∷ codes "100001" ∷ []) ≡ ValueValidation ∷ []
+unfolding clap_on_literals
+objects_bound_100001 = refl
+
+identify_bound_100001 : fault_of census_app (codes "identify" ∷ codes "--bound" ∷ codes "100001" ∷ []) ≡ ValueValidation ∷ []
+unfolding clap_on_literals
+identify_bound_100001 = refl
+
+cells_of_none : fault_of census_app (codes "run" ∷ codes "--cells" ∷ codes "0" ∷ []) ≡ ValueValidation ∷ []
+unfolding clap_on_literals
+cells_of_none = refl
 
 past_the_age : fault_of census_app (codes "advance" ∷ codes "4194305" ∷ []) ≡ ValueValidation ∷ []
 unfolding clap_on_literals

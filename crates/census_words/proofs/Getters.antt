@@ -1,5 +1,5 @@
 -- What the getters of the matches give.
-use Rattle.std.proofs.Common.{◌≡◌, ℕ, ◌≤◌, List, Option, Some, None, Result, option_map, refl, sym, ap, ◌∙◌, arith}
+use Rattle.std.proofs.Common.{◌≡◌, ℕ, ◌≤◌, List, Option, Some, None, Result, inl, inr, option_map, refl, sym, ap, ◌∙◌, arith}
 use Rattle.std.specs.Prelude.{Box, IsSome}
 use Rattle.std.specs.Box.{box_value}
 use Rattle.std.specs.Str.Parse.{ExplainsUnsignedError, HasUnsignedDigitsIfOk, ParsesUnsigned, digits_value, without_leading_plus}
@@ -12,8 +12,8 @@ use Rattle.clap.specs.declared.parser.matches.ArgMatches.{ArgMatches}
 use Rattle.clap.specs.declared.parser.matches.ArgMatches.TheViews.{out-ArgMatches, out-SubCommand}
 use Rattle.clap.specs.declared.parser.matches.SubCommand.{SubCommand}
 use Rattle.clap.proofs.WalkLemmas.{one_text-rows}
-use Rattle.census_words.specs.Asking.{number_of}
-use Rattle.census_words.specs.Holding.{HasNumber, HasNumberIn}
+use Rattle.census_words.specs.Asking.{IsLimit, number_of}
+use Rattle.census_words.specs.Holding.{HasLimit, HasNumber, HasNumberIn}
 
 -- what `u64` reads of a text
 abbrev pub ReadsU64 : List ℕ → Result ℕ ParseIntError → Type 0
@@ -38,6 +38,31 @@ pub number_within : (low high : ℕ) (id : List ℕ) (rows : List Row) (n : ℕ)
 number_within low high id rows n h is =
     let same : digits_value 10 (without_leading_plus h.0) ≡ n = let e : Some (digits_value 10 (without_leading_plus h.0)) ≡ Some n = sym (number_is low high id rows h) ∙ is in cc in
     (rw (← same) h.2.2, rw (← same) h.2.3)
+
+-- a limit reads as its number, and fits 32 bits
+pub limit_read : (m : ArgMatches) (id : List ℕ) (r : Option ℕ) (n : ℕ) → (one_text (found_of m) id ≡ None → r ≡ None)
+    → ((t : List ℕ) → one_text (found_of m) id ≡ Some t → ReadsOne ReadsU64 t r) → HasLimit id (rows_of (found_of m)) → r ≡ Some n
+    → (number_of id (rows_of (found_of m)) ≡ Some n) × (n ≤ 4294967295)
+limit_read m id r n none read (inl unused) is = let off : r ≡ None = none (one_text-rows (found_of m) id ∙ unused) in cc
+limit_read m id r n none read (inr h) is =
+    let known = number_read m id r read 1 4294967295 h in
+    let number : number_of id (rows_of (found_of m)) ≡ Some n = number_is 1 4294967295 id _ h ∙ sym known ∙ is in
+    (number, (number_within 1 4294967295 id _ n h number).1)
+
+-- where nothing is read there is no limit
+pub no_limit_read : (m : ArgMatches) (id : List ℕ) (r : Option ℕ) → ((t : List ℕ) → one_text (found_of m) id ≡ Some t → ReadsOne ReadsU64 t r)
+    → HasLimit id (rows_of (found_of m)) → r ≡ None → number_of id (rows_of (found_of m)) ≡ None
+no_limit_read m id r read (inl unused) is =
+    ap (λ (o : Option (List ℕ)). option_map (λ text. digits_value 10 (without_leading_plus text)) o) unused
+no_limit_read m id r read (inr h) is = number_is 1 4294967295 id _ h ∙ sym (number_read m id r read 1 4294967295 h) ∙ is
+
+-- the number of a limit is none or in its range
+pub limit_within : (id : List ℕ) (rows : List Row) (n : Option ℕ) → HasLimit id rows → number_of id rows ≡ n → IsLimit n
+limit_within id rows None h is = tt
+limit_within id rows (Some n) (inl unused) is =
+    let none : number_of id rows ≡ None = ap (λ (o : Option (List ℕ)). option_map (λ text. digits_value 10 (without_leading_plus text)) o) unused in
+    cc
+limit_within id rows (Some n) (inr h) is = number_within 1 4294967295 id rows n h is
 
 -- a number of any range that fits has a number
 pub number_fits : (low high : ℕ) (id : List ℕ) (rows : List Row) → high ≤ 4294967295 → HasNumberIn low high id rows → HasNumber id rows

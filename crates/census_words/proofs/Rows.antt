@@ -1,5 +1,5 @@
 -- Rows whose values all have a property that depends on the row's id.
-use Rattle.std.proofs.Common.{◌≡◌, ◌++◌, ◌||◌, List, [], ◌∷◌, Bool, true, false, Option, Some, refl, ap, sym, subst, ◌∙◌, true≢false}
+use Rattle.std.proofs.Common.{◌≡◌, ◌⊎◌, ◌++◌, ◌||◌, List, [], ◌∷◌, Bool, true, false, Option, Some, None, inl, inr, refl, ap, sym, subst, ◌∙◌, true≢false}
 use Rattle.std.specs.Prelude.{if◌then◌else◌, option_and_then, option_map, slice_get}
 use Rattle.std.specs.List.{find}
 use Rattle.std.specs.Str.{bytes_eq}
@@ -15,6 +15,16 @@ pub record HasFirst (values : List Text) : Type 0 where
   pub first : Text
   pub rest : List Text
   pub is : values ≡ first ∷ rest
+
+-- an id that has no row is not found
+none_found : (id : Text) (rows : List Row) → has_row id rows ≡ false → find (λ r. bytes_eq r.id id) rows ≡ None
+none_found id [] e = refl
+none_found id (r ∷ rs) e = go (bytes_eq r.id id) e (none_found id rs)
+  where
+    go : (b : Bool) → (b || has_row id rs) ≡ false → (has_row id rs ≡ false → find (λ r. bytes_eq r.id id) rs ≡ None)
+        → (if b then Some r else find (λ r. bytes_eq r.id id) rs) ≡ None
+    go true e later = absurd (true≢false e)
+    go false e later = later e
 
 -- its texts are read as they are written
 abbrev pub IsPlain : Reading → Type 0
@@ -104,3 +114,11 @@ module _ (Q : Text → Text → Type 0) where
         one = ap (λ (o : Option Row). option_and_then row_text o) h.found ∙ ap (λ (o : Option Text). option_map (read_as r.reading) o) first_value ∙ ap Some (h.holds.plain v);
         passes = subst (λ (x : Text). Q x v) h.same each.0;
       }
+
+  -- an id has no row, or what is read of it
+  pub reads_or_none : (id : Text) (rows : List Row) → Hold rows → (one_of id rows ≡ None) ⊎ Reads id rows
+  reads_or_none id rows h = go (has_row id rows) refl
+    where
+      go : (b : Bool) → has_row id rows ≡ b → (one_of id rows ≡ None) ⊎ Reads id rows
+      go true is = inr (reads_of id rows (row_of_id id rows h is))
+      go false is = inl (ap (λ (o : Option Row). option_and_then row_text o) (none_found id rows is))

@@ -1,12 +1,12 @@
 -- What the words of a command line ask for, by the matches that clap gives for them.
-use Rattle.std.specs.Prelude.{◌≡◌, ℕ, ◌≤◌, List, [], Option, Some, map, codes, option_map, unwrap_or}
+use Rattle.std.specs.Prelude.{◌≡◌, ℕ, ◌≤◌, List, [], Option, Some, None, map, codes, option_map, unwrap_or}
 use Rattle.std.specs.Str.Parse.{digits_value, without_leading_plus}
 use Rattle.clap.specs.Faults.{fault_of}
 use Rattle.clap.specs.Simple.{subcommand_of}
 use Rattle.clap.specs.Walk.{Row, all_of, first_of, one_of}
 use Rattle.census_words.specs.CommandLine.{census_app}
 use Rattle.census_words.specs.declared.request.Request.{Request}
-use Rattle.census_words.specs.declared.request.Request.TheVariants.{Run, Advance, Draw}
+use Rattle.census_words.specs.declared.request.Request.TheVariants.{Run, Objects, Identify, Advance, Draw}
 
 -- ---- what the matches of a command say
 
@@ -18,23 +18,51 @@ number_of id rows = option_map (λ text. digits_value 10 (without_leading_plus t
 abbrev pub values_of : List ℕ → List Row → List (List ℕ)
 values_of id rows = unwrap_or (all_of id rows) []
 
+-- a limit is none, or from 1 to 4294967295
+abbrev pub IsLimit : Option ℕ → Type 0
+IsLimit None = Unit {0}
+IsLimit (Some n) = (1 ≤ n) × (n ≤ 4294967295)
+
 -- The command and its matches are those of a census of these folders, or of the bundle on standard input where there is
 -- none.
-pub record GivesRun (command : Option (List ℕ × List Row)) (bound workers : ℕ) (folders : List (List ℕ)) : Type 0 where
+pub record GivesRun (command : Option (List ℕ × List Row)) (bound workers : ℕ) (cells : Option ℕ) (folders : List (List ℕ)) : Type 0 where
   pub rows : List Row
   pub named : command ≡ Some (codes "run", rows)
   pub bound_is : number_of (codes "bound") rows ≡ Some bound
   pub bound_in : (1 ≤ bound) × (bound ≤ 1000000)
   pub workers_are : number_of (codes "workers") rows ≡ Some workers
   pub workers_in : (1 ≤ workers) × (workers ≤ 16)
+  pub cells_are : number_of (codes "cells") rows ≡ cells
+  pub cells_in : IsLimit cells
   pub folders_are : values_of (codes "folder") rows ≡ folders
 
--- those of so many generations
-pub record GivesAdvance (command : Option (List ℕ × List Row)) (generations : ℕ) : Type 0 where
+-- those of a census of the objects of these folders, or of those of the bundle
+pub record GivesObjects (command : Option (List ℕ × List Row)) (bound workers cells : ℕ) (folders : List (List ℕ)) : Type 0 where
+  pub rows : List Row
+  pub named : command ≡ Some (codes "objects", rows)
+  pub bound_is : number_of (codes "bound") rows ≡ Some bound
+  pub bound_in : (1 ≤ bound) × (bound ≤ 100000)
+  pub workers_are : number_of (codes "workers") rows ≡ Some workers
+  pub workers_in : (1 ≤ workers) × (workers ≤ 16)
+  pub cells_are : number_of (codes "cells") rows ≡ Some cells
+  pub cells_in : (1 ≤ cells) × (cells ≤ 4294967295)
+  pub folders_are : values_of (codes "folder") rows ≡ folders
+
+-- those of the blocks of these files, or, where there is none, of the block of standard input
+pub record GivesIdentify (command : Option (List ℕ × List Row)) (bound : ℕ) (files : List (List ℕ)) : Type 0 where
+  pub rows : List Row
+  pub named : command ≡ Some (codes "identify", rows)
+  pub bound_is : number_of (codes "bound") rows ≡ Some bound
+  pub bound_in : (1 ≤ bound) × (bound ≤ 100000)
+  pub files_are : values_of (codes "file") rows ≡ files
+
+-- those of so many generations of this file, or, where there is none, of standard input
+pub record GivesAdvance (command : Option (List ℕ × List Row)) (generations : ℕ) (file : Option (List ℕ)) : Type 0 where
   pub rows : List Row
   pub named : command ≡ Some (codes "advance", rows)
   pub generations_are : number_of (codes "generations") rows ≡ Some generations
   pub generations_in : generations ≤ 4194304
+  pub file_is : first_of (codes "file") rows ≡ file
 
 -- those of the drawing of a code under a rule
 pub record GivesDraw (command : Option (List ℕ × List Row)) (code rule : List ℕ) : Type 0 where
@@ -44,8 +72,10 @@ pub record GivesDraw (command : Option (List ℕ × List Row)) (code rule : List
   pub rule_is : first_of (codes "rule") rows ≡ Some rule
 
 abbrev pub Gives : Option (List ℕ × List Row) → Request → Type 0
-Gives command (Run bound workers folders) = GivesRun command bound workers (map (λ s. s.now) folders.items)
-Gives command (Advance generations) = GivesAdvance command generations
+Gives command (Run bound workers cells folders) = GivesRun command bound workers cells (map (λ s. s.now) folders.items)
+Gives command (Objects bound workers cells folders) = GivesObjects command bound workers cells (map (λ s. s.now) folders.items)
+Gives command (Identify bound files) = GivesIdentify command bound (map (λ s. s.now) files.items)
+Gives command (Advance generations file) = GivesAdvance command generations (option_map (λ s. s.now) file)
 Gives command (Draw code rule) = GivesDraw command code.now rule.now
 
 -- ---- what the words ask for
@@ -55,12 +85,20 @@ abbrev pub IsMatched : List (List ℕ) → Type 0
 IsMatched words = fault_of census_app words ≡ []
 
 -- the words ask for the census of these folders, or of the bundle on standard input where there is none
-abbrev pub AsksRun : List (List ℕ) → ℕ → ℕ → List (List ℕ) → Type 0
-AsksRun words bound workers folders = IsMatched words × GivesRun (subcommand_of census_app words) bound workers folders
+abbrev pub AsksRun : List (List ℕ) → ℕ → ℕ → Option ℕ → List (List ℕ) → Type 0
+AsksRun words bound workers cells folders = IsMatched words × GivesRun (subcommand_of census_app words) bound workers cells folders
 
--- for so many generations
-abbrev pub AsksAdvance : List (List ℕ) → ℕ → Type 0
-AsksAdvance words generations = IsMatched words × GivesAdvance (subcommand_of census_app words) generations
+-- for the census of the objects of these folders, or of those of the bundle
+abbrev pub AsksObjects : List (List ℕ) → ℕ → ℕ → ℕ → List (List ℕ) → Type 0
+AsksObjects words bound workers cells folders = IsMatched words × GivesObjects (subcommand_of census_app words) bound workers cells folders
+
+-- for the blocks of these files, or, where there is none, for the block of standard input
+abbrev pub AsksIdentify : List (List ℕ) → ℕ → List (List ℕ) → Type 0
+AsksIdentify words bound files = IsMatched words × GivesIdentify (subcommand_of census_app words) bound files
+
+-- for so many generations of this file, or, where there is none, of standard input
+abbrev pub AsksAdvance : List (List ℕ) → ℕ → Option (List ℕ) → Type 0
+AsksAdvance words generations file = IsMatched words × GivesAdvance (subcommand_of census_app words) generations file
 
 -- for the drawing of a code under a rule
 abbrev pub AsksDraw : List (List ℕ) → List ℕ → List ℕ → Type 0

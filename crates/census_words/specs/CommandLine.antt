@@ -8,6 +8,7 @@ use Rattle.clap.specs.declared.builder.value_parser.ValueParser.TheVariants.{Uns
 -- `--bound N`
 abbrev pub bound_rule : Rule
 bound_rule = record (new_rule (codes "bound")) {
+  short = Some 98;
   long = Some (codes "bound");
   value_names = 1;
   defaults = codes "1000" ∷ [];
@@ -17,15 +18,45 @@ bound_rule = record (new_rule (codes "bound")) {
 -- `--workers N`
 abbrev pub workers_rule : Rule
 workers_rule = record (new_rule (codes "workers")) {
+  short = Some 119;
   long = Some (codes "workers");
   value_names = 1;
   defaults = codes "4" ∷ [];
   parser = Some (Unsigned 1 16);
 }
 
+-- the `--bound N` of `objects` and of `identify`
+abbrev pub search_rule : Rule
+search_rule = record (new_rule (codes "bound")) {
+  short = Some 98;
+  long = Some (codes "bound");
+  value_names = 1;
+  defaults = codes "10000" ∷ [];
+  parser = Some (Unsigned 1 100000);
+}
+
+-- the `--cells N` of `run`, which has no default
+abbrev pub limit_rule : Rule
+limit_rule = record (new_rule (codes "cells")) {
+  long = Some (codes "cells");
+  value_names = 1;
+  parser = Some (Unsigned 1 4294967295);
+}
+
+-- the `--cells N` of `objects`
+abbrev pub cells_rule : Rule
+cells_rule = record limit_rule { defaults = codes "1000000" ∷ [] }
+
 -- `FOLDER..`
 abbrev pub folder_rule : Rule
 folder_rule = record (new_rule (codes "folder")) {
+  value_names = 1;
+  range = Some (record { start_inclusive = 1; end_inclusive = usize_max });
+}
+
+-- the `FILE..` of `identify`
+abbrev pub files_rule : Rule
+files_rule = record (new_rule (codes "file")) {
   value_names = 1;
   range = Some (record { start_inclusive = 1; end_inclusive = usize_max });
 }
@@ -37,6 +68,10 @@ generations_rule = record (new_rule (codes "generations")) {
   required = true;
   parser = Some (Unsigned 0 4194304);
 }
+
+-- the FILE of `advance N [FILE]`
+abbrev pub file_rule : Rule
+file_rule = record (new_rule (codes "file")) { value_names = 1 }
 
 -- the CODE of `draw CODE`
 abbrev pub code_rule : Rule
@@ -55,21 +90,30 @@ abbrev pub shape_with : List ℕ → List Rule → Shape
 shape_with name rules = record (new_shape name) { rules = rules }
 
 abbrev pub run_shape : Shape
-run_shape = shape_with (codes "run") (bound_rule ∷ workers_rule ∷ folder_rule ∷ [])
+run_shape = shape_with (codes "run") (bound_rule ∷ workers_rule ∷ limit_rule ∷ folder_rule ∷ [])
+
+abbrev pub objects_shape : Shape
+objects_shape = shape_with (codes "objects") (search_rule ∷ workers_rule ∷ cells_rule ∷ folder_rule ∷ [])
+
+abbrev pub identify_shape : Shape
+identify_shape = shape_with (codes "identify") (search_rule ∷ files_rule ∷ [])
 
 abbrev pub advance_shape : Shape
-advance_shape = shape_with (codes "advance") (generations_rule ∷ [])
+advance_shape = shape_with (codes "advance") (generations_rule ∷ file_rule ∷ [])
 
 abbrev pub draw_shape : Shape
 draw_shape = shape_with (codes "draw") (code_rule ∷ rule_rule ∷ [])
 
--- `census`, which wants one of its commands and whose words come without its own name
+-- `census` without its commands: it wants one, and its words come without its own name
+abbrev pub bare_app : App
+bare_app = record {
+  top = record (new_shape (codes "census")) { no_binary_name = true; subcommand_required = true };
+  subs = [];
+}
+
+-- `census`
 abbrev pub census_app : App
 census_app = record {
-  top = record (new_shape (codes "census")) {
-    is_leaf = false;
-    no_binary_name = true;
-    subcommand_required = true;
-  };
-  subs = run_shape ∷ advance_shape ∷ draw_shape ∷ [];
+  top = record bare_app.top { is_leaf = false };
+  subs = run_shape ∷ objects_shape ∷ identify_shape ∷ advance_shape ∷ draw_shape ∷ [];
 }

@@ -11,6 +11,10 @@ HasNumberIn low high id rows = (text : List ℕ) × (one_of id rows ≡ Some tex
 abbrev pub HasNumber : List ℕ → List Row → Type 0
 HasNumber id rows = HasNumberIn 0 4294967295 id rows
 
+-- a number from 1 that fits 32 bits, or none
+abbrev pub HasLimit : List ℕ → List Row → Type 0
+HasLimit id rows = (one_of id rows ≡ None) ⊎ HasNumberIn 1 4294967295 id rows
+
 -- a text
 abbrev pub HasText : List ℕ → List Row → Type 0
 HasText id rows = (text : List ℕ) × (first_of id rows ≡ Some text)
@@ -19,6 +23,17 @@ HasText id rows = (text : List ℕ) × (first_of id rows ≡ Some text)
 pub record HasRun (rows : List Row) : Type 0 where
   pub bound : HasNumberIn 1 1000000 (codes "bound") rows
   pub workers : HasNumberIn 1 16 (codes "workers") rows
+  pub cells : HasLimit (codes "cells") rows
+
+-- those of `objects` have theirs
+pub record HasObjects (rows : List Row) : Type 0 where
+  pub bound : HasNumberIn 1 100000 (codes "bound") rows
+  pub workers : HasNumberIn 1 16 (codes "workers") rows
+  pub cells : HasNumberIn 1 4294967295 (codes "cells") rows
+
+-- those of `identify` have theirs
+pub record HasIdentify (rows : List Row) : Type 0 where
+  pub bound : HasNumberIn 1 100000 (codes "bound") rows
 
 -- those of `advance` have theirs
 pub record HasAdvance (rows : List Row) : Type 0 where
@@ -34,5 +49,7 @@ abbrev pub IsCommand : Option (List ℕ × List Row) → Type 0
 IsCommand None = ⊥
 IsCommand (Some (name, rows)) =
     ((name ≡ codes "run") × HasRun rows)
+    ⊎ (((name ≡ codes "objects") × HasObjects rows)
+    ⊎ (((name ≡ codes "identify") × HasIdentify rows)
     ⊎ (((name ≡ codes "advance") × HasAdvance rows)
-    ⊎ ((name ≡ codes "draw") × HasDraw rows))
+    ⊎ ((name ≡ codes "draw") × HasDraw rows))))

@@ -2,8 +2,9 @@
 ghost use Rattle.std.specs.Prelude.{◌≡◌, IfOk, false};
 ghost use Rattle.clap.specs.Words.{app_of, rule_of, shape_of};
 ghost use Rattle.clap.specs.declared.builder.command.Command.TheViews.{out-Command};
-ghost use Rattle.census_words.specs.CommandLine.{advance_shape, bound_rule, census_app, code_rule, draw_shape};
-ghost use Rattle.census_words.specs.CommandLine.{folder_rule, generations_rule, run_shape, rule_rule, workers_rule};
+ghost use Rattle.census_words.specs.CommandLine.{advance_shape, bare_app, bound_rule, cells_rule, census_app, code_rule, draw_shape};
+ghost use Rattle.census_words.specs.CommandLine.{file_rule, files_rule, folder_rule, generations_rule, identify_shape, limit_rule};
+ghost use Rattle.census_words.specs.CommandLine.{objects_shape, run_shape, rule_rule, search_rule, workers_rule};
 
 use crate::help;
 use clap::{Arg, Command, value_parser};
@@ -13,6 +14,7 @@ fn bound<'a>(alloc: Global) -> Arg<'a>
     ensures { (rule_of result ≡ bound_rule) × (result.global ≡ false) }
 {
     Arg::new(alloc, "bound")
+        .short('b')
         .long("bound")
         .value_name("N")
         .value_parser(value_parser!(u64).range(1..=1_000_000))
@@ -20,10 +22,44 @@ fn bound<'a>(alloc: Global) -> Arg<'a>
         .help("Generations that are searched, 1 to 1000000")
 }
 
+fn search<'a>(alloc: Global) -> Arg<'a>
+    ensures { (rule_of result ≡ search_rule) × (result.global ≡ false) }
+{
+    Arg::new(alloc, "bound")
+        .short('b')
+        .long("bound")
+        .value_name("N")
+        .value_parser(value_parser!(u64).range(1..=100_000))
+        .default_value("10000")
+        .help("Generations that are searched, 1 to 100000")
+}
+
+fn limit<'a>(alloc: Global) -> Arg<'a>
+    ensures { (rule_of result ≡ limit_rule) × (result.global ≡ false) }
+{
+    Arg::new(alloc, "cells")
+        .long("cells")
+        .value_name("N")
+        .value_parser(value_parser!(u64).range(1..=4_294_967_295))
+        .help("Live cells that a pattern may have, 1 to 4294967295 [default: no limit]")
+}
+
+fn cells<'a>(alloc: Global) -> Arg<'a>
+    ensures { (rule_of result ≡ cells_rule) × (result.global ≡ false) }
+{
+    Arg::new(alloc, "cells")
+        .long("cells")
+        .value_name("N")
+        .value_parser(value_parser!(u64).range(1..=4_294_967_295))
+        .default_value("1000000")
+        .help("Live cells that a pattern may have, 1 to 4294967295")
+}
+
 fn workers<'a>(alloc: Global) -> Arg<'a>
     ensures { (rule_of result ≡ workers_rule) × (result.global ≡ false) }
 {
     Arg::new(alloc, "workers")
+        .short('w')
         .long("workers")
         .value_name("N")
         .value_parser(value_parser!(u64).range(1..=16))
@@ -42,6 +78,15 @@ fn folder<'a>(alloc: Global) -> Arg<'a>
         )
 }
 
+fn files<'a>(alloc: Global) -> Arg<'a>
+    ensures { (rule_of result ≡ files_rule) × (result.global ≡ false) }
+{
+    Arg::new(alloc, "file")
+        .value_name("FILE")
+        .num_args(1..)
+        .help(help::FILE)
+}
+
 fn generations<'a>(alloc: Global) -> Arg<'a>
     ensures { (rule_of result ≡ generations_rule) × (result.global ≡ false) }
 {
@@ -52,13 +97,19 @@ fn generations<'a>(alloc: Global) -> Arg<'a>
         .help("Generations, 0 to 4194304")
 }
 
+fn file<'a>(alloc: Global) -> Arg<'a>
+    ensures { (rule_of result ≡ file_rule) × (result.global ≡ false) }
+{
+    Arg::new(alloc, "file").value_name("FILE").help(help::FILE)
+}
+
 fn code<'a>(alloc: Global) -> Arg<'a>
     ensures { (rule_of result ≡ code_rule) × (result.global ≡ false) }
 {
     Arg::new(alloc, "code")
         .value_name("CODE")
         .required(true)
-        .help("An apgcode, or the part of one behind its first _")
+        .help("An apgcode, or the part of one after its first _")
 }
 
 fn rule<'a>(alloc: Global) -> Arg<'a>
@@ -79,7 +130,30 @@ fn run<'a>(alloc: Global) -> Result<Command<'a>, AllocError>
         .after_help(help::RUN)
         .arg(bound(alloc))?
         .arg(workers(alloc))?
+        .arg(limit(alloc))?
         .arg(folder(alloc))
+}
+
+fn objects<'a>(alloc: Global) -> Result<Command<'a>, AllocError>
+    ensures { IfOk result (λ c. (shape_of c ≡ objects_shape) × ((out-Command c).has_globals ≡ false)) }
+{
+    Command::new(alloc, "objects")
+        .about("Report the objects in what the patterns of collections become")
+        .after_help(help::OBJECTS)
+        .arg(search(alloc))?
+        .arg(workers(alloc))?
+        .arg(cells(alloc))?
+        .arg(folder(alloc))
+}
+
+fn identify<'a>(alloc: Global) -> Result<Command<'a>, AllocError>
+    ensures { IfOk result (λ c. (shape_of c ≡ identify_shape) × ((out-Command c).has_globals ≡ false)) }
+{
+    Command::new(alloc, "identify")
+        .about("Read RLE texts and tell of each what its pattern is")
+        .after_help(help::IDENTIFY)
+        .arg(search(alloc))?
+        .arg(files(alloc))
 }
 
 fn advance<'a>(alloc: Global) -> Result<Command<'a>, AllocError>
@@ -87,8 +161,9 @@ fn advance<'a>(alloc: Global) -> Result<Command<'a>, AllocError>
 {
     Command::new(alloc, "advance")
         .about("Read an RLE text and write that of its generation N")
-        .after_help(help::STATUSES)
-        .arg(generations(alloc))
+        .after_help(help::ADVANCE)
+        .arg(generations(alloc))?
+        .arg(file(alloc))
 }
 
 fn draw<'a>(alloc: Global) -> Result<Command<'a>, AllocError>
@@ -101,17 +176,24 @@ fn draw<'a>(alloc: Global) -> Result<Command<'a>, AllocError>
         .arg(rule(alloc))
 }
 
+fn bare<'a>(alloc: Global) -> Result<Command<'a>, AllocError>
+    ensures { IfOk result (λ c. app_of c ≡ bare_app) }
+{
+    let named = Command::new(alloc, "census")
+        .about("Takes a census of Life-like patterns: what each becomes on the unbounded plane")
+        .after_help(help::PROGRAM)
+        .bin_name("census")?;
+    Ok(named.no_binary_name(true).subcommand_required(true))
+}
+
 /// The whole command line.
 pub(crate) fn census<'a>(alloc: Global) -> Result<Command<'a>, AllocError>
     ensures { IfOk result (λ c. app_of c ≡ census_app) }
 {
-    Command::new(alloc, "census")
-        .about("Takes a census of Life-like patterns: what each becomes on the unbounded plane")
-        .after_help(help::PROGRAM)
-        .bin_name("census")?
-        .no_binary_name(true)
-        .subcommand_required(true)
+    bare(alloc)?
         .subcommand(run(alloc)?)?
+        .subcommand(objects(alloc)?)?
+        .subcommand(identify(alloc)?)?
         .subcommand(advance(alloc)?)?
         .subcommand(draw(alloc)?)
 }

@@ -1,5 +1,6 @@
-//! What the words of a command line ask for: a census of collections, a later generation of a pattern, the drawing of a
-//! code, or help.
+//! What the words of a command line ask for: `run`, a census of collections; `objects`, a census of the objects in what
+//! their patterns become; `identify`, what single patterns are; `advance`, a later generation of a pattern; `draw`, the
+//! drawing of a code; or help.
 #![tactic(auto)]
 
 mod command;

@@ -1,8 +1,8 @@
 //! What words ask for.
-ghost use Rattle.std.specs.Prelude.{◌≡◌, IfOk, MatchResult, Some, map};
+ghost use Rattle.std.specs.Prelude.{◌≡◌, IfOk, MatchResult, Some, map, option_map};
 ghost use Rattle.clap.specs.Words.{first_of, found_of, rows_of, subcommand_rows_of};
 ghost use Rattle.census_words.specs.Asking.{Asks, Gives, number_of, values_of};
-ghost use Rattle.census_words.specs.Holding.{HasNumber, HasText, IsCommand};
+ghost use Rattle.census_words.specs.Holding.{HasLimit, HasNumber, HasText, IsCommand};
 ghost use Rattle.census_words.specs.Refusing.{Refuses};
 
 use crate::command;
@@ -19,12 +19,35 @@ pub enum Request<'a> {
         bound: u32,
         /// How many threads work, 1 to 16.
         workers: u32,
+        /// How many live cells a pattern may have, 1 to 4,294,967,295, where there is such a limit.
+        cells: Option<u32>,
         /// In the order of the words.
         folders: Vec<&'a str>,
     },
-    /// The RLE text of so many generations later, 0 to 4,194,304.
+    /// The census of the objects in what collections become: of these folders, or, where there is none, of the bundle on
+    /// standard input.
+    Objects {
+        /// How many generations are searched, 1 to 100,000.
+        bound: u32,
+        /// How many threads work, 1 to 16.
+        workers: u32,
+        /// How many live cells a pattern may have, 1 to 4,294,967,295.
+        cells: u32,
+        /// In the order of the words.
+        folders: Vec<&'a str>,
+    },
+    /// What the pattern of each of these files is, or, where there is none, that of standard input.
+    Identify {
+        /// How many generations are searched, 1 to 100,000.
+        bound: u32,
+        /// In the order of the words. `-` is standard input.
+        files: Vec<&'a str>,
+    },
+    /// The RLE text of a pattern so many generations later, 0 to 4,194,304.
     Advance {
         generations: u32,
+        /// The file that has the pattern, `-` for standard input; where there is none it is standard input too.
+        file: Option<&'a str>,
     },
     /// The RLE text of what a code draws under the rule that a text names.
     Draw {
@@ -41,12 +64,30 @@ fn number(matches: &ArgMatches<'_>, id: &str) -> u32
     matches.get_one::<u64>(id).unwrap() as u32
 }
 
+// The number of an argument, where it has one.
+fn limit(matches: &ArgMatches<'_>, id: &str) -> Option<u32>
+    requires { HasLimit id.now (rows_of (found_of matches.now)) }
+    ensures { number_of id.now (rows_of (found_of matches.now)) ≡ result }
+{
+    match matches.get_one::<u64>(id) {
+        Some(number) => Some(number as u32),
+        None => None,
+    }
+}
+
 // The text of an argument that has one.
 fn text<'a>(matches: &ArgMatches<'a>, id: &str) -> &'a str
     requires { HasText id.now (rows_of (found_of matches.now)) }
     ensures { first_of id.now (rows_of (found_of matches.now)) ≡ Some result.now }
 {
     matches.get_str(id).unwrap()
+}
+
+// The text of an argument, where it has one.
+fn text_if_used<'a>(matches: &ArgMatches<'a>, id: &str) -> Option<&'a str>
+    ensures { first_of id.now (rows_of (found_of matches.now)) ≡ option_map (λ s. s.now) result }
+{
+    matches.get_str(id)
 }
 
 // All texts of an argument.
@@ -68,12 +109,28 @@ fn request_of<'a>(alloc: Global, matches: &ArgMatches<'a>) -> Result<Request<'a>
         return Ok(Request::Run {
             bound: number(run, "bound"),
             workers: number(run, "workers"),
+            cells: limit(run, "cells"),
             folders: texts(alloc, run, "folder")?,
+        });
+    }
+    if let Some(objects) = matches.subcommand_matches("objects") {
+        return Ok(Request::Objects {
+            bound: number(objects, "bound"),
+            workers: number(objects, "workers"),
+            cells: number(objects, "cells"),
+            folders: texts(alloc, objects, "folder")?,
+        });
+    }
+    if let Some(identify) = matches.subcommand_matches("identify") {
+        return Ok(Request::Identify {
+            bound: number(identify, "bound"),
+            files: texts(alloc, identify, "file")?,
         });
     }
     if let Some(advance) = matches.subcommand_matches("advance") {
         return Ok(Request::Advance {
             generations: number(advance, "generations"),
+            file: text_if_used(advance, "file"),
         });
     }
     if let Some(draw) = matches.subcommand_matches("draw") {
@@ -85,10 +142,10 @@ fn request_of<'a>(alloc: Global, matches: &ArgMatches<'a>) -> Result<Request<'a>
     unreachable!()
 }
 
-/// What the words behind the program's own name ask for.
+/// What the words after the program's own name ask for.
 ///
 /// What words mean is what clap's matches for them say: their command, the value of each option or its default, and the
-/// folders in order. Numbers are decimal, with any zeros or one `+` in front, and their ranges are clap's to judge.
+/// folders or files in order. Numbers are decimal, with any zeros or one `+` in front, and their ranges are clap's to judge.
 /// A fault other than `Memory` comes only where clap has no matches for the words: `Help` where it answers them with help,
 /// `Refused` where it refuses them.
 pub fn read_words<'a>(alloc: Global, words: &'a [&'a str]) -> Result<Request<'a>, WordsFault>

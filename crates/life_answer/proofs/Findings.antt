@@ -13,7 +13,7 @@ use Rattle.life_model.proofs.Cells.{same_cell-is, pair}
 use Rattle.life_model.proofs.Generations.{from_list-cells, cells-from_list}
 use Rattle.life_model.proofs.Moves.{moved-empty}
 use Rattle.life_model.proofs.Recurrences.{shape, way, move_from_shape, settles_from_shape, recurs_from_shape, shape_from_move, shape_from_recurs, Settles-one, Settles-other_bound, onset-period-least}
-use Rattle.life_answer.specs.declared.finding.Finding.TheVariants.{Recurs, Unresolved, Ash}
+use Rattle.life_answer.specs.declared.finding.Finding.TheVariants.{Recurs, Unresolved, Large, Ash}
 use Rattle.life_answer.specs.declared.part.Part.{Part}
 use Rattle.life_answer.specs.Recurrence.{same_shape, first_from, comes_again, first_return, first_onset}
 use Rattle.life_answer.specs.Answers.{settled, finding_at, finding_from, finding_of}
@@ -29,17 +29,17 @@ same_shape-is G H =
 
 -- ---- the first number that passes
 
-record IsFirst (test : ℕ → Bool) (from end first : ℕ) : Type 0 where
-  reached : from ≤ first
-  below : first < end
-  passes : test first ≡ true
-  before : (m : ℕ) → from ≤ m → m < first → test m ≡ false
+pub record IsFirst (test : ℕ → Bool) (from end first : ℕ) : Type 0 where
+  pub reached : from ≤ first
+  pub below : first < end
+  pub passes : test first ≡ true
+  pub before : (m : ℕ) → from ≤ m → m < first → test m ≡ false
 
 bool_cases : (b : Bool) → (b ≡ true) ⊎ (b ≡ false)
 bool_cases true = inl refl
 bool_cases false = inr refl
 
-first_from-found : (test : ℕ → Bool) (count n first : ℕ) → first_from test n count ≡ Some first → IsFirst test n (n + count) first
+pub first_from-found : (test : ℕ → Bool) (count n first : ℕ) → first_from test n count ≡ Some first → IsFirst test n (n + count) first
 first_from-found test zero n first e = absurd cc
 first_from-found test (suc count) n first e =
     elim (bool_cases (test n)) [
@@ -63,7 +63,26 @@ first_from-found test (suc count) n first e =
           }
     ]
 
-first_from-none : (test : ℕ → Bool) (count n m : ℕ) → first_from test n count ≡ None → n ≤ m → m < n + count → test m ≡ false
+pub first_from-first : (test : ℕ → Bool) (count n first : ℕ) → n ≤ first → first < n + count → test first ≡ true
+    → ((m : ℕ) → n ≤ m → m < first → test m ≡ false) → first_from test n count ≡ Some first
+first_from-first test zero n first h k passes before = absurd (omega arith)
+first_from-first test (suc count) n first h k passes before =
+    elim (cases_lt n first) [
+      | inl later ↦
+          ap (λ b. cond b (Some n) (first_from test (n + 1) count)) (before n (omega arith) later)
+          ∙ first_from-first test count (n + 1) first (omega arith) (omega arith) passes (λ m l. before m (omega arith))
+      | inr same ↦
+          let here : first ≡ n = omega arith in
+          ap (λ b. cond b (Some n) (first_from test (n + 1) count)) (ap test (sym here) ∙ passes) ∙ ap Some (sym here)
+    ]
+
+pub first_from-nowhere : (test : ℕ → Bool) (count n : ℕ) → ((m : ℕ) → n ≤ m → m < n + count → test m ≡ false) → first_from test n count ≡ None
+first_from-nowhere test zero n none = refl
+first_from-nowhere test (suc count) n none =
+    ap (λ b. cond b (Some n) (first_from test (n + 1) count)) (none n (omega arith) (omega arith))
+    ∙ first_from-nowhere test count (n + 1) (λ m h k. none m (omega arith) (omega arith))
+
+pub first_from-none : (test : ℕ → Bool) (count n m : ℕ) → first_from test n count ≡ None → n ≤ m → m < n + count → test m ≡ false
 first_from-none test zero n m e h k = absurd (omega arith)
 first_from-none test (suc count) n m e h k =
     elim (bool_cases (test n)) [
@@ -220,6 +239,17 @@ module _ (R : Rule) (G : Generation) where
         elim settled_or_not [
           | inl found ↦ ash_apart_settled found.onset found.period population found.by parts (sym found.found ∙ e)
           | inr not ↦ (let apart : Unresolved (size G) ≡ Ash population parts = sym not.found ∙ e in cc)
+        ]
+
+    large_apart_settled : (o p n m : ℕ) (d : Cell) → settled R G o p d ≡ Large n m → ⊥
+    large_apart_settled o p n m d e = cc
+
+    -- nor is it that a generation is too large
+    pub finding-no_large : (population first : ℕ) → finding_of R G b ≡ Large population first → ⊥
+    finding-no_large population first e =
+        elim settled_or_not [
+          | inl found ↦ large_apart_settled found.onset found.period population first found.by (sym found.found ∙ e)
+          | inr not ↦ (let apart : Unresolved (size G) ≡ Large population first = sym not.found ∙ e in cc)
         ]
 
   pub finding-more : (b c o p : ℕ) (d : Cell) → Settles R G b o p d → o + p ≤ c → finding_of R G c ≡ finding_of R G b

@@ -1,4 +1,5 @@
 pub mod Findings
+pub mod Limits
 pub mod Texts
 pub mod LeastTexts
 pub mod Sizes

@@ -6,7 +6,7 @@ use Rattle.life_model.specs.Cell.{Cell, plus}
 use Rattle.life_model.specs.Rule.{Rule}
 use Rattle.life_model.specs.Generation.{Generation, contains, empty, insert, from_list, cells, size}
 use Rattle.life_model.specs.Evolution.{next, generation}
-use Rattle.life_model.specs.Symmetry.{image, normal, Orientation, turn, turned}
+use Rattle.life_model.specs.Symmetry.{image, moved, normal, Orientation, turn, turned}
 use Rattle.life_model.proofs.Cells.{cell_cmp_total}
 use Rattle.life_model.proofs.Generations.{contains-empty, same_members, size-cells, size-empty}
 use Rattle.life_model.proofs.Lists.{cells-moved}
@@ -25,7 +25,8 @@ size-insert G c =
     let h = at_most (finmap.contains_key G c) (finmap.len G) in
     omega arith
 
-size-from_list : (cs : List Cell) → size (from_list cs) ≤ length cs
+-- a list has at least as many elements as its set has cells
+pub size-from_list : (cs : List Cell) → size (from_list cs) ≤ length cs
 size-from_list [] = let e = size-empty in omega arith
 size-from_list (c ∷ cs) =
     let h = size-insert (from_list cs) c in
@@ -52,11 +53,16 @@ size-turned G m =
     let e = ap size (turned_back G m) in
     omega arith
 
+-- a set that is moved keeps its number of cells
+pub size-moved : (G : Generation) (d : Cell) → size (moved G d) ≡ size G
+size-moved G d =
+    size-cells (moved G d) ∙ ap length (cells-moved G d) ∙ length-map (cells G) (λ c. plus c d) ∙ sym (size-cells G)
+
 -- sets of one shape have as many cells
 pub size_by_shape : (G H : Generation) → normal G ≡ normal H → size G ≡ size H
 size_by_shape G H e =
     let m = (normal_decides G H).0 e in
-    size-cells G ∙ sym (length-map (cells G) (λ c. plus c m.0)) ∙ ap length (sym (cells-moved G m.0)) ∙ ap (λ X. length (cells X)) (sym m.1) ∙ sym (size-cells H)
+    sym (size-moved G m.0) ∙ ap size (sym m.1)
 
 -- ---- no cell
 

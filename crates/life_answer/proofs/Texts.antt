@@ -1,35 +1,47 @@
 -- What is found of a text.
-use Rattle.std.proofs.Common.{◌≡◌, ℕ, ◌≤◌, Bool, true, false, List, [], ◌∷◌, ◌++◌, Option, Some, None, Result, Ok, Err, cond, is_some, codes, ap, subst, arith}
+use Rattle.std.proofs.Common.{◌≡◌, ℕ, ◌≤◌, Bool, true, false, List, [], ◌∷◌, ◌++◌, Option, Some, None, Result, Ok, Err, cond, is_some, codes, ap, subst, sym, arith, ◌∙◌, ◌≢◌, IfOk, OnOk}
 use Rattle.std.specs.Option.{option_or}
 use Rattle.std.specs.List.{list_all}
 use Rattle.life_cells.specs.Bytes.{is_blank, after_one_of}
 use Rattle.life_cells.specs.Rules.{life}
 use Rattle.life_model.specs.Rule.{Rule}
+use Rattle.life_model.specs.Generation.{Generation, size}
 use Rattle.life_cells.specs.declared.rule.RuleFault.{RuleFault}
 use Rattle.life_cells.specs.declared.rule.RuleFault.TheVariants.{NotLifeLike, HasB0}
 use Rattle.life_text.specs.declared.rle.RleFault.{RleFault}
-use Rattle.life_text.specs.declared.rle.RleFault.TheVariants.{NoHeader, ManyStates, BadChar, BadRun, TooFar, TooMany, NoEnd}
+use Rattle.life_text.specs.declared.rle.RleFault.TheVariants.{Memory, NoHeader, ManyStates, BadChar, BadRun, TooFar, TooMany, NoEnd}
 use Rattle.life_text.specs.Rle as rle
 use Rattle.life_text.specs.Rle.{Meaning, Token, reading, refusal, fault_of, with_body, unless_fault, first_fault, token_fault, fault_if, header_rule, line_rule, rule_behind, named_rule, told, rule_fault}
 use Rattle.life_text.specs.Picture.{Picture, picture_of}
 use Rattle.life_answer.specs.declared.finding.Finding.{Finding}
 use Rattle.life_answer.specs.declared.finding.Finding.TheVariants.{Ash}
+use Rattle.life_answer.specs.declared.finding.Answer.{Answer}
 use Rattle.life_answer.specs.declared.finding.Answer.TheVariants.{Found, Refused}
 use Rattle.life_answer.specs.declared.part.Part.{Part}
-use Rattle.life_answer.specs.Answers.{finding_of, fault_number, answer_to, answer_of}
+use Rattle.life_answer.specs.Answers.{finding_of, fault_number}
+use Rattle.life_answer.specs.Limited.{first_past, limited, unless_large}
+use Rattle.life_answer.specs.Questions.{answer_to, answer_to_question, finding_to}
+use Rattle.life_answer.specs.declared.question.Question.{Question}
+use Rattle.life_answer.specs.declared.question.Question.TheVariants.{Settles}
 use Rattle.life_answer.proofs.Findings.{finding-no_ash}
 
-pub answer-found : (text : List ℕ) (b : ℕ) (pattern : Picture) → picture_of (reading text) ≡ Ok pattern → answer_of text b ≡ Found pattern.rule (finding_of pattern.rule pattern.cells b)
-unfolding answer_of
-answer-found text b pattern e = ap (λ r. answer_to r b) e
+pub answer-found : (q : Question) (text : List ℕ) (pattern : Picture) → picture_of (reading text) ≡ Ok pattern → answer_to_question q text ≡ Found pattern.rule (finding_to q pattern.rule pattern.cells)
+unfolding answer_to_question
+answer-found q text pattern e = ap (answer_to q) e
 
-refused_by : (r : Result Meaning RleFault) (b : ℕ) (fault : RleFault) → fault_of r ≡ Some fault → answer_to (picture_of r) b ≡ Refused (fault_number fault)
-refused_by (Ok meaning) b fault e = absurd cc
-refused_by (Err other) b fault e = ap (λ f. Refused (fault_number f)) (let same : other ≡ fault = cc in same)
+refused_by : (q : Question) (r : Result Meaning RleFault) (fault : RleFault) → fault_of r ≡ Some fault → answer_to q (picture_of r) ≡ Refused (fault_number fault)
+refused_by q (Ok meaning) fault e = absurd cc
+refused_by q (Err other) fault e = ap (λ f. Refused (fault_number f)) (let same : other ≡ fault = cc in same)
 
-pub answer-refused : (text : List ℕ) (b : ℕ) (fault : RleFault) → refusal text ≡ Some fault → answer_of text b ≡ Refused (fault_number fault)
-unfolding answer_of
-answer-refused text b fault e = refused_by (reading text) b fault e
+pub answer-refused : (q : Question) (text : List ℕ) (fault : RleFault) → refusal text ≡ Some fault → answer_to_question q text ≡ Refused (fault_number fault)
+unfolding answer_to_question
+answer-refused q text fault e = refused_by q (reading text) fault e
+
+-- an answer that names a fault is that to a text with this fault
+pub refused-answer : {E : Type 0} (r : Result Answer E) (q : Question) (text : List ℕ) (fault : RleFault) → IfOk r (λ a. a ≡ Refused (fault_number fault))
+    → OnOk r (fault ≢ Memory) → (fault ≢ Memory → refusal text ≡ Some fault) → IfOk r (λ a. a ≡ answer_to_question q text)
+refused-answer (Ok a) q text fault e h told = e ∙ sym (answer-refused q text fault (told h))
+refused-answer (Err x) q text fault e h told = tt
 
 -- ---- the numbers of faults
 
@@ -98,25 +110,38 @@ with_body-numbered : (r : Result Rule RleFault) (ts : List Token) → IsTold r �
 with_body-numbered (Err fault) ts h = h
 with_body-numbered (Ok rule) ts h = unless_fault-numbered (first_fault [] ts) _ (first_fault-numbered [] ts)
 
-numbered_by : (r : Result Meaning RleFault) (b number : ℕ) → IsTold r → answer_to (picture_of r) b ≡ Refused number → IsNumber number
-numbered_by (Ok meaning) b number h e = absurd cc
-numbered_by (Err fault) b number h e = subst IsNumber (let same : fault_number fault ≡ number = cc in same) h
+numbered_by : (q : Question) (r : Result Meaning RleFault) (number : ℕ) → IsTold r → answer_to q (picture_of r) ≡ Refused number → IsNumber number
+numbered_by q (Ok meaning) number h e = absurd cc
+numbered_by q (Err fault) number h e = subst IsNumber (let same : fault_number fault ≡ number = cc in same) h
 
-pub answer-numbered : (text : List ℕ) (b number : ℕ) → answer_of text b ≡ Refused number → (1 ≤ number) × (number ≤ 10)
-unfolding answer_of
-answer-numbered text b number e =
-    numbered_by (reading text) b number (with_body-numbered (header_rule text) (rle.body_tokens text) (line_rule-numbered (rle.header_line text))) e
+pub answer-numbered : (q : Question) (text : List ℕ) (number : ℕ) → answer_to_question q text ≡ Refused number → (1 ≤ number) × (number ≤ 10)
+unfolding answer_to_question
+answer-numbered q text number e =
+    numbered_by q (reading text) number (with_body-numbered (header_rule text) (rle.body_tokens text) (line_rule-numbered (rle.header_line text))) e
 
 -- ---- no ash
 
 same_finding : (r s : Rule) (f g : Finding) → Found r f ≡ Found s g → f ≡ g
 same_finding r s f g e = cc
 
-no_ash_by : (r : Result Picture RleFault) (b : ℕ) (rule : Rule) (population : ℕ) (parts : List Part) → answer_to r b ≡ Found rule (Ash population parts) → ⊥
-no_ash_by (Ok pattern) b rule population parts e = finding-no_ash pattern.rule pattern.cells b population parts (same_finding pattern.rule rule _ _ e)
-no_ash_by (Err fault) b rule population parts e = cc
+large_no_ash : (found : Finding) (size : ℕ) (o : Option ℕ) (population : ℕ) (parts : List Part) → (found ≡ Ash population parts → ⊥)
+    → unless_large found size o ≡ Ash population parts → ⊥
+large_no_ash found size None population parts none e = none e
+large_no_ash found size (Some n) population parts none e = cc
+
+limited_no_ash : (cells : Option ℕ) (R : Rule) (G : Generation) (b population : ℕ) (parts : List Part)
+    → limited cells R G b (finding_of R G b) ≡ Ash population parts → ⊥
+limited_no_ash cells R G b population parts e =
+    large_no_ash (finding_of R G b) (size G) (first_past cells R G b) population parts (finding-no_ash R G b population parts) e
+
+no_ash_by : (b : ℕ) (cells : Option ℕ) (r : Result Picture RleFault) (rule : Rule) (population : ℕ) (parts : List Part)
+    → answer_to (Settles b cells) r ≡ Found rule (Ash population parts) → ⊥
+no_ash_by b cells (Ok pattern) rule population parts e =
+    limited_no_ash cells pattern.rule pattern.cells b population parts (same_finding pattern.rule rule _ _ e)
+no_ash_by b cells (Err fault) rule population parts e = cc
 
 -- where the question is which generation comes again, no answer is an ash
-pub answer-no_ash : (text : List ℕ) (b : ℕ) (rule : Rule) (population : ℕ) (parts : List Part) → answer_of text b ≡ Found rule (Ash population parts) → ⊥
-unfolding answer_of
-answer-no_ash text b rule population parts e = no_ash_by (picture_of (reading text)) b rule population parts e
+pub answer-no_ash : (text : List ℕ) (b : ℕ) (cells : Option ℕ) (rule : Rule) (population : ℕ) (parts : List Part)
+    → answer_to_question (Settles b cells) text ≡ Found rule (Ash population parts) → ⊥
+unfolding answer_to_question
+answer-no_ash text b cells rule population parts e = no_ash_by b cells (picture_of (reading text)) rule population parts e

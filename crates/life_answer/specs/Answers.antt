@@ -1,17 +1,13 @@
--- What is found of a pattern and of a text.
-use Rattle.std.specs.Prelude.{ℕ, ◌+◌, List, Option, Some, None, Result, Ok, Err}
+-- What is found of a pattern that settles, and the numbers of faults.
+use Rattle.std.specs.Prelude.{ℕ, ◌+◌, Option, Some, None}
 use Rattle.life_model.specs.Cell.{Cell}
 use Rattle.life_model.specs.Rule.{Rule}
 use Rattle.life_model.specs.Generation.{Generation, size}
 use Rattle.life_model.specs.Evolution.{generation}
 use Rattle.life_text.specs.declared.rle.RleFault.{RleFault}
 use Rattle.life_text.specs.declared.rle.RleFault.TheVariants.{NoHeader, BadHeader, RuleNotLifeLike, RuleHasB0, ManyStates, BadChar, BadRun, TooFar, TooMany, NoEnd, Memory}
-use Rattle.life_text.specs.Rle.{reading}
-use Rattle.life_text.specs.Picture.{Picture, picture_of}
 use Rattle.life_answer.specs.declared.finding.Finding.{Finding}
 use Rattle.life_answer.specs.declared.finding.Finding.TheVariants.{Recurs, Unresolved}
-use Rattle.life_answer.specs.declared.finding.Answer.{Answer}
-use Rattle.life_answer.specs.declared.finding.Answer.TheVariants.{Found, Refused}
 use Rattle.life_answer.specs.Apgcode.{code_of}
 use Rattle.life_answer.specs.Recurrence.{first_onset, first_return, corners_apart}
 
@@ -47,11 +43,3 @@ fault_number (TooFar at) = 8
 fault_number (TooMany at) = 9
 fault_number NoEnd = 10
 fault_number Memory = 11
-
-abbrev pub answer_to : Result Picture RleFault → ℕ → Answer
-answer_to (Ok pattern) b = Found pattern.rule (finding_of pattern.rule pattern.cells b)
-answer_to (Err fault) b = Refused (fault_number fault)
-
--- what is found of an RLE text within the bound
-unfoldable pub answer_of : List ℕ → ℕ → Answer
-answer_of text b = answer_to (picture_of (reading text)) b

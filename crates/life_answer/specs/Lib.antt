@@ -2,4 +2,6 @@ pub mod Apgcode
 pub mod Recurrence
 pub mod Answers
 pub mod Parts
+pub mod Census
+pub mod Limited
 pub mod Questions

@@ -1,27 +1,47 @@
 -- What is found of an RLE text, whatever is asked.
-use Rattle.std.specs.Prelude.{◌≤◌, ℕ, List}
+use Rattle.std.specs.Prelude.{◌≤◌, ℕ, ◌*◌, List, Result, Ok, Err}
 use Rattle.std.specs.Coded.{Coded}
+use Rattle.life_model.specs.Rule.{Rule}
+use Rattle.life_model.specs.Generation.{Generation}
+use Rattle.life_text.specs.declared.rle.RleFault.{RleFault}
+use Rattle.life_text.specs.Rle.{reading}
+use Rattle.life_text.specs.Picture.{Picture, picture_of}
 use Rattle.life_answer.specs.contracts.question.Question as question_row
 use Rattle.life_answer.specs.declared.finding.Answer.{Answer}
+use Rattle.life_answer.specs.declared.finding.Answer.TheVariants.{Found, Refused}
+use Rattle.life_answer.specs.declared.finding.Finding.{Finding}
 use Rattle.life_answer.specs.declared.question.Question.{Question}
-use Rattle.life_answer.specs.declared.question.Question.TheVariants.{Settles}
-use Rattle.life_answer.specs.Answers.{answer_of}
+use Rattle.life_answer.specs.declared.question.Question.TheVariants.{Objects, Settles}
+use Rattle.life_answer.specs.Answers.{fault_number, finding_of}
+use Rattle.life_answer.specs.Census.{census_of}
+use Rattle.life_answer.specs.Limited.{limited}
 
 -- the bound within which is asked
 abbrev pub bound_of : Question → ℕ
-bound_of (Settles bound) = bound
+bound_of (Settles bound cells) = bound
+bound_of (Objects bound cells) = bound
 
 -- the greatest bound within which such a question is answered
 abbrev pub greatest_bound : Question → ℕ
-greatest_bound (Settles bound) = 1000000
+greatest_bound (Settles bound cells) = 1000000
+greatest_bound (Objects bound cells) = 100000
 
 -- the bound is one within which is answered
 abbrev pub IsAnswered : Question → Type 0
 IsAnswered question = (1 ≤ bound_of question) × (bound_of question ≤ greatest_bound question)
 
+-- what is found of a set
+abbrev pub finding_to : Question → Rule → Generation → Finding
+finding_to (Settles bound cells) R G = limited cells R G bound (finding_of R G bound)
+finding_to (Objects bound cells) R G = limited cells R G (3 * bound) (census_of R G bound)
+
+abbrev pub answer_to : Question → Result Picture RleFault → Answer
+answer_to question (Ok pattern) = Found pattern.rule (finding_to question pattern.rule pattern.cells)
+answer_to question (Err fault) = Refused (fault_number fault)
+
 -- what is found of an RLE text
-abbrev pub answer_to_question : Question → List ℕ → Answer
-answer_to_question (Settles bound) text = answer_of text bound
+unfoldable pub answer_to_question : Question → List ℕ → Answer
+answer_to_question question text = answer_to question (picture_of (reading text))
 
 -- how a proof tells questions apart
 pub question_code : Coded Question

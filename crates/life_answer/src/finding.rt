@@ -26,6 +26,13 @@ pub enum Finding {
         /// How many live cells generation 0 has.
         population: u64,
     },
+    /// Some generation has more cells than it may have.
+    Large {
+        /// How many live cells generation 0 has.
+        population: u64,
+        /// The first such generation.
+        generation: u32,
+    },
     /// It has fallen apart into objects.
     Ash {
         /// How many live cells generation 0 has.

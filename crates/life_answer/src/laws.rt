@@ -1,5 +1,5 @@
 //! The laws that tie the answer to the definition of onset, period and displacement.
-ghost use Rattle.std.specs.Prelude.{◌≡◌, ◌+◌, ◌<◌, ◌≤◌, ◌↔◌, ℕ, List, Ok, Some, ℤ, length};
+ghost use Rattle.std.specs.Prelude.{◌≡◌, ◌+◌, ◌<◌, ◌≤◌, ◌↔◌, ℕ, List, None, Ok, Option, Some, ℤ, length};
 ghost use Rattle.life_model.specs.Cell.{Cell};
 ghost use Rattle.life_model.specs.Evolution.{generation};
 ghost use Rattle.life_model.specs.Generation.{Generation, size};
@@ -8,12 +8,16 @@ ghost use Rattle.life_model.specs.Rule.{Rule};
 ghost use Rattle.life_text.specs.declared.rle.RleFault.{RleFault};
 ghost use Rattle.life_text.specs.Picture.{Picture, picture_of};
 ghost use Rattle.life_text.specs.Rle.{reading, refusal};
-ghost use Rattle.life_answer.specs.Answers.{answer_of, fault_number, finding_of, settled};
+ghost use Rattle.life_answer.specs.Answers.{fault_number, finding_of, settled};
 ghost use Rattle.life_answer.specs.Apgcode.{code_of};
 ghost use Rattle.life_answer.specs.declared.finding.Finding.TheVariants.{Ash, Recurs, Unresolved};
 ghost use Rattle.life_answer.specs.declared.finding.Answer.TheVariants.{Found, Refused};
 ghost use Rattle.life_answer.specs.declared.part.Part.{Part};
+ghost use Rattle.life_answer.specs.Limited.{StaysWithin, first_past};
 ghost use Rattle.life_answer.specs.Parts.{counted_codes, objects_in};
+ghost use Rattle.life_answer.specs.Questions.{answer_to_question, finding_to};
+ghost use Rattle.life_answer.specs.declared.question.Question.{Question};
+ghost use Rattle.life_answer.specs.declared.question.Question.TheVariants.{Settles as AsksSettling};
 ghost use Rattle.std.specs.List.Sorted.{IsPermutation};
 
 /// What is found of a set that settles within the bound: the population of the set itself, its onset, period and
@@ -42,15 +46,27 @@ pub fn one_finding()
 
 /// The answer to a text is the finding of the pattern that it means, or the number of its fault, which is 1 to 10.
 pub fn a_text_is_found_or_refused()
-    ensures found { (text : List ℕ) (b : ℕ) (pattern : Picture) → picture_of (reading text) ≡ Ok pattern →
-        answer_of text b ≡ Found pattern.rule (finding_of pattern.rule pattern.cells b) }
-    ensures refused { (text : List ℕ) (b : ℕ) (fault : RleFault) → refusal text ≡ Some fault → answer_of text b ≡ Refused (fault_number fault) }
-    ensures numbered { (text : List ℕ) (b number : ℕ) → answer_of text b ≡ Refused number → (1 ≤ number) × (number ≤ 10) }
+    ensures found { (question : Question) (text : List ℕ) (pattern : Picture) → picture_of (reading text) ≡ Ok pattern →
+        answer_to_question question text ≡ Found pattern.rule (finding_to question pattern.rule pattern.cells) }
+    ensures refused { (question : Question) (text : List ℕ) (fault : RleFault) → refusal text ≡ Some fault →
+        answer_to_question question text ≡ Refused (fault_number fault) }
+    ensures numbered { (question : Question) (text : List ℕ) (number : ℕ) → answer_to_question question text ≡ Refused number →
+        (1 ≤ number) × (number ≤ 10) }
 {}
 
 /// Where it is asked which generation comes again, no answer is that a pattern has fallen apart.
 pub fn what_comes_again_is_no_ash()
-    ensures { (text : List ℕ) (b : ℕ) (rule : Rule) (population : ℕ) (parts : List Part) → answer_of text b ≡ Found rule (Ash population parts) → ⊥ }
+    ensures { (text : List ℕ) (b : ℕ) (cells : Option ℕ) (rule : Rule) (population : ℕ) (parts : List Part) →
+        answer_to_question (AsksSettling b cells) text ≡ Found rule (Ash population parts) → ⊥ }
+{}
+
+/// The first generation past a limit is the first that has more cells than allowed, and there is none exactly where all
+/// stay within it.
+pub fn the_first_generation_past_the_limit()
+    ensures some { (R : Rule) (G : Generation) (most last n : ℕ) → (first_past (Some most) R G last ≡ Some n)
+        ↔ ((n ≤ last) × (most < size (generation R G n)) × ((m : ℕ) → m < n → size (generation R G m) ≤ most)) }
+    ensures none { (R : Rule) (G : Generation) (limit : Option ℕ) (last : ℕ) →
+        (first_past limit R G last ≡ None) ↔ StaysWithin limit R G last }
 {}
 
 /// Of two sets that settle under one rule, the codes are equal exactly where their generations at the onset are one object.

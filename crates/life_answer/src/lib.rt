@@ -8,3 +8,4 @@ pub mod laws;
 pub mod part;
 pub mod parts;
 pub mod question;
+pub mod refusal;

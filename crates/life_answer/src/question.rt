@@ -7,5 +7,14 @@ pub enum Question {
     Settles {
         /// The last generation that is looked at: 1 to 1,000,000.
         bound: u32,
+        /// How many cells a generation from 0 to the bound may have at most; none: any number.
+        cells: Option<u32>,
+    },
+    /// Into which objects it has fallen apart.
+    Objects {
+        /// The generation by which it is to have fallen apart, and the longest period of an object: 1 to 100,000.
+        bound: u32,
+        /// How many cells a generation from 0 to three times the bound may have at most; none: any number.
+        cells: Option<u32>,
     },
 }

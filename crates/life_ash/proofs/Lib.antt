@@ -11,4 +11,6 @@ pub mod Together
 pub mod Pairs
 pub mod Objects
 pub mod Later
+pub mod Limits
+pub mod Totals
 pub mod Firsts

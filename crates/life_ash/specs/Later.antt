@@ -1,6 +1,7 @@
 -- Sets that recur, some generations later.
-use Rattle.std.specs.Prelude.{ℕ, List, map}
+use Rattle.std.specs.Prelude.{ℕ, ◌+◌, List, [], ◌∷◌, map}
 use Rattle.life_model.specs.Evolution.{generation}
+use Rattle.life_model.specs.Generation.{size}
 use Rattle.life_orbit.specs.Course.{Course}
 
 -- what recurs so, n generations later
@@ -10,3 +11,8 @@ later n o = record { rule = o.rule; set = generation o.rule o.set n; period = o.
 -- each, n generations later
 abbrev pub all_later : ℕ → List Course → List Course
 all_later n os = map (later n) os
+
+-- how many cells they have together then, counted one by one
+abbrev pub total_later : ℕ → List Course → ℕ
+total_later n [] = 0
+total_later n (o ∷ os) = size (generation o.rule o.set n) + total_later n os

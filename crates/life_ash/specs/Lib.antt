@@ -1,3 +1,4 @@
 pub mod Living
 pub mod Parts
 pub mod Later
+pub mod Fates

@@ -14,8 +14,35 @@ use life_orbit::orbit::{BOUND_LIMIT, Orbit};
 use life_plane::plane::Plane;
 use std::alloc::{AllocError, Global};
 
-/// For how many generations the cells of a guess are followed, and within how many each part must come again.
-const REACH: u32 = 64;
+/// How far a guess looks.
+#[derive(Clone, Copy)]
+struct Effort {
+    /// For how many generations the cells are followed.
+    followed: u32,
+    /// Within how many generations each part must come again.
+    recurs: u32,
+}
+
+/// The efforts of the guesses, each made where those before it found nothing. Most objects come again within four
+/// generations, and most that are in several places come near each other as soon.
+const EFFORTS: [Effort; 4] = [
+    Effort {
+        followed: 0,
+        recurs: 4,
+    },
+    Effort {
+        followed: 4,
+        recurs: 4,
+    },
+    Effort {
+        followed: 16,
+        recurs: 16,
+    },
+    Effort {
+        followed: 64,
+        recurs: 64,
+    },
+];
 
 /// The orbits of the classes as they were at first, where each recurs within the bound.
 fn orbits_of(
@@ -38,13 +65,13 @@ fn orbits_of(
     Ok(Some(orbits))
 }
 
-/// Parts of which a plane's cells are ash within the bound, where they are found at once: cells that belong together
-/// come near each other within a while, and each part comes again within a while. That none are found tells nothing.
-pub fn guessed_parts<P: Plane>(
+/// Parts of which a plane's cells are ash within the bound, where one effort finds them.
+fn parts_by_effort<P: Plane>(
     alloc: Global,
     plane: &P,
     rule: &Rule,
     bound: u32,
+    effort: Effort,
 ) -> Result<Option<Vec<Orbit>>, AllocError>
     requires bound { 1 ≤ bound × bound ≤ BOUND_LIMIT }
     requires young { P.steps_made plane.now ≤ 400000 }
@@ -54,15 +81,42 @@ pub fn guessed_parts<P: Plane>(
     ensures placed { IfOk result (λ found. IfSome found (λ parts. All IsPlaced parts.items)) }
     ensures courses { IfOk result (λ found. IfSome found (λ parts. All IsCourse parts.items)) }
 {
-    let reach = bound.min(REACH);
+    let followed = bound.min(effort.followed);
+    let recurs = bound.min(effort.recurs.max(1));
     let copy = plane.copy()?;
     let _age = copy.age();
-    let all = classes(alloc, copy, rule, reach)?;
-    let Some(parts) = orbits_of(alloc, rule, all.as_slice(), reach)? else {
+    let all = classes(alloc, copy, rule, followed)?;
+    let Some(parts) = orbits_of(alloc, rule, all.as_slice(), recurs)? else {
         return Ok(None);
     };
     if is_ash(alloc, plane, parts.as_slice(), rule, bound)? {
         return Ok(Some(parts));
+    }
+    Ok(None)
+}
+
+/// Parts of which a plane's cells are ash within the bound, where they are found at once: cells that belong together
+/// come near each other within a while, and each part comes again within a while. That none are found tells nothing. At
+/// most so many efforts are made, each greater than those before it.
+pub fn guessed_parts<P: Plane>(
+    alloc: Global,
+    plane: &P,
+    rule: &Rule,
+    bound: u32,
+    most: usize,
+) -> Result<Option<Vec<Orbit>>, AllocError>
+    requires bound { 1 ≤ bound × bound ≤ BOUND_LIMIT }
+    requires young { P.steps_made plane.now ≤ 400000 }
+    ensures ash { IfOk result (λ found. IfSome found (λ parts.
+        IsAsh rule.now bound (P.members plane.now) (sets_of parts.items))) }
+    ensures rule { IfOk result (λ found. IfSome found (λ parts. All (IsOf rule.now) parts.items)) }
+    ensures placed { IfOk result (λ found. IfSome found (λ parts. All IsPlaced parts.items)) }
+    ensures courses { IfOk result (λ found. IfSome found (λ parts. All IsCourse parts.items)) }
+{
+    for effort in &EFFORTS[..most.min(EFFORTS.len())] {
+        if let Some(parts) = parts_by_effort(alloc, plane, rule, bound, *effort)? {
+            return Ok(Some(parts));
+        }
     }
     Ok(None)
 }

@@ -4,9 +4,12 @@
 pub mod ash;
 mod before;
 mod checks;
+pub mod fate;
 mod guess;
+mod limit;
 mod living;
 mod pace;
 mod parts;
 pub mod pattern;
+mod sizes;
 mod whole;

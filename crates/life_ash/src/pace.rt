@@ -1,22 +1,34 @@
 //! When it is worth looking whether a pattern has fallen apart.
 ghost use Rattle.std.specs.Prelude.{◌+◌, ◌≤◌};
 
+use life_plane::plane::Plane;
+
+/// The populations of generations so far apart are counted. Most of what recurs has one population in all of these.
+const STRIDE: u32 = 4;
+
 /// How many populations are kept.
 const KEPT: usize = 128;
 
-/// For how many generations populations must repeat.
-const SPELL: u32 = 24;
+/// How many populations in turn must repeat.
+const SPELL: u32 = 12;
 
-/// The greatest period with which populations are seen to repeat.
+/// The greatest period with which populations are seen to repeat, in strides.
 const LONGEST: u32 = 60;
 
-/// The populations of the last generations, and the generations from which on a look is due and from which on one is
-/// allowed.
+/// The moment at which a pattern may have been ash from the first: there fewer populations tell.
+const EARLY: u32 = 3;
+
+/// The age from which on looks are due.
+const FIRST_DUE: u32 = 4096;
+
+/// The populations at the last moments, the ages from which on a look is due and from which on one is allowed, and how
+/// many looks were due.
 #[derive(Clone, Copy)]
 pub struct Pace {
     counts: [u64; KEPT],
     due: u32,
     free: u32,
+    looks: usize,
 }
 
 impl Pace {
@@ -24,51 +36,64 @@ impl Pace {
     pub fn new() -> Pace {
         Pace {
             counts: [0; KEPT],
-            due: 0,
+            due: FIRST_DUE,
             free: 0,
+            looks: 1,
         }
     }
 
-    /// The population at an age.
-    fn count_at(&self, age: u32) -> u64 {
-        self.counts[age as usize % KEPT]
+    /// The population at a moment.
+    fn count_at(&self, moment: u32) -> u64 {
+        self.counts[moment as usize % KEPT]
     }
 
-    /// Whether the populations up to this age have repeated with a period for a while.
-    fn repeats(&self, age: u32, period: u32) -> bool
-        requires age { SPELL + LONGEST ≤ age }
-        requires period { period ≤ LONGEST }
+    /// Whether the populations up to this moment have repeated with a period for a while.
+    fn repeats(&self, moment: u32, period: u32, spell: u32) -> bool
+        requires { period + spell ≤ moment }
     {
-        for back in 0..SPELL {
-            if self.count_at(age - back) != self.count_at(age - back - period) {
+        for back in 0..spell {
+            if self.count_at(moment - back) != self.count_at(moment - back - period) {
                 return false;
             }
         }
         true
     }
 
-    /// Whether the populations up to this age have repeated for a while.
-    fn is_settled(&self, age: u32) -> bool {
-        if age < SPELL + LONGEST {
+    /// Whether the populations up to this moment have repeated for a while.
+    fn is_settled(&self, moment: u32) -> bool {
+        if moment == EARLY {
+            return self.repeats(moment, 1, EARLY - 1);
+        }
+        if moment <= SPELL {
             return false;
         }
-        for period in 1..=LONGEST {
-            if self.repeats(age, period) {
+        for period in 1..=LONGEST.min(moment - SPELL) {
+            if self.repeats(moment, period, SPELL) {
                 return true;
             }
         }
         false
     }
 
-    /// Whether to look at the next generation, which has this age and population. Looks are due at first, from age 64
-    /// on each time that the age has grown by half, and where populations repeat, if the last look is some time ago.
-    pub fn is_due(&mut self, age: u32, population: u64) -> bool {
-        self.counts[age as usize % KEPT] = population;
-        if age < self.due && (age < self.free || !self.is_settled(age)) {
+    /// Whether to look at the next generation, which has this age and is on the plane. Looks are due each time that the
+    /// age has doubled, from 4,096 on, and where populations repeat, if the last look is some time ago.
+    pub fn is_due<P: Plane>(&mut self, age: u32, plane: &P) -> bool {
+        if age % STRIDE != 0 {
             return false;
         }
-        self.due = age.saturating_add(age / 2).max(64);
-        self.free = age.saturating_add(age / 8).saturating_add(SPELL);
+        let moment = age / STRIDE;
+        self.counts[moment as usize % KEPT] = plane.population();
+        if age < self.due && (age < self.free || !self.is_settled(moment)) {
+            return false;
+        }
+        self.due = age.saturating_mul(2).max(FIRST_DUE);
+        self.free = age.saturating_add(age / 8).saturating_add(SPELL * STRIDE);
+        self.looks = self.looks.saturating_add(1);
         true
+    }
+
+    /// One more than how many looks were due so far.
+    pub fn looks(&self) -> usize {
+        self.looks
     }
 }

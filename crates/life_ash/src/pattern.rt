@@ -1,13 +1,16 @@
-//! What patterns fall apart into.
-ghost use Rattle.std.specs.Prelude.{◌≤◌, All, IfNone, IfOk, IfSome, List};
+//! What becomes of patterns.
+ghost use Rattle.std.specs.Prelude.{◌≡◌, ◌≤◌, All, IfNone, IfOk, IfSome, List};
 ghost use Rattle.life_model.specs.Generation.{Generation};
 ghost use Rattle.life_model.specs.Generation as generations;
 ghost use Rattle.life_cells.specs.Limits.{IsWithin};
 ghost use Rattle.life_objects.specs.Ash.{HasFallenApart};
+ghost use Rattle.life_ash.specs.Fates.{IsFate};
 ghost use Rattle.life_ash.specs.Parts.{IsOf, sets_of};
 
 use crate::ash::{Ash, ash_of};
+use crate::fate::Fate;
 use crate::guess::guessed_parts;
+use crate::limit::{first_past, first_past_of_ash, has_few};
 use crate::pace::Pace;
 use life_cells::cell_list::CellList;
 use life_cells::rule::Rule;
@@ -15,8 +18,51 @@ use life_orbit::orbit::BOUND_LIMIT;
 use life_plane::plane::Plane;
 use std::alloc::{AllocError, Global};
 
-/// What a pattern falls apart into within the bound, where it does. It is looked for now and then on the way to the
-/// bound, since what is ash stays so.
+/// What becomes of a pattern within the bound. What it falls apart into is looked for now and then on the way to the
+/// bound, since what is ash stays so. With a limit no generation from 0 to three times the bound may have more cells;
+/// generations after that at which ash is found are mostly not looked at, since the parts tell their sizes.
+pub fn fate<P: Plane>(
+    alloc: Global,
+    rule: &Rule,
+    cells: &CellList,
+    bound: u32,
+    limit: Option<u32>,
+) -> Result<Fate, AllocError>
+    requires bound { 1 ≤ bound × bound ≤ BOUND_LIMIT }
+    requires fits { All (IsWithin 0) (generations.cells cells.now) }
+    ensures { IfOk result (λ fate. IsFate rule.now cells.now bound limit fate) }
+{
+    let mut plane = P::from_cells(alloc, cells)?;
+    let mut pace = Pace::new();
+    for age in 0..bound {
+        if !has_few(limit, &plane) {
+            return Ok(Fate::Large { generation: age });
+        }
+        if pace.is_due(age, &plane) {
+            if let Some(parts) = guessed_parts(alloc, &plane, rule, bound, pace.looks())? {
+                let past = first_past_of_ash(&plane, &parts, rule, limit, 3 * bound - age)?;
+                return Ok(match past {
+                    Some(n) => Fate::Large {
+                        generation: age + n,
+                    },
+                    None => Fate::Ash(Ash::of(parts, bound - age)),
+                });
+            }
+        }
+        plane.step(rule)?;
+    }
+    if let Some(n) = first_past(&plane, rule, limit, 2 * bound)? {
+        return Ok(Fate::Large {
+            generation: bound + n,
+        });
+    }
+    Ok(match ash_of(alloc, &plane, rule, bound)? {
+        Some(ash) => Fate::Ash(ash),
+        None => Fate::Unresolved,
+    })
+}
+
+/// What a pattern falls apart into within the bound, where it does.
 pub fn ash<P: Plane>(
     alloc: Global,
     rule: &Rule,
@@ -31,15 +77,8 @@ pub fn ash<P: Plane>(
     ensures none { IfOk result (λ found. IfNone found ((parts : List Generation) →
         HasFallenApart rule.now bound cells.now parts → ⊥)) }
 {
-    let mut plane = P::from_cells(alloc, cells)?;
-    let mut pace = Pace::new();
-    for age in 0..bound {
-        if pace.is_due(age, plane.population()) {
-            if let Some(parts) = guessed_parts(alloc, &plane, rule, bound)? {
-                return Ok(Some(Ash::of(parts, bound - age)));
-            }
-        }
-        plane.step(rule)?;
-    }
-    ash_of(alloc, &plane, rule, bound)
+    Ok(match fate::<P>(alloc, rule, cells, bound, None)? {
+        Fate::Ash(ash) => Some(ash),
+        _ => None,
+    })
 }

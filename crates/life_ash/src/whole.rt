@@ -13,7 +13,8 @@ use life_orbit::orbit::{BOUND_LIMIT, Orbit};
 use life_plane::plane::Plane;
 use std::alloc::{AllocError, Global};
 
-/// Whether of no two sets into which the cells split do both live on.
+/// Whether of no two sets into which the cells split do both live on. Mostly the cells are near each other, which needs
+/// no plane to be seen.
 fn is_undivided<P: Plane>(
     alloc: Global,
     cells: &CellList,
@@ -24,6 +25,9 @@ fn is_undivided<P: Plane>(
     requires within { All (IsWithin 500000) (generations.cells cells.now) }
     ensures { IfOk result (λ is. IsTrue is ↔ IsUndivided rule.now bound cells.now) }
 {
+    if undivided::hold_together(alloc, cells)? {
+        return Ok(true);
+    }
     let plane = P::at_age(alloc, cells, 500_000)?;
     undivided::is_undivided(alloc, plane, rule, bound)
 }

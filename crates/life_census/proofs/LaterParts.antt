@@ -23,7 +23,8 @@ use Rattle.life_answer.proofs.Tallying.{counted_permutation}
 use Rattle.life_orbit.specs.Course.{Course, IsCourse}
 use Rattle.life_ash.specs.Later.{all_later, later}
 use Rattle.life_ash.specs.Parts.{IsOf, sets_of}
-use Rattle.life_census.specs.Census.{census_found, census_of, course_code, part_code}
+use Rattle.life_answer.specs.Census.{census_found, census_of, part_code}
+use Rattle.life_census.specs.Courses.{course_code}
 use Rattle.life_census.proofs.PartCodes.{code_alone, settles}
 
 -- ---- one part

@@ -13,7 +13,8 @@ use Rattle.life_answer.specs.Apgcode.{code_of}
 use Rattle.life_answer.specs.Parts.{counted_codes, with_code}
 use Rattle.life_answer.proofs.Findings.{finding-settled}
 use Rattle.life_orbit.specs.Course.{Course, IsCourse}
-use Rattle.life_census.specs.Census.{code_found, course_code, part_code}
+use Rattle.life_answer.specs.Census.{code_found, part_code}
+use Rattle.life_census.specs.Courses.{course_code}
 
 -- ---- one after another
 

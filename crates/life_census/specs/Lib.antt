@@ -1,1 +1,1 @@
-pub mod Census
+pub mod Courses

@@ -3,7 +3,7 @@ ghost use Rattle.std.specs.Prelude.{◌≡◌, All, IfOk, map};
 ghost use Rattle.life_model.specs.Generation.{cells};
 ghost use Rattle.life_cells.specs.Limits.{IsWithin};
 ghost use Rattle.life_answer.specs.Parts.{counted_codes};
-ghost use Rattle.life_census.specs.Census.{course_code};
+ghost use Rattle.life_census.specs.Courses.{course_code};
 
 use crate::code::code_of;
 use life_answer::parts::Parts;

@@ -20,7 +20,7 @@ use Rattle.life_objects.proofs.Unions.{contains-union}
 use Rattle.life_classes.specs.declared.class.Class.{Class}
 use Rattle.life_classes.specs.Tracking.{AreTracked, alone, firsts}
 
-contains-one : (c q : Cell) → contains (from_list (c ∷ [])) q ≡ same_cell q c
+pub contains-one : (c q : Cell) → contains (from_list (c ∷ [])) q ≡ same_cell q c
 contains-one c q = contains-from_list (c ∷ []) q ∙ or-false (same_cell q c)
 
 all_together : (cs : List Cell) → union_of (firsts (map alone cs)) ≡ from_list cs

@@ -6,5 +6,8 @@ pub mod Owners
 pub mod Tracked
 pub mod Beginning
 pub mod Merging
+pub mod Leading
+pub mod Aparting
 pub mod Later
 pub mod Few
+pub mod NextToNext

@@ -4,7 +4,7 @@ use Rattle.std.proofs.Common.{get_or, sym, refl, ap, ◌∙◌, true≢false, ar
 use Rattle.std.specs.Prelude.{nat_le, unsigned_abs}
 use Rattle.std.specs.List.{list_any}
 use Rattle.std.proofs.lemmas.Int.{ints}
-use Rattle.std.proofs.lemmas.Bool.{leb-true, le-leb}
+use Rattle.std.proofs.lemmas.Bool.{false_from_ne_true, leb-true, le-leb}
 use Rattle.std.proofs.lemmas.List.Folds.{Any-from_list_any, list_any_at}
 use Rattle.life_model.specs.Cell.{Cell, IsNear, same_cell}
 use Rattle.life_model.specs.Generation.{Generation, cells, contains}
@@ -36,7 +36,7 @@ pub record AreWithin (r : ℕ) (c d : Cell) : Type 0 where
   pub above : (d.1 -ℤ pos r) ≤ℤ c.1
   pub below : c.1 ≤ℤ (d.1 +ℤ pos r)
 
-within_by_test : (r : ℕ) (c d : Cell) → are_within r c d ≡ true → AreWithin r c d
+pub within_by_test : (r : ℕ) (c d : Cell) → are_within r c d ≡ true → AreWithin r c d
 within_by_test r c d h =
     let parts = both (nat_le (unsigned_abs (c.0 -ℤ d.0)) r) (nat_le (unsigned_abs (c.1 -ℤ d.1)) r) h in
     let across = abs_small (c.0 -ℤ d.0) r (leb-true (unsigned_abs (c.0 -ℤ d.0)) r parts.0) in
@@ -72,6 +72,10 @@ member_passes p P c h k =
     let x = one.1 in
     list_any_at p (cells P) one.0 x one.2 (ap p (one.3 ∙ sym ((same_cell-is c x).0 one.4)) ∙ k)
 
+pub none_passes : (p : Cell → Bool) (P : Generation) → ((c : Cell) → contains P c ≡ true → p c ≡ true → ⊥) →
+    list_any p (cells P) ≡ false
+none_passes p P none = false_from_ne_true _ (λ h. let one = passing_member p P h in none one.0 one.1 one.2)
+
 -- ---- what is reached
 
 pub reached_by : (r : ℕ) (P : Generation) (c : Cell) → reaches r P c ≡ true →
@@ -82,6 +86,14 @@ reached_by r P c h =
 
 pub reaching : (r : ℕ) (P : Generation) (c d : Cell) → contains P d ≡ true → AreWithin r c d → reaches r P c ≡ true
 reaching r P c d h near = member_passes (are_within r c) P d h (test_by_within r c d near)
+
+pub reaches_itself : (P : Generation) (c : Cell) → contains P c ≡ true → reaches 0 P c ≡ true
+reaches_itself P c h = reaching 0 P c c h (record {
+  left = omega (arith, ints);
+  right = omega (arith, ints);
+  above = omega (arith, ints);
+  below = omega (arith, ints);
+})
 
 pub touched_by : (P : Generation) (c : Cell) → reaches 1 P c ≡ true → (d : Cell) × (contains P d ≡ true) × IsNear c d
 touched_by P c h =

@@ -1,5 +1,5 @@
 -- Which cells a set reaches.
-use Rattle.std.specs.Prelude.{ℕ, ◌-ℤ◌, Bool, ◌&&◌, nat_le, unsigned_abs}
+use Rattle.std.specs.Prelude.{◌≡◌, ℕ, ◌+◌, ◌<◌, ◌-ℤ◌, Bool, ◌&&◌, true, List, length, get_or, nat_le, unsigned_abs}
 use Rattle.std.specs.List.{list_any}
 use Rattle.life_model.specs.Cell.{Cell}
 use Rattle.life_model.specs.Generation.{Generation, cells}
@@ -11,3 +11,12 @@ are_within r c d = nat_le (unsigned_abs (c.0 -ℤ d.0)) r && nat_le (unsigned_ab
 -- whether a cell of P is at most r from c in both directions
 abbrev pub reaches : ℕ → Generation → Cell → Bool
 reaches r P c = list_any (are_within r c) (cells P)
+
+-- whether a cell of P is near one of Q
+abbrev pub are_near : Generation → Generation → Bool
+are_near P Q = list_any (reaches 2 Q) (cells P)
+
+-- each of the cells is near the one before it
+abbrev pub IsChain : List Cell → Type 0
+IsChain cs =
+    (k j : ℕ) (d : Cell) → j ≡ k + 1 → j < length cs → are_within 2 (get_or cs k d) (get_or cs j d) ≡ true

@@ -17,6 +17,10 @@ firsts cs = map (λ c. c.first) cs
 abbrev pub lasts : List Class → List Generation
 lasts cs = map (λ c. c.last) cs
 
+-- the class of some cells, as they are at first
+abbrev pub at_first : List Cell → Class
+at_first cs = record { first = from_list cs; last = from_list cs }
+
 -- the class of one cell
 abbrev pub alone : Cell → Class
 alone c = record { first = from_list (c ∷ []); last = from_list (c ∷ []) }
@@ -28,6 +32,10 @@ moved_on G c = record { first = c.first; last = keep G (reaches 1 c.last) }
 -- what has become of any two classes is apart
 abbrev pub AreApartNow : List Class → Type 0
 AreApartNow cs = AllPairs (λ c d. AreApart c.last d.last) cs
+
+-- what has become of a class is apart from what has become of each of these
+abbrev pub StandsApart : Class → List Class → Type 0
+StandsApart c cs = All (λ d. AreApart d.last c.last) cs
 
 -- G is these classes after n generations, in each of which but the last any two of them were apart, and none of which a
 -- split for b generations tears.

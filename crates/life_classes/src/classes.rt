@@ -7,8 +7,9 @@ ghost use Rattle.life_objects.specs.Union.{generations, union_of};
 ghost use Rattle.life_objects.specs.Whole.{StaysWhole};
 ghost use Rattle.life_classes.specs.Tracking.{AreApartNow, LeadTo, alone, firsts, lasts};
 
+use crate::chains::{as_one, is_chain, parting};
 use crate::class::Class;
-use crate::joining::all_joined;
+use crate::joining::{all_joined, merged};
 use crate::stepping::stepped;
 use life_cells::cell_list::CellList;
 use life_cells::rule::Rule;
@@ -40,21 +41,23 @@ fn each_alone(alloc: Global, cells: &[(i32, i32)]) -> Result<Vec<Class>, AllocEr
     Ok(classes)
 }
 
-/// The cells as classes of those that are near each other. The cells are halved again and again, so that few classes
-/// are left where many are looked at.
+/// The cells as classes of those that are near each other. The cells are parted again and again until each is near the
+/// one before it, so that few classes are left where many are looked at.
 pub fn first_classes(alloc: Global, cells: &[(i32, i32)]) -> Result<Vec<Class>, AllocError>
     requires { All IsPlace cells.now }
     ensures tracked { IfOk result (λ all. LeadTo (map alone cells.now) all.items) }
     ensures apart { IfOk result (λ all. AreApartNow all.items) }
 {
     if cells.len() < 2 {
-        return all_joined(alloc, each_alone(alloc, cells)?);
+        return each_alone(alloc, cells);
     }
-    let half = cells.len() / 2;
-    let mut all = first_classes(alloc, &cells[..half])?;
-    let mut others = first_classes(alloc, &cells[half..])?;
-    all.append(&mut others)?;
-    all_joined(alloc, all)
+    if is_chain(cells) {
+        return as_one(alloc, cells);
+    }
+    let half = parting(cells);
+    let ones = first_classes(alloc, &cells[..half])?;
+    let others = first_classes(alloc, &cells[half..])?;
+    merged(alloc, ones, others)
 }
 
 /// The classes of a plane's cells that stay apart for so many generations, torn as finely as can be: however the cells

@@ -1,7 +1,10 @@
 //! Classes that are near each other become one.
-ghost use Rattle.std.specs.Prelude.{◌≡◌, ◌∷◌, IfOk};
+ghost use Rattle.std.specs.Prelude.{◌≡◌, ◌∷◌, ◌++◌, IfOk, OnOk};
+ghost use Rattle.std.specs.List.{list_any};
 ghost use Rattle.life_objects.specs.Union.{union};
-ghost use Rattle.life_classes.specs.Tracking.{AreApartNow, LeadTo};
+ghost use Rattle.life_classes.specs.declared.class.Class.{Class as ModelClass};
+ghost use Rattle.life_classes.specs.Nearness.{are_near};
+ghost use Rattle.life_classes.specs.Tracking.{AreApartNow, LeadTo, StandsApart};
 
 use crate::class::Class;
 use crate::nearness::are_near;
@@ -30,23 +33,55 @@ fn joined(alloc: Global, one: &Class, other: &Class) -> Result<Class, AllocError
     })
 }
 
-/// Classes and one more, which is joined with those that it is near.
-fn with_class(alloc: Global, classes: Vec<Class>, class: Class) -> Result<Vec<Class>, AllocError>
-    ensures tracked { IfOk result (λ all. LeadTo (class ∷ classes.items) all.items) }
-    ensures apart { IfOk result (λ all. AreApartNow classes.items → AreApartNow all.items) }
+/// Whether one of the classes is near a class.
+fn is_any_near(classes: &[Class], class: &Class) -> bool
+    ensures { result ≡ list_any (λ other. are_near other.last class.now.last) classes.now }
 {
-    let mut classes = classes;
+    classes
+        .iter()
+        .any(|other| are_near(&other.last, &class.last))
+}
+
+/// Adds a class, joined with those of the classes that it is near.
+fn add(alloc: Global, classes: &mut Vec<Class>, class: Class) -> Result<(), AllocError>
+    ensures tracked { OnOk result (LeadTo (class ∷ classes.old.items) classes.new.items) }
+    ensures apart { OnOk result (AreApartNow classes.old.items → AreApartNow classes.new.items) }
+    ensures from_others { OnOk result ((other : ModelClass) →
+        StandsApart other (class ∷ classes.old.items) → StandsApart other classes.new.items) }
+{
     let mut class = class;
-    let mut apart = Vec::new(alloc);
-    while let Some(other) = classes.pop() {
-        if are_near(&other.last, &class.last) {
+    let mut n = 0;
+    while n < classes.len() {
+        if are_near(&classes[n].last, &class.last) {
+            let other = classes.remove(n);
             class = joined(alloc, &other, &class)?;
         } else {
-            apart.push(other)?;
+            n += 1;
         }
     }
-    apart.push(class)?;
-    Ok(apart)
+    classes.push(class)?;
+    Ok(())
+}
+
+/// The classes of two lists, with those joined that are near each other, where in each list any two are apart. Then it is
+/// enough to look at pairs of one from each list, and again at classes that were joined.
+pub fn merged(alloc: Global, ones: Vec<Class>, others: Vec<Class>) -> Result<Vec<Class>, AllocError>
+    ensures tracked { IfOk result (λ all. LeadTo (ones.items ++ others.items) all.items) }
+    ensures apart { IfOk result (λ all. AreApartNow ones.items → AreApartNow others.items → AreApartNow all.items) }
+{
+    let mut ones = ones;
+    let mut others = others;
+    let mut n = 0;
+    while n < ones.len() {
+        if !is_any_near(others.as_slice(), &ones[n]) {
+            n += 1;
+            continue;
+        }
+        let one = ones.remove(n);
+        add(alloc, &mut others, one)?;
+    }
+    ones.append(&mut others)?;
+    Ok(ones)
 }
 
 /// The classes with those joined that are near each other.
@@ -57,7 +92,7 @@ pub fn all_joined(alloc: Global, classes: Vec<Class>) -> Result<Vec<Class>, Allo
     let mut classes = classes;
     let mut apart = Vec::new(alloc);
     while let Some(class) = classes.pop() {
-        apart = with_class(alloc, apart, class)?;
+        add(alloc, &mut apart, class)?;
     }
     Ok(apart)
 }

@@ -1,5 +1,6 @@
 //! Whether a plane's cells are undivided.
-ghost use Rattle.std.specs.Prelude.{◌≤◌, ◌+◌, ◌↔◌, IfOk, IsTrue};
+ghost use Rattle.std.specs.Prelude.{ℕ, ◌≤◌, ◌+◌, ◌↔◌, IfOk, IsTrue};
+ghost use Rattle.life_model.specs.Rule.{Rule as ModelRule};
 ghost use Rattle.life_objects.specs.Piece.{IsUndivided};
 ghost use Rattle.life_classes.specs.Tracking.{AreFew, HaveDied};
 
@@ -7,6 +8,7 @@ use crate::class::Class;
 use crate::classes::first_classes;
 use crate::joining::all_joined;
 use crate::stepping::stepped;
+use life_cells::cell_list::CellList;
 use life_cells::rule::Rule;
 use life_plane::plane::{AGE_LIMIT, Plane};
 use std::alloc::{AllocError, Global};
@@ -33,6 +35,14 @@ fn are_few(classes: &[Class]) -> bool
         }
     }
     true
+}
+
+/// Whether cells are one class from the first. Then they are undivided under each rule and for each bound.
+pub fn hold_together(alloc: Global, cells: &CellList) -> Result<bool, AllocError>
+    ensures { IfOk result (λ are. IsTrue are → (R : ModelRule) (b : ℕ) → IsUndivided R b cells.now) }
+{
+    let classes = first_classes(alloc, cells.as_slice())?;
+    Ok(classes.len() < 2)
 }
 
 /// Whether of no two sets into which the plane's cells split, and which stay apart for so many generations, do both live

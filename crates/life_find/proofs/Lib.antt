@@ -3,4 +3,6 @@ pub mod Apart
 pub mod Outlines
 pub mod Possible
 pub mod Found
+pub mod FirstLarger
+pub mod Beyond
 pub mod SameObjects

@@ -3,11 +3,15 @@ ghost use Rattle.std.specs.Prelude.{◌≡◌, ◌≤◌, All, IfOk};
 ghost use Rattle.life_model.specs.Generation as generation;
 ghost use Rattle.life_cells.specs.Limits.{IsWithin};
 ghost use Rattle.life_answer.specs.Answers.{finding_of};
+ghost use Rattle.life_answer.specs.Questions.{finding_to};
 ghost use Rattle.life_answer.specs.declared.finding.Finding.TheVariants.{Recurs};
+ghost use Rattle.life_answer.specs.declared.question.Question.TheVariants.{Settles};
 
 use crate::apgcode::code_of;
+use crate::larger::too_large;
 use crate::limit::BOUND_LIMIT;
 use crate::recurrence::Recurrence;
+use crate::rounds::found_early;
 use crate::search::settling;
 use life_answer::code::Code;
 use life_answer::finding::Finding;
@@ -67,4 +71,26 @@ pub fn find<P: Plane>(alloc: Global, pattern: &Pattern, bound: u32) -> Result<Fi
     ensures { IfOk result (λ found. found ≡ finding_of pattern.now.rule pattern.now.cells bound) }
 {
     find_cells::<P>(alloc, &pattern.rule(), pattern.cells(), bound)
+}
+
+/// The same, unless some generation from 0 to the bound has more cells than it may have. Where there is such a limit,
+/// the generations are looked at in rounds, the first few alone in the first one, and all those up to the bound only
+/// where no round before tells what is found.
+pub fn find_limited<P: Plane>(
+    alloc: Global,
+    pattern: &Pattern,
+    bound: u32,
+    limit: Option<u32>,
+) -> Result<Finding, AllocError>
+    requires { 1 ≤ bound × bound ≤ BOUND_LIMIT }
+    ensures { IfOk result (λ found. found ≡ finding_to (Settles bound limit) pattern.now.rule pattern.now.cells) }
+{
+    let rule = pattern.rule();
+    if let Some(found) = found_early::<P>(alloc, &rule, pattern.cells(), bound, limit)? {
+        return Ok(found);
+    }
+    if let Some(large) = too_large::<P>(alloc, &rule, pattern.cells(), limit, bound)? {
+        return Ok(large);
+    }
+    find::<P>(alloc, pattern, bound)
 }

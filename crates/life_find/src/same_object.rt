@@ -30,6 +30,7 @@ fn settled_code<P: Plane>(
     match find_cells::<P>(alloc, rule, cells, bound)? {
         Finding::Recurs { code, .. } => Ok(Some(code)),
         Finding::Unresolved { .. } => Ok(None),
+        Finding::Large { .. } => unreachable!(),
         Finding::Ash { .. } => unreachable!(),
     }
 }

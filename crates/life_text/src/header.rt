@@ -9,8 +9,8 @@ use crate::bytes::{is_blank, is_digit};
 use crate::rle::RleFault;
 use life_cells::rule::{Rule, RuleFault, after_byte, after_either};
 
-// The text from its first byte on that is no blank.
-fn skip_blanks(text: &[u8]) -> &[u8]
+/// The text from its first byte on that is no blank, tab or CR.
+pub fn skip_blanks(text: &[u8]) -> &[u8]
     ensures { result.now ≡ without_front is_blank text.now }
 {
     for (i, byte) in text.iter().enumerate() {
@@ -21,8 +21,8 @@ fn skip_blanks(text: &[u8]) -> &[u8]
     &text[text.len()..]
 }
 
-// The text up to its last byte that is no blank.
-fn drop_blanks(text: &[u8]) -> &[u8]
+/// The text up to its last byte that is no blank, tab or CR.
+pub fn drop_blanks(text: &[u8]) -> &[u8]
     ensures { result.now ≡ without_back is_blank text.now }
 {
     let mut end = text.len();
@@ -71,8 +71,8 @@ fn after_size(text: &[u8]) -> Option<&[u8]>
     Some(&digits[count..])
 }
 
-// What follows the two sizes.
-fn after_sizes(line: &[u8]) -> Option<&[u8]>
+/// What follows `x = W, y = H` at the front of a line. `None` where the line doesn't begin so.
+pub fn after_sizes(line: &[u8]) -> Option<&[u8]>
     ensures { option_copied result ≡ after_sizes line.now }
 {
     let width_name = part_either(line, b'x', b'X')?;
@@ -84,8 +84,8 @@ fn after_sizes(line: &[u8]) -> Option<&[u8]>
     after_size(height_equals)
 }
 
-// What follows `, rule =`.
-fn after_rule_name(text: &[u8]) -> Option<&[u8]>
+/// What follows `, rule =` at the front of what follows the sizes. `None` where it doesn't begin so.
+pub fn after_rule_name(text: &[u8]) -> Option<&[u8]>
     ensures { option_copied result ≡ after_rule_name text.now }
 {
     let comma = part_byte(text, b',')?;

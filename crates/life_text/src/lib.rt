@@ -1,7 +1,7 @@
 //! RLE texts of Life-like patterns.
 #![tactic(auto)]
 
-mod bytes;
+pub mod bytes;
 pub mod header;
 pub mod lines;
 pub mod pattern;
@@ -12,6 +12,7 @@ pub mod write;
 
 pub use crate::pattern::Pattern;
 pub use crate::rle::{RleFault, read_rle};
+pub use crate::token::skip_spaces;
 pub use crate::write::write_rle;
 pub use life_cells::cell_list::{CellFault, CellList};
 pub use life_cells::rule::{Rule, RuleFault};

@@ -135,8 +135,9 @@ struct Plot {
     cells: Vec<(i32, i32)>,
 }
 
-// The place of the LF that ends the line from a place on, or the text's length.
-fn line_end(text: &[u8], start: usize) -> usize
+/// The place of the LF that ends the line from a place on, or the text's length. At the place no blank and no byte of a
+/// comment stands, where it is not the text's end.
+pub fn line_end(text: &[u8], start: usize) -> usize
     requires within { start ≤ length text.now }
     requires plain { start < length text.now → IsPlain text.now start }
     ensures from { start ≤ result }

@@ -1,5 +1,5 @@
 //! The plane of a slab.
-ghost use Rattle.std.specs.Prelude.{◌≡◌, IfOk};
+ghost use Rattle.std.specs.Prelude.{◌≡◌, ◌<◌, IfOk};
 ghost use Rattle.life_tile.specs.Slabs.{IsKept, members_of};
 
 use crate::ends::is_void;
@@ -51,6 +51,14 @@ fn is_sparse(slab: &Slab) -> bool {
 }
 
 impl TilePlane {
+    /// How many tiles it keeps, which is what it takes of memory: at least the empty one, which stands for all that it doesn't
+    /// keep.
+    pub fn tiles(&self) -> usize
+        ensures { 0 < result }
+    {
+        self.slab.slots.len()
+    }
+
     /// Makes the slab anew where it has many slots, most of them without a live cell, and says whether it did.
     fn compact(&mut self) -> Result<bool, AllocError>
         ensures { self.new ≡ self.old }
@@ -129,46 +137,5 @@ impl Plane for TilePlane {
         let slab = self.slab.compacted()?;
         let limit = limit_of(&slab);
         Ok(TilePlane { slab, limit })
-    }
-}
-
-#[cfg(test)]
-mod tests {
-    use super::*;
-    use life_plane::plane::AGE_LIMIT;
-    use std::process::Abort;
-    use std::test::Fail;
-
-    /// The plane of these cells after so many generations of Life.
-    fn after(
-        rt: &impl Abort,
-        alloc: Global,
-        cells: &[(i32, i32)],
-        steps: u32,
-    ) -> Result<TilePlane, Fail> {
-        let list = CellList::of(alloc, cells)?;
-        assert!(rt; list.fits());
-        let mut plane = TilePlane::from_cells(alloc, &list)?;
-        for _ in 0..steps {
-            assert!(rt; plane.age() < AGE_LIMIT);
-            plane.step(&Rule::life())?;
-        }
-        Ok(plane)
-    }
-
-    #[test]
-    fn a_small_pattern_lies_in_one_tile(rt: HostRuntime) -> Result<(), Fail> {
-        let plane = after(&rt, rt.alloc(), &[(0, 0), (37, 37)], 0)?;
-        assert_eq!(rt; plane.slab.slots.len(), 2);
-        Ok(())
-    }
-
-    #[test]
-    fn the_tiles_behind_a_glider_are_dropped(rt: HostRuntime) -> Result<(), Fail> {
-        let glider = [(63, 62), (64, 63), (62, 64), (63, 64), (64, 64)];
-        let plane = after(&rt, rt.alloc(), &glider, 6000)?;
-        assert!(rt; plane.slab.slots.len() < 45);
-        assert_eq!(rt; plane.population(), 5);
-        Ok(())
     }
 }

@@ -6,10 +6,13 @@ use crate::shown::{Shown, check};
 use census_bundle::bundle::AddFault;
 use census_folders::fault::FoldersFault;
 use census_folders::reading::read_folders;
+use census_folders::walking::folders_below;
+use std::alloc::Global;
 use std::fs;
 use std::io::{ErrorKind, pipe};
 use std::os::unix::fs::symlink;
 use std::os::unix::io::AsRawFd;
+use std::process::Abort;
 use std::test::Fail;
 
 /// Words, what lies on the shelf, and the folders that are read.
@@ -228,7 +231,7 @@ fn what_is_no_regular_file_is_never_opened(rt: HostRuntime) -> Result<(), Fail> 
 }
 
 // A regular file, or without a name a folder.
-fn leaf(folder: &'static str, name: &'static [u8], bytes: &'static [u8]) -> Leaf<'static> {
+pub fn leaf(folder: &'static str, name: &'static [u8], bytes: &'static [u8]) -> Leaf<'static> {
     Leaf {
         folder,
         name,
@@ -278,6 +281,79 @@ fn a_shelf_in_memory_is_read(rt: HostRuntime) -> Result<(), Fail> {
             "{words:?}"
         );
     }
+    Ok(())
+}
+
+// Whether these are the folders at and below a word.
+fn check_below<S: census_folders::shelf::Shelf>(
+    rt: &impl Abort,
+    alloc: Global,
+    shelf: &S,
+    word: &str,
+    wanted: &[&str],
+) -> Result<(), Fail> {
+    let folders = folders_below(shelf, alloc, word)?;
+    assert_eq!(rt; folders.len(), wanted.len());
+    for (folder, wanted) in folders.iter().zip(wanted) {
+        assert_eq!(rt; folder.as_str(), *wanted);
+    }
+    Ok(())
+}
+
+#[test]
+fn folders_below_a_word_of_a_shelf_in_memory_are_told(rt: HostRuntime) -> Result<(), Fail> {
+    let leaves = [
+        leaf("t", b"", b"x\0x-y\0note.txt\0z\0"),
+        leaf("t", b"/", b"z\0x\0x-y\0"),
+        leaf("t/x", b"", b"b.rle\0deep\0"),
+        leaf("t/x", b"/", b"deep\0"),
+        leaf("t/x-y", b"", b"a.rle\0"),
+        leaf("t/x-y", b"/", b""),
+        leaf("t/z", b"", b"a.txt\0"),
+        leaf("t/z", b"/", b""),
+        leaf("t/x/deep", b"", b"c.rle\0"),
+        leaf("t/x/deep", b"/", b""),
+        leaf("u/", b"", b"a.rle\0v\0"),
+        leaf("u/", b"/", b"v\0"),
+        leaf("u/v", b"", b"a.rle\0"),
+        leaf("u/v", b"/", b""),
+        leaf("lost", b"", b"a.rle\0v\0"),
+        leaf("lost", b"/", b"v\0"),
+        leaf("foreign", b"", b"\xff\0"),
+        leaf("foreign", b"/", b"\xff\0"),
+    ];
+    let shelf = Memory { leaves: &leaves };
+    check_below(&rt, rt.alloc(), &shelf, "t", &["t/x", "t/x-y", "t/x/deep"])?;
+    check_below(&rt, rt.alloc(), &shelf, "u/", &["u/", "u/v"])?;
+    check_below(&rt, rt.alloc(), &shelf, "t/z", &[])?;
+    for word in ["missing", "lost", "foreign"] {
+        let fault = folders_below(&shelf, rt.alloc(), word).err();
+        assert_eq!(rt; fault, Some(FoldersFault::Read), "{word}");
+    }
+    Ok(())
+}
+
+const TREE: &str = "worked_inputs_tree";
+
+#[test]
+fn folders_below_a_word_of_the_system_are_told(rt: HostRuntime) -> Result<(), Fail> {
+    let _ = fs::remove_dir_all(&rt, TREE);
+    fs::create_dir(&rt, TREE)?;
+    fs::create_dir(&rt, "worked_inputs_tree/b")?;
+    fs::create_dir(&rt, "worked_inputs_tree/b/c")?;
+    fs::create_dir(&rt, "worked_inputs_tree/empty")?;
+    fs::write(&rt, "worked_inputs_tree/b/a.rle", b"3o!".as_slice())?;
+    fs::write(&rt, "worked_inputs_tree/b/c/a.rle", b"3o!".as_slice())?;
+    fs::write(&rt, "worked_inputs_tree/note.txt", b"".as_slice())?;
+    symlink(&rt, "..", "worked_inputs_tree/b/up")?;
+    check_below(
+        &rt,
+        rt.alloc(),
+        &rt,
+        TREE,
+        &["worked_inputs_tree/b", "worked_inputs_tree/b/c"],
+    )?;
+    fs::remove_dir_all(&rt, TREE)?;
     Ok(())
 }
 

@@ -6,6 +6,8 @@
 mod ends;
 #[cfg(test)]
 mod folders;
+#[cfg(test)]
+mod keeping;
 pub mod memory;
 #[cfg(test)]
 mod refusals;

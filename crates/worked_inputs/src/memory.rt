@@ -1,5 +1,5 @@
 //! A shelf in memory, which tells all that stands on it.
-ghost use Rattle.std.specs.Prelude.{◌≡◌, [], IfSome, IfNone};
+ghost use Rattle.std.specs.Prelude.{◌≡◌, [], IfSome, IfNone, codes};
 ghost use Rattle.census_folders.specs.Told.{Unreadable};
 ghost use Rattle.worked_inputs.specs.Memory.{told_in, told_of};
 
@@ -8,7 +8,8 @@ use std::alloc::Global;
 use watched::reading::ReadFault;
 
 /// What stands under a name in a folder: bytes, of a regular file or of something else. Without a name it is the folder
-/// itself, whose bytes are its names, each ended by a byte 0.
+/// itself, whose bytes are its names, each ended by a byte 0; and under the name of a slash stand those of its names that
+/// are folders.
 #[derive(Clone, Copy)]
 pub struct Leaf<'a> {
     pub folder: &'a str,
@@ -42,12 +43,21 @@ impl<'a> Shelf for Memory<'a> {
 
     ghost listed = { λ shelf folder. told_in shelf.leaves.now folder [] };
 
+    ghost inner = { λ shelf folder. told_in shelf.leaves.now folder (codes "/") };
+
     ghost held = { λ shelf folder name. told_in shelf.leaves.now folder name };
 
     ghost may_open = { λ shelf folder name. is_held (told_in shelf.leaves.now folder name) };
 
     fn list(&self, alloc: Global, folder: &str) -> Result<Vec<u8>, ReadFault> {
         match find(self.leaves, folder, b"") {
+            Some(leaf) if leaf.regular => Ok(leaf.bytes.to_vec(alloc)?),
+            _ => Err(ReadFault::Read),
+        }
+    }
+
+    fn list_folders(&self, alloc: Global, folder: &str) -> Result<Vec<u8>, ReadFault> {
+        match find(self.leaves, folder, b"/") {
             Some(leaf) if leaf.regular => Ok(leaf.bytes.to_vec(alloc)?),
             _ => Err(ReadFault::Read),
         }

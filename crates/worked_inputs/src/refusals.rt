@@ -31,7 +31,7 @@ fn a_reading_has_not_failed_and_can_be_done_again(rt: HostRuntime) -> Result<(),
 
 #[test]
 fn words_can_be_read_again(rt: HostRuntime) -> Result<(), Fail> {
-    const WORDS: &[&str] = &["run", "a", "--bound", "5", "b"];
+    const WORDS: &[&str] = &["run", "a", "--bound", "5", "--cells", "9", "b"];
     let request = match read_words(rt.alloc(), WORDS) {
         Ok(request) => request,
         Err(fault) => {
@@ -43,9 +43,10 @@ fn words_can_be_read_again(rt: HostRuntime) -> Result<(), Fail> {
         Request::Run {
             bound,
             workers,
+            cells,
             folders,
         } => {
-            assert_eq!(rt; (bound, workers), (5, 4));
+            assert_eq!(rt; (bound, workers, cells), (5, 4, Some(9)));
             assert_eq!(rt; folders.as_slice(), ["a", "b"].as_slice());
         }
         other => panic!(rt; "{other:?}"),

@@ -133,8 +133,8 @@ impl<'a> Files for Shelf<'a> {
         }
     }
 
-    fn symlink_metadata(&self, _path: &str) -> io::Result<Metadata> {
-        unsupported()
+    fn symlink_metadata(&self, path: &str) -> io::Result<Metadata> {
+        self.metadata(path)
     }
 
     fn copy(&self, _from: &str, _to: &str) -> io::Result<u64> {

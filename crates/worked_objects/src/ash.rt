@@ -64,7 +64,7 @@ fn check(
     let list = CellList::of(alloc, cells)?;
     assert!(rt; list.fits());
     assert!(rt; 1 <= bound && bound <= 100_000);
-    let found = census::<ListPlane>(alloc, &Rule::life(), &list, bound)?;
+    let found = census::<ListPlane>(alloc, &Rule::life(), &list, bound, None)?;
     match (&found, expected) {
         (Finding::Unresolved { .. }, None) => {}
         (Finding::Ash { parts, .. }, Some(expected)) => {

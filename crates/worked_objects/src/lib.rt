@@ -1,9 +1,16 @@
-//! Worked examples of sets that fall apart, of sets that recur and of whether they stay apart, and of ash.
+//! Worked examples of sets that fall apart, of sets that recur and of whether they stay apart, of ash, and of what is told
+//! of single patterns: blocks of lines, and the faults of texts in words.
 #![tactic(auto)]
 
 #[cfg(test)]
 mod ash;
 #[cfg(test)]
+mod blocks;
+#[cfg(test)]
 mod classes;
 #[cfg(test)]
+mod faults;
+#[cfg(test)]
 mod pairs;
+#[cfg(test)]
+mod words;

@@ -9,6 +9,8 @@ mod cells;
 #[cfg(test)]
 mod codes;
 #[cfg(test)]
+mod limits;
+#[cfg(test)]
 mod objects;
 #[cfg(test)]
 mod patterns;

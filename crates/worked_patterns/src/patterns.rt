@@ -43,7 +43,7 @@ impl Example {
             Finding::Unresolved { population } => {
                 *population == self.population && self.settled.is_none()
             }
-            Finding::Ash { .. } => false,
+            Finding::Large { .. } | Finding::Ash { .. } => false,
         }
     }
 }
@@ -58,7 +58,7 @@ fn check(rt: &impl Abort, alloc: Global, examples: &[Example]) -> Result<(), Fai
         assert!(rt; example.is_found(&listed));
         let tiled = find::<TilePlane>(alloc, &pattern, bound)?;
         assert!(rt; example.is_found(&tiled));
-        let Answer::Found { rule, finding } = answer(alloc, example.text, bound)? else {
+        let Answer::Found { rule, finding } = answer(alloc, example.text, bound, None)? else {
             assert!(rt; false, "the text is refused");
             continue;
         };

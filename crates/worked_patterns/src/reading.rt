@@ -36,7 +36,7 @@ fn fault_number(answer: &Answer) -> Option<u8> {
 
 // The fault of a text, and the number by which the answer names it. Want of memory is no fault of a text.
 fn refused(alloc: Global, text: &[u8]) -> Result<(Option<RleFault>, Option<u8>), AllocError> {
-    let number = fault_number(&answer(alloc, text, 1)?);
+    let number = fault_number(&answer(alloc, text, 1, None)?);
     match read_rle(alloc, text) {
         Ok(_) => Ok((None, number)),
         Err(RleFault::Memory) => Err(AllocError),
@@ -112,11 +112,12 @@ fn faults_of_the_body(rt: HostRuntime) -> Result<(), Fail> {
 
 // The population of a text's pattern, where the text is read.
 fn population(alloc: Global, text: &[u8]) -> Result<Option<u64>, AllocError> {
-    match answer(alloc, text, 1)? {
+    match answer(alloc, text, 1, None)? {
         Answer::Found {
             rule: _,
             finding: Finding::Recurs { population, .. }
             | Finding::Unresolved { population }
+            | Finding::Large { population, .. }
             | Finding::Ash { population, .. },
         } => Ok(Some(population)),
         Answer::Refused(_) => Ok(None),

@@ -182,8 +182,7 @@ fn is_beehive(finding: &Finding) -> bool {
             code,
             ..
         } => (*onset, *period) == (2, 1) && code.as_slice() == b"xs6_696".as_slice(),
-        Finding::Unresolved { .. } => false,
-        Finding::Ash { .. } => false,
+        Finding::Unresolved { .. } | Finding::Large { .. } | Finding::Ash { .. } => false,
     }
 }
 
@@ -200,9 +199,9 @@ fn a_pattern_can_be_searched_again(rt: HostRuntime) -> Result<(), Fail> {
 
 #[test]
 fn a_text_can_be_answered_again(rt: HostRuntime) -> Result<(), Fail> {
-    let answered = match answer(rt.alloc(), ROW, 5) {
+    let answered = match answer(rt.alloc(), ROW, 5, None) {
         Ok(answered) => answered,
-        Err(_) => answer(rt.alloc(), ROW, 5)?,
+        Err(_) => answer(rt.alloc(), ROW, 5, None)?,
     };
     match &answered {
         Answer::Found { finding, .. } => assert!(rt; is_beehive(finding)),

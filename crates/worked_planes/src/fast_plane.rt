@@ -193,3 +193,19 @@ fn another_rule_is_followed_at_once(rt: HostRuntime) -> Result<(), Fail> {
     }
     Ok(())
 }
+
+#[test]
+fn a_small_pattern_lies_in_one_tile(rt: HostRuntime) -> Result<(), Fail> {
+    let plane = life_after(&rt, rt.alloc(), &[(0, 0), (37, 37)], 0)?;
+    assert_eq!(rt; plane.tiles(), 2);
+    Ok(())
+}
+
+#[test]
+fn the_tiles_behind_a_glider_are_dropped(rt: HostRuntime) -> Result<(), Fail> {
+    let glider = [(63, 62), (64, 63), (62, 64), (63, 64), (64, 64)];
+    let plane = life_after(&rt, rt.alloc(), &glider, 6000)?;
+    assert!(rt; plane.tiles() < 45);
+    assert!(rt; plane.population() == 5);
+    Ok(())
+}

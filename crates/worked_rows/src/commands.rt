@@ -15,7 +15,7 @@ use std::{fs, io};
 const GLIDER: &[u8] = b"x = 3, y = 3, rule = B3/S23\r\nbo$2bo$3o!";
 
 // The words, standard input, the exit status, standard output and standard error.
-type Call = (
+pub(crate) type Call = (
     &'static [&'static str],
     &'static [u8],
     u8,
@@ -23,7 +23,7 @@ type Call = (
     &'static [u8],
 );
 
-fn check<R: Threads + Wait + Sync + Files + Alloc + Clone + Drop + Abort>(
+pub(crate) fn check<R: Threads + Wait + Sync + Files + Alloc + Clone + Drop + Abort>(
     rt: &R,
     alloc: Global,
     call: &Call,

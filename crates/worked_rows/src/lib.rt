@@ -14,6 +14,8 @@ mod ends;
 #[cfg(test)]
 mod lines;
 #[cfg(test)]
+mod objects;
+#[cfg(test)]
 mod program;
 #[cfg(test)]
 mod refusals;

@@ -30,7 +30,7 @@ pub(crate) fn called_through<
 >(rt: &R, alloc: Global, words: &[&str], gate: &G, input: I, output: O, errors: E) -> (u8, O, E) {
     let mut streams = Streams::new(input, output);
     let mut errors = ErrorStream::new(errors);
-    let status = dispatch(rt, alloc, words, gate, &mut streams, &mut errors);
+    let status = dispatch(rt, rt, alloc, words, gate, &mut streams, &mut errors);
     let (_, output) = streams.into_inner();
     (status, output, errors.into_inner())
 }

@@ -117,9 +117,23 @@ end 2 3
 
 // A collector under the bound 10. Where memory is refused it is made again.
 fn collector_of<'a>(alloc: Global, bundle: &'a Bundle) -> Result<Collector<'a>, AllocError> {
-    match Collector::new(alloc, bundle, Question::Settles { bound: 10 }) {
+    match Collector::new(
+        alloc,
+        bundle,
+        Question::Settles {
+            bound: 10,
+            cells: None,
+        },
+    ) {
         Ok(collector) => Ok(collector),
-        Err(_) => Collector::new(alloc, bundle, Question::Settles { bound: 10 }),
+        Err(_) => Collector::new(
+            alloc,
+            bundle,
+            Question::Settles {
+                bound: 10,
+                cells: None,
+            },
+        ),
     }
 }
 
@@ -129,9 +143,25 @@ fn result_of<'a>(alloc: Global, bundle: &'a Bundle, arrival: &Arrival) -> Result
         .entry(ticket_of(arrival.worked))
         .ok_or("no such pattern")?;
     let ticket = ticket_of(arrival.ticket);
-    match Done::work(alloc, ticket, entry, Question::Settles { bound: 10 }) {
+    match Done::work(
+        alloc,
+        ticket,
+        entry,
+        Question::Settles {
+            bound: 10,
+            cells: None,
+        },
+    ) {
         Ok(done) => Ok(done),
-        Err(_) => Ok(Done::work(alloc, ticket, entry, Question::Settles { bound: 10 })?),
+        Err(_) => Ok(Done::work(
+            alloc,
+            ticket,
+            entry,
+            Question::Settles {
+                bound: 10,
+                cells: None,
+            },
+        )?),
     }
 }
 
@@ -175,6 +205,39 @@ fn lines_wait_for_the_patterns_before_them(rt: HostRuntime) -> Result<(), Fail> 
 }
 
 #[test]
+fn answers_to_another_question_are_strangers(rt: HostRuntime) -> Result<(), Fail> {
+    let asked = Question::Objects {
+        bound: 10,
+        cells: None,
+    };
+    let settled = Question::Settles {
+        bound: 10,
+        cells: None,
+    };
+    let within_less = Question::Objects {
+        bound: 9,
+        cells: None,
+    };
+    let limited = Question::Objects {
+        bound: 10,
+        cells: Some(4),
+    };
+    let bundle = two_folders(rt.alloc())?;
+    let mut collector = Collector::new(rt.alloc(), &bundle, asked)?;
+    let ticket = ticket_of((1, 1));
+    let entry = bundle.entry(ticket).ok_or("no such pattern")?;
+    let done = Done::work(rt.alloc(), ticket, entry, settled)?;
+    assert_eq!(rt; offered(&rt, &mut collector, done), Some(Offer::Stranger));
+    let done = Done::work(rt.alloc(), ticket, entry, within_less)?;
+    assert_eq!(rt; offered(&rt, &mut collector, done), Some(Offer::Stranger));
+    let done = Done::work(rt.alloc(), ticket, entry, limited)?;
+    assert_eq!(rt; offered(&rt, &mut collector, done), Some(Offer::Stranger));
+    let done = Done::work(rt.alloc(), ticket, entry, asked)?;
+    assert_eq!(rt; offered(&rt, &mut collector, done), Some(Offer::Taken));
+    Ok(())
+}
+
+#[test]
 fn results_are_settled_in_their_order(rt: HostRuntime) -> Result<(), Fail> {
     let bundle = two_folders(rt.alloc())?;
     let mut results = Vec::new(rt.alloc());
@@ -185,7 +248,10 @@ fn results_are_settled_in_their_order(rt: HostRuntime) -> Result<(), Fail> {
     let tally = settle(
         rt.alloc(),
         &bundle,
-        Question::Settles { bound: 10 },
+        Question::Settles {
+            bound: 10,
+            cells: None,
+        },
         results,
         &mut out,
     )?;
@@ -210,7 +276,10 @@ fn without_results_the_caller_works_all(rt: HostRuntime) -> Result<(), Fail> {
     let tally = settle(
         rt.alloc(),
         &bundle,
-        Question::Settles { bound: 10 },
+        Question::Settles {
+            bound: 10,
+            cells: None,
+        },
         Vec::new(rt.alloc()),
         &mut out,
     )?;
@@ -243,7 +312,7 @@ fn is_reported<R: Threads + Wait + Abort + Sync>(
         rt,
         alloc,
         bundle,
-        Question::Settles { bound },
+        Question::Settles { bound, cells: None },
         2,
         &OpenGate,
         &mut out,
@@ -253,7 +322,7 @@ fn is_reported<R: Threads + Wait + Abort + Sync>(
     settle(
         alloc,
         bundle,
-        Question::Settles { bound },
+        Question::Settles { bound, cells: None },
         Vec::new(alloc),
         &mut out,
     )?;

@@ -80,7 +80,10 @@ fn fills_its_room<R: Threads + Wait + Abort + Sync>(
         rt,
         alloc,
         bundle,
-        Question::Settles { bound: 50 },
+        Question::Settles {
+            bound: 50,
+            cells: None,
+        },
         2,
         &OpenGate,
         &mut out,
@@ -109,7 +112,10 @@ fn a_writer_that_fails_after_30_bytes_holds_30(rt: HostRuntime) -> Result<(), Fa
         &rt,
         rt.alloc(),
         &mut reader,
-        Question::Settles { bound: 50 },
+        Question::Settles {
+            bound: 50,
+            cells: None,
+        },
         2,
         &OpenGate,
         &mut out,
@@ -130,7 +136,10 @@ fn settling_ends_where_its_writer_fails(rt: HostRuntime) -> Result<(), Fail> {
         let answer = settle(
             rt.alloc(),
             &bundle,
-            Question::Settles { bound: 10 },
+            Question::Settles {
+                bound: 10,
+                cells: None,
+            },
             Vec::new(rt.alloc()),
             &mut out,
         );
@@ -152,7 +161,10 @@ fn a_writer_of_single_bytes_takes_the_whole_report(rt: HostRuntime) -> Result<()
         &rt,
         rt.alloc(),
         &bundle,
-        Question::Settles { bound: 50 },
+        Question::Settles {
+            bound: 50,
+            cells: None,
+        },
         2,
         &OpenGate,
         &mut out,
@@ -172,7 +184,10 @@ fn nothing_is_written_where_the_reader_fails(rt: HostRuntime) {
             &rt,
             rt.alloc(),
             &mut reader,
-            Question::Settles { bound: 50 },
+            Question::Settles {
+                bound: 50,
+                cells: None,
+            },
             2,
             &OpenGate,
             &mut out,
@@ -192,7 +207,10 @@ fn a_reader_without_end_is_too_long(rt: HostRuntime) {
         &rt,
         rt.alloc(),
         &mut reader,
-        Question::Settles { bound: 50 },
+        Question::Settles {
+            bound: 50,
+            cells: None,
+        },
         2,
         &OpenGate,
         &mut out,

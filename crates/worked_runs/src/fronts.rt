@@ -42,7 +42,10 @@ fn every_front_of_a_bundle_text_is_reported_or_refused(rt: HostRuntime) {
             &rt,
             rt.alloc(),
             &mut reader,
-            Question::Settles { bound: 50 },
+            Question::Settles {
+                bound: 50,
+                cells: None,
+            },
             2,
             &OpenGate,
             &mut out,

@@ -48,7 +48,10 @@ fn run_is_whole<R: Threads + Wait + Abort + Sync>(
         rt,
         alloc,
         bundle,
-        Question::Settles { bound: 50 },
+        Question::Settles {
+            bound: 50,
+            cells: None,
+        },
         workers,
         &OpenGate,
         &mut out,
@@ -70,7 +73,10 @@ fn fed_run_is_whole<R: Threads + Wait + Abort + Sync>(
         rt,
         alloc,
         bundle,
-        Question::Settles { bound: 50 },
+        Question::Settles {
+            bound: 50,
+            cells: None,
+        },
         feed,
         hands,
         &OpenGate,
@@ -95,7 +101,10 @@ fn text_run_is_whole<R: Threads + Wait + Abort + Sync>(
         rt,
         alloc,
         &mut reader,
-        Question::Settles { bound: 50 },
+        Question::Settles {
+            bound: 50,
+            cells: None,
+        },
         workers,
         &OpenGate,
         &mut out,
@@ -122,7 +131,15 @@ fn results_of<'a>(
                 folder: 1,
                 number: pair.0,
             };
-            results.push(Done::work(alloc, ticket, entry, Question::Settles { bound: 10 })?)?;
+            results.push(Done::work(
+                alloc,
+                ticket,
+                entry,
+                Question::Settles {
+                    bound: 10,
+                    cells: None,
+                },
+            )?)?;
         }
     }
     Ok(results)
@@ -135,7 +152,10 @@ fn settling_is_whole<R: Abort>(rt: &R, alloc: Global, bundle: &Bundle) -> Result
     let fault = settle(
         alloc,
         bundle,
-        Question::Settles { bound: 10 },
+        Question::Settles {
+            bound: 10,
+            cells: None,
+        },
         arrivals,
         &mut out,
     )

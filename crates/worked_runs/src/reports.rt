@@ -32,7 +32,13 @@ fn offered<'a>(
     requires { (1 ≤ bound) × (bound ≤ 1000000) }
 {
     let entry = bundle.entry(place)?;
-    let done = Done::work(alloc, ticket, entry, Question::Settles { bound }).ok()?;
+    let done = Done::work(
+        alloc,
+        ticket,
+        entry,
+        Question::Settles { bound, cells: None },
+    )
+    .ok()?;
     match collector.offer(done) {
         Ok(offer) => Some(offer),
         Err(refused) => collector.offer(refused.done).ok(),
@@ -43,7 +49,11 @@ fn offered<'a>(
 fn reports(alloc: Global, bundle: &Bundle, bound: u32, report: &[u8]) -> Option<bool>
     requires { (1 ≤ bound) × (bound ≤ 1000000) }
 {
-    let mut collector = Collector::new(alloc, bundle, Question::Settles { bound }).ok()?;
+    let mut collector = Collector::new(
+        alloc,
+        bundle,
+        Question::Settles { bound, cells: None },
+    ).ok()?;
     for _ in 0..10 {
         if let Some(least) = collector.missing() {
             offered(alloc, &mut collector, bundle, least, least, bound)?;
@@ -128,10 +138,19 @@ fn work_keeps_what_it_was_given(rt: HostRuntime) -> Result<(), Fail> {
             rt.alloc(),
             ticket(2, 7),
             entry,
-            Question::Settles { bound: 5 },
+            Question::Settles {
+                bound: 5,
+                cells: None,
+            },
         )?;
         assert_eq!(rt; done.ticket(), ticket(2, 7));
-        assert_eq!(rt; done.question(), Question::Settles { bound: 5 });
+        assert_eq!(rt;
+            done.question(),
+            Question::Settles {
+                bound: 5,
+                cells: None
+            }
+        );
         assert_eq!(rt; done.entry().name.as_slice(), b"a".as_slice());
         assert!(rt; matches!(done.answer(), Answer::Refused(1)));
     }

@@ -14,6 +14,9 @@ returns-in-Recurs-clause-counts c = λ before is.
 pub returns-in-Unresolved-clause-counts : goal.returns-in-Unresolved-clause-counts
 returns-in-Unresolved-clause-counts c = λ before is. none_more _ before _ (ap (λ a. objects (a ∷ [])) (c.in-Found.is ∙ ap (Found c.in-Found.rule) c.in-Unresolved.is)) is
 
+pub returns-in-Large-clause-counts : goal.returns-in-Large-clause-counts
+returns-in-Large-clause-counts c = λ before is. none_more _ before _ (ap (λ a. objects (a ∷ [])) (c.in-Found.is ∙ ap (Found c.in-Found.rule) c.in-Large.is)) is
+
 pub returns-in-Ash-clause-counts : goal.returns-in-Ash-clause-counts
 returns-in-Ash-clause-counts c = λ before is.
     let a = c.in-Ash in

@@ -1,10 +1,27 @@
+use Rattle.std.proofs.Common.{inl, inr, refl, sym, ap, subst, map}
+use Rattle.census_command.specs.Outcomes.{IsIdentify}
 use Rattle.census_command.proofs.Outcomes.{ends_answered, ends_failed}
 use Rattle.census_command.proofs.dispatch.dispatch.Goals as goal
 
 pub returns-in-Err : goal.returns-in-Err
-returns-in-Err g c = ends_answered _ _ _ _ _ _ c.in-Err.fault c.in-Err.ensures c.answer.ensures
+returns-in-Err g c = inr (ends_answered _ _ _ _ _ _ _ c.in-Err.fault c.in-Err.ensures c.answer.ensures)
+
+pub returns-in-Identify : goal.returns-in-Identify
+returns-in-Identify g c =
+    let words = map (λ s. s.now) c.as_slice.result.now in
+    rw (← c.streams.view_is, ← c.errors.view_is)
+    (inl (record {
+      bound = c.in-Identify.bound;
+      files = words;
+      asked = record {
+        request = c.in-Ok.request;
+        asked = c.in-Ok.ensures;
+        is = subst (λ request. IsIdentify request c.in-Identify.bound words) (sym c.in-Identify.is) (refl, ap (λ files. map (λ s. s.now) files) c.as_slice.ensures.value);
+      };
+      identifies = c.identify.ensures;
+    }))
 
 pub returns : goal.returns
 returns g c = rw c.stop.ensures.status
-    (ends_failed _ _ _ _ _ c.in-Ok.request
-    c.in-Ok.ensures c.in-Err-execute.error c.in-Err-execute.ensures.fails c.stop.ensures.line)
+    (inr (ends_failed _ _ _ _ _ _ c.in-Ok.request
+    c.in-Ok.ensures c.in-Err-execute.error c.in-Err-execute.ensures.fails c.stop.ensures.line))

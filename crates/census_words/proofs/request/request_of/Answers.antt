@@ -6,15 +6,16 @@ use Rattle.census_words.proofs.Commands.{advance_command}
 use Rattle.census_words.proofs.Getters.{entered_as, number_within}
 use Rattle.census_words.proofs.request.request_of.Goals as goal
 
-pub returns-in-Some-subcommand_matches : goal.returns-in-Some-subcommand_matches
-returns-in-Some-subcommand_matches c =
-    let arm = c.in-Some-subcommand_matches in
+pub returns-in-Some-subcommand_matches-3 : goal.returns-in-Some-subcommand_matches-3
+returns-in-Some-subcommand_matches-3 c =
+    let arm = c.in-Some-subcommand_matches-3 in
     let rows = rows_of (found_of arm.advance.now) in
     let named = entered_as c.args.matches.now (codes "advance") rows (arm.ensures.found.0 refl) arm.ensures.rows in
     let has = advance_command rows (subst IsCommand named c.requires) in
     record {
       rows = rows;
       named = named;
-      generations_are = c.number-in-Some-subcommand_matches.ensures;
-      generations_in = (number_within 0 4194304 (codes "generations") rows _ has.generations c.number-in-Some-subcommand_matches.ensures).1;
+      generations_are = c.number-in-Some-subcommand_matches-3-2.ensures;
+      generations_in = (number_within 0 4194304 (codes "generations") rows _ has.generations c.number-in-Some-subcommand_matches-3-2.ensures).1;
+      file_is = c.text_if_used.ensures;
     }

@@ -1,7 +1,7 @@
 use Rattle.std.proofs.Common.{◌≡◌, ◌≤◌, ◌∙◌, length, map, take, ap, arith}
 use Rattle.std.proofs.lemmas.List.{take_all}
 use Rattle.life_answer.specs.Parts.{counted_codes, with_code}
-use Rattle.life_census.specs.Census.{course_code}
+use Rattle.life_census.specs.Courses.{course_code}
 use Rattle.life_census.proofs.PartCodes.{counted_more}
 use Rattle.life_census.proofs.parts.parts_of.Goals as goal
 

@@ -1,6 +1,6 @@
 use Rattle.std.proofs.Common.{◌≡◌, map, take}
 use Rattle.life_answer.specs.Parts.{counted_codes}
-use Rattle.life_census.specs.Census.{course_code}
+use Rattle.life_census.specs.Courses.{course_code}
 use Rattle.life_census.proofs.parts.parts_of.Given as goal
 
 -- the objects so far

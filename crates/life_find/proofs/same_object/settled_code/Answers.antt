@@ -1,5 +1,5 @@
 use Rattle.std.proofs.Common.{sym, ◌∙◌}
-use Rattle.life_answer.proofs.Findings.{finding-no_ash}
+use Rattle.life_answer.proofs.Findings.{finding-no_ash, finding-no_large}
 use Rattle.life_find.proofs.SameObjects.{HasCode_by_finding, nowhere_found}
 use Rattle.life_find.proofs.same_object.settled_code.Goals as goal
 
@@ -14,4 +14,8 @@ returns-in-Unresolved-clause-unsettled g c =
 
 pub unreachable-requires : goal.unreachable-requires
 unreachable-requires g c =
+    finding-no_large c.args.rule.now c.args.cells.now c.args.bound c.in-Large.population c.in-Large.generation (sym c.in_ok-code.ensures ∙ c.in-Large.is)
+
+pub unreachable-requires-in-Ash : goal.unreachable-requires-in-Ash
+unreachable-requires-in-Ash g c =
     finding-no_ash c.args.rule.now c.args.cells.now c.args.bound c.in-Ash.population c.in-Ash.parts (sym c.in_ok-code.ensures ∙ c.in-Ash.is)

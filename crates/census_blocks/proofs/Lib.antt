@@ -1,0 +1,5 @@
+mod Joining
+mod Meant
+mod Parts
+mod Refusing
+mod Sizes

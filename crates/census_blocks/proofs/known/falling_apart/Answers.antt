@@ -1,0 +1,14 @@
+use Rattle.std.proofs.Common.{None, ap, ◌∙◌}
+use Rattle.life_answer.specs.declared.question.Question.TheVariants.{Objects}
+use Rattle.census_blocks.specs.Known.{fallen}
+use Rattle.census_blocks.proofs.Meant.{found, not_refused}
+use Rattle.census_blocks.proofs.known.falling_apart.Goals as goal
+
+pub returns-in-Found : goal.returns-in-Found
+returns-in-Found c =
+    c.fallen.ensures
+    ∙ ap fallen (found (Objects c.args.bound None) c.args.text.now c.args.pattern.now _ _ _ c.in_ok-finding.ensures c.requires.meant c.in-Found.is)
+
+pub returns-in-Refused : goal.returns-in-Refused
+returns-in-Refused c =
+    absurd (not_refused (Objects c.args.bound None) c.args.text.now c.args.pattern.now _ _ c.in_ok-finding.ensures c.requires.meant c.in-Refused.is)

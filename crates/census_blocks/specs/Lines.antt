@@ -1,0 +1,62 @@
+-- The lines of a block.
+use Rattle.std.specs.Prelude.{ℕ, ℤ, List, [], ◌∷◌, ◌++◌, codes, decimal, map}
+use Rattle.std.specs.Fmt.{signed_decimal}
+use Rattle.life_model.specs.Rule.{Rule}
+use Rattle.life_cells.specs.Rules.{rule_text}
+use Rattle.life_answer.specs.declared.part.Part.{Part}
+use Rattle.life_answer.specs.Parts.{objects_in}
+use Rattle.census_blocks.specs.declared.known.Known.{Known}
+use Rattle.census_blocks.specs.declared.known.Known.TheVariants.{Apart, Settles, Unresolved}
+
+-- the bytes of a line
+abbrev pub Line : Type 0
+Line = List ℕ
+
+-- the values, each with a blank before it
+abbrev pub behind : List (List ℕ) → List ℕ
+behind [] = []
+behind (value ∷ values) = 32 ∷ value ++ behind values
+
+-- a name and values, parted by blanks, and LF
+unfoldable pub line : List ℕ → List (List ℕ) → Line
+line name values = name ++ behind values ++ codes "\n"
+
+-- the lines' bytes, one line after another
+abbrev pub text_of : List Line → List ℕ
+text_of [] = []
+text_of (l ∷ ls) = l ++ text_of ls
+
+-- `rule`, `population` and `box` of generation 0: its rule, how many cells it has, how wide and how high it is
+abbrev pub head_lines : Rule → ℕ → ℕ → ℕ → List Line
+head_lines rule population width height =
+    line (codes "rule") (rule_text rule ∷ [])
+    ∷ line (codes "population") (decimal population ∷ [])
+    ∷ line (codes "box") (decimal width ∷ decimal height ∷ [])
+    ∷ []
+
+-- `onset`, `period`, `displacement` and `apgcode` of a pattern that settles
+abbrev pub settled_lines : ℕ → ℕ → ℤ → ℤ → List ℕ → List Line
+settled_lines onset period dx dy code =
+    line (codes "onset") (decimal onset ∷ [])
+    ∷ line (codes "period") (decimal period ∷ [])
+    ∷ line (codes "displacement") (signed_decimal dx ∷ signed_decimal dy ∷ [])
+    ∷ line (codes "apgcode") (code ∷ [])
+    ∷ []
+
+-- `part`, the code of an object, and how many parts are that object
+abbrev pub part_line : Part → Line
+part_line part = line (codes "part") (part.code ∷ decimal part.count ∷ [])
+
+-- `objects`, how many objects a pattern has fallen apart into, and a `part` line for each code
+abbrev pub object_lines : List Part → List Line
+object_lines parts = line (codes "objects") (decimal (objects_in parts) ∷ []) ∷ map part_line parts
+
+-- `unresolved` and the bound, of a pattern that neither settles nor has fallen apart within it
+abbrev pub unresolved_lines : ℕ → List Line
+unresolved_lines bound = line (codes "unresolved") (decimal bound ∷ []) ∷ []
+
+-- the lines of what is known within the bound
+abbrev pub known_lines : ℕ → Known → List Line
+known_lines bound (Settles onset period dx dy code) = settled_lines onset period dx dy code
+known_lines bound (Apart parts) = object_lines parts
+known_lines bound Unresolved = unresolved_lines bound

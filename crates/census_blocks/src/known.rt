@@ -1,0 +1,128 @@
+//! What is known of a pattern, once both questions were asked of it.
+ghost use Rattle.std.specs.Prelude.{◌≡◌, ◌≤◌, IfOk, Ok};
+ghost use Rattle.life_text.specs.Picture.{picture_of};
+ghost use Rattle.life_text.specs.Rle.{reading};
+ghost use Rattle.life_answer.specs.Answers.{finding_of};
+ghost use Rattle.life_answer.specs.Census.{census_of};
+ghost use Rattle.census_blocks.specs.Known.{fallen, known_of, settled};
+
+use life_answer::code::Code;
+use life_answer::finding::{Answer, Finding};
+use life_answer::parts::Parts;
+use life_text::pattern::Pattern;
+use std::alloc::{AllocError, Global};
+
+/// The greatest bound within which is answered.
+pub const BOUND_LIMIT: u32 = 100_000;
+
+/// What is known of a pattern within a bound.
+#[derive(Drop)]
+pub enum Known {
+    /// It settles: some generation comes again, moved as a whole.
+    Settles {
+        /// The first generation that comes again within the bound.
+        onset: u32,
+        /// After how many generations that one first comes again.
+        period: u32,
+        /// How far to the right it then stands; 0 where there is no cell.
+        dx: i32,
+        /// How far down it then stands; 0 where there is no cell.
+        dy: i32,
+        /// The code of the object that it has become.
+        code: Code,
+    },
+    /// It doesn't settle, and has fallen apart into these objects.
+    Apart(Parts),
+    /// Neither is so within the bound.
+    Unresolved,
+}
+
+// What is known of a pattern that settles, by what is found of it.
+fn settled(finding: Finding) -> Option<Known>
+    ensures { result ≡ settled finding }
+{
+    match finding {
+        Finding::Recurs {
+            population: _,
+            onset,
+            period,
+            dx,
+            dy,
+            code,
+        } => Some(Known::Settles {
+            onset,
+            period,
+            dx,
+            dy,
+            code,
+        }),
+        _ => None,
+    }
+}
+
+// What is known of a pattern that doesn't settle, by the objects that are found of it.
+fn fallen(finding: Finding) -> Known
+    ensures { result ≡ fallen finding }
+{
+    match finding {
+        Finding::Ash {
+            population: _,
+            parts,
+        } => Known::Apart(parts),
+        _ => Known::Unresolved,
+    }
+}
+
+// What is known of the pattern that a text means, where it settles within the bound.
+fn settling(
+    alloc: Global,
+    text: &[u8],
+    pattern: &Pattern,
+    bound: u32,
+) -> Result<Option<Known>, AllocError>
+    requires bound { 1 ≤ bound × bound ≤ BOUND_LIMIT }
+    requires meant { picture_of (reading text.now) ≡ Ok pattern.now }
+    ensures { IfOk result (λ known. known ≡ settled (finding_of pattern.now.rule pattern.now.cells bound)) }
+{
+    match life_find::answer::answer(alloc, text, bound, None)? {
+        Answer::Found { rule: _, finding } => Ok(settled(finding)),
+        Answer::Refused(_) => Ok(None),
+    }
+}
+
+// What is known of the pattern that a text means, where it doesn't settle within the bound.
+fn falling_apart(
+    alloc: Global,
+    text: &[u8],
+    pattern: &Pattern,
+    bound: u32,
+) -> Result<Known, AllocError>
+    requires bound { 1 ≤ bound × bound ≤ BOUND_LIMIT }
+    requires meant { picture_of (reading text.now) ≡ Ok pattern.now }
+    ensures { IfOk result (λ known. known ≡ fallen (census_of pattern.now.rule pattern.now.cells bound)) }
+{
+    match life_census::answer::answer(alloc, text, bound, None)? {
+        Answer::Found { rule: _, finding } => Ok(fallen(finding)),
+        Answer::Refused(_) => Ok(Known::Unresolved),
+    }
+}
+
+/// What is known within the bound of the pattern that a text means: where it settles, when and as what; else, where it has
+/// fallen apart, into which objects; else that neither is so. The bound is 1 to 100,000 generations.
+///
+/// It may look at generations past the bound, up to three times the bound.
+pub fn known_of(
+    alloc: Global,
+    text: &[u8],
+    pattern: &Pattern,
+    bound: u32,
+) -> Result<Known, AllocError>
+    requires bound { 1 ≤ bound × bound ≤ BOUND_LIMIT }
+    requires meant { picture_of (reading text.now) ≡ Ok pattern.now }
+    ensures { IfOk result (λ known. known ≡ known_of bound pattern.now) }
+{
+    if let Some(known) = settling(alloc, text, pattern, bound)? {
+        return Ok(known);
+    }
+    falling_apart(alloc, text, pattern, bound)
+}

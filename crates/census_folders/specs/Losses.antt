@@ -1,0 +1,124 @@
+-- Folders that were read whatever was lost, and what was lost.
+use Rattle.std.specs.Prelude.{◌≡◌, ◌⊎◌, ℕ, ◌<◌, ◌≤◌, [], ◌∷◌, ◌++◌, true, List, length, take, slice_get, Option, Some, None, MatchBool}
+use Rattle.std.specs.List.{FoldsTo}
+use Rattle.census_bundle.specs.declared.bundle.AddFault.TheVariants as adds
+use Rattle.census_bundle.specs.declared.bundle.Folder.{Folder}
+use Rattle.census_bundle.specs.declared.ticket.Ticket.{Ticket}
+use Rattle.census_bundle.specs.Growing.{last_entries, with_entry, with_folder}
+use Rattle.census_bundle.specs.Names.{is_name}
+use Rattle.census_bundle.specs.Sizes.{count_limit}
+use Rattle.census_folders.specs.declared.fault.FoldersFault.{FoldersFault}
+use Rattle.census_folders.specs.declared.fault.FoldersFault.TheVariants.{Add, Memory}
+use Rattle.census_folders.specs.declared.keeping.Kept.{Kept}
+use Rattle.census_folders.specs.declared.loss.Loss.{Loss}
+use Rattle.census_folders.specs.Folders.{file_limit}
+use Rattle.census_folders.specs.Shelves.{IsChosen}
+use Rattle.census_folders.specs.Told.{Told, GivesTold, MayExceed, MayFail}
+use Rattle.census_folders.specs.Walks.{path_of}
+
+-- # Losses
+
+-- the place of the last entry of the last folder
+abbrev pub last_place : List Folder → Ticket
+last_place b = record { folder = length b; number = length (last_entries b) }
+
+-- one more loss
+abbrev pub with_loss : List Loss → List ℕ → Option Ticket → List Loss
+with_loss lost path entry = lost ++ record { path = path; entry = entry } ∷ []
+
+-- # Files
+
+-- the text of a file, which is lost where it can't be read
+abbrev pub GivesText : Told → Option (List ℕ) → Type 0
+GivesText told (Some text) = GivesTold told text × (length text ≤ file_limit)
+GivesText told None = MayFail told ⊎ MayExceed file_limit told
+
+-- an entry of this text, or one without text, which is lost
+abbrev pub with_text : List ℕ → List ℕ → Option (List ℕ) → Kept → Kept
+with_text folder name (Some text) old = record { bundle = with_entry old.bundle (record { name = name; text = text }); lost = old.lost }
+with_text folder name None old =
+    record {
+      bundle = with_entry old.bundle (record { name = name; text = [] });
+      lost = with_loss old.lost (path_of folder name) (Some (last_place (with_entry old.bundle (record { name = name; text = [] }))));
+    }
+
+-- an entry was added to the last folder, in which there was room
+pub record AddsEntry (told : Told) (folder name : List ℕ) (old new : Kept) : Type 0 where
+  pub text : Option (List ℕ)
+  pub gives : GivesText told text
+  pub room : length (last_entries old.bundle) < count_limit
+  pub added : new ≡ with_text folder name text old
+
+-- a name that isn't lawful was left out
+abbrev pub left_out : List ℕ → Kept → Kept
+left_out path old = record old { lost = with_loss old.lost path None }
+
+-- the file of this name was added, or was left out where the name isn't lawful
+abbrev pub KeepsFile : Told → List ℕ → List ℕ → Kept → Kept → Type 0
+KeepsFile told folder name old new = MatchBool (is_name name) (AddsEntry told folder name old new) (new ≡ left_out (path_of folder name) old)
+
+-- # Folders
+
+-- the last folder, without an entry so far
+abbrev pub with_empty : List ℕ → Kept → Kept
+with_empty word old = record old { bundle = with_folder old.bundle word }
+
+-- the pattern files of these names were added in order
+abbrev pub KeepsFiles : (List ℕ → Told) → List ℕ → Kept → List (List ℕ) → Kept → Type 0
+KeepsFiles held word = FoldsTo (λ old name new. KeepsFile (held name) word name old new)
+
+-- the folder was listed, and its pattern files were added in the order of the bytes of their names
+pub record KeepsListed (listed : List ℕ → Told) (held : List ℕ → List ℕ → Told) (word : List ℕ) (old new : Kept) : Type 0 where
+  pub listing : List ℕ
+  pub lists : GivesTold (listed word) listing
+  pub names : List (List ℕ)
+  pub chosen : IsChosen listing names
+  pub files : KeepsFiles (held word) word (with_empty word old) names new
+
+-- the folder can't be listed: it has no entry, and is lost
+pub record KeepsUnlisted (listed : List ℕ → Told) (word : List ℕ) (old new : Kept) : Type 0 where
+  pub why : MayFail (listed word)
+  pub added : new ≡ left_out word (with_empty word old)
+
+-- a folder was added, for which there was room
+pub record AddsKept (listed : List ℕ → Told) (held : List ℕ → List ℕ → Told) (word : List ℕ) (old new : Kept) : Type 0 where
+  pub room : length old.bundle < count_limit
+  pub added : KeepsListed listed held word old new ⊎ KeepsUnlisted listed word old new
+
+-- the folder of a word was added, or was left out where the word isn't a lawful name
+abbrev pub KeepsFolder : (List ℕ → Told) → (List ℕ → List ℕ → Told) → Kept → List ℕ → Kept → Type 0
+KeepsFolder listed held old word new = MatchBool (is_name word) (AddsKept listed held word old new) (new ≡ left_out word old)
+
+-- # Why folders were not read
+
+-- why a file is not added: want of memory, or too many in its folder
+abbrev pub StopsKeepingFile : List ℕ → Kept → FoldersFault → Type 0
+StopsKeepingFile name old fault =
+    (fault ≡ Memory) ⊎ ((fault ≡ Add adds.TooMany) × (is_name name ≡ true) × (count_limit ≤ length (last_entries old.bundle)))
+
+-- the files before this place were added; the file at this place was not
+pub record StopsInFolder (listed : List ℕ → Told) (held : List ℕ → List ℕ → Told) (word : List ℕ) (old : Kept) (fault : FoldersFault) : Type 0 where
+  pub listing : List ℕ
+  pub lists : GivesTold (listed word) listing
+  pub names : List (List ℕ)
+  pub chosen : IsChosen listing names
+  pub place : ℕ
+  pub name : List ℕ
+  pub is : slice_get names place ≡ Some name
+  pub kept : Kept
+  pub before : KeepsFiles (held word) word (with_empty word old) (take place names) kept
+  pub why : StopsKeepingFile name kept fault
+
+-- why a folder is not added: want of memory, too many folders, or a file
+abbrev pub StopsKeepingFolder : (List ℕ → Told) → (List ℕ → List ℕ → Told) → List ℕ → Kept → FoldersFault → Type 0
+StopsKeepingFolder listed held word old fault =
+    (fault ≡ Memory) ⊎ (((fault ≡ Add adds.TooMany) × (is_name word ≡ true) × (count_limit ≤ length old.bundle)) ⊎ StopsInFolder listed held word old fault)
+
+-- the folders of the words before this place were added; the folder of the word at this place was not
+pub record StopsKeepingAt (listed : List ℕ → Told) (held : List ℕ → List ℕ → Told) (words : List (List ℕ)) (fault : FoldersFault) : Type 0 where
+  pub place : ℕ
+  pub word : List ℕ
+  pub is : slice_get words place ≡ Some word
+  pub kept : Kept
+  pub before : FoldsTo (KeepsFolder listed held) (record { bundle = []; lost = [] }) (take place words) kept
+  pub why : StopsKeepingFolder listed held word kept fault

@@ -1,0 +1,64 @@
+-- What is told of one more.
+use Rattle.std.proofs.Common.{◌≡◌, ℕ, Bool, true, false, List, [], ◌∷◌, ◌++◌, max, refl, sym, ap, ◌∙◌, append_assoc, append-nil, arith}
+use Rattle.std.specs.List.{join_with_byte}
+use Rattle.std.proofs.lemmas.List.{map-append}
+use Rattle.census_identify.specs.Hearing.{Hearing}
+use Rattle.census_identify.specs.Telling.{behind, blocks_in, blocks_text, line_of, lines_text, output_of, status_of, told_of, tellings}
+use Rattle.census_identify.specs.declared.told.Told.{Told}
+use Rattle.census_identify.specs.declared.told.Told.TheVariants.{Block, Line}
+
+-- whether there is one
+abbrev pub has_any : {A : Type 0} → List A → Bool
+has_any [] = false
+has_any (x ∷ xs) = true
+
+join_more : (blocks : List (List ℕ)) (block : List ℕ) → join_with_byte 10 (blocks ++ block ∷ []) ≡ join_with_byte 10 blocks ++ behind (has_any blocks) block
+join_more [] block = refl
+join_more (x ∷ []) block = refl
+join_more (x ∷ y ∷ blocks) block =
+    ap (λ l. x ++ (10 ∷ l)) (join_more (y ∷ blocks) block) ∙ sym (append_assoc x (10 ∷ join_with_byte 10 (y ∷ blocks)) (10 ∷ block))
+
+block_more : (told : List Told) (block : List ℕ) → blocks_in (told ++ Block block ∷ []) ≡ blocks_in told ++ block ∷ []
+block_more [] block = refl
+block_more (Block b ∷ told) block = ap (λ l. b ∷ l) (block_more told block)
+block_more (Line line status ∷ told) block = block_more told block
+
+no_block_more : (told : List Told) (line : List ℕ) (status : ℕ) → blocks_in (told ++ Line line status ∷ []) ≡ blocks_in told
+no_block_more [] line status = refl
+no_block_more (Block b ∷ told) line status = ap (λ l. b ∷ l) (no_block_more told line status)
+no_block_more (Line l s ∷ told) line status = no_block_more told line status
+
+pub blocks_more : (told : List Told) (t : Told) → blocks_text (told ++ t ∷ []) ≡ blocks_text told ++ output_of (has_any (blocks_in told)) t
+blocks_more told (Block block) = ap (join_with_byte 10) (block_more told block) ∙ join_more (blocks_in told) block
+blocks_more told (Line line status) = ap (join_with_byte 10) (no_block_more told line status) ∙ sym (append-nil (blocks_text told))
+
+pub lines_more : (told : List Told) (t : Told) → lines_text (told ++ t ∷ []) ≡ lines_text told ++ line_of t
+lines_more [] (Block block) = refl
+lines_more [] (Line line status) = append-nil line
+lines_more (Block b ∷ told) t = lines_more told t
+lines_more (Line l s ∷ told) t = ap (λ ls. l ++ ls) (lines_more told t) ∙ sym (append_assoc l (lines_text told) (line_of t))
+
+pub status_more : (told : List Told) (line : List ℕ) (status : ℕ) → status_of (told ++ Line line status ∷ []) ≡ max (status_of told) status
+status_more [] line status = omega arith
+status_more (Block b ∷ told) line status = status_more told line status
+status_more (Line l s ∷ told) line status = let before = status_more told line status in omega arith
+
+pub status_kept : (told : List Told) (block : List ℕ) → status_of (told ++ Block block ∷ []) ≡ status_of told
+status_kept [] block = refl
+status_kept (Block b ∷ told) block = status_kept told block
+status_kept (Line l s ∷ told) block = ap (max s) (status_kept told block)
+
+-- # With a course
+
+any_more : {A : Type 0} (xs : List A) (x : A) → has_any (xs ++ x ∷ []) ≡ true
+any_more [] x = refl
+any_more (y ∷ xs) x = refl
+
+pub any_block : (told : List Told) (block : List ℕ) → has_any (blocks_in (told ++ Block block ∷ [])) ≡ true
+any_block told block = ap has_any (block_more told block) ∙ any_more (blocks_in told) block
+
+pub same_blocks : (told : List Told) (line : List ℕ) (status : ℕ) → has_any (blocks_in (told ++ Line line status ∷ [])) ≡ has_any (blocks_in told)
+same_blocks told line status = ap has_any (no_block_more told line status)
+
+pub tellings_more : (bound : ℕ) (heard : List Hearing) (h : Hearing) → tellings bound (heard ++ h ∷ []) ≡ tellings bound heard ++ told_of bound h.word h.heard ∷ []
+tellings_more bound heard h = map-append (λ h. told_of bound h.word h.heard) heard (h ∷ [])

@@ -1,0 +1,20 @@
+use Rattle.std.proofs.Common.{[], ◌∷◌}
+use Rattle.std.proofs.KnownBytes.{Appends-nil}
+use Rattle.census_identify.specs.Streams.{sink}
+use Rattle.census_identify.proofs.Written.{writes_rest}
+use Rattle.census_identify.proofs.course.write_block.Goals as goal
+use Rattle.census_identify.proofs.course.write_block.Goals.{then-has_block+in_ok-put_all, else-has_block}
+
+pub returns : goal.returns
+returns g c =
+    let contents = g.O.Write.contents in
+    elim c.if-has_block.branch [
+      | then-has_block+in_ok-put_all w ↦
+          rw w.if-has_block.true
+          (writes_rest c.put_all-2.result (10 ∷ []) c.args.block.now (sink contents c.args.output.now) (sink contents c.if-has_block.output) (sink contents c.put_all-2.new.writer)
+          (rw w.output-is w.in_ok-put_all.ensures.bytes) c.put_all-2.ensures.failed c.put_all-2.ensures.bytes)
+      | else-has_block w ↦
+          rw w.if-has_block.false
+          (writes_rest c.put_all-2.result [] c.args.block.now (sink contents c.args.output.now) (sink contents c.if-has_block.output) (sink contents c.put_all-2.new.writer)
+          (rw w.output-is (Appends-nil _)) c.put_all-2.ensures.failed c.put_all-2.ensures.bytes)
+    ]

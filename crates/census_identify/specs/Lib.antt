@@ -1,0 +1,6 @@
+pub mod Streams
+pub mod Hearing
+pub mod Telling
+pub mod Courses
+pub mod Errors
+pub mod Identifies

@@ -1,0 +1,62 @@
+-- What stands in a reader and in a writer: one value before and one after.
+use Rattle.std.specs.Prelude.{◌≡◌, ℕ, ◌≤◌, Bool, true, false, List, length, take, Option, MatchBool}
+use Rattle.std.specs.Io.KnownBytes.{Appends}
+use Rattle.watched.specs.Watching.{AppendsFront, has_failed, inner_of}
+use Rattle.watched.specs.declared.watched.Watched.{Watched}
+
+-- a reader: the bytes that it has left, where it tells any, and whether it has failed
+pub record Source : Type 0 where
+  pub unread : Option (List ℕ)
+  pub failed : Bool
+
+-- a writer: the bytes that were written, where it tells any, and whether it has failed
+pub record Sink : Type 0 where
+  pub written : Option (List ℕ)
+  pub failed : Bool
+
+-- a watched reader, by what its reader has left
+abbrev pub source : {R : Type 0} → (R → Option (List ℕ)) → Watched R → Source
+source remaining reader = record { unread = remaining (inner_of reader); failed = has_failed reader }
+
+-- a watched writer, by what was written to its writer
+abbrev pub sink : {W : Type 0} → (W → Option (List ℕ)) → Watched W → Sink
+sink contents writer = record { written = contents (inner_of writer); failed = has_failed writer }
+
+-- standard input, standard output and standard error
+pub record Streams : Type 0 where
+  pub input : Source
+  pub output : Sink
+  pub errors : Sink
+
+-- watched streams
+abbrev pub streams : {I O E : Type 0} → (I → Option (List ℕ)) → (O → Option (List ℕ)) → (E → Option (List ℕ))
+    → Watched I → Watched O → Watched E → Streams
+streams remaining contents told input output errors =
+    record { input = source remaining input; output = sink contents output; errors = sink told errors }
+
+-- these bytes were written, and the writer has not failed
+pub record Writes (bytes : List ℕ) (before after : Sink) : Type 0 where
+  pub written : Appends before.written after.written bytes
+  pub sound : after.failed ≡ false
+
+-- the writer failed, and a prefix of these bytes was written
+pub record WritesFront (bytes : List ℕ) (before after : Sink) : Type 0 where
+  pub written : AppendsFront before.written after.written bytes
+  pub failed : after.failed ≡ true
+
+-- the writer failed, and a prefix of all these bytes was written which is no shorter than the first
+pub record WritesBetween (first all : List ℕ) (before after : Sink) : Type 0 where
+  pub count : ℕ
+  pub least : length first ≤ count
+  pub most : count ≤ length all
+  pub written : Appends before.written after.written (take count all)
+  pub failed : after.failed ≡ true
+
+-- these bytes were written, whole where the writer has not failed, else a prefix of them, and nothing else
+abbrev pub Tells : List ℕ → Sink → Sink → Type 0
+Tells bytes before after =
+    MatchBool after.failed (AppendsFront before.written after.written bytes) (Appends before.written after.written bytes)
+
+-- a writer that has failed stays as it is; to any other these bytes were told
+abbrev pub TellsMore : List ℕ → Sink → Sink → Type 0
+TellsMore bytes before after = MatchBool before.failed (after ≡ before) (Tells bytes before after)

@@ -1,0 +1,75 @@
+-- What is told of what was heard: blocks, lines and statuses.
+use Rattle.std.specs.Prelude.{ℕ, Bool, true, false, List, [], ◌∷◌, ◌++◌, codes, cond, map, max, Result, Ok, Err}
+use Rattle.std.specs.List.{join_with_byte}
+use Rattle.life_text.specs.declared.rle.RleFault.{RleFault}
+use Rattle.life_faults.specs.Lines.{fault_line}
+use Rattle.census_blocks.specs.Blocks.{block_of}
+use Rattle.census_identify.specs.Hearing.{Hearing, is_input}
+use Rattle.census_identify.specs.declared.heard.Heard.{Heard}
+use Rattle.census_identify.specs.declared.heard.Heard.TheVariants.{Text, TooLong, Unread}
+use Rattle.census_identify.specs.declared.told.Told.{Told}
+use Rattle.census_identify.specs.declared.told.Told.TheVariants.{Block, Line}
+
+-- # One
+
+-- `census: WORD:`, the message, and LF
+abbrev pub message_line : List ℕ → List ℕ → List ℕ
+message_line word message = codes "census: " ++ word ++ codes ":" ++ message ++ codes "\n"
+
+-- `file WORD` before the block of a file; nothing before that of standard input
+abbrev pub headed : List ℕ → List ℕ → List ℕ
+headed word block = cond (is_input word) block (codes "file " ++ word ++ codes "\n" ++ block)
+
+-- what is told of a text, by its block or its fault
+abbrev pub told_of_block : List ℕ → List ℕ → Result (List ℕ) RleFault → Told
+told_of_block word text (Ok block) = Block (headed word block)
+told_of_block word text (Err fault) = Line (message_line word (fault_line text fault)) 1
+
+-- what is told of a word, by what was got of it
+abbrev pub told_of : ℕ → List ℕ → Heard → Told
+told_of bound word (Text text) = told_of_block word text (block_of bound text)
+told_of bound word TooLong = Line (message_line word (codes " input too long")) 1
+told_of bound word Unread = Line (message_line word (codes " read failed")) 4
+
+-- # All
+
+abbrev pub tellings : ℕ → List Hearing → List Told
+tellings bound hearings = map (λ h. told_of bound h.word h.heard) hearings
+
+abbrev pub blocks_in : List Told → List (List ℕ)
+blocks_in [] = []
+blocks_in (Block block ∷ told) = block ∷ blocks_in told
+blocks_in (Line line status ∷ told) = blocks_in told
+
+-- what goes to standard output: the blocks, parted by LF
+abbrev pub blocks_text : List Told → List ℕ
+blocks_text told = join_with_byte 10 (blocks_in told)
+
+-- what goes to standard error: the lines
+abbrev pub lines_text : List Told → List ℕ
+lines_text [] = []
+lines_text (Block block ∷ told) = lines_text told
+lines_text (Line line status ∷ told) = line ++ lines_text told
+
+-- the greatest status, 0 where each is a block
+abbrev pub status_of : List Told → ℕ
+status_of [] = 0
+status_of (Block block ∷ told) = status_of told
+status_of (Line line status ∷ told) = max status (status_of told)
+
+-- # One more
+
+-- a block, behind others where there are any
+abbrev pub behind : Bool → List ℕ → List ℕ
+behind true block = 10 ∷ block
+behind false block = block
+
+-- what goes to standard output behind others
+abbrev pub output_of : Bool → Told → List ℕ
+output_of has_block (Block block) = behind has_block block
+output_of has_block (Line line status) = []
+
+-- what goes to standard error
+abbrev pub line_of : Told → List ℕ
+line_of (Block block) = []
+line_of (Line line status) = line

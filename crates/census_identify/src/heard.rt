@@ -1,0 +1,97 @@
+//! What is got of a file, or of standard input.
+ghost use Rattle.std.specs.Prelude.{◌≡◌, ◌+◌, ◌≤◌, codes, IfErr, IfOk, IsTrue, ◌↔◌, [], vec_len};
+ghost use Rattle.watched.specs.Watching.{ConsumesAtMost, inner_of};
+ghost use Rattle.census_folders.specs.Told.{GivesTold, RefusesFile};
+ghost use Rattle.census_identify.specs.Hearing.{Hears, HearsFile, HearsInput, heard_of, is_input};
+ghost use Rattle.census_identify.specs.Streams.{source};
+
+use crate::bytes::Bytes;
+use census_folders::shelf::Shelf;
+use std::alloc::{AllocError, Global};
+use std::io::Read;
+use watched::reading::{ReadFault, read_all};
+use watched::watched::Watched;
+
+/// The most bytes of one text.
+pub const TEXT_LIMIT: usize = 67_108_864;
+
+/// What is got of a file, or of standard input.
+#[derive(Drop)]
+pub enum Heard {
+    /// All its bytes.
+    Text(Bytes),
+    /// It has more bytes than a text may have.
+    TooLong,
+    /// It can't be read.
+    Unread,
+}
+
+// What is heard, by what a reading answers. Out of memory is nothing that is heard.
+fn heard_of(read: Result<Vec<u8>, ReadFault>) -> Result<Heard, AllocError>
+    ensures { result ≡ heard_of read }
+{
+    match read {
+        Ok(bytes) => Ok(Heard::Text(Bytes::new(bytes))),
+        Err(ReadFault::TooLong) => Ok(Heard::TooLong),
+        Err(ReadFault::Read) => Ok(Heard::Unread),
+        Err(ReadFault::Memory) => Err(AllocError),
+    }
+}
+
+/// The bytes of the file of this path, of which there may be at most 67,108,864. It is not opened where it is no regular
+/// file.
+pub fn read_file<S: Shelf>(shelf: &S, alloc: Global, path: &[u8]) -> Result<Vec<u8>, ReadFault>
+    ensures within { IfOk result (λ bytes. vec_len bytes ≤ TEXT_LIMIT) }
+    ensures told { IfOk result (λ bytes. GivesTold (S.held shelf.now [] path.now) bytes.items) }
+    ensures fault { IfErr result (RefusesFile TEXT_LIMIT (S.held shelf.now [] path.now)) }
+{
+    if !shelf.is_file(alloc, "", path)? {
+        return Err(ReadFault::Read);
+    }
+    shelf.read(alloc, "", path, TEXT_LIMIT)
+}
+
+fn hear_file<S: Shelf>(shelf: &S, alloc: Global, path: &[u8]) -> Result<Heard, AllocError>
+    ensures { IfOk result (HearsFile (S.held shelf.now [] path.now)) }
+{
+    heard_of(read_file(shelf, alloc, path))
+}
+
+fn hear_input<I: Read>(alloc: Global, input: &mut Watched<I>) -> Result<Heard, AllocError>
+    ensures heard { IfOk result
+        (λ heard. HearsInput heard (source I.remaining input.old) (source I.remaining input.new)) }
+    ensures taken { ConsumesAtMost (TEXT_LIMIT + 1)
+        (I.remaining (inner_of input.old)) (I.remaining (inner_of input.new)) }
+{
+    heard_of(read_all(alloc, input, TEXT_LIMIT))
+}
+
+/// Whether a word stands for standard input: `-` does. Every other word is the path of a file.
+pub fn is_input(word: &str) -> bool
+    ensures { result ≡ is_input word.now }
+{
+    word == "-"
+}
+
+/// What is got of a word: of `-` what standard input has left, up to its end; of any other word the bytes of the file
+/// of this path, which is not opened where it is no regular file. `AllocError` is answered where a growth was refused.
+///
+/// Standard input may be read more than once, and gives what it then has left. What files hold is the shelf's word:
+/// each is looked for by its path alone, in the folder without a name. A disk tells nothing.
+pub fn hear<S: Shelf, I: Read>(
+    shelf: &S,
+    alloc: Global,
+    word: &str,
+    input: &mut Watched<I>,
+) -> Result<Heard, AllocError>
+    ensures heard { IfOk result (λ heard. Hears (S.held shelf.now []) word.now heard
+        (source I.remaining input.old) (source I.remaining input.new)) }
+    ensures taken { ConsumesAtMost (TEXT_LIMIT + 1)
+        (I.remaining (inner_of input.old)) (I.remaining (inner_of input.new)) }
+{
+    if is_input(word) {
+        hear_input(alloc, input)
+    } else {
+        hear_file(shelf, alloc, word.as_bytes())
+    }
+}

@@ -1,0 +1,91 @@
+//! What is told of what was got.
+ghost use Rattle.std.specs.Prelude.{◌≡◌, ◌≤◌, IfOk};
+ghost use Rattle.census_blocks.specs.Blocks.{block_of};
+ghost use Rattle.census_identify.specs.Telling.{headed, message_line, told_of, told_of_block};
+
+use crate::bytes::Bytes;
+use crate::heard::{Heard, is_input};
+use census_blocks::block::block;
+use census_blocks::known::BOUND_LIMIT;
+use life_faults::told::fault_line;
+use std::alloc::{AllocError, Global};
+
+/// What is told of one text.
+#[derive(Drop)]
+pub enum Told {
+    /// A block of lines, for standard output.
+    Block(Bytes),
+    /// A line, for standard error.
+    Line {
+        /// Its bytes.
+        line: Bytes,
+        /// The exit status that it asks for.
+        status: u8,
+    },
+}
+
+// The line `census: WORD:`, the message, and LF.
+fn message_line(alloc: Global, word: &str, message: &[u8]) -> Result<Bytes, AllocError>
+    ensures { IfOk result (λ line. line ≡ message_line word.now message.now) }
+{
+    let mut line = Vec::new(alloc);
+    line.extend_from_slice(b"census: ")?;
+    line.extend_from_slice(word.as_bytes())?;
+    line.extend_from_slice(b":")?;
+    line.extend_from_slice(message)?;
+    line.extend_from_slice(b"\n")?;
+    Ok(Bytes::new(line))
+}
+
+// The lines of a block, behind the line `file WORD` where the word stands for a file.
+fn headed(alloc: Global, word: &str, block: &[u8]) -> Result<Bytes, AllocError>
+    ensures { IfOk result (λ bytes. bytes ≡ headed word.now block.now) }
+{
+    let mut bytes = Vec::new(alloc);
+    if !is_input(word) {
+        bytes.extend_from_slice(b"file ")?;
+        bytes.extend_from_slice(word.as_bytes())?;
+        bytes.extend_from_slice(b"\n")?;
+    }
+    bytes.extend_from_slice(block)?;
+    Ok(Bytes::new(bytes))
+}
+
+// What is told of a text.
+fn told_of_text(alloc: Global, word: &str, text: &[u8], bound: u32) -> Result<Told, AllocError>
+    requires { 1 ≤ bound × bound ≤ BOUND_LIMIT }
+    ensures { IfOk result (λ told.
+        told ≡ told_of_block word.now text.now (block_of bound text.now)) }
+{
+    match block(alloc, text, bound)? {
+        Ok(block) => Ok(Told::Block(headed(alloc, word, block.as_slice())?)),
+        Err(fault) => Ok(Told::Line {
+            line: message_line(alloc, word, fault_line(alloc, text, &fault)?.as_slice())?,
+            status: 1,
+        }),
+    }
+}
+
+/// What is told of a word, by what was got of it. The bound is 1 to 100,000 generations. `AllocError` is answered where a
+/// growth was refused.
+///
+/// Of a text that means a pattern it is its block, after the line `file WORD` where the word isn't `-`. Of any other
+/// text it is the line `census: WORD:LINE:COLUMN: WORDS (rle fault N at A)`, which asks for status 1; of one that is too
+/// long the line `census: WORD: input too long`, which asks for status 1; and of what can't be read the line
+/// `census: WORD: read failed`, which asks for status 4. The word is written as it is.
+pub fn told_of(alloc: Global, word: &str, heard: &Heard, bound: u32) -> Result<Told, AllocError>
+    requires { 1 ≤ bound × bound ≤ BOUND_LIMIT }
+    ensures { IfOk result (λ told. told ≡ told_of bound word.now heard.now) }
+{
+    match heard {
+        Heard::Text(text) => told_of_text(alloc, word, text.as_slice(), bound),
+        Heard::TooLong => Ok(Told::Line {
+            line: message_line(alloc, word, b" input too long")?,
+            status: 1,
+        }),
+        Heard::Unread => Ok(Told::Line {
+            line: message_line(alloc, word, b" read failed")?,
+            status: 4,
+        }),
+    }
+}

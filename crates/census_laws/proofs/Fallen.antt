@@ -1,0 +1,102 @@
+-- A pattern falls apart exactly where its answer says so.
+use Rattle.std.proofs.Common.{◌≡◌, ℕ, ◌*◌, List, Option, Some, None, Result, Ok, Err, map, refl, sym, ap, ◌∙◌}
+use Rattle.std.specs.List.Sorted.{IsPermutation}
+use Rattle.census_bundle.specs.declared.bundle.Entry.{Entry}
+use Rattle.life_answer.specs.Census.{census_found, census_of, part_code}
+use Rattle.life_answer.specs.Parts.{counted_codes}
+use Rattle.life_answer.specs.Questions.{answer_to, answer_to_question, finding_to}
+use Rattle.life_answer.specs.declared.finding.Answer.{Answer}
+use Rattle.life_answer.specs.declared.finding.Answer.TheVariants.{Found}
+use Rattle.life_answer.specs.declared.finding.Finding.{Finding}
+use Rattle.life_answer.specs.declared.finding.Finding.TheVariants.{Ash, Large}
+use Rattle.life_answer.specs.declared.part.Part.{Part}
+use Rattle.life_answer.specs.declared.question.Question.TheVariants.{Objects}
+use Rattle.life_answer.proofs.Limits.{limited-else, limited-same}
+use Rattle.life_answer.proofs.Texts.{answer-found}
+use Rattle.life_decided.specs.Decided.{ash_of}
+use Rattle.life_decided.proofs.Deciding.{ash_if_found}
+use Rattle.life_decided.proofs.Lasting.{parts_found}
+use Rattle.life_model.specs.Evolution.{generation}
+use Rattle.life_model.specs.Generation.{Generation, size}
+use Rattle.life_model.specs.Rule.{Rule}
+use Rattle.life_text.specs.declared.rle.RleFault.{RleFault}
+use Rattle.life_text.specs.Picture.{Picture, picture_of}
+use Rattle.life_text.specs.Rle.{reading}
+use Rattle.census_laws.specs.Fallen.{FallsApart}
+
+-- ---- what is found of a set that falls apart
+
+census_some : (R : Rule) (G : Generation) (b : ℕ) (found : List Generation) → ash_of R b (generation R G b) ≡ Some found
+    → census_of R G b ≡ Ash (size G) (counted_codes (map (part_code R b) found))
+unfolding census_of
+census_some R G b found e = ap (census_found R b (size G)) e
+
+some_found : (R : Rule) (b population cells : ℕ) (parts : List Part) (o : Option (List Generation))
+    → census_found R b cells o ≡ Ash population parts → (found : List Generation) × (o ≡ Some found)
+some_found R b population cells parts None e = absurd cc
+some_found R b population cells parts (Some found) e = (found, refl)
+
+ash_found : (R : Rule) (G : Generation) (b population : ℕ) (parts : List Part) → census_of R G b ≡ Ash population parts
+    → (found : List Generation) × (ash_of R b (generation R G b) ≡ Some found)
+unfolding census_of
+ash_found R G b population parts e = some_found R b population (size G) parts (ash_of R b (generation R G b)) e
+
+same_finding : (r s : Rule) (f g : Finding) → Found r f ≡ Found s g → f ≡ g
+same_finding r s f g e = cc
+
+not_large : (p : ℕ) (parts : List Part) (population first : ℕ) → Ash p parts ≡ Large population first → ⊥
+not_large p parts population first e = cc
+
+module _ (bound : ℕ) (most : Option ℕ) (e : Entry) where
+  abbrev pub answer_in : Answer
+  answer_in = answer_to_question (Objects bound most) e.text
+
+  -- ---- a pattern that falls apart is said to
+
+  -- the parts in the order in which they are found
+  pub record IsSaid (f : FallsApart bound most e) : Type 0 where
+    pub found : List Generation
+    pub order : IsPermutation f.parts found
+    pub is : answer_in ≡ Found f.rule (Ash (size f.cells) (counted_codes (map (part_code f.rule bound) found)))
+
+  pub to_say : (f : FallsApart bound most e) → IsSaid f
+  to_say f =
+      let parts = parts_found f.rule bound (generation f.rule f.cells bound) f.parts f.ash in
+      record {
+        found = parts.0;
+        order = parts.2;
+        is = answer-found (Objects bound most) e.text (record { rule = f.rule; cells = f.cells }) f.reads
+            ∙ ap (Found f.rule)
+            (limited-same f.rule f.cells (3 * bound) most (census_of f.rule f.cells bound) f.small
+            ∙ census_some f.rule f.cells bound parts.0 parts.1);
+      }
+
+  -- ---- and one that is said to does
+
+  answer_by : (r : Result Picture RleFault) → picture_of (reading e.text) ≡ r
+      → answer_in ≡ answer_to (Objects bound most) r
+  unfolding answer_to_question
+  answer_by r read = ap (answer_to (Objects bound most)) read
+
+  said_by : (rule : Rule) (population : ℕ) (parts : List Part) → answer_in ≡ Found rule (Ash population parts)
+      → (r : Result Picture RleFault) → picture_of (reading e.text) ≡ r → FallsApart bound most e
+  said_by rule population parts is (Err fault) read = absurd (let fails = sym is ∙ answer_by (Err fault) read in cc)
+  said_by rule population parts is (Ok pattern) read =
+      let R = pattern.rule in
+      let G = pattern.cells in
+      let ash = Ash population parts in
+      let same = same_finding rule R ash (finding_to (Objects bound most) R G) (sym is ∙ answer_by (Ok pattern) read) in
+      let small = limited-else R G (3 * bound) most (census_of R G bound) ash (sym same) (not_large population parts) in
+      let found = ash_found R G bound population parts small.1 in
+      record {
+        rule = R;
+        cells = G;
+        reads = read;
+        parts = found.0;
+        ash = ash_if_found R bound (generation R G bound) found.0 found.1;
+        small = small.0;
+      }
+
+  pub said : (rule : Rule) (population : ℕ) (parts : List Part) → answer_in ≡ Found rule (Ash population parts)
+      → FallsApart bound most e
+  said rule population parts is = said_by rule population parts is (picture_of (reading e.text)) refl

@@ -1,0 +1,2 @@
+pub mod Fallen
+pub mod ObjectsOfAsh

@@ -1,0 +1,35 @@
+-- What is found of a pattern of which no generation may have more than some number of cells.
+use Rattle.std.specs.Prelude.{◌≤◌, ℕ, suc, Option, Some, None, nat_lt}
+use Rattle.life_model.specs.Rule.{Rule}
+use Rattle.life_model.specs.Generation.{Generation, size}
+use Rattle.life_model.specs.Evolution.{generation}
+use Rattle.life_answer.specs.Recurrence.{first_from}
+use Rattle.life_answer.specs.declared.finding.Finding.{Finding}
+use Rattle.life_answer.specs.declared.finding.Finding.TheVariants.{Large}
+
+-- the first generation from 0 to the last that has more cells than so many
+unfoldable pub first_larger : Rule → Generation → ℕ → ℕ → Option ℕ
+first_larger R G most last = first_from (λ n. nat_lt most (size (generation R G n))) 0 (suc last)
+
+-- the same where there is such a limit
+abbrev pub first_past : Option ℕ → Rule → Generation → ℕ → Option ℕ
+first_past None R G last = None
+first_past (Some most) R G last = first_larger R G most last
+
+-- what was found, unless a generation is too large
+abbrev pub unless_large : Finding → ℕ → Option ℕ → Finding
+unless_large found population None = found
+unless_large found population (Some n) = Large population n
+
+-- What was found, unless a generation from 0 to the last has more cells than it may have.
+abbrev pub limited : Option ℕ → Rule → Generation → ℕ → Finding → Finding
+limited limit R G last found = unless_large found (size G) (first_past limit R G last)
+
+-- so many cells are allowed
+abbrev pub IsAllowed : Option ℕ → ℕ → Type 0
+IsAllowed None count = Unit {0}
+IsAllowed (Some most) count = count ≤ most
+
+-- no generation from 0 to the last has more cells than it may have
+abbrev pub StaysWithin : Option ℕ → Rule → Generation → ℕ → Type 0
+StaysWithin limit R G last = (n : ℕ) → n ≤ last → IsAllowed limit (size (generation R G n))

@@ -1,9 +1,0 @@
-use Rattle.std.proofs.Common.{◌≡◌}
-use Rattle.life_model.specs.Evolution.{generation}
-use Rattle.life_ash.proofs.pattern.ash.Given as goal
-
-abbrev pub invariant-loop-age : goal.invariant-loop-age
-invariant-loop-age g l = record {
-  members : g.P.Plane.members l.plane ≡ generation l.rule l.cells l.age;
-  aged : g.P.Plane.steps_made l.plane ≡ l.age;
-}

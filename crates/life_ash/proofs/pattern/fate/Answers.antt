@@ -1,0 +1,129 @@
+use Rattle.std.proofs.Common.{◌≡◌, ◌+◌, ◌*◌, ◌-◌, ◌≤◌, Some, refl, sym, ap, subst, ◌∙◌, true≢false, arith}
+use Rattle.std.proofs.lemmas.List.Elements.{All-same}
+use Rattle.life_model.specs.Evolution.{generation, next}
+use Rattle.life_model.specs.Generation.{size}
+use Rattle.life_model.proofs.Recurrences.{generation-zero, generation-next}
+use Rattle.life_answer.specs.Limited.{IsAllowed, first_past}
+use Rattle.life_objects.specs.Ash.{HasFallenApart, IsAsh}
+use Rattle.life_ash.specs.Fates.{IsFate}
+use Rattle.life_ash.specs.Parts.{IsOf, sets_of}
+use Rattle.life_ash.proofs.Finding.{of_none}
+use Rattle.life_ash.proofs.Later.{ash_until, of_later}
+use Rattle.life_ash.proofs.Limits.{allowed_next, none_before, past_here, past_later, past_nowhere_later, past_within}
+use Rattle.life_ash.proofs.pattern.fate.Goals as goal
+use Rattle.life_ash.proofs.pattern.fate.Goals.{in-Some-past, in-None, in-Some-3, in-None-2}
+
+pub loop-age-init : goal.loop-age-init
+loop-age-init g c = record {
+  members = c.in_ok-plane.ensures.cells ∙ sym (generation-zero c.args.rule.now c.args.cells.now);
+  aged = c.in_ok-plane.ensures.age;
+  before = none_before c.args.rule.now c.args.cells.now c.args.limit;
+}
+
+pub returns-then-not-has_few : goal.returns-then-not-has_few
+returns-then-not-has_few g c =
+    let R = c.args.rule.now in
+    let G = c.args.cells.now in
+    let age = c.loop-age.age in
+    let counted = ap size c.loop-age.invariant.members in
+    let before = c.loop-age-test.true in
+    past_here R G c.args.limit (3 * c.args.bound) age (omega arith) c.loop-age.invariant.before
+    (λ few. true≢false (sym (c.if-not-has_few.ensures.1 (subst (IsAllowed c.args.limit) (sym counted) few))))
+
+pub overflow_add-result : goal.overflow_add-result
+overflow_add-result g c =
+    let last = 3 * c.args.bound - c.loop-age.age in
+    let G = g.P.Plane.members c.loop-age.plane in
+    let n = c.in-Some-past.n in
+    let within : n ≤ last = past_within c.args.rule.now G c.args.limit last n (sym c.in_ok-past.ensures ∙ c.in-Some-past.is) in
+    let before = c.loop-age-test.true in
+    let bound = c.requires.bound.1 in
+    omega arith
+
+pub returns-in-Some : goal.returns-in-Some
+returns-in-Some g c =
+    let R = c.args.rule.now in
+    let G = c.args.cells.now in
+    let b = c.args.bound in
+    let age = c.loop-age.age in
+    let before = c.loop-age-test.true in
+    let reached = c.loop-age.invariant.members in
+    let past = ap (λ H. first_past c.args.limit R H (3 * b - age)) (sym reached) ∙ sym c.in_ok-past.ensures in
+    elim c.match-past.branch [
+      | in-Some-past w ↦
+          subst (IsFate R G b c.args.limit) (sym w.result-is)
+          (past_later R G c.args.limit (3 * b) age w.in-Some-past.n (omega arith) c.loop-age.invariant.before (past ∙ w.in-Some-past.is))
+      | in-None w ↦
+          let parts = c.in-Some.parts.items in
+          let found = rw c.in-Some.is at c.in_ok-parts.ensures.ash in
+          let of = rw c.in-Some.is at c.in_ok-parts.ensures.rule in
+          subst (IsFate R G b c.args.limit) (sym w.result-is) (
+            past_nowhere_later R G c.args.limit (3 * b) age (omega arith) c.loop-age.invariant.before (past ∙ w.in-None.is),
+            subst (λ os. HasFallenApart R b G (sets_of os)) (sym w.of.ensures)
+                (ash_until R b age G parts (omega arith) of (subst (λ H. IsAsh R b H (sets_of parts)) reached found)),
+            All-same (IsOf R) _ _ w.of.ensures (of_later R (b - age) parts of),
+          )
+    ]
+
+pub loop-age-preserved : goal.loop-age-preserved
+loop-age-preserved g c =
+    let R = c.args.rule.now in
+    let G = c.args.cells.now in
+    let age = c.loop-age.age in
+    let counted = ap size c.loop-age.invariant.members in
+    record {
+      members = c.in_ok-step.ensures.cells ∙ ap (next R) c.loop-age.invariant.members ∙ sym (generation-next R G age);
+      aged = c.in_ok-step.ensures.age ∙ ap (λ k. k + 1) c.loop-age.invariant.aged;
+      before = allowed_next R G c.args.limit age c.loop-age.invariant.before
+          (subst (IsAllowed c.args.limit) counted (c.if-not-has_few.ensures.0 refl));
+    }
+
+pub overflow_add-result-in-Some-2 : goal.overflow_add-result-in-Some-2
+overflow_add-result-in-Some-2 g c =
+    let last = 2 * c.args.bound in
+    let G = g.P.Plane.members c.loop-age.plane in
+    let n = c.in-Some-2.n in
+    let within : n ≤ last = past_within c.args.rule.now G c.args.limit last n (sym c.in_ok-n.ensures ∙ c.in-Some-2.is) in
+    let bound = c.requires.bound.1 in
+    omega arith
+
+pub returns-in-Some-2 : goal.returns-in-Some-2
+returns-in-Some-2 g c =
+    let R = c.args.rule.now in
+    let G = c.args.cells.now in
+    let b = c.args.bound in
+    let age = c.loop-age.age in
+    let ended = c.loop-age-test.false in
+    let end = c.loop-age.auto.age-end in
+    let same : age ≡ b = omega arith in
+    let rest : 2 * b ≡ 3 * b - age = omega arith in
+    let past = (λ i. first_past c.args.limit R (sym c.loop-age.invariant.members i) (sym rest i)) ∙ sym c.in_ok-n.ensures ∙ c.in-Some-2.is in
+    past_later R G c.args.limit (3 * b) age c.in-Some-2.n (omega arith) c.loop-age.invariant.before past
+    ∙ ap (λ k. Some (k + c.in-Some-2.n)) same
+
+pub returns : goal.returns
+returns g c =
+    let R = c.args.rule.now in
+    let G = c.args.cells.now in
+    let b = c.args.bound in
+    let age = c.loop-age.age in
+    let ended = c.loop-age-test.false in
+    let end = c.loop-age.auto.age-end in
+    let same : age ≡ b = omega arith in
+    let reached = c.loop-age.invariant.members ∙ ap (generation R G) same in
+    let rest : 2 * b ≡ 3 * b - age = omega arith in
+    let past = (λ i. first_past c.args.limit R (sym c.loop-age.invariant.members i) (sym rest i)) ∙ sym c.in_ok-n.ensures in
+    let small = past_nowhere_later R G c.args.limit (3 * b) age (omega arith) c.loop-age.invariant.before (past ∙ c.in_default-2.is) in
+    elim c.match-branch-9.branch [
+      | in-Some-3 w ↦
+          subst (IsFate R G b c.args.limit) (sym w.result-is) (
+            small,
+            subst (λ H. IsAsh R b H (sets_of w.in-Some-3.ash)) reached (rw w.in-Some-3.is at c.in_ok-ash.ensures.some),
+            rw w.in-Some-3.is at c.in_ok-ash.ensures.rule,
+          )
+      | in-None-2 w ↦
+          subst (IsFate R G b c.args.limit) (sym w.result-is) (
+            small,
+            λ parts fallen. of_none w.in-None-2.is c.in_ok-ash.ensures.none parts (subst (λ H. IsAsh R b H parts) (sym reached) fallen),
+          )
+    ]

@@ -1,0 +1,23 @@
+-- What becomes of a pattern of which no generation may have more than some number of cells.
+use Rattle.std.specs.Prelude.{◌≡◌, ℕ, ◌*◌, List, None, Option, Some}
+use Rattle.std.specs.List.{All}
+use Rattle.life_model.specs.Generation.{Generation}
+use Rattle.life_model.specs.Rule.{Rule}
+use Rattle.life_objects.specs.Ash.{HasFallenApart}
+use Rattle.life_answer.specs.Limited.{first_past}
+use Rattle.life_ash.specs.Parts.{IsOf, sets_of}
+use Rattle.life_ash.specs.declared.fate.Fate.{Fate}
+use Rattle.life_ash.specs.declared.fate.Fate.TheVariants.{Ash, Large, Unresolved}
+
+-- no generation from 0 to three times the bound is past the limit
+abbrev pub IsSmallEnough : Rule → Generation → ℕ → Option ℕ → Type 0
+IsSmallEnough R G b limit = first_past limit R G (3 * b) ≡ None
+
+-- This becomes of G within b: it falls apart into these parts or into none, or the first generation past the limit is
+-- this one.
+abbrev pub IsFate : Rule → Generation → ℕ → Option ℕ → Fate → Type 0
+IsFate R G b limit (Ash parts) =
+    IsSmallEnough R G b limit × HasFallenApart R b G (sets_of parts) × All (IsOf R) parts
+IsFate R G b limit Unresolved =
+    IsSmallEnough R G b limit × ((parts : List Generation) → HasFallenApart R b G parts → ⊥)
+IsFate R G b limit (Large n) = first_past limit R G (3 * b) ≡ Some n

@@ -1,0 +1,84 @@
+-- Classes that may be replaced by others, as they are joined.
+use Rattle.std.proofs.Common.{◌≡◌, ℕ, suc, ◌<◌, List, [], ◌∷◌, ◌++◌, length, get_or, take, drop, sym, ap, subst, ◌∙◌}
+use Rattle.std.proofs.Common.{append_assoc}
+use Rattle.std.specs.List.{remove}
+use Rattle.std.proofs.Math.Seq.{drop-cons}
+use Rattle.std.proofs.lemmas.List.{append-nil, take-append-drop}
+use Rattle.life_objects.specs.Apart.{AreApart}
+use Rattle.life_objects.specs.Union.{union}
+use Rattle.life_classes.specs.declared.class.Class.{Class}
+use Rattle.life_classes.specs.Tracking.{AreTracked, LeadTo}
+use Rattle.life_classes.proofs.Merging.{halves_tracked, in_turn}
+use Rattle.life_classes.proofs.Tracked.{to_front, from_front, joined_tracked}
+
+pub lead_same : (cs : List Class) → LeadTo cs cs
+lead_same cs R b n G rest h t = t
+
+pub lead_front : (c : Class) (cs ds : List Class) → LeadTo (cs ++ (c ∷ ds)) (c ∷ (cs ++ ds))
+lead_front c cs ds R b n G rest h t =
+    subst (λ es. AreTracked R b n G (c ∷ es)) (sym (append_assoc cs ds rest))
+    (to_front R b n G c cs (ds ++ rest) (subst (AreTracked R b n G) (append_assoc cs (c ∷ ds) rest) t))
+
+pub lead_back : (c : Class) (cs ds : List Class) → LeadTo (c ∷ (cs ++ ds)) (cs ++ (c ∷ ds))
+lead_back c cs ds R b n G rest h t =
+    subst (AreTracked R b n G) (sym (append_assoc cs (c ∷ ds) rest))
+    (from_front R b n G c cs (ds ++ rest)
+    (subst (λ es. AreTracked R b n G (c ∷ es)) (append_assoc cs ds rest) t))
+
+pub lead_end : (c : Class) (cs : List Class) → LeadTo (c ∷ cs) (cs ++ (c ∷ []))
+lead_end c cs = subst (λ es. LeadTo (c ∷ es) (cs ++ (c ∷ []))) (append-nil cs) (lead_back c cs [])
+
+-- ---- a class taken from others
+
+-- the last of those that are left goes before those that are done
+pub last_first : (done left less : List Class) (c : Class) → left ≡ less ++ (c ∷ []) →
+    LeadTo (done ++ left) ((c ∷ done) ++ less)
+last_first done left less c is =
+    subst (λ es. LeadTo es (c ∷ (done ++ less))) (append_assoc done less (c ∷ []) ∙ ap (λ es. done ++ es) (sym is))
+    (subst (λ es. LeadTo ((done ++ less) ++ (c ∷ [])) (c ∷ es)) (append-nil (done ++ less))
+    (lead_front c (done ++ less) []))
+
+parted : (cs : List Class) (n : ℕ) (d : Class) → n < length cs → d ≡ get_or cs n d →
+    cs ≡ take n cs ++ (d ∷ drop (suc n) cs)
+parted cs n d h at =
+    sym (take-append-drop n cs)
+    ∙ ap (λ es. take n cs ++ es) (drop-cons cs n d h ∙ ap (λ e. e ∷ drop (suc n) cs) (sym at))
+
+pub taken_first : (cs : List Class) (n : ℕ) (d : Class) → n < length cs → d ≡ get_or cs n d →
+    LeadTo cs (d ∷ remove cs n)
+taken_first cs n d h at =
+    subst (λ es. LeadTo es (d ∷ remove cs n)) (sym (parted cs n d h at)) (lead_front d (take n cs) (drop (suc n) cs))
+
+-- ---- two classes as one
+
+pub lead_joined : (c d e : Class) (cs : List Class) → e.first ≡ union d.first c.first → e.last ≡ union d.last c.last →
+    ¬ AreApart d.last c.last → LeadTo (d ∷ (c ∷ cs)) (e ∷ cs)
+lead_joined c d e cs first last meet R b n G rest h t = joined_tracked R b n G d c e (cs ++ rest) first last t h meet
+
+pub lead_gathered : (c d e : Class) (cs : List Class) (n : ℕ) → n < length cs → d ≡ get_or cs n d →
+    e.first ≡ union d.first c.first → e.last ≡ union d.last c.last → ¬ AreApart d.last c.last →
+    LeadTo (c ∷ cs) (e ∷ remove cs n)
+lead_gathered c d e cs n h at first last meet =
+    let rest = remove cs n in
+    let one = c ∷ [] in
+    in_turn (c ∷ cs) (c ∷ (d ∷ rest)) (e ∷ rest)
+    (halves_tracked one cs one (d ∷ rest) (lead_same one) (taken_first cs n d h at))
+    (in_turn (c ∷ (d ∷ rest)) (d ∷ (c ∷ rest)) (e ∷ rest) (lead_front d one rest)
+    (lead_joined c d e rest first last meet))
+
+-- ---- where one of two lists is replaced
+
+pub lead_all : (done done' left less : List Class) (c : Class) → left ≡ less ++ (c ∷ []) → LeadTo (c ∷ done) done' →
+    LeadTo (done ++ left) (done' ++ less)
+lead_all done done' left less c is leads =
+    in_turn (done ++ left) ((c ∷ done) ++ less) (done' ++ less) (last_first done left less c is)
+    (halves_tracked (c ∷ done) less done' less leads (lead_same less))
+
+pub lead_merged : (ones others others' : List Class) (n : ℕ) (c : Class) → n < length ones → c ≡ get_or ones n c →
+    LeadTo (c ∷ others) others' → LeadTo (ones ++ others) (remove ones n ++ others')
+lead_merged ones others others' n c h at leads =
+    let rest = remove ones n in
+    in_turn (ones ++ others) ((c ∷ rest) ++ others) (rest ++ others')
+    (halves_tracked ones others (c ∷ rest) others (taken_first ones n c h at) (lead_same others))
+    (in_turn ((c ∷ rest) ++ others) (rest ++ (c ∷ others)) (rest ++ others') (lead_back c rest others)
+    (halves_tracked rest (c ∷ others) rest others' (lead_same rest) leads))

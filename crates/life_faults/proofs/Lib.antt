@@ -1,0 +1,2 @@
+mod SentenceLemmas
+mod RefusedLemmas

@@ -1,0 +1,7 @@
+pub mod Places
+pub mod Rules
+pub mod Sentences
+pub mod Lines
+pub mod Refused
+pub use Rattle.life_text.specs.Rle
+pub use Rattle.life_cells.specs.Bytes

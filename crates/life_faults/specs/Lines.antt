@@ -1,0 +1,38 @@
+-- The lines that tell a fault.
+use Rattle.std.specs.Prelude.{ℕ, List, ◌++◌, Option, Some, None, codes, decimal}
+use Rattle.life_text.specs.declared.rle.RleFault.{RleFault}
+use Rattle.life_text.specs.declared.rle.RleFault.TheVariants.{NoHeader, BadHeader, RuleNotLifeLike, RuleHasB0, ManyStates, BadChar, BadRun, TooFar, TooMany, NoEnd, Memory}
+use Rattle.life_faults.specs.declared.place.Place.{Place}
+use Rattle.life_faults.specs.Places.{place_of}
+use Rattle.life_faults.specs.Sentences.{words_of}
+
+-- the number of a fault and its byte, counted from 0, where it has one
+abbrev pub number_of : RleFault → List ℕ
+number_of NoHeader = codes "rle fault 1"
+number_of BadHeader = codes "rle fault 2"
+number_of RuleNotLifeLike = codes "rle fault 3"
+number_of RuleHasB0 = codes "rle fault 4"
+number_of (ManyStates at) = codes "rle fault 5 at " ++ decimal at
+number_of (BadChar at) = codes "rle fault 6 at " ++ decimal at
+number_of (BadRun at) = codes "rle fault 7 at " ++ decimal at
+number_of (TooFar at) = codes "rle fault 8 at " ++ decimal at
+number_of (TooMany at) = codes "rle fault 9 at " ++ decimal at
+number_of NoEnd = codes "rle fault 10"
+number_of Memory = codes "out of memory"
+
+-- words, and a number behind them where there is one
+abbrev pub numbered : List ℕ → Option ℕ → List ℕ
+numbered words None = words
+numbered words (Some at) = words ++ decimal at
+
+-- `LINE:COLUMN: `
+abbrev pub place_text : Place → List ℕ
+place_text p = decimal p.line ++ codes ":" ++ decimal p.column ++ codes ": "
+
+-- `LINE:COLUMN: WORDS`
+abbrev pub sentence_line : List ℕ → RleFault → List ℕ
+sentence_line text fault = place_text (place_of text fault) ++ words_of text fault
+
+-- `LINE:COLUMN: WORDS (NUMBER)`
+abbrev pub fault_line : List ℕ → RleFault → List ℕ
+fault_line text fault = sentence_line text fault ++ codes " (" ++ number_of fault ++ codes ")"

@@ -1,0 +1,78 @@
+-- The sentence for each fault.
+use Rattle.std.specs.Prelude.{◌≡◌, ℕ, List, Option, Some, None, codes}
+use Rattle.life_text.specs.declared.rle.RleFault.{RleFault}
+use Rattle.life_text.specs.declared.rle.RleFault.TheVariants.{NoHeader, BadHeader, RuleNotLifeLike, RuleHasB0, ManyStates, BadChar, BadRun, TooFar, TooMany, NoEnd, Memory}
+use Rattle.life_faults.specs.Rules.{rule_in_header, rule_kind}
+use Rattle.life_faults.specs.declared.kinds.RuleKind.{RuleKind}
+use Rattle.life_faults.specs.declared.kinds.RuleKind.TheVariants.{Named, Bounded, Generations, LargerThanLife, NonTotalistic, Blank, Other}
+
+-- what is wrong, and what would be right
+abbrev pub sentence_of : RleFault → List ℕ
+sentence_of NoHeader = codes "there is no header line: the first line that is neither blank nor a comment must begin with `x`, as in `x = 3, y = 3`"
+sentence_of BadHeader = codes "the header line is malformed: it must have the form `x = 3, y = 3` or `x = 3, y = 3, rule = B3/S23`"
+sentence_of RuleNotLifeLike = codes "the rule has no Life-like form: it must be written as `B3/S23`, `S23/B3` or `23/3`, with digits from 0 to 8"
+sentence_of RuleHasB0 = codes "the rule has 0 among its births, so that cells come alive with no live neighbour: its births must be from 1 to 8"
+sentence_of (ManyStates at) = codes "a letter stands for neither of the two states: dead cells must be `b` or `.`, and live cells `o` or `A`"
+sentence_of (BadChar at) = codes "a byte has no meaning here: the body must be made of counts, `b`, `.`, `o`, `A`, `$`, `!` and blanks"
+sentence_of (BadRun at) = codes "a count is 0 or has nothing to count: it must be 1 or more and stand before a cell or `$`"
+sentence_of (TooFar at) = codes "a live cell is too far out: its column and its row, counted from 0, must be at most 1048575"
+sentence_of (TooMany at) = codes "there are too many live cells: a pattern must have at most 1048576"
+sentence_of NoEnd = codes "the text ends too early: its body must end with `!`"
+sentence_of Memory = codes "memory ran out: the text may be right, but more memory is needed to read it"
+
+-- the same for each kind of rule that is not Life-like
+abbrev pub rule_sentence_of : RuleKind → List ℕ
+rule_sentence_of Named = codes "the rule is given by a name: it must be a Life-like rule that is written out, as `B3/S23`"
+rule_sentence_of Bounded = codes "the rule has a bounded grid: it must end before the `:`, since patterns live on the unbounded plane here"
+rule_sentence_of Generations = codes "the rule is one of Generations, with a number of states: it must be Life-like, with two states, as `B3/S23`"
+rule_sentence_of LargerThanLife = codes "the rule is one of Larger than Life, with a range: it must be Life-like, with the eight nearest neighbours, as `B3/S23`"
+rule_sentence_of NonTotalistic = codes "the rule is isotropic non-totalistic, with letters for arrangements: it must count live neighbours alone, as `B3/S23`"
+rule_sentence_of Blank = codes "the rule has a blank inside: it must be written without blanks, as `B3/S23`"
+rule_sentence_of Other = codes "the rule has no Life-like form: it must be written as `B3/S23`, `S23/B3` or `23/3`, with digits from 0 to 8"
+
+-- the sentence for the rule of a header
+abbrev pub sentence_of_rule : Option (List ℕ) → List ℕ
+sentence_of_rule None = sentence_of RuleNotLifeLike
+sentence_of_rule (Some rule) = rule_sentence_of (rule_kind rule)
+
+-- the sentence for a fault of a text, which says of a rule that is not Life-like which kind it is
+abbrev pub words_of : List ℕ → RleFault → List ℕ
+words_of text RuleNotLifeLike = sentence_of_rule (rule_in_header text)
+words_of text NoHeader = sentence_of NoHeader
+words_of text BadHeader = sentence_of BadHeader
+words_of text RuleHasB0 = sentence_of RuleHasB0
+words_of text (ManyStates at) = sentence_of (ManyStates at)
+words_of text (BadChar at) = sentence_of (BadChar at)
+words_of text (BadRun at) = sentence_of (BadRun at)
+words_of text (TooFar at) = sentence_of (TooFar at)
+words_of text (TooMany at) = sentence_of (TooMany at)
+words_of text NoEnd = sentence_of NoEnd
+words_of text Memory = sentence_of Memory
+
+-- # No two have the same
+
+-- the fault without its byte
+abbrev pub placeless : RleFault → RleFault
+placeless NoHeader = NoHeader
+placeless BadHeader = BadHeader
+placeless RuleNotLifeLike = RuleNotLifeLike
+placeless RuleHasB0 = RuleHasB0
+placeless (ManyStates at) = ManyStates 0
+placeless (BadChar at) = BadChar 0
+placeless (BadRun at) = BadRun 0
+placeless (TooFar at) = TooFar 0
+placeless (TooMany at) = TooMany 0
+placeless NoEnd = NoEnd
+placeless Memory = Memory
+
+-- faults with one sentence differ in their byte at most
+abbrev pub SentencesDiffer : Type 0
+SentencesDiffer = (f g : RleFault) → sentence_of f ≡ sentence_of g → placeless f ≡ placeless g
+
+-- kinds of rules with one sentence are one
+abbrev pub RuleSentencesDiffer : Type 0
+RuleSentencesDiffer = (k l : RuleKind) → rule_sentence_of k ≡ rule_sentence_of l → k ≡ l
+
+-- whatever the texts: faults that are told by one sentence differ in their byte at most
+abbrev pub WordsDiffer : Type 0
+WordsDiffer = (text other : List ℕ) (f g : RleFault) → words_of text f ≡ words_of other g → placeless f ≡ placeless g

@@ -1,0 +1,94 @@
+-- What the first generations of a set tell of all those after them.
+use Rattle.std.proofs.Common.{◌≡◌, ℕ, zero, suc, ◌+◌, ◌-◌, ◌<◌, ◌≤◌, inl, inr, Option, None, Some, refl, sym, ap, subst, ◌∙◌, arith}
+use Rattle.std.proofs.lemmas.Bool.{cases_lt}
+use Rattle.life_model.specs.Cell.{Cell}
+use Rattle.life_model.specs.Rule.{Rule}
+use Rattle.life_model.specs.Generation.{Generation, size}
+use Rattle.life_model.specs.Evolution.{generation}
+use Rattle.life_model.specs.Recurrence.{Settles}
+use Rattle.life_model.proofs.Orbits.{along}
+use Rattle.life_model.proofs.Recurrences.{shape, shape-follows, shape_from_recurs, onset-period-le}
+use Rattle.life_answer.specs.declared.finding.Finding.{Finding}
+use Rattle.life_answer.specs.declared.finding.Finding.TheVariants.{Large, Unresolved}
+use Rattle.life_answer.specs.Answers.{finding_of}
+use Rattle.life_answer.specs.Limited.{IsAllowed, StaysWithin, first_past, limited, unless_large}
+use Rattle.life_answer.proofs.Findings.{finding-more, finding-nowhere, nowhere_by_finding, settled_or_not}
+use Rattle.life_answer.proofs.Limits.{first_past-is, limited-else, limited-same}
+use Rattle.life_answer.proofs.Sizes.{size_by_shape}
+
+module _ (R : Rule) (G : Generation) where
+  -- the first generation past the limit is the same whatever later ones are looked at
+  past_beyond : (limit : Option ℕ) (last bound n : ℕ) → last ≤ bound
+      → first_past limit R G last ≡ Some n → first_past limit R G bound ≡ Some n
+  past_beyond None last bound n h past = absurd cc
+  past_beyond (Some most) last bound n h past =
+      let first = (first_past-is R G last most n).0 past in
+      let within : n ≤ last = first.0 in
+      (first_past-is R G bound most n).1 (omega arith, first.1, first.2)
+
+  -- a set that is too large within some bound is so within any greater one
+  pub large_beyond : (limit : Option ℕ) (last bound : ℕ) (large found : Finding) → last ≤ bound
+      → ((other : Finding) → limited limit R G last other ≡ large) → limited limit R G bound found ≡ large
+  large_beyond limit last bound large found h all = by_first (first_past limit R G last) refl
+    where
+      by_first : (o : Option ℕ) → first_past limit R G last ≡ o → limited limit R G bound found ≡ large
+      by_first None e =
+          let one : Unresolved 0 ≡ large = ap (unless_large (Unresolved 0) (size G)) (sym e) ∙ all (Unresolved 0) in
+          let two : Large 0 0 ≡ large = ap (unless_large (Large 0 0) (size G)) (sym e) ∙ all (Large 0 0) in
+          absurd cc
+      by_first (Some n) e =
+          ap (unless_large found (size G)) (past_beyond limit last bound n h e ∙ sym e) ∙ all found
+
+  -- a set of which nothing is found in place of what is found without a limit stays within it
+  pub stays : (limit : Option ℕ) (last : ℕ) → ((other : Finding) → limited limit R G last other ≡ other)
+      → StaysWithin limit R G last
+  stays limit last all =
+      (limited-else R G last limit (Unresolved 0) (Unresolved 0) (all (Unresolved 0)) (λ population first e. cc)).0
+
+  module _ (b o p : ℕ) (d : Cell) (s : Settles R G b o p d) where
+    -- a generation that comes a period or more after the onset has as many cells as the one a period before it
+    size-before : (n : ℕ) → o + p ≤ n → size (generation R G (n - p)) ≡ size (generation R G n)
+    size-before n h =
+        let k : ℕ = n - (o + p) in
+        let again : shape R G (o + p) ≡ shape R G o = shape_from_recurs R G o p d s.recurs in
+        let here : (o + p) + k ≡ n = omega arith in
+        let before : o + k ≡ n - p = omega arith in
+        size_by_shape (generation R G (n - p)) (generation R G n)
+        (ap (shape R G) (sym before)
+        ∙ sym (along (shape R G) (shape-follows R G) k (o + p) o again)
+        ∙ ap (shape R G) here)
+
+    module _ (limit : Option ℕ) (small : StaysWithin limit R G b) where
+      allowed_before : (count n : ℕ) → n < count → IsAllowed limit (size (generation R G n))
+      allowed_before zero n h = absurd (omega arith)
+      allowed_before (suc count) n h =
+          let whole : o + p ≤ b = onset-period-le R G b o p d s in
+          let later : 1 ≤ p = s.recurs.later in
+          elim (cases_lt n (o + p)) [
+            | inl early ↦ small n (omega arith)
+            | inr late ↦ subst (IsAllowed limit) (size-before n late) (allowed_before count (n - p) (omega arith))
+          ]
+
+      -- where a set that settles stays within its limit until then, it does for ever
+      stays_beyond : (c : ℕ) → StaysWithin limit R G c
+      stays_beyond c n h = allowed_before (n + 1) n (omega arith)
+
+      settled_beyond : (c : ℕ) → b ≤ c → limited limit R G c (finding_of R G c) ≡ finding_of R G b
+      settled_beyond c h =
+          let whole : o + p ≤ b = onset-period-le R G b o p d s in
+          limited-same R G c limit (finding_of R G c) (stays_beyond c) ∙ finding-more R G b c o p d s (omega arith)
+
+  -- what is found of a set that stays within its limit is found within any greater bound, unless it is unresolved
+  pub found_beyond : (limit : Option ℕ) (b c : ℕ) → StaysWithin limit R G b
+      → (finding_of R G b ≡ Unresolved (size G) → ⊥) → b ≤ c
+      → limited limit R G c (finding_of R G c) ≡ finding_of R G b
+  found_beyond limit b c small resolved h =
+      elim (settled_or_not R G b) [
+        | inl found ↦ settled_beyond b found.onset found.period found.by found.settles limit small c h
+        | inr not ↦ absurd (resolved not.found)
+      ]
+
+  -- a set that is found unresolved is found so with its own population
+  pub unresolved_from : (b population : ℕ) → finding_of R G b ≡ Unresolved population
+      → finding_of R G b ≡ Unresolved (size G)
+  unresolved_from b population e = finding-nowhere R G b (λ g. nowhere_by_finding R G b population g e)

@@ -1,0 +1,64 @@
+//! Generations that have more cells than they may have.
+ghost use Rattle.std.specs.Prelude.{◌≡◌, ◌<◌, All, IfNone, IfOk, IfSome};
+ghost use Rattle.life_model.specs.Generation as generations;
+ghost use Rattle.life_cells.specs.Limits.{IsWithin};
+ghost use Rattle.life_answer.specs.Limited.{first_larger, limited};
+ghost use Rattle.life_answer.specs.declared.finding.Finding.{Finding as Found};
+
+use life_answer::finding::Finding;
+use life_cells::cell_list::CellList;
+use life_cells::rule::Rule;
+use life_plane::plane::{AGE_LIMIT, Plane};
+use std::alloc::{AllocError, Global};
+
+/// The first generation from 0 to the last that has more cells than so many. No generation after it is looked at.
+pub fn first_larger<P: Plane>(
+    alloc: Global,
+    rule: &Rule,
+    cells: &CellList,
+    most: u32,
+    last: u32,
+) -> Result<Option<u32>, AllocError>
+    requires fits { All (IsWithin 0) (generations.cells cells.now) }
+    requires last { last < AGE_LIMIT }
+    ensures { IfOk result (λ found. found ≡ first_larger rule.now cells.now most last) }
+{
+    let mut plane = P::from_cells(alloc, cells)?;
+    for n in 0..last {
+        if plane.population() > u64::from(most) {
+            return Ok(Some(n));
+        }
+        plane.step(rule)?;
+    }
+    if plane.population() > u64::from(most) {
+        return Ok(Some(last));
+    }
+    Ok(None)
+}
+
+/// What is found of cells of which some generation up to the last has more than it may have, whatever else would be found of
+/// them. Where any number is allowed, no generation is looked at.
+pub fn too_large<P: Plane>(
+    alloc: Global,
+    rule: &Rule,
+    cells: &CellList,
+    limit: Option<u32>,
+    last: u32,
+) -> Result<Option<Finding>, AllocError>
+    requires fits { All (IsWithin 0) (generations.cells cells.now) }
+    requires last { last < AGE_LIMIT }
+    ensures large { IfOk result (λ answer. IfSome answer (λ large. (found : Found) → limited limit rule.now cells.now last found ≡ large)) }
+    ensures small { IfOk result (λ answer. IfNone answer ((found : Found) → limited limit rule.now cells.now last found ≡ found)) }
+{
+    let Some(most) = limit else {
+        return Ok(None);
+    };
+    let Some(generation) = first_larger::<P>(alloc, rule, cells, most, last)? else {
+        return Ok(None);
+    };
+    let population = cells.len() as u64;
+    Ok(Some(Finding::Large {
+        population,
+        generation,
+    }))
+}

@@ -1,0 +1,129 @@
+//! Words that name files or standard input, and what is told of them.
+
+use census_folders::shelf::Shelf;
+use census_identify::identify::identify;
+use std::alloc::Global;
+use std::process::Abort;
+use std::test::Fail;
+use watched::reading::ReadFault;
+use watched::watched::Watched;
+
+const GLIDER: &[u8] = b"x = 3, y = 3, rule = B3/S23\nbo$2bo$3o!";
+
+const GLIDER_LINES: &str =
+    "rule B3/S23\npopulation 5\nbox 3 3\nonset 0\nperiod 4\ndisplacement 1 1\napgcode xq4_153\n";
+
+// Files by their paths. What is under no path is no regular file.
+struct Shown {
+    files: &'static [(&'static str, &'static [u8])],
+}
+
+const FILES: Shown = Shown {
+    files: &[
+        ("glider.rle", GLIDER),
+        ("block.rle", b"x = 2, y = 2\n2o$2o!"),
+        ("bad.rle", b"x = 3, y = 3\n3b?!"),
+    ],
+};
+
+impl Shelf for Shown {
+    fn list(&self, alloc: Global, _folder: &str) -> Result<Vec<u8>, ReadFault> {
+        Ok(Vec::new(alloc))
+    }
+
+    fn list_folders(&self, alloc: Global, _folder: &str) -> Result<Vec<u8>, ReadFault> {
+        Ok(Vec::new(alloc))
+    }
+
+    fn is_file(&self, _alloc: Global, _folder: &str, name: &[u8]) -> Result<bool, ReadFault> {
+        for (path, _) in self.files {
+            if path.as_bytes() == name {
+                return Ok(true);
+            }
+        }
+        Ok(false)
+    }
+
+    fn read(
+        &self,
+        alloc: Global,
+        _folder: &str,
+        name: &[u8],
+        limit: usize,
+    ) -> Result<Vec<u8>, ReadFault> {
+        for (path, bytes) in self.files {
+            if path.as_bytes() == name {
+                if bytes.len() > limit {
+                    return Err(ReadFault::TooLong);
+                }
+                return Ok(bytes.to_vec(alloc)?);
+            }
+        }
+        Err(ReadFault::Read)
+    }
+}
+
+// Whether these words are told so, where standard input has this text.
+fn check(
+    rt: &impl Abort,
+    alloc: Global,
+    words: &[&str],
+    input: &[u8],
+    wanted: (u8, &str, &str),
+) -> Result<(), Fail> {
+    let mut input = Watched::new(input);
+    let mut output = Watched::new(Vec::new(alloc));
+    let mut errors = Watched::new(Vec::new(alloc));
+    let status = identify(
+        &FILES,
+        alloc,
+        10_000,
+        words,
+        &mut input,
+        &mut output,
+        &mut errors,
+    );
+    let (wanted_status, wanted_output, wanted_errors) = wanted;
+    assert_eq!(rt; status, wanted_status);
+    let output = output.into_inner();
+    let errors = errors.into_inner();
+    assert_eq!(rt; output.as_slice(), wanted_output.as_bytes());
+    assert_eq!(rt; errors.as_slice(), wanted_errors.as_bytes());
+    Ok(())
+}
+
+#[test]
+fn standard_input(rt: HostRuntime) -> Result<(), Fail> {
+    check(&rt, rt.alloc(), &[], GLIDER, (0, GLIDER_LINES, ""))?;
+    check(&rt, rt.alloc(), &["-"], GLIDER, (0, GLIDER_LINES, ""))
+}
+
+#[test]
+fn two_files(rt: HostRuntime) -> Result<(), Fail> {
+    check(
+        &rt,
+        rt.alloc(),
+        &["block.rle", "glider.rle"],
+        b"",
+        (
+            0,
+            "file block.rle\nrule B3/S23\npopulation 4\nbox 2 2\nonset 0\nperiod 1\ndisplacement 0 0\napgcode xs4_33\n\nfile glider.rle\nrule B3/S23\npopulation 5\nbox 3 3\nonset 0\nperiod 4\ndisplacement 1 1\napgcode xq4_153\n",
+            "",
+        ),
+    )
+}
+
+#[test]
+fn a_file_that_cannot_be_read(rt: HostRuntime) -> Result<(), Fail> {
+    check(
+        &rt,
+        rt.alloc(),
+        &["none.rle", "-", "bad.rle"],
+        GLIDER,
+        (
+            4,
+            GLIDER_LINES,
+            "census: none.rle: read failed\ncensus: bad.rle:2:3: a byte has no meaning here: the body must be made of counts, `b`, `.`, `o`, `A`, `$`, `!` and blanks (rle fault 6 at 15)\n",
+        ),
+    )
+}

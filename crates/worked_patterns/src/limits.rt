@@ -1,0 +1,195 @@
+//! Patterns of which no generation may have more than some number of cells: a blinker, the pi-heptomino, and one cell
+//! that grows.
+
+use life_answer::finding::{Answer, Finding};
+use life_find::answer::answer;
+use life_find::find::find_limited;
+use life_find::limit::BOUND_LIMIT;
+use life_plane::list_plane::ListPlane;
+use life_text::rle::read_rle;
+use std::alloc::Global;
+use std::process::Abort;
+use std::test::Fail;
+
+/// A pattern, a bound, and how many cells a generation may have; and what is known of it: its population, its onset,
+/// period and code where it settles within the bound and the limit, and the first generation past the limit where
+/// there is one.
+#[derive(Clone, Copy)]
+struct Example {
+    text: &'static [u8],
+    bound: u32,
+    most: u32,
+    population: u64,
+    settled: Option<(u32, u32, &'static [u8])>,
+    large: Option<u32>,
+}
+
+impl Example {
+    // Whether this was found.
+    fn is_found(&self, finding: &Finding) -> bool {
+        match finding {
+            Finding::Recurs {
+                population,
+                onset,
+                period,
+                code,
+                ..
+            } => {
+                let found = (*onset, *period, code.as_slice());
+                *population == self.population && self.settled == Some(found)
+            }
+            Finding::Large {
+                population,
+                generation,
+            } => *population == self.population && self.large == Some(*generation),
+            Finding::Unresolved { population } => {
+                *population == self.population && self.settled.is_none() && self.large.is_none()
+            }
+            Finding::Ash { .. } => false,
+        }
+    }
+}
+
+// The answer to the text gives what is known of a pattern.
+fn check(rt: &impl Abort, alloc: Global, example: &Example) -> Result<(), Fail> {
+    let bound = example.bound;
+    assert!(rt; 1 <= bound && bound <= BOUND_LIMIT);
+    match &answer(alloc, example.text, bound, Some(example.most))? {
+        Answer::Found { finding, .. } => assert!(rt; example.is_found(finding)),
+        Answer::Refused(_) => assert!(rt; false),
+    }
+    Ok(())
+}
+
+// Each of these is found.
+fn check_all(rt: &impl Abort, alloc: Global, examples: &[Example]) -> Result<(), Fail> {
+    for example in examples {
+        check(rt, alloc, example)?;
+    }
+    Ok(())
+}
+
+const BLINKER: &[u8] = b"x = 3, y = 1\n3o!";
+
+#[test]
+fn a_blinker_has_three_cells_for_ever(rt: HostRuntime) -> Result<(), Fail> {
+    check_all(&rt, rt.alloc(), BLINKERS)
+}
+
+#[test]
+fn a_blinker_has_three_cells_on_the_list_plane(rt: HostRuntime) -> Result<(), Fail> {
+    for example in BLINKERS {
+        let bound = example.bound;
+        assert!(rt; 1 <= bound && bound <= BOUND_LIMIT);
+        let pattern = read_rle(rt.alloc(), example.text)?;
+        let finding = find_limited::<ListPlane>(rt.alloc(), &pattern, bound, Some(example.most))?;
+        assert!(rt; example.is_found(&finding));
+    }
+    Ok(())
+}
+
+const BLINKERS: &[Example] = &[
+    Example {
+        text: BLINKER,
+        bound: BOUND_LIMIT,
+        most: 3,
+        population: 3,
+        settled: Some((0, 2, b"xp2_7")),
+        large: None,
+    },
+    Example {
+        text: BLINKER,
+        bound: BOUND_LIMIT,
+        most: 2,
+        population: 3,
+        settled: None,
+        large: Some(0),
+    },
+];
+
+// From generation 173 on it is six blinkers, five blocks and two ponds. Its greatest generation is the 115th, of 201
+// cells.
+const PI: &[u8] = b"x = 3, y = 3\n3o$obo$obo!";
+
+const PI_CODE: &[u8] = b"xp2_y8s0111z6996yggg33zyk11z0cczypez066zykggzciicyg11oozy870ggg";
+
+#[test]
+fn a_pattern_settles_after_its_greatest_generation(rt: HostRuntime) -> Result<(), Fail> {
+    check_all(&rt, rt.alloc(), SETTLING)
+}
+
+const SETTLING: &[Example] = &[
+    Example {
+        text: PI,
+        bound: BOUND_LIMIT,
+        most: 201,
+        population: 7,
+        settled: Some((173, 2, PI_CODE)),
+        large: None,
+    },
+    Example {
+        text: PI,
+        bound: BOUND_LIMIT,
+        most: 200,
+        population: 7,
+        settled: None,
+        large: Some(115),
+    },
+    Example {
+        text: PI,
+        bound: 175,
+        most: 201,
+        population: 7,
+        settled: Some((173, 2, PI_CODE)),
+        large: None,
+    },
+    Example {
+        text: PI,
+        bound: 174,
+        most: 201,
+        population: 7,
+        settled: None,
+        large: None,
+    },
+    Example {
+        text: PI,
+        bound: 114,
+        most: 200,
+        population: 7,
+        settled: None,
+        large: None,
+    },
+];
+
+// No cell dies. The populations are 1, 9, 13, 33, .., 465 and 469 of generations 15 and 16, 489 and 509 of the next
+// two, and 7,301 of generation 64, the first past 7,300.
+const CELL: &[u8] = b"x = 1, y = 1, rule = B1/S012345678\no!";
+
+/// A bound, how many cells a generation may have, and the first generation past the limit, where there is one.
+const GROWTHS: &[(u32, u32, Option<u32>)] = &[
+    (BOUND_LIMIT, 0, Some(0)),
+    (BOUND_LIMIT, 8, Some(1)),
+    (BOUND_LIMIT, 9, Some(2)),
+    (BOUND_LIMIT, 468, Some(16)),
+    (BOUND_LIMIT, 469, Some(17)),
+    (BOUND_LIMIT, 7_300, Some(64)),
+    (64, 488, Some(17)),
+    (17, 488, Some(17)),
+    (16, 488, None),
+];
+
+#[test]
+fn a_growing_pattern_is_too_large_in_the_end(rt: HostRuntime) -> Result<(), Fail> {
+    for (bound, most, large) in GROWTHS {
+        let example = Example {
+            text: CELL,
+            bound: *bound,
+            most: *most,
+            population: 1,
+            settled: None,
+            large: *large,
+        };
+        check(&rt, rt.alloc(), &example)?;
+    }
+    Ok(())
+}
