@@ -1,18 +1,19 @@
 -- Two sets that recur, at one time.
-use Rattle.std.proofs.Common.{◌≡◌, ℕ, ◌+◌, ◌/◌, ◌%◌, true, List, inl, inr, sym, ap, subst, ◌∙◌, mod-lt, arith}
+use Rattle.std.proofs.Common.{◌≡◌, ℕ, zero, suc, ◌+◌, ◌/◌, ◌%◌, true, List, inl, inr, sym, refl, ap, subst, ◌∙◌}
+use Rattle.std.proofs.Common.{mod-lt, arith}
 use Rattle.std.proofs.lemmas.Bool.{cases_lt}
 use Rattle.std.proofs.lemmas.Int.{ints}
 use Rattle.std.specs.List.{list_any}
-use Rattle.life_model.specs.Cell.{Cell, opposite, plus, same_cell}
+use Rattle.life_model.specs.Cell.{Cell, opposite, origin, plus, same_cell}
 use Rattle.life_model.specs.Evolution.{generation}
 use Rattle.life_model.specs.Generation.{Generation, cells, contains}
 use Rattle.life_model.specs.Recurrence.{RecursBy}
 use Rattle.life_model.specs.Rule.{Rule}
 use Rattle.life_model.specs.Symmetry.{moved}
 use Rattle.life_model.proofs.Generations.{contains-cells}
-use Rattle.life_model.proofs.Cells.{plus-opposite}
+use Rattle.life_model.proofs.Cells.{pair, plus-opposite}
 use Rattle.life_model.proofs.Symmetries.{contains-moved}
-use Rattle.life_objects.specs.Apart.{AreApart, AreApartBefore, AreNear}
+use Rattle.life_objects.specs.Apart.{AreApart, AreApartBefore, AreApartForEver, AreNear}
 use Rattle.life_objects.specs.Drift.{times}
 use Rattle.life_objects.proofs.Moving.{generation-wrapped}
 use Rattle.life_orbit.specs.Clear.{AreClear, IsClearOf}
@@ -126,6 +127,21 @@ module _ (o w : Course) (rule : o.rule ≡ w.rule) (is_o : IsCourse o) (is_w : I
       apart_by_phases (λ c d in_P in_Q near.
       far c d (in_g (t % o.period) c (mod-lt t is_o.recurs.later) in_P)
       (in_h (t % w.period) d (mod-lt t is_w.recurs.later) in_Q) near)
+
+-- what moves nowhere is nowhere else after any number of moves
+still : (k : ℕ) (d : Cell) → d ≡ origin → times k d ≡ origin
+still zero d rests = refl
+still (suc k) d rests = (λ i. plus (still k d rests i) (rests i)) ∙ pair (omega (arith, ints)) (omega (arith, ints))
+
+-- two sets that stay where they are, with boxes that are far from each other
+pub apart_at_rest : (o w : Course) → o.rule ≡ w.rule → IsCourse o → IsCourse w → (g h : Hull) → IsHullOf g o →
+    IsHullOf h w → o.displacement ≡ origin → w.displacement ≡ origin → AreFar g origin h →
+    AreApartForEver o.rule o.set w.set
+apart_at_rest o w rule is_o is_w g h in_g in_h rests other_rests far t =
+    apart_by_hulls o w rule is_o is_w t origin
+    (sym ((λ i. plus (still (t / o.period) o.displacement rests i)
+    (opposite (still (t / w.period) w.displacement other_rests i))) ∙ pair (omega (arith, ints)) (omega (arith, ints))))
+    g h in_g in_h far
 
 pub before_more : (R : Rule) (P Q : Generation) (n : ℕ) → AreApartBefore R n P Q →
     AreApart (generation R P n) (generation R Q n) → AreApartBefore R (n + 1) P Q

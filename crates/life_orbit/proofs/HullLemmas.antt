@@ -1,14 +1,11 @@
 -- Boxes that are widened.
-use Rattle.std.proofs.Common.{◌≡◌, ℕ, pos, ◌+ℤ◌, ◌≤ℤ◌, ◌+◌, List, inl, inr, sym, ap, ◌∙◌, arith}
+use Rattle.std.proofs.Common.{◌≡◌, pos, ◌+ℤ◌, ◌≤ℤ◌, List, sym, ap, ◌∙◌, arith}
 use Rattle.std.specs.List.{All, list_any}
-use Rattle.std.proofs.lemmas.Bool.{cases_lt}
 use Rattle.std.proofs.lemmas.Int.{ints}
 use Rattle.life_model.specs.Cell.{Cell, same_cell}
-use Rattle.life_model.specs.Evolution.{generation}
 use Rattle.life_model.specs.Generation.{Generation, cells}
 use Rattle.life_model.proofs.Generations.{contains-cells}
-use Rattle.life_orbit.specs.Course.{Course}
-use Rattle.life_orbit.specs.Hulls.{AreFar, HoldsPhases, IsInside, IsPartOf}
+use Rattle.life_orbit.specs.Hulls.{AreFar, HasAll, IsInside, IsPartOf}
 use Rattle.life_orbit.specs.declared.hull.Hull.{Hull}
 use Rattle.life_orbit.proofs.Lists.{of_member}
 
@@ -36,17 +33,13 @@ inside_wider a b c h k = record {
   below = omega (arith, ints);
 }
 
-pub more_phases : (o : Course) (h w : Hull) (n : ℕ) (P : Generation) (cs : List Cell) → HoldsPhases h o n →
-    IsPartOf h w → P ≡ generation o.rule o.set n → cs ≡ cells P → All (IsInside w) cs → HoldsPhases w o (n + 1)
-more_phases o h w n P cs so_far wider is listed all k c below in_it =
-    elim (cases_lt k n) [
-      | inl before ↦ inside_wider h w c wider (so_far k c before in_it)
-      | inr after ↦
-          let last : k ≡ n = omega arith in
-          of_member (IsInside w) cs all c
-          (ap (λ l. list_any (same_cell c) l) (listed ∙ ap cells (is ∙ ap (generation o.rule o.set) (sym last)))
-          ∙ sym (contains-cells (generation o.rule o.set k) c) ∙ in_it)
-    ]
+pub has_all_of : (h : Hull) (P : Generation) (cs : List Cell) → cs ≡ cells P → All (IsInside h) cs → HasAll h P
+has_all_of h P cs listed all c in_it =
+    of_member (IsInside h) cs all c
+    (ap (λ l. list_any (same_cell c) l) listed ∙ sym (contains-cells P c) ∙ in_it)
+
+pub wider_has_all : (h w : Hull) (P : Generation) → IsPartOf h w → HasAll h P → HasAll w P
+wider_has_all h w P wider all c in_it = inside_wider h w c wider (all c in_it)
 
 -- ---- boxes with a gap between them
 

@@ -10,9 +10,9 @@ use Rattle.life_model.proofs.Cells.{same_cell-is}
 use Rattle.life_model.proofs.Moves.{same_cell_itself}
 
 -- of each before one, and of that one
-pub all_more : (P : Cell → Type 0) (xs : List Cell) (i : ℕ) (e : Cell) → i < length xs →
-    ((k : ℕ) (d : Cell) → k < i → P (get_or xs k d)) → P (get_or xs i e) →
-    (k : ℕ) (d : Cell) → k < i + 1 → P (get_or xs k d)
+pub all_more : {A : Type 0} (P : A → Type 0) (xs : List A) (i : ℕ) (e : A) → i < length xs →
+    ((k : ℕ) (d : A) → k < i → P (get_or xs k d)) → P (get_or xs i e) →
+    (k : ℕ) (d : A) → k < i + 1 → P (get_or xs k d)
 all_more P xs i e h so_far here k d below =
     elim (cases_lt k i) [
       | inl before ↦ so_far k d before

@@ -2,7 +2,7 @@
 use Rattle.std.specs.Prelude.{◌≡◌, ℕ, ◌<◌, true, ◌≤ℤ◌}
 use Rattle.life_model.specs.Cell.{Cell, plus}
 use Rattle.life_model.specs.Evolution.{generation}
-use Rattle.life_model.specs.Generation.{contains}
+use Rattle.life_model.specs.Generation.{Generation, contains}
 use Rattle.life_objects.specs.Apart.{AreNear}
 use Rattle.life_orbit.specs.Course.{Course}
 use Rattle.life_orbit.specs.declared.hull.Hull.{Hull}
@@ -25,10 +25,10 @@ pub record IsPartOf (a b : Hull) : Type 0 where
 abbrev pub AreFar : Hull → Cell → Hull → Type 0
 AreFar a by b = (c d : Cell) → IsInside a c → IsInside b d → AreNear (plus c by) d → ⊥
 
--- the box has all cells of the first n generations
-abbrev pub HoldsPhases : Hull → Course → ℕ → Type 0
-HoldsPhases h o n = (k : ℕ) (c : Cell) → k < n → contains (generation o.rule o.set k) c ≡ true → IsInside h c
+-- the box has all cells of the set
+abbrev pub HasAll : Hull → Generation → Type 0
+HasAll h G = (c : Cell) → contains G c ≡ true → IsInside h c
 
 -- the box has all cells of all generations over a period
 abbrev pub IsHullOf : Hull → Course → Type 0
-IsHullOf h o = HoldsPhases h o o.period
+IsHullOf h o = (k : ℕ) (c : Cell) → k < o.period → contains (generation o.rule o.set k) c ≡ true → IsInside h c

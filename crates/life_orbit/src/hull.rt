@@ -1,11 +1,10 @@
 //! Boxes around cells.
 ghost use Rattle.std.specs.Prelude.{◌^◌, All, pos, neg_ℤ, ◌+ℤ◌, ◌≤ℤ◌};
 ghost use Rattle.std.specs.Bool.{OnTrue};
-ghost use Rattle.life_orbit.specs.Hulls.{AreFar, IsHullOf, IsInside, IsPartOf};
+ghost use Rattle.life_orbit.specs.Hulls.{AreFar, HasAll, IsInside, IsPartOf};
 ghost use Rattle.life_orbit.specs.Reach.{IsReach};
 
-use crate::orbit::Orbit;
-use life_cells::corner::corner;
+use life_cells::cell_list::CellList;
 
 /// The least and the greatest places of some cells.
 #[derive(Clone, Copy)]
@@ -41,20 +40,18 @@ fn with_cells(hull: Hull, cells: &[(i32, i32)]) -> Hull
     wider
 }
 
-/// A box that has all cells of all generations over a period.
-pub fn hull_of(orbit: &Orbit) -> Hull
-    ensures { IsHullOf result orbit.now }
+/// A box that has all cells of some sets, and a place.
+pub fn hull_of(place: (i32, i32), sets: &[CellList]) -> Hull
+    ensures { All (HasAll result) sets.now }
 {
-    let period = orbit.period();
-    let (x, y) = corner(orbit.phase(0).as_slice());
     let mut hull = Hull {
-        left: x,
-        right: x,
-        top: y,
-        bottom: y,
+        left: place.0,
+        right: place.0,
+        top: place.1,
+        bottom: place.1,
     };
-    for n in 0..period {
-        hull = with_cells(hull, orbit.phase(n).as_slice());
+    for set in sets {
+        hull = with_cells(hull, set.as_slice());
     }
     hull
 }

@@ -2,7 +2,7 @@
 #![tactic(auto)]
 
 mod horizon;
-mod hull;
+pub mod hull;
 mod meeting;
 mod near;
 pub mod orbit;

@@ -5,7 +5,7 @@ ghost use Rattle.life_objects.specs.Apart.{AreApart, AreApartForEver};
 ghost use Rattle.life_orbit.specs.Hulls.{IsHullOf};
 
 use crate::horizon::horizon;
-use crate::hull::{Hull, are_far, hull_of};
+use crate::hull::{Hull, are_far};
 use crate::near::are_clear;
 use crate::orbit::Orbit;
 use crate::shift::way_at;
@@ -38,14 +38,31 @@ fn is_apart_at(orbit: &Orbit, hull: Hull, other: &Orbit, other_hull: Hull, time:
     )
 }
 
+/// Whether two sets that stay where they are have boxes that are far from each other.
+fn rest_apart(orbit: &Orbit, other: &Orbit) -> bool
+    requires { orbit.now.rule ≡ other.now.rule }
+    ensures { IsTrue result → AreApartForEver orbit.now.rule orbit.now.set other.now.set }
+{
+    if orbit.displacement() != (0, 0) {
+        return false;
+    }
+    if other.displacement() != (0, 0) {
+        return false;
+    }
+    are_far(orbit.hull(), (0, 0), other.hull())
+}
+
 impl Orbit {
     /// Whether the two sets stay apart for ever.
     pub fn is_apart_for_ever_from(&self, other: &Orbit) -> bool
         requires { self.now.rule ≡ other.now.rule }
         ensures { IsTrue result ↔ AreApartForEver self.now.rule self.now.set other.now.set }
     {
-        let hull = hull_of(self);
-        let other_hull = hull_of(other);
+        if rest_apart(self, other) {
+            return true;
+        }
+        let hull = self.hull();
+        let other_hull = other.hull();
         for time in 0..horizon(self, hull, other, other_hull) {
             if !is_apart_at(self, hull, other, other_hull, time) {
                 return false;

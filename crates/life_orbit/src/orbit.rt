@@ -5,9 +5,12 @@ ghost use Rattle.life_model.specs.Generation as generations;
 ghost use Rattle.life_cells.specs.Limits.{IsWithin};
 ghost use Rattle.life_objects.specs.Ash.{RecursWithin};
 ghost use Rattle.life_orbit.specs.Course.{IsCourse};
+ghost use Rattle.life_orbit.specs.Hulls.{IsHullOf};
 
+use crate::hull::{Hull, hull_of};
 use crate::walk::{copied, next_list, way};
 use life_cells::cell_list::CellList;
+use life_cells::corner::corner;
 use life_cells::rule::Rule;
 use std::alloc::{AllocError, Global};
 use std::marker::Model;
@@ -15,18 +18,20 @@ use std::marker::Model;
 /// The greatest number of generations within which a set is looked for again.
 pub const BOUND_LIMIT: u32 = 100_000;
 
-/// A set of cells that recurs: its generations over one period, and how far it has moved then.
+/// A set of cells that recurs: its generations over one period, how far it has moved then, and a box around them.
 #[derive(Drop)]
 pub struct Orbit {
     rule: Rule,
     phases: Vec<CellList>,
     displacement: (i32, i32),
+    hull: Hull,
 }
 
 impl Model for Orbit {
-    ghost use Rattle.std.specs.Prelude.{length, slice_index_or};
+    ghost use Rattle.std.specs.Prelude.{All, length, slice_index_or};
     ghost use Rattle.life_model.specs.Generation.{empty};
     ghost use Rattle.life_orbit.specs.Course.{Course, coded_course};
+    ghost use Rattle.life_orbit.specs.Hulls.{HasAll};
     ghost use Rattle.life_orbit.specs.Kept.{IsKept};
 
     ghost Value = { Course };
@@ -40,7 +45,8 @@ impl Model for Orbit {
       displacement = o.displacement;
     } };
 
-    ghost invariant = { λ o. IsKept o.rule (slice_index_or o.phases.items 0 empty) o.phases.items o.displacement };
+    ghost invariant = { λ o. IsKept o.rule (slice_index_or o.phases.items 0 empty) o.phases.items o.displacement
+        × All (HasAll o.hull) o.phases.items };
 }
 
 impl Orbit {
@@ -65,10 +71,12 @@ impl Orbit {
             let next = next_list(alloc, rule, &phase)?;
             phases.push(phase)?;
             if let Some(displacement) = way(cells, &next) {
+                let hull = hull_of(corner(cells.as_slice()), phases.as_slice());
                 return Ok(Some(Orbit {
                     rule: *rule,
                     phases,
                     displacement,
+                    hull,
                 }));
             }
             phase = next;
@@ -104,6 +112,14 @@ impl Orbit {
         ensures { result ≡ self.now.displacement }
     {
         self.displacement
+    }
+
+    /// A box that has all cells of its generations until it comes again.
+    pub fn hull(&self) -> Hull
+        ensures hull { IsHullOf result self.now }
+        ensures recurs { IsCourse self.now }
+    {
+        self.hull
     }
 
     /// One of its generations before it comes again.

@@ -1,8 +1,15 @@
-use Rattle.life_orbit.proofs.HullLemmas.{more_phases}
+use Rattle.std.proofs.Common.{subst}
+use Rattle.life_orbit.specs.Hulls.{HasAll}
+use Rattle.life_orbit.proofs.HullLemmas.{has_all_of, wider_has_all}
+use Rattle.life_orbit.proofs.Lists.{all_more}
 use Rattle.life_orbit.proofs.hull.hull_of.Goals as goal
 
-pub loop-n-preserved : goal.loop-n-preserved
-loop-n-preserved c =
-    more_phases c.args.orbit.now c.loop-n.hull c.with_cells-hull.result c.loop-n.n c.phase-in-loop-n.result.now
-    c.as_slice-in-loop-n.result.now c.loop-n.invariant c.with_cells-hull.ensures.wider c.phase-in-loop-n.ensures
-    c.as_slice-in-loop-n.ensures.cells c.with_cells-hull.ensures.cells
+pub loop-set-preserved : goal.loop-set-preserved
+loop-set-preserved c =
+    let before = c.loop-set.hull in
+    let after = c.with_cells-hull.result in
+    all_more (HasAll after) c.args.sets.now c.loop-set.set-index c.set-item.result c.loop-set-test.true
+    (λ k d h. wider_has_all before after _ c.with_cells-hull.ensures.wider (c.loop-set.invariant k d h))
+    (subst (HasAll after) c.set-item.is
+    (has_all_of after c.set-item.result c.as_slice.result.now c.as_slice.ensures.cells
+    c.with_cells-hull.ensures.cells))

@@ -1,6 +1,8 @@
-use Rattle.life_orbit.specs.Hulls.{HoldsPhases}
+use Rattle.std.proofs.Common.{ℕ, ◌<◌, slice_index_or}
+use Rattle.life_model.specs.Generation.{Generation}
+use Rattle.life_orbit.specs.Hulls.{HasAll}
 use Rattle.life_orbit.proofs.hull.hull_of.Given as goal
 
--- the hull has the cells of the generations before this one
-abbrev pub invariant-loop-n : goal.invariant-loop-n
-invariant-loop-n l = HoldsPhases l.hull l.orbit l.n
+-- the hull has all cells of the sets before this one
+abbrev pub invariant-loop-set : goal.invariant-loop-set
+invariant-loop-set l = (k : ℕ) (d : Generation) → k < l.set-index → HasAll l.hull (slice_index_or l.sets k d)

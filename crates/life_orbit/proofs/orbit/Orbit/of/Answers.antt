@@ -1,8 +1,9 @@
 use Rattle.std.proofs.Common.{◌+◌, sym, subst, arith}
-use Rattle.std.proofs.lemmas.List.Elements.{All-weaker}
+use Rattle.std.proofs.lemmas.List.Elements.{All-same, All-weaker}
 use Rattle.life_model.specs.Generation.{cells}
 use Rattle.life_cells.specs.Limits.{IsWithin}
 use Rattle.life_plane.proofs.Later.{within_later}
+use Rattle.life_orbit.specs.Hulls.{HasAll}
 use Rattle.life_orbit.specs.Kept.{IsWalk}
 use Rattle.life_orbit.proofs.Walking.{kept_set, kept_whole, walk_more, walk_start}
 use Rattle.life_orbit.proofs.orbit.Orbit.of.Goals as goal
@@ -19,10 +20,13 @@ next_list-requires c =
     c.loop-taken.invariant.within
 
 pub invariant_of-result : goal.invariant_of-result
-invariant_of-result c =
-    kept_whole c.args.rule.now c.args.cells.now c.loop-taken.taken c.loop-taken.phases.items c.loop-taken.phase
-    c.loop-taken.invariant c.in_ok-next.next c.in-Some.displacement c.in-Some.ensures.way c.push.new.self.items
-    c.in_ok-next.ensures.next (omega arith) c.in_ok-push.ensures.items
+invariant_of-result c = (
+  kept_whole c.args.rule.now c.args.cells.now c.loop-taken.taken c.loop-taken.phases.items c.loop-taken.phase
+      c.loop-taken.invariant c.in_ok-next.next c.in-Some.displacement c.in-Some.ensures.way c.push.new.self.items
+      c.in_ok-next.ensures.next (omega arith) c.in_ok-push.ensures.items,
+  All-same (HasAll c.hull_of-hull.result) c.push.new.self.items c.as_slice-in-Some.result.now
+      (sym c.as_slice-in-Some.ensures.value) c.hull_of-hull.ensures,
+)
 
 pub returns-in-Some-clause-set : goal.returns-in-Some-clause-set
 returns-in-Some-clause-set c =
