@@ -14,3 +14,4 @@ pub mod Later
 pub mod Limits
 pub mod Totals
 pub mod Firsts
+pub mod Growing

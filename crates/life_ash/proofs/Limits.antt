@@ -6,19 +6,16 @@ use Rattle.life_model.specs.Generation.{Generation, size}
 use Rattle.life_model.specs.Evolution.{generation}
 use Rattle.life_model.proofs.Recurrences.{generation-add}
 use Rattle.life_answer.specs.Limited.{IsAllowed, first_past}
+use Rattle.life_ash.specs.Allowed.{AreAllowedBefore}
 use Rattle.life_answer.proofs.Limits.{first_past-is, none_past, stays_within}
 
 module _ (R : Rule) (G : Generation) where
-  -- no generation before this one is past the limit
-  abbrev pub AreAllowedBefore : Option ℕ → ℕ → Type 0
-  AreAllowedBefore limit n = (m : ℕ) → m < n → IsAllowed limit (size (generation R G m))
-
-  pub none_before : (limit : Option ℕ) → AreAllowedBefore limit 0
+  pub none_before : (limit : Option ℕ) → AreAllowedBefore R G limit 0
   none_before limit m h = absurd (omega arith)
 
   -- nor is this one
-  pub allowed_next : (limit : Option ℕ) (n : ℕ) → AreAllowedBefore limit n →
-      IsAllowed limit (size (generation R G n)) → AreAllowedBefore limit (n + 1)
+  pub allowed_next : (limit : Option ℕ) (n : ℕ) → AreAllowedBefore R G limit n →
+      IsAllowed limit (size (generation R G n)) → AreAllowedBefore R G limit (n + 1)
   allowed_next limit n before here m h =
       elim (cases_lt m n) [
         | inl early ↦ before m early
@@ -28,7 +25,7 @@ module _ (R : Rule) (G : Generation) where
       ]
 
   -- this one is
-  pub past_here : (limit : Option ℕ) (last n : ℕ) → n ≤ last → AreAllowedBefore limit n →
+  pub past_here : (limit : Option ℕ) (last n : ℕ) → n ≤ last → AreAllowedBefore R G limit n →
       (IsAllowed limit (size (generation R G n)) → ⊥) → first_past limit R G last ≡ Some n
   past_here None last n within before past = absurd (past tt)
   past_here (Some most) last n within before past =
@@ -41,7 +38,7 @@ module _ (R : Rule) (G : Generation) where
         before,
       )
 
-  pub past_nowhere : (limit : Option ℕ) (last : ℕ) → AreAllowedBefore limit (last + 1) →
+  pub past_nowhere : (limit : Option ℕ) (last : ℕ) → AreAllowedBefore R G limit (last + 1) →
       first_past limit R G last ≡ None
   past_nowhere limit last before = none_past R G last limit (λ n h. before n (omega arith))
 
@@ -50,7 +47,7 @@ module _ (R : Rule) (G : Generation) where
   past_within (Some most) last n past = ((first_past-is R G last most n).0 past).0
 
   -- where none before this one is, the first is one of those from here on
-  module _ (limit : Option ℕ) (last n : ℕ) (within : n ≤ last) (before : AreAllowedBefore limit n) where
+  module _ (limit : Option ℕ) (last n : ℕ) (within : n ≤ last) (before : AreAllowedBefore R G limit n) where
     pub past_nowhere_later : first_past limit R (generation R G n) (last - n) ≡ None → first_past limit R G last ≡ None
     past_nowhere_later none =
         none_past R G last limit (λ m h.
@@ -62,7 +59,7 @@ module _ (R : Rule) (G : Generation) where
               (stays_within R (generation R G n) (last - n) limit none (m - n) (omega arith))
         ])
 
-  pub past_later : (limit : Option ℕ) (last n k : ℕ) → n ≤ last → AreAllowedBefore limit n →
+  pub past_later : (limit : Option ℕ) (last n k : ℕ) → n ≤ last → AreAllowedBefore R G limit n →
       first_past limit R (generation R G n) (last - n) ≡ Some k → first_past limit R G last ≡ Some (n + k)
   past_later None last n k within before past = absurd cc
   past_later (Some most) last n k within before past =

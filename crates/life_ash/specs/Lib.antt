@@ -2,3 +2,4 @@ pub mod Living
 pub mod Parts
 pub mod Later
 pub mod Fates
+pub mod Allowed

@@ -1,10 +1,14 @@
 //! Generations that have more cells than they may have.
-ghost use Rattle.std.specs.Prelude.{◌≡◌, ◌+◌, ◌≤◌, ◌↔◌, ℕ, All, IfOk, IsTrue};
-ghost use Rattle.life_model.specs.Generation.{size};
+ghost use Rattle.std.specs.Prelude.{◌≡◌, ◌+◌, ◌<◌, ◌≤◌, ◌↔◌, ℕ, All, IfNone, IfOk, IfSome, IsTrue};
+ghost use Rattle.life_model.specs.Evolution.{generation};
+ghost use Rattle.life_model.specs.Generation.{Generation, size};
+ghost use Rattle.life_model.specs.Rule.{Rule as ModelRule};
 ghost use Rattle.life_answer.specs.Limited.{IsAllowed, first_past};
 ghost use Rattle.life_objects.specs.Ash.{IsAsh};
+ghost use Rattle.life_ash.specs.Allowed.{AreAllowedBefore};
 ghost use Rattle.life_ash.specs.Parts.{IsOf, sets_of};
 
+use crate::pace::{Pace, STRIDE};
 use crate::sizes::are_few;
 use life_cells::rule::Rule;
 use life_orbit::orbit::Orbit;
@@ -21,14 +25,51 @@ fn is_allowed(limit: Option<u32>, population: u64) -> bool
     }
 }
 
-/// Whether a plane has no more cells than are allowed. They are counted only where there is a limit.
-pub fn has_few<P: Plane>(limit: Option<u32>, plane: &P) -> bool
-    ensures { IsTrue result ↔ IsAllowed limit (size (P.members plane.now)) }
+/// For how many generations, from a set of so many cells on, surely none has more cells than are allowed: 0 where the set
+/// itself has more, and 4 at most. No generation has more than nine times as many cells as the one before.
+fn few_for(limit: Option<u32>, population: u64) -> u32
+    ensures few { (R : ModelRule) (G : Generation) → size G ≡ population → AreAllowedBefore R G limit result }
+    ensures none { result ≡ 0 → IsAllowed limit population → ⊥ }
+    ensures short { result ≤ 4 }
 {
-    match limit {
-        Some(_) => is_allowed(limit, plane.population()),
-        None => true,
+    let Some(most) = limit else {
+        return 4;
+    };
+    if population > u64::from(most) {
+        return 0;
     }
+    if population * 729 <= u64::from(most) {
+        return 4;
+    }
+    1
+}
+
+/// Before which age surely no generation has more cells than are allowed, where this is known before some age: a later
+/// age than that of the plane, or nothing where its own cells are more. They are counted only where that age is reached,
+/// and at least at each age at which the pace needs it.
+pub fn few_until<P: Plane>(
+    limit: Option<u32>,
+    plane: &P,
+    age: u32,
+    known: u32,
+    pace: &mut Pace,
+) -> Option<u32>
+    requires { age ≤ 100000 }
+    ensures few { IfSome result (λ until. (R : ModelRule) (G : Generation) → P.members plane.now ≡ generation R G age →
+        AreAllowedBefore R G limit age → AreAllowedBefore R G limit known → AreAllowedBefore R G limit until) }
+    ensures later { IfSome result (λ until. age < until) }
+    ensures none { IfNone result (IsAllowed limit (size (P.members plane.now)) → ⊥) }
+{
+    if age < known {
+        return Some(known);
+    }
+    let population = plane.population();
+    let more = few_for(limit, population);
+    if more == 0 {
+        return None;
+    }
+    pace.count(age, population);
+    Some(age + more.min(STRIDE - age % STRIDE))
 }
 
 /// The first generation past the limit, from a plane's own cells, which are generation 0, to the last. No generation after

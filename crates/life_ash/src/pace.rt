@@ -1,10 +1,8 @@
 //! When it is worth looking whether a pattern has fallen apart.
 ghost use Rattle.std.specs.Prelude.{◌+◌, ◌≤◌};
 
-use life_plane::plane::Plane;
-
 /// The populations of generations so far apart are counted. Most of what recurs has one population in all of these.
-const STRIDE: u32 = 4;
+pub const STRIDE: u32 = 4;
 
 /// How many populations are kept.
 const KEPT: usize = 128;
@@ -75,14 +73,20 @@ impl Pace {
         false
     }
 
-    /// Whether to look at the next generation, which has this age and is on the plane. Looks are due each time that the
-    /// age has doubled, from 4,096 on, and where populations repeat, if the last look is some time ago.
-    pub fn is_due<P: Plane>(&mut self, age: u32, plane: &P) -> bool {
+    /// Notes the population at this age, where it is one of those that are kept.
+    pub fn count(&mut self, age: u32, population: u64) {
+        if age % STRIDE == 0 {
+            self.counts[(age / STRIDE) as usize % KEPT] = population;
+        }
+    }
+
+    /// Whether to look at the generation of this age, of which the population is noted if it is to be kept. Looks are due
+    /// each time that the age has doubled, from 4,096 on, and where populations repeat, if the last look is some time ago.
+    pub fn is_due(&mut self, age: u32) -> bool {
         if age % STRIDE != 0 {
             return false;
         }
         let moment = age / STRIDE;
-        self.counts[moment as usize % KEPT] = plane.population();
         if age < self.due && (age < self.free || !self.is_settled(moment)) {
             return false;
         }

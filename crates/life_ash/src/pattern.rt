@@ -10,7 +10,7 @@ ghost use Rattle.life_ash.specs.Parts.{IsOf, sets_of};
 use crate::ash::{Ash, ash_of};
 use crate::fate::Fate;
 use crate::guess::guessed_parts;
-use crate::limit::{first_past, first_past_of_ash, has_few};
+use crate::limit::{few_until, first_past, first_past_of_ash};
 use crate::pace::Pace;
 use life_cells::cell_list::CellList;
 use life_cells::rule::Rule;
@@ -34,11 +34,13 @@ pub fn fate<P: Plane>(
 {
     let mut plane = P::from_cells(alloc, cells)?;
     let mut pace = Pace::new();
+    let mut known = 0;
     for age in 0..bound {
-        if !has_few(limit, &plane) {
+        let Some(until) = few_until(limit, &plane, age, known, &mut pace) else {
             return Ok(Fate::Large { generation: age });
-        }
-        if pace.is_due(age, &plane) {
+        };
+        known = until;
+        if pace.is_due(age) {
             if let Some(parts) = guessed_parts(alloc, &plane, rule, bound, pace.looks())? {
                 let past = first_past_of_ash(&plane, &parts, rule, limit, 3 * bound - age)?;
                 return Ok(match past {

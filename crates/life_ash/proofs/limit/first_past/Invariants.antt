@@ -1,6 +1,6 @@
 use Rattle.std.proofs.Common.{◌≡◌, ◌+◌}
 use Rattle.life_model.specs.Evolution.{generation}
-use Rattle.life_ash.proofs.Limits.{AreAllowedBefore}
+use Rattle.life_ash.specs.Allowed.{AreAllowedBefore}
 use Rattle.life_ash.proofs.limit.first_past.Given as goal
 
 abbrev pub invariant-loop-n : goal.invariant-loop-n

@@ -9,26 +9,27 @@ use Rattle.life_ash.specs.Fates.{IsFate}
 use Rattle.life_ash.specs.Parts.{IsOf, sets_of}
 use Rattle.life_ash.proofs.Finding.{of_none}
 use Rattle.life_ash.proofs.Later.{ash_until, of_later}
-use Rattle.life_ash.proofs.Limits.{allowed_next, none_before, past_here, past_later, past_nowhere_later, past_within}
+use Rattle.life_ash.proofs.Limits.{none_before, past_here, past_later, past_nowhere_later, past_within}
 use Rattle.life_ash.proofs.pattern.fate.Goals as goal
-use Rattle.life_ash.proofs.pattern.fate.Goals.{in-Some-past, in-None, in-Some-3, in-None-2}
+use Rattle.life_ash.proofs.pattern.fate.Goals.{in-Some-past, in-None, in-Some-4, in-None-2}
 
 pub loop-age-init : goal.loop-age-init
 loop-age-init g c = record {
   members = c.in_ok-plane.ensures.cells ∙ sym (generation-zero c.args.rule.now c.args.cells.now);
   aged = c.in_ok-plane.ensures.age;
   before = none_before c.args.rule.now c.args.cells.now c.args.limit;
+  known = none_before c.args.rule.now c.args.cells.now c.args.limit;
 }
 
-pub returns-then-not-has_few : goal.returns-then-not-has_few
-returns-then-not-has_few g c =
+pub returns-in_default : goal.returns-in_default
+returns-in_default g c =
     let R = c.args.rule.now in
     let G = c.args.cells.now in
     let age = c.loop-age.age in
     let counted = ap size c.loop-age.invariant.members in
     let before = c.loop-age-test.true in
     past_here R G c.args.limit (3 * c.args.bound) age (omega arith) c.loop-age.invariant.before
-    (λ few. true≢false (sym (c.if-not-has_few.ensures.1 (subst (IsAllowed c.args.limit) (sym counted) few))))
+    (λ few. c.in_default.ensures.none (subst (IsAllowed c.args.limit) (sym counted) few))
 
 pub overflow_add-result : goal.overflow_add-result
 overflow_add-result g c =
@@ -40,8 +41,8 @@ overflow_add-result g c =
     let bound = c.requires.bound.1 in
     omega arith
 
-pub returns-in-Some : goal.returns-in-Some
-returns-in-Some g c =
+pub returns-in-Some-2 : goal.returns-in-Some-2
+returns-in-Some-2 g c =
     let R = c.args.rule.now in
     let G = c.args.cells.now in
     let b = c.args.bound in
@@ -54,9 +55,9 @@ returns-in-Some g c =
           subst (IsFate R G b c.args.limit) (sym w.result-is)
           (past_later R G c.args.limit (3 * b) age w.in-Some-past.n (omega arith) c.loop-age.invariant.before (past ∙ w.in-Some-past.is))
       | in-None w ↦
-          let parts = c.in-Some.parts.items in
-          let found = rw c.in-Some.is at c.in_ok-parts.ensures.ash in
-          let of = rw c.in-Some.is at c.in_ok-parts.ensures.rule in
+          let parts = c.in-Some-2.parts.items in
+          let found = rw c.in-Some-2.is at c.in_ok-parts.ensures.ash in
+          let of = rw c.in-Some-2.is at c.in_ok-parts.ensures.rule in
           subst (IsFate R G b c.args.limit) (sym w.result-is) (
             past_nowhere_later R G c.args.limit (3 * b) age (omega arith) c.loop-age.invariant.before (past ∙ w.in-None.is),
             subst (λ os. HasFallenApart R b G (sets_of os)) (sym w.of.ensures)
@@ -70,25 +71,26 @@ loop-age-preserved g c =
     let R = c.args.rule.now in
     let G = c.args.cells.now in
     let age = c.loop-age.age in
-    let counted = ap size c.loop-age.invariant.members in
+    let later = c.in-Some.ensures.later in
+    let known = c.in-Some.ensures.few R G c.loop-age.invariant.members c.loop-age.invariant.before c.loop-age.invariant.known in
     record {
       members = c.in_ok-step.ensures.cells ∙ ap (next R) c.loop-age.invariant.members ∙ sym (generation-next R G age);
       aged = c.in_ok-step.ensures.age ∙ ap (λ k. k + 1) c.loop-age.invariant.aged;
-      before = allowed_next R G c.args.limit age c.loop-age.invariant.before
-          (subst (IsAllowed c.args.limit) counted (c.if-not-has_few.ensures.0 refl));
+      before = λ m h. known m (omega arith);
+      known = known;
     }
 
-pub overflow_add-result-in-Some-2 : goal.overflow_add-result-in-Some-2
-overflow_add-result-in-Some-2 g c =
+pub overflow_add-result-in-Some-3 : goal.overflow_add-result-in-Some-3
+overflow_add-result-in-Some-3 g c =
     let last = 2 * c.args.bound in
     let G = g.P.Plane.members c.loop-age.plane in
-    let n = c.in-Some-2.n in
-    let within : n ≤ last = past_within c.args.rule.now G c.args.limit last n (sym c.in_ok-n.ensures ∙ c.in-Some-2.is) in
+    let n = c.in-Some-3.n in
+    let within : n ≤ last = past_within c.args.rule.now G c.args.limit last n (sym c.in_ok-n.ensures ∙ c.in-Some-3.is) in
     let bound = c.requires.bound.1 in
     omega arith
 
-pub returns-in-Some-2 : goal.returns-in-Some-2
-returns-in-Some-2 g c =
+pub returns-in-Some-3 : goal.returns-in-Some-3
+returns-in-Some-3 g c =
     let R = c.args.rule.now in
     let G = c.args.cells.now in
     let b = c.args.bound in
@@ -97,9 +99,9 @@ returns-in-Some-2 g c =
     let end = c.loop-age.auto.age-end in
     let same : age ≡ b = omega arith in
     let rest : 2 * b ≡ 3 * b - age = omega arith in
-    let past = (λ i. first_past c.args.limit R (sym c.loop-age.invariant.members i) (sym rest i)) ∙ sym c.in_ok-n.ensures ∙ c.in-Some-2.is in
-    past_later R G c.args.limit (3 * b) age c.in-Some-2.n (omega arith) c.loop-age.invariant.before past
-    ∙ ap (λ k. Some (k + c.in-Some-2.n)) same
+    let past = (λ i. first_past c.args.limit R (sym c.loop-age.invariant.members i) (sym rest i)) ∙ sym c.in_ok-n.ensures ∙ c.in-Some-3.is in
+    past_later R G c.args.limit (3 * b) age c.in-Some-3.n (omega arith) c.loop-age.invariant.before past
+    ∙ ap (λ k. Some (k + c.in-Some-3.n)) same
 
 pub returns : goal.returns
 returns g c =
@@ -113,13 +115,13 @@ returns g c =
     let reached = c.loop-age.invariant.members ∙ ap (generation R G) same in
     let rest : 2 * b ≡ 3 * b - age = omega arith in
     let past = (λ i. first_past c.args.limit R (sym c.loop-age.invariant.members i) (sym rest i)) ∙ sym c.in_ok-n.ensures in
-    let small = past_nowhere_later R G c.args.limit (3 * b) age (omega arith) c.loop-age.invariant.before (past ∙ c.in_default-2.is) in
+    let small = past_nowhere_later R G c.args.limit (3 * b) age (omega arith) c.loop-age.invariant.before (past ∙ c.in_default-3.is) in
     elim c.match-branch-9.branch [
-      | in-Some-3 w ↦
+      | in-Some-4 w ↦
           subst (IsFate R G b c.args.limit) (sym w.result-is) (
             small,
-            subst (λ H. IsAsh R b H (sets_of w.in-Some-3.ash)) reached (rw w.in-Some-3.is at c.in_ok-ash.ensures.some),
-            rw w.in-Some-3.is at c.in_ok-ash.ensures.rule,
+            subst (λ H. IsAsh R b H (sets_of w.in-Some-4.ash)) reached (rw w.in-Some-4.is at c.in_ok-ash.ensures.some),
+            rw w.in-Some-4.is at c.in_ok-ash.ensures.rule,
           )
       | in-None-2 w ↦
           subst (IsFate R G b c.args.limit) (sym w.result-is) (

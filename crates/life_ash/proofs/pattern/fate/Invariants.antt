@@ -1,6 +1,6 @@
 use Rattle.std.proofs.Common.{◌≡◌}
 use Rattle.life_model.specs.Evolution.{generation}
-use Rattle.life_ash.proofs.Limits.{AreAllowedBefore}
+use Rattle.life_ash.specs.Allowed.{AreAllowedBefore}
 use Rattle.life_ash.proofs.pattern.fate.Given as goal
 
 abbrev pub invariant-loop-age : goal.invariant-loop-age
@@ -8,4 +8,5 @@ invariant-loop-age g l = record {
   members : g.P.Plane.members l.plane ≡ generation l.rule l.cells l.age;
   aged : g.P.Plane.steps_made l.plane ≡ l.age;
   before : AreAllowedBefore l.rule l.cells l.limit l.age;
+  known : AreAllowedBefore l.rule l.cells l.limit l.known;
 }
