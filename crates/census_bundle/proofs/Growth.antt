@@ -1,5 +1,5 @@
 -- A bundle stays lawful as it grows.
-use Rattle.std.proofs.Common.{◌≡◌, ℕ, ◌+◌, ◌<◌, ◌≤◌, true, List, [], ◌∷◌, ◌++◌, length, get_or, Some, refl, sym, ap, ◌∙◌, subst, arith, length-append, slice_get}
+use Rattle.std.proofs.Common.{◌≡◌, ℕ, ◌+◌, ◌<◌, ◌≤◌, Bool, true, List, [], ◌∷◌, ◌++◌, length, get_or, Some, refl, sym, ap, ◌∙◌, subst, arith, length-append, slice_get}
 use Rattle.std.specs.List.{All}
 use Rattle.std.proofs.Math.ListN.{set}
 use Rattle.std.proofs.lemmas.List.Elements.{All-push, All-set, All-nil}
@@ -90,8 +90,8 @@ lawful-pushed b f name is room lawful all =
     let P : Folder → Type 0 = λ g. IsSmall (b ++ g ∷ []) × HasLawfulNames (b ++ g ∷ []) in
     subst P (sym is) (small-with_folder b name all.0 room, names-with_folder b name all.1 lawful)
 
-pub lawful-entered : (b new : List Folder) (e : Entry) (name text : List ℕ) → e ≡ record { name = name; text = text } → new ≡ with_entry b e → length (last_entries b) < 65535 → is_name name ≡ true → IsSmall b × HasLawfulNames b → IsSmall new × HasLawfulNames new
-lawful-entered b new e name text is now room lawful all =
+pub lawful-entered : (b new : List Folder) (e : Entry) (name text : List ℕ) (is_lost : Bool) → e ≡ record { name = name; text = text; is_lost = is_lost } → new ≡ with_entry b e → length (last_entries b) < 65535 → is_name name ≡ true → IsSmall b × HasLawfulNames b → IsSmall new × HasLawfulNames new
+lawful-entered b new e name text is_lost is now room lawful all =
     let P : List Folder → Type 0 = λ c. IsSmall c × HasLawfulNames c in
     let named : is_name e.name ≡ true = ap (λ (f : Entry). is_name f.name) is ∙ lawful in
     subst P (sym now) (small-with_entry b e all.0 room, names-with_entry b e all.1 named)

@@ -2,6 +2,7 @@
 use Rattle.std.proofs.Common.{◌≡◌, ℕ, true, false, List, [], ◌∷◌, ◌++◌, refl, sym, ap, ◌∙◌, append-nil, append_assoc, if◌then◌else◌}
 use Rattle.census_bundle.specs.declared.bundle.Folder.{Folder}
 use Rattle.census_bundle.specs.declared.bundle.Entry.{Entry}
+use Rattle.census_bundle.specs.Entries.{entry_of}
 use Rattle.census_bundle.specs.Growing.{on_last, with_folder, with_one_more, with_entry}
 use Rattle.census_bundle.specs.Lines.{is_folder_line, is_file_line, line_name}
 use Rattle.census_bundle.specs.Reading.{Held, held_with}
@@ -34,15 +35,15 @@ joined-folder b name h =
     ∙ append_assoc b (g ∷ []) h.folders
     ∙ sym (joined-nothing b (g ∷ h.folders))
 
-entries_joined : (name t : List ℕ) (es rest : List Entry) → on_last (entry_with_text t) (es ++ record { name = name; text = [] } ∷ []) ++ rest ≡ es ++ record { name = name; text = t } ∷ rest
+entries_joined : (name t : List ℕ) (es rest : List Entry) → on_last (entry_with_text t) (es ++ entry_of name [] ∷ []) ++ rest ≡ es ++ entry_of name t ∷ rest
 entries_joined name t es rest =
-    let e : Entry = record { name = name; text = [] } in
-    ap (λ c. c ++ rest) (on_last-push (entry_with_text t) es e) ∙ append_assoc es (record { name = name; text = t } ∷ []) rest
+    let e : Entry = entry_of name [] in
+    ap (λ c. c ++ rest) (on_last-push (entry_with_text t) es e) ∙ append_assoc es (entry_of name t ∷ []) rest
 
-joined-entry : (b : List Folder) (name : List ℕ) (h : Held) → joined (with_entry b (record { name = name; text = [] })) h ≡ joined b (record { text = []; entries = record { name = name; text = h.text } ∷ h.entries; folders = h.folders })
+joined-entry : (b : List Folder) (name : List ℕ) (h : Held) → joined (with_entry b (entry_of name [])) h ≡ joined b (record { text = []; entries = entry_of name h.text ∷ h.entries; folders = h.folders })
 joined-entry b name h =
-    let e : Entry = record { name = name; text = [] } in
-    let g : Entry = record { name = name; text = h.text } in
+    let e : Entry = entry_of name [] in
+    let g : Entry = entry_of name h.text in
     ap (λ c. with_entries c h.entries ++ h.folders) (on_last-on_last (folder_with_text h.text) (with_one_more e) b)
     ∙ ap (λ c. c ++ h.folders) (on_last-on_last (folder_with_entries h.entries) (λ f. folder_with_text h.text (with_one_more e f)) b)
     ∙ ap (λ c. c ++ h.folders) (on_last_alike _ (folder_with_entries (g ∷ h.entries)) b (λ f. folder_same f.name _ _ (entries_joined name h.text f.entries h.entries)))
@@ -55,9 +56,9 @@ joined-text b line h = ap (λ c. with_entries c h.entries ++ h.folders) (with_te
 pub joined-after_line : (b : List Folder) (line : List ℕ) (h : Held) → joined (after_line b line) h ≡ joined b (held_with line h)
 joined-after_line b line h =
     let name = line_name line in
-    let e : Entry = record { name = name; text = [] } in
+    let e : Entry = entry_of name [] in
     let a : Held = record { text = []; entries = []; folders = record { name = name; entries = h.entries } ∷ h.folders } in
-    let f : Held = record { text = []; entries = record { name = name; text = h.text } ∷ h.entries; folders = h.folders } in
+    let f : Held = record { text = []; entries = entry_of name h.text ∷ h.entries; folders = h.folders } in
     let t : Held = record { text = line ++ h.text; entries = h.entries; folders = h.folders } in
     elim (is_folder_line line) as (λ v. joined (if v then with_folder b name else (if is_file_line line then with_entry b e else with_text b line)) h ≡ joined b (if v then a else (if is_file_line line then f else t))) [
       | true ↦ joined-folder b name h

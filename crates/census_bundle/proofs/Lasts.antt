@@ -2,6 +2,7 @@
 use Rattle.std.proofs.Common.{◌≡◌, ℕ, List, [], ◌∷◌, ◌++◌, refl, ap, ◌∙◌, append-nil, append_assoc}
 use Rattle.census_bundle.specs.declared.bundle.Folder.{Folder}
 use Rattle.census_bundle.specs.declared.bundle.Entry.{Entry}
+use Rattle.census_bundle.specs.Entries.{entry_of}
 use Rattle.census_bundle.specs.Growing.{on_last_of, on_last, with_folder, with_one_more, with_entry, last_entries_of, last_entries}
 use Rattle.census_bundle.specs.Scan.{entry_with_text, folder_with_text, with_text}
 
@@ -38,14 +39,14 @@ on_last-kept f (x ∷ xs) same = on_last_alike f (λ y. y) (x ∷ xs) same ∙ o
 
 -- # Text in the last entry
 
-pub entry_same : (n m t u : List ℕ) → n ≡ m → t ≡ u → ◌≡◌ {A = Entry} (record { name = n; text = t }) (record { name = m; text = u })
-entry_same n m t u p q = λ i. record { name = p i; text = q i }
+entry_same : (e : Entry) (t u : List ℕ) → t ≡ u → ◌≡◌ {A = Entry} (record e { text = t }) (record e { text = u })
+entry_same e t u q = λ i. record e { text = q i }
 
 pub folder_same : (n : List ℕ) (es fs : List Entry) → es ≡ fs → ◌≡◌ {A = Folder} (record { name = n; entries = es }) (record { name = n; entries = fs })
 folder_same n es fs p = λ i. record { name = n; entries = p i }
 
 entry_no_text : (e : Entry) → entry_with_text [] e ≡ e
-entry_no_text e = entry_same e.name e.name _ _ refl (append-nil e.text)
+entry_no_text e = entry_same e _ _ (append-nil e.text)
 
 folder_no_text : (f : Folder) → folder_with_text [] f ≡ f
 folder_no_text f = folder_same f.name _ _ (on_last-kept (entry_with_text []) f.entries entry_no_text)
@@ -54,7 +55,7 @@ pub with_text-nil : (b : List Folder) → with_text b [] ≡ b
 with_text-nil b = on_last-kept (folder_with_text []) b folder_no_text
 
 entry_texts : (t u : List ℕ) (e : Entry) → entry_with_text u (entry_with_text t e) ≡ entry_with_text (t ++ u) e
-entry_texts t u e = entry_same e.name e.name _ _ refl (append_assoc e.text t u)
+entry_texts t u e = entry_same e _ _ (append_assoc e.text t u)
 
 folder_texts : (t u : List ℕ) (f : Folder) → folder_with_text u (folder_with_text t f) ≡ folder_with_text (t ++ u) f
 folder_texts t u f =
@@ -65,10 +66,10 @@ with_text-with_text b t u =
     on_last-on_last (folder_with_text u) (folder_with_text t) b ∙ on_last_alike _ (folder_with_text (t ++ u)) b (folder_texts t u)
 
 -- text goes to the entry that was added last
-pub with_text-with_entry : (b : List Folder) (name t u : List ℕ) → with_text (with_entry b (record { name = name; text = t })) u ≡ with_entry b (record { name = name; text = t ++ u })
+pub with_text-with_entry : (b : List Folder) (name t u : List ℕ) → with_text (with_entry b (entry_of name t)) u ≡ with_entry b (entry_of name (t ++ u))
 with_text-with_entry b name t u =
-    let e : Entry = record { name = name; text = t } in
-    let g : Entry = record { name = name; text = t ++ u } in
+    let e : Entry = entry_of name t in
+    let g : Entry = entry_of name (t ++ u) in
     on_last-on_last (folder_with_text u) (with_one_more e) b ∙ on_last_alike _ (with_one_more g) b (λ f. folder_same f.name _ _ (on_last-push (entry_with_text u) f.entries e))
 
 -- # The entries of the last folder

@@ -1,6 +1,7 @@
 -- Worked rows of bundle texts, by computing the definitions.
 use Rattle.std.specs.Prelude.{◌≡◌, List, ℕ, [], ◌∷◌, ◌++◌, Option, Some, None, codes, map, take, replicate, true, false, refl}
 use Rattle.std.specs.List.{range_with_len}
+use Rattle.census_bundle.specs.Entries.{entry_of}
 use Rattle.census_bundle.specs.declared.fault.BundleFault.{BundleFault}
 use Rattle.census_bundle.specs.declared.fault.BundleFault.TheVariants.{StrayText, FileBeforeFolder, BadAtLine, BadName}
 use Rattle.census_bundle.specs.Names.{is_name}
@@ -41,12 +42,12 @@ cr_alone = refl
 stray_behind_folder : fault_of (codes "@folder a\n@file b\nx\n@folder c\nx") ≡ Some (StrayText 5)
 stray_behind_folder = refl
 
-empty_text : folders_of (codes "@folder a\n\n@file b") ≡ record { name = codes "a"; entries = record { name = codes "b"; text = [] } ∷ [] } ∷ []
+empty_text : folders_of (codes "@folder a\n\n@file b") ≡ record { name = codes "a"; entries = entry_of (codes "b") [] ∷ [] } ∷ []
 empty_text = refl
 
 -- a text keeps its line endings, and ends at a line of `@`
 endings : folders_of (codes "@folder a\r\n \t\r\n@file b\r\n3o\r\n\r\n!\n@folder c") ≡
-    record { name = codes "a"; entries = record { name = codes "b"; text = codes "3o\r\n\r\n!\n" } ∷ [] } ∷ record { name = codes "c"; entries = [] } ∷ []
+    record { name = codes "a"; entries = entry_of (codes "b") (codes "3o\r\n\r\n!\n") ∷ [] } ∷ record { name = codes "c"; entries = [] } ∷ []
 endings = refl
 
 endings_fine : fault_of (codes "@folder a\r\n \t\r\n@file b\r\n3o\r\n\r\n!\n@folder c") ≡ None
@@ -68,11 +69,11 @@ demo_fine = refl
 demo_holds : folders_of demo ≡ record {
   name = codes "demo";
   entries =
-      record { name = codes "block"; text = codes "x = 2, y = 2, rule = B3/S23\n2o$2o!\n" }
-      ∷ record { name = codes "glider"; text = codes "x = 3, y = 3, rule = B3/S23\nbo$2bo$3o!\n" }
-      ∷ record { name = codes "block2"; text = codes "x = 2, y = 2, rule = 23/3\n2o$2o!\n" }
-      ∷ record { name = codes "rpent"; text = codes "x = 3, y = 3, rule = B3/S23\nb2o$2o$bo!\n" }
-      ∷ record { name = codes "broken"; text = codes "x = 3, y = 1, rule = B3/S23\n3o\n" } ∷ [];
+      entry_of (codes "block") (codes "x = 2, y = 2, rule = B3/S23\n2o$2o!\n")
+      ∷ entry_of (codes "glider") (codes "x = 3, y = 3, rule = B3/S23\nbo$2bo$3o!\n")
+      ∷ entry_of (codes "block2") (codes "x = 2, y = 2, rule = 23/3\n2o$2o!\n")
+      ∷ entry_of (codes "rpent") (codes "x = 3, y = 3, rule = B3/S23\nb2o$2o$bo!\n")
+      ∷ entry_of (codes "broken") (codes "x = 3, y = 1, rule = B3/S23\n3o\n") ∷ [];
 } ∷ []
 demo_holds = refl
 
@@ -87,5 +88,5 @@ fronts = refl
 front_of_13 : folders_of (take 13 demo) ≡ record { name = codes "demo"; entries = [] } ∷ []
 front_of_13 = refl
 
-front_of_20 : folders_of (take 20 demo) ≡ record { name = codes "demo"; entries = record { name = codes "b"; text = [] } ∷ [] } ∷ []
+front_of_20 : folders_of (take 20 demo) ≡ record { name = codes "demo"; entries = entry_of (codes "b") [] ∷ [] } ∷ []
 front_of_20 = refl

@@ -7,6 +7,7 @@ use Rattle.census_bundle.specs.declared.bundle.Entry.{Entry}
 use Rattle.census_bundle.specs.declared.fault.BundleFault.{BundleFault}
 use Rattle.census_bundle.specs.Sizes.{count_limit}
 use Rattle.census_bundle.specs.Names.{is_name}
+use Rattle.census_bundle.specs.Entries.{entry_of}
 use Rattle.census_bundle.specs.Growing.{on_last, with_entry, last_entries, with_folder}
 use Rattle.census_bundle.specs.Kinds.{IsFolderLine, IsFileLine, IsPlainLine}
 use Rattle.census_bundle.specs.Lines.{whole_lines, is_at_line, is_file_line, is_space, line_name}
@@ -30,7 +31,7 @@ is_shorter text line rest whole = ap length whole ∙ length-append line rest
 pub folder_section : (b new : List Folder) (n : ℕ) (text line rest name : List ℕ) → whole_lines text ≡ line ∷ whole_lines rest → text ≡ line ++ rest → 0 < length line → IsFolderLine line name → new ≡ with_folder b name → (is_name name ≡ false → ⊥) → ((is_name name ≡ true) × (count_limit ≤ length b) → ⊥) → ReadsOn b new n (n + 1) text rest
 folder_section b new n text line rest name lines whole some kind now bad many =
     let none = folder_fine b n line kind.is (lawful_name line name kind.named bad) (below name (length b) bad many) in
-    let e : Entry = record { name = line_name line; text = [] } in
+    let e : Entry = entry_of (line_name line) [] in
     let split : after_line b line ≡ with_folder b (line_name line) = λ i. if kind.is i then with_folder b (line_name line) else (if is_file_line line then with_entry b e else with_text b line) in
     let after : after_line b line ≡ new = split ∙ ap (with_folder b) (sym kind.named) ∙ sym now in
     let empty : eqb (length (last_entries new)) 0 ≡ true = ap (λ es. eqb (length es) 0) (ap last_entries now ∙ last_entries-with_folder b name) in
@@ -41,10 +42,10 @@ folder_section b new n text line rest name lines whole some kind now bad many =
       fits = omega arith;
     }
 
-pub file_section : (b new : List Folder) (n count : ℕ) (text line behind name body rest : List ℕ) → whole_lines text ≡ line ∷ whole_lines behind → text ≡ line ++ behind → 0 < length line → IsFileLine line name → 0 < length b → IsTextOf behind body count rest → begins_section rest ≡ true → count + length rest ≤ length behind → new ≡ with_entry b (record { name = name; text = body }) → (is_name name ≡ false → ⊥) → ((is_name name ≡ true) × (count_limit ≤ length (last_entries b)) → ⊥) → ReadsOn b new n (n + 1 + count) text rest
+pub file_section : (b new : List Folder) (n count : ℕ) (text line behind name body rest : List ℕ) → whole_lines text ≡ line ∷ whole_lines behind → text ≡ line ++ behind → 0 < length line → IsFileLine line name → 0 < length b → IsTextOf behind body count rest → begins_section rest ≡ true → count + length rest ≤ length behind → new ≡ with_entry b (entry_of name body) → (is_name name ≡ false → ⊥) → ((is_name name ≡ true) × (count_limit ≤ length (last_entries b)) → ⊥) → ReadsOn b new n (n + 1 + count) text rest
 file_section b new n count text line behind name body rest lines whole some kind here is_text ends few now bad many =
     let none = file_fine b n line kind.other kind.is here (lawful_name line name kind.named bad) (below name (length (last_entries b)) bad many) in
-    let e : List ℕ → Entry = λ m. record { name = m; text = [] } in
+    let e : List ℕ → Entry = λ m. entry_of m [] in
     let split : after_line b line ≡ with_entry b (e (line_name line)) = λ i. if kind.other i then with_folder b (line_name line) else (if kind.is i then with_entry b (e (line_name line)) else with_text b line) in
     let after : after_line b line ≡ with_entry b (e name) = split ∙ ap (λ m. with_entry b (e m)) (sym kind.named) in
     let long = is_shorter text line behind whole in record {

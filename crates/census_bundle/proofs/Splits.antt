@@ -5,6 +5,7 @@ use Rattle.std.specs.Cmp.Lexicographic.{pointwise}
 use Rattle.std.proofs.lemmas.List.{take-take, drop-drop}
 use Rattle.census_bundle.specs.declared.bundle.Folder.{Folder}
 use Rattle.census_bundle.specs.declared.bundle.Entry.{Entry}
+use Rattle.census_bundle.specs.Entries.{entry_of}
 use Rattle.census_bundle.specs.Growing.{with_entry, with_one_more, last_entries, with_folder}
 use Rattle.census_bundle.specs.Lines.{whole_lines, is_at_line, line_name}
 use Rattle.census_bundle.specs.Scan.{line_len, with_text, after_line, fault_behind, unless, read_on, IsTextOf}
@@ -39,12 +40,12 @@ pub after_plain : (b : List Folder) (line : List ℕ) → is_at_line line ≡ fa
 after_plain b line plain =
     let folder = plain_no_folder line plain in
     let file = plain_no_file line plain in
-    λ i. if folder i then with_folder b (line_name line) else (if file i then with_entry b (record { name = line_name line; text = [] }) else with_text b line)
+    λ i. if folder i then with_folder b (line_name line) else (if file i then with_entry b (entry_of (line_name line) []) else with_text b line)
 
 -- one more line of an entry's text
-plain_read : (b : List Folder) (name t : List ℕ) (n : ℕ) (line : List ℕ) (rest : List (List ℕ)) → 0 < length b → is_at_line line ≡ false → read_on (with_entry b (record { name = name; text = t })) n (line ∷ rest) ≡ read_on (with_entry b (record { name = name; text = t ++ line })) (n + 1) rest
+plain_read : (b : List Folder) (name t : List ℕ) (n : ℕ) (line : List ℕ) (rest : List (List ℕ)) → 0 < length b → is_at_line line ≡ false → read_on (with_entry b (entry_of name t)) n (line ∷ rest) ≡ read_on (with_entry b (entry_of name (t ++ line))) (n + 1) rest
 plain_read b name t n line rest some plain =
-    let e : Entry = record { name = name; text = t } in
+    let e : Entry = entry_of name t in
     let c = with_entry b e in
     let many : 0 < length c = omega (arith, length-on_last (with_one_more e) b) in
     let opened : 0 < length (last_entries c) = omega (arith, length-with_entry b e some) in
@@ -63,7 +64,7 @@ text_step whole len lines some plain was = record {
       let text_is : (t ++ take len whole) ++ line ≡ t ++ take (len + k) whole = append_assoc t (take len whole) line ∙ ap (λ xs. t ++ xs) (take_two whole len k) in
       let rest_is : drop k rest ≡ drop (len + k) whole = drop-drop k len whole in
       was.reads b name t n many
-      ∙ ap (read_on (with_entry b (record { name = name; text = t ++ take len whole })) (n + lines)) (first_line rest some)
+      ∙ ap (read_on (with_entry b (entry_of name (t ++ take len whole))) (n + lines)) (first_line rest some)
       ∙ plain_read b name (t ++ take len whole) (n + lines) line (whole_lines (drop k rest)) many first
-      ∙ (λ i. read_on (with_entry b (record { name = name; text = text_is i })) (add_assoc n lines 1 i) (whole_lines (rest_is i)));
+      ∙ (λ i. read_on (with_entry b (entry_of name (text_is i))) (add_assoc n lines 1 i) (whole_lines (rest_is i)));
 }

@@ -5,6 +5,7 @@ use Rattle.std.proofs.lemmas.List.{reverse-append, drop_all, drop-append-le}
 use Rattle.std.proofs.lemmas.List.Sums.{suffix_len-le-length, sum_by-append}
 use Rattle.census_bundle.specs.declared.bundle.Folder.{Folder}
 use Rattle.census_bundle.specs.declared.bundle.Entry.{Entry}
+use Rattle.census_bundle.specs.Entries.{entry_of}
 use Rattle.census_bundle.specs.Growing.{on_last, with_folder, with_one_more, with_entry, last_entries}
 use Rattle.census_bundle.specs.Lines.{is_folder_line, is_file_line, line_name}
 use Rattle.census_bundle.specs.Reading.{folder_count, entry_count}
@@ -77,7 +78,7 @@ follows-text before b line isnt none was = record {
 pub follows-after_line : (before : List (List ℕ)) (b : List Folder) (line : List ℕ) → (is_file_line line ≡ true → 0 < length b) → Follows before b → Follows (before ++ line ∷ []) (after_line b line)
 follows-after_line before b line some was =
     let name = line_name line in
-    let e : Entry = record { name = name; text = [] } in
+    let e : Entry = entry_of name [] in
     elim (is_folder_line line) as (λ v. is_folder_line line ≡ v → Follows (before ++ line ∷ []) (if v then with_folder b name else (if is_file_line line then with_entry b e else with_text b line))) [
       | true ↦ λ holds. follows-folder before b line holds was
       | false ↦ λ isnt. elim (is_file_line line) as (λ v. is_file_line line ≡ v → Follows (before ++ line ∷ []) (if v then with_entry b e else with_text b line)) [

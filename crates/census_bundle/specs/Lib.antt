@@ -2,6 +2,7 @@ pub mod Sizes
 pub mod Names
 pub mod Tickets
 pub mod Coded
+pub mod Entries
 pub mod Growing
 pub mod Lines
 pub mod Kinds

@@ -6,6 +6,7 @@ use Rattle.census_bundle.specs.declared.bundle.Folder.{Folder}
 use Rattle.census_bundle.specs.declared.bundle.Entry.{Entry}
 use Rattle.census_bundle.specs.declared.fault.BundleFault.{BundleFault}
 use Rattle.census_bundle.specs.declared.fault.BundleFault.TheVariants.{StrayText, FileBeforeFolder, BadAtLine, BadName, TooMany}
+use Rattle.census_bundle.specs.Entries.{entry_of}
 use Rattle.census_bundle.specs.Lines.{whole_lines, is_space, is_at_line, is_folder_line, is_file_line, line_name}
 use Rattle.census_bundle.specs.Names.{is_name}
 use Rattle.census_bundle.specs.Sizes.{count_limit}
@@ -22,7 +23,7 @@ pub record Held : Type 0 where
 abbrev pub held_with : List ℕ → Held → Held
 held_with line behind =
     if is_folder_line line then record { text = []; entries = []; folders = record { name = line_name line; entries = behind.entries } ∷ behind.folders } else
-    (if is_file_line line then record { text = []; entries = record { name = line_name line; text = behind.text } ∷ behind.entries; folders = behind.folders }
+    (if is_file_line line then record { text = []; entries = entry_of (line_name line) behind.text ∷ behind.entries; folders = behind.folders }
     else record { text = line ++ behind.text; entries = behind.entries; folders = behind.folders })
 
 abbrev pub held : List (List ℕ) → Held

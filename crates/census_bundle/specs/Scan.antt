@@ -8,11 +8,12 @@ use Rattle.census_bundle.specs.declared.fault.BundleFault.TheVariants as bundle_
 use Rattle.census_bundle.specs.declared.bundle.AddFault.{AddFault}
 use Rattle.census_bundle.specs.declared.bundle.AddFault.TheVariants.{BadName, NoFolder, TooMany, Memory}
 use Rattle.census_bundle.specs.Lines.{whole_lines, is_at_line, is_folder_line, is_file_line, line_name}
+use Rattle.census_bundle.specs.Entries.{entry_of}
 use Rattle.census_bundle.specs.Growing.{on_last, with_folder, with_entry, last_entries}
 use Rattle.census_bundle.specs.Reading.{line_fault, is_outside}
 
 abbrev pub entry_with_text : List ℕ → Entry → Entry
-entry_with_text t e = record { name = e.name; text = e.text ++ t }
+entry_with_text t e = record e { text = e.text ++ t }
 
 abbrev pub folder_with_text : List ℕ → Folder → Folder
 folder_with_text t f = record { name = f.name; entries = on_last (entry_with_text t) f.entries }
@@ -25,7 +26,7 @@ with_text b t = on_last (folder_with_text t) b
 abbrev pub after_line : List Folder → List ℕ → List Folder
 after_line b line =
     if is_folder_line line then with_folder b (line_name line) else
-    (if is_file_line line then with_entry b (record { name = line_name line; text = [] }) else with_text b line)
+    (if is_file_line line then with_entry b (entry_of (line_name line) []) else with_text b line)
 
 -- the fault of a line behind these folders
 abbrev pub fault_behind : List Folder → ℕ → List ℕ → Option BundleFault
@@ -57,7 +58,7 @@ IsClosed b rest = (is_outside (length b) (length (last_entries b)) || begins_sec
 
 -- behind an entry's line the whole reads as so many lines of its text and then the rest
 pub record IsTextOf (whole text : List ℕ) (lines : ℕ) (rest : List ℕ) : Type 0 where
-  pub reads : (b : List Folder) (name t : List ℕ) (n : ℕ) → 0 < length b → read_on (with_entry b (record { name = name; text = t })) n (whole_lines whole) ≡ read_on (with_entry b (record { name = name; text = t ++ text })) (n + lines) (whole_lines rest)
+  pub reads : (b : List Folder) (name t : List ℕ) (n : ℕ) → 0 < length b → read_on (with_entry b (entry_of name t)) n (whole_lines whole) ≡ read_on (with_entry b (entry_of name (t ++ text))) (n + lines) (whole_lines rest)
 
 -- the folders with those of some lines of the text, and what is then left to read
 pub record ReadsOn (old new : List Folder) (number next : ℕ) (text rest : List ℕ) : Type 0 where

@@ -45,11 +45,15 @@ impl Text {
     }
 }
 
-/// One pattern of a folder: its name, and the text that is read as RLE.
+/// One pattern of a folder.
 #[derive(Drop)]
 pub struct Entry {
+    /// Its name.
     pub name: Text,
+    /// The text that is read as RLE. Where it is lost it isn't looked at.
     pub text: Text,
+    /// Whether the text is lost, since it couldn't be read.
+    pub is_lost: bool,
 }
 
 /// The patterns of a folder in order.
@@ -101,13 +105,17 @@ pub struct Folder {
     pub entries: Entries,
 }
 
-// The entry of this name and text.
-fn entry_of(alloc: Global, name: &[u8], text: &[u8]) -> Result<Entry, AllocError>
-    ensures { IfOk result (λ e. e ≡ record { name = name.now; text = text.now }) }
+// The entry of this name and text, which may be lost.
+fn entry_of(alloc: Global, name: &[u8], text: &[u8], is_lost: bool) -> Result<Entry, AllocError>
+    ensures { IfOk result (λ e. e ≡ record { name = name.now; text = text.now; is_lost = is_lost }) }
 {
     let name = Text::of(alloc, name)?;
     let text = Text::of(alloc, text)?;
-    Ok(Entry { name, text })
+    Ok(Entry {
+        name,
+        text,
+        is_lost,
+    })
 }
 
 // The folder of this name without an entry.
@@ -184,6 +192,7 @@ impl Bundle {
     ghost use Rattle.census_bundle.specs.Sizes.{IsSmall, count_limit};
     ghost use Rattle.census_bundle.specs.Names.{HasLawfulNames, is_name};
     ghost use Rattle.census_bundle.specs.Tickets.{entry_at};
+    ghost use Rattle.census_bundle.specs.Entries.{entry_of, lost_entry};
     ghost use Rattle.census_bundle.specs.Growing.{with_folder, with_entry, last_entries};
 
     /// No folder. It takes no memory.
@@ -236,10 +245,9 @@ impl Bundle {
         Ok(())
     }
 
-    /// Adds an entry of this name and text at the end of the last folder. A refusal leaves the bundle as it was;
-    /// `Memory` comes only where nothing else is wrong.
-    pub fn add_entry(&mut self, name: &[u8], text: &[u8]) -> Result<(), AddFault>
-        ensures added { OnOk result (self.new ≡ with_entry self.old (record { name = name.now; text = text.now })) }
+    // Adds an entry of this name and text, which may be lost, at the end of the last folder.
+    fn add(&mut self, name: &[u8], text: &[u8], is_lost: bool) -> Result<(), AddFault>
+        ensures added { OnOk result (self.new ≡ with_entry self.old (record { name = name.now; text = text.now; is_lost = is_lost })) }
         ensures unchanged { OnErr result (self.new ≡ self.old) }
         ensures bad_name { (result ≡ Err BadName) ↔ (is_name name.now ≡ false) }
         ensures no_folder { (result ≡ Err NoFolder) ↔ ((is_name name.now ≡ true) × (self.old ≡ [])) }
@@ -254,8 +262,32 @@ impl Bundle {
         if last_len(&self.folders) >= COUNT_LIMIT {
             return Err(AddFault::TooMany);
         }
-        let entry = entry_of(*self.folders.allocator(), name, text)?;
+        let entry = entry_of(*self.folders.allocator(), name, text, is_lost)?;
         push_to_last(&mut self.folders, entry)?;
         Ok(())
+    }
+
+    /// Adds an entry of this name and text at the end of the last folder. A refusal leaves the bundle as it was;
+    /// `Memory` comes only where nothing else is wrong.
+    pub fn add_entry(&mut self, name: &[u8], text: &[u8]) -> Result<(), AddFault>
+        ensures added { OnOk result (self.new ≡ with_entry self.old (entry_of name.now text.now)) }
+        ensures unchanged { OnErr result (self.new ≡ self.old) }
+        ensures bad_name { (result ≡ Err BadName) ↔ (is_name name.now ≡ false) }
+        ensures no_folder { (result ≡ Err NoFolder) ↔ ((is_name name.now ≡ true) × (self.old ≡ [])) }
+        ensures too_many { (result ≡ Err TooMany) ↔ ((is_name name.now ≡ true) × (count_limit ≤ length (last_entries self.old))) }
+    {
+        self.add(name, text, false)
+    }
+
+    /// Adds an entry of this name, whose text is lost, at the end of the last folder. A refusal leaves the bundle as it
+    /// was; `Memory` comes only where nothing else is wrong.
+    pub fn add_lost(&mut self, name: &[u8]) -> Result<(), AddFault>
+        ensures added { OnOk result (self.new ≡ with_entry self.old (lost_entry name.now)) }
+        ensures unchanged { OnErr result (self.new ≡ self.old) }
+        ensures bad_name { (result ≡ Err BadName) ↔ (is_name name.now ≡ false) }
+        ensures no_folder { (result ≡ Err NoFolder) ↔ ((is_name name.now ≡ true) × (self.old ≡ [])) }
+        ensures too_many { (result ≡ Err TooMany) ↔ ((is_name name.now ≡ true) × (count_limit ≤ length (last_entries self.old))) }
+    {
+        self.add(name, b"", true)
     }
 }
