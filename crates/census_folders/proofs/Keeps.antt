@@ -6,6 +6,7 @@ use Rattle.std.proofs.lemmas.List.{get_or-map, length-map, map_more, take-map}
 use Rattle.std.proofs.lemmas.Option.{slice_get-get_or}
 use Rattle.census_bundle.specs.declared.bundle.Entry.{Entry}
 use Rattle.census_bundle.specs.declared.bundle.Folder.{Folder}
+use Rattle.census_bundle.specs.Entries.{entry_of, lost_entry}
 use Rattle.census_bundle.specs.Growing.{on_last_of, with_entry, with_one_more}
 use Rattle.census_bundle.specs.Names.{is_name}
 use Rattle.census_folders.specs.declared.fault.FoldersFault.{FoldersFault}
@@ -28,8 +29,8 @@ open_with [] e some = absurd (omega arith)
 open_with (f ∷ fs) e some = open_of (with_one_more e) f fs
 
 open_added : (told : Told) (folder name : List ℕ) (old new : Kept) (text : Option (List ℕ)) → new ≡ with_text folder name text old → 0 < length old.bundle → 0 < length new.bundle
-open_added told folder name old new (Some text) is some = rw is (open_with old.bundle (record { name = name; text = text }) some)
-open_added told folder name old new None is some = rw is (open_with old.bundle (record { name = name; text = [] }) some)
+open_added told folder name old new (Some text) is some = rw is (open_with old.bundle (entry_of name text) some)
+open_added told folder name old new None is some = rw is (open_with old.bundle (lost_entry name) some)
 
 open_case : (lawful : Bool) (told : Told) (folder name : List ℕ) (old new : Kept) → MatchBool lawful (AddsEntry told folder name old new) (new ≡ left_out (path_of folder name) old) → 0 < length old.bundle → 0 < length new.bundle
 open_case true told folder name old new more some = open_added told folder name old new more.text more.added some

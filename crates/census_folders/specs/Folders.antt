@@ -1,5 +1,5 @@
 -- Folders of pattern files.
-use Rattle.std.specs.Prelude.{◌≡◌, ℕ, ◌≤◌, Bool, true, List, length, map, codes, nat_eq}
+use Rattle.std.specs.Prelude.{◌≡◌, ℕ, ◌≤◌, Bool, true, false, List, length, map, codes, nat_eq}
 use Rattle.std.specs.List.{All, ends_with}
 use Rattle.std.specs.List.Sorted.{IsSorted}
 use Rattle.std.specs.Cmp.Lexicographic.{slice_cmp}
@@ -17,10 +17,11 @@ file_limit = 67108864
 abbrev pub is_pattern_name : List ℕ → Bool
 is_pattern_name name = ends_with nat_eq name (codes ".rle")
 
--- the entry has a lawful name that ends in `.rle`, and no more bytes than a file may have
+-- the entry has a lawful name that ends in `.rle`, it isn't lost, and it has no more bytes than a file may have
 pub record IsPatternFile (e : Entry) : Type 0 where
   pub lawful : is_name e.name ≡ true
   pub kind : is_pattern_name e.name ≡ true
+  pub kept : e.is_lost ≡ false
   pub within : length e.text ≤ file_limit
 
 -- each byte by byte not below the one before it

@@ -4,6 +4,7 @@ use Rattle.std.specs.List.{FoldsTo}
 use Rattle.census_bundle.specs.declared.bundle.AddFault.TheVariants as adds
 use Rattle.census_bundle.specs.declared.bundle.Folder.{Folder}
 use Rattle.census_bundle.specs.declared.ticket.Ticket.{Ticket}
+use Rattle.census_bundle.specs.Entries.{entry_of, lost_entry}
 use Rattle.census_bundle.specs.Growing.{last_entries, with_entry, with_folder}
 use Rattle.census_bundle.specs.Names.{is_name}
 use Rattle.census_bundle.specs.Sizes.{count_limit}
@@ -33,13 +34,13 @@ abbrev pub GivesText : Told → Option (List ℕ) → Type 0
 GivesText told (Some text) = GivesTold told text × (length text ≤ file_limit)
 GivesText told None = MayFail told ⊎ MayExceed file_limit told
 
--- an entry of this text, or one without text, which is lost
+-- an entry of this text, or a lost one, which is told
 abbrev pub with_text : List ℕ → List ℕ → Option (List ℕ) → Kept → Kept
-with_text folder name (Some text) old = record { bundle = with_entry old.bundle (record { name = name; text = text }); lost = old.lost }
+with_text folder name (Some text) old = record { bundle = with_entry old.bundle (entry_of name text); lost = old.lost }
 with_text folder name None old =
     record {
-      bundle = with_entry old.bundle (record { name = name; text = [] });
-      lost = with_loss old.lost (path_of folder name) (Some (last_place (with_entry old.bundle (record { name = name; text = [] }))));
+      bundle = with_entry old.bundle (lost_entry name);
+      lost = with_loss old.lost (path_of folder name) (Some (last_place (with_entry old.bundle (lost_entry name))));
     }
 
 -- an entry was added to the last folder, in which there was room

@@ -38,7 +38,7 @@ fn read_text<S: Shelf>(
     }
 }
 
-// Adds a pattern file of a folder to the last folder, without text where it can't be read. A name that isn't lawful is
+// Adds a pattern file of a folder to the last folder, as a lost one where it can't be read. A name that isn't lawful is
 // left out.
 fn keep_file<S: Shelf>(
     shelf: &S,
@@ -53,11 +53,11 @@ fn keep_file<S: Shelf>(
         (StopsKeepingFile name.now kept.old) }
 {
     let text = read_text(shelf, alloc, folder, name)?;
-    let bytes = match &text {
-        Some(bytes) => bytes.as_slice(),
-        None => b"",
+    let added = match &text {
+        Some(bytes) => kept.bundle.add_entry(name, bytes.as_slice()),
+        None => kept.bundle.add_lost(name),
     };
-    match kept.bundle.add_entry(name, bytes) {
+    match added {
         Ok(()) => {
             if text.is_none() {
                 let path = path_of(alloc, folder, name)?;
@@ -110,7 +110,7 @@ fn keep_folder<S: Shelf>(
 }
 
 /// Reads the folders of these words into a bundle, as [`read_folders`](crate::reading::read_folders) does, but goes on
-/// where that ends. A file that can't be read, or that has more than 67,108,864 bytes, is an entry without text; a folder
+/// where that ends. A file that can't be read, or that has more than 67,108,864 bytes, is a lost entry; a folder
 /// that can't be listed is one without entries; and a folder or a file whose name isn't lawful is left out. Each of these
 /// is among what was lost, in this order.
 ///
