@@ -4,8 +4,8 @@ use Rattle.census_bundle.specs.declared.bundle.Entry.{Entry}
 use Rattle.census_bundle.specs.declared.bundle.Folder.{Folder}
 use Rattle.census_bundle.specs.declared.ticket.Ticket.{Ticket}
 use Rattle.life_answer.specs.declared.finding.Answer.{Answer}
-use Rattle.life_answer.specs.Questions.{answer_to_question}
 use Rattle.census_bundle.specs.Tickets.{Tickets, ticket, numbered, entry_at, has_ticket, with_ticket, IsTicketOf}
+use Rattle.census_book.specs.Lines.{answer_to_entry}
 use Rattle.census_book.specs.Counts.{numbered_sum, bundle_weight, one_if, taken_count, missing_count, CountsStep}
 use Rattle.census_book.proofs.TicketSets.{has_other, has_same}
 use Rattle.census_book.proofs.Releases.{folder_at}
@@ -50,11 +50,11 @@ weight_step w v n b t e same more at =
 
 -- a ticket that is taken adds its pattern to those of its kind
 pub count_more : (kind : Answer → Bool) (b : List Folder) (question : Question) (taken : Tickets) (t : Ticket) (e : Entry) → entry_at b t ≡ Some e → has_ticket taken t ≡ false
-    → taken_count kind b question (with_ticket taken t) ≡ taken_count kind b question taken + one_if (kind (answer_to_question question e.text))
+    → taken_count kind b question (with_ticket taken t) ≡ taken_count kind b question taken + one_if (kind (answer_to_entry question e))
 count_more kind b question taken t e at not =
-    weight_step _ _ _ b t e (λ u x other. ap (λ (has : Bool). cond has (one_if (kind (answer_to_question question x.text))) 0) (has_other taken t u other))
-    (ap (λ (has : Bool). cond has (one_if (kind (answer_to_question question e.text))) 0) (has_same taken t)
-    ∙ sym (ap (λ (has : Bool). cond has (one_if (kind (answer_to_question question e.text))) 0 + one_if (kind (answer_to_question question e.text))) not ∙ omega arith))
+    weight_step _ _ _ b t e (λ u x other. ap (λ (has : Bool). cond has (one_if (kind (answer_to_entry question x))) 0) (has_other taken t u other))
+    (ap (λ (has : Bool). cond has (one_if (kind (answer_to_entry question e))) 0) (has_same taken t)
+    ∙ sym (ap (λ (has : Bool). cond has (one_if (kind (answer_to_entry question e))) 0 + one_if (kind (answer_to_entry question e))) not ∙ omega arith))
     at
 
 -- and leaves one less missing

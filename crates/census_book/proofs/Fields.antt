@@ -9,9 +9,8 @@ use Rattle.life_answer.specs.declared.finding.Finding.TheVariants.{Recurs}
 use Rattle.life_model.specs.Rule.{Rule}
 use Rattle.life_cells.specs.Rules.{rule_text}
 use Rattle.census_bundle.specs.declared.bundle.Entry.{Entry}
-use Rattle.life_answer.specs.Questions.{answer_to_question}
 use Rattle.census_book.specs.Heads.{headed, line_head, line_tail}
-use Rattle.census_book.specs.Lines.{behind, finding_fields, part_lines, pattern_line, pattern_text, text_of}
+use Rattle.census_book.specs.Lines.{answer_to_entry, behind, finding_fields, part_lines, pattern_line, pattern_text, text_of}
 use Rattle.life_answer.specs.declared.question.Question.{Question}
 
 pub behind-append : (xs ys : List (List ℕ)) → behind (xs ++ ys) ≡ behind xs ++ behind ys
@@ -54,8 +53,8 @@ one_more word name xs =
     ∙ ap (λ r. word ++ r) (sym (behind-append xs (name ∷ [])))
 
 -- a pattern's lines are its head, its name and its tail
-pub headed_line : (question : Question) (c i : ℕ) (e : Entry) → headed (line_head c i (answer_to_question question e.text)) (line_tail c i (answer_to_question question e.text)) e ≡ pattern_text question c i e
+pub headed_line : (question : Question) (c i : ℕ) (e : Entry) → headed (line_head c i (answer_to_entry question e)) (line_tail c i (answer_to_entry question e)) e ≡ pattern_text question c i e
 unfolding line_head line_tail pattern_line pattern_text
 headed_line question c i e =
-    let found = answer_to_question question e.text in
+    let found = answer_to_entry question e in
     ap (λ text. (text ++ codes "\n") ++ text_of (part_lines c i found)) (one_more (codes "line") e.name (decimal c ∷ decimal i ∷ finding_fields found))

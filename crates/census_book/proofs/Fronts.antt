@@ -138,9 +138,9 @@ run_kept taken t c k f is j lt =
     has_kept taken t (ticket c (1 + j)) (run_before (λ i. has_ticket taken (ticket c i)) 1 f.entries j within)
 
 -- the front after a result that belongs there
-pub front_after : (b : List Folder) (question : Question) (taken : Tickets) (runs : List ℕ) (first next : ℕ) (t : Ticket) (m : ℕ) (text : List ℕ) (asked : Question) → IsFront b taken runs first → Belongs b question t text asked → has_ticket taken t ≡ false
+pub front_after : (b : List Folder) (question : Question) (taken : Tickets) (runs : List ℕ) (first next : ℕ) (t : Ticket) (m : ℕ) (worked : Entry) (asked : Question) → IsFront b taken runs first → Belongs b question t worked asked → has_ticket taken t ≡ false
     → ((f : Folder) → numbered b t.folder ≡ Some f → m ≡ run_of (with_ticket taken t) t.folder f) → IsNextOpen b runs t.folder m first next → IsFront b (with_ticket taken t) (set runs (t.folder - 1) m) next
-front_after b question taken runs first next t m text n front belongs new here behind =
+front_after b question taken runs first next t m worked n front belongs new here behind =
     let at = folder_at (numbered b t.folder) t.number belongs.entry belongs.at in
     front_with b taken runs first next t m front (ticket_in b t belongs.entry belongs.at) here
     (λ f is whole.

@@ -1,6 +1,7 @@
 pub mod Fields
 pub mod Padding
 pub mod TicketSets
+pub mod Lost
 pub mod Kept
 pub mod Rows
 pub mod Runs

@@ -20,10 +20,11 @@ use Rattle.life_model.specs.Rule.{Rule}
 use Rattle.life_text.specs.declared.rle.RleFault.{RleFault}
 use Rattle.life_text.specs.Picture.{Picture, picture_of}
 use Rattle.life_text.specs.Rle.{reading}
-use Rattle.census_book.specs.Lines.{answers}
+use Rattle.census_book.specs.Lines.{answer_to_entry, answers}
 use Rattle.census_book.specs.Objects.{Object, object, objects, part_objects, same_object, distinct, tally}
 use Rattle.census_book.specs.ObjectLaws.{one_object, same_itself}
 use Rattle.census_book.specs.PartCounts.{parts_as, fallen_as, all_fallen_as, CountsParts, CodesCountParts}
+use Rattle.census_book.proofs.Lost.{found_answer}
 use Rattle.census_book.proofs.Tallies.{count_first, count_none, any_distinct, count_distinct}
 
 -- ---- where objects are asked for, no pattern is said to come again
@@ -77,13 +78,13 @@ count_parts k rule (part ∷ parts) =
 
 module _ (bound : ℕ) (most : Option ℕ) where
   abbrev answer_in : Entry → Answer
-  answer_in e = answer_to_question (question.Objects bound most) e.text
+  answer_in e = answer_to_entry (question.Objects bound most) e
 
   abbrev all_objects : List Entry → List Object
   all_objects es = objects (answers (question.Objects bound most) es)
 
   count_answer : (k : Object) (e : Entry) (a : Answer) (rest : List Answer) → answer_in e ≡ a → count_by (same_object k) (objects (a ∷ rest)) ≡ fallen_as k a + count_by (same_object k) (objects rest)
-  count_answer k e (Found rule (Recurs population onset period dx dy code)) rest is = absurd (no_recurrence population onset period dx dy code bound most e.text rule is)
+  count_answer k e (Found rule (Recurs population onset period dx dy code)) rest is = absurd (no_recurrence population onset period dx dy code bound most e.text rule (found_answer (question.Objects bound most) e rule (Recurs population onset period dx dy code) is))
   count_answer k e (Found rule (Unresolved population)) rest is = sym (zero-add (count_by (same_object k) (objects rest)))
   count_answer k e (Found rule (Large population first)) rest is = sym (zero-add (count_by (same_object k) (objects rest)))
   count_answer k e (Found rule (Ash population parts)) rest is =

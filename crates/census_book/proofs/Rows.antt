@@ -182,7 +182,7 @@ has_slot b question rows t e keeps at = slot t.folder t.number at
         ] refl is
 
 -- one more result that belongs there
-pub keeps_put : (b : List Folder) (question : Question) (rows : List Row) (w : Work) → KeepsResults b question rows → Belongs b question w.ticket w.entry.text w.question → KeepsResults b question (with_result rows w)
+pub keeps_put : (b : List Folder) (question : Question) (rows : List Row) (w : Work) → KeepsResults b question rows → Belongs b question w.ticket w.entry w.question → KeepsResults b question (with_result rows w)
 keeps_put b question rows w keeps belongs =
     let has = has_slot b question rows w.ticket belongs.entry keeps belongs.at in
     record {

@@ -4,12 +4,11 @@ use Rattle.std.proofs.lemmas.Option.{slice_get_read}
 use Rattle.census_bundle.specs.declared.bundle.Entry.{Entry}
 use Rattle.census_bundle.specs.declared.bundle.Folder.{Folder}
 use Rattle.census_bundle.specs.declared.ticket.Ticket.{Ticket}
-use Rattle.life_answer.specs.Questions.{answer_to_question}
 use Rattle.census_book.proofs.Releases.{folder_at, numbered_bounds}
 use Rattle.census_bundle.specs.Tickets.{Tickets, with_ticket, numbered, entry_at}
 use Rattle.life_answer.specs.declared.finding.Answer.{Answer}
 use Rattle.census_book.specs.Objects.{code_line, code_lines, objects, same_object, tally}
-use Rattle.census_book.specs.Lines.{answers, close_line, text_of, end_line, pattern_text, pattern_lines, pattern_count}
+use Rattle.census_book.specs.Lines.{answer_to_entry, answers, close_line, text_of, end_line, pattern_text, pattern_lines, pattern_count}
 use Rattle.census_book.specs.Reports.{out, out_of, folder_out, closing, closing_if, end_if, run_of, has_all}
 use Rattle.census_book.proofs.Owning.{text_of-append, eqb_same, eqb_apart}
 use Rattle.life_answer.specs.declared.question.Question.{Question}
@@ -94,14 +93,14 @@ ended question c f found t₀ t₁ t₂ is one two =
     ∙ append_assoc t₀ (text_of (code_lines question c f)) (close_line question c f)
     ∙ ap (λ t. t₀ ++ t) (sym (closing_text question c f))
 
-pub answers_more : (question : Question) (i : ℕ) (es : List Entry) (e : Entry) → slice_get es i ≡ Some e → answers question (take (i + 1) es) ≡ answers question (take i es) ++ answer_to_question question e.text ∷ []
+pub answers_more : (question : Question) (i : ℕ) (es : List Entry) (e : Entry) → slice_get es i ≡ Some e → answers question (take (i + 1) es) ≡ answers question (take i es) ++ answer_to_entry question e ∷ []
 answers_more question i [] e at = absurd (cc)
 answers_more question zero (x ∷ es) e at =
     let same : x ≡ e = cc in
-    ap (λ (y : Entry). answer_to_question question y.text ∷ []) same
+    ap (λ (y : Entry). answer_to_entry question y ∷ []) same
 answers_more question (suc i) (x ∷ es) e at =
     let n : suc i + 1 ≡ suc (i + 1) = omega arith in
-    ap (λ m. answers question (take m (x ∷ es))) n ∙ ap (λ xs. answer_to_question question x.text ∷ xs) (answers_more question i es e at)
+    ap (λ m. answers question (take m (x ∷ es))) n ∙ ap (λ xs. answer_to_entry question x ∷ xs) (answers_more question i es e at)
 
 pub count_at : (i : ℕ) (fs : List Folder) (f : Folder) → slice_get fs i ≡ Some f → pattern_count (drop i fs) ≡ length f.entries + pattern_count (drop (i + 1) fs)
 count_at i [] f at = absurd (cc)

@@ -1,5 +1,5 @@
 -- What a collector does with a result.
-use Rattle.std.specs.Prelude.{◌≡◌, ◌≢◌, ℕ, true, false, List, Some}
+use Rattle.std.specs.Prelude.{◌≡◌, ◌≢◌, true, false, List, Some}
 use Rattle.std.specs.declared.cmp.Ordering.TheVariants.{Less}
 use Rattle.census_bundle.specs.declared.bundle.Entry.{Entry}
 use Rattle.census_bundle.specs.declared.bundle.Folder.{Folder}
@@ -11,23 +11,25 @@ use Rattle.census_book.specs.Progress.{Progress, with_taken}
 use Rattle.census_book.specs.Work.{Work}
 use Rattle.life_answer.specs.declared.question.Question.{Question}
 
--- the ticket is one of the bundle's, the text is the text of that ticket, and the questions agree
-pub record Belongs (b : List Folder) (question : Question) (t : Ticket) (text : List ℕ) (asked : Question) : Type 0 where
+-- the ticket is one of the bundle's, the entry that was worked has the text of that ticket and is lost where it is, and the
+-- questions agree
+pub record Belongs (b : List Folder) (question : Question) (t : Ticket) (worked : Entry) (asked : Question) : Type 0 where
   pub entry : Entry
   pub at : entry_at b t ≡ Some entry
-  pub same_text : entry.text ≡ text
+  pub same_text : entry.text ≡ worked.text
+  pub same_loss : entry.is_lost ≡ worked.is_lost
   pub same_question : question ≡ asked
 
 -- this is the result of a ticket of the bundle
 pub record IsResult (b : List Folder) (question : Question) (t : Ticket) (w : Work) : Type 0 where
   pub own : w.ticket ≡ t
-  pub belongs : Belongs b question t w.entry.text w.question
+  pub belongs : Belongs b question t w.entry w.question
 
 -- what is answered to a result where these tickets were taken
-abbrev pub Judged : List Folder → Question → Tickets → Ticket → List ℕ → Question → Offer → Type 0
-Judged b question taken t text asked Stranger = Belongs b question t text asked → ⊥
-Judged b question taken t text asked Double = Belongs b question t text asked × (has_ticket taken t ≡ true)
-Judged b question taken t text asked Taken = Belongs b question t text asked × (has_ticket taken t ≡ false)
+abbrev pub Judged : List Folder → Question → Tickets → Ticket → Entry → Question → Offer → Type 0
+Judged b question taken t worked asked Stranger = Belongs b question t worked asked → ⊥
+Judged b question taken t worked asked Double = Belongs b question t worked asked × (has_ticket taken t ≡ true)
+Judged b question taken t worked asked Taken = Belongs b question t worked asked × (has_ticket taken t ≡ false)
 
 -- the collector afterwards
 abbrev pub after_offer : Progress → Ticket → Offer → Progress
@@ -36,8 +38,8 @@ after_offer p t Double = p
 after_offer p t Taken = with_taken p t
 
 -- what becomes of a collector to which this result was offered
-abbrev pub Offered : Progress → Ticket → List ℕ → Question → Progress → Offer → Type 0
-Offered p t text asked q o = Judged p.bundle p.question p.taken t text asked o × (q ≡ after_offer p t o)
+abbrev pub Offered : Progress → Ticket → Entry → Question → Progress → Offer → Type 0
+Offered p t worked asked q o = Judged p.bundle p.question p.taken t worked asked o × (q ≡ after_offer p t o)
 
 -- the least ticket that is not taken
 pub record IsLeastMissing (b : List Folder) (taken : Tickets) (t : Ticket) : Type 0 where

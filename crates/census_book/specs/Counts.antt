@@ -4,9 +4,9 @@ use Rattle.census_bundle.specs.declared.bundle.Entry.{Entry}
 use Rattle.census_bundle.specs.declared.bundle.Folder.{Folder}
 use Rattle.census_bundle.specs.declared.ticket.Ticket.{Ticket}
 use Rattle.life_answer.specs.declared.finding.Answer.{Answer}
-use Rattle.life_answer.specs.Questions.{answer_to_question}
 use Rattle.census_bundle.specs.Tickets.{Tickets, ticket, has_ticket, with_ticket, entry_at}
 use Rattle.life_answer.specs.declared.question.Question.{Question}
+use Rattle.census_book.specs.Lines.{answer_to_entry}
 
 -- what g gives for each element and its number, the first of which is i, added up
 abbrev pub numbered_sum : {A : Type 0} → (ℕ → A → ℕ) → ℕ → List A → ℕ
@@ -22,11 +22,11 @@ one_if b = if b then 1 else 0
 
 -- how many patterns are of this kind
 abbrev pub count_of : (Answer → Bool) → List Folder → Question → ℕ
-count_of kind b question = bundle_weight (λ t e. one_if (kind (answer_to_question question e.text))) b
+count_of kind b question = bundle_weight (λ t e. one_if (kind (answer_to_entry question e))) b
 
 -- how many of those taken are
 abbrev pub taken_count : (Answer → Bool) → List Folder → Question → Tickets → ℕ
-taken_count kind b question taken = bundle_weight (λ t e. if has_ticket taken t then one_if (kind (answer_to_question question e.text)) else 0) b
+taken_count kind b question taken = bundle_weight (λ t e. if has_ticket taken t then one_if (kind (answer_to_entry question e)) else 0) b
 
 -- how many patterns are not taken
 abbrev pub missing_count : List Folder → Tickets → ℕ
@@ -36,5 +36,5 @@ missing_count b taken = bundle_weight (λ t e. if has_ticket taken t then 0 else
 abbrev pub CountsStep : Type 0
 CountsStep =
     (b : List Folder) (taken : Tickets) (t : Ticket) (e : Entry) → entry_at b t ≡ Some e → has_ticket taken t ≡ false
-    → ((kind : Answer → Bool) (question : Question) → taken_count kind b question (with_ticket taken t) ≡ taken_count kind b question taken + one_if (kind (answer_to_question question e.text)))
+    → ((kind : Answer → Bool) (question : Question) → taken_count kind b question (with_ticket taken t) ≡ taken_count kind b question taken + one_if (kind (answer_to_entry question e)))
     × (missing_count b taken ≡ missing_count b (with_ticket taken t) + 1)

@@ -1,5 +1,5 @@
 -- The lines of a report.
-use Rattle.std.specs.Prelude.{ℕ, suc, ◌+◌, List, [], ◌∷◌, ◌++◌, Bool, true, false, length, codes, decimal, map, count_by}
+use Rattle.std.specs.Prelude.{ℕ, suc, ◌+◌, List, [], ◌∷◌, ◌++◌, Bool, true, false, length, codes, decimal, map, count_by, if◌then◌else◌}
 use Rattle.std.specs.Fmt.{signed_decimal}
 use Rattle.census_bundle.specs.declared.bundle.Entry.{Entry}
 use Rattle.census_bundle.specs.declared.bundle.Folder.{Folder}
@@ -36,7 +36,7 @@ open_line c f = line (codes "open") (decimal c ∷ decimal (length f.entries) �
 
 -- What is found of a pattern. `ok`: the rule, the population of generation 0, the onset, the period, the displacement
 -- and the code. `ash`: the rule, the population and how many objects. `none`: the rule and the population. `large`:
--- the rule, the population and the first generation that has too many cells. `bad`: the number of the text's fault.
+-- the rule, the population and the first generation that has too many cells. `bad`: the number of the text's fault, or 0.
 abbrev pub finding_fields : Answer → List (List ℕ)
 finding_fields (Found rule (Recurs population onset period dx dy code)) =
     codes "ok" ∷ rule_text rule ∷ decimal population ∷ decimal onset ∷ decimal period ∷ signed_decimal dx ∷ signed_decimal dy ∷ code ∷ []
@@ -65,10 +65,14 @@ part_lines c i (Found rule (Large population generation)) = []
 part_lines c i (Found rule (Ash population parts)) = map (part_line c i) parts
 part_lines c i (Refused number) = []
 
+-- what is found of an entry: one whose text is lost is refused under the number 0, which no fault of a text has
+unfoldable pub answer_to_entry : Question → Entry → Answer
+answer_to_entry question e = if e.is_lost then Refused 0 else answer_to_question question e.text
+
 -- the `line` line of a pattern, and behind it its `part` lines
 unfoldable pub pattern_text : Question → ℕ → ℕ → Entry → Line
 pattern_text question c i e =
-    pattern_line c i (answer_to_question question e.text) e.name ++ text_of (part_lines c i (answer_to_question question e.text))
+    pattern_line c i (answer_to_entry question e) e.name ++ text_of (part_lines c i (answer_to_entry question e))
 
 -- the texts of these patterns, the first of which has the number i
 abbrev pub pattern_lines : Question → ℕ → ℕ → List Entry → List Line
@@ -77,7 +81,7 @@ pattern_lines question c i (e ∷ es) = pattern_text question c i e ∷ pattern_
 
 -- what is found of each of these patterns
 abbrev pub answers : Question → List Entry → List Answer
-answers question es = map (λ (e : Entry). answer_to_question question e.text) es
+answers question es = map (answer_to_entry question) es
 
 abbrev pub is_resolved : Answer → Bool
 is_resolved (Found rule (Recurs population onset period dx dy code)) = true

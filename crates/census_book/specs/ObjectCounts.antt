@@ -1,5 +1,5 @@
 -- What the counts of a closing say of objects.
-use Rattle.std.specs.Prelude.{◌≡◌, ℕ, Bool, List, Option, Ok, count_by}
+use Rattle.std.specs.Prelude.{◌≡◌, ℕ, Bool, false, List, Option, Ok, count_by}
 use Rattle.std.specs.Bool.{Decides}
 use Rattle.std.specs.List.{All, Contains}
 use Rattle.census_bundle.specs.declared.bundle.Entry.{Entry}
@@ -16,11 +16,12 @@ use Rattle.life_answer.specs.declared.question.Question.TheVariants as question
 use Rattle.census_book.specs.Lines.{answers}
 use Rattle.census_book.specs.Objects.{Object, object, objects, same_object, tally}
 
--- The pattern is a set of cells under a rule that settles within the bound, and none of its generations up to the bound
--- is too large.
+-- The pattern isn't lost; it is a set of cells under a rule that settles within the bound, and none of its generations up
+-- to the bound is too large.
 pub record Resolves (bound : ℕ) (most : Option ℕ) (e : Entry) : Type 0 where
   pub rule : Rule
   pub cells : Generation
+  pub kept : e.is_lost ≡ false
   pub reads : picture_of (reading e.text) ≡ Ok (record { rule = rule; cells = cells })
   pub onset : ℕ
   pub period : ℕ

@@ -7,9 +7,8 @@ use Rattle.life_answer.specs.declared.finding.Answer.TheVariants.{Found, Refused
 use Rattle.life_answer.specs.declared.finding.Finding.TheVariants.{Recurs, Unresolved, Large, Ash}
 use Rattle.life_answer.specs.declared.part.Part.{Part}
 use Rattle.life_answer.specs.declared.question.Question.TheVariants as question
-use Rattle.life_answer.specs.Questions.{answer_to_question}
 use Rattle.life_model.specs.Rule.{Rule}
-use Rattle.census_book.specs.Lines.{answers}
+use Rattle.census_book.specs.Lines.{answer_to_entry, answers}
 use Rattle.census_book.specs.Objects.{Object, object, objects, same_object, tally}
 
 -- how many objects among these parts have this rule and code
@@ -27,7 +26,7 @@ fallen_as k (Refused number) = 0
 
 -- how many objects with this rule and code these patterns have fallen apart into in all
 abbrev pub all_fallen_as : (bound : ℕ) (most : Option ℕ) → List Entry → Object → ℕ
-all_fallen_as bound most es k = sum_by (λ (e : Entry). fallen_as k (answer_to_question (question.Objects bound most) e.text)) es
+all_fallen_as bound most es k = sum_by (λ (e : Entry). fallen_as k (answer_to_entry (question.Objects bound most) e)) es
 
 -- The line with this rule and code and this number counts the objects that have them, of which there are some.
 pub record CountsParts (bound : ℕ) (most : Option ℕ) (es : List Entry) (line : Object × ℕ) : Type 0 where

@@ -30,13 +30,13 @@ impl<'r, 'a> Model for Arrival<'r, 'a> {
 
     ghost view = { λ a. taken_of a.results.now.bundle a.results.now.question (with_ticket a.results.now.taken a.done.now.ticket) };
 
-    ghost invariant = { λ a. Belongs a.results.now.bundle a.results.now.question a.done.now.ticket a.done.now.entry.text a.done.now.question };
+    ghost invariant = { λ a. Belongs a.results.now.bundle a.results.now.question a.done.now.ticket a.done.now.entry a.done.now.question };
 }
 
 impl<'r, 'a> Arrival<'r, 'a> {
     /// A result that belongs to the bundle and the question.
     pub fn new(results: &'r Results<'a>, done: &'r Done<'a>) -> Arrival<'r, 'a>
-        requires { Belongs results.now.bundle results.now.question done.now.ticket done.now.entry.text done.now.question }
+        requires { Belongs results.now.bundle results.now.question done.now.ticket done.now.entry done.now.question }
         ensures { result ≡ taken_of results.now.bundle results.now.question (with_ticket results.now.taken done.now.ticket) }
     {
         Arrival { results, done }

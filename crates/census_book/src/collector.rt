@@ -61,7 +61,7 @@ fn accept<'a>(
     text: &[u8],
     release: Release,
 ) -> Result<(), NoRoom<'a>>
-    requires belongs { Belongs results.old.bundle results.old.question done.ticket done.entry.text done.question }
+    requires belongs { Belongs results.old.bundle results.old.question done.ticket done.entry done.question }
     requires new { has_ticket results.old.taken done.ticket ≡ false }
     requires front { IsFront results.old.bundle results.old.taken front.old.runs.items front.old.first_open }
     requires release { IsRelease results.old.bundle results.old.question results.old.taken front.old.runs.items front.old.first_open done.ticket text.now release.run release.first_open }
@@ -114,9 +114,9 @@ impl<'a> Collector<'a> {
     /// `code` lines and its closing line, and where nothing is missing any more the last line. `NoRoom` is out of memory: it
     /// hands back a result that would have been `Taken`, and changes nothing.
     pub fn offer(&mut self, done: Done<'a>) -> Result<Offer, NoRoom<'a>>
-        ensures ok { IfOk result (λ o. Offered self.old done.entry.ticket done.entry.entry.text done.entry.question self.new o) }
+        ensures ok { IfOk result (λ o. Offered self.old done.entry.ticket done.entry.entry done.entry.question self.new o) }
         ensures no_room { IfErr result (λ e. e.done ≡ done.entry) }
-        ensures fits { OnErr result (Judged self.old.bundle self.old.question self.old.taken done.entry.ticket done.entry.entry.text done.entry.question Taken) }
+        ensures fits { OnErr result (Judged self.old.bundle self.old.question self.old.taken done.entry.ticket done.entry.entry done.entry.question Taken) }
         ensures unchanged { OnErr result (self.new ≡ self.old) }
     {
         match self.results.judge(&done) {

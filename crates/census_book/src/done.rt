@@ -1,6 +1,7 @@
 //! Patterns that were worked.
 ghost use Rattle.std.specs.Prelude.{◌≡◌, ◌≤◌, IfOk};
-ghost use Rattle.life_answer.specs.Questions.{IsAnswered, answer_to_question};
+ghost use Rattle.life_answer.specs.Questions.{IsAnswered};
+ghost use Rattle.census_book.specs.Lines.{answer_to_entry};
 ghost use Rattle.census_book.specs.Heads.{line_head, line_tail};
 
 use crate::lines::push_head;
@@ -16,7 +17,7 @@ use std::marker::Model;
 const HEAD_LEN: usize = 64;
 
 /// The work of one ticket: a ticket, the entry that was worked, what was asked, and what was found. What was found is
-/// what the definition gives for the question and the entry's text. The report's lines of the pattern are made here, all
+/// what the definition gives for the question and the entry. The report's lines of the pattern are made here, all
 /// but the name, and so beside other work where results are collected by one thread.
 #[derive(Drop)]
 pub struct Done<'a> {
@@ -30,8 +31,8 @@ pub struct Done<'a> {
 
 impl<'a> Model for Done<'a> {
     ghost use Rattle.std.specs.Prelude.{◌≡◌};
-    ghost use Rattle.life_answer.specs.Questions.{answer_to_question};
     ghost use Rattle.census_book.specs.Heads.{line_head, line_tail};
+    ghost use Rattle.census_book.specs.Lines.{answer_to_entry};
     ghost use Rattle.census_book.specs.Work.{Work, work_code};
 
     ghost Value = { Work };
@@ -40,14 +41,19 @@ impl<'a> Model for Done<'a> {
 
     ghost view = { λ d. record { ticket = d.ticket; entry = d.entry.now; question = d.question } };
 
-    ghost invariant = { λ d. (d.answer ≡ answer_to_question d.question d.entry.now.text) × (d.head ≡ line_head d.ticket.folder d.ticket.number d.answer) × (d.tail.items ≡ line_tail d.ticket.folder d.ticket.number d.answer) };
+    ghost invariant = { λ d. (d.answer ≡ answer_to_entry d.question d.entry.now) × (d.head ≡ line_head d.ticket.folder d.ticket.number d.answer) × (d.tail.items ≡ line_tail d.ticket.folder d.ticket.number d.answer) };
 }
 
-// What is found of an RLE text, whatever is asked.
-fn find(alloc: Global, text: &[u8], question: Question) -> Result<Answer, AllocError>
+// What is found of an entry, whatever is asked.
+#[tactic(auto, unfolding(crate::specs::Lines::answer_to_entry))]
+fn find(alloc: Global, entry: &Entry, question: Question) -> Result<Answer, AllocError>
     requires { IsAnswered question }
-    ensures { IfOk result (λ found. found ≡ answer_to_question question text.now) }
+    ensures { IfOk result (λ found. found ≡ answer_to_entry question entry.now) }
 {
+    if entry.is_lost {
+        return Ok(Answer::Refused(0));
+    }
+    let text = entry.text.as_slice();
     match question {
         Question::Settles { bound, cells } => life_find::answer::answer(alloc, text, bound, cells),
         Question::Objects { bound, cells } => life_census::answer::answer(
@@ -57,8 +63,8 @@ fn find(alloc: Global, text: &[u8], question: Question) -> Result<Answer, AllocE
 }
 
 impl<'a> Done<'a> {
-    /// Works a ticket: what is found of the entry's text. A bound is 1 to 1,000,000 generations, and 1 to
-    /// 100,000 where objects are asked for.
+    /// Works a ticket: what is found of the entry's text. Where that is lost, no work is done, and it is refused under the
+    /// number 0. A bound is 1 to 1,000,000 generations, and 1 to 100,000 where objects are asked for.
     pub fn work(
         alloc: Global,
         ticket: Ticket,
@@ -70,7 +76,7 @@ impl<'a> Done<'a> {
         ensures entry { IfOk result (λ d. d.entry ≡ entry.now) }
         ensures question { IfOk result (λ d. d.question ≡ question) }
     {
-        let answer = find(alloc, entry.text.as_slice(), question)?;
+        let answer = find(alloc, entry, question)?;
         let mut head = Vec::with_capacity(alloc, HEAD_LEN)?;
         push_head(&mut head, ticket, &answer)?;
         let mut tail = Vec::new(alloc);
@@ -106,23 +112,23 @@ impl<'a> Done<'a> {
         self.question
     }
 
-    /// What was found.
+    /// What was found: `Refused` of 0 where the entry is lost.
     pub fn answer(&self) -> &Answer
-        ensures { result.now ≡ answer_to_question self.now.question self.now.entry.text }
+        ensures { result.now ≡ answer_to_entry self.now.question self.now.entry }
     {
         &self.answer
     }
 
     // The `part` lines of the pattern.
     pub(crate) fn tail(&self) -> &[u8]
-        ensures { result.now ≡ line_tail self.now.ticket.folder self.now.ticket.number (answer_to_question self.now.question self.now.entry.text) }
+        ensures { result.now ≡ line_tail self.now.ticket.folder self.now.ticket.number (answer_to_entry self.now.question self.now.entry) }
     {
         self.tail.as_slice()
     }
 
     // The line of the pattern as far as its name.
     pub(crate) fn head(&self) -> &[u8]
-        ensures { result.now ≡ line_head self.now.ticket.folder self.now.ticket.number (answer_to_question self.now.question self.now.entry.text) }
+        ensures { result.now ≡ line_head self.now.ticket.folder self.now.ticket.number (answer_to_entry self.now.question self.now.entry) }
     {
         self.head.as_slice()
     }

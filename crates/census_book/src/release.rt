@@ -192,7 +192,7 @@ pub fn released<'a>(
     front: &Front,
     text: &mut Vec<u8>,
 ) -> Result<Release, AllocError>
-    requires belongs { Belongs results.now.bundle results.now.question done.now.ticket done.now.entry.text done.now.question }
+    requires belongs { Belongs results.now.bundle results.now.question done.now.ticket done.now.entry done.now.question }
     requires new { has_ticket results.now.taken done.now.ticket ≡ false }
     requires front { IsFront results.now.bundle results.now.taken front.now.runs.items front.now.first_open }
     ensures { IfOk result (λ r. IsRelease results.now.bundle results.now.question results.now.taken front.now.runs.items front.now.first_open done.now.ticket text.new.items r.run r.first_open) }

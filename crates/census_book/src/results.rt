@@ -90,13 +90,16 @@ impl<'a> Results<'a> {
 
     /// What becomes of a result that is offered.
     pub fn judge(&self, done: &Done) -> Offer
-        ensures { Judged self.now.bundle self.now.question self.now.taken done.now.ticket done.now.entry.text done.now.question result }
+        ensures { Judged self.now.bundle self.now.question self.now.taken done.now.ticket done.now.entry done.now.question result }
     {
         let ticket = done.ticket();
         let Some(entry) = self.bundle.entry(ticket) else {
             return Offer::Stranger;
         };
         if self.question != done.question() {
+            return Offer::Stranger;
+        }
+        if entry.is_lost != done.entry().is_lost {
             return Offer::Stranger;
         }
         if !same_bytes(entry.text.as_slice(), done.entry().text.as_slice()) {
@@ -111,7 +114,7 @@ impl<'a> Results<'a> {
 
     /// Takes a result.
     pub fn add(&mut self, done: Done<'a>)
-        requires belongs { Belongs self.old.bundle self.old.question done.ticket done.entry.text done.question }
+        requires belongs { Belongs self.old.bundle self.old.question done.ticket done.entry done.question }
         requires new { has_ticket self.old.taken done.ticket ≡ false }
         ensures { self.new ≡ taken_of self.old.bundle self.old.question (with_ticket self.old.taken done.entry.ticket) }
     {
