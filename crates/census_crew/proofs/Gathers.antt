@@ -1,5 +1,6 @@
 -- How what was gathered follows the collector.
 use Rattle.std.proofs.Common.{◌≡◌, ℕ, ◌^◌, ◌<◌, ◌≤◌, List, true, arith, sym, subst, ap, ◌∙◌}
+use Rattle.census_bundle.specs.declared.bundle.Entry.{Entry}
 use Rattle.census_bundle.specs.declared.bundle.Folder.{Folder}
 use Rattle.census_bundle.specs.declared.ticket.Ticket.{Ticket}
 use Rattle.census_bundle.specs.Sizes.{IsSmall}
@@ -7,14 +8,14 @@ use Rattle.census_bundle.specs.Tickets.{Tickets, with_ticket, HasAll}
 use Rattle.census_book.specs.Collecting.{Offered}
 use Rattle.census_book.specs.declared.offer.Offer.TheVariants.{Double, Stranger, Taken}
 use Rattle.census_book.specs.declared.offer.Offer.{Offer}
-use Rattle.census_book.specs.Lines.{is_refused, is_resolved, is_unresolved}
+use Rattle.census_book.specs.Lines.{answer_to_entry, is_refused, is_resolved, is_unresolved}
 use Rattle.life_answer.specs.declared.finding.Answer.{Answer}
 use Rattle.census_book.specs.Progress.{Progress, started}
 use Rattle.census_crew.specs.declared.tally.Tally.{Tally}
 use Rattle.census_crew.specs.Gathering.{Gathers}
 use Rattle.census_crew.specs.Tallying.{tallied, no_tally, TalliesPatterns, TalliesTaken}
 use Rattle.census_crew.proofs.Tallies.{all_counted, count_small, none_taken, one_taken}
-use Rattle.life_answer.specs.Questions.{IsAnswered, answer_to_question}
+use Rattle.life_answer.specs.Questions.{IsAnswered}
 use Rattle.life_answer.specs.declared.question.Question.{Question}
 
 pub gathers_start : (b : List Folder) (question : Question) (p : Progress) (t : Tally) → IsSmall b → IsAnswered question → p ≡ started b question → t ≡ no_tally → Gathers b question p t
@@ -62,30 +63,30 @@ gathers_kept b question p q t u g is patterns resolved unresolved refused = reco
   });
 }
 
-pub gathers_taken : (b : List Folder) (question asked : Question) (p q : Progress) (t : Tally) (k : Ticket) (text : List ℕ) → Gathers b question p t → Offered p k text asked q Taken → Gathers b question q (tallied t (answer_to_question asked text))
-gathers_taken b question asked p q t k text g h =
-    let P : Progress → Type 0 = λ r. Gathers b question r (tallied t (answer_to_question asked text)) in
+pub gathers_taken : (b : List Folder) (question asked : Question) (p q : Progress) (t : Tally) (k : Ticket) (worked : Entry) → Gathers b question p t → Offered p k worked asked q Taken → Gathers b question q (tallied t (answer_to_entry asked worked))
+gathers_taken b question asked p q t k worked g h =
+    let P : Progress → Type 0 = λ r. Gathers b question r (tallied t (answer_to_entry asked worked)) in
     subst P (sym h.1) (record {
       small = g.small;
       lawful = g.lawful;
       same_bundle = g.same_bundle;
       same_question = g.same_question;
-      counted = subst (λ fs. TalliesTaken (tallied t (answer_to_question asked text)) fs question (with_ticket p.taken k)) g.same_bundle
-          (subst (λ m. TalliesTaken (tallied t (answer_to_question asked text)) p.bundle m (with_ticket p.taken k)) g.same_question
-          (one_taken p.bundle p.question asked p.taken k text t h.0.0 h.0.1
+      counted = subst (λ fs. TalliesTaken (tallied t (answer_to_entry asked worked)) fs question (with_ticket p.taken k)) g.same_bundle
+          (subst (λ m. TalliesTaken (tallied t (answer_to_entry asked worked)) p.bundle m (with_ticket p.taken k)) g.same_question
+          (one_taken p.bundle p.question asked p.taken k worked t h.0.0 h.0.1
           (subst (λ fs. TalliesTaken t fs p.question p.taken) (sym g.same_bundle) (subst (λ m. TalliesTaken t b m p.taken) (sym g.same_question) g.counted))));
     })
 
-pub gathers_one : (b : List Folder) (question asked : Question) (p q : Progress) (t u : Tally) (k : Ticket) (text : List ℕ) (o : Offer) (a : Answer) → Gathers b question p t → o ≡ Taken → Offered p k text asked q o → a ≡ answer_to_question asked text → u ≡ tallied t a → Gathers b question q u
-gathers_one b question asked p q t u k text o a g taken h found is =
+pub gathers_one : (b : List Folder) (question asked : Question) (p q : Progress) (t u : Tally) (k : Ticket) (worked : Entry) (o : Offer) (a : Answer) → Gathers b question p t → o ≡ Taken → Offered p k worked asked q o → a ≡ answer_to_entry asked worked → u ≡ tallied t a → Gathers b question q u
+gathers_one b question asked p q t u k worked o a g taken h found is =
     subst (λ s. Gathers b question q s) (sym (is ∙ ap (tallied t) found))
-    (gathers_taken b question asked p q t k text g (subst (λ x. Offered p k text asked q x) taken h))
+    (gathers_taken b question asked p q t k worked g (subst (λ x. Offered p k worked asked q x) taken h))
 
-pub gathers_double : (b : List Folder) (question asked : Question) (p q : Progress) (t u : Tally) (k : Ticket) (text : List ℕ) (o : Offer) → Gathers b question p t → o ≡ Double → Offered p k text asked q o → u.patterns ≡ t.patterns → u.resolved ≡ t.resolved → u.unresolved ≡ t.unresolved → u.refused ≡ t.refused → Gathers b question q u
-gathers_double b question asked p q t u k text o g double h = gathers_kept b question p q t u g (subst (λ x. Offered p k text asked q x) double h).1
+pub gathers_double : (b : List Folder) (question asked : Question) (p q : Progress) (t u : Tally) (k : Ticket) (worked : Entry) (o : Offer) → Gathers b question p t → o ≡ Double → Offered p k worked asked q o → u.patterns ≡ t.patterns → u.resolved ≡ t.resolved → u.unresolved ≡ t.unresolved → u.refused ≡ t.refused → Gathers b question q u
+gathers_double b question asked p q t u k worked o g double h = gathers_kept b question p q t u g (subst (λ x. Offered p k worked asked q x) double h).1
 
-pub gathers_stranger : (b : List Folder) (question asked : Question) (p q : Progress) (t u : Tally) (k : Ticket) (text : List ℕ) (o : Offer) → Gathers b question p t → o ≡ Stranger → Offered p k text asked q o → u.patterns ≡ t.patterns → u.resolved ≡ t.resolved → u.unresolved ≡ t.unresolved → u.refused ≡ t.refused → Gathers b question q u
-gathers_stranger b question asked p q t u k text o g stranger h = gathers_kept b question p q t u g (subst (λ x. Offered p k text asked q x) stranger h).1
+pub gathers_stranger : (b : List Folder) (question asked : Question) (p q : Progress) (t u : Tally) (k : Ticket) (worked : Entry) (o : Offer) → Gathers b question p t → o ≡ Stranger → Offered p k worked asked q o → u.patterns ≡ t.patterns → u.resolved ≡ t.resolved → u.unresolved ≡ t.unresolved → u.refused ≡ t.refused → Gathers b question q u
+gathers_stranger b question asked p q t u k worked o g stranger h = gathers_kept b question p q t u g (subst (λ x. Offered p k worked asked q x) stranger h).1
 
 -- where nothing is missing, all patterns were counted
 pub gathers_whole : (b b' : List Folder) (question question' : Question) (p : Progress) (t : Tally) → Gathers b' question' p t → b' ≡ b → question' ≡ question → HasAll p.bundle p.taken → TalliesPatterns b question t

@@ -4,6 +4,7 @@ use Rattle.std.proofs.KnownBytes.{Appends-nil, Appends-trans}
 use Rattle.std.proofs.lemmas.List.{take-append-drop}
 use Rattle.std.specs.Io.KnownBytes.{Appends}
 use Rattle.watched.specs.Watching.{AppendsFront}
+use Rattle.census_bundle.specs.declared.bundle.Entry.{Entry}
 use Rattle.census_bundle.specs.declared.ticket.Ticket.{Ticket}
 use Rattle.census_bundle.specs.declared.bundle.Folder.{Folder}
 use Rattle.census_bundle.specs.Tickets.{IsTicketOf, HasAll, has_ticket}
@@ -91,10 +92,10 @@ stops_after k l m p q stays stops =
 pub stops_here : (k : Option (List ℕ)) (p : Progress) → StopsInStep k p k
 stops_here k p = record { front = λ base s. front_of_step base k p s }
 
-pub stays_offered : (k : Option (List ℕ)) (p q : Progress) (t : Ticket) (text : List ℕ) (question : Question) (o : Offer) → Offered p t text question q o → StaysInStep k p k q
-stays_offered k p q t text question Stranger h = subst (StaysInStep k p k) (sym h.1) (stays_refl k p)
-stays_offered k p q t text question Double h = subst (StaysInStep k p k) (sym h.1) (stays_refl k p)
-stays_offered k p q t text question Taken h =
+pub stays_offered : (k : Option (List ℕ)) (p q : Progress) (t : Ticket) (worked : Entry) (question : Question) (o : Offer) → Offered p t worked question q o → StaysInStep k p k q
+stays_offered k p q t worked question Stranger h = subst (StaysInStep k p k) (sym h.1) (stays_refl k p)
+stays_offered k p q t worked question Double h = subst (StaysInStep k p k) (sym h.1) (stays_refl k p)
+stays_offered k p q t worked question Taken h =
     subst (StaysInStep k p k) (sym h.1) (stays_more k p t (h.0.0.entry, h.0.0.at) h.0.1)
 
 pub front_at_start : (k : Option (List ℕ)) (b : List Folder) (question : Question) → WritesFront k k b question

@@ -9,11 +9,11 @@ use Rattle.census_bundle.specs.Tickets.{Tickets, ticket_cmp, ticket, no_tickets,
 use Rattle.life_answer.specs.declared.finding.Answer.{Answer}
 use Rattle.census_book.specs.Collecting.{Belongs}
 use Rattle.census_book.specs.Counts.{numbered_sum, one_if, count_of, taken_count}
-use Rattle.census_book.specs.Lines.{is_refused, is_resolved, is_unresolved, pattern_count}
+use Rattle.census_book.specs.Lines.{answer_to_entry, is_refused, is_resolved, is_unresolved, pattern_count}
 use Rattle.census_book.proofs.Counting.{count_more}
+use Rattle.census_book.proofs.Lost.{same_answer}
 use Rattle.census_crew.specs.declared.tally.Tally.{Tally}
 use Rattle.census_crew.specs.Tallying.{tallied, no_tally, TalliesTaken, TalliesPatterns}
-use Rattle.life_answer.specs.Questions.{answer_to_question}
 use Rattle.life_answer.specs.declared.question.Question.{Question}
 
 -- sums of the same weights, at each place that there is
@@ -52,10 +52,10 @@ square_small n s le more = omega (arith, le, more)
 pub count_small : (kind : Answer → Bool) (b : List Folder) (question : Question) (taken : Tickets) → IsSmall b → taken_count kind b question taken < 2 ^ 62
 count_small kind b question taken small =
     square_small (length b) _ small.folders
-    (sum_small (λ c (f : Folder). numbered_sum (λ i (e : Entry). cond (has_ticket taken (ticket c i)) (one_if (kind (answer_to_question question e.text))) 0) 1 f.entries) 65535 1 b
+    (sum_small (λ c (f : Folder). numbered_sum (λ i (e : Entry). cond (has_ticket taken (ticket c i)) (one_if (kind (answer_to_entry question e))) 0) 1 f.entries) 65535 1 b
     (λ c k f is.
-    let inner = sum_small (λ i (e : Entry). cond (has_ticket taken (ticket c i)) (one_if (kind (answer_to_question question e.text))) 0) 1 1 f.entries
-    (λ i j e at. taken_small (has_ticket taken (ticket c i)) (kind (answer_to_question question e.text))) in
+    let inner = sum_small (λ i (e : Entry). cond (has_ticket taken (ticket c i)) (one_if (kind (answer_to_entry question e))) 0) 1 1 f.entries
+    (λ i j e at. taken_small (has_ticket taken (ticket c i)) (kind (answer_to_entry question e))) in
     let few = small.entries k f is in
     omega (arith, inner, few)))
 
@@ -68,8 +68,8 @@ none_has t = contains-empty ticket_cmp t
 
 count_none : (kind : Answer → Bool) (b : List Folder) (question : Question) → taken_count kind b question no_tickets ≡ 0
 count_none kind b question =
-    none_sum (λ c (f : Folder). numbered_sum (λ i (e : Entry). cond (has_ticket no_tickets (ticket c i)) (one_if (kind (answer_to_question question e.text))) 0) 1 f.entries) 1 b
-    (λ c f. none_sum (λ i (e : Entry). cond (has_ticket no_tickets (ticket c i)) (one_if (kind (answer_to_question question e.text))) 0) 1 f.entries (λ i e. ap (λ (has : Bool). cond has (one_if (kind (answer_to_question question e.text))) 0) (none_has (ticket c i))))
+    none_sum (λ c (f : Folder). numbered_sum (λ i (e : Entry). cond (has_ticket no_tickets (ticket c i)) (one_if (kind (answer_to_entry question e))) 0) 1 f.entries) 1 b
+    (λ c f. none_sum (λ i (e : Entry). cond (has_ticket no_tickets (ticket c i)) (one_if (kind (answer_to_entry question e))) 0) 1 f.entries (λ i e. ap (λ (has : Bool). cond has (one_if (kind (answer_to_entry question e))) 0) (none_has (ticket c i))))
 
 pub none_taken : (b : List Folder) (question : Question) → TalliesTaken no_tally b question no_tickets
 none_taken b question = record {
@@ -79,12 +79,12 @@ none_taken b question = record {
   refused = sym (count_none is_refused b question);
 }
 
-pub one_taken : (b : List Folder) (question asked : Question) (taken : Tickets) (t : Ticket) (text : List ℕ) (tally : Tally) → Belongs b question t text asked → has_ticket taken t ≡ false → TalliesTaken tally b question taken
-    → TalliesTaken (tallied tally (answer_to_question asked text)) b question (with_ticket taken t)
-one_taken b question asked taken t text tally belongs not counted =
-    let same : answer_to_question question belongs.entry.text ≡ answer_to_question asked text = ap (answer_to_question question) belongs.same_text ∙ ap (λ q. answer_to_question q text) belongs.same_question in
-    let more : (kind : Answer → Bool) (m : ℕ) → m ≡ taken_count kind b question taken → m + one_if (kind (answer_to_question asked text)) ≡ taken_count kind b question (with_ticket taken t)
-    = λ kind m is. ap (λ k. k + one_if (kind (answer_to_question asked text))) is ∙ sym (count_more kind b question taken t belongs.entry belongs.at not ∙ ap (λ a. taken_count kind b question taken + one_if (kind a)) same) in
+pub one_taken : (b : List Folder) (question asked : Question) (taken : Tickets) (t : Ticket) (worked : Entry) (tally : Tally) → Belongs b question t worked asked → has_ticket taken t ≡ false → TalliesTaken tally b question taken
+    → TalliesTaken (tallied tally (answer_to_entry asked worked)) b question (with_ticket taken t)
+one_taken b question asked taken t worked tally belongs not counted =
+    let same : answer_to_entry question belongs.entry ≡ answer_to_entry asked worked = same_answer question belongs.entry worked belongs.same_text belongs.same_loss ∙ ap (λ q. answer_to_entry q worked) belongs.same_question in
+    let more : (kind : Answer → Bool) (m : ℕ) → m ≡ taken_count kind b question taken → m + one_if (kind (answer_to_entry asked worked)) ≡ taken_count kind b question (with_ticket taken t)
+    = λ kind m is. ap (λ k. k + one_if (kind (answer_to_entry asked worked))) is ∙ sym (count_more kind b question taken t belongs.entry belongs.at not ∙ ap (λ a. taken_count kind b question taken + one_if (kind a)) same) in
     record {
       patterns = more (λ a. true) tally.patterns counted.patterns;
       resolved = more is_resolved tally.resolved counted.resolved;
@@ -95,9 +95,9 @@ one_taken b question asked taken t text tally belongs not counted =
 -- where each ticket is taken, all patterns of a kind were counted
 count_all : (kind : Answer → Bool) (b : List Folder) (question : Question) (taken : Tickets) → HasAll b taken → taken_count kind b question taken ≡ count_of kind b question
 count_all kind b question taken all =
-    sum_same (λ c (f : Folder). numbered_sum (λ i (e : Entry). one_if (kind (answer_to_question question e.text))) 1 f.entries) (λ c (f : Folder). numbered_sum (λ i (e : Entry). cond (has_ticket taken (ticket c i)) (one_if (kind (answer_to_question question e.text))) 0) 1 f.entries) 1 b
-    (λ c k f is_c is. sum_same (λ i (e : Entry). one_if (kind (answer_to_question question e.text))) (λ i (e : Entry). cond (has_ticket taken (ticket c i)) (one_if (kind (answer_to_question question e.text))) 0) 1 f.entries
-    (λ i j e is_i at. ap (λ (has : Bool). cond has (one_if (kind (answer_to_question question e.text))) 0) (all (ticket c i) (e, ap (λ o. entry_in o i) (at_number b c k f is_c is) ∙ at_number f.entries i j e is_i at))))
+    sum_same (λ c (f : Folder). numbered_sum (λ i (e : Entry). one_if (kind (answer_to_entry question e))) 1 f.entries) (λ c (f : Folder). numbered_sum (λ i (e : Entry). cond (has_ticket taken (ticket c i)) (one_if (kind (answer_to_entry question e))) 0) 1 f.entries) 1 b
+    (λ c k f is_c is. sum_same (λ i (e : Entry). one_if (kind (answer_to_entry question e))) (λ i (e : Entry). cond (has_ticket taken (ticket c i)) (one_if (kind (answer_to_entry question e))) 0) 1 f.entries
+    (λ i j e is_i at. ap (λ (has : Bool). cond has (one_if (kind (answer_to_entry question e))) 0) (all (ticket c i) (e, ap (λ o. entry_in o i) (at_number b c k f is_c is) ∙ at_number f.entries i j e is_i at))))
 
 ones : {A : Type 0} (i : ℕ) (xs : List A) → numbered_sum (λ j (x : A). 1) i xs ≡ length xs
 ones i [] = refl

@@ -7,7 +7,7 @@ use Rattle.life_answer.specs.declared.question.Question.{Question}
 
 -- it was worked for a ticket of this bundle, on the text of that ticket, for this question
 abbrev pub IsResultOf : List Folder → Question → Work → Type 0
-IsResultOf b question w = Belongs b question w.ticket w.entry.text w.question
+IsResultOf b question w = Belongs b question w.ticket w.entry w.question
 
 -- a count of strangers grows by one where the result is one
 abbrev pub CountsStranger : List Folder → Question → Work → ℕ → ℕ → Type 0

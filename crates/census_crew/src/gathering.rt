@@ -63,7 +63,7 @@ impl<'a> Gathering<'a> {
     /// Takes a result. `None` says that there was no memory to take it, though it is of this bundle and question.
     pub(crate) fn take(&mut self, done: Done<'a>) -> Option<Offer>
         ensures same { (self.new.bundle.now ≡ self.old.bundle.now) × (self.new.question ≡ self.old.question) }
-        ensures offered { IfSome result (λ o. Offered self.old.collector done.entry.ticket done.entry.entry.text done.entry.question self.new.collector o) }
+        ensures offered { IfSome result (λ o. Offered self.old.collector done.entry.ticket done.entry.entry done.entry.question self.new.collector o) }
         ensures no_room { IfNone result (self.new.collector ≡ self.old.collector) }
         ensures step { (written : Option (List ℕ)) → StaysInStep written self.old.collector written self.new.collector }
         ensures strangers { NotesStranger self.old.bundle.now self.old.question done.entry self.old.tally.strangers self.new.tally.strangers }
@@ -100,7 +100,7 @@ impl<'a> Gathering<'a> {
             (λ _. StopsInStep (W.contents (inner_of out.old)) self.old.collector (W.contents (inner_of out.new))) }
         ensures sent { OnOk result (self.old.collector.unsent ≡ [] → self.new.collector.unsent ≡ []) }
         ensures offered { IfOk result (λ o. IfSome o (λ offer.
-            Judged self.old.collector.bundle self.old.collector.question self.old.collector.taken done.entry.ticket done.entry.entry.text done.entry.question offer
+            Judged self.old.collector.bundle self.old.collector.question self.old.collector.taken done.entry.ticket done.entry.entry done.entry.question offer
             × (self.new.collector.taken ≡ (after_offer self.old.collector done.entry.ticket offer).taken))) }
         ensures strangers { NotesStranger self.old.bundle.now self.old.question done.entry self.old.tally.strangers self.new.tally.strangers }
     {

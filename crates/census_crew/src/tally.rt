@@ -13,7 +13,7 @@ pub struct Tally {
     pub resolved: u64,
     /// The patterns with a `none` line, which don't.
     pub unresolved: u64,
-    /// The patterns with a `bad` line, whose texts have a fault.
+    /// The patterns with a `bad` line, which are lost or whose texts have a fault.
     pub refused: u64,
     /// The results whose tickets were taken before.
     pub doubles: u64,

@@ -1,5 +1,5 @@
 -- A pattern falls apart exactly where its answer says so.
-use Rattle.std.proofs.Common.{◌≡◌, ℕ, ◌*◌, List, Option, Some, None, Result, Ok, Err, map, refl, sym, ap, ◌∙◌}
+use Rattle.std.proofs.Common.{◌≡◌, ℕ, ◌*◌, false, List, Option, Some, None, Result, Ok, Err, map, refl, sym, ap, ◌∙◌}
 use Rattle.std.specs.List.Sorted.{IsPermutation}
 use Rattle.census_bundle.specs.declared.bundle.Entry.{Entry}
 use Rattle.life_answer.specs.Census.{census_found, census_of, part_code}
@@ -22,6 +22,8 @@ use Rattle.life_model.specs.Rule.{Rule}
 use Rattle.life_text.specs.declared.rle.RleFault.{RleFault}
 use Rattle.life_text.specs.Picture.{Picture, picture_of}
 use Rattle.life_text.specs.Rle.{reading}
+use Rattle.census_book.specs.Lines.{answer_to_entry}
+use Rattle.census_book.proofs.Lost.{found_kept, kept_answer}
 use Rattle.census_laws.specs.Fallen.{FallsApart}
 
 -- ---- what is found of a set that falls apart
@@ -49,7 +51,7 @@ not_large p parts population first e = cc
 
 module _ (bound : ℕ) (most : Option ℕ) (e : Entry) where
   abbrev pub answer_in : Answer
-  answer_in = answer_to_question (Objects bound most) e.text
+  answer_in = answer_to_entry (Objects bound most) e
 
   -- ---- a pattern that falls apart is said to
 
@@ -65,7 +67,8 @@ module _ (bound : ℕ) (most : Option ℕ) (e : Entry) where
       record {
         found = parts.0;
         order = parts.2;
-        is = answer-found (Objects bound most) e.text (record { rule = f.rule; cells = f.cells }) f.reads
+        is = kept_answer (Objects bound most) e f.kept
+            ∙ answer-found (Objects bound most) e.text (record { rule = f.rule; cells = f.cells }) f.reads
             ∙ ap (Found f.rule)
             (limited-same f.rule f.cells (3 * bound) most (census_of f.rule f.cells bound) f.small
             ∙ census_some f.rule f.cells bound parts.0 parts.1);
@@ -73,24 +76,28 @@ module _ (bound : ℕ) (most : Option ℕ) (e : Entry) where
 
   -- ---- and one that is said to does
 
-  answer_by : (r : Result Picture RleFault) → picture_of (reading e.text) ≡ r
+  answer_by : e.is_lost ≡ false → (r : Result Picture RleFault) → picture_of (reading e.text) ≡ r
       → answer_in ≡ answer_to (Objects bound most) r
   unfolding answer_to_question
-  answer_by r read = ap (answer_to (Objects bound most)) read
+  answer_by kept r read = kept_answer (Objects bound most) e kept ∙ ap (answer_to (Objects bound most)) read
 
   said_by : (rule : Rule) (population : ℕ) (parts : List Part) → answer_in ≡ Found rule (Ash population parts)
       → (r : Result Picture RleFault) → picture_of (reading e.text) ≡ r → FallsApart bound most e
-  said_by rule population parts is (Err fault) read = absurd (let fails = sym is ∙ answer_by (Err fault) read in cc)
+  said_by rule population parts is (Err fault) read =
+      let kept = found_kept (Objects bound most) e rule (Ash population parts) is in
+      absurd (let fails = sym is ∙ answer_by kept (Err fault) read in cc)
   said_by rule population parts is (Ok pattern) read =
       let R = pattern.rule in
       let G = pattern.cells in
       let ash = Ash population parts in
-      let same = same_finding rule R ash (finding_to (Objects bound most) R G) (sym is ∙ answer_by (Ok pattern) read) in
+      let kept = found_kept (Objects bound most) e rule ash is in
+      let same = same_finding rule R ash (finding_to (Objects bound most) R G) (sym is ∙ answer_by kept (Ok pattern) read) in
       let small = limited-else R G (3 * bound) most (census_of R G bound) ash (sym same) (not_large population parts) in
       let found = ash_found R G bound population parts small.1 in
       record {
         rule = R;
         cells = G;
+        kept = kept;
         reads = read;
         parts = found.0;
         ash = ash_if_found R bound (generation R G bound) found.0 found.1;

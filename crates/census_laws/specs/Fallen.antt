@@ -1,5 +1,5 @@
 -- How many of the objects that a pattern falls apart into are one object with a given set.
-use Rattle.std.specs.Prelude.{◌≡◌, ℕ, ◌*◌, Bool, List, Option, Ok, count_by}
+use Rattle.std.specs.Prelude.{◌≡◌, ℕ, ◌*◌, Bool, false, List, Option, Ok, count_by}
 use Rattle.std.specs.Bool.{Decides}
 use Rattle.std.specs.List.{Contains}
 use Rattle.census_bundle.specs.declared.bundle.Entry.{Entry}
@@ -11,11 +11,12 @@ use Rattle.life_objects.specs.Ash.{HasFallenApart}
 use Rattle.life_text.specs.Picture.{picture_of}
 use Rattle.life_text.specs.Rle.{reading}
 
--- The pattern is a set of cells under a rule whose generation at the bound is ash of these parts, and none of its
--- generations up to three times the bound is too large.
+-- The pattern isn't lost; it is a set of cells under a rule whose generation at the bound is ash of these parts, and none
+-- of its generations up to three times the bound is too large.
 pub record FallsApart (bound : ℕ) (most : Option ℕ) (e : Entry) : Type 0 where
   pub rule : Rule
   pub cells : Generation
+  pub kept : e.is_lost ≡ false
   pub reads : picture_of (reading e.text) ≡ Ok (record { rule = rule; cells = cells })
   pub parts : List Generation
   pub ash : HasFallenApart rule bound cells parts

@@ -130,6 +130,32 @@ end 1 2
     Ok(())
 }
 
+// A block, a file that was lost, and a blinker.
+fn with_lost_file(alloc: Global) -> Result<Bundle, AddFault> {
+    let mut bundle = Bundle::empty(alloc);
+    bundle.add_folder(b"k")?;
+    bundle.add_entry(b"a", BLOCK)?;
+    bundle.add_lost(b"b")?;
+    bundle.add_entry(b"c", b"x = 3, y = 1\n3o!")?;
+    Ok(bundle)
+}
+
+#[test]
+fn a_lost_file_is_refused_under_the_number_0(rt: HostRuntime) -> Result<(), Fail> {
+    let bundle = with_lost_file(rt.alloc())?;
+    let report = b"open 1 3 k
+line 1 1 ok B3/S23 4 0 1 0 0 xs4_33 a
+line 1 2 bad 0 b
+line 1 3 ok B3/S23 3 0 2 0 0 xp2_7 c
+code 1 B3/S23 xs4_33 1
+code 1 B3/S23 xp2_7 1
+close 1 3 2 0 1
+end 1 3
+";
+    assert_eq!(rt; reports(rt.alloc(), &bundle, 2, report), Some(true));
+    Ok(())
+}
+
 #[test]
 fn work_keeps_what_it_was_given(rt: HostRuntime) -> Result<(), Fail> {
     let bundle = folder_of(rt.alloc(), b"w", &[(b"a", b"")])?;
