@@ -4,8 +4,6 @@ use life_cells::cell_list::CellList;
 use life_cells::rule::Rule;
 use life_census::pattern::census;
 use life_plane::list_plane::ListPlane;
-use std::alloc::Global;
-use std::process::Abort;
 use std::test::Fail;
 
 // A glider that goes away from a block.
@@ -53,55 +51,46 @@ const LIGHTS: &[(i32, i32)] = &[
     (3, 10),
 ];
 
-/// Checks how many parts have each code, or that there is no ash.
-fn check(
-    rt: &impl Abort,
-    alloc: Global,
-    cells: &[(i32, i32)],
-    bound: u32,
-    expected: Option<&[(&str, u64)]>,
-) -> Result<(), Fail> {
-    let list = CellList::of(alloc, cells)?;
-    assert!(rt; list.fits());
-    assert!(rt; 1 <= bound && bound <= 100_000);
-    let found = census::<ListPlane>(alloc, &Rule::life(), &list, bound, None)?;
-    match (&found, expected) {
-        (Finding::Unresolved { .. }, None) => {}
+/// Cells, a bound, and how many parts have each code where there is ash.
+type Case = (
+    &'static [(i32, i32)],
+    u32,
+    Option<&'static [(&'static str, u64)]>,
+);
+
+const CASES: &[Case] = &[
+    (APART, 4, Some(&[("xs4_33", 1), ("xq4_153", 1)])),
+    (APART, 3, None),
+    (MEETING, 10, None),
+    (TEE, 30, Some(&[("xp2_s01110szw222", 1)])),
+    (LIGHTS, 20, Some(&[("xp2_7", 4)])),
+];
+
+// Whether a finding has these parts.
+fn has_parts(finding: &Finding, expected: Option<&[(&str, u64)]>) -> bool {
+    match (finding, expected) {
+        (Finding::Unresolved { .. }, None) => true,
         (Finding::Ash { parts, .. }, Some(expected)) => {
-            assert_eq!(rt; parts.as_slice().len(), expected.len());
-            for (part, (code, count)) in parts.as_slice().iter().zip(expected) {
-                assert_eq!(rt; part.code.as_slice(), code.as_bytes());
-                assert_eq!(rt; part.count, *count);
+            let parts = parts.as_slice();
+            for (part, (code, count)) in parts.iter().zip(expected) {
+                if part.code.as_slice() != code.as_bytes() || part.count != *count {
+                    return false;
+                }
             }
+            parts.len() == expected.len()
         }
-        _ => panic!(rt; "another finding"),
+        _ => false,
+    }
+}
+
+#[test]
+fn patterns_have_their_ash(rt: HostRuntime) -> Result<(), Fail> {
+    for (cells, bound, expected) in CASES {
+        let list = CellList::of(rt.alloc(), cells)?;
+        assert!(rt; list.fits());
+        assert!(rt; 1 <= *bound && *bound <= 100_000);
+        let found = census::<ListPlane>(rt.alloc(), &Rule::life(), &list, *bound, None)?;
+        assert!(rt; has_parts(&found, *expected));
     }
     Ok(())
-}
-
-#[test]
-fn a_glider_and_a_block(rt: HostRuntime) -> Result<(), Fail> {
-    check(
-        &rt,
-        rt.alloc(),
-        APART,
-        4,
-        Some(&[("xs4_33", 1), ("xq4_153", 1)]),
-    )?;
-    check(&rt, rt.alloc(), APART, 3, None)
-}
-
-#[test]
-fn a_glider_that_will_hit_a_block(rt: HostRuntime) -> Result<(), Fail> {
-    check(&rt, rt.alloc(), MEETING, 10, None)
-}
-
-#[test]
-fn a_traffic_light_is_one_object(rt: HostRuntime) -> Result<(), Fail> {
-    check(&rt, rt.alloc(), TEE, 30, Some(&[("xp2_s01110szw222", 1)]))
-}
-
-#[test]
-fn four_blinkers_are_counted_together(rt: HostRuntime) -> Result<(), Fail> {
-    check(&rt, rt.alloc(), LIGHTS, 20, Some(&[("xp2_7", 4)]))
 }

@@ -3,8 +3,6 @@
 use census_blocks::block::block;
 use census_blocks::known::BOUND_LIMIT;
 use life_text::rle::RleFault;
-use std::alloc::Global;
-use std::process::Abort;
 use std::test::Fail;
 
 // A block, a blinker, and a glider that goes away from both.
@@ -13,86 +11,58 @@ const THREE_OBJECTS: &[u8] = b"x = 43, y = 24\n2o$2o8$20b3o12$41bo$42bo$40b3o!";
 // A methuselah, which takes 5,206 generations to fall apart.
 const ACORN: &[u8] = b"x = 7, y = 3, rule = B3/S23\nbo$3bo$2o2b3o!";
 
-// Whether the block of a text is this one.
-fn check(
-    rt: &impl Abort,
-    alloc: Global,
-    text: &[u8],
-    bound: u32,
-    wanted: &str,
-) -> Result<(), Fail> {
-    assert!(rt; 1 <= bound && bound <= BOUND_LIMIT);
-    match block(alloc, text, bound)? {
-        Ok(block) => assert_eq!(rt; block.as_slice(), wanted.as_bytes()),
-        Err(_) => panic!(rt; "a fault"),
-    }
-    Ok(())
-}
+/// A text, the bound, and the block.
+type Case = (&'static [u8], u32, &'static str);
 
-#[test]
-fn a_glider(rt: HostRuntime) -> Result<(), Fail> {
-    check(
-        &rt,
-        rt.alloc(),
+const BLOCKS: &[Case] = &[
+    // A glider.
+    (
         b"x = 3, y = 3, rule = B3/S23\nbo$2bo$3o!",
         10_000,
         "rule B3/S23\npopulation 5\nbox 3 3\nonset 0\nperiod 4\ndisplacement 1 1\napgcode xq4_153\n",
-    )
-}
-
-#[test]
-fn a_spaceship_to_the_left(rt: HostRuntime) -> Result<(), Fail> {
-    check(
-        &rt,
-        rt.alloc(),
+    ),
+    // A spaceship to the left.
+    (
         b"x = 5, y = 4\nbo2bo$o$o3bo$4o!",
         20,
         "rule B3/S23\npopulation 9\nbox 5 4\nonset 0\nperiod 4\ndisplacement -2 0\napgcode xq4_6frc\n",
-    )
-}
-
-#[test]
-fn what_settles_is_told_as_one(rt: HostRuntime) -> Result<(), Fail> {
-    check(
-        &rt,
-        rt.alloc(),
+    ),
+    // What settles is told as one.
+    (
         b"x = 9, y = 2\n3o4b2o$7b2o!",
         20,
         "rule B3/S23\npopulation 7\nbox 9 2\nonset 0\nperiod 2\ndisplacement 0 0\napgcode xp2_33ze\n",
-    )
-}
-
-#[test]
-fn objects_apart(rt: HostRuntime) -> Result<(), Fail> {
-    check(
-        &rt,
-        rt.alloc(),
+    ),
+    // Objects apart.
+    (
         THREE_OBJECTS,
         30,
         "rule B3/S23\npopulation 12\nbox 43 24\nobjects 3\npart xp2_7 1\npart xs4_33 1\npart xq4_153 1\n",
-    )
-}
-
-#[test]
-fn a_methuselah(rt: HostRuntime) -> Result<(), Fail> {
-    check(
-        &rt,
-        rt.alloc(),
+    ),
+    // A methuselah.
+    (
         ACORN,
         10,
         "rule B3/S23\npopulation 7\nbox 7 3\nunresolved 10\n",
-    )
-}
-
-#[test]
-fn no_cell(rt: HostRuntime) -> Result<(), Fail> {
-    check(
-        &rt,
-        rt.alloc(),
+    ),
+    // No cell.
+    (
         b"x = 4, y = 2, rule = B36/S23\n!",
         10,
         "rule B36/S23\npopulation 0\nbox 0 0\nonset 0\nperiod 1\ndisplacement 0 0\napgcode xs0_0\n",
-    )
+    ),
+];
+
+#[test]
+fn texts_have_their_blocks(rt: HostRuntime) -> Result<(), Fail> {
+    for (text, bound, wanted) in BLOCKS {
+        assert!(rt; 1 <= *bound && *bound <= BOUND_LIMIT);
+        match block(rt.alloc(), text, *bound)? {
+            Ok(block) => assert_eq!(rt; block.as_slice(), wanted.as_bytes()),
+            Err(_) => panic!(rt; "a fault"),
+        }
+    }
+    Ok(())
 }
 
 #[test]

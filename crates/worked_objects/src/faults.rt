@@ -10,165 +10,137 @@ use std::alloc::Global;
 use std::process::Abort;
 use std::test::Fail;
 
-// Whether the fault of a text has this line. Where memory is refused, nothing is asked.
-fn told(rt: &impl Abort, alloc: Global, text: &[u8], wanted: &[u8]) -> Result<(), Fail> {
-    match read_rle(alloc, text) {
-        Ok(_) => assert!(rt; false),
-        Err(RleFault::Memory) => {}
-        Err(fault) => {
-            let line = fault_line(alloc, text, &fault)?;
-            assert_eq!(rt; line.as_slice(), wanted);
+/// A text, and the line that tells its fault.
+type Told = (&'static [u8], &'static [u8]);
+
+// Whether the fault of each text has its line. Where memory is refused, nothing is asked.
+fn told(rt: &impl Abort, alloc: Global, cases: &[Told]) -> Result<(), Fail> {
+    for (text, wanted) in cases {
+        match read_rle(alloc, text) {
+            Ok(_) => assert!(rt; false),
+            Err(RleFault::Memory) => {}
+            Err(fault) => {
+                let line = fault_line(alloc, text, &fault)?;
+                assert_eq!(rt; line.as_slice(), *wanted);
+            }
         }
     }
     Ok(())
 }
 
-#[test]
-fn faults_of_headers(rt: HostRuntime) -> Result<(), Fail> {
-    told(
-        &rt,
-        rt.alloc(),
+const HEADERS: &[Told] = &[
+    (
         b"#C none\n\n3o!\n",
         b"3:1: there is no header line: the first line that is neither blank nor a comment must begin with `x`, as in `x = 3, y = 3` (rle fault 1)",
-    )?;
-    told(
-        &rt,
-        rt.alloc(),
+    ),
+    (
         b"",
         b"1:1: there is no header line: the first line that is neither blank nor a comment must begin with `x`, as in `x = 3, y = 3` (rle fault 1)",
-    )?;
-    told(
-        &rt,
-        rt.alloc(),
+    ),
+    (
         b"x = 3, y\n3o!\n",
         b"1:1: the header line is malformed: it must have the form `x = 3, y = 3` or `x = 3, y = 3, rule = B3/S23` (rle fault 2)",
-    )?;
-    told(
-        &rt,
-        rt.alloc(),
+    ),
+    (
         b"#N a\r\n  x = 3, y = 1, rule = B03/S23\r\n3o!\r\n",
         b"2:3: the rule has 0 among its births, so that cells come alive with no live neighbour: its births must be from 1 to 8 (rle fault 4)",
-    )?;
-    Ok(())
+    ),
+];
+
+#[test]
+fn faults_of_headers(rt: HostRuntime) -> Result<(), Fail> {
+    told(&rt, rt.alloc(), HEADERS)
 }
+
+const RULES: &[Told] = &[
+    (
+        b"x = 1, y = 1, rule = HighLife\no!",
+        b"1:1: the rule is given by a name: it must be a Life-like rule that is written out, as `B3/S23` (rle fault 3)",
+    ),
+    (
+        b"x = 1, y = 1, rule = B3/S23:T100,100\no!",
+        b"1:1: the rule has a bounded grid: it must end before the `:`, since patterns live on the unbounded plane here (rle fault 3)",
+    ),
+    (
+        b"x = 1, y = 1, rule = B2/S/3\no!",
+        b"1:1: the rule is one of Generations, with a number of states: it must be Life-like, with two states, as `B3/S23` (rle fault 3)",
+    ),
+    (
+        b"x = 1, y = 1, rule = R5,C0,M1,S34..58,B34..45,NM\no!",
+        b"1:1: the rule is one of Larger than Life, with a range: it must be Life-like, with the eight nearest neighbours, as `B3/S23` (rle fault 3)",
+    ),
+    (
+        b"x = 1, y = 1, rule = B2-a/S12\no!",
+        b"1:1: the rule is isotropic non-totalistic, with letters for arrangements: it must count live neighbours alone, as `B3/S23` (rle fault 3)",
+    ),
+    (
+        b"x = 1, y = 1, rule = B3 / S23\no!",
+        b"1:1: the rule has a blank inside: it must be written without blanks, as `B3/S23` (rle fault 3)",
+    ),
+    (
+        b"x = 1, y = 1, rule = B3/S239\no!",
+        b"1:1: the rule has no Life-like form: it must be written as `B3/S23`, `S23/B3` or `23/3`, with digits from 0 to 8 (rle fault 3)",
+    ),
+];
 
 #[test]
 fn faults_of_rules(rt: HostRuntime) -> Result<(), Fail> {
-    told(
-        &rt,
-        rt.alloc(),
-        b"x = 1, y = 1, rule = HighLife\no!",
-        b"1:1: the rule is given by a name: it must be a Life-like rule that is written out, as `B3/S23` (rle fault 3)",
-    )?;
-    told(
-        &rt,
-        rt.alloc(),
-        b"x = 1, y = 1, rule = B3/S23:T100,100\no!",
-        b"1:1: the rule has a bounded grid: it must end before the `:`, since patterns live on the unbounded plane here (rle fault 3)",
-    )?;
-    told(
-        &rt,
-        rt.alloc(),
-        b"x = 1, y = 1, rule = B2/S/3\no!",
-        b"1:1: the rule is one of Generations, with a number of states: it must be Life-like, with two states, as `B3/S23` (rle fault 3)",
-    )?;
-    told(
-        &rt,
-        rt.alloc(),
-        b"x = 1, y = 1, rule = R5,C0,M1,S34..58,B34..45,NM\no!",
-        b"1:1: the rule is one of Larger than Life, with a range: it must be Life-like, with the eight nearest neighbours, as `B3/S23` (rle fault 3)",
-    )?;
-    told(
-        &rt,
-        rt.alloc(),
-        b"x = 1, y = 1, rule = B2-a/S12\no!",
-        b"1:1: the rule is isotropic non-totalistic, with letters for arrangements: it must count live neighbours alone, as `B3/S23` (rle fault 3)",
-    )?;
-    told(
-        &rt,
-        rt.alloc(),
-        b"x = 1, y = 1, rule = B3 / S23\no!",
-        b"1:1: the rule has a blank inside: it must be written without blanks, as `B3/S23` (rle fault 3)",
-    )?;
-    told(
-        &rt,
-        rt.alloc(),
-        b"x = 1, y = 1, rule = B3/S239\no!",
-        b"1:1: the rule has no Life-like form: it must be written as `B3/S23`, `S23/B3` or `23/3`, with digits from 0 to 8 (rle fault 3)",
-    )?;
-    Ok(())
+    told(&rt, rt.alloc(), RULES)
 }
+
+const BODIES: &[Told] = &[
+    (
+        b"x = 3, y = 3\nboC!",
+        b"2:3: a letter stands for neither of the two states: dead cells must be `b` or `.`, and live cells `o` or `A` (rle fault 5 at 15)",
+    ),
+    (
+        b"x = 3, y = 3\nbo$\n?!",
+        b"3:1: a byte has no meaning here: the body must be made of counts, `b`, `.`, `o`, `A`, `$`, `!` and blanks (rle fault 6 at 17)",
+    ),
+    (
+        b"x = 3, y = 3\n3o$\nb0o!",
+        b"3:2: a count is 0 or has nothing to count: it must be 1 or more and stand before a cell or `$` (rle fault 7 at 18)",
+    ),
+    (
+        b"x = 3, y = 3\n1048576bo!",
+        b"2:9: a live cell is too far out: its column and its row, counted from 0, must be at most 1048575 (rle fault 8 at 21)",
+    ),
+    (
+        b"x = 3, y = 3\n1048576o$1o!",
+        b"2:10: there are too many live cells: a pattern must have at most 1048576 (rle fault 9 at 22)",
+    ),
+    (
+        b"x = 3, y = 3\n3o$\n",
+        b"3:1: the text ends too early: its body must end with `!` (rle fault 10)",
+    ),
+];
 
 #[test]
 fn faults_of_bodies(rt: HostRuntime) -> Result<(), Fail> {
-    told(
-        &rt,
-        rt.alloc(),
-        b"x = 3, y = 3\nboC!",
-        b"2:3: a letter stands for neither of the two states: dead cells must be `b` or `.`, and live cells `o` or `A` (rle fault 5 at 15)",
-    )?;
-    told(
-        &rt,
-        rt.alloc(),
-        b"x = 3, y = 3\nbo$\n?!",
-        b"3:1: a byte has no meaning here: the body must be made of counts, `b`, `.`, `o`, `A`, `$`, `!` and blanks (rle fault 6 at 17)",
-    )?;
-    told(
-        &rt,
-        rt.alloc(),
-        b"x = 3, y = 3\n3o$\nb0o!",
-        b"3:2: a count is 0 or has nothing to count: it must be 1 or more and stand before a cell or `$` (rle fault 7 at 18)",
-    )?;
-    told(
-        &rt,
-        rt.alloc(),
-        b"x = 3, y = 3\n1048576bo!",
-        b"2:9: a live cell is too far out: its column and its row, counted from 0, must be at most 1048575 (rle fault 8 at 21)",
-    )?;
-    told(
-        &rt,
-        rt.alloc(),
-        b"x = 3, y = 3\n1048576o$1o!",
-        b"2:10: there are too many live cells: a pattern must have at most 1048576 (rle fault 9 at 22)",
-    )?;
-    told(
-        &rt,
-        rt.alloc(),
-        b"x = 3, y = 3\n3o$\n",
-        b"3:1: the text ends too early: its body must end with `!` (rle fault 10)",
-    )?;
-    Ok(())
+    told(&rt, rt.alloc(), BODIES)
 }
+
+// Places in a text of two lines: how many bytes come before, the line and the column.
+const PLACES: &[(usize, u64, u64)] = &[(0, 1, 1), (2, 1, 3), (4, 2, 2), (6, 3, 1)];
 
 #[test]
-fn lines_and_columns(rt: HostRuntime) -> Result<(), Fail> {
+fn lines_and_columns(rt: HostRuntime) {
     let text = b"a\r\nbc\n";
-    assert_eq!(rt; place(text, 0), Place { line: 1, column: 1 });
-    assert_eq!(rt; place(text, 2), Place { line: 1, column: 3 });
-    assert_eq!(rt; place(text, 4), Place { line: 2, column: 2 });
-    assert_eq!(rt; place(text, 6), Place { line: 3, column: 1 });
-    assert_eq!(rt;
-        place_of(text, &RleFault::Memory),
-        Place { line: 1, column: 1 }
-    );
-    assert_eq!(rt;
-        place_of(text, &RleFault::BadRun { at: 99 }),
-        Place { line: 3, column: 1 }
-    );
-    Ok(())
-}
-
-// Whether each of these rules is of this kind.
-fn all_are(rt: &impl Abort, rules: &[&[u8]], kind: RuleKind) {
-    for rule in rules {
-        assert_eq!(rt; rule_kind(rule), kind);
+    for (at, line, column) in PLACES {
+        let known = Place {
+            line: *line,
+            column: *column,
+        };
+        assert_eq!(rt; place(text, *at), known);
+    }
+    for (fault, line) in [(RleFault::Memory, 1), (RleFault::BadRun { at: 99 }, 3)] {
+        assert_eq!(rt; place_of(text, &fault), Place { line, column: 1 });
     }
 }
 
-#[test]
-fn kinds_of_rules(rt: HostRuntime) -> Result<(), Fail> {
-    all_are(
-        &rt,
+// Rules of each kind.
+const KINDS: &[(&[&[u8]], RuleKind)] = &[
+    (
         &[
             b"HighLife",
             b"Day & Night",
@@ -177,14 +149,12 @@ fn kinds_of_rules(rt: HostRuntime) -> Result<(), Fail> {
             b"JvN29",
         ],
         RuleKind::Named,
-    );
-    all_are(
-        &rt,
+    ),
+    (
         &[b"B3/S23:T100,100", b"B3/S23:P30,20", b"B2/S/C3:K8,8*"],
         RuleKind::Bounded,
-    );
-    all_are(
-        &rt,
+    ),
+    (
         &[
             b"B2/S/C3",
             b"B2/S/3",
@@ -194,24 +164,21 @@ fn kinds_of_rules(rt: HostRuntime) -> Result<(), Fail> {
             b"B2/S345/G4",
         ],
         RuleKind::Generations,
-    );
-    all_are(
-        &rt,
+    ),
+    (
         &[
             b"R5,C0,M1,S34..58,B34..45,NM",
             b"R2,C0,S6-9,B7-8",
             b"5,34,45,34,58",
         ],
         RuleKind::LargerThanLife,
-    );
-    all_are(
-        &rt,
+    ),
+    (
         &[b"B2-a/S12", b"B3/S2-i34q", b"b2ce3aiy/s12", b"B2n3S23-q"],
         RuleKind::NonTotalistic,
-    );
-    all_are(&rt, &[b"B3 / S23", b"B3\t/S23", b"23 / 3"], RuleKind::Blank);
-    all_are(
-        &rt,
+    ),
+    (&[b"B3 / S23", b"B3\t/S23", b"23 / 3"], RuleKind::Blank),
+    (
         &[
             b"",
             b"B3/23",
@@ -224,8 +191,16 @@ fn kinds_of_rules(rt: HostRuntime) -> Result<(), Fail> {
             b"MAPARYXfhZofugWaA",
         ],
         RuleKind::Other,
-    );
-    Ok(())
+    ),
+];
+
+#[test]
+fn kinds_of_rules(rt: HostRuntime) {
+    for (rules, kind) in KINDS {
+        for rule in *rules {
+            assert_eq!(rt; rule_kind(rule), *kind);
+        }
+    }
 }
 
 #[test]

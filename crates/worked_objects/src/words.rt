@@ -3,7 +3,6 @@
 use census_folders::shelf::Shelf;
 use census_identify::identify::identify;
 use std::alloc::Global;
-use std::process::Abort;
 use std::test::Fail;
 use watched::reading::ReadFault;
 use watched::watched::Watched;
@@ -63,46 +62,19 @@ impl Shelf for Shown {
     }
 }
 
-// Whether these words are told so, where standard input has this text.
-fn check(
-    rt: &impl Abort,
-    alloc: Global,
-    words: &[&str],
-    input: &[u8],
-    wanted: (u8, &str, &str),
-) -> Result<(), Fail> {
-    let mut input = Watched::new(input);
-    let mut output = Watched::new(Vec::new(alloc));
-    let mut errors = Watched::new(Vec::new(alloc));
-    let status = identify(
-        &FILES,
-        alloc,
-        10_000,
-        words,
-        &mut input,
-        &mut output,
-        &mut errors,
-    );
-    let (wanted_status, wanted_output, wanted_errors) = wanted;
-    assert_eq!(rt; status, wanted_status);
-    let output = output.into_inner();
-    let errors = errors.into_inner();
-    assert_eq!(rt; output.as_slice(), wanted_output.as_bytes());
-    assert_eq!(rt; errors.as_slice(), wanted_errors.as_bytes());
-    Ok(())
-}
+/// Words, standard input, and the status, standard output and standard error.
+type Case = (
+    &'static [&'static str],
+    &'static [u8],
+    (u8, &'static str, &'static str),
+);
 
-#[test]
-fn standard_input(rt: HostRuntime) -> Result<(), Fail> {
-    check(&rt, rt.alloc(), &[], GLIDER, (0, GLIDER_LINES, ""))?;
-    check(&rt, rt.alloc(), &["-"], GLIDER, (0, GLIDER_LINES, ""))
-}
-
-#[test]
-fn two_files(rt: HostRuntime) -> Result<(), Fail> {
-    check(
-        &rt,
-        rt.alloc(),
+const CASES: &[Case] = &[
+    // Standard input.
+    (&[], GLIDER, (0, GLIDER_LINES, "")),
+    (&["-"], GLIDER, (0, GLIDER_LINES, "")),
+    // Two files.
+    (
         &["block.rle", "glider.rle"],
         b"",
         (
@@ -110,14 +82,9 @@ fn two_files(rt: HostRuntime) -> Result<(), Fail> {
             "file block.rle\nrule B3/S23\npopulation 4\nbox 2 2\nonset 0\nperiod 1\ndisplacement 0 0\napgcode xs4_33\n\nfile glider.rle\nrule B3/S23\npopulation 5\nbox 3 3\nonset 0\nperiod 4\ndisplacement 1 1\napgcode xq4_153\n",
             "",
         ),
-    )
-}
-
-#[test]
-fn a_file_that_cannot_be_read(rt: HostRuntime) -> Result<(), Fail> {
-    check(
-        &rt,
-        rt.alloc(),
+    ),
+    // A file that can't be read, and one that has a fault.
+    (
         &["none.rle", "-", "bad.rle"],
         GLIDER,
         (
@@ -125,5 +92,27 @@ fn a_file_that_cannot_be_read(rt: HostRuntime) -> Result<(), Fail> {
             GLIDER_LINES,
             "census: none.rle: read failed\ncensus: bad.rle:2:3: a byte has no meaning here: the body must be made of counts, `b`, `.`, `o`, `A`, `$`, `!` and blanks (rle fault 6 at 15)\n",
         ),
-    )
+    ),
+];
+
+#[test]
+fn words_are_told(rt: HostRuntime) -> Result<(), Fail> {
+    for (words, input, (wanted_status, wanted_output, wanted_errors)) in CASES {
+        let mut input = Watched::new(*input);
+        let mut output = Watched::new(Vec::new(rt.alloc()));
+        let mut errors = Watched::new(Vec::new(rt.alloc()));
+        let status = identify(
+            &FILES,
+            rt.alloc(),
+            10_000,
+            words,
+            &mut input,
+            &mut output,
+            &mut errors,
+        );
+        assert_eq!(rt; status, *wanted_status);
+        assert_eq!(rt; output.into_inner().as_slice(), wanted_output.as_bytes());
+        assert_eq!(rt; errors.into_inner().as_slice(), wanted_errors.as_bytes());
+    }
+    Ok(())
 }
