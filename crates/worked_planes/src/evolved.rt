@@ -3,7 +3,7 @@
 use life_cells::cell_list::CellList;
 use life_cells::rule::Rule;
 use life_plane::plane::{AGE_LIMIT, Plane};
-use std::alloc::Global;
+use std::alloc::{AllocError, Global};
 use std::process::Abort;
 use std::test::Fail;
 
@@ -30,4 +30,10 @@ pub fn after<P: Plane>(
         step(rt, &mut plane, &rule)?;
     }
     Ok(plane)
+}
+
+/// Whether a plane shows these cells, and is of this age.
+pub fn shows<P: Plane>(plane: &P, cells: &[(i32, i32)], age: u32) -> Result<bool, AllocError> {
+    let list = plane.cells()?;
+    Ok(list.as_slice() == cells && plane.age() == age)
 }

@@ -1,12 +1,12 @@
 //! The fast plane: the R-pentomino, what dies, spans and ways across tiles, and random cells beside the slow plane.
 
-use crate::evolved::{after, step};
+use crate::evolved::{after, shows, step};
 use life_cells::cell_list::CellList;
 use life_cells::rule::Rule;
 use life_plane::list_plane::ListPlane;
 use life_plane::plane::Plane;
 use life_tile::TilePlane;
-use std::alloc::Global;
+use std::alloc::{AllocError, Global};
 use std::process::Abort;
 use std::test::Fail;
 
@@ -34,9 +34,8 @@ fn the_r_pentomino_settles_with_its_known_population(rt: HostRuntime) -> Result<
 #[test]
 fn two_cells_die_and_leave_nothing(rt: HostRuntime) -> Result<(), Fail> {
     let plane = life_after(&rt, rt.alloc(), &[(37, 37), (38, 38)], 3)?;
-    assert!(rt; plane.cells()?.is_empty());
+    assert!(rt; shows(&plane, &[], 3)?);
     assert!(rt; plane.population() == 0);
-    assert!(rt; plane.age() == 3);
     Ok(())
 }
 
@@ -90,6 +89,13 @@ fn no_cells_are_where_they_were(rt: HostRuntime) -> Result<(), Fail> {
     is_way(&rt, &[], &none, Some((0, 0)), rt.alloc())
 }
 
+// Whether both planes show the same cells, and as many.
+fn are_alike(fast: &TilePlane, slow: &ListPlane) -> Result<bool, AllocError> {
+    let found = fast.cells()?;
+    let known = slow.cells()?;
+    Ok(found.as_slice() == known.as_slice() && fast.population() == slow.population())
+}
+
 // Asserts that the fast plane shows the cells of the slow one in each of 100 generations.
 fn planes_agree(rt: &impl Abort, alloc: Global, rule: &[u8], start: &CellList) -> Result<(), Fail> {
     let rule = Rule::parse(rule)?;
@@ -99,8 +105,7 @@ fn planes_agree(rt: &impl Abort, alloc: Global, rule: &[u8], start: &CellList) -
     for _ in 0..100 {
         step(rt, &mut fast, &rule)?;
         step(rt, &mut slow, &rule)?;
-        assert!(rt; fast.cells()?.as_slice() == slow.cells()?.as_slice());
-        assert!(rt; fast.population() == slow.population());
+        assert!(rt; are_alike(&fast, &slow)?);
     }
     assert!(rt; fast.age() == slow.age());
     Ok(())
@@ -187,9 +192,13 @@ const COLUMN: &[(i32, i32)] = &[(38, 37), (38, 38), (38, 39)];
 fn another_rule_is_followed_at_once(rt: HostRuntime) -> Result<(), Fail> {
     let all_stay = Rule::parse(b"B/S012345678")?;
     let mut plane = life_after(&rt, rt.alloc(), ROW, 4)?;
-    for (rule, cells) in [(all_stay, ROW), (all_stay, ROW), (Rule::life(), COLUMN)] {
+    for (rule, cells, age) in [
+        (all_stay, ROW, 5),
+        (all_stay, ROW, 6),
+        (Rule::life(), COLUMN, 7),
+    ] {
         step(&rt, &mut plane, &rule)?;
-        assert!(rt; plane.cells()?.as_slice() == cells);
+        assert!(rt; shows(&plane, cells, age)?);
     }
     Ok(())
 }
