@@ -115,25 +115,17 @@ close 1 3 3 0 0
 end 2 3
 ";
 
+// The question of most tests here.
+const SETTLES: Question = Question::Settles {
+    bound: 10,
+    cells: None,
+};
+
 // A collector under the bound 10. Where memory is refused it is made again.
 fn collector_of<'a>(alloc: Global, bundle: &'a Bundle) -> Result<Collector<'a>, AllocError> {
-    match Collector::new(
-        alloc,
-        bundle,
-        Question::Settles {
-            bound: 10,
-            cells: None,
-        },
-    ) {
+    match Collector::new(alloc, bundle, SETTLES) {
         Ok(collector) => Ok(collector),
-        Err(_) => Collector::new(
-            alloc,
-            bundle,
-            Question::Settles {
-                bound: 10,
-                cells: None,
-            },
-        ),
+        Err(_) => Collector::new(alloc, bundle, SETTLES),
     }
 }
 
@@ -143,25 +135,9 @@ fn result_of<'a>(alloc: Global, bundle: &'a Bundle, arrival: &Arrival) -> Result
         .entry(ticket_of(arrival.worked))
         .ok_or("no such pattern")?;
     let ticket = ticket_of(arrival.ticket);
-    match Done::work(
-        alloc,
-        ticket,
-        entry,
-        Question::Settles {
-            bound: 10,
-            cells: None,
-        },
-    ) {
+    match Done::work(alloc, ticket, entry, SETTLES) {
         Ok(done) => Ok(done),
-        Err(_) => Ok(Done::work(
-            alloc,
-            ticket,
-            entry,
-            Question::Settles {
-                bound: 10,
-                cells: None,
-            },
-        )?),
+        Err(_) => Ok(Done::work(alloc, ticket, entry, SETTLES)?),
     }
 }
 
@@ -210,10 +186,6 @@ fn answers_to_another_question_are_strangers(rt: HostRuntime) -> Result<(), Fail
         bound: 10,
         cells: None,
     };
-    let settled = Question::Settles {
-        bound: 10,
-        cells: None,
-    };
     let within_less = Question::Objects {
         bound: 9,
         cells: None,
@@ -226,7 +198,7 @@ fn answers_to_another_question_are_strangers(rt: HostRuntime) -> Result<(), Fail
     let mut collector = Collector::new(rt.alloc(), &bundle, asked)?;
     let ticket = ticket_of((1, 1));
     let entry = bundle.entry(ticket).ok_or("no such pattern")?;
-    let done = Done::work(rt.alloc(), ticket, entry, settled)?;
+    let done = Done::work(rt.alloc(), ticket, entry, SETTLES)?;
     assert_eq!(rt; offered(&rt, &mut collector, done), Some(Offer::Stranger));
     let done = Done::work(rt.alloc(), ticket, entry, within_less)?;
     assert_eq!(rt; offered(&rt, &mut collector, done), Some(Offer::Stranger));
@@ -245,16 +217,7 @@ fn results_are_settled_in_their_order(rt: HostRuntime) -> Result<(), Fail> {
         results.push(result_of(rt.alloc(), &bundle, arrival)?)?;
     }
     let mut out = Watched::new(Vec::new(rt.alloc()));
-    let tally = settle(
-        rt.alloc(),
-        &bundle,
-        Question::Settles {
-            bound: 10,
-            cells: None,
-        },
-        results,
-        &mut out,
-    )?;
+    let tally = settle(rt.alloc(), &bundle, SETTLES, results, &mut out)?;
     let expected = Tally {
         patterns: 3,
         resolved: 3,
@@ -273,16 +236,7 @@ fn results_are_settled_in_their_order(rt: HostRuntime) -> Result<(), Fail> {
 fn without_results_the_caller_works_all(rt: HostRuntime) -> Result<(), Fail> {
     let bundle = two_folders(rt.alloc())?;
     let mut out = Watched::new(Vec::new(rt.alloc()));
-    let tally = settle(
-        rt.alloc(),
-        &bundle,
-        Question::Settles {
-            bound: 10,
-            cells: None,
-        },
-        Vec::new(rt.alloc()),
-        &mut out,
-    )?;
+    let tally = settle(rt.alloc(), &bundle, SETTLES, Vec::new(rt.alloc()), &mut out)?;
     let expected = Tally {
         patterns: 3,
         resolved: 3,
