@@ -1,4 +1,4 @@
--- Slots with empty ones behind them.
+-- Slots with empty ones after them.
 use Rattle.std.proofs.Common.{◌≡◌, ℕ, ◌+◌, ◌-◌, ◌<◌, ◌≤◌, ◌++◌, length, replicate, Option, None, sym, ap, ◌∙◌, arith, append_assoc, append-nil}
 use Rattle.std.specs.Prelude.{slice_set}
 use Rattle.std.proofs.lemmas.List.{set-append_left, length-set, length-append, length-replicate, replicate-append-replicate}

@@ -57,7 +57,7 @@ run_stops p i (e ∷ es) (suc k) lt each stop =
     ap (λ b. cond b (suc (run_from p (suc i) es)) 0) here
     ∙ ap suc (run_stops p (suc i) es k (omega arith) (λ j to. subst (λ n. p n ≡ true) (omega arith) (each (suc j) (omega arith))) (subst (λ n. p n ≡ false) (omega arith) stop))
 
--- the pattern behind the run does not pass
+-- the pattern after the run does not pass
 pub run_end : (p : ℕ → Bool) (i : ℕ) (es : List Entry) → run_from p i es < length es → p (i + run_from p i es) ≡ false
 run_end p i [] lt = absurd (omega arith)
 run_end p i (e ∷ es) lt =

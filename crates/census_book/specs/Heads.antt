@@ -1,4 +1,4 @@
--- What stands before the name of a pattern in its lines, and what stands behind it.
+-- What stands before the name of a pattern in its lines, and what stands after it.
 use Rattle.std.specs.Prelude.{ℕ, List, ◌∷◌, ◌++◌, codes, decimal}
 use Rattle.census_bundle.specs.declared.bundle.Entry.{Entry}
 use Rattle.life_answer.specs.declared.finding.Answer.{Answer}

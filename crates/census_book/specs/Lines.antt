@@ -69,7 +69,7 @@ part_lines c i (Refused number) = []
 unfoldable pub answer_to_entry : Question → Entry → Answer
 answer_to_entry question e = if e.is_lost then Refused 0 else answer_to_question question e.text
 
--- the `line` line of a pattern, and behind it its `part` lines
+-- the `line` line of a pattern, and after it its `part` lines
 unfoldable pub pattern_text : Question → ℕ → ℕ → Entry → Line
 pattern_text question c i e =
     pattern_line c i (answer_to_entry question e) e.name ++ text_of (part_lines c i (answer_to_entry question e))

@@ -11,7 +11,7 @@ use Rattle.life_answer.specs.declared.question.Question.{Question}
 abbrev pub Row : Type 0
 Row = List (Option Work)
 
--- these slots, and empty ones behind them, up to so many in all
+-- these slots, and empty ones after them, up to so many in all
 abbrev pub padded : ℕ → Row → Row
 padded len row = row ++ replicate (len - length row) None
 

@@ -8,7 +8,7 @@ use census_bundle::ticket::Ticket;
 use std::alloc::{AllocError, Global};
 use std::marker::Model;
 
-/// The slots of a collection. They are seen as what stands in each. Those behind the last result are only made room for,
+/// The slots of a collection. They are seen as what stands in each. Those after the last result are only made room for,
 /// so that their memory is first touched where a result is put.
 #[derive(Drop)]
 pub struct Row<'a> {

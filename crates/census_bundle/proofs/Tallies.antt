@@ -1,4 +1,4 @@
--- The numbers of folders and entries behind lines that were read.
+-- The numbers of folders and entries after lines that were read.
 use Rattle.std.proofs.Common.{◌≡◌, ℕ, ◌+◌, ◌-◌, ◌<◌, Bool, true, false, not, cond, List, [], ◌∷◌, ◌++◌, length, drop, refl, sym, ap, ◌∙◌, arith, zero-add, length-append, if◌then◌else◌}
 use Rattle.std.specs.List.{count_by, after_last, suffix_len, prefix_len}
 use Rattle.std.proofs.lemmas.List.{reverse-append, drop_all, drop-append-le}

@@ -3,7 +3,7 @@ use Rattle.std.specs.Prelude.{ℕ, List, [], ◌∷◌, ◌++◌}
 use Rattle.census_bundle.specs.declared.bundle.Folder.{Folder}
 use Rattle.census_bundle.specs.declared.bundle.Entry.{Entry}
 
--- an element and those behind it, the last of them changed
+-- an element and those after it, the last of them changed
 abbrev pub on_last_of : {A : Type 0} → (A → A) → A → List A → List A
 on_last_of f x [] = f x ∷ []
 on_last_of f x (y ∷ ys) = x ∷ on_last_of f y ys

@@ -19,7 +19,7 @@ pub record Held : Type 0 where
   pub entries : List Entry
   pub folders : List Folder
 
--- what a line and the lines behind it hold, by what those hold
+-- what a line and the lines after it hold, by what those hold
 abbrev pub held_with : List ℕ → Held → Held
 held_with line behind =
     if is_folder_line line then record { text = []; entries = []; folders = record { name = line_name line; entries = behind.entries } ∷ behind.folders } else
@@ -43,7 +43,7 @@ folder_count before = count_by is_folder_line before
 abbrev pub entry_count : List (List ℕ) → ℕ
 entry_count before = count_by is_file_line (after_last is_folder_line before)
 
--- behind so many folders and so many entries of the last of them no entry has begun
+-- after so many folders and so many entries of the last of them no entry has begun
 abbrev pub is_outside : ℕ → ℕ → Bool
 is_outside folders entries = (folders == 0) || (entries == 0)
 
@@ -67,7 +67,7 @@ abbrev pub fault_if : Bool → BundleFault → Option BundleFault → Option Bun
 fault_if true fault others = Some fault
 fault_if false fault others = others
 
--- the fault of the line of this number behind so many folders and so many entries of the last of them: the first that
+-- the fault of the line of this number after so many folders and so many entries of the last of them: the first that
 -- there is
 abbrev pub line_fault : ℕ → ℕ → ℕ → List ℕ → Option BundleFault
 line_fault number folders entries line =

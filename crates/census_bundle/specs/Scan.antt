@@ -28,7 +28,7 @@ after_line b line =
     if is_folder_line line then with_folder b (line_name line) else
     (if is_file_line line then with_entry b (entry_of (line_name line) []) else with_text b line)
 
--- the fault of a line behind these folders
+-- the fault of a line after these folders
 abbrev pub fault_behind : List Folder → ℕ → List ℕ → Option BundleFault
 fault_behind b number line = line_fault number (length b) (length (last_entries b)) line
 
@@ -56,7 +56,7 @@ begins_section rest = (length rest == 0) || is_at_line rest
 abbrev pub IsClosed : List Folder → List ℕ → Type 0
 IsClosed b rest = (is_outside (length b) (length (last_entries b)) || begins_section rest) ≡ true
 
--- behind an entry's line the whole reads as so many lines of its text and then the rest
+-- after an entry's line the whole reads as so many lines of its text and then the rest
 pub record IsTextOf (whole text : List ℕ) (lines : ℕ) (rest : List ℕ) : Type 0 where
   pub reads : (b : List Folder) (name t : List ℕ) (n : ℕ) → 0 < length b → read_on (with_entry b (entry_of name t)) n (whole_lines whole) ≡ read_on (with_entry b (entry_of name (t ++ text))) (n + lines) (whole_lines rest)
 

@@ -20,7 +20,7 @@ pub enum Line<'a> {
     Plain,
 }
 
-// The text of an entry, and what stands behind it.
+// The text of an entry, and what stands after it.
 #[derive(Clone, Copy)]
 pub struct EntryText<'a> {
     pub text: &'a [u8],
@@ -39,7 +39,7 @@ fn line_len(text: &[u8]) -> usize
     }
 }
 
-// The first line with its ending, and what stands behind it.
+// The first line with its ending, and what stands after it.
 pub fn split_line(text: &[u8]) -> (&[u8], &[u8])
     requires { 0 < length text.now }
     ensures lines { whole_lines text.now ≡ result.0.now ∷ whole_lines result.1.now }

@@ -54,7 +54,7 @@ pub record RunsAll (question : Question) (source source' out out' : Option (List
   pub report : WritesReport out out' bundle question
   pub tally : TalliesPatterns bundle question t
 
--- a front of a report of the bundle that was read was written
+-- a prefix of a report of the bundle that was read was written
 pub record RunsFront (question : Question) (source source' out out' : Option (List ℕ)) : Type 0 where
   pub bundle : List Folder
   pub read : ReadsFolders source source' bundle

@@ -13,7 +13,7 @@ pub record WritesReport (old new : Option (List ℕ)) (b : List Folder) (questio
   pub report : IsReport b question text
   pub written : Appends old new text
 
--- a front of a report of the bundle was written
+-- a prefix of a report of the bundle was written
 pub record WritesFront (old new : Option (List ℕ)) (b : List Folder) (question : Question) : Type 0 where
   pub text : List ℕ
   pub front : IsReportFront b question text
@@ -31,7 +31,7 @@ pub record StaysInStep (old : Option (List ℕ)) (p : Progress) (new : Option (L
   pub same_question : q.question ≡ p.question
   pub in_step : (base : Option (List ℕ)) → IsInStep base old p → IsInStep base new q
 
--- whatever was in step before, a front of the report stands there afterwards
+-- whatever was in step before, a prefix of the report stands there afterwards
 pub record StopsInStep (old : Option (List ℕ)) (p : Progress) (new : Option (List ℕ)) : Type 0 where
   pub front : (base : Option (List ℕ)) → IsInStep base old p → WritesFront base new p.bundle p.question
 

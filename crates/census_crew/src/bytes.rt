@@ -33,10 +33,10 @@ pub enum BytesFault {
     /// The text is no bundle. Nothing was written.
     #[error("{0}")]
     Bundle(BundleFault),
-    /// A growth was refused. What was written is a front of a report of the bundle, or nothing.
+    /// A growth was refused. What was written is a prefix of a report of the bundle, or nothing.
     #[error("out of memory")]
     Memory,
-    /// The writer has failed. What was written is a front of a report of the bundle.
+    /// The writer has failed. What was written is a prefix of a report of the bundle.
     #[error("write failed")]
     Write,
 }
@@ -65,7 +65,7 @@ fn read_input<R: Read>(alloc: Global, reader: &mut Watched<R>) -> Result<Bundle,
 /// Reads a bundle up to the reader's end and writes the report of what is asked of its patterns, by 1 to 16 workers, as
 /// `run` does. A bound is 1 to 1,000,000 generations. Neither reader nor writer has failed before. `Ok` says that all was written. The reader is read to its
 /// end before the first byte is written. After `Read`, `TooLong` and `Bundle` nothing was written; after `Memory` and
-/// `Write` nothing or a front of a report of the bundle. `Read` is answered where the reader has failed, and only
+/// `Write` nothing or a prefix of a report of the bundle. `Read` is answered where the reader has failed, and only
 /// there; `Write` where the writer has, and only there.
 pub fn run_bytes<R: Read, G: Gate, W: Write, T: Threads + Wait + Sync>(
     rt: &T,

@@ -4,7 +4,7 @@ use std::alloc::AllocError;
 use thiserror::Error;
 use watched::watched::Failed;
 
-/// Why a run did not write its whole report. What it wrote is a front of a report.
+/// Why a run did not write its whole report. What it wrote is a prefix of a report.
 #[derive(Clone, Copy, Debug, PartialEq, Eq, Drop, Error)]
 pub enum RunFault {
     /// A growth was refused. The writer has not failed.

@@ -24,7 +24,7 @@ use watched::watched::{Failed, Watched};
 /// Writes the report of what is asked of the bundle's patterns to a writer that has not failed. A bound is 1 to 1,000,000
 /// generations. The patterns are worked by 1 to 16 workers, each of which takes tickets and passes the gate with each
 /// before it works; the caller takes their results and writes, and then works itself what is missing. `Ok` says that all
-/// was written. After `Memory` or `Write` what was written is a front of a report; `Write` is answered where the writer
+/// was written. After `Memory` or `Write` what was written is a prefix of a report; `Write` is answered where the writer
 /// has failed, and only there.
 pub fn run<G: Gate, W: Write, R: Threads + Wait + Sync>(
     rt: &R,

@@ -22,7 +22,7 @@ use watched::watched::{Failed, Watched};
 
 /// Writes the report of what is asked of the bundle's patterns to a writer that has not failed. A bound is 1 to 1,000,000
 /// generations. The results are offered in their order, and each ticket that is then missing is worked here. `Ok` says
-/// that all was written. After `Memory` or `Write` what was written is a front of a report; `Write` is answered where
+/// that all was written. After `Memory` or `Write` what was written is a prefix of a report; `Write` is answered where
 /// the writer has failed, and only there. It waits for nobody.
 pub fn settle<'a, W: Write>(
     alloc: Global,

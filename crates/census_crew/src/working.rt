@@ -88,7 +88,7 @@ fn send_batch<'a, R: Wait>(
 }
 
 // Takes tickets until none is left, works them, and sends what was found: the results of quick work several together,
-// any other at once. A ticket that met want of memory is left to the caller.
+// any other at once. A ticket that ran out of memory is left to the caller.
 fn work<'a, G: Gate, R: Wait>(
     rt: &R,
     alloc: Global,

@@ -72,7 +72,7 @@ TookMark old new = ((k : ℕ) × (list_of new ≡ list_of old ++ Mark k ∷ []))
 abbrev pub NoTicketLeft : Hand → Type 0
 NoTicketLeft h = Learns Fed h.pass.id (view h.pass) AllMarks
 
--- the same: all that the deque holds stands behind this item
+-- the same: all that the deque holds stands after this item
 abbrev pub OnlyLaterLeft : Hand → Item → Type 0
 OnlyLaterLeft h x = Learns Fed h.pass.id (view h.pass) (λ rest. AllByRecursion (Before x) rest)
 

@@ -48,7 +48,7 @@ KnowsFilled pushed v = v.role ≡ Holder → v.filled ≡ pushed
 
 -- The state of a feed of this bundle for `workers` hands: what was pushed, what was popped, the rest that the deque
 -- holds, and a list for each hand, ended ones included, of which there are `ended`.
--- What was pushed begins the bundle's items, and is all of them once a hand has begun. It is a front that the hands
+-- What was pushed begins the bundle's items, and is all of them once a hand has begun. It is a prefix that the hands
 -- took, then what was popped, then the rest. Each item, of this bundle or not, stands in the hands' lists together once
 -- where it is in the front, and else not at all. Each hand's list rises and has at most one end mark. At most `workers`
 -- hands have begun, and nothing is popped until as many have ended.

@@ -1,7 +1,7 @@
 //! What the deque of a feed holds.
 use census_bundle::ticket::Ticket;
 
-/// A ticket, or one of the end marks, of which one for each hand stands behind all tickets.
+/// A ticket, or one of the end marks, of which one for each hand stands after all tickets.
 #[derive(Clone, Copy, PartialEq, Eq, Debug)]
 pub enum Item {
     Work(Ticket),

@@ -66,7 +66,7 @@ next_file held word names i name text old mid new within at is before more =
     let next : bytes_of (take (i + 1) names) ≡ bytes_of (take i names) ++ text ∷ [] = map_more (λ n. n.items) names i name within ∙ ap (λ t. bytes_of (take i names) ++ t ∷ []) (sym (is ∙ ap (λ n. n.items) at)) in
     rw next (one_more_file held word (bytes_of (take i names)) text old mid new before more)
 
--- all the names, behind which the folder is whole
+-- all the names, after which the folder is whole
 pub last_file : (listed : List ℕ → Told) (held : List ℕ → List ℕ → Told) (word : List ℕ) (names : List (Vec ℕ Global)) (i : ℕ) (old new : List Folder) (listing : List ℕ) → length names ≤ i
     → GivesTold (listed word) listing → IsChosen listing (bytes_of names)
     → (is_name word ≡ false → ⊥) → ((is_name word ≡ true) × (count_limit ≤ length old) → ⊥) → HoldsFiles (held word) word (bytes_of (take i names)) old new → AddsFolderOf listed held word old new

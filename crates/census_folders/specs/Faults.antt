@@ -20,7 +20,7 @@ fault_of_read reads.TooLong = TooLong
 fault_of_read reads.Memory = Memory
 
 -- A fault at a folder whose name is lawful and for which there is room: a file's name or number, a failure to list or
--- read, or want of memory. There is a folder for each file.
+-- read, or out of memory. There is a folder for each file.
 abbrev pub IsFolderFault : FoldersFault → Type 0
 IsFolderFault (Add adds.BadName) = Unit {0}
 IsFolderFault (Add adds.NoFolder) = ⊥
@@ -30,7 +30,7 @@ IsFolderFault Read = Unit {0}
 IsFolderFault TooLong = Unit {0}
 IsFolderFault Memory = Unit {0}
 
--- why the folder of a word is not read behind so many others
+-- why the folder of a word is not read after so many others
 abbrev pub StopsFolder : ℕ → List ℕ → FoldersFault → Type 0
 StopsFolder count word fault =
     MatchBool (is_name word) (MatchBool (nat_le count_limit count) (fault ≡ Add adds.TooMany) (IsFolderFault fault)) (fault ≡ Add adds.BadName)

@@ -92,7 +92,7 @@ KeepsFolder listed held old word new = MatchBool (is_name word) (AddsKept listed
 
 -- # Why folders were not read
 
--- why a file is not added: want of memory, or too many in its folder
+-- why a file is not added: out of memory, or too many in its folder
 abbrev pub StopsKeepingFile : List ℕ → Kept → FoldersFault → Type 0
 StopsKeepingFile name old fault =
     (fault ≡ Memory) ⊎ ((fault ≡ Add adds.TooMany) × (is_name name ≡ true) × (count_limit ≤ length (last_entries old.bundle)))
@@ -110,7 +110,7 @@ pub record StopsInFolder (listed : List ℕ → Told) (held : List ℕ → List 
   pub before : KeepsFiles (held word) word (with_empty word old) (take place names) kept
   pub why : StopsKeepingFile name kept fault
 
--- why a folder is not added: want of memory, too many folders, or a file
+-- why a folder is not added: out of memory, too many folders, or a file
 abbrev pub StopsKeepingFolder : (List ℕ → Told) → (List ℕ → List ℕ → Told) → List ℕ → Kept → FoldersFault → Type 0
 StopsKeepingFolder listed held word old fault =
     (fault ≡ Memory) ⊎ (((fault ≡ Add adds.TooMany) × (is_name word ≡ true) × (count_limit ≤ length old.bundle)) ⊎ StopsInFolder listed held word old fault)

@@ -49,7 +49,7 @@ pub record HoldsShelf (listed : List ℕ → Told) (held : List ℕ → List ℕ
 abbrev pub CanRead : Told → Type 0
 CanRead told = (bytes : List ℕ) × GivesTold told bytes × (length bytes ≤ file_limit)
 
--- why a file is not added behind so many others of its folder
+-- why a file is not added after so many others of its folder
 abbrev pub StopsFile : Told → ℕ → List ℕ → FoldersFault → Type 0
 StopsFile told count name (Add adds.BadName) = CanRead told × (is_name name ≡ false)
 StopsFile told count name (Add adds.NoFolder) = ⊥
@@ -80,7 +80,7 @@ StopsList told Read = MayFail told
 StopsList told TooLong = ⊥
 StopsList told Memory = Unit {0}
 
--- why the folder of a word is not read behind so many others
+-- why the folder of a word is not read after so many others
 abbrev pub StopsFolderOf : (List ℕ → Told) → (List ℕ → List ℕ → Told) → ℕ → List ℕ → FoldersFault → Type 0
 StopsFolderOf listed held count word fault =
     MatchBool (is_name word) (MatchBool (nat_le count_limit count) (fault ≡ Add adds.TooMany) (StopsList (listed word) fault ⊎ StopsAtFile listed held word fault)) (fault ≡ Add adds.BadName)

@@ -93,7 +93,7 @@ StopsNames names Read = ¬ (All IsUtf8 names)
 StopsNames names TooLong = ⊥
 StopsNames names Memory = Unit {0}
 
--- the folder was walked: its folders come behind those that were found
+-- the folder was walked: its folders come after those that were found
 pub record AddsVisit (listed inner : List ℕ → Told) (path : List ℕ) (old new : List (List ℕ)) (chosen : Bool) : Type 0 where
   pub visit : Visit
   pub at : visit.path ≡ path

@@ -100,7 +100,7 @@ fn is_folder<R: Files>(
 
 impl<R: Files> Shelf for R {
     fn list(&self, alloc: Global, folder: &str) -> Result<Vec<u8>, ReadFault> {
-        // A path that ends in a slash is that of a folder, also behind a link.
+        // A path that ends in a slash is that of a folder, also after a link.
         let path = path_in(alloc, folder, b"")?;
         list_opened(alloc, self.open_dir(path.as_str())).map_err(fault_of)
     }

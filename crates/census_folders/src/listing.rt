@@ -15,7 +15,7 @@ fn is_pattern_name(name: &[u8]) -> bool
     name.ends_with(b".rle")
 }
 
-// The name before the first byte 0, and what stands behind that byte.
+// The name before the first byte 0, and what stands after that byte.
 pub fn split_name(listing: &[u8]) -> (&[u8], Option<&[u8]>)
     ensures parts { slice_split is_end listing.now
         ≡ result.0.now ∷ option_map_or (λ rest. slice_split is_end rest.now) result.1 [] }

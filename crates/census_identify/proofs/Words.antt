@@ -138,7 +138,7 @@ module _ (held : List ℕ → ToldOf) (bound : ℕ) (words : List (List ℕ)) (c
 abbrev pub texts : List (Bor (List ℕ)) → List (List ℕ)
 texts words = map (λ s. s.now) words
 
--- a word between those before it and those behind it
+-- a word between those before it and those after it
 word_between : (words : List (Bor (List ℕ))) (i : ℕ) (d : Bor (List ℕ)) → i < length words
     → texts words ≡ texts (take i words) ++ (get_or words i d).now ∷ texts (drop (suc i) words)
 word_between words i d within =

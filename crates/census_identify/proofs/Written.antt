@@ -1,4 +1,4 @@
--- One text written or told behind another.
+-- One text written or told after another.
 use Rattle.std.proofs.Common.{◌≡◌, ℕ, ◌+◌, ◌≤◌, Bool, true, false, List, [], ◌++◌, length, take, Option, Result, Ok, Err, MatchBool, MatchResult, refl, sym, subst, arith, length-append}
 use Rattle.std.proofs.KnownBytes.{Appends-nil, Appends-trans}
 use Rattle.std.proofs.Math.Seq.{take-append-add}
@@ -7,7 +7,7 @@ use Rattle.std.specs.Io.KnownBytes.{Appends}
 use Rattle.watched.specs.Watching.{AppendsFront}
 use Rattle.census_identify.specs.Streams.{Sink, Tells, TellsMore, Writes, WritesBetween, WritesFront}
 
--- a prefix of the second text stands behind the whole first one
+-- a prefix of the second text stands after the whole first one
 behind_whole : (a b c : Option (List ℕ)) (xs ys : List ℕ) (n : ℕ) → Appends a b xs → Appends b c (take n ys) → Appends a c (take (length xs + n) (xs ++ ys))
 behind_whole a b c xs ys n p q = subst (Appends a c) (sym (take-append-add xs ys n)) (Appends-trans a b c xs (take n ys) p q)
 

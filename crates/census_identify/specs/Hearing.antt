@@ -69,7 +69,7 @@ pub record Hearing : Type 0 where
 abbrev pub words_of : List Hearing → List (List ℕ)
 words_of hearings = map (λ h. h.word) hearings
 
--- each was heard behind the one before it
+-- each was heard after the one before it
 abbrev pub HearsEach : (List ℕ → Told) → List Hearing → Source → Source → Type 0
 HearsEach held [] before after = after ≡ before
 HearsEach held (h ∷ hs) before after =

@@ -59,12 +59,12 @@ status_of (Line line status ∷ told) = max status (status_of told)
 
 -- # One more
 
--- a block, behind others where there are any
+-- a block, after others where there are any
 abbrev pub behind : Bool → List ℕ → List ℕ
 behind true block = 10 ∷ block
 behind false block = block
 
--- what goes to standard output behind others
+-- what goes to standard output after others
 abbrev pub output_of : Bool → Told → List ℕ
 output_of has_block (Block block) = behind has_block block
 output_of has_block (Line line status) = []

@@ -37,7 +37,7 @@ fn message_line(alloc: Global, word: &str, message: &[u8]) -> Result<Bytes, Allo
     Ok(Bytes::new(line))
 }
 
-// The lines of a block, behind the line `file WORD` where the word stands for a file.
+// The lines of a block, after the line `file WORD` where the word stands for a file.
 fn headed(alloc: Global, word: &str, block: &[u8]) -> Result<Bytes, AllocError>
     ensures { IfOk result (λ bytes. bytes ≡ headed word.now block.now) }
 {

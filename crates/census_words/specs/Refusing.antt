@@ -18,7 +18,7 @@ TellsKind kind Memory = Unit {0}
 abbrev pub AsksHelp : List (List ℕ) → Type 0
 AsksHelp words = IsAmong DisplayHelp (fault_of census_app words)
 
--- clap refuses the words, and not for want of memory
+-- clap refuses the words, and not because memory ran out
 pub record IsRefused (words : List (List ℕ)) : Type 0 where
   pub kind : ErrorKind
   pub among : IsAmong kind (fault_of census_app words)

@@ -114,7 +114,7 @@ front_same a b p q s t periods still counts =
           ∙ (λ i. front b (periods i) (still i))
     ]
 
--- what stands behind the first `_`
+-- what stands after the first `_`
 abbrev behind : List ℕ → List ℕ
 behind [] = []
 behind (c ∷ cs) = cond (eqb c 95) cs (behind cs)

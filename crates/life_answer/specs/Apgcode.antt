@@ -28,7 +28,7 @@ turned_bodies G = map (λ m. body (turned G m)) orientations
 abbrev pub bodies : Rule → Generation → ℕ → List (List ℕ)
 bodies R H period = flat_map (λ n. turned_bodies (generation R H n)) (range_with_len 0 period)
 
--- the code of a set that comes again after so many steps, moved so far: behind its prefix the least of those texts, by
+-- the code of a set that comes again after so many steps, moved so far: after its prefix the least of those texts, by
 -- length and then by bytes
 unfoldable pub code_of : Rule → Generation → ℕ → Cell → List ℕ
 code_of R H period displacement = prefix (size H) period displacement ++ codes "_" ++ least_text (bodies R H period)

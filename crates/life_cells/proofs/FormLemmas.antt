@@ -175,7 +175,7 @@ one_of_yes bytes c rest h = ap (λ b. if b then Some rest else None) h
 one_of_no : (bytes : List ℕ) (c : ℕ) (rest : List ℕ) → is_in bytes c ≡ false → after_one_of bytes (c ∷ rest) ≡ None
 one_of_no bytes c rest h = ap (λ b. if b then Some rest else None) h
 
--- the second letter behind `/` or nothing
+-- the second letter after `/` or nothing
 slash_and : (second slash : List ℕ) (next : ℕ) (rest : List ℕ) → (slash ≡ []) ⊎ (slash ≡ codes "/") → is_in second next ≡ true → is_in (codes "/") next ≡ false
     → after_slash_and second (slash ++ next ∷ rest) ≡ Some rest
 slash_and second slash next rest (inl none) h apart =

@@ -20,14 +20,14 @@ is_count c = nat_le 48 c && nat_le c 56
 abbrev pub members : List ℕ → ℕ
 members digits = fold (λ set c. bit_or set (2 ^ (c - 48))) 0 digits
 
--- the digits at the front, and what follows them
+-- the digits at the start, and what follows them
 abbrev pub digits_of : List ℕ → List ℕ
 digits_of text = take_while is_count text
 
 abbrev pub after_digits : List ℕ → List ℕ
 after_digits text = without_front is_count text
 
--- the digits at the front and a second run of digits, where there is one and it is digits alone
+-- the digits at the start and a second run of digits, where there is one and it is digits alone
 abbrev pub runs_with : List ℕ → Option (List ℕ) → Option (List ℕ × List ℕ)
 runs_with text None = None
 runs_with text (Some second) = if list_all is_count second then Some (digits_of text, second) else None
@@ -40,7 +40,7 @@ slashed text = runs_with text (after_one_of (codes "/") (after_digits text))
 abbrev pub after_slash_and : List ℕ → List ℕ → Option (List ℕ)
 after_slash_and letters text = option_or (after_one_of (codes "/") text >>= after_one_of letters) (after_one_of letters text)
 
--- behind a first letter the digits, `/` or nothing, and a second letter
+-- after a first letter the digits, `/` or nothing, and a second letter
 abbrev pub lettered : List ℕ → List ℕ → List ℕ → Option (List ℕ × List ℕ)
 lettered first second text = do
   rest ← after_one_of first text

@@ -99,7 +99,7 @@ impl CellList {
     pub fn of(alloc: Global, cells: &[(i32, i32)]) -> Result<CellList, CellFault>
         ensures cells { IfOk result (λ list. list ≡ from_list cells.now) }
         ensures lawful { OnOk result (All IsPlace cells.now) }
-        // It comes before want of memory is met.
+        // It comes before memory runs out.
         ensures outside { (result ≡ Err OutOfField) ↔ (All IsPlace cells.now → ⊥) }
     {
         if !are_places(cells) {

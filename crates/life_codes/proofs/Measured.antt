@@ -34,7 +34,7 @@ forward_value n s run place xs h live is e =
 
 -- ---- one column after another, from the last
 
--- What the text of columns is long that were read from behind: so many bytes behind a run of zeros that may go on, or no
+-- What the text of columns is long that were read from after: so many bytes after a run of zeros that may go on, or no
 -- byte where all of them are 0.
 pub record Counted (behind : List ℕ) (place skipped bytes : ℕ) : Type 0 where
   pub some : skipped < place → (s : ℕ) → length (columns_text s behind) ≡ length (zeros (s + skipped)) + bytes

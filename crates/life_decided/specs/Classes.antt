@@ -12,7 +12,7 @@ joined R n P [] = P ∷ []
 joined R n P (Q ∷ Qs) =
     if meet (generation R P n) (generation R Q n) then joined R n (union P Q) Qs else (Q ∷ joined R n P Qs)
 
--- each of the sets in turn joined with those behind it
+-- each of the sets in turn joined with those after it
 unfoldable pub all_joined : Rule → ℕ → List Generation → List Generation
 all_joined R n [] = []
 all_joined R n (P ∷ Ps) = joined R n P (all_joined R n Ps)

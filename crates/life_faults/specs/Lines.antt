@@ -20,7 +20,7 @@ number_of (TooMany at) = codes "rle fault 9 at " ++ decimal at
 number_of NoEnd = codes "rle fault 10"
 number_of Memory = codes "out of memory"
 
--- words, and a number behind them where there is one
+-- words, and a number after them where there is one
 abbrev pub numbered : List ℕ → Option ℕ → List ℕ
 numbered words None = words
 numbered words (Some at) = words ++ decimal at

@@ -41,6 +41,6 @@ place_in text (TooMany at) = at
 place_in text NoEnd = length text
 place_in text Memory = 0
 
--- its line and column; a place behind the text's end counts as the end
+-- its line and column; a place after the text's end counts as the end
 abbrev pub place_of : List ℕ → RleFault → Place
 place_of text fault = place text (min (place_in text fault) (length text))

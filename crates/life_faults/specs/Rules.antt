@@ -19,7 +19,7 @@ rule_in_header text = rule_in_line (header_line text)
 
 -- # Larger than Life
 
--- `R` and a digit at the front
+-- `R` and a digit at the start
 abbrev pub begins_with_range : List ℕ → Bool
 begins_with_range [] = false
 begins_with_range (c ∷ []) = false
@@ -28,7 +28,7 @@ begins_with_range (c ∷ d ∷ rest) = is_in (codes "Rr") c && is_digit d
 abbrev pub is_in_numbers : ℕ → Bool
 is_in_numbers c = is_digit c || (c == 44)
 
--- a range and more behind a comma, as `R5,C0,M1,S34..58,B34..45,NM`, or five numbers, as `5,34,45,34,58`
+-- a range and more after a comma, as `R5,C0,M1,S34..58,B34..45,NM`, or five numbers, as `5,34,45,34,58`
 abbrev pub is_larger : List ℕ → Bool
 is_larger rule = (begins_with_range rule && is_in rule 44) || ((times_in 44 rule == 4) && list_all is_in_numbers rule)
 
@@ -53,7 +53,7 @@ is_generations rule = (times_in 47 rule == 2) && is_states (after_last (λ c. c 
 abbrev pub is_arrangement : ℕ → Bool
 is_arrangement c = is_in (codes "ceakinyqjrtwz") c
 
--- an arrangement right behind a number of neighbours, or behind the `-` of those that are left out
+-- an arrangement right after a number of neighbours, or after the `-` of those that are left out
 abbrev pub has_arrangement_behind : ℕ → List ℕ → Bool
 has_arrangement_behind before [] = false
 has_arrangement_behind before (c ∷ rest) = ((is_digit before || (before == 45)) && is_arrangement c) || has_arrangement_behind c rest

@@ -19,7 +19,7 @@ pub fn count_of(text: &[u8], byte: u8) -> usize
     count
 }
 
-/// How many bytes stand behind the last LF of a text.
+/// How many bytes stand after the last LF of a text.
 pub fn last_line_len(text: &[u8]) -> usize
     ensures value { result ≡ suffix_len is_within_line text.now }
     ensures within { result ≤ length text.now }
@@ -31,7 +31,7 @@ pub fn last_line_len(text: &[u8]) -> usize
     text.len() - start
 }
 
-/// What stands behind the last of a byte in a text, or the text where the byte is not in it.
+/// What stands after the last of a byte in a text, or the text where the byte is not in it.
 pub fn behind_last(text: &[u8], byte: u8) -> &[u8]
     ensures { result.now ≡ after_last (λ c. c == byte) text.now }
 {

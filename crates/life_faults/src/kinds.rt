@@ -43,7 +43,7 @@ fn all_in_numbers(rule: &[u8]) -> bool
     rule.iter().all(|byte| is_digit(*byte) || *byte == b',')
 }
 
-// Whether a rule has a range and more behind a comma, or is five numbers.
+// Whether a rule has a range and more after a comma, or is five numbers.
 fn is_larger(rule: &[u8]) -> bool
     ensures { result ≡ is_larger rule.now }
 {
@@ -89,7 +89,7 @@ fn is_arrangement(byte: u8) -> bool
     b"ceakinyqjrtwz".contains(&byte)
 }
 
-// Whether an arrangement stands right behind a number of neighbours, or behind the `-` of those that are left out.
+// Whether an arrangement stands right after a number of neighbours, or after the `-` of those that are left out.
 fn has_arrangement(rule: &[u8]) -> bool
     ensures { result ≡ has_arrangement_behind 47 rule.now }
 {
@@ -166,9 +166,9 @@ fn has_blank(text: &[u8]) -> bool
 ///
 /// - `Bounded`: `:` stands in it.
 /// - `LargerThanLife`: it begins with `R` and a digit and has a comma, or is five numbers with commas between.
-/// - `Generations`: it has two `/`, and behind the second a number, before which `C` or `G` may stand.
+/// - `Generations`: it has two `/`, and after the second a number, before which `C` or `G` may stand.
 /// - `NonTotalistic`: it is made of `0` to `8`, `/`, `-`, `B`, `S`, `b`, `s` and the letters of arrangements, and one of
-///   these letters stands right behind a digit or `-`.
+///   these letters stands right after a digit or `-`.
 /// - `Named`: two letters stand side by side, and it has no `/` and doesn't begin with `MAP`.
 /// - `Blank`: it has a blank, a tab or CR.
 pub fn rule_kind(rule: &[u8]) -> RuleKind

@@ -42,7 +42,7 @@ fn place_in(text: &[u8], fault: RleFault) -> usize
 
 /// Where a reader should look for a fault of a text: at the byte that the fault names; at the header line's first byte
 /// for a fault of the header; at the text's end where the end is missing; and at the text's first byte where memory was
-/// refused. A byte behind the text's end counts as the end.
+/// refused. A byte after the text's end counts as the end.
 pub fn place_of(text: &[u8], fault: &RleFault) -> Place
     ensures { result ≡ place_of text.now fault.now }
 {

@@ -191,7 +191,7 @@ drawn_capped k x m ms k' x' h s c =
     drawn_step k x m ms h
     ∙ ap (with_front (map placed (mark_cells k x m))) (drawn_near ms (strip_behind k m) (min (strip_behind k m) place_limit) (column_behind x m) (min (column_behind x m) place_limit) (near_capped (strip_behind k m)) (near_capped (column_behind x m)) ∙ (λ i. drawn (sym s i) (sym c i) ms))
 
--- the reader's step: what is drawn so far, a mark, and what is drawn behind it
+-- the reader's step: what is drawn so far, a mark, and what is drawn after it
 pub drawn_more : (all : Result (List Cell) CodeFault) (cells new : List Cell) (k x : ℕ) (m : Mark) (here ms : List Mark) (k' x' : ℕ) → all ≡ with_front cells (drawn k x here) → here ≡ m ∷ ms → mark_fault k x m ≡ None → k' ≡ min (strip_behind k m) place_limit → x' ≡ min (column_behind x m) place_limit → new ≡ cells ++ map placed (mark_cells k x m) → all ≡ with_front new (drawn k' x' ms)
 drawn_more all cells new k x m here ms k' x' a e h s c n =
     a ∙ ap (λ rest. with_front cells (drawn k x rest)) e ∙ ap (with_front cells) (drawn_capped k x m ms k' x' h s c)

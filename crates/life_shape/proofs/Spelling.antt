@@ -54,7 +54,7 @@ run_of-digit at n h =
 
 -- ---- the cells of a text and of what follows it
 
--- what stands behind a text is read from column y on, and no fault comes before where these cells are near
+-- what stands after a text is read from column y on, and no fault comes before where these cells are near
 pub record Leads (k x y at next : ℕ) (text : List ℕ) (cs : List (ℕ × ℕ)) (rest : List ℕ) : Type 0 where
   pub cells : cells_from k x (marks None at (text ++ rest)) ≡ cs ++ cells_from k y (marks None next rest)
   pub faults : list_any is_far cs ≡ false → fault_from k x (marks None at (text ++ rest)) ≡ fault_from k y (marks None next rest)
@@ -138,7 +138,7 @@ abbrev columns_cells : ℕ → ℕ → List ℕ → List (ℕ × ℕ)
 columns_cells k x [] = []
 columns_cells k x (v ∷ vs) = column_cells k x v ++ columns_cells k (x + 1) vs
 
--- the column that is read next behind columns of these values, s of them skipped
+-- the column that is read next after columns of these values, s of them skipped
 abbrev last_column : ℕ → ℕ → List ℕ → ℕ
 last_column x s [] = x
 last_column x s (zero ∷ vs) = last_column x (s + 1) vs

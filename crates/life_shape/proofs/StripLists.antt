@@ -50,7 +50,7 @@ from_front : (row : ℤ) (cs : List Cell) (d : Cell) → 0 < length cs → T (is
 from_front row [] d l h k = tt
 from_front row (c ∷ cs) d l h k = (k, all_under row c cs k (first_holds _ _ h))
 
--- where a cell stands on the row or below it, so do all behind it
+-- where a cell stands on the row or below it, so do all after it
 pub behind_row : (row : ℤ) (cs : List Cell) (n : ℕ) (d : Cell) → n < length cs → T (is_rising cs) → row ≤ℤ (get_or cs n d).1 → All (λ c. row ≤ℤ c.1) (drop n cs)
 behind_row row cs n d l h k =
     let len = length-drop n cs in
@@ -62,7 +62,7 @@ behind_row row cs n d l h k =
 parts : (k x n : ℕ) (cs : List Cell) → weights k (take n cs) x + weights k (drop n cs) x ≡ weights k cs x
 parts k x n cs = sum_by-take-drop (weight k x) cs n
 
--- the first strip's cells are at the front
+-- the first strip's cells are at the start
 pub weights_front : (k x n : ℕ) (cs : List Cell) → All (λ c. pos (5 * k + 5) ≤ℤ c.1) (drop n cs) → weights k (take n cs) x ≡ weights k cs x
 weights_front k x n cs all =
     let p = parts k x n cs in

@@ -10,7 +10,7 @@ use Rattle.life_shape.specs.declared.reader.Sign.{Sign}
 use Rattle.life_shape.specs.declared.reader.Sign.TheVariants.{Value, Skip, Down}
 use Rattle.life_shape.specs.Reading.{Mark, Column, Zeros, NextStrip, Offence, mark_cells, mark_fault, marks, placed}
 
--- strip and column behind a mark
+-- strip and column after a mark
 abbrev pub strip_behind : ℕ → Mark → ℕ
 strip_behind k (Column at v) = k
 strip_behind k (Zeros n) = k

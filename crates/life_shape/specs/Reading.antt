@@ -20,7 +20,7 @@ is_digit c = (nat_le 48 c && nat_le c 57) || (nat_le 97 c && nat_le c 122)
 abbrev pub digit_value : ℕ → ℕ
 digit_value c = if nat_le c 57 then c - 48 else c - 87
 
--- what a byte, or `y` and the byte behind it, stands for: a column of a value, columns of 0, the next strip, or a fault
+-- what a byte, or `y` and the byte after it, stands for: a column of a value, columns of 0, the next strip, or a fault
 pub data Mark : Type 0 where
   Column : (at value : ℕ) → Mark
   Zeros : (count : ℕ) → Mark
@@ -32,7 +32,7 @@ abbrev pub mark_of : ℕ → ℕ → Mark
 mark_of at c =
     if is_digit c then (if c == 122 then NextStrip else (if c == 119 then Zeros 2 else (if c == 120 then Zeros 3 else Column at (digit_value c)))) else Offence (BadChar at)
 
--- what `y` and the byte behind it stand for
+-- what `y` and the byte after it stand for
 abbrev pub run_of : ℕ → ℕ → Mark
 run_of at c = if is_digit c then Zeros (4 + digit_value c) else Offence (CutRun at)
 

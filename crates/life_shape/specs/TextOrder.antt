@@ -5,12 +5,12 @@ use Rattle.std.specs.Ordering.{nat_cmp, ordering_then, is_gt}
 use Rattle.std.specs.declared.cmp.Ordering.{Ordering}
 use Rattle.std.specs.Cmp.Lexicographic.{slice_cmp}
 
--- what stands behind a place, or the whole text where there is none
+-- what stands after a place, or the whole text where there is none
 abbrev pub behind : Option ℕ → List ℕ → List ℕ
 behind None code = code
 behind (Some at) code = drop (at + 1) code
 
--- the bytes behind the first `_`, or all bytes where there is none
+-- the bytes after the first `_`, or all bytes where there is none
 abbrev pub body_of : List ℕ → List ℕ
 body_of code = behind (position (λ c. c == 95) code) code
 

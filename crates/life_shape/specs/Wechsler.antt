@@ -31,7 +31,7 @@ full_runs (suc n) = 121 ∷ 122 ∷ full_runs n
 abbrev pub zeros : ℕ → List ℕ
 zeros n = full_runs (n / 39) ++ short_zeros (n % 39)
 
--- columns behind a run of so many zeros; zeros at the end are dropped
+-- columns after a run of so many zeros; zeros at the end are dropped
 abbrev pub columns_text : ℕ → List ℕ → List ℕ
 columns_text skipped [] = []
 columns_text skipped (zero ∷ values) = columns_text (skipped + 1) values

@@ -12,7 +12,7 @@ fn mark(code: &[u8]) -> Option<usize>
     code.iter().position(|byte| *byte == b'_')
 }
 
-/// The bytes behind the first `_`, or all bytes where there is none.
+/// The bytes after the first `_`, or all bytes where there is none.
 pub fn body_of(code: &[u8]) -> &[u8]
     ensures { result.now ≡ body_of code.now }
 {

@@ -46,7 +46,7 @@ impl From<AllocError> for CodeFault {
 // More than any place.
 const PLACE_LIMIT: u32 = 1_048_576;
 
-// What a byte, or `y` and the byte behind it, stands for.
+// What a byte, or `y` and the byte after it, stands for.
 #[derive(Clone, Copy, Drop)]
 enum Sign {
     // a column of this value
@@ -68,7 +68,7 @@ fn digit_value(byte: u8) -> Option<u8>
     }
 }
 
-// What stands at a place, and the place behind it.
+// What stands at a place, and the place after it.
 fn next_sign(text: &[u8], at: usize) -> Result<(Sign, usize), CodeFault>
     requires { at < length text.now }
     ensures found { IfOk result (λ p. marks_at text.now at ≡ seen at p.0 ∷ marks_at text.now p.1) }

@@ -138,7 +138,7 @@ fn is_below(cell: (i32, i32), strip: u32) -> bool
     cell.1 >= 5 * strip as i32 + 5
 }
 
-// How many cells at the front don't stand below a strip.
+// How many cells at the start don't stand below a strip.
 fn count_within(cells: &[(i32, i32)], strip: u32) -> usize
     requires rising { T (is_rising cells.now) }
     requires strips { strip ≤ 3_355_444 }

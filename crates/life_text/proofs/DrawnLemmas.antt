@@ -164,7 +164,7 @@ onto_more n us = by_first us
     by_first [] = some []
     by_first ((m, tag) ∷ others) = by_tag m tag others (tag == 111) refl
 
--- the tokens of the cells behind one
+-- the tokens of the cells after one
 abbrev behind : ℕ × ℕ → List (ℕ × ℕ) → List (ℕ × ℕ)
 behind c cs = onto_run 1 (tokens_from c.1 (c.0 + 1) cs)
 
@@ -198,7 +198,7 @@ below_row y x c cs lt =
 draws_same : (p q : Pen) (us vs cells others : List (ℕ × ℕ)) → p ≡ q → us ≡ vs → cells ≡ others → Draws q vs others → Draws p us cells
 draws_same p q us vs cells others e f g h used at = (λ i. drawn (e i) (text_tokens used at (f i))) ∙ h used at ∙ ap (λ cs. Ok cs) (sym g)
 
--- the tokens of cells behind live ones that have no token yet
+-- the tokens of cells after live ones that have no token yet
 draws_all : (ps : List (ℕ × ℕ)) (y start n x live : ℕ) → x ≡ start + n → IsBehind y x ps → Fits ps → y < place_limit → x ≤ place_limit → live + n + length ps ≤ cell_limit
     → Draws (pen y start live) (onto_run n (tokens_from y x ps)) (live_row y start n ++ ps)
 draws_all [] y start n x live e order fits high wide few_cells =
@@ -206,7 +206,7 @@ draws_all [] y start n x live e order fits high wide few_cells =
 draws_all (c ∷ cs) y start n x live e order fits high wide few_cells =
     by_row (draws_all cs c.1 start (n + 1) (c.0 + 1) live) (draws_all cs c.1 c.0 1 (c.0 + 1) (live + n)) (c.1 == y) refl (c.0 == x) refl
   where
-    -- behind live cells that the next cell doesn't follow
+    -- after live cells that the next cell doesn't follow
     gap : (us : List (ℕ × ℕ)) → Draws (pen y (start + n) (live + n)) us (c ∷ cs) → Draws (pen y start live) (counted n 111 us) (live_row y start n ++ c ∷ cs)
     gap us h = draws_live y start live n us (c ∷ cs) high (omega arith) (omega arith) h
 

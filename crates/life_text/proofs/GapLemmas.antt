@@ -39,7 +39,7 @@ none_before (c ∷ columns) x k h lt =
     apart : (c k : ℕ) → k < c → nat_eq c k ≡ false
     apart c k h = grind (arith, nat_tests)
 
--- the runs from a column on to a live one and behind it
+-- the runs from a column on to a live one and after it
 runs_to : (p : ℕ → Bool) (n x c m t : ℕ) → x + n ≡ c → t ≡ n + m → ((k : ℕ) → x ≤ k → k < c → p k ≡ false) → p c ≡ true
     → runs_of (map p (range_with_len x (suc t))) ≡ dead n (run_onto true (runs_of (map p (range_with_len (c + 1) m))))
 runs_to p zero x c m t e f none here =

@@ -1,4 +1,4 @@
--- The header line of a text, and the body behind it.
+-- The header line of a text, and the body after it.
 use Rattle.std.proofs.Common.{◌≡◌, ℕ, suc, ◌+◌, ◌-◌, ◌<◌, ◌≤◌, Bool, true, false, not, cond, List, [], ◌∷◌, ◌++◌, length, get_or, drop, take, if◌then◌else◌, ◌==◌, sym, ap, ◌∙◌, refl, arith, Option, Some, None, Result, Ok, Err, ℤ}
 use Rattle.std.specs.List.{prefix_len, before_first, after_first}
 use Rattle.std.proofs.lemmas.List.{take_more, get_or-drop, length-drop}
@@ -28,7 +28,7 @@ line_ends c rest h =
     let behind : prefix_len (λ b. not (is_line_feed b)) (c ∷ rest) + 1 ≡ suc 0 = omega arith in
     (ap (λ k. take k (c ∷ rest)) none, ap (λ k. drop k (c ∷ rest)) behind)
 
--- behind a byte that ends no line stands no comment
+-- after a byte that ends no line stands no comment
 pub plain_behind : (text : List ℕ) (at : ℕ) → (get_or text at 0 == 10) ≡ false → at + 1 < length text → plain_at text (at + 1) ≡ get_or text (at + 1) 0 ∷ plain_at text (at + 1 + 1)
 plain_behind text at h lt = blanked_plain false text (at + 1) lt (ap (λ n. inside false n (get_or text (at + 1) 0)) (previous_more text at) ∙ ap (λ b. if b then get_or text (at + 1) 0 == 35 else false) h)
 

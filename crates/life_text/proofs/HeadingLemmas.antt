@@ -111,7 +111,7 @@ behind_digits (d ∷ ds) c rest h stop =
 digit_no_blank : (c : ℕ) → is_digit c ≡ true → is_blank c ≡ false
 digit_no_blank c h = grind (arith, nat_tests)
 
--- a size, and what stands behind it
+-- a size, and what stands after it
 size_found : (ds : List ℕ) (n c : ℕ) (rest : List ℕ) → Written ds n → is_digit c ≡ false → after_size (32 ∷ (ds ++ c ∷ rest)) ≡ Some (c ∷ rest)
 size_found ds n c rest w stop =
     let is = and_left (is_digit w.first) (list_all is_digit w.others) w.digits in
@@ -155,7 +155,7 @@ blanked_clean (c ∷ s) before h =
     outside true clean = grind (arith, nat_tests)
     outside false clean = refl
 
--- the first line, and the text behind it
+-- the first line, and the text after it
 line_split : (line rest : List ℕ) → list_all is_inline line ≡ true → (before_first is_line_feed (line ++ 10 ∷ rest) ≡ line) × (after_first is_line_feed (line ++ 10 ∷ rest) ≡ rest)
 line_split [] rest h = line_ends 10 rest refl
 line_split (c ∷ line) rest h =

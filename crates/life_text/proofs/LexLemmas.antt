@@ -198,7 +198,7 @@ take_more c rest h =
 digit_value_is : (c : ℕ) → is_digit c ≡ true → digit_value c ≡ c - 48
 digit_value_is c h = grind (arith, nat_tests)
 
--- values that agree up to the cap still do behind more digits
+-- values that agree up to the cap still do after more digits
 capped_digits : (digits : List ℕ) (m n : ℕ) → min m cap ≡ min n cap → min (digits_value_after 10 m digits) cap ≡ min (digits_value_after 10 n digits) cap
 capped_digits [] m n e = e
 capped_digits (c ∷ digits) m n e = capped_digits digits (m * 10 + digit_value c) (n * 10 + digit_value c) (omega arith)

@@ -52,7 +52,7 @@ tag_found within at c rest space digit =
     ap (λ b. (if b then [] else (if not (is_digit c) then Tag at c ∷ [] else (if within then [] else Count at (digits_value 10 (take_while is_digit (c ∷ rest))) ∷ []))) ++ lexemes (is_digit c) (at + 1) rest) space
     ∙ ap (λ b. (if not b then Tag at c ∷ [] else (if within then [] else Count at (digits_value 10 (take_while is_digit (c ∷ rest))) ∷ [])) ++ lexemes b (at + 1) rest) digit
 
--- a tag, and the lexemes behind it
+-- a tag, and the lexemes after it
 record Tagged (ls : List Lexeme) (c : ℕ) (rest : List ℕ) : Type 0 where
   place : ℕ
   same : ls ≡ Tag place c ∷ lexemes false (place + 1) rest

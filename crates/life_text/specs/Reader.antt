@@ -23,7 +23,7 @@ plain_at text at = blanked false (previous text at) (drop at text)
 abbrev pub tokens_at : List ℕ → ℕ → List Token
 tokens_at text at = tokens (lexemes false at (plain_at text at))
 
--- the pen behind a token
+-- the pen after a token
 abbrev pub moved : Pen → Token → Pen
 moved pen t = record {
   y = pen.y + (if is_row_end t then times t else 0);
@@ -42,7 +42,7 @@ abbrev pub drawn : Pen → List Token → Result (List (ℕ × ℕ)) RleFault
 drawn pen [] = Ok []
 drawn pen (t ∷ ts) = joined (token_fault pen.y pen.x pen.live t) (span pen.y pen.x t) (drawn (moved pen t) ts)
 
--- the pen behind these tokens
+-- the pen after these tokens
 abbrev pub pen_behind : List Token → Pen
 pen_behind before = record { y = row before; x = column before; live = live_cells before }
 

@@ -48,7 +48,7 @@ part bytes text = after_one_of bytes (without_front is_blank text)
 abbrev pub after_size : List ℕ → Option (List ℕ)
 after_size text = let digits = without_front is_blank text in if prefix_len is_digit digits == 0 then None else Some (without_front is_digit digits)
 
--- what follows `x = W, y = H` at the front of a line
+-- what follows `x = W, y = H` at the start of a line
 abbrev pub after_sizes : List ℕ → Option (List ℕ)
 after_sizes line = do
   width_name ← part (codes "xX") line
@@ -77,12 +77,12 @@ abbrev pub told : Result Rule RuleFault → Result Rule RleFault
 told (Ok r) = Ok r
 told (Err fault) = Err (rule_fault fault)
 
--- the rule of the text behind `rule =`, without the blanks at its ends
+-- the rule of the text after `rule =`, without the blanks at its ends
 abbrev pub named_rule : Option (List ℕ) → Result Rule RleFault
 named_rule None = Err BadHeader
 named_rule (Some text) = told (rule_of (trimmed is_blank text))
 
--- the rule, by what stands behind the sizes: none means Life
+-- the rule, by what stands after the sizes: none means Life
 abbrev pub rule_behind : Option (List ℕ) → Result Rule RleFault
 rule_behind None = Err BadHeader
 rule_behind (Some text) = if list_all is_blank text then Ok life else named_rule (after_rule_name text)
@@ -109,7 +109,7 @@ pub data Lexeme : Type 0 where
   Count : (at value : ℕ) → Lexeme
   Tag : (at byte : ℕ) → Lexeme
 
--- what begins at the front of the text: nothing at a blank and within a count
+-- what begins at the start of the text: nothing at a blank and within a count
 abbrev pub lexeme_at : Bool → ℕ → ℕ → List ℕ → List Lexeme
 lexeme_at within_count at c rest =
     if is_space c then [] else
@@ -121,7 +121,7 @@ abbrev pub lexemes : Bool → ℕ → List ℕ → List Lexeme
 lexemes within_count at [] = []
 lexemes within_count at (c ∷ rest) = lexeme_at within_count at c rest ++ lexemes (is_digit c) (at + 1) rest
 
--- A count, where there is one, and the byte in the place of the tag, where there is one: behind a count another count or the end of the text may stand, and the end of the text may stand where a token would begin.
+-- A count, where there is one, and the byte in the place of the tag, where there is one: after a count another count or the end of the text may stand, and the end of the text may stand where a token would begin.
 pub record Token : Type 0 where
   pub at : ℕ
   pub count : Option ℕ

@@ -15,7 +15,7 @@ header R w h = codes "x = " ++ decimal w ++ codes ", y = " ++ decimal h ++ codes
 
 -- # Rows and runs
 
--- a cell and the rows of the cells behind it: it stands in the first of these rows, or in one of its own
+-- a cell and the rows of the cells after it: it stands in the first of these rows, or in one of its own
 abbrev pub onto_rows : ℕ × ℕ → List (ℕ × List ℕ) → List (ℕ × List ℕ)
 onto_rows c [] = (c.1, c.0 ∷ []) ∷ []
 onto_rows c ((y, columns) ∷ rows) = if c.1 == y then (y, c.0 ∷ columns) ∷ rows else (c.1, c.0 ∷ []) ∷ (y, columns) ∷ rows
@@ -29,7 +29,7 @@ rows_of (c ∷ cells) = onto_rows c (rows_of cells)
 abbrev pub row_values : List ℕ → List Bool
 row_values columns = map (λ x. is_in columns x) (range_with_len 0 (extent columns))
 
--- a value and the runs of the values behind it
+-- a value and the runs of the values after it
 abbrev pub run_onto : Bool → List (ℕ × Bool) → List (ℕ × Bool)
 run_onto true ((n, true) ∷ runs) = (n + 1, true) ∷ runs
 run_onto false ((n, false) ∷ runs) = (n + 1, false) ∷ runs
@@ -50,7 +50,7 @@ run_token (n, false) = (n, 98)
 abbrev pub row_tokens : List ℕ → List (ℕ × ℕ)
 row_tokens columns = map run_token (runs_of (row_values columns))
 
--- the tokens of these rows: `$` between two, by how far they are apart, and `!` behind the last
+-- the tokens of these rows: `$` between two, by how far they are apart, and `!` after the last
 abbrev pub tokens_of_rows : List (ℕ × List ℕ) → List (ℕ × ℕ)
 tokens_of_rows [] = (1, 33) ∷ []
 tokens_of_rows ((y, columns) ∷ []) = row_tokens columns ++ (1, 33) ∷ []

@@ -71,7 +71,7 @@ fn after_size(text: &[u8]) -> Option<&[u8]>
     Some(&digits[count..])
 }
 
-/// What follows `x = W, y = H` at the front of a line. `None` where the line doesn't begin so.
+/// What follows `x = W, y = H` at the start of a line. `None` where the line doesn't begin so.
 pub fn after_sizes(line: &[u8]) -> Option<&[u8]>
     ensures { option_copied result ≡ after_sizes line.now }
 {
@@ -84,7 +84,7 @@ pub fn after_sizes(line: &[u8]) -> Option<&[u8]>
     after_size(height_equals)
 }
 
-/// What follows `, rule =` at the front of what follows the sizes. `None` where it doesn't begin so.
+/// What follows `, rule =` at the start of what follows the sizes. `None` where it doesn't begin so.
 pub fn after_rule_name(text: &[u8]) -> Option<&[u8]>
     ensures { option_copied result ≡ after_rule_name text.now }
 {

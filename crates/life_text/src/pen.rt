@@ -42,7 +42,7 @@ pub fn is_too_many(found: &Found, pen: Pen) -> bool
     is_live(found) && pen.live + found.times > CELL_LIMIT
 }
 
-/// The pen behind the token that was found.
+/// The pen after the token that was found.
 pub fn advanced(pen: Pen, found: &Found) -> Pen
     requires once { found.now.counted ≡ false → found.now.times ≡ 1 }
     requires few { found.now.times ≤ cap }

@@ -64,7 +64,7 @@ pub fn skip_spaces(text: &[u8], from: usize) -> usize
     text.len()
 }
 
-// The value of the digits from a place on, capped, and the place behind them.
+// The value of the digits from a place on, capped, and the place after them.
 fn read_count(text: &[u8], at: usize) -> (u32, usize)
     requires { at ≤ length text.now }
     ensures behind { at ≤ result.1 }

@@ -20,7 +20,7 @@ use life_cells::corner::corner;
 use life_cells::rule::Rule;
 use std::alloc::AllocError;
 
-// Where the writer stands: how many characters its line has, the row and the column behind the last cell, and how many
+// Where the writer stands: how many characters its line has, the row and the column after the last cell, and how many
 // live cells right before that place have no token yet.
 #[derive(Clone, Copy)]
 struct Nib {
@@ -82,7 +82,7 @@ fn push_header(text: &mut Vec<u8>, rule: &Rule, width: u32, height: u32) -> Resu
     Ok(())
 }
 
-// Takes one cell more: where it doesn't stand right behind the last one, that one's run and the gap are written.
+// Takes one cell more: where it doesn't stand right after the last one, that one's run and the gap are written.
 fn put_cell(text: &mut Vec<u8>, nib: Nib, cell: (u32, u32)) -> Result<Nib, AllocError>
     requires used { nib.used ≤ 70 }
     requires run { nib.run ≤ nib.x }
@@ -117,7 +117,7 @@ fn put_cell(text: &mut Vec<u8>, nib: Nib, cell: (u32, u32)) -> Result<Nib, Alloc
     })
 }
 
-// Writes what is left behind the last cell, and the end.
+// Writes what is left after the last cell, and the end.
 fn put_end(text: &mut Vec<u8>, nib: Nib) -> Result<(), AllocError>
     requires { nib.used ≤ 70 }
     ensures { OnOk result (text.new.items ≡ text.old.items ++ unwritten nib []) }

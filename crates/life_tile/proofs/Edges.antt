@@ -21,7 +21,7 @@ use Rattle.life_tile.proofs.EndCells.{never_both}
 use Rattle.life_tile.proofs.Places.{slot_cases, state_absent, state_of_slot}
 use Rattle.life_tile.proofs.Sizes.{below_has, both_hold, lesser, int_less, int_same, member_has}
 
--- a cell that comes before another does not come behind it
+-- a cell that comes before another does not come after it
 not_behind : (a b : Cell) → cell_cmp a b ≡ Less → IsNoLater b a → ⊥
 not_behind a b less behind =
     let up = behind.above in

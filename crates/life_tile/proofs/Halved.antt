@@ -18,7 +18,7 @@ use Rattle.life_tile.proofs.Members.{Has, has_head, has_tail, has_cases, has_non
 use Rattle.life_tile.proofs.Sizes.{below_has, both_hold, lesser, int_less, int_same}
 use Rattle.life_tile.proofs.SameCells.{first_moved}
 
--- a cell before another does not come behind it
+-- a cell before another does not come after it
 never_back : (a b : Cell) → cell_cmp a b ≡ Less → IsNoLater b a → ⊥
 never_back a b less back =
     ⊎_elim

@@ -21,7 +21,7 @@ use Rattle.life_tile.proofs.Members.{Has, has_head, has_cases, has_none}
 use Rattle.life_tile.proofs.Sizes.{below_has, both_hold, lesser, int_less, int_same, member_has}
 use Rattle.life_tile.proofs.Edges.{head_is, has_member}
 
--- of two cells one does not come both before and behind the other
+-- of two cells one does not come both before and after the other
 never_both : (a b : Cell) → cell_cmp a b ≡ Less → cell_cmp b a ≡ Less → ⊥
 never_both a b up down =
     ⊎_elim

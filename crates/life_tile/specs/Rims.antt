@@ -5,12 +5,12 @@ use Rattle.life_bits.specs.declared.tile.Tile.{Tile}
 use Rattle.life_bits.specs.Area.{tile_cell}
 use Rattle.life_tile.specs.declared.rim.Rim.{Rim}
 
--- of 64 columns or rows those that are next to the 64 before them (0), to themselves (1), or to the 64 behind them (2)
+-- of 64 columns or rows those that are next to the 64 before them (0), to themselves (1), or to the 64 after them (2)
 pub record IsEdge (side z : ℕ) : Type 0 where
   pub first : side ≡ 0 → z ≡ 0
   pub last : side ≡ 2 → z ≡ 63
 
--- none of those of 64 bits is set that are next to the 64 before them, to themselves, or to the 64 behind them
+-- none of those of 64 bits is set that are next to the 64 before them, to themselves, or to the 64 after them
 abbrev pub IsSideClear : ℕ → ℕ → Type 0
 IsSideClear side bits = (x : ℕ) → x < 64 → IsEdge side x → bit_at bits x ≡ 0
 

@@ -42,7 +42,7 @@ impl Rim {
     }
 }
 
-/// Whether one of 64 bits is set: of those next to the 64 bits before them, of all of them, or of those next to the 64 behind.
+/// Whether one of 64 bits is set: of those next to the 64 bits before them, of all of them, or of those next to the 64 after.
 pub fn has_at_side(bits: u64, side: usize) -> bool
     requires { side < 3 }
     ensures clear { result ≡ false → (x : ℕ) → x < 64 → IsEdge side x → bit_at bits x ≡ 0 }

@@ -81,7 +81,7 @@ impl<R: Read> Watched<R> {
 impl<W: Write> Watched<W> {
     ghost use Rattle.watched.specs.Watching.{inner_of, has_failed};
 
-    /// Writes a front of the bytes, by one call of the writer, and returns how many bytes it took, at least 1. `Failed`
+    /// Writes a prefix of the bytes, by one call of the writer, and returns how many bytes it took, at least 1. `Failed`
     /// is answered where the writer's call fails or takes nothing, or one has failed before, and then nothing was
     /// written. In the last case the writer is not called. A call that a signal interrupts is made again.
     pub fn put(&mut self, bytes: &[u8]) -> Result<usize, Failed>

@@ -7,7 +7,7 @@ use std::io;
 use std::io::{ErrorKind, Read, Seek, SeekFrom, Write};
 use std::rt::Files;
 
-/// What comes behind the bytes of an item.
+/// What comes after the bytes of an item.
 #[derive(Clone, Copy)]
 pub enum Behind {
     End,
@@ -18,7 +18,7 @@ pub enum Behind {
 }
 
 /// A file, or a folder, whose path ends in a slash and whose bytes are its names, each ended by a byte 0: its path, its
-/// bytes and what comes behind these.
+/// bytes and what comes after these.
 pub type Item<'a> = (&'a str, &'a [u8], Behind);
 
 /// All the folders and files that there are.

@@ -107,7 +107,7 @@ fn standard_output_that_is_full_holds_the_front(rt: HostRuntime) -> Result<(), F
     Ok(())
 }
 
-// Nothing is written where standard input fails behind these bytes.
+// Nothing is written where standard input fails after these bytes.
 fn writes_nothing<R: Threads + Wait + Sync + Files + Alloc + Clone + Drop + Abort>(
     rt: &R,
     alloc: Global,

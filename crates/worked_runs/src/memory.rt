@@ -22,7 +22,7 @@ use std::sync::Wait;
 use std::thread::Threads;
 use watched::watched::Watched;
 
-// Whether the report is whole. Else a front of it was written.
+// Whether the report is whole. Else a prefix of it was written.
 fn check(rt: &impl Abort, is_whole: bool, out: Watched<Vec<u8>>, report: &[u8]) -> bool {
     let written = out.into_inner();
     if is_whole {
@@ -33,7 +33,7 @@ fn check(rt: &impl Abort, is_whole: bool, out: Watched<Vec<u8>>, report: &[u8]) 
     is_whole
 }
 
-// Whether the run writes its whole report. Else it answers `Memory` and writes a front. The writer never grows, so it
+// Whether the run writes its whole report. Else it answers `Memory` and writes a prefix. The writer never grows, so it
 // never fails.
 fn run_is_whole<R: Threads + Wait + Abort + Sync>(
     rt: &R,
