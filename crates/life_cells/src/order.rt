@@ -10,6 +10,9 @@ pub fn put_in_order(items: &mut Vec<(i32, i32)>)
     ensures placed { All IsPlace items.old.items → All IsPlace items.new.items }
     ensures within { (a : ℕ) → All (IsWithin a) items.old.items → All (IsWithin a) items.new.items }
 {
-    items.sort_unstable_by_key(|c| (c.1, c.0));
+    // (a stable sort keeps the runs of its input; without memory for it the other does the same)
+    if items.sort_by_key(|c| (c.1, c.0)).is_err() {
+        items.sort_unstable_by_key(|c| (c.1, c.0));
+    }
     items.dedup();
 }

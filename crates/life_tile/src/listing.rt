@@ -1,5 +1,5 @@
 //! The cells of tiles as a list.
-ghost use Rattle.std.specs.Prelude.{◌≡◌, ℕ, ℤ, ◌<◌, ◌≤ℤ◌, pos, negsuc, OnOk, Some, length, ◌++◌};
+ghost use Rattle.std.specs.Prelude.{◌≡◌, ℕ, ℤ, ◌<◌, ◌≤ℤ◌, pos, negsuc, OnOk, Some, length, reverse, ◌++◌};
 ghost use Rattle.std.specs.BTreeMap.{get};
 ghost use Rattle.life_tile.specs.Cells.{row_cells, block_cells, tiles_cells};
 ghost use Rattle.life_tile.specs.Places.{place_cmp, IsInside};
@@ -60,7 +60,7 @@ pub fn tile_in(tiles: &[Tile], slot: usize) -> &Tile
     &tiles[slot]
 }
 
-/// Appends the live cells of the tiles of all slots of an index.
+/// Appends the live cells of the tiles of all slots of an index, those of the last slot first.
 pub fn push_tiles(
     cells: &mut Vec<(i32, i32)>,
     index: &BTreeMap<(i32, i32), u32>,
@@ -68,9 +68,9 @@ pub fn push_tiles(
 ) -> Result<(), AllocError>
     requires inside { (p : ℤ × ℤ) (k : ℕ) → get place_cmp index.now p ≡ Some k → IsInside p }
     requires slots { (p : ℤ × ℤ) (k : ℕ) → get place_cmp index.now p ≡ Some k → k < length tiles.now }
-    ensures { OnOk result (cells.new.items ≡ cells.old.items ++ tiles_cells (shown index.now.entries tiles.now)) }
+    ensures { OnOk result (cells.new.items ≡ cells.old.items ++ tiles_cells (shown (reverse index.now.entries) tiles.now)) }
 {
-    for (place, slot) in index.iter() {
+    for (place, slot) in index.iter().rev() {
         let (left, top) = corner_of(*place);
         push_tile(cells, left, top, tile_in(tiles, *slot as usize))?;
     }
