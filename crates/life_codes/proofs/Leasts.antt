@@ -1,5 +1,5 @@
 -- The least of the texts of a set in all orientations, as they come one after another.
-use Rattle.std.proofs.Common.{◌≡◌, ℕ, ◌+◌, ◌<◌, List, [], ◌∷◌, map, length, take, get_or, Option, sym, ap, ◌∙◌}
+use Rattle.std.proofs.Common.{◌≡◌, ℕ, ◌+◌, ◌<◌, List, [], ◌∷◌, map, length, take, get_or, Option, None, Some, ◌⊎◌, inl, inr, refl, sym, ap, ◌∙◌}
 use Rattle.std.specs.List.{fold}
 use Rattle.std.proofs.lemmas.List.{map-append, take_more}
 use Rattle.std.proofs.lemmas.List.Sums.{fold-append}
@@ -9,8 +9,10 @@ use Rattle.life_model.proofs.Objects.{then_turned, turned-turned, normal-turned}
 use Rattle.life_shape.specs.declared.orient.Orient.{Orient}
 use Rattle.life_shape.specs.declared.orient.Orient.TheVariants as orient
 use Rattle.life_shape.specs.Orients.{orientation}
+use Rattle.life_shape.specs.TextOrder.{lesser, least_text}
 use Rattle.life_shape.specs.Wechsler.{body}
 use Rattle.life_shape.proofs.Boxes.{normal_normal}
+use Rattle.life_shape.proofs.TextOrders.{Among, least_text-least, least_text-among, least_text_is}
 use Rattle.life_answer.specs.Apgcode.{orientations, turned_bodies}
 use Rattle.life_answer.proofs.Codes.{body-normal, body_by_shape}
 use Rattle.life_codes.specs.Least.{with_text, two_bodies}
@@ -24,6 +26,61 @@ turned_bodies-normal G =
 -- a set that is turned, and its mirror image
 pub fold-two_bodies : (G : Generation) (m : Orientation) (least : Option (List ℕ)) → fold with_text least (two_bodies G m) ≡ with_text (with_text least (body (turned G m))) (body (turned G (then_turned m FlipX)))
 fold-two_bodies G m least = ap (λ H. with_text (with_text least (body (turned G m))) (body H)) (turned-turned G m FlipX)
+
+-- ---- texts that were taken
+
+turn_last : (x m a b : List ℕ) → Among x (m ∷ b ∷ a ∷ []) → Among x (m ∷ a ∷ b ∷ [])
+turn_last x m a b (inl e) = inl e
+turn_last x m a b (inr (inl e)) = inr (inr (inl e))
+turn_last x m a b (inr (inr (inl e))) = inr (inl e)
+turn_last x m a b (inr (inr (inr none))) = absurd none
+
+-- it is all one in which order two are taken
+pub either_first : (least : Option (List ℕ)) (a b : List ℕ) → with_text (with_text least a) b ≡ with_text (with_text least b) a
+either_first None a b =
+    let all = least_text-least (b ∷ a ∷ []) in
+    let one : Among (lesser b a) (a ∷ b ∷ []) = elim (least_text-among b (a ∷ [])) [
+      | inl e ↦ inr (inl e)
+      | inr later ↦ elim later [ inl e ↦ inl e | inr none ↦ absurd none ]
+    ] in
+    ap (λ (t : List ℕ). Some t) (least_text_is (lesser b a) a (b ∷ []) one (all.1.0, (all.0, tt)))
+either_first (Some m) a b =
+    let x = least_text (m ∷ b ∷ a ∷ []) in
+    let all = least_text-least (m ∷ b ∷ a ∷ []) in
+    ap (λ (t : List ℕ). Some t) (least_text_is x m (a ∷ b ∷ []) (turn_last x m a b (least_text-among m (b ∷ a ∷ []))) (all.0, (all.1.1.0, (all.1.0, tt))))
+
+-- a set that is turned, and its mirror image first
+pub fold-two_turned : (G : Generation) (m : Orientation) (least : Option (List ℕ)) → fold with_text least (two_bodies G m) ≡ with_text (with_text least (body (turned G (then_turned m FlipX)))) (body (turned G m))
+fold-two_turned G m least = fold-two_bodies G m least ∙ either_first least (body (turned G m)) (body (turned G (then_turned m FlipX)))
+
+-- one that was taken changes nothing any more
+taken_again : (least : Option (List ℕ)) (a : List ℕ) → with_text (with_text least a) a ≡ with_text least a
+taken_again None a =
+    let itself = least_text-least (a ∷ []) in
+    ap (λ (t : List ℕ). Some t) (least_text_is a a (a ∷ []) (inl refl) (itself.0, (itself.0, tt)))
+taken_again (Some m) a =
+    let all = least_text-least (m ∷ a ∷ []) in
+    let one : Among (lesser m a) (m ∷ a ∷ a ∷ []) = elim (least_text-among m (a ∷ [])) [
+      | inl e ↦ inl e
+      | inr later ↦ elim later [ inl e ↦ inr (inl e) | inr none ↦ absurd none ]
+    ] in
+    ap (λ (t : List ℕ). Some t) (least_text_is (lesser m a) m (a ∷ a ∷ []) one (all.0, (all.1.0, (all.1.0, tt))))
+
+-- nor do two
+pub two_again : (least : Option (List ℕ)) (a b : List ℕ) → with_text (with_text (with_text (with_text least a) b) a) b ≡ with_text (with_text least a) b
+two_again least a b =
+    let one = with_text least a in
+    ap (λ l. with_text l b) (either_first one b a ∙ ap (λ l. with_text l b) (taken_again least a))
+    ∙ taken_again one b
+
+-- nor after two more
+pub two_later : (least : Option (List ℕ)) (a b c d : List ℕ) → with_text (with_text least a) b ≡ least → with_text (with_text (with_text (with_text least c) d) a) b ≡ with_text (with_text least c) d
+two_later least a b c d e =
+    ap (λ l. with_text l b) (either_first (with_text least c) d a)
+    ∙ either_first (with_text (with_text least c) a) d b
+    ∙ ap (λ l. with_text (with_text l b) d) (either_first least c a)
+    ∙ ap (λ l. with_text l d) (either_first (with_text least a) c b)
+    ∙ ap (λ l. with_text (with_text l c) d) e
 
 -- ---- one map after another
 

@@ -1,6 +1,7 @@
 -- The lengths of texts, as loops count them from either side.
-use Rattle.std.proofs.Common.{◌≡◌, ℕ, zero, suc, ◌+◌, ◌*◌, ◌/◌, ◌%◌, ◌<◌, ◌≤◌, List, [], ◌∷◌, ◌++◌, length, get_or, take, drop, reverse, inl, inr, sym, refl, ap, ◌∙◌, arith, length-append}
+use Rattle.std.proofs.Common.{◌≡◌, ℕ, zero, suc, ◌+◌, ◌*◌, ◌/◌, ◌%◌, ◌<◌, ◌≤◌, List, [], ◌∷◌, ◌++◌, length, get_or, take, drop, reverse, inl, inr, subst, sym, refl, ap, ◌∙◌, arith, bit_or, length-append}
 use Rattle.std.proofs.lemmas.Bool.{cases_lt}
+use Rattle.std.proofs.lemmas.Nat.{le_or_l, le_or_r}
 use Rattle.std.proofs.lemmas.List.{take_more, reverse-append}
 use Rattle.life_shape.specs.Dots.{strip_mark}
 use Rattle.life_shape.specs.Wechsler.{digit, full_runs, short_zeros, zeros, columns_text}
@@ -19,11 +20,64 @@ length-zeros n short e =
     let both = length-append (full_runs (n / 39)) (short_zeros (n % 39)) in
     omega arith
 
+-- ---- eight columns at once
+
+both_zero : (a b : ℕ) → bit_or a b ≡ 0 → (a ≡ 0) × (b ≡ 0)
+both_zero a b e = let west = le_or_l a b in let east = le_or_r a b in (omega arith, omega arith)
+
+four_zero : (a b c d : ℕ) → bit_or (bit_or (bit_or a b) c) d ≡ 0 → ((a ≡ 0) × (b ≡ 0)) × ((c ≡ 0) × (d ≡ 0))
+four_zero a b c d e =
+    let last = both_zero _ d e in
+    let third = both_zero _ c last.0 in
+    (both_zero a b third.0, (third.1, last.1))
+
+abbrev eight : List ℕ → ℕ → ℕ
+eight xs p = bit_or (bit_or (bit_or (bit_or (get_or xs p 0) (get_or xs (p + 1) 0)) (get_or xs (p + 2) 0)) (get_or xs (p + 3) 0)) (bit_or (bit_or (bit_or (get_or xs (p + 4) 0) (get_or xs (p + 5) 0)) (get_or xs (p + 6) 0)) (get_or xs (p + 7) 0))
+
+-- where eight columns together are 0, each is
+eight_zero : (xs : List ℕ) (p : ℕ) → eight xs p ≡ 0 → (i : ℕ) → i < 8 → get_or xs (p + i) 0 ≡ 0
+eight_zero xs p e i h =
+    let halves = both_zero _ _ e in
+    let west = four_zero _ _ _ _ halves.0 in
+    let east = four_zero _ _ _ _ halves.1 in
+    each i h west.0.0 west.0.1 west.1.0 west.1.1 east.0.0 east.0.1 east.1.0 east.1.1
+  where
+    each : (i : ℕ) → i < 8 → get_or xs p 0 ≡ 0 → get_or xs (p + 1) 0 ≡ 0 → get_or xs (p + 2) 0 ≡ 0 → get_or xs (p + 3) 0 ≡ 0 → get_or xs (p + 4) 0 ≡ 0 → get_or xs (p + 5) 0 ≡ 0 → get_or xs (p + 6) 0 ≡ 0 → get_or xs (p + 7) 0 ≡ 0 → get_or xs (p + i) 0 ≡ 0
+    each zero h a0 a1 a2 a3 a4 a5 a6 a7 = let at : p + 0 ≡ p = omega arith in ap (λ n. get_or xs n 0) at ∙ a0
+    each (suc zero) h a0 a1 a2 a3 a4 a5 a6 a7 = a1
+    each (suc (suc zero)) h a0 a1 a2 a3 a4 a5 a6 a7 = a2
+    each (suc (suc (suc zero))) h a0 a1 a2 a3 a4 a5 a6 a7 = a3
+    each (suc (suc (suc (suc zero)))) h a0 a1 a2 a3 a4 a5 a6 a7 = a4
+    each (suc (suc (suc (suc (suc zero))))) h a0 a1 a2 a3 a4 a5 a6 a7 = a5
+    each (suc (suc (suc (suc (suc (suc zero)))))) h a0 a1 a2 a3 a4 a5 a6 a7 = a6
+    each (suc (suc (suc (suc (suc (suc (suc zero))))))) h a0 a1 a2 a3 a4 a5 a6 a7 = a7
+    each (suc (suc (suc (suc (suc (suc (suc (suc i)))))))) h a0 a1 a2 a3 a4 a5 a6 a7 = absurd (omega arith)
+
+-- so are these after one that is 0
+pub nine_zero : (xs : List ℕ) (p : ℕ) → get_or xs p 0 ≡ 0 → eight xs (p + 1) ≡ 0 → (i : ℕ) → i < 9 → get_or xs (p + i) 0 ≡ 0
+nine_zero xs p here e zero h = let at : p + 0 ≡ p = omega arith in ap (λ n. get_or xs n 0) at ∙ here
+nine_zero xs p here e (suc i) h =
+    let at : p + suc i ≡ p + 1 + i = omega arith in
+    ap (λ n. get_or xs n 0) at ∙ eight_zero xs (p + 1) e i (omega arith)
+
 -- ---- one column after another, from the first
 
 pub forward_skip : (n s place : ℕ) (xs : List ℕ) → place < length xs → get_or xs place 0 ≡ 0 → n + length (columns_text s (drop place xs)) ≡ length (columns_text 0 xs) → n + length (columns_text (s + 1) (drop (place + 1) xs)) ≡ length (columns_text 0 xs)
 forward_skip n s place xs h none e =
     (λ i. n + length (columns_text s (sym (rest_from xs place h ∙ ap (λ v. v ∷ drop (place + 1) xs) none) i))) ∙ e
+
+-- so many columns of 0
+pub forward_skips : (c n s place : ℕ) (xs : List ℕ) → place + c ≤ length xs → ((i : ℕ) → i < c → get_or xs (place + i) 0 ≡ 0) → n + length (columns_text s (drop place xs)) ≡ length (columns_text 0 xs) → n + length (columns_text (s + c) (drop (place + c) xs)) ≡ length (columns_text 0 xs)
+forward_skips zero n s place xs h none e =
+    let run : s + 0 ≡ s = omega arith in
+    let at : place + 0 ≡ place = omega arith in
+    (λ i. n + length (columns_text (run i) (drop (at i) xs))) ∙ e
+forward_skips (suc c) n s place xs h none e =
+    let run : s + suc c ≡ s + c + 1 = omega arith in
+    let at : place + suc c ≡ place + c + 1 = omega arith in
+    let here : place + c < length xs = omega arith in
+    (λ i. n + length (columns_text (run i) (drop (at i) xs)))
+    ∙ forward_skip n (s + c) (place + c) xs here (none c (omega arith)) (forward_skips c n s place xs (omega arith) (λ i l. none i (omega arith)) e)
 
 pub forward_value : (n s run place : ℕ) (xs : List ℕ) → place < length xs → 0 < get_or xs place 0 → run ≡ length (zeros s) → n + length (columns_text s (drop place xs)) ≡ length (columns_text 0 xs) → n + (run + 1) + length (columns_text 0 (drop (place + 1) xs)) ≡ length (columns_text 0 xs)
 forward_value n s run place xs h live is e =
@@ -55,6 +109,19 @@ counted_skip xs place skipped bytes h zero_here c =
       none = λ l s. ap (λ ys. length (columns_text s ys)) same ∙ c.none (omega arith) (s + 1);
       nothing = λ l. c.nothing (omega arith);
     }
+
+-- so many columns of 0
+pub counted_skips : (c : ℕ) (xs : List ℕ) (place skipped bytes : ℕ) → place + c ≤ length xs → ((i : ℕ) → i < c → get_or xs (place + i) 0 ≡ 0) → Counted (reverse (take place xs)) place skipped bytes → Counted (reverse (take (place + c) xs)) (place + c) (skipped + c) bytes
+counted_skips zero xs place skipped bytes h none e =
+    let run : skipped ≡ skipped + 0 = omega arith in
+    let at : place ≡ place + 0 = omega arith in
+    subst (λ p. Counted (reverse (take p xs)) p (skipped + 0) bytes) at (subst (λ s. Counted (reverse (take place xs)) place s bytes) run e)
+counted_skips (suc c) xs place skipped bytes h none e =
+    let run : skipped + c + 1 ≡ skipped + suc c = omega arith in
+    let at : place + c + 1 ≡ place + suc c = omega arith in
+    let here : place + c < length xs = omega arith in
+    let all = counted_skip xs (place + c) (skipped + c) bytes here (none c (omega arith)) (counted_skips c xs place skipped bytes (omega arith) (λ i l. none i (omega arith)) e) in
+    subst (λ p. Counted (reverse (take p xs)) p (skipped + suc c) bytes) at (subst (λ s. Counted (reverse (take (place + c + 1) xs)) (place + c + 1) s bytes) run all)
 
 -- bytes of the next count
 value_bytes : (behind : List ℕ) (place skipped bytes run : ℕ) → skipped ≤ place → run ≡ length (zeros skipped) → Counted behind place skipped bytes → (more : ℕ) → (skipped < place → more ≡ run + 1) → (place ≤ skipped → more ≡ 1) → 1 + length (columns_text 0 behind) ≡ bytes + more

@@ -1,27 +1,19 @@
 -- The least of the texts of all phases in all orientations, as they come one after another.
-use Rattle.std.proofs.Common.{◌≡◌, codes, ℕ, zero, suc, ◌+◌, List, [], ◌∷◌, ◌++◌, map, flat_map, length, take, get_or, ◌<◌, Option, Some, None, sym, refl, ap, ◌∙◌, arith, append-nil}
+use Rattle.std.proofs.Common.{◌≡◌, codes, ℕ, zero, suc, ◌+◌, List, [], ◌∷◌, ◌++◌, flat_map, Some, None, sym, refl, ap, ◌∙◌, arith, append-nil}
 use Rattle.std.specs.Prelude.{unwrap_or}
 use Rattle.std.specs.List.{fold, range_with_len}
-use Rattle.std.proofs.lemmas.List.{map-append, take_more}
 use Rattle.std.proofs.lemmas.List.Sums.{fold-append}
 use Rattle.std.proofs.lemmas.Grind.{flat_map-append}
 use Rattle.life_model.specs.Cell.{Cell}
 use Rattle.life_model.specs.Rule.{Rule}
 use Rattle.life_model.specs.Generation.{Generation, size}
 use Rattle.life_model.specs.Evolution.{generation}
-use Rattle.life_model.specs.Symmetry.{normal, Orientation, turned}
+use Rattle.life_model.specs.Symmetry.{normal}
 use Rattle.life_model.proofs.Moves.{normal-next}
-use Rattle.life_model.proofs.Objects.{normal-turned}
 use Rattle.life_model.proofs.Recurrences.{generation-zero, generation-next, shape}
 use Rattle.life_cells.proofs.PrintLemmas.{range_more}
-use Rattle.life_shape.specs.declared.orient.Orient.{Orient}
-use Rattle.life_shape.specs.declared.orient.Orient.TheVariants as orient
-use Rattle.life_shape.specs.Orients.{orientation}
-use Rattle.life_shape.specs.Wechsler.{body}
 use Rattle.life_shape.specs.TextOrder.{lesser, least_text}
-use Rattle.life_shape.proofs.Boxes.{normal_normal}
-use Rattle.life_answer.specs.Apgcode.{orientations, turned_bodies, bodies, prefix, code_of}
-use Rattle.life_answer.proofs.Codes.{body-normal, body_by_shape}
+use Rattle.life_answer.specs.Apgcode.{turned_bodies, bodies, prefix, code_of}
 use Rattle.life_answer.proofs.Sizes.{size_by_shape}
 use Rattle.life_codes.specs.Least.{with_text}
 use Rattle.life_codes.proofs.Leasts.{turned_bodies-normal}

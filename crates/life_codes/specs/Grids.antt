@@ -1,5 +1,5 @@
 -- Grids of columns, strip by strip, and their texts.
-use Rattle.std.specs.Prelude.{◌≡◌, ℕ, ◌+◌, ◌*◌, ◌<◌, Bool, List, take, drop, reverse, slice_index, if◌then◌else◌}
+use Rattle.std.specs.Prelude.{◌≡◌, ℕ, ◌+◌, ◌*◌, ◌<◌, Bool, false, true, List, [], ◌∷◌, take, drop, reverse, slice_index, if◌then◌else◌}
 use Rattle.life_model.specs.Cell.{Cell}
 use Rattle.life_shape.specs.Dots.{weights}
 use Rattle.life_shape.specs.Wechsler.{columns_text, strips_text}
@@ -19,3 +19,7 @@ strip_of values wide k = take wide (drop (k * wide) values)
 -- the text of a grid of so many strips
 abbrev pub grid_text : List ℕ → ℕ → ℕ → Bool → List ℕ
 grid_text values wide strips back = strips_text (λ k. columns_text 0 (facing back (strip_of values wide k))) strips
+
+-- its text, read from either side
+abbrev pub both_texts : List ℕ → ℕ → ℕ → List (List ℕ)
+both_texts values wide strips = grid_text values wide strips false ∷ grid_text values wide strips true ∷ []

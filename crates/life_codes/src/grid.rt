@@ -1,15 +1,42 @@
 //! Grids of the values of columns, strip by strip.
-ghost use Rattle.std.specs.Prelude.{◌≡◌, ◌*◌, ◌/◌, ◌<◌, ℕ, All, OnOk, length, map, pos};
+ghost use Rattle.std.specs.Prelude.{◌≡◌, ◌*◌, ◌/◌, ◌<◌, ℕ, All, IsTrue, OnOk, length, map, pos};
 ghost use Rattle.life_model.specs.Symmetry.{turn};
 ghost use Rattle.life_cells.specs.Limits.{IsPlace};
 ghost use Rattle.life_shape.specs.Dots.{weights};
 ghost use Rattle.life_shape.specs.Orients.{orientation};
 ghost use Rattle.life_codes.specs.Frames.{IsBounded, IsInFrame, placed, strips_of, wide_of};
-ghost use Rattle.life_codes.specs.Grids.{HoldsWeights};
+ghost use Rattle.life_codes.specs.Grids.{HoldsWeights, both_texts};
 
 use crate::frame::Frame;
 use life_shape::orient::Orient;
-use std::alloc::AllocError;
+use std::alloc::{AllocError, Global};
+
+/// The values of columns of five rows, strip by strip.
+#[derive(Drop)]
+pub struct Grid {
+    pub values: Vec<u8>,
+    /// How many columns a strip has.
+    pub wide: usize,
+    pub strips: usize,
+}
+
+impl Grid {
+    /// One without columns. Takes no memory.
+    pub fn new(alloc: Global) -> Grid {
+        Grid {
+            values: Vec::new(alloc),
+            wide: 0,
+            strips: 0,
+        }
+    }
+
+    /// Whether it has the columns of another.
+    pub fn is_same(&self, other: &Grid) -> bool
+        ensures { IsTrue result → both_texts self.now.values.items self.now.wide self.now.strips ≡ both_texts other.now.values.items other.now.wide other.now.strips }
+    {
+        self.wide == other.wide && self.strips == other.strips && self.values == other.values
+    }
+}
 
 /// Where the map takes the cell, seen from the corner of the frame.
 fn place_in(cell: (i32, i32), orient: Orient, frame: Frame) -> (usize, usize)

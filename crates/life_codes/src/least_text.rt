@@ -7,12 +7,12 @@ ghost use Rattle.life_cells.specs.Limits.{IsPlace};
 ghost use Rattle.life_shape.specs.Orients.{orientation};
 ghost use Rattle.life_answer.specs.Apgcode.{turned_bodies};
 ghost use Rattle.life_codes.specs.Frames.{IsBounded, frame_of};
-ghost use Rattle.life_codes.specs.Grids.{grid_text};
+ghost use Rattle.life_codes.specs.Grids.{both_texts, grid_text};
 ghost use Rattle.life_codes.specs.Least.{two_bodies, with_text};
 
 use crate::choice::Choice;
 use crate::frame::{Frame, frame_of};
-use crate::grid::make_grid;
+use crate::grid::{Grid, make_grid};
 use crate::measure::text_lengths;
 use crate::writing::{digit, strip_of, value_at, write_text};
 use life_cells::cell_list::CellList;
@@ -39,10 +39,11 @@ impl Model for LeastText {
     ghost view = { λ l. l.least };
 }
 
-/// Room for a grid and for its text.
+/// Room for two grids and for a text.
 #[derive(Drop)]
 struct Room {
-    values: Vec<u8>,
+    first: Grid,
+    second: Grid,
     text: Vec<u8>,
 }
 
@@ -69,34 +70,66 @@ fn is_beyond(
     first != 0 && least.is_before(bytes, digit(first))
 }
 
-/// Takes the text of the grid, which has so many bytes. It is written only where the least text may not be less.
-fn add_grid(
+/// Takes the text of a grid, which has so many bytes. It is written only where the least text may not be less.
+fn add_text(
     least: &mut Choice,
-    room: &mut Room,
-    wide: usize,
-    strips: usize,
+    text: &mut Vec<u8>,
+    grid: &Grid,
     back: bool,
     bytes: usize,
 ) -> Result<(), AllocError>
-    requires some { 0 < strips }
-    requires wide { 0 < wide }
-    requires room { length room.old.values.items ≡ strips * wide }
-    requires small { All (λ v. v < 36) room.old.values.items }
-    requires bytes { bytes ≡ length (grid_text room.old.values.items wide strips back) }
-    ensures text { OnOk result (least.new ≡ with_text least.old (grid_text room.old.values.items wide strips back)) }
-    ensures values { room.new.values ≡ room.old.values }
+    requires some { 0 < grid.now.strips }
+    requires wide { 0 < grid.now.wide }
+    requires room { length grid.now.values.items ≡ grid.now.strips * grid.now.wide }
+    requires small { All (λ v. v < 36) grid.now.values.items }
+    requires bytes { bytes ≡ length (grid_text grid.now.values.items grid.now.wide grid.now.strips back) }
+    ensures { OnOk result (least.new ≡ with_text least.old (grid_text grid.now.values.items grid.now.wide grid.now.strips back)) }
 {
-    if !is_beyond(least, &room.values, wide, strips, back, bytes) {
-        write_text(&mut room.text, &room.values, wide, strips, back)?;
-        least.offer(&mut room.text);
+    if !is_beyond(least, &grid.values, grid.wide, grid.strips, back, bytes) {
+        write_text(text, &grid.values, grid.wide, grid.strips, back)?;
+        least.offer(text);
     }
     Ok(())
 }
 
-/// Takes the text of cells, turned by a map, and that of their mirror image.
-fn add_turned(
+/// Takes the texts of a grid, which is read from either side.
+fn add_grid(least: &mut Choice, text: &mut Vec<u8>, grid: &Grid) -> Result<(), AllocError>
+    requires some { 0 < grid.now.strips }
+    requires wide { 0 < grid.now.wide }
+    requires room { length grid.now.values.items ≡ grid.now.strips * grid.now.wide }
+    requires small { All (λ v. v < 36) grid.now.values.items }
+    ensures { OnOk result (least.new ≡ fold with_text least.old (both_texts grid.now.values.items grid.now.wide grid.now.strips)) }
+{
+    let lengths = text_lengths(&grid.values, grid.wide, grid.strips);
+    add_text(least, text, grid, false, lengths.forward)?;
+    add_text(least, text, grid, true, lengths.backward)
+}
+
+/// Takes the texts of a grid, unless it is another, whose texts were taken.
+fn add_unseen(
     least: &mut Choice,
-    room: &mut Room,
+    text: &mut Vec<u8>,
+    grid: &Grid,
+    seen: &Grid,
+) -> Result<(), AllocError>
+    requires some { 0 < grid.now.strips }
+    requires wide { 0 < grid.now.wide }
+    requires room { length grid.now.values.items ≡ grid.now.strips * grid.now.wide }
+    requires small { All (λ v. v < 36) grid.now.values.items }
+    requires taken { fold with_text least.old (both_texts seen.now.values.items seen.now.wide seen.now.strips) ≡ least.old }
+    ensures { OnOk result (least.new ≡ fold with_text least.old (both_texts grid.now.values.items grid.now.wide grid.now.strips)) }
+{
+    if !grid.is_same(seen) {
+        add_grid(least, text, grid)?;
+    }
+    Ok(())
+}
+
+/// Makes a grid of cells, turned by a map, whose texts are those of the cells and of their mirror image. It is compiled
+/// once for each of the four maps that it is called with, so that a cell's turn costs no branch.
+#[inline(always)]
+fn make_turned(
+    grid: &mut Grid,
     cells: &[(i32, i32)],
     frame: Frame,
     orient: Orient,
@@ -106,18 +139,21 @@ fn add_turned(
     requires placed { All IsPlace cells.now }
     requires frame { frame ≡ frame_of cells.now }
     requires bounded { IsBounded frame }
-    ensures { OnOk result (least.new ≡ fold with_text least.old (two_bodies (from_list cells.now) (orientation orient))) }
+    ensures some { OnOk result (0 < grid.new.strips) }
+    ensures wide { OnOk result (0 < grid.new.wide) }
+    ensures room { OnOk result (length grid.new.values.items ≡ grid.new.strips * grid.new.wide) }
+    ensures small { OnOk result (All (λ v. v < 36) grid.new.values.items) }
+    ensures texts { OnOk result (both_texts grid.new.values.items grid.new.wide grid.new.strips ≡ two_bodies (from_list cells.now) (orientation orient)) }
 {
     let turned = frame.turned(orient);
-    make_grid(&mut room.values, cells, orient, turned)?;
-    let wide = turned.width();
-    let strips = turned.strips();
-    let lengths = text_lengths(&room.values, wide, strips);
-    add_grid(least, room, wide, strips, false, lengths.forward)?;
-    add_grid(least, room, wide, strips, true, lengths.backward)
+    make_grid(&mut grid.values, cells, orient, turned)?;
+    grid.wide = turned.width();
+    grid.strips = turned.strips();
+    Ok(())
 }
 
-/// Takes the texts of cells, turned by each of the eight maps.
+/// Takes the texts of cells, turned by each of the eight maps. What looks the same after half a turn, or after its x and y
+/// are swapped, is looked at once.
 fn add_cells(
     least: &mut Choice,
     room: &mut Room,
@@ -131,10 +167,15 @@ fn add_cells(
     requires bounded { IsBounded frame }
     ensures { OnOk result (least.new ≡ fold with_text least.old (turned_bodies (from_list cells.now))) }
 {
-    add_turned(least, room, cells, frame, Orient::Same)?;
-    add_turned(least, room, cells, frame, Orient::FlipY)?;
-    add_turned(least, room, cells, frame, Orient::Swap)?;
-    add_turned(least, room, cells, frame, Orient::SwapFlipY)
+    let text = &mut room.text;
+    make_turned(&mut room.first, cells, frame, Orient::Same)?;
+    add_grid(least, text, &room.first)?;
+    make_turned(&mut room.second, cells, frame, Orient::Half)?;
+    add_unseen(least, text, &room.second, &room.first)?;
+    make_turned(&mut room.second, cells, frame, Orient::Swap)?;
+    add_unseen(least, text, &room.second, &room.first)?;
+    make_turned(&mut room.first, cells, frame, Orient::SwapHalf)?;
+    add_unseen(least, text, &room.first, &room.second)
 }
 
 /// Takes the texts of a shape, turned by each of the eight maps.
@@ -178,7 +219,8 @@ impl LeastText {
             least: Choice::new(alloc),
             next: Choice::new(alloc),
             room: Room {
-                values: Vec::new(alloc),
+                first: Grid::new(alloc),
+                second: Grid::new(alloc),
                 text: Vec::new(alloc),
             },
             alloc,

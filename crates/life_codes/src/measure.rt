@@ -1,5 +1,5 @@
 //! How long the texts of grids are.
-ghost use Rattle.std.specs.Prelude.{◌≡◌, ◌*◌, ◌<◌, ◌≤◌, false, length, true};
+ghost use Rattle.std.specs.Prelude.{◌≡◌, ℕ, ◌+◌, ◌*◌, ◌<◌, ◌≤◌, false, length, slice_index, true};
 ghost use Rattle.life_shape.specs.Dots.{strip_mark};
 ghost use Rattle.life_shape.specs.Wechsler.{columns_text, short_zeros, zeros};
 ghost use Rattle.life_codes.specs.Grids.{facing, grid_text};
@@ -38,6 +38,24 @@ fn zeros_length(count: usize) -> usize
     }
 }
 
+/// How many columns from one that is 0 on are known to be 0: nine where the next eight are, else this one.
+fn zeros_from(strip: &[u8], place: usize) -> usize
+    requires within { place < length strip.now }
+    requires here { slice_index strip.now place ≡ 0 }
+    ensures some { 1 ≤ result }
+    ensures end { place + result ≤ length strip.now }
+    ensures zeros { (i : ℕ) → i < result → slice_index strip.now (place + i) ≡ 0 }
+{
+    if strip.len() - place < 9 {
+        return 1;
+    }
+    // (eight that are not known are compared with 0 as one word)
+    let next = place + 1;
+    let west = strip[next] | strip[next + 1] | strip[next + 2] | strip[next + 3];
+    let east = strip[next + 4] | strip[next + 5] | strip[next + 6] | strip[next + 7];
+    if west | east == 0 { 9 } else { 1 }
+}
+
 /// How long the text of a strip is.
 fn strip_lengths(strip: &[u8]) -> Lengths
     ensures forward { result.forward ≡ length (columns_text 0 (facing false strip.now)) }
@@ -45,17 +63,21 @@ fn strip_lengths(strip: &[u8]) -> Lengths
     ensures small_forward { result.forward ≤ length strip.now }
     ensures small_backward { result.backward ≤ length strip.now }
 {
+    let mut place = 0;
     let mut skipped = 0;
     let mut forward = 0;
     let mut backward = 0;
-    'columns: for (place, value) in strip.iter().enumerate() {
-        if *value == 0 {
-            skipped += 1;
+    'columns: while place < strip.len() {
+        if strip[place] == 0 {
+            let count = zeros_from(strip, place);
+            skipped += count;
+            place += count;
         } else {
             let run = zeros_length(skipped);
             forward += run + 1;
             backward += if skipped < place { run + 1 } else { 1 };
             skipped = 0;
+            place += 1;
         }
     }
     if skipped < strip.len() {
