@@ -9,6 +9,8 @@ pub mod Cores
 pub mod Following
 pub mod Together
 pub mod Pairs
+pub mod Columns
+pub mod Sweeping
 pub mod Objects
 pub mod Later
 pub mod Limits

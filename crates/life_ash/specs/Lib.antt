@@ -1,5 +1,6 @@
 pub mod Living
 pub mod Parts
+pub mod Spans
 pub mod Later
 pub mod Fates
 pub mod Allowed

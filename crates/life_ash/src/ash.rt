@@ -74,7 +74,7 @@ pub fn is_ash<P: Plane>(
     if !are_together(alloc, parts, &cells)? {
         return Ok(false);
     }
-    if !are_apart(parts) {
+    if !are_apart(alloc, parts) {
         return Ok(false);
     }
     are_objects::<P>(alloc, parts, rule, bound)

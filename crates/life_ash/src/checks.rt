@@ -6,10 +6,15 @@ ghost use Rattle.life_objects.specs.Apart.{AreApartForEver};
 ghost use Rattle.life_objects.specs.Union.{union_of};
 ghost use Rattle.life_ash.specs.Parts.{IsOf, sets_of};
 
+use crate::span::spans_in_order;
+use crate::sweep::are_apart_in_order;
 use life_cells::cell_list::CellList;
 use life_cells::order::put_in_order;
 use life_orbit::orbit::Orbit;
 use std::alloc::{AllocError, Global};
+
+/// Up to so many sets are compared each with each, which takes fewer steps than to put them in order.
+const FEW: usize = 16;
 
 /// The cells of each of the sets.
 fn all_cells(alloc: Global, orbits: &[Orbit]) -> Result<Vec<(i32, i32)>, AllocError>
@@ -44,8 +49,8 @@ fn is_apart_from_all(orbit: &Orbit, others: &[Orbit]) -> bool
     true
 }
 
-/// Whether any two of the sets stay apart for ever.
-pub fn are_apart(orbits: &[Orbit]) -> bool
+/// Whether any two of the sets stay apart for ever, each compared with each.
+fn each_is_apart(orbits: &[Orbit]) -> bool
     requires { (R : ModelRule) × All (IsOf R) orbits.now }
     ensures { (R : ModelRule) → All (IsOf R) orbits.now →
         IsTrue result ↔ AllPairs (AreApartForEver R) (sets_of orbits.now) }
@@ -56,4 +61,19 @@ pub fn are_apart(orbits: &[Orbit]) -> bool
         }
     }
     true
+}
+
+/// Whether any two of the sets stay apart for ever. Of more than a few, those that stay where they are are compared only
+/// with those whose columns are near. Where memory for that is not there, each is compared with each.
+pub fn are_apart(alloc: Global, orbits: &[Orbit]) -> bool
+    requires { (R : ModelRule) × All (IsOf R) orbits.now }
+    ensures { (R : ModelRule) → All (IsOf R) orbits.now →
+        IsTrue result ↔ AllPairs (AreApartForEver R) (sets_of orbits.now) }
+{
+    if orbits.len() > FEW {
+        if let Ok(spans) = spans_in_order(alloc, orbits) {
+            return are_apart_in_order(orbits, spans.as_slice());
+        }
+    }
+    each_is_apart(orbits)
 }

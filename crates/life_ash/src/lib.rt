@@ -12,4 +12,6 @@ mod pace;
 mod parts;
 pub mod pattern;
 mod sizes;
+mod span;
+mod sweep;
 mod whole;

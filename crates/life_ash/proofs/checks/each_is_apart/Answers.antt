@@ -4,7 +4,7 @@ use Rattle.std.proofs.Common.{take}
 use Rattle.life_objects.specs.Apart.{AreApartForEver}
 use Rattle.life_ash.specs.Parts.{sets_of}
 use Rattle.life_ash.proofs.Pairs.{all_pairs, before_one, one_more}
-use Rattle.life_ash.proofs.checks.are_apart.Goals as goal
+use Rattle.life_ash.proofs.checks.each_is_apart.Goals as goal
 
 pub returns-then-not-is_apart_from_all : goal.returns-then-not-is_apart_from_all
 returns-then-not-is_apart_from_all c R of =

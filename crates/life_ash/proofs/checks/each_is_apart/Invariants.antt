@@ -4,7 +4,7 @@ use Rattle.life_model.specs.Rule.{Rule}
 use Rattle.life_objects.specs.Apart.{AreApartForEver}
 use Rattle.life_orbit.specs.Course.{Course}
 use Rattle.life_ash.specs.Parts.{IsOf}
-use Rattle.life_ash.proofs.checks.are_apart.Given as goal
+use Rattle.life_ash.proofs.checks.each_is_apart.Given as goal
 
 -- any two of the sets so far stay apart for ever
 abbrev pub invariant-loop-n : goal.invariant-loop-n
