@@ -1,0 +1,35 @@
+-- The numbers of collections in reports are small.
+use Rattle.std.proofs.Common.{ℕ, ◌<◌, ◌≤◌, List, [], ◌∷◌, ◌++◌, zero, suc, arith, sym, subst, length, get_or}
+use Rattle.census_rows.specs.declared.row.Row.{Row}
+use Rattle.census_rows.specs.declared.row.Row.TheVariants.{End}
+use Rattle.census_readback.specs.Steps.{collection_of}
+use Rattle.census_readback.specs.Shapes.{AreOf, AreReports, AreWhole, joined, patterns_in}
+
+-- each row's number is at most 65,535
+abbrev pub AreFew : List Row → Type 0
+AreFew [] = Unit {0}
+AreFew (row ∷ rows) = (collection_of row ≤ 65535) × AreFew rows
+
+few-append : (xs ys : List Row) → AreFew xs → AreFew ys → AreFew (xs ++ ys)
+few-append [] ys h k = k
+few-append (x ∷ xs) ys h k = (h.0, few-append xs ys h.1 k)
+
+few-body : (n : ℕ) (xs : List Row) → n ≤ 65535 → AreOf n xs → AreFew xs
+few-body n [] less h = tt
+few-body n (x ∷ xs) less h = (omega (arith, less, h.1), few-body n xs less h.2)
+
+few-joined : (reports : List (List Row)) → AreWhole reports → AreFew (joined reports)
+few-joined [] h = tt
+few-joined (rows ∷ reports) h =
+    let is = h.0 in
+    let last : AreFew (End is.collections (patterns_in is.body) ∷ []) = (omega arith, tt) in
+    let own : AreFew rows = subst (λ w. AreFew w) (sym is.whole) (few-append is.body (End is.collections (patterns_in is.body) ∷ []) (few-body is.collections is.body is.few is.owned) last) in
+    few-append rows (joined reports) own (few-joined reports h.1)
+
+pub few-reports : (rows : List Row) → AreReports rows → AreFew rows
+few-reports rows is = subst (λ w. AreFew w) (sym is.whole) (few-joined is.reports is.each)
+
+pub few-at : (rows : List Row) (i : ℕ) (d : Row) → AreFew rows → i < length rows → collection_of (get_or rows i d) ≤ 65535
+few-at [] i d h less = absurd (omega arith)
+few-at (x ∷ rows) zero d h less = h.0
+few-at (x ∷ rows) (suc i) d h less = few-at rows i d h.1 (omega arith)

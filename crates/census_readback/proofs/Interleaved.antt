@@ -1,0 +1,271 @@
+-- Rows are taken to the end exactly where they are reports.
+use Rattle.std.proofs.Common.{◌≡◌, ℕ, zero, suc, ◌+◌, ◌-◌, ◌<◌, ◌≤◌, ◌^◌, Bool, true, false, ◌&&◌, eqb, ltb, leb, Option, Some, None, List, [], ◌∷◌, ◌++◌, ap, ◌∙◌, sym, refl, arith, subst, length, append_assoc}
+use Rattle.std.specs.Prelude.{if◌then◌else◌}
+use Rattle.std.specs.List.{list_all}
+use Rattle.std.proofs.lemmas.Bool.{eqb-true, eq-eqb, ltb-true, lt-ltb, leb-true, le-leb}
+use Rattle.std.proofs.lemmas.List.{append-nil}
+use Rattle.census_rows.specs.declared.row.Row.{Row}
+use Rattle.census_rows.specs.declared.row.Row.TheVariants.{Open, Line, Part, Code, Close, End}
+use Rattle.census_readback.specs.declared.place.Place.{Place}
+use Rattle.census_readback.specs.declared.place.Place.TheVariants.{Before, Within, Behind}
+use Rattle.census_readback.specs.Sections.{next}
+use Rattle.census_readback.specs.Runs.{run}
+use Rattle.census_readback.specs.Steps.{Reading, collection_of, opened, is_behind, place_at, put, start, gone_on, section_step, end_step, step, stray}
+use Rattle.census_readback.specs.Shapes.{rows_of, AreOf, patterns_in, IsWhole, AreWhole, joined, AreReports}
+use Rattle.census_readback.proofs.Shaped.{and-both, both-and, section-sound, section-complete}
+use Rattle.census_readback.proofs.Kept.{Kept, kept-none, kept-step, run-split, rows-here, patterns-append}
+
+-- # Steps
+
+if-some : (b : Bool) (x : Option Reading) (t : Reading) → (if b then x else None) ≡ Some t → (b ≡ true) × (x ≡ Some t)
+if-some true x t h = (refl, h)
+if-some false x t h = absurd (cc)
+
+-- a row of a collection that was taken
+record Taken (s t : Reading) (r : Row) : Type 0 where
+  place : Place
+  low : 0 < collection_of r
+  high : collection_of r ≤ 65535
+  goes : next (place_at s.places (collection_of r - 1)) r ≡ Some place
+  fits : s.patterns + opened r < 2 ^ 64
+  is : t ≡ record { places = put s.places (collection_of r - 1) place; patterns = s.patterns + opened r; ended = false }
+
+gone-some : (s t : Reading) (i n : ℕ) (o : Option Place) → gone_on s i n o ≡ Some t
+    → (p : Place) × (o ≡ Some p) × (s.patterns + n < 2 ^ 64) × (t ≡ record { places = put s.places i p; patterns = s.patterns + n; ended = false })
+gone-some s t i n None h = absurd (cc)
+gone-some s t i n (Some p) h =
+    let u : Reading = record { places = put s.places i p; patterns = s.patterns + n; ended = false } in
+    let k = if-some (ltb (s.patterns + n) (2 ^ 64)) (Some u) t h in
+    let same : t ≡ u = (let e : Some u ≡ Some t = k.1 in cc) in
+    (p, refl, ltb-true _ _ k.0, same)
+
+taken : (s t : Reading) (r : Row) → section_step s r ≡ Some t → Taken s t r
+taken s t r h =
+    let i = collection_of r - 1 in
+    let o = next (place_at s.places i) r in
+    let k = if-some (ltb 0 (collection_of r) && leb (collection_of r) 65535) (gone_on s i (opened r) o) t h in
+    let b = and-both (ltb 0 (collection_of r)) (leb (collection_of r) 65535) k.0 in
+    let g = gone-some s t i (opened r) o k.1 in
+    record {
+      place = g.0;
+      low = ltb-true _ _ b.0;
+      high = leb-true _ _ b.1;
+      goes = g.1;
+      fits = g.2;
+      is = g.3;
+    }
+
+-- a row of a collection that may stand is taken
+taking : (s : Reading) (r : Row) (p : Place) → 0 < collection_of r → collection_of r ≤ 65535
+    → next (place_at s.places (collection_of r - 1)) r ≡ Some p → s.patterns + opened r < 2 ^ 64
+    → section_step s r ≡ Some (record { places = put s.places (collection_of r - 1) p; patterns = s.patterns + opened r; ended = false })
+taking s r p low high goes fits =
+    let i = collection_of r - 1 in
+    let o = next (place_at s.places i) r in
+    let u : Reading = record { places = put s.places i p; patterns = s.patterns + opened r; ended = false } in
+    let pass : (ltb 0 (collection_of r) && leb (collection_of r) 65535) ≡ true = both-and _ _ (lt-ltb _ _ low) (le-leb _ _ high) in
+    let small : ltb (s.patterns + opened r) (2 ^ 64) ≡ true = lt-ltb _ _ fits in
+    ap (λ v. if v then gone_on s i (opened r) o else None) pass
+    ∙ ap (λ (w : Option Place). gone_on s i (opened r) w) goes
+    ∙ ap (λ v. if v then Some u else None) small
+
+-- a row with a collection's number is no `end` row
+section-is-step : (s : Reading) (r : Row) → 0 < collection_of r → step s r ≡ section_step s r
+section-is-step s (Open c n name) h = refl
+section-is-step s (Line c i o name) h = refl
+section-is-step s (Part c i code k) h = refl
+section-is-step s (Code c rule code k) h = refl
+section-is-step s (Close c n a b d) h = refl
+section-is-step s (End n k) h = absurd (omega arith)
+
+-- # From steps to reports
+
+-- the first step, and the others
+stepped : (s : Reading) (n : ℕ) (r : Row) (rows : List Row) → stray s n (r ∷ rows) ≡ None → (t : Reading) × (step s r ≡ Some t) × (stray t (n + 1) rows ≡ None)
+stepped s n r rows h =
+    let on : (o : Option Reading) → (elim o as (λ _. Option ℕ) [ None ↦ Some n | Some t ↦ stray t (n + 1) rows ]) ≡ None → (t : Reading) × (o ≡ Some t) × (stray t (n + 1) rows ≡ None) =
+    λ o. elim o as (λ o. (elim o as (λ _. Option ℕ) [ None ↦ Some n | Some t ↦ stray t (n + 1) rows ]) ≡ None → (t : Reading) × (o ≡ Some t) × (stray t (n + 1) rows ≡ None)) [
+      | None ↦ λ e. absurd (cc)
+      | Some t ↦ λ e. (t, refl, e)
+    ] in
+    on (step s r) h
+
+-- reports that begin with these rows
+record Found (ended : Bool) (rows : List Row) : Type 0 where
+  reports : List (List Row)
+  whole : rows ≡ joined reports
+  each : AreWhole reports
+  some : ended ≡ false → 0 < length reports
+
+behind-at : (xs : List Place) (k : ℕ) → list_all is_behind xs ≡ true → k < length xs → place_at xs k ≡ Behind
+behind-at [] k h less = absurd (omega arith)
+behind-at (Before ∷ xs) k h less = absurd (cc)
+behind-at (Within t ∷ xs) k h less = absurd (cc)
+behind-at (Behind ∷ xs) zero h less = refl
+behind-at (Behind ∷ xs) (suc k) h less = behind-at xs k h (omega arith)
+
+whole-report : (s : Reading) (seen : List Row) (n k : ℕ) → Kept s seen → list_all is_behind s.places ≡ true → length s.places ≡ n → s.patterns ≡ k
+    → IsWhole (seen ++ End n k ∷ [])
+whole-report s seen n k kept all size total = record {
+  body = seen;
+  collections = n;
+  whole = ap (λ m. seen ++ End n m ∷ []) (sym total ∙ kept.sum);
+  owned = subst (λ m. AreOf m seen) size kept.owned;
+  sections = λ c low high.
+      (let number : (c - 1) + 1 ≡ c = omega arith in
+      let inside : c - 1 < length s.places = omega arith in
+      section-sound (rows_of c seen)
+      (ap (λ m. run Before (rows_of m seen)) (sym number) ∙ kept.places (c - 1) ∙ ap (λ (w : Place). Some w) (behind-at s.places (c - 1) all inside)));
+  few = omega (arith, kept.few, size);
+  fits = (let e : patterns_in seen ≡ s.patterns = sym kept.sum in omega (arith, kept.fits, e));
+}
+
+ended-step : (s t : Reading) (n k : ℕ) → end_step s n k ≡ Some t
+    → (list_all is_behind s.places ≡ true) × (length s.places ≡ n) × (s.patterns ≡ k) × (t ≡ record { places = []; patterns = 0; ended = true })
+ended-step s t n k h =
+    let u : Reading = record { places = []; patterns = 0; ended = true } in
+    let j = if-some (list_all is_behind s.places && (eqb (length s.places) n && eqb s.patterns k)) (Some u) t h in
+    let b1 = and-both (list_all is_behind s.places) (eqb (length s.places) n && eqb s.patterns k) j.0 in
+    let b2 = and-both (eqb (length s.places) n) (eqb s.patterns k) b1.1 in
+    let same : t ≡ u = (let e : Some u ≡ Some t = j.1 in cc) in
+    (b1.0, eqb-true _ _ b2.0, eqb-true _ _ b2.1, same)
+
+-- one row more of a section
+going : (s t : Reading) (seen : List Row) (r : Row) → Kept s seen → section_step s r ≡ Some t → Kept t (seen ++ r ∷ []) × (t.ended ≡ false)
+going s t seen r kept h =
+    let g = taken s t r h in
+    (subst (λ (w : Reading). Kept w (seen ++ r ∷ [])) (sym g.is) (kept-step s seen r g.place kept g.low g.high g.goes g.fits), ap (λ (w : Reading). w.ended) g.is)
+
+carried : (t : Reading) (ended : Bool) (seen : List Row) (r : Row) (rows : List Row) → Found t.ended ((seen ++ r ∷ []) ++ rows) → t.ended ≡ false → Found ended (seen ++ r ∷ rows)
+carried t ended seen r rows f e = record {
+  reports = f.reports;
+  whole = sym (append_assoc seen (r ∷ []) rows) ∙ f.whole;
+  each = f.each;
+  some = λ _. f.some e;
+}
+
+found : (s : Reading) (n : ℕ) (seen rows : List Row) → Kept s seen → (s.ended ≡ true → seen ≡ []) → stray s n rows ≡ None → Found s.ended (seen ++ rows)
+found s n seen [] kept none h =
+    let on : (v : Bool) → s.ended ≡ v → (if v then None else Some n) ≡ None → Found v (seen ++ []) =
+    λ v. elim v as (λ v. s.ended ≡ v → (if v then None else Some n) ≡ None → Found v (seen ++ [])) [
+      | true ↦ λ e k. record { reports = []; whole = append-nil seen ∙ none e; each = tt; some = λ f. absurd (cc (f)) }
+      | false ↦ λ e k. absurd (cc)
+    ] in
+    on s.ended refl h
+found s n seen (End m k ∷ rows) kept none h =
+    let st = stepped s n (End m k) rows h in
+    let t = st.0 in
+    let e = ended-step s t m k st.1 in
+    let report = whole-report s seen m k kept e.0 e.1 e.2 in
+    let empty : t.places ≡ [] = ap (λ (w : Reading). w.places) e.3 in
+    let nothing : t.patterns ≡ 0 = ap (λ (w : Reading). w.patterns) e.3 in
+    let others = found t (n + 1) [] rows (kept-none t empty nothing) (λ _. refl) st.2 in
+    record {
+      reports = (seen ++ End m k ∷ []) ∷ others.reports;
+      whole = sym (append_assoc seen (End m k ∷ []) rows) ∙ ap (λ w. (seen ++ End m k ∷ []) ++ w) others.whole;
+      each = (report, others.each);
+      some = λ _. omega arith;
+    }
+found s n seen (Open c m name ∷ rows) kept none h =
+    let st = stepped s n (Open c m name) rows h in
+    let g = going s st.0 seen (Open c m name) kept st.1 in
+    carried st.0 s.ended seen (Open c m name) rows (found st.0 (n + 1) (seen ++ Open c m name ∷ []) rows g.0 (λ e. absurd (cc (e, g.1))) st.2) g.1
+found s n seen (Line c i o name ∷ rows) kept none h =
+    let st = stepped s n (Line c i o name) rows h in
+    let g = going s st.0 seen (Line c i o name) kept st.1 in
+    carried st.0 s.ended seen (Line c i o name) rows (found st.0 (n + 1) (seen ++ Line c i o name ∷ []) rows g.0 (λ e. absurd (cc (e, g.1))) st.2) g.1
+found s n seen (Part c i code k ∷ rows) kept none h =
+    let st = stepped s n (Part c i code k) rows h in
+    let g = going s st.0 seen (Part c i code k) kept st.1 in
+    carried st.0 s.ended seen (Part c i code k) rows (found st.0 (n + 1) (seen ++ Part c i code k ∷ []) rows g.0 (λ e. absurd (cc (e, g.1))) st.2) g.1
+found s n seen (Code c rule code k ∷ rows) kept none h =
+    let st = stepped s n (Code c rule code k) rows h in
+    let g = going s st.0 seen (Code c rule code k) kept st.1 in
+    carried st.0 s.ended seen (Code c rule code k) rows (found st.0 (n + 1) (seen ++ Code c rule code k ∷ []) rows g.0 (λ e. absurd (cc (e, g.1))) st.2) g.1
+found s n seen (Close c m a b d ∷ rows) kept none h =
+    let st = stepped s n (Close c m a b d) rows h in
+    let g = going s st.0 seen (Close c m a b d) kept st.1 in
+    carried st.0 s.ended seen (Close c m a b d) rows (found st.0 (n + 1) (seen ++ Close c m a b d ∷ []) rows g.0 (λ e. absurd (cc (e, g.1))) st.2) g.1
+
+pub reports-sound : (rows : List Row) → stray start 1 rows ≡ None → AreReports rows
+reports-sound rows h =
+    let f = found start 1 [] rows (kept-none start refl refl) (λ e. refl) h in
+    record { reports = f.reports; some = f.some refl; whole = f.whole; each = f.each }
+
+-- # From reports to steps
+
+-- rows of a body are taken
+body : (s : Reading) (n : ℕ) (seen rows rest : List Row) (most : ℕ) → Kept s seen → AreOf most rows → most ≤ 65535
+    → ((c : ℕ) → 0 < c → c ≤ most → (z : Place) × (run Before (rows_of c (seen ++ rows)) ≡ Some z)) → patterns_in (seen ++ rows) < 2 ^ 64
+    → (t : Reading) × (m : ℕ) × Kept t (seen ++ rows) × (stray s n (rows ++ rest) ≡ stray t m rest)
+body s n seen [] rest most kept owned few runs fits = (s, n, rw append-nil kept, refl)
+body s n seen (r ∷ rows) rest most kept owned few runs fits =
+    let c = collection_of r in
+    let number : (c - 1) + 1 ≡ c = omega (arith, owned.0) in
+    let whole = runs c owned.0 owned.1 in
+    let here : rows_of c (seen ++ r ∷ rows) ≡ rows_of c seen ++ r ∷ rows_of c rows = rows-here c seen r rows (eq-eqb c c refl) in
+    let before : run Before (rows_of c seen) ≡ Some (place_at s.places (c - 1)) = ap (λ m. run Before (rows_of m seen)) (sym number) ∙ kept.places (c - 1) in
+    let goes = run-split Before (place_at s.places (c - 1)) whole.0 (rows_of c seen) r (rows_of c rows) before (sym (ap (run Before) here) ∙ whole.1) in
+    let sum : patterns_in (seen ++ r ∷ rows) ≡ patterns_in seen + (opened r + patterns_in rows) = patterns-append seen (r ∷ rows) in
+    let small : s.patterns + opened r < 2 ^ 64 = omega (arith, kept.sum, sum) in
+    let high : c ≤ 65535 = omega (arith, owned.1) in
+    let t : Reading = record { places = put s.places (c - 1) goes.0; patterns = s.patterns + opened r; ended = false } in
+    let is : step s r ≡ Some t = section-is-step s r owned.0 ∙ taking s r goes.0 owned.0 high goes.1 small in
+    let assoc : (seen ++ r ∷ []) ++ rows ≡ seen ++ r ∷ rows = append_assoc seen (r ∷ []) rows in
+    let others = body t (n + 1) (seen ++ r ∷ []) rows rest most (kept-step s seen r goes.0 kept owned.0 high goes.1 small) owned.2 few
+    (λ d low most_d. (let z = runs d low most_d in (z.0, ap (λ w. run Before (rows_of d w)) assoc ∙ z.1))) (rw assoc fits) in (
+      others.0,
+      others.1,
+      subst (λ w. Kept others.0 w) assoc others.2,
+      ap (λ (o : Option Reading). elim o as (λ _. Option ℕ) [ None ↦ Some n | Some u ↦ stray u (n + 1) (rows ++ rest) ]) is ∙ others.3,
+    )
+
+all-behind : (xs : List Place) → ((k : ℕ) → k < length xs → place_at xs k ≡ Behind) → list_all is_behind xs ≡ true
+all-behind [] h = refl
+all-behind (x ∷ xs) h =
+    let first : x ≡ Behind = h 0 (omega arith) in
+    ap (λ w. is_behind w && list_all is_behind xs) first ∙ all-behind xs (λ k less. h (suc k) (omega arith))
+
+-- so many places at least, where each of them is the last of a section
+enough : (xs : List Place) (n : ℕ) → ((j : ℕ) → j < n → place_at xs j ≡ Behind) → n ≤ length xs
+enough [] zero h = omega arith
+enough [] (suc n) h = absurd (let e : Before ≡ Behind = h 0 (omega arith) in cc)
+enough (x ∷ xs) zero h = omega arith
+enough (x ∷ xs) (suc n) h = (let rest : n ≤ length xs = enough xs n (λ j less. h (suc j) (omega arith)) in omega arith)
+
+-- a report is taken, and what follows begins anew
+report : (s : Reading) (n : ℕ) (rows rest : List Row) → Kept s [] → IsWhole rows
+    → (m : ℕ) × (stray s n (rows ++ rest) ≡ stray (record { places = []; patterns = 0; ended = true }) m rest)
+report s n rows rest kept is =
+    let u : Reading = record { places = []; patterns = 0; ended = true } in
+    let k = patterns_in is.body in
+    let last = End is.collections k in
+    let ended : (c : ℕ) → 0 < c → c ≤ is.collections → run Before (rows_of c is.body) ≡ Some Behind = λ c low high. section-complete (rows_of c is.body) (is.sections c low high) in
+    let b = body s n [] is.body (last ∷ rest) is.collections kept is.owned is.few (λ c low high. (Behind, ended c low high)) is.fits in
+    let t = b.0 in
+    let here : (j : ℕ) → j < is.collections → place_at t.places j ≡ Behind = λ j less.
+    (let e1 : run Before (rows_of (j + 1) is.body) ≡ Some Behind = ended (j + 1) (omega arith) (omega arith) in
+    let e2 : run Before (rows_of (j + 1) is.body) ≡ Some (place_at t.places j) = b.2.places j in
+    let e3 : Some (place_at t.places j) ≡ Some Behind = sym e2 ∙ e1 in cc) in
+    let most : length t.places ≤ is.collections = b.2.under is.collections is.owned in
+    let least : is.collections ≤ length t.places = enough t.places is.collections here in
+    let size : length t.places ≡ is.collections = omega arith in
+    let all = all-behind t.places (λ j less. here j (omega arith)) in
+    let pass : (list_all is_behind t.places && (eqb (length t.places) is.collections && eqb t.patterns k)) ≡ true =
+    both-and _ _ all (both-and _ _ (eq-eqb _ _ size) (eq-eqb _ _ b.2.sum)) in
+    let taken_end : step t last ≡ Some u = ap (λ v. if v then Some u else None) pass in (
+      b.1 + 1,
+      ap (λ w. stray s n (w ++ rest)) is.whole ∙ ap (λ w. stray s n w) (append_assoc is.body (last ∷ []) rest) ∙ b.3
+          ∙ ap (λ (o : Option Reading). elim o as (λ _. Option ℕ) [ None ↦ Some b.1 | Some v ↦ stray v (b.1 + 1) rest ]) taken_end,
+    )
+
+several : (s : Reading) (n : ℕ) (reports : List (List Row)) → Kept s [] → AreWhole reports → (length reports ≡ 0 → s.ended ≡ true) → stray s n (joined reports) ≡ None
+several s n [] kept each some = ap (λ v. if v then None else Some n) (some refl)
+several s n (rows ∷ reports) kept each some =
+    let u : Reading = record { places = []; patterns = 0; ended = true } in
+    let one = report s n rows (joined reports) kept each.0 in
+    one.1 ∙ several u one.0 reports (kept-none u refl refl) each.1 (λ _. refl)
+
+pub reports-complete : (rows : List Row) → AreReports rows → stray start 1 rows ≡ None
+reports-complete rows is =
+    ap (stray start 1) is.whole ∙ several start 1 is.reports (kept-none start refl refl) is.each (λ e. absurd (omega (arith, e, is.some)))

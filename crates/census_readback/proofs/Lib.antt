@@ -1,0 +1,11 @@
+pub mod Feeds
+pub mod Rows
+pub mod Padding
+pub mod Cuts
+pub mod Reached
+pub mod Alike
+pub mod Shaped
+pub mod Kept
+pub mod Interleaved
+pub mod Sorted
+pub mod Cutting

@@ -1,0 +1,328 @@
+-- A collection is read to its end exactly where its rows have the shape of a section.
+use Rattle.std.proofs.Common.{◌≡◌, ℕ, ◌+◌, ◌<◌, ◌≤◌, Bool, true, false, ◌&&◌, eqb, ltb, leb, Option, Some, None as Nothing, List, [], ◌∷◌, ◌++◌, ap, ◌∙◌, sym, refl, arith, subst}
+use Rattle.std.specs.Prelude.{if◌then◌else◌}
+use Rattle.std.proofs.lemmas.Bool.{eqb-true, eq-eqb, ltb-true, lt-ltb, leb-true, le-leb}
+use Rattle.census_rows.specs.declared.row.Outcome.{Outcome}
+use Rattle.census_rows.specs.declared.row.Outcome.TheVariants.{Ok, Ash, None, Large, Bad}
+use Rattle.census_rows.specs.declared.row.Row.{Row}
+use Rattle.census_rows.specs.declared.row.Row.TheVariants.{Open, Line, Part, Code, Close, End}
+use Rattle.census_readback.specs.declared.place.Place.{Place}
+use Rattle.census_readback.specs.declared.place.Place.TheVariants.{Before, Within, Behind}
+use Rattle.census_readback.specs.declared.place.Tally.{Tally}
+use Rattle.census_readback.specs.Sections.{with_line, closes}
+use Rattle.census_readback.specs.Runs.{run}
+use Rattle.census_readback.specs.Steps.{opened}
+use Rattle.census_readback.specs.Shapes.{is_ash, is_resolved, is_unresolved, is_refused, lines_that, any, AreLines, AreCodes, IsOpen, IsSection}
+
+abbrev one : Bool → ℕ
+one b = if b then 1 else 0
+
+pub and-both : (a b : Bool) → (a && b) ≡ true → (a ≡ true) × (b ≡ true)
+and-both true b h = (refl, h)
+and-both false b h = absurd (cc)
+
+-- the counts add up
+pub record Good (t : Tally) : Type 0 where
+  pub sum : t.resolved + t.unresolved + t.refused ≡ t.read
+  pub within : t.read ≤ t.patterns
+  pub few : t.patterns ≤ 65535
+
+-- a tally with one more line
+record Grown (t u : Tally) (o : Outcome) : Type 0 where
+  good : Good u
+  read : u.read ≡ t.read + 1
+  ash : u.ash ≡ is_ash o
+  patterns : u.patterns ≡ t.patterns
+  resolved : u.resolved ≡ t.resolved + one (is_resolved o)
+  unresolved : u.unresolved ≡ t.unresolved + one (is_unresolved o)
+  refused : u.refused ≡ t.refused + one (is_refused o)
+
+grown : (t : Tally) (o : Outcome) → Good t → t.read < t.patterns → Grown t (with_line t o) o
+grown t (Ok rule population onset period dx dy code) g less = record {
+  good = record { sum = omega arith; within = omega arith; few = omega arith };
+  read = refl;
+  ash = refl;
+  patterns = refl;
+  resolved = omega arith;
+  unresolved = omega arith;
+  refused = omega arith;
+}
+grown t (Ash rule population objects) g less = record {
+  good = record { sum = omega arith; within = omega arith; few = omega arith };
+  read = refl;
+  ash = refl;
+  patterns = refl;
+  resolved = omega arith;
+  unresolved = omega arith;
+  refused = omega arith;
+}
+grown t (None rule population) g less = record {
+  good = record { sum = omega arith; within = omega arith; few = omega arith };
+  read = refl;
+  ash = refl;
+  patterns = refl;
+  resolved = omega arith;
+  unresolved = omega arith;
+  refused = omega arith;
+}
+grown t (Large rule population generation) g less = record {
+  good = record { sum = omega arith; within = omega arith; few = omega arith };
+  read = refl;
+  ash = refl;
+  patterns = refl;
+  resolved = omega arith;
+  unresolved = omega arith;
+  refused = omega arith;
+}
+grown t (Bad fault) g less = record {
+  good = record { sum = omega arith; within = omega arith; few = omega arith };
+  read = refl;
+  ash = refl;
+  patterns = refl;
+  resolved = omega arith;
+  unresolved = omega arith;
+  refused = omega arith;
+}
+
+-- what may follow within a section
+record Rest (t : Tally) (rows : List Row) : Type 0 where
+  lines : List Row
+  codes : List Row
+  collection : ℕ
+  n : ℕ
+  resolved : ℕ
+  unresolved : ℕ
+  refused : ℕ
+  whole : rows ≡ lines ++ (codes ++ Close collection n resolved unresolved refused ∷ [])
+  ordered : AreLines t.read t.ash lines
+  counts : AreCodes codes
+  all : t.read + lines_that any lines ≡ t.patterns
+  patterns-are : n ≡ t.patterns
+  resolved-are : resolved ≡ t.resolved + lines_that is_resolved lines
+  unresolved-are : unresolved ≡ t.unresolved + lines_that is_unresolved lines
+  refused-are : refused ≡ t.refused + lines_that is_refused lines
+
+-- a test that was passed, and what follows
+passed : (b : Bool) (p : Place) (rows : List Row)
+    → (elim (if b then Some p else Nothing) as (λ _. Option Place) [ Nothing ↦ Nothing | Some after ↦ run after rows ]) ≡ Some Behind
+    → (b ≡ true) × (run p rows ≡ Some Behind)
+passed true p rows h = (refl, h)
+passed false p rows h = absurd (cc)
+
+nothing-behind : (rows : List Row) → run Behind rows ≡ Some Behind → rows ≡ []
+nothing-behind [] h = refl
+nothing-behind (row ∷ rows) h = absurd (cc)
+
+-- where no line follows, nor a part of the last, none stands there
+no-lines : (last : ℕ) (lines : List Row) → AreLines last false lines → lines_that any lines ≡ 0 → lines ≡ []
+no-lines last [] are none = refl
+no-lines last (Open c n name ∷ lines) are none = absurd are
+no-lines last (Line c i o name ∷ lines) are none = absurd (omega arith)
+no-lines last (Part c i code k ∷ lines) are none = absurd (cc (are.0))
+no-lines last (Code c rule code k ∷ lines) are none = absurd are
+no-lines last (Close c n a b d ∷ lines) are none = absurd are
+no-lines last (End n k ∷ lines) are none = absurd are
+
+within-sound : (t : Tally) (rows : List Row) → Good t → run (Within t) rows ≡ Some Behind → Rest t rows
+within-sound t [] g h = absurd (cc)
+within-sound t (Open c n name ∷ rows) g h = absurd (cc)
+within-sound t (Line c i o name ∷ rows) g h =
+    let u = with_line t o in
+    let k = passed (ltb t.read t.patterns && eqb i (t.read + 1)) (Within u) rows h in
+    let b = and-both (ltb t.read t.patterns) (eqb i (t.read + 1)) k.0 in
+    let less : t.read < t.patterns = ltb-true _ _ b.0 in
+    let number : i ≡ t.read + 1 = eqb-true _ _ b.1 in
+    let w = grown t o g less in
+    let r = within-sound u rows w.good k.1 in
+    record {
+      lines = Line c i o name ∷ r.lines;
+      codes = r.codes;
+      collection = r.collection;
+      n = r.n;
+      resolved = r.resolved;
+      unresolved = r.unresolved;
+      refused = r.refused;
+      whole = ap (λ x. Line c i o name ∷ x) r.whole;
+      ordered = (number, subst (λ a. AreLines (t.read + 1) a r.lines) w.ash (subst (λ m. AreLines m u.ash r.lines) w.read r.ordered));
+      counts = r.counts;
+      all = omega (arith, r.all, w.read, w.patterns);
+      patterns-are = r.patterns-are ∙ w.patterns;
+      resolved-are = omega (arith, r.resolved-are, w.resolved);
+      unresolved-are = omega (arith, r.unresolved-are, w.unresolved);
+      refused-are = omega (arith, r.refused-are, w.refused);
+    }
+within-sound t (Part c i code m ∷ rows) g h =
+    let k = passed (t.ash && eqb i t.read) (Within t) rows h in
+    let b = and-both t.ash (eqb i t.read) k.0 in
+    let r = within-sound t rows g k.1 in
+    record {
+      lines = Part c i code m ∷ r.lines;
+      codes = r.codes;
+      collection = r.collection;
+      n = r.n;
+      resolved = r.resolved;
+      unresolved = r.unresolved;
+      refused = r.refused;
+      whole = ap (λ x. Part c i code m ∷ x) r.whole;
+      ordered = (b.0, eqb-true _ _ b.1, r.ordered);
+      counts = r.counts;
+      all = omega (arith, r.all);
+      patterns-are = r.patterns-are;
+      resolved-are = omega (arith, r.resolved-are);
+      unresolved-are = omega (arith, r.unresolved-are);
+      refused-are = omega (arith, r.refused-are);
+    }
+within-sound t (Code c rule code m ∷ rows) g h =
+    let u : Tally = record t { ash = false } in
+    let k = passed (eqb t.read t.patterns) (Within u) rows h in
+    let whole : t.read ≡ t.patterns = eqb-true _ _ k.0 in
+    let good : Good u = record { sum = g.sum; within = g.within; few = g.few } in
+    let r = within-sound u rows good k.1 in
+    let none : r.lines ≡ [] = no-lines t.read r.lines r.ordered (omega (arith, r.all, whole)) in
+    record {
+      lines = [];
+      codes = Code c rule code m ∷ r.codes;
+      collection = r.collection;
+      n = r.n;
+      resolved = r.resolved;
+      unresolved = r.unresolved;
+      refused = r.refused;
+      whole = ap (λ x. Code c rule code m ∷ x) (r.whole ∙ ap (λ ls. ls ++ (r.codes ++ Close r.collection r.n r.resolved r.unresolved r.refused ∷ [])) none);
+      ordered = tt;
+      counts = r.counts;
+      all = omega arith;
+      patterns-are = r.patterns-are;
+      resolved-are = r.resolved-are ∙ ap (λ ls. t.resolved + lines_that is_resolved ls) none;
+      unresolved-are = r.unresolved-are ∙ ap (λ ls. t.unresolved + lines_that is_unresolved ls) none;
+      refused-are = r.refused-are ∙ ap (λ ls. t.refused + lines_that is_refused ls) none;
+    }
+within-sound t (Close c n a b d ∷ rows) g h =
+    let k = passed (closes t n a b d) Behind rows h in
+    let b1 = and-both (eqb t.read t.patterns) (eqb n t.patterns && (eqb a t.resolved && (eqb b t.unresolved && eqb d t.refused))) k.0 in
+    let b2 = and-both (eqb n t.patterns) (eqb a t.resolved && (eqb b t.unresolved && eqb d t.refused)) b1.1 in
+    let b3 = and-both (eqb a t.resolved) (eqb b t.unresolved && eqb d t.refused) b2.1 in
+    let b4 = and-both (eqb b t.unresolved) (eqb d t.refused) b3.1 in
+    let e1 : t.read ≡ t.patterns = eqb-true _ _ b1.0 in
+    let e2 : n ≡ t.patterns = eqb-true _ _ b2.0 in
+    let e3 : a ≡ t.resolved = eqb-true _ _ b3.0 in
+    let e4 : b ≡ t.unresolved = eqb-true _ _ b4.0 in
+    let e5 : d ≡ t.refused = eqb-true _ _ b4.1 in
+    record {
+      lines = [];
+      codes = [];
+      collection = c;
+      n = n;
+      resolved = a;
+      unresolved = b;
+      refused = d;
+      whole = ap (λ x. Close c n a b d ∷ x) (nothing-behind rows k.1);
+      ordered = tt;
+      counts = tt;
+      all = omega arith;
+      patterns-are = e2;
+      resolved-are = omega arith;
+      unresolved-are = omega arith;
+      refused-are = omega arith;
+    }
+within-sound t (End n k ∷ rows) g h = absurd (cc)
+
+pub section-sound : (rows : List Row) → run Before rows ≡ Some Behind → IsSection rows
+section-sound [] h = absurd (cc)
+section-sound (Open c n name ∷ rows) h =
+    let t : Tally = record { patterns = n; read = 0; resolved = 0; unresolved = 0; refused = 0; ash = false } in
+    let k = passed (leb n 65535) (Within t) rows h in
+    let few : n ≤ 65535 = leb-true _ _ k.0 in
+    let good : Good t = record { sum = refl; within = omega arith; few = few } in
+    let r = within-sound t rows good k.1 in
+    let all : n ≡ lines_that any r.lines = omega (arith, r.all) in
+    let e1 : r.n ≡ lines_that any r.lines = r.patterns-are ∙ all in
+    let e2 : r.resolved ≡ lines_that is_resolved r.lines = omega (arith, r.resolved-are) in
+    let e3 : r.unresolved ≡ lines_that is_unresolved r.lines = omega (arith, r.unresolved-are) in
+    let e4 : r.refused ≡ lines_that is_refused r.lines = omega (arith, r.refused-are) in
+    let last : Close r.collection r.n r.resolved r.unresolved r.refused ≡ Close r.collection (lines_that any r.lines) (lines_that is_resolved r.lines) (lines_that is_unresolved r.lines) (lines_that is_refused r.lines) = cc in
+    record {
+      first = Open c n name;
+      lines = r.lines;
+      codes = r.codes;
+      collection = r.collection;
+      whole = ap (λ x. Open c n name ∷ x) (r.whole ∙ ap (λ (x : Row). r.lines ++ (r.codes ++ x ∷ [])) last);
+      opens = tt;
+      all = all;
+      ordered = r.ordered;
+      counts = r.counts;
+      few = omega arith;
+    }
+section-sound (Line c i o name ∷ rows) h = absurd (cc)
+section-sound (Part c i code k ∷ rows) h = absurd (cc)
+section-sound (Code c rule code k ∷ rows) h = absurd (cc)
+section-sound (Close c n a b d ∷ rows) h = absurd (cc)
+section-sound (End n k ∷ rows) h = absurd (cc)
+
+-- # The other way
+
+pub both-and : (a b : Bool) → a ≡ true → b ≡ true → (a && b) ≡ true
+both-and true b h k = k
+both-and false b h k = absurd (cc)
+
+pass : (b : Bool) (p : Place) (rows : List Row) → b ≡ true
+    → (elim (if b then Some p else Nothing) as (λ _. Option Place) [ Nothing ↦ Nothing | Some after ↦ run after rows ]) ≡ run p rows
+pass true p rows h = refl
+pass false p rows h = absurd (cc)
+
+codes-complete : (t : Tally) (codes : List Row) (c n a b d : ℕ) → AreCodes codes → t.read ≡ t.patterns → n ≡ t.patterns
+    → a ≡ t.resolved → b ≡ t.unresolved → d ≡ t.refused → run (Within t) (codes ++ Close c n a b d ∷ []) ≡ Some Behind
+codes-complete t [] c n a b d counts e1 e2 e3 e4 e5 =
+    pass (closes t n a b d) Behind []
+    (both-and _ _ (eq-eqb _ _ e1) (both-and _ _ (eq-eqb _ _ e2) (both-and _ _ (eq-eqb _ _ e3) (both-and _ _ (eq-eqb _ _ e4) (eq-eqb _ _ e5)))))
+codes-complete t (Open c2 n2 name ∷ codes) c n a b d counts e1 e2 e3 e4 e5 = absurd counts
+codes-complete t (Line c2 i o name ∷ codes) c n a b d counts e1 e2 e3 e4 e5 = absurd counts
+codes-complete t (Part c2 i code k ∷ codes) c n a b d counts e1 e2 e3 e4 e5 = absurd counts
+codes-complete t (Code c2 rule code k ∷ codes) c n a b d counts e1 e2 e3 e4 e5 =
+    let u : Tally = record t { ash = false } in
+    pass (eqb t.read t.patterns) (Within u) (codes ++ Close c n a b d ∷ []) (eq-eqb _ _ e1) ∙ codes-complete u codes c n a b d counts e1 e2 e3 e4 e5
+codes-complete t (Close c2 n2 a2 b2 d2 ∷ codes) c n a b d counts e1 e2 e3 e4 e5 = absurd counts
+codes-complete t (End n2 k ∷ codes) c n a b d counts e1 e2 e3 e4 e5 = absurd counts
+
+within-complete : (t : Tally) (lines codes : List Row) (c n a b d : ℕ) → Good t → AreLines t.read t.ash lines → AreCodes codes
+    → t.read + lines_that any lines ≡ t.patterns → n ≡ t.patterns → a ≡ t.resolved + lines_that is_resolved lines
+    → b ≡ t.unresolved + lines_that is_unresolved lines → d ≡ t.refused + lines_that is_refused lines
+    → run (Within t) (lines ++ (codes ++ Close c n a b d ∷ [])) ≡ Some Behind
+within-complete t [] codes c n a b d g are counts e1 e2 e3 e4 e5 =
+    codes-complete t codes c n a b d counts (omega arith) e2 (omega arith) (omega arith) (omega arith)
+within-complete t (Open c2 n2 name ∷ lines) codes c n a b d g are counts e1 e2 e3 e4 e5 = absurd are
+within-complete t (Line c2 i o name ∷ lines) codes c n a b d g are counts e1 e2 e3 e4 e5 =
+    let u = with_line t o in
+    let less : t.read < t.patterns = omega arith in
+    let w = grown t o g less in
+    let more : AreLines u.read u.ash lines = subst (λ m. AreLines m u.ash lines) (sym w.read) (subst (λ x. AreLines (t.read + 1) x lines) (sym w.ash) are.1) in
+    pass (ltb t.read t.patterns && eqb i (t.read + 1)) (Within u) (lines ++ (codes ++ Close c n a b d ∷ []))
+    (both-and _ _ (lt-ltb _ _ less) (eq-eqb _ _ are.0))
+    ∙ within-complete u lines codes c n a b d w.good more counts (omega (arith, w.read, w.patterns)) (e2 ∙ sym w.patterns)
+    (omega (arith, w.resolved)) (omega (arith, w.unresolved)) (omega (arith, w.refused))
+within-complete t (Part c2 i code k ∷ lines) codes c n a b d g are counts e1 e2 e3 e4 e5 =
+    pass (t.ash && eqb i t.read) (Within t) (lines ++ (codes ++ Close c n a b d ∷ [])) (both-and _ _ are.0 (eq-eqb _ _ are.1))
+    ∙ within-complete t lines codes c n a b d g are.2 counts (omega arith) e2 (omega arith) (omega arith) (omega arith)
+within-complete t (Code c2 rule code k ∷ lines) codes c n a b d g are counts e1 e2 e3 e4 e5 = absurd are
+within-complete t (Close c2 n2 a2 b2 d2 ∷ lines) codes c n a b d g are counts e1 e2 e3 e4 e5 = absurd are
+within-complete t (End n2 k ∷ lines) codes c n a b d g are counts e1 e2 e3 e4 e5 = absurd are
+
+opens-complete : (first : Row) (lines codes : List Row) (c : ℕ) → IsOpen first → opened first ≡ lines_that any lines → AreLines 0 false lines → AreCodes codes
+    → lines_that any lines ≤ 65535
+    → run Before (first ∷ (lines ++ (codes ++ Close c (lines_that any lines) (lines_that is_resolved lines) (lines_that is_unresolved lines) (lines_that is_refused lines) ∷ []))) ≡ Some Behind
+opens-complete (Open c2 n name) lines codes c is all ordered counts few =
+    let t : Tally = record { patterns = n; read = 0; resolved = 0; unresolved = 0; refused = 0; ash = false } in
+    let m = lines_that any lines in
+    let small : n ≤ 65535 = omega arith in
+    let good : Good t = record { sum = refl; within = omega arith; few = small } in
+    pass (leb n 65535) (Within t) (lines ++ (codes ++ Close c m (lines_that is_resolved lines) (lines_that is_unresolved lines) (lines_that is_refused lines) ∷ []))
+    (le-leb _ _ small)
+    ∙ within-complete t lines codes c m (lines_that is_resolved lines) (lines_that is_unresolved lines) (lines_that is_refused lines) good ordered counts
+    (omega arith) (sym all) (omega arith) (omega arith) (omega arith)
+opens-complete (Line c2 i o name) lines codes c is all ordered counts few = absurd is
+opens-complete (Part c2 i code k) lines codes c is all ordered counts few = absurd is
+opens-complete (Code c2 rule code k) lines codes c is all ordered counts few = absurd is
+opens-complete (Close c2 n a b d) lines codes c is all ordered counts few = absurd is
+opens-complete (End n k) lines codes c is all ordered counts few = absurd is
+
+pub section-complete : (rows : List Row) → IsSection rows → run Before rows ≡ Some Behind
+section-complete rows s = ap (run Before) s.whole ∙ opens-complete s.first s.lines s.codes s.collection s.opens s.all s.ordered s.counts s.few

@@ -1,0 +1,53 @@
+-- The rows of a collection, one after the other.
+use Rattle.std.specs.Prelude.{ℕ, ◌+◌, ◌-◌, ◌^◌, min, Bool, true, false, ◌&&◌, ◌==◌, nat_lt, nat_le, if◌then◌else◌, Option, Some, None as Nothing}
+use Rattle.census_rows.specs.declared.row.Outcome.{Outcome}
+use Rattle.census_rows.specs.declared.row.Outcome.TheVariants.{Ok, Ash, None, Large, Bad}
+use Rattle.census_rows.specs.declared.row.Row.{Row}
+use Rattle.census_rows.specs.declared.row.Row.TheVariants.{Open, Line, Part, Code, Close, End}
+use Rattle.census_readback.specs.declared.place.Place.{Place}
+use Rattle.census_readback.specs.declared.place.Place.TheVariants.{Before, Within, Behind}
+use Rattle.census_readback.specs.declared.place.Tally.{Tally}
+
+-- one more, as far as 64 bits go
+abbrev pub more : ℕ → ℕ
+more n = min (n + 1) (2 ^ 64 - 1)
+
+-- with the line of one more pattern
+abbrev pub with_line : Tally → Outcome → Tally
+with_line t (Ok rule population onset period dx dy code) = record t { read = t.read + 1; resolved = more t.resolved; ash = false }
+with_line t (Ash rule population objects) = record t { read = t.read + 1; resolved = more t.resolved; ash = true }
+with_line t (None rule population) = record t { read = t.read + 1; unresolved = more t.unresolved; ash = false }
+with_line t (Large rule population generation) = record t { read = t.read + 1; unresolved = more t.unresolved; ash = false }
+with_line t (Bad fault) = record t { read = t.read + 1; refused = more t.refused; ash = false }
+
+-- all patterns are read, and these are the numbers of all, of `ok` and `ash`, of `none` and `large`, and of `bad`
+abbrev pub closes : Tally → ℕ → ℕ → ℕ → ℕ → Bool
+closes t patterns resolved unresolved refused =
+    (t.read == t.patterns) && ((patterns == t.patterns) && ((resolved == t.resolved) && ((unresolved == t.unresolved) && (refused == t.refused))))
+
+-- between `open` and `close`: the lines of the patterns in order, `part` lines after an `ash` line, then `code` lines
+abbrev pub next_within : Tally → Row → Option Place
+next_within t (Open collection patterns name) = Nothing
+next_within t (Line collection pattern outcome name) =
+    if nat_lt t.read t.patterns && (pattern == t.read + 1) then Some (Within (with_line t outcome)) else Nothing
+next_within t (Part collection pattern code count) = if t.ash && (pattern == t.read) then Some (Within t) else Nothing
+next_within t (Code collection rule code count) = if t.read == t.patterns then Some (Within (record t { ash = false })) else Nothing
+next_within t (Close collection patterns resolved unresolved refused) =
+    if closes t patterns resolved unresolved refused then Some Behind else Nothing
+next_within t (End collections patterns) = Nothing
+
+-- before all others `open`
+abbrev pub first_place : Row → Option Place
+first_place (Open collection patterns name) =
+    if nat_le patterns 65535 then Some (Within (record { patterns = patterns; read = 0; resolved = 0; unresolved = 0; refused = 0; ash = false })) else Nothing
+first_place (Line collection pattern outcome name) = Nothing
+first_place (Part collection pattern code count) = Nothing
+first_place (Code collection rule code count) = Nothing
+first_place (Close collection patterns resolved unresolved refused) = Nothing
+first_place (End collections patterns) = Nothing
+
+-- the place after a row of the collection, where it may stand here; after `close` nothing stands
+abbrev pub next : Place → Row → Option Place
+next Before row = first_place row
+next (Within tally) row = next_within tally row
+next Behind row = Nothing

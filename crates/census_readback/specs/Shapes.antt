@@ -1,0 +1,135 @@
+-- The shape of a report.
+use Rattle.std.specs.Prelude.{ℕ, ◌+◌, ◌<◌, ◌≤◌, ◌^◌, ◌≡◌, ◌==◌, if◌then◌else◌, Bool, true, false, List, [], ◌∷◌, ◌++◌, length, ⊤}
+use Rattle.census_rows.specs.declared.row.Outcome.{Outcome}
+use Rattle.census_rows.specs.declared.row.Outcome.TheVariants.{Ok, Ash, None, Large, Bad}
+use Rattle.census_rows.specs.declared.row.Row.{Row}
+use Rattle.census_rows.specs.declared.row.Row.TheVariants.{Open, Line, Part, Code, Close, End}
+use Rattle.census_readback.specs.Steps.{collection_of, opened}
+
+abbrev pub is_ash : Outcome → Bool
+is_ash (Ok rule population onset period dx dy code) = false
+is_ash (Ash rule population objects) = true
+is_ash (None rule population) = false
+is_ash (Large rule population generation) = false
+is_ash (Bad fault) = false
+
+abbrev pub is_resolved : Outcome → Bool
+is_resolved (Ok rule population onset period dx dy code) = true
+is_resolved (Ash rule population objects) = true
+is_resolved (None rule population) = false
+is_resolved (Large rule population generation) = false
+is_resolved (Bad fault) = false
+
+abbrev pub is_unresolved : Outcome → Bool
+is_unresolved (Ok rule population onset period dx dy code) = false
+is_unresolved (Ash rule population objects) = false
+is_unresolved (None rule population) = true
+is_unresolved (Large rule population generation) = true
+is_unresolved (Bad fault) = false
+
+abbrev pub is_refused : Outcome → Bool
+is_refused (Ok rule population onset period dx dy code) = false
+is_refused (Ash rule population objects) = false
+is_refused (None rule population) = false
+is_refused (Large rule population generation) = false
+is_refused (Bad fault) = true
+
+-- the row is a `line` line, of which this is so
+abbrev pub is_line : (Outcome → Bool) → Row → Bool
+is_line kind (Open collection patterns name) = false
+is_line kind (Line collection pattern outcome name) = kind outcome
+is_line kind (Part collection pattern code count) = false
+is_line kind (Code collection rule code count) = false
+is_line kind (Close collection patterns resolved unresolved refused) = false
+is_line kind (End collections patterns) = false
+
+-- how many `line` lines of this kind there are
+abbrev pub lines_that : (Outcome → Bool) → List Row → ℕ
+lines_that kind [] = 0
+lines_that kind (row ∷ rows) = (if is_line kind row then 1 else 0) + lines_that kind rows
+
+abbrev pub any : Outcome → Bool
+any outcome = true
+
+-- The `line` lines of the patterns after this one, in order, each with its `part` lines after it. These may follow this
+-- pattern too where it is ash.
+abbrev pub AreLines : ℕ → Bool → List Row → Type 0
+AreLines last ash [] = ⊤
+AreLines last ash (Open collection patterns name ∷ rows) = ⊥
+AreLines last ash (Line collection pattern outcome name ∷ rows) = (pattern ≡ last + 1) × AreLines (last + 1) (is_ash outcome) rows
+AreLines last ash (Part collection pattern code count ∷ rows) = (ash ≡ true) × (pattern ≡ last) × AreLines last ash rows
+AreLines last ash (Code collection rule code count ∷ rows) = ⊥
+AreLines last ash (Close collection patterns resolved unresolved refused ∷ rows) = ⊥
+AreLines last ash (End collections patterns ∷ rows) = ⊥
+
+abbrev pub IsOpen : Row → Type 0
+IsOpen (Open collection patterns name) = ⊤
+IsOpen (Line collection pattern outcome name) = ⊥
+IsOpen (Part collection pattern code count) = ⊥
+IsOpen (Code collection rule code count) = ⊥
+IsOpen (Close collection patterns resolved unresolved refused) = ⊥
+IsOpen (End collections patterns) = ⊥
+
+abbrev pub AreCodes : List Row → Type 0
+AreCodes [] = ⊤
+AreCodes (Open collection patterns name ∷ rows) = ⊥
+AreCodes (Line collection pattern outcome name ∷ rows) = ⊥
+AreCodes (Part collection pattern code count ∷ rows) = ⊥
+AreCodes (Code collection rule code count ∷ rows) = AreCodes rows
+AreCodes (Close collection patterns resolved unresolved refused ∷ rows) = ⊥
+AreCodes (End collections patterns ∷ rows) = ⊥
+
+-- The rows of a collection: `open`, the lines of its patterns, `code` lines, and `close`, which has the numbers of all
+-- lines, of `ok` and `ash`, of `none` and `large`, and of `bad` lines.
+pub record IsSection (rows : List Row) : Type 0 where
+  pub first : Row
+  pub lines : List Row
+  pub codes : List Row
+  pub collection : ℕ
+  pub whole : rows ≡ first ∷ (lines ++ (codes ++ Close collection (lines_that any lines) (lines_that is_resolved lines) (lines_that is_unresolved lines) (lines_that is_refused lines) ∷ []))
+  pub opens : IsOpen first
+  pub all : opened first ≡ lines_that any lines
+  pub ordered : AreLines 0 false lines
+  pub counts : AreCodes codes
+  pub few : lines_that any lines ≤ 65535
+
+-- the rows of this collection, in their order
+abbrev pub rows_of : ℕ → List Row → List Row
+rows_of collection [] = []
+rows_of collection (row ∷ rows) = if collection_of row == collection then row ∷ rows_of collection rows else rows_of collection rows
+
+-- each row is of a collection, from 1 to this one
+abbrev pub AreOf : ℕ → List Row → Type 0
+AreOf collections [] = ⊤
+AreOf collections (row ∷ rows) = (0 < collection_of row) × (collection_of row ≤ collections) × AreOf collections rows
+
+-- how many patterns the collections have
+abbrev pub patterns_in : List Row → ℕ
+patterns_in [] = 0
+patterns_in (row ∷ rows) = opened row + patterns_in rows
+
+-- The rows of a report: those of its collections' sections, interleaved in any way that keeps each section's order, and
+-- then `end`.
+pub record IsWhole (rows : List Row) : Type 0 where
+  pub body : List Row
+  pub collections : ℕ
+  pub whole : rows ≡ body ++ End collections (patterns_in body) ∷ []
+  pub owned : AreOf collections body
+  pub sections : (c : ℕ) → 0 < c → c ≤ collections → IsSection (rows_of c body)
+  pub few : collections ≤ 65535
+  pub fits : patterns_in body < 2 ^ 64
+
+abbrev pub AreWhole : List (List Row) → Type 0
+AreWhole [] = ⊤
+AreWhole (rows ∷ others) = IsWhole rows × AreWhole others
+
+abbrev pub joined : List (List Row) → List Row
+joined [] = []
+joined (rows ∷ others) = rows ++ joined others
+
+-- the rows of one report, or of several after one another
+pub record AreReports (rows : List Row) : Type 0 where
+  pub reports : List (List Row)
+  pub some : 0 < length reports
+  pub whole : rows ≡ joined reports
+  pub each : AreWhole reports

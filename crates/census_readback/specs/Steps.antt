@@ -1,0 +1,89 @@
+-- The rows of reports, one after the other.
+use Rattle.std.specs.Prelude.{ℕ, ◌+◌, ◌-◌, ◌^◌, Bool, true, false, ◌&&◌, ◌==◌, nat_lt, nat_le, if◌then◌else◌, Option, Some, None as Nothing, List, [], ◌∷◌, ◌++◌, length, replicate, slice_index_or, slice_set}
+use Rattle.std.specs.List.{list_all}
+use Rattle.census_rows.specs.declared.row.Row.{Row}
+use Rattle.census_rows.specs.declared.row.Row.TheVariants.{Open, Line, Part, Code, Close, End}
+use Rattle.census_readback.specs.declared.place.Place.{Place}
+use Rattle.census_readback.specs.declared.place.Place.TheVariants.{Before, Within, Behind}
+use Rattle.census_readback.specs.declared.progress.Progress.{Progress}
+use Rattle.census_readback.specs.Sections.{next}
+
+-- the collection that a row belongs to
+abbrev pub collection_of : Row → ℕ
+collection_of (Open collection patterns name) = collection
+collection_of (Line collection pattern outcome name) = collection
+collection_of (Part collection pattern code count) = collection
+collection_of (Code collection rule code count) = collection
+collection_of (Close collection patterns resolved unresolved refused) = collection
+collection_of (End collections patterns) = 0
+
+-- how many patterns a row opens
+abbrev pub opened : Row → ℕ
+opened (Open collection patterns name) = patterns
+opened (Line collection pattern outcome name) = 0
+opened (Part collection pattern code count) = 0
+opened (Code collection rule code count) = 0
+opened (Close collection patterns resolved unresolved refused) = 0
+opened (End collections patterns) = 0
+
+abbrev pub is_behind : Place → Bool
+is_behind Before = false
+is_behind (Within tally) = false
+is_behind Behind = true
+
+-- the place of the collection at an index
+abbrev pub place_at : List Place → ℕ → Place
+place_at places index = slice_index_or places index Before
+
+-- as many places at least
+abbrev pub padded : List Place → ℕ → List Place
+padded places count = places ++ replicate (count - length places) Before
+
+-- with this place of the collection at an index
+abbrev pub put : List Place → ℕ → Place → List Place
+put places index place = slice_set (padded places (index + 1)) index place
+
+-- the places of the collections, how many patterns these have, and whether the last row ended a report
+pub record Reading : Type 0 where
+  pub places : List Place
+  pub patterns : ℕ
+  pub ended : Bool
+
+abbrev pub reading_of : Progress → Reading
+reading_of progress = record { places = progress.places.items; patterns = progress.patterns; ended = progress.ended }
+
+-- before any row
+abbrev pub start : Reading
+start = record { places = []; patterns = 0; ended = false }
+
+-- after an `end` row: each collection is read to its end, and there are so many, with so many patterns
+abbrev pub end_step : Reading → ℕ → ℕ → Option Reading
+end_step s collections patterns =
+    if list_all is_behind s.places && ((length s.places == collections) && (s.patterns == patterns)) then Some (record { places = []; patterns = 0; ended = true }) else Nothing
+
+-- with a place of the collection at an index, and so many patterns more, as far as 64 bits go
+abbrev pub gone_on : Reading → ℕ → ℕ → Option Place → Option Reading
+gone_on s index patterns Nothing = Nothing
+gone_on s index patterns (Some place) =
+    if nat_lt (s.patterns + patterns) (2 ^ 64) then Some (record { places = put s.places index place; patterns = s.patterns + patterns; ended = false }) else Nothing
+
+-- after a row of a collection, whose number is 1 to 65,535
+abbrev pub section_step : Reading → Row → Option Reading
+section_step s row =
+    let index = collection_of row - 1 in
+    if nat_lt 0 (collection_of row) && nat_le (collection_of row) 65535 then gone_on s index (opened row) (next (place_at s.places index) row) else Nothing
+
+-- after a row, where it may stand here
+abbrev pub step : Reading → Row → Option Reading
+step s (Open collection patterns name) = section_step s (Open collection patterns name)
+step s (Line collection pattern outcome name) = section_step s (Line collection pattern outcome name)
+step s (Part collection pattern code count) = section_step s (Part collection pattern code count)
+step s (Code collection rule code count) = section_step s (Code collection rule code count)
+step s (Close collection patterns resolved unresolved refused) = section_step s (Close collection patterns resolved unresolved refused)
+step s (End collections patterns) = end_step s collections patterns
+
+-- The number, from this one on, of the first row that may not stand where it does. Where all may, and the last is no
+-- `end` row, it is that of the row that is missing.
+abbrev pub stray : Reading → ℕ → List Row → Option ℕ
+stray s number [] = if s.ended then Nothing else Some number
+stray s number (row ∷ rows) = elim (step s row) [ Nothing ↦ Some number | Some t ↦ stray t (number + 1) rows ]

@@ -1,0 +1,36 @@
+-- The lines of a text.
+use Rattle.std.specs.Prelude.{ℕ, List, [], ◌∷◌, ◌++◌, ◌≢◌, ⊤}
+use Rattle.census_rows.specs.declared.row.Row.{Row}
+use Rattle.census_rows.specs.Lines.{IsRow, SameRow, row_text}
+
+-- a row's line, with its LF
+abbrev pub line_of : Row → List ℕ
+line_of row = row_text row ++ 10 ∷ []
+
+-- the rows' lines, one after the other
+abbrev pub text_of : List Row → List ℕ
+text_of [] = []
+text_of (row ∷ rows) = line_of row ++ text_of rows
+
+-- no byte is LF
+abbrev pub HasNoFeed : List ℕ → Type 0
+HasNoFeed [] = ⊤
+HasNoFeed (byte ∷ bytes) = (byte ≢ 10) × HasNoFeed bytes
+
+-- the row stands on one line
+abbrev pub IsLine : Row → Type 0
+IsLine row = IsRow row × HasNoFeed (row_text row)
+
+abbrev pub AllLines : List Row → Type 0
+AllLines [] = ⊤
+AllLines (row ∷ rows) = IsLine row × AllLines rows
+
+-- no row's line stands at the start
+abbrev pub IsStuck : List ℕ → Type 0
+IsStuck text = (row : Row) (after : List ℕ) → IsLine row → text ≢ line_of row ++ after
+
+-- the rows say the same, one by one
+abbrev pub SameRows : List Row → List Row → Type 0
+SameRows [] [] = ⊤
+SameRows (row ∷ rows) (other ∷ others) = SameRow row other × SameRows rows others
+SameRows _ _ = ⊥

@@ -1,0 +1,62 @@
+//! The rows at the start of a text.
+ghost use Rattle.std.specs.Prelude.{◌≡◌, ◌==◌, ◌++◌, ◌<◌, ℕ, List, length, position, IfOk, IfSome, MatchOption};
+ghost use Rattle.census_rows.specs.declared.row.Row.{Row};
+ghost use Rattle.census_rows.specs.Lines.{SameRow};
+ghost use Rattle.census_readback.specs.Texts.{AllLines, IsLine, IsStuck, SameRows, line_of, text_of};
+
+use census_rows::read::read_row;
+use census_rows::row::Row;
+use std::alloc::{AllocError, Global};
+
+// A row, and what stands after its line.
+#[derive(Clone, Copy)]
+pub struct First<'a> {
+    pub row: Row<'a>,
+    pub rest: &'a [u8],
+}
+
+// Rows, and what stands after their lines.
+#[derive(Drop)]
+pub struct Front<'a> {
+    pub rows: Vec<Row<'a>>,
+    pub rest: &'a [u8],
+}
+
+// Where the first LF is.
+fn first_feed(text: &[u8]) -> Option<usize>
+    ensures { result ≡ position (λ byte. byte == 10) text.now }
+{
+    text.iter().position(|byte| *byte == b'\n')
+}
+
+// The row of the first line.
+fn first_row(text: &[u8]) -> Option<First>
+    ensures sound { IfSome result
+        (λ first. IsLine first.row × (text.now ≡ line_of first.row ++ first.rest.now)) }
+    ensures all { (row : Row) (after : List ℕ) → IsLine row → text.now ≡ line_of row ++ after
+        → MatchOption result ⊥ (λ first. SameRow first.row row × (first.rest.now ≡ after)) }
+{
+    let (line, behind) = text.split_at(first_feed(text)?);
+    let row = read_row(line)?;
+    Some(First {
+        row,
+        rest: &behind[1..],
+    })
+}
+
+// As many rows as stand at the start of a text.
+pub fn read_rows(alloc: Global, text: &[u8]) -> Result<Front, AllocError>
+    ensures sound { IfOk result (λ front. AllLines front.rows.items
+        × (text.now ≡ text_of front.rows.items ++ front.rest.now) × IsStuck front.rest.now) }
+    ensures all { (rows : List Row) (after : List ℕ) → AllLines rows
+        → text.now ≡ text_of rows ++ after → IsStuck after
+        → IfOk result (λ front. SameRows front.rows.items rows × (front.rest.now ≡ after)) }
+{
+    let mut rows = Vec::new(alloc);
+    let mut rest = text;
+    while let Some(first) = first_row(rest) {
+        rows.push(first.row)?;
+        rest = first.rest;
+    }
+    Ok(Front { rows, rest })
+}

@@ -1,0 +1,159 @@
+//! How far a report is read.
+ghost use Rattle.std.specs.Prelude.{◌≡◌, ◌<◌, ◌≤◌, ◌-◌, IfOk, OnOk, true, false, None, Some, IsTrue, IsFalse};
+ghost use Rattle.std.specs.List.{list_all};
+ghost use Rattle.census_readback.specs.Steps.{collection_of, end_step, is_behind, opened, padded, place_at, put, reading_of, section_step, start, step};
+
+use crate::place::{MOST, Place, next};
+use census_rows::row::Row;
+use std::alloc::{AllocError, Global};
+
+// The places of the collections, how many patterns these have, and whether the last row ended a
+// report.
+#[derive(Drop)]
+pub struct Progress {
+    pub places: Vec<Place>,
+    pub patterns: u64,
+    pub ended: bool,
+}
+
+// The number of the collection that a row belongs to.
+pub fn collection_of(row: &Row) -> u64
+    ensures { result ≡ collection_of row.now }
+{
+    match row {
+        Row::Open { collection, .. } => *collection,
+        Row::Line { collection, .. } => *collection,
+        Row::Part { collection, .. } => *collection,
+        Row::Code { collection, .. } => *collection,
+        Row::Close { collection, .. } => *collection,
+        Row::End { .. } => 0,
+    }
+}
+
+// How many patterns a row opens.
+fn opened(row: &Row) -> u64
+    ensures { result ≡ opened row.now }
+{
+    match row {
+        Row::Open { patterns, .. } => *patterns,
+        _ => 0,
+    }
+}
+
+// Whether a collection is read to its end.
+fn is_behind(place: &Place) -> bool
+    ensures { result ≡ is_behind place.now }
+{
+    match place {
+        Place::Behind => true,
+        _ => false,
+    }
+}
+
+// Whether each collection is read to its end.
+fn all_behind(places: &[Place]) -> bool
+    ensures { result ≡ list_all is_behind places.now }
+{
+    places.iter().all(|place| is_behind(place))
+}
+
+// The place of the collection at this index.
+fn place_at(places: &[Place], index: usize) -> Place
+    ensures { result ≡ place_at places.now index }
+{
+    if index < places.len() {
+        places[index]
+    } else {
+        Place::Before
+    }
+}
+
+// As many places at least.
+fn pad(places: &mut Vec<Place>, count: usize) -> Result<(), AllocError>
+    ensures { OnOk result (places.new.items ≡ padded places.old.items count) }
+{
+    while places.len() < count {
+        places.push(Place::Before)?;
+    }
+    Ok(())
+}
+
+// Writes the place of the collection at this index.
+fn put(places: &mut Vec<Place>, index: usize, place: Place) -> Result<(), AllocError>
+    requires { index < 65535 }
+    ensures { OnOk result (places.new.items ≡ put places.old.items index place) }
+{
+    pad(places, index + 1)?;
+    places[index] = place;
+    Ok(())
+}
+
+impl Progress {
+    pub fn start(alloc: Global) -> Self
+        ensures { reading_of result ≡ start }
+    {
+        Progress {
+            places: Vec::new(alloc),
+            patterns: 0,
+            ended: false,
+        }
+    }
+
+    // Takes the row that ends a report, where it may stand here.
+    fn end(&mut self, collections: u64, patterns: u64) -> bool
+        ensures yes { IsTrue result
+            → end_step (reading_of self.old) collections patterns ≡ Some (reading_of self.new) }
+        ensures no { IsFalse result
+            → end_step (reading_of self.old) collections patterns ≡ None }
+    {
+        let whole = all_behind(self.places.as_slice())
+            && self.places.len() as u64 == collections
+            && self.patterns == patterns;
+        if whole {
+            self.places.clear();
+            self.patterns = 0;
+            self.ended = true;
+        }
+        whole
+    }
+
+    // Takes a row of a collection, where it may stand here.
+    fn go_on(&mut self, row: &Row) -> Result<bool, AllocError>
+        ensures yes { IfOk result (λ taken. IsTrue taken
+            → section_step (reading_of self.old) row.now ≡ Some (reading_of self.new)) }
+        ensures no { IfOk result (λ taken. IsFalse taken
+            → section_step (reading_of self.old) row.now ≡ None) }
+    {
+        let collection = collection_of(row);
+        if collection == 0 || MOST < collection {
+            return Ok(false);
+        }
+        let index = collection as usize - 1;
+        let Some(place) = next(place_at(self.places.as_slice(), index), row) else {
+            return Ok(false);
+        };
+        let Some(patterns) = self.patterns.checked_add(opened(row)) else {
+            return Ok(false);
+        };
+        put(&mut self.places, index, place)?;
+        self.patterns = patterns;
+        self.ended = false;
+        Ok(true)
+    }
+
+    // Takes a row, where it may stand here.
+    pub fn take(&mut self, row: &Row) -> Result<bool, AllocError>
+        ensures yes { IfOk result (λ taken. IsTrue taken
+            → step (reading_of self.old) row.now ≡ Some (reading_of self.new)) }
+        ensures no { IfOk result (λ taken. IsFalse taken
+            → step (reading_of self.old) row.now ≡ None) }
+    {
+        match row {
+            Row::End {
+                collections,
+                patterns,
+            } => Ok(self.end(*collections, *patterns)),
+            _ => self.go_on(row),
+        }
+    }
+}

@@ -1,0 +1,55 @@
+//! Reports read back.
+//!
+//! A report is the sections of its collections, which have the numbers from 1 on, interleaved line
+//! by line in any way that keeps each section's order, and then its `end` line. Several reports may
+//! stand one after the other. A section is its `open` line, the lines of its patterns in order, the
+//! `part` lines of an `ash` line after it, its `code` lines, and its `close` line. Numbers of
+//! collections and patterns are at most 65,535. Whether a name or a code is lawful, and whether the
+//! counts of `part` and `code` lines add up, is not looked at.
+ghost use Rattle.std.specs.Prelude.{◌≡◌, ◌+◌, ◌<◌, ◌^◌, ℕ, List, length, IfOk, MatchResult};
+ghost use Rattle.census_rows.specs.declared.row.Row.{Row};
+ghost use Rattle.census_readback.specs.Reports.{IsFault, IsReport};
+ghost use Rattle.census_readback.specs.Steps.{start, stray};
+ghost use Rattle.census_readback.specs.Texts.{SameRows};
+
+use crate::lines::read_rows;
+use crate::progress::Progress;
+use census_rows::row::Row;
+use std::alloc::{AllocError, Global};
+
+// The number, from 1, of the first row that may not stand where it does.
+fn first_stray(alloc: Global, rows: &[Row]) -> Result<Option<usize>, AllocError>
+    requires { length rows.now < 2 ^ 63 }
+    ensures { IfOk result (λ number. number ≡ stray start 1 rows.now) }
+{
+    let mut progress = Progress::start(alloc);
+    for index in 0..rows.len() {
+        if !progress.take(&rows[index])? {
+            return Ok(Some(index + 1));
+        }
+    }
+    if progress.ended {
+        Ok(None)
+    } else {
+        Ok(Some(rows.len() + 1))
+    }
+}
+
+/// The rows of a report, or of several after one another. `Err` has the number of the first line,
+/// from 1, at which the text is no report: a line that is no row, a row that may not stand where it
+/// does, or the line that is missing after the last.
+pub fn read_report(alloc: Global, text: &[u8]) -> Result<Result<Vec<Row>, usize>, AllocError>
+    ensures sound { IfOk result (λ read. MatchResult read
+        (λ rows. IsReport rows.items text.now) (λ line. IsFault text.now line)) }
+    ensures all { (rows : List Row) → IsReport rows text.now
+        → IfOk result (λ read. MatchResult read (λ found. SameRows found.items rows) (λ line. ⊥)) }
+{
+    let front = read_rows(alloc, text)?;
+    if let Some(number) = first_stray(alloc, front.rows.as_slice())? {
+        return Ok(Err(number));
+    }
+    if !front.rest.is_empty() {
+        return Ok(Err(front.rows.len() + 1));
+    }
+    Ok(Ok(front.rows))
+}

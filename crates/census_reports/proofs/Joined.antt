@@ -1,0 +1,97 @@
+-- The rows of one text more.
+use Rattle.std.proofs.Common.{◌≡◌, ℕ, suc, ◌+◌, ◌<◌, ◌≤◌, List, [], ◌∷◌, ◌++◌, length, take, drop, get_or, refl, sym, ap, subst, ◌∙◌, append_assoc, append-nil, drop-cons, length-append, Result, Ok, Err, MatchResult, arith}
+use Rattle.std.specs.List.{AllZip}
+use Rattle.std.specs.declared.alloc.Global.{Global}
+use Rattle.std.specs.declared.vec.Vec.{Vec}
+use Rattle.std.proofs.lemmas.List.{length-take, length-take-le, take-append-drop, take_more}
+use Rattle.census_rows.specs.declared.row.Row.{Row}
+use Rattle.census_readback.specs.Reports.{IsFault, IsReport}
+use Rattle.census_readback.specs.Shapes.{AreReports, AreWhole, joined}
+use Rattle.census_readback.specs.Texts.{SameRows}
+use Rattle.census_reports.specs.Rows.{AreRowsOf, HasFault}
+
+pub rows_none : AreRowsOf [] []
+rows_none = record { parts = []; whole = refl; each = tt }
+
+joined-append : (xs ys : List (List Row)) → joined (xs ++ ys) ≡ joined xs ++ joined ys
+joined-append [] ys = refl
+joined-append (x ∷ xs) ys = ap (λ l. x ++ l) (joined-append xs ys) ∙ sym (append_assoc x (joined xs) (joined ys))
+
+zip_more : (parts : List (List Row)) (texts : List (List ℕ)) (own : List Row) (text : List ℕ) → AllZip IsReport parts texts → IsReport own text
+    → AllZip IsReport (parts ++ own ∷ []) (texts ++ text ∷ [])
+zip_more [] [] own text each is = (is, tt)
+zip_more [] (t ∷ texts) own text each is = absurd each
+zip_more (p ∷ parts) [] own text each is = absurd each
+zip_more (p ∷ parts) (t ∷ texts) own text each is = (each.0, zip_more parts texts own text each.1 is)
+
+rows_more : (rows own all : List Row) (texts : List (List ℕ)) (text : List ℕ) → AreRowsOf rows texts → IsReport own text → all ≡ rows ++ own
+    → AreRowsOf all (texts ++ text ∷ [])
+rows_more rows own all texts text before is e = record {
+  parts = before.parts ++ own ∷ [];
+  whole = e ∙ ap (λ l. l ++ own) before.whole ∙ ap (λ l. joined before.parts ++ l) (sym (append-nil own)) ∙ sym (joined-append before.parts (own ∷ []));
+  each = zip_more before.parts texts own text before.each is;
+}
+
+-- # Several reports
+
+whole_append : (xs ys : List (List Row)) → AreWhole xs → AreWhole ys → AreWhole (xs ++ ys)
+whole_append [] ys p q = q
+whole_append (x ∷ xs) ys p q = (p.0, whole_append xs ys p.1 q)
+
+reports_append : (xs ys : List Row) → AreReports xs → AreReports ys → AreReports (xs ++ ys)
+reports_append xs ys p q = record {
+  reports = p.reports ++ q.reports;
+  some = (let s = p.some in omega (arith, length-append p.reports q.reports));
+  whole = ap (λ l. l ++ ys) p.whole ∙ ap (λ l. joined p.reports ++ l) q.whole ∙ sym (joined-append p.reports q.reports);
+  each = whole_append p.reports q.reports p.each q.each;
+}
+
+reports_joined : (parts : List (List Row)) (texts : List (List ℕ)) → AllZip IsReport parts texts → 0 < length texts → AreReports (joined parts)
+reports_joined [] [] each some = absurd (omega arith)
+reports_joined [] (t ∷ texts) each some = absurd each
+reports_joined (p ∷ parts) [] each some = absurd each
+reports_joined (p ∷ []) (t ∷ []) each some = subst AreReports (sym (append-nil p)) each.0.shape
+reports_joined (p ∷ []) (t ∷ u ∷ texts) each some = absurd each.1
+reports_joined (p ∷ q ∷ parts) (t ∷ []) each some = absurd each.1
+reports_joined (p ∷ q ∷ parts) (t ∷ u ∷ texts) each some =
+    reports_append p (joined (q ∷ parts)) each.0.shape (reports_joined (q ∷ parts) (u ∷ texts) each.1 (omega arith))
+
+are_reports : (rows : List Row) (texts : List (List ℕ)) → AreRowsOf rows texts → 0 < length texts → AreReports rows
+are_reports rows texts is some = subst AreReports (sym is.whole) (reports_joined is.parts texts is.each some)
+
+-- # The texts of a list
+
+module _ (texts : List (List ℕ)) (i : ℕ) (d : List ℕ) (within : i < length texts) (rows : List Row) (before : AreRowsOf rows (take i texts)) where
+  next_rows : (own all : List Row) → IsReport own (get_or texts i d) → all ≡ rows ++ own → AreRowsOf all (take (i + 1) texts)
+  next_rows own all is e = subst (AreRowsOf all) (sym (take_more texts i d within)) (rows_more rows own all (take i texts) (get_or texts i d) before is e)
+
+  has_fault : (line : ℕ) → ((own : List Row) → IsReport own (get_or texts i d) → ⊥) → IsFault (get_or texts i d) line → HasFault (i + 1) line texts
+  has_fault line none first = record {
+    done = take i texts;
+    text = get_or texts i d;
+    left = drop (suc i) texts;
+    texts_are = sym (take-append-drop i texts) ∙ ap (λ l. take i texts ++ l) (drop-cons texts i d within);
+    number_is = (let l = length-take-le i texts (omega arith) in omega arith);
+    rows = rows;
+    before = before;
+    none = none;
+    first = first;
+  }
+
+  module _ (bytes : List ℕ) (e : bytes ≡ get_or texts i d) where
+    pub report_read : (read : Result (Vec Row Global) ℕ) (own : Vec Row Global) (all : List Row) → read ≡ Ok own
+        → MatchResult read (λ own. IsReport own.items bytes) (λ line. IsFault bytes line) → all ≡ rows ++ own.items → AreRowsOf all (take (i + 1) texts)
+    report_read read own all is sound more =
+        let report : IsReport own.items bytes = subst (λ r. MatchResult r (λ own. IsReport own.items bytes) (λ line. IsFault bytes line)) is sound in
+        next_rows own.items all (subst (IsReport own.items) e report) more
+
+    pub fault_read : (read : Result (Vec Row Global) ℕ) (line : ℕ) → read ≡ Err line → MatchResult read (λ own. IsReport own.items bytes) (λ line. IsFault bytes line)
+        → ((own : List Row) → IsReport own bytes → MatchResult read (λ found. SameRows found.items own) (λ line. ⊥)) → HasFault (i + 1) line texts
+    fault_read read line is sound all =
+        let fault : IsFault bytes line = subst (λ r. MatchResult r (λ own. IsReport own.items bytes) (λ line. IsFault bytes line)) is sound in
+        has_fault line
+        (λ own report. subst (λ r. MatchResult r (λ found. SameRows found.items own) (λ line. ⊥)) is (all own (subst (IsReport own) (sym e) report)))
+        (subst (λ t. IsFault t line) e fault)
+
+pub at_end : (rows : List Row) (texts : List (List ℕ)) (i : ℕ) → AreRowsOf rows (take i texts) → length texts ≤ i → 0 < length texts → AreReports rows
+at_end rows texts i is all some = are_reports rows (take i texts) is (let l = length-take i texts in omega arith)

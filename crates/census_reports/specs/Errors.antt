@@ -1,0 +1,19 @@
+-- The error that the fault of a reading is, and the exit status of each.
+use Rattle.std.specs.Prelude.{ℕ}
+use Rattle.watched.specs.declared.reading.ReadFault.{ReadFault}
+use Rattle.watched.specs.declared.reading.ReadFault.TheVariants as reads
+use Rattle.census_reports.specs.declared.error.ReportsError.{ReportsError}
+use Rattle.census_reports.specs.declared.error.ReportsError.TheVariants.{Fault, TooMany, TooLong, Memory, Read, Write}
+
+abbrev pub error_of_read : ReadFault → ReportsError
+error_of_read reads.Read = Read
+error_of_read reads.TooLong = TooLong
+error_of_read reads.Memory = Memory
+
+abbrev pub status_of : ReportsError → ℕ
+status_of (Fault text line) = 1
+status_of (TooMany report) = 1
+status_of TooLong = 1
+status_of Memory = 3
+status_of Read = 4
+status_of Write = 4

@@ -1,0 +1,52 @@
+-- What is made of reports.
+use Rattle.std.specs.Prelude.{◌≡◌, ℕ, List, Some, None}
+use Rattle.census_rows.specs.declared.row.Row.{Row}
+use Rattle.census_readback.specs.Texts.{text_of}
+use Rattle.census_merge.specs.Merged.{merged}
+use Rattle.census_merge.specs.Sums.{first_excess, none}
+use Rattle.census_table.specs.Entries.{entries_of}
+use Rattle.census_table.specs.Tables.{csv_text, json_text}
+use Rattle.census_reports.specs.Rows.{AreRowsOf, HasFault}
+use Rattle.census_reports.specs.declared.error.ReportsError.{ReportsError}
+use Rattle.census_reports.specs.declared.error.ReportsError.TheVariants.{Fault, TooMany, Memory}
+use Rattle.census_reports.specs.declared.form.Form.{Form}
+use Rattle.census_reports.specs.declared.form.Form.TheVariants.{Merged, Csv, Json}
+
+-- what is written of the rows of reports that stand one after another
+abbrev pub IsMade : Form → List Row → List ℕ → Type 0
+IsMade Merged rows text = (first_excess 1 none rows ≡ None) × (text ≡ text_of (merged rows))
+IsMade Csv rows text = text ≡ csv_text (entries_of rows)
+IsMade Json rows text = text ≡ json_text (entries_of rows)
+
+-- a report with which there are too many collections for one report
+abbrev pub Exceeds : Form → List Row → ℕ → Type 0
+Exceeds Merged rows report = first_excess 1 none rows ≡ Some report
+Exceeds Csv rows report = ⊥
+Exceeds Json rows report = ⊥
+
+-- why nothing is written of rows
+abbrev pub RefusesRows : ReportsError → Form → List Row → Type 0
+RefusesRows (TooMany report) form rows = Exceeds form rows report
+RefusesRows Memory form rows = Unit {0}
+RefusesRows error form rows = ⊥
+
+-- # Of texts
+
+-- each text is a report, or several, and this is what is made of all their rows
+pub record IsMadeOf (form : Form) (texts : List (List ℕ)) (made : List ℕ) : Type 0 where
+  pub rows : List Row
+  pub reports : AreRowsOf rows texts
+  pub is : IsMade form rows made
+
+-- each text is a report, or several, and with one of these there are too many collections for one report
+pub record ExceedsIn (form : Form) (texts : List (List ℕ)) (report : ℕ) : Type 0 where
+  pub rows : List Row
+  pub reports : AreRowsOf rows texts
+  pub excess : Exceeds form rows report
+
+-- why nothing is written of texts
+abbrev pub RefusesTexts : ReportsError → Form → List (List ℕ) → Type 0
+RefusesTexts (Fault number line) form texts = HasFault number line texts
+RefusesTexts (TooMany report) form texts = ExceedsIn form texts report
+RefusesTexts Memory form texts = Unit {0}
+RefusesTexts error form texts = ⊥

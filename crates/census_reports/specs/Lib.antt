@@ -1,0 +1,6 @@
+pub mod Streams
+pub mod Errors
+pub mod Texts
+pub mod Rows
+pub mod Forms
+pub mod Outcomes

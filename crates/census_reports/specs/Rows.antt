@@ -1,0 +1,33 @@
+-- The rows of texts that are reports.
+use Rattle.std.specs.Prelude.{◌≡◌, ℕ, ◌+◌, List, ◌∷◌, ◌++◌, length}
+use Rattle.std.specs.List.{AllZip}
+use Rattle.census_rows.specs.declared.row.Row.{Row}
+use Rattle.census_readback.specs.Reports.{IsFault, IsReport}
+use Rattle.census_readback.specs.Shapes.{joined}
+use Rattle.census_reports.specs.declared.error.ReportsError.{ReportsError}
+use Rattle.census_reports.specs.declared.error.ReportsError.TheVariants.{Fault, Memory}
+
+-- Each text is a report, or several, and these are the rows of all.
+pub record AreRowsOf (rows : List Row) (texts : List (List ℕ)) : Type 0 where
+  pub parts : List (List Row)
+  pub whole : rows ≡ joined parts
+  pub each : AllZip IsReport parts texts
+
+-- Each text before the one of this number, from 1, is a report, or several. That one is not, and this is the first of its
+-- lines that is wrong, from 1.
+pub record HasFault (number line : ℕ) (texts : List (List ℕ)) : Type 0 where
+  pub done : List (List ℕ)
+  pub text : List ℕ
+  pub left : List (List ℕ)
+  pub texts_are : texts ≡ done ++ text ∷ left
+  pub number_is : number ≡ length done + 1
+  pub rows : List Row
+  pub before : AreRowsOf rows done
+  pub none : (own : List Row) → IsReport own text → ⊥
+  pub first : IsFault text line
+
+-- why texts have no rows
+abbrev pub LackRows : ReportsError → List (List ℕ) → Type 0
+LackRows (Fault number line) texts = HasFault number line texts
+LackRows Memory texts = Unit {0}
+LackRows error texts = ⊥

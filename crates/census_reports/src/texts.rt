@@ -1,0 +1,69 @@
+//! The texts of files, and of standard input.
+ghost use Rattle.std.specs.Prelude.{◌≡◌, ◌+◌, [], false, map, IfErr, IfOk, OnOk};
+ghost use Rattle.watched.specs.Watching.{ConsumesAtMost, has_failed, inner_of};
+ghost use Rattle.census_identify.specs.Hearing.{Hears};
+ghost use Rattle.census_identify.specs.Identifies.{asked};
+ghost use Rattle.census_identify.specs.Streams.{source};
+ghost use Rattle.census_identify.specs.declared.heard.Heard.TheVariants.{Text};
+ghost use Rattle.census_reports.specs.Texts.{ReadsEach, RefusesWord, StopsReading};
+
+use crate::error::ReportsError;
+use census_folders::shelf::Shelf;
+use census_identify::bytes::Bytes;
+use census_identify::heard::{TEXT_LIMIT, is_input, read_file};
+use std::alloc::Global;
+use std::io::Read;
+use watched::reading::read_all;
+use watched::watched::Watched;
+
+// Standard input alone, where there is no word.
+pub fn asked<'a, 'b>(words: &'a [&'b str]) -> &'a [&'b str]
+    ensures { map (λ s. s.now) result.now ≡ asked (map (λ s. s.now) words.now) }
+{
+    if words.is_empty() { &["-"] } else { words }
+}
+
+// The text of a word: of `-` what standard input has left, of any other word that of the file of this path.
+fn read_text<S: Shelf, I: Read>(
+    shelf: &S,
+    alloc: Global,
+    word: &str,
+    input: &mut Watched<I>,
+) -> Result<Vec<u8>, ReportsError>
+    requires { has_failed input.old ≡ false }
+    ensures read { IfOk result (λ bytes. Hears (S.held shelf.now []) word.now (Text bytes.items)
+        (source I.remaining input.old) (source I.remaining input.new)) }
+    ensures sound { OnOk result (has_failed input.new ≡ false) }
+    ensures taken { ConsumesAtMost (TEXT_LIMIT + 1)
+        (I.remaining (inner_of input.old)) (I.remaining (inner_of input.new)) }
+    ensures fault { IfErr result (λ error. RefusesWord error (S.held shelf.now []) word.now
+        (source I.remaining input.old) (source I.remaining input.new)) }
+{
+    if is_input(word) {
+        Ok(read_all(alloc, input, TEXT_LIMIT)?)
+    } else {
+        Ok(read_file(shelf, alloc, word.as_bytes())?)
+    }
+}
+
+// The texts of words, in their order.
+pub fn read_texts<S: Shelf, I: Read>(
+    shelf: &S,
+    alloc: Global,
+    words: &[&str],
+    input: &mut Watched<I>,
+) -> Result<Vec<Bytes>, ReportsError>
+    requires { has_failed input.old ≡ false }
+    ensures read { IfOk result (λ texts. ReadsEach (S.held shelf.now []) (map (λ s. s.now) words.now) texts.items
+        (source I.remaining input.old) (source I.remaining input.new)) }
+    ensures sound { OnOk result (has_failed input.new ≡ false) }
+    ensures fault { IfErr result (λ error. StopsReading error (S.held shelf.now []) (map (λ s. s.now) words.now)
+        (source I.remaining input.old) (source I.remaining input.new)) }
+{
+    let mut texts = Vec::new(alloc);
+    for word in words {
+        let text = read_text(shelf, alloc, word, input)?;
+        texts.push(Bytes::new(text))?;
+    }
+    Ok(texts)
+}

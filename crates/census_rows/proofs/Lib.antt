@@ -1,0 +1,3 @@
+pub mod Behind
+pub mod Blanks
+pub mod FirstWords

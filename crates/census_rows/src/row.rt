@@ -1,0 +1,82 @@
+//! The lines of a report.
+
+/// What a `line` line says of a pattern.
+#[derive(Clone, Copy)]
+pub enum Outcome<'a> {
+    /// It recurs.
+    Ok {
+        rule: &'a [u8],
+        population: u64,
+        onset: u64,
+        period: u64,
+        dx: i64,
+        dy: i64,
+        code: &'a [u8],
+    },
+    /// It has fallen apart.
+    Ash {
+        rule: &'a [u8],
+        population: u64,
+        objects: u64,
+    },
+    /// It does neither within the bound.
+    None {
+        rule: &'a [u8],
+        population: u64,
+    },
+    /// A generation has more cells than are allowed.
+    Large {
+        rule: &'a [u8],
+        population: u64,
+        generation: u64,
+    },
+    /// Its text has a fault.
+    Bad {
+        fault: u64,
+    },
+}
+
+/// A line of a report.
+#[derive(Clone, Copy)]
+pub enum Row<'a> {
+    /// A collection begins.
+    Open {
+        collection: u64,
+        patterns: u64,
+        name: &'a [u8],
+    },
+    /// What was found of a pattern.
+    Line {
+        collection: u64,
+        pattern: u64,
+        outcome: Outcome<'a>,
+        name: &'a [u8],
+    },
+    /// How many parts of a pattern are one object.
+    Part {
+        collection: u64,
+        pattern: u64,
+        code: &'a [u8],
+        count: u64,
+    },
+    /// How often an object is in a collection.
+    Code {
+        collection: u64,
+        rule: &'a [u8],
+        code: &'a [u8],
+        count: u64,
+    },
+    /// A collection ends.
+    Close {
+        collection: u64,
+        patterns: u64,
+        resolved: u64,
+        unresolved: u64,
+        refused: u64,
+    },
+    /// The report ends.
+    End {
+        collections: u64,
+        patterns: u64,
+    },
+}

@@ -1,0 +1,60 @@
+-- No value of a table is a float.
+use Rattle.std.proofs.Common.{◌≡◌, ℕ, ℤ, pos, negsuc, Bool, true, false, ◌||◌, List, [], ◌∷◌, Option, Some, None, refl}
+use Rattle.std.specs.Ordering.{match_ordering, nat_cmp}
+use Rattle.std.specs.Cmp.Lexicographic.{slice_cmp}
+use Rattle.std.specs.declared.cmp.Ordering.{Ordering}
+use Rattle.std.specs.declared.cmp.Ordering.TheVariants.{Less, Equal, Greater}
+use Rattle.serde_json.specs.Data.{Data, Members, member, no_members, number, object, put}
+use Rattle.serde_json.specs.Find.{of_integer}
+use Rattle.serde_json.specs.Written.{has_float, members_have_float}
+use Rattle.census_table.specs.Columns.{cell_of, columns, name_of}
+use Rattle.census_table.specs.Contents.{Content, content_data, count, data_or_null, hex, hex_of, nothing, shift, text}
+use Rattle.census_table.specs.Tables.{entry_members, with_columns}
+use Rattle.census_table.specs.declared.column.Column.{Column}
+use Rattle.census_table.specs.declared.entry.Entry.{Entry}
+
+neither : (a b : Bool) → (a || b) ≡ false → (a ≡ false) × (b ≡ false)
+neither true b h = absurd (cc)
+neither false b h = (refl, h)
+
+both : (a b : Bool) → a ≡ false → b ≡ false → (a || b) ≡ false
+both true b h g = absurd (cc)
+both false b h g = g
+
+choose : (o : Ordering) (a b c : Members) → members_have_float a ≡ false → members_have_float b ≡ false → members_have_float c ≡ false
+    → members_have_float (match_ordering o a b c) ≡ false
+choose Less a b c x y z = x
+choose Equal a b c x y z = y
+choose Greater a b c x y z = z
+
+put-floatless : (k : List ℕ) (d : Data) (ms : Members) → has_float d ≡ false → members_have_float ms ≡ false → members_have_float (put k d ms) ≡ false
+put-floatless k d no_members x y = both (has_float d) false x refl
+put-floatless k d (member l e ms) x y =
+    let parts = neither (has_float e) (members_have_float ms) y in
+    choose (slice_cmp nat_cmp k l) (member k d (member l e ms)) (member l d ms) (member l e (put k d ms))
+    (both (has_float d) (members_have_float (member l e ms)) x y)
+    (both (has_float d) (members_have_float ms) x parts.1)
+    (both (has_float e) (members_have_float (put k d ms)) parts.0 (put-floatless k d ms x parts.1))
+
+shift-floatless : (z : ℤ) → has_float (number (of_integer z)) ≡ false
+shift-floatless (pos n) = refl
+shift-floatless (negsuc n) = refl
+
+option-floatless : (o : Option (List ℕ)) → has_float (data_or_null o) ≡ false
+option-floatless None = refl
+option-floatless (Some bytes) = refl
+
+content-floatless : (x : Content) → has_float (content_data x) ≡ false
+content-floatless nothing = refl
+content-floatless (count n) = refl
+content-floatless (shift z) = shift-floatless z
+content-floatless (text bytes) = refl
+content-floatless (hex bytes) = option-floatless (hex_of bytes)
+
+with-floatless : (entry : Entry) (cs : List Column) (ms : Members) → members_have_float ms ≡ false → members_have_float (with_columns entry cs ms) ≡ false
+with-floatless entry [] ms h = h
+with-floatless entry (c ∷ cs) ms h =
+    with-floatless entry cs (put (name_of c) (content_data (cell_of c entry)) ms) (put-floatless (name_of c) (content_data (cell_of c entry)) ms (content-floatless (cell_of c entry)) h)
+
+pub entry-floatless : (entry : Entry) → has_float (object (entry_members entry)) ≡ false
+entry-floatless entry = with-floatless entry columns no_members refl

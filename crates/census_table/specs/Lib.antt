@@ -1,0 +1,5 @@
+pub mod Columns
+pub mod Contents
+pub mod Entries
+pub mod Tables
+pub mod Written

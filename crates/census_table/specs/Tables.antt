@@ -1,0 +1,39 @@
+-- The texts of tables.
+use Rattle.std.specs.Prelude.{ℕ, List, [], ◌∷◌, ◌++◌, map}
+use Rattle.csv.specs.Writing.{default_writer, row_text}
+use Rattle.serde_json.specs.Data.{Members, no_members, object, put}
+use Rattle.serde_json.specs.Written.{compact_text}
+use Rattle.census_table.specs.Columns.{cell_of, columns, name_of}
+use Rattle.census_table.specs.Contents.{content_bytes, content_data}
+use Rattle.census_table.specs.declared.column.Column.{Column}
+use Rattle.census_table.specs.declared.entry.Entry.{Entry}
+
+-- the names of the columns, and their fields in the row of a pattern
+abbrev pub header : List (List ℕ)
+header = map name_of columns
+
+abbrev pub entry_fields : Entry → List (List ℕ)
+entry_fields entry = map (λ column. content_bytes (cell_of column entry)) columns
+
+-- a record for each pattern, as the crate `csv` writes it by default
+abbrev pub csv_records : List Entry → List ℕ
+csv_records [] = []
+csv_records (entry ∷ entries) = row_text default_writer (entry_fields entry) ++ csv_records entries
+
+-- the same, after a record of the columns' names
+abbrev pub csv_text : List Entry → List ℕ
+csv_text entries = row_text default_writer header ++ csv_records entries
+
+-- the members, with those of these columns
+abbrev pub with_columns : Entry → List Column → Members → Members
+with_columns entry [] members = members
+with_columns entry (column ∷ others) members = with_columns entry others (put (name_of column) (content_data (cell_of column entry)) members)
+
+-- what an object has of a pattern: a member for each column
+abbrev pub entry_members : Entry → Members
+entry_members entry = with_columns entry columns no_members
+
+-- an object and an LF for each pattern, as `serde_json` writes it without blanks
+abbrev pub json_text : List Entry → List ℕ
+json_text [] = []
+json_text (entry ∷ entries) = (compact_text (object (entry_members entry)) ++ 10 ∷ []) ++ json_text entries

@@ -1,0 +1,113 @@
+//! Tables as comma-separated values.
+ghost use Rattle.std.specs.Prelude.{◌≡◌, ◌++◌, map, IfOk, OnOk};
+ghost use Rattle.csv.specs.Records.{fields_of};
+ghost use Rattle.csv.specs.Writing.{default_writer, row_text};
+ghost use Rattle.census_readback.specs.Shapes.{AreReports};
+ghost use Rattle.census_table.specs.Columns.{cell_of, name_of};
+ghost use Rattle.census_table.specs.Contents.{content_bytes};
+ghost use Rattle.census_table.specs.Entries.{entries_of};
+ghost use Rattle.census_table.specs.Tables.{csv_records, csv_text, entry_fields, header};
+ghost use Rattle.census_table.specs.Written.{IsBetween, written};
+
+use crate::column::Column;
+use crate::entry::{Entry, entries};
+use census_rows::row::Row;
+use csv::{ByteRecord, Writer};
+use std::alloc::{AllocError, Global};
+
+// The names of these columns.
+fn names(alloc: Global, columns: &[Column]) -> Result<ByteRecord, AllocError>
+    ensures { IfOk result (λ names. fields_of names ≡ map name_of columns.now) }
+{
+    let mut names = ByteRecord::new(alloc);
+    for column in columns {
+        names.push_field(column.name().as_bytes())?;
+    }
+    Ok(names)
+}
+
+// The fields of a pattern in these columns.
+fn fields(alloc: Global, entry: &Entry, columns: &[Column]) -> Result<ByteRecord, AllocError>
+    ensures { IfOk result (λ fields. fields_of fields
+        ≡ map (λ column. content_bytes (cell_of column entry.now)) columns.now) }
+{
+    let mut fields = ByteRecord::new(alloc);
+    for column in columns {
+        let text = column.cell(entry).to_text(alloc)?;
+        fields.push_field(text.as_bytes())?;
+    }
+    Ok(fields)
+}
+
+// Writes a record.
+fn write(writer: &mut Writer<Vec<u8>>, fields: &ByteRecord) -> Result<(), AllocError>
+    requires { IsBetween writer.old }
+    ensures between { OnOk result (IsBetween writer.new) }
+    ensures text { OnOk result (written writer.new
+        ≡ written writer.old ++ row_text default_writer (fields_of fields.now)) }
+{
+    match writer.write_byte_record(fields) {
+        Ok(()) => Ok(()),
+        Err(_) => Err(AllocError),
+    }
+}
+
+// Writes the record of a pattern.
+fn push_entry(alloc: Global, writer: &mut Writer<Vec<u8>>, entry: &Entry) -> Result<(), AllocError>
+    requires { IsBetween writer.old }
+    ensures between { OnOk result (IsBetween writer.new) }
+    ensures text { OnOk result (written writer.new
+        ≡ written writer.old ++ row_text default_writer (entry_fields entry.now)) }
+{
+    let fields = fields(alloc, entry, &Column::ALL)?;
+    write(writer, &fields)
+}
+
+// Writes a record for each pattern.
+fn push_entries(
+    alloc: Global,
+    writer: &mut Writer<Vec<u8>>,
+    entries: &[Entry],
+) -> Result<(), AllocError>
+    requires { IsBetween writer.old }
+    ensures { OnOk result (written writer.new ≡ written writer.old ++ csv_records entries.now) }
+{
+    for entry in entries {
+        push_entry(alloc, writer, entry)?;
+    }
+    Ok(())
+}
+
+// A writer that has written the names of the columns.
+fn start(alloc: Global) -> Result<Writer<Vec<u8>>, AllocError>
+    ensures between { IfOk result IsBetween }
+    ensures text { IfOk result (λ writer. written writer ≡ row_text default_writer header) }
+{
+    let mut writer = Writer::from_writer(Vec::new(alloc));
+    let names = names(alloc, &Column::ALL)?;
+    write(&mut writer, &names)?;
+    Ok(writer)
+}
+
+// What was written.
+fn finish(writer: Writer<Vec<u8>>) -> Result<Vec<u8>, AllocError>
+    ensures { IfOk result (λ text. text.items ≡ written writer) }
+{
+    match writer.into_inner() {
+        Ok(text) => Ok(text),
+        Err(_) => Err(AllocError),
+    }
+}
+
+/// The patterns of a report, or of several after one another, as comma-separated values: a record
+/// of the columns' names, and one for each pattern, in the order of `entries`. It is UTF-8, and a
+/// record ends with LF. The only error is out of memory.
+pub fn csv_table(alloc: Global, rows: &[Row]) -> Result<Vec<u8>, AllocError>
+    requires { AreReports rows.now }
+    ensures { IfOk result (λ text. text.items ≡ csv_text (entries_of rows.now)) }
+{
+    let entries = entries(alloc, rows)?;
+    let mut writer = start(alloc)?;
+    push_entries(alloc, &mut writer, entries.as_slice())?;
+    finish(writer)
+}

@@ -1,0 +1,142 @@
+-- The codes of answers have no blank.
+use Rattle.std.proofs.Common.{ℕ, Bool, true, false, cond, not, Option, Some, None, Result, Ok, Err, List, [], ◌∷◌, map, count_by, replicate}
+use Rattle.std.specs.Prelude.{⊤}
+use Rattle.std.specs.List.{AllByRecursion as Each, fold}
+use Rattle.std.specs.declared.cmp.Ordering.{Ordering}
+use Rattle.std.specs.declared.cmp.Ordering.TheVariants.{Less, Equal, Greater}
+use Rattle.census_bundle.specs.declared.bundle.Entry.{Entry}
+use Rattle.census_book.specs.Lines.{answer_to_entry, answers}
+use Rattle.census_book.specs.Objects.{Object, distinct, object, objects, part_objects, tally}
+use Rattle.life_answer.specs.Answers.{finding_at, finding_from, finding_of}
+use Rattle.life_answer.specs.Census.{census_found, census_of, code_found, part_code}
+use Rattle.life_answer.specs.Limited.{unless_large}
+use Rattle.life_answer.specs.Parts.{beside, with_code}
+use Rattle.life_answer.specs.Questions.{answer_to, answer_to_question, finding_to}
+use Rattle.life_answer.specs.declared.finding.Answer.{Answer}
+use Rattle.life_answer.specs.declared.finding.Answer.TheVariants.{Found, Refused}
+use Rattle.life_answer.specs.declared.finding.Finding.{Finding}
+use Rattle.life_answer.specs.declared.finding.Finding.TheVariants.{Recurs, Unresolved, Large, Ash}
+use Rattle.life_answer.specs.declared.part.Part.{Part}
+use Rattle.life_answer.specs.declared.question.Question.{Question}
+use Rattle.life_answer.specs.declared.question.Question.TheVariants.{Objects, Settles}
+use Rattle.life_decided.specs.Decided.{ash_of}
+use Rattle.life_model.specs.Evolution.{generation}
+use Rattle.life_model.specs.Generation.{Generation, size}
+use Rattle.life_model.specs.Rule.{Rule}
+use Rattle.life_shape.specs.TextOrder.{shorter_cmp}
+use Rattle.life_text.specs.Picture.{Picture}
+use Rattle.life_text.specs.declared.rle.RleFault.{RleFault}
+use Rattle.report_laws.proofs.Solid.{IsSolid, code-solid, each-append, each-filter, each-map, each-replicate}
+
+abbrev pub IsSolidPart : Part → Type 0
+IsSolidPart part = IsSolid part.code
+
+abbrev pub IsCoded : Finding → Type 0
+IsCoded (Recurs population onset period dx dy code) = IsSolid code
+IsCoded (Unresolved population) = ⊤
+IsCoded (Large population generation) = ⊤
+IsCoded (Ash population parts) = Each IsSolidPart parts
+
+abbrev pub IsCodedAnswer : Answer → Type 0
+IsCodedAnswer (Found rule finding) = IsCoded finding
+IsCodedAnswer (Refused number) = ⊤
+
+at-coded : (R : Rule) (G : Generation) (onset : ℕ) (period : Option ℕ) → IsCoded (finding_at R G onset period)
+at-coded R G onset None = tt
+at-coded R G onset (Some period) = code-solid R _ period _
+
+from-coded : (R : Rule) (G : Generation) (b : ℕ) (onset : Option ℕ) → IsCoded (finding_from R G b onset)
+from-coded R G b None = tt
+from-coded R G b (Some onset) = at-coded R G onset _
+
+finding-coded : (R : Rule) (G : Generation) (b : ℕ) → IsCoded (finding_of R G b)
+unfolding finding_of
+finding-coded R G b = from-coded R G b _
+
+found-solid : (found : Finding) → IsCoded found → IsSolid (code_found found)
+found-solid (Recurs population onset period dx dy code) h = h
+found-solid (Unresolved population) h = tt
+found-solid (Large population generation) h = tt
+found-solid (Ash population parts) h = tt
+
+beside-solid : (order : Ordering) (code : List ℕ) (part : Part) (parts rest : List Part)
+    → IsSolid code → Each IsSolidPart (part ∷ parts) → Each IsSolidPart rest → Each IsSolidPart (beside order code part parts rest)
+beside-solid Less code part parts rest h k l = (h, k)
+beside-solid Equal code part parts rest h k l = (k.0, k.1)
+beside-solid Greater code part parts rest h k l = (k.0, l)
+
+with-solid : (code : List ℕ) (parts : List Part) → IsSolid code → Each IsSolidPart parts → Each IsSolidPart (with_code code parts)
+with-solid code [] h k = (h, tt)
+with-solid code (part ∷ parts) h k =
+    beside-solid (shorter_cmp code part.code) code part parts (with_code code parts) h k (with-solid code parts h k.1)
+
+counted-solid : (codes : List (List ℕ)) (parts : List Part) → Each IsSolid codes → Each IsSolidPart parts
+    → Each IsSolidPart (fold (λ parts code. with_code code parts) parts codes)
+counted-solid [] parts h k = k
+counted-solid (code ∷ codes) parts h k = counted-solid codes (with_code code parts) h.1 (with-solid code parts h.0 k)
+
+census-found-coded : (R : Rule) (b population : ℕ) (parts : Option (List Generation)) → IsCoded (census_found R b population parts)
+census-found-coded R b population None = tt
+census-found-coded R b population (Some parts) =
+    counted-solid (map (part_code R b) parts) [] (each-map IsSolid (part_code R b) (λ P. found-solid (finding_of R P b) (finding-coded R P b)) parts) tt
+
+census-coded : (R : Rule) (G : Generation) (b : ℕ) → IsCoded (census_of R G b)
+unfolding census_of
+census-coded R G b = census-found-coded R b (size G) (ash_of R b (generation R G b))
+
+unless-coded : (found : Finding) (population : ℕ) (large : Option ℕ) → IsCoded found → IsCoded (unless_large found population large)
+unless-coded found population None h = h
+unless-coded found population (Some n) h = tt
+
+finding-to-coded : (question : Question) (R : Rule) (G : Generation) → IsCoded (finding_to question R G)
+finding-to-coded (Settles bound cells) R G = unless-coded (finding_of R G bound) _ _ (finding-coded R G bound)
+finding-to-coded (Objects bound cells) R G = unless-coded (census_of R G bound) _ _ (census-coded R G bound)
+
+answer-to-coded : (question : Question) (read : Result Picture RleFault) → IsCodedAnswer (answer_to question read)
+answer-to-coded question (Ok pattern) = finding-to-coded question pattern.rule pattern.cells
+answer-to-coded question (Err fault) = tt
+
+question-coded : (question : Question) (text : List ℕ) → IsCodedAnswer (answer_to_question question text)
+unfolding answer_to_question
+question-coded question text = answer-to-coded question _
+
+pub entry-coded : (question : Question) (e : Entry) → IsCodedAnswer (answer_to_entry question e)
+unfolding answer_to_entry
+entry-coded question e =
+    elim e.is_lost as (λ v. IsCodedAnswer (cond v (Refused 0) (answer_to_question question e.text))) [
+      | true ↦ tt
+      | false ↦ question-coded question e.text
+    ]
+
+abbrev pub IsSolidObject : Object → Type 0
+IsSolidObject o = IsSolid o.code
+
+parts-coded : (rule : Rule) (parts : List Part) → Each IsSolidPart parts → Each IsSolidObject (part_objects rule parts)
+parts-coded rule [] h = tt
+parts-coded rule (part ∷ parts) h =
+    each-append IsSolidObject (replicate part.count (object rule part.code)) (part_objects rule parts)
+    (each-replicate IsSolidObject part.count (object rule part.code) h.0) (parts-coded rule parts h.1)
+
+objects-coded : (found : List Answer) → Each IsCodedAnswer found → Each IsSolidObject (objects found)
+objects-coded [] h = tt
+objects-coded (Found rule (Recurs population onset period dx dy code) ∷ found) h = (h.0, objects-coded found h.1)
+objects-coded (Found rule (Unresolved population) ∷ found) h = objects-coded found h.1
+objects-coded (Found rule (Large population generation) ∷ found) h = objects-coded found h.1
+objects-coded (Found rule (Ash population parts) ∷ found) h =
+    each-append IsSolidObject (part_objects rule parts) (objects found) (parts-coded rule parts h.0) (objects-coded found h.1)
+objects-coded (Refused number ∷ found) h = objects-coded found h.1
+
+distinct-each : {A : Type 0} (P : A → Type 0) (same : A → A → Bool) (xs : List A) → Each P xs → Each P (distinct same xs)
+distinct-each P same [] h = tt
+distinct-each P same (x ∷ xs) h = (h.0, each-filter P (λ y. not (same x y)) (distinct same xs) (distinct-each P same xs h.1))
+
+counted-each : {A : Type 0} (P : A → Type 0) (f : A → ℕ) (xs : List A) → Each P xs → Each (λ (x : A × ℕ). P x.0) (map (λ x. (x, f x)) xs)
+counted-each P f [] h = tt
+counted-each P f (x ∷ xs) h = (h.0, counted-each P f xs h.1)
+
+pub tally-coded : (same : Object → Object → Bool) (question : Question) (es : List Entry)
+    → Each (λ (counted : Object × ℕ). IsSolidObject counted.0) (tally same (objects (answers question es)))
+tally-coded same question es =
+    let all = objects-coded (answers question es) (each-map IsCodedAnswer (answer_to_entry question) (entry-coded question) es) in
+    counted-each IsSolidObject (λ x. count_by (same x) (objects (answers question es))) (distinct same (objects (answers question es)))
+    (distinct-each IsSolidObject same (objects (answers question es)) all)

@@ -1,0 +1,73 @@
+-- Reports of bundles that fit together are merged.
+use Rattle.std.proofs.Common.{◌≡◌, ℕ, ◌+◌, ◌-◌, ◌*◌, ◌<◌, ◌≤◌, ◌^◌, ◌&&◌, cond, leb, Option, Some, None as Nothing, List, [], ◌∷◌, ◌++◌, ap, ◌∙◌, refl, arith, length, length-append, append_assoc}
+use Rattle.std.proofs.lemmas.Bool.{le-leb}
+use Rattle.census_bundle.specs.declared.bundle.Folder.{Folder}
+use Rattle.census_book.specs.Lines.{pattern_count}
+use Rattle.census_merge.specs.declared.sums.Sums.{Sums}
+use Rattle.census_merge.specs.Sums.{first_excess, none, plus, with_more}
+use Rattle.census_readback.specs.Shapes.{joined}
+use Rattle.census_rows.specs.declared.row.Row.{Row}
+use Rattle.census_rows.specs.declared.row.Row.TheVariants.{End}
+use Rattle.life_answer.specs.declared.question.Question.{Question}
+use Rattle.report_laws.specs.Joining.{AreBundles, EachTells, bundles}
+use Rattle.report_laws.specs.Telling.{AreGroups, AreOwned, Group, Tells, rows_in}
+use Rattle.report_laws.proofs.Joined.{count-append}
+use Rattle.report_laws.proofs.Named.{few-in}
+
+abbrev going_on : ℕ → Sums → List Row → Option Sums → Option ℕ
+going_on report s rows after = elim after [ Nothing ↦ Some report | Some all ↦ first_excess (report + 1) all rows ]
+
+abbrev looked_at : ℕ → Sums → List Row → Option Sums → Option ℕ
+looked_at report s rows ended = elim ended [ Nothing ↦ first_excess report s rows | Some more ↦ going_on report s rows (with_more s more) ]
+
+excess-rows : (report : ℕ) (s : Sums) (c : ℕ) (rows rest : List Row) → AreOwned c rows → first_excess report s (rows ++ rest) ≡ first_excess report s rest
+excess-rows report s c [] rest h = refl
+excess-rows report s c (row ∷ rows) rest h = ap (looked_at report s (rows ++ rest)) h.1 ∙ excess-rows report s c rows rest h.2
+
+excess-groups : (report : ℕ) (s : Sums) (groups : List Group) (rest : List Row) → AreGroups groups → first_excess report s (rows_in groups ++ rest) ≡ first_excess report s rest
+excess-groups report s [] rest h = refl
+excess-groups report s (g ∷ groups) rest h =
+    ap (first_excess report s) (append_assoc g.rows (rows_in groups) rest) ∙ excess-rows report s g.owner g.rows (rows_in groups ++ rest) h.0
+    ∙ excess-groups report s groups rest h.1
+
+abbrev sums : List Folder → Sums
+sums b = record { collections = length b; patterns = pattern_count b }
+
+within : (s : Sums) (b : List Folder) → s.collections + length b ≤ 65535 → s.patterns + pattern_count b < 2 ^ 64 → with_more s (sums b) ≡ Some (plus s (sums b))
+within s b few small =
+    let collections = le-leb (length b) (65535 - s.collections) (omega arith) in
+    let patterns = le-leb (pattern_count b) (2 ^ 64 - 1 - s.patterns) (omega arith) in
+    ap (λ v. cond (v && leb (pattern_count b) (2 ^ 64 - 1 - s.patterns)) (Some (plus s (sums b))) Nothing) collections
+    ∙ ap (λ v. cond v (Some (plus s (sums b))) Nothing) patterns
+
+none-too-many : (question : Question) (report : ℕ) (s : Sums) (parts : List (List Folder)) (reports : List (List Row)) → EachTells question parts reports
+    → s.collections + length (bundles parts) ≤ 65535 → s.patterns + pattern_count (bundles parts) < 2 ^ 64 → first_excess report s (joined reports) ≡ Nothing
+none-too-many question report s [] [] h few small = refl
+none-too-many question report s [] (rows ∷ reports) h few small = absurd h
+none-too-many question report s (b ∷ parts) [] h few small = absurd h
+none-too-many question report s (b ∷ parts) (rows ∷ reports) h few small =
+    let t : Tells b question rows = h.0 in
+    let others = joined reports in
+    let last = End (length b) (pattern_count b) in
+    let lengths = length-append b (bundles parts) in
+    let counts = count-append b (bundles parts) in
+    let all : rows ++ others ≡ rows_in t.groups ++ last ∷ others =
+    ap (λ w. w ++ others) t.whole ∙ append_assoc (rows_in t.groups) (last ∷ []) others in
+    ap (first_excess report s) all ∙ excess-groups report s t.groups (last ∷ others) t.owned
+    ∙ ap (going_on report s others) (within s b (omega arith) (omega arith))
+    ∙ none-too-many question (report + 1) (plus s (sums b)) parts reports h.1 (omega arith) (omega arith)
+
+few-joined : (parts : List (List Folder)) → AreBundles parts → pattern_count (bundles parts) ≤ 65535 * length (bundles parts)
+few-joined [] h = omega arith
+few-joined (b ∷ parts) h =
+    let here = few-in b h.0.0.entries in
+    let rest = few-joined parts h.1 in
+    let lengths = length-append b (bundles parts) in
+    let counts = count-append b (bundles parts) in
+    omega arith
+
+pub fitting : (question : Question) (parts : List (List Folder)) (reports : List (List Row)) → AreBundles parts → EachTells question parts reports
+    → length (bundles parts) ≤ 65535 → first_excess 1 none (joined reports) ≡ Nothing
+fitting question parts reports bundled h small =
+    let patterns = few-joined parts bundled in
+    none-too-many question 1 none parts reports h (omega arith) (omega arith)

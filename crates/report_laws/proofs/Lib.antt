@@ -1,0 +1,11 @@
+pub mod Lines
+pub mod Texts
+pub mod Shifted
+pub mod Joined
+pub mod Solid
+pub mod Coded
+pub mod Parsed
+pub mod Cut
+pub mod Named
+pub mod ReadBack
+pub mod Fitting

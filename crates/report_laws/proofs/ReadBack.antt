@@ -1,0 +1,109 @@
+-- Reports that are read back tell their bundles.
+use Rattle.std.proofs.Common.{◌≡◌, None as Nothing, ℕ, ◌<◌, ◌≤◌, ◌^◌, List, [], ◌∷◌, ◌++◌, length, ap, ◌∙◌, sym, refl, arith, append-nil, append_assoc}
+use Rattle.census_bundle.specs.declared.bundle.Folder.{Folder}
+use Rattle.census_book.specs.Lines.{end_line, pattern_count}
+use Rattle.census_book.specs.Reports.{IsReport, owned_text}
+use Rattle.census_merge.specs.Merged.{merged}
+use Rattle.census_merge.specs.Sums.{first_excess, none}
+use Rattle.census_readback.specs.Reports.{IsReport as IsReadBack}
+use Rattle.census_readback.specs.Shapes.{joined}
+use Rattle.census_readback.specs.Texts.{AllLines, text_of}
+use Rattle.census_rows.specs.declared.row.Row.{Row}
+use Rattle.census_rows.specs.declared.row.Row.TheVariants.{End}
+use Rattle.census_rows.specs.Lines.{row_text}
+use Rattle.life_answer.specs.declared.question.Question.{Question}
+use Rattle.report_laws.specs.Joining.{AreBundles, EachIsReport, EachTells, IsBundle, bundles, texts}
+use Rattle.report_laws.specs.Said.{said_by}
+use Rattle.report_laws.specs.Telling.{Tells, rows_in}
+use Rattle.report_laws.proofs.Cut.{cut-end, cut-lines, isnt-empty}
+use Rattle.report_laws.proofs.Fitting.{fitting}
+use Rattle.report_laws.proofs.Joined.{joined-tell}
+use Rattle.report_laws.proofs.Lines.{end-is, lines-said}
+use Rattle.report_laws.proofs.Named.{by-parsed, few-collections, few-patterns}
+use Rattle.report_laws.proofs.Texts.{told-report}
+
+record ReportCut (b : List Folder) (question : Question) (rows : List Row) (more : List ℕ) : Type 0 where
+  told : List Row
+  rest : List Row
+  whole : rows ≡ told ++ rest
+  tells : Tells b question told
+  lines : AllLines rest
+  left : text_of rest ≡ more
+
+cut-report : (b : List Folder) (question : Question) (text : List ℕ) (rows : List Row) (more : List ℕ) → IsBundle b → IsReport b question text → AllLines rows
+    → text_of rows ≡ text ++ more → ReportCut b question rows more
+cut-report b question text rows more bundle report each e =
+    let all = said_by b question in
+    let start = cut-lines report.lines all
+    (record {
+      sections = λ c. report.sections c ∙ sym (lines-said b question c);
+      parsed = by-parsed question b bundle.1;
+      small = few-collections question b bundle.0;
+    }) rows (end_line b ++ more) each
+    (e ∙ ap (λ w. w ++ more) report.whole ∙ append_assoc (owned_text report.lines) (end_line b) more) in
+    let few : length b < 2 ^ 64 = omega (arith, bundle.0.folders) in
+    let last = cut-end (length b) (pattern_count b) start.rest more few (few-patterns b bundle.0) start.lines
+    (start.left ∙ ap (λ w. w ++ more) (sym (end-is b))) in
+    let end = End (length b) (pattern_count b) in
+    record {
+      told = rows_in start.groups ++ end ∷ [];
+      rest = last.rest;
+      whole = start.whole ∙ ap (λ w. rows_in start.groups ++ w) last.whole ∙ sym (append_assoc (rows_in start.groups) (end ∷ []) last.rest);
+      tells = record { groups = start.groups; owned = start.owned; sections = start.sections; whole = refl };
+      lines = last.lines;
+      left = last.left;
+    }
+
+none-left : (rows : List Row) → text_of rows ≡ [] → rows ≡ []
+none-left [] e = refl
+none-left (row ∷ rows) e = absurd (isnt-empty (row_text row) (text_of rows) (sym e ∙ append_assoc (row_text row) (10 ∷ []) (text_of rows)))
+
+pub read-tells : (b : List Folder) (question : Question) (text : List ℕ) (rows : List Row)
+    → IsBundle b → IsReport b question text → IsReadBack rows text → Tells b question rows
+read-tells b question text rows bundle report read =
+    let one = cut-report b question text rows [] bundle report read.lines (sym read.whole ∙ sym (append-nil text)) in
+    let all : rows ≡ one.told = one.whole ∙ ap (λ w. one.told ++ w) (none-left one.rest one.left) ∙ append-nil one.told in
+    record {
+      groups = one.tells.groups;
+      owned = one.tells.owned;
+      sections = one.tells.sections;
+      whole = all ∙ one.tells.whole;
+    }
+
+record ReportsCut (question : Question) (parts : List (List Folder)) (rows : List Row) : Type 0 where
+  reports : List (List Row)
+  tell : EachTells question parts reports
+  whole : rows ≡ joined reports
+
+cut-reports : (question : Question) (parts : List (List Folder)) (reports : List (List ℕ)) (rows : List Row)
+    → AreBundles parts → EachIsReport question parts reports → AllLines rows → text_of rows ≡ texts reports → ReportsCut question parts rows
+cut-reports question [] [] rows small h each e = record { reports = []; tell = tt; whole = none-left rows e }
+cut-reports question [] (text ∷ reports) rows small h each e = absurd h
+cut-reports question (b ∷ parts) [] rows small h each e = absurd h
+cut-reports question (b ∷ parts) (text ∷ reports) rows small h each e =
+    let one = cut-report b question text rows (texts reports) small.0 h.0 each e in
+    let more = cut-reports question parts reports one.rest small.1 h.1 one.lines one.left in
+    record {
+      reports = one.told ∷ more.reports;
+      tell = (one.tells, more.tell);
+      whole = one.whole ∙ ap (λ w. one.told ++ w) more.whole;
+    }
+
+pub merged-report : (question : Question) (parts : List (List Folder)) (reports : List (List ℕ)) (rows : List Row)
+    → AreBundles parts → EachIsReport question parts reports → IsReadBack rows (texts reports) → IsReport (bundles parts) question (text_of (merged rows))
+merged-report question parts reports rows small h read =
+    let all = cut-reports question parts reports rows small h read.lines (sym read.whole) in
+    told-report (bundles parts) question (merged rows)
+    (let tells = joined-tell question parts all.reports all.tell in
+    record {
+      groups = tells.groups;
+      owned = tells.owned;
+      sections = tells.sections;
+      whole = ap merged all.whole ∙ tells.whole;
+    })
+
+pub fitting-reports : (question : Question) (parts : List (List Folder)) (reports : List (List ℕ)) (rows : List Row)
+    → AreBundles parts → EachIsReport question parts reports → IsReadBack rows (texts reports) → length (bundles parts) ≤ 65535 → first_excess 1 none rows ≡ Nothing
+fitting-reports question parts reports rows small h read fit =
+    let all = cut-reports question parts reports rows small h read.lines (sym read.whole) in
+    ap (first_excess 1 none) all.whole ∙ fitting question parts all.reports small all.tell fit
