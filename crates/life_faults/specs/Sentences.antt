@@ -18,7 +18,7 @@ sentence_of (BadRun at) = codes "a count is 0 or has nothing to count: it must b
 sentence_of (TooFar at) = codes "a live cell is too far out: its column and its row, counted from 0, must be at most 1048575"
 sentence_of (TooMany at) = codes "there are too many live cells: a pattern must have at most 1048576"
 sentence_of NoEnd = codes "the text ends too early: its body must end with `!`"
-sentence_of Memory = codes "memory ran out: the text may be right, but more memory is needed to read it"
+sentence_of Memory = codes "memory ran out: what was given may be right, but more memory is needed"
 
 -- the same for each kind of rule that is not Life-like
 abbrev pub rule_sentence_of : RuleKind → List ℕ

@@ -2,7 +2,7 @@
 #![tactic(auto)]
 
 mod bytes;
-mod header;
+pub mod header;
 pub mod kinds;
 pub mod line;
 pub mod place;

@@ -33,7 +33,7 @@ pub fn sentence(fault: RleFault) -> &'static str
             "there are too many live cells: a pattern must have at most 1048576",
         RleFault::NoEnd => "the text ends too early: its body must end with `!`",
         RleFault::Memory =>
-            "memory ran out: the text may be right, but more memory is needed to read it",
+            "memory ran out: what was given may be right, but more memory is needed",
     }
 }
 

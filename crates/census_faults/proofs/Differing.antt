@@ -1,0 +1,126 @@
+-- What is told of a fault tells which it is.
+use Rattle.std.proofs.Common.{◌≡◌, ℕ, List, [], ◌∷◌, if◌then◌else◌, sym, ap, ◌∙◌, refl}
+use Rattle.std.specs.Str.{bytes_eq}
+use Rattle.life_text.specs.declared.rle.RleFault.{RleFault}
+use Rattle.life_text.specs.declared.rle.RleFault.TheVariants as rle
+use Rattle.life_shape.specs.declared.reader.CodeFault.{CodeFault}
+use Rattle.life_shape.specs.declared.reader.CodeFault.TheVariants as code
+use Rattle.census_bundle.specs.declared.fault.BundleFault.{BundleFault}
+use Rattle.census_bundle.specs.declared.fault.BundleFault.TheVariants as bundle
+use Rattle.census_bundle.specs.declared.bundle.AddFault.{AddFault}
+use Rattle.census_bundle.specs.declared.bundle.AddFault.TheVariants as add
+use Rattle.life_faults.specs.declared.kinds.RuleKind.{RuleKind}
+use Rattle.life_faults.specs.declared.kinds.RuleKind.TheVariants as kinds
+use Rattle.census_faults.specs.declared.fault.Fault.{Fault}
+use Rattle.census_faults.specs.declared.fault.Fault.TheVariants.{Text, Rule, Bundle, Folder, Code, Generation, Report, TooLong, Read, Write, Arguments, Words, Memory}
+use Rattle.census_faults.specs.Faults.{same}
+use Rattle.census_faults.specs.Sentences.{FaultsDiffer, sentence_of}
+
+-- the first of these faults that has the sentence, or out of memory
+abbrev told_among : List Fault → List ℕ → Fault
+told_among [] words = Memory
+told_among (f ∷ rest) words = if bytes_eq words (sentence_of f) then f else told_among rest words
+
+-- each fault once
+abbrev all_faults : List Fault
+all_faults =
+    Text rle.NoHeader ∷
+    Text rle.BadHeader ∷
+    Text rle.RuleHasB0 ∷
+    Text (rle.ManyStates 0) ∷
+    Text (rle.BadChar 0) ∷
+    Text (rle.BadRun 0) ∷
+    Text (rle.TooFar 0) ∷
+    Text (rle.TooMany 0) ∷
+    Text rle.NoEnd ∷
+    Rule kinds.Named ∷
+    Rule kinds.Bounded ∷
+    Rule kinds.Generations ∷
+    Rule kinds.LargerThanLife ∷
+    Rule kinds.NonTotalistic ∷
+    Rule kinds.Blank ∷
+    Rule kinds.Other ∷
+    Bundle (bundle.StrayText 0) ∷
+    Bundle (bundle.FileBeforeFolder 0) ∷
+    Bundle (bundle.BadAtLine 0) ∷
+    Bundle (bundle.BadName 0) ∷
+    Bundle (bundle.TooMany 0) ∷
+    Folder add.BadName ∷
+    Folder add.NoFolder ∷
+    Folder add.TooMany ∷
+    Code code.Empty ∷
+    Code (code.BadChar 0) ∷
+    Code (code.CutRun 0) ∷
+    Code (code.TooFar 0) ∷
+    Generation ∷
+    Report ∷
+    TooLong ∷
+    Read ∷
+    Write ∷
+    Arguments ∷
+    Words ∷
+    []
+
+abbrev told_by : List ℕ → Fault
+told_by words = told_among all_faults words
+
+text_tells : (fault : RleFault) → told_by (sentence_of (Text fault)) ≡ same (Text fault)
+text_tells rle.NoHeader = refl
+text_tells rle.BadHeader = refl
+text_tells rle.RuleNotLifeLike = refl
+text_tells rle.RuleHasB0 = refl
+text_tells (rle.ManyStates at) = refl
+text_tells (rle.BadChar at) = refl
+text_tells (rle.BadRun at) = refl
+text_tells (rle.TooFar at) = refl
+text_tells (rle.TooMany at) = refl
+text_tells rle.NoEnd = refl
+text_tells rle.Memory = refl
+
+rule_tells : (fault : RuleKind) → told_by (sentence_of (Rule fault)) ≡ same (Rule fault)
+rule_tells kinds.Named = refl
+rule_tells kinds.Bounded = refl
+rule_tells kinds.Generations = refl
+rule_tells kinds.LargerThanLife = refl
+rule_tells kinds.NonTotalistic = refl
+rule_tells kinds.Blank = refl
+rule_tells kinds.Other = refl
+
+bundle_tells : (fault : BundleFault) → told_by (sentence_of (Bundle fault)) ≡ same (Bundle fault)
+bundle_tells (bundle.StrayText line) = refl
+bundle_tells (bundle.FileBeforeFolder line) = refl
+bundle_tells (bundle.BadAtLine line) = refl
+bundle_tells (bundle.BadName line) = refl
+bundle_tells (bundle.TooMany line) = refl
+bundle_tells bundle.Memory = refl
+
+folder_tells : (fault : AddFault) → told_by (sentence_of (Folder fault)) ≡ same (Folder fault)
+folder_tells add.BadName = refl
+folder_tells add.NoFolder = refl
+folder_tells add.TooMany = refl
+folder_tells add.Memory = refl
+
+code_tells : (fault : CodeFault) → told_by (sentence_of (Code fault)) ≡ same (Code fault)
+code_tells code.Empty = refl
+code_tells (code.BadChar at) = refl
+code_tells (code.CutRun at) = refl
+code_tells (code.TooFar at) = refl
+code_tells code.Memory = refl
+
+fault_tells : (fault : Fault) → told_by (sentence_of fault) ≡ same fault
+fault_tells (Text fault) = text_tells fault
+fault_tells (Rule kind) = rule_tells kind
+fault_tells (Bundle fault) = bundle_tells fault
+fault_tells (Folder fault) = folder_tells fault
+fault_tells (Code fault) = code_tells fault
+fault_tells Generation = refl
+fault_tells Report = refl
+fault_tells TooLong = refl
+fault_tells Read = refl
+fault_tells Write = refl
+fault_tells Arguments = refl
+fault_tells Words = refl
+fault_tells Memory = refl
+
+pub faults_differ : FaultsDiffer
+faults_differ f g is = sym (fault_tells f) ∙ ap told_by is ∙ fault_tells g

@@ -1,0 +1,33 @@
+-- The line that explains a fault.
+use Rattle.std.specs.Prelude.{ℕ, List, [], ◌++◌, Option, Some, None, codes, decimal}
+use Rattle.census_faults.specs.declared.fault.Fault.{Fault}
+use Rattle.census_faults.specs.declared.spot.Spot.{Spot}
+use Rattle.census_faults.specs.declared.spot.Spot.TheVariants.{Nowhere, Line, At}
+use Rattle.census_faults.specs.Printed.{printed}
+use Rattle.census_faults.specs.Sentences.{sentence_of}
+
+-- `NAME:`, where there is a name
+abbrev pub name_text : Option (List ℕ) → List ℕ
+name_text None = []
+name_text (Some name) = printed name ++ codes ":"
+
+-- `LINE:` or `LINE:COLUMN:`, as far as they are known
+abbrev pub spot_text : Spot → List ℕ
+spot_text Nowhere = []
+spot_text (Line line) = decimal line ++ codes ":"
+spot_text (At place) = decimal place.line ++ codes ":" ++ decimal place.column ++ codes ":"
+
+-- both and a blank, where anything is known
+abbrev pub heading : Option (List ℕ) → Spot → List ℕ
+heading None Nowhere = []
+heading None spot = spot_text spot ++ codes " "
+heading (Some name) spot = name_text (Some name) ++ spot_text spot ++ codes " "
+
+-- ` (WORD)`, where the system has a word
+abbrev pub word_text : Option (List ℕ) → List ℕ
+word_text None = []
+word_text (Some word) = codes " (" ++ printed word ++ codes ")"
+
+-- two blanks, where the fault stands, the sentence, the system's word, and LF
+abbrev pub explained : Fault → Option (List ℕ) → Spot → Option (List ℕ) → List ℕ
+explained fault name spot word = codes "  " ++ heading name spot ++ sentence_of fault ++ word_text word ++ codes "\n"

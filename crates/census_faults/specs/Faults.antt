@@ -1,0 +1,84 @@
+-- The faults of texts and of rules, and which of all faults are one.
+use Rattle.std.specs.Prelude.{ℕ, List, Option, Some, None}
+use Rattle.life_cells.specs.declared.rule.RuleFault.{RuleFault}
+use Rattle.life_cells.specs.declared.rule.RuleFault.TheVariants as rules
+use Rattle.life_text.specs.declared.rle.RleFault.{RleFault}
+use Rattle.life_text.specs.declared.rle.RleFault.TheVariants as rle
+use Rattle.life_shape.specs.declared.reader.CodeFault.{CodeFault}
+use Rattle.life_shape.specs.declared.reader.CodeFault.TheVariants as codes
+use Rattle.census_bundle.specs.declared.fault.BundleFault.{BundleFault}
+use Rattle.census_bundle.specs.declared.fault.BundleFault.TheVariants as bundles
+use Rattle.census_bundle.specs.declared.bundle.AddFault.{AddFault}
+use Rattle.census_bundle.specs.declared.bundle.AddFault.TheVariants as adds
+use Rattle.life_faults.specs.declared.kinds.RuleKind.TheVariants as kinds
+use Rattle.life_faults.specs.Rules.{rule_in_header, rule_kind}
+use Rattle.census_faults.specs.declared.fault.Fault.{Fault}
+use Rattle.census_faults.specs.declared.fault.Fault.TheVariants.{Text, Rule, Bundle, Folder, Code, Generation, Report, TooLong, Read, Write, Arguments, Words, Memory}
+
+-- # Of texts and rules
+
+-- of the rule that a header names, its kind
+abbrev pub header_fault : Option (List ℕ) → Fault
+header_fault None = Text rle.RuleNotLifeLike
+header_fault (Some rule) = Rule (rule_kind rule)
+
+abbrev pub text_fault : List ℕ → RleFault → Fault
+text_fault text rle.RuleNotLifeLike = header_fault (rule_in_header text)
+text_fault text fault = Text fault
+
+abbrev pub rule_fault : List ℕ → RuleFault → Fault
+rule_fault rule rules.NotLifeLike = Rule (rule_kind rule)
+rule_fault rule rules.HasB0 = Text rle.RuleHasB0
+
+-- # One fault under several names
+
+-- out of memory is one fault, wherever it comes; a rule that isn't Life-like, of which no more is known, is of no other kind; and where a fault stands is no part of it
+abbrev pub same_of_text : RleFault → Fault
+same_of_text rle.NoHeader = Text rle.NoHeader
+same_of_text rle.BadHeader = Text rle.BadHeader
+same_of_text rle.RuleNotLifeLike = Rule kinds.Other
+same_of_text rle.RuleHasB0 = Text rle.RuleHasB0
+same_of_text (rle.ManyStates at) = Text (rle.ManyStates 0)
+same_of_text (rle.BadChar at) = Text (rle.BadChar 0)
+same_of_text (rle.BadRun at) = Text (rle.BadRun 0)
+same_of_text (rle.TooFar at) = Text (rle.TooFar 0)
+same_of_text (rle.TooMany at) = Text (rle.TooMany 0)
+same_of_text rle.NoEnd = Text rle.NoEnd
+same_of_text rle.Memory = Memory
+
+abbrev pub same_of_bundle : BundleFault → Fault
+same_of_bundle (bundles.StrayText line) = Bundle (bundles.StrayText 0)
+same_of_bundle (bundles.FileBeforeFolder line) = Bundle (bundles.FileBeforeFolder 0)
+same_of_bundle (bundles.BadAtLine line) = Bundle (bundles.BadAtLine 0)
+same_of_bundle (bundles.BadName line) = Bundle (bundles.BadName 0)
+same_of_bundle (bundles.TooMany line) = Bundle (bundles.TooMany 0)
+same_of_bundle bundles.Memory = Memory
+
+abbrev pub same_of_folder : AddFault → Fault
+same_of_folder adds.BadName = Folder adds.BadName
+same_of_folder adds.NoFolder = Folder adds.NoFolder
+same_of_folder adds.TooMany = Folder adds.TooMany
+same_of_folder adds.Memory = Memory
+
+abbrev pub same_of_code : CodeFault → Fault
+same_of_code codes.Empty = Code codes.Empty
+same_of_code (codes.BadChar at) = Code (codes.BadChar 0)
+same_of_code (codes.CutRun at) = Code (codes.CutRun 0)
+same_of_code (codes.TooFar at) = Code (codes.TooFar 0)
+same_of_code codes.Memory = Memory
+
+-- the one fault that these name
+abbrev pub same : Fault → Fault
+same (Text fault) = same_of_text fault
+same (Rule kind) = Rule kind
+same (Bundle fault) = same_of_bundle fault
+same (Folder fault) = same_of_folder fault
+same (Code fault) = same_of_code fault
+same Generation = Generation
+same Report = Report
+same TooLong = TooLong
+same Read = Read
+same Write = Write
+same Arguments = Arguments
+same Words = Words
+same Memory = Memory

@@ -1,0 +1,6 @@
+pub mod Printed
+pub mod Faults
+pub mod Sentences
+pub mod Spots
+pub mod Explained
+pub mod Refusals

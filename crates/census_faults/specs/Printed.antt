@@ -1,0 +1,20 @@
+-- Names as they are shown.
+use Rattle.std.specs.Prelude.{◌≡◌, ℕ, true, List, [], ◌∷◌, if◌then◌else◌}
+use Rattle.std.specs.List.{flat_map, list_all}
+use Rattle.hex.specs.Hex.{encode_lower}
+use Rattle.census_bundle.specs.Names.{is_name_byte}
+
+-- the byte itself, or `\x` and its two digits where no lawful name has it
+abbrev pub printed_byte : ℕ → List ℕ
+printed_byte c = if is_name_byte c then c ∷ [] else 92 ∷ 120 ∷ encode_lower (c ∷ [])
+
+abbrev pub printed : List ℕ → List ℕ
+printed bytes = flat_map printed_byte bytes
+
+-- what is shown has bytes of lawful names alone, so that no name ends a line
+abbrev pub ShowsNameBytes : Type 0
+ShowsNameBytes = (bytes : List ℕ) → list_all is_name_byte (printed bytes) ≡ true
+
+-- what has such bytes alone, as a lawful name, is shown as it is
+abbrev pub ShowsNames : Type 0
+ShowsNames = (name : List ℕ) → list_all is_name_byte name ≡ true → printed name ≡ name

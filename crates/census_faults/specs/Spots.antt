@@ -1,0 +1,40 @@
+-- Where a fault stands.
+use Rattle.std.specs.Prelude.{ℕ, ◌+◌, ◌-◌, List, length, min}
+use Rattle.life_text.specs.declared.rle.RleFault.{RleFault}
+use Rattle.life_text.specs.declared.rle.RleFault.TheVariants as rle
+use Rattle.life_shape.specs.TextOrder.{body_of}
+use Rattle.life_shape.specs.declared.reader.CodeFault.{CodeFault}
+use Rattle.life_shape.specs.declared.reader.CodeFault.TheVariants as code
+use Rattle.life_faults.specs.Places.{place, place_of}
+use Rattle.census_bundle.specs.declared.fault.BundleFault.{BundleFault}
+use Rattle.census_bundle.specs.declared.fault.BundleFault.TheVariants as bundle
+use Rattle.census_faults.specs.declared.spot.Spot.{Spot}
+use Rattle.census_faults.specs.declared.spot.Spot.TheVariants.{Nowhere, Line, At}
+
+-- at the place that is to be looked at
+abbrev pub spot_of_text : List ℕ → RleFault → Spot
+spot_of_text text rle.Memory = Nowhere
+spot_of_text text fault = At (place_of text fault)
+
+abbrev pub spot_of_bundle : BundleFault → Spot
+spot_of_bundle (bundle.StrayText line) = Line line
+spot_of_bundle (bundle.FileBeforeFolder line) = Line line
+spot_of_bundle (bundle.BadAtLine line) = Line line
+spot_of_bundle (bundle.BadName line) = Line line
+spot_of_bundle (bundle.TooMany line) = Line line
+spot_of_bundle bundle.Memory = Nowhere
+
+-- how many bytes stand before the body
+abbrev pub body_start : List ℕ → ℕ
+body_start code = length code - length (body_of code)
+
+-- the place of a byte of the body in the code as a whole; a byte past the body's end counts as the end
+abbrev pub body_spot : List ℕ → ℕ → Spot
+body_spot code at = At (place code (body_start code + min at (length (body_of code))))
+
+abbrev pub spot_of_code : List ℕ → CodeFault → Spot
+spot_of_code text code.Empty = body_spot text 0
+spot_of_code text (code.BadChar at) = body_spot text at
+spot_of_code text (code.CutRun at) = body_spot text at
+spot_of_code text (code.TooFar at) = body_spot text at
+spot_of_code text code.Memory = Nowhere

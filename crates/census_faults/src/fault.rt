@@ -1,0 +1,70 @@
+//! What can be wrong.
+ghost use Rattle.std.specs.Prelude.{◌≡◌};
+ghost use Rattle.life_faults.specs.Sentences.{words_of};
+ghost use Rattle.census_faults.specs.Faults.{rule_fault, text_fault};
+ghost use Rattle.census_faults.specs.Sentences.{sentence_of};
+
+use census_bundle::bundle::AddFault;
+use census_bundle::fault::BundleFault;
+use life_cells::rule::RuleFault;
+use life_faults::header::rule_in_header;
+use life_faults::kinds::{RuleKind, rule_kind};
+use life_shape::reader::CodeFault;
+use life_text::rle::RleFault;
+
+/// What can be wrong, wherever it is told.
+#[derive(Clone, Copy, Debug, PartialEq, Eq, Drop)]
+pub enum Fault {
+    /// An RLE text has this fault.
+    Text(RleFault),
+    /// A rule is not Life-like, but of this kind.
+    Rule(RuleKind),
+    /// A bundle text has this fault.
+    Bundle(BundleFault),
+    /// A folder, or a file of one, is refused.
+    Folder(AddFault),
+    /// The body of a code has this fault.
+    Code(CodeFault),
+    /// A number of generations is above 4,194,304, or is no number.
+    Generation,
+    /// A line is not one that a report has there.
+    Report,
+    /// A text, a file or a bundle has more than 67,108,864 bytes.
+    TooLong,
+    /// A folder can't be listed, or a file or standard input can't be read.
+    Read,
+    /// Standard output has failed.
+    Write,
+    /// An argument is no text.
+    Arguments,
+    /// The words of the command line ask for nothing that there is.
+    Words,
+    /// Memory was refused.
+    Memory,
+}
+
+/// The fault of an RLE text. Where the rule is not Life-like, it is the kind of the rule that the header names.
+pub fn text_fault(text: &[u8], fault: RleFault) -> Fault
+    ensures value { result ≡ text_fault text.now fault }
+    // Its sentence is the one that is told of the text elsewhere.
+    ensures words { sentence_of result ≡ words_of text.now fault }
+{
+    match fault {
+        RleFault::RuleNotLifeLike => match rule_in_header(text) {
+            Some(rule) => Fault::Rule(rule_kind(rule)),
+            None => Fault::Text(fault),
+        },
+        _ => Fault::Text(fault),
+    }
+}
+
+/// The fault of a rule text: the kind of rule that it names, or that cells come alive with no live neighbour, as for
+/// the rule of an RLE text.
+pub fn rule_fault(rule: &[u8], fault: RuleFault) -> Fault
+    ensures { result ≡ rule_fault rule.now fault }
+{
+    match fault {
+        RuleFault::NotLifeLike => Fault::Rule(rule_kind(rule)),
+        RuleFault::HasB0 => Fault::Text(RleFault::RuleHasB0),
+    }
+}
