@@ -5,3 +5,7 @@ pub mod Reaches
 pub mod Walked
 pub mod Places
 pub mod Keeps
+pub mod Planted
+pub mod KeptReaches
+pub mod KeptWalked
+pub mod KeptPlanted

@@ -11,10 +11,10 @@ abbrev pub Adds : List ℕ → List (List ℕ) → List (List ℕ) → List (Lis
 Adds folder done old left all = (done ++ map (path_of folder) (filter is_any left) ≡ old ++ map (path_of folder) (filter is_any all))
     × (All IsUtf8 (filter is_any all) → All IsUtf8 (filter is_any left))
 
-taken : (name : List ℕ) (left rest : List (List ℕ)) → left ≡ name ∷ rest → is_any name ≡ true → filter is_any left ≡ name ∷ filter is_any rest
+pub taken : (name : List ℕ) (left rest : List (List ℕ)) → left ≡ name ∷ rest → is_any name ≡ true → filter is_any left ≡ name ∷ filter is_any rest
 taken name left rest is any = rw (is, any) refl
 
-passed : (name : List ℕ) (left rest : List (List ℕ)) → left ≡ name ∷ rest → is_any name ≡ false → filter is_any left ≡ filter is_any rest
+pub passed : (name : List ℕ) (left rest : List (List ℕ)) → left ≡ name ∷ rest → is_any name ≡ false → filter is_any left ≡ filter is_any rest
 passed name left rest is any = rw (is, any) refl
 
 pub add_name : (folder name : List ℕ) (done old left rest all : List (List ℕ)) → left ≡ name ∷ rest → is_any name ≡ true → Adds folder done old left all → Adds folder (done ++ path_of folder name ∷ []) old rest all

@@ -4,3 +4,5 @@ pub mod Folders
 pub mod Shelves
 pub mod Walks
 pub mod Losses
+pub mod KeptWalks
+pub mod Trees

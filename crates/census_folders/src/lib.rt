@@ -9,4 +9,6 @@ mod listing;
 pub mod loss;
 pub mod reading;
 pub mod shelf;
+pub mod trees;
 pub mod walking;
+mod walking_on;

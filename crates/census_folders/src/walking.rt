@@ -1,11 +1,23 @@
 //! The folders at and below a folder.
-ghost use Rattle.std.specs.Prelude.{◌≡◌, ◌++◌, ◌∷◌, [], Ok, OnOk, IfErr, MatchResult, map, string_bytes};
+ghost use Rattle.std.specs.Prelude.{◌≡◌, ◌++◌, ◌∷◌, [], Ok, OnOk, IfErr, IfOk, MatchResult, map, string_bytes};
 ghost use Rattle.census_folders.specs.Walks.{AddsVisit, HoldsTree, StopsNames, StopsVisit, StopsWalk, is_any, names_in, path_of, paths_in};
 
 use crate::fault::FoldersFault;
 use crate::listing::{pattern_names, split_name};
 use crate::shelf::Shelf;
-use std::alloc::Global;
+use std::alloc::{AllocError, Global};
+
+// The path of a name in a folder.
+pub(crate) fn path_in(alloc: Global, folder: &str, name: &str) -> Result<String, AllocError>
+    ensures { IfOk result (λ path. string_bytes path ≡ path_of folder.now name.now) }
+{
+    let mut path = String::from_str(alloc, folder)?;
+    if !folder.as_bytes().ends_with(b"/") {
+        path.push_str("/")?;
+    }
+    path.push_str(name)?;
+    Ok(path)
+}
 
 // The path of a folder in a folder. Paths are UTF-8, so that no other name has one.
 fn inner_path(alloc: Global, folder: &str, name: &[u8]) -> Result<String, FoldersFault>
@@ -16,16 +28,11 @@ fn inner_path(alloc: Global, folder: &str, name: &[u8]) -> Result<String, Folder
     let Ok(name) = str::from_utf8(name) else {
         return Err(FoldersFault::Read);
     };
-    let mut path = String::from_str(alloc, folder)?;
-    if !folder.as_bytes().ends_with(b"/") {
-        path.push_str("/")?;
-    }
-    path.push_str(name)?;
-    Ok(path)
+    Ok(path_in(alloc, folder, name)?)
 }
 
 // Whether a name is not empty.
-fn is_any(name: &[u8]) -> bool
+pub(crate) fn is_any(name: &[u8]) -> bool
     ensures { result ≡ is_any name.now }
 {
     name.len() >= 1
