@@ -5,6 +5,7 @@ pub mod ObjectCode
 pub mod ObjectLaws
 pub mod Reports
 pub mod Work
+pub mod Soon
 pub mod Progress
 pub mod Coded
 pub mod Collecting

@@ -1,8 +1,9 @@
 //! Patterns that were worked.
-ghost use Rattle.std.specs.Prelude.{◌≡◌, ◌≤◌, IfOk};
+ghost use Rattle.std.specs.Prelude.{◌≡◌, ◌≤◌, IfNone, IfOk, IfSome};
 ghost use Rattle.life_answer.specs.Questions.{IsAnswered};
 ghost use Rattle.census_book.specs.Lines.{answer_to_entry};
 ghost use Rattle.census_book.specs.Heads.{line_head, line_tail};
+ghost use Rattle.census_book.specs.Soon.{IsLongWork};
 
 use crate::lines::push_head;
 use crate::parts::push_tail;
@@ -10,6 +11,7 @@ use census_bundle::bundle::{Entry, Text};
 use census_bundle::ticket::Ticket;
 use life_answer::finding::Answer;
 use life_answer::question::Question;
+use life_find::soon::answer_soon;
 use std::alloc::{AllocError, Global};
 use std::marker::Model;
 
@@ -62,7 +64,51 @@ fn find(alloc: Global, entry: &Entry, question: Question) -> Result<Answer, Allo
     }
 }
 
+// What is found of an entry, where the first 256 generations of its pattern tell it and objects are not asked for, or its
+// text is lost.
+#[tactic(auto, unfolding(crate::specs::Lines::answer_to_entry))]
+fn find_soon(alloc: Global, entry: &Entry, question: Question) -> Result<Option<Answer>, AllocError>
+    requires { IsAnswered question }
+    ensures known { IfOk result (λ soon. IfSome soon (λ found. found ≡ answer_to_entry question entry.now)) }
+    ensures long { IfOk result (λ soon. IfNone soon (IsLongWork question entry.now)) }
+{
+    match (entry.is_lost, question) {
+        (true, _) => Ok(Some(Answer::Refused(0))),
+        (false, Question::Settles { bound, cells }) => {
+            answer_soon(alloc, entry.text.as_slice(), bound, cells)
+        }
+        (false, Question::Objects { .. }) => Ok(None),
+    }
+}
+
 impl<'a> Done<'a> {
+    // The work that found this.
+    fn of(
+        alloc: Global,
+        ticket: Ticket,
+        entry: &'a Entry,
+        question: Question,
+        answer: Answer,
+    ) -> Result<Done<'a>, AllocError>
+        requires { answer ≡ answer_to_entry question entry.now }
+        ensures ticket { IfOk result (λ d. d.ticket ≡ ticket) }
+        ensures entry { IfOk result (λ d. d.entry ≡ entry.now) }
+        ensures question { IfOk result (λ d. d.question ≡ question) }
+    {
+        let mut head = Vec::with_capacity(alloc, HEAD_LEN)?;
+        push_head(&mut head, ticket, &answer)?;
+        let mut tail = Vec::new(alloc);
+        push_tail(&mut tail, ticket, &answer)?;
+        Ok(Done {
+            ticket,
+            entry,
+            question,
+            answer,
+            head: Text::of(alloc, &head)?,
+            tail,
+        })
+    }
+
     /// Works a ticket: what is found of the entry's text. Where that is lost, no work is done, and it is refused under the
     /// number 0. A bound is 1 to 1,000,000 generations, and 1 to 100,000 where objects are asked for.
     pub fn work(
@@ -77,18 +123,27 @@ impl<'a> Done<'a> {
         ensures question { IfOk result (λ d. d.question ≡ question) }
     {
         let answer = find(alloc, entry, question)?;
-        let mut head = Vec::with_capacity(alloc, HEAD_LEN)?;
-        push_head(&mut head, ticket, &answer)?;
-        let mut tail = Vec::new(alloc);
-        push_tail(&mut tail, ticket, &answer)?;
-        Ok(Done {
-            ticket,
-            entry,
-            question,
-            answer,
-            head: Text::of(alloc, &head)?,
-            tail,
-        })
+        Done::of(alloc, ticket, entry, question, answer)
+    }
+
+    /// Does what `work` does where it is soon done: the entry's text is lost or no pattern, or which generation comes again
+    /// is asked and the first 256 generations tell it. No later one is looked at. `None` says that it isn't soon done.
+    pub fn work_soon(
+        alloc: Global,
+        ticket: Ticket,
+        entry: &'a Entry,
+        question: Question,
+    ) -> Result<Option<Done<'a>>, AllocError>
+        requires { IsAnswered question }
+        ensures ticket { IfOk result (λ soon. IfSome soon (λ d. d.ticket ≡ ticket)) }
+        ensures entry { IfOk result (λ soon. IfSome soon (λ d. d.entry ≡ entry.now)) }
+        ensures question { IfOk result (λ soon. IfSome soon (λ d. d.question ≡ question)) }
+        ensures long { IfOk result (λ soon. IfNone soon (IsLongWork question entry.now)) }
+    {
+        match find_soon(alloc, entry, question)? {
+            Some(answer) => Ok(Some(Done::of(alloc, ticket, entry, question, answer)?)),
+            None => Ok(None),
+        }
     }
 
     /// The ticket that was worked.

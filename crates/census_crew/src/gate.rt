@@ -1,4 +1,5 @@
 //! What workers pass before they work.
+ghost use Rattle.std.specs.Prelude.{◌≡◌};
 
 use census_bundle::ticket::Ticket;
 
@@ -14,4 +15,27 @@ pub struct OpenGate;
 
 impl Gate for OpenGate {
     fn enter(&self, _ticket: Ticket) {}
+}
+
+/// A ticket with which a worker passed the gate. Only `pass` makes one.
+#[derive(Drop)]
+pub(crate) struct Passed {
+    ticket: Ticket,
+}
+
+/// Passes the gate with a ticket.
+pub(crate) fn pass<G: Gate>(gate: &G, ticket: Ticket) -> Passed
+    ensures { result.ticket ≡ ticket }
+{
+    gate.enter(ticket);
+    Passed { ticket }
+}
+
+impl Passed {
+    /// The ticket.
+    pub(crate) fn ticket(&self) -> Ticket
+        ensures { result ≡ self.now.ticket }
+    {
+        self.ticket
+    }
 }

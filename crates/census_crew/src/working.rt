@@ -2,7 +2,7 @@
 ghost use Rattle.std.specs.Prelude.{◌≡◌, ◌≤◌};
 ghost use Rattle.life_answer.specs.Questions.{IsAnswered};
 
-use crate::gate::Gate;
+use crate::gate::{Gate, Passed, pass};
 use census_book::done::Done;
 use census_bundle::bundle::Bundle;
 use census_feed::handles::Hand;
@@ -87,8 +87,40 @@ fn send_batch<'a, R: Wait>(
     !matches!(results.send(rt, full), Err(SendError::Disconnected(_)))
 }
 
+// What is found of a pattern whose worker passed the gate, where its first generations tell it and results wait: where none
+// does, the pattern may take as long as it will. `None` also where memory is out.
+fn found_soon<'a>(
+    alloc: Global,
+    bundle: &'a Bundle,
+    question: Question,
+    passed: &Passed,
+    batch: &Batch<'a>,
+) -> Option<Done<'a>>
+    requires { IsAnswered question }
+{
+    if batch.is_empty() {
+        return None;
+    }
+    let entry = bundle.entry(passed.ticket())?;
+    Done::work_soon(alloc, passed.ticket(), entry, question).ok()?
+}
+
+// What is found of a pattern whose worker passed the gate, however long it takes. `None` where memory is out.
+fn found<'a>(
+    alloc: Global,
+    bundle: &'a Bundle,
+    question: Question,
+    passed: &Passed,
+) -> Option<Done<'a>>
+    requires { IsAnswered question }
+{
+    let entry = bundle.entry(passed.ticket())?;
+    Done::work(alloc, passed.ticket(), entry, question).ok()
+}
+
 // Takes tickets until none is left, works them, and sends what was found: the results of quick work several together,
-// any other at once. A ticket that ran out of memory is left to the caller.
+// any other at once. No result waits while a pattern goes past its first 256 generations, which are looked at twice where
+// results waited. A ticket that ran out of memory is left to the caller.
 fn work<'a, G: Gate, R: Wait>(
     rt: &R,
     alloc: Global,
@@ -106,11 +138,15 @@ fn work<'a, G: Gate, R: Wait>(
         let Some(ticket) = hand.take(rt) else {
             break;
         };
-        gate.enter(ticket);
-        let Some(entry) = bundle.entry(ticket) else {
-            continue;
-        };
-        let Ok(done) = Done::work(alloc, ticket, entry, question) else {
+        let passed = pass(gate, ticket);
+        let mut next = found_soon(alloc, bundle, question, &passed, &batch);
+        if next.is_none() {
+            if !batch.is_empty() && !send_batch(rt, alloc, &mut batch, &results) {
+                return;
+            }
+            next = found(alloc, bundle, question, &passed);
+        }
+        let Some(done) = next else {
             continue;
         };
         let waits = was_quick(done.answer());

@@ -18,7 +18,7 @@ use Rattle.life_answer.proofs.Sizes.{size_by_shape}
 
 module _ (R : Rule) (G : Generation) where
   -- the first generation past the limit is the same whatever later ones are looked at
-  past_beyond : (limit : Option ℕ) (last bound n : ℕ) → last ≤ bound
+  pub past_beyond : (limit : Option ℕ) (last bound n : ℕ) → last ≤ bound
       → first_past limit R G last ≡ Some n → first_past limit R G bound ≡ Some n
   past_beyond None last bound n h past = absurd cc
   past_beyond (Some most) last bound n h past =

@@ -6,3 +6,4 @@ pub mod Found
 pub mod FirstLarger
 pub mod Beyond
 pub mod SameObjects
+pub mod LaterAnswers

@@ -1,3 +1,4 @@
 pub mod Outline
 pub mod Search
 pub mod Objects
+pub mod Soon

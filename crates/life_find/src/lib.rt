@@ -13,4 +13,5 @@ mod rounds;
 pub mod same_object;
 mod search;
 mod sighting;
+pub mod soon;
 mod way;

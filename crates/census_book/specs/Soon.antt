@@ -1,0 +1,13 @@
+-- Which patterns are not soon worked.
+use Rattle.std.specs.Prelude.{◌≡◌, ◌<◌, true, false}
+use Rattle.census_bundle.specs.declared.bundle.Entry.{Entry}
+use Rattle.life_answer.specs.Questions.{answer_to_question}
+use Rattle.life_answer.specs.declared.question.Question.{Question}
+use Rattle.life_answer.specs.declared.question.Question.TheVariants.{Objects, Settles}
+use Rattle.life_find.specs.Soon.{is_open, soon_reach}
+
+-- The entry's text is there, and what is asked of it is more than its first generations tell, or are its objects.
+abbrev pub IsLongWork : Question → Entry → Type 0
+IsLongWork (Settles bound cells) e =
+    (e.is_lost ≡ false) × (soon_reach < bound) × (is_open (answer_to_question (Settles soon_reach cells) e.text) ≡ true)
+IsLongWork (Objects bound cells) e = e.is_lost ≡ false

@@ -1,0 +1,44 @@
+-- What is found of a text within a bound is found within every greater one.
+use Rattle.std.proofs.Common.{◌≡◌, ℕ, ◌≤◌, false, List, Option, None, Some, Result, Ok, Err, refl, sym, ap, ◌∙◌}
+use Rattle.life_model.specs.Rule.{Rule}
+use Rattle.life_model.specs.Generation.{Generation, size}
+use Rattle.life_text.specs.declared.rle.RleFault.{RleFault}
+use Rattle.life_text.specs.Rle.{reading}
+use Rattle.life_text.specs.Picture.{Picture, picture_of}
+use Rattle.life_answer.specs.declared.finding.Answer.TheVariants.{Found}
+use Rattle.life_answer.specs.declared.finding.Finding.TheVariants.{Unresolved}
+use Rattle.life_answer.specs.declared.question.Question.TheVariants.{Settles}
+use Rattle.life_answer.specs.Answers.{finding_of}
+use Rattle.life_answer.specs.Limited.{first_past, limited, unless_large}
+use Rattle.life_answer.specs.Questions.{answer_to, answer_to_question}
+use Rattle.life_find.specs.Soon.{is_open}
+use Rattle.life_find.proofs.Beyond.{found_beyond, past_beyond, stays}
+
+module _ (R : Rule) (G : Generation) (limit : Option ℕ) (b c : ℕ) (h : b ≤ c)
+    (resolved : limited limit R G b (finding_of R G b) ≡ Unresolved (size G) → ⊥) where
+  limited_by : (o : Option ℕ) → first_past limit R G b ≡ o
+      → limited limit R G c (finding_of R G c) ≡ limited limit R G b (finding_of R G b)
+  limited_by (Some n) e =
+      ap (unless_large (finding_of R G c) (size G)) (past_beyond R G limit b c n h e)
+      ∙ sym (ap (unless_large (finding_of R G b) (size G)) e)
+  limited_by None e =
+      let same : limited limit R G b (finding_of R G b) ≡ finding_of R G b = ap (unless_large (finding_of R G b) (size G)) e in
+      found_beyond R G limit b c (stays R G limit b (λ other. ap (unless_large other (size G)) e)) (λ none. resolved (same ∙ none)) h
+      ∙ sym same
+
+  limited_beyond : limited limit R G c (finding_of R G c) ≡ limited limit R G b (finding_of R G b)
+  limited_beyond = limited_by (first_past limit R G b) refl
+
+answered_by : (limit : Option ℕ) (b c : ℕ) → b ≤ c → (r : Result Picture RleFault)
+    → is_open (answer_to (Settles b limit) r) ≡ false → answer_to (Settles c limit) r ≡ answer_to (Settles b limit) r
+answered_by limit b c h (Ok pattern) e =
+    ap (Found pattern.rule) (limited_beyond pattern.rule pattern.cells limit b c h
+    (λ none. let opened = sym (ap (λ f. is_open (Found pattern.rule f)) none) ∙ e in cc))
+answered_by limit b c h (Err fault) e = refl
+
+-- what is found of a text within some bound is found within any greater one, unless it is open
+pub answered_later : (limit : Option ℕ) (b c : ℕ) (text : List ℕ) → b ≤ c
+    → is_open (answer_to_question (Settles b limit) text) ≡ false
+    → answer_to_question (Settles c limit) text ≡ answer_to_question (Settles b limit) text
+unfolding answer_to_question
+answered_later limit b c text h e = answered_by limit b c h (picture_of (reading text)) e

@@ -1,0 +1,48 @@
+//! What the first generations of a pattern tell of a text.
+ghost use Rattle.std.specs.Prelude.{◌≡◌, ◌<◌, ◌≤◌, true, IfNone, IfOk, IfSome};
+ghost use Rattle.life_answer.specs.declared.question.Question.TheVariants.{Settles};
+ghost use Rattle.life_answer.specs.Questions.{answer_to_question};
+ghost use Rattle.life_find.specs.Soon.{is_open, soon_reach};
+
+use crate::answer::answer;
+use crate::limit::BOUND_LIMIT;
+use life_answer::finding::{Answer, Finding};
+use std::alloc::{AllocError, Global};
+
+/// The greatest bound within which no generation past 256 is looked at, as a search goes up to twice its bound.
+const SOON_REACH: u32 = 128;
+
+/// Whether more generations may tell what these did not.
+fn is_open(answer: &Answer) -> bool
+    ensures { result ≡ is_open answer.now }
+{
+    match answer {
+        Answer::Found { rule: _, finding } => match finding {
+            Finding::Unresolved { .. } => true,
+            Finding::Recurs { .. } | Finding::Large { .. } | Finding::Ash { .. } => false,
+        },
+        Answer::Refused(_) => false,
+    }
+}
+
+/// What is found of an RLE text within the bound, where the first 256 generations of its pattern tell it, or no pattern is
+/// there; no later one is looked at. The bound is 1 to 1,000,000 generations, and the limit is that of `answer`. `None`
+/// says that the bound is greater than 128, and that nothing is found within 128 generations.
+pub fn answer_soon(
+    alloc: Global,
+    text: &[u8],
+    bound: u32,
+    limit: Option<u32>,
+) -> Result<Option<Answer>, AllocError>
+    requires { 1 ≤ bound × bound ≤ BOUND_LIMIT }
+    ensures known { IfOk result (λ soon. IfSome soon (λ found. found ≡ answer_to_question (Settles bound limit) text.now)) }
+    ensures open { IfOk result (λ soon. IfNone soon (
+        soon_reach < bound × is_open (answer_to_question (Settles soon_reach limit) text.now) ≡ true)) }
+{
+    let reach = bound.min(SOON_REACH);
+    let found = answer(alloc, text, reach, limit)?;
+    if reach < bound && is_open(&found) {
+        return Ok(None);
+    }
+    Ok(Some(found))
+}
