@@ -1,3 +1,4 @@
 pub mod Advanced
 pub mod Outcomes
 pub mod Reports
+mod Kept

@@ -1,25 +1,30 @@
 -- What each exit status says.
 use Rattle.std.proofs.Common.{◌≡◌, ◌⊎◌, ℕ, List, [], ◌∷◌, Option, None, Some, option_map, true, false, inl, inr, ⊎_elim, refl, sym, ◌∙◌, arith, true≢false, string_bytes}
+use Rattle.census_folders.specs.declared.fault.FoldersFault.{FoldersFault}
 use Rattle.census_folders.specs.declared.fault.FoldersFault.TheVariants as folder_fault
+use Rattle.census_folders.specs.Trees.{HoldsTrees, StopsTrees}
+use Rattle.census_folders.specs.Walks.{StopsWalk}
+use Rattle.census_bundle.specs.declared.bundle.AddFault.{AddFault}
 use Rattle.census_words.specs.Asking.{Asks}
 use Rattle.census_words.specs.Refusing.{AsksHelp, IsRefused, Refuses}
 use Rattle.census_words.specs.declared.fault.WordsFault.{WordsFault}
 use Rattle.census_words.specs.declared.fault.WordsFault.TheVariants as words_fault
 use Rattle.census_words.specs.declared.request.Request.{Request}
-use Rattle.census_words.specs.declared.request.Request.TheVariants.{Run, Objects, Identify, Advance, Draw}
+use Rattle.census_words.specs.declared.request.Request.TheVariants.{Run, Objects, Identify, Advance, Draw, Merge, Table}
 use Rattle.life_answer.specs.declared.question.Question.TheVariants as question
 use Rattle.life_answer.specs.declared.question.Question.{Question}
 use Rattle.census_command.specs.Advances.{AdvanceFromFails, AdvancesFromInPart}
-use Rattle.census_command.specs.Errors.{advance_status, run_status, status_of}
+use Rattle.census_command.specs.Errors.{advance_status, run_error_of_folders, run_status, status_of}
 use Rattle.census_command.specs.Messages.{error_line}
 use Rattle.census_command.specs.Outcomes.{Answers, Ends, HelpsInPart}
 use Rattle.census_command.specs.Advances.{file_of}
 use Rattle.census_command.specs.Outcomes.{MissesFile, RefusesText}
-use Rattle.census_command.specs.Outcomes.{RefusesCollections, RefusesInput, ReportsInPart, Shows, ShowsInPart}
+use Rattle.census_command.specs.Outcomes.{MissesSource, RefusesCollections, RefusesFolders, RefusesInput, ReportsInPart, Shows, ShowsInPart}
 use Rattle.census_command.specs.Outcomes.{StopsAtFolder, TellsError, TellsRefusal}
 use Rattle.census_command.specs.Requests.{DoesInPart, Fails}
-use Rattle.census_command.specs.Runs.{RunFails, RunsInPart, StopsReading}
+use Rattle.census_command.specs.Runs.{FoldersFail, ReportsFoldersInPart, RunFails, RunsInPart, StopsReading}
 use Rattle.census_command.specs.Shelves.{Tellings}
+use Rattle.census_command.specs.Sources.{Source, Input, Folders, Trees, Kept, source_of}
 use Rattle.census_command.specs.Streams.{Errors, HasFailed, IsSound, IsUntouched, State, Tells, WritesNothing}
 use Rattle.census_command.specs.declared.advance_error.AdvanceError.{AdvanceError}
 use Rattle.census_command.specs.declared.advance_error.AdvanceError.TheVariants as advance
@@ -62,29 +67,79 @@ module _ (shelf : Tellings) (before after : State) where
   advance_says advance.Read (Some path) n h = inr (inr (refl, inr h.0, inl h.1.written, λ up. h.1.written))
   advance_says advance.Write (Some path) n h = inr (inr (refl, inl (inr h.1.write), inr h.0, unread_flag h.1.read))
 
-  run_says : (e : RunError) (fs : List (List ℕ)) (question : Question) → RunFails e shelf fs question before after
-      → Says before after (run_status e) (RefusesCollections shelf fs before after) (RunsInPart shelf fs question before after) (RunsInPart shelf fs question before after)
-      (StopsReading shelf fs folder_fault.Read)
-  run_says (run.Bundle fault) [] question h = inl (refl, inl (fault, h.0), h.1)
-  run_says (run.Folder fault) [] question h = absurd h
-  run_says run.TooLong [] question h = inl (refl, inr h.0, h.1)
-  run_says run.Memory [] question h = inr (inl (refl, h.0, h.1))
-  run_says run.Read [] question h = inr (inr (refl, inl (inl h.read), inl h.written, λ up. h.written))
-  run_says run.Write [] question h = inr (inr (refl, inl (inr h.1.write), inr h.0, unread_flag h.1.read))
-  run_says (run.Bundle fault) (f ∷ fs) question h = absurd h
-  run_says (run.Folder fault) (f ∷ fs) question h = inl (refl, inl (fault, h.0), record { written = h.1.written; sound = h.1.sound })
-  run_says run.TooLong (f ∷ fs) question h = inl (refl, inr h.0, record { written = h.1.written; sound = h.1.sound })
-  run_says run.Memory (f ∷ fs) question (inl h) = inr (inl (refl, inl h.1.written, h.1.sound))
-  run_says run.Memory (f ∷ fs) question (inr h) = inr (inl (refl, inr h.0, h.1))
-  run_says run.Read (f ∷ fs) question h = inr (inr (refl, inr h.0, inl h.1.written, λ up. h.1.written))
-  run_says run.Write (f ∷ fs) question h = inr (inr (refl, inl (inr h.1.write), inr h.0, unread_flag h.1.read))
+  folders_say : (e : RunError) (fs : List (List ℕ)) (question : Question) → FoldersFail e shelf fs question before after
+      → Says before after (run_status e) (RefusesFolders shelf fs) (ReportsFoldersInPart shelf fs question before after)
+      (ReportsFoldersInPart shelf fs question before after) (StopsReading shelf fs folder_fault.Read)
+  folders_say (run.Bundle fault) fs question h = absurd h
+  folders_say (run.Folder fault) fs question h = inl (refl, inl (fault, h.0), record { written = h.1.written; sound = h.1.sound })
+  folders_say run.TooLong fs question h = inl (refl, inr h.0, record { written = h.1.written; sound = h.1.sound })
+  folders_say run.Memory fs question (inl h) = inr (inl (refl, inl h.1.written, h.1.sound))
+  folders_say run.Memory fs question (inr h) = inr (inl (refl, inr h.0, h.1))
+  folders_say run.Read fs question h = inr (inr (refl, inr h.0, inl h.1.written, λ up. h.1.written))
+  folders_say run.Write fs question h = inr (inr (refl, inl (inr h.1.write), inr h.0, unread_flag h.1.read))
+
+  -- why folders below others are not told: one can't be walked, or out of memory
+  no_add : {A : Type 0} (fault : AddFault) (fs : List (List ℕ)) → StopsTrees shelf.listed shelf.inner fs (folder_fault.Add fault) → A
+  no_add fault fs (inl h) = absurd cc
+  no_add fault fs (inr h) = at_visit h.why
+    where
+      at_visit : {A : Type 0} {word : List ℕ} → StopsWalk shelf.listed shelf.inner word (folder_fault.Add fault) → A
+      at_visit (inl h) = absurd cc
+      at_visit (inr h) = absurd h.why
+
+  not_long : {A : Type 0} (fs : List (List ℕ)) → StopsTrees shelf.listed shelf.inner fs folder_fault.TooLong → A
+  not_long fs (inl h) = absurd cc
+  not_long fs (inr h) = at_visit h.why
+    where
+      at_visit : {A : Type 0} {word : List ℕ} → StopsWalk shelf.listed shelf.inner word folder_fault.TooLong → A
+      at_visit (inl h) = absurd cc
+      at_visit (inr h) = absurd h.why
+
+  walk_says : (fault : FoldersFault) (fs : List (List ℕ)) (question : Question) → StopsTrees shelf.listed shelf.inner fs fault → IsUntouched before after
+      → Says before after (run_status (run_error_of_folders fault)) (RefusesCollections shelf (Trees fs) before after)
+      (RunsInPart shelf (Trees fs) question before after) (RunsInPart shelf (Trees fs) question before after) (MissesSource shelf (Trees fs))
+  walk_says (folder_fault.Add fault) fs question why untouched = no_add fault fs why
+  walk_says folder_fault.Read fs question why untouched =
+      inr (inr (refl, inr (inl why), inl untouched.written, λ up. untouched.written))
+  walk_says folder_fault.TooLong fs question why untouched = not_long fs why
+  walk_says folder_fault.Memory fs question why untouched = inr (inl (refl, inl untouched.written, untouched.sound))
+
+  run_says : (e : RunError) (source : Source) (question : Question) → RunFails e shelf source question before after
+      → Says before after (run_status e) (RefusesCollections shelf source before after) (RunsInPart shelf source question before after)
+      (RunsInPart shelf source question before after) (MissesSource shelf source)
+  run_says (run.Bundle fault) Input question h = inl (refl, inl (fault, h.0), h.1)
+  run_says (run.Folder fault) Input question h = absurd h
+  run_says run.TooLong Input question h = inl (refl, inr h.0, h.1)
+  run_says run.Memory Input question h = inr (inl (refl, h.0, h.1))
+  run_says run.Read Input question h = inr (inr (refl, inl (inl h.read), inl h.written, λ up. h.written))
+  run_says run.Write Input question h = inr (inr (refl, inl (inr h.1.write), inr h.0, unread_flag h.1.read))
+  run_says e (Folders fs) question h = folders_say e fs question h
+  run_says e (Trees fs) question (inl h) = rw h.is (walk_says h.fault fs question h.why h.untouched)
+  run_says e (Trees fs) question (inr h) = in_trees h.folders h.trees (folders_say e h.folders question h.why)
+    where
+      in_trees : (folders : List (List ℕ)) → HoldsTrees shelf.listed shelf.inner fs folders
+          → Says before after (run_status e) (RefusesFolders shelf folders) (ReportsFoldersInPart shelf folders question before after)
+          (ReportsFoldersInPart shelf folders question before after) (StopsReading shelf folders folder_fault.Read)
+          → Says before after (run_status e) (RefusesCollections shelf (Trees fs) before after) (RunsInPart shelf (Trees fs) question before after)
+          (RunsInPart shelf (Trees fs) question before after) (MissesSource shelf (Trees fs))
+      in_trees folders trees (inl h) = inl (h.0, (folders, trees, h.1), h.2)
+      in_trees folders trees (inr (inl h)) =
+          inr (inl (h.0, ⊎_elim (λ same. inl same) (λ part. inr (record { folders = folders; trees = trees; part = part })) h.1, h.2))
+      in_trees folders trees (inr (inr h)) =
+          inr (inr (
+            h.0,
+            ⊎_elim (λ failed. inl failed) (λ missed. inr (inr (folders, trees, missed))) h.1,
+            ⊎_elim (λ same. inl same) (λ part. inr (record { folders = folders; trees = trees; part = part })) h.2,
+            h.3,
+          ))
+  run_says e (Kept recursive fs) question h = absurd h
 
 module _ (shelf : Tellings) (before after : State) where
   says : (error : CommandError) (request : Request) → Fails error shelf request before after
       → Says before after (status_of error) (RefusesInput shelf request before after) (ReportsInPart shelf request before after) (DoesInPart shelf request before after)
       (StopsAtFolder shelf request)
-  says (command.Run e) (Run bound workers cells folders) h = run_says shelf before after e _ (question.Settles bound cells) h
-  says (command.Run e) (Objects bound workers cells folders) h = run_says shelf before after e _ (question.Objects bound (Some cells)) h
+  says (command.Run e) (Run bound workers cells recursive keep_going folders) h = run_says shelf before after e (source_of recursive keep_going _) (question.Settles bound cells) h
+  says (command.Run e) (Objects bound workers cells recursive keep_going folders) h = run_says shelf before after e (source_of recursive keep_going _) (question.Objects bound (Some cells)) h
   says (command.Advance e) (Advance n file) h = advance_says shelf before after e (file_of (option_map (λ s. s.now) file)) n h
   says (command.Draw (draw.Rule fault)) (Draw code rule) h = inl (refl, inl (fault, h.0), record { written = h.1.written; sound = h.1.sound })
   says (command.Draw (draw.Code fault)) (Draw code rule) h = inl (refl, inr (fault, h.0.1), record { written = h.1.written; sound = h.1.sound })
@@ -94,28 +149,47 @@ module _ (shelf : Tellings) (before after : State) where
   says (command.Run e) (Identify bound files) h = absurd h
   says (command.Run e) (Draw code rule) h = absurd h
   says (command.Advance e) (Identify bound files) h = absurd h
-  says (command.Advance e) (Run bound workers cells folders) h = absurd h
-  says (command.Advance e) (Objects bound workers cells folders) h = absurd h
+  says (command.Advance e) (Run bound workers cells recursive keep_going folders) h = absurd h
+  says (command.Advance e) (Objects bound workers cells recursive keep_going folders) h = absurd h
   says (command.Advance e) (Draw code rule) h = absurd h
-  says (command.Draw e) (Run bound workers cells folders) h = absurd h
-  says (command.Draw e) (Objects bound workers cells folders) h = absurd h
+  says (command.Draw e) (Run bound workers cells recursive keep_going folders) h = absurd h
+  says (command.Draw e) (Objects bound workers cells recursive keep_going folders) h = absurd h
   says (command.Draw e) (Advance n file) h = absurd h
   says (command.Draw e) (Identify bound files) h = absurd h
-  says command.Arguments (Run bound workers cells folders) h = absurd h
-  says command.Arguments (Objects bound workers cells folders) h = absurd h
+  says command.Arguments (Run bound workers cells recursive keep_going folders) h = absurd h
+  says command.Arguments (Objects bound workers cells recursive keep_going folders) h = absurd h
   says command.Arguments (Advance n file) h = absurd h
   says command.Arguments (Identify bound files) h = absurd h
   says command.Arguments (Draw code rule) h = absurd h
-  says command.Memory (Run bound workers cells folders) h = absurd h
-  says command.Memory (Objects bound workers cells folders) h = absurd h
+  says command.Memory (Run bound workers cells recursive keep_going folders) h = absurd h
+  says command.Memory (Objects bound workers cells recursive keep_going folders) h = absurd h
   says command.Memory (Advance n file) h = absurd h
   says command.Memory (Identify bound files) h = absurd h
   says command.Memory (Draw code rule) h = absurd h
-  says command.Write (Run bound workers cells folders) h = absurd h
-  says command.Write (Objects bound workers cells folders) h = absurd h
+  says command.Write (Run bound workers cells recursive keep_going folders) h = absurd h
+  says command.Write (Objects bound workers cells recursive keep_going folders) h = absurd h
   says command.Write (Advance n file) h = absurd h
   says command.Write (Identify bound files) h = absurd h
   says command.Write (Draw code rule) h = absurd h
+  says (command.Run e) (Merge reports) h = absurd h
+  says (command.Run e) (Table format reports) h = absurd h
+  says (command.Advance e) (Merge reports) h = absurd h
+  says (command.Advance e) (Table format reports) h = absurd h
+  says (command.Draw e) (Merge reports) h = absurd h
+  says (command.Draw e) (Table format reports) h = absurd h
+  says command.Arguments (Merge reports) h = absurd h
+  says command.Arguments (Table format reports) h = absurd h
+  says command.Memory (Merge reports) h = absurd h
+  says command.Memory (Table format reports) h = absurd h
+  says command.Write (Merge reports) h = absurd h
+  says command.Write (Table format reports) h = absurd h
+  says (command.Reports e) (Run bound workers cells recursive keep_going folders) h = absurd h
+  says (command.Reports e) (Objects bound workers cells recursive keep_going folders) h = absurd h
+  says (command.Reports e) (Advance n file) h = absurd h
+  says (command.Reports e) (Identify bound files) h = absurd h
+  says (command.Reports e) (Draw code rule) h = absurd h
+  says (command.Reports e) (Merge reports) h = absurd h
+  says (command.Reports e) (Table format reports) h = absurd h
 
 module _ (shelf : Tellings) (words : List (List ℕ)) (before after : State) (old new : Errors) where
   module _ (request : Request) (asked : Asks words request) (error : CommandError) (fails : Fails error shelf request before after)

@@ -1,5 +1,5 @@
 -- Why no whole report was written, from what the run answers.
-use Rattle.std.proofs.Common.{◌≡◌, ◌↔◌, ℕ, List, Result, Err, Bool, true, false, inl, inr, ⊎_elim, refl}
+use Rattle.std.proofs.Common.{◌≡◌, ◌↔◌, ℕ, List, Result, Ok, Err, IfErr, Bool, true, false, inl, inr, ⊎_elim, refl, subst}
 use Rattle.census_bundle.specs.declared.bundle.Folder.{Folder}
 use Rattle.census_crew.specs.Bytes.{FitsBytesFault, RunsBytes, RunsFront}
 use Rattle.census_crew.specs.Writing.{WritesFront}
@@ -11,11 +11,14 @@ use Rattle.census_crew.specs.declared.fault.RunFault.{RunFault}
 use Rattle.census_crew.specs.declared.fault.RunFault.TheVariants as runs
 use Rattle.census_folders.specs.Folders.{HoldsFolders}
 use Rattle.census_folders.specs.Shelves.{HoldsShelf}
+use Rattle.census_folders.specs.Trees.{HoldsTrees}
 use Rattle.census_folders.specs.declared.fault.FoldersFault.{FoldersFault}
 use Rattle.census_folders.specs.declared.fault.FoldersFault.TheVariants as folder_fault
 use Rattle.life_answer.specs.declared.question.Question.{Question}
 use Rattle.census_command.specs.Errors.{run_error_of_bytes, run_error_of_folders, run_error_of_run}
-use Rattle.census_command.specs.Runs.{FoldersFail, InputFails, ReportsFoldersInPart, ReportsInputInPart, StopsReading}
+use Rattle.census_command.specs.Runs.{FoldersFail, InputFails, ReportsFoldersInPart, ReportsInputInPart, StopsReading, TreesFail}
+use Rattle.census_command.specs.declared.run_error.RunError.{RunError}
+use Rattle.census_command.specs.Keeps.{IsCut}
 use Rattle.census_command.specs.Shelves.{Tellings}
 use Rattle.census_command.specs.Streams.{IsSound, State}
 
@@ -58,3 +61,16 @@ module _ (shelf : Tellings) (words : List (List ℕ)) (question : Question) wher
         → FoldersFail (run_error_of_run fault) shelf words question before after
     folders_fail runs.Memory fits = inr (folders_front, record { read = down; write = fits })
     folders_fail runs.Write fits = (folders_front, record { read = down; write = fits })
+
+-- why no whole report of trees was written, from that of their folders
+pub trees_fail : {A : Type 0} (shelf : Tellings) (words folders named : List (List ℕ)) (question : Question) (before after : State) (r : Result A RunError)
+    → HoldsTrees shelf.listed shelf.inner words folders → named ≡ folders
+    → IfErr r (λ e. FoldersFail e shelf named question before after) → IfErr r (λ e. TreesFail e shelf words question before after)
+trees_fail shelf words folders named question before after (Ok x) trees same h = h
+trees_fail shelf words folders named question before after (Err e) trees same h =
+    inr (record { folders = folders; trees = trees; why = subst (λ fs. FoldersFail e shelf fs question before after) same h })
+
+-- out of memory, or standard output has failed
+pub is_cut : (fault : RunFault) (after : State) → after.read_failed ≡ false → FitsFault {A = Tally} (Err fault) after.write_failed → IsCut (run_error_of_run fault) after
+is_cut runs.Memory after down fits = record { read = down; write = fits }
+is_cut runs.Write after down fits = record { read = down; write = fits }

@@ -21,7 +21,8 @@ use Rattle.census_command.specs.declared.draw_error.DrawError.TheVariants as dra
 use Rattle.census_command.specs.declared.run_error.RunError.{RunError}
 use Rattle.census_command.specs.declared.run_error.RunError.TheVariants as run
 use Rattle.census_command.specs.declared.error.CommandError.{CommandError}
-use Rattle.census_command.specs.declared.error.CommandError.TheVariants.{Run, Advance, Draw, Arguments, Memory, Write}
+use Rattle.census_command.specs.declared.error.CommandError.TheVariants.{Run, Advance, Draw, Reports, Arguments, Memory, Write}
+use Rattle.census_reports.specs.Errors as reports
 
 -- # Of `advance`
 
@@ -92,6 +93,7 @@ abbrev pub status_of : CommandError → ℕ
 status_of (Run error) = run_status error
 status_of (Advance error) = advance_status error
 status_of (Draw error) = draw_status error
+status_of (Reports error) = reports.status_of error
 status_of Arguments = 2
 status_of Memory = 3
 status_of Write = 4

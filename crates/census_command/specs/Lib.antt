@@ -1,9 +1,12 @@
 pub mod Streams
 pub mod Shelves
+pub mod Sources
 pub mod Errors
 pub mod Messages
 pub mod Advances
 pub mod Draws
 pub mod Runs
+pub mod Keeps
+pub mod Remakes
 pub mod Requests
 pub mod Outcomes

@@ -17,7 +17,9 @@ use Rattle.census_command.specs.declared.draw_error.DrawError.TheVariants as dra
 use Rattle.census_command.specs.declared.run_error.RunError.{RunError}
 use Rattle.census_command.specs.declared.run_error.RunError.TheVariants as run
 use Rattle.census_command.specs.declared.error.CommandError.{CommandError}
-use Rattle.census_command.specs.declared.error.CommandError.TheVariants.{Run, Advance, Draw, Arguments, Memory, Write}
+use Rattle.census_command.specs.declared.error.CommandError.TheVariants.{Run, Advance, Draw, Reports, Arguments, Memory, Write}
+use Rattle.census_reports.specs.declared.error.ReportsError.{ReportsError}
+use Rattle.census_reports.specs.declared.error.ReportsError.TheVariants as reports
 
 -- what an error is called, and the place that follows, if it has one
 pub record Message : Type 0 where
@@ -99,10 +101,19 @@ run_message run.Memory = message (codes "out of memory")
 run_message run.Read = message (codes "read failed")
 run_message run.Write = message (codes "write failed")
 
+abbrev pub reports_message : ReportsError → Message
+reports_message (reports.Fault text line) = message_at (codes "report fault at line ") line
+reports_message (reports.TooMany report) = message_at (codes "too many collections at report ") report
+reports_message reports.TooLong = message (codes "input too long")
+reports_message reports.Memory = message (codes "out of memory")
+reports_message reports.Read = message (codes "read failed")
+reports_message reports.Write = message (codes "write failed")
+
 abbrev pub error_message : CommandError → Message
 error_message (Run error) = run_message error
 error_message (Advance error) = advance_message error
 error_message (Draw error) = draw_message error
+error_message (Reports error) = reports_message error
 error_message Arguments = message (codes "bad command line")
 error_message Memory = message (codes "out of memory")
 error_message Write = message (codes "write failed")

@@ -1,5 +1,5 @@
 -- What the exit status of the program says of its arguments and of its streams.
-use Rattle.std.specs.Prelude.{◌≡◌, ℕ, ◌≤◌, ◌<◌, ◌⊎◌, true, List, [], ◌∷◌, map, option_map, Option, None, Some, Err, string_bytes}
+use Rattle.std.specs.Prelude.{◌≡◌, ℕ, ◌≤◌, ◌<◌, ◌⊎◌, Bool, true, List, [], ◌∷◌, map, option_map, Option, None, Some, Err, string_bytes}
 use Rattle.std.specs.Io.KnownBytes.{Appends}
 use Rattle.std.specs.declared.io.ErrorKind.{ErrorKind}
 use Rattle.watched.specs.Watching.{AppendsFront}
@@ -18,16 +18,23 @@ use Rattle.census_words.specs.Refusing.{AsksHelp, IsRefused}
 use Rattle.census_words.specs.declared.fault.WordsFault.{WordsFault}
 use Rattle.census_words.specs.declared.fault.WordsFault.TheVariants.{Help, Refused, Memory}
 use Rattle.census_words.specs.declared.request.Request.{Request}
-use Rattle.census_words.specs.declared.request.Request.TheVariants.{Run, Objects, Identify, Advance, Draw}
+use Rattle.census_words.specs.declared.request.Request.TheVariants.{Run, Objects, Identify, Advance, Draw, Merge, Table}
+use Rattle.life_answer.specs.declared.question.Question.{Question}
 use Rattle.life_answer.specs.declared.question.Question.TheVariants as question
 use Rattle.census_folders.specs.Told.{MayExceed, MayFail}
+use Rattle.census_folders.specs.Trees.{HoldsTrees, StopsTrees}
 use Rattle.census_identify.specs.Identifies.{Identifies}
 use Rattle.census_command.specs.Advances.{HasFault, HasFileFault, ReadsTooMuch, file_of}
 use Rattle.census_command.specs.Errors.{IsArgumentsError, status_of}
+use Rattle.census_command.specs.Keeps.{Keeps}
 use Rattle.census_command.specs.Messages.{error_line}
+use Rattle.census_command.specs.Remakes.{Remakes, form_of}
 use Rattle.census_command.specs.Requests.{Does, DoesInPart, Fails}
+use Rattle.census_reports.specs.declared.form.Form.{Form}
+use Rattle.census_reports.specs.declared.form.Form.TheVariants as form
 use Rattle.census_command.specs.Runs.{RunsInPart, StopsReading}
 use Rattle.census_command.specs.Shelves.{Tellings}
+use Rattle.census_command.specs.Sources.{Source, Input, Folders, Trees, Kept, source_of}
 use Rattle.census_command.specs.Streams.{Errors, all_streams, HasFailed, IsSound, IsUntouched, State, Tells, WriteFails, WritesNothing}
 use Rattle.census_command.specs.declared.error.CommandError.{CommandError}
 use Rattle.census_command.specs.declared.error.CommandError.TheVariants as command
@@ -49,12 +56,18 @@ pub record Helps (words : List (List ℕ)) (before after : State) : Type 0 where
 
 -- # What is refused
 
--- Folders, or without any the bundle on standard input, have a fault or are too long.
-abbrev pub RefusesCollections : Tellings → List (List ℕ) → State → State → Type 0
-RefusesCollections shelf [] before after =
+-- one of these folders or a file of it has a fault or is too long
+abbrev pub RefusesFolders : Tellings → List (List ℕ) → Type 0
+RefusesFolders shelf folders = ((fault : AddFault) × StopsReading shelf folders (folder_fault.Add fault)) ⊎ StopsReading shelf folders folder_fault.TooLong
+
+-- The bundle on standard input has a fault or is too long, or one of the folders.
+abbrev pub RefusesCollections : Tellings → Source → State → State → Type 0
+RefusesCollections shelf Input before after =
     ((fault : BundleFault) × ReadsFault before.unread after.unread fault) ⊎ ReadsTooMuch before after
-RefusesCollections shelf (word ∷ words) before after =
-    ((fault : AddFault) × StopsReading shelf (word ∷ words) (folder_fault.Add fault)) ⊎ StopsReading shelf (word ∷ words) folder_fault.TooLong
+RefusesCollections shelf (Folders words) before after = RefusesFolders shelf words
+RefusesCollections shelf (Trees words) before after =
+    (folders : List (List ℕ)) × HoldsTrees shelf.listed shelf.inner words folders × RefusesFolders shelf folders
+RefusesCollections shelf (Kept recursive words) before after = ⊥
 
 -- a file, or without one standard input, has a fault or is too long
 abbrev pub RefusesText : Tellings → Option (List ℕ) → State → State → Type 0
@@ -63,13 +76,15 @@ RefusesText shelf (Some path) before after = ((fault : RleFault) × HasFileFault
 
 -- what a request is to be done with is refused
 abbrev pub RefusesInput : Tellings → Request → State → State → Type 0
-RefusesInput shelf (Run bound workers cells folders) before after = RefusesCollections shelf (map (λ s. s.now) folders.items) before after
-RefusesInput shelf (Objects bound workers cells folders) before after = RefusesCollections shelf (map (λ s. s.now) folders.items) before after
+RefusesInput shelf (Run bound workers cells recursive keep_going folders) before after = RefusesCollections shelf (source_of recursive keep_going (map (λ s. s.now) folders.items)) before after
+RefusesInput shelf (Objects bound workers cells recursive keep_going folders) before after = RefusesCollections shelf (source_of recursive keep_going (map (λ s. s.now) folders.items)) before after
 RefusesInput shelf (Identify bound files) before after = ⊥
 RefusesInput shelf (Advance generations file) before after = RefusesText shelf (file_of (option_map (λ s. s.now) file)) before after
 RefusesInput shelf (Draw code rule) before after =
     ((fault : RuleFault) × (rule_of rule.now ≡ Err fault))
     ⊎ ((fault : CodeFault) × (wechsler.refusal (body_of code.now) ≡ Some fault))
+RefusesInput shelf (Merge reports) before after = ⊥
+RefusesInput shelf (Table format reports) before after = ⊥
 
 -- The words ask for something whose input is refused.
 pub record IsFaulty (shelf : Tellings) (words : List (List ℕ)) (before after : State) : Type 0 where
@@ -93,8 +108,8 @@ pub record HelpsInPart (words : List (List ℕ)) (before after : State) : Type 0
   pub unread : after.unread ≡ before.unread
 
 abbrev pub ReportsInPart : Tellings → Request → State → State → Type 0
-ReportsInPart shelf (Run bound workers cells folders) before after = RunsInPart shelf (map (λ s. s.now) folders.items) (question.Settles bound cells) before after
-ReportsInPart shelf (Objects bound workers cells folders) before after = RunsInPart shelf (map (λ s. s.now) folders.items) (question.Objects bound (Some cells)) before after
+ReportsInPart shelf (Run bound workers cells recursive keep_going folders) before after = RunsInPart shelf (source_of recursive keep_going (map (λ s. s.now) folders.items)) (question.Settles bound cells) before after
+ReportsInPart shelf (Objects bound workers cells recursive keep_going folders) before after = RunsInPart shelf (source_of recursive keep_going (map (λ s. s.now) folders.items)) (question.Objects bound (Some cells)) before after
 ReportsInPart shelf request before after = ⊥
 
 -- The words ask for a census, and a prefix of its report was written.
@@ -108,12 +123,23 @@ abbrev pub MissesFile : Tellings → Option (List ℕ) → Type 0
 MissesFile shelf None = ⊥
 MissesFile shelf (Some path) = MayFail (shelf.held [] path)
 
+-- one of the folders could not be listed or has a file that could not be read
+abbrev pub MissesSource : Tellings → Source → Type 0
+MissesSource shelf Input = ⊥
+MissesSource shelf (Folders words) = StopsReading shelf words folder_fault.Read
+MissesSource shelf (Trees words) =
+    StopsTrees shelf.listed shelf.inner words folder_fault.Read
+    ⊎ ((folders : List (List ℕ)) × HoldsTrees shelf.listed shelf.inner words folders × StopsReading shelf folders folder_fault.Read)
+MissesSource shelf (Kept recursive words) = ⊥
+
 abbrev pub StopsAtFolder : Tellings → Request → Type 0
-StopsAtFolder shelf (Run bound workers cells folders) = StopsReading shelf (map (λ s. s.now) folders.items) folder_fault.Read
-StopsAtFolder shelf (Objects bound workers cells folders) = StopsReading shelf (map (λ s. s.now) folders.items) folder_fault.Read
+StopsAtFolder shelf (Run bound workers cells recursive keep_going folders) = MissesSource shelf (source_of recursive keep_going (map (λ s. s.now) folders.items))
+StopsAtFolder shelf (Objects bound workers cells recursive keep_going folders) = MissesSource shelf (source_of recursive keep_going (map (λ s. s.now) folders.items))
 StopsAtFolder shelf (Identify bound files) = ⊥
 StopsAtFolder shelf (Advance generations file) = MissesFile shelf (file_of (option_map (λ s. s.now) file))
 StopsAtFolder shelf (Draw code rule) = ⊥
+StopsAtFolder shelf (Merge reports) = ⊥
+StopsAtFolder shelf (Table format reports) = ⊥
 
 -- The words ask for a census of folders, one of which could not be listed or has a file that could not be read, or for a
 -- generation of a file that could not be read.
@@ -154,14 +180,51 @@ pub record TellsRefusal (words : List (List ℕ)) (before after : State) (old ne
 
 -- the request asks what the patterns of these files are, within this bound
 abbrev pub IsIdentify : Request → ℕ → List (List ℕ) → Type 0
-IsIdentify (Identify bound files) b words = (b ≡ bound) × (words ≡ map (λ s. s.now) files.items)
-IsIdentify request b words = ⊥
+IsIdentify (Identify bound files) within words = (within ≡ bound) × (words ≡ map (λ s. s.now) files.items)
+IsIdentify request within words = ⊥
 
 -- the words ask what the patterns of these files are, within this bound
 pub record AsksWhat (words : List (List ℕ)) (bound : ℕ) (files : List (List ℕ)) : Type 0 where
   pub request : Request
   pub asked : Asks words request
   pub is : IsIdentify request bound files
+
+-- # What is made of reports
+
+-- the request asks for this, made of the reports of these files
+abbrev pub IsRemaking : Request → Form → List (List ℕ) → Type 0
+IsRemaking (Merge reports) f files = (f ≡ form.Merged) × (files ≡ map (λ s. s.now) reports.items)
+IsRemaking (Table format reports) f files = (f ≡ form_of format) × (files ≡ map (λ s. s.now) reports.items)
+IsRemaking request f files = ⊥
+
+-- The words ask for what is made of reports. It was written, or an error ended it.
+pub record RemakesAsked (shelf : Tellings) (words : List (List ℕ)) (status : ℕ) (before after : State) (old new : Errors) : Type 0 where
+  pub request : Request
+  pub asked : Asks words request
+  pub form : Form
+  pub files : List (List ℕ)
+  pub is : IsRemaking request form files
+  pub remakes : Remakes (shelf.held []) form files status before after old new
+
+-- # To go on past what can't be read
+
+-- The request asks for a census of these folders that goes on past what can't be read.
+abbrev pub IsKeeping : Request → Bool → List (List ℕ) → Question → Type 0
+IsKeeping (Run bound workers cells recursive keep_going folders) r words q =
+    (source_of recursive keep_going (map (λ s. s.now) folders.items) ≡ Kept r words) × (q ≡ question.Settles bound cells)
+IsKeeping (Objects bound workers cells recursive keep_going folders) r words q =
+    (source_of recursive keep_going (map (λ s. s.now) folders.items) ≡ Kept r words) × (q ≡ question.Objects bound (Some cells))
+IsKeeping request r words q = ⊥
+
+-- The words ask for such a census. What could be read was reported, or an error ended it.
+pub record KeepsAsked (shelf : Tellings) (words : List (List ℕ)) (status : ℕ) (before after : State) (old new : Errors) : Type 0 where
+  pub request : Request
+  pub asked : Asks words request
+  pub recursive : Bool
+  pub folders : List (List ℕ)
+  pub question : Question
+  pub is : IsKeeping request recursive folders question
+  pub keeps : Keeps shelf recursive folders question status before after old new
 
 -- # The exit status
 
@@ -189,10 +252,13 @@ pub record IdentifiesAsked (shelf : Tellings) (words : List (List ℕ)) (status 
   pub asked : AsksWhat words bound files
   pub identifies : Identifies (shelf.held []) bound files status (all_streams before old) (all_streams after new)
 
--- Words that ask what patterns are have an outcome of their own, since there one error doesn't end all.
+-- Words that ask what patterns are, or to go on past what can't be read, have outcomes of their own, since there one error
+-- doesn't end all; and so have those that ask for what is made of reports.
 abbrev pub Outcome : Tellings → List (List ℕ) → ℕ → State → State → Errors → Errors → Type 0
 Outcome shelf words status before after old new =
-    IdentifiesAsked shelf words status before after old new ⊎ Ends shelf words status before after old new
+    IdentifiesAsked shelf words status before after old new
+    ⊎ (RemakesAsked shelf words status before after old new
+    ⊎ (KeepsAsked shelf words status before after old new ⊎ Ends shelf words status before after old new))
 
 -- The system gives no arguments, for an error of this kind. Nothing is read or written, and its line is told.
 pub record StopsUnread (kind : ErrorKind) (status : ℕ) (before after : State) (old new : Errors) : Type 0 where

@@ -1,16 +1,19 @@
 -- What `run` reads and writes, and what each of its errors says.
-use Rattle.std.specs.Prelude.{◌≡◌, ◌⊎◌, ℕ, List, [], ◌∷◌}
+use Rattle.std.specs.Prelude.{◌≡◌, ◌⊎◌, ℕ, List}
 use Rattle.census_bundle.specs.declared.bundle.Folder.{Folder}
 use Rattle.census_crew.specs.Bytes.{ReadsFault, ReadsFolders}
 use Rattle.census_crew.specs.Writing.{WritesFront, WritesReport}
 use Rattle.census_folders.specs.Faults.{StopsAtWord}
 use Rattle.census_folders.specs.Folders.{HoldsFolders}
 use Rattle.census_folders.specs.Shelves.{HoldsShelf, StopsAtShelf}
+use Rattle.census_folders.specs.Trees.{HoldsTrees, StopsTrees}
 use Rattle.census_folders.specs.declared.fault.FoldersFault.{FoldersFault}
 use Rattle.census_folders.specs.declared.fault.FoldersFault.TheVariants as folder_fault
 use Rattle.census_command.specs.Advances.{ReadsTooMuch}
 use Rattle.life_answer.specs.declared.question.Question.{Question}
+use Rattle.census_command.specs.Errors.{run_error_of_folders}
 use Rattle.census_command.specs.Shelves.{Tellings}
+use Rattle.census_command.specs.Sources.{Source, Input, Folders, Trees, Kept}
 use Rattle.census_command.specs.Streams.{IsSound, IsUntouched, ReadFails, State, WriteFails, WritesNothing}
 use Rattle.census_command.specs.declared.run_error.RunError.{RunError}
 use Rattle.census_command.specs.declared.run_error.RunError.TheVariants.{Bundle, Folder as FolderFault, TooLong, Memory, Read, Write}
@@ -72,19 +75,57 @@ FoldersFail Memory shelf words question before after =
 FoldersFail Read shelf words question before after = StopsReading shelf words folder_fault.Read × IsUntouched before after
 FoldersFail Write shelf words question before after = ReportsFoldersInPart shelf words question before after × WriteFails after
 
--- # Either
+-- # Trees of folders
 
--- A report of the folders of these words was written; without a word, one of standard input.
-abbrev pub Runs : Tellings → List (List ℕ) → Question → State → State → Type 0
-Runs shelf [] question before after = ReportsInput question before after
-Runs shelf (word ∷ words) question before after = ReportsFolders shelf (word ∷ words) question before after
+-- These are the folders at and below those of the words, as the shelf tells, and a report of these folders was written.
+pub record ReportsTrees (shelf : Tellings) (words : List (List ℕ)) (question : Question) (before after : State) : Type 0 where
+  pub folders : List (List ℕ)
+  pub trees : HoldsTrees shelf.listed shelf.inner words folders
+  pub report : ReportsFolders shelf folders question before after
 
 -- as far as the writer took it
-abbrev pub RunsInPart : Tellings → List (List ℕ) → Question → State → State → Type 0
-RunsInPart shelf [] question before after = ReportsInputInPart question before after
-RunsInPart shelf (word ∷ words) question before after = ReportsFoldersInPart shelf (word ∷ words) question before after
+pub record ReportsTreesInPart (shelf : Tellings) (words : List (List ℕ)) (question : Question) (before after : State) : Type 0 where
+  pub folders : List (List ℕ)
+  pub trees : HoldsTrees shelf.listed shelf.inner words folders
+  pub part : ReportsFoldersInPart shelf folders question before after
+
+-- the folders at and below those of the words are not told, for this fault
+pub record StopsWalking (shelf : Tellings) (words : List (List ℕ)) (error : RunError) (before after : State) : Type 0 where
+  pub fault : FoldersFault
+  pub is : error ≡ run_error_of_folders fault
+  pub why : StopsTrees shelf.listed shelf.inner words fault
+  pub untouched : IsUntouched before after
+
+-- they are told, and no whole report of them was written, for this error
+pub record StopsInTrees (shelf : Tellings) (words : List (List ℕ)) (error : RunError) (question : Question) (before after : State) : Type 0 where
+  pub folders : List (List ℕ)
+  pub trees : HoldsTrees shelf.listed shelf.inner words folders
+  pub why : FoldersFail error shelf folders question before after
+
+-- why no whole report of the trees was written
+abbrev pub TreesFail : RunError → Tellings → List (List ℕ) → Question → State → State → Type 0
+TreesFail error shelf words question before after =
+    StopsWalking shelf words error before after ⊎ StopsInTrees shelf words error question before after
+
+-- # Each
+
+-- A report of what comes from there was written.
+abbrev pub Runs : Tellings → Source → Question → State → State → Type 0
+Runs shelf Input question before after = ReportsInput question before after
+Runs shelf (Folders words) question before after = ReportsFolders shelf words question before after
+Runs shelf (Trees words) question before after = ReportsTrees shelf words question before after
+Runs shelf (Kept recursive words) question before after = ⊥
+
+-- as far as the writer took it
+abbrev pub RunsInPart : Tellings → Source → Question → State → State → Type 0
+RunsInPart shelf Input question before after = ReportsInputInPart question before after
+RunsInPart shelf (Folders words) question before after = ReportsFoldersInPart shelf words question before after
+RunsInPart shelf (Trees words) question before after = ReportsTreesInPart shelf words question before after
+RunsInPart shelf (Kept recursive words) question before after = ⊥
 
 -- why no whole report was written
-abbrev pub RunFails : RunError → Tellings → List (List ℕ) → Question → State → State → Type 0
-RunFails error shelf [] question before after = InputFails error question before after
-RunFails error shelf (word ∷ words) question before after = FoldersFail error shelf (word ∷ words) question before after
+abbrev pub RunFails : RunError → Tellings → Source → Question → State → State → Type 0
+RunFails error shelf Input question before after = InputFails error question before after
+RunFails error shelf (Folders words) question before after = FoldersFail error shelf words question before after
+RunFails error shelf (Trees words) question before after = TreesFail error shelf words question before after
+RunFails error shelf (Kept recursive words) question before after = ⊥

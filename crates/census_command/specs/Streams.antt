@@ -54,6 +54,10 @@ abbrev pub Tells : List ℕ → Errors → Errors → Type 0
 Tells text before after =
     MatchBool after.failed (AppendsFront before.told after.told text) (Appends before.told after.told text)
 
+-- a stream that has failed stays as it is; on any other this text was told
+abbrev pub TellsMore : List ℕ → Errors → Errors → Type 0
+TellsMore text before after = MatchBool before.failed (after ≡ before) (Tells text before after)
+
 -- all three streams
 abbrev pub all_streams : State → Errors → three.Streams
 all_streams s e = record {

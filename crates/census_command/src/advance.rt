@@ -64,11 +64,11 @@ fn advance_file<S: Shelf, I: Read, O: Write>(
 ) -> Result<(), AdvanceError>
     requires generations { generations ≤ AGE_LIMIT }
     requires sound { IsSound streams.old }
-    ensures done { OnOk result (AdvancesFile (tellings (S.listed shelf.now) (S.held shelf.now))
+    ensures done { OnOk result (AdvancesFile (tellings (S.listed shelf.now) (S.inner shelf.now) (S.held shelf.now))
         path.now generations streams.old streams.new) }
     ensures sound { OnOk result (IsSound streams.new) }
     ensures fails { IfErr result (λ e. AdvanceFileFails e
-        (tellings (S.listed shelf.now) (S.held shelf.now))
+        (tellings (S.listed shelf.now) (S.inner shelf.now) (S.held shelf.now))
         path.now generations streams.old streams.new) }
 {
     let text = read_file(shelf, alloc, path.as_bytes())?;
@@ -101,11 +101,11 @@ pub fn advance<S: Shelf, I: Read, O: Write>(
 ) -> Result<(), AdvanceError>
     requires generations { generations ≤ AGE_LIMIT }
     requires sound { IsSound streams.old }
-    ensures done { OnOk result (AdvancesFrom (tellings (S.listed shelf.now) (S.held shelf.now))
+    ensures done { OnOk result (AdvancesFrom (tellings (S.listed shelf.now) (S.inner shelf.now) (S.held shelf.now))
         (file_of (option_map (λ s. s.now) file.entry)) generations streams.old streams.new) }
     ensures sound { OnOk result (IsSound streams.new) }
     ensures fails { IfErr result (λ e. AdvanceFromFails e
-        (tellings (S.listed shelf.now) (S.held shelf.now))
+        (tellings (S.listed shelf.now) (S.inner shelf.now) (S.held shelf.now))
         (file_of (option_map (λ s. s.now) file.entry)) generations streams.old streams.new) }
 {
     match file_of(file) {

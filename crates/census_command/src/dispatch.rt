@@ -1,20 +1,25 @@
 //! What the program does with its words.
-ghost use Rattle.std.specs.Prelude.{◌≡◌, false, map, IfErr, OnOk};
+ghost use Rattle.std.specs.Prelude.{◌≡◌, ◌≤◌, false, map, IfErr, IfNone, IfSome, OnOk};
+ghost use Rattle.life_answer.specs.Questions.{IsAnswered};
 ghost use Rattle.census_command.specs.Errors.{status_of};
 ghost use Rattle.census_command.specs.Messages.{error_line};
-ghost use Rattle.census_command.specs.Outcomes.{Answers, IdentifiesAsked, Outcome};
-ghost use Rattle.census_command.specs.Requests.{Does, Fails, IsDone, IsLawful};
+ghost use Rattle.census_command.specs.Outcomes.{Answers, IsKeeping, Outcome};
+ghost use Rattle.census_command.specs.Requests.{Does, EndsAtFirst, Fails, IsDone, IsLawful};
 ghost use Rattle.census_command.specs.Shelves.{tellings};
+ghost use Rattle.census_command.specs.Sources.{IsWhole, Kept, source_of};
 ghost use Rattle.census_command.specs.Streams.{IsSound, Tells};
 
 use crate::advance::advance;
 use crate::draw::draw;
 use crate::error::CommandError;
+use crate::keeping::keep_going;
+use crate::remaking::{form_of, remake};
 use crate::running::run_command;
 use crate::streams::{ErrorStream, Streams};
 use census_crew::gate::Gate;
 use census_folders::shelf::Shelf;
 use census_identify::identify::identify;
+use census_reports::form::Form;
 use census_words::fault::WordsFault;
 use census_words::request::{Request, read_words};
 use life_answer::question::Question;
@@ -24,7 +29,85 @@ use std::sync::Wait;
 use std::thread::Threads;
 use watched::writing::put_all;
 
-// Does what is asked for, which is more than to tell what patterns are.
+// A census of folders that goes on past what can't be read.
+#[derive(Clone, Copy)]
+struct KeptCensus<'r, 'a> {
+    question: Question,
+    workers: u32,
+    recursive: bool,
+    folders: &'r [&'a str],
+}
+
+// The census of these folders, where it goes on past what can't be read: without a folder nothing does.
+fn kept_census<'r, 'a>(
+    keep_going: bool,
+    question: Question,
+    workers: u32,
+    recursive: bool,
+    folders: &'r [&'a str],
+) -> Option<KeptCensus<'r, 'a>>
+    ensures some { IfSome result (λ census. (census.question ≡ question) × (census.workers ≡ workers)
+        × (source_of recursive keep_going (map (λ s. s.now) folders.now)
+        ≡ Kept census.recursive (map (λ s. s.now) census.folders.now))) }
+    ensures none { IfNone result (IsWhole (source_of recursive keep_going (map (λ s. s.now) folders.now))) }
+{
+    if !keep_going || folders.is_empty() {
+        return None;
+    }
+    Some(KeptCensus {
+        question,
+        workers,
+        recursive,
+        folders,
+    })
+}
+
+// The census that is asked for, where it goes on past what can't be read.
+fn kept_of<'r, 'a>(request: &'r Request<'a>) -> Option<KeptCensus<'r, 'a>>
+    requires { IsLawful request.now }
+    ensures some { IfSome result (λ census.
+        IsKeeping request.now census.recursive (map (λ s. s.now) census.folders.now) census.question) }
+    ensures question { IfSome result (λ census. IsAnswered census.question) }
+    ensures workers { IfSome result (λ census. (1 ≤ census.workers) × (census.workers ≤ 16)) }
+    ensures none { IfNone result (EndsAtFirst request.now) }
+{
+    match request {
+        Request::Run {
+            bound,
+            workers,
+            cells,
+            recursive,
+            keep_going,
+            folders,
+        } => {
+            let question = Question::Settles {
+                bound: *bound,
+                cells: *cells,
+            };
+            let folders = folders.as_slice();
+            kept_census(*keep_going, question, *workers, *recursive, folders)
+        }
+        Request::Objects {
+            bound,
+            workers,
+            cells,
+            recursive,
+            keep_going,
+            folders,
+        } => {
+            let question = Question::Objects {
+                bound: *bound,
+                cells: Some(*cells),
+            };
+            let folders = folders.as_slice();
+            kept_census(*keep_going, question, *workers, *recursive, folders)
+        }
+        _ => None,
+    }
+}
+
+// Does what is asked for, which is neither to tell what patterns are nor to make something of reports, and ends at the
+// first thing that can't be read.
 fn execute<S: Shelf, I: Read, O: Write, G: Gate, R: Threads + Wait + Sync>(
     rt: &R,
     shelf: &S,
@@ -36,10 +119,10 @@ fn execute<S: Shelf, I: Read, O: Write, G: Gate, R: Threads + Wait + Sync>(
     requires lawful { IsLawful request.now }
     requires more { IsDone request.now }
     requires sound { IsSound streams.old }
-    ensures done { OnOk result (Does (tellings (S.listed shelf.now) (S.held shelf.now))
+    ensures done { OnOk result (Does (tellings (S.listed shelf.now) (S.inner shelf.now) (S.held shelf.now))
         request.now streams.old streams.new) }
     ensures sound { OnOk result (IsSound streams.new) }
-    ensures fails { IfErr result (λ e. Fails e (tellings (S.listed shelf.now) (S.held shelf.now))
+    ensures fails { IfErr result (λ e. Fails e (tellings (S.listed shelf.now) (S.inner shelf.now) (S.held shelf.now))
         request.now streams.old streams.new) }
 {
     match request {
@@ -47,7 +130,9 @@ fn execute<S: Shelf, I: Read, O: Write, G: Gate, R: Threads + Wait + Sync>(
             bound,
             workers,
             cells,
+            recursive,
             folders,
+            ..
         } => run_command(
             rt,
             shelf,
@@ -58,6 +143,7 @@ fn execute<S: Shelf, I: Read, O: Write, G: Gate, R: Threads + Wait + Sync>(
             },
             *workers,
             folders.as_slice(),
+            *recursive,
             gate,
             streams,
         )?,
@@ -65,7 +151,9 @@ fn execute<S: Shelf, I: Read, O: Write, G: Gate, R: Threads + Wait + Sync>(
             bound,
             workers,
             cells,
+            recursive,
             folders,
+            ..
         } => run_command(
             rt,
             shelf,
@@ -76,10 +164,11 @@ fn execute<S: Shelf, I: Read, O: Write, G: Gate, R: Threads + Wait + Sync>(
             },
             *workers,
             folders.as_slice(),
+            *recursive,
             gate,
             streams,
         )?,
-        Request::Identify { .. } => unreachable!(),
+        Request::Identify { .. } | Request::Merge { .. } | Request::Table { .. } => unreachable!(),
         Request::Advance { generations, file } => {
             advance(shelf, alloc, *generations, *file, streams)?
         }
@@ -125,17 +214,20 @@ pub fn answer<I: Read, O: Write, E: Write>(
 /// Does what the program `census` does with its words, which are those after its name, and gives its exit status.
 ///
 /// What the words mean is what clap's matches for them say. By `run` and by `objects` each worker passes the gate with a
-/// ticket before it works. Folders and files are read from the shelf, which may tell what stands on it.
+/// ticket before it works. Folders and files are read from the shelf, which may tell what stands on it; with `--recursive`
+/// the folders below those of the words too.
 ///
 /// - 0: what was asked for was done. By `run` and by `objects` the report of the folders, or without any of the bundle on
 ///   standard input, was written: what their patterns become, or the objects in it; by `advance N` standard input is an
 ///   RLE text, and the text of generation N was written; by `draw CODE [--rule R]` the text of the code's shape under the
-///   rule. Or help was asked for and written.
+///   rule; by `merge` one report of reports that were read, and by `table` a table of them. Or help was asked for and
+///   written.
 /// - 1: the collections, the pattern, the rule or the code is refused, and nothing was written.
 /// - 2: clap refuses the words, and not because memory was refused; nothing was read or written.
 /// - 3: memory was refused, and nothing was written, or by `run` and by `objects` a prefix of the report.
 /// - 4: standard input or standard output has failed, or a folder could not be listed or a file of it be read. What was
-///   written is a prefix of what was asked for, or nothing; after a failed read it is nothing.
+///   written is a prefix of what was asked for, or nothing; after a failed read it is nothing. With `--keep-going` it is
+///   the whole report of what could be read, after a line on `errors` for each folder, file or name that was lost.
 ///
 /// Where the status is 0, nothing is written to `errors`. Else the error's one line is, or for status 2 clap's own text:
 /// whole where `errors` does not fail, else a prefix of it.
@@ -150,17 +242,45 @@ pub fn dispatch<S: Shelf, I: Read, O: Write, E: Write, G: Gate, R: Threads + Wai
 ) -> u8
     requires streams { IsSound streams.old }
     requires errors { errors.old.failed ≡ false }
-    ensures { Outcome (tellings (S.listed shelf.now) (S.held shelf.now))
+    ensures { Outcome (tellings (S.listed shelf.now) (S.inner shelf.now) (S.held shelf.now))
         (map (λ s. s.now) words.now) result streams.old streams.new errors.old errors.new }
 {
     let request = match read_words(alloc, &*words) {
         Ok(request) => request,
         Err(fault) => return answer(&fault, streams, errors),
     };
+    if let Some(census) = kept_of(&request) {
+        return keep_going(
+            rt,
+            shelf,
+            alloc,
+            census.question,
+            census.workers,
+            census.folders,
+            census.recursive,
+            gate,
+            streams,
+            errors,
+        );
+    }
     if let Request::Identify { bound, files } = &request {
         let Streams { input, output } = streams;
         let told = &mut errors.inner;
         return identify(shelf, alloc, *bound, files.as_slice(), input, output, told);
+    }
+    if let Request::Merge { reports } = &request {
+        return remake(
+            shelf,
+            alloc,
+            Form::Merged,
+            reports.as_slice(),
+            streams,
+            errors,
+        );
+    }
+    if let Request::Table { format, reports } = &request {
+        let form = form_of(*format);
+        return remake(shelf, alloc, form, reports.as_slice(), streams, errors);
     }
     match execute(rt, shelf, alloc, &request, gate, streams) {
         Ok(()) => 0,

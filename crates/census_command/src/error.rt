@@ -5,6 +5,7 @@ ghost use Rattle.census_command.specs.Errors.{advance_status, draw_status, run_s
 use crate::advance_error::AdvanceError;
 use crate::draw_error::DrawError;
 use crate::run_error::RunError;
+use census_reports::error::ReportsError;
 use std::alloc::AllocError;
 use std::io;
 use std::io::ErrorKind;
@@ -19,6 +20,8 @@ pub enum CommandError {
     Advance(AdvanceError),
     #[error("{0}")]
     Draw(DrawError),
+    #[error("{0}")]
+    Reports(ReportsError),
     /// An argument is no text.
     #[error("bad command line")]
     Arguments,
@@ -60,6 +63,17 @@ impl From<DrawError> for CommandError {
 
     fn from(error: DrawError) -> CommandError {
         CommandError::Draw(error)
+    }
+}
+
+impl From<ReportsError> for CommandError {
+    ghost use Rattle.std.specs.Prelude.{◌≡◌};
+    ghost use Rattle.census_command.specs.declared.error.CommandError.TheVariants.{Reports};
+
+    ghost from_gives = { λ error joined. joined ≡ Reports error };
+
+    fn from(error: ReportsError) -> CommandError {
+        CommandError::Reports(error)
     }
 }
 
@@ -129,6 +143,7 @@ impl CommandError {
             CommandError::Run(error) => run_status(error),
             CommandError::Advance(error) => advance_status(error),
             CommandError::Draw(error) => draw_status(error),
+            CommandError::Reports(error) => error.status(),
             CommandError::Arguments => 2,
             CommandError::Memory => 3,
             CommandError::Write => 4,

@@ -2,7 +2,7 @@
 ghost use Rattle.std.specs.Prelude.{◌≡◌};
 ghost use Rattle.census_command.specs.Messages.{IsShort, advance_message, bundle_message, code_message};
 ghost use Rattle.census_command.specs.Messages.{draw_message, error_line, error_message, folder_message};
-ghost use Rattle.census_command.specs.Messages.{rle_message, rule_message, run_message};
+ghost use Rattle.census_command.specs.Messages.{reports_message, rle_message, rule_message, run_message};
 
 use crate::advance_error::AdvanceError;
 use crate::draw_error::DrawError;
@@ -11,6 +11,7 @@ use crate::run_error::RunError;
 use arrayvec::ArrayString;
 use census_bundle::bundle::AddFault;
 use census_bundle::fault::BundleFault;
+use census_reports::error::ReportsError;
 use itoa::Buffer;
 use life_cells::rule::RuleFault;
 use life_shape::reader::CodeFault;
@@ -120,6 +121,19 @@ fn run_message(fault: RunError) -> (&'static str, Option<usize>)
     }
 }
 
+fn reports_message(fault: ReportsError) -> (&'static str, Option<usize>)
+    ensures { IsShort (reports_message fault) result.0.now result.1 }
+{
+    match fault {
+        ReportsError::Fault { line, .. } => ("report fault at line ", Some(line)),
+        ReportsError::TooMany { report } => ("too many collections at report ", Some(report)),
+        ReportsError::TooLong => ("input too long", None),
+        ReportsError::Memory => ("out of memory", None),
+        ReportsError::Read => ("read failed", None),
+        ReportsError::Write => ("write failed", None),
+    }
+}
+
 fn error_message(fault: CommandError) -> (&'static str, Option<usize>)
     ensures { IsShort (error_message fault) result.0.now result.1 }
 {
@@ -130,6 +144,7 @@ fn error_message(fault: CommandError) -> (&'static str, Option<usize>)
         CommandError::Run(error) => run_message(error),
         CommandError::Advance(error) => advance_message(error),
         CommandError::Draw(error) => draw_message(error),
+        CommandError::Reports(error) => reports_message(error),
     }
 }
 

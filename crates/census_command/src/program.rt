@@ -9,6 +9,7 @@ ghost use Rattle.census_command.specs.Streams.{IsSound};
 
 use crate::dispatch::{dispatch, stop};
 use crate::error::CommandError;
+use crate::lending::lent;
 use crate::streams::{ErrorStream, Streams};
 use census_crew::gate::OpenGate;
 use census_folders::shelf::Shelf;
@@ -33,18 +34,6 @@ fn own_words(alloc: Global, args: Args) -> Result<Vec<String>, AllocError>
     Ok(words)
 }
 
-// The words as texts that others borrow.
-fn lent(alloc: Global, words: &[String]) -> Result<Vec<&str>, AllocError>
-    ensures { IfOk result (λ texts.
-        map (λ s. s.now) texts.items ≡ map (λ word. string_bytes word) words.now) }
-{
-    let mut texts = Vec::new(alloc);
-    for word in words {
-        texts.push(word.as_str())?;
-    }
-    Ok(texts)
-}
-
 // Does what the arguments ask for, and gives the exit status.
 fn dispatch_arguments<S: Shelf, I: Read, O: Write, E: Write, R: Threads + Wait + Sync>(
     rt: &R,
@@ -56,7 +45,7 @@ fn dispatch_arguments<S: Shelf, I: Read, O: Write, E: Write, R: Threads + Wait +
 ) -> u8
     requires streams { IsSound streams.old }
     requires errors { errors.old.failed ≡ false }
-    ensures { Outcome (tellings (S.listed shelf.now) (S.held shelf.now))
+    ensures { Outcome (tellings (S.listed shelf.now) (S.inner shelf.now) (S.held shelf.now))
         (map (λ word. string_bytes word) (drop 1 (into_iter_items args))) result
         streams.old streams.new errors.old errors.new }
 {
@@ -93,7 +82,7 @@ pub fn program<S: Shelf, I: Read, O: Write, E: Write, R: Threads + Wait + Sync>(
     requires streams { IsSound streams.old }
     requires errors { errors.old.failed ≡ false }
     ensures { MatchResult args
-        (λ args. Outcome (tellings (S.listed shelf.now) (S.held shelf.now))
+        (λ args. Outcome (tellings (S.listed shelf.now) (S.inner shelf.now) (S.held shelf.now))
         (map (λ word. string_bytes word) (drop 1 (into_iter_items args)))
         (exit_status result) streams.old streams.new errors.old errors.new)
         (λ error. StopsUnread (error_kind error) (exit_status result)

@@ -5,6 +5,7 @@ use census_bundle::fault::BundleFault;
 use census_crew::bytes::BytesFault;
 use census_crew::fault::RunFault;
 use census_folders::fault::FoldersFault;
+use std::alloc::AllocError;
 use thiserror::Error;
 
 /// Why `run` or `objects` did not write its whole report.
@@ -27,6 +28,17 @@ pub enum RunError {
     /// Standard output has failed.
     #[error("write failed")]
     Write,
+}
+
+impl From<AllocError> for RunError {
+    ghost use Rattle.std.specs.Prelude.{◌≡◌};
+    ghost use Rattle.census_command.specs.declared.run_error.RunError.TheVariants.{Memory};
+
+    ghost from_gives = { λ _ error. error ≡ Memory };
+
+    fn from(_: AllocError) -> RunError {
+        RunError::Memory
+    }
 }
 
 impl From<BytesFault> for RunError {

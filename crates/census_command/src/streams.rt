@@ -1,7 +1,7 @@
 //! The streams of a command, each of which remembers that it failed.
 ghost use Rattle.std.specs.Prelude.{◌≡◌, false};
 ghost use Rattle.watched.specs.Watching.{has_failed, inner_of};
-ghost use Rattle.census_command.specs.Streams.{Errors, State, Tells};
+ghost use Rattle.census_command.specs.Streams.{Errors, State, Tells, TellsMore};
 
 use std::io::{Read, Write};
 use std::marker::Model;
@@ -88,6 +88,13 @@ impl<E: Write> ErrorStream<E> {
     pub fn tell(&mut self, text: &[u8])
         requires { self.old.failed ≡ false }
         ensures { Tells text.now self.old self.new }
+    {
+        let _ = put_all(&mut self.inner, text);
+    }
+
+    /// The same after another text. Where the stream has failed before, the text is lost.
+    pub fn tell_more(&mut self, text: &[u8])
+        ensures { TellsMore text.now self.old self.new }
     {
         let _ = put_all(&mut self.inner, text);
     }

@@ -1,5 +1,5 @@
 -- Where clap refuses nothing, the words name a command of `census`, and its matches have what it needs.
-use Rattle.std.proofs.Common.{◌≡◌, ◌⊎◌, ◌||◌, ◌&&◌, ℕ, List, [], ◌∷◌, Bool, true, false, not, Option, Some, None, inl, inr, is_some, codes, refl, sym, ap, subst, true≢false}
+use Rattle.std.proofs.Common.{◌≡◌, ◌∙◌, ◌⊎◌, ◌||◌, ◌&&◌, ℕ, List, [], ◌∷◌, Bool, true, false, not, Option, Some, None, inl, inr, is_some, codes, drop, refl, sym, ap, subst, true≢false}
 use Rattle.std.specs.Prelude.{if◌then◌else◌, option_map}
 use Rattle.std.specs.List.{find}
 use Rattle.std.specs.Option.{option_map_or}
@@ -9,49 +9,70 @@ use Rattle.clap.specs.Faults.{check_fault, entered_fault, level_fault}
 use Rattle.clap.specs.Kinds.{value_kinds}
 use Rattle.clap.specs.Simple.{App, Shape, built, built_leaf, entered, inherited, label_of, marked_built, names_of, rows_at, subcommand_of, with_leaf_noted}
 use Rattle.clap.specs.Takes.{is_given}
-use Rattle.clap.specs.Values.{IsUnsignedIn, refused_kind}
+use Rattle.clap.specs.Values.{Accepts, IsUnsignedIn, bool_text, refused_kind}
 use Rattle.clap.specs.ValueTests.{accepts}
 use Rattle.clap.specs.Walk.{Row, Text, answers_to, nothing_held, one_of, rows_after, stop_after}
-use Rattle.clap.specs.declared.builder.value_parser.ValueParser.TheVariants.{Unsigned}
+use Rattle.clap.specs.declared.builder.value_parser.ValueParser.{ValueParser}
+use Rattle.clap.specs.declared.builder.value_parser.ValueParser.TheVariants as parser
 use Rattle.clap.proofs.ValueTestLemmas.{accepts-Accepts}
 use Rattle.census_words.specs.Asking.{IsMatched}
-use Rattle.census_words.specs.Holding.{HasAdvance, HasDraw, HasIdentify, HasLimit, HasNumberIn, HasObjects, HasRun, HasText, IsCommand}
-use Rattle.census_words.specs.CommandLine.{advance_shape, census_app, draw_shape, identify_shape, objects_shape, run_shape}
+use Rattle.census_words.specs.Holding.{HasAdvance, HasDraw, HasFlag, HasIdentify, HasLimit, HasNumberIn, HasObjects, HasRun, HasTable, HasText, IsCommand}
+use Rattle.census_words.specs.CommandLine.{advance_shape, census_app, draw_shape, identify_shape, objects_shape, run_shape, table_shape}
 use Rattle.census_words.proofs.Passing.{Each, found_of_each, neither_true, not_cons}
-use Rattle.census_words.proofs.Rows.{Reads, reads_of, reads_or_none, row_of_id}
+use Rattle.census_words.proofs.Rows.{HasFirst, Reads, reads_of, reads_or_none, row_of_id}
 use Rattle.census_words.proofs.Uses.{RuleHolds}
 use Rattle.census_words.proofs.Walks.{StopHolds, is_help}
 use Rattle.census_words.proofs.Levels.{HasDefault, LevelHolds, checks_pass, defaults-there, given-there, level-Holds}
 
-unsigned_in : (ignore_case : Bool) (low high : ℕ) (v : Text) → value_kinds ignore_case (Unsigned low high) v ≡ [] → IsUnsignedIn low high v
-unsigned_in ignore_case low high v e = go (accepts ignore_case (Unsigned low high) v) refl e
+accepted : (ignore_case : Bool) (p : ValueParser) (v : Text) → value_kinds ignore_case p v ≡ [] → Accepts ignore_case p v
+accepted ignore_case p v e = go (accepts ignore_case p v) refl e
   where
-    go : (b : Bool) → accepts ignore_case (Unsigned low high) v ≡ b → (if b then [] else refused_kind (Unsigned low high) ∷ []) ≡ [] → IsUnsignedIn low high v
-    go true is e = accepts-Accepts ignore_case (Unsigned low high) v is
+    go : (b : Bool) → accepts ignore_case p v ≡ b → (if b then [] else refused_kind p ∷ []) ≡ [] → Accepts ignore_case p v
+    go true is e = accepts-Accepts ignore_case p v is
     go false is e = not_cons _ _ e
+
+unsigned_in : (low high : ℕ) (v : Text) → value_kinds false (parser.Unsigned low high) v ≡ [] → IsUnsignedIn low high v
+unsigned_in low high v e = accepted false (parser.Unsigned low high) v e
+
+-- the text of a flag
+abbrev IsFlagText : Text → Type 0
+IsFlagText v = (used : Bool) × (v ≡ bool_text used)
+
+flag_text : (v : Text) → value_kinds false parser.Bool v ≡ [] → IsFlagText v
+flag_text v e = go (bytes_eq v (codes "true")) refl (accepted false parser.Bool v e)
+  where
+    go : (b : Bool) → bytes_eq v (codes "true") ≡ b → (b || bytes_eq v (codes "false")) ≡ true → IsFlagText v
+    go true is e = (true, (bytes_eq-Decides v (codes "true")).0 is)
+    go false is e = (false, (bytes_eq-Decides v (codes "false")).0 e)
 
 -- ---- what values have that pass
 
 abbrev AnyText : Text → Text → Type 0
 AnyText id v = Unit {0}
 
-abbrev RunText : Text → Text → Type 0
-RunText id v =
-    (bytes_eq id (codes "bound") ≡ true → IsUnsignedIn 1 1000000 v)
+-- those of `run` and of `objects`, whose bound is up to a number
+abbrev CensusText : ℕ → Text → Text → Type 0
+CensusText most id v =
+    (bytes_eq id (codes "bound") ≡ true → IsUnsignedIn 1 most v)
     × (bytes_eq id (codes "workers") ≡ true → IsUnsignedIn 1 16 v)
     × (bytes_eq id (codes "cells") ≡ true → IsUnsignedIn 1 4294967295 v)
+    × (bytes_eq id (codes "recursive") ≡ true → IsFlagText v)
+    × (bytes_eq id (codes "keep-going") ≡ true → IsFlagText v)
+
+abbrev RunText : Text → Text → Type 0
+RunText = CensusText 1000000
 
 abbrev ObjectsText : Text → Text → Type 0
-ObjectsText id v =
-    (bytes_eq id (codes "bound") ≡ true → IsUnsignedIn 1 100000 v)
-    × (bytes_eq id (codes "workers") ≡ true → IsUnsignedIn 1 16 v)
-    × (bytes_eq id (codes "cells") ≡ true → IsUnsignedIn 1 4294967295 v)
+ObjectsText = CensusText 100000
 
 abbrev IdentifyText : Text → Text → Type 0
 IdentifyText id v = bytes_eq id (codes "bound") ≡ true → IsUnsignedIn 1 100000 v
 
 abbrev AdvanceText : Text → Text → Type 0
 AdvanceText id v = bytes_eq id (codes "generations") ≡ true → IsUnsignedIn 0 4194304 v
+
+abbrev TableText : Text → Text → Type 0
+TableText id v = (bytes_eq id (codes "csv") ≡ true → IsFlagText v) × (bytes_eq id (codes "json") ≡ true → IsFlagText v)
 
 absent : {A : Type 0} → false ≡ true → A
 absent e = absurd (true≢false (sym e))
@@ -79,63 +100,92 @@ built_advance = built_leaf (inherited above advance_shape)
 abbrev built_draw : Shape
 built_draw = built_leaf (inherited above draw_shape)
 
+abbrev built_table : Shape
+built_table = built_leaf (inherited above table_shape)
+
 top_rules : Each (RuleHolds AnyText) whole.top.rules
-top_rules = (record { own = λ v e. tt; usual = inl refl; plain = λ t. refl }, tt)
+top_rules = (
+  record { own = λ v e. tt; usual = inl refl; plain = λ t. refl },
+  (record { own = λ v e. tt; usual = inl refl; plain = λ t. refl }, tt),
+)
+
+-- what a flag is given where it is used
+true_given : HasFirst (codes "true" ∷ [])
+true_given = record { first = codes "true"; rest = []; is = refl }
+
+-- the flags, the folders and the help of `run` and of `objects`
+later_rules : (most : ℕ) → Each (RuleHolds (CensusText most)) (drop 3 built_run.rules)
+later_rules most = (
+  record { own = λ v e. (absent, absent, absent, λ _. flag_text v e, absent); usual = inr (refl, inr true_given); plain = λ t. refl },
+  (
+    record { own = λ v e. (absent, absent, absent, absent, λ _. flag_text v e); usual = inr (refl, inr true_given); plain = λ t. refl },
+    (
+      record { own = λ v e. (absent, absent, absent, absent, absent); usual = inr (refl, inl refl); plain = λ t. refl },
+      (record { own = λ v e. (absent, absent, absent, absent, absent); usual = inl refl; plain = λ t. refl }, tt),
+    ),
+  ),
+)
 
 run_rules : Each (RuleHolds RunText) built_run.rules
 run_rules = (
-  record { own = λ v e. (λ _. unsigned_in false 1 1000000 v e, absent, absent); usual = inr (refl, refl); plain = λ t. refl },
+  record { own = λ v e. (λ _. unsigned_in 1 1000000 v e, absent, absent, absent, absent); usual = inr (refl, inl refl); plain = λ t. refl },
   (
-    record { own = λ v e. (absent, λ _. unsigned_in false 1 16 v e, absent); usual = inr (refl, refl); plain = λ t. refl },
+    record { own = λ v e. (absent, λ _. unsigned_in 1 16 v e, absent, absent, absent); usual = inr (refl, inl refl); plain = λ t. refl },
     (
-      record { own = λ v e. (absent, absent, λ _. unsigned_in false 1 4294967295 v e); usual = inr (refl, refl); plain = λ t. refl },
-      (
-        record { own = λ v e. (absent, absent, absent); usual = inr (refl, refl); plain = λ t. refl },
-        (record { own = λ v e. (absent, absent, absent); usual = inl refl; plain = λ t. refl }, tt),
-      ),
+      record { own = λ v e. (absent, absent, λ _. unsigned_in 1 4294967295 v e, absent, absent); usual = inr (refl, inl refl); plain = λ t. refl },
+      later_rules 1000000,
     ),
   ),
 )
 
 objects_rules : Each (RuleHolds ObjectsText) built_objects.rules
 objects_rules = (
-  record { own = λ v e. (λ _. unsigned_in false 1 100000 v e, absent, absent); usual = inr (refl, refl); plain = λ t. refl },
+  record { own = λ v e. (λ _. unsigned_in 1 100000 v e, absent, absent, absent, absent); usual = inr (refl, inl refl); plain = λ t. refl },
   (
-    record { own = λ v e. (absent, λ _. unsigned_in false 1 16 v e, absent); usual = inr (refl, refl); plain = λ t. refl },
+    record { own = λ v e. (absent, λ _. unsigned_in 1 16 v e, absent, absent, absent); usual = inr (refl, inl refl); plain = λ t. refl },
     (
-      record { own = λ v e. (absent, absent, λ _. unsigned_in false 1 4294967295 v e); usual = inr (refl, refl); plain = λ t. refl },
-      (
-        record { own = λ v e. (absent, absent, absent); usual = inr (refl, refl); plain = λ t. refl },
-        (record { own = λ v e. (absent, absent, absent); usual = inl refl; plain = λ t. refl }, tt),
-      ),
+      record { own = λ v e. (absent, absent, λ _. unsigned_in 1 4294967295 v e, absent, absent); usual = inr (refl, inl refl); plain = λ t. refl },
+      later_rules 100000,
     ),
   ),
 )
 
 identify_rules : Each (RuleHolds IdentifyText) built_identify.rules
 identify_rules = (
-  record { own = λ v e _. unsigned_in false 1 100000 v e; usual = inr (refl, refl); plain = λ t. refl },
+  record { own = λ v e _. unsigned_in 1 100000 v e; usual = inr (refl, inl refl); plain = λ t. refl },
   (
-    record { own = λ v e. absent; usual = inr (refl, refl); plain = λ t. refl },
+    record { own = λ v e. absent; usual = inr (refl, inl refl); plain = λ t. refl },
     (record { own = λ v e. absent; usual = inl refl; plain = λ t. refl }, tt),
   ),
 )
 
 advance_rules : Each (RuleHolds AdvanceText) built_advance.rules
 advance_rules = (
-  record { own = λ v e _. unsigned_in false 0 4194304 v e; usual = inr (refl, refl); plain = λ t. refl },
+  record { own = λ v e _. unsigned_in 0 4194304 v e; usual = inr (refl, inl refl); plain = λ t. refl },
   (
-    record { own = λ v e. absent; usual = inr (refl, refl); plain = λ t. refl },
+    record { own = λ v e. absent; usual = inr (refl, inl refl); plain = λ t. refl },
     (record { own = λ v e. absent; usual = inl refl; plain = λ t. refl }, tt),
   ),
 )
 
 draw_rules : Each (RuleHolds AnyText) built_draw.rules
 draw_rules = (
-  record { own = λ v e. tt; usual = inr (refl, refl); plain = λ t. refl },
+  record { own = λ v e. tt; usual = inr (refl, inl refl); plain = λ t. refl },
   (
-    record { own = λ v e. tt; usual = inr (refl, refl); plain = λ t. refl },
+    record { own = λ v e. tt; usual = inr (refl, inl refl); plain = λ t. refl },
     (record { own = λ v e. tt; usual = inl refl; plain = λ t. refl }, tt),
+  ),
+)
+
+table_rules : Each (RuleHolds TableText) built_table.rules
+table_rules = (
+  record { own = λ v e. (λ _. flag_text v e, absent); usual = inr (refl, inr true_given); plain = λ t. refl },
+  (
+    record { own = λ v e. (absent, λ _. flag_text v e); usual = inr (refl, inr true_given); plain = λ t. refl },
+    (
+      record { own = λ v e. (absent, absent); usual = inr (refl, inl refl); plain = λ t. refl },
+      (record { own = λ v e. (absent, absent); usual = inl refl; plain = λ t. refl }, tt),
+    ),
   ),
 )
 
@@ -167,12 +217,18 @@ limit_in : (Q : Text → Text → Type 0) (id : Text) (rows : List Row) → (one
 limit_in Q id rows (inl none) fits = inl none
 limit_in Q id rows (inr reads) fits = inr (number_in Q 1 4294967295 id rows reads fits)
 
+flag_in : (Q : Text → Text → Type 0) (id : Text) (rows : List Row) → Reads Q id rows → ((v : Text) → Q id v → IsFlagText v) → HasFlag id rows
+flag_in Q id rows reads is = let flag = is reads.text reads.passes in (flag.0, reads.one ∙ ap Some flag.1)
+
 text_in : (Q : Text → Text → Type 0) (id : Text) (rows : List Row) → Reads Q id rows → HasText id rows
 text_in Q id rows reads = (reads.text, reads.first)
 
 is_true : (b : Bool) → not b ≡ false → b ≡ true
 is_true true e = refl
 is_true false e = absurd (true≢false e)
+
+false_by_default : HasFirst (codes "false" ∷ [])
+false_by_default = record { first = codes "false"; rest = []; is = refl }
 
 abbrev Passes : Shape → List Text → Type 0
 Passes s words = level_fault s [] nothing_held words false [] ≡ []
@@ -184,6 +240,10 @@ run_has words e = record {
   workers = number_in RunText 1 16 (codes "workers") _
       (read_by_default RunText built_run run_rules words e (codes "workers") (inr (inl (refl, record { first = codes "4"; rest = []; is = refl })))) (λ v q. q.1 refl);
   cells = limit_in RunText (codes "cells") _ (read_if_used RunText built_run run_rules words e (codes "cells")) (λ v q. q.2 refl);
+  recursive = flag_in RunText (codes "recursive") _
+      (read_by_default RunText built_run run_rules words e (codes "recursive") (inr (inr (inr (inl (refl, false_by_default)))))) (λ v q. q.3 refl);
+  keep_going = flag_in RunText (codes "keep-going") _
+      (read_by_default RunText built_run run_rules words e (codes "keep-going") (inr (inr (inr (inr (inl (refl, false_by_default))))))) (λ v q. q.4 refl);
 }
 
 objects_has : (words : List Text) → Passes built_objects words → HasObjects (rows_after built_objects.rules [] words)
@@ -194,6 +254,10 @@ objects_has words e = record {
       (read_by_default ObjectsText built_objects objects_rules words e (codes "workers") (inr (inl (refl, record { first = codes "4"; rest = []; is = refl })))) (λ v q. q.1 refl);
   cells = number_in ObjectsText 1 4294967295 (codes "cells") _
       (read_by_default ObjectsText built_objects objects_rules words e (codes "cells") (inr (inr (inl (refl, record { first = codes "1000000"; rest = []; is = refl }))))) (λ v q. q.2 refl);
+  recursive = flag_in ObjectsText (codes "recursive") _
+      (read_by_default ObjectsText built_objects objects_rules words e (codes "recursive") (inr (inr (inr (inl (refl, false_by_default)))))) (λ v q. q.3 refl);
+  keep_going = flag_in ObjectsText (codes "keep-going") _
+      (read_by_default ObjectsText built_objects objects_rules words e (codes "keep-going") (inr (inr (inr (inr (inl (refl, false_by_default))))))) (λ v q. q.4 refl);
 }
 
 identify_has : (words : List Text) → Passes built_identify words → HasIdentify (rows_after built_identify.rules [] words)
@@ -223,6 +287,14 @@ draw_has words e =
           (read_by_default AnyText built_draw draw_rules words e (codes "rule") (inr (inl (refl, record { first = codes "B3/S23"; rest = []; is = refl }))));
     }
 
+table_has : (words : List Text) → Passes built_table words → HasTable (rows_after built_table.rules [] words)
+table_has words e = record {
+  csv = flag_in TableText (codes "csv") _
+      (read_by_default TableText built_table table_rules words e (codes "csv") (inl (refl, false_by_default))) (λ v q. q.0 refl);
+  json = flag_in TableText (codes "json") _
+      (read_by_default TableText built_table table_rules words e (codes "json") (inr (inl (refl, false_by_default)))) (λ v q. q.1 refl);
+}
+
 -- ---- the whole parse
 
 -- what a command comes to that the words name
@@ -248,7 +320,16 @@ each_enters name words = (
       λ stop names passes. inr (inr (inl (refl, identify_has words passes))),
       (
         λ stop names passes. inr (inr (inr (inl (refl, advance_has words passes)))),
-        (λ stop names passes. inr (inr (inr (inr (refl, draw_has words passes)))), (λ stop names passes. absurd (help_is_no_command name stop names), tt)),
+        (
+          λ stop names passes. inr (inr (inr (inr (inl (refl, draw_has words passes))))),
+          (
+            λ stop names passes. inr (inr (inr (inr (inr (inl refl))))),
+            (
+              λ stop names passes. inr (inr (inr (inr (inr (inr (refl, table_has words passes)))))),
+              (λ stop names passes. absurd (help_is_no_command name stop names), tt),
+            ),
+          ),
+        ),
       ),
     ),
   ),
@@ -277,10 +358,16 @@ is_command words matched =
     wanted true e = refl
     wanted false e = absurd (true≢false e)
 
+-- two names that differ are not the same
+other_name : {A : Type 0} (a b : Text) → a ≡ b → bytes_eq a b ≡ false → A
+other_name a b same differ = absurd (true≢false (sym ((bytes_eq-Decides a b).1 same) ∙ differ))
+
 -- the command `advance` has a number of generations
 pub advance_command : (rows : List Row) → IsCommand (Some (codes "advance", rows)) → HasAdvance rows
-advance_command rows (inl h) = absurd (true≢false (sym (ap (λ (name : Text). bytes_eq name (codes "run")) h.0)))
-advance_command rows (inr (inl h)) = absurd (true≢false (sym (ap (λ (name : Text). bytes_eq name (codes "objects")) h.0)))
-advance_command rows (inr (inr (inl h))) = absurd (true≢false (sym (ap (λ (name : Text). bytes_eq name (codes "identify")) h.0)))
+advance_command rows (inl h) = other_name _ _ h.0 refl
+advance_command rows (inr (inl h)) = other_name _ _ h.0 refl
+advance_command rows (inr (inr (inl h))) = other_name _ _ h.0 refl
 advance_command rows (inr (inr (inr (inl h)))) = h.1
-advance_command rows (inr (inr (inr (inr h)))) = absurd (true≢false (sym (ap (λ (name : Text). bytes_eq name (codes "draw")) h.0)))
+advance_command rows (inr (inr (inr (inr (inl h))))) = other_name _ _ h.0 refl
+advance_command rows (inr (inr (inr (inr (inr (inl h)))))) = other_name _ _ h refl
+advance_command rows (inr (inr (inr (inr (inr (inr h)))))) = other_name _ _ h.0 refl

@@ -1,30 +1,40 @@
 -- What some words come to, by computing the definitions.
-use Rattle.std.proofs.Common.{◌≡◌, [], ◌∷◌, Some, None, codes, refl, lit≤}
+use Rattle.std.proofs.Common.{◌≡◌, [], ◌∷◌, Some, None, true, false, codes, refl, lit≤}
 use Rattle.clap.specs.Faults.{fault_of}
-use Rattle.clap.specs.declared.error.kind.ErrorKind.TheVariants.{DisplayHelp, MissingSubcommand, ValueValidation}
+use Rattle.clap.specs.declared.error.kind.ErrorKind.TheVariants.{DisplayHelp, DisplayVersion, MissingSubcommand, UnknownArgument, ValueValidation}
 use Rattle.clap.proofs.OnLiterals.{clap_on_literals}
 use Rattle.census_words.specs.CommandLine.{census_app}
-use Rattle.census_words.specs.Asking.{AsksAdvance, AsksDraw, AsksIdentify, AsksObjects, AsksRun}
+use Rattle.census_words.specs.Asking.{AsksAdvance, AsksDraw, AsksIdentify, AsksMerge, AsksObjects, AsksRun, AsksTable}
+use Rattle.census_words.specs.Refusing.{AsksTwoFormats}
+use Rattle.census_words.specs.declared.request.TableFormat.TheVariants.{Csv, Json}
 
-run_alone : AsksRun (codes "run" ∷ []) 1000 4 None []
+run_alone : AsksRun (codes "run" ∷ []) 1000 4 None false false []
 unfolding clap_on_literals
-run_alone = (refl, record { rows = _; named = refl; bound_is = refl; bound_in = (lit≤ tt, lit≤ tt); workers_are = refl; workers_in = (lit≤ tt, lit≤ tt); cells_are = refl; cells_in = tt; folders_are = refl })
+run_alone = (refl, record { rows = _; named = refl; bound_is = refl; bound_in = (lit≤ tt, lit≤ tt); workers_are = refl; workers_in = (lit≤ tt, lit≤ tt); cells_are = refl; cells_in = tt; recursive_is = refl; keep_going_is = refl; folders_are = refl })
 
-run_among : AsksRun (codes "run" ∷ codes "a" ∷ codes "--bound" ∷ codes "50" ∷ codes "b" ∷ codes "--workers=2" ∷ []) 50 2 None (codes "a" ∷ codes "b" ∷ [])
+run_among : AsksRun (codes "run" ∷ codes "a" ∷ codes "--bound" ∷ codes "50" ∷ codes "b" ∷ codes "--workers=2" ∷ []) 50 2 None false false (codes "a" ∷ codes "b" ∷ [])
 unfolding clap_on_literals
-run_among = (refl, record { rows = _; named = refl; bound_is = refl; bound_in = (lit≤ tt, lit≤ tt); workers_are = refl; workers_in = (lit≤ tt, lit≤ tt); cells_are = refl; cells_in = tt; folders_are = refl })
+run_among = (refl, record { rows = _; named = refl; bound_is = refl; bound_in = (lit≤ tt, lit≤ tt); workers_are = refl; workers_in = (lit≤ tt, lit≤ tt); cells_are = refl; cells_in = tt; recursive_is = refl; keep_going_is = refl; folders_are = refl })
 
-run_short : AsksRun (codes "run" ∷ codes "-b" ∷ codes "50" ∷ codes "-w2" ∷ codes "a" ∷ []) 50 2 None (codes "a" ∷ [])
+run_short : AsksRun (codes "run" ∷ codes "-b" ∷ codes "50" ∷ codes "-w2" ∷ codes "a" ∷ []) 50 2 None false false (codes "a" ∷ [])
 unfolding clap_on_literals
-run_short = (refl, record { rows = _; named = refl; bound_is = refl; bound_in = (lit≤ tt, lit≤ tt); workers_are = refl; workers_in = (lit≤ tt, lit≤ tt); cells_are = refl; cells_in = tt; folders_are = refl })
+run_short = (refl, record { rows = _; named = refl; bound_is = refl; bound_in = (lit≤ tt, lit≤ tt); workers_are = refl; workers_in = (lit≤ tt, lit≤ tt); cells_are = refl; cells_in = tt; recursive_is = refl; keep_going_is = refl; folders_are = refl })
 
-run_small : AsksRun (codes "run" ∷ codes "--cells" ∷ codes "5" ∷ []) 1000 4 (Some 5) []
+run_small : AsksRun (codes "run" ∷ codes "--cells" ∷ codes "5" ∷ []) 1000 4 (Some 5) false false []
 unfolding clap_on_literals
-run_small = (refl, record { rows = _; named = refl; bound_is = refl; bound_in = (lit≤ tt, lit≤ tt); workers_are = refl; workers_in = (lit≤ tt, lit≤ tt); cells_are = refl; cells_in = (lit≤ tt, lit≤ tt); folders_are = refl })
+run_small = (refl, record { rows = _; named = refl; bound_is = refl; bound_in = (lit≤ tt, lit≤ tt); workers_are = refl; workers_in = (lit≤ tt, lit≤ tt); cells_are = refl; cells_in = (lit≤ tt, lit≤ tt); recursive_is = refl; keep_going_is = refl; folders_are = refl })
 
-objects_alone : AsksObjects (codes "objects" ∷ []) 10000 4 1000000 []
+run_flags : AsksRun (codes "run" ∷ codes "--recursive" ∷ codes "a" ∷ codes "-k" ∷ []) 1000 4 None true true (codes "a" ∷ [])
 unfolding clap_on_literals
-objects_alone = (refl, record { rows = _; named = refl; bound_is = refl; bound_in = (lit≤ tt, lit≤ tt); workers_are = refl; workers_in = (lit≤ tt, lit≤ tt); cells_are = refl; cells_in = (lit≤ tt, lit≤ tt); folders_are = refl })
+run_flags = (refl, record { rows = _; named = refl; bound_is = refl; bound_in = (lit≤ tt, lit≤ tt); workers_are = refl; workers_in = (lit≤ tt, lit≤ tt); cells_are = refl; cells_in = tt; recursive_is = refl; keep_going_is = refl; folders_are = refl })
+
+objects_alone : AsksObjects (codes "objects" ∷ []) 10000 4 1000000 false false []
+unfolding clap_on_literals
+objects_alone = (refl, record { rows = _; named = refl; bound_is = refl; bound_in = (lit≤ tt, lit≤ tt); workers_are = refl; workers_in = (lit≤ tt, lit≤ tt); cells_are = refl; cells_in = (lit≤ tt, lit≤ tt); recursive_is = refl; keep_going_is = refl; folders_are = refl })
+
+objects_flags : AsksObjects (codes "objects" ∷ codes "-rb5" ∷ codes "a" ∷ []) 5 4 1000000 true false (codes "a" ∷ [])
+unfolding clap_on_literals
+objects_flags = (refl, record { rows = _; named = refl; bound_is = refl; bound_in = (lit≤ tt, lit≤ tt); workers_are = refl; workers_in = (lit≤ tt, lit≤ tt); cells_are = refl; cells_in = (lit≤ tt, lit≤ tt); recursive_is = refl; keep_going_is = refl; folders_are = refl })
 
 identify_alone : AsksIdentify (codes "identify" ∷ []) 10000 []
 unfolding clap_on_literals
@@ -45,6 +55,26 @@ advance_file = (refl, record { rows = _; named = refl; generations_are = refl; g
 draw_glider : AsksDraw (codes "draw" ∷ codes "xq4_153" ∷ []) (codes "xq4_153") (codes "B3/S23")
 unfolding clap_on_literals
 draw_glider = (refl, record { rows = _; named = refl; code_is = refl; rule_is = refl })
+
+merge_alone : AsksMerge (codes "merge" ∷ []) []
+unfolding clap_on_literals
+merge_alone = (refl, record { rows = _; named = refl; reports_are = refl })
+
+merge_among : AsksMerge (codes "merge" ∷ codes "a" ∷ codes "-" ∷ []) (codes "a" ∷ codes "-" ∷ [])
+unfolding clap_on_literals
+merge_among = (refl, record { rows = _; named = refl; reports_are = refl })
+
+table_alone : AsksTable (codes "table" ∷ []) Csv []
+unfolding clap_on_literals
+table_alone = (refl, record { rows = _; named = refl; format_is = refl; reports_are = refl })
+
+table_json : AsksTable (codes "table" ∷ codes "a" ∷ codes "--json" ∷ codes "b" ∷ []) Json (codes "a" ∷ codes "b" ∷ [])
+unfolding clap_on_literals
+table_json = (refl, record { rows = _; named = refl; format_is = (refl, refl); reports_are = refl })
+
+table_both : AsksTwoFormats (codes "table" ∷ codes "--json" ∷ codes "--csv" ∷ [])
+unfolding clap_on_literals
+table_both = (refl, record { rows = _; named = refl; csv = refl; json = refl })
 
 bound_of_none : fault_of census_app (codes "run" ∷ codes "--bound" ∷ codes "0" ∷ []) ≡ ValueValidation ∷ []
 unfolding clap_on_literals
@@ -73,6 +103,14 @@ past_the_age = refl
 no_word : fault_of census_app [] ≡ MissingSubcommand ∷ []
 unfolding clap_on_literals
 no_word = refl
+
+version : fault_of census_app (codes "-V" ∷ []) ≡ DisplayVersion ∷ []
+unfolding clap_on_literals
+version = refl
+
+version_of_run : fault_of census_app (codes "run" ∷ codes "--version" ∷ []) ≡ UnknownArgument ∷ []
+unfolding clap_on_literals
+version_of_run = refl
 
 help : fault_of census_app (codes "run" ∷ codes "--help" ∷ []) ≡ DisplayHelp ∷ []
 unfolding clap_on_literals

@@ -1,19 +1,19 @@
 -- What the getters of the matches give.
-use Rattle.std.proofs.Common.{◌≡◌, ℕ, ◌≤◌, List, Option, Some, None, Result, inl, inr, option_map, refl, sym, ap, ◌∙◌, arith}
+use Rattle.std.proofs.Common.{◌≡◌, ℕ, ◌≤◌, List, Bool, true, false, Option, Some, None, Result, inl, inr, option_map, codes, refl, sym, ap, ◌∙◌, arith}
 use Rattle.std.specs.Prelude.{Box, IsSome}
 use Rattle.std.specs.Box.{box_value}
 use Rattle.std.specs.Str.Parse.{ExplainsUnsignedError, HasUnsignedDigitsIfOk, ParsesUnsigned, digits_value, without_leading_plus}
 use Rattle.std.specs.declared.num.ParseIntError.{ParseIntError}
 use Rattle.clap.specs.Matches.{ReadsOne, found_of, one_text, subcommand_name_of}
 use Rattle.clap.specs.Simple.{subcommand_rows, subcommand_rows_of}
-use Rattle.clap.specs.Values.{IsUnsignedIn}
+use Rattle.clap.specs.Values.{IsUnsignedIn, bool_text}
 use Rattle.clap.specs.Walk.{Row, rows_of}
 use Rattle.clap.specs.declared.parser.matches.ArgMatches.{ArgMatches}
 use Rattle.clap.specs.declared.parser.matches.ArgMatches.TheViews.{out-ArgMatches, out-SubCommand}
 use Rattle.clap.specs.declared.parser.matches.SubCommand.{SubCommand}
 use Rattle.clap.proofs.WalkLemmas.{one_text-rows}
-use Rattle.census_words.specs.Asking.{IsLimit, number_of}
-use Rattle.census_words.specs.Holding.{HasLimit, HasNumber, HasNumberIn}
+use Rattle.census_words.specs.Asking.{IsFlag, IsLimit, number_of}
+use Rattle.census_words.specs.Holding.{HasFlag, HasLimit, HasNumber, HasNumberIn}
 
 -- what `u64` reads of a text
 abbrev pub ReadsU64 : List ℕ → Result ℕ ParseIntError → Type 0
@@ -67,6 +67,12 @@ limit_within id rows (Some n) (inr h) is = number_within 1 4294967295 id rows n 
 -- a number of any range that fits has a number
 pub number_fits : (low high : ℕ) (id : List ℕ) (rows : List Row) → high ≤ 4294967295 → HasNumberIn low high id rows → HasNumber id rows
 number_fits low high id rows small h = (h.0, h.1, (h.2.0, h.2.1, omega arith, omega arith))
+
+-- a flag reads as its text says
+pub flag_read : (m : ArgMatches) (id : List ℕ) (r : Bool) → (one_text (found_of m) id ≡ Some (codes "true") → r ≡ true)
+    → (one_text (found_of m) id ≡ Some (codes "false") → r ≡ false) → HasFlag id (rows_of (found_of m)) → IsFlag id (rows_of (found_of m)) r
+flag_read m id r if_true if_false (true, is) = is ∙ ap (λ (b : Bool). Some (bool_text b)) (sym (if_true (one_text-rows (found_of m) id ∙ is)))
+flag_read m id r if_true if_false (false, is) = is ∙ ap (λ (b : Bool). Some (bool_text b)) (sym (if_false (one_text-rows (found_of m) id ∙ is)))
 
 pub some_is : {X : Type 0} (o : Option X) (x : X) → o ≡ Some x → IsSome o
 some_is o x e = rw e refl

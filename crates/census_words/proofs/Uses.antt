@@ -18,15 +18,20 @@ use Rattle.census_words.proofs.Rows.{HasFirst, Hold, IsPlain, with_values-Hold, 
 abbrev least_of : Rule → ℕ
 least_of a = (unwrap_or_range a.range).start_inclusive
 
--- its uses set or append its values
+-- its uses set or append its values, or those that it is given
 abbrev pub keeps_values : ArgAction → Bool
 keeps_values action.Set = true
 keeps_values action.Append = true
+keeps_values action.SetTrue = true
 keeps_values _ = false
+
+-- each use of the argument has one value or more, or is given one
+abbrev pub HasValue : Rule → Type 0
+HasValue a = (nat_lt 0 (least_of a) ≡ true) ⊎ HasFirst a.missing
 
 -- each use of the argument asks for help, or has one value or more that it keeps
 abbrev pub IsUsual : Rule → Type 0
-IsUsual a = (is_request (action_of a) ≡ true) ⊎ ((keeps_values (action_of a) ≡ true) × (nat_lt 0 (least_of a) ≡ true))
+IsUsual a = (is_request (action_of a) ≡ true) ⊎ ((keeps_values (action_of a) ≡ true) × HasValue a)
 
 -- as many values as a use wants are some
 has_first : (least most : ℕ) (values : List Text) → nat_lt 0 least ≡ true → range_kinds least most (length values) ≡ [] → HasFirst values
@@ -46,9 +51,10 @@ request_fails action.HelpShort again a values rows e none = not_cons _ _ none
 request_fails action.HelpLong again a values rows e none = not_cons _ _ none
 request_fails action.Version again a values rows e none = not_cons _ _ none
 
-first_stays : (a : Rule) (values : List Text) → HasFirst values → HasFirst (values_or_missing a values)
-first_stays a [] h = not_cons h.first h.rest (sym h.is)
-first_stays a (v ∷ vs) h = h
+some_value : (a : Rule) (values : List Text) → HasValue a → range_kinds (least_of a) (most_values a) (length values) ≡ [] → HasFirst (values_or_missing a values)
+some_value a (v ∷ vs) has e = record { first = v; rest = vs; is = refl }
+some_value a [] (inl some) e = let none = has_first (least_of a) (most_values a) [] some e in not_cons none.first none.rest (sym none.is)
+some_value a [] (inr missing) e = missing
 
 not_empty : (v : Text) (vs : List Text) → is_empty (v ∷ vs) ≡ false
 not_empty v vs = go (is_empty (v ∷ vs)) refl
@@ -77,7 +83,9 @@ module _ (Q : Text → Text → Type 0) where
       with_values-Hold Q a.id (reading_by a) CommandLine values (without a.id rows) some (values_pass a holds values none.1) holds.plain (without-Hold Q a.id rows h)
   kept action.Append again a holds keeps values rows some e h =
       with_values-Hold Q a.id (reading_by a) CommandLine values rows some (values_pass a holds values e) holds.plain h
-  kept action.SetTrue again a holds keeps values rows some e h = absurd (true≢false (sym keeps))
+  kept action.SetTrue again a holds keeps values rows some e h =
+      let none = neither_fails _ _ e in
+      with_values-Hold Q a.id (reading_by a) CommandLine values (without a.id rows) some (values_pass a holds values none.1) holds.plain (without-Hold Q a.id rows h)
   kept action.SetFalse again a holds keeps values rows some e h = absurd (true≢false (sym keeps))
   kept action.Count again a holds keeps values rows some e h = absurd (true≢false (sym keeps))
   kept action.Help again a holds keeps values rows some e h = absurd (true≢false (sym keeps))
@@ -94,7 +102,7 @@ module _ (Q : Text → Text → Type 0) where
       go : IsUsual a → Hold Q (used a values rows)
       go (inl asks) = request_fails (action_of a) again a (values_or_missing a values) rows asks none.1
       go (inr keeps) =
-          let some = first_stays a values (has_first (least_of a) (most_values a) values keeps.1 none.0) in
+          let some = some_value a values keeps.1 none.0 in
           kept (action_of a) again a holds keeps.0 (values_or_missing a values) rows some none.1 h
 
   -- ---- what waits for values, and a use of another argument

@@ -1,12 +1,16 @@
 -- What the words of a command line ask for, by the matches that clap gives for them.
-use Rattle.std.specs.Prelude.{◌≡◌, ℕ, ◌≤◌, List, [], Option, Some, None, map, codes, option_map, unwrap_or}
+use Rattle.std.specs.Prelude.{◌≡◌, ℕ, ◌≤◌, List, [], Bool, true, false, Option, Some, None, map, codes}
+use Rattle.std.specs.Prelude.{option_map, unwrap_or}
 use Rattle.std.specs.Str.Parse.{digits_value, without_leading_plus}
 use Rattle.clap.specs.Faults.{fault_of}
 use Rattle.clap.specs.Simple.{subcommand_of}
+use Rattle.clap.specs.Values.{bool_text}
 use Rattle.clap.specs.Walk.{Row, all_of, first_of, one_of}
 use Rattle.census_words.specs.CommandLine.{census_app}
 use Rattle.census_words.specs.declared.request.Request.{Request}
-use Rattle.census_words.specs.declared.request.Request.TheVariants.{Run, Objects, Identify, Advance, Draw}
+use Rattle.census_words.specs.declared.request.Request.TheVariants.{Run, Objects, Identify, Advance, Draw, Merge, Table}
+use Rattle.census_words.specs.declared.request.TableFormat.{TableFormat}
+use Rattle.census_words.specs.declared.request.TableFormat.TheVariants.{Csv, Json}
 
 -- ---- what the matches of a command say
 
@@ -18,14 +22,24 @@ number_of id rows = option_map (λ text. digits_value 10 (without_leading_plus t
 abbrev pub values_of : List ℕ → List Row → List (List ℕ)
 values_of id rows = unwrap_or (all_of id rows) []
 
+-- whether a flag was used
+abbrev pub IsFlag : List ℕ → List Row → Bool → Type 0
+IsFlag id rows used = one_of id rows ≡ Some (bool_text used)
+
 -- a limit is none, or from 1 to 4294967295
 abbrev pub IsLimit : Option ℕ → Type 0
 IsLimit None = Unit {0}
 IsLimit (Some n) = (1 ≤ n) × (n ≤ 4294967295)
 
+-- JSON is asked for by its flag alone, and CSV without that of JSON
+abbrev pub IsFormat : TableFormat → List Row → Type 0
+IsFormat Csv rows = IsFlag (codes "json") rows false
+IsFormat Json rows = IsFlag (codes "json") rows true × IsFlag (codes "csv") rows false
+
 -- The command and its matches are those of a census of these folders, or of the bundle on standard input where there is
 -- none.
-pub record GivesRun (command : Option (List ℕ × List Row)) (bound workers : ℕ) (cells : Option ℕ) (folders : List (List ℕ)) : Type 0 where
+pub record GivesRun (command : Option (List ℕ × List Row)) (bound workers : ℕ) (cells : Option ℕ)
+    (recursive keep_going : Bool) (folders : List (List ℕ)) : Type 0 where
   pub rows : List Row
   pub named : command ≡ Some (codes "run", rows)
   pub bound_is : number_of (codes "bound") rows ≡ Some bound
@@ -34,10 +48,13 @@ pub record GivesRun (command : Option (List ℕ × List Row)) (bound workers : �
   pub workers_in : (1 ≤ workers) × (workers ≤ 16)
   pub cells_are : number_of (codes "cells") rows ≡ cells
   pub cells_in : IsLimit cells
+  pub recursive_is : IsFlag (codes "recursive") rows recursive
+  pub keep_going_is : IsFlag (codes "keep-going") rows keep_going
   pub folders_are : values_of (codes "folder") rows ≡ folders
 
 -- those of a census of the objects of these folders, or of those of the bundle
-pub record GivesObjects (command : Option (List ℕ × List Row)) (bound workers cells : ℕ) (folders : List (List ℕ)) : Type 0 where
+pub record GivesObjects (command : Option (List ℕ × List Row)) (bound workers cells : ℕ)
+    (recursive keep_going : Bool) (folders : List (List ℕ)) : Type 0 where
   pub rows : List Row
   pub named : command ≡ Some (codes "objects", rows)
   pub bound_is : number_of (codes "bound") rows ≡ Some bound
@@ -46,10 +63,13 @@ pub record GivesObjects (command : Option (List ℕ × List Row)) (bound workers
   pub workers_in : (1 ≤ workers) × (workers ≤ 16)
   pub cells_are : number_of (codes "cells") rows ≡ Some cells
   pub cells_in : (1 ≤ cells) × (cells ≤ 4294967295)
+  pub recursive_is : IsFlag (codes "recursive") rows recursive
+  pub keep_going_is : IsFlag (codes "keep-going") rows keep_going
   pub folders_are : values_of (codes "folder") rows ≡ folders
 
 -- those of the blocks of these files, or, where there is none, of the block of standard input
-pub record GivesIdentify (command : Option (List ℕ × List Row)) (bound : ℕ) (files : List (List ℕ)) : Type 0 where
+pub record GivesIdentify (command : Option (List ℕ × List Row)) (bound : ℕ)
+    (files : List (List ℕ)) : Type 0 where
   pub rows : List Row
   pub named : command ≡ Some (codes "identify", rows)
   pub bound_is : number_of (codes "bound") rows ≡ Some bound
@@ -57,7 +77,8 @@ pub record GivesIdentify (command : Option (List ℕ × List Row)) (bound : ℕ)
   pub files_are : values_of (codes "file") rows ≡ files
 
 -- those of so many generations of this file, or, where there is none, of standard input
-pub record GivesAdvance (command : Option (List ℕ × List Row)) (generations : ℕ) (file : Option (List ℕ)) : Type 0 where
+pub record GivesAdvance (command : Option (List ℕ × List Row)) (generations : ℕ)
+    (file : Option (List ℕ)) : Type 0 where
   pub rows : List Row
   pub named : command ≡ Some (codes "advance", rows)
   pub generations_are : number_of (codes "generations") rows ≡ Some generations
@@ -71,12 +92,30 @@ pub record GivesDraw (command : Option (List ℕ × List Row)) (code rule : List
   pub code_is : first_of (codes "code") rows ≡ Some code
   pub rule_is : first_of (codes "rule") rows ≡ Some rule
 
+-- those of the one report that these reports make, or, where there is none, that of standard input
+pub record GivesMerge (command : Option (List ℕ × List Row)) (reports : List (List ℕ)) : Type 0 where
+  pub rows : List Row
+  pub named : command ≡ Some (codes "merge", rows)
+  pub reports_are : values_of (codes "report") rows ≡ reports
+
+-- those of the table in this format of these reports, or, where there is none, of that of standard input
+pub record GivesTable (command : Option (List ℕ × List Row)) (format : TableFormat)
+    (reports : List (List ℕ)) : Type 0 where
+  pub rows : List Row
+  pub named : command ≡ Some (codes "table", rows)
+  pub format_is : IsFormat format rows
+  pub reports_are : values_of (codes "report") rows ≡ reports
+
 abbrev pub Gives : Option (List ℕ × List Row) → Request → Type 0
-Gives command (Run bound workers cells folders) = GivesRun command bound workers cells (map (λ s. s.now) folders.items)
-Gives command (Objects bound workers cells folders) = GivesObjects command bound workers cells (map (λ s. s.now) folders.items)
+Gives command (Run bound workers cells recursive keep_going folders) =
+    GivesRun command bound workers cells recursive keep_going (map (λ s. s.now) folders.items)
+Gives command (Objects bound workers cells recursive keep_going folders) =
+    GivesObjects command bound workers cells recursive keep_going (map (λ s. s.now) folders.items)
 Gives command (Identify bound files) = GivesIdentify command bound (map (λ s. s.now) files.items)
 Gives command (Advance generations file) = GivesAdvance command generations (option_map (λ s. s.now) file)
 Gives command (Draw code rule) = GivesDraw command code.now rule.now
+Gives command (Merge reports) = GivesMerge command (map (λ s. s.now) reports.items)
+Gives command (Table format reports) = GivesTable command format (map (λ s. s.now) reports.items)
 
 -- ---- what the words ask for
 
@@ -85,12 +124,14 @@ abbrev pub IsMatched : List (List ℕ) → Type 0
 IsMatched words = fault_of census_app words ≡ []
 
 -- the words ask for the census of these folders, or of the bundle on standard input where there is none
-abbrev pub AsksRun : List (List ℕ) → ℕ → ℕ → Option ℕ → List (List ℕ) → Type 0
-AsksRun words bound workers cells folders = IsMatched words × GivesRun (subcommand_of census_app words) bound workers cells folders
+abbrev pub AsksRun : List (List ℕ) → ℕ → ℕ → Option ℕ → Bool → Bool → List (List ℕ) → Type 0
+AsksRun words bound workers cells recursive keep_going folders =
+    IsMatched words × GivesRun (subcommand_of census_app words) bound workers cells recursive keep_going folders
 
 -- for the census of the objects of these folders, or of those of the bundle
-abbrev pub AsksObjects : List (List ℕ) → ℕ → ℕ → ℕ → List (List ℕ) → Type 0
-AsksObjects words bound workers cells folders = IsMatched words × GivesObjects (subcommand_of census_app words) bound workers cells folders
+abbrev pub AsksObjects : List (List ℕ) → ℕ → ℕ → ℕ → Bool → Bool → List (List ℕ) → Type 0
+AsksObjects words bound workers cells recursive keep_going folders =
+    IsMatched words × GivesObjects (subcommand_of census_app words) bound workers cells recursive keep_going folders
 
 -- for the blocks of these files, or, where there is none, for the block of standard input
 abbrev pub AsksIdentify : List (List ℕ) → ℕ → List (List ℕ) → Type 0
@@ -103,6 +144,14 @@ AsksAdvance words generations file = IsMatched words × GivesAdvance (subcommand
 -- for the drawing of a code under a rule
 abbrev pub AsksDraw : List (List ℕ) → List ℕ → List ℕ → Type 0
 AsksDraw words code rule = IsMatched words × GivesDraw (subcommand_of census_app words) code rule
+
+-- for the one report that these reports make, or, where there is none, that of standard input
+abbrev pub AsksMerge : List (List ℕ) → List (List ℕ) → Type 0
+AsksMerge words reports = IsMatched words × GivesMerge (subcommand_of census_app words) reports
+
+-- for the table in this format of these reports, or, where there is none, of that of standard input
+abbrev pub AsksTable : List (List ℕ) → TableFormat → List (List ℕ) → Type 0
+AsksTable words format reports = IsMatched words × GivesTable (subcommand_of census_app words) format reports
 
 -- for this
 abbrev pub Asks : List (List ℕ) → Request → Type 0

@@ -3,6 +3,7 @@ use Rattle.std.specs.Prelude.{ℕ, List, [], ◌∷◌, Some, true, false, codes
 use Rattle.clap.specs.Lexer.{usize_max}
 use Rattle.clap.specs.Walk.{Rule}
 use Rattle.clap.specs.Simple.{App, Shape, new_rule, new_shape}
+use Rattle.clap.specs.declared.builder.action.ArgAction.TheVariants.{SetTrue}
 use Rattle.clap.specs.declared.builder.value_parser.ValueParser.TheVariants.{Unsigned}
 
 -- `--bound N`
@@ -47,6 +48,22 @@ limit_rule = record (new_rule (codes "cells")) {
 abbrev pub cells_rule : Rule
 cells_rule = record limit_rule { defaults = codes "1000000" ∷ [] }
 
+-- `--recursive`
+abbrev pub recursive_rule : Rule
+recursive_rule = record (new_rule (codes "recursive")) {
+  short = Some 114;
+  long = Some (codes "recursive");
+  action = Some SetTrue;
+}
+
+-- `--keep-going`
+abbrev pub keep_going_rule : Rule
+keep_going_rule = record (new_rule (codes "keep-going")) {
+  short = Some 107;
+  long = Some (codes "keep-going");
+  action = Some SetTrue;
+}
+
 -- `FOLDER..`
 abbrev pub folder_rule : Rule
 folder_rule = record (new_rule (codes "folder")) {
@@ -85,15 +102,32 @@ rule_rule = record (new_rule (codes "rule")) {
   defaults = codes "B3/S23" ∷ [];
 }
 
+-- `--csv`
+abbrev pub csv_rule : Rule
+csv_rule = record (new_rule (codes "csv")) { long = Some (codes "csv"); action = Some SetTrue }
+
+-- `--json`
+abbrev pub json_rule : Rule
+json_rule = record (new_rule (codes "json")) { long = Some (codes "json"); action = Some SetTrue }
+
+-- the `REPORT..` of `merge` and of `table`
+abbrev pub reports_rule : Rule
+reports_rule = record (new_rule (codes "report")) {
+  value_names = 1;
+  range = Some (record { start_inclusive = 1; end_inclusive = usize_max });
+}
+
 -- a command of this name with these arguments, in order
 abbrev pub shape_with : List ℕ → List Rule → Shape
 shape_with name rules = record (new_shape name) { rules = rules }
 
 abbrev pub run_shape : Shape
-run_shape = shape_with (codes "run") (bound_rule ∷ workers_rule ∷ limit_rule ∷ folder_rule ∷ [])
+run_shape = shape_with (codes "run")
+    (bound_rule ∷ workers_rule ∷ limit_rule ∷ recursive_rule ∷ keep_going_rule ∷ folder_rule ∷ [])
 
 abbrev pub objects_shape : Shape
-objects_shape = shape_with (codes "objects") (search_rule ∷ workers_rule ∷ cells_rule ∷ folder_rule ∷ [])
+objects_shape = shape_with (codes "objects")
+    (search_rule ∷ workers_rule ∷ cells_rule ∷ recursive_rule ∷ keep_going_rule ∷ folder_rule ∷ [])
 
 abbrev pub identify_shape : Shape
 identify_shape = shape_with (codes "identify") (search_rule ∷ files_rule ∷ [])
@@ -104,10 +138,20 @@ advance_shape = shape_with (codes "advance") (generations_rule ∷ file_rule ∷
 abbrev pub draw_shape : Shape
 draw_shape = shape_with (codes "draw") (code_rule ∷ rule_rule ∷ [])
 
--- `census` without its commands: it wants one, and its words come without its own name
+abbrev pub merge_shape : Shape
+merge_shape = shape_with (codes "merge") (reports_rule ∷ [])
+
+abbrev pub table_shape : Shape
+table_shape = shape_with (codes "table") (csv_rule ∷ json_rule ∷ reports_rule ∷ [])
+
+-- `census` without its commands: it wants one, its words come without its own name, and it tells its version
 abbrev pub bare_app : App
 bare_app = record {
-  top = record (new_shape (codes "census")) { no_binary_name = true; subcommand_required = true };
+  top = record (new_shape (codes "census")) {
+    no_binary_name = true;
+    has_version = true;
+    subcommand_required = true;
+  };
   subs = [];
 }
 
@@ -115,5 +159,6 @@ bare_app = record {
 abbrev pub census_app : App
 census_app = record {
   top = record bare_app.top { is_leaf = false };
-  subs = run_shape ∷ objects_shape ∷ identify_shape ∷ advance_shape ∷ draw_shape ∷ [];
+  subs = run_shape ∷ objects_shape ∷ identify_shape ∷ advance_shape ∷ draw_shape ∷ merge_shape
+      ∷ table_shape ∷ [];
 }

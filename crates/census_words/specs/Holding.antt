@@ -1,7 +1,8 @@
 -- What the matches of a command hold wherever clap gives them.
-use Rattle.std.specs.Prelude.{◌≡◌, ◌⊎◌, ℕ, List, Option, Some, None, codes}
+use Rattle.std.specs.Prelude.{◌≡◌, ◌⊎◌, ℕ, List, Bool, Option, Some, None, codes}
 use Rattle.clap.specs.Values.{IsUnsignedIn}
 use Rattle.clap.specs.Walk.{Row, first_of, one_of}
+use Rattle.census_words.specs.Asking.{IsFlag}
 
 -- a number of this range
 abbrev pub HasNumberIn : ℕ → ℕ → List ℕ → List Row → Type 0
@@ -15,21 +16,29 @@ HasNumber id rows = HasNumberIn 0 4294967295 id rows
 abbrev pub HasLimit : List ℕ → List Row → Type 0
 HasLimit id rows = (one_of id rows ≡ None) ⊎ HasNumberIn 1 4294967295 id rows
 
+-- a flag, used or not
+abbrev pub HasFlag : List ℕ → List Row → Type 0
+HasFlag id rows = (used : Bool) × IsFlag id rows used
+
 -- a text
 abbrev pub HasText : List ℕ → List Row → Type 0
 HasText id rows = (text : List ℕ) × (first_of id rows ≡ Some text)
 
--- the matches of `run` have their numbers
+-- the matches of `run` have their numbers and flags
 pub record HasRun (rows : List Row) : Type 0 where
   pub bound : HasNumberIn 1 1000000 (codes "bound") rows
   pub workers : HasNumberIn 1 16 (codes "workers") rows
   pub cells : HasLimit (codes "cells") rows
+  pub recursive : HasFlag (codes "recursive") rows
+  pub keep_going : HasFlag (codes "keep-going") rows
 
 -- those of `objects` have theirs
 pub record HasObjects (rows : List Row) : Type 0 where
   pub bound : HasNumberIn 1 100000 (codes "bound") rows
   pub workers : HasNumberIn 1 16 (codes "workers") rows
   pub cells : HasNumberIn 1 4294967295 (codes "cells") rows
+  pub recursive : HasFlag (codes "recursive") rows
+  pub keep_going : HasFlag (codes "keep-going") rows
 
 -- those of `identify` have theirs
 pub record HasIdentify (rows : List Row) : Type 0 where
@@ -44,6 +53,11 @@ pub record HasDraw (rows : List Row) : Type 0 where
   pub code : HasText (codes "code") rows
   pub rule : HasText (codes "rule") rows
 
+-- those of `table` have their flags
+pub record HasTable (rows : List Row) : Type 0 where
+  pub csv : HasFlag (codes "csv") rows
+  pub json : HasFlag (codes "json") rows
+
 -- a command with the matches that it has to have
 abbrev pub IsCommand : Option (List ℕ × List Row) → Type 0
 IsCommand None = ⊥
@@ -52,4 +66,6 @@ IsCommand (Some (name, rows)) =
     ⊎ (((name ≡ codes "objects") × HasObjects rows)
     ⊎ (((name ≡ codes "identify") × HasIdentify rows)
     ⊎ (((name ≡ codes "advance") × HasAdvance rows)
-    ⊎ ((name ≡ codes "draw") × HasDraw rows))))
+    ⊎ (((name ≡ codes "draw") × HasDraw rows)
+    ⊎ ((name ≡ codes "merge")
+    ⊎ ((name ≡ codes "table") × HasTable rows))))))

@@ -2,12 +2,15 @@
 ghost use Rattle.std.specs.Prelude.{◌≡◌, IfOk, false};
 ghost use Rattle.clap.specs.Words.{app_of, rule_of, shape_of};
 ghost use Rattle.clap.specs.declared.builder.command.Command.TheViews.{out-Command};
-ghost use Rattle.census_words.specs.CommandLine.{advance_shape, bare_app, bound_rule, cells_rule, census_app, code_rule, draw_shape};
-ghost use Rattle.census_words.specs.CommandLine.{file_rule, files_rule, folder_rule, generations_rule, identify_shape, limit_rule};
-ghost use Rattle.census_words.specs.CommandLine.{objects_shape, run_shape, rule_rule, search_rule, workers_rule};
+ghost use Rattle.census_words.specs.CommandLine.{advance_shape, bare_app, census_app, draw_shape, identify_shape};
+ghost use Rattle.census_words.specs.CommandLine.{merge_shape, objects_shape, run_shape, table_shape};
+ghost use Rattle.census_words.specs.CommandLine.{bound_rule, cells_rule, code_rule, csv_rule, file_rule, files_rule};
+ghost use Rattle.census_words.specs.CommandLine.{folder_rule, generations_rule, json_rule, keep_going_rule, limit_rule};
+ghost use Rattle.census_words.specs.CommandLine.{recursive_rule, reports_rule, rule_rule, search_rule, workers_rule};
 
 use crate::help;
-use clap::{Arg, Command, value_parser};
+use clap::error::ErrorKind;
+use clap::{Arg, ArgAction, Command, value_parser};
 use std::alloc::{AllocError, Global};
 
 fn bound<'a>(alloc: Global) -> Arg<'a>
@@ -67,6 +70,26 @@ fn workers<'a>(alloc: Global) -> Arg<'a>
         .help("Threads that work, 1 to 16")
 }
 
+fn recursive<'a>(alloc: Global) -> Arg<'a>
+    ensures { (rule_of result ≡ recursive_rule) × (result.global ≡ false) }
+{
+    Arg::new(alloc, "recursive")
+        .short('r')
+        .long("recursive")
+        .action(ArgAction::SetTrue)
+        .help("Take the folders below each FOLDER too that have *.rle files")
+}
+
+fn keep_going<'a>(alloc: Global) -> Arg<'a>
+    ensures { (rule_of result ≡ keep_going_rule) × (result.global ≡ false) }
+{
+    Arg::new(alloc, "keep-going")
+        .short('k')
+        .long("keep-going")
+        .action(ArgAction::SetTrue)
+        .help(help::KEEP_GOING)
+}
+
 fn folder<'a>(alloc: Global) -> Arg<'a>
     ensures { (rule_of result ≡ folder_rule) × (result.global ≡ false) }
 {
@@ -122,6 +145,33 @@ fn rule<'a>(alloc: Global) -> Arg<'a>
         .help("A Life-like rule without B0")
 }
 
+fn csv<'a>(alloc: Global) -> Arg<'a>
+    ensures { (rule_of result ≡ csv_rule) × (result.global ≡ false) }
+{
+    Arg::new(alloc, "csv")
+        .long("csv")
+        .action(ArgAction::SetTrue)
+        .help("Comma-separated values under a row of names, as without a format")
+}
+
+fn json<'a>(alloc: Global) -> Arg<'a>
+    ensures { (rule_of result ≡ json_rule) × (result.global ≡ false) }
+{
+    Arg::new(alloc, "json")
+        .long("json")
+        .action(ArgAction::SetTrue)
+        .help("JSON, one object a line")
+}
+
+fn reports<'a>(alloc: Global) -> Arg<'a>
+    ensures { (rule_of result ≡ reports_rule) × (result.global ≡ false) }
+{
+    Arg::new(alloc, "report")
+        .value_name("REPORT")
+        .num_args(1..)
+        .help(help::REPORT)
+}
+
 fn run<'a>(alloc: Global) -> Result<Command<'a>, AllocError>
     ensures { IfOk result (λ c. (shape_of c ≡ run_shape) × ((out-Command c).has_globals ≡ false)) }
 {
@@ -131,6 +181,8 @@ fn run<'a>(alloc: Global) -> Result<Command<'a>, AllocError>
         .arg(bound(alloc))?
         .arg(workers(alloc))?
         .arg(limit(alloc))?
+        .arg(recursive(alloc))?
+        .arg(keep_going(alloc))?
         .arg(folder(alloc))
 }
 
@@ -143,6 +195,8 @@ fn objects<'a>(alloc: Global) -> Result<Command<'a>, AllocError>
         .arg(search(alloc))?
         .arg(workers(alloc))?
         .arg(cells(alloc))?
+        .arg(recursive(alloc))?
+        .arg(keep_going(alloc))?
         .arg(folder(alloc))
 }
 
@@ -176,11 +230,42 @@ fn draw<'a>(alloc: Global) -> Result<Command<'a>, AllocError>
         .arg(rule(alloc))
 }
 
+fn merge<'a>(alloc: Global) -> Result<Command<'a>, AllocError>
+    ensures { IfOk result (λ c. (shape_of c ≡ merge_shape) × ((out-Command c).has_globals ≡ false)) }
+{
+    Command::new(alloc, "merge")
+        .about("Make one report of several: all their collections, numbered on")
+        .after_help(help::MERGE)
+        .arg(reports(alloc))
+}
+
+fn table<'a>(alloc: Global) -> Result<Command<'a>, AllocError>
+    ensures { IfOk result (λ c. (shape_of c ≡ table_shape) × ((out-Command c).has_globals ≡ false)) }
+{
+    Command::new(alloc, "table")
+        .about("Write a row for each pattern of reports")
+        .after_help(help::TABLE)
+        .arg(csv(alloc))?
+        .arg(json(alloc))?
+        .arg(reports(alloc))
+}
+
+/// What is said of words that name both formats of a table, as clap says it of arguments in conflict.
+pub(crate) fn two_formats(alloc: Global) -> Result<String, AllocError> {
+    let mut command = table(alloc)?.bin_name("census table")?;
+    let error = command.error(
+        ErrorKind::ArgumentConflict,
+        "the argument '--csv' cannot be used with '--json'",
+    )?;
+    format!(in alloc; "{error}")
+}
+
 fn bare<'a>(alloc: Global) -> Result<Command<'a>, AllocError>
     ensures { IfOk result (λ c. app_of c ≡ bare_app) }
 {
     let named = Command::new(alloc, "census")
         .about("Takes a census of Life-like patterns: what each becomes on the unbounded plane")
+        .version("0.1.0")
         .after_help(help::PROGRAM)
         .bin_name("census")?;
     Ok(named.no_binary_name(true).subcommand_required(true))
@@ -195,5 +280,7 @@ pub(crate) fn census<'a>(alloc: Global) -> Result<Command<'a>, AllocError>
         .subcommand(objects(alloc)?)?
         .subcommand(identify(alloc)?)?
         .subcommand(advance(alloc)?)?
-        .subcommand(draw(alloc)?)
+        .subcommand(draw(alloc)?)?
+        .subcommand(merge(alloc)?)?
+        .subcommand(table(alloc)?)
 }

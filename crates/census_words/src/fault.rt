@@ -9,7 +9,7 @@ use thiserror::Error;
 /// Why words are no request. A text is what is to be printed, with its line ends.
 #[derive(Debug, PartialEq, Drop, Error)]
 pub enum WordsFault {
-    /// They ask for help, and this is it. It is for standard output.
+    /// They ask for help or for the version, and this is it. It is for standard output.
     #[error("{0}")]
     Help(String),
     /// They are refused, and this says why. It is for standard error.
@@ -51,7 +51,7 @@ pub(crate) fn fault_of(alloc: Global, error: &clap::Error) -> WordsFault
     };
     match error.kind() {
         ErrorKind::OutOfMemory => WordsFault::Memory,
-        ErrorKind::DisplayHelp => WordsFault::Help(text),
+        ErrorKind::DisplayHelp | ErrorKind::DisplayVersion => WordsFault::Help(text),
         _ => WordsFault::Refused(text),
     }
 }

@@ -54,25 +54,39 @@ Lines of a report, of pattern I of collection C, both counted from 1:
     };
 }
 
+/// What `--keep-going` does.
+pub const KEEP_GOING: &str = "\
+Go on past what can't be read, and exit with status 4 then.
+A file that can't be read has FAULT 0 in the report";
+
 /// What a FILE is.
 pub const FILE: &str = "An RLE text; - is standard input.\nWith no FILE standard input is read";
+
+/// What a REPORT is.
+pub const REPORT: &str = "\
+A file with a report of run or objects, or with several after one another;
+- is standard input. With no REPORT standard input is read";
 
 /// After the help of the program.
 pub const PROGRAM: &str = with_report!(
     "\
-run [--bound N] [--workers N] [--cells N] [FOLDER]...
+run [--bound N] [--workers N] [--cells N] [-r] [-k] [FOLDER]...
   -b, --bound N    generations that are searched, 1 to 1000000 [default: 1000]
   -w, --workers N  threads that work, 1 to 16 [default: 4]
       --cells N    live cells that a pattern may have, 1 to 4294967295
                    [default: no limit]
+  -r, --recursive  take the folders below each FOLDER too that have *.rle files
+  -k, --keep-going go on past what can't be read, and exit with status 4 then; a
+                   file that can't be read has FAULT 0 in the report
   FOLDER           a collection: its patterns are the *.rle files in the folder;
                    with no FOLDER a bundle of collections is read from standard
                    input
-objects [--bound N] [--workers N] [--cells N] [FOLDER]...
+objects [--bound N] [--workers N] [--cells N] [-r] [-k] [FOLDER]...
                    as run, but another report ('census help objects'), and
   -b, --bound N    1 to 100000 [default: 10000]
       --cells N    1 to 4294967295 [default: 1000000]
 identify [--bound N] [FILE]...
+                   what each pattern is ('census help identify')
   -b, --bound N    1 to 100000 [default: 10000]
   FILE             an RLE text; - is standard input; with no FILE standard input
                    is read
@@ -82,6 +96,13 @@ advance N [FILE]
 draw CODE [--rule R]
   CODE             an apgcode, or the part of one after its first _
       --rule R     a Life-like rule without B0 [default: B3/S23]
+merge [REPORT]...  one report of all collections ('census help merge')
+  REPORT           a file with a report of run or objects, or with several after
+                   one another; - or no REPORT is standard input
+table [--csv | --json] [REPORT]...
+                   a row for each pattern of reports ('census help table')
+      --csv        comma-separated values, as without a format
+      --json       JSON, one object a line
 
 "
 );
@@ -96,18 +117,18 @@ pub const OBJECTS: &str = with_objects!();
 pub const IDENTIFY: &str = with_statuses!(
     "\
 Lines of each text, with an empty line between two texts:
-  file FILE            not of standard input
+  file FILE            where it is not standard input
   rule RULE
   population CELLS     of generation 0
   box WIDTH HEIGHT     around them
 and where the pattern recurs in the bound
-  onset GENERATION     the first generation that comes again
+  onset GENERATION     the first that comes again,
   period GENERATIONS   after so many,
   displacement DX DY   moved so far to the right and down
-  apgcode CODE
+  apgcode CODE         of what it has become
 or else where it has fallen apart in the bound
-  objects COUNT        has become so many objects
-  part CODE COUNT      its objects with CODE
+  objects COUNT        that it has become
+  part CODE COUNT      those with CODE
 or else
   unresolved N         neither within N generations
 
@@ -120,6 +141,31 @@ Example: census identify --bound 50000 glider.rle gun.rle
 pub const ADVANCE: &str = with_statuses!(
     "\
 Example: census advance 1103 r_pentomino.rle
+
+"
+);
+
+/// After the help of `merge`.
+pub const MERGE: &str = with_statuses!(
+    "\
+The collections of the first REPORT come first, those of the others are numbered
+on, and the last line, end, has the sums.
+
+Example: census merge part1.txt part2.txt >census.txt
+         census run *.parts | census merge - other.txt
+
+"
+);
+
+/// After the help of `table`.
+pub const TABLE: &str = with_statuses!(
+    "\
+The columns: collection, collection_name, pattern, name, status (ok, ash, none,
+large or bad), rule, population, onset, period, dx, dy, code, fault; where a name
+is no UTF-8, its bytes in hex in collection_name_hex or name_hex.
+
+Example: census table --csv census.txt >census.csv
+         census run soups | census table --json
 
 "
 );

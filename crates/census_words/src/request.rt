@@ -1,14 +1,24 @@
 //! What words ask for.
-ghost use Rattle.std.specs.Prelude.{◌≡◌, IfOk, MatchResult, Some, map, option_map};
+ghost use Rattle.std.specs.Prelude.{◌≡◌, IfOk, MatchResult, Some, codes, map, option_map};
 ghost use Rattle.clap.specs.Words.{first_of, found_of, rows_of, subcommand_rows_of};
-ghost use Rattle.census_words.specs.Asking.{Asks, Gives, number_of, values_of};
-ghost use Rattle.census_words.specs.Holding.{HasLimit, HasNumber, HasText, IsCommand};
-ghost use Rattle.census_words.specs.Refusing.{Refuses};
+ghost use Rattle.census_words.specs.Asking.{Asks, Gives, IsFlag, number_of, values_of};
+ghost use Rattle.census_words.specs.Holding.{HasFlag, HasLimit, HasNumber, HasObjects, HasRun, HasTable, HasText};
+ghost use Rattle.census_words.specs.Holding.{IsCommand};
+ghost use Rattle.census_words.specs.Refusing.{NamesFormat, Refuses, RefusesCommand};
 
 use crate::command;
 use crate::fault::{WordsFault, fault_of};
 use clap::ArgMatches;
 use std::alloc::{AllocError, Global};
+
+/// How a table is written.
+#[derive(Clone, Copy, Debug, PartialEq, Eq)]
+pub enum TableFormat {
+    /// Comma-separated values under a row of the columns' names.
+    Csv,
+    /// One JSON object a line.
+    Json,
+}
 
 /// What words ask for.
 #[derive(Debug, PartialEq, Drop)]
@@ -21,6 +31,10 @@ pub enum Request<'a> {
         workers: u32,
         /// How many live cells a pattern may have, 1 to 4,294,967,295, where there is such a limit.
         cells: Option<u32>,
+        /// Whether the folders below a folder are collections too.
+        recursive: bool,
+        /// Whether the census goes on past what can't be read.
+        keep_going: bool,
         /// In the order of the words.
         folders: Vec<&'a str>,
     },
@@ -33,6 +47,10 @@ pub enum Request<'a> {
         workers: u32,
         /// How many live cells a pattern may have, 1 to 4,294,967,295.
         cells: u32,
+        /// Whether the folders below a folder are collections too.
+        recursive: bool,
+        /// Whether the census goes on past what can't be read.
+        keep_going: bool,
         /// In the order of the words.
         folders: Vec<&'a str>,
     },
@@ -54,6 +72,17 @@ pub enum Request<'a> {
         code: &'a str,
         rule: &'a str,
     },
+    /// One report of all collections of these reports, or, where there is none, of that on standard input.
+    Merge {
+        /// In the order of the words. `-` is standard input.
+        reports: Vec<&'a str>,
+    },
+    /// A row for each pattern of these reports, or, where there is none, of that on standard input.
+    Table {
+        format: TableFormat,
+        /// In the order of the words. `-` is standard input.
+        reports: Vec<&'a str>,
+    },
 }
 
 // The number of an argument that has one.
@@ -73,6 +102,14 @@ fn limit(matches: &ArgMatches<'_>, id: &str) -> Option<u32>
         Some(number) => Some(number as u32),
         None => None,
     }
+}
+
+// Whether a flag was used.
+fn flag(matches: &ArgMatches<'_>, id: &str) -> bool
+    requires { HasFlag id.now (rows_of (found_of matches.now)) }
+    ensures { IsFlag id.now (rows_of (found_of matches.now)) result }
+{
+    matches.get_flag(id)
 }
 
 // The text of an argument that has one.
@@ -100,26 +137,73 @@ fn texts<'a>(alloc: Global, matches: &ArgMatches<'a>, id: &str) -> Result<Vec<&'
     }
 }
 
+// What the matches of `run` ask for.
+fn run_of<'a>(alloc: Global, run: &ArgMatches<'a>) -> Result<Request<'a>, AllocError>
+    requires { HasRun (rows_of (found_of run.now)) }
+    ensures { IfOk result (Gives (Some (codes "run", rows_of (found_of run.now)))) }
+{
+    Ok(Request::Run {
+        bound: number(run, "bound"),
+        workers: number(run, "workers"),
+        cells: limit(run, "cells"),
+        recursive: flag(run, "recursive"),
+        keep_going: flag(run, "keep-going"),
+        folders: texts(alloc, run, "folder")?,
+    })
+}
+
+// What the matches of `objects` ask for.
+fn objects_of<'a>(alloc: Global, objects: &ArgMatches<'a>) -> Result<Request<'a>, AllocError>
+    requires { HasObjects (rows_of (found_of objects.now)) }
+    ensures { IfOk result (Gives (Some (codes "objects", rows_of (found_of objects.now)))) }
+{
+    Ok(Request::Objects {
+        bound: number(objects, "bound"),
+        workers: number(objects, "workers"),
+        cells: number(objects, "cells"),
+        recursive: flag(objects, "recursive"),
+        keep_going: flag(objects, "keep-going"),
+        folders: texts(alloc, objects, "folder")?,
+    })
+}
+
+// The format that the flags of `table` name, where they don't name two.
+fn format(table: &ArgMatches<'_>) -> Option<TableFormat>
+    requires { HasTable (rows_of (found_of table.now)) }
+    ensures { NamesFormat (rows_of (found_of table.now)) result }
+{
+    match (flag(table, "csv"), flag(table, "json")) {
+        (true, true) => None,
+        (false, true) => Some(TableFormat::Json),
+        (_, false) => Some(TableFormat::Csv),
+    }
+}
+
+// What the matches of `table` ask for.
+fn table_of<'a>(alloc: Global, table: &ArgMatches<'a>) -> Result<Request<'a>, WordsFault>
+    requires { HasTable (rows_of (found_of table.now)) }
+    ensures { MatchResult result (Gives (Some (codes "table", rows_of (found_of table.now))))
+        (RefusesCommand (Some (codes "table", rows_of (found_of table.now)))) }
+{
+    let Some(format) = format(table) else {
+        return Err(WordsFault::Refused(command::two_formats(alloc)?));
+    };
+    Ok(Request::Table {
+        format,
+        reports: texts(alloc, table, "report")?,
+    })
+}
+
 // What the matches ask for.
-fn request_of<'a>(alloc: Global, matches: &ArgMatches<'a>) -> Result<Request<'a>, AllocError>
+fn request_of<'a>(alloc: Global, matches: &ArgMatches<'a>) -> Result<Request<'a>, WordsFault>
     requires { IsCommand (subcommand_rows_of matches.now) }
-    ensures { IfOk result (Gives (subcommand_rows_of matches.now)) }
+    ensures { MatchResult result (Gives (subcommand_rows_of matches.now)) (RefusesCommand (subcommand_rows_of matches.now)) }
 {
     if let Some(run) = matches.subcommand_matches("run") {
-        return Ok(Request::Run {
-            bound: number(run, "bound"),
-            workers: number(run, "workers"),
-            cells: limit(run, "cells"),
-            folders: texts(alloc, run, "folder")?,
-        });
+        return Ok(run_of(alloc, run)?);
     }
     if let Some(objects) = matches.subcommand_matches("objects") {
-        return Ok(Request::Objects {
-            bound: number(objects, "bound"),
-            workers: number(objects, "workers"),
-            cells: number(objects, "cells"),
-            folders: texts(alloc, objects, "folder")?,
-        });
+        return Ok(objects_of(alloc, objects)?);
     }
     if let Some(identify) = matches.subcommand_matches("identify") {
         return Ok(Request::Identify {
@@ -139,21 +223,31 @@ fn request_of<'a>(alloc: Global, matches: &ArgMatches<'a>) -> Result<Request<'a>
             rule: text(draw, "rule"),
         });
     }
+    if let Some(merge) = matches.subcommand_matches("merge") {
+        return Ok(Request::Merge {
+            reports: texts(alloc, merge, "report")?,
+        });
+    }
+    if let Some(table) = matches.subcommand_matches("table") {
+        return table_of(alloc, table);
+    }
     unreachable!()
 }
 
 /// What the words after the program's own name ask for.
 ///
-/// What words mean is what clap's matches for them say: their command, the value of each option or its default, and the
-/// folders or files in order. Numbers are decimal, with any zeros or one `+` in front, and their ranges are clap's to judge.
-/// A fault other than `Memory` comes only where clap has no matches for the words: `Help` where it answers them with help,
-/// `Refused` where it refuses them.
+/// What words mean is what clap's matches for them say: their command, the value of each option or its default, whether
+/// each flag is used, and the folders, files or reports in order. Numbers are decimal, with any zeros or one `+` in front, and
+/// their ranges are clap's to judge.
+/// A fault other than `Memory` comes only where clap has no matches for the words: `Help` where it answers them with help
+/// or with the version, `Refused` where it refuses them. Words that name both formats of `table` alone are `Refused`
+/// though clap has matches for them.
 pub fn read_words<'a>(alloc: Global, words: &'a [&'a str]) -> Result<Request<'a>, WordsFault>
     ensures { MatchResult result (Asks (map (λ s. s.now) words.entry.now)) (Refuses (map (λ s. s.now) words.entry.now)) }
 {
     let command = command::census(alloc)?;
     match command.try_get_matches_from(words) {
-        Ok(matches) => Ok(request_of(alloc, &matches)?),
+        Ok(matches) => request_of(alloc, &matches),
         Err(error) => Err(fault_of(alloc, &error)),
     }
 }

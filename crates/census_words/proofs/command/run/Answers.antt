@@ -11,5 +11,7 @@ returns c =
     let with_bound = adds_rule _ _ _ _ _ c.in_ok-arg.ensures c.bound.ensures bare in
     let with_workers = adds_rule _ _ _ _ _ c.in_ok-arg-2.ensures c.workers.ensures with_bound in
     let with_cells = adds_rule _ _ _ _ _ c.in_ok-arg-3.ensures c.limit.ensures with_workers in
-    IfOk-weaker c.arg-4.result _ _
-    (λ command adds. let whole = adds_rule _ _ _ _ _ adds c.folder.ensures with_cells in (ap (λ (a : App). a.top) whole.0, whole.1)) c.arg-4.ensures
+    let with_recursive = adds_rule _ _ _ _ _ c.in_ok-arg-4.ensures c.recursive.ensures with_cells in
+    let with_keep_going = adds_rule _ _ _ _ _ c.in_ok-arg-5.ensures c.keep_going.ensures with_recursive in
+    IfOk-weaker c.arg-6.result _ _
+    (λ command adds. let whole = adds_rule _ _ _ _ _ adds c.folder.ensures with_keep_going in (ap (λ (a : App). a.top) whole.0, whole.1)) c.arg-6.ensures

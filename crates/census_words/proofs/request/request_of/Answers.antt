@@ -15,7 +15,7 @@ returns-in-Some-subcommand_matches-3 c =
     record {
       rows = rows;
       named = named;
-      generations_are = c.number-in-Some-subcommand_matches-3-2.ensures;
-      generations_in = (number_within 0 4194304 (codes "generations") rows _ has.generations c.number-in-Some-subcommand_matches-3-2.ensures).1;
+      generations_are = c.number-in-Some-subcommand_matches-3.ensures;
+      generations_in = (number_within 0 4194304 (codes "generations") rows _ has.generations c.number-in-Some-subcommand_matches-3.ensures).1;
       file_is = c.text_if_used.ensures;
     }

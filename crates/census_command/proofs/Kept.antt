@@ -1,0 +1,82 @@
+-- What a census that goes on past what can't be read wrote and told.
+use Rattle.std.proofs.Common.{◌≡◌, ◌≢◌, ◌⊎◌, ℕ, ◌+◌, ◌<◌, Bool, true, false, List, [], ◌∷◌, ◌++◌, length, get_or, drop, Result, Ok, Err, MatchResult, inl, inr, refl, sym, ap, ◌∙◌, MatchBool}
+use Rattle.std.proofs.lemmas.List.{append_assoc, drop_more}
+use Rattle.census_folders.specs.declared.loss.Loss.{Loss}
+use Rattle.census_identify.proofs.Written.{tells_more}
+use Rattle.census_identify.specs.Streams.{Sink}
+use Rattle.census_command.specs.Keeps.{IsKept, KeepsInto, StopsKeeping, StopsKeepingIn, kept_status, lost_line, lost_lines}
+use Rattle.census_command.specs.Shelves.{Tellings}
+use Rattle.census_command.specs.declared.keeping.Gathered.{Gathered}
+use Rattle.census_command.specs.declared.run_error.RunError.{RunError}
+use Rattle.census_command.specs.Sources.{IsWhole, Kept, source_of}
+use Rattle.census_command.specs.Streams.{Errors, Tells, TellsMore}
+
+-- # Standard error
+
+abbrev sink_of : Errors → Sink
+sink_of e = record { written = e.told; failed = e.failed }
+
+-- one text was told after another
+pub told_after : (xs ys : List ℕ) (a b c : Errors) → Tells xs a b → TellsMore ys b c → Tells (xs ++ ys) a c
+told_after xs ys a b c first more = tells_more xs ys (sink_of a) (sink_of b) (sink_of c) first (as_sinks b.failed more)
+  where
+    as_sinks : (f : Bool) → MatchBool f (c ≡ b) (Tells ys b c) → MatchBool f (sink_of c ≡ sink_of b) (Tells ys b c)
+    as_sinks true same = ap sink_of same
+    as_sinks false told = told
+
+-- # The lines
+
+-- the line of one more loss
+pub next_line : (lost : List Loss) (i : ℕ) (loss : Loss) (lines more whole : List ℕ) → i < length lost → loss ≡ get_or lost i loss
+    → more ≡ lines ++ lost_line loss → lines ++ lost_lines (drop i lost) ≡ whole → more ++ lost_lines (drop (i + 1) lost) ≡ whole
+next_line lost i loss lines more whole within at is before =
+    let rest = lost_lines (drop (i + 1) lost) in
+    let next : lost_lines (drop i lost) ≡ lost_line loss ++ rest = ap lost_lines (drop_more lost i loss within ∙ ap (λ l. l ∷ drop (i + 1) lost) (sym at)) in
+    ap (λ l. l ++ rest) is ∙ append_assoc lines (lost_line loss) rest ∙ ap (λ l. lines ++ l) (sym next) ∙ before
+
+-- # The folders of the words themselves
+
+pub gathered_plain : (shelf : Tellings) (recursive : Bool) (words : List (List ℕ)) (r : Result Gathered RunError) → recursive ≡ false
+    → MatchResult r (KeepsInto shelf.listed shelf.held words []) (StopsKeepingIn shelf.listed shelf.held words)
+    → MatchResult r (λ gathered. (lost : List Loss) × IsKept shelf recursive words gathered.bundle lost × (gathered.lines.items ≡ lost_lines lost))
+    (StopsKeeping shelf recursive words)
+gathered_plain shelf recursive words (Ok gathered) off kept = (
+  kept.kept.lost,
+  record { folders = words; way = []; places = rw off (refl, refl); kept = kept.kept; reads = kept.reads; bundle_is = kept.bundle_is; lost_is = refl },
+  kept.lines_are,
+)
+gathered_plain shelf recursive words (Err error) off (inl h) = inl h
+gathered_plain shelf recursive words (Err error) off (inr h) =
+    inr (record { folders = words; way = []; places = rw off (refl, refl); fault = h.0; is = h.1; why = h.2 })
+
+-- # The status
+
+pub none_lost : (lost : List Loss) → length (lost_lines lost) ≡ 0 → 0 ≡ kept_status lost
+none_lost [] h = refl
+none_lost (loss ∷ lost) h = absurd cc
+
+pub some_lost : (lost : List Loss) → length (lost_lines lost) ≢ 0 → 4 ≡ kept_status lost
+some_lost [] h = absurd (h refl)
+some_lost (loss ∷ lost) h = refl
+
+-- # Where collections come from
+
+-- nothing goes on where it isn't asked for, or without a word
+pub stops_at_first : (recursive keep_going : Bool) (words : List (List ℕ)) → (keep_going ≡ false) ⊎ (words ≡ []) → IsWhole (source_of recursive keep_going words)
+stops_at_first recursive keep_going [] why = tt
+stops_at_first true false (word ∷ words) why = tt
+stops_at_first false false (word ∷ words) why = tt
+stops_at_first recursive true (word ∷ words) (inl h) = absurd cc
+stops_at_first recursive true (word ∷ words) (inr h) = absurd cc
+
+pub goes_on : (recursive keep_going : Bool) (words : List (List ℕ)) → keep_going ≡ true → (words ≢ []) → source_of recursive keep_going words ≡ Kept recursive words
+goes_on recursive keep_going [] asked any = absurd (any refl)
+goes_on recursive true (word ∷ words) asked any = refl
+goes_on recursive false (word ∷ words) asked any = absurd cc
+
+-- where the first thing that can't be read ends it, it is as if nothing else were asked for
+pub ends_at_first : (recursive keep_going : Bool) (words : List (List ℕ)) → IsWhole (source_of recursive keep_going words)
+    → source_of recursive false words ≡ source_of recursive keep_going words
+ends_at_first recursive keep_going [] whole = refl
+ends_at_first recursive false (word ∷ words) whole = refl
+ends_at_first recursive true (word ∷ words) whole = absurd whole

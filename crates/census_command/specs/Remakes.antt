@@ -1,0 +1,45 @@
+-- What is made of reports that are read back, and what the exit status says of it.
+use Rattle.std.specs.Prelude.{◌≡◌, ◌⊎◌, ℕ, List}
+use Rattle.census_folders.specs.Told.{Told}
+use Rattle.census_reports.specs.Errors as reports
+use Rattle.census_reports.specs.Outcomes.{ReportsFail, WritesReports}
+use Rattle.census_reports.specs.Streams as two
+use Rattle.census_reports.specs.declared.error.ReportsError.{ReportsError}
+use Rattle.census_reports.specs.declared.form.Form.{Form}
+use Rattle.census_reports.specs.declared.form.Form.TheVariants as form
+use Rattle.census_words.specs.declared.request.TableFormat.{TableFormat}
+use Rattle.census_words.specs.declared.request.TableFormat.TheVariants.{Csv, Json}
+use Rattle.census_command.specs.Messages.{error_line}
+use Rattle.census_command.specs.Streams.{Errors, State, Tells}
+use Rattle.census_command.specs.declared.error.CommandError.TheVariants as command
+
+-- what is made of reports, by the format of a table
+abbrev pub form_of : TableFormat → Form
+form_of Csv = form.Csv
+form_of Json = form.Json
+
+-- standard input and standard output
+abbrev pub both_streams : State → two.Streams
+both_streams s = record {
+  input = record { unread = s.unread; failed = s.read_failed };
+  output = record { written = s.written; failed = s.write_failed };
+}
+
+-- What is made of the reports of these files was written, and nothing was told.
+pub record RemakesWhole (held : List ℕ → Told) (form : Form) (files : List (List ℕ)) (status : ℕ)
+    (before after : State) (old new : Errors) : Type 0 where
+  pub status_is : status ≡ 0
+  pub done : WritesReports form held files (both_streams before) (both_streams after)
+  pub quiet : new ≡ old
+
+-- An error ended it, and its line was told.
+pub record RemakesNot (held : List ℕ → Told) (form : Form) (files : List (List ℕ)) (status : ℕ)
+    (before after : State) (old new : Errors) : Type 0 where
+  pub error : ReportsError
+  pub status_is : status ≡ reports.status_of error
+  pub fails : ReportsFail error form held files (both_streams before) (both_streams after)
+  pub line : Tells (error_line (command.Reports error)) old new
+
+abbrev pub Remakes : (List ℕ → Told) → Form → List (List ℕ) → ℕ → State → State → Errors → Errors → Type 0
+Remakes held form files status before after old new =
+    RemakesWhole held form files status before after old new ⊎ RemakesNot held form files status before after old new

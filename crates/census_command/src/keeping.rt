@@ -1,0 +1,164 @@
+//! `census run --keep-going` and `census objects --keep-going`: the report of what can be read.
+ghost use Rattle.std.specs.Prelude.{◌≡◌, ◌≤◌, ◌++◌, [], false, map, string_bytes, IfOk, List, MatchResult, OnOk};
+ghost use Rattle.std.specs.List.{FoldsTo};
+ghost use Rattle.life_answer.specs.Questions.{IsAnswered};
+ghost use Rattle.census_folders.specs.Losses.{KeepsFolder, StopsKeepingAt};
+ghost use Rattle.census_folders.specs.declared.loss.Loss.{Loss};
+ghost use Rattle.census_command.specs.Errors.{run_error_of_folders};
+ghost use Rattle.census_command.specs.Keeps.{IsKept, Keeps, KeepsInto, StopsKeeping, StopsKeepingIn, lost_line, lost_lines};
+ghost use Rattle.census_command.specs.Shelves.{tellings};
+ghost use Rattle.census_command.specs.Streams.{IsSound};
+ghost use Rattle.census_command.specs.declared.run_error.RunError.TheVariants.{Memory};
+
+use crate::error::CommandError;
+use crate::lending::lent;
+use crate::run_error::RunError;
+use crate::streams::{ErrorStream, Streams};
+use census_bundle::bundle::Bundle;
+use census_crew::gate::Gate;
+use census_crew::run::run;
+use census_faults::printed::printed;
+use census_folders::keeping::read_folders_on;
+use census_folders::loss::Loss;
+use census_folders::shelf::Shelf;
+use census_folders::trees::folders_below_each_on;
+use life_answer::question::Question;
+use std::alloc::{AllocError, Global};
+use std::io::{Read, Write};
+use std::sync::Wait;
+use std::thread::Threads;
+
+/// Folders that were read, and the lines that tell what was lost.
+#[derive(Drop)]
+struct Gathered {
+    bundle: Bundle,
+    lines: Vec<u8>,
+}
+
+// Appends the line that tells a loss.
+fn push_line(alloc: Global, lines: &mut Vec<u8>, loss: &Loss) -> Result<(), AllocError>
+    ensures { OnOk result (lines.new.items ≡ lines.old.items ++ lost_line loss.now) }
+{
+    let path = printed(alloc, loss.path.as_slice())?;
+    lines.extend_from_slice(b"census: lost ")?;
+    lines.extend_from_slice(path.as_slice())?;
+    lines.extend_from_slice(b"\n")?;
+    Ok(())
+}
+
+// Appends the lines that tell losses.
+fn push_lines(alloc: Global, lines: &mut Vec<u8>, lost: &[Loss]) -> Result<(), AllocError>
+    ensures { OnOk result (lines.new.items ≡ lines.old.items ++ lost_lines lost.now) }
+{
+    for loss in lost {
+        push_line(alloc, lines, loss)?;
+    }
+    Ok(())
+}
+
+// Reads these folders after what was lost on the way to them.
+fn gather_folders<S: Shelf>(
+    shelf: &S,
+    alloc: Global,
+    folders: &[&str],
+    way: &[Loss],
+) -> Result<Gathered, RunError>
+    ensures { MatchResult result
+        (KeepsInto (S.listed shelf.now) (S.held shelf.now) (map (λ s. s.now) folders.now) way.now)
+        (StopsKeepingIn (S.listed shelf.now) (S.held shelf.now) (map (λ s. s.now) folders.now)) }
+{
+    let kept = read_folders_on(shelf, alloc, folders)?;
+    let mut lines = Vec::new(alloc);
+    push_lines(alloc, &mut lines, way)?;
+    push_lines(alloc, &mut lines, kept.lost.as_slice())?;
+    Ok(Gathered {
+        bundle: kept.bundle,
+        lines,
+    })
+}
+
+// Reads the folders of these words, or where it is recursive those at and below them.
+fn gather<S: Shelf>(
+    shelf: &S,
+    alloc: Global,
+    words: &[&str],
+    recursive: bool,
+) -> Result<Gathered, RunError>
+    ensures { MatchResult result
+        (λ gathered. (lost : List Loss)
+        × IsKept (tellings (S.listed shelf.now) (S.inner shelf.now) (S.held shelf.now))
+        recursive (map (λ s. s.now) words.now) gathered.bundle lost
+        × (gathered.lines.items ≡ lost_lines lost))
+        (StopsKeeping (tellings (S.listed shelf.now) (S.inner shelf.now) (S.held shelf.now))
+        recursive (map (λ s. s.now) words.now)) }
+{
+    if !recursive {
+        return gather_folders(shelf, alloc, words, &[]);
+    }
+    let trees = folders_below_each_on(shelf, alloc, words)?;
+    let folders = lent(alloc, trees.folders.as_slice())?;
+    gather_folders(shelf, alloc, folders.as_slice(), trees.lost.as_slice())
+}
+
+/// Writes the report of the folders of these words, or where it is recursive of those at and below them, of each of whose
+/// patterns this question is asked, by 1 to 16 workers, and gives the exit status. Each worker passes the gate with a
+/// ticket before it works. Nothing is read from standard input.
+///
+/// What can't be listed or read doesn't end it: a file that can't be read is a lost entry, a folder that can't be listed
+/// one without entries, and what has no lawful name is left out, as `read_folders_on` and `folders_below_each_on` do.
+/// Before the report the line `census: lost PATH` goes to standard error for each of them, with each byte that no lawful
+/// name has as `\x` and two digits.
+///
+/// - 0: the report was written, and nothing was lost.
+/// - 1: there are too many folders, or too many files in one, and nothing was written.
+/// - 3: memory was refused, and nothing was written or a prefix of the report.
+/// - 4: the report was written, and something was lost; or standard output has failed, and a prefix of it was written.
+///
+/// After status 1, and after a prefix or nothing at 3 and 4, the error's line was told too.
+pub fn keep_going<S: Shelf, I: Read, O: Write, E: Write, G: Gate, R: Threads + Wait + Sync>(
+    rt: &R,
+    shelf: &S,
+    alloc: Global,
+    question: Question,
+    workers: u32,
+    words: &[&str],
+    recursive: bool,
+    gate: &G,
+    streams: &mut Streams<I, O>,
+    errors: &mut ErrorStream<E>,
+) -> u8
+    requires question { IsAnswered question }
+    requires workers { (1 ≤ workers) × (workers ≤ 16) }
+    requires sound { IsSound streams.old }
+    requires errors { errors.old.failed ≡ false }
+    ensures { Keeps (tellings (S.listed shelf.now) (S.inner shelf.now) (S.held shelf.now))
+        recursive (map (λ s. s.now) words.now) question result
+        streams.old streams.new errors.old errors.new }
+{
+    let gathered = match gather(shelf, alloc, words, recursive) {
+        Ok(gathered) => gathered,
+        Err(error) => {
+            errors.tell(CommandError::Run(error).line().as_str().as_bytes());
+            return CommandError::Run(error).status();
+        }
+    };
+    errors.tell(gathered.lines.as_slice());
+    let bundle = &gathered.bundle;
+    match run(
+        rt,
+        alloc,
+        bundle,
+        question,
+        workers,
+        gate,
+        &mut streams.output,
+    ) {
+        Ok(_) if gathered.lines.is_empty() => 0,
+        Ok(_) => 4,
+        Err(fault) => {
+            let error = CommandError::Run(RunError::from(fault));
+            errors.tell_more(error.line().as_str().as_bytes());
+            error.status()
+        }
+    }
+}
