@@ -1,5 +1,6 @@
 //! Readers and writers that end, fail, stop or go on without end, watched.
 
+use std::alloc::Global;
 use std::io;
 use std::io::{ErrorKind, Read, Write};
 use std::test::Fail;
@@ -106,54 +107,42 @@ fn calls_that_a_signal_interrupts_are_made_again(rt: HostRuntime) -> Result<(), 
         next_passes: false,
     });
     let bytes = read_all(rt.alloc(), &mut reader, 100)?;
-    assert_eq!(rt; bytes.as_slice(), TEXT);
-    assert!(rt; !reader.failed());
+    assert!(rt; bytes.as_slice() == TEXT && !reader.failed());
     let mut writer = Watched::new(Interrupted {
         inner: Vec::new(rt.alloc()),
         next_passes: false,
     });
-    assert_eq!(rt; put_all(&mut writer, TEXT), Ok(()));
-    assert!(rt; !writer.failed());
-    assert_eq!(rt; writer.into_inner().inner.as_slice(), TEXT);
+    assert!(rt; put_all(&mut writer, TEXT).is_ok() && !writer.failed());
+    assert!(rt; writer.into_inner().inner.as_slice() == TEXT);
     Ok(())
+}
+
+// Whether a text is read whole where there may be so many bytes.
+fn is_read(alloc: Global, text: &[u8], limit: usize) -> Result<bool, ReadFault> {
+    let mut reader = Watched::new(text);
+    let bytes = read_all(alloc, &mut reader, limit)?;
+    Ok(bytes.as_slice() == text && !reader.failed())
 }
 
 #[test]
 fn as_many_bytes_as_the_limit_are_read(rt: HostRuntime) -> Result<(), Fail> {
-    let text: &[u8] = b"abcd";
-    let mut reader = Watched::new(text);
-    let bytes = read_all(rt.alloc(), &mut reader, 4)?;
-    assert_eq!(rt; bytes.as_slice(), text);
-    assert!(rt; !reader.failed());
-    let none: &[u8] = b"";
-    let mut reader = Watched::new(none);
-    assert!(rt; read_all(rt.alloc(), &mut reader, 0)?.is_empty());
+    assert!(rt; is_read(rt.alloc(), b"abcd", 4)?);
+    assert!(rt; is_read(rt.alloc(), b"", 0)?);
     Ok(())
 }
 
 #[test]
-fn bytes_past_the_limit_are_too_many(rt: HostRuntime) -> Result<(), Fail> {
-    let text: &[u8] = b"abcde";
-    let mut reader = Watched::new(text);
-    assert_eq!(rt;
-        read_all(rt.alloc(), &mut reader, 4).err(),
-        Some(ReadFault::TooLong)
-    );
-    assert!(rt; !reader.failed());
+fn bytes_past_the_limit_are_too_many(rt: HostRuntime) {
+    assert!(rt; is_read(rt.alloc(), b"abcde", 4) == Err(ReadFault::TooLong));
     let mut endless = Watched::new(io::repeat(b'@'));
-    assert_eq!(rt;
-        read_all(rt.alloc(), &mut endless, 20_000).err(),
-        Some(ReadFault::TooLong)
-    );
-    Ok(())
+    let fault = read_all(rt.alloc(), &mut endless, 20_000).err();
+    assert!(rt; fault == Some(ReadFault::TooLong) && !endless.failed());
 }
 
 #[test]
 fn more_bytes_than_one_call_gives_are_read(rt: HostRuntime) -> Result<(), Fail> {
     let text: Vec<u8> = (0..20_000u32).map(|i| (i % 251) as u8).collect(rt.alloc())?;
-    let mut reader = Watched::new(text.as_slice());
-    let bytes = read_all(rt.alloc(), &mut reader, usize::MAX)?;
-    assert_eq!(rt; bytes.as_slice(), text.as_slice());
+    assert!(rt; is_read(rt.alloc(), &text, usize::MAX)?);
     Ok(())
 }
 
@@ -162,14 +151,11 @@ fn a_reader_that_failed_is_not_called_again(rt: HostRuntime) -> Result<(), Fail>
     for k in 0..TEXT.len() {
         let mut reader = Watched::new(FailingReader::after(&TEXT[..k]));
         for _ in 0..2 {
-            assert_eq!(rt;
-                read_all(rt.alloc(), &mut reader, 100).err(),
-                Some(ReadFault::Read)
-            );
-            assert!(rt; reader.failed());
+            let fault = read_all(rt.alloc(), &mut reader, 100).err();
+            assert!(rt; fault == Some(ReadFault::Read) && reader.failed());
         }
-        assert_eq!(rt; reader.get(&mut [0; 4]), Err(Failed));
-        assert_eq!(rt; reader.into_inner().calls, k + 1, "after {k} bytes");
+        assert!(rt; reader.get(&mut [0; 4]) == Err(Failed));
+        assert!(rt; reader.into_inner().calls == k + 1);
     }
     Ok(())
 }
@@ -184,13 +170,11 @@ fn a_writer_that_failed_is_not_called_again(rt: HostRuntime) -> Result<(), Fail>
             calls: 0,
         });
         for bytes in [TEXT, TEXT, b""] {
-            assert_eq!(rt; put_all(&mut writer, bytes), Err(Failed));
-            assert!(rt; writer.failed());
+            assert!(rt; put_all(&mut writer, bytes) == Err(Failed) && writer.failed());
         }
-        assert_eq!(rt; writer.put(TEXT), Err(Failed));
+        assert!(rt; writer.put(TEXT) == Err(Failed));
         let inner = writer.into_inner();
-        assert_eq!(rt; inner.written.as_slice(), &TEXT[..k]);
-        assert_eq!(rt; inner.calls, k + 1, "after {k} bytes");
+        assert!(rt; inner.written.as_slice() == &TEXT[..k] && inner.calls == k + 1);
     }
     Ok(())
 }
@@ -203,12 +187,10 @@ fn all_bytes_go_out_one_at_a_time(rt: HostRuntime) -> Result<(), Fail> {
         room: 2 * TEXT.len(),
         calls: 0,
     });
-    assert_eq!(rt; put_all(&mut writer, TEXT), Ok(()));
-    assert_eq!(rt; put_all(&mut writer, b""), Ok(()));
+    assert!(rt; put_all(&mut writer, TEXT).is_ok() && put_all(&mut writer, b"").is_ok());
     assert!(rt; !writer.failed());
     let inner = writer.into_inner();
-    assert_eq!(rt; inner.written.as_slice(), TEXT);
-    assert_eq!(rt; inner.calls, TEXT.len());
+    assert!(rt; inner.written.as_slice() == TEXT && inner.calls == TEXT.len());
     Ok(())
 }
 
@@ -216,9 +198,8 @@ fn all_bytes_go_out_one_at_a_time(rt: HostRuntime) -> Result<(), Fail> {
 fn a_write_that_takes_nothing_is_a_failure(rt: HostRuntime) -> Result<(), Fail> {
     let mut room = [0u8; 3];
     let mut writer = Watched::new(&mut room[..]);
-    assert_eq!(rt; put_all(&mut writer, b"abcd"), Err(Failed));
-    assert!(rt; writer.failed());
-    assert_eq!(rt; room.as_slice(), b"abc".as_slice());
+    assert!(rt; put_all(&mut writer, b"abcd") == Err(Failed) && writer.failed());
+    assert!(rt; room.as_slice() == b"abc".as_slice());
     Ok(())
 }
 
@@ -227,14 +208,11 @@ fn a_call_that_succeeds_raises_no_flag(rt: HostRuntime) -> Result<(), Fail> {
     let text: &[u8] = b"abc";
     let mut reader = Watched::new(text);
     let mut buffer = [b'-'; 5];
-    assert_eq!(rt; reader.get(&mut buffer), Ok(3));
-    assert_eq!(rt; buffer.as_slice(), b"abc--".as_slice());
-    assert_eq!(rt; reader.get(&mut buffer), Ok(0));
-    assert!(rt; !reader.failed());
+    assert!(rt; reader.get(&mut buffer) == Ok(3) && buffer.as_slice() == b"abc--".as_slice());
+    assert!(rt; reader.get(&mut buffer) == Ok(0) && !reader.failed());
     let mut writer = Watched::new(Vec::new(rt.alloc()));
-    assert_eq!(rt; writer.put(text), Ok(3));
-    assert!(rt; !writer.failed());
-    assert_eq!(rt; writer.into_inner().as_slice(), text);
+    assert!(rt; writer.put(text) == Ok(3) && !writer.failed());
+    assert!(rt; writer.into_inner().as_slice() == text);
     Ok(())
 }
 
@@ -247,7 +225,7 @@ fn faults_say_what_happened(rt: HostRuntime) -> Result<(), Fail> {
     ];
     for (fault, text) in faults {
         let shown = format!(in rt.alloc(); "{fault}")?;
-        assert_eq!(rt; shown.as_str(), text);
+        assert!(rt; shown.as_str() == text);
     }
     Ok(())
 }

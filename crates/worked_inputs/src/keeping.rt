@@ -2,7 +2,6 @@
 
 use crate::folders::leaf;
 use crate::memory::{Leaf, Memory};
-use crate::shelf::{Behind, Item, Shelf};
 use crate::shown::{Shown, check};
 use census_bundle::bundle::AddFault;
 use census_bundle::ticket::Ticket;
@@ -14,38 +13,37 @@ use std::process::Abort;
 use std::test::Fail;
 
 /// The path of what was lost, and its place where it is an entry.
-type Gone<'a> = (&'a [u8], Option<(u32, u32)>);
+pub type Gone<'a> = (&'a [u8], Option<(u32, u32)>);
 
-// Whether this was lost, in this order.
-fn check_lost(rt: &impl Abort, lost: &Losses, wanted: &[Gone]) {
-    assert_eq!(rt; lost.as_slice().len(), wanted.len());
+/// Whether this was lost, in this order.
+pub fn check_lost(rt: &impl Abort, lost: &Losses, wanted: &[Gone]) {
+    assert!(rt; lost.as_slice().len() == wanted.len());
     for (loss, (path, place)) in lost.as_slice().iter().zip(wanted) {
-        assert_eq!(rt; loss.path.as_slice(), *path);
         let entry = place.map(|(folder, number)| Ticket { folder, number });
-        assert_eq!(rt; loss.entry, entry);
+        assert!(rt; loss.path.as_slice() == *path && loss.entry == entry);
     }
 }
 
 #[test]
 fn reading_a_shelf_in_memory_goes_on(rt: HostRuntime) -> Result<(), Fail> {
-    let leaves = [
-        leaf("t", b"", b"c.rle\0b.rle\0 d.rle\0a.rle\0e.rle\0"),
-        leaf("t", b"a.rle", b"3o!"),
-        leaf("t", b" d.rle", b"3o!"),
-        leaf("t", b"e.rle", b"2o$2o!"),
+    const LEAVES: &[Leaf<'static>] = &[
+        leaf!("t", b"", b"c.rle\0b.rle\0 d.rle\0a.rle\0e.rle\0"),
+        leaf!("t", b"a.rle", b"3o!"),
+        leaf!("t", b" d.rle", b"3o!"),
+        leaf!("t", b"e.rle", b"2o$2o!"),
         Leaf {
             folder: "t",
             name: b"b.rle",
             bytes: b"3o!",
             regular: false,
         },
-        leaf("u/", b"", b"a.rle\0\x01.rle\0"),
-        leaf("empty", b"", b""),
+        leaf!("u/", b"", b"a.rle\0\x01.rle\0"),
+        leaf!("empty", b"", b""),
     ];
-    let shelf = Memory { leaves: &leaves };
+    let shelf = Memory { leaves: LEAVES };
     let words = ["t", "missing", " t", "u/", "empty"];
     let kept = read_folders_on(&shelf, rt.alloc(), &words)?;
-    let shown = [
+    const SHOWN: &[Shown<'static>] = &[
         Shown {
             name: b"t",
             entries: &[
@@ -68,8 +66,8 @@ fn reading_a_shelf_in_memory_goes_on(rt: HostRuntime) -> Result<(), Fail> {
             entries: &[],
         },
     ];
-    check(&rt, &kept.bundle, &shown);
-    let lost: &[Gone] = &[
+    check(&rt, &kept.bundle, SHOWN);
+    const LOST: &[Gone<'static>] = &[
         (b"t/ d.rle", None),
         (b"t/b.rle", Some((1, 2))),
         (b"t/c.rle", Some((1, 3))),
@@ -78,63 +76,18 @@ fn reading_a_shelf_in_memory_goes_on(rt: HostRuntime) -> Result<(), Fail> {
         (b"u/\x01.rle", None),
         (b"u/a.rle", Some((3, 1))),
     ];
-    check_lost(&rt, &kept.lost, lost);
-    Ok(())
-}
-
-#[test]
-fn nothing_is_lost_where_all_can_be_read(rt: HostRuntime) -> Result<(), Fail> {
-    let leaves = [
-        leaf("t", b"", b"b.rle\0a.rle\0note.txt\0"),
-        leaf("t", b"a.rle", b"3o!"),
-        leaf("t", b"b.rle", b""),
-    ];
-    let shelf = Memory { leaves: &leaves };
-    let kept = read_folders_on(&shelf, rt.alloc(), &["t"])?;
-    let shown = [Shown {
-        name: b"t",
-        entries: &[(b"a.rle", b"3o!"), (b"b.rle", b"")],
-    }];
-    check(&rt, &kept.bundle, &shown);
-    check_lost(&rt, &kept.lost, &[]);
-    Ok(())
-}
-
-// A file that is too long, a folder whose list breaks off, and a system without memory.
-#[test]
-fn only_want_of_memory_ends_the_reading(rt: HostRuntime) -> Result<(), Fail> {
-    use std::io::ErrorKind;
-
-    const ITEMS: &[Item<'static>] = &[
-        ("long/", b"a.rle\0", Behind::End),
-        ("long/a.rle", b"3o", Behind::BytesWithoutEnd),
-        ("broken/", b"3o", Behind::Error(ErrorKind::ConnectionReset)),
-        ("full/", b"3o", Behind::Error(ErrorKind::OutOfMemory)),
-    ];
-    let shelf = Shelf {
-        alloc: rt.alloc(),
-        items: ITEMS,
-    };
-    let kept = read_folders_on(&shelf, rt.alloc(), &["long", "broken"])?;
-    let lost: &[Gone] = &[(b"long/a.rle", Some((1, 1))), (b"broken", None)];
-    check_lost(&rt, &kept.lost, lost);
-    let fault = read_folders_on(&shelf, rt.alloc(), &["long", "full"]).err();
-    assert_eq!(rt; fault, Some(FoldersFault::Memory));
+    check_lost(&rt, &kept.lost, LOST);
     Ok(())
 }
 
 #[test]
 fn too_many_folders_end_the_reading(rt: HostRuntime) -> Result<(), Fail> {
     let shelf = Memory { leaves: &[] };
-    let mut words = Vec::new(rt.alloc());
-    for _ in 0..65_535 {
-        words.push("t")?;
-    }
-    let kept = read_folders_on(&shelf, rt.alloc(), words.as_slice())?;
-    assert_eq!(rt; kept.lost.as_slice().len(), 65_535);
-    words.push("t")?;
-    let fault = read_folders_on(&shelf, rt.alloc(), words.as_slice()).err();
-    assert_eq!(rt; fault, Some(FoldersFault::Add(AddFault::TooMany)));
+    let words = vec![in rt.alloc(); "t"; 65_536]?;
+    let kept = read_folders_on(&shelf, rt.alloc(), &words[1..])?;
+    assert!(rt; kept.lost.as_slice().len() == 65_535);
+    let fault = read_folders_on(&shelf, rt.alloc(), &words).err();
+    assert!(rt; fault == Some(FoldersFault::Add(AddFault::TooMany)));
     Ok(())
 }
 
@@ -147,9 +100,9 @@ fn reading_folders_of_the_system_goes_on(rt: HostRuntime) -> Result<(), Fail> {
     fs::write(&rt, "worked_inputs_kept/a.rle", b"3o!".as_slice())?;
     fs::create_dir(&rt, "worked_inputs_kept/b.rle")?;
     let kept = read_folders_on(&rt, rt.alloc(), &[KEPT, "worked_inputs_kept/missing"])?;
-    let shown = [
+    const SHOWN: &[Shown<'static>] = &[
         Shown {
-            name: KEPT.as_bytes(),
+            name: b"worked_inputs_kept",
             entries: &[(b"a.rle", b"3o!"), (b"b.rle", b"")],
         },
         Shown {
@@ -157,12 +110,12 @@ fn reading_folders_of_the_system_goes_on(rt: HostRuntime) -> Result<(), Fail> {
             entries: &[],
         },
     ];
-    check(&rt, &kept.bundle, &shown);
-    let lost: &[Gone] = &[
+    check(&rt, &kept.bundle, SHOWN);
+    const LOST: &[Gone<'static>] = &[
         (b"worked_inputs_kept/b.rle", Some((1, 2))),
         (b"worked_inputs_kept/missing", None),
     ];
-    check_lost(&rt, &kept.lost, lost);
+    check_lost(&rt, &kept.lost, LOST);
     fs::remove_dir_all(&rt, KEPT)?;
     Ok(())
 }

@@ -1,5 +1,8 @@
 //! Worked examples of what the program is given: words of a command line, folders of files, and readers and writers that
 //! end, fail, stop or go on without end.
+//!
+//! What the built program reads of folders is in `checks/rows`, and where a read fails or memory is refused in `checks/ends` and
+//! `checks/growths`.
 #![tactic(auto)]
 
 #[cfg(test)]
@@ -10,10 +13,8 @@ mod folders;
 mod keeping;
 pub mod memory;
 #[cfg(test)]
-mod refusals;
-#[cfg(test)]
-mod shelf;
-#[cfg(test)]
 mod shown;
+#[cfg(test)]
+mod trees;
 #[cfg(test)]
 mod words;

@@ -10,18 +10,16 @@ pub struct Shown<'a> {
 }
 
 fn check_folder(rt: &impl Abort, folder: &Folder, wanted: &Shown) {
-    assert_eq!(rt; folder.name.as_slice(), wanted.name);
     let entries = folder.entries.as_slice();
-    assert_eq!(rt; entries.len(), wanted.entries.len());
+    assert!(rt; folder.name.as_slice() == wanted.name && entries.len() == wanted.entries.len());
     for (entry, (name, text)) in entries.iter().zip(wanted.entries) {
-        assert_eq!(rt; entry.name.as_slice(), *name);
-        assert_eq!(rt; entry.text.as_slice(), *text);
+        assert!(rt; entry.name.as_slice() == *name && entry.text.as_slice() == *text);
     }
 }
 
 /// Whether these are the bundle's folders.
 pub fn check(rt: &impl Abort, bundle: &Bundle, wanted: &[Shown]) {
-    assert_eq!(rt; bundle.folders().len(), wanted.len());
+    assert!(rt; bundle.folders().len() == wanted.len());
     for (folder, wanted) in bundle.folders().iter().zip(wanted) {
         check_folder(rt, folder, wanted);
     }

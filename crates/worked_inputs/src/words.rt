@@ -1,8 +1,7 @@
 //! What words ask for, and which words are refused.
 
 use census_words::fault::WordsFault;
-use census_words::request::{Request, read_words};
-use std::process::Abort;
+use census_words::request::{Request, TableFormat, read_words};
 use std::test::Fail;
 
 /// The words of a command line, or of a part of one.
@@ -47,28 +46,57 @@ const RUNS: &[(Words, Asked)] = &[
     ),
 ];
 
+// Whether a census is asked for so, with or without `--recursive` and `--keep-going`, by the command that comes first.
+fn is_asked(request: &Request, words: Words, asked: &Asked, flags: (bool, bool)) -> bool {
+    let (command, numbers, found, folders) = match request {
+        Request::Run {
+            bound,
+            workers,
+            cells,
+            recursive,
+            keep_going,
+            folders,
+        } => (
+            "run",
+            (*bound, *workers, *cells),
+            (*recursive, *keep_going),
+            folders.as_slice(),
+        ),
+        Request::Objects {
+            bound,
+            workers,
+            cells,
+            recursive,
+            keep_going,
+            folders,
+        } => (
+            "objects",
+            (*bound, *workers, Some(*cells)),
+            (*recursive, *keep_going),
+            folders.as_slice(),
+        ),
+        _ => return false,
+    };
+    let is_command = match words.first() {
+        Some(word) => *word == command,
+        None => false,
+    };
+    is_command && numbers == (asked.0, asked.1, asked.2) && found == flags && folders == asked.3
+}
+
 #[test]
-fn a_census_has_defaults_and_folders_in_their_order(rt: HostRuntime) {
+fn a_census_has_defaults_and_folders_in_their_order(rt: HostRuntime) -> Result<(), Fail> {
     for (words, asked) in RUNS {
-        match read_words(rt.alloc(), words) {
-            Ok(
-                Request::Run {
-                    bound,
-                    workers,
-                    cells,
-                    folders,
-                },
-            ) => {
-                assert_eq!(rt;
-                    (bound, workers, cells),
-                    (asked.0, asked.1, asked.2),
-                    "{words:?}"
-                );
-                assert_eq!(rt; folders.as_slice(), asked.3, "{words:?}");
-            }
-            other => panic!(rt; "{words:?}: {other:?}"),
-        }
+        assert!(rt;
+            is_asked(
+                &read_words(rt.alloc(), words)?,
+                words,
+                asked,
+                (false, false)
+            )
+        );
     }
+    Ok(())
 }
 
 // Words that ask for a census of objects.
@@ -96,27 +124,67 @@ const OBJECTS: &[(Words, Asked)] = &[
 ];
 
 #[test]
-fn a_census_of_objects_has_its_own_defaults(rt: HostRuntime) {
+fn a_census_of_objects_has_its_own_defaults(rt: HostRuntime) -> Result<(), Fail> {
     for (words, asked) in OBJECTS {
-        match read_words(rt.alloc(), words) {
-            Ok(
-                Request::Objects {
-                    bound,
-                    workers,
-                    cells,
-                    folders,
-                },
-            ) => {
-                assert_eq!(rt;
-                    (bound, workers, Some(cells)),
-                    (asked.0, asked.1, asked.2),
-                    "{words:?}"
-                );
-                assert_eq!(rt; folders.as_slice(), asked.3, "{words:?}");
-            }
-            other => panic!(rt; "{words:?}: {other:?}"),
-        }
+        assert!(rt;
+            is_asked(
+                &read_words(rt.alloc(), words)?,
+                words,
+                asked,
+                (false, false)
+            )
+        );
     }
+    Ok(())
+}
+
+// Words with flags, whether they say `--recursive` and `--keep-going`, and what they ask for.
+const FLAGGED: &[(Words, (bool, bool), Asked)] = &[
+    (&["run", "-r"], (true, false), (1000, 4, None, &[])),
+    (&["run", "-k", "a"], (false, true), (1000, 4, None, &["a"])),
+    (
+        &["run", "-rk", "a", "b"],
+        (true, true),
+        (1000, 4, None, &["a", "b"]),
+    ),
+    (
+        &["run", "a", "-kr", "b"],
+        (true, true),
+        (1000, 4, None, &["a", "b"]),
+    ),
+    (
+        &["run", "a", "--recursive", "b", "--keep-going"],
+        (true, true),
+        (1000, 4, None, &["a", "b"]),
+    ),
+    (
+        &["run", "--", "-r", "-k"],
+        (false, false),
+        (1000, 4, None, &["-r", "-k"]),
+    ),
+    (
+        &["objects", "--recursive", "a"],
+        (true, false),
+        (10_000, 4, Some(1_000_000), &["a"]),
+    ),
+    (
+        &["objects", "--keep-going", "a"],
+        (false, true),
+        (10_000, 4, Some(1_000_000), &["a"]),
+    ),
+    (
+        &["objects", "-krb5", "a"],
+        (true, true),
+        (5, 4, Some(1_000_000), &["a"]),
+    ),
+];
+
+#[test]
+fn flags_are_used_or_not(rt: HostRuntime) -> Result<(), Fail> {
+    for (words, flags, asked) in FLAGGED {
+        assert!(rt; is_asked(&read_words(rt.alloc(), words)?, words, asked, *flags));
+    }
+    Ok(())
 }
 
 // Words that ask what patterns are, the bound and the files.
@@ -133,44 +201,41 @@ const IDENTIFIED: &[(Words, u32, Words)] = &[
 ];
 
 #[test]
-fn patterns_are_identified_in_the_order_of_their_files(rt: HostRuntime) {
+fn patterns_are_identified_in_the_order_of_their_files(rt: HostRuntime) -> Result<(), Fail> {
     for (words, asked_bound, asked_files) in IDENTIFIED {
-        match read_words(rt.alloc(), words) {
-            Ok(Request::Identify { bound, files }) => {
-                assert_eq!(rt; bound, *asked_bound, "{words:?}");
-                assert_eq!(rt; files.as_slice(), *asked_files, "{words:?}");
+        let asked = match &read_words(rt.alloc(), words)? {
+            Request::Identify { bound, files } => {
+                *bound == *asked_bound && files.as_slice() == *asked_files
             }
-            other => panic!(rt; "{words:?}: {other:?}"),
-        }
-    }
-}
-
-#[test]
-fn a_pattern_advances_by_a_number(rt: HostRuntime) -> Result<(), Fail> {
-    for (number, generations) in [("0", 0), ("4194304", 4_194_304), ("0000000012", 12)] {
-        let words = ["advance", number];
-        assert_eq!(rt;
-            read_words(rt.alloc(), &words)?,
-            Request::Advance {
-                generations,
-                file: None,
-            }
-        );
+            _ => false,
+        };
+        assert!(rt; asked);
     }
     Ok(())
 }
 
+// Words that ask for a later generation, its number and the file.
+const ADVANCES: &[(Words, u32, Option<&str>)] = &[
+    (&["advance", "0"], 0, None),
+    (&["advance", "4194304"], 4_194_304, None),
+    (&["advance", "0000000012"], 12, None),
+    (&["advance", "4", "glider.rle"], 4, Some("glider.rle")),
+    (&["advance", "4", "-"], 4, Some("-")),
+    (&["advance", "4", ""], 4, Some("")),
+    (&["advance", "4", "12"], 4, Some("12")),
+];
+
 #[test]
 fn a_file_advances_by_a_number(rt: HostRuntime) -> Result<(), Fail> {
-    for file in ["glider.rle", "-", "", "help", "12"] {
-        let words = ["advance", "4", file];
-        assert_eq!(rt;
-            read_words(rt.alloc(), &words)?,
+    for (words, generations, file) in ADVANCES {
+        let asked = match &read_words(rt.alloc(), words)? {
             Request::Advance {
-                generations: 4,
-                file: Some(file),
-            }
-        );
+                generations: found,
+                file: at,
+            } => *found == *generations && *at == *file,
+            _ => false,
+        };
+        assert!(rt; asked);
     }
     Ok(())
 }
@@ -191,13 +256,95 @@ const DRAWS: &[(Words, &str, &str)] = &[
 #[test]
 fn a_code_is_drawn_under_a_rule(rt: HostRuntime) -> Result<(), Fail> {
     for (words, code, rule) in DRAWS {
-        assert_eq!(rt;
-            read_words(rt.alloc(), words)?,
-            Request::Draw { code, rule },
-            "{words:?}"
-        );
+        let asked = match &read_words(rt.alloc(), words)? {
+            Request::Draw {
+                code: drawn,
+                rule: under,
+            } => *drawn == *code && *under == *rule,
+            _ => false,
+        };
+        assert!(rt; asked);
     }
     Ok(())
+}
+
+// Words that ask for one report of several, and the reports.
+const MERGED: &[(Words, Words)] = &[
+    (&["merge"], &[]),
+    (&["merge", "a"], &["a"]),
+    (&["merge", "b", "a", "-", "b"], &["b", "a", "-", "b"]),
+    (&["merge", "--", "--csv", "-b"], &["--csv", "-b"]),
+    (&["merge", "table", ""], &["table", ""]),
+];
+
+#[test]
+fn reports_are_merged_in_the_order_of_the_words(rt: HostRuntime) {
+    for (words, asked) in MERGED {
+        match read_words(rt.alloc(), words) {
+            Ok(Request::Merge { reports }) => {
+                assert_eq!(rt; reports.as_slice(), *asked, "{words:?}");
+            }
+            other => panic!(rt; "{words:?}: {other:?}"),
+        }
+    }
+}
+
+// Words that ask for a table, its format and the reports.
+const TABLES: &[(Words, TableFormat, Words)] = &[
+    (&["table"], TableFormat::Csv, &[]),
+    (&["table", "a"], TableFormat::Csv, &["a"]),
+    (&["table", "--csv"], TableFormat::Csv, &[]),
+    (&["table", "--json"], TableFormat::Json, &[]),
+    (
+        &["table", "b", "--json", "-", "a"],
+        TableFormat::Json,
+        &["b", "-", "a"],
+    ),
+    (
+        &["table", "--csv", "--", "--json"],
+        TableFormat::Csv,
+        &["--json"],
+    ),
+];
+
+#[test]
+fn a_table_has_a_format_and_reports(rt: HostRuntime) {
+    for (words, asked_format, asked) in TABLES {
+        match read_words(rt.alloc(), words) {
+            Ok(Request::Table { format, reports }) => {
+                assert_eq!(rt; format, *asked_format, "{words:?}");
+                assert_eq!(rt; reports.as_slice(), *asked, "{words:?}");
+            }
+            other => panic!(rt; "{words:?}: {other:?}"),
+        }
+    }
+}
+
+// What clap says of arguments in conflict.
+const TWO_FORMATS: &str = "\
+error: the argument '--csv' cannot be used with '--json'
+
+Usage: census table [OPTIONS] [REPORT]...
+
+For more information, try '--help'.
+";
+
+#[test]
+fn a_table_has_one_format(rt: HostRuntime) {
+    const BOTH: &[Words] = &[
+        &["table", "--csv", "--json"],
+        &["table", "--json", "a", "--csv", "b"],
+    ];
+    for words in BOTH {
+        match read_words(rt.alloc(), words) {
+            Err(WordsFault::Refused(text)) => assert_eq!(rt;
+                text.as_str(),
+                TWO_FORMATS,
+                "{words:?}"
+            ),
+            other => panic!(rt; "{words:?}: {other:?}"),
+        }
+    }
 }
 
 // Words that are refused, and a part of the text that says so.
@@ -207,43 +354,23 @@ const REFUSED: &[(Words, &str)] = &[
     (&["--bound", "5", "run"], "--bound"),
     (&["run", "--bound", "0"], "--bound"),
     (&["run", "--bound", "1000001"], "--bound"),
-    (&["run", "--bound", "18446744073709551616"], "--bound"),
-    (&["run", "--bound", ""], "--bound"),
-    (&["run", "--bound", "5x"], "--bound"),
-    (&["run", "--bound", "1e3"], "--bound"),
-    (&["run", "--bound", " 5"], "--bound"),
-    (&["run", "--bound", "-1"], "'-1'"),
-    (&["run", "--bound"], "--bound"),
     (&["run", "--bound", "5", "--bound", "5"], "--bound"),
-    (&["run", "--bound", "--workers", "2"], "--bound"),
-    (&["run", "-b", "0"], "--bound"),
     (&["run", "-b", "5", "--bound", "5"], "--bound"),
-    (&["run", "-c", "5"], "-c"),
-    (&["run", "--workers", "0"], "--workers"),
     (&["run", "--workers", "17"], "--workers"),
-    (&["run", "--workers", "4294967297"], "--workers"),
-    (&["run", "--rule", "B3/S23"], "--rule"),
     (&["run", "--cells", "0"], "--cells"),
     (&["run", "--cells", "4294967296"], "--cells"),
-    (&["run", "--cells"], "--cells"),
-    (&["objects", "--bound", "0"], "--bound"),
+    (&["run", "-r", "-r"], "--recursive"),
+    (&["run", "--keep-going", "-k"], "--keep-going"),
+    (&["run", "-rx"], "-x"),
     (&["objects", "--bound", "100001"], "--bound"),
-    (&["objects", "--workers", "17"], "--workers"),
     (&["objects", "--cells", "0"], "--cells"),
     (&["objects", "--cells", "4294967296"], "--cells"),
-    (&["object"], "object"),
     (&["identify", "--bound", "0"], "--bound"),
     (&["identify", "--bound", "100001"], "--bound"),
-    (&["identify", "-b", "5", "--bound", "5"], "--bound"),
     (&["identify", "--workers", "2"], "--workers"),
-    (&["identify", "--cells", "5"], "--cells"),
-    (&["identify", "-x"], "-x"),
+    (&["identify", "-k"], "-k"),
     (&["advance"], "<N>"),
     (&["advance", "4194305"], "error"),
-    (&["advance", "4294967296"], "error"),
-    (&["advance", ""], "error"),
-    (&["advance", "one"], "error"),
-    (&["advance", "-1"], "-1"),
     (&["advance", "1", "a", "b"], "b"),
     (&["advance", "1", "--file"], "--file"),
     (&["advance", "a", "1"], "'a'"),
@@ -252,25 +379,52 @@ const REFUSED: &[(Words, &str)] = &[
     (&["draw", "0", "--rule"], "--rule"),
     (&["draw", "0", "1"], "1"),
     (&["draw", "-1"], "-1"),
+    (&["run", "--version"], "--version"),
+    (&["run", "-V"], "-V"),
+    (&["--version=1"], "--version"),
+    (&["merge", "--csv"], "--csv"),
+    (&["merge", "-x", "a"], "-x"),
+    (&["table", "--csv", "--csv"], "--csv"),
+    (&["table", "--json=true"], "--json"),
+    (&["table", "-r"], "-r"),
+    (&["table", "--bound", "5"], "--bound"),
     (&["help", "life"], "life"),
 ];
 
 #[test]
 fn other_words_are_refused(rt: HostRuntime) {
     for (words, part) in REFUSED {
+        let refused = match &read_words(rt.alloc(), words) {
+            Err(WordsFault::Refused(text)) => holds(text.as_str(), &[part]),
+            _ => false,
+        };
+        assert!(rt; refused);
+    }
+}
+
+#[test]
+fn the_version_is_told(rt: HostRuntime) {
+    const ASKED: &[Words] = &[&["--version"], &["-V"], &["-V", "run"], &["-Vx"]];
+    for words in ASKED {
         match read_words(rt.alloc(), words) {
-            Err(WordsFault::Refused(text)) => holds(&rt, text.as_str(), &[part]),
+            Err(WordsFault::Help(text)) => assert_eq!(rt;
+                text.as_str(),
+                "census 0.1.0\n",
+                "{words:?}"
+            ),
             other => panic!(rt; "{words:?}: {other:?}"),
         }
     }
 }
 
-// A text is of whole lines, and has these parts.
-fn holds(rt: &impl Abort, text: &str, parts: &[&str]) {
-    assert!(rt; text.ends_with('\n'), "{text}");
+// Whether a text is of whole lines, and has these parts.
+fn holds(text: &str, parts: &[&str]) -> bool {
     for part in parts {
-        assert!(rt; text.contains(*part), "{part} in {text}");
+        if !text.contains(*part) {
+            return false;
+        }
     }
+    text.ends_with('\n')
 }
 
 // What a user has to know of the report and the statuses.
@@ -307,12 +461,17 @@ const PROGRAM_PARTS: Words = &[
     "--bound N    generations that are searched, 1 to 1000000 [default: 1000]",
     "--workers N  threads that work, 1 to 16 [default: 4]",
     "live cells that a pattern may have, 1 to 4294967295",
+    "-r, --recursive",
+    "-k, --keep-going",
     "1 to 100000 [default: 10000]",
     "[default: 1000000]",
     "identify [--bound N] [FILE]...",
     "advance N [FILE]",
     "0 to 4194304",
     "[default: B3/S23]",
+    "-V, --version",
+    "merge [REPORT]...",
+    "table [--csv | --json] [REPORT]...",
 ];
 
 const RUN_PARTS: Words = &[
@@ -323,6 +482,8 @@ const RUN_PARTS: Words = &[
     "1 to 16 [default: 4]",
     "--cells <N>",
     "1 to 4294967295 [default: no limit]",
+    "-r, --recursive",
+    "-k, --keep-going",
 ];
 
 const OBJECTS_PARTS: Words = &[
@@ -333,6 +494,8 @@ const OBJECTS_PARTS: Words = &[
     "1 to 16 [default: 4]",
     "--cells <N>",
     "1 to 4294967295 [default: 1000000]",
+    "-r, --recursive",
+    "-k, --keep-going",
 ];
 
 const IDENTIFY_PARTS: Words = &[
@@ -371,6 +534,30 @@ const ADVANCE_PARTS: Words = &[
 
 const DRAW_PARTS: Words = &["Usage: census draw [OPTIONS] <CODE>", "[default: B3/S23]"];
 
+const MERGE_PARTS: Words = &[
+    "Usage: census merge [REPORT]...",
+    "- is standard input",
+    "With no REPORT standard input is read",
+    "Example: census merge",
+];
+
+const TABLE_PARTS: Words = &[
+    "Usage: census table [OPTIONS] [REPORT]...",
+    "--csv",
+    "--json",
+    "- is standard input",
+    "With no REPORT standard input is read",
+    "Example: census table",
+];
+
+// What a user has to know of the columns.
+const COLUMN_PARTS: Words = &[
+    "collection, collection_name, pattern, name, status (ok, ash, none,\n",
+    "large or bad), rule, population, onset, period, dx, dy, code, fault",
+    "collection_name_hex",
+    "name_hex",
+];
+
 // Words that ask for help, and parts of it.
 const HELPED: &[(Words, [Words; 2])] = &[
     (&["--help"], [PROGRAM_PARTS, REPORT_PARTS]),
@@ -387,17 +574,21 @@ const HELPED: &[(Words, [Words; 2])] = &[
     (&["advance", "--help"], [ADVANCE_PARTS, &[]]),
     (&["advance", "1", "a", "-h"], [ADVANCE_PARTS, &[]]),
     (&["draw", "0", "-h"], [DRAW_PARTS, &[]]),
+    (&["merge", "-h"], [MERGE_PARTS, &[]]),
+    (&["help", "merge"], [MERGE_PARTS, &[]]),
+    (&["table", "--help"], [TABLE_PARTS, COLUMN_PARTS]),
+    (&["table", "--csv", "--json", "-h"], [TABLE_PARTS, &[]]),
 ];
 
 #[test]
 fn help_explains_options_report_and_statuses(rt: HostRuntime) {
     for (words, parts) in HELPED {
-        match read_words(rt.alloc(), words) {
+        let explained = match &read_words(rt.alloc(), words) {
             Err(WordsFault::Help(text)) => {
-                holds(&rt, text.as_str(), parts[0]);
-                holds(&rt, text.as_str(), parts[1]);
+                holds(text.as_str(), parts[0]) && holds(text.as_str(), parts[1])
             }
-            other => panic!(rt; "{words:?}: {other:?}"),
-        }
+            _ => false,
+        };
+        assert!(rt; explained);
     }
 }

@@ -57,19 +57,18 @@ const BLOCKS: &[Case] = &[
 fn texts_have_their_blocks(rt: HostRuntime) -> Result<(), Fail> {
     for (text, bound, wanted) in BLOCKS {
         assert!(rt; 1 <= *bound && *bound <= BOUND_LIMIT);
-        match block(rt.alloc(), text, *bound)? {
-            Ok(block) => assert_eq!(rt; block.as_slice(), wanted.as_bytes()),
-            Err(_) => panic!(rt; "a fault"),
-        }
+        let told = match block(rt.alloc(), text, *bound)? {
+            Ok(block) => block.as_slice() == wanted.as_bytes(),
+            Err(_fault) => false,
+        };
+        assert!(rt; told);
     }
     Ok(())
 }
 
 #[test]
 fn a_fault(rt: HostRuntime) -> Result<(), Fail> {
-    match block(rt.alloc(), b"x = 3, y = 3\n3b?!", 10)? {
-        Ok(_) => panic!(rt; "a block"),
-        Err(fault) => assert_eq!(rt; fault, RleFault::BadChar { at: 15 }),
-    }
+    let fault = block(rt.alloc(), b"x = 3, y = 3\n3b?!", 10)?.err();
+    assert!(rt; fault == Some(RleFault::BadChar { at: 15 }));
     Ok(())
 }

@@ -1,5 +1,5 @@
 //! Worked examples of sets that fall apart, of sets that recur and of whether they stay apart, of ash, and of what is told
-//! of single patterns: blocks of lines, and the faults of texts in words.
+//! of single patterns: blocks of lines, and faults in words.
 #![tactic(auto)]
 
 #[cfg(test)]
@@ -12,5 +12,7 @@ mod classes;
 mod faults;
 #[cfg(test)]
 mod pairs;
+#[cfg(test)]
+mod sentences;
 #[cfg(test)]
 mod words;

@@ -60,8 +60,8 @@ fn is_apart(alloc: Global, first: Cells, second: Cells) -> Result<Option<bool>, 
 #[test]
 fn pairs_that_stay_apart(rt: HostRuntime) -> Result<(), Fail> {
     for (first, second, apart) in PAIRS {
-        assert_eq!(rt; is_apart(rt.alloc(), first, second)?, Some(*apart));
-        assert_eq!(rt; is_apart(rt.alloc(), second, first)?, Some(*apart));
+        assert!(rt; is_apart(rt.alloc(), first, second)? == Some(*apart));
+        assert!(rt; is_apart(rt.alloc(), second, first)? == Some(*apart));
     }
     Ok(())
 }

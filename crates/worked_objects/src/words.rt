@@ -110,9 +110,9 @@ fn words_are_told(rt: HostRuntime) -> Result<(), Fail> {
             &mut output,
             &mut errors,
         );
-        assert_eq!(rt; status, *wanted_status);
-        assert_eq!(rt; output.into_inner().as_slice(), wanted_output.as_bytes());
-        assert_eq!(rt; errors.into_inner().as_slice(), wanted_errors.as_bytes());
+        assert!(rt; status == *wanted_status);
+        assert!(rt; output.into_inner().as_slice() == wanted_output.as_bytes());
+        assert!(rt; errors.into_inner().as_slice() == wanted_errors.as_bytes());
     }
     Ok(())
 }

@@ -1,12 +1,15 @@
 //! Patterns of which no generation may have more than some number of cells: a blinker, the pi-heptomino, and one cell
 //! that grows.
+ghost use Rattle.std.specs.Prelude.{◌≤◌};
 
 use life_answer::finding::{Answer, Finding};
-use life_find::answer::answer;
 use life_find::find::find_limited;
 use life_find::limit::BOUND_LIMIT;
+use life_find::soon::answer_soon;
 use life_plane::list_plane::ListPlane;
+use life_plane::plane::Plane;
 use life_text::rle::read_rle;
+use life_tile::TilePlane;
 use std::alloc::Global;
 use std::process::Abort;
 use std::test::Fail;
@@ -50,22 +53,13 @@ impl Example {
     }
 }
 
-// The answer to the text gives what is known of a pattern.
-fn check(rt: &impl Abort, alloc: Global, example: &Example) -> Result<(), Fail> {
+// Planes of one kind give what is known of a pattern.
+fn check<P: Plane>(rt: &impl Abort, alloc: Global, example: &Example) -> Result<(), Fail> {
     let bound = example.bound;
     assert!(rt; 1 <= bound && bound <= BOUND_LIMIT);
-    match &answer(alloc, example.text, bound, Some(example.most))? {
-        Answer::Found { finding, .. } => assert!(rt; example.is_found(finding)),
-        Answer::Refused(_) => assert!(rt; false),
-    }
-    Ok(())
-}
-
-// Each of these is found.
-fn check_all(rt: &impl Abort, alloc: Global, examples: &[Example]) -> Result<(), Fail> {
-    for example in examples {
-        check(rt, alloc, example)?;
-    }
+    let pattern = read_rle(alloc, example.text)?;
+    let finding = find_limited::<P>(alloc, &pattern, bound, Some(example.most))?;
+    assert!(rt; example.is_found(&finding));
     Ok(())
 }
 
@@ -73,17 +67,8 @@ const BLINKER: &[u8] = b"x = 3, y = 1\n3o!";
 
 #[test]
 fn a_blinker_has_three_cells_for_ever(rt: HostRuntime) -> Result<(), Fail> {
-    check_all(&rt, rt.alloc(), BLINKERS)
-}
-
-#[test]
-fn a_blinker_has_three_cells_on_the_list_plane(rt: HostRuntime) -> Result<(), Fail> {
     for example in BLINKERS {
-        let bound = example.bound;
-        assert!(rt; 1 <= bound && bound <= BOUND_LIMIT);
-        let pattern = read_rle(rt.alloc(), example.text)?;
-        let finding = find_limited::<ListPlane>(rt.alloc(), &pattern, bound, Some(example.most))?;
-        assert!(rt; example.is_found(&finding));
+        check::<ListPlane>(&rt, rt.alloc(), example)?;
     }
     Ok(())
 }
@@ -115,7 +100,10 @@ const PI_CODE: &[u8] = b"xp2_y8s0111z6996yggg33zyk11z0cczypez066zykggzciicyg11oo
 
 #[test]
 fn a_pattern_settles_after_its_greatest_generation(rt: HostRuntime) -> Result<(), Fail> {
-    check_all(&rt, rt.alloc(), SETTLING)
+    for example in SETTLING {
+        check::<TilePlane>(&rt, rt.alloc(), example)?;
+    }
+    Ok(())
 }
 
 const SETTLING: &[Example] = &[
@@ -189,7 +177,79 @@ fn a_growing_pattern_is_too_large_in_the_end(rt: HostRuntime) -> Result<(), Fail
             settled: None,
             large: *large,
         };
-        check(&rt, rt.alloc(), &example)?;
+        check::<TilePlane>(&rt, rt.alloc(), &example)?;
+    }
+    Ok(())
+}
+
+// Whether this is soon found of the text, or nothing where it is not to be.
+fn is_soon_found(alloc: Global, example: &Example, is_soon: bool) -> Result<bool, Fail>
+    requires { 1 ≤ example.now.bound × example.now.bound ≤ BOUND_LIMIT }
+{
+    let most = Some(example.most);
+    Ok(
+        match answer_soon(alloc, example.text, example.bound, most)? {
+            Some(Answer::Found { finding, .. }) => is_soon && example.is_found(&finding),
+            Some(Answer::Refused(_)) => false,
+            None => !is_soon,
+        },
+    )
+}
+
+/// What the first 256 generations tell, or leave open.
+const SOON: &[(Example, bool)] = &[
+    (
+        Example {
+            text: BLINKER,
+            bound: BOUND_LIMIT,
+            most: 3,
+            population: 3,
+            settled: Some((0, 2, b"xp2_7")),
+            large: None,
+        },
+        true,
+    ),
+    (
+        Example {
+            text: PI,
+            bound: BOUND_LIMIT,
+            most: 200,
+            population: 7,
+            settled: None,
+            large: Some(115),
+        },
+        true,
+    ),
+    (
+        Example {
+            text: PI,
+            bound: 175,
+            most: 201,
+            population: 7,
+            settled: Some((173, 2, PI_CODE)),
+            large: None,
+        },
+        false,
+    ),
+    (
+        Example {
+            text: PI,
+            bound: 114,
+            most: 201,
+            population: 7,
+            settled: None,
+            large: None,
+        },
+        true,
+    ),
+];
+
+#[test]
+fn what_the_first_generations_leave_open_is_not_soon_found(rt: HostRuntime) -> Result<(), Fail> {
+    for (example, is_soon) in SOON {
+        let bound = example.bound;
+        assert!(rt; 1 <= bound && bound <= BOUND_LIMIT);
+        assert!(rt; is_soon_found(rt.alloc(), example, *is_soon)?);
     }
     Ok(())
 }

@@ -3,85 +3,43 @@
 use life_cells::cell_list::CellList;
 use life_cells::rule::Rule;
 use life_find::same_object::same_object;
-use life_plane::plane::{AGE_LIMIT, Plane};
-use life_text::rle::read_rle;
-use life_tile::TilePlane;
 use std::alloc::Global;
 use std::process::Abort;
 use std::test::Fail;
 
-/// Two patterns, the second some generations later, and whether they become one object, where both settle.
-struct Pair {
-    first: &'static [u8],
-    second: &'static [u8],
-    later: u32,
-    known: Option<bool>,
-}
+/// Cells.
+type Cells = &'static [(i32, i32)];
 
-const GLIDER: &[u8] = b"x = 3, y = 3\nbo$2bo$3o!";
+const GLIDER: Cells = &[(1, 0), (2, 1), (0, 2), (1, 2), (2, 2)];
 
-const MIRRORED_GLIDER: &[u8] = b"x = 3, y = 3\n6bo$5bo$5b3o!";
+// A glider that goes the other way, two generations on.
+const MIRRORED_GLIDER: Cells = &[(5, 1), (5, 2), (7, 2), (5, 3), (6, 3)];
 
-const BLOCK: &[u8] = b"x = 2, y = 2\n2o$2o!";
+const BLOCK: Cells = &[(0, 0), (1, 0), (0, 1), (1, 1)];
 
-const THREE_OF_A_BLOCK: &[u8] = b"x = 2, y = 2\n2o$o!";
+const THREE_OF_A_BLOCK: Cells = &[(0, 0), (1, 0), (0, 1)];
 
-const BLINKER: &[u8] = b"x = 3, y = 1\n3o!";
+const BLINKER: Cells = &[(0, 0), (1, 0), (2, 0)];
 
-const METHUSELAH: &[u8] = b"x = 3, y = 3\nb2o$2o$bo!";
+const METHUSELAH: Cells = &[(1, 0), (2, 0), (0, 1), (1, 1), (1, 2)];
 
-const PAIRS: &[Pair] = &[
-    Pair {
-        first: GLIDER,
-        second: MIRRORED_GLIDER,
-        later: 2,
-        known: Some(true),
-    },
-    Pair {
-        first: BLOCK,
-        second: BLINKER,
-        later: 0,
-        known: Some(false),
-    },
-    Pair {
-        first: BLOCK,
-        second: METHUSELAH,
-        later: 0,
-        known: None,
-    },
-    Pair {
-        first: THREE_OF_A_BLOCK,
-        second: BLOCK,
-        later: 0,
-        known: Some(true),
-    },
-];
-
-// The cells of a pattern so many generations later.
-fn cells_after(
-    rt: &impl Abort,
-    alloc: Global,
-    text: &[u8],
-    generations: u32,
-) -> Result<CellList, Fail> {
-    let pattern = read_rle(alloc, text)?;
-    let mut plane = TilePlane::from_cells(alloc, pattern.cells())?;
-    for _ in 0..generations {
-        assert!(rt; plane.age() < AGE_LIMIT);
-        plane.step(&pattern.rule())?;
-    }
-    Ok(plane.cells()?)
+// Whether these become one object within ten generations, where both settle.
+fn told(rt: &impl Abort, alloc: Global, first: Cells, second: Cells) -> Result<Option<bool>, Fail> {
+    let first = CellList::of(alloc, first)?;
+    let second = CellList::of(alloc, second)?;
+    assert!(rt; first.fits() && second.fits());
+    Ok(same_object(alloc, &Rule::life(), &first, &second, 10)?)
 }
 
 #[test]
 fn objects_are_told_apart_however_they_lie(rt: HostRuntime) -> Result<(), Fail> {
-    let alloc = rt.alloc();
-    for pair in PAIRS {
-        let first = cells_after(&rt, alloc, pair.first, 0)?;
-        let second = cells_after(&rt, alloc, pair.second, pair.later)?;
-        assert!(rt; first.fits() && second.fits());
-        let told = same_object(alloc, &Rule::life(), &first, &second, 10)?;
-        assert_eq!(rt; told, pair.known);
+    for (first, second, known) in [
+        (GLIDER, MIRRORED_GLIDER, Some(true)),
+        (THREE_OF_A_BLOCK, BLOCK, Some(true)),
+        (BLOCK, BLINKER, Some(false)),
+        (BLOCK, METHUSELAH, None),
+    ] {
+        assert!(rt; told(&rt, rt.alloc(), first, second)? == known);
     }
     Ok(())
 }

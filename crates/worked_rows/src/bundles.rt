@@ -1,8 +1,5 @@
 //! Bundles, and what is known of their reports.
 
-use census_bundle::bundle::{AddFault, Bundle};
-use std::alloc::Global;
-
 // A folder `demo` of five patterns: two blocks, a glider, a methuselah, and a text without its end.
 pub(crate) const DEMO: &[u8] = b"@folder demo
 @file block
@@ -38,17 +35,3 @@ end 1 5
 pub(crate) const BLOCK: &[u8] = b"x = 3, y = 3\n2o$2o!";
 
 pub(crate) const BLINKER: &[u8] = b"x = 3, y = 3\n3o!";
-
-// A folder of patterns, each with its name and its text.
-pub(crate) fn folder_of(
-    alloc: Global,
-    name: &[u8],
-    patterns: &[(&[u8], &[u8])],
-) -> Result<Bundle, AddFault> {
-    let mut bundle = Bundle::empty(alloc);
-    bundle.add_folder(name)?;
-    for pattern in patterns {
-        bundle.add_entry(pattern.0, pattern.1)?;
-    }
-    Ok(bundle)
-}

@@ -4,9 +4,7 @@ use crate::bundles::{DEMO, DEMO_REPORT};
 use crate::program::called_through;
 use census_bundle::ticket::Ticket;
 use census_crew::gate::Gate;
-use std::alloc::AllocError;
 use std::sync::atomic::{AtomicU64, Ordering};
-use std::test::Fail;
 
 // How often a worker looks whether the others have come.
 const TURNS: u64 = 1_000_000_000;
@@ -32,7 +30,7 @@ impl Gate for Crowd {
 }
 
 #[test]
-fn as_many_workers_as_the_words_say_meet_at_the_gate(rt: HostRuntime) -> Result<(), Fail> {
+fn as_many_workers_as_the_words_say_meet_at_the_gate(rt: HostRuntime) {
     const CALLS: &[(&[&str], u64)] = &[
         (&["run", "--bound", "50", "--workers", "2"], 2),
         (&["run", "--workers", "5", "--bound", "50"], 5),
@@ -44,24 +42,16 @@ fn as_many_workers_as_the_words_say_meet_at_the_gate(rt: HostRuntime) -> Result<
             entered: AtomicU64::new(0),
             gave_up: AtomicU64::new(0),
         };
-        let output = Vec::with_capacity(rt.alloc(), 300)?;
-        let errors = Vec::with_capacity(rt.alloc(), 300)?;
         let (status, output, errors) = called_through(
             &rt,
             rt.alloc(),
             words,
             &gate,
             DEMO,
-            output,
-            errors,
+            Vec::new(rt.alloc()),
+            Vec::new(rt.alloc()),
         );
-        if status == 3 {
-            return Err(Fail::from(AllocError));
-        }
-        assert_eq!(rt; status, 0);
-        assert_eq!(rt; gate.gave_up.load(Ordering::SeqCst), 0);
-        assert!(rt; output.as_slice() == DEMO_REPORT);
-        assert!(rt; errors.is_empty());
+        assert!(rt; status == 0 && gate.gave_up.load(Ordering::SeqCst) == 0);
+        assert!(rt; output.as_slice() == DEMO_REPORT && errors.is_empty());
     }
-    Ok(())
 }

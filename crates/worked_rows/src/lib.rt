@@ -1,6 +1,6 @@
-//! Worked examples of bundles and their reports, and of what the program answers to a command line.
+//! Worked examples of what the program answers to a command line.
 //!
-//! Each example is what the libraries give together for an input whose report is known from the format.
+//! More commands are in `checks/rows`, and failing ends and refused memory in `checks/ends` and `checks/growths`.
 #![tactic(auto)]
 
 #[cfg(test)]
@@ -14,12 +14,6 @@ mod ends;
 #[cfg(test)]
 mod lines;
 #[cfg(test)]
-mod objects;
-#[cfg(test)]
 mod program;
 #[cfg(test)]
-mod refusals;
-#[cfg(test)]
-mod reports;
-#[cfg(test)]
-mod runs;
+mod trees;

@@ -2,6 +2,7 @@
 
 use census_bundle::bundle::{AddFault, Bundle};
 use census_crew::tally::Tally;
+use life_answer::question::Question;
 use std::alloc::Global;
 
 // A folder `demo` of five patterns.
@@ -22,6 +23,12 @@ b2o$2o$bo!
 x = 3, y = 1, rule = B3/S23
 3o
 ";
+
+// The question of `DEMO_REPORT`.
+pub(crate) const SETTLES: Question = Question::Settles {
+    bound: 50,
+    cells: None,
+};
 
 // The report of `DEMO` with bound 50.
 pub(crate) const DEMO_REPORT: &[u8] = b"open 1 5 demo

@@ -1,6 +1,6 @@
 //! Readers and writers that fail, take little at a time, or never end.
 
-use crate::bundles::{DEMO, DEMO_REPORT, TWO_FOLDERS_REPORT, demo_tally, two_folders};
+use crate::bundles::{DEMO, DEMO_REPORT, SETTLES, TWO_FOLDERS_REPORT, demo_tally, two_folders};
 use census_bundle::bundle::Bundle;
 use census_bundle::reading::read_bundle;
 use census_crew::bytes::{BytesFault, run_bytes};
@@ -8,11 +8,9 @@ use census_crew::fault::RunFault;
 use census_crew::gate::OpenGate;
 use census_crew::run::run;
 use census_crew::settling::settle;
-use life_answer::question::Question;
 use std::alloc::Global;
 use std::io;
 use std::io::{ErrorKind, Read, Write};
-use std::process::Abort;
 use std::sync::Wait;
 use std::test::Fail;
 use std::thread::Threads;
@@ -69,62 +67,26 @@ impl Write for FailingWriter {
 
 // The run of `DEMO` into a writer with room for so many bytes answers `Write`, and the report's first bytes fill that
 // room.
-fn fills_its_room<R: Threads + Wait + Abort + Sync>(
+fn fills_its_room<R: Threads + Wait + Sync>(
     rt: &R,
     alloc: Global,
     bundle: &Bundle,
     room: usize,
-) {
+) -> bool {
     let mut out = Watched::new(FailingWriter::after(alloc, room));
-    let answer = run(
-        rt,
-        alloc,
-        bundle,
-        Question::Settles {
-            bound: 50,
-            cells: None,
-        },
-        2,
-        &OpenGate,
-        &mut out,
-    );
-    assert_eq!(rt; answer, Err(RunFault::Write), "after {room} bytes");
-    assert!(rt; out.failed());
+    let answer = run(rt, alloc, bundle, SETTLES, 2, &OpenGate, &mut out);
+    let has_failed = out.failed();
     let written = out.into_inner().written;
-    assert!(rt; DEMO_REPORT.starts_with(written.as_slice()));
-    assert_eq!(rt; written.len(), room);
+    let is_prefix = DEMO_REPORT.starts_with(written.as_slice()) && written.len() == room;
+    answer == Err(RunFault::Write) && has_failed && is_prefix
 }
 
 #[test]
-fn a_writer_that_fails_has_taken_the_front_of_the_report(rt: HostRuntime) -> Result<(), Fail> {
+fn a_writer_that_fails_has_taken_a_prefix_of_the_report(rt: HostRuntime) -> Result<(), Fail> {
     let bundle = read_bundle(rt.alloc(), DEMO)?;
     for room in 0..DEMO_REPORT.len() {
-        fills_its_room(&rt, rt.alloc(), &bundle, room);
+        assert!(rt; fills_its_room(&rt, rt.alloc(), &bundle, room));
     }
-    Ok(())
-}
-
-#[test]
-fn a_writer_that_fails_after_30_bytes_holds_30(rt: HostRuntime) -> Result<(), Fail> {
-    let mut reader = Watched::new(DEMO);
-    let mut out = Watched::new(FailingWriter::after(rt.alloc(), 30));
-    let answer = run_bytes(
-        &rt,
-        rt.alloc(),
-        &mut reader,
-        Question::Settles {
-            bound: 50,
-            cells: None,
-        },
-        2,
-        &OpenGate,
-        &mut out,
-    );
-    assert_eq!(rt; answer, Err(BytesFault::Write));
-    assert_eq!(rt;
-        out.into_inner().written.as_slice(),
-        b"open 1 5 demo\nline 1 1 ok B3/S".as_slice()
-    );
     Ok(())
 }
 
@@ -133,17 +95,8 @@ fn settling_ends_where_its_writer_fails(rt: HostRuntime) -> Result<(), Fail> {
     let bundle = two_folders(rt.alloc())?;
     for room in 0..TWO_FOLDERS_REPORT.len() {
         let mut out = Watched::new(FailingWriter::after(rt.alloc(), room));
-        let answer = settle(
-            rt.alloc(),
-            &bundle,
-            Question::Settles {
-                bound: 10,
-                cells: None,
-            },
-            Vec::new(rt.alloc()),
-            &mut out,
-        );
-        assert_eq!(rt; answer, Err(RunFault::Write), "after {room} bytes");
+        let answer = settle(rt.alloc(), &bundle, SETTLES, Vec::new(rt.alloc()), &mut out);
+        assert!(rt; answer == Err(RunFault::Write));
         assert!(rt; out.into_inner().written.as_slice() == &TWO_FOLDERS_REPORT[..room]);
     }
     Ok(())
@@ -157,65 +110,42 @@ fn a_writer_of_single_bytes_takes_the_whole_report(rt: HostRuntime) -> Result<()
         room: usize::MAX,
         at_once: 1,
     });
-    let tally = run(
-        &rt,
-        rt.alloc(),
-        &bundle,
-        Question::Settles {
-            bound: 50,
-            cells: None,
-        },
-        2,
-        &OpenGate,
-        &mut out,
-    )?;
-    assert_eq!(rt; tally, demo_tally(0));
-    assert!(rt; !out.failed());
+    let tally = run(&rt, rt.alloc(), &bundle, SETTLES, 2, &OpenGate, &mut out)?;
+    assert!(rt; tally == demo_tally(0) && !out.failed());
     assert!(rt; out.into_inner().written.as_slice() == DEMO_REPORT);
     Ok(())
+}
+
+// The fault of a run over what a reader gives, and what is written where there is room for so many bytes.
+fn fault_of<I: Read + Drop, R: Threads + Wait + Sync>(
+    rt: &R,
+    alloc: Global,
+    input: I,
+    room: usize,
+) -> (Option<BytesFault>, Vec<u8>) {
+    let mut reader = Watched::new(input);
+    let mut out = Watched::new(FailingWriter::after(alloc, room));
+    let answer = run_bytes(rt, alloc, &mut reader, SETTLES, 2, &OpenGate, &mut out);
+    (answer.err(), out.into_inner().written)
+}
+
+#[test]
+fn a_writer_that_fails_after_30_bytes_holds_30(rt: HostRuntime) {
+    let (fault, written) = fault_of(&rt, rt.alloc(), DEMO, 30);
+    assert!(rt; fault == Some(BytesFault::Write) && written.as_slice() == &DEMO_REPORT[..30]);
 }
 
 #[test]
 fn nothing_is_written_where_the_reader_fails(rt: HostRuntime) {
     for k in 0..DEMO.len() {
-        let mut reader = Watched::new(FailingReader { left: &DEMO[..k] });
-        let mut out = Watched::new(Vec::new(rt.alloc()));
-        let answer = run_bytes(
-            &rt,
-            rt.alloc(),
-            &mut reader,
-            Question::Settles {
-                bound: 50,
-                cells: None,
-            },
-            2,
-            &OpenGate,
-            &mut out,
-        );
-        assert_eq!(rt; answer, Err(BytesFault::Read), "after {k} bytes");
-        assert!(rt; reader.failed());
-        assert!(rt; !out.failed());
-        assert!(rt; out.into_inner().is_empty());
+        let input = FailingReader { left: &DEMO[..k] };
+        let (fault, written) = fault_of(&rt, rt.alloc(), input, usize::MAX);
+        assert!(rt; fault == Some(BytesFault::Read) && written.is_empty());
     }
 }
 
 #[test]
 fn a_reader_without_end_is_too_long(rt: HostRuntime) {
-    let mut reader = Watched::new(io::repeat(b'@'));
-    let mut out = Watched::new(Vec::new(rt.alloc()));
-    let answer = run_bytes(
-        &rt,
-        rt.alloc(),
-        &mut reader,
-        Question::Settles {
-            bound: 50,
-            cells: None,
-        },
-        2,
-        &OpenGate,
-        &mut out,
-    );
-    assert_eq!(rt; answer, Err(BytesFault::TooLong));
-    assert!(rt; !reader.failed());
-    assert!(rt; out.into_inner().is_empty());
+    let (fault, written) = fault_of(&rt, rt.alloc(), io::repeat(b'@'), usize::MAX);
+    assert!(rt; fault == Some(BytesFault::TooLong) && written.is_empty());
 }

@@ -8,7 +8,7 @@ use std::fmt::Display;
 use std::test::Fail;
 
 // Whether this is what a fault says.
-fn says<D: Display>(alloc: Global, fault: &D, text: &str) -> Result<bool, AllocError> {
+pub(crate) fn says<D: Display>(alloc: Global, fault: &D, text: &str) -> Result<bool, AllocError> {
     let shown = format!(in alloc; "{fault}")?;
     Ok(shown.as_str() == text)
 }

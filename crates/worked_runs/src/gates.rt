@@ -1,14 +1,18 @@
 //! Gates that count, or hold workers until others have come.
+ghost use Rattle.std.specs.Prelude.{◌≤◌};
 
-use crate::bundles::{DEMO, DEMO_REPORT, blinkers, demo_tally};
+use crate::bundles::{DEMO, DEMO_REPORT, SETTLES, blinkers, demo_tally};
+use census_bundle::bundle::Bundle;
 use census_bundle::reading::read_bundle;
 use census_bundle::ticket::Ticket;
-use census_crew::gate::{Gate, OpenGate};
-use census_crew::run::{run, run_on};
-use census_feed::handles::Feed;
-use life_answer::question::Question;
+use census_crew::gate::Gate;
+use census_crew::run::run;
+use census_crew::tally::Tally;
+use std::alloc::Global;
+use std::sync::Wait;
 use std::sync::atomic::{AtomicU64, Ordering};
 use std::test::Fail;
+use std::thread::Threads;
 use watched::watched::Watched;
 
 // How often a gate looks whether others have come.
@@ -67,6 +71,21 @@ impl Gate for Crowd {
     }
 }
 
+// A run of the bundle at a gate: its tally, and what it wrote.
+fn reported<G: Gate, R: Threads + Wait + Sync>(
+    rt: &R,
+    alloc: Global,
+    bundle: &Bundle,
+    workers: u32,
+    gate: &G,
+) -> Result<(Tally, Vec<u8>), Fail>
+    requires { (1 ≤ workers) × (workers ≤ 16) }
+{
+    let mut out = Watched::new(Vec::new(alloc));
+    let tally = run(rt, alloc, bundle, SETTLES, workers, gate, &mut out)?;
+    Ok((tally, out.into_inner()))
+}
+
 #[test]
 fn one_worker_waits_for_another(rt: HostRuntime) -> Result<(), Fail> {
     let bundle = read_bundle(rt.alloc(), DEMO)?;
@@ -74,46 +93,9 @@ fn one_worker_waits_for_another(rt: HostRuntime) -> Result<(), Fail> {
         entered: AtomicU64::new(0),
         gave_up: AtomicU64::new(0),
     };
-    let mut out = Watched::new(Vec::new(rt.alloc()));
-    let tally = run(
-        &rt,
-        rt.alloc(),
-        &bundle,
-        Question::Settles {
-            bound: 50,
-            cells: None,
-        },
-        2,
-        &gate,
-        &mut out,
-    )?;
-    assert_eq!(rt; tally, demo_tally(0));
-    assert_eq!(rt; gate.gave_up.load(Ordering::SeqCst), 0);
-    assert!(rt; out.into_inner().as_slice() == DEMO_REPORT);
-    Ok(())
-}
-
-#[test]
-fn five_workers_meet_at_the_gate(rt: HostRuntime) -> Result<(), Fail> {
-    let bundle = read_bundle(rt.alloc(), DEMO)?;
-    let gate = Crowd::of(5);
-    let mut out = Watched::new(Vec::new(rt.alloc()));
-    let tally = run(
-        &rt,
-        rt.alloc(),
-        &bundle,
-        Question::Settles {
-            bound: 50,
-            cells: None,
-        },
-        5,
-        &gate,
-        &mut out,
-    )?;
-    assert_eq!(rt; tally, demo_tally(0));
-    assert_eq!(rt; gate.gave_up.load(Ordering::SeqCst), 0);
-    assert_eq!(rt; gate.entered.load(Ordering::SeqCst), 5);
-    assert!(rt; out.into_inner().as_slice() == DEMO_REPORT);
+    let (tally, report) = reported(&rt, rt.alloc(), &bundle, 2, &gate)?;
+    assert!(rt; tally == demo_tally(0) && gate.gave_up.load(Ordering::SeqCst) == 0);
+    assert!(rt; report.as_slice() == DEMO_REPORT);
     Ok(())
 }
 
@@ -122,51 +104,10 @@ fn as_many_workers_as_were_asked_for_meet_at_the_gate(rt: HostRuntime) -> Result
     let bundle = blinkers(rt.alloc(), 16)?;
     for workers in 1..17 {
         let gate = Crowd::of(u64::from(workers));
-        let mut out = Watched::new(Vec::new(rt.alloc()));
-        let tally = run(
-            &rt,
-            rt.alloc(),
-            &bundle,
-            Question::Settles {
-                bound: 2,
-                cells: None,
-            },
-            workers,
-            &gate,
-            &mut out,
-        )?;
-        assert_eq!(rt; tally.resolved, 16);
-        assert_eq!(rt; tally.caught_up, 0);
-        assert_eq!(rt; gate.gave_up.load(Ordering::SeqCst), 0, "{workers} workers");
-        assert_eq!(rt; gate.entered.load(Ordering::SeqCst), 16);
+        let (tally, _) = reported(&rt, rt.alloc(), &bundle, workers, &gate)?;
+        assert!(rt; tally.resolved == 16 && tally.caught_up == 0);
+        let gave_up = gate.gave_up.load(Ordering::SeqCst);
+        assert!(rt; gave_up == 0 && gate.entered.load(Ordering::SeqCst) == 16);
     }
-    Ok(())
-}
-
-#[test]
-fn tickets_of_hands_that_took_all_are_worked_by_the_caller(rt: HostRuntime) -> Result<(), Fail> {
-    let bundle = read_bundle(rt.alloc(), DEMO)?;
-    let (feed, mut hands) = Feed::fill(rt.alloc(), &bundle, 1)?;
-    if let Some(hand) = hands.get_mut(0) {
-        for _ in 0..6 {
-            hand.take(&rt);
-        }
-    }
-    let mut out = Watched::new(Vec::new(rt.alloc()));
-    let tally = run_on(
-        &rt,
-        rt.alloc(),
-        &bundle,
-        Question::Settles {
-            bound: 50,
-            cells: None,
-        },
-        feed,
-        hands,
-        &OpenGate,
-        &mut out,
-    )?;
-    assert_eq!(rt; tally, demo_tally(5));
-    assert!(rt; out.into_inner().as_slice() == DEMO_REPORT);
     Ok(())
 }

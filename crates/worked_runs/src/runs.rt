@@ -1,30 +1,15 @@
 //! A bundle text that is run by one worker and by many, and from a feed of the caller's.
 
-use crate::bundles::{DEMO, DEMO_REPORT};
+use crate::bundles::{DEMO, DEMO_REPORT, SETTLES, demo_tally};
 use census_bundle::reading::read_bundle;
 use census_bundle::ticket::Ticket;
 use census_crew::bytes::run_bytes;
 use census_crew::gate::{Gate, OpenGate};
 use census_crew::run::{run, run_on};
-use census_crew::tally::Tally;
 use census_feed::handles::Feed;
-use life_answer::question::Question;
 use std::sync::atomic::{AtomicU64, Ordering};
 use std::test::Fail;
 use watched::watched::Watched;
-
-// What is counted of the demo, where the caller worked so many tickets.
-fn demo_tally(caught_up: u64) -> Tally {
-    Tally {
-        patterns: 5,
-        resolved: 3,
-        unresolved: 1,
-        refused: 1,
-        doubles: 0,
-        strangers: 0,
-        caught_up,
-    }
-}
 
 #[test]
 fn a_bundle_has_one_report_by_any_number_of_workers(rt: HostRuntime) -> Result<(), Fail> {
@@ -35,16 +20,12 @@ fn a_bundle_has_one_report_by_any_number_of_workers(rt: HostRuntime) -> Result<(
             &rt,
             rt.alloc(),
             &bundle,
-            Question::Settles {
-                bound: 50,
-                cells: None,
-            },
+            SETTLES,
             workers,
             &OpenGate,
             &mut out,
         )?;
-        assert_eq!(rt; tally, demo_tally(0));
-        assert_eq!(rt; out.into_inner().as_slice(), DEMO_REPORT);
+        assert!(rt; tally == demo_tally(0) && out.into_inner().as_slice() == DEMO_REPORT);
     }
     Ok(())
 }
@@ -58,16 +39,12 @@ fn a_text_has_one_report_by_any_number_of_workers(rt: HostRuntime) -> Result<(),
             &rt,
             rt.alloc(),
             &mut reader,
-            Question::Settles {
-                bound: 50,
-                cells: None,
-            },
+            SETTLES,
             workers,
             &OpenGate,
             &mut out,
         )?;
-        assert_eq!(rt; tally, demo_tally(0));
-        assert_eq!(rt; out.into_inner().as_slice(), DEMO_REPORT);
+        assert!(rt; tally == demo_tally(0) && out.into_inner().as_slice() == DEMO_REPORT);
     }
     Ok(())
 }
@@ -89,13 +66,11 @@ fn a_ticket_that_a_hand_took_before_is_worked_by_the_caller(rt: HostRuntime) -> 
     let bundle = read_bundle(rt.alloc(), DEMO)?;
     let (feed, mut hands) = Feed::fill(rt.alloc(), &bundle, 2)?;
     let first = hands.get_mut(0).and_then(|hand| hand.take(&rt));
-    assert_eq!(rt;
-        first,
-        Some(Ticket {
-            folder: 1,
-            number: 1
-        })
-    );
+    let least = Ticket {
+        folder: 1,
+        number: 1,
+    };
+    assert!(rt; first == Some(least));
     let gate = Counting {
         entered: AtomicU64::new(0),
     };
@@ -104,17 +79,13 @@ fn a_ticket_that_a_hand_took_before_is_worked_by_the_caller(rt: HostRuntime) -> 
         &rt,
         rt.alloc(),
         &bundle,
-        Question::Settles {
-            bound: 50,
-            cells: None,
-        },
+        SETTLES,
         feed,
         hands,
         &gate,
         &mut out,
     )?;
-    assert_eq!(rt; tally, demo_tally(1));
-    assert_eq!(rt; gate.entered.load(Ordering::SeqCst), 4);
-    assert_eq!(rt; out.into_inner().as_slice(), DEMO_REPORT);
+    assert!(rt; tally == demo_tally(1) && gate.entered.load(Ordering::SeqCst) == 4);
+    assert!(rt; out.into_inner().as_slice() == DEMO_REPORT);
     Ok(())
 }

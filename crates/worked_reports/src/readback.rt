@@ -1,0 +1,131 @@
+//! Reports that are read back: lines, collections, and the line of a fault.
+
+use census_readback::reading::read_report;
+use census_readback::sections::collections;
+use census_rows::row::{Outcome, Row};
+use census_rows::write::push_row;
+use std::alloc::{AllocError, Global};
+
+const RUN: &[u8] = b"open 1 5 demo
+line 1 1 ok B3/S23 4 0 1 0 0 xs4_33 block
+line 1 2 ok B3/S23 5 0 4 -1 1 xq4_153 a glider
+line 1 3 ok B3/S23 4 0 1 0 0 xs4_33 block2
+line 1 4 none B3/S23 5 rpent
+line 1 5 bad 10 broken
+code 1 B3/S23 xs4_33 2
+code 1 B3/S23 xq4_153 1
+close 1 5 3 1 1
+end 1 5
+";
+
+// Sections that interleave, and a second report.
+const OBJECTS: &[u8] = b"open 2 1 b
+open 1 2 a
+line 2 1 ash B3/S23 5 25 r
+line 1 1 ash B3/S23 6 2 two
+part 2 1 xp2_7 4
+part 1 1 xs4_33 2
+line 1 2 large B3/S23 5 100 wide
+part 2 1 xs4_33 8
+code 2 B3/S23 xs4_33 8
+close 1 2 1 1 0
+close 2 1 1 0 0
+end 2 3
+end 0 0
+";
+
+// The rows' lines.
+fn written(alloc: Global, rows: &[Row]) -> Result<Vec<u8>, AllocError> {
+    let mut text = Vec::new(alloc);
+    for row in rows {
+        push_row(&mut text, row)?;
+        text.push(b'\n')?;
+    }
+    Ok(text)
+}
+
+// The line of the fault, or 0.
+fn fault(alloc: Global, text: &[u8]) -> Result<usize, AllocError> {
+    match read_report(alloc, text)? {
+        Ok(_) => Ok(0),
+        Err(line) => Ok(line),
+    }
+}
+
+#[test]
+fn reports_are_read_and_written_again(rt: HostRuntime) -> Result<(), AllocError> {
+    for text in [RUN, OBJECTS] {
+        match read_report(rt.alloc(), text)? {
+            Ok(rows) => assert!(rt; written(rt.alloc(), rows.as_slice())?.as_slice() == text),
+            Err(_) => assert!(rt; false),
+        }
+    }
+    Ok(())
+}
+
+// Whether a row is of a glider that goes to the left and down, under the name `a glider`.
+fn is_glider(row: &Row) -> bool {
+    match row {
+        Row::Line {
+            outcome: Outcome::Ok { dx, dy, code, .. },
+            name,
+            ..
+        } => {
+            (*dx, *dy) == (-1, 1)
+                && *code == b"xq4_153".as_slice()
+                && *name == b"a glider".as_slice()
+        }
+        _ => false,
+    }
+}
+
+#[test]
+fn fields_are_told_apart(rt: HostRuntime) -> Result<(), AllocError> {
+    let told = match &read_report(rt.alloc(), RUN)? {
+        Ok(rows) => rows.len() == 10 && is_glider(&rows[2]),
+        Err(_) => false,
+    };
+    assert!(rt; told);
+    Ok(())
+}
+
+// Texts, and the first line that is wrong, or 0.
+const FAULTS: &[(&[u8], usize)] = &[
+    (b"", 1),
+    (b"end 0 0", 1),
+    (b"end 0 0\n", 0),
+    (b"end 0 0\n\n", 2),
+    (b"end 0 00\n", 1),
+    (b"end 1 0\n", 1),
+    (b"open 0 0 x\n", 1),
+    (b"open 1 0 x\n", 2),
+    (b"open 1 0 x\nopen 1 0 x\n", 2),
+    (b"open 1 1 x\nline 1 2 bad 1 y\n", 2),
+    (b"open 1 1 x\ncode 1 B3/S23 xs4_33 1\n", 2),
+    (b"open 1 1 x\nline 1 1 bad 1 y\npart 1 1 xs4_33 1\n", 3),
+    (b"open 1 1 x\nline 1 1 bad 1 y\nclose 1 1 1 0 0\n", 3),
+    (b"open 1 0 x\nclose 1 0 0 0 0\nend 1 1\n", 3),
+    (b"open 1 0 x\nclose 1 0 0 0 0\nend 1 0\n", 0),
+    (b"open 65536 0 x\n", 1),
+];
+
+#[test]
+fn the_first_line_that_is_wrong_is_told(rt: HostRuntime) -> Result<(), AllocError> {
+    for (text, line) in FAULTS {
+        assert!(rt; fault(rt.alloc(), text)? == *line);
+    }
+    Ok(())
+}
+
+#[test]
+fn rows_come_by_their_collections(rt: HostRuntime) -> Result<(), AllocError> {
+    let told = match &read_report(rt.alloc(), OBJECTS)? {
+        Ok(rows) => {
+            let lists = collections(rt.alloc(), rows.as_slice())?;
+            lists.len() == 2 && lists[0].len() == 5 && lists[1].len() == 6
+        }
+        Err(_) => false,
+    };
+    assert!(rt; told);
+    Ok(())
+}
