@@ -1,0 +1,626 @@
+"""Asks the program `census` what patterns of Conway's Life and its kin become on the unbounded plane.
+
+    >>> from census import Census
+    >>> glider = Census("./census").identify("x = 3, y = 3\\nbo$2bo$3o!")
+    >>> glider.apgcode, glider.period, glider.displacement
+    ('xq4_153', 4, (1, 1))
+
+The program does the work; this module starts it, hands it texts or folders, and reads what it writes. It needs Python 3.8 or later and
+nothing but the standard library. No shell is used.
+"""
+from __future__ import annotations
+
+import operator
+import os
+import re
+import subprocess
+import tempfile
+from dataclasses import dataclass, field, replace
+from typing import Dict, Iterable, Iterator, List, Literal, NoReturn, Optional, Tuple, Union, overload
+
+__all__ = [
+    "Census", "Pattern", "Row", "read_report",
+    "CensusError", "PatternFault", "FolderFault", "TooLong", "ReadFailed", "ReportFault", "OutOfMemory", "TimedOut", "ProgramFailed",
+]
+
+# one RLE text
+Text = Union[str, bytes, bytearray, memoryview]
+# a program or a folder
+Path = Union[str, bytes, "os.PathLike[str]", "os.PathLike[bytes]"]
+
+
+# Errors
+
+
+class CensusError(Exception):
+    """What is wrong: the base of this module's errors. What the system refuses (a program that can't be started, a file of the temporary
+    folder that can't be written) is an `OSError` as everywhere, and what is no text or list a `TypeError`.
+
+    `sentence` says it in words. `number` is the fault's number and `place` says where it is, each None where there is none.
+    """
+
+    def __init__(self, sentence: str, number: Optional[int] = None, place: Optional[str] = None) -> None:
+        super().__init__(sentence, number, place)
+        self.sentence = sentence
+        self.number = number
+        self.place = place
+
+    def __str__(self) -> str:
+        head = "" if self.place is None else f"{self.place}: "
+        tail = "" if self.number is None else f" (fault {self.number})"
+        return f"{head}{self.sentence}{tail}"
+
+
+class PatternFault(CensusError):
+    """An RLE text that means no pattern. docs/FAULTS.md has the sentences.
+
+    `number` is 1 to 10. `line` and `column` count from 1, a column counts bytes. `at` is the byte of the text, from 0, or None (faults 1
+    to 4, and 10). `index` is the place of the text in the list of `identify_many`, from 0, or None.
+    """
+
+    def __init__(self, sentence: str, number: int, line: int, column: int, at: Optional[int] = None, index: Optional[int] = None) -> None:
+        super().__init__(sentence, number, _place_of_text(index, f"line {line}, column {column}"))
+        self.args = (sentence, number, line, column, at, index)
+        self.line = line
+        self.column = column
+        self.at = at
+        self.index = index
+
+
+class TooLong(CensusError):
+    """A text or a file has more than 67,108,864 bytes. `index` is that of the text in the list of `identify_many`, or None."""
+
+    def __init__(self, place: Optional[str] = None, index: Optional[int] = None) -> None:
+        super().__init__("the text is too long: it must have at most 67108864 bytes", None, _place_of_text(index, place))
+        self.args = (place, index)
+        self.index = index
+
+
+class ReadFailed(CensusError):
+    """A folder, or a file in it, could not be read. `index` is that of the text in the list of `identify_many`, or None.
+
+    The program can't read a file whose name ends in `.rle` and is not UTF-8.
+    """
+
+    def __init__(self, place: Optional[str] = None, index: Optional[int] = None) -> None:
+        super().__init__("reading failed", None, _place_of_text(index, place))
+        self.args = (place, index)
+        self.index = index
+
+
+class FolderFault(CensusError):
+    """The folders make no list of collections: `number` 1, an unlawful name; 3, too many of them, or of the files in one.
+
+    `place` is the folder, or None where it is not known.
+    """
+
+    SENTENCES = {
+        1: "the name of a folder or of a file is not lawful: it must have 1 to 255 bytes, none below 32 or 127, and no blank at either end",
+        3: "there are too many folders, or too many patterns in one: there must be at most 65535",
+    }
+
+    def __init__(self, number: int, place: Optional[str] = None) -> None:
+        super().__init__(self.SENTENCES.get(number, "the folders are refused"), number, place)
+        self.args = (number, place)
+
+
+class ReportFault(CensusError):
+    """A report is none that the program writes, or not a whole one. `line` counts from 1."""
+
+    def __init__(self, sentence: str, line: int) -> None:
+        super().__init__(sentence, None, f"line {line}")
+        self.args = (sentence, line)
+        self.line = line
+
+
+class OutOfMemory(CensusError):
+    """The program ran out of memory."""
+
+    def __init__(self) -> None:
+        super().__init__("the program ran out of memory")
+        self.args = ()
+
+
+class TimedOut(CensusError):
+    """The program took longer than `seconds` and was ended."""
+
+    def __init__(self, seconds: float) -> None:
+        super().__init__(f"the program took longer than {seconds} seconds")
+        self.args = (seconds,)
+        self.seconds = seconds
+
+
+class ProgramFailed(CensusError):
+    """The program refused its command line (`status` 2), or ended in a way that this module does not know.
+
+    `status` is its exit status, less than 0 where a signal ended it; `stderr` is what it wrote to standard error.
+    """
+
+    def __init__(self, status: int, stderr: str) -> None:
+        first = stderr.strip().split("\n")[0]
+        super().__init__(f"the program ended with status {status} and said: {first or 'nothing'}")
+        self.args = (status, stderr)
+        self.status = status
+        self.stderr = stderr
+
+
+def _place_of_text(index: Optional[int], place: Optional[str]) -> Optional[str]:
+    """Where it is, with the place of the text in its list before it."""
+    if index is None:
+        return place
+    return f"rles[{index}]" if place is None else f"rles[{index}], {place}"
+
+
+# Answers
+
+
+@dataclass(frozen=True)
+class Pattern:
+    """What a pattern is and becomes. The names that lifelib's patterns have too mean what they mean there.
+
+    Of the three last parts there is one: where the pattern recurs within the bound, `onset`, `period`, `displacement` and `apgcode`; else,
+    where it has fallen apart, `objects`; else `unresolved`. All others are None.
+    """
+
+    # as `B3/S23`
+    rule: str
+    # of generation 0, 0 or more
+    population: int
+    # width and height of the box around generation 0, in cells
+    box: Tuple[int, int]
+    # the first generation that comes again, 0 or more
+    onset: Optional[int] = None
+    # after so many generations, 1 or more
+    period: Optional[int] = None
+    # moved so many cells to the right and down
+    displacement: Optional[Tuple[int, int]] = None
+    # `xs`, `xp` or `xq`, a number, `_` and the shortest text of all phases; `xs0_0` where no cell lives on
+    apgcode: Optional[str] = None
+    # how many objects have each code
+    objects: Optional[Dict[str, int]] = field(default=None, hash=False)
+    # the bound, within which neither was found
+    unresolved: Optional[int] = None
+
+
+@dataclass(frozen=True)
+class Row:
+    """What a report says of one pattern.
+
+    `status` is `ok` (recurs within the bound), `ash` (has fallen apart within it), `none` (neither), `large` (has more cells than it may)
+    or `bad` (its text has a fault). What a status has nothing to say of is None. The README has the meaning of each part.
+    """
+
+    # the number of the collection, from 1
+    collection: int
+    # the folder as it was named; bytes that are not UTF-8 stand as `os.fsdecode` has them
+    collection_name: str
+    # the number of the pattern in its collection, from 1
+    pattern: int
+    # the name of its file, decoded as the folder's
+    name: str
+    status: str
+    rule: Optional[str] = None
+    # of generation 0
+    population: Optional[int] = None
+    onset: Optional[int] = None
+    period: Optional[int] = None
+    # moved so far to the right
+    dx: Optional[int] = None
+    # and down
+    dy: Optional[int] = None
+    # the apgcode
+    code: Optional[str] = None
+    # the first one with too many cells
+    generation: Optional[int] = None
+    # the number of the RLE fault, 1 to 10; `identify` tells place and sentence
+    fault: Optional[int] = None
+    # each code of its objects with how many have it, in the order of the report
+    parts: Optional[Tuple[Tuple[str, int], ...]] = None
+
+
+# The program
+
+
+class Census:
+    """The program `census`, by its path, or by a name that the system finds on the PATH.
+
+    `timeout` is how many seconds each call of it may take, or None for any. Some patterns grow without end, and take long where the bound
+    is great. Each call of a method starts the program anew, so that a `Census` may be used by several threads at once.
+    """
+
+    def __init__(self, program: Path, *, timeout: Optional[float] = None) -> None:
+        path = os.fsdecode(program)
+        # (the program may be called from another folder)
+        self.program = os.path.abspath(path) if os.path.dirname(path) else path
+        self.timeout = timeout
+
+    def __repr__(self) -> str:
+        return f"Census({self.program!r}, timeout={self.timeout!r})"
+
+    def identify(self, rle: Text, *, bound: Optional[int] = None) -> Pattern:
+        """Tells of one RLE text what its pattern is and becomes within `bound` generations, 1 to 100,000 (None: 10,000).
+
+        Raises `PatternFault`, `TooLong`, `OutOfMemory`, `TimedOut`, `ProgramFailed`; `OSError` where the program can't be started.
+        """
+        ran = self._run(["identify", *_option("bound", bound)], _bytes_of(rle))
+        answer = _answers(ran, ["-"])["-"]
+        if isinstance(answer, CensusError):
+            raise answer
+        return answer
+
+    @overload
+    def identify_many(self, rles: Iterable[Text], *, bound: Optional[int] = None,
+                      return_exceptions: Literal[False] = False) -> List[Pattern]: ...
+
+    @overload
+    def identify_many(self, rles: Iterable[Text], *, bound: Optional[int] = None,
+                      return_exceptions: Literal[True]) -> List[Union[Pattern, CensusError]]: ...
+
+    def identify_many(self, rles: Iterable[Text], *, bound: Optional[int] = None, return_exceptions: bool = False
+                      ) -> Union[List[Pattern], List[Union[Pattern, CensusError]]]:
+        """Tells of each RLE text, in their order, what `identify` tells, by one call of the program.
+
+        The texts go to files of a temporary folder. A call holds as many as the system allows, some 100,000 on Linux; more texts are told
+        by several calls in turn. No text, no call.
+
+        Where texts have faults, the error of the first is raised; with `return_exceptions` the error of each stands in its place in the
+        list instead: `PatternFault`, `TooLong`, or `ReadFailed` where the text's file was taken away. `OutOfMemory`, `TimedOut`,
+        `ProgramFailed` and `OSError` concern the call as a whole, and are always raised.
+        """
+        if isinstance(rles, (str, bytes, bytearray, memoryview)):
+            raise TypeError("rles must be a list of texts; identify takes one text")
+        texts = [_bytes_of(rle) for rle in rles]
+        options = _option("bound", bound)
+        answers: List[Union[Pattern, CensusError]] = []
+        for names in _batches([str(index) for index in range(len(texts))]):
+            with tempfile.TemporaryDirectory(prefix="census-") as folder:
+                for name in names:
+                    with open(os.path.join(folder, name), "wb") as it:
+                        it.write(texts[int(name)])
+                found = _answers(self._run(["identify", *options, *names], folder=folder), names)
+            for name in names:
+                answer = found[name]
+                if isinstance(answer, CensusError) and not return_exceptions:
+                    raise answer
+                answers.append(answer)
+        return answers
+
+    def table(self, folders: Iterable[Path], *, objects: bool = False, bound: Optional[int] = None, workers: Optional[int] = None,
+              cells: Optional[int] = None) -> List[Row]:
+        """Tells of each pattern of these folders, in their order, what it becomes: the report of `census run` or of `census objects`.
+
+        Each folder is a collection of its `*.rle` files, sorted bytewise. `bound` is 1 to 1,000,000 generations (None: 1,000), with
+        `objects` to 100,000 (None: 10,000); `workers` 1 to 16 threads (None: 4); `cells` is how many live cells a generation may have, 1 to
+        4,294,967,295 (None: any number, with `objects` 1,000,000). A text with a fault is a row; `identify` says more of it. Where the
+        folders are more than one call can hold, several are made in turn. No folder, no call.
+
+        Raises `FolderFault`, `TooLong`, `ReadFailed`, `OutOfMemory`, `TimedOut`, `ProgramFailed`; `OSError` where the program can't be
+        started. Of several folders it is found by further calls which one is at fault.
+        """
+        if isinstance(folders, (str, bytes, os.PathLike)):
+            raise TypeError("folders must be a list of folders")
+        options = [*_option("bound", bound), *_option("workers", workers), *_option("cells", cells), "--"]
+        rows: List[Row] = []
+        before = 0
+        for names in _batches([os.fsdecode(folder) for folder in folders]):
+            ran = self._run(["objects" if objects else "run", *options, *names])
+            if ran.returncode != 0:
+                self._raise_of_folders(ran, names)
+            rows += [replace(row, collection=before + row.collection) for row in _rows_of(ran)]
+            before += len(names)
+        return rows
+
+    def _run(self, words: List[str], given: bytes = b"", folder: Optional[str] = None) -> subprocess.CompletedProcess[bytes]:
+        """Calls the program with these words, in this folder."""
+        command = [self.program, *words]
+        try:
+            return subprocess.run(command, input=given, stdout=subprocess.PIPE, stderr=subprocess.PIPE, cwd=folder, timeout=self.timeout)
+        except subprocess.TimeoutExpired as expired:
+            raise TimedOut(expired.timeout) from None
+
+    def _raise_of_folders(self, ran: subprocess.CompletedProcess[bytes], folders: List[str]) -> NoReturn:
+        """Raises what a call for these folders has told."""
+        line = _first_line(ran)
+        place = None
+        fault = re.fullmatch("census: folder fault ([0-9]+).*", line)
+        if fault or line in ("census: read failed", "census: input too long"):
+            place = self._refused(line, folders)
+        if fault:
+            raise FolderFault(int(fault.group(1)), place)
+        if line == "census: read failed":
+            raise ReadFailed(place)
+        if line == "census: input too long":
+            raise TooLong(place)
+        raise _failure(ran)
+
+    def _refused(self, line: str, folders: List[str]) -> Optional[str]:
+        """The first folder that is refused with this line where it is asked of alone."""
+        for folder in folders:
+            if len(folders) == 1 or _first_line(self._run(["run", "--bound=1", "--", folder])) == line:
+                return folder
+        return None
+
+
+def _option(name: str, value: Optional[int]) -> List[str]:
+    """The words for an option; the program tells where its number is out of range."""
+    return [] if value is None else [f"--{name}={operator.index(value)}"]
+
+
+def _bytes_of(rle: Text) -> bytes:
+    """A text as the bytes that the program reads."""
+    if isinstance(rle, str):
+        return rle.encode("utf-8", "surrogateescape")
+    if isinstance(rle, (bytes, bytearray, memoryview)):
+        return bytes(rle)
+    raise TypeError(f"an RLE text must be str or bytes, not {type(rle).__name__}")
+
+
+def _room() -> int:
+    """How many bytes the words of one call may take: what the system allows, at most 2 MiB, without the environment and some to spare."""
+    allowed = os.sysconf("SC_ARG_MAX")
+    if allowed <= 0:
+        allowed = 1 << 17
+    environment = sum(len(name) + len(value) + 10 for name, value in os.environb.items())
+    return min(allowed, 1 << 21) - environment - (1 << 14)
+
+
+def _batches(words: List[str]) -> Iterator[List[str]]:
+    """The words, parted into as few lists as calls are needed, each of one word or more."""
+    room = _room()
+    batch: List[str] = []
+    left = room
+    for word in words:
+        # its bytes, the one that ends them, and its address
+        size = len(os.fsencode(word)) + 9
+        if batch and size > left:
+            yield batch
+            batch, left = [], room
+        batch.append(word)
+        left -= size
+    if batch:
+        yield batch
+
+
+# What the program says
+
+
+def _first_line(ran: subprocess.CompletedProcess[bytes]) -> str:
+    """The first line on standard error."""
+    return ran.stderr.split(b"\n")[0].decode("utf-8", "replace")
+
+
+def _failure(ran: subprocess.CompletedProcess[bytes]) -> CensusError:
+    """What has ended a call as a whole."""
+    if ran.returncode == 3:
+        return OutOfMemory()
+    return ProgramFailed(ran.returncode, ran.stderr.decode("utf-8", "replace"))
+
+
+_FAULT = re.compile(r"census: ([0-9]+|-):([0-9]+):([0-9]+): (.*) \(rle fault ([0-9]+)(?: at ([0-9]+))?\)")
+_REFUSED = re.compile(r"census: ([0-9]+|-): (read failed|input too long)")
+
+
+def _error_of(line: str) -> Optional[Tuple[str, CensusError]]:
+    """The file that a line on standard error is of, and what it says; None of any other line."""
+    fault = _FAULT.fullmatch(line)
+    if fault:
+        name, row, column, sentence, number, at = fault.groups()
+        return name, PatternFault(sentence, int(number), int(row), int(column), None if at is None else int(at), _index_of(name))
+    refused = _REFUSED.fullmatch(line)
+    if refused:
+        name, words = refused.groups()
+        return name, (ReadFailed if words == "read failed" else TooLong)(None, _index_of(name))
+    return None
+
+
+def _index_of(name: str) -> Optional[int]:
+    return None if name == "-" else int(name)
+
+
+def _answers(ran: subprocess.CompletedProcess[bytes], names: List[str]) -> Dict[str, Union[Pattern, CensusError]]:
+    """What `census identify` has told of each of these files, where `-` is standard input."""
+    told: List[Tuple[str, Union[Pattern, CensusError]]] = []
+    for line in ran.stderr.decode("utf-8", "replace").split("\n"):
+        error = _error_of(line)
+        if error:
+            told.append(error)
+    try:
+        blocks = ran.stdout.decode("ascii").rstrip("\n").split("\n\n") if ran.stdout else []
+        told += [_pattern_of(block) for block in blocks]
+    except ValueError:
+        raise _failure(ran) from None
+    answers = dict(told)
+    # (what is told of no file, or twice of one, is no answer; a whole one ends with the greatest status of its lines)
+    is_whole = len(told) == len(names) and all(name in answers for name in names)
+    if not is_whole or ran.returncode != max(_status_of(answer) for answer in answers.values()):
+        raise _failure(ran)
+    return answers
+
+
+def _status_of(answer: Union[Pattern, CensusError]) -> int:
+    """The exit status that the program has where it tells this last."""
+    if isinstance(answer, Pattern):
+        return 0
+    return 4 if isinstance(answer, ReadFailed) else 1
+
+
+_NUMBER = re.compile(r"0|-?[1-9][0-9]*")
+
+
+def _number(word: str) -> int:
+    if not _NUMBER.fullmatch(word):
+        raise ValueError(word)
+    return int(word)
+
+
+def _pair(words: str) -> Tuple[int, int]:
+    first, second = map(_number, words.split(" "))
+    return first, second
+
+
+def _optional(lines: Dict[str, str], name: str) -> Optional[int]:
+    return _number(lines[name]) if name in lines else None
+
+
+def _pattern_of(block: str) -> Tuple[str, Pattern]:
+    """The file that a block of lines `NAME VALUE` is of, and what it says; raises ValueError where it is no such block."""
+    lines: Dict[str, str] = {}
+    objects: Dict[str, int] = {}
+    for line in block.split("\n"):
+        name, _, value = line.partition(" ")
+        if name == "part":
+            code, count = value.split(" ")
+            objects[code] = _number(count)
+        else:
+            lines[name] = value
+    if not {"rule", "population", "box"} <= set(lines) or ("apgcode" in lines) + ("objects" in lines) + ("unresolved" in lines) != 1:
+        raise ValueError(block)
+    if sum(objects.values()) != _number(lines.get("objects", "0")):
+        raise ValueError(block)
+    return lines.get("file", "-"), Pattern(
+        rule=lines["rule"],
+        population=_number(lines["population"]),
+        box=_pair(lines["box"]),
+        onset=_optional(lines, "onset"),
+        period=_optional(lines, "period"),
+        displacement=_pair(lines["displacement"]) if "displacement" in lines else None,
+        apgcode=lines.get("apgcode"),
+        objects=objects if "objects" in lines else None,
+        unresolved=_optional(lines, "unresolved"),
+    )
+
+
+def _rows_of(ran: subprocess.CompletedProcess[bytes]) -> List[Row]:
+    """The rows of the report that a call has written."""
+    try:
+        return read_report(ran.stdout)
+    except ReportFault as fault:
+        raise ProgramFailed(ran.returncode, f"no whole report: {fault}") from fault
+
+
+# Reports
+
+
+# what stands between the status and the name of a line
+_PARTS_OF_LINES = {
+    "ok": ("rule", "population", "onset", "period", "dx", "dy", "code"),
+    "ash": ("rule", "population", "objects"),
+    "none": ("rule", "population"),
+    "large": ("rule", "population", "generation"),
+    "bad": ("fault",),
+}
+
+
+def read_report(report: bytes) -> List[Row]:
+    """The rows of a whole report of `census run` or `census objects`, by collection and then by pattern.
+
+    The lines of several collections may interleave. Raises `ReportFault` where a line is none that the program writes there.
+    """
+    reading = _Reading()
+    lines = report.split(b"\n")
+    for at, line in enumerate(lines[:-1], 1):
+        try:
+            reading.take(os.fsdecode(line))
+        except (ValueError, KeyError, IndexError):
+            raise ReportFault("the line is not one that a report has in this place", at) from None
+    if lines[-1] or not reading.has_ended:
+        raise ReportFault("the report ends too early", len(lines))
+    return [row for number in sorted(reading.collections) for row in reading.collections[number].rows()]
+
+
+class _Collection:
+    """What is read of one collection."""
+
+    def __init__(self, size: int, name: str) -> None:
+        self.size = size
+        self.name = name
+        self.lines: List[Row] = []
+        # of each line: how many objects it says it has, and which were read
+        self.objects: List[int] = []
+        self.parts: List[List[Tuple[str, int]]] = []
+        self.is_closed = False
+
+    def is_whole(self) -> bool:
+        """Whether the last line has all its parts."""
+        return not self.lines or sum(count for _, count in self.parts[-1]) == self.objects[-1]
+
+    def counts(self) -> List[int]:
+        """How many lines there are, and of them those resolved, unresolved and refused."""
+        found = [row.status for row in self.lines]
+        resolved, unresolved, refused = ("ok", "ash"), ("none", "large"), ("bad",)
+        return [len(found), *(sum(status in statuses for status in found) for statuses in (resolved, unresolved, refused))]
+
+    def rows(self) -> List[Row]:
+        return [
+            replace(row, parts=tuple(parts)) if row.status == "ash" else row
+            for row, parts in zip(self.lines, self.parts)
+        ]
+
+
+class _Reading:
+    """What is read of a report. A line that can't stand where it does raises ValueError, KeyError or IndexError."""
+
+    def __init__(self) -> None:
+        self.collections: Dict[int, _Collection] = {}
+        self.has_ended = False
+        self.takes = {
+            "open": self._open, "line": self._line, "part": self._part, "code": self._code, "close": self._close, "end": self._end,
+        }
+
+    def take(self, line: str) -> None:
+        """Takes the next line, without its line feed."""
+        kind, _, rest = line.partition(" ")
+        _demand(not self.has_ended)
+        self.takes[kind](rest)
+
+    def _open(self, rest: str) -> None:
+        number, size, name = rest.split(" ", 2)
+        _demand(_number(number) not in self.collections)
+        self.collections[_number(number)] = _Collection(_number(size), name)
+
+    def _still_open(self, number: str) -> _Collection:
+        """The collection of this number, which must be open."""
+        collection = self.collections[_number(number)]
+        _demand(not collection.is_closed)
+        return collection
+
+    def _line(self, rest: str) -> None:
+        number, pattern, status, rest = rest.split(" ", 3)
+        collection = self._still_open(number)
+        _demand(collection.is_whole() and _number(pattern) == len(collection.lines) + 1 <= collection.size)
+        names = _PARTS_OF_LINES[status]
+        *words, name = rest.split(" ", len(names))
+        _demand(len(words) == len(names))
+        texts = {key: word for key, word in zip(names, words) if key in ("rule", "code")}
+        numbers = {key: _number(word) for key, word in zip(names, words) if key not in texts}
+        collection.objects.append(numbers.pop("objects", 0))
+        collection.parts.append([])
+        collection.lines.append(Row(_number(number), collection.name, _number(pattern), name, status, **texts, **numbers))
+
+    def _part(self, rest: str) -> None:
+        number, pattern, code, count = rest.split(" ")
+        collection = self._still_open(number)
+        _demand(_number(pattern) == len(collection.lines) and collection.lines[-1].status == "ash")
+        collection.parts[-1].append((code, _number(count)))
+
+    def _code(self, rest: str) -> None:
+        number, _rule, _code, count = rest.split(" ")
+        _demand(len(self._still_open(number).lines) == self._still_open(number).size and _number(count) > 0)
+
+    def _close(self, rest: str) -> None:
+        number, *counts = rest.split(" ")
+        collection = self._still_open(number)
+        _demand(collection.is_whole() and collection.size == len(collection.lines))
+        _demand([_number(count) for count in counts] == collection.counts())
+        collection.is_closed = True
+
+    def _end(self, rest: str) -> None:
+        found = list(self.collections.values())
+        _demand(all(collection.is_closed for collection in found))
+        _demand(_pair(rest) == (len(found), sum(collection.size for collection in found)))
+        self.has_ended = True
+
+
+def _demand(is_so: bool) -> None:
+    if not is_so:
+        raise ValueError

@@ -1,0 +1,666 @@
+"""Tests of census.py with the released program, or the one that the environment's CENSUS names.
+
+    python3 test_census.py
+
+What is expected is known from elsewhere: LifeWiki's pages of the patterns, docs/FAULTS.md, and a slow plane of a few lines in this file.
+"""
+import ast
+import doctest
+import os
+import pickle
+import re
+import stat
+import subprocess
+import sys
+import tempfile
+import unittest
+from unittest import mock
+
+HERE = os.path.dirname(os.path.realpath(__file__))
+ROOT = os.path.realpath(os.path.join(HERE, "..", ".."))
+sys.path.insert(0, HERE)
+import census
+from census import (
+    Census, CensusError, FolderFault, OutOfMemory, Pattern, PatternFault, ProgramFailed, ReadFailed, ReportFault, TimedOut, TooLong,
+    read_report,
+)
+
+PROGRAM = os.path.realpath(os.environ.get("CENSUS", f"{ROOT}/release/census"))
+EXAMPLES = f"{ROOT}/examples"
+
+GLIDER = "x = 3, y = 3, rule = B3/S23\nbo$2bo$3o!\n"
+BLINKER = "x = 3, y = 1, rule = B3/S23\n3o!\n"
+BLOCK = "x = 2, y = 2\n2o$2o!"
+R_PENTOMINO = "x = 3, y = 3, rule = B3/S23\nb2o$2o$bo!\n"
+GUN = """x = 36, y = 9, rule = B3/S23
+24bo$22bobo$12b2o6b2o12b2o$11bo3bo4b2o12b2o$2o8bo5bo3b2o$2o8bo3bob2o4b
+obo$10bo5bo7bo$11bo3bo$12b2o!
+"""
+# LifeWiki: it vanishes at generation 130
+DIEHARD = "x = 8, y = 3\n6bo$2o$bo3b3o!"
+# a letter that stands for no state of Life: line 2, column 9, byte 13 + 8
+FAULTY = "x = 3, y = 3\nbo$2bo$3q!\n"
+
+# LifeWiki, R-pentomino: 8 blocks, 6 gliders, 4 beehives, 4 blinkers, a boat, a loaf and a ship
+ASH_OF_R_PENTOMINO = {"xs4_33": 8, "xq4_153": 6, "xs6_696": 4, "xp2_7": 4, "xs5_253": 1, "xs7_2596": 1, "xs6_356": 1}
+
+# LifeWiki: the population of the phase that the file has, the period, the apgcode
+KNOWN = {
+    "blinker.rle": (3, 2, "xp2_7"),
+    "pentadecathlon.rle": (12, 15, "xp15_4r4z4r4"),
+    "pulsar.rle": (48, 3, "xp3_co9nas0san9oczgoldlo0oldlogz1047210127401"),
+    "toad.rle": (6, 2, "xp2_7e"),
+    "beehive.rle": (6, 1, "xs6_696"),
+    "block.rle": (4, 1, "xs4_33"),
+    "boat.rle": (5, 1, "xs5_253"),
+    "loaf.rle": (7, 1, "xs7_2596"),
+    "glider.rle": (5, 4, "xq4_153"),
+    "lightweight_spaceship.rle": (9, 4, "xq4_6frc"),
+}
+
+
+def text_of(path):
+    with open(os.path.join(EXAMPLES, path), encoding="ascii") as it:
+        return it.read()
+
+
+def cells_of(rle):
+    """The live cells of a text in B3/S23 that has no fault."""
+    body = "".join(line for line in rle.split("\n") if not line.startswith(("#", "x")))
+    cells, x, y = set(), 0, 0
+    for count, tag in re.findall("([0-9]*)([bo$])", body):
+        for _ in range(int(count or 1)):
+            if tag == "o":
+                cells.add((x, y))
+            x, y = (0, y + 1) if tag == "$" else (x + 1, y)
+    return cells
+
+
+def next_of(cells):
+    """The next generation in B3/S23."""
+    near = {}
+    for x, y in cells:
+        for other in [(x + dx, y + dy) for dx in (-1, 0, 1) for dy in (-1, 0, 1) if dx or dy]:
+            near[other] = near.get(other, 0) + 1
+    return {cell for cell, count in near.items() if count == 3 or count == 2 and cell in cells}
+
+
+def recurrence_of(cells):
+    """Onset, period, dx and dy."""
+    seen, generation = {}, 0
+    while True:
+        corner = (min((x for x, _ in cells), default=0), min((y for _, y in cells), default=0))
+        shape = frozenset((x - corner[0], y - corner[1]) for x, y in cells)
+        if shape in seen:
+            onset, (x, y) = seen[shape]
+            return onset, generation - onset, corner[0] - x, corner[1] - y
+        seen[shape] = (generation, corner)
+        cells, generation = next_of(cells), generation + 1
+
+
+class Room(unittest.TestCase):
+    """A test with an empty folder of its own, and the program."""
+
+    def setUp(self):
+        room = tempfile.TemporaryDirectory()
+        self.addCleanup(room.cleanup)
+        self.room = room.name
+        self.census = Census(PROGRAM, timeout=300)
+
+    def script(self, body, **options):
+        """A program of some lines of sh."""
+        path = os.path.join(self.room, "program")
+        with open(path, "w", encoding="utf-8") as it:
+            it.write(f"#!/bin/sh\n{body}\n")
+        os.chmod(path, stat.S_IRWXU)
+        return Census(path, **options)
+
+    def counted(self):
+        """The program, and how often it was called so far."""
+        log = os.path.join(self.room, "calls")
+
+        def calls():
+            if not os.path.exists(log):
+                return 0
+            with open(log, encoding="ascii") as it:
+                return len(it.read().split())
+
+        return self.script(f"echo call >> '{log}'\nexec '{PROGRAM}' \"$@\""), calls
+
+    def folder(self, name, **texts):
+        """A folder with these patterns."""
+        path = os.path.join(self.room, name)
+        os.mkdir(path)
+        for key, text in texts.items():
+            with open(os.path.join(path, f"{key}.rle"), "w", encoding="utf-8") as it:
+                it.write(text)
+        return path
+
+
+class Identify(Room):
+    def test_glider(self):
+        glider = self.census.identify(GLIDER)
+        self.assertEqual(glider, Pattern("B3/S23", 5, (3, 3), 0, 4, (1, 1), "xq4_153"))
+        self.assertIsNone(glider.objects)
+        self.assertIsNone(glider.unresolved)
+
+    def test_blinker(self):
+        blinker = self.census.identify(BLINKER)
+        self.assertEqual((blinker.population, blinker.box, blinker.onset), (3, (3, 1), 0))
+        self.assertEqual((blinker.period, blinker.displacement, blinker.apgcode), (2, (0, 0), "xp2_7"))
+
+    def test_what_vanishes(self):
+        diehard = self.census.identify(DIEHARD)
+        self.assertEqual((diehard.population, diehard.onset, diehard.period, diehard.apgcode), (7, 130, 1, "xs0_0"))
+
+    def test_no_cells(self):
+        self.assertEqual(self.census.identify("x = 0, y = 0\n!"), Pattern("B3/S23", 0, (0, 0), 0, 1, (0, 0), "xs0_0"))
+
+    def test_unresolved(self):
+        gun = self.census.identify(GUN, bound=60)
+        self.assertEqual(gun, Pattern("B3/S23", 36, (36, 9), unresolved=60))
+
+    def test_objects(self):
+        found = self.census.identify(R_PENTOMINO)
+        self.assertEqual(found, Pattern("B3/S23", 5, (3, 3), objects=ASH_OF_R_PENTOMINO))
+        self.assertEqual(sum(found.objects.values()), 25)
+        self.assertIsNone(found.apgcode)
+
+    def test_other_rule(self):
+        self.assertEqual(self.census.identify("x = 2, y = 2, rule = 23/36\n2o$2o!").rule, "B36/S23")
+
+    def test_bytes_and_str(self):
+        for kind in (bytes, bytearray, memoryview):
+            with self.subTest(kind):
+                self.assertEqual(self.census.identify(kind(GLIDER.encode())), self.census.identify(GLIDER))
+
+    def test_any_bytes_in_comments(self):
+        block = self.census.identify(BLOCK)
+        self.assertEqual(self.census.identify(b"#C \xff\xfe\n" + BLOCK.encode()), block)
+        self.assertEqual(self.census.identify("#C \udcff \u00e9 \u20ac\n" + BLOCK), block)
+        self.assertEqual(self.census.identify((BLOCK + "\n").replace("\n", "\r\n")), block)
+
+    def test_no_text(self):
+        for given in (None, 3, [GLIDER]):
+            with self.subTest(given), self.assertRaises(TypeError):
+                self.census.identify(given)
+        with self.assertRaises(TypeError):
+            self.census.identify(GLIDER, bound="10")
+
+    def test_patterns_are_values(self):
+        found = self.census.identify(R_PENTOMINO)
+        self.assertEqual(hash(found), hash(self.census.identify(R_PENTOMINO)))
+        self.assertEqual(pickle.loads(pickle.dumps(found)), found)
+        with self.assertRaises(AttributeError):
+            found.population = 6
+
+
+class Faults(Room):
+    # docs/FAULTS.md: number, text, line, column, how its sentence begins
+    TABLE = [
+        (1, "3o!", 1, 1, "there is no header line"),
+        (2, "x = 3, y\n3o!", 1, 1, "the header line is malformed"),
+        (3, "x = 3, y = 1, rule = B3/23\n3o!", 1, 1, "the rule has no Life-like form"),
+        (3, "x = 3, y = 1, rule = B3/S23:T100,100\n3o!", 1, 1, "the rule has a bounded grid"),
+        (4, "x = 3, y = 1, rule = B03/S23\n3o!", 1, 1, "the rule has 0 among its births"),
+        (5, "x = 3, y = 1\nboC!", 2, 3, "a letter stands for neither of the two states"),
+        (6, "x = 3, y = 2\nbo$\n?!", 3, 1, "a byte has no meaning here"),
+        (7, "x = 3, y = 2\n3o$\nb0o!", 3, 2, "a count is 0 or has nothing to count"),
+        (8, "x = 1, y = 1\n1048576bo!", 2, 9, "a live cell is too far out"),
+        (9, "x = 1, y = 1\n1048576o$o!", 2, 10, "there are too many live cells"),
+        (10, "x = 3, y = 1\n3o", 2, 3, "the text ends too early"),
+    ]
+
+    def judge(self, fault, row, index):
+        number, text, line, column, words = row
+        self.assertIsInstance(fault, PatternFault)
+        self.assertEqual((fault.number, fault.line, fault.column, fault.index), (number, line, column, index))
+        self.assertTrue(fault.sentence.startswith(words), fault.sentence)
+        offset = sum(len(it) + 1 for it in text.split("\n")[: line - 1]) + column - 1
+        self.assertEqual(fault.at, offset if 5 <= number <= 9 else None)
+        self.assertIn(f"line {line}, column {column}", str(fault))
+        self.assertIn(fault.sentence, str(fault))
+
+    def test_one_by_one(self):
+        for row in self.TABLE:
+            with self.subTest(row[0]), self.assertRaises(PatternFault) as caught:
+                self.census.identify(row[1])
+            self.judge(caught.exception, row, None)
+
+    def test_in_a_list(self):
+        texts = [it for row in self.TABLE for it in (GLIDER, row[1])]
+        found = self.census.identify_many(texts, return_exceptions=True)
+        self.assertEqual({it.apgcode for it in found[::2]}, {"xq4_153"})
+        for index, row in zip(range(1, len(texts), 2), self.TABLE):
+            with self.subTest(row[0]):
+                self.judge(found[index], row, index)
+
+    def test_whole_sentence(self):
+        with self.assertRaises(CensusError) as caught:
+            self.census.identify(FAULTY)
+        fault = caught.exception
+        self.assertEqual((fault.number, fault.place, fault.at), (5, "line 2, column 9", 21))
+        self.assertEqual(
+            fault.sentence, "a letter stands for neither of the two states: dead cells must be `b` or `.`, and live cells `o` or `A`"
+        )
+
+    def test_columns_count_bytes(self):
+        with self.assertRaises(PatternFault) as caught:
+            self.census.identify("#C \u00e9\nx = 1, y = 1\n\u00e9!")
+        self.assertEqual((caught.exception.number, caught.exception.line, caught.exception.column, caught.exception.at), (6, 3, 1, 19))
+
+    def test_too_long(self):
+        text = b"x = 1, y = 1\no!".ljust(67108865)
+        self.assertEqual(self.census.identify(text[:-1]).population, 1)
+        with self.assertRaises(TooLong) as caught:
+            self.census.identify(text)
+        self.assertEqual((caught.exception.place, caught.exception.index), (None, None))
+        with self.assertRaises(TooLong) as caught:
+            self.census.identify_many([GLIDER, text])
+        self.assertEqual((caught.exception.place, caught.exception.index), ("rles[1]", 1))
+
+    def test_unreadable(self):
+        gone = self.script(f"rm -f 1\nexec '{PROGRAM}' \"$@\"")
+        found = gone.identify_many([GLIDER, BLOCK, BLINKER], return_exceptions=True)
+        self.assertEqual((found[0].apgcode, found[2].apgcode), ("xq4_153", "xp2_7"))
+        self.assertIsInstance(found[1], ReadFailed)
+        self.assertEqual((found[1].index, found[1].place, str(found[1])), (1, "rles[1]", "rles[1]: reading failed"))
+
+    def test_bound_out_of_range(self):
+        for bound in (0, 100001, -1):
+            with self.subTest(bound), self.assertRaises(ProgramFailed) as caught:
+                self.census.identify(GLIDER, bound=bound)
+            self.assertEqual(caught.exception.status, 2)
+            self.assertIn(str(bound), caught.exception.sentence)
+
+    def test_out_of_memory(self):
+        # the program tells what it can, and then stops
+        body = "echo file 0; echo rule B3/S23; echo population 1; echo box 1 1; echo unresolved 9\necho 'census: out of memory' >&2; exit 3"
+        for call in (lambda it: it.identify(GLIDER), lambda it: it.identify_many([GLIDER, BLOCK], return_exceptions=True),
+                     lambda it: it.table([EXAMPLES])):
+            with self.assertRaises(OutOfMemory) as caught:
+                call(self.script(body))
+            self.assertEqual(caught.exception.sentence, "the program ran out of memory")
+
+    def test_timeout(self):
+        slow = self.script("exec sleep 60", timeout=0.2)
+        for call in (lambda: slow.identify(GLIDER), lambda: slow.identify_many([GLIDER]), lambda: slow.table([EXAMPLES])):
+            with self.assertRaises(TimedOut) as caught:
+                call()
+            self.assertEqual(caught.exception.seconds, 0.2)
+
+    def test_signal(self):
+        with self.assertRaises(ProgramFailed) as caught:
+            self.script("kill -9 $$").identify(GLIDER)
+        self.assertEqual((caught.exception.status, caught.exception.stderr), (-9, ""))
+
+    def test_whole_answer_with_another_status(self):
+        block = "echo rule B3/S23; echo population 1; echo box 1 1; echo unresolved 9"
+        self.assertEqual(self.script(block).identify(GLIDER), Pattern("B3/S23", 1, (1, 1), unresolved=9))
+        for end, error in (("exit 1", ProgramFailed), ("exit 4", ProgramFailed), ("exit 3", OutOfMemory), ("kill -9 $$", ProgramFailed)):
+            with self.subTest(end), self.assertRaises(error):
+                self.script(f"{block}; {end}").identify(GLIDER)
+        with self.assertRaises(ProgramFailed):
+            self.script("echo 'census: -:1:1: words (rle fault 1)' >&2").identify(GLIDER)
+
+    def test_no_answer(self):
+        block = "rule B3/S23; population 1; box 1 1; unresolved 9"
+        bodies = ["exit 0", "echo census: write failed >&2; exit 4", "echo hello", "echo; exit 1"]
+        bodies.append("".join(f"echo {line}\n" for line in f"{block}; ; {block}".split(";")))
+        bodies.append("".join(f"echo {line}\n" for line in f"file 7; {block}".split(";")))
+        bodies.append("".join(f"echo {line}\n" for line in "rule B3/S23; population 1; box 1 1; objects 2; part xs4_33 1".split(";")))
+        for body in bodies:
+            with self.subTest(body), self.assertRaises(ProgramFailed):
+                self.script(body).identify(GLIDER)
+
+    def test_no_program(self):
+        for path, error in ((f"{self.room}/none", FileNotFoundError), (self.room, PermissionError), (__file__, OSError)):
+            with self.subTest(path), self.assertRaises(error):
+                Census(path).identify(GLIDER)
+
+    def test_errors_can_be_pickled(self):
+        errors = [
+            CensusError("words", 3, "place"), PatternFault("words", 5, 2, 9, 21, 7), PatternFault("words", 1, 1, 1), TooLong("folder"),
+            TooLong(None, 3), ReadFailed("folder"), FolderFault(1, "folder"), FolderFault(3), ReportFault("words", 4), OutOfMemory(),
+            TimedOut(0.5), ProgramFailed(-9, "words"),
+        ]
+        for error in errors:
+            with self.subTest(repr(error)):
+                again = pickle.loads(pickle.dumps(error))
+                self.assertIs(type(again), type(error))
+                self.assertEqual((vars(again), str(again)), (vars(error), str(error)))
+
+
+class IdentifyMany(Room):
+    def test_one_call(self):
+        program, calls = self.counted()
+        texts = [GLIDER, BLINKER.encode(), BLOCK] * 700
+        found = program.identify_many(texts)
+        self.assertEqual([it.apgcode for it in found], ["xq4_153", "xp2_7", "xs4_33"] * 700)
+        self.assertEqual(calls(), 1)
+
+    def test_no_texts(self):
+        program, calls = self.counted()
+        self.assertEqual(program.identify_many([]), [])
+        self.assertEqual(program.identify_many(iter([])), [])
+        self.assertEqual(program.table([]), [])
+        self.assertEqual(calls(), 0)
+
+    def test_any_iterable(self):
+        self.assertEqual([it.population for it in self.census.identify_many(it for it in (GLIDER, BLOCK))], [5, 4])
+
+    def test_texts_alike(self):
+        self.assertEqual(self.census.identify_many([GLIDER, GLIDER]), [self.census.identify(GLIDER)] * 2)
+
+    def test_bound(self):
+        found = self.census.identify_many([GUN, GLIDER], bound=50)
+        self.assertEqual([(it.unresolved, it.apgcode) for it in found], [(50, None), (None, "xq4_153")])
+
+    def test_first_fault_is_raised(self):
+        with self.assertRaises(PatternFault) as caught:
+            self.census.identify_many([GLIDER, FAULTY, "3o!", BLOCK])
+        self.assertEqual((caught.exception.number, caught.exception.index), (5, 1))
+        self.assertEqual(caught.exception.place, "rles[1], line 2, column 9")
+
+    def test_more_than_one_call_holds(self):
+        program, calls = self.counted()
+        texts = [GLIDER, BLINKER, FAULTY] * 40
+        # each word takes 10 to 12 bytes
+        with mock.patch.object(census, "_room", lambda: 500):
+            found = program.identify_many(texts, return_exceptions=True)
+        self.assertTrue(2 <= calls() <= 4, calls())
+        self.assertEqual([getattr(it, "apgcode", None) for it in found], ["xq4_153", "xp2_7", None] * 40)
+        self.assertEqual([it.index for it in found[2::3]], list(range(2, 120, 3)))
+
+    def test_what_a_call_holds(self):
+        words = [str(index) for index in range(250000)]
+        batches = list(census._batches(words))
+        self.assertEqual([word for batch in batches for word in batch], words)
+        # (`true` takes any words; the system refuses too many)
+        for batch in batches:
+            subprocess.run(["/bin/true", "identify", "--bound=100000", "--", *batch], check=True)
+        self.assertEqual(list(census._batches([])), [])
+        with mock.patch.object(census, "_room", lambda: 5):
+            self.assertEqual(list(census._batches(["ab", "c"])), [["ab"], ["c"]])
+
+    def test_one_text_is_no_list(self):
+        for given in (GLIDER, GLIDER.encode()):
+            with self.subTest(given), self.assertRaises(TypeError):
+                self.census.identify_many(given)
+        with self.assertRaises(TypeError):
+            self.census.identify_many([GLIDER, None])
+
+    def test_the_temporary_folder_is_removed(self):
+        with mock.patch.object(tempfile, "tempdir", self.room):
+            self.census.identify_many([GLIDER, FAULTY], return_exceptions=True)
+        self.assertEqual(os.listdir(self.room), [])
+
+    def test_program_by_relative_path_and_by_name(self):
+        self.script(f"exec '{PROGRAM}' \"$@\"")
+        before = os.getcwd()
+        self.addCleanup(os.chdir, before)
+        os.chdir(self.room)
+        self.assertEqual(Census("./program").identify_many([GLIDER])[0].period, 4)
+        os.chdir(before)
+        with mock.patch.dict(os.environ, {"PATH": f"{self.room}{os.pathsep}{os.environ['PATH']}"}):
+            self.assertEqual(Census("program").identify_many([GLIDER])[0].period, 4)
+        self.assertEqual(Census(os.fsencode(PROGRAM)).identify(GLIDER).period, 4)
+
+
+class Tables(Room):
+    FOLDERS = [f"{EXAMPLES}/{name}" for name in ("oscillators", "spaceships", "still_lifes")]
+
+    def test_what_recurs(self):
+        rows = self.census.table(self.FOLDERS)
+        numbers = [(c, i) for c, size in ((1, 4), (2, 2), (3, 4)) for i in range(1, size + 1)]
+        self.assertEqual([(row.collection, row.pattern) for row in rows], numbers)
+        self.assertEqual({row.name: (row.population, row.period, row.code) for row in rows}, KNOWN)
+        for row in rows:
+            with self.subTest(row.name):
+                self.assertEqual(row.collection_name, self.FOLDERS[row.collection - 1])
+                self.assertEqual((row.status, row.rule, row.parts, row.fault, row.generation), ("ok", "B3/S23", None, None, None))
+                cells = cells_of(text_of(f"{row.collection_name}/{row.name}"))
+                self.assertEqual((row.population, row.onset, row.period, row.dx, row.dy), (len(cells), *recurrence_of(cells)))
+
+    def test_speed_of_spaceships(self):
+        rows = {row.name: row for row in self.census.table(self.FOLDERS[1:2])}
+        self.assertEqual((rows["glider.rle"].dx, rows["glider.rle"].dy), (1, 1))
+        # LifeWiki: c/2 orthogonal; this one flies to the left
+        self.assertEqual((rows["lightweight_spaceship.rle"].dx, rows["lightweight_spaceship.rle"].dy), (-2, 0))
+
+    def test_objects(self):
+        rows = self.census.table([f"{EXAMPLES}/methuselahs"], objects=True)
+        self.assertEqual([(row.status, row.name, row.population) for row in rows], [("ash", "acorn.rle", 7), ("ash", "r_pentomino.rle", 5)])
+        self.assertEqual(dict(rows[1].parts), ASH_OF_R_PENTOMINO)
+        # LifeWiki, Acorn: 13 escaped gliders
+        self.assertEqual(dict(rows[0].parts)["xq4_153"], 13)
+        self.assertEqual({row.name: row.parts for row in self.census.table(self.FOLDERS, objects=True)},
+                         {name: ((code, 1),) for name, (_, _, code) in KNOWN.items()})
+
+    def test_unresolved(self):
+        for objects in (False, True):
+            row, = self.census.table([f"{EXAMPLES}/guns"], bound=100, objects=objects)
+            self.assertEqual((row.status, row.rule, row.population, row.onset, row.parts), ("none", "B3/S23", 36, None, None))
+
+    def test_too_many_cells(self):
+        cells, generation = cells_of(GUN), 0
+        while len(cells) <= 100:
+            cells, generation = next_of(cells), generation + 1
+        row, = self.census.table([f"{EXAMPLES}/guns"], cells=100)
+        self.assertEqual((row.status, row.population, row.generation), ("large", 36, generation))
+
+    def test_faulty_text(self):
+        folder = self.folder("mine", a=GLIDER, b=FAULTY, c=BLOCK)
+        for objects in (False, True):
+            rows = self.census.table([folder], objects=objects)
+            self.assertEqual([row.fault for row in rows], [None, 5, None])
+            self.assertEqual((rows[1].status, rows[1].name, rows[1].rule, rows[1].population), ("bad", "b.rle", None, None))
+
+    def test_other_rule(self):
+        row, = self.census.table([f"{EXAMPLES}/highlife"], bound=20)
+        self.assertEqual((row.rule, row.status), ("B36/S23", "none"))
+
+    def test_workers_change_nothing(self):
+        folders = [f"{EXAMPLES}/{name}" for name in sorted(os.listdir(EXAMPLES)) if os.path.isdir(f"{EXAMPLES}/{name}")]
+        folders = [folder for folder in folders if not folder.endswith("guns")] * 3
+        alone = self.census.table(folders, workers=1, bound=300)
+        self.assertEqual(self.census.table(folders, workers=4, bound=300), alone)
+        self.assertEqual(len({row.collection for row in alone}), len(folders))
+
+    def test_empty_folder(self):
+        rows = self.census.table([self.folder("empty"), self.folder("full", a=BLOCK)])
+        self.assertEqual([(row.collection, row.name) for row in rows], [(2, "a.rle")])
+
+    def test_names_with_blanks(self):
+        folder = self.folder("my patterns", **{"two  blanks": GLIDER, "caf\u00e9 1 2": BLOCK})
+        rows = self.census.table([folder])
+        self.assertEqual([(row.name, row.code) for row in rows], [("caf\u00e9 1 2.rle", "xs4_33"), ("two  blanks.rle", "xq4_153")])
+        self.assertEqual({row.collection_name for row in rows}, {folder})
+
+    def test_paths(self):
+        class Path(os.PathLike):
+            def __fspath__(self):
+                return f"{EXAMPLES}/spaceships"
+
+        folders = [f"{EXAMPLES}/spaceships", os.fsencode(f"{EXAMPLES}/spaceships"), Path()]
+        found = [self.census.table([folder]) for folder in folders]
+        self.assertEqual(found, [found[0]] * 3)
+        for given in folders:
+            with self.subTest(given), self.assertRaises(TypeError):
+                self.census.table(given)
+
+    def test_folder_named_like_an_option(self):
+        before = os.getcwd()
+        self.addCleanup(os.chdir, before)
+        os.chdir(self.room)
+        self.folder("--help", a=BLOCK)
+        self.assertEqual([(row.collection_name, row.code) for row in self.census.table(["--help"])], [("--help", "xs4_33")])
+
+    def test_more_than_one_call_holds(self):
+        program, calls = self.counted()
+        folders = self.FOLDERS * 2
+        with mock.patch.object(census, "_room", lambda: 2 * max(map(len, folders)) + 20):
+            rows = program.table(folders)
+        self.assertEqual(calls(), 3)
+        self.assertEqual(rows, self.census.table(folders))
+
+    def test_one_folder_is_refused_by_one_call(self):
+        program, calls = self.counted()
+        with self.assertRaises(ReadFailed):
+            program.table(["none"])
+        self.assertEqual(calls(), 1)
+
+    def test_unreadable_folder(self):
+        for folders in (["none"], [self.FOLDERS[0], "none", self.FOLDERS[1]]):
+            with self.subTest(folders), self.assertRaises(ReadFailed) as caught:
+                self.census.table(folders)
+            self.assertEqual((caught.exception.place, caught.exception.sentence), ("none", "reading failed"))
+
+    def test_unlawful_name(self):
+        folder = self.folder("mine", **{" begins with a blank": BLOCK})
+        for folders in ([folder], [self.FOLDERS[0], folder]):
+            with self.subTest(folders), self.assertRaises(FolderFault) as caught:
+                self.census.table(folders)
+            self.assertEqual((caught.exception.number, caught.exception.place), (1, folder))
+            self.assertIn("no blank at either end", caught.exception.sentence)
+
+    def test_name_that_is_not_utf_8(self):
+        folder = self.folder("mine", a=BLOCK)
+        with open(os.path.join(os.fsencode(folder), b"\xff.rle"), "wb") as it:
+            it.write(BLOCK.encode())
+        with self.assertRaises(ReadFailed) as caught:
+            self.census.table([folder])
+        self.assertEqual(caught.exception.place, folder)
+
+    def test_too_long_file(self):
+        folder = self.folder("mine", a=BLOCK)
+        with open(os.path.join(folder, "b.rle"), "wb") as it:
+            it.truncate(67108865)
+        with self.assertRaises(TooLong) as caught:
+            self.census.table([self.FOLDERS[0], folder])
+        self.assertEqual(caught.exception.place, folder)
+
+    def test_options_out_of_range(self):
+        for options in ({"bound": 0}, {"bound": 1000001}, {"workers": 17}, {"cells": 0}, {"bound": 100001, "objects": True}):
+            with self.subTest(options), self.assertRaises(ProgramFailed) as caught:
+                self.census.table(self.FOLDERS, **options)
+            self.assertEqual(caught.exception.status, 2)
+        with self.assertRaises(TypeError):
+            self.census.table(self.FOLDERS, workers="4")
+
+    def test_half_a_report(self):
+        with self.assertRaises(ProgramFailed) as caught:
+            self.script("echo open 1 0 mine").table(["mine"])
+        self.assertIn("no whole report", caught.exception.sentence)
+
+
+class Reports(Room):
+    INTERLEAVED = b"""open 2 3 \xff\xfe
+open 1 2 first  one
+line 2 1 ok B3/S23 5 0 4 1 1 xq4_153 a b
+line 1 1 ash B3/S23 8 2 \xc3\xa9 .rle
+line 2 2 bad 6 line 1 1
+part 1 1 xs4_33 2
+line 2 3 large B3/S23 36 248 \xfe 7
+line 1 2 none B36/S23 12 ok
+code 1 B3/S23 xs4_33 2
+code 2 B3/S23 xq4_153 1
+close 2 3 1 1 1
+close 1 2 1 1 0
+end 2 5
+"""
+
+    def test_interleaved(self):
+        rows = read_report(self.INTERLEAVED)
+        self.assertEqual([(row.collection, row.pattern, row.status) for row in rows],
+                         [(1, 1, "ash"), (1, 2, "none"), (2, 1, "ok"), (2, 2, "bad"), (2, 3, "large")])
+        self.assertEqual([os.fsencode(row.name) for row in rows], [b"\xc3\xa9 .rle", b"ok", b"a b", b"line 1 1", b"\xfe 7"])
+        self.assertEqual([os.fsencode(row.collection_name) for row in rows], [b"first  one"] * 2 + [b"\xff\xfe"] * 3)
+        self.assertEqual([row.parts for row in rows], [(("xs4_33", 2),), None, None, None, None])
+        self.assertEqual([row.population for row in rows], [8, 12, 5, None, 36])
+        self.assertEqual((rows[2].onset, rows[2].period, rows[2].dx, rows[2].dy, rows[2].code), (0, 4, 1, 1, "xq4_153"))
+        self.assertEqual((rows[3].fault, rows[4].generation), (6, 248))
+
+    def test_from_a_bundle(self):
+        bundle = b"@folder d\xff\n@file e\xfe  f\n" + BLOCK.encode() + b"\n@file g\n" + FAULTY.encode() + b"@folder h\n"
+        report = subprocess.run([PROGRAM, "run"], input=bundle, stdout=subprocess.PIPE, check=True).stdout
+        first, second = read_report(report)
+        self.assertEqual((os.fsencode(first.collection_name), os.fsencode(first.name)), (b"d\xff", b"e\xfe  f"))
+        self.assertEqual((first.code, second.name, second.fault), ("xs4_33", "g", 5))
+
+    def test_many_interleaved(self):
+        bundle = "".join(f"@folder {c}\n" + "".join(f"@file {i}\n{GLIDER}" for i in range(1, 40)) for c in range(1, 9))
+        for command in ("run", "objects"):
+            report = subprocess.run([PROGRAM, command], input=bundle.encode(), stdout=subprocess.PIPE, check=True).stdout
+            rows = read_report(report)
+            numbers = [(c, i) for c in range(1, 9) for i in range(1, 40)]
+            self.assertEqual([(row.collection, row.pattern) for row in rows], numbers)
+            self.assertEqual([(row.collection_name, row.name) for row in rows], [(str(c), str(i)) for c, i in numbers])
+
+    def test_numbers_that_do_not_agree(self):
+        block = "ok B3/S23 4 0 1 0 0 xs4_33 a"
+        reports = [
+            f"open 1 2 c;line 1 1 {block};close 1 1 1 0 0;end 1 2",
+            f"open 1 2 c;line 1 2 {block};line 1 1 {block};close 1 2 2 0 0;end 1 2",
+            f"open 1 1 c;line 1 1 {block};line 1 2 {block};close 1 2 2 0 0;end 1 2",
+            "open 1 1 c;line 1 1 ash B3/S23 4 2 a;part 1 1 xs4_33 1;close 1 1 1 0 0;end 1 1",
+            f"open 1 1 c;line 1 1 {block};part 1 1 xs4_33 1;close 1 1 1 0 0;end 1 1",
+            f"open 1 1 c;line 1 1 {block};close 1 1 0 1 0;end 1 1",
+            "end 0 0;end 0 0",
+            "end 0 1",
+        ]
+        for text in reports:
+            with self.subTest(text), self.assertRaises(ReportFault):
+                read_report((text.replace(";", "\n") + "\n").encode())
+        for more in (b"x", b"\n", b"open 1 0 a"):
+            with self.subTest(more), self.assertRaises(ReportFault):
+                read_report(b"end 0 0\n" + more)
+
+    def test_no_patterns(self):
+        self.assertEqual(read_report(b"end 0 0\n"), [])
+        self.assertEqual(read_report(b"open 1 1 a\nline 1 1 ash B3/S23 0 0 b\nclose 1 1 1 0 0\nend 1 1\n")[0].parts, ())
+
+    def test_cut_short(self):
+        for end in range(len(self.INTERLEAVED)):
+            with self.assertRaises(ReportFault):
+                read_report(self.INTERLEAVED[:end])
+
+    def test_no_report(self):
+        lines = self.INTERLEAVED.split(b"\n")
+        # without any of its lines but those that count codes, or with one twice, it is none
+        for at, line in enumerate(lines[:-1]):
+            if not line.startswith(b"code"):
+                for wrong in (lines[:at] + lines[at + 1:], lines[:at] + [line] + lines[at:]):
+                    with self.subTest(line), self.assertRaises(ReportFault):
+                        read_report(b"\n".join(wrong))
+        for old, new, line in ((b" 5 0 4", b" 5 x 4", 3), (b"close 2 3 1", b"close 2 3 2", 11), (b"end 2 5", b"end 2 6", 13),
+                               (b"part 1 1", b"part 2 1", 6), (b"bad 6", b"bid 6", 5), (b"open 2 3 \xff", b"opens 2 3 \xff", 1),
+                               (b"36 248 \xfe 7", b"36", 7), (b"1 2 none", b"1 02 none", 8), (b"code 1", b"code 3", 9)):
+            with self.subTest(new), self.assertRaises(ReportFault) as caught:
+                read_report(self.INTERLEAVED.replace(old, new, 1))
+            self.assertEqual((caught.exception.line, caught.exception.place), (line, f"line {line}"))
+
+
+class Module(unittest.TestCase):
+    def test_standard_library_alone(self):
+        with open(census.__file__, encoding="utf-8") as it:
+            tree = ast.parse(it.read(), feature_version=(3, 8))
+        names = {node.module for node in ast.walk(tree) if isinstance(node, ast.ImportFrom)}
+        names |= {alias.name for node in ast.walk(tree) if isinstance(node, ast.Import) for alias in node.names}
+        self.assertEqual(names, {"__future__", "dataclasses", "operator", "os", "re", "subprocess", "tempfile", "typing"})
+
+    def test_examples(self):
+        before = os.getcwd()
+        self.addCleanup(os.chdir, before)
+        os.chdir(ROOT)
+        for found in (doctest.testfile(os.path.join(HERE, "README.md"), module_relative=False), doctest.testmod(census)):
+            self.assertGreater(found.attempted, 0)
+            self.assertEqual(found.failed, 0)
+
+    def test_all_names(self):
+        for name in census.__all__:
+            self.assertTrue(getattr(census, name).__doc__, name)
+
+
+if __name__ == "__main__":
+    unittest.main()
