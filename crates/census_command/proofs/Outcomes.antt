@@ -10,7 +10,7 @@ use Rattle.census_words.specs.Refusing.{AsksHelp, IsRefused, Refuses}
 use Rattle.census_words.specs.declared.fault.WordsFault.{WordsFault}
 use Rattle.census_words.specs.declared.fault.WordsFault.TheVariants as words_fault
 use Rattle.census_words.specs.declared.request.Request.{Request}
-use Rattle.census_words.specs.declared.request.Request.TheVariants.{Run, Objects, Identify, Advance, Draw, Merge, Table}
+use Rattle.census_words.specs.declared.request.Request.TheVariants.{Run, Objects, Identify, Advance, Draw, Merge, Table, Page}
 use Rattle.life_answer.specs.declared.question.Question.TheVariants as question
 use Rattle.life_answer.specs.declared.question.Question.{Question}
 use Rattle.census_command.specs.Advances.{AdvanceFromFails, AdvancesFromInPart}
@@ -173,16 +173,22 @@ module _ (shelf : Tellings) (before after : State) where
   says command.Write (Draw code rule) h = absurd h
   says (command.Run e) (Merge reports) h = absurd h
   says (command.Run e) (Table format reports) h = absurd h
+  says (command.Run e) (Page reports) h = absurd h
   says (command.Advance e) (Merge reports) h = absurd h
   says (command.Advance e) (Table format reports) h = absurd h
+  says (command.Advance e) (Page reports) h = absurd h
   says (command.Draw e) (Merge reports) h = absurd h
   says (command.Draw e) (Table format reports) h = absurd h
+  says (command.Draw e) (Page reports) h = absurd h
   says command.Arguments (Merge reports) h = absurd h
   says command.Arguments (Table format reports) h = absurd h
+  says command.Arguments (Page reports) h = absurd h
   says command.Memory (Merge reports) h = absurd h
   says command.Memory (Table format reports) h = absurd h
+  says command.Memory (Page reports) h = absurd h
   says command.Write (Merge reports) h = absurd h
   says command.Write (Table format reports) h = absurd h
+  says command.Write (Page reports) h = absurd h
   says (command.Reports e) (Run bound workers cells recursive keep_going folders) h = absurd h
   says (command.Reports e) (Objects bound workers cells recursive keep_going folders) h = absurd h
   says (command.Reports e) (Advance n file) h = absurd h
@@ -190,6 +196,7 @@ module _ (shelf : Tellings) (before after : State) where
   says (command.Reports e) (Draw code rule) h = absurd h
   says (command.Reports e) (Merge reports) h = absurd h
   says (command.Reports e) (Table format reports) h = absurd h
+  says (command.Reports e) (Page reports) h = absurd h
 
 module _ (shelf : Tellings) (words : List (List ℕ)) (before after : State) (old new : Errors) where
   module _ (request : Request) (asked : Asks words request) (error : CommandError) (fails : Fails error shelf request before after)

@@ -18,7 +18,7 @@ use Rattle.census_words.specs.Refusing.{AsksHelp, IsRefused}
 use Rattle.census_words.specs.declared.fault.WordsFault.{WordsFault}
 use Rattle.census_words.specs.declared.fault.WordsFault.TheVariants.{Help, Refused, Memory}
 use Rattle.census_words.specs.declared.request.Request.{Request}
-use Rattle.census_words.specs.declared.request.Request.TheVariants.{Run, Objects, Identify, Advance, Draw, Merge, Table}
+use Rattle.census_words.specs.declared.request.Request.TheVariants.{Run, Objects, Identify, Advance, Draw, Merge, Table, Page}
 use Rattle.life_answer.specs.declared.question.Question.{Question}
 use Rattle.life_answer.specs.declared.question.Question.TheVariants as question
 use Rattle.census_folders.specs.Told.{MayExceed, MayFail}
@@ -85,6 +85,7 @@ RefusesInput shelf (Draw code rule) before after =
     ⊎ ((fault : CodeFault) × (wechsler.refusal (body_of code.now) ≡ Some fault))
 RefusesInput shelf (Merge reports) before after = ⊥
 RefusesInput shelf (Table format reports) before after = ⊥
+RefusesInput shelf (Page reports) before after = ⊥
 
 -- The words ask for something whose input is refused.
 pub record IsFaulty (shelf : Tellings) (words : List (List ℕ)) (before after : State) : Type 0 where
@@ -140,6 +141,7 @@ StopsAtFolder shelf (Advance generations file) = MissesFile shelf (file_of (opti
 StopsAtFolder shelf (Draw code rule) = ⊥
 StopsAtFolder shelf (Merge reports) = ⊥
 StopsAtFolder shelf (Table format reports) = ⊥
+StopsAtFolder shelf (Page reports) = ⊥
 
 -- The words ask for a census of folders, one of which could not be listed or has a file that could not be read, or for a
 -- generation of a file that could not be read.
@@ -195,6 +197,7 @@ pub record AsksWhat (words : List (List ℕ)) (bound : ℕ) (files : List (List 
 abbrev pub IsRemaking : Request → Form → List (List ℕ) → Type 0
 IsRemaking (Merge reports) f files = (f ≡ form.Merged) × (files ≡ map (λ s. s.now) reports.items)
 IsRemaking (Table format reports) f files = (f ≡ form_of format) × (files ≡ map (λ s. s.now) reports.items)
+IsRemaking (Page reports) f files = (f ≡ form.Page) × (files ≡ map (λ s. s.now) reports.items)
 IsRemaking request f files = ⊥
 
 -- The words ask for what is made of reports. It was written, or an error ended it.

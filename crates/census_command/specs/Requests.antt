@@ -1,7 +1,7 @@
 -- What is done where something is asked for, and what each error says.
 use Rattle.std.specs.Prelude.{◌≤◌, Some, map, option_map}
 use Rattle.census_words.specs.declared.request.Request.{Request}
-use Rattle.census_words.specs.declared.request.Request.TheVariants.{Run, Objects, Identify, Advance, Draw, Merge, Table}
+use Rattle.census_words.specs.declared.request.Request.TheVariants.{Run, Objects, Identify, Advance, Draw, Merge, Table, Page}
 use Rattle.life_answer.specs.declared.question.Question.TheVariants as question
 use Rattle.census_command.specs.Advances.{AdvanceFromFails, AdvancesFrom, AdvancesFromInPart, file_of}
 use Rattle.census_command.specs.Draws.{DrawFails, Draws, DrawsInPart}
@@ -21,6 +21,7 @@ IsLawful (Advance generations file) = generations ≤ 4194304
 IsLawful (Draw code rule) = Unit {0}
 IsLawful (Merge reports) = Unit {0}
 IsLawful (Table format reports) = Unit {0}
+IsLawful (Page reports) = Unit {0}
 
 -- the first thing that can't be read ends it
 abbrev pub EndsAtFirst : Request → Type 0
@@ -34,6 +35,7 @@ abbrev pub IsDone : Request → Type 0
 IsDone (Identify bound files) = ⊥
 IsDone (Merge reports) = ⊥
 IsDone (Table format reports) = ⊥
+IsDone (Page reports) = ⊥
 IsDone request = EndsAtFirst request
 
 -- what is asked for was done
@@ -45,6 +47,7 @@ Does shelf (Advance generations file) before after = AdvancesFrom shelf (file_of
 Does shelf (Draw code rule) before after = Draws code.now rule.now before after
 Does shelf (Merge reports) before after = ⊥
 Does shelf (Table format reports) before after = ⊥
+Does shelf (Page reports) before after = ⊥
 
 -- it was done as far as the writer took it
 abbrev pub DoesInPart : Tellings → Request → State → State → Type 0
@@ -55,6 +58,7 @@ DoesInPart shelf (Advance generations file) before after = AdvancesFromInPart sh
 DoesInPart shelf (Draw code rule) before after = DrawsInPart code.now rule.now before after
 DoesInPart shelf (Merge reports) before after = ⊥
 DoesInPart shelf (Table format reports) before after = ⊥
+DoesInPart shelf (Page reports) before after = ⊥
 
 -- it was not done whole, for this error
 abbrev pub Fails : CommandError → Tellings → Request → State → State → Type 0

@@ -168,7 +168,10 @@ fn execute<S: Shelf, I: Read, O: Write, G: Gate, R: Threads + Wait + Sync>(
             gate,
             streams,
         )?,
-        Request::Identify { .. } | Request::Merge { .. } | Request::Table { .. } => unreachable!(),
+        Request::Identify { .. }
+        | Request::Merge { .. }
+        | Request::Table { .. }
+        | Request::Page { .. } => unreachable!(),
         Request::Advance { generations, file } => {
             advance(shelf, alloc, *generations, *file, streams)?
         }
@@ -220,8 +223,8 @@ pub fn answer<I: Read, O: Write, E: Write>(
 /// - 0: what was asked for was done. By `run` and by `objects` the report of the folders, or without any of the bundle on
 ///   standard input, was written: what their patterns become, or the objects in it; by `advance N` standard input is an
 ///   RLE text, and the text of generation N was written; by `draw CODE [--rule R]` the text of the code's shape under the
-///   rule; by `merge` one report of reports that were read, and by `table` a table of them. Or help was asked for and
-///   written.
+///   rule; by `merge` one report of reports that were read, by `table` a table of them, and by `page` a page. Or help
+///   was asked for and written.
 /// - 1: the collections, the pattern, the rule or the code is refused, and nothing was written.
 /// - 2: clap refuses the words, and not because memory was refused; nothing was read or written.
 /// - 3: memory was refused, and nothing was written, or by `run` and by `objects` a prefix of the report.
@@ -280,6 +283,10 @@ pub fn dispatch<S: Shelf, I: Read, O: Write, E: Write, G: Gate, R: Threads + Wai
     }
     if let Request::Table { format, reports } = &request {
         let form = form_of(*format);
+        return remake(shelf, alloc, form, reports.as_slice(), streams, errors);
+    }
+    if let Request::Page { reports } = &request {
+        let form = Form::Page;
         return remake(shelf, alloc, form, reports.as_slice(), streams, errors);
     }
     match execute(rt, shelf, alloc, &request, gate, streams) {

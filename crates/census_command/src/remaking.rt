@@ -1,4 +1,4 @@
-//! `census merge` and `census table`: one report, or a table, made of reports.
+//! `census merge`, `census table` and `census page`: one report, a table, or a page, made of reports.
 ghost use Rattle.std.specs.Prelude.{◌≡◌, [], false, map};
 ghost use Rattle.census_command.specs.Remakes.{Remakes, form_of};
 ghost use Rattle.census_command.specs.Streams.{IsSound};

@@ -4,25 +4,28 @@ use Rattle.census_rows.specs.declared.row.Row.{Row}
 use Rattle.census_readback.specs.Texts.{text_of}
 use Rattle.census_merge.specs.Merged.{merged}
 use Rattle.census_merge.specs.Sums.{first_excess, none}
+use Rattle.census_page.specs.Pages.{page_of}
 use Rattle.census_table.specs.Entries.{entries_of}
 use Rattle.census_table.specs.Tables.{csv_text, json_text}
 use Rattle.census_reports.specs.Rows.{AreRowsOf, HasFault}
 use Rattle.census_reports.specs.declared.error.ReportsError.{ReportsError}
 use Rattle.census_reports.specs.declared.error.ReportsError.TheVariants.{Fault, TooMany, Memory}
 use Rattle.census_reports.specs.declared.form.Form.{Form}
-use Rattle.census_reports.specs.declared.form.Form.TheVariants.{Merged, Csv, Json}
+use Rattle.census_reports.specs.declared.form.Form.TheVariants.{Merged, Csv, Json, Page}
 
 -- what is written of the rows of reports that stand one after another
 abbrev pub IsMade : Form → List Row → List ℕ → Type 0
 IsMade Merged rows text = (first_excess 1 none rows ≡ None) × (text ≡ text_of (merged rows))
 IsMade Csv rows text = text ≡ csv_text (entries_of rows)
 IsMade Json rows text = text ≡ json_text (entries_of rows)
+IsMade Page rows text = text ≡ page_of rows
 
 -- a report with which there are too many collections for one report
 abbrev pub Exceeds : Form → List Row → ℕ → Type 0
 Exceeds Merged rows report = first_excess 1 none rows ≡ Some report
 Exceeds Csv rows report = ⊥
 Exceeds Json rows report = ⊥
+Exceeds Page rows report = ⊥
 
 -- why nothing is written of rows
 abbrev pub RefusesRows : ReportsError → Form → List Row → Type 0

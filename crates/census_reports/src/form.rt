@@ -6,6 +6,7 @@ ghost use Rattle.census_reports.specs.Forms.{IsMade, RefusesRows};
 use crate::error::ReportsError;
 use crate::lines::text_of;
 use census_merge::merging::merge;
+use census_page::page::page;
 use census_rows::row::Row;
 use census_table::comma::csv_table;
 use census_table::json_lines::json_table;
@@ -20,6 +21,8 @@ pub enum Form {
     Csv,
     /// Their patterns as a JSON object a line, as `json_table` makes them.
     Json,
+    /// Their codes, with pictures, as one HTML page, as `page` makes it.
+    Page,
 }
 
 // One report of reports that stand one after another.
@@ -48,5 +51,6 @@ pub fn made_of(alloc: Global, form: Form, rows: &[Row]) -> Result<Vec<u8>, Repor
         Form::Merged => merged_text(alloc, rows),
         Form::Csv => Ok(csv_table(alloc, rows)?),
         Form::Json => Ok(json_table(alloc, rows)?),
+        Form::Page => Ok(page(alloc, rows)?),
     }
 }

@@ -1,4 +1,4 @@
-//! Reports that are read from files or from standard input, and written as one report or as a table.
+//! Reports that are read from files or from standard input, and written as one report, as a table or as a page.
 #![tactic(auto)]
 
 pub mod error;

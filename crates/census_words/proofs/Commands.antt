@@ -325,8 +325,11 @@ each_enters name words = (
           (
             λ stop names passes. inr (inr (inr (inr (inr (inl refl))))),
             (
-              λ stop names passes. inr (inr (inr (inr (inr (inr (refl, table_has words passes)))))),
-              (λ stop names passes. absurd (help_is_no_command name stop names), tt),
+              λ stop names passes. inr (inr (inr (inr (inr (inr (inl (refl, table_has words passes))))))),
+              (
+                λ stop names passes. inr (inr (inr (inr (inr (inr (inr refl)))))),
+                (λ stop names passes. absurd (help_is_no_command name stop names), tt),
+              ),
             ),
           ),
         ),
@@ -370,4 +373,5 @@ advance_command rows (inr (inr (inl h))) = other_name _ _ h.0 refl
 advance_command rows (inr (inr (inr (inl h)))) = h.1
 advance_command rows (inr (inr (inr (inr (inl h))))) = other_name _ _ h.0 refl
 advance_command rows (inr (inr (inr (inr (inr (inl h)))))) = other_name _ _ h refl
-advance_command rows (inr (inr (inr (inr (inr (inr h)))))) = other_name _ _ h.0 refl
+advance_command rows (inr (inr (inr (inr (inr (inr (inl h))))))) = other_name _ _ h.0 refl
+advance_command rows (inr (inr (inr (inr (inr (inr (inr h))))))) = other_name _ _ h refl

@@ -4,7 +4,7 @@ use Rattle.clap.specs.Faults.{fault_of}
 use Rattle.clap.specs.declared.error.kind.ErrorKind.TheVariants.{DisplayHelp, DisplayVersion, MissingSubcommand, UnknownArgument, ValueValidation}
 use Rattle.clap.proofs.OnLiterals.{clap_on_literals}
 use Rattle.census_words.specs.CommandLine.{census_app}
-use Rattle.census_words.specs.Asking.{AsksAdvance, AsksDraw, AsksIdentify, AsksMerge, AsksObjects, AsksRun, AsksTable}
+use Rattle.census_words.specs.Asking.{AsksAdvance, AsksDraw, AsksIdentify, AsksMerge, AsksObjects, AsksPage, AsksRun, AsksTable}
 use Rattle.census_words.specs.Refusing.{AsksTwoFormats}
 use Rattle.census_words.specs.declared.request.TableFormat.TheVariants.{Csv, Json}
 
@@ -71,6 +71,10 @@ table_alone = (refl, record { rows = _; named = refl; format_is = refl; reports_
 table_json : AsksTable (codes "table" ∷ codes "a" ∷ codes "--json" ∷ codes "b" ∷ []) Json (codes "a" ∷ codes "b" ∷ [])
 unfolding clap_on_literals
 table_json = (refl, record { rows = _; named = refl; format_is = (refl, refl); reports_are = refl })
+
+page_among : AsksPage (codes "page" ∷ codes "a" ∷ codes "-" ∷ []) (codes "a" ∷ codes "-" ∷ [])
+unfolding clap_on_literals
+page_among = (refl, record { rows = _; named = refl; reports_are = refl })
 
 table_both : AsksTwoFormats (codes "table" ∷ codes "--json" ∷ codes "--csv" ∷ [])
 unfolding clap_on_literals

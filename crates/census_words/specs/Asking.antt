@@ -8,7 +8,7 @@ use Rattle.clap.specs.Values.{bool_text}
 use Rattle.clap.specs.Walk.{Row, all_of, first_of, one_of}
 use Rattle.census_words.specs.CommandLine.{census_app}
 use Rattle.census_words.specs.declared.request.Request.{Request}
-use Rattle.census_words.specs.declared.request.Request.TheVariants.{Run, Objects, Identify, Advance, Draw, Merge, Table}
+use Rattle.census_words.specs.declared.request.Request.TheVariants.{Run, Objects, Identify, Advance, Draw, Merge, Table, Page}
 use Rattle.census_words.specs.declared.request.TableFormat.{TableFormat}
 use Rattle.census_words.specs.declared.request.TableFormat.TheVariants.{Csv, Json}
 
@@ -106,6 +106,12 @@ pub record GivesTable (command : Option (List ℕ × List Row)) (format : TableF
   pub format_is : IsFormat format rows
   pub reports_are : values_of (codes "report") rows ≡ reports
 
+-- those of the page of these reports, or, where there is none, of that of standard input
+pub record GivesPage (command : Option (List ℕ × List Row)) (reports : List (List ℕ)) : Type 0 where
+  pub rows : List Row
+  pub named : command ≡ Some (codes "page", rows)
+  pub reports_are : values_of (codes "report") rows ≡ reports
+
 abbrev pub Gives : Option (List ℕ × List Row) → Request → Type 0
 Gives command (Run bound workers cells recursive keep_going folders) =
     GivesRun command bound workers cells recursive keep_going (map (λ s. s.now) folders.items)
@@ -116,6 +122,7 @@ Gives command (Advance generations file) = GivesAdvance command generations (opt
 Gives command (Draw code rule) = GivesDraw command code.now rule.now
 Gives command (Merge reports) = GivesMerge command (map (λ s. s.now) reports.items)
 Gives command (Table format reports) = GivesTable command format (map (λ s. s.now) reports.items)
+Gives command (Page reports) = GivesPage command (map (λ s. s.now) reports.items)
 
 -- ---- what the words ask for
 
@@ -152,6 +159,10 @@ AsksMerge words reports = IsMatched words × GivesMerge (subcommand_of census_ap
 -- for the table in this format of these reports, or, where there is none, of that of standard input
 abbrev pub AsksTable : List (List ℕ) → TableFormat → List (List ℕ) → Type 0
 AsksTable words format reports = IsMatched words × GivesTable (subcommand_of census_app words) format reports
+
+-- for the page of these reports, or, where there is none, of that of standard input
+abbrev pub AsksPage : List (List ℕ) → List (List ℕ) → Type 0
+AsksPage words reports = IsMatched words × GivesPage (subcommand_of census_app words) reports
 
 -- for this
 abbrev pub Asks : List (List ℕ) → Request → Type 0

@@ -110,7 +110,7 @@ csv_rule = record (new_rule (codes "csv")) { long = Some (codes "csv"); action =
 abbrev pub json_rule : Rule
 json_rule = record (new_rule (codes "json")) { long = Some (codes "json"); action = Some SetTrue }
 
--- the `REPORT..` of `merge` and of `table`
+-- the `REPORT..` of `merge`, of `table` and of `page`
 abbrev pub reports_rule : Rule
 reports_rule = record (new_rule (codes "report")) {
   value_names = 1;
@@ -144,6 +144,9 @@ merge_shape = shape_with (codes "merge") (reports_rule ∷ [])
 abbrev pub table_shape : Shape
 table_shape = shape_with (codes "table") (csv_rule ∷ json_rule ∷ reports_rule ∷ [])
 
+abbrev pub page_shape : Shape
+page_shape = shape_with (codes "page") (reports_rule ∷ [])
+
 -- `census` without its commands: it wants one, its words come without its own name, and it tells its version
 abbrev pub bare_app : App
 bare_app = record {
@@ -160,5 +163,5 @@ abbrev pub census_app : App
 census_app = record {
   top = record bare_app.top { is_leaf = false };
   subs = run_shape ∷ objects_shape ∷ identify_shape ∷ advance_shape ∷ draw_shape ∷ merge_shape
-      ∷ table_shape ∷ [];
+      ∷ table_shape ∷ page_shape ∷ [];
 }

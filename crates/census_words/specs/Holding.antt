@@ -68,4 +68,5 @@ IsCommand (Some (name, rows)) =
     ⊎ (((name ≡ codes "advance") × HasAdvance rows)
     ⊎ (((name ≡ codes "draw") × HasDraw rows)
     ⊎ ((name ≡ codes "merge")
-    ⊎ ((name ≡ codes "table") × HasTable rows))))))
+    ⊎ (((name ≡ codes "table") × HasTable rows)
+    ⊎ (name ≡ codes "page")))))))

@@ -3,7 +3,7 @@ ghost use Rattle.std.specs.Prelude.{◌≡◌, IfOk, false};
 ghost use Rattle.clap.specs.Words.{app_of, rule_of, shape_of};
 ghost use Rattle.clap.specs.declared.builder.command.Command.TheViews.{out-Command};
 ghost use Rattle.census_words.specs.CommandLine.{advance_shape, bare_app, census_app, draw_shape, identify_shape};
-ghost use Rattle.census_words.specs.CommandLine.{merge_shape, objects_shape, run_shape, table_shape};
+ghost use Rattle.census_words.specs.CommandLine.{merge_shape, objects_shape, page_shape, run_shape, table_shape};
 ghost use Rattle.census_words.specs.CommandLine.{bound_rule, cells_rule, code_rule, csv_rule, file_rule, files_rule};
 ghost use Rattle.census_words.specs.CommandLine.{folder_rule, generations_rule, json_rule, keep_going_rule, limit_rule};
 ghost use Rattle.census_words.specs.CommandLine.{recursive_rule, reports_rule, rule_rule, search_rule, workers_rule};
@@ -250,6 +250,15 @@ fn table<'a>(alloc: Global) -> Result<Command<'a>, AllocError>
         .arg(reports(alloc))
 }
 
+fn page<'a>(alloc: Global) -> Result<Command<'a>, AllocError>
+    ensures { IfOk result (λ c. (shape_of c ≡ page_shape) × ((out-Command c).has_globals ≡ false)) }
+{
+    Command::new(alloc, "page")
+        .about("Write one HTML page of reports, with pictures")
+        .after_help(help::PAGE)
+        .arg(reports(alloc))
+}
+
 /// What is said of words that name both formats of a table, as clap says it of arguments in conflict.
 pub(crate) fn two_formats(alloc: Global) -> Result<String, AllocError> {
     let mut command = table(alloc)?.bin_name("census table")?;
@@ -282,5 +291,6 @@ pub(crate) fn census<'a>(alloc: Global) -> Result<Command<'a>, AllocError>
         .subcommand(advance(alloc)?)?
         .subcommand(draw(alloc)?)?
         .subcommand(merge(alloc)?)?
-        .subcommand(table(alloc)?)
+        .subcommand(table(alloc)?)?
+        .subcommand(page(alloc)?)
 }

@@ -103,6 +103,7 @@ table [--csv | --json] [REPORT]...
                    a row for each pattern of reports ('census help table')
       --csv        comma-separated values, as without a format
       --json       JSON, one object a line
+page [REPORT]...   one HTML page, with pictures ('census help page')
 
 "
 );
@@ -166,6 +167,18 @@ is no UTF-8, its bytes in hex in collection_name_hex or name_hex.
 
 Example: census table --csv census.txt >census.csv
          census run soups | census table --json
+
+"
+);
+
+/// After the help of `page`.
+pub const PAGE: &str = with_statuses!(
+    "\
+Of each collection the page has the counts, the codes with a picture of each, how
+often each occurs and which patterns have it, and the patterns that are unresolved
+or refused. It stands alone: it has no script, and asks for nothing.
+
+Example: census page census.txt >census.html
 
 "
 );

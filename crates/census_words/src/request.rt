@@ -83,6 +83,11 @@ pub enum Request<'a> {
         /// In the order of the words. `-` is standard input.
         reports: Vec<&'a str>,
     },
+    /// One HTML page of these reports, or, where there is none, of that on standard input.
+    Page {
+        /// In the order of the words. `-` is standard input.
+        reports: Vec<&'a str>,
+    },
 }
 
 // The number of an argument that has one.
@@ -230,6 +235,11 @@ fn request_of<'a>(alloc: Global, matches: &ArgMatches<'a>) -> Result<Request<'a>
     }
     if let Some(table) = matches.subcommand_matches("table") {
         return table_of(alloc, table);
+    }
+    if let Some(page) = matches.subcommand_matches("page") {
+        return Ok(Request::Page {
+            reports: texts(alloc, page, "report")?,
+        });
     }
     unreachable!()
 }

@@ -289,6 +289,19 @@ fn reports_are_merged_in_the_order_of_the_words(rt: HostRuntime) {
     }
 }
 
+#[test]
+fn a_page_has_reports(rt: HostRuntime) {
+    const ASKED: &[(Words, Words)] = &[(&["page"], &[]), (&["page", "b", "-"], &["b", "-"])];
+    for (words, asked) in ASKED {
+        match read_words(rt.alloc(), words) {
+            Ok(Request::Page { reports }) => {
+                assert_eq!(rt; reports.as_slice(), *asked, "{words:?}");
+            }
+            other => panic!(rt; "{words:?}: {other:?}"),
+        }
+    }
+}
+
 // Words that ask for a table, its format and the reports.
 const TABLES: &[(Words, TableFormat, Words)] = &[
     (&["table"], TableFormat::Csv, &[]),

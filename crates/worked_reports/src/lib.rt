@@ -6,6 +6,8 @@ mod files;
 #[cfg(test)]
 mod merging;
 #[cfg(test)]
+mod page;
+#[cfg(test)]
 mod readback;
 #[cfg(test)]
 mod tables;

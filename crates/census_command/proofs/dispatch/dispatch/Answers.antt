@@ -46,6 +46,18 @@ returns-in-Table g c =
       remakes = c.remake-in-Table.ensures;
     }))
 
+pub returns-in-Page : goal.returns-in-Page
+returns-in-Page g c =
+    let files = map (λ s. s.now) c.as_slice-in-Page.result.now in
+    inr (inl (record {
+      request = c.in-Ok.request;
+      asked = c.in-Ok.ensures;
+      form = form.Page;
+      files = files;
+      is = subst (λ r. IsRemaking r form.Page files) (sym c.in-Page.is) (refl, ap (λ fs. map (λ s. s.now) fs) c.as_slice-in-Page.ensures.value);
+      remakes = c.remake-in-Page.ensures;
+    }))
+
 pub returns : goal.returns
 returns g c = rw c.stop.ensures.status
     (inr (inr (inr (ends_failed _ _ _ _ _ _ c.in-Ok.request

@@ -1,0 +1,3 @@
+mod Appending
+pub mod Counts
+pub mod Escaping

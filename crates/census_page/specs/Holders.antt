@@ -1,0 +1,70 @@
+-- Which patterns have a code.
+use Rattle.std.specs.Prelude.{ℕ, Bool, ◌&&◌, if◌then◌else◌, Option, Some, None as Nothing, List, [], ◌∷◌, ◌++◌, codes}
+use Rattle.std.specs.Cmp.Lexicographic.{pointwise}
+use Rattle.std.specs.Bool.{nat_eq}
+use Rattle.std.specs.Borrow.{Bor}
+use Rattle.census_rows.specs.declared.row.Outcome.{Outcome}
+use Rattle.census_rows.specs.declared.row.Outcome.TheVariants.{Ok, Ash, None, Large, Bad}
+use Rattle.census_rows.specs.declared.row.Row.{Row}
+use Rattle.census_rows.specs.declared.row.Row.TheVariants.{Open, Line, Part, Code, Close, End}
+use Rattle.census_page.specs.declared.holder.Holder.{Holder}
+use Rattle.census_page.specs.declared.holder.Naming.{Naming}
+use Rattle.census_page.specs.Escapes.{told}
+
+-- the rule and the name of the pattern that has fallen apart last, after a row
+abbrev pub naming_in : Option Naming → Outcome → Bor (List ℕ) → Option Naming
+naming_in naming (Ok rule population onset period dx dy code) name = naming
+naming_in naming (Ash rule population objects) name = Some (record { rule = rule; name = name })
+naming_in naming (None rule population) name = naming
+naming_in naming (Large rule population generation) name = naming
+naming_in naming (Bad fault) name = naming
+
+abbrev pub naming_after : Option Naming → Row → Option Naming
+naming_after naming (Open collection patterns name) = naming
+naming_after naming (Line collection pattern outcome name) = naming_in naming outcome name
+naming_after naming (Part collection pattern code count) = naming
+naming_after naming (Code collection rule code count) = naming
+naming_after naming (Close collection patterns resolved unresolved refused) = naming
+naming_after naming (End collections patterns) = naming
+
+-- a pattern that has this code among those of its parts
+abbrev pub part_of : Option Naming → Bor (List ℕ) → Option Holder
+part_of Nothing code = Nothing
+part_of (Some naming) code = Some (record { rule = naming.rule; code = code; name = naming.name })
+
+-- what a row says of the code of a pattern
+abbrev pub holder_in : Outcome → Bor (List ℕ) → Option Holder
+holder_in (Ok rule population onset period dx dy code) name = Some (record { rule = rule; code = code; name = name })
+holder_in (Ash rule population objects) name = Nothing
+holder_in (None rule population) name = Nothing
+holder_in (Large rule population generation) name = Nothing
+holder_in (Bad fault) name = Nothing
+
+abbrev pub holder_of : Option Naming → Row → Option Holder
+holder_of naming (Open collection patterns name) = Nothing
+holder_of naming (Line collection pattern outcome name) = holder_in outcome name
+holder_of naming (Part collection pattern code count) = part_of naming code
+holder_of naming (Code collection rule code count) = Nothing
+holder_of naming (Close collection patterns resolved unresolved refused) = Nothing
+holder_of naming (End collections patterns) = Nothing
+
+abbrev pub holder_before : Option Holder → List Holder → List Holder
+holder_before Nothing holders = holders
+holder_before (Some holder) holders = holder ∷ holders
+
+-- the patterns of these rows with their codes
+abbrev pub holders_from : Option Naming → List Row → List Holder
+holders_from naming [] = []
+holders_from naming (row ∷ rows) = holder_before (holder_of (naming_after naming row) row) (holders_from (naming_after naming row) rows)
+
+-- whether a pattern has this code under this rule
+abbrev pub has_code : List ℕ → List ℕ → Holder → Bool
+has_code rule code holder = pointwise nat_eq holder.code.now code && pointwise nat_eq holder.rule.now rule
+
+abbrev pub holder_item : List ℕ → List ℕ → Holder → List ℕ
+holder_item rule code holder = if has_code rule code holder then codes "<li>" ++ told holder.name.now ++ codes "</li>" else []
+
+-- an item for each pattern that has this code under this rule
+abbrev pub holder_items : List ℕ → List ℕ → List Holder → List ℕ
+holder_items rule code [] = []
+holder_items rule code (holder ∷ holders) = holder_item rule code holder ++ holder_items rule code holders

@@ -1,0 +1,4 @@
+pub mod Escapes
+pub mod Holders
+pub mod Pages
+pub mod Pictures

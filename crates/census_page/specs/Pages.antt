@@ -1,0 +1,138 @@
+-- The text of a page.
+use Rattle.std.specs.Prelude.{ℕ, ◌+◌, ◌==◌, Bool, true, false, if◌then◌else◌, None as Nothing, List, [], ◌∷◌, ◌++◌, codes, decimal}
+use Rattle.census_rows.specs.declared.row.Outcome.{Outcome}
+use Rattle.census_rows.specs.declared.row.Outcome.TheVariants.{Ok, Ash, None, Large, Bad}
+use Rattle.census_rows.specs.declared.row.Row.{Row}
+use Rattle.census_rows.specs.declared.row.Row.TheVariants.{Open, Line, Part, Code, Close, End}
+use Rattle.census_readback.specs.Grouped.{collections_of}
+use Rattle.census_page.specs.declared.markup.TheConstants.{LIST_BEGIN, LIST_END, PAGE_BEGIN, PAGE_END, TABLE_BEGIN, TABLE_END}
+use Rattle.census_page.specs.declared.holder.Holder.{Holder}
+use Rattle.census_page.specs.Escapes.{told}
+use Rattle.census_page.specs.Holders.{holder_items, holders_from}
+use Rattle.census_page.specs.Pictures.{picture}
+
+-- the name of a collection
+abbrev pub name_text : List ℕ → List ℕ
+name_text name = codes "<h2>" ++ told name ++ codes "</h2>\n"
+
+-- how many patterns are resolved and how many are not
+abbrev pub counts_text : ℕ → ℕ → ℕ → ℕ → List ℕ
+counts_text patterns resolved unresolved refused =
+    codes "<p>" ++ decimal patterns ++ codes " patterns: " ++ decimal resolved ++ codes " resolved, " ++ decimal unresolved ++ codes " unresolved, " ++ decimal refused ++ codes " refused</p>\n"
+
+-- what a row says of its collection as a whole
+abbrev pub heading : Row → List ℕ
+heading (Open collection patterns name) = name_text name.now
+heading (Line collection pattern outcome name) = []
+heading (Part collection pattern code count) = []
+heading (Code collection rule code count) = []
+heading (Close collection patterns resolved unresolved refused) = counts_text patterns resolved unresolved refused
+heading (End collections patterns) = []
+
+abbrev pub headings : List Row → List ℕ
+headings [] = []
+headings (row ∷ rows) = heading row ++ headings rows
+
+-- a code with its picture and its rule
+abbrev pub object_cells : List ℕ → List ℕ → List ℕ
+object_cells rule code =
+    codes "<tr><td>" ++ picture code ++ codes "</td><td>" ++ told rule ++ codes "</td><td><code>" ++ told code ++ codes "</code></td>"
+
+-- how often a code occurs, and the patterns that have it
+abbrev pub place_cells : List Holder → List ℕ → List ℕ → ℕ → List ℕ
+place_cells holders rule code count =
+    codes "<td>" ++ decimal count ++ codes "</td><td><ul>" ++ holder_items rule code holders ++ codes "</ul></td></tr>\n"
+
+-- the row of a table that tells of a code
+abbrev pub code_row : List Holder → Row → List ℕ
+code_row holders (Open collection patterns name) = []
+code_row holders (Line collection pattern outcome name) = []
+code_row holders (Part collection pattern code count) = []
+code_row holders (Code collection rule code count) = object_cells rule.now code.now ++ place_cells holders rule.now code.now count
+code_row holders (Close collection patterns resolved unresolved refused) = []
+code_row holders (End collections patterns) = []
+
+abbrev pub code_rows : List Holder → List Row → List ℕ
+code_rows holders [] = []
+code_rows holders (row ∷ rows) = code_row holders row ++ code_rows holders rows
+
+-- why a pattern was refused
+abbrev pub fault_reason : ℕ → List ℕ
+fault_reason fault = if fault == 0 then codes "refused, could not be read" else codes "refused, fault " ++ decimal fault
+
+-- how many cells an unresolved pattern has at first
+abbrev pub unresolved_reason : ℕ → List ℕ
+unresolved_reason population = codes "unresolved, " ++ decimal population ++ codes " cells at first"
+
+-- why a pattern has no code
+abbrev pub reason : Outcome → List ℕ
+reason (Ok rule population onset period dx dy code) = []
+reason (Ash rule population objects) = []
+reason (None rule population) = unresolved_reason population
+reason (Large rule population generation) = codes "unresolved, too many cells in generation " ++ decimal generation
+reason (Bad fault) = fault_reason fault
+
+-- whether a pattern is unresolved or refused
+abbrev pub is_stray : Outcome → Bool
+is_stray (Ok rule population onset period dx dy code) = false
+is_stray (Ash rule population objects) = false
+is_stray (None rule population) = true
+is_stray (Large rule population generation) = true
+is_stray (Bad fault) = true
+
+-- an item for such a pattern
+abbrev pub stray_item : List ℕ → Outcome → List ℕ
+stray_item name outcome = if is_stray outcome then codes "<li>" ++ told name ++ codes ": " ++ reason outcome ++ codes "</li>\n" else []
+
+abbrev pub stray_row : Row → List ℕ
+stray_row (Open collection patterns name) = []
+stray_row (Line collection pattern outcome name) = stray_item name.now outcome
+stray_row (Part collection pattern code count) = []
+stray_row (Code collection rule code count) = []
+stray_row (Close collection patterns resolved unresolved refused) = []
+stray_row (End collections patterns) = []
+
+abbrev pub stray_rows : List Row → List ℕ
+stray_rows [] = []
+stray_rows (row ∷ rows) = stray_row row ++ stray_rows rows
+
+-- a text between two others, and nothing where it is empty
+abbrev pub framed : List ℕ → List ℕ → List ℕ → List ℕ
+framed before [] after = []
+framed before (byte ∷ bytes) after = before ++ (byte ∷ bytes) ++ after
+
+abbrev pub code_table : List Row → List ℕ
+code_table rows = framed TABLE_BEGIN.now (code_rows (holders_from Nothing rows) rows) TABLE_END.now
+
+abbrev pub stray_list : List Row → List ℕ
+stray_list rows = framed LIST_BEGIN.now (stray_rows rows) LIST_END.now
+
+-- a collection
+abbrev pub section_text : List Row → List ℕ
+section_text rows = codes "<section>\n" ++ headings rows ++ code_table rows ++ stray_list rows ++ codes "</section>\n"
+
+abbrev pub sections_text : List (List Row) → List ℕ
+sections_text [] = []
+sections_text (rows ∷ sections) = section_text rows ++ sections_text sections
+
+-- the page of reports
+abbrev pub page_of : List Row → List ℕ
+page_of rows = PAGE_BEGIN.now ++ sections_text (collections_of [] rows) ++ PAGE_END.now
+
+-- how many `code` rows there are
+abbrev pub is_code : Row → Bool
+is_code (Open collection patterns name) = false
+is_code (Line collection pattern outcome name) = false
+is_code (Part collection pattern code count) = false
+is_code (Code collection rule code count) = true
+is_code (Close collection patterns resolved unresolved refused) = false
+is_code (End collections patterns) = false
+
+abbrev pub codes_in : List Row → ℕ
+codes_in [] = 0
+codes_in (row ∷ rows) = (if is_code row then 1 else 0) + codes_in rows
+
+-- those of each collection together
+abbrev pub sections_codes : List (List Row) → ℕ
+sections_codes [] = 0
+sections_codes (rows ∷ sections) = codes_in rows + sections_codes sections
