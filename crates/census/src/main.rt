@@ -3,16 +3,24 @@
 
 use census_command::program::program;
 use census_command::streams::{ErrorStream, Streams};
+use census_terminal::{Announced, Screen, Shown};
+use std::io::IsTerminal;
 use std::process::ExitCode;
 use std::{env, io};
 
 fn main(rt: HostRuntime) -> ExitCode {
+    let is_terminal = rt.stderr().is_terminal();
+    let screen = Screen::new(&rt, is_terminal);
+    let input = Announced::new(rt.reader(), rt.stdin().is_terminal(), &screen);
+    let output = Shown::new(io::writer(&rt), rt.stdout().is_terminal(), &screen);
+    let errors = Shown::new(rt.stderr(), is_terminal, &screen);
     program(
         &rt,
         &rt,
         rt.alloc(),
         env::args(&rt),
-        &mut Streams::new(rt.reader(), io::writer(&rt)),
-        &mut ErrorStream::new(rt.stderr()),
+        &screen,
+        &mut Streams::new(input, output),
+        &mut ErrorStream::new(errors, is_terminal),
     )
 }

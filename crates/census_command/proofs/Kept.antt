@@ -1,5 +1,5 @@
 -- What a census that goes on past what can't be read wrote and told.
-use Rattle.std.proofs.Common.{◌≡◌, ◌≢◌, ◌⊎◌, ℕ, ◌+◌, ◌<◌, Bool, true, false, List, [], ◌∷◌, ◌++◌, length, get_or, drop, Result, Ok, Err, MatchResult, inl, inr, refl, sym, ap, ◌∙◌, MatchBool}
+use Rattle.std.proofs.Common.{◌≡◌, ◌≢◌, ◌⊎◌, ℕ, ◌+◌, ◌<◌, Bool, true, false, List, [], ◌∷◌, ◌++◌, Option, length, get_or, drop, Result, Ok, Err, MatchResult, inl, inr, refl, sym, ap, ◌∙◌, MatchBool}
 use Rattle.std.proofs.lemmas.List.{append_assoc, drop_more}
 use Rattle.census_folders.specs.declared.loss.Loss.{Loss}
 use Rattle.census_identify.proofs.Written.{tells_more}
@@ -36,47 +36,45 @@ next_line lost i loss lines more whole within at is before =
 
 -- # The folders of the words themselves
 
-pub gathered_plain : (shelf : Tellings) (recursive : Bool) (words : List (List ℕ)) (r : Result Gathered RunError) → recursive ≡ false
-    → MatchResult r (KeepsInto shelf.listed shelf.held words []) (StopsKeepingIn shelf.listed shelf.held words)
-    → MatchResult r (λ gathered. (lost : List Loss) × IsKept shelf recursive words gathered.bundle lost × (gathered.lines.items ≡ lost_lines lost))
-    (StopsKeeping shelf recursive words)
-gathered_plain shelf recursive words (Ok gathered) off kept = (
+pub gathered_plain : (shelf : Tellings) (limit : Option ℕ) (recursive : Bool) (words : List (List ℕ)) (r : Result Gathered RunError) → recursive ≡ false
+    → MatchResult r (KeepsInto shelf.listed shelf.held limit words []) (StopsKeepingIn shelf.listed shelf.held limit words)
+    → MatchResult r (λ gathered. (lost : List Loss) × IsKept shelf limit recursive words gathered.bundle lost × (gathered.lines.items ≡ lost_lines lost))
+    (StopsKeeping shelf limit recursive words)
+gathered_plain shelf limit recursive words (Ok gathered) off kept = (
   kept.kept.lost,
   record { folders = words; way = []; places = rw off (refl, refl); kept = kept.kept; reads = kept.reads; bundle_is = kept.bundle_is; lost_is = refl },
   kept.lines_are,
 )
-gathered_plain shelf recursive words (Err error) off (inl h) = inl h
-gathered_plain shelf recursive words (Err error) off (inr h) =
+gathered_plain shelf limit recursive words (Err error) off (inl h) = inl h
+gathered_plain shelf limit recursive words (Err error) off (inr h) =
     inr (record { folders = words; way = []; places = rw off (refl, refl); fault = h.0; is = h.1; why = h.2 })
 
 -- # The status
 
-pub none_lost : (lost : List Loss) → length (lost_lines lost) ≡ 0 → 0 ≡ kept_status lost
-none_lost [] h = refl
-none_lost (loss ∷ lost) h = absurd cc
-
-pub some_lost : (lost : List Loss) → length (lost_lines lost) ≢ 0 → 4 ≡ kept_status lost
-some_lost [] h = absurd (h refl)
-some_lost (loss ∷ lost) h = refl
+-- by whether there is a line of a loss
+pub status_kept : (lost : List Loss) (lines : List ℕ) (status : ℕ) → lines ≡ lost_lines lost → (lines ≡ [] → status ≡ 0) → ((lines ≢ []) → status ≡ 4)
+    → status ≡ kept_status lost
+status_kept [] lines status is none some = none is
+status_kept (loss ∷ lost) lines status is none some = some (λ e. let both : lost_lines (loss ∷ lost) ≡ [] = sym is ∙ e in absurd cc)
 
 -- # Where collections come from
 
 -- nothing goes on where it isn't asked for, or without a word
-pub stops_at_first : (recursive keep_going : Bool) (words : List (List ℕ)) → (keep_going ≡ false) ⊎ (words ≡ []) → IsWhole (source_of recursive keep_going words)
-stops_at_first recursive keep_going [] why = tt
-stops_at_first true false (word ∷ words) why = tt
-stops_at_first false false (word ∷ words) why = tt
-stops_at_first recursive true (word ∷ words) (inl h) = absurd cc
-stops_at_first recursive true (word ∷ words) (inr h) = absurd cc
+pub stops_at_first : (limit : Option ℕ) (recursive keep_going : Bool) (words : List (List ℕ)) → (keep_going ≡ false) ⊎ (words ≡ []) → IsWhole (source_of limit recursive keep_going words)
+stops_at_first limit recursive keep_going [] why = tt
+stops_at_first limit true false (word ∷ words) why = tt
+stops_at_first limit false false (word ∷ words) why = tt
+stops_at_first limit recursive true (word ∷ words) (inl h) = absurd cc
+stops_at_first limit recursive true (word ∷ words) (inr h) = absurd cc
 
-pub goes_on : (recursive keep_going : Bool) (words : List (List ℕ)) → keep_going ≡ true → (words ≢ []) → source_of recursive keep_going words ≡ Kept recursive words
-goes_on recursive keep_going [] asked any = absurd (any refl)
-goes_on recursive true (word ∷ words) asked any = refl
-goes_on recursive false (word ∷ words) asked any = absurd cc
+pub goes_on : (limit : Option ℕ) (recursive keep_going : Bool) (words : List (List ℕ)) → keep_going ≡ true → (words ≢ []) → source_of limit recursive keep_going words ≡ Kept limit recursive words
+goes_on limit recursive keep_going [] asked any = absurd (any refl)
+goes_on limit recursive true (word ∷ words) asked any = refl
+goes_on limit recursive false (word ∷ words) asked any = absurd cc
 
 -- where the first thing that can't be read ends it, it is as if nothing else were asked for
-pub ends_at_first : (recursive keep_going : Bool) (words : List (List ℕ)) → IsWhole (source_of recursive keep_going words)
-    → source_of recursive false words ≡ source_of recursive keep_going words
-ends_at_first recursive keep_going [] whole = refl
-ends_at_first recursive false (word ∷ words) whole = refl
-ends_at_first recursive true (word ∷ words) whole = absurd whole
+pub ends_at_first : (limit : Option ℕ) (recursive keep_going : Bool) (words : List (List ℕ)) → IsWhole (source_of limit recursive keep_going words)
+    → source_of limit recursive false words ≡ source_of limit recursive keep_going words
+ends_at_first limit recursive keep_going [] whole = refl
+ends_at_first limit recursive false (word ∷ words) whole = refl
+ends_at_first limit recursive true (word ∷ words) whole = absurd whole

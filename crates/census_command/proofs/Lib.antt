@@ -2,3 +2,5 @@ pub mod Advanced
 pub mod Outcomes
 pub mod Reports
 mod Kept
+mod Said
+pub mod Placed

@@ -1,11 +1,11 @@
 -- What each exit status says.
-use Rattle.std.proofs.Common.{◌≡◌, ◌⊎◌, ℕ, List, [], ◌∷◌, Option, None, Some, option_map, true, false, inl, inr, ⊎_elim, refl, sym, ◌∙◌, arith, true≢false, string_bytes}
+use Rattle.std.proofs.Common.{◌≡◌, ◌⊎◌, ℕ, Bool, List, [], ◌∷◌, ◌++◌, Option, None, Some, option_map, true, false, inl, inr, ⊎_elim, refl, sym, ◌∙◌, arith, true≢false, string_bytes, ◌||◌}
 use Rattle.census_folders.specs.declared.fault.FoldersFault.{FoldersFault}
 use Rattle.census_folders.specs.declared.fault.FoldersFault.TheVariants as folder_fault
 use Rattle.census_folders.specs.Trees.{HoldsTrees, StopsTrees}
 use Rattle.census_folders.specs.Walks.{StopsWalk}
 use Rattle.census_bundle.specs.declared.bundle.AddFault.{AddFault}
-use Rattle.census_words.specs.Asking.{Asks}
+use Rattle.census_words.specs.Asking.{Asks, AsksToExplain}
 use Rattle.census_words.specs.Refusing.{AsksHelp, IsRefused, Refuses}
 use Rattle.census_words.specs.declared.fault.WordsFault.{WordsFault}
 use Rattle.census_words.specs.declared.fault.WordsFault.TheVariants as words_fault
@@ -16,19 +16,22 @@ use Rattle.life_answer.specs.declared.question.Question.{Question}
 use Rattle.census_command.specs.Advances.{AdvanceFromFails, AdvancesFromInPart}
 use Rattle.census_command.specs.Errors.{advance_status, run_error_of_folders, run_status, status_of}
 use Rattle.census_command.specs.Messages.{error_line}
-use Rattle.census_command.specs.Outcomes.{Answers, Ends, HelpsInPart}
-use Rattle.census_command.specs.Advances.{file_of}
+use Rattle.census_command.specs.Outcomes.{Answers, AreExplained, Ends, HelpsInPart}
+use Rattle.census_command.specs.Files.{file_of}
 use Rattle.census_command.specs.Outcomes.{MissesFile, RefusesText}
 use Rattle.census_command.specs.Outcomes.{MissesSource, RefusesCollections, RefusesFolders, RefusesInput, ReportsInPart, Shows, ShowsInPart}
 use Rattle.census_command.specs.Outcomes.{StopsAtFolder, TellsError, TellsRefusal}
-use Rattle.census_command.specs.Requests.{DoesInPart, Fails}
+use Rattle.census_command.specs.Places.{IsPlaceOf}
+use Rattle.census_command.specs.Requests.{Does, DoesInPart, Fails}
 use Rattle.census_command.specs.Runs.{FoldersFail, ReportsFoldersInPart, RunFails, RunsInPart, StopsReading}
+use Rattle.census_command.specs.Sayings.{line_said, said_if}
 use Rattle.census_command.specs.Shelves.{Tellings}
 use Rattle.census_command.specs.Sources.{Source, Input, Folders, Trees, Kept, source_of}
-use Rattle.census_command.specs.Streams.{Errors, HasFailed, IsSound, IsUntouched, State, Tells, WritesNothing}
+use Rattle.census_command.specs.Streams.{Errors, HasFailed, IsSound, IsUntouched, State, Tells, TellsIf, WritesNothing}
 use Rattle.census_command.specs.declared.advance_error.AdvanceError.{AdvanceError}
 use Rattle.census_command.specs.declared.advance_error.AdvanceError.TheVariants as advance
 use Rattle.census_command.specs.declared.draw_error.DrawError.TheVariants as draw
+use Rattle.census_command.specs.declared.place.Place.{Place}
 use Rattle.census_command.specs.declared.run_error.RunError.{RunError}
 use Rattle.census_command.specs.declared.run_error.RunError.TheVariants as run
 use Rattle.census_command.specs.declared.error.CommandError.{CommandError}
@@ -56,27 +59,27 @@ module _ (shelf : Tellings) (before after : State) where
 
   advance_says : (e : AdvanceError) (file : Option (List ℕ)) (n : ℕ) → AdvanceFromFails e shelf file n before after
       → Says before after (advance_status e) (RefusesText shelf file before after) ⊥ (AdvancesFromInPart shelf file n before after) (MissesFile shelf file)
-  advance_says (advance.Text fault) None n h = inl (refl, inl (fault, h.0), h.1)
+  advance_says (advance.Text fault told spot) None n h = inl (refl, inl (fault, told, spot, h.0), h.1)
   advance_says advance.TooLong None n h = inl (refl, inr h.0, h.1)
   advance_says advance.Memory None n h = inr (inl (refl, inl h.written, h.sound))
   advance_says advance.Read None n h = inr (inr (refl, inl (inl h.read), inl h.written, λ up. h.written))
   advance_says advance.Write None n h = inr (inr (refl, inl (inr h.1.write), inr h.0, unread_flag h.1.read))
-  advance_says (advance.Text fault) (Some path) n h = inl (refl, inl (fault, h.0), record { written = h.1.written; sound = h.1.sound })
+  advance_says (advance.Text fault told spot) (Some path) n h = inl (refl, inl (fault, told, spot, h.0), record { written = h.1.written; sound = h.1.sound })
   advance_says advance.TooLong (Some path) n h = inl (refl, inr h.0, record { written = h.1.written; sound = h.1.sound })
   advance_says advance.Memory (Some path) n h = inr (inl (refl, inl h.written, h.sound))
   advance_says advance.Read (Some path) n h = inr (inr (refl, inr h.0, inl h.1.written, λ up. h.1.written))
   advance_says advance.Write (Some path) n h = inr (inr (refl, inl (inr h.1.write), inr h.0, unread_flag h.1.read))
 
-  folders_say : (e : RunError) (fs : List (List ℕ)) (question : Question) → FoldersFail e shelf fs question before after
-      → Says before after (run_status e) (RefusesFolders shelf fs) (ReportsFoldersInPart shelf fs question before after)
-      (ReportsFoldersInPart shelf fs question before after) (StopsReading shelf fs folder_fault.Read)
-  folders_say (run.Bundle fault) fs question h = absurd h
-  folders_say (run.Folder fault) fs question h = inl (refl, inl (fault, h.0), record { written = h.1.written; sound = h.1.sound })
-  folders_say run.TooLong fs question h = inl (refl, inr h.0, record { written = h.1.written; sound = h.1.sound })
-  folders_say run.Memory fs question (inl h) = inr (inl (refl, inl h.1.written, h.1.sound))
-  folders_say run.Memory fs question (inr h) = inr (inl (refl, inr h.0, h.1))
-  folders_say run.Read fs question h = inr (inr (refl, inr h.0, inl h.1.written, λ up. h.1.written))
-  folders_say run.Write fs question h = inr (inr (refl, inl (inr h.1.write), inr h.0, unread_flag h.1.read))
+  folders_say : (e : RunError) (limit : Option ℕ) (fs : List (List ℕ)) (question : Question) → FoldersFail e shelf limit fs question before after
+      → Says before after (run_status e) (RefusesFolders shelf limit fs) (ReportsFoldersInPart shelf limit fs question before after)
+      (ReportsFoldersInPart shelf limit fs question before after) (StopsReading shelf limit fs folder_fault.Read)
+  folders_say (run.Bundle fault) limit fs question h = absurd h
+  folders_say (run.Folder fault) limit fs question h = inl (refl, inl (fault, h.0), record { written = h.1.written; sound = h.1.sound })
+  folders_say run.TooLong limit fs question h = inl (refl, inr h.0, record { written = h.1.written; sound = h.1.sound })
+  folders_say run.Memory limit fs question (inl h) = inr (inl (refl, inl h.1.written, h.1.sound))
+  folders_say run.Memory limit fs question (inr h) = inr (inl (refl, inr h.0, h.1))
+  folders_say run.Read limit fs question h = inr (inr (refl, inr h.0, inl h.1.written, λ up. h.1.written))
+  folders_say run.Write limit fs question h = inr (inr (refl, inl (inr h.1.write), inr h.0, unread_flag h.1.read))
 
   -- why folders below others are not told: one can't be walked, or out of memory
   no_add : {A : Type 0} (fault : AddFault) (fs : List (List ℕ)) → StopsTrees shelf.listed shelf.inner fs (folder_fault.Add fault) → A
@@ -95,14 +98,14 @@ module _ (shelf : Tellings) (before after : State) where
       at_visit (inl h) = absurd cc
       at_visit (inr h) = absurd h.why
 
-  walk_says : (fault : FoldersFault) (fs : List (List ℕ)) (question : Question) → StopsTrees shelf.listed shelf.inner fs fault → IsUntouched before after
-      → Says before after (run_status (run_error_of_folders fault)) (RefusesCollections shelf (Trees fs) before after)
-      (RunsInPart shelf (Trees fs) question before after) (RunsInPart shelf (Trees fs) question before after) (MissesSource shelf (Trees fs))
-  walk_says (folder_fault.Add fault) fs question why untouched = no_add fault fs why
-  walk_says folder_fault.Read fs question why untouched =
+  walk_says : (fault : FoldersFault) (limit : Option ℕ) (fs : List (List ℕ)) (question : Question) → StopsTrees shelf.listed shelf.inner fs fault → IsUntouched before after
+      → Says before after (run_status (run_error_of_folders fault)) (RefusesCollections shelf (Trees limit fs) before after)
+      (RunsInPart shelf (Trees limit fs) question before after) (RunsInPart shelf (Trees limit fs) question before after) (MissesSource shelf (Trees limit fs))
+  walk_says (folder_fault.Add fault) limit fs question why untouched = no_add fault fs why
+  walk_says folder_fault.Read limit fs question why untouched =
       inr (inr (refl, inr (inl why), inl untouched.written, λ up. untouched.written))
-  walk_says folder_fault.TooLong fs question why untouched = not_long fs why
-  walk_says folder_fault.Memory fs question why untouched = inr (inl (refl, inl untouched.written, untouched.sound))
+  walk_says folder_fault.TooLong limit fs question why untouched = not_long fs why
+  walk_says folder_fault.Memory limit fs question why untouched = inr (inl (refl, inl untouched.written, untouched.sound))
 
   run_says : (e : RunError) (source : Source) (question : Question) → RunFails e shelf source question before after
       → Says before after (run_status e) (RefusesCollections shelf source before after) (RunsInPart shelf source question before after)
@@ -113,15 +116,15 @@ module _ (shelf : Tellings) (before after : State) where
   run_says run.Memory Input question h = inr (inl (refl, h.0, h.1))
   run_says run.Read Input question h = inr (inr (refl, inl (inl h.read), inl h.written, λ up. h.written))
   run_says run.Write Input question h = inr (inr (refl, inl (inr h.1.write), inr h.0, unread_flag h.1.read))
-  run_says e (Folders fs) question h = folders_say e fs question h
-  run_says e (Trees fs) question (inl h) = rw h.is (walk_says h.fault fs question h.why h.untouched)
-  run_says e (Trees fs) question (inr h) = in_trees h.folders h.trees (folders_say e h.folders question h.why)
+  run_says e (Folders limit fs) question h = folders_say e limit fs question h
+  run_says e (Trees limit fs) question (inl h) = rw h.is (walk_says h.fault limit fs question h.why h.untouched)
+  run_says e (Trees limit fs) question (inr h) = in_trees h.folders h.trees (folders_say e limit h.folders question h.why)
     where
       in_trees : (folders : List (List ℕ)) → HoldsTrees shelf.listed shelf.inner fs folders
-          → Says before after (run_status e) (RefusesFolders shelf folders) (ReportsFoldersInPart shelf folders question before after)
-          (ReportsFoldersInPart shelf folders question before after) (StopsReading shelf folders folder_fault.Read)
-          → Says before after (run_status e) (RefusesCollections shelf (Trees fs) before after) (RunsInPart shelf (Trees fs) question before after)
-          (RunsInPart shelf (Trees fs) question before after) (MissesSource shelf (Trees fs))
+          → Says before after (run_status e) (RefusesFolders shelf limit folders) (ReportsFoldersInPart shelf limit folders question before after)
+          (ReportsFoldersInPart shelf limit folders question before after) (StopsReading shelf limit folders folder_fault.Read)
+          → Says before after (run_status e) (RefusesCollections shelf (Trees limit fs) before after) (RunsInPart shelf (Trees limit fs) question before after)
+          (RunsInPart shelf (Trees limit fs) question before after) (MissesSource shelf (Trees limit fs))
       in_trees folders trees (inl h) = inl (h.0, (folders, trees, h.1), h.2)
       in_trees folders trees (inr (inl h)) =
           inr (inl (h.0, ⊎_elim (λ same. inl same) (λ part. inr (record { folders = folders; trees = trees; part = part })) h.1, h.2))
@@ -132,14 +135,14 @@ module _ (shelf : Tellings) (before after : State) where
             ⊎_elim (λ same. inl same) (λ part. inr (record { folders = folders; trees = trees; part = part })) h.2,
             h.3,
           ))
-  run_says e (Kept recursive fs) question h = absurd h
+  run_says e (Kept limit recursive fs) question h = absurd h
 
 module _ (shelf : Tellings) (before after : State) where
   says : (error : CommandError) (request : Request) → Fails error shelf request before after
       → Says before after (status_of error) (RefusesInput shelf request before after) (ReportsInPart shelf request before after) (DoesInPart shelf request before after)
       (StopsAtFolder shelf request)
-  says (command.Run e) (Run bound workers cells recursive keep_going folders) h = run_says shelf before after e (source_of recursive keep_going _) (question.Settles bound cells) h
-  says (command.Run e) (Objects bound workers cells recursive keep_going folders) h = run_says shelf before after e (source_of recursive keep_going _) (question.Objects bound (Some cells)) h
+  says (command.Run e) (Run bound workers cells input recursive keep_going folders) h = run_says shelf before after e (source_of input recursive keep_going _) (question.Settles bound cells) h
+  says (command.Run e) (Objects bound workers cells input recursive keep_going folders) h = run_says shelf before after e (source_of input recursive keep_going _) (question.Objects bound (Some cells)) h
   says (command.Advance e) (Advance n file) h = advance_says shelf before after e (file_of (option_map (λ s. s.now) file)) n h
   says (command.Draw (draw.Rule fault)) (Draw code rule) h = inl (refl, inl (fault, h.0), record { written = h.1.written; sound = h.1.sound })
   says (command.Draw (draw.Code fault)) (Draw code rule) h = inl (refl, inr (fault, h.0.1), record { written = h.1.written; sound = h.1.sound })
@@ -149,25 +152,25 @@ module _ (shelf : Tellings) (before after : State) where
   says (command.Run e) (Identify bound files) h = absurd h
   says (command.Run e) (Draw code rule) h = absurd h
   says (command.Advance e) (Identify bound files) h = absurd h
-  says (command.Advance e) (Run bound workers cells recursive keep_going folders) h = absurd h
-  says (command.Advance e) (Objects bound workers cells recursive keep_going folders) h = absurd h
+  says (command.Advance e) (Run bound workers cells input recursive keep_going folders) h = absurd h
+  says (command.Advance e) (Objects bound workers cells input recursive keep_going folders) h = absurd h
   says (command.Advance e) (Draw code rule) h = absurd h
-  says (command.Draw e) (Run bound workers cells recursive keep_going folders) h = absurd h
-  says (command.Draw e) (Objects bound workers cells recursive keep_going folders) h = absurd h
+  says (command.Draw e) (Run bound workers cells input recursive keep_going folders) h = absurd h
+  says (command.Draw e) (Objects bound workers cells input recursive keep_going folders) h = absurd h
   says (command.Draw e) (Advance n file) h = absurd h
   says (command.Draw e) (Identify bound files) h = absurd h
-  says command.Arguments (Run bound workers cells recursive keep_going folders) h = absurd h
-  says command.Arguments (Objects bound workers cells recursive keep_going folders) h = absurd h
+  says command.Arguments (Run bound workers cells input recursive keep_going folders) h = absurd h
+  says command.Arguments (Objects bound workers cells input recursive keep_going folders) h = absurd h
   says command.Arguments (Advance n file) h = absurd h
   says command.Arguments (Identify bound files) h = absurd h
   says command.Arguments (Draw code rule) h = absurd h
-  says command.Memory (Run bound workers cells recursive keep_going folders) h = absurd h
-  says command.Memory (Objects bound workers cells recursive keep_going folders) h = absurd h
+  says command.Memory (Run bound workers cells input recursive keep_going folders) h = absurd h
+  says command.Memory (Objects bound workers cells input recursive keep_going folders) h = absurd h
   says command.Memory (Advance n file) h = absurd h
   says command.Memory (Identify bound files) h = absurd h
   says command.Memory (Draw code rule) h = absurd h
-  says command.Write (Run bound workers cells recursive keep_going folders) h = absurd h
-  says command.Write (Objects bound workers cells recursive keep_going folders) h = absurd h
+  says command.Write (Run bound workers cells input recursive keep_going folders) h = absurd h
+  says command.Write (Objects bound workers cells input recursive keep_going folders) h = absurd h
   says command.Write (Advance n file) h = absurd h
   says command.Write (Identify bound files) h = absurd h
   says command.Write (Draw code rule) h = absurd h
@@ -189,8 +192,8 @@ module _ (shelf : Tellings) (before after : State) where
   says command.Write (Merge reports) h = absurd h
   says command.Write (Table format reports) h = absurd h
   says command.Write (Page reports) h = absurd h
-  says (command.Reports e) (Run bound workers cells recursive keep_going folders) h = absurd h
-  says (command.Reports e) (Objects bound workers cells recursive keep_going folders) h = absurd h
+  says (command.Reports e) (Run bound workers cells input recursive keep_going folders) h = absurd h
+  says (command.Reports e) (Objects bound workers cells input recursive keep_going folders) h = absurd h
   says (command.Reports e) (Advance n file) h = absurd h
   says (command.Reports e) (Identify bound files) h = absurd h
   says (command.Reports e) (Draw code rule) h = absurd h
@@ -198,11 +201,43 @@ module _ (shelf : Tellings) (before after : State) where
   says (command.Reports e) (Table format reports) h = absurd h
   says (command.Reports e) (Page reports) h = absurd h
 
+-- faults are explained where the words ask for that, or at a terminal
+pub are_explained : (words : List (List ℕ)) (errors : Errors) (asked explain : Bool) → AsksToExplain words asked
+    → explain ≡ asked || errors.is_terminal → AreExplained words errors explain
+are_explained words errors asked explain h e = record { asked = asked; is_asked = h; is = e }
+
 module _ (shelf : Tellings) (words : List (List ℕ)) (before after : State) (old new : Errors) where
-  module _ (request : Request) (asked : Asks words request) (error : CommandError) (fails : Fails error shelf request before after)
-      (line : Tells (error_line error) old new) where
+  -- what was asked for was done
+  pub ends_done : (request : Request) (explain : Bool) (lines : List ℕ) → Asks words request → AreExplained words old explain
+      → Does shelf request explain lines before after → IsSound after → TellsIf explain lines old new → Ends shelf words 0 before after old new
+  ends_done request explain lines asked explained done sound told = record {
+    known = omega arith;
+    done = λ h. inl (record { request = request; explain = explain; asked = asked; explained = explained; lines = lines; done = done; told = told });
+    quiet = λ h unwanted. unasked explain explained told unwanted;
+    faulty = λ h. absurd (omega arith);
+    refused = λ h. absurd (omega arith);
+    unmatched = λ h. absurd (h asked.0);
+    memory = λ h. absurd (omega arith);
+    failed = λ h. absurd (omega arith);
+    cut = λ h. absurd (omega arith);
+    unwritten = λ h. neither after sound (inl h);
+    noticed = neither after sound;
+    told = λ h. absurd (omega arith);
+  }
+    where
+      unasked : (explain : Bool) → AreExplained words old explain → TellsIf explain lines old new → (AreExplained words old true → ⊥) → new ≡ old
+      unasked true asked told unwanted = absurd (unwanted asked)
+      unasked false asked told unwanted = told
+
+  module _ (request : Request) (explain : Bool) (asked : Asks words request) (explained : AreExplained words old explain) (error : CommandError)
+      (fails : Fails error shelf request before after) (place : Place) (at : IsPlaceOf shelf request error place)
+      (lines : Tells (error_line error ++ said_if explain (line_said request error place)) old new) where
     tells : TellsError shelf words (status_of error) before after old new
-    tells = record { error = error; status_is = refl; fails = inl (record { request = request; asked = asked; fails = fails }); line = line }
+    tells = record {
+      error = error;
+      status_is = refl;
+      fails = inl (record { request = request; explain = explain; asked = asked; explained = explained; fails = fails; place = place; at = at; lines = lines });
+    }
 
     -- what was asked for failed, and the error was told
     pub ends_failed : Ends shelf words (status_of error) before after old new
@@ -213,7 +248,7 @@ module _ (shelf : Tellings) (words : List (List ℕ)) (before after : State) (ol
         case (inl (is, refused, nothing)) = record {
           known = omega arith;
           done = λ h. absurd (omega arith);
-          quiet = λ h. absurd (omega arith);
+          quiet = λ h unwanted. absurd (omega arith);
           faulty = λ h. (record { request = request; asked = asked; refused = refused }, nothing);
           refused = λ h. absurd (omega arith);
           unmatched = λ h. absurd (h asked.0);
@@ -227,7 +262,7 @@ module _ (shelf : Tellings) (words : List (List ℕ)) (before after : State) (ol
         case (inr (inl (is, part, sound))) = record {
           known = omega arith;
           done = λ h. absurd (omega arith);
-          quiet = λ h. absurd (omega arith);
+          quiet = λ h unwanted. absurd (omega arith);
           faulty = λ h. absurd (omega arith);
           refused = λ h. absurd (omega arith);
           unmatched = λ h. absurd (h asked.0);
@@ -241,7 +276,7 @@ module _ (shelf : Tellings) (words : List (List ℕ)) (before after : State) (ol
         case (inr (inr (is, why, part, kept))) = record {
           known = omega arith;
           done = λ h. absurd (omega arith);
-          quiet = λ h. absurd (omega arith);
+          quiet = λ h unwanted. absurd (omega arith);
           faulty = λ h. absurd (omega arith);
           refused = λ h. absurd (omega arith);
           unmatched = λ h. absurd (h asked.0);
@@ -258,8 +293,8 @@ module _ (shelf : Tellings) (words : List (List ℕ)) (before after : State) (ol
     ends_helped : (text : List ℕ) → AsksHelp words → status ≡ 0 → Shows text before after old new → Ends shelf words status before after old new
     ends_helped text help is shows = record {
       known = omega arith;
-      done = λ h. inr (record { asked = help; text = text; written = shows.written; unread = shows.unread });
-      quiet = λ h. shows.quiet;
+      done = λ h. inr (record { asked = help; text = text; written = shows.written; unread = shows.unread }, shows.quiet);
+      quiet = λ h unwanted. shows.quiet;
       faulty = λ h. absurd (omega arith);
       refused = λ h. absurd (omega arith);
       unmatched = λ h. inr (inr help);
@@ -278,7 +313,7 @@ module _ (shelf : Tellings) (words : List (List ℕ)) (before after : State) (ol
         record {
           known = omega arith;
           done = λ h. absurd (omega arith);
-          quiet = λ h. absurd (omega arith);
+          quiet = λ h unwanted. absurd (omega arith);
           faulty = λ h. absurd (omega arith);
           refused = λ h. absurd (omega arith);
           unmatched = λ h. inr (inr help);
@@ -287,7 +322,7 @@ module _ (shelf : Tellings) (words : List (List ℕ)) (before after : State) (ol
           cut = λ h. inr (inr part);
           unwritten = unread_flag shelf before after shows.fails.read;
           noticed = λ h. is;
-          told = λ h. inl (record { error = command.Write; status_is = is; fails = inr (part, shows.fails); line = shows.line });
+          told = λ h. inl (record { error = command.Write; status_is = is; fails = inr ((part, shows.fails), shows.line) });
         }
 
     -- the words are refused
@@ -297,7 +332,7 @@ module _ (shelf : Tellings) (words : List (List ℕ)) (before after : State) (ol
         record {
           known = omega arith;
           done = λ h. absurd (omega arith);
-          quiet = λ h. absurd (omega arith);
+          quiet = λ h unwanted. absurd (omega arith);
           faulty = λ h. absurd (omega arith);
           refused = λ h. tells;
           unmatched = λ h. inl is;
@@ -314,7 +349,7 @@ module _ (shelf : Tellings) (words : List (List ℕ)) (before after : State) (ol
     ends_unread is untouched told = record {
       known = omega arith;
       done = λ h. absurd (omega arith);
-      quiet = λ h. absurd (omega arith);
+      quiet = λ h unwanted. absurd (omega arith);
       faulty = λ h. absurd (omega arith);
       refused = λ h. absurd (omega arith);
       unmatched = λ h. inr (inl is);
@@ -323,7 +358,7 @@ module _ (shelf : Tellings) (words : List (List ℕ)) (before after : State) (ol
       cut = λ h. absurd (omega arith);
       unwritten = λ h. untouched.written;
       noticed = neither after untouched.sound;
-      told = λ h. inl (record { error = command.Memory; status_is = is; fails = inr untouched; line = told });
+      told = λ h. inl (record { error = command.Memory; status_is = is; fails = inr (untouched, told) });
     }
 
     -- the words ask for nothing that can be done

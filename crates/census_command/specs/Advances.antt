@@ -1,5 +1,5 @@
 -- What `advance` reads and writes, and what each of its errors says.
-use Rattle.std.specs.Prelude.{◌≡◌, ℕ, ◌≤◌, List, length, Ok, Option, None, Some, if◌then◌else◌, []}
+use Rattle.std.specs.Prelude.{◌≡◌, ℕ, ◌≤◌, List, length, Ok, Option, None, Some, []}
 use Rattle.std.specs.Io.KnownBytes.{Appends}
 use Rattle.watched.specs.Watching.{AppendsFront, ConsumesMoreThan}
 use Rattle.census_crew.specs.Bytes.{ReadsText, input_limit}
@@ -9,7 +9,10 @@ use Rattle.life_text.specs.Rle.{reading, refusal}
 use Rattle.life_text.specs.RleText.{rle_text}
 use Rattle.life_text.specs.declared.rle.RleFault.{RleFault}
 use Rattle.census_folders.specs.Told.{GivesTold, MayExceed, MayFail}
-use Rattle.census_identify.specs.Hearing.{is_input}
+use Rattle.census_faults.specs.Faults.{text_fault}
+use Rattle.census_faults.specs.Spots.{spot_of_text}
+use Rattle.census_faults.specs.declared.fault.Fault.{Fault}
+use Rattle.census_faults.specs.declared.spot.Spot.{Spot}
 use Rattle.census_command.specs.Shelves.{Tellings}
 use Rattle.census_command.specs.Streams.{IsUntouched, ReadFails, State, WriteFails, WritesNothing}
 use Rattle.census_command.specs.declared.advance_error.AdvanceError.{AdvanceError}
@@ -25,9 +28,15 @@ pub record IsAdvanced (text : List ℕ) (n : ℕ) (written : List ℕ) : Type 0 
   pub means : picture_of (reading text) ≡ Ok pattern
   pub is : written ≡ advanced_text pattern n
 
+-- the text has this fault, and this is said of it
+pub record IsRefused (text : List ℕ) (fault : RleFault) (told : Fault) (spot : Spot) : Type 0 where
+  pub refused : refusal text ≡ Some fault
+  pub told_is : told ≡ text_fault text fault
+  pub spot_is : spot ≡ spot_of_text text fault
+
 -- why there is none
 abbrev pub RefusesText : AdvanceError → List ℕ → Type 0
-RefusesText (Text fault) text = refusal text ≡ Some fault
+RefusesText (Text fault told spot) text = IsRefused text fault told spot
 RefusesText Memory text = Unit {0}
 RefusesText error text = ⊥
 
@@ -49,11 +58,11 @@ pub record AdvancesInPart (n : ℕ) (before after : State) : Type 0 where
   pub means : picture_of (reading text) ≡ Ok pattern
   pub written : AppendsFront before.written after.written (advanced_text pattern n)
 
--- standard input, read to its end, has this fault
-pub record HasFault (fault : RleFault) (before after : State) : Type 0 where
+-- standard input, read to its end, has this fault, and this is said of it
+pub record HasFault (fault : RleFault) (told : Fault) (spot : Spot) (before after : State) : Type 0 where
   pub text : List ℕ
   pub read : ReadsText before.unread after.unread text
-  pub refused : refusal text ≡ Some fault
+  pub refused : IsRefused text fault told spot
 
 -- more was read than one text may have
 abbrev pub ReadsTooMuch : State → State → Type 0
@@ -61,7 +70,7 @@ ReadsTooMuch before after = ConsumesMoreThan input_limit before.unread after.unr
 
 -- Why generation n was not written. Where the writer didn't fail, nothing was.
 abbrev pub AdvanceFails : AdvanceError → ℕ → State → State → Type 0
-AdvanceFails (Text fault) n before after = HasFault fault before after × WritesNothing before after
+AdvanceFails (Text fault told spot) n before after = HasFault fault told spot before after × WritesNothing before after
 AdvanceFails TooLong n before after = ReadsTooMuch before after × WritesNothing before after
 AdvanceFails Memory n before after = WritesNothing before after
 AdvanceFails Read n before after = ReadFails before after
@@ -90,26 +99,21 @@ pub record AdvancesFileInPart (shelf : Tellings) (path : List ℕ) (n : ℕ) (be
   pub written : AppendsFront before.written after.written (advanced_text pattern n)
   pub unread : after.unread ≡ before.unread
 
--- the file has this fault, as the shelf tells
-pub record HasFileFault (fault : RleFault) (shelf : Tellings) (path : List ℕ) : Type 0 where
+-- the file has this fault, as the shelf tells, and this is said of it
+pub record HasFileFault (fault : RleFault) (told : Fault) (spot : Spot) (shelf : Tellings) (path : List ℕ) : Type 0 where
   pub text : List ℕ
-  pub told : GivesTold (shelf.held [] path) text
-  pub refused : refusal text ≡ Some fault
+  pub gives : GivesTold (shelf.held [] path) text
+  pub refused : IsRefused text fault told spot
 
 -- Why generation n was not written. Where the writer didn't fail, nothing was.
 abbrev pub AdvanceFileFails : AdvanceError → Tellings → List ℕ → ℕ → State → State → Type 0
-AdvanceFileFails (Text fault) shelf path n before after = HasFileFault fault shelf path × IsUntouched before after
+AdvanceFileFails (Text fault told spot) shelf path n before after = HasFileFault fault told spot shelf path × IsUntouched before after
 AdvanceFileFails TooLong shelf path n before after = MayExceed input_limit (shelf.held [] path) × IsUntouched before after
 AdvanceFileFails Memory shelf path n before after = IsUntouched before after
 AdvanceFileFails Read shelf path n before after = MayFail (shelf.held [] path) × IsUntouched before after
 AdvanceFileFails Write shelf path n before after = AdvancesFileInPart shelf path n before after × WriteFails after
 
 -- # Either
-
--- the file of a word: `-` is none, and neither is no word
-abbrev pub file_of : Option (List ℕ) → Option (List ℕ)
-file_of None = None
-file_of (Some word) = if is_input word then None else Some word
 
 abbrev pub AdvancesFrom : Tellings → Option (List ℕ) → ℕ → State → State → Type 0
 AdvancesFrom shelf None n before after = Advances n before after

@@ -1,5 +1,5 @@
 -- The error that the fault of a part is, and the exit status of each.
-use Rattle.std.specs.Prelude.{◌≡◌, ◌≢◌, ◌⊎◌, ℕ}
+use Rattle.std.specs.Prelude.{◌≡◌, ◌≢◌, ◌⊎◌, ℕ, List}
 use Rattle.std.specs.declared.io.ErrorKind.{ErrorKind}
 use Rattle.std.specs.declared.io.ErrorKind.TheVariants.{OutOfMemory}
 use Rattle.life_text.specs.declared.rle.RleFault.{RleFault}
@@ -8,6 +8,8 @@ use Rattle.life_shape.specs.declared.reader.CodeFault.{CodeFault}
 use Rattle.life_shape.specs.declared.reader.CodeFault.TheVariants as codes
 use Rattle.watched.specs.declared.reading.ReadFault.{ReadFault}
 use Rattle.watched.specs.declared.reading.ReadFault.TheVariants as reads
+use Rattle.census_faults.specs.Faults.{text_fault}
+use Rattle.census_faults.specs.Spots.{spot_of_text}
 use Rattle.census_crew.specs.declared.bytes.BytesFault.{BytesFault}
 use Rattle.census_crew.specs.declared.bytes.BytesFault.TheVariants as bytes
 use Rattle.census_crew.specs.declared.fault.RunFault.{RunFault}
@@ -26,9 +28,10 @@ use Rattle.census_reports.specs.Errors as reports
 
 -- # Of `advance`
 
-abbrev pub advance_error_of_text : RleFault → AdvanceError
-advance_error_of_text rle.Memory = advance.Memory
-advance_error_of_text fault = advance.Text fault
+-- the fault of a text, with what is said of it
+abbrev pub advance_error_of_text : List ℕ → RleFault → AdvanceError
+advance_error_of_text text rle.Memory = advance.Memory
+advance_error_of_text text fault = advance.Text fault (text_fault text fault) (spot_of_text text fault)
 
 abbrev pub advance_error_of_read : ReadFault → AdvanceError
 advance_error_of_read reads.Read = advance.Read
@@ -69,7 +72,7 @@ IsArgumentsError kind error = ((kind ≡ OutOfMemory) × (error ≡ Memory)) ⊎
 -- # The exit status
 
 abbrev pub advance_status : AdvanceError → ℕ
-advance_status (advance.Text fault) = 1
+advance_status (advance.Text fault told spot) = 1
 advance_status advance.TooLong = 1
 advance_status advance.Memory = 3
 advance_status advance.Read = 4

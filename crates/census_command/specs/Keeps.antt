@@ -1,11 +1,11 @@
 -- A census that goes on past what can't be read: what was lost, and what it says.
-use Rattle.std.specs.Prelude.{◌≡◌, ◌⊎◌, ℕ, Bool, true, false, List, [], ◌∷◌, ◌++◌, codes}
+use Rattle.std.specs.Prelude.{◌≡◌, ◌⊎◌, ℕ, Bool, true, false, List, [], ◌∷◌, ◌++◌, Option, codes}
 use Rattle.std.specs.List.{FoldsTo, flat_map}
 use Rattle.life_answer.specs.declared.question.Question.{Question}
 use Rattle.census_bundle.specs.declared.bundle.Folder.{Folder}
 use Rattle.census_crew.specs.Writing.{WritesFront, WritesReport}
 use Rattle.census_faults.specs.Printed.{printed}
-use Rattle.census_folders.specs.Losses.{KeepsFolder, StopsKeepingAt}
+use Rattle.census_folders.specs.Losses.{KeepsFolder, StopsKeepingAt, nothing}
 use Rattle.census_folders.specs.Told.{Told}
 use Rattle.census_folders.specs.Trees.{KeepsTrees}
 use Rattle.census_folders.specs.declared.fault.FoldersFault.{FoldersFault}
@@ -13,6 +13,7 @@ use Rattle.census_folders.specs.declared.keeping.Kept.{Kept}
 use Rattle.census_folders.specs.declared.loss.Loss.{Loss}
 use Rattle.census_command.specs.Errors.{run_error_of_folders, run_status}
 use Rattle.census_command.specs.Messages.{error_line}
+use Rattle.census_command.specs.Sayings.{refused_lines, run_line, said_if}
 use Rattle.census_command.specs.Shelves.{Tellings}
 use Rattle.census_command.specs.Streams.{Errors, IsSound, IsUntouched, State, Tells, WriteFails}
 use Rattle.census_command.specs.declared.keeping.Gathered.{Gathered}
@@ -42,53 +43,58 @@ KeepsPlaces shelf true words folders lost = KeepsTrees shelf.listed shelf.inner 
 KeepsPlaces shelf false words folders lost = (folders ≡ words) × (lost ≡ [])
 
 -- This is the bundle of the folders, and this was lost, as the shelf tells: first on the way to folders, then in them.
-pub record IsKept (shelf : Tellings) (recursive : Bool) (words : List (List ℕ)) (bundle : List Folder) (lost : List Loss) : Type 0 where
+pub record IsKept (shelf : Tellings) (limit : Option ℕ) (recursive : Bool) (words : List (List ℕ)) (bundle : List Folder) (lost : List Loss) : Type 0 where
   pub folders : List (List ℕ)
   pub way : List Loss
   pub places : KeepsPlaces shelf recursive words folders way
   pub kept : Kept
-  pub reads : FoldsTo (KeepsFolder shelf.listed shelf.held) (record { bundle = []; lost = [] }) folders kept
+  pub reads : FoldsTo (KeepsFolder shelf.listed shelf.held) (nothing limit) folders kept
   pub bundle_is : bundle ≡ kept.bundle
   pub lost_is : lost ≡ way ++ kept.lost
 
 -- a fault that losing can't mend: a folder too many, or a file
-pub record HasTooMany (shelf : Tellings) (recursive : Bool) (words : List (List ℕ)) (error : RunError) : Type 0 where
+pub record HasTooMany (shelf : Tellings) (limit : Option ℕ) (recursive : Bool) (words : List (List ℕ)) (error : RunError) : Type 0 where
   pub folders : List (List ℕ)
   pub way : List Loss
   pub places : KeepsPlaces shelf recursive words folders way
   pub fault : FoldersFault
   pub is : error ≡ run_error_of_folders fault
-  pub why : StopsKeepingAt shelf.listed shelf.held folders fault
+  pub why : StopsKeepingAt shelf.listed shelf.held limit folders fault
+
+-- the line for an error, and one more where faults are explained
+abbrev pub error_lines : Bool → RunError → List ℕ
+error_lines explain error = error_line (command.Run error) ++ said_if explain (run_line error)
 
 -- These folders were read after this was lost on the way to them, and the lines tell what was lost.
-pub record KeepsInto (listed : List ℕ → Told) (held : List ℕ → List ℕ → Told) (folders : List (List ℕ)) (way : List Loss)
+pub record KeepsInto (listed : List ℕ → Told) (held : List ℕ → List ℕ → Told) (limit : Option ℕ) (folders : List (List ℕ)) (way : List Loss)
     (gathered : Gathered) : Type 0 where
   pub kept : Kept
-  pub reads : FoldsTo (KeepsFolder listed held) (record { bundle = []; lost = [] }) folders kept
+  pub reads : FoldsTo (KeepsFolder listed held) (nothing limit) folders kept
   pub bundle_is : gathered.bundle ≡ kept.bundle
   pub lines_are : gathered.lines.items ≡ lost_lines (way ++ kept.lost)
 
 -- why these folders were not read: out of memory, a folder too many, or a file
-abbrev pub StopsKeepingIn : (List ℕ → Told) → (List ℕ → List ℕ → Told) → List (List ℕ) → RunError → Type 0
-StopsKeepingIn listed held folders error =
-    (error ≡ Memory) ⊎ ((fault : FoldersFault) × (error ≡ run_error_of_folders fault) × StopsKeepingAt listed held folders fault)
+abbrev pub StopsKeepingIn : (List ℕ → Told) → (List ℕ → List ℕ → Told) → Option ℕ → List (List ℕ) → RunError → Type 0
+StopsKeepingIn listed held limit folders error =
+    (error ≡ Memory) ⊎ ((fault : FoldersFault) × (error ≡ run_error_of_folders fault) × StopsKeepingAt listed held limit folders fault)
 
 -- why there is no bundle
-abbrev pub StopsKeeping : Tellings → Bool → List (List ℕ) → RunError → Type 0
-StopsKeeping shelf recursive words error = (error ≡ Memory) ⊎ HasTooMany shelf recursive words error
+abbrev pub StopsKeeping : Tellings → Option ℕ → Bool → List (List ℕ) → RunError → Type 0
+StopsKeeping shelf limit recursive words error = (error ≡ Memory) ⊎ HasTooMany shelf limit recursive words error
 
 -- # What is written and told
 
--- A report of what could be read was written, and a line was told for each loss. Nothing was read from standard input.
-pub record KeepsWhole (shelf : Tellings) (recursive : Bool) (words : List (List ℕ)) (question : Question) (status : ℕ)
+-- A report of what could be read was written, and a line was told for each loss, and then one for each `bad` line where
+-- faults are explained. Nothing was read from standard input.
+pub record KeepsWhole (shelf : Tellings) (limit : Option ℕ) (recursive : Bool) (words : List (List ℕ)) (question : Question) (explain : Bool) (status : ℕ)
     (before after : State) (old new : Errors) : Type 0 where
   pub bundle : List Folder
   pub lost : List Loss
-  pub kept : IsKept shelf recursive words bundle lost
+  pub kept : IsKept shelf limit recursive words bundle lost
   pub report : WritesReport before.written after.written bundle question
   pub unread : after.unread ≡ before.unread
   pub sound : IsSound after
-  pub told : Tells (lost_lines lost) old new
+  pub told : Tells (lost_lines lost ++ refused_lines explain bundle) old new
   pub status_is : status ≡ kept_status lost
 
 -- out of memory, or standard output has failed
@@ -97,29 +103,29 @@ IsCut Memory after = IsSound after
 IsCut Write after = WriteFails after
 IsCut error after = ⊥
 
--- A prefix of that report was written. A line was told for each loss, and then the error's.
-pub record KeepsPart (shelf : Tellings) (recursive : Bool) (words : List (List ℕ)) (question : Question) (status : ℕ)
+-- A prefix of that report was written. A line was told for each loss, and then the error.
+pub record KeepsPart (shelf : Tellings) (limit : Option ℕ) (recursive : Bool) (words : List (List ℕ)) (question : Question) (explain : Bool) (status : ℕ)
     (before after : State) (old new : Errors) : Type 0 where
   pub bundle : List Folder
   pub lost : List Loss
-  pub kept : IsKept shelf recursive words bundle lost
+  pub kept : IsKept shelf limit recursive words bundle lost
   pub part : WritesFront before.written after.written bundle question
   pub unread : after.unread ≡ before.unread
   pub error : RunError
   pub cut : IsCut error after
-  pub told : Tells (lost_lines lost ++ error_line (command.Run error)) old new
+  pub told : Tells (lost_lines lost ++ error_lines explain error) old new
   pub status_is : status ≡ run_status error
 
 -- Nothing was read or written, and the error was told.
-pub record KeepsNothing (shelf : Tellings) (recursive : Bool) (words : List (List ℕ)) (status : ℕ)
+pub record KeepsNothing (shelf : Tellings) (limit : Option ℕ) (recursive : Bool) (words : List (List ℕ)) (explain : Bool) (status : ℕ)
     (before after : State) (old new : Errors) : Type 0 where
   pub error : RunError
-  pub why : StopsKeeping shelf recursive words error
+  pub why : StopsKeeping shelf limit recursive words error
   pub untouched : IsUntouched before after
-  pub told : Tells (error_line (command.Run error)) old new
+  pub told : Tells (error_lines explain error) old new
   pub status_is : status ≡ run_status error
 
-abbrev pub Keeps : Tellings → Bool → List (List ℕ) → Question → ℕ → State → State → Errors → Errors → Type 0
-Keeps shelf recursive words question status before after old new =
-    KeepsWhole shelf recursive words question status before after old new
-    ⊎ (KeepsPart shelf recursive words question status before after old new ⊎ KeepsNothing shelf recursive words status before after old new)
+abbrev pub Keeps : Tellings → Option ℕ → Bool → List (List ℕ) → Question → Bool → ℕ → State → State → Errors → Errors → Type 0
+Keeps shelf limit recursive words question explain status before after old new =
+    KeepsWhole shelf limit recursive words question explain status before after old new
+    ⊎ (KeepsPart shelf limit recursive words question explain status before after old new ⊎ KeepsNothing shelf limit recursive words explain status before after old new)

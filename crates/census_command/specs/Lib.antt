@@ -2,6 +2,9 @@ pub mod Streams
 pub mod Shelves
 pub mod Sources
 pub mod Errors
+pub mod Files
+pub mod Places
+pub mod Sayings
 pub mod Messages
 pub mod Advances
 pub mod Draws

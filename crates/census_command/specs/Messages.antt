@@ -81,7 +81,7 @@ folder_message add.Memory = message (codes "out of memory")
 -- # Of the errors of commands
 
 abbrev pub advance_message : AdvanceError → Message
-advance_message (advance.Text fault) = rle_message fault
+advance_message (advance.Text fault told spot) = rle_message fault
 advance_message advance.TooLong = message (codes "input too long")
 advance_message advance.Memory = message (codes "out of memory")
 advance_message advance.Read = message (codes "read failed")

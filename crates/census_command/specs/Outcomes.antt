@@ -1,5 +1,5 @@
 -- What the exit status of the program says of its arguments and of its streams.
-use Rattle.std.specs.Prelude.{◌≡◌, ℕ, ◌≤◌, ◌<◌, ◌⊎◌, Bool, true, List, [], ◌∷◌, map, option_map, Option, None, Some, Err, string_bytes}
+use Rattle.std.specs.Prelude.{◌≡◌, ℕ, ◌≤◌, ◌<◌, ◌⊎◌, Bool, true, ◌||◌, List, [], ◌∷◌, ◌++◌, map, option_map, Option, None, Some, Err, string_bytes}
 use Rattle.std.specs.Io.KnownBytes.{Appends}
 use Rattle.std.specs.declared.io.ErrorKind.{ErrorKind}
 use Rattle.watched.specs.Watching.{AppendsFront}
@@ -13,7 +13,7 @@ use Rattle.census_bundle.specs.declared.bundle.AddFault.{AddFault}
 use Rattle.census_bundle.specs.declared.fault.BundleFault.{BundleFault}
 use Rattle.census_crew.specs.Bytes.{ReadsFault, input_limit}
 use Rattle.census_folders.specs.declared.fault.FoldersFault.TheVariants as folder_fault
-use Rattle.census_words.specs.Asking.{Asks, IsMatched}
+use Rattle.census_words.specs.Asking.{Asks, AsksToExplain, IsMatched}
 use Rattle.census_words.specs.Refusing.{AsksHelp, IsRefused}
 use Rattle.census_words.specs.declared.fault.WordsFault.{WordsFault}
 use Rattle.census_words.specs.declared.fault.WordsFault.TheVariants.{Help, Refused, Memory}
@@ -21,31 +21,50 @@ use Rattle.census_words.specs.declared.request.Request.{Request}
 use Rattle.census_words.specs.declared.request.Request.TheVariants.{Run, Objects, Identify, Advance, Draw, Merge, Table, Page}
 use Rattle.life_answer.specs.declared.question.Question.{Question}
 use Rattle.life_answer.specs.declared.question.Question.TheVariants as question
+use Rattle.census_faults.specs.declared.fault.Fault.{Fault}
+use Rattle.census_faults.specs.declared.spot.Spot.{Spot}
 use Rattle.census_folders.specs.Told.{MayExceed, MayFail}
 use Rattle.census_folders.specs.Trees.{HoldsTrees, StopsTrees}
 use Rattle.census_identify.specs.Identifies.{Identifies}
-use Rattle.census_command.specs.Advances.{HasFault, HasFileFault, ReadsTooMuch, file_of}
+use Rattle.census_command.specs.Advances.{HasFault, HasFileFault, ReadsTooMuch}
 use Rattle.census_command.specs.Errors.{IsArgumentsError, status_of}
+use Rattle.census_command.specs.Files.{file_of}
 use Rattle.census_command.specs.Keeps.{Keeps}
 use Rattle.census_command.specs.Messages.{error_line}
+use Rattle.census_command.specs.Places.{IsPlaceOf}
 use Rattle.census_command.specs.Remakes.{Remakes, form_of}
 use Rattle.census_command.specs.Requests.{Does, DoesInPart, Fails}
 use Rattle.census_reports.specs.declared.form.Form.{Form}
 use Rattle.census_reports.specs.declared.form.Form.TheVariants as form
 use Rattle.census_command.specs.Runs.{RunsInPart, StopsReading}
+use Rattle.census_command.specs.Sayings.{line_said, said_if}
 use Rattle.census_command.specs.Shelves.{Tellings}
 use Rattle.census_command.specs.Sources.{Source, Input, Folders, Trees, Kept, source_of}
-use Rattle.census_command.specs.Streams.{Errors, all_streams, HasFailed, IsSound, IsUntouched, State, Tells, WriteFails, WritesNothing}
+use Rattle.census_command.specs.Streams.{Errors, all_streams, HasFailed, IsSound, IsUntouched, State, Tells, TellsIf, WriteFails, WritesNothing}
 use Rattle.census_command.specs.declared.error.CommandError.{CommandError}
+use Rattle.census_command.specs.declared.place.Place.{Place}
 use Rattle.census_command.specs.declared.error.CommandError.TheVariants as command
+
+-- # What is explained
+
+-- Whether faults are explained: where the words ask for that, or where standard error is a terminal.
+pub record AreExplained (words : List (List ℕ)) (errors : Errors) (explain : Bool) : Type 0 where
+  pub asked : Bool
+  pub is_asked : AsksToExplain words asked
+  pub is : explain ≡ asked || errors.is_terminal
 
 -- # What is done
 
--- The words ask for something, and it was done.
-pub record DoesAsked (shelf : Tellings) (words : List (List ℕ)) (before after : State) : Type 0 where
+-- The words ask for something, and it was done. What was refused on the way was explained, where faults are explained, and
+-- else nothing was told.
+pub record DoesAsked (shelf : Tellings) (words : List (List ℕ)) (before after : State) (old new : Errors) : Type 0 where
   pub request : Request
+  pub explain : Bool
   pub asked : Asks words request
-  pub done : Does shelf request before after
+  pub explained : AreExplained words old explain
+  pub lines : List ℕ
+  pub done : Does shelf request explain lines before after
+  pub told : TellsIf explain lines old new
 
 -- The words ask for help, and some text was written; nothing was read.
 pub record Helps (words : List (List ℕ)) (before after : State) : Type 0 where
@@ -57,27 +76,29 @@ pub record Helps (words : List (List ℕ)) (before after : State) : Type 0 where
 -- # What is refused
 
 -- one of these folders or a file of it has a fault or is too long
-abbrev pub RefusesFolders : Tellings → List (List ℕ) → Type 0
-RefusesFolders shelf folders = ((fault : AddFault) × StopsReading shelf folders (folder_fault.Add fault)) ⊎ StopsReading shelf folders folder_fault.TooLong
+abbrev pub RefusesFolders : Tellings → Option ℕ → List (List ℕ) → Type 0
+RefusesFolders shelf limit folders = ((fault : AddFault) × StopsReading shelf limit folders (folder_fault.Add fault)) ⊎ StopsReading shelf limit folders folder_fault.TooLong
 
 -- The bundle on standard input has a fault or is too long, or one of the folders.
 abbrev pub RefusesCollections : Tellings → Source → State → State → Type 0
 RefusesCollections shelf Input before after =
     ((fault : BundleFault) × ReadsFault before.unread after.unread fault) ⊎ ReadsTooMuch before after
-RefusesCollections shelf (Folders words) before after = RefusesFolders shelf words
-RefusesCollections shelf (Trees words) before after =
-    (folders : List (List ℕ)) × HoldsTrees shelf.listed shelf.inner words folders × RefusesFolders shelf folders
-RefusesCollections shelf (Kept recursive words) before after = ⊥
+RefusesCollections shelf (Folders limit words) before after = RefusesFolders shelf limit words
+RefusesCollections shelf (Trees limit words) before after =
+    (folders : List (List ℕ)) × HoldsTrees shelf.listed shelf.inner words folders × RefusesFolders shelf limit folders
+RefusesCollections shelf (Kept limit recursive words) before after = ⊥
 
 -- a file, or without one standard input, has a fault or is too long
 abbrev pub RefusesText : Tellings → Option (List ℕ) → State → State → Type 0
-RefusesText shelf None before after = ((fault : RleFault) × HasFault fault before after) ⊎ ReadsTooMuch before after
-RefusesText shelf (Some path) before after = ((fault : RleFault) × HasFileFault fault shelf path) ⊎ MayExceed input_limit (shelf.held [] path)
+RefusesText shelf None before after =
+    ((fault : RleFault) × (told : Fault) × (spot : Spot) × HasFault fault told spot before after) ⊎ ReadsTooMuch before after
+RefusesText shelf (Some path) before after =
+    ((fault : RleFault) × (told : Fault) × (spot : Spot) × HasFileFault fault told spot shelf path) ⊎ MayExceed input_limit (shelf.held [] path)
 
 -- what a request is to be done with is refused
 abbrev pub RefusesInput : Tellings → Request → State → State → Type 0
-RefusesInput shelf (Run bound workers cells recursive keep_going folders) before after = RefusesCollections shelf (source_of recursive keep_going (map (λ s. s.now) folders.items)) before after
-RefusesInput shelf (Objects bound workers cells recursive keep_going folders) before after = RefusesCollections shelf (source_of recursive keep_going (map (λ s. s.now) folders.items)) before after
+RefusesInput shelf (Run bound workers cells input recursive keep_going folders) before after = RefusesCollections shelf (source_of input recursive keep_going (map (λ s. s.now) folders.items)) before after
+RefusesInput shelf (Objects bound workers cells input recursive keep_going folders) before after = RefusesCollections shelf (source_of input recursive keep_going (map (λ s. s.now) folders.items)) before after
 RefusesInput shelf (Identify bound files) before after = ⊥
 RefusesInput shelf (Advance generations file) before after = RefusesText shelf (file_of (option_map (λ s. s.now) file)) before after
 RefusesInput shelf (Draw code rule) before after =
@@ -109,8 +130,8 @@ pub record HelpsInPart (words : List (List ℕ)) (before after : State) : Type 0
   pub unread : after.unread ≡ before.unread
 
 abbrev pub ReportsInPart : Tellings → Request → State → State → Type 0
-ReportsInPart shelf (Run bound workers cells recursive keep_going folders) before after = RunsInPart shelf (source_of recursive keep_going (map (λ s. s.now) folders.items)) (question.Settles bound cells) before after
-ReportsInPart shelf (Objects bound workers cells recursive keep_going folders) before after = RunsInPart shelf (source_of recursive keep_going (map (λ s. s.now) folders.items)) (question.Objects bound (Some cells)) before after
+ReportsInPart shelf (Run bound workers cells input recursive keep_going folders) before after = RunsInPart shelf (source_of input recursive keep_going (map (λ s. s.now) folders.items)) (question.Settles bound cells) before after
+ReportsInPart shelf (Objects bound workers cells input recursive keep_going folders) before after = RunsInPart shelf (source_of input recursive keep_going (map (λ s. s.now) folders.items)) (question.Objects bound (Some cells)) before after
 ReportsInPart shelf request before after = ⊥
 
 -- The words ask for a census, and a prefix of its report was written.
@@ -127,15 +148,15 @@ MissesFile shelf (Some path) = MayFail (shelf.held [] path)
 -- one of the folders could not be listed or has a file that could not be read
 abbrev pub MissesSource : Tellings → Source → Type 0
 MissesSource shelf Input = ⊥
-MissesSource shelf (Folders words) = StopsReading shelf words folder_fault.Read
-MissesSource shelf (Trees words) =
+MissesSource shelf (Folders limit words) = StopsReading shelf limit words folder_fault.Read
+MissesSource shelf (Trees limit words) =
     StopsTrees shelf.listed shelf.inner words folder_fault.Read
-    ⊎ ((folders : List (List ℕ)) × HoldsTrees shelf.listed shelf.inner words folders × StopsReading shelf folders folder_fault.Read)
-MissesSource shelf (Kept recursive words) = ⊥
+    ⊎ ((folders : List (List ℕ)) × HoldsTrees shelf.listed shelf.inner words folders × StopsReading shelf limit folders folder_fault.Read)
+MissesSource shelf (Kept limit recursive words) = ⊥
 
 abbrev pub StopsAtFolder : Tellings → Request → Type 0
-StopsAtFolder shelf (Run bound workers cells recursive keep_going folders) = MissesSource shelf (source_of recursive keep_going (map (λ s. s.now) folders.items))
-StopsAtFolder shelf (Objects bound workers cells recursive keep_going folders) = MissesSource shelf (source_of recursive keep_going (map (λ s. s.now) folders.items))
+StopsAtFolder shelf (Run bound workers cells input recursive keep_going folders) = MissesSource shelf (source_of input recursive keep_going (map (λ s. s.now) folders.items))
+StopsAtFolder shelf (Objects bound workers cells input recursive keep_going folders) = MissesSource shelf (source_of input recursive keep_going (map (λ s. s.now) folders.items))
 StopsAtFolder shelf (Identify bound files) = ⊥
 StopsAtFolder shelf (Advance generations file) = MissesFile shelf (file_of (option_map (λ s. s.now) file))
 StopsAtFolder shelf (Draw code rule) = ⊥
@@ -152,11 +173,17 @@ pub record MissesFolder (shelf : Tellings) (words : List (List ℕ)) : Type 0 wh
 
 -- # What is told
 
--- The words ask for something that failed with this error.
-pub record FailsAsked (error : CommandError) (shelf : Tellings) (words : List (List ℕ)) (before after : State) : Type 0 where
+-- The words ask for something that failed with this error. Its line was told, and where faults are explained one more, with
+-- its place as far as that is known.
+pub record FailsAsked (error : CommandError) (shelf : Tellings) (words : List (List ℕ)) (before after : State) (old new : Errors) : Type 0 where
   pub request : Request
+  pub explain : Bool
   pub asked : Asks words request
+  pub explained : AreExplained words old explain
   pub fails : Fails error shelf request before after
+  pub place : Place
+  pub at : IsPlaceOf shelf request error place
+  pub lines : Tells (error_line error ++ said_if explain (line_said request error place)) old new
 
 -- The words ask for nothing that can be done: memory was refused while they were read, or help could not be written.
 abbrev pub FailsReading : CommandError → List (List ℕ) → State → State → Type 0
@@ -164,12 +191,12 @@ FailsReading command.Memory words before after = IsUntouched before after
 FailsReading command.Write words before after = HelpsInPart words before after × WriteFails after
 FailsReading error words before after = ⊥
 
--- There was an error of this status, and its line was told.
+-- There was an error of this status, and it was told.
 pub record TellsError (shelf : Tellings) (words : List (List ℕ)) (status : ℕ) (before after : State) (old new : Errors) : Type 0 where
   pub error : CommandError
   pub status_is : status ≡ status_of error
-  pub fails : FailsAsked error shelf words before after ⊎ FailsReading error words before after
-  pub line : Tells (error_line error) old new
+  pub fails : FailsAsked error shelf words before after old new
+      ⊎ (FailsReading error words before after × Tells (error_line error) old new)
 
 -- Clap refuses the words, and some text was told; nothing was read or written.
 pub record TellsRefusal (words : List (List ℕ)) (before after : State) (old new : Errors) : Type 0 where
@@ -207,27 +234,32 @@ pub record RemakesAsked (shelf : Tellings) (words : List (List ℕ)) (status : �
   pub form : Form
   pub files : List (List ℕ)
   pub is : IsRemaking request form files
-  pub remakes : Remakes (shelf.held []) form files status before after old new
+  pub explain : Bool
+  pub explained : AreExplained words old explain
+  pub remakes : Remakes (shelf.held []) form files explain status before after old new
 
 -- # To go on past what can't be read
 
 -- The request asks for a census of these folders that goes on past what can't be read.
-abbrev pub IsKeeping : Request → Bool → List (List ℕ) → Question → Type 0
-IsKeeping (Run bound workers cells recursive keep_going folders) r words q =
-    (source_of recursive keep_going (map (λ s. s.now) folders.items) ≡ Kept r words) × (q ≡ question.Settles bound cells)
-IsKeeping (Objects bound workers cells recursive keep_going folders) r words q =
-    (source_of recursive keep_going (map (λ s. s.now) folders.items) ≡ Kept r words) × (q ≡ question.Objects bound (Some cells))
-IsKeeping request r words q = ⊥
+abbrev pub IsKeeping : Request → Option ℕ → Bool → List (List ℕ) → Question → Type 0
+IsKeeping (Run bound workers cells input recursive keep_going folders) limit r words q =
+    (source_of input recursive keep_going (map (λ s. s.now) folders.items) ≡ Kept limit r words) × (q ≡ question.Settles bound cells)
+IsKeeping (Objects bound workers cells input recursive keep_going folders) limit r words q =
+    (source_of input recursive keep_going (map (λ s. s.now) folders.items) ≡ Kept limit r words) × (q ≡ question.Objects bound (Some cells))
+IsKeeping request limit r words q = ⊥
 
 -- The words ask for such a census. What could be read was reported, or an error ended it.
 pub record KeepsAsked (shelf : Tellings) (words : List (List ℕ)) (status : ℕ) (before after : State) (old new : Errors) : Type 0 where
   pub request : Request
   pub asked : Asks words request
+  pub limit : Option ℕ
   pub recursive : Bool
   pub folders : List (List ℕ)
   pub question : Question
-  pub is : IsKeeping request recursive folders question
-  pub keeps : Keeps shelf recursive folders question status before after old new
+  pub is : IsKeeping request limit recursive folders question
+  pub explain : Bool
+  pub explained : AreExplained words old explain
+  pub keeps : Keeps shelf limit recursive folders question explain status before after old new
 
 -- # The exit status
 
@@ -235,8 +267,8 @@ pub record KeepsAsked (shelf : Tellings) (words : List (List ℕ)) (status : ℕ
 -- of standard error before and after.
 pub record Ends (shelf : Tellings) (words : List (List ℕ)) (status : ℕ) (before after : State) (old new : Errors) : Type 0 where
   pub known : status ≤ 4
-  pub done : status ≡ 0 → DoesAsked shelf words before after ⊎ Helps words before after
-  pub quiet : status ≡ 0 → new ≡ old
+  pub done : status ≡ 0 → DoesAsked shelf words before after old new ⊎ (Helps words before after × (new ≡ old))
+  pub quiet : status ≡ 0 → (AreExplained words old true → ⊥) → new ≡ old
   pub faulty : status ≡ 1 → IsFaulty shelf words before after × WritesNothing before after
   pub refused : status ≡ 2 → TellsRefusal words before after old new
   pub unmatched : (IsMatched words → ⊥) → (status ≡ 2) ⊎ ((status ≡ 3) ⊎ AsksHelp words)

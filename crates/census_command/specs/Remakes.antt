@@ -1,5 +1,5 @@
 -- What is made of reports that are read back, and what the exit status says of it.
-use Rattle.std.specs.Prelude.{◌≡◌, ◌⊎◌, ℕ, List}
+use Rattle.std.specs.Prelude.{◌≡◌, ◌⊎◌, ℕ, Bool, List, ◌++◌}
 use Rattle.census_folders.specs.Told.{Told}
 use Rattle.census_reports.specs.Errors as reports
 use Rattle.census_reports.specs.Outcomes.{ReportsFail, WritesReports}
@@ -7,11 +7,15 @@ use Rattle.census_reports.specs.Streams as two
 use Rattle.census_reports.specs.declared.error.ReportsError.{ReportsError}
 use Rattle.census_reports.specs.declared.form.Form.{Form}
 use Rattle.census_reports.specs.declared.form.Form.TheVariants as form
+use Rattle.lawful_merge.specs.Lawful.{MergesLawfully}
 use Rattle.census_words.specs.declared.request.TableFormat.{TableFormat}
 use Rattle.census_words.specs.declared.request.TableFormat.TheVariants.{Csv, Json}
 use Rattle.census_command.specs.Messages.{error_line}
+use Rattle.census_command.specs.Places.{IsReportsPlace}
+use Rattle.census_command.specs.Sayings.{reports_line, said_if}
 use Rattle.census_command.specs.Streams.{Errors, State, Tells}
 use Rattle.census_command.specs.declared.error.CommandError.TheVariants as command
+use Rattle.census_command.specs.declared.place.Place.{Place}
 
 -- what is made of reports, by the format of a table
 abbrev pub form_of : TableFormat → Form
@@ -25,21 +29,31 @@ both_streams s = record {
   output = record { written = s.written; failed = s.write_failed };
 }
 
+-- One report of lawful reports of bundles is a lawful report of the bundles, one after another.
+abbrev pub KeepsLaw : Form → (List ℕ → Told) → List (List ℕ) → State → State → Type 0
+KeepsLaw form.Merged held files before after = MergesLawfully held files (both_streams before) (both_streams after)
+KeepsLaw form.Csv held files before after = Unit {0}
+KeepsLaw form.Json held files before after = Unit {0}
+KeepsLaw form.Page held files before after = Unit {0}
+
 -- What is made of the reports of these files was written, and nothing was told.
 pub record RemakesWhole (held : List ℕ → Told) (form : Form) (files : List (List ℕ)) (status : ℕ)
     (before after : State) (old new : Errors) : Type 0 where
   pub status_is : status ≡ 0
   pub done : WritesReports form held files (both_streams before) (both_streams after)
+  pub lawful : KeepsLaw form held files before after
   pub quiet : new ≡ old
 
--- An error ended it, and its line was told.
-pub record RemakesNot (held : List ℕ → Told) (form : Form) (files : List (List ℕ)) (status : ℕ)
+-- An error ended it, and its line was told, and where faults are explained one more, with its place as far as that is known.
+pub record RemakesNot (held : List ℕ → Told) (form : Form) (files : List (List ℕ)) (explain : Bool) (status : ℕ)
     (before after : State) (old new : Errors) : Type 0 where
   pub error : ReportsError
   pub status_is : status ≡ reports.status_of error
   pub fails : ReportsFail error form held files (both_streams before) (both_streams after)
-  pub line : Tells (error_line (command.Reports error)) old new
+  pub place : Place
+  pub at : IsReportsPlace held error place
+  pub lines : Tells (error_line (command.Reports error) ++ said_if explain (reports_line files error place)) old new
 
-abbrev pub Remakes : (List ℕ → Told) → Form → List (List ℕ) → ℕ → State → State → Errors → Errors → Type 0
-Remakes held form files status before after old new =
-    RemakesWhole held form files status before after old new ⊎ RemakesNot held form files status before after old new
+abbrev pub Remakes : (List ℕ → Told) → Form → List (List ℕ) → Bool → ℕ → State → State → Errors → Errors → Type 0
+Remakes held form files explain status before after old new =
+    RemakesWhole held form files status before after old new ⊎ RemakesNot held form files explain status before after old new

@@ -1,9 +1,10 @@
 -- What is done where something is asked for, and what each error says.
-use Rattle.std.specs.Prelude.{◌≤◌, Some, map, option_map}
+use Rattle.std.specs.Prelude.{◌≡◌, ℕ, ◌≤◌, Bool, List, [], Some, map, option_map}
 use Rattle.census_words.specs.declared.request.Request.{Request}
 use Rattle.census_words.specs.declared.request.Request.TheVariants.{Run, Objects, Identify, Advance, Draw, Merge, Table, Page}
 use Rattle.life_answer.specs.declared.question.Question.TheVariants as question
-use Rattle.census_command.specs.Advances.{AdvanceFromFails, AdvancesFrom, AdvancesFromInPart, file_of}
+use Rattle.census_command.specs.Advances.{AdvanceFromFails, AdvancesFrom, AdvancesFromInPart}
+use Rattle.census_command.specs.Files.{file_of}
 use Rattle.census_command.specs.Draws.{DrawFails, Draws, DrawsInPart}
 use Rattle.census_command.specs.Runs.{RunFails, Runs, RunsInPart}
 use Rattle.census_command.specs.Shelves.{Tellings}
@@ -14,8 +15,8 @@ use Rattle.census_command.specs.declared.error.CommandError.TheVariants as error
 
 -- its numbers are in their ranges
 abbrev pub IsLawful : Request → Type 0
-IsLawful (Run bound workers cells recursive keep_going folders) = ((1 ≤ bound) × (bound ≤ 1000000)) × ((1 ≤ workers) × (workers ≤ 16))
-IsLawful (Objects bound workers cells recursive keep_going folders) = ((1 ≤ bound) × (bound ≤ 100000)) × ((1 ≤ workers) × (workers ≤ 16))
+IsLawful (Run bound workers cells input recursive keep_going folders) = ((1 ≤ bound) × (bound ≤ 1000000)) × ((1 ≤ workers) × (workers ≤ 16))
+IsLawful (Objects bound workers cells input recursive keep_going folders) = ((1 ≤ bound) × (bound ≤ 100000)) × ((1 ≤ workers) × (workers ≤ 16))
 IsLawful (Identify bound files) = (1 ≤ bound) × (bound ≤ 100000)
 IsLawful (Advance generations file) = generations ≤ 4194304
 IsLawful (Draw code rule) = Unit {0}
@@ -25,8 +26,8 @@ IsLawful (Page reports) = Unit {0}
 
 -- the first thing that can't be read ends it
 abbrev pub EndsAtFirst : Request → Type 0
-EndsAtFirst (Run bound workers cells recursive keep_going folders) = IsWhole (source_of recursive keep_going (map (λ s. s.now) folders.items))
-EndsAtFirst (Objects bound workers cells recursive keep_going folders) = IsWhole (source_of recursive keep_going (map (λ s. s.now) folders.items))
+EndsAtFirst (Run bound workers cells input recursive keep_going folders) = IsWhole (source_of input recursive keep_going (map (λ s. s.now) folders.items))
+EndsAtFirst (Objects bound workers cells input recursive keep_going folders) = IsWhole (source_of input recursive keep_going (map (λ s. s.now) folders.items))
 EndsAtFirst request = Unit {0}
 
 -- neither what patterns are is asked for, nor what is made of reports, nor to go on past what can't be read, which have
@@ -38,21 +39,24 @@ IsDone (Table format reports) = ⊥
 IsDone (Page reports) = ⊥
 IsDone request = EndsAtFirst request
 
--- what is asked for was done
-abbrev pub Does : Tellings → Request → State → State → Type 0
-Does shelf (Run bound workers cells recursive keep_going folders) before after = Runs shelf (source_of recursive keep_going (map (λ s. s.now) folders.items)) (question.Settles bound cells) before after
-Does shelf (Objects bound workers cells recursive keep_going folders) before after = Runs shelf (source_of recursive keep_going (map (λ s. s.now) folders.items)) (question.Objects bound (Some cells)) before after
-Does shelf (Identify bound files) before after = ⊥
-Does shelf (Advance generations file) before after = AdvancesFrom shelf (file_of (option_map (λ s. s.now) file)) generations before after
-Does shelf (Draw code rule) before after = Draws code.now rule.now before after
-Does shelf (Merge reports) before after = ⊥
-Does shelf (Table format reports) before after = ⊥
-Does shelf (Page reports) before after = ⊥
+-- What is asked for was done, and these lines explain what was refused on the way, where faults are explained.
+abbrev pub Does : Tellings → Request → Bool → List ℕ → State → State → Type 0
+Does shelf (Run bound workers cells input recursive keep_going folders) explain lines before after =
+    Runs shelf (source_of input recursive keep_going (map (λ s. s.now) folders.items)) (question.Settles bound cells) explain lines before after
+Does shelf (Objects bound workers cells input recursive keep_going folders) explain lines before after =
+    Runs shelf (source_of input recursive keep_going (map (λ s. s.now) folders.items)) (question.Objects bound (Some cells)) explain lines before after
+Does shelf (Identify bound files) explain lines before after = ⊥
+Does shelf (Advance generations file) explain lines before after =
+    (lines ≡ []) × AdvancesFrom shelf (file_of (option_map (λ s. s.now) file)) generations before after
+Does shelf (Draw code rule) explain lines before after = (lines ≡ []) × Draws code.now rule.now before after
+Does shelf (Merge reports) explain lines before after = ⊥
+Does shelf (Table format reports) explain lines before after = ⊥
+Does shelf (Page reports) explain lines before after = ⊥
 
 -- it was done as far as the writer took it
 abbrev pub DoesInPart : Tellings → Request → State → State → Type 0
-DoesInPart shelf (Run bound workers cells recursive keep_going folders) before after = RunsInPart shelf (source_of recursive keep_going (map (λ s. s.now) folders.items)) (question.Settles bound cells) before after
-DoesInPart shelf (Objects bound workers cells recursive keep_going folders) before after = RunsInPart shelf (source_of recursive keep_going (map (λ s. s.now) folders.items)) (question.Objects bound (Some cells)) before after
+DoesInPart shelf (Run bound workers cells input recursive keep_going folders) before after = RunsInPart shelf (source_of input recursive keep_going (map (λ s. s.now) folders.items)) (question.Settles bound cells) before after
+DoesInPart shelf (Objects bound workers cells input recursive keep_going folders) before after = RunsInPart shelf (source_of input recursive keep_going (map (λ s. s.now) folders.items)) (question.Objects bound (Some cells)) before after
 DoesInPart shelf (Identify bound files) before after = ⊥
 DoesInPart shelf (Advance generations file) before after = AdvancesFromInPart shelf (file_of (option_map (λ s. s.now) file)) generations before after
 DoesInPart shelf (Draw code rule) before after = DrawsInPart code.now rule.now before after
@@ -62,8 +66,8 @@ DoesInPart shelf (Page reports) before after = ⊥
 
 -- it was not done whole, for this error
 abbrev pub Fails : CommandError → Tellings → Request → State → State → Type 0
-Fails (error.Run e) shelf (Run bound workers cells recursive keep_going folders) before after = RunFails e shelf (source_of recursive keep_going (map (λ s. s.now) folders.items)) (question.Settles bound cells) before after
-Fails (error.Run e) shelf (Objects bound workers cells recursive keep_going folders) before after = RunFails e shelf (source_of recursive keep_going (map (λ s. s.now) folders.items)) (question.Objects bound (Some cells)) before after
+Fails (error.Run e) shelf (Run bound workers cells input recursive keep_going folders) before after = RunFails e shelf (source_of input recursive keep_going (map (λ s. s.now) folders.items)) (question.Settles bound cells) before after
+Fails (error.Run e) shelf (Objects bound workers cells input recursive keep_going folders) before after = RunFails e shelf (source_of input recursive keep_going (map (λ s. s.now) folders.items)) (question.Objects bound (Some cells)) before after
 Fails (error.Advance e) shelf (Advance generations file) before after =
     AdvanceFromFails e shelf (file_of (option_map (λ s. s.now) file)) generations before after
 Fails (error.Draw e) shelf (Draw code rule) before after = DrawFails e code.now rule.now before after

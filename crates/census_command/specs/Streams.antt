@@ -44,10 +44,11 @@ pub record WriteFails (after : State) : Type 0 where
 abbrev pub HasFailed : State → Type 0
 HasFailed s = (s.read_failed ≡ true) ⊎ (s.write_failed ≡ true)
 
--- Standard error: what was told on it, and whether it has failed.
+-- Standard error: what was told on it, whether it has failed, and whether it is a terminal.
 pub record Errors : Type 0 where
   pub told : Option (List ℕ)
   pub failed : Bool
+  pub is_terminal : Bool
 
 -- this text was told, whole where the stream has not failed, else a prefix of it, and nothing else
 abbrev pub Tells : List ℕ → Errors → Errors → Type 0
@@ -57,6 +58,10 @@ Tells text before after =
 -- a stream that has failed stays as it is; on any other this text was told
 abbrev pub TellsMore : List ℕ → Errors → Errors → Type 0
 TellsMore text before after = MatchBool before.failed (after ≡ before) (Tells text before after)
+
+-- this text was told, where it is asked for, and else nothing
+abbrev pub TellsIf : Bool → List ℕ → Errors → Errors → Type 0
+TellsIf asked text before after = MatchBool asked (Tells text before after) (after ≡ before)
 
 -- all three streams
 abbrev pub all_streams : State → Errors → three.Streams

@@ -1,17 +1,22 @@
 //! `census advance N [FILE]`: generation N of the pattern of a file, or of that on standard input.
 ghost use Rattle.std.specs.Prelude.{◌≡◌, ◌≤◌, option_map, IfErr, MatchResult, OnOk};
 ghost use Rattle.census_command.specs.Advances.{AdvanceFails, AdvanceFileFails, AdvanceFromFails};
-ghost use Rattle.census_command.specs.Advances.{Advances, AdvancesFile, AdvancesFrom, IsAdvanced, RefusesText, file_of};
+ghost use Rattle.census_command.specs.Advances.{Advances, AdvancesFile, AdvancesFrom, IsAdvanced, RefusesText};
+ghost use Rattle.census_command.specs.Errors.{advance_error_of_text};
+ghost use Rattle.census_command.specs.Files.{file_of};
 ghost use Rattle.census_command.specs.Shelves.{tellings};
 ghost use Rattle.census_command.specs.Streams.{IsSound};
 
 use crate::advance_error::AdvanceError;
 use crate::evolving::evolved;
+use crate::files::file_of;
 use crate::streams::Streams;
+use census_faults::fault::text_fault;
+use census_faults::spot::spot_of_text;
 use census_folders::shelf::Shelf;
-use census_identify::heard::{is_input, read_file};
+use census_identify::heard::read_file;
 use life_plane::plane::AGE_LIMIT;
-use life_text::rle::read_rle;
+use life_text::rle::{RleFault, read_rle};
 use life_text::write::write_rle;
 use life_tile::TilePlane;
 use std::alloc::Global;
@@ -22,6 +27,20 @@ use watched::writing::put_all;
 /// The most bytes of one text.
 pub const INPUT_LIMIT: usize = 67_108_864;
 
+// The error that the fault of a text is, with what is said of it.
+fn refused(text: &[u8], fault: RleFault) -> AdvanceError
+    ensures { result ≡ advance_error_of_text text.now fault }
+{
+    match fault {
+        RleFault::Memory => AdvanceError::Memory,
+        _ => AdvanceError::Text {
+            fault,
+            told: text_fault(text, fault),
+            spot: spot_of_text(text, &fault),
+        },
+    }
+}
+
 // The RLE text of a generation of the pattern that a text means.
 fn advanced_text(alloc: Global, text: &[u8], generations: u32) -> Result<Vec<u8>, AdvanceError>
     requires { generations ≤ AGE_LIMIT }
@@ -29,7 +48,10 @@ fn advanced_text(alloc: Global, text: &[u8], generations: u32) -> Result<Vec<u8>
         (λ written. IsAdvanced text.now generations written.items)
         (λ error. RefusesText error text.now) }
 {
-    let pattern = read_rle(alloc, text)?;
+    let pattern = match read_rle(alloc, text) {
+        Ok(pattern) => pattern,
+        Err(fault) => return Err(refused(text, fault)),
+    };
     let cells = evolved::<TilePlane>(alloc, &pattern, generations)?;
     let mut written = Vec::new(alloc);
     write_rle(&pattern.rule(), &cells, &mut written)?;
@@ -75,16 +97,6 @@ fn advance_file<S: Shelf, I: Read, O: Write>(
     let later = advanced_text(alloc, text.as_slice(), generations)?;
     put_all(&mut streams.output, later.as_slice())?;
     Ok(())
-}
-
-// The file of a word: `-` is none.
-fn file_of<'a>(word: Option<&'a str>) -> Option<&'a str>
-    ensures { option_map (λ s. s.now) result ≡ file_of (option_map (λ s. s.now) word.entry) }
-{
-    match word {
-        Some(word) if !is_input(word) => Some(word),
-        _ => None,
-    }
 }
 
 /// Reads the RLE text of a file, or where there is none or it is `-` that on standard input, up to its end, and writes the

@@ -1,5 +1,7 @@
 //! Why `advance` writes no text.
 
+use census_faults::fault::Fault;
+use census_faults::spot::Spot;
 use life_text::rle::RleFault;
 use std::alloc::AllocError;
 use thiserror::Error;
@@ -10,8 +12,14 @@ use watched::watched::Failed;
 #[derive(Clone, Copy, Debug, PartialEq, Eq, Drop, Error)]
 pub enum AdvanceError {
     /// The RLE text has this fault.
-    #[error("{0}")]
-    Text(RleFault),
+    #[error("{fault}")]
+    Text {
+        fault: RleFault,
+        /// What is said of it: the fault, or the kind of the rule that the text's header names.
+        told: Fault,
+        /// Where it stands in the text.
+        spot: Spot,
+    },
     /// There are more bytes than one text may have.
     #[error("input too long")]
     TooLong,
@@ -33,20 +41,6 @@ impl From<AllocError> for AdvanceError {
 
     fn from(_: AllocError) -> AdvanceError {
         AdvanceError::Memory
-    }
-}
-
-impl From<RleFault> for AdvanceError {
-    ghost use Rattle.std.specs.Prelude.{◌≡◌};
-    ghost use Rattle.census_command.specs.Errors.{advance_error_of_text};
-
-    ghost from_gives = { λ fault error. error ≡ advance_error_of_text fault };
-
-    fn from(fault: RleFault) -> AdvanceError {
-        match fault {
-            RleFault::Memory => AdvanceError::Memory,
-            other => AdvanceError::Text(other),
-        }
     }
 }
 

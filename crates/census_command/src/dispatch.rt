@@ -1,5 +1,5 @@
 //! What the program does with its words.
-ghost use Rattle.std.specs.Prelude.{◌≡◌, ◌≤◌, false, map, IfErr, IfNone, IfSome, OnOk};
+ghost use Rattle.std.specs.Prelude.{◌≡◌, ◌≤◌, ◌||◌, false, map, IfErr, IfNone, IfOk, IfSome, OnOk};
 ghost use Rattle.life_answer.specs.Questions.{IsAnswered};
 ghost use Rattle.census_command.specs.Errors.{status_of};
 ghost use Rattle.census_command.specs.Messages.{error_line};
@@ -7,14 +7,18 @@ ghost use Rattle.census_command.specs.Outcomes.{Answers, IsKeeping, Outcome};
 ghost use Rattle.census_command.specs.Requests.{Does, EndsAtFirst, Fails, IsDone, IsLawful};
 ghost use Rattle.census_command.specs.Shelves.{tellings};
 ghost use Rattle.census_command.specs.Sources.{IsWhole, Kept, source_of};
-ghost use Rattle.census_command.specs.Streams.{IsSound, Tells};
+ghost use Rattle.census_command.specs.Streams.{IsSound, Tells, TellsIf};
 
 use crate::advance::advance;
 use crate::draw::draw;
 use crate::error::CommandError;
+use crate::explaining::saying_of;
+use crate::hushed::Hushed;
 use crate::keeping::keep_going;
+use crate::placing::place_if;
 use crate::remaking::{form_of, remake};
 use crate::running::run_command;
+use crate::saying::stop_saying;
 use crate::streams::{ErrorStream, Streams};
 use census_crew::gate::Gate;
 use census_folders::shelf::Shelf;
@@ -34,6 +38,7 @@ use watched::writing::put_all;
 struct KeptCensus<'r, 'a> {
     question: Question,
     workers: u32,
+    limit: Option<u64>,
     recursive: bool,
     folders: &'r [&'a str],
 }
@@ -43,13 +48,14 @@ fn kept_census<'r, 'a>(
     keep_going: bool,
     question: Question,
     workers: u32,
+    limit: Option<u64>,
     recursive: bool,
     folders: &'r [&'a str],
 ) -> Option<KeptCensus<'r, 'a>>
     ensures some { IfSome result (λ census. (census.question ≡ question) × (census.workers ≡ workers)
-        × (source_of recursive keep_going (map (λ s. s.now) folders.now)
-        ≡ Kept census.recursive (map (λ s. s.now) census.folders.now))) }
-    ensures none { IfNone result (IsWhole (source_of recursive keep_going (map (λ s. s.now) folders.now))) }
+        × (source_of limit recursive keep_going (map (λ s. s.now) folders.now)
+        ≡ Kept census.limit census.recursive (map (λ s. s.now) census.folders.now))) }
+    ensures none { IfNone result (IsWhole (source_of limit recursive keep_going (map (λ s. s.now) folders.now))) }
 {
     if !keep_going || folders.is_empty() {
         return None;
@@ -57,6 +63,7 @@ fn kept_census<'r, 'a>(
     Some(KeptCensus {
         question,
         workers,
+        limit,
         recursive,
         folders,
     })
@@ -66,7 +73,7 @@ fn kept_census<'r, 'a>(
 fn kept_of<'r, 'a>(request: &'r Request<'a>) -> Option<KeptCensus<'r, 'a>>
     requires { IsLawful request.now }
     ensures some { IfSome result (λ census.
-        IsKeeping request.now census.recursive (map (λ s. s.now) census.folders.now) census.question) }
+        IsKeeping request.now census.limit census.recursive (map (λ s. s.now) census.folders.now) census.question) }
     ensures question { IfSome result (λ census. IsAnswered census.question) }
     ensures workers { IfSome result (λ census. (1 ≤ census.workers) × (census.workers ≤ 16)) }
     ensures none { IfNone result (EndsAtFirst request.now) }
@@ -76,6 +83,7 @@ fn kept_of<'r, 'a>(request: &'r Request<'a>) -> Option<KeptCensus<'r, 'a>>
             bound,
             workers,
             cells,
+            input,
             recursive,
             keep_going,
             folders,
@@ -85,12 +93,13 @@ fn kept_of<'r, 'a>(request: &'r Request<'a>) -> Option<KeptCensus<'r, 'a>>
                 cells: *cells,
             };
             let folders = folders.as_slice();
-            kept_census(*keep_going, question, *workers, *recursive, folders)
+            kept_census(*keep_going, question, *workers, *input, *recursive, folders)
         }
         Request::Objects {
             bound,
             workers,
             cells,
+            input,
             recursive,
             keep_going,
             folders,
@@ -100,27 +109,28 @@ fn kept_of<'r, 'a>(request: &'r Request<'a>) -> Option<KeptCensus<'r, 'a>>
                 cells: Some(*cells),
             };
             let folders = folders.as_slice();
-            kept_census(*keep_going, question, *workers, *recursive, folders)
+            kept_census(*keep_going, question, *workers, *input, *recursive, folders)
         }
         _ => None,
     }
 }
 
 // Does what is asked for, which is neither to tell what patterns are nor to make something of reports, and ends at the
-// first thing that can't be read.
+// first thing that can't be read. It gives the lines that explain what was refused on the way, where faults are explained.
 fn execute<S: Shelf, I: Read, O: Write, G: Gate, R: Threads + Wait + Sync>(
     rt: &R,
     shelf: &S,
     alloc: Global,
     request: &Request<'_>,
+    explain: bool,
     gate: &G,
     streams: &mut Streams<I, O>,
-) -> Result<(), CommandError>
+) -> Result<Vec<u8>, CommandError>
     requires lawful { IsLawful request.now }
     requires more { IsDone request.now }
     requires sound { IsSound streams.old }
-    ensures done { OnOk result (Does (tellings (S.listed shelf.now) (S.inner shelf.now) (S.held shelf.now))
-        request.now streams.old streams.new) }
+    ensures done { IfOk result (λ lines. Does (tellings (S.listed shelf.now) (S.inner shelf.now) (S.held shelf.now))
+        request.now explain lines.items streams.old streams.new) }
     ensures sound { OnOk result (IsSound streams.new) }
     ensures fails { IfErr result (λ e. Fails e (tellings (S.listed shelf.now) (S.inner shelf.now) (S.held shelf.now))
         request.now streams.old streams.new) }
@@ -130,10 +140,11 @@ fn execute<S: Shelf, I: Read, O: Write, G: Gate, R: Threads + Wait + Sync>(
             bound,
             workers,
             cells,
+            input,
             recursive,
             folders,
             ..
-        } => run_command(
+        } => Ok(run_command(
             rt,
             shelf,
             alloc,
@@ -143,18 +154,21 @@ fn execute<S: Shelf, I: Read, O: Write, G: Gate, R: Threads + Wait + Sync>(
             },
             *workers,
             folders.as_slice(),
+            *input,
             *recursive,
+            explain,
             gate,
             streams,
-        )?,
+        )?),
         Request::Objects {
             bound,
             workers,
             cells,
+            input,
             recursive,
             folders,
             ..
-        } => run_command(
+        } => Ok(run_command(
             rt,
             shelf,
             alloc,
@@ -164,20 +178,42 @@ fn execute<S: Shelf, I: Read, O: Write, G: Gate, R: Threads + Wait + Sync>(
             },
             *workers,
             folders.as_slice(),
+            *input,
             *recursive,
+            explain,
             gate,
             streams,
-        )?,
+        )?),
         Request::Identify { .. }
         | Request::Merge { .. }
         | Request::Table { .. }
         | Request::Page { .. } => unreachable!(),
         Request::Advance { generations, file } => {
-            advance(shelf, alloc, *generations, *file, streams)?
+            advance(shelf, alloc, *generations, *file, streams)?;
+            Ok(Vec::new(alloc))
         }
-        Request::Draw { code, rule } => draw(alloc, code.as_bytes(), rule.as_bytes(), streams)?,
+        Request::Draw { code, rule } => {
+            draw(alloc, code.as_bytes(), rule.as_bytes(), streams)?;
+            Ok(Vec::new(alloc))
+        }
     }
-    Ok(())
+}
+
+// Whether faults are explained: where that is asked for, or at a terminal.
+fn explains<E: Write>(asked: bool, errors: &ErrorStream<E>) -> bool
+    ensures { result ≡ asked || errors.now.is_terminal }
+{
+    asked || errors.is_terminal()
+}
+
+// Tells lines, where they are asked for.
+fn tell_if<E: Write>(asked: bool, lines: &[u8], errors: &mut ErrorStream<E>)
+    requires { errors.old.failed ≡ false }
+    ensures { TellsIf asked lines.now errors.old errors.new }
+{
+    if asked {
+        errors.tell(lines);
+    }
 }
 
 /// Tells an error by its line, and gives its exit status. That it can't be told changes nothing.
@@ -227,13 +263,18 @@ pub fn answer<I: Read, O: Write, E: Write>(
 ///   was asked for and written.
 /// - 1: the collections, the pattern, the rule or the code is refused, and nothing was written.
 /// - 2: clap refuses the words, and not because memory was refused; nothing was read or written.
-/// - 3: memory was refused, and nothing was written, or by `run` and by `objects` a prefix of the report.
+/// - 3: memory was refused, and nothing was written, or by `run` and by `objects` a prefix of the report, or by `table`
+///   one of the table.
 /// - 4: standard input or standard output has failed, or a folder could not be listed or a file of it be read. What was
 ///   written is a prefix of what was asked for, or nothing; after a failed read it is nothing. With `--keep-going` it is
 ///   the whole report of what could be read, after a line on `errors` for each folder, file or name that was lost.
 ///
 /// Where the status is 0, nothing is written to `errors`. Else the error's one line is, or for status 2 clap's own text:
-/// whole where `errors` does not fail, else a prefix of it.
+/// whole where `errors` does not fail, else a prefix of it. With `--explain`, and where `errors` is a terminal, one more line
+/// follows the error's, which says where the fault is, what is wrong and what would be right; and after a report there is
+/// such a line for each pattern that it tells as `bad`.
+///
+/// With `--no-progress` the gate isn't told how many patterns a run has, nor that it has ended.
 pub fn dispatch<S: Shelf, I: Read, O: Write, E: Write, G: Gate, R: Threads + Wait + Sync>(
     rt: &R,
     shelf: &S,
@@ -248,11 +289,14 @@ pub fn dispatch<S: Shelf, I: Read, O: Write, E: Write, G: Gate, R: Threads + Wai
     ensures { Outcome (tellings (S.listed shelf.now) (S.inner shelf.now) (S.held shelf.now))
         (map (λ s. s.now) words.now) result streams.old streams.new errors.old errors.new }
 {
-    let request = match read_words(alloc, &*words) {
-        Ok(request) => request,
+    let asked = match read_words(alloc, &*words) {
+        Ok(asked) => asked,
         Err(fault) => return answer(&fault, streams, errors),
     };
-    if let Some(census) = kept_of(&request) {
+    let explain = explains(asked.explain, &*errors);
+    let gate = &Hushed::new(gate, asked.quiet);
+    let request = &asked.request;
+    if let Some(census) = kept_of(request) {
         return keep_going(
             rt,
             shelf,
@@ -260,37 +304,63 @@ pub fn dispatch<S: Shelf, I: Read, O: Write, E: Write, G: Gate, R: Threads + Wai
             census.question,
             census.workers,
             census.folders,
+            census.limit,
             census.recursive,
+            explain,
             gate,
             streams,
             errors,
         );
     }
-    if let Request::Identify { bound, files } = &request {
+    if let Request::Identify { bound, files } = request {
         let Streams { input, output } = streams;
         let told = &mut errors.inner;
         return identify(shelf, alloc, *bound, files.as_slice(), input, output, told);
     }
-    if let Request::Merge { reports } = &request {
+    if let Request::Merge { reports } = request {
         return remake(
             shelf,
             alloc,
             Form::Merged,
             reports.as_slice(),
+            explain,
             streams,
             errors,
         );
     }
-    if let Request::Table { format, reports } = &request {
+    if let Request::Table { format, reports } = request {
         let form = form_of(*format);
-        return remake(shelf, alloc, form, reports.as_slice(), streams, errors);
+        return remake(
+            shelf,
+            alloc,
+            form,
+            reports.as_slice(),
+            explain,
+            streams,
+            errors,
+        );
     }
-    if let Request::Page { reports } = &request {
+    if let Request::Page { reports } = request {
         let form = Form::Page;
-        return remake(shelf, alloc, form, reports.as_slice(), streams, errors);
+        return remake(
+            shelf,
+            alloc,
+            form,
+            reports.as_slice(),
+            explain,
+            streams,
+            errors,
+        );
     }
-    match execute(rt, shelf, alloc, &request, gate, streams) {
-        Ok(()) => 0,
-        Err(error) => stop(error, errors),
+    match execute(rt, shelf, alloc, request, explain, gate, streams) {
+        Ok(lines) => {
+            tell_if(explain, lines.as_slice(), errors);
+            0
+        }
+        Err(error) => {
+            let place = place_if(explain, shelf, alloc, request, error);
+            let saying = saying_of(request, error).at(&place);
+            stop_saying(error, saying, explain, errors)
+        }
     }
 }

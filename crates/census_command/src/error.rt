@@ -117,7 +117,7 @@ fn advance_status(error: AdvanceError) -> u8
     ensures { result ≡ advance_status error }
 {
     match error {
-        AdvanceError::Text(_) | AdvanceError::TooLong => 1,
+        AdvanceError::Text { .. } | AdvanceError::TooLong => 1,
         AdvanceError::Memory => 3,
         AdvanceError::Read | AdvanceError::Write => 4,
     }

@@ -1,5 +1,5 @@
 //! `census run --keep-going` and `census objects --keep-going`: the report of what can be read.
-ghost use Rattle.std.specs.Prelude.{◌≡◌, ◌≤◌, ◌++◌, [], false, map, string_bytes, IfOk, List, MatchResult, OnOk};
+ghost use Rattle.std.specs.Prelude.{◌≡◌, ◌≢◌, ◌≤◌, ◌++◌, [], false, map, string_bytes, IfOk, List, MatchResult, OnOk};
 ghost use Rattle.std.specs.List.{FoldsTo};
 ghost use Rattle.life_answer.specs.Questions.{IsAnswered};
 ghost use Rattle.census_folders.specs.Losses.{KeepsFolder, StopsKeepingAt};
@@ -11,12 +11,14 @@ ghost use Rattle.census_command.specs.Streams.{IsSound};
 ghost use Rattle.census_command.specs.declared.run_error.RunError.TheVariants.{Memory};
 
 use crate::error::CommandError;
+use crate::explaining::run_saying;
 use crate::lending::lent;
+use crate::reporting::report;
 use crate::run_error::RunError;
+use crate::saying::{say_if, stop_saying};
 use crate::streams::{ErrorStream, Streams};
 use census_bundle::bundle::Bundle;
 use census_crew::gate::Gate;
-use census_crew::run::run;
 use census_faults::printed::printed;
 use census_folders::keeping::read_folders_on;
 use census_folders::loss::Loss;
@@ -61,13 +63,14 @@ fn gather_folders<S: Shelf>(
     shelf: &S,
     alloc: Global,
     folders: &[&str],
+    limit: Option<u64>,
     way: &[Loss],
 ) -> Result<Gathered, RunError>
     ensures { MatchResult result
-        (KeepsInto (S.listed shelf.now) (S.held shelf.now) (map (λ s. s.now) folders.now) way.now)
-        (StopsKeepingIn (S.listed shelf.now) (S.held shelf.now) (map (λ s. s.now) folders.now)) }
+        (KeepsInto (S.listed shelf.now) (S.held shelf.now) limit (map (λ s. s.now) folders.now) way.now)
+        (StopsKeepingIn (S.listed shelf.now) (S.held shelf.now) limit (map (λ s. s.now) folders.now)) }
 {
-    let kept = read_folders_on(shelf, alloc, folders)?;
+    let kept = read_folders_on(shelf, alloc, folders, limit)?;
     let mut lines = Vec::new(alloc);
     push_lines(alloc, &mut lines, way)?;
     push_lines(alloc, &mut lines, kept.lost.as_slice())?;
@@ -82,29 +85,45 @@ fn gather<S: Shelf>(
     shelf: &S,
     alloc: Global,
     words: &[&str],
+    limit: Option<u64>,
     recursive: bool,
 ) -> Result<Gathered, RunError>
     ensures { MatchResult result
         (λ gathered. (lost : List Loss)
         × IsKept (tellings (S.listed shelf.now) (S.inner shelf.now) (S.held shelf.now))
-        recursive (map (λ s. s.now) words.now) gathered.bundle lost
+        limit recursive (map (λ s. s.now) words.now) gathered.bundle lost
         × (gathered.lines.items ≡ lost_lines lost))
         (StopsKeeping (tellings (S.listed shelf.now) (S.inner shelf.now) (S.held shelf.now))
-        recursive (map (λ s. s.now) words.now)) }
+        limit recursive (map (λ s. s.now) words.now)) }
 {
     if !recursive {
-        return gather_folders(shelf, alloc, words, &[]);
+        return gather_folders(shelf, alloc, words, limit, &[]);
     }
     let trees = folders_below_each_on(shelf, alloc, words)?;
     let folders = lent(alloc, trees.folders.as_slice())?;
-    gather_folders(shelf, alloc, folders.as_slice(), trees.lost.as_slice())
+    gather_folders(
+        shelf,
+        alloc,
+        folders.as_slice(),
+        limit,
+        trees.lost.as_slice(),
+    )
+}
+
+// The exit status of a whole report, by the lines that tell what was lost.
+fn status_of_kept(lines: &[u8]) -> u8
+    ensures none { lines.now ≡ [] → result ≡ 0 }
+    ensures some { (lines.now ≢ []) → result ≡ 4 }
+{
+    if lines.is_empty() { 0 } else { 4 }
 }
 
 /// Writes the report of the folders of these words, or where it is recursive of those at and below them, of each of whose
 /// patterns this question is asked, by 1 to 16 workers, and gives the exit status. Each worker passes the gate with a
 /// ticket before it works. Nothing is read from standard input.
 ///
-/// What can't be listed or read doesn't end it: a file that can't be read is a lost entry, a folder that can't be listed
+/// What can't be listed or read doesn't end it: a file that can't be read is a lost entry, and so is, where there is a limit,
+/// one that would take the bytes of all files together past it; a folder that can't be listed
 /// one without entries, and what has no lawful name is left out, as `read_folders_on` and `folders_below_each_on` do.
 /// Before the report the line `census: lost PATH` goes to standard error for each of them, with each byte that no lawful
 /// name has as `\x` and two digits.
@@ -114,7 +133,8 @@ fn gather<S: Shelf>(
 /// - 3: memory was refused, and nothing was written or a prefix of the report.
 /// - 4: the report was written, and something was lost; or standard output has failed, and a prefix of it was written.
 ///
-/// After status 1, and after a prefix or nothing at 3 and 4, the error's line was told too.
+/// After status 1, and after a prefix or nothing at 3 and 4, the error's line was told too, and one more where faults are
+/// explained. After a whole report that are the lines that explain what it tells as `bad`.
 pub fn keep_going<S: Shelf, I: Read, O: Write, E: Write, G: Gate, R: Threads + Wait + Sync>(
     rt: &R,
     shelf: &S,
@@ -122,7 +142,9 @@ pub fn keep_going<S: Shelf, I: Read, O: Write, E: Write, G: Gate, R: Threads + W
     question: Question,
     workers: u32,
     words: &[&str],
+    limit: Option<u64>,
     recursive: bool,
+    explain: bool,
     gate: &G,
     streams: &mut Streams<I, O>,
     errors: &mut ErrorStream<E>,
@@ -132,32 +154,37 @@ pub fn keep_going<S: Shelf, I: Read, O: Write, E: Write, G: Gate, R: Threads + W
     requires sound { IsSound streams.old }
     requires errors { errors.old.failed ≡ false }
     ensures { Keeps (tellings (S.listed shelf.now) (S.inner shelf.now) (S.held shelf.now))
-        recursive (map (λ s. s.now) words.now) question result
+        limit recursive (map (λ s. s.now) words.now) question explain result
         streams.old streams.new errors.old errors.new }
 {
-    let gathered = match gather(shelf, alloc, words, recursive) {
+    let gathered = match gather(shelf, alloc, words, limit, recursive) {
         Ok(gathered) => gathered,
         Err(error) => {
-            errors.tell(CommandError::Run(error).line().as_str().as_bytes());
-            return CommandError::Run(error).status();
+            let saying = run_saying(error);
+            return stop_saying(CommandError::Run(error), saying, explain, errors);
         }
     };
     errors.tell(gathered.lines.as_slice());
     let bundle = &gathered.bundle;
-    match run(
+    match report(
         rt,
         alloc,
         bundle,
         question,
         workers,
+        explain,
         gate,
         &mut streams.output,
     ) {
-        Ok(_) if gathered.lines.is_empty() => 0,
-        Ok(_) => 4,
+        Ok(lines) => {
+            errors.tell_more(lines.as_slice());
+            status_of_kept(gathered.lines.as_slice())
+        }
         Err(fault) => {
-            let error = CommandError::Run(RunError::from(fault));
+            let fault = RunError::from(fault);
+            let error = CommandError::Run(fault);
             errors.tell_more(error.line().as_str().as_bytes());
+            say_if(explain, run_saying(fault), errors);
             error.status()
         }
     }

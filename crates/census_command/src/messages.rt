@@ -93,7 +93,7 @@ fn advance_message(fault: AdvanceError) -> (&'static str, Option<usize>)
         AdvanceError::Memory => ("out of memory", None),
         AdvanceError::Read => ("read failed", None),
         AdvanceError::Write => ("write failed", None),
-        AdvanceError::Text(fault) => rle_message(fault),
+        AdvanceError::Text { fault, .. } => rle_message(fault),
     }
 }
 

@@ -11,7 +11,7 @@ use crate::dispatch::{dispatch, stop};
 use crate::error::CommandError;
 use crate::lending::lent;
 use crate::streams::{ErrorStream, Streams};
-use census_crew::gate::OpenGate;
+use census_crew::gate::Gate;
 use census_folders::shelf::Shelf;
 use std::alloc::{AllocError, Global};
 use std::env::Args;
@@ -35,11 +35,12 @@ fn own_words(alloc: Global, args: Args) -> Result<Vec<String>, AllocError>
 }
 
 // Does what the arguments ask for, and gives the exit status.
-fn dispatch_arguments<S: Shelf, I: Read, O: Write, E: Write, R: Threads + Wait + Sync>(
+fn dispatch_arguments<S: Shelf, I: Read, O: Write, E: Write, G: Gate, R: Threads + Wait + Sync>(
     rt: &R,
     shelf: &S,
     alloc: Global,
     args: Args,
+    gate: &G,
     streams: &mut Streams<I, O>,
     errors: &mut ErrorStream<E>,
 ) -> u8
@@ -55,27 +56,20 @@ fn dispatch_arguments<S: Shelf, I: Read, O: Write, E: Write, R: Threads + Wait +
     let Ok(words) = lent(alloc, own.as_slice()) else {
         return stop(CommandError::Memory, errors);
     };
-    dispatch(
-        rt,
-        shelf,
-        alloc,
-        words.as_slice(),
-        &OpenGate,
-        streams,
-        errors,
-    )
+    dispatch(rt, shelf, alloc, words.as_slice(), gate, streams, errors)
 }
 
-/// The whole program `census` over any shelf and any streams: `dispatch` on all arguments but the first, which is the
+/// The whole program `census` over any shelf, any gate and any streams: `dispatch` on all arguments but the first, which is the
 /// program's name, and its status as the exit status.
 ///
 /// Where the system gives no arguments, nothing is read or written, and the error's line is told: `out of memory` with
 /// status 3 where memory is refused, else `bad command line` with status 2, for an argument that is no text.
-pub fn program<S: Shelf, I: Read, O: Write, E: Write, R: Threads + Wait + Sync>(
+pub fn program<S: Shelf, I: Read, O: Write, E: Write, G: Gate, R: Threads + Wait + Sync>(
     rt: &R,
     shelf: &S,
     alloc: Global,
     args: io::Result<Args>,
+    gate: &G,
     streams: &mut Streams<I, O>,
     errors: &mut ErrorStream<E>,
 ) -> ExitCode
@@ -89,7 +83,10 @@ pub fn program<S: Shelf, I: Read, O: Write, E: Write, R: Threads + Wait + Sync>(
         streams.old streams.new errors.old errors.new) }
 {
     match args {
-        Ok(args) => ExitCode::from(dispatch_arguments(rt, shelf, alloc, args, streams, errors)),
+        Ok(args) => {
+            let status = dispatch_arguments(rt, shelf, alloc, args, gate, streams, errors);
+            ExitCode::from(status)
+        }
         Err(error) => ExitCode::from(stop(CommandError::from(error), errors)),
     }
 }

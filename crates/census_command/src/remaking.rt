@@ -1,15 +1,20 @@
 //! `census merge`, `census table` and `census page`: one report, a table, or a page, made of reports.
-ghost use Rattle.std.specs.Prelude.{◌≡◌, [], false, map};
-ghost use Rattle.census_command.specs.Remakes.{Remakes, form_of};
+ghost use Rattle.std.specs.Prelude.{◌≡◌, [], false, map, IfErr, OnOk};
+ghost use Rattle.census_reports.specs.Outcomes.{ReportsFail, WritesReports};
+ghost use Rattle.census_command.specs.Remakes.{KeepsLaw, Remakes, both_streams, form_of};
 ghost use Rattle.census_command.specs.Streams.{IsSound};
 
-use crate::dispatch::stop;
 use crate::error::CommandError;
+use crate::explaining::reports_saying;
+use crate::placing::reports_place_if;
+use crate::saying::stop_saying;
 use crate::streams::{ErrorStream, Streams};
 use census_folders::shelf::Shelf;
+use census_reports::error::ReportsError;
 use census_reports::form::Form;
 use census_reports::reports::write_reports;
 use census_words::request::TableFormat;
+use lawful_merge::merge::merge_reports;
 use std::alloc::Global;
 use std::io::{Read, Write};
 
@@ -23,32 +28,61 @@ pub fn form_of(format: TableFormat) -> Form
     }
 }
 
-/// Reads the reports of these files, of `-` and without a file those of standard input, writes what this form makes of
-/// them, and gives the exit status.
-///
-/// - 0: it was written, and nothing was told.
-/// - 1: a text is no report, or too long, or the reports have too many collections for one report; nothing was written.
-/// - 3: memory was refused, and nothing was written.
-/// - 4: a file can't be read or standard input has failed, and nothing was written; or standard output has failed, and a
-///   prefix was.
-///
-/// Where the status isn't 0 the error's line was told.
-pub fn remake<S: Shelf, I: Read, O: Write, E: Write>(
+// Writes what this form makes of the reports of these files: one report as `merge_reports` does, which keeps the law, and
+// anything else as `write_reports` does.
+fn write<S: Shelf, I: Read, O: Write>(
     shelf: &S,
     alloc: Global,
     form: Form,
     files: &[&str],
     streams: &mut Streams<I, O>,
+) -> Result<(), ReportsError>
+    requires sound { IsSound streams.old }
+    ensures done { OnOk result (WritesReports form (S.held shelf.now []) (map (λ s. s.now) files.now)
+        (both_streams streams.old) (both_streams streams.new)) }
+    ensures fails { IfErr result (λ error. ReportsFail error form (S.held shelf.now []) (map (λ s. s.now) files.now)
+        (both_streams streams.old) (both_streams streams.new)) }
+    ensures lawful { OnOk result (KeepsLaw form (S.held shelf.now []) (map (λ s. s.now) files.now) streams.old streams.new) }
+{
+    let Streams { input, output } = streams;
+    match form {
+        Form::Merged => merge_reports(shelf, alloc, files, input, output),
+        Form::Csv | Form::Json | Form::Page => {
+            write_reports(shelf, alloc, form, files, input, output)
+        }
+    }
+}
+
+/// Reads the reports of these files, of `-` and without a file those of standard input, writes what this form makes of
+/// them, and gives the exit status.
+///
+/// - 0: it was written, and nothing was told.
+/// - 1: a text is no report, or too long, or the reports have too many collections for one report; nothing was written.
+/// - 3: memory was refused, and nothing was written, or a prefix of a table.
+/// - 4: a file can't be read or standard input has failed, and nothing was written; or standard output has failed, and a
+///   prefix was.
+///
+/// Where the status isn't 0 the error's line was told, and one more where faults are explained.
+pub fn remake<S: Shelf, I: Read, O: Write, E: Write>(
+    shelf: &S,
+    alloc: Global,
+    form: Form,
+    files: &[&str],
+    explain: bool,
+    streams: &mut Streams<I, O>,
     errors: &mut ErrorStream<E>,
 ) -> u8
     requires sound { IsSound streams.old }
     requires errors { errors.old.failed ≡ false }
-    ensures { Remakes (S.held shelf.now []) form (map (λ s. s.now) files.now) result
+    ensures { Remakes (S.held shelf.now []) form (map (λ s. s.now) files.now) explain result
         streams.old streams.new errors.old errors.new }
 {
-    let Streams { input, output } = streams;
-    match write_reports(shelf, alloc, form, files, input, output) {
+    match write(shelf, alloc, form, files, streams) {
         Ok(()) => 0,
-        Err(error) => stop(CommandError::Reports(error), errors),
+        Err(error) => {
+            let place = reports_place_if(explain, shelf, alloc, files, error);
+            let saying = reports_saying(files, error).at(&place);
+            stop_saying(CommandError::Reports(error), saying, explain, errors)
+        }
     }
 }

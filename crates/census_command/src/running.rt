@@ -1,5 +1,8 @@
 //! `census run` and `census objects`: the report of collections.
-ghost use Rattle.std.specs.Prelude.{◌≡◌, ◌≤◌, false, map, IfErr, OnOk};
+ghost use Rattle.std.specs.Prelude.{◌≡◌, ◌↔◌, ◌≤◌, true, false, map, Err, IfErr, IfOk, OnOk};
+ghost use Rattle.watched.specs.Watching.{has_failed, inner_of};
+ghost use Rattle.census_crew.specs.Bytes.{ReadsBundle};
+ghost use Rattle.census_crew.specs.declared.bytes.BytesFault.{BytesFault};
 ghost use Rattle.life_answer.specs.Questions.{IsAnswered};
 ghost use Rattle.census_command.specs.Runs.{FoldersFail, InputFails, ReportsFolders, ReportsInput};
 ghost use Rattle.census_command.specs.Runs.{ReportsTrees, RunFails, Runs, TreesFail};
@@ -7,12 +10,16 @@ ghost use Rattle.census_command.specs.Shelves.{tellings};
 ghost use Rattle.census_command.specs.Sources.{source_of};
 ghost use Rattle.census_command.specs.Streams.{IsSound};
 
+use crate::advance::INPUT_LIMIT;
 use crate::lending::lent;
+use crate::reporting::report;
 use crate::run_error::RunError;
 use crate::streams::Streams;
-use census_crew::bytes::run_bytes;
+use census_bundle::bundle::Bundle;
+use census_bundle::fault::BundleFault;
+use census_bundle::reading::read_bundle;
+use census_crew::bytes::BytesFault;
 use census_crew::gate::Gate;
-use census_crew::run::run;
 use census_folders::reading::read_folders;
 use census_folders::shelf::Shelf;
 use census_folders::trees::folders_below_each;
@@ -21,6 +28,26 @@ use std::alloc::Global;
 use std::io::{Read, Write};
 use std::sync::Wait;
 use std::thread::Threads;
+use watched::reading::{ReadFault, read_all};
+use watched::watched::Watched;
+
+// Reads a bundle up to the reader's end.
+fn read_input<I: Read>(alloc: Global, input: &mut Watched<I>) -> Result<Bundle, BytesFault>
+    ensures failed { (result ≡ Err BytesFault.Read) ↔ (has_failed input.new ≡ true) }
+    ensures read { ReadsBundle (I.remaining (inner_of input.old)) (I.remaining (inner_of input.new)) result }
+{
+    let text = match read_all(alloc, input, INPUT_LIMIT) {
+        Ok(text) => text,
+        Err(ReadFault::Read) => return Err(BytesFault::Read),
+        Err(ReadFault::TooLong) => return Err(BytesFault::TooLong),
+        Err(ReadFault::Memory) => return Err(BytesFault::Memory),
+    };
+    match read_bundle(alloc, &text) {
+        Ok(bundle) => Ok(bundle),
+        Err(BundleFault::Memory) => Err(BytesFault::Memory),
+        Err(fault) => Err(BytesFault::Bundle(fault)),
+    }
+}
 
 // Reads a bundle to the reader's end and writes its report.
 fn run_input<I: Read, O: Write, G: Gate, R: Threads + Wait + Sync>(
@@ -28,22 +55,25 @@ fn run_input<I: Read, O: Write, G: Gate, R: Threads + Wait + Sync>(
     alloc: Global,
     question: Question,
     workers: u32,
+    explain: bool,
     gate: &G,
     streams: &mut Streams<I, O>,
-) -> Result<(), RunError>
+) -> Result<Vec<u8>, RunError>
     requires question { IsAnswered question }
     requires workers { (1 ≤ workers) × (workers ≤ 16) }
     requires sound { IsSound streams.old }
-    ensures done { OnOk result (ReportsInput question streams.old streams.new) }
+    ensures done { IfOk result (λ lines. ReportsInput question explain lines.items streams.old streams.new) }
     ensures sound { OnOk result (IsSound streams.new) }
     ensures fails { IfErr result (λ e. InputFails e question streams.old streams.new) }
 {
     let Streams { input, output } = streams;
-    run_bytes(rt, alloc, input, question, workers, gate, output)?;
-    Ok(())
+    let bundle = read_input(alloc, input)?;
+    let lines = report(rt, alloc, &bundle, question, workers, explain, gate, output)?;
+    Ok(lines)
 }
 
-// Reads the folders of these words and writes their report.
+// Reads the folders of these words, whose files may have so many bytes together where there is a limit, and writes their
+// report.
 fn run_folders<S: Shelf, I: Read, O: Write, G: Gate, R: Threads + Wait + Sync>(
     rt: &R,
     shelf: &S,
@@ -51,34 +81,38 @@ fn run_folders<S: Shelf, I: Read, O: Write, G: Gate, R: Threads + Wait + Sync>(
     question: Question,
     workers: u32,
     folders: &[&str],
+    limit: Option<u64>,
+    explain: bool,
     gate: &G,
     streams: &mut Streams<I, O>,
-) -> Result<(), RunError>
+) -> Result<Vec<u8>, RunError>
     requires question { IsAnswered question }
     requires workers { (1 ≤ workers) × (workers ≤ 16) }
     requires sound { IsSound streams.old }
-    ensures done { OnOk result
-        (ReportsFolders (tellings (S.listed shelf.now) (S.inner shelf.now) (S.held shelf.now))
-        (map (λ s. s.now) folders.now) question streams.old streams.new) }
+    ensures done { IfOk result
+        (λ lines. ReportsFolders (tellings (S.listed shelf.now) (S.inner shelf.now) (S.held shelf.now))
+        limit (map (λ s. s.now) folders.now) question explain lines.items streams.old streams.new) }
     ensures sound { OnOk result (IsSound streams.new) }
     ensures fails { IfErr result
         (λ e. FoldersFail e (tellings (S.listed shelf.now) (S.inner shelf.now) (S.held shelf.now))
-        (map (λ s. s.now) folders.now) question streams.old streams.new) }
+        limit (map (λ s. s.now) folders.now) question streams.old streams.new) }
 {
-    let bundle = read_folders(shelf, alloc, folders)?;
-    run(
+    let bundle = read_folders(shelf, alloc, folders, limit)?;
+    let lines = report(
         rt,
         alloc,
         &bundle,
         question,
         workers,
+        explain,
         gate,
         &mut streams.output,
     )?;
-    Ok(())
+    Ok(lines)
 }
 
-// Reads the folders at and below those of these words and writes their report.
+// Reads the folders at and below those of these words, whose files may have so many bytes together where there is a limit,
+// and writes their report.
 fn run_trees<S: Shelf, I: Read, O: Write, G: Gate, R: Threads + Wait + Sync>(
     rt: &R,
     shelf: &S,
@@ -86,19 +120,21 @@ fn run_trees<S: Shelf, I: Read, O: Write, G: Gate, R: Threads + Wait + Sync>(
     question: Question,
     workers: u32,
     words: &[&str],
+    limit: Option<u64>,
+    explain: bool,
     gate: &G,
     streams: &mut Streams<I, O>,
-) -> Result<(), RunError>
+) -> Result<Vec<u8>, RunError>
     requires question { IsAnswered question }
     requires workers { (1 ≤ workers) × (workers ≤ 16) }
     requires sound { IsSound streams.old }
-    ensures done { OnOk result
-        (ReportsTrees (tellings (S.listed shelf.now) (S.inner shelf.now) (S.held shelf.now))
-        (map (λ s. s.now) words.now) question streams.old streams.new) }
+    ensures done { IfOk result
+        (λ lines. ReportsTrees (tellings (S.listed shelf.now) (S.inner shelf.now) (S.held shelf.now))
+        limit (map (λ s. s.now) words.now) question explain lines.items streams.old streams.new) }
     ensures sound { OnOk result (IsSound streams.new) }
     ensures fails { IfErr result
         (λ e. TreesFail e (tellings (S.listed shelf.now) (S.inner shelf.now) (S.held shelf.now))
-        (map (λ s. s.now) words.now) question streams.old streams.new) }
+        limit (map (λ s. s.now) words.now) question streams.old streams.new) }
 {
     let own = folders_below_each(shelf, alloc, words)?;
     let folders = lent(alloc, own.as_slice())?;
@@ -109,6 +145,8 @@ fn run_trees<S: Shelf, I: Read, O: Write, G: Gate, R: Threads + Wait + Sync>(
         question,
         workers,
         folders.as_slice(),
+        limit,
+        explain,
         gate,
         streams,
     )
@@ -118,7 +156,10 @@ fn run_trees<S: Shelf, I: Read, O: Write, G: Gate, R: Threads + Wait + Sync>(
 /// passes the gate with a ticket before it works. The collections are the folders of these words on the shelf, as
 /// `read_folders` reads them, or, where it is recursive, those at and below them that list a name that ends in `.rle`, as
 /// `folders_below_each` tells them; without a word they are those of the bundle on standard input, which is read to its
-/// end. With words nothing is read from it.
+/// end. With words nothing is read from it. Where there is a limit, the files of the folders may have so many bytes together:
+/// the file that goes past it is too long.
+///
+/// What is answered are the lines that explain what the report tells as `bad`, where faults are explained.
 ///
 /// All is read before the first byte is written, so nothing is written where a bundle, a folder or a file is refused or
 /// can't be read. Where memory is refused or the writer fails, what was written is nothing or a prefix of a report.
@@ -129,26 +170,33 @@ pub fn run_command<S: Shelf, I: Read, O: Write, G: Gate, R: Threads + Wait + Syn
     question: Question,
     workers: u32,
     folders: &[&str],
+    limit: Option<u64>,
     recursive: bool,
+    explain: bool,
     gate: &G,
     streams: &mut Streams<I, O>,
-) -> Result<(), RunError>
+) -> Result<Vec<u8>, RunError>
     requires question { IsAnswered question }
     requires workers { (1 ≤ workers) × (workers ≤ 16) }
     requires sound { IsSound streams.old }
-    ensures done { OnOk result
-        (Runs (tellings (S.listed shelf.now) (S.inner shelf.now) (S.held shelf.now))
-        (source_of recursive false (map (λ s. s.now) folders.now)) question streams.old streams.new) }
+    ensures done { IfOk result
+        (λ lines. Runs (tellings (S.listed shelf.now) (S.inner shelf.now) (S.held shelf.now))
+        (source_of limit recursive false (map (λ s. s.now) folders.now)) question explain lines.items
+        streams.old streams.new) }
     ensures sound { OnOk result (IsSound streams.new) }
     ensures fails { IfErr result
         (λ e. RunFails e (tellings (S.listed shelf.now) (S.inner shelf.now) (S.held shelf.now))
-        (source_of recursive false (map (λ s. s.now) folders.now)) question streams.old streams.new) }
+        (source_of limit recursive false (map (λ s. s.now) folders.now)) question streams.old streams.new) }
 {
     if folders.is_empty() {
-        run_input(rt, alloc, question, workers, gate, streams)
+        run_input(rt, alloc, question, workers, explain, gate, streams)
     } else if recursive {
-        run_trees(rt, shelf, alloc, question, workers, folders, gate, streams)
+        run_trees(
+            rt, shelf, alloc, question, workers, folders, limit, explain, gate, streams,
+        )
     } else {
-        run_folders(rt, shelf, alloc, question, workers, folders, gate, streams)
+        run_folders(
+            rt, shelf, alloc, question, workers, folders, limit, explain, gate, streams,
+        )
     }
 }

@@ -50,10 +50,11 @@ impl<I: Read, O: Write> Streams<I, O> {
     }
 }
 
-/// Standard error. A clause sees what was told on it, and whether it has failed.
+/// Standard error. A clause sees what was told on it, whether it has failed, and whether it is a terminal.
 #[derive(Drop)]
 pub struct ErrorStream<E: Write> {
     pub(crate) inner: Watched<E>,
+    is_terminal: bool,
 }
 
 impl<E: Write> Model for ErrorStream<E> {
@@ -62,25 +63,35 @@ impl<E: Write> Model for ErrorStream<E> {
     ghost view = { λ s. record {
       told = E.contents (inner_of s.inner);
       failed = has_failed s.inner;
+      is_terminal = s.is_terminal;
     } };
 }
 
 impl<E: Write> ErrorStream<E> {
-    /// A writer that has not failed yet.
-    pub fn new(inner: E) -> ErrorStream<E>
+    /// A writer that has not failed yet, and whether it is a terminal.
+    pub fn new(inner: E, is_terminal: bool) -> ErrorStream<E>
         ensures told { result.told ≡ E.contents inner }
         ensures sound { result.failed ≡ false }
+        ensures terminal { result.is_terminal ≡ is_terminal }
     {
         ErrorStream {
             inner: Watched::new(inner),
+            is_terminal,
         }
+    }
+
+    /// Whether it is a terminal.
+    pub fn is_terminal(&self) -> bool
+        ensures { result ≡ self.now.is_terminal }
+    {
+        self.is_terminal
     }
 
     /// The writer, as the last call left it.
     pub fn into_inner(self) -> E
         ensures { E.contents result ≡ self.told }
     {
-        let ErrorStream { inner } = self;
+        let ErrorStream { inner, .. } = self;
         inner.into_inner()
     }
 

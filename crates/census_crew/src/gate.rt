@@ -5,8 +5,14 @@ use census_bundle::ticket::Ticket;
 
 /// Called by each worker with a ticket that it took, before it works. It may hold the worker.
 pub trait Gate: Sync {
+    /// A run of so many patterns is about to begin.
+    fn begin(&self, _patterns: u64) {}
+
     /// A worker took this ticket.
     fn enter(&self, ticket: Ticket);
+
+    /// The run has ended.
+    fn end(&self) {}
 }
 
 /// Holds no worker.

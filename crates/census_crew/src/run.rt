@@ -21,10 +21,19 @@ use std::sync::Wait;
 use std::thread::Threads;
 use watched::watched::{Failed, Watched};
 
+// How many patterns a bundle has.
+fn patterns_of(bundle: &Bundle) -> u64 {
+    let mut patterns: u64 = 0;
+    for folder in bundle.folders() {
+        patterns = patterns.saturating_add(folder.entries.as_slice().len() as u64);
+    }
+    patterns
+}
+
 /// Writes the report of what is asked of the bundle's patterns to a writer that has not failed. A bound is 1 to 1,000,000
 /// generations. The patterns are worked by 1 to 16 workers, each of which takes tickets and passes the gate with each
-/// before it works; the caller takes their results and writes, and then works itself what is missing. `Ok` says that all
-/// was written. After `Memory` or `Write` what was written is a prefix of a report; `Write` is answered where the writer
+/// before it works; the caller takes their results and writes, and then works itself what is missing. The gate is told
+/// before that how many patterns there are, and after it that the run has ended. `Ok` says that all was written. After `Memory` or `Write` what was written is a prefix of a report; `Write` is answered where the writer
 /// has failed, and only there.
 pub fn run<G: Gate, W: Write, R: Threads + Wait + Sync>(
     rt: &R,
@@ -47,7 +56,10 @@ pub fn run<G: Gate, W: Write, R: Threads + Wait + Sync>(
     let Ok((feed, hands)) = Feed::fill(alloc, bundle, workers) else {
         return Err(RunFault::Memory);
     };
-    run_on(rt, alloc, bundle, question, feed, hands, gate, out)
+    gate.begin(patterns_of(bundle));
+    let written = run_on(rt, alloc, bundle, question, feed, hands, gate, out);
+    gate.end();
+    written
 }
 
 /// Does what `run` does, from a feed that the caller filled from this bundle, and all the hands of that feed: each goes

@@ -12,7 +12,7 @@ use Rattle.census_bundle.specs.declared.bundle.AddFault.TheVariants as add
 use Rattle.life_faults.specs.declared.kinds.RuleKind.{RuleKind}
 use Rattle.life_faults.specs.declared.kinds.RuleKind.TheVariants as kinds
 use Rattle.census_faults.specs.declared.fault.Fault.{Fault}
-use Rattle.census_faults.specs.declared.fault.Fault.TheVariants.{Text, Rule, Bundle, Folder, Code, Generation, Report, TooLong, Read, Write, Arguments, Words, Memory}
+use Rattle.census_faults.specs.declared.fault.Fault.TheVariants.{Text, Rule, Bundle, Folder, Code, Generation, Report, TooLong, Read, FileForFolder, Write, Arguments, Words, Memory}
 use Rattle.census_faults.specs.Faults.{same}
 use Rattle.census_faults.specs.Sentences.{FaultsDiffer, sentence_of}
 
@@ -56,6 +56,7 @@ all_faults =
     Report ∷
     TooLong ∷
     Read ∷
+    FileForFolder ∷
     Write ∷
     Arguments ∷
     Words ∷
@@ -117,6 +118,7 @@ fault_tells Generation = refl
 fault_tells Report = refl
 fault_tells TooLong = refl
 fault_tells Read = refl
+fault_tells FileForFolder = refl
 fault_tells Write = refl
 fault_tells Arguments = refl
 fault_tells Words = refl

@@ -1,2 +1,3 @@
 mod Differing
 mod Shown
+mod Refused

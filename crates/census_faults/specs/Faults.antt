@@ -13,7 +13,7 @@ use Rattle.census_bundle.specs.declared.bundle.AddFault.TheVariants as adds
 use Rattle.life_faults.specs.declared.kinds.RuleKind.TheVariants as kinds
 use Rattle.life_faults.specs.Rules.{rule_in_header, rule_kind}
 use Rattle.census_faults.specs.declared.fault.Fault.{Fault}
-use Rattle.census_faults.specs.declared.fault.Fault.TheVariants.{Text, Rule, Bundle, Folder, Code, Generation, Report, TooLong, Read, Write, Arguments, Words, Memory}
+use Rattle.census_faults.specs.declared.fault.Fault.TheVariants.{Text, Rule, Bundle, Folder, Code, Generation, Report, TooLong, Read, FileForFolder, Write, Arguments, Words, Memory}
 
 -- # Of texts and rules
 
@@ -78,6 +78,7 @@ same Generation = Generation
 same Report = Report
 same TooLong = TooLong
 same Read = Read
+same FileForFolder = FileForFolder
 same Write = Write
 same Arguments = Arguments
 same Words = Words

@@ -4,3 +4,4 @@ pub mod Sentences
 pub mod Spots
 pub mod Explained
 pub mod Refusals
+pub mod BundleRefusals

@@ -9,7 +9,7 @@ use Rattle.census_bundle.specs.declared.bundle.AddFault.{AddFault}
 use Rattle.census_bundle.specs.declared.bundle.AddFault.TheVariants as add
 use Rattle.life_faults.specs.Sentences as texts
 use Rattle.census_faults.specs.declared.fault.Fault.{Fault}
-use Rattle.census_faults.specs.declared.fault.Fault.TheVariants.{Text, Rule, Bundle, Folder, Code, Generation, Report, TooLong, Read, Write, Arguments, Words, Memory}
+use Rattle.census_faults.specs.declared.fault.Fault.TheVariants.{Text, Rule, Bundle, Folder, Code, Generation, Report, TooLong, Read, FileForFolder, Write, Arguments, Words, Memory}
 use Rattle.census_faults.specs.Faults.{same}
 
 abbrev pub bundle_sentence : BundleFault → List ℕ
@@ -42,8 +42,9 @@ sentence_of (Folder fault) = folder_sentence fault
 sentence_of (Code fault) = code_sentence fault
 sentence_of Generation = codes "the generation can't be asked for: it must be a number from 0 to 4194304"
 sentence_of Report = codes "a line is not one that a report has in this place: it must be as `census run` or `census objects` writes it"
-sentence_of TooLong = codes "there are too many bytes: a text must have at most 67108864"
+sentence_of TooLong = codes "there are too many bytes: a text must have at most 67108864, and all files of folders at most as many as `--input` says"
 sentence_of Read = codes "reading failed: a folder must be one that can be listed, and a file a regular file that can be read"
+sentence_of FileForFolder = codes "a file stands where a folder is wanted: `census identify FILE` tells what the pattern of a file is"
 sentence_of Write = codes "writing failed: what the output goes to must stay open and have room"
 sentence_of Arguments = codes "an argument is no text: each must be in UTF-8"
 sentence_of Words = codes "the words ask for nothing that there is: they must be as `census --help` tells"

@@ -33,6 +33,8 @@ pub enum Fault {
     TooLong,
     /// A folder can't be listed, or a file or standard input can't be read.
     Read,
+    /// A file stands where a folder is wanted.
+    FileForFolder,
     /// Standard output has failed.
     Write,
     /// An argument is no text.

@@ -6,6 +6,7 @@ pub mod explained;
 pub mod fault;
 pub mod printed;
 pub mod refusal;
+pub mod refusals;
 pub mod sentences;
 pub mod spot;
 

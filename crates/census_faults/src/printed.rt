@@ -5,8 +5,8 @@ ghost use Rattle.census_faults.specs.Printed.{ShowsNameBytes, ShowsNames, printe
 
 use std::alloc::{AllocError, Global};
 
-// Whether a byte may stand in a lawful name.
-fn is_name_byte(byte: u8) -> bool
+/// Whether a byte may stand in a lawful name: it is neither below 32 nor 127.
+pub fn is_name_byte(byte: u8) -> bool
     ensures { result ≡ is_name_byte byte }
 {
     byte >= 32 && byte != 127

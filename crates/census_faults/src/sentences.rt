@@ -74,9 +74,12 @@ pub fn sentence(fault: Fault) -> &'static str
             "the generation can't be asked for: it must be a number from 0 to 4194304",
         Fault::Report =>
             "a line is not one that a report has in this place: it must be as `census run` or `census objects` writes it",
-        Fault::TooLong => "there are too many bytes: a text must have at most 67108864",
+        Fault::TooLong =>
+            "there are too many bytes: a text must have at most 67108864, and all files of folders at most as many as `--input` says",
         Fault::Read =>
             "reading failed: a folder must be one that can be listed, and a file a regular file that can be read",
+        Fault::FileForFolder =>
+            "a file stands where a folder is wanted: `census identify FILE` tells what the pattern of a file is",
         Fault::Write => "writing failed: what the output goes to must stay open and have room",
         Fault::Arguments => "an argument is no text: each must be in UTF-8",
         Fault::Words =>

@@ -1,6 +1,5 @@
 -- The trees of the words so far, whatever can't be told.
 use Rattle.std.proofs.Common.{◌≡◌, ℕ, ◌+◌, ◌<◌, List, [], ◌++◌, length, take, get_or, Bor}
-use Rattle.std.specs.List.{FoldsTo}
 use Rattle.std.proofs.lemmas.Fn.{FoldsTo-push}
 use Rattle.std.proofs.lemmas.List.{map_more}
 use Rattle.census_folders.specs.declared.loss.Loss.{Loss}

@@ -1,4 +1,5 @@
 pub mod Listings
+pub mod Totals
 pub mod Growths
 pub mod Stops
 pub mod Reaches

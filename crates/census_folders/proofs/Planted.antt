@@ -1,6 +1,5 @@
 -- The trees of the words so far, and the word at which they stop.
-use Rattle.std.proofs.Common.{◌≡◌, ◌⊎◌, inr, ℕ, ◌+◌, ◌<◌, List, [], ◌∷◌, ◌++◌, length, map, take, get_or, Some, Bor, ap, ◌∙◌, arith}
-use Rattle.std.specs.List.{FoldsTo}
+use Rattle.std.proofs.Common.{◌≡◌, inr, ℕ, ◌+◌, ◌<◌, List, [], ◌++◌, length, take, get_or, Some, Bor, ap, ◌∙◌, arith}
 use Rattle.std.proofs.lemmas.Fn.{FoldsTo-push}
 use Rattle.std.proofs.lemmas.List.{get_or-map, length-map, map_more, take-map}
 use Rattle.std.proofs.lemmas.Option.{slice_get-get_or}

@@ -1,6 +1,7 @@
 pub mod Told
 pub mod Faults
 pub mod Folders
+pub mod Sums
 pub mod Shelves
 pub mod Walks
 pub mod Losses

@@ -14,6 +14,7 @@ use Rattle.census_folders.specs.declared.keeping.Kept.{Kept}
 use Rattle.census_folders.specs.declared.loss.Loss.{Loss}
 use Rattle.census_folders.specs.Folders.{file_limit}
 use Rattle.census_folders.specs.Shelves.{IsChosen}
+use Rattle.census_folders.specs.Sums.{Fits, less, most_of}
 use Rattle.census_folders.specs.Told.{Told, GivesTold, MayExceed, MayFail}
 use Rattle.census_folders.specs.Walks.{path_of}
 
@@ -29,24 +30,26 @@ with_loss lost path entry = lost ++ record { path = path; entry = entry } ∷ []
 
 -- # Files
 
--- the text of a file, which is lost where it can't be read
-abbrev pub GivesText : Told → Option (List ℕ) → Type 0
-GivesText told (Some text) = GivesTold told text × (length text ≤ file_limit)
-GivesText told None = MayFail told ⊎ MayExceed file_limit told
+-- the text of a file, which is lost where it can't be read or has more bytes than may still be read
+abbrev pub GivesText : Told → Option ℕ → Option (List ℕ) → Type 0
+GivesText told left (Some text) = GivesTold told text × Fits left (length text) × (length text ≤ file_limit)
+GivesText told left None = MayFail told ⊎ MayExceed (most_of left) told
 
 -- an entry of this text, or a lost one, which is told
 abbrev pub with_text : List ℕ → List ℕ → Option (List ℕ) → Kept → Kept
-with_text folder name (Some text) old = record { bundle = with_entry old.bundle (entry_of name text); lost = old.lost }
+with_text folder name (Some text) old =
+    record { bundle = with_entry old.bundle (entry_of name text); lost = old.lost; left = less old.left (length text) }
 with_text folder name None old =
     record {
       bundle = with_entry old.bundle (lost_entry name);
       lost = with_loss old.lost (path_of folder name) (Some (last_place (with_entry old.bundle (lost_entry name))));
+      left = old.left;
     }
 
 -- an entry was added to the last folder, in which there was room
 pub record AddsEntry (told : Told) (folder name : List ℕ) (old new : Kept) : Type 0 where
   pub text : Option (List ℕ)
-  pub gives : GivesText told text
+  pub gives : GivesText told old.left text
   pub room : length (last_entries old.bundle) < count_limit
   pub added : new ≡ with_text folder name text old
 
@@ -115,11 +118,15 @@ abbrev pub StopsKeepingFolder : (List ℕ → Told) → (List ℕ → List ℕ �
 StopsKeepingFolder listed held word old fault =
     (fault ≡ Memory) ⊎ (((fault ≡ Add adds.TooMany) × (is_name word ≡ true) × (count_limit ≤ length old.bundle)) ⊎ StopsInFolder listed held word old fault)
 
+-- nothing is kept so far, and so many bytes may be read in all
+abbrev pub nothing : Option ℕ → Kept
+nothing limit = record { bundle = []; lost = []; left = limit }
+
 -- the folders of the words before this place were added; the folder of the word at this place was not
-pub record StopsKeepingAt (listed : List ℕ → Told) (held : List ℕ → List ℕ → Told) (words : List (List ℕ)) (fault : FoldersFault) : Type 0 where
+pub record StopsKeepingAt (listed : List ℕ → Told) (held : List ℕ → List ℕ → Told) (limit : Option ℕ) (words : List (List ℕ)) (fault : FoldersFault) : Type 0 where
   pub place : ℕ
   pub word : List ℕ
   pub is : slice_get words place ≡ Some word
   pub kept : Kept
-  pub before : FoldsTo (KeepsFolder listed held) (record { bundle = []; lost = [] }) (take place words) kept
+  pub before : FoldsTo (KeepsFolder listed held) (nothing limit) (take place words) kept
   pub why : StopsKeepingFolder listed held word kept fault

@@ -1,5 +1,5 @@
 -- What a shelf tells of folders that were read, and why others were not.
-use Rattle.std.specs.Prelude.{◌≡◌, ◌⊎◌, ℕ, ◌<◌, ◌≤◌, [], ◌∷◌, ◌++◌, Bool, true, false, List, length, take, slice_get, Some, nat_eq, nat_le, MatchBool}
+use Rattle.std.specs.Prelude.{◌≡◌, ◌⊎◌, ℕ, ◌<◌, ◌≤◌, [], ◌∷◌, ◌++◌, Bool, true, false, List, length, take, slice_get, Option, Some, nat_eq, nat_le, MatchBool}
 use Rattle.std.specs.List.{All, filter, slice_split}
 use Rattle.std.specs.List.Sorted.{IsPermutation}
 use Rattle.census_bundle.specs.declared.bundle.AddFault.TheVariants as adds
@@ -11,6 +11,7 @@ use Rattle.census_bundle.specs.Sizes.{count_limit}
 use Rattle.census_folders.specs.declared.fault.FoldersFault.{FoldersFault}
 use Rattle.census_folders.specs.declared.fault.FoldersFault.TheVariants.{Add, Read, TooLong, Memory}
 use Rattle.census_folders.specs.Folders.{AreInOrder, HoldsFolders, IsPatternFile, IsPatternFolder, file_limit, is_pattern_name, names_of}
+use Rattle.census_folders.specs.Sums.{Fits, bytes_in, bytes_of_all, less, most_of}
 use Rattle.census_folders.specs.Told.{Told, GivesTold, MayExceed, MayFail}
 
 -- # Which files
@@ -46,21 +47,21 @@ pub record HoldsShelf (listed : List ℕ → Told) (held : List ℕ → List ℕ
 -- # Why folders were not read
 
 -- the file may be short enough, and readable
-abbrev pub CanRead : Told → Type 0
-CanRead told = (bytes : List ℕ) × GivesTold told bytes × (length bytes ≤ file_limit)
+abbrev pub CanRead : Told → Option ℕ → Type 0
+CanRead told left = (bytes : List ℕ) × GivesTold told bytes × Fits left (length bytes) × (length bytes ≤ file_limit)
 
--- why a file is not added after so many others of its folder
-abbrev pub StopsFile : Told → ℕ → List ℕ → FoldersFault → Type 0
-StopsFile told count name (Add adds.BadName) = CanRead told × (is_name name ≡ false)
-StopsFile told count name (Add adds.NoFolder) = ⊥
-StopsFile told count name (Add adds.TooMany) = CanRead told × (is_name name ≡ true) × (count_limit ≤ count)
-StopsFile told count name (Add adds.Memory) = ⊥
-StopsFile told count name Read = MayFail told
-StopsFile told count name TooLong = MayExceed file_limit told
-StopsFile told count name Memory = Unit {0}
+-- why a file is not added after so many others of its folder, where so many bytes may still be read
+abbrev pub StopsFile : Told → Option ℕ → ℕ → List ℕ → FoldersFault → Type 0
+StopsFile told left count name (Add adds.BadName) = CanRead told left × (is_name name ≡ false)
+StopsFile told left count name (Add adds.NoFolder) = ⊥
+StopsFile told left count name (Add adds.TooMany) = CanRead told left × (is_name name ≡ true) × (count_limit ≤ count)
+StopsFile told left count name (Add adds.Memory) = ⊥
+StopsFile told left count name Read = MayFail told
+StopsFile told left count name TooLong = MayExceed (most_of left) told
+StopsFile told left count name Memory = Unit {0}
 
--- the files before this place were added; the file at this place was not
-pub record StopsAtFile (listed : List ℕ → Told) (held : List ℕ → List ℕ → Told) (word : List ℕ) (fault : FoldersFault) : Type 0 where
+-- The files before this place were added, as entries of these texts; the file at this place was not.
+pub record StopsAtFile (listed : List ℕ → Told) (held : List ℕ → List ℕ → Told) (left : Option ℕ) (word : List ℕ) (fault : FoldersFault) : Type 0 where
   pub listing : List ℕ
   pub lists : GivesTold (listed word) listing
   pub names : List (List ℕ)
@@ -68,10 +69,13 @@ pub record StopsAtFile (listed : List ℕ → Told) (held : List ℕ → List �
   pub place : ℕ
   pub name : List ℕ
   pub is : slice_get names place ≡ Some name
-  pub lawful : All (λ before. is_name before ≡ true) (take place names)
-  pub sound : All (λ before. CanRead (held word before)) (take place names)
+  pub entries : List Entry
+  pub named : names_of entries ≡ take place names
+  pub files : All IsPatternFile entries
+  pub texts : All (λ e. GivesTold (held word e.name) e.text) entries
+  pub fits : Fits left (bytes_in entries)
   pub few : place ≤ count_limit
-  pub why : StopsFile (held word name) place name fault
+  pub why : StopsFile (held word name) (less left (bytes_in entries)) place name fault
 
 -- why the names of a folder are not listed
 abbrev pub StopsList : Told → FoldersFault → Type 0
@@ -80,43 +84,45 @@ StopsList told Read = MayFail told
 StopsList told TooLong = ⊥
 StopsList told Memory = Unit {0}
 
--- why the folder of a word is not read after so many others
-abbrev pub StopsFolderOf : (List ℕ → Told) → (List ℕ → List ℕ → Told) → ℕ → List ℕ → FoldersFault → Type 0
-StopsFolderOf listed held count word fault =
-    MatchBool (is_name word) (MatchBool (nat_le count_limit count) (fault ≡ Add adds.TooMany) (StopsList (listed word) fault ⊎ StopsAtFile listed held word fault)) (fault ≡ Add adds.BadName)
+-- why the folder of a word is not read after so many others, where so many bytes may still be read
+abbrev pub StopsFolderOf : (List ℕ → Told) → (List ℕ → List ℕ → Told) → Option ℕ → ℕ → List ℕ → FoldersFault → Type 0
+StopsFolderOf listed held left count word fault =
+    MatchBool (is_name word) (MatchBool (nat_le count_limit count) (fault ≡ Add adds.TooMany) (StopsList (listed word) fault ⊎ StopsAtFile listed held left word fault)) (fault ≡ Add adds.BadName)
 
--- the folder of a word can be read
-pub record CanReadFolder (listed : List ℕ → Told) (held : List ℕ → List ℕ → Told) (word : List ℕ) : Type 0 where
-  pub folder : Folder
-  pub named : folder.name ≡ word
-  pub lawful : IsPatternFolder folder
-  pub told : IsFolderOf listed held folder
-
--- The folders of the words before this place were read; the folder of the word at this place was not.
-pub record StopsAtShelf (listed : List ℕ → Told) (held : List ℕ → List ℕ → Told) (words : List (List ℕ)) (fault : FoldersFault) : Type 0 where
+-- The folders of the words before this place were read, of no more bytes than there may be in all; the folder of the word
+-- at this place was not.
+pub record StopsAtShelf (listed : List ℕ → Told) (held : List ℕ → List ℕ → Told) (limit : Option ℕ) (words : List (List ℕ)) (fault : FoldersFault) : Type 0 where
   pub place : ℕ
   pub word : List ℕ
   pub is : slice_get words place ≡ Some word
-  pub before : All (CanReadFolder listed held) (take place words)
+  pub folders : List Folder
+  pub before : HoldsShelf listed held (take place words) folders
+  pub fits : Fits limit (bytes_of_all folders)
   pub few : place ≤ count_limit
-  pub why : StopsFolderOf listed held place word fault
+  pub why : StopsFolderOf listed held (less limit (bytes_of_all folders)) place word fault
 
 -- # One more
 
--- one more pattern file in the last folder, for which there was room, with the bytes that are told
-pub record AddsFileOf (told : Told) (name : List ℕ) (old new : List Folder) : Type 0 where
+-- One more pattern file in the last folder, for which there was room, with the bytes that are told. So many bytes might be
+-- read before it, and so many after it.
+pub record AddsFileOf (told : Told) (name : List ℕ) (before after : Option ℕ) (old new : List Folder) : Type 0 where
   pub file : Entry
   pub named : file.name ≡ name
   pub is_file : IsPatternFile file
   pub text : GivesTold told file.text
+  pub fits : Fits before (length file.text)
+  pub left : after ≡ less before (length file.text)
   pub room : length (last_entries old) < count_limit
   pub added : new ≡ with_entry old file
 
--- one more folder of pattern files, for which there was room, as the shelf tells
-pub record AddsFolderOf (listed : List ℕ → Told) (held : List ℕ → List ℕ → Told) (name : List ℕ) (old new : List Folder) : Type 0 where
+-- One more folder of pattern files, for which there was room, as the shelf tells. So many bytes might be read before it, and
+-- so many after it.
+pub record AddsFolderOf (listed : List ℕ → Told) (held : List ℕ → List ℕ → Told) (name : List ℕ) (before after : Option ℕ) (old new : List Folder) : Type 0 where
   pub folder : Folder
   pub named : folder.name ≡ name
   pub is_folder : IsPatternFolder folder
   pub told : IsFolderOf listed held folder
+  pub fits : Fits before (bytes_in folder.entries)
+  pub left : after ≡ less before (bytes_in folder.entries)
   pub room : length old < count_limit
   pub added : new ≡ old ++ folder ∷ []

@@ -98,6 +98,22 @@ fn is_folder<R: Files>(
     }
 }
 
+// What the system says of an error.
+fn words_of(alloc: Global, error: &io::Error) -> Option<Vec<u8>> {
+    match format!(in alloc; "{error}") {
+        Ok(words) => words.as_bytes().to_vec(alloc).ok(),
+        Err(_) => None,
+    }
+}
+
+// What the system says where this is opened.
+fn words_at_opening<F: Drop>(alloc: Global, opened: io::Result<F>) -> Option<Vec<u8>> {
+    match opened {
+        Ok(_) => None,
+        Err(error) => words_of(alloc, &error),
+    }
+}
+
 impl<R: Files> Shelf for R {
     fn list(&self, alloc: Global, folder: &str) -> Result<Vec<u8>, ReadFault> {
         // A path that ends in a slash is that of a folder, also after a link.
@@ -134,5 +150,17 @@ impl<R: Files> Shelf for R {
     ) -> Result<Vec<u8>, ReadFault> {
         let path = path_in(alloc, folder, name)?;
         read_opened(alloc, fs::open(self, path), limit)
+    }
+
+    fn word(&self, alloc: Global, path: &[u8]) -> Option<Vec<u8>> {
+        let Ok(path) = path_in(alloc, "", path) else {
+            return None;
+        };
+        match fs::metadata(self, path.as_path()) {
+            Err(error) => words_of(alloc, &error),
+            Ok(found) if found.is_file() => words_at_opening(alloc, fs::open(self, path)),
+            Ok(found) if found.is_dir() => words_at_opening(alloc, self.open_dir(path.as_str())),
+            Ok(_) => None,
+        }
     }
 }

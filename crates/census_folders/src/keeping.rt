@@ -1,14 +1,15 @@
 //! Reading folders of pattern files, whatever is lost.
-ghost use Rattle.std.specs.Prelude.{◌≡◌, ◌<◌, [], length, map, option_map, IfErr, MatchResult};
+ghost use Rattle.std.specs.Prelude.{◌≡◌, ◌<◌, length, map, option_map, IfErr, MatchResult};
 ghost use Rattle.std.specs.List.{FoldsTo};
 ghost use Rattle.census_folders.specs.declared.fault.FoldersFault.TheVariants.{Memory};
-ghost use Rattle.census_folders.specs.Losses.{GivesText, KeepsFile, KeepsFolder, StopsKeepingAt, StopsKeepingFile, StopsKeepingFolder};
+ghost use Rattle.census_folders.specs.Losses.{GivesText, KeepsFile, KeepsFolder, StopsKeepingAt, StopsKeepingFile, StopsKeepingFolder, nothing};
 
 use crate::fault::FoldersFault;
 use crate::files::read_file;
 use crate::listing::pattern_names;
 use crate::loss::{Losses, last_place, path_of};
 use crate::shelf::Shelf;
+use crate::sums::less;
 use census_bundle::bundle::{AddFault, Bundle};
 use std::alloc::Global;
 use watched::reading::ReadFault;
@@ -18,20 +19,23 @@ use watched::reading::ReadFault;
 pub struct Kept {
     pub bundle: Bundle,
     pub lost: Losses,
+    /// How many bytes might still be read, where there is a limit.
+    pub left: Option<u64>,
 }
 
-// The bytes of a file in a folder, or nothing where it can't be read or has more than 67,108,864 bytes.
+// The bytes of a file in a folder, or nothing where it can't be read or has more bytes than it may have.
 fn read_text<S: Shelf>(
     shelf: &S,
     alloc: Global,
     folder: &str,
     name: &[u8],
+    left: Option<u64>,
 ) -> Result<Option<Vec<u8>>, FoldersFault>
     ensures { MatchResult result
-        (λ text. GivesText (S.held shelf.now folder.now name.now) (option_map (λ bytes. bytes.items) text))
+        (λ text. GivesText (S.held shelf.now folder.now name.now) left (option_map (λ bytes. bytes.items) text))
         (λ fault. fault ≡ Memory) }
 {
-    match read_file(shelf, alloc, folder, name) {
+    match read_file(shelf, alloc, folder, name, left) {
         Ok(bytes) => Ok(Some(bytes)),
         Err(ReadFault::Memory) => Err(FoldersFault::Memory),
         Err(ReadFault::Read | ReadFault::TooLong) => Ok(None),
@@ -52,20 +56,24 @@ fn keep_file<S: Shelf>(
         (λ _. KeepsFile (S.held shelf.now folder.now name.now) folder.now name.now kept.old kept.new)
         (StopsKeepingFile name.now kept.old) }
 {
-    let text = read_text(shelf, alloc, folder, name)?;
+    let text = read_text(shelf, alloc, folder, name, kept.left)?;
     let added = match &text {
         Some(bytes) => kept.bundle.add_entry(name, bytes.as_slice()),
         None => kept.bundle.add_lost(name),
     };
     match added {
-        Ok(()) => {
-            if text.is_none() {
+        Ok(()) => match text {
+            Some(bytes) => {
+                kept.left = less(kept.left, bytes.len());
+                Ok(())
+            }
+            None => {
                 let path = path_of(alloc, folder, name)?;
                 let place = last_place(&kept.bundle);
                 kept.lost.add(alloc, path.as_slice(), Some(place))?;
+                Ok(())
             }
-            Ok(())
-        }
+        },
         Err(AddFault::BadName) => {
             let path = path_of(alloc, folder, name)?;
             kept.lost.add(alloc, path.as_slice(), None)?;
@@ -110,7 +118,8 @@ fn keep_folder<S: Shelf>(
 }
 
 /// Reads the folders of these words into a bundle, as [`read_folders`](crate::reading::read_folders) does, but goes on
-/// where that ends. A file that can't be read, or that has more than 67,108,864 bytes, is a lost entry; a folder
+/// where that ends. A file that can't be read, or that has more than 67,108,864 bytes, is a lost entry, and so is, where there
+/// is a limit, one that would take all texts together past it: what comes after it is read where it still fits. A folder
 /// that can't be listed is one without entries; and a folder or a file whose name isn't lawful is left out. Each of these
 /// is among what was lost, in this order.
 ///
@@ -123,14 +132,16 @@ pub fn read_folders_on<S: Shelf>(
     shelf: &S,
     alloc: Global,
     folders: &[&str],
+    limit: Option<u64>,
 ) -> Result<Kept, FoldersFault>
     ensures { MatchResult result
-        (FoldsTo (KeepsFolder (S.listed shelf.now) (S.held shelf.now)) (record { bundle = []; lost = [] }) (map (λ s. s.now) folders.now))
-        (StopsKeepingAt (S.listed shelf.now) (S.held shelf.now) (map (λ s. s.now) folders.now)) }
+        (FoldsTo (KeepsFolder (S.listed shelf.now) (S.held shelf.now)) (nothing limit) (map (λ s. s.now) folders.now))
+        (StopsKeepingAt (S.listed shelf.now) (S.held shelf.now) limit (map (λ s. s.now) folders.now)) }
 {
     let mut kept = Kept {
         bundle: Bundle::empty(alloc),
         lost: Losses::none(alloc),
+        left: limit,
     };
     for word in folders {
         keep_folder(shelf, alloc, &mut kept, word)?;

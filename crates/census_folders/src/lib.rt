@@ -9,6 +9,7 @@ mod listing;
 pub mod loss;
 pub mod reading;
 pub mod shelf;
+mod sums;
 pub mod trees;
 pub mod walking;
 mod walking_on;

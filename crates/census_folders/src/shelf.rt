@@ -48,4 +48,10 @@ pub trait Shelf {
         ensures within { IfOk result (λ bytes. vec_len bytes ≤ limit) }
         ensures told { IfOk result (λ bytes. GivesTold (held self.now folder.now name.now) bytes.items) }
         ensures fault { IfErr result (RefusesFile limit (held self.now folder.now name.now)) };
+
+    /// What the system says of why the folder or the file of this path can't be read, where it says anything. Nothing is
+    /// opened that isn't a folder or a regular file.
+    fn word(&self, _alloc: Global, _path: &[u8]) -> Option<Vec<u8>> {
+        None
+    }
 }

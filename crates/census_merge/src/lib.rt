@@ -3,4 +3,4 @@
 
 pub mod merging;
 mod renumber;
-mod sums;
+pub mod sums;

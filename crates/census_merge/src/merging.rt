@@ -4,15 +4,21 @@
 //! their numbers, then those of the second, numbered on, and so forth. Nothing else of their rows
 //! changes, nor their order; of the `end` rows one is left, which has the sums. Since a `code` row
 //! counts what is in one collection, none of these are added up.
-ghost use Rattle.std.specs.Prelude.{◌≡◌, IfOk, MatchResult, Some, None};
+ghost use Rattle.std.specs.Prelude.{◌≡◌, MatchResult, Some, None};
+ghost use Rattle.gathered.specs.Telling.{Tells, sheet};
 ghost use Rattle.census_readback.specs.Shapes.{AreReports};
+ghost use Rattle.census_readback.specs.Texts.{line_of, text_of};
 ghost use Rattle.census_merge.specs.Merged.{merged};
-ghost use Rattle.census_merge.specs.Sums.{first_excess, none};
+ghost use Rattle.census_merge.specs.Sums.{first_excess, none, sums_in};
 
 use crate::renumber::renumbered;
 use crate::sums::{Sums, ended};
 use census_rows::row::Row;
-use std::alloc::{AllocError, Global};
+use census_rows::write::put_row;
+use gathered::block::Block;
+use gathered::putting::put;
+use std::io::Write;
+use watched::watched::Watched;
 
 /// The number, from 1, of the first of several reports with which there are too many collections,
 /// which is more than 65,535, or too many patterns, which is more than 64 bits can count.
@@ -21,35 +27,62 @@ pub struct TooMany {
     pub report: usize,
 }
 
-/// The rows of one report of all the collections, from those of reports that stand one after
-/// another.
-pub fn merge<'a>(
-    alloc: Global,
-    rows: &[Row<'a>],
-) -> Result<Result<Vec<Row<'a>>, TooMany>, AllocError>
+/// How many collections and patterns reports have that stand one after another, where one report can have so many.
+pub fn sums(rows: &[Row]) -> Result<Sums, TooMany>
     requires { AreReports rows.now }
-    ensures { IfOk result (λ merging. MatchResult merging
-        (λ found. (first_excess 1 none rows.now ≡ None) × (found.items ≡ merged rows.now))
-        (λ excess. first_excess 1 none rows.now ≡ Some excess.report)) }
+    ensures { MatchResult result
+        (λ all. (first_excess 1 none rows.now ≡ None) × (all ≡ sums_in none rows.now))
+        (λ excess. first_excess 1 none rows.now ≡ Some excess.report) }
 {
     let mut sums = Sums::none();
     let mut report = 1;
-    let mut merged = Vec::new(alloc);
+    for row in rows {
+        let Some(more) = ended(row) else {
+            continue;
+        };
+        let Some(with) = sums.with(more) else {
+            return Err(TooMany { report });
+        };
+        sums = with;
+        report += 1;
+    }
+    Ok(sums)
+}
+
+// Tells a row's line.
+fn put_line<W: Write>(row: &Row, block: &mut Block, writer: &mut Watched<W>)
+    ensures { Tells (line_of row.now) (sheet W.contents block.old writer.old) (sheet W.contents block.new writer.new) }
+{
+    put_row(row, block, writer);
+    put(b"\n", block, writer);
+}
+
+/// Tells one report of all the collections, from the rows of reports that stand one after another and aren't too many. It
+/// asks for no memory but the block's.
+pub fn put_merged<W: Write>(rows: &[Row], block: &mut Block, writer: &mut Watched<W>)
+    requires reports { AreReports rows.now }
+    requires fits { first_excess 1 none rows.now ≡ None }
+    ensures { Tells (text_of (merged rows.now))
+        (sheet W.contents block.old writer.old) (sheet W.contents block.new writer.new) }
+{
+    let mut sums = Sums::none();
     for index in 0..rows.len() {
+        if writer.failed() {
+            return;
+        }
         let row = rows[index];
         let Some(more) = ended(&row) else {
-            merged.push(renumbered(sums.collections, row))?;
+            put_line(&renumbered(sums.collections, row), block, writer);
             continue;
         };
         let Some(all) = sums.with(more) else {
-            return Ok(Err(TooMany { report }));
+            return;
         };
         sums = all;
-        report += 1;
     }
-    merged.push(Row::End {
+    let end = Row::End {
         collections: sums.collections,
         patterns: sums.patterns,
-    })?;
-    Ok(Ok(merged))
+    };
+    put_line(&end, block, writer);
 }

@@ -1,7 +1,7 @@
 //! The page.
 ghost use Rattle.std.specs.Prelude.{◌≡◌, ◌++◌, [], IfOk, List, OnOk};
 ghost use Rattle.census_rows.specs.declared.row.Row.{Row};
-ghost use Rattle.census_readback.specs.Grouped.{collections_of, items_of};
+ghost use Rattle.census_readback.specs.Grouped.{collections_of, items_of, lent};
 ghost use Rattle.census_readback.specs.Shapes.{AreReports};
 ghost use Rattle.census_page.specs.Pages.{code_table, codes_in, counts_text, framed, heading, headings, name_text, page_of, section_text, sections_codes, sections_text, stray_list, stray_row, stray_rows};
 
@@ -65,11 +65,11 @@ fn push_heading(alloc: Global, text: &mut Vec<u8>, row: &Row) -> Result<(), Allo
 }
 
 // Adds the name of a collection and its counts.
-fn push_headings(alloc: Global, text: &mut Vec<u8>, rows: &[Row]) -> Result<(), AllocError>
-    ensures { OnOk result (text.new.items ≡ text.old.items ++ headings rows.now) }
+fn push_headings(alloc: Global, text: &mut Vec<u8>, rows: &[&Row]) -> Result<(), AllocError>
+    ensures { OnOk result (text.new.items ≡ text.old.items ++ headings (lent rows.now)) }
 {
     for row in rows {
-        push_heading(alloc, text, row)?;
+        push_heading(alloc, text, *row)?;
     }
     Ok(())
 }
@@ -85,11 +85,11 @@ fn push_stray_row(alloc: Global, text: &mut Vec<u8>, row: &Row) -> Result<(), Al
 }
 
 // Adds an item for each unresolved or refused pattern.
-fn push_stray_rows(alloc: Global, text: &mut Vec<u8>, rows: &[Row]) -> Result<(), AllocError>
-    ensures { OnOk result (text.new.items ≡ text.old.items ++ stray_rows rows.now) }
+fn push_stray_rows(alloc: Global, text: &mut Vec<u8>, rows: &[&Row]) -> Result<(), AllocError>
+    ensures { OnOk result (text.new.items ≡ text.old.items ++ stray_rows (lent rows.now)) }
 {
     for row in rows {
-        push_stray_row(alloc, text, row)?;
+        push_stray_row(alloc, text, *row)?;
     }
     Ok(())
 }
@@ -114,8 +114,8 @@ fn push_framed(
 }
 
 // Adds the table of a collection's codes.
-fn push_code_table(alloc: Global, text: &mut Vec<u8>, rows: &[Row]) -> Result<(), AllocError>
-    ensures { OnOk result (text.new.items ≡ text.old.items ++ code_table rows.now) }
+fn push_code_table(alloc: Global, text: &mut Vec<u8>, rows: &[&Row]) -> Result<(), AllocError>
+    ensures { OnOk result (text.new.items ≡ text.old.items ++ code_table (lent rows.now)) }
 {
     let holders = holders(alloc, rows)?;
     let mut inner = Vec::new(alloc);
@@ -124,8 +124,8 @@ fn push_code_table(alloc: Global, text: &mut Vec<u8>, rows: &[Row]) -> Result<()
 }
 
 // Adds the list of a collection's unresolved and refused patterns.
-fn push_stray_list(alloc: Global, text: &mut Vec<u8>, rows: &[Row]) -> Result<(), AllocError>
-    ensures { OnOk result (text.new.items ≡ text.old.items ++ stray_list rows.now) }
+fn push_stray_list(alloc: Global, text: &mut Vec<u8>, rows: &[&Row]) -> Result<(), AllocError>
+    ensures { OnOk result (text.new.items ≡ text.old.items ++ stray_list (lent rows.now)) }
 {
     let mut inner = Vec::new(alloc);
     push_stray_rows(alloc, &mut inner, rows)?;
@@ -133,8 +133,8 @@ fn push_stray_list(alloc: Global, text: &mut Vec<u8>, rows: &[Row]) -> Result<()
 }
 
 // Adds a collection.
-fn push_section(alloc: Global, text: &mut Vec<u8>, rows: &[Row]) -> Result<(), AllocError>
-    ensures { OnOk result (text.new.items ≡ text.old.items ++ section_text rows.now) }
+fn push_section(alloc: Global, text: &mut Vec<u8>, rows: &[&Row]) -> Result<(), AllocError>
+    ensures { OnOk result (text.new.items ≡ text.old.items ++ section_text (lent rows.now)) }
 {
     text.extend_from_slice(b"<section>\n")?;
     push_headings(alloc, text, rows)?;
@@ -145,7 +145,11 @@ fn push_section(alloc: Global, text: &mut Vec<u8>, rows: &[Row]) -> Result<(), A
 }
 
 // Adds each collection.
-fn push_sections(alloc: Global, text: &mut Vec<u8>, sections: &[Vec<Row>]) -> Result<(), AllocError>
+fn push_sections(
+    alloc: Global,
+    text: &mut Vec<u8>,
+    sections: &[Vec<&Row>],
+) -> Result<(), AllocError>
     ensures { OnOk result (text.new.items
         ≡ text.old.items ++ sections_text (items_of sections.now)) }
 {

@@ -1,2 +1,6 @@
 pub mod Joined
 pub mod Read
+pub mod Told
+pub mod Failing
+pub mod Halted
+pub mod SameTable

@@ -7,6 +7,8 @@ use Rattle.census_merge.specs.Sums.{first_excess, none}
 use Rattle.census_page.specs.Pages.{page_of}
 use Rattle.census_table.specs.Entries.{entries_of}
 use Rattle.census_table.specs.Tables.{csv_text, json_text}
+use Rattle.census_table.specs.declared.table.Format.{Format}
+use Rattle.census_table.specs.declared.table.Format.TheVariants as format
 use Rattle.census_reports.specs.Rows.{AreRowsOf, HasFault}
 use Rattle.census_reports.specs.declared.error.ReportsError.{ReportsError}
 use Rattle.census_reports.specs.declared.error.ReportsError.TheVariants.{Fault, TooMany, Memory}
@@ -20,6 +22,18 @@ IsMade Csv rows text = text ≡ csv_text (entries_of rows)
 IsMade Json rows text = text ≡ json_text (entries_of rows)
 IsMade Page rows text = text ≡ page_of rows
 
+-- a table
+abbrev pub IsTable : Form → Type 0
+IsTable Merged = ⊥
+IsTable Csv = Unit {0}
+IsTable Json = Unit {0}
+IsTable Page = ⊥
+
+-- the table in a format
+abbrev pub table_in : Format → Form
+table_in format.Csv = Csv
+table_in format.Json = Json
+
 -- a report with which there are too many collections for one report
 abbrev pub Exceeds : Form → List Row → ℕ → Type 0
 Exceeds Merged rows report = first_excess 1 none rows ≡ Some report
@@ -27,7 +41,7 @@ Exceeds Csv rows report = ⊥
 Exceeds Json rows report = ⊥
 Exceeds Page rows report = ⊥
 
--- why nothing is written of rows
+-- why nothing is written of rows, or only a prefix of a table
 abbrev pub RefusesRows : ReportsError → Form → List Row → Type 0
 RefusesRows (TooMany report) form rows = Exceeds form rows report
 RefusesRows Memory form rows = Unit {0}
@@ -47,7 +61,7 @@ pub record ExceedsIn (form : Form) (texts : List (List ℕ)) (report : ℕ) : Ty
   pub reports : AreRowsOf rows texts
   pub excess : Exceeds form rows report
 
--- why nothing is written of texts
+-- why nothing is written of texts, or only a prefix of a table
 abbrev pub RefusesTexts : ReportsError → Form → List (List ℕ) → Type 0
 RefusesTexts (Fault number line) form texts = HasFault number line texts
 RefusesTexts (TooMany report) form texts = ExceedsIn form texts report

@@ -1,56 +1,149 @@
-//! What is made of the rows of reports.
-ghost use Rattle.std.specs.Prelude.{MatchResult};
+//! What is made of the rows of reports, written.
+ghost use Rattle.std.specs.Prelude.{◌≡◌, List, MatchResult, None};
+ghost use Rattle.census_rows.specs.declared.row.Row.{Row};
+ghost use Rattle.census_identify.specs.Streams.{Writes, WritesFront, sink};
 ghost use Rattle.census_readback.specs.Shapes.{AreReports};
-ghost use Rattle.census_reports.specs.Forms.{IsMade, RefusesRows};
+ghost use Rattle.census_readback.specs.Texts.{text_of};
+ghost use Rattle.census_merge.specs.Merged.{merged};
+ghost use Rattle.census_merge.specs.Sums.{first_excess, none};
+ghost use Rattle.census_table.specs.Entries.{entries_of};
+ghost use Rattle.census_reports.specs.Forms.{table_in};
+ghost use Rattle.census_reports.specs.Written.{FailsRows, WritesRows};
 
 use crate::error::ReportsError;
-use crate::lines::text_of;
-use census_merge::merging::merge;
+use census_merge::merging::{put_merged, sums};
 use census_page::page::page;
 use census_rows::row::Row;
-use census_table::comma::csv_table;
-use census_table::json_lines::json_table;
+use census_table::table::{Format, put_table};
+use gathered::block::Block;
+use gathered::putting::send;
 use std::alloc::Global;
+use std::io::Write;
+use watched::watched::{Failed, Watched};
+use watched::writing::put_all;
 
 /// What is written of reports.
 #[derive(Clone, Copy, Debug, PartialEq, Eq)]
 pub enum Form {
     /// One report of all their collections, as `merge` makes it.
     Merged,
-    /// Their patterns as comma-separated values, as `csv_table` makes them.
+    /// Their patterns as comma-separated values, as `put_table` tells them.
     Csv,
-    /// Their patterns as a JSON object a line, as `json_table` makes them.
+    /// Their patterns as a JSON object a line, as `put_table` tells them.
     Json,
     /// Their codes, with pictures, as one HTML page, as `page` makes it.
     Page,
 }
 
-// One report of reports that stand one after another.
-fn merged_text(alloc: Global, rows: &[Row]) -> Result<Vec<u8>, ReportsError>
+// Writes one report of reports that stand one after another and aren't too many.
+fn write_report<O: Write>(
+    alloc: Global,
+    rows: &[Row],
+    output: &mut Watched<O>,
+) -> Result<(), Failed>
+    requires reports { AreReports rows.now }
+    requires fits { first_excess 1 none rows.now ≡ None }
+    ensures { MatchResult result
+        (λ _. Writes (text_of (merged rows.now)) (sink O.contents output.old) (sink O.contents output.new))
+        (λ _. WritesFront (text_of (merged rows.now)) (sink O.contents output.old) (sink O.contents output.new)) }
+{
+    let mut block = Block::new(alloc);
+    put_merged(rows, &mut block, output);
+    send(&mut block, output)
+}
+
+// The same, where they aren't too many.
+fn write_merged<O: Write>(
+    alloc: Global,
+    rows: &[Row],
+    output: &mut Watched<O>,
+) -> Result<(), ReportsError>
     requires { AreReports rows.now }
     ensures { MatchResult result
-        (λ text. IsMade Form.Merged rows.now text.items)
-        (λ error. RefusesRows error Form.Merged rows.now) }
+        (λ _. WritesRows Form.Merged rows.now (sink O.contents output.old) (sink O.contents output.new))
+        (λ error. FailsRows error Form.Merged rows.now (sink O.contents output.old) (sink O.contents output.new)) }
 {
-    match merge(alloc, rows)? {
-        Ok(merged) => Ok(text_of(alloc, merged.as_slice())?),
+    match sums(rows) {
+        Ok(_) => match write_report(alloc, rows, output) {
+            Ok(()) => Ok(()),
+            Err(_) => Err(ReportsError::Write),
+        },
         Err(excess) => Err(ReportsError::TooMany {
             report: excess.report,
         }),
     }
 }
 
-// What is written of these rows, which are those of reports that stand one after another.
-pub fn made_of(alloc: Global, form: Form, rows: &[Row]) -> Result<Vec<u8>, ReportsError>
+// Writes a table. Where memory is refused, what was told of it is written yet.
+fn write_table<O: Write>(
+    alloc: Global,
+    format: Format,
+    rows: &[Row],
+    output: &mut Watched<O>,
+) -> Result<(), ReportsError>
     requires { AreReports rows.now }
     ensures { MatchResult result
-        (λ text. IsMade form rows.now text.items)
-        (λ error. RefusesRows error form rows.now) }
+        (λ _. WritesRows (table_in format) rows.now (sink O.contents output.old) (sink O.contents output.new))
+        (λ error. FailsRows error (table_in format) rows.now
+        (sink O.contents output.old) (sink O.contents output.new)) }
 {
-    match form {
-        Form::Merged => merged_text(alloc, rows),
-        Form::Csv => Ok(csv_table(alloc, rows)?),
-        Form::Json => Ok(json_table(alloc, rows)?),
-        Form::Page => Ok(page(alloc, rows)?),
+    let mut block = Block::new(alloc);
+    let told = put_table(alloc, format, rows, &mut block, output);
+    match send(&mut block, output) {
+        Ok(()) => Ok(told?),
+        Err(_) => Err(ReportsError::Write),
     }
 }
+
+// Writes a whole text.
+fn write_whole<O: Write>(text: &[u8], output: &mut Watched<O>) -> Result<(), ReportsError>
+    ensures { MatchResult result
+        (λ _. Writes text.now (sink O.contents output.old) (sink O.contents output.new))
+        (λ error. (error ≡ ReportsError.Write)
+        × WritesFront text.now (sink O.contents output.old) (sink O.contents output.new)) }
+{
+    match put_all(output, text) {
+        Ok(()) => Ok(()),
+        Err(_) => Err(ReportsError::Write),
+    }
+}
+
+// Writes a page.
+fn write_page<O: Write>(
+    alloc: Global,
+    rows: &[Row],
+    output: &mut Watched<O>,
+) -> Result<(), ReportsError>
+    requires { AreReports rows.now }
+    ensures { MatchResult result
+        (λ _. WritesRows Form.Page rows.now (sink O.contents output.old) (sink O.contents output.new))
+        (λ error. FailsRows error Form.Page rows.now (sink O.contents output.old) (sink O.contents output.new)) }
+{
+    let text = page(alloc, rows)?;
+    write_whole(text.as_slice(), output)
+}
+
+// Writes what is made of these rows, which are those of reports that stand one after another.
+pub fn write_made<O: Write>(
+    alloc: Global,
+    form: Form,
+    rows: &[Row],
+    output: &mut Watched<O>,
+) -> Result<(), ReportsError>
+    requires { AreReports rows.now }
+    ensures { MatchResult result
+        (λ _. WritesRows form rows.now (sink O.contents output.old) (sink O.contents output.new))
+        (λ error. FailsRows error form rows.now (sink O.contents output.old) (sink O.contents output.new)) }
+{
+    match form {
+        Form::Merged => write_merged(alloc, rows, output),
+        Form::Csv => write_table(alloc, Format::Csv, rows, output),
+        Form::Json => write_table(alloc, Format::Json, rows, output),
+        Form::Page => write_page(alloc, rows, output),
+    }
+}
+
+/// A table of reports is that of the one report that they are merged to: each collection has the same number in both.
+pub fn merging_changes_no_table()
+    ensures { (rows : List Row) → AreReports rows → entries_of (merged rows) ≡ entries_of rows }
+{}

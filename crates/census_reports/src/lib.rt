@@ -3,7 +3,6 @@
 
 pub mod error;
 pub mod form;
-mod lines;
 pub mod reports;
 mod rows;
 mod texts;

@@ -1,12 +1,13 @@
 //! `census merge` and `census table`: what is written of reports.
 ghost use Rattle.std.specs.Prelude.{◌≡◌, ◌<◌, [], false, length, map, IfErr, MatchResult, OnOk};
 ghost use Rattle.watched.specs.Watching.{has_failed};
-ghost use Rattle.census_reports.specs.Forms.{IsMadeOf, RefusesTexts};
+ghost use Rattle.census_identify.specs.Streams.{sink};
+ghost use Rattle.census_reports.specs.Written.{FailsTexts, WritesTexts};
 ghost use Rattle.census_reports.specs.Outcomes.{ReportsFail, WritesReports};
 ghost use Rattle.census_reports.specs.Streams.{streams};
 
 use crate::error::ReportsError;
-use crate::form::{Form, made_of};
+use crate::form::{Form, write_made};
 use crate::rows::rows_of;
 use crate::texts::{asked, read_texts};
 use census_folders::shelf::Shelf;
@@ -14,17 +15,21 @@ use census_identify::bytes::Bytes;
 use std::alloc::Global;
 use std::io::{Read, Write};
 use watched::watched::Watched;
-use watched::writing::put_all;
 
-// What is written of the reports in these texts.
-fn text_made(alloc: Global, form: Form, texts: &[Bytes]) -> Result<Vec<u8>, ReportsError>
+// Writes what is made of the reports in these texts.
+fn write_of<O: Write>(
+    alloc: Global,
+    form: Form,
+    texts: &[Bytes],
+    output: &mut Watched<O>,
+) -> Result<(), ReportsError>
     requires { 0 < length texts.now }
     ensures { MatchResult result
-        (λ made. IsMadeOf form texts.now made.items)
-        (λ error. RefusesTexts error form texts.now) }
+        (λ _. WritesTexts form texts.now (sink O.contents output.old) (sink O.contents output.new))
+        (λ error. FailsTexts error form texts.now (sink O.contents output.old) (sink O.contents output.new)) }
 {
     let rows = rows_of(alloc, texts)?;
-    made_of(alloc, form, rows.as_slice())
+    write_made(alloc, form, rows.as_slice(), output)
 }
 
 /// Reads the texts of words, in their order, and writes what is made of the reports in them: of `-` the text that standard
@@ -32,14 +37,15 @@ fn text_made(alloc: Global, form: Form, texts: &[Bytes]) -> Result<Vec<u8>, Repo
 /// must be a report by itself, or several one after another; a text without a byte is none. A file that is no regular
 /// file is not opened, and can't be read.
 ///
-/// All texts are read before the first is looked at, and the whole text to write stands before its first byte is written.
-/// So nothing is written on any error but `Write`, on which a prefix of it is:
+/// All texts are read before the first is looked at, and all reports before the first byte is written. From then on no
+/// memory is asked for but the block that is written, and for a table the text of some rows at a time. So nothing is written
+/// on any error but `Write`, on which a prefix of what is made of them is, and `Memory`, on which a prefix of a table may be:
 ///
 /// - `Read`, `TooLong`: the text of a word can't be read or has more than 67,108,864 bytes. Those of the words before it
 ///   were read, and none of a word after it.
 /// - `Fault`: a text is no report, and those of the words before it are.
 /// - `TooMany`: the reports have more than 65,535 collections, and `Merged` is asked for.
-/// - `Memory`: memory was refused.
+/// - `Memory`: memory was refused. Of `Merged` and `Page` nothing was written.
 pub fn write_reports<S: Shelf, I: Read, O: Write>(
     shelf: &S,
     alloc: Global,
@@ -55,7 +61,5 @@ pub fn write_reports<S: Shelf, I: Read, O: Write>(
         (streams I.remaining O.contents input.old output.old) (streams I.remaining O.contents input.new output.new)) }
 {
     let texts = read_texts(shelf, alloc, asked(words), input)?;
-    let text = text_made(alloc, form, texts.as_slice())?;
-    put_all(output, text.as_slice())?;
-    Ok(())
+    write_of(alloc, form, texts.as_slice(), output)
 }

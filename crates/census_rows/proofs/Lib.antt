@@ -1,3 +1,4 @@
 pub mod Behind
 pub mod Blanks
 pub mod FirstWords
+pub mod Told

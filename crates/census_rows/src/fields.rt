@@ -1,22 +1,25 @@
 //! Fields, each after a blank.
-ghost use Rattle.std.specs.Prelude.{◌≡◌, ◌++◌, ◌∷◌, OnOk};
+ghost use Rattle.std.specs.Prelude.{◌∷◌};
+ghost use Rattle.gathered.specs.Telling.{Tells, sheet};
 
-use itoa::{Buffer, Integer};
-use std::alloc::AllocError;
+use gathered::block::Block;
+use gathered::putting::{put, put_number as put_digits};
+use itoa::Integer;
+use std::io::Write;
+use watched::watched::Watched;
 
-/// A blank and these bytes.
-pub fn push_field(text: &mut Vec<u8>, field: &[u8]) -> Result<(), AllocError>
-    ensures { OnOk result (text.new.items ≡ text.old.items ++ 32 ∷ field.now) }
+/// Tells a blank and these bytes.
+pub fn put_field<W: Write>(field: &[u8], block: &mut Block, writer: &mut Watched<W>)
+    ensures { Tells (32 ∷ field.now) (sheet W.contents block.old writer.old) (sheet W.contents block.new writer.new) }
 {
-    text.push(b' ')?;
-    text.extend_from_slice(field)?;
-    Ok(())
+    put(b" ", block, writer);
+    put(field, block, writer);
 }
 
-/// A blank and a number.
-pub fn push_number<I: Integer>(text: &mut Vec<u8>, number: I) -> Result<(), AllocError>
-    ensures { OnOk result (text.new.items ≡ text.old.items ++ 32 ∷ I.text number) }
+/// Tells a blank and a number.
+pub fn put_number<I: Integer, W: Write>(number: I, block: &mut Block, writer: &mut Watched<W>)
+    ensures { Tells (32 ∷ I.text number) (sheet W.contents block.old writer.old) (sheet W.contents block.new writer.new) }
 {
-    let mut buffer = Buffer::new();
-    push_field(text, buffer.format(number).as_bytes())
+    put(b" ", block, writer);
+    put_digits(number, block, writer);
 }

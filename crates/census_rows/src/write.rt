@@ -1,47 +1,62 @@
 //! Lines written.
-ghost use Rattle.std.specs.Prelude.{◌≡◌, ◌++◌, ◌∷◌, [], OnOk, decimal};
+ghost use Rattle.std.specs.Prelude.{◌≡◌, ◌∷◌, [], decimal};
 ghost use Rattle.std.specs.Fmt.{signed_decimal};
+ghost use Rattle.gathered.specs.Telling.{Tells, sheet};
 ghost use Rattle.census_rows.specs.Lines.{behind, outcome_fields, row_text};
 
-use crate::fields::{push_field, push_number};
+use crate::fields::{put_field, put_number};
 use crate::row::{Outcome, Row};
-use std::alloc::AllocError;
+use gathered::block::Block;
+use gathered::putting::put;
+use std::io::Write;
+use watched::watched::Watched;
 
 // What was found, the pattern's rule and its population.
-fn push_found(
-    text: &mut Vec<u8>,
+fn put_found<W: Write>(
     found: &[u8],
     rule: &[u8],
     population: u64,
-) -> Result<(), AllocError>
-    ensures { OnOk result (text.new.items
-        ≡ text.old.items ++ behind (found.now ∷ rule.now ∷ decimal population ∷ [])) }
+    block: &mut Block,
+    writer: &mut Watched<W>,
+)
+    ensures { Tells (behind (found.now ∷ rule.now ∷ decimal population ∷ []))
+        (sheet W.contents block.old writer.old) (sheet W.contents block.new writer.new) }
 {
-    push_field(text, found)?;
-    push_field(text, rule)?;
-    push_number(text, population)
+    put_field(found, block, writer);
+    put_field(rule, block, writer);
+    put_number(population, block, writer);
+}
+
+// A signed number.
+fn put_signed<W: Write>(number: &i64, block: &mut Block, writer: &mut Watched<W>)
+    ensures { Tells (32 ∷ signed_decimal number.now)
+        (sheet W.contents block.old writer.old) (sheet W.contents block.new writer.new) }
+{
+    put_number(*number, block, writer);
 }
 
 // Onset, period and displacement.
-fn push_cycle(
-    text: &mut Vec<u8>,
+fn put_cycle<W: Write>(
     onset: u64,
     period: u64,
     dx: &i64,
     dy: &i64,
-) -> Result<(), AllocError>
-    ensures { OnOk result (text.new.items ≡ text.old.items
-        ++ behind (decimal onset ∷ decimal period ∷ signed_decimal dx.now ∷ signed_decimal dy.now ∷ [])) }
+    block: &mut Block,
+    writer: &mut Watched<W>,
+)
+    ensures { Tells (behind (decimal onset ∷ decimal period ∷ signed_decimal dx.now ∷ signed_decimal dy.now ∷ []))
+        (sheet W.contents block.old writer.old) (sheet W.contents block.new writer.new) }
 {
-    push_number(text, onset)?;
-    push_number(text, period)?;
-    push_number(text, *dx)?;
-    push_number(text, *dy)
+    put_number(onset, block, writer);
+    put_number(period, block, writer);
+    put_signed(dx, block, writer);
+    put_signed(dy, block, writer);
 }
 
 // What was found of a pattern.
-fn push_outcome(text: &mut Vec<u8>, outcome: &Outcome) -> Result<(), AllocError>
-    ensures { OnOk result (text.new.items ≡ text.old.items ++ behind (outcome_fields outcome.now)) }
+fn put_outcome<W: Write>(outcome: &Outcome, block: &mut Block, writer: &mut Watched<W>)
+    ensures { Tells (behind (outcome_fields outcome.now))
+        (sheet W.contents block.old writer.old) (sheet W.contents block.new writer.new) }
 {
     match outcome {
         Outcome::Ok {
@@ -53,37 +68,38 @@ fn push_outcome(text: &mut Vec<u8>, outcome: &Outcome) -> Result<(), AllocError>
             dy,
             code,
         } => {
-            push_found(text, b"ok", *rule, *population)?;
-            push_cycle(text, *onset, *period, dx, dy)?;
-            push_field(text, *code)
+            put_found(b"ok", *rule, *population, block, writer);
+            put_cycle(*onset, *period, dx, dy, block, writer);
+            put_field(*code, block, writer);
         }
         Outcome::Ash {
             rule,
             population,
             objects,
         } => {
-            push_found(text, b"ash", *rule, *population)?;
-            push_number(text, *objects)
+            put_found(b"ash", *rule, *population, block, writer);
+            put_number(*objects, block, writer);
         }
-        Outcome::None { rule, population } => { push_found(text, b"none", *rule, *population) }
+        Outcome::None { rule, population } => put_found(b"none", *rule, *population, block, writer),
         Outcome::Large {
             rule,
             population,
             generation,
         } => {
-            push_found(text, b"large", *rule, *population)?;
-            push_number(text, *generation)
+            put_found(b"large", *rule, *population, block, writer);
+            put_number(*generation, block, writer);
         }
         Outcome::Bad { fault } => {
-            push_field(text, b"bad")?;
-            push_number(text, *fault)
+            put_field(b"bad", block, writer);
+            put_number(*fault, block, writer);
         }
     }
 }
 
-/// Appends a line, without its LF.
-pub fn push_row(text: &mut Vec<u8>, row: &Row) -> Result<(), AllocError>
-    ensures { OnOk result (text.new.items ≡ text.old.items ++ row_text row.now) }
+/// Tells a line, without its LF, and asks for no memory but the block's.
+pub fn put_row<W: Write>(row: &Row, block: &mut Block, writer: &mut Watched<W>)
+    ensures { Tells (row_text row.now)
+        (sheet W.contents block.old writer.old) (sheet W.contents block.new writer.new) }
 {
     match row {
         Row::Open {
@@ -91,10 +107,10 @@ pub fn push_row(text: &mut Vec<u8>, row: &Row) -> Result<(), AllocError>
             patterns,
             name,
         } => {
-            text.extend_from_slice(b"open")?;
-            push_number(text, *collection)?;
-            push_number(text, *patterns)?;
-            push_field(text, *name)
+            put(b"open", block, writer);
+            put_number(*collection, block, writer);
+            put_number(*patterns, block, writer);
+            put_field(*name, block, writer);
         }
         Row::Line {
             collection,
@@ -102,11 +118,11 @@ pub fn push_row(text: &mut Vec<u8>, row: &Row) -> Result<(), AllocError>
             outcome,
             name,
         } => {
-            text.extend_from_slice(b"line")?;
-            push_number(text, *collection)?;
-            push_number(text, *pattern)?;
-            push_outcome(text, outcome)?;
-            push_field(text, *name)
+            put(b"line", block, writer);
+            put_number(*collection, block, writer);
+            put_number(*pattern, block, writer);
+            put_outcome(outcome, block, writer);
+            put_field(*name, block, writer);
         }
         Row::Part {
             collection,
@@ -114,11 +130,11 @@ pub fn push_row(text: &mut Vec<u8>, row: &Row) -> Result<(), AllocError>
             code,
             count,
         } => {
-            text.extend_from_slice(b"part")?;
-            push_number(text, *collection)?;
-            push_number(text, *pattern)?;
-            push_field(text, *code)?;
-            push_number(text, *count)
+            put(b"part", block, writer);
+            put_number(*collection, block, writer);
+            put_number(*pattern, block, writer);
+            put_field(*code, block, writer);
+            put_number(*count, block, writer);
         }
         Row::Code {
             collection,
@@ -126,11 +142,11 @@ pub fn push_row(text: &mut Vec<u8>, row: &Row) -> Result<(), AllocError>
             code,
             count,
         } => {
-            text.extend_from_slice(b"code")?;
-            push_number(text, *collection)?;
-            push_field(text, *rule)?;
-            push_field(text, *code)?;
-            push_number(text, *count)
+            put(b"code", block, writer);
+            put_number(*collection, block, writer);
+            put_field(*rule, block, writer);
+            put_field(*code, block, writer);
+            put_number(*count, block, writer);
         }
         Row::Close {
             collection,
@@ -139,20 +155,20 @@ pub fn push_row(text: &mut Vec<u8>, row: &Row) -> Result<(), AllocError>
             unresolved,
             refused,
         } => {
-            text.extend_from_slice(b"close")?;
-            push_number(text, *collection)?;
-            push_number(text, *patterns)?;
-            push_number(text, *resolved)?;
-            push_number(text, *unresolved)?;
-            push_number(text, *refused)
+            put(b"close", block, writer);
+            put_number(*collection, block, writer);
+            put_number(*patterns, block, writer);
+            put_number(*resolved, block, writer);
+            put_number(*unresolved, block, writer);
+            put_number(*refused, block, writer);
         }
         Row::End {
             collections,
             patterns,
         } => {
-            text.extend_from_slice(b"end")?;
-            push_number(text, *collections)?;
-            push_number(text, *patterns)
+            put(b"end", block, writer);
+            put_number(*collections, block, writer);
+            put_number(*patterns, block, writer);
         }
     }
 }

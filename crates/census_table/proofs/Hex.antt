@@ -1,5 +1,5 @@
 -- Names in hex.
-use Rattle.std.proofs.Common.{◌≡◌, Bool, true, false, if◌then◌else◌, List, ℕ, Option, Some, None, sym, inl, inr, ap}
+use Rattle.std.proofs.Common.{◌≡◌, Bool, if◌then◌else◌, List, ℕ, Some, None, sym, inl, inr, ap}
 use Rattle.std.proofs.lemmas.Bool.{cases_Bool}
 use Rattle.std.proofs.lemmas.Str.{IsUtf8-from_is_utf8, is_utf8-from_IsUtf8}
 use Rattle.std.specs.Str.{IsUtf8, is_utf8}

@@ -1,3 +1,5 @@
 pub mod Hex
 pub mod Counts
 pub mod Floatless
+pub mod Texts
+pub mod Told

@@ -2,4 +2,5 @@ pub mod Columns
 pub mod Contents
 pub mod Entries
 pub mod Tables
+pub mod Told
 pub mod Written

@@ -7,6 +7,8 @@ use Rattle.census_table.specs.Columns.{cell_of, columns, name_of}
 use Rattle.census_table.specs.Contents.{content_bytes, content_data}
 use Rattle.census_table.specs.declared.column.Column.{Column}
 use Rattle.census_table.specs.declared.entry.Entry.{Entry}
+use Rattle.census_table.specs.declared.table.Format.{Format}
+use Rattle.census_table.specs.declared.table.Format.TheVariants.{Csv, Json}
 
 -- the names of the columns, and their fields in the row of a pattern
 abbrev pub header : List (List ℕ)
@@ -37,3 +39,18 @@ entry_members entry = with_columns entry columns no_members
 abbrev pub json_text : List Entry → List ℕ
 json_text [] = []
 json_text (entry ∷ entries) = (compact_text (object (entry_members entry)) ++ 10 ∷ []) ++ json_text entries
+
+-- what a table has before its rows
+abbrev pub head_text : Format → List ℕ
+head_text Csv = row_text default_writer header
+head_text Json = []
+
+-- its rows
+abbrev pub rows_text : Format → List Entry → List ℕ
+rows_text Csv entries = csv_records entries
+rows_text Json entries = json_text entries
+
+-- the whole table
+abbrev pub table_text : Format → List Entry → List ℕ
+table_text Csv entries = csv_text entries
+table_text Json entries = json_text entries

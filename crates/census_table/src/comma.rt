@@ -2,16 +2,13 @@
 ghost use Rattle.std.specs.Prelude.{◌≡◌, ◌++◌, map, IfOk, OnOk};
 ghost use Rattle.csv.specs.Records.{fields_of};
 ghost use Rattle.csv.specs.Writing.{default_writer, row_text};
-ghost use Rattle.census_readback.specs.Shapes.{AreReports};
 ghost use Rattle.census_table.specs.Columns.{cell_of, name_of};
 ghost use Rattle.census_table.specs.Contents.{content_bytes};
-ghost use Rattle.census_table.specs.Entries.{entries_of};
-ghost use Rattle.census_table.specs.Tables.{csv_records, csv_text, entry_fields, header};
+ghost use Rattle.census_table.specs.Tables.{csv_records, entry_fields, header};
 ghost use Rattle.census_table.specs.Written.{IsBetween, written};
 
 use crate::column::Column;
-use crate::entry::{Entry, entries};
-use census_rows::row::Row;
+use crate::entry::Entry;
 use csv::{ByteRecord, Writer};
 use std::alloc::{AllocError, Global};
 
@@ -78,17 +75,6 @@ fn push_entries(
     Ok(())
 }
 
-// A writer that has written the names of the columns.
-fn start(alloc: Global) -> Result<Writer<Vec<u8>>, AllocError>
-    ensures between { IfOk result IsBetween }
-    ensures text { IfOk result (λ writer. written writer ≡ row_text default_writer header) }
-{
-    let mut writer = Writer::from_writer(Vec::new(alloc));
-    let names = names(alloc, &Column::ALL)?;
-    write(&mut writer, &names)?;
-    Ok(writer)
-}
-
 // What was written.
 fn finish(writer: Writer<Vec<u8>>) -> Result<Vec<u8>, AllocError>
     ensures { IfOk result (λ text. text.items ≡ written writer) }
@@ -99,15 +85,21 @@ fn finish(writer: Writer<Vec<u8>>) -> Result<Vec<u8>, AllocError>
     }
 }
 
-/// The patterns of a report, or of several after one another, as comma-separated values: a record
-/// of the columns' names, and one for each pattern, in the order of `entries`. It is UTF-8, and a
-/// record ends with LF. The only error is out of memory.
-pub fn csv_table(alloc: Global, rows: &[Row]) -> Result<Vec<u8>, AllocError>
-    requires { AreReports rows.now }
-    ensures { IfOk result (λ text. text.items ≡ csv_text (entries_of rows.now)) }
+// The record of the columns' names.
+pub fn header(alloc: Global) -> Result<Vec<u8>, AllocError>
+    ensures { IfOk result (λ text. text.items ≡ row_text default_writer header) }
 {
-    let entries = entries(alloc, rows)?;
-    let mut writer = start(alloc)?;
-    push_entries(alloc, &mut writer, entries.as_slice())?;
+    let mut writer = Writer::from_writer(Vec::new(alloc));
+    let names = names(alloc, &Column::ALL)?;
+    write(&mut writer, &names)?;
+    finish(writer)
+}
+
+// A record for each pattern.
+pub fn records(alloc: Global, entries: &[Entry]) -> Result<Vec<u8>, AllocError>
+    ensures { IfOk result (λ text. text.items ≡ csv_records entries.now) }
+{
+    let mut writer = Writer::from_writer(Vec::new(alloc));
+    push_entries(alloc, &mut writer, entries)?;
     finish(writer)
 }

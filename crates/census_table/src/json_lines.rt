@@ -3,13 +3,10 @@ ghost use Rattle.std.specs.Prelude.{◌≡◌, ◌∷◌, [], ◌++◌, IfOk, On
 ghost use Rattle.serde_json.specs.Data.{object};
 ghost use Rattle.serde_json.specs.View.{members_view, view};
 ghost use Rattle.serde_json.specs.Written.{compact_text};
-ghost use Rattle.census_readback.specs.Shapes.{AreReports};
-ghost use Rattle.census_table.specs.Entries.{entries_of};
 ghost use Rattle.census_table.specs.Tables.{json_text, entry_members, with_columns};
 
 use crate::column::Column;
-use crate::entry::{Entry, entries};
-use census_rows::row::Row;
+use crate::entry::Entry;
 use serde_json::{Map, Value, put};
 use std::alloc::{AllocError, Global};
 
@@ -52,7 +49,7 @@ fn push_line(alloc: Global, text: &mut Vec<u8>, entry: &Entry) -> Result<(), All
 }
 
 // A line for each pattern.
-fn lines(alloc: Global, entries: &[Entry]) -> Result<Vec<u8>, AllocError>
+pub fn lines(alloc: Global, entries: &[Entry]) -> Result<Vec<u8>, AllocError>
     ensures { IfOk result (λ text. text.items ≡ json_text entries.now) }
 {
     let mut text = Vec::new(alloc);
@@ -60,15 +57,4 @@ fn lines(alloc: Global, entries: &[Entry]) -> Result<Vec<u8>, AllocError>
         push_line(alloc, &mut text, entry)?;
     }
     Ok(text)
-}
-
-/// The patterns of a report, or of several after one another, as JSON: for each pattern one object
-/// on a line of its own, in the order of `entries`, with a member for each column, in the order of
-/// their names. It is UTF-8, and each line ends with LF. The only error is out of memory.
-pub fn json_table(alloc: Global, rows: &[Row]) -> Result<Vec<u8>, AllocError>
-    requires { AreReports rows.now }
-    ensures { IfOk result (λ text. text.items ≡ json_text (entries_of rows.now)) }
-{
-    let entries = entries(alloc, rows)?;
-    lines(alloc, entries.as_slice())
 }

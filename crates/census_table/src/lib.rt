@@ -3,6 +3,7 @@
 
 pub mod cell;
 pub mod column;
-pub mod comma;
+mod comma;
 pub mod entry;
-pub mod json_lines;
+mod json_lines;
+pub mod table;

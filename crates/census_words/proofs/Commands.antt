@@ -16,8 +16,8 @@ use Rattle.clap.specs.declared.builder.value_parser.ValueParser.{ValueParser}
 use Rattle.clap.specs.declared.builder.value_parser.ValueParser.TheVariants as parser
 use Rattle.clap.proofs.ValueTestLemmas.{accepts-Accepts}
 use Rattle.census_words.specs.Asking.{IsMatched}
-use Rattle.census_words.specs.Holding.{HasAdvance, HasDraw, HasFlag, HasIdentify, HasLimit, HasNumberIn, HasObjects, HasRun, HasTable, HasText, IsCommand}
-use Rattle.census_words.specs.CommandLine.{advance_shape, census_app, draw_shape, identify_shape, objects_shape, run_shape, table_shape}
+use Rattle.census_words.specs.Holding.{HasAdvance, HasDraw, HasFlag, HasIdentify, HasLimit, HasMerge, HasNumberIn, HasObjects, HasRun, HasTable, HasText, IsCommand}
+use Rattle.census_words.specs.CommandLine.{advance_shape, census_app, draw_shape, identify_shape, merge_shape, objects_shape, page_shape, run_shape, table_shape}
 use Rattle.census_words.proofs.Passing.{Each, found_of_each, neither_true, not_cons}
 use Rattle.census_words.proofs.Rows.{HasFirst, Reads, reads_of, reads_or_none, row_of_id}
 use Rattle.census_words.proofs.Uses.{RuleHolds}
@@ -50,6 +50,10 @@ flag_text v e = go (bytes_eq v (codes "true")) refl (accepted false parser.Bool 
 abbrev AnyText : Text → Text → Type 0
 AnyText id v = Unit {0}
 
+-- those of a command with no other flag or number
+abbrev ExplainText : Text → Text → Type 0
+ExplainText id v = bytes_eq id (codes "explain") ≡ true → IsFlagText v
+
 -- those of `run` and of `objects`, whose bound is up to a number
 abbrev CensusText : ℕ → Text → Text → Type 0
 CensusText most id v =
@@ -58,6 +62,9 @@ CensusText most id v =
     × (bytes_eq id (codes "cells") ≡ true → IsUnsignedIn 1 4294967295 v)
     × (bytes_eq id (codes "recursive") ≡ true → IsFlagText v)
     × (bytes_eq id (codes "keep-going") ≡ true → IsFlagText v)
+    × ExplainText id v
+    × (bytes_eq id (codes "no-progress") ≡ true → IsFlagText v)
+    × (bytes_eq id (codes "input") ≡ true → IsUnsignedIn 1 9223372036854775807 v)
 
 abbrev RunText : Text → Text → Type 0
 RunText = CensusText 1000000
@@ -66,13 +73,13 @@ abbrev ObjectsText : Text → Text → Type 0
 ObjectsText = CensusText 100000
 
 abbrev IdentifyText : Text → Text → Type 0
-IdentifyText id v = bytes_eq id (codes "bound") ≡ true → IsUnsignedIn 1 100000 v
+IdentifyText id v = (bytes_eq id (codes "bound") ≡ true → IsUnsignedIn 1 100000 v) × ExplainText id v
 
 abbrev AdvanceText : Text → Text → Type 0
-AdvanceText id v = bytes_eq id (codes "generations") ≡ true → IsUnsignedIn 0 4194304 v
+AdvanceText id v = (bytes_eq id (codes "generations") ≡ true → IsUnsignedIn 0 4194304 v) × ExplainText id v
 
 abbrev TableText : Text → Text → Type 0
-TableText id v = (bytes_eq id (codes "csv") ≡ true → IsFlagText v) × (bytes_eq id (codes "json") ≡ true → IsFlagText v)
+TableText id v = (bytes_eq id (codes "csv") ≡ true → IsFlagText v) × (bytes_eq id (codes "json") ≡ true → IsFlagText v) × ExplainText id v
 
 absent : {A : Type 0} → false ≡ true → A
 absent e = absurd (true≢false (sym e))
@@ -100,6 +107,12 @@ built_advance = built_leaf (inherited above advance_shape)
 abbrev built_draw : Shape
 built_draw = built_leaf (inherited above draw_shape)
 
+abbrev built_merge : Shape
+built_merge = built_leaf (inherited above merge_shape)
+
+abbrev built_page : Shape
+built_page = built_leaf (inherited above page_shape)
+
 abbrev built_table : Shape
 built_table = built_leaf (inherited above table_shape)
 
@@ -113,26 +126,35 @@ top_rules = (
 true_given : HasFirst (codes "true" ∷ [])
 true_given = record { first = codes "true"; rest = []; is = refl }
 
--- the flags, the folders and the help of `run` and of `objects`
+-- the limit on the input, the flags, the folders and the help of `run` and of `objects`
 later_rules : (most : ℕ) → Each (RuleHolds (CensusText most)) (drop 3 built_run.rules)
 later_rules most = (
-  record { own = λ v e. (absent, absent, absent, λ _. flag_text v e, absent); usual = inr (refl, inr true_given); plain = λ t. refl },
+  record { own = λ v e. (absent, absent, absent, absent, absent, absent, absent, λ _. unsigned_in 1 9223372036854775807 v e); usual = inr (refl, inl refl); plain = λ t. refl },
   (
-    record { own = λ v e. (absent, absent, absent, absent, λ _. flag_text v e); usual = inr (refl, inr true_given); plain = λ t. refl },
+    record { own = λ v e. (absent, absent, absent, λ _. flag_text v e, absent, absent, absent, absent); usual = inr (refl, inr true_given); plain = λ t. refl },
     (
-      record { own = λ v e. (absent, absent, absent, absent, absent); usual = inr (refl, inl refl); plain = λ t. refl },
-      (record { own = λ v e. (absent, absent, absent, absent, absent); usual = inl refl; plain = λ t. refl }, tt),
+      record { own = λ v e. (absent, absent, absent, absent, λ _. flag_text v e, absent, absent, absent); usual = inr (refl, inr true_given); plain = λ t. refl },
+      (
+        record { own = λ v e. (absent, absent, absent, absent, absent, λ _. flag_text v e, absent, absent); usual = inr (refl, inr true_given); plain = λ t. refl },
+        (
+          record { own = λ v e. (absent, absent, absent, absent, absent, absent, λ _. flag_text v e, absent); usual = inr (refl, inr true_given); plain = λ t. refl },
+          (
+            record { own = λ v e. (absent, absent, absent, absent, absent, absent, absent, absent); usual = inr (refl, inl refl); plain = λ t. refl },
+            (record { own = λ v e. (absent, absent, absent, absent, absent, absent, absent, absent); usual = inl refl; plain = λ t. refl }, tt),
+          ),
+        ),
+      ),
     ),
   ),
 )
 
 run_rules : Each (RuleHolds RunText) built_run.rules
 run_rules = (
-  record { own = λ v e. (λ _. unsigned_in 1 1000000 v e, absent, absent, absent, absent); usual = inr (refl, inl refl); plain = λ t. refl },
+  record { own = λ v e. (λ _. unsigned_in 1 1000000 v e, absent, absent, absent, absent, absent, absent, absent); usual = inr (refl, inl refl); plain = λ t. refl },
   (
-    record { own = λ v e. (absent, λ _. unsigned_in 1 16 v e, absent, absent, absent); usual = inr (refl, inl refl); plain = λ t. refl },
+    record { own = λ v e. (absent, λ _. unsigned_in 1 16 v e, absent, absent, absent, absent, absent, absent); usual = inr (refl, inl refl); plain = λ t. refl },
     (
-      record { own = λ v e. (absent, absent, λ _. unsigned_in 1 4294967295 v e, absent, absent); usual = inr (refl, inl refl); plain = λ t. refl },
+      record { own = λ v e. (absent, absent, λ _. unsigned_in 1 4294967295 v e, absent, absent, absent, absent, absent); usual = inr (refl, inl refl); plain = λ t. refl },
       later_rules 1000000,
     ),
   ),
@@ -140,11 +162,11 @@ run_rules = (
 
 objects_rules : Each (RuleHolds ObjectsText) built_objects.rules
 objects_rules = (
-  record { own = λ v e. (λ _. unsigned_in 1 100000 v e, absent, absent, absent, absent); usual = inr (refl, inl refl); plain = λ t. refl },
+  record { own = λ v e. (λ _. unsigned_in 1 100000 v e, absent, absent, absent, absent, absent, absent, absent); usual = inr (refl, inl refl); plain = λ t. refl },
   (
-    record { own = λ v e. (absent, λ _. unsigned_in 1 16 v e, absent, absent, absent); usual = inr (refl, inl refl); plain = λ t. refl },
+    record { own = λ v e. (absent, λ _. unsigned_in 1 16 v e, absent, absent, absent, absent, absent, absent); usual = inr (refl, inl refl); plain = λ t. refl },
     (
-      record { own = λ v e. (absent, absent, λ _. unsigned_in 1 4294967295 v e, absent, absent); usual = inr (refl, inl refl); plain = λ t. refl },
+      record { own = λ v e. (absent, absent, λ _. unsigned_in 1 4294967295 v e, absent, absent, absent, absent, absent); usual = inr (refl, inl refl); plain = λ t. refl },
       later_rules 100000,
     ),
   ),
@@ -152,39 +174,69 @@ objects_rules = (
 
 identify_rules : Each (RuleHolds IdentifyText) built_identify.rules
 identify_rules = (
-  record { own = λ v e _. unsigned_in 1 100000 v e; usual = inr (refl, inl refl); plain = λ t. refl },
-  (
-    record { own = λ v e. absent; usual = inr (refl, inl refl); plain = λ t. refl },
-    (record { own = λ v e. absent; usual = inl refl; plain = λ t. refl }, tt),
-  ),
-)
-
-advance_rules : Each (RuleHolds AdvanceText) built_advance.rules
-advance_rules = (
-  record { own = λ v e _. unsigned_in 0 4194304 v e; usual = inr (refl, inl refl); plain = λ t. refl },
-  (
-    record { own = λ v e. absent; usual = inr (refl, inl refl); plain = λ t. refl },
-    (record { own = λ v e. absent; usual = inl refl; plain = λ t. refl }, tt),
-  ),
-)
-
-draw_rules : Each (RuleHolds AnyText) built_draw.rules
-draw_rules = (
-  record { own = λ v e. tt; usual = inr (refl, inl refl); plain = λ t. refl },
-  (
-    record { own = λ v e. tt; usual = inr (refl, inl refl); plain = λ t. refl },
-    (record { own = λ v e. tt; usual = inl refl; plain = λ t. refl }, tt),
-  ),
-)
-
-table_rules : Each (RuleHolds TableText) built_table.rules
-table_rules = (
-  record { own = λ v e. (λ _. flag_text v e, absent); usual = inr (refl, inr true_given); plain = λ t. refl },
+  record { own = λ v e. (λ _. unsigned_in 1 100000 v e, absent); usual = inr (refl, inl refl); plain = λ t. refl },
   (
     record { own = λ v e. (absent, λ _. flag_text v e); usual = inr (refl, inr true_given); plain = λ t. refl },
     (
       record { own = λ v e. (absent, absent); usual = inr (refl, inl refl); plain = λ t. refl },
       (record { own = λ v e. (absent, absent); usual = inl refl; plain = λ t. refl }, tt),
+    ),
+  ),
+)
+
+advance_rules : Each (RuleHolds AdvanceText) built_advance.rules
+advance_rules = (
+  record { own = λ v e. (λ _. unsigned_in 0 4194304 v e, absent); usual = inr (refl, inl refl); plain = λ t. refl },
+  (
+    record { own = λ v e. (absent, λ _. flag_text v e); usual = inr (refl, inr true_given); plain = λ t. refl },
+    (
+      record { own = λ v e. (absent, absent); usual = inr (refl, inl refl); plain = λ t. refl },
+      (record { own = λ v e. (absent, absent); usual = inl refl; plain = λ t. refl }, tt),
+    ),
+  ),
+)
+
+draw_rules : Each (RuleHolds ExplainText) built_draw.rules
+draw_rules = (
+  record { own = λ v e. absent; usual = inr (refl, inl refl); plain = λ t. refl },
+  (
+    record { own = λ v e. absent; usual = inr (refl, inl refl); plain = λ t. refl },
+    (
+      record { own = λ v e _. flag_text v e; usual = inr (refl, inr true_given); plain = λ t. refl },
+      (record { own = λ v e. absent; usual = inl refl; plain = λ t. refl }, tt),
+    ),
+  ),
+)
+
+merge_rules : Each (RuleHolds ExplainText) built_merge.rules
+merge_rules = (
+  record { own = λ v e _. flag_text v e; usual = inr (refl, inr true_given); plain = λ t. refl },
+  (
+    record { own = λ v e. absent; usual = inr (refl, inl refl); plain = λ t. refl },
+    (record { own = λ v e. absent; usual = inl refl; plain = λ t. refl }, tt),
+  ),
+)
+
+page_rules : Each (RuleHolds ExplainText) built_page.rules
+page_rules = (
+  record { own = λ v e _. flag_text v e; usual = inr (refl, inr true_given); plain = λ t. refl },
+  (
+    record { own = λ v e. absent; usual = inr (refl, inl refl); plain = λ t. refl },
+    (record { own = λ v e. absent; usual = inl refl; plain = λ t. refl }, tt),
+  ),
+)
+
+table_rules : Each (RuleHolds TableText) built_table.rules
+table_rules = (
+  record { own = λ v e. (λ _. flag_text v e, absent, absent); usual = inr (refl, inr true_given); plain = λ t. refl },
+  (
+    record { own = λ v e. (absent, λ _. flag_text v e, absent); usual = inr (refl, inr true_given); plain = λ t. refl },
+    (
+      record { own = λ v e. (absent, absent, λ _. flag_text v e); usual = inr (refl, inr true_given); plain = λ t. refl },
+      (
+        record { own = λ v e. (absent, absent, absent); usual = inr (refl, inl refl); plain = λ t. refl },
+        (record { own = λ v e. (absent, absent, absent); usual = inl refl; plain = λ t. refl }, tt),
+      ),
     ),
   ),
 )
@@ -212,10 +264,10 @@ number_in : (Q : Text → Text → Type 0) (low high : ℕ) (id : Text) (rows : 
     → HasNumberIn low high id rows
 number_in Q low high id rows reads fits = (reads.text, reads.one, fits reads.text reads.passes)
 
-limit_in : (Q : Text → Text → Type 0) (id : Text) (rows : List Row) → (one_of id rows ≡ None) ⊎ Reads Q id rows → ((v : Text) → Q id v → IsUnsignedIn 1 4294967295 v)
-    → HasLimit id rows
-limit_in Q id rows (inl none) fits = inl none
-limit_in Q id rows (inr reads) fits = inr (number_in Q 1 4294967295 id rows reads fits)
+limit_in : (Q : Text → Text → Type 0) (most : ℕ) (id : Text) (rows : List Row) → (one_of id rows ≡ None) ⊎ Reads Q id rows → ((v : Text) → Q id v → IsUnsignedIn 1 most v)
+    → HasLimit most id rows
+limit_in Q most id rows (inl none) fits = inl none
+limit_in Q most id rows (inr reads) fits = inr (number_in Q 1 most id rows reads fits)
 
 flag_in : (Q : Text → Text → Type 0) (id : Text) (rows : List Row) → Reads Q id rows → ((v : Text) → Q id v → IsFlagText v) → HasFlag id rows
 flag_in Q id rows reads is = let flag = is reads.text reads.passes in (flag.0, reads.one ∙ ap Some flag.1)
@@ -239,11 +291,16 @@ run_has words e = record {
       (read_by_default RunText built_run run_rules words e (codes "bound") (inl (refl, record { first = codes "1000"; rest = []; is = refl }))) (λ v q. q.0 refl);
   workers = number_in RunText 1 16 (codes "workers") _
       (read_by_default RunText built_run run_rules words e (codes "workers") (inr (inl (refl, record { first = codes "4"; rest = []; is = refl })))) (λ v q. q.1 refl);
-  cells = limit_in RunText (codes "cells") _ (read_if_used RunText built_run run_rules words e (codes "cells")) (λ v q. q.2 refl);
+  cells = limit_in RunText 4294967295 (codes "cells") _ (read_if_used RunText built_run run_rules words e (codes "cells")) (λ v q. q.2 refl);
+  input = limit_in RunText 9223372036854775807 (codes "input") _ (read_if_used RunText built_run run_rules words e (codes "input")) (λ v q. q.7 refl);
   recursive = flag_in RunText (codes "recursive") _
-      (read_by_default RunText built_run run_rules words e (codes "recursive") (inr (inr (inr (inl (refl, false_by_default)))))) (λ v q. q.3 refl);
+      (read_by_default RunText built_run run_rules words e (codes "recursive") (inr (inr (inr (inr (inl (refl, false_by_default))))))) (λ v q. q.3 refl);
   keep_going = flag_in RunText (codes "keep-going") _
-      (read_by_default RunText built_run run_rules words e (codes "keep-going") (inr (inr (inr (inr (inl (refl, false_by_default))))))) (λ v q. q.4 refl);
+      (read_by_default RunText built_run run_rules words e (codes "keep-going") (inr (inr (inr (inr (inr (inl (refl, false_by_default)))))))) (λ v q. q.4 refl);
+  explain = flag_in RunText (codes "explain") _
+      (read_by_default RunText built_run run_rules words e (codes "explain") (inr (inr (inr (inr (inr (inr (inl (refl, false_by_default))))))))) (λ v q. q.5 refl);
+  no_progress = flag_in RunText (codes "no-progress") _
+      (read_by_default RunText built_run run_rules words e (codes "no-progress") (inr (inr (inr (inr (inr (inr (inr (inl (refl, false_by_default)))))))))) (λ v q. q.6 refl);
 }
 
 objects_has : (words : List Text) → Passes built_objects words → HasObjects (rows_after built_objects.rules [] words)
@@ -254,16 +311,23 @@ objects_has words e = record {
       (read_by_default ObjectsText built_objects objects_rules words e (codes "workers") (inr (inl (refl, record { first = codes "4"; rest = []; is = refl })))) (λ v q. q.1 refl);
   cells = number_in ObjectsText 1 4294967295 (codes "cells") _
       (read_by_default ObjectsText built_objects objects_rules words e (codes "cells") (inr (inr (inl (refl, record { first = codes "1000000"; rest = []; is = refl }))))) (λ v q. q.2 refl);
+  input = limit_in ObjectsText 9223372036854775807 (codes "input") _ (read_if_used ObjectsText built_objects objects_rules words e (codes "input")) (λ v q. q.7 refl);
   recursive = flag_in ObjectsText (codes "recursive") _
-      (read_by_default ObjectsText built_objects objects_rules words e (codes "recursive") (inr (inr (inr (inl (refl, false_by_default)))))) (λ v q. q.3 refl);
+      (read_by_default ObjectsText built_objects objects_rules words e (codes "recursive") (inr (inr (inr (inr (inl (refl, false_by_default))))))) (λ v q. q.3 refl);
   keep_going = flag_in ObjectsText (codes "keep-going") _
-      (read_by_default ObjectsText built_objects objects_rules words e (codes "keep-going") (inr (inr (inr (inr (inl (refl, false_by_default))))))) (λ v q. q.4 refl);
+      (read_by_default ObjectsText built_objects objects_rules words e (codes "keep-going") (inr (inr (inr (inr (inr (inl (refl, false_by_default)))))))) (λ v q. q.4 refl);
+  explain = flag_in ObjectsText (codes "explain") _
+      (read_by_default ObjectsText built_objects objects_rules words e (codes "explain") (inr (inr (inr (inr (inr (inr (inl (refl, false_by_default))))))))) (λ v q. q.5 refl);
+  no_progress = flag_in ObjectsText (codes "no-progress") _
+      (read_by_default ObjectsText built_objects objects_rules words e (codes "no-progress") (inr (inr (inr (inr (inr (inr (inr (inl (refl, false_by_default)))))))))) (λ v q. q.6 refl);
 }
 
 identify_has : (words : List Text) → Passes built_identify words → HasIdentify (rows_after built_identify.rules [] words)
 identify_has words e = record {
   bound = number_in IdentifyText 1 100000 (codes "bound") _
-      (read_by_default IdentifyText built_identify identify_rules words e (codes "bound") (inl (refl, record { first = codes "10000"; rest = []; is = refl }))) (λ v q. q refl);
+      (read_by_default IdentifyText built_identify identify_rules words e (codes "bound") (inl (refl, record { first = codes "10000"; rest = []; is = refl }))) (λ v q. q.0 refl);
+  explain = flag_in IdentifyText (codes "explain") _
+      (read_by_default IdentifyText built_identify identify_rules words e (codes "explain") (inr (inl (refl, false_by_default)))) (λ v q. q.1 refl);
 }
 
 advance_has : (words : List Text) → Passes built_advance words → HasAdvance (rows_after built_advance.rules [] words)
@@ -273,19 +337,35 @@ advance_has words e =
     let given = is_true (is_given (codes "generations") rows) (neither_true (not (is_given (codes "generations") rows)) false checks.1).0 in
     record {
       generations = number_in AdvanceText 0 4194304 (codes "generations") _
-          (read_as_given AdvanceText built_advance advance_rules words e (codes "generations") given) (λ v q. q refl);
+          (read_as_given AdvanceText built_advance advance_rules words e (codes "generations") given) (λ v q. q.0 refl);
+      explain = flag_in AdvanceText (codes "explain") _
+          (read_by_default AdvanceText built_advance advance_rules words e (codes "explain") (inr (inl (refl, false_by_default)))) (λ v q. q.1 refl);
     }
 
 draw_has : (words : List Text) → Passes built_draw words → HasDraw (rows_after built_draw.rules [] words)
 draw_has words e =
     let rows = rows_after built_draw.rules [] words in
-    let checks = checks_pass built_draw rows false (read_checks AnyText built_draw draw_rules words e) in
+    let checks = checks_pass built_draw rows false (read_checks ExplainText built_draw draw_rules words e) in
     let given = is_true (is_given (codes "code") rows) (neither_true (not (is_given (codes "code") rows)) false checks.1).0 in
     record {
-      code = text_in AnyText (codes "code") _ (read_as_given AnyText built_draw draw_rules words e (codes "code") given);
-      rule = text_in AnyText (codes "rule") _
-          (read_by_default AnyText built_draw draw_rules words e (codes "rule") (inr (inl (refl, record { first = codes "B3/S23"; rest = []; is = refl }))));
+      code = text_in ExplainText (codes "code") _ (read_as_given ExplainText built_draw draw_rules words e (codes "code") given);
+      rule = text_in ExplainText (codes "rule") _
+          (read_by_default ExplainText built_draw draw_rules words e (codes "rule") (inr (inl (refl, record { first = codes "B3/S23"; rest = []; is = refl }))));
+      explain = flag_in ExplainText (codes "explain") _
+          (read_by_default ExplainText built_draw draw_rules words e (codes "explain") (inr (inr (inl (refl, false_by_default))))) (λ v q. q refl);
     }
+
+merge_has : (words : List Text) → Passes built_merge words → HasMerge (rows_after built_merge.rules [] words)
+merge_has words e = record {
+  explain = flag_in ExplainText (codes "explain") _
+      (read_by_default ExplainText built_merge merge_rules words e (codes "explain") (inl (refl, false_by_default))) (λ v q. q refl);
+}
+
+page_has : (words : List Text) → Passes built_page words → HasMerge (rows_after built_page.rules [] words)
+page_has words e = record {
+  explain = flag_in ExplainText (codes "explain") _
+      (read_by_default ExplainText built_page page_rules words e (codes "explain") (inl (refl, false_by_default))) (λ v q. q refl);
+}
 
 table_has : (words : List Text) → Passes built_table words → HasTable (rows_after built_table.rules [] words)
 table_has words e = record {
@@ -293,6 +373,8 @@ table_has words e = record {
       (read_by_default TableText built_table table_rules words e (codes "csv") (inl (refl, false_by_default))) (λ v q. q.0 refl);
   json = flag_in TableText (codes "json") _
       (read_by_default TableText built_table table_rules words e (codes "json") (inr (inl (refl, false_by_default)))) (λ v q. q.1 refl);
+  explain = flag_in TableText (codes "explain") _
+      (read_by_default TableText built_table table_rules words e (codes "explain") (inr (inr (inl (refl, false_by_default))))) (λ v q. q.2 refl);
 }
 
 -- ---- the whole parse
@@ -323,11 +405,11 @@ each_enters name words = (
         (
           λ stop names passes. inr (inr (inr (inr (inl (refl, draw_has words passes))))),
           (
-            λ stop names passes. inr (inr (inr (inr (inr (inl refl))))),
+            λ stop names passes. inr (inr (inr (inr (inr (inl (refl, merge_has words passes)))))),
             (
               λ stop names passes. inr (inr (inr (inr (inr (inr (inl (refl, table_has words passes))))))),
               (
-                λ stop names passes. inr (inr (inr (inr (inr (inr (inr refl)))))),
+                λ stop names passes. inr (inr (inr (inr (inr (inr (inr (refl, page_has words passes))))))),
                 (λ stop names passes. absurd (help_is_no_command name stop names), tt),
               ),
             ),
@@ -365,6 +447,28 @@ is_command words matched =
 other_name : {A : Type 0} (a b : Text) → a ≡ b → bytes_eq a b ≡ false → A
 other_name a b same differ = absurd (true≢false (sym ((bytes_eq-Decides a b).1 same) ∙ differ))
 
+-- the command `run` has its numbers and flags
+pub run_command : (rows : List Row) → IsCommand (Some (codes "run", rows)) → HasRun rows
+run_command rows (inl h) = h.1
+run_command rows (inr (inl h)) = other_name _ _ h.0 refl
+run_command rows (inr (inr (inl h))) = other_name _ _ h.0 refl
+run_command rows (inr (inr (inr (inl h)))) = other_name _ _ h.0 refl
+run_command rows (inr (inr (inr (inr (inl h))))) = other_name _ _ h.0 refl
+run_command rows (inr (inr (inr (inr (inr (inl h)))))) = other_name _ _ h.0 refl
+run_command rows (inr (inr (inr (inr (inr (inr (inl h))))))) = other_name _ _ h.0 refl
+run_command rows (inr (inr (inr (inr (inr (inr (inr h))))))) = other_name _ _ h.0 refl
+
+-- and so has `objects`
+pub objects_command : (rows : List Row) → IsCommand (Some (codes "objects", rows)) → HasObjects rows
+objects_command rows (inl h) = other_name _ _ h.0 refl
+objects_command rows (inr (inl h)) = h.1
+objects_command rows (inr (inr (inl h))) = other_name _ _ h.0 refl
+objects_command rows (inr (inr (inr (inl h)))) = other_name _ _ h.0 refl
+objects_command rows (inr (inr (inr (inr (inl h))))) = other_name _ _ h.0 refl
+objects_command rows (inr (inr (inr (inr (inr (inl h)))))) = other_name _ _ h.0 refl
+objects_command rows (inr (inr (inr (inr (inr (inr (inl h))))))) = other_name _ _ h.0 refl
+objects_command rows (inr (inr (inr (inr (inr (inr (inr h))))))) = other_name _ _ h.0 refl
+
 -- the command `advance` has a number of generations
 pub advance_command : (rows : List Row) → IsCommand (Some (codes "advance", rows)) → HasAdvance rows
 advance_command rows (inl h) = other_name _ _ h.0 refl
@@ -372,6 +476,22 @@ advance_command rows (inr (inl h)) = other_name _ _ h.0 refl
 advance_command rows (inr (inr (inl h))) = other_name _ _ h.0 refl
 advance_command rows (inr (inr (inr (inl h)))) = h.1
 advance_command rows (inr (inr (inr (inr (inl h))))) = other_name _ _ h.0 refl
-advance_command rows (inr (inr (inr (inr (inr (inl h)))))) = other_name _ _ h refl
+advance_command rows (inr (inr (inr (inr (inr (inl h)))))) = other_name _ _ h.0 refl
 advance_command rows (inr (inr (inr (inr (inr (inr (inl h))))))) = other_name _ _ h.0 refl
-advance_command rows (inr (inr (inr (inr (inr (inr (inr h))))))) = other_name _ _ h refl
+advance_command rows (inr (inr (inr (inr (inr (inr (inr h))))))) = other_name _ _ h.0 refl
+
+-- each command has its `--explain`
+explain_flag : (name : Text) (rows : List Row) → IsCommand (Some (name, rows)) → HasFlag (codes "explain") rows
+explain_flag name rows (inl h) = h.1.explain
+explain_flag name rows (inr (inl h)) = h.1.explain
+explain_flag name rows (inr (inr (inl h))) = h.1.explain
+explain_flag name rows (inr (inr (inr (inl h)))) = h.1.explain
+explain_flag name rows (inr (inr (inr (inr (inl h))))) = h.1.explain
+explain_flag name rows (inr (inr (inr (inr (inr (inl h)))))) = h.1.explain
+explain_flag name rows (inr (inr (inr (inr (inr (inr (inl h))))))) = h.1.explain
+explain_flag name rows (inr (inr (inr (inr (inr (inr (inr h))))))) = h.1.explain
+
+pub explain_of : (command : Option (List ℕ × List Row)) (rows : List Row) → option_map (λ (p : List ℕ × List Row). p.1) command ≡ Some rows → IsCommand command
+    → HasFlag (codes "explain") rows
+explain_of None rows e h = absurd h
+explain_of (Some (name, there)) rows e h = let same : there ≡ rows = cc in subst (λ (r : List Row). HasFlag (codes "explain") r) same (explain_flag name there h)

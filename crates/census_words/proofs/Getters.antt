@@ -39,30 +39,39 @@ number_within low high id rows n h is =
     let same : digits_value 10 (without_leading_plus h.0) ≡ n = let e : Some (digits_value 10 (without_leading_plus h.0)) ≡ Some n = sym (number_is low high id rows h) ∙ is in cc in
     (rw (← same) h.2.2, rw (← same) h.2.3)
 
--- a limit reads as its number, and fits 32 bits
-pub limit_read : (m : ArgMatches) (id : List ℕ) (r : Option ℕ) (n : ℕ) → (one_text (found_of m) id ≡ None → r ≡ None)
-    → ((t : List ℕ) → one_text (found_of m) id ≡ Some t → ReadsOne ReadsU64 t r) → HasLimit id (rows_of (found_of m)) → r ≡ Some n
-    → (number_of id (rows_of (found_of m)) ≡ Some n) × (n ≤ 4294967295)
-limit_read m id r n none read (inl unused) is = let off : r ≡ None = none (one_text-rows (found_of m) id ∙ unused) in cc
-limit_read m id r n none read (inr h) is =
-    let known = number_read m id r read 1 4294967295 h in
-    let number : number_of id (rows_of (found_of m)) ≡ Some n = number_is 1 4294967295 id _ h ∙ sym known ∙ is in
-    (number, (number_within 1 4294967295 id _ n h number).1)
+-- a limit reads as its number, which is at most the most
+pub limit_read : (m : ArgMatches) (most : ℕ) (id : List ℕ) (r : Option ℕ) (n : ℕ) → (one_text (found_of m) id ≡ None → r ≡ None)
+    → ((t : List ℕ) → one_text (found_of m) id ≡ Some t → ReadsOne ReadsU64 t r) → HasLimit most id (rows_of (found_of m)) → r ≡ Some n
+    → (number_of id (rows_of (found_of m)) ≡ Some n) × (n ≤ most)
+limit_read m most id r n none read (inl unused) is = let off : r ≡ None = none (one_text-rows (found_of m) id ∙ unused) in cc
+limit_read m most id r n none read (inr h) is =
+    let known = number_read m id r read 1 most h in
+    let number : number_of id (rows_of (found_of m)) ≡ Some n = number_is 1 most id _ h ∙ sym known ∙ is in
+    (number, (number_within 1 most id _ n h number).1)
 
 -- where nothing is read there is no limit
-pub no_limit_read : (m : ArgMatches) (id : List ℕ) (r : Option ℕ) → ((t : List ℕ) → one_text (found_of m) id ≡ Some t → ReadsOne ReadsU64 t r)
-    → HasLimit id (rows_of (found_of m)) → r ≡ None → number_of id (rows_of (found_of m)) ≡ None
-no_limit_read m id r read (inl unused) is =
+pub no_limit_read : (m : ArgMatches) (most : ℕ) (id : List ℕ) (r : Option ℕ) → ((t : List ℕ) → one_text (found_of m) id ≡ Some t → ReadsOne ReadsU64 t r)
+    → HasLimit most id (rows_of (found_of m)) → r ≡ None → number_of id (rows_of (found_of m)) ≡ None
+no_limit_read m most id r read (inl unused) is =
     ap (λ (o : Option (List ℕ)). option_map (λ text. digits_value 10 (without_leading_plus text)) o) unused
-no_limit_read m id r read (inr h) is = number_is 1 4294967295 id _ h ∙ sym (number_read m id r read 1 4294967295 h) ∙ is
+no_limit_read m most id r read (inr h) is = number_is 1 most id _ h ∙ sym (number_read m id r read 1 most h) ∙ is
+
+-- a limit reads as it is
+pub limit_is : (m : ArgMatches) (most : ℕ) (id : List ℕ) (r : Option ℕ) → (one_text (found_of m) id ≡ None → r ≡ None)
+    → ((t : List ℕ) → one_text (found_of m) id ≡ Some t → ReadsOne ReadsU64 t r) → HasLimit most id (rows_of (found_of m))
+    → number_of id (rows_of (found_of m)) ≡ r
+limit_is m most id r none read (inl unused) =
+    ap (λ (o : Option (List ℕ)). option_map (λ text. digits_value 10 (without_leading_plus text)) o) unused
+    ∙ sym (none (one_text-rows (found_of m) id ∙ unused))
+limit_is m most id r none read (inr h) = number_is 1 most id _ h ∙ sym (number_read m id r read 1 most h)
 
 -- the number of a limit is none or in its range
-pub limit_within : (id : List ℕ) (rows : List Row) (n : Option ℕ) → HasLimit id rows → number_of id rows ≡ n → IsLimit n
-limit_within id rows None h is = tt
-limit_within id rows (Some n) (inl unused) is =
+pub limit_within : (most : ℕ) (id : List ℕ) (rows : List Row) (n : Option ℕ) → HasLimit most id rows → number_of id rows ≡ n → IsLimit most n
+limit_within most id rows None h is = tt
+limit_within most id rows (Some n) (inl unused) is =
     let none : number_of id rows ≡ None = ap (λ (o : Option (List ℕ)). option_map (λ text. digits_value 10 (without_leading_plus text)) o) unused in
     cc
-limit_within id rows (Some n) (inr h) is = number_within 1 4294967295 id rows n h is
+limit_within most id rows (Some n) (inr h) is = number_within 1 most id rows n h is
 
 -- a number of any range that fits has a number
 pub number_fits : (low high : ℕ) (id : List ℕ) (rows : List Row) → high ≤ 4294967295 → HasNumberIn low high id rows → HasNumber id rows

@@ -7,6 +7,7 @@ use Rattle.clap.specs.Simple.{subcommand_of}
 use Rattle.clap.specs.Values.{bool_text}
 use Rattle.clap.specs.Walk.{Row, all_of, first_of, one_of}
 use Rattle.census_words.specs.CommandLine.{census_app}
+use Rattle.census_words.specs.declared.request.Asked.{Asked}
 use Rattle.census_words.specs.declared.request.Request.{Request}
 use Rattle.census_words.specs.declared.request.Request.TheVariants.{Run, Objects, Identify, Advance, Draw, Merge, Table, Page}
 use Rattle.census_words.specs.declared.request.TableFormat.{TableFormat}
@@ -26,10 +27,10 @@ values_of id rows = unwrap_or (all_of id rows) []
 abbrev pub IsFlag : List ℕ → List Row → Bool → Type 0
 IsFlag id rows used = one_of id rows ≡ Some (bool_text used)
 
--- a limit is none, or from 1 to 4294967295
-abbrev pub IsLimit : Option ℕ → Type 0
-IsLimit None = Unit {0}
-IsLimit (Some n) = (1 ≤ n) × (n ≤ 4294967295)
+-- a limit is none, or from 1 to the most
+abbrev pub IsLimit : ℕ → Option ℕ → Type 0
+IsLimit most None = Unit {0}
+IsLimit most (Some n) = (1 ≤ n) × (n ≤ most)
 
 -- JSON is asked for by its flag alone, and CSV without that of JSON
 abbrev pub IsFormat : TableFormat → List Row → Type 0
@@ -38,7 +39,7 @@ IsFormat Json rows = IsFlag (codes "json") rows true × IsFlag (codes "csv") row
 
 -- The command and its matches are those of a census of these folders, or of the bundle on standard input where there is
 -- none.
-pub record GivesRun (command : Option (List ℕ × List Row)) (bound workers : ℕ) (cells : Option ℕ)
+pub record GivesRun (command : Option (List ℕ × List Row)) (bound workers : ℕ) (cells input : Option ℕ)
     (recursive keep_going : Bool) (folders : List (List ℕ)) : Type 0 where
   pub rows : List Row
   pub named : command ≡ Some (codes "run", rows)
@@ -47,13 +48,15 @@ pub record GivesRun (command : Option (List ℕ × List Row)) (bound workers : �
   pub workers_are : number_of (codes "workers") rows ≡ Some workers
   pub workers_in : (1 ≤ workers) × (workers ≤ 16)
   pub cells_are : number_of (codes "cells") rows ≡ cells
-  pub cells_in : IsLimit cells
+  pub cells_in : IsLimit 4294967295 cells
+  pub input_is : number_of (codes "input") rows ≡ input
+  pub input_in : IsLimit 9223372036854775807 input
   pub recursive_is : IsFlag (codes "recursive") rows recursive
   pub keep_going_is : IsFlag (codes "keep-going") rows keep_going
   pub folders_are : values_of (codes "folder") rows ≡ folders
 
 -- those of a census of the objects of these folders, or of those of the bundle
-pub record GivesObjects (command : Option (List ℕ × List Row)) (bound workers cells : ℕ)
+pub record GivesObjects (command : Option (List ℕ × List Row)) (bound workers cells : ℕ) (input : Option ℕ)
     (recursive keep_going : Bool) (folders : List (List ℕ)) : Type 0 where
   pub rows : List Row
   pub named : command ≡ Some (codes "objects", rows)
@@ -63,6 +66,8 @@ pub record GivesObjects (command : Option (List ℕ × List Row)) (bound workers
   pub workers_in : (1 ≤ workers) × (workers ≤ 16)
   pub cells_are : number_of (codes "cells") rows ≡ Some cells
   pub cells_in : (1 ≤ cells) × (cells ≤ 4294967295)
+  pub input_is : number_of (codes "input") rows ≡ input
+  pub input_in : IsLimit 9223372036854775807 input
   pub recursive_is : IsFlag (codes "recursive") rows recursive
   pub keep_going_is : IsFlag (codes "keep-going") rows keep_going
   pub folders_are : values_of (codes "folder") rows ≡ folders
@@ -113,16 +118,25 @@ pub record GivesPage (command : Option (List ℕ × List Row)) (reports : List (
   pub reports_are : values_of (codes "report") rows ≡ reports
 
 abbrev pub Gives : Option (List ℕ × List Row) → Request → Type 0
-Gives command (Run bound workers cells recursive keep_going folders) =
-    GivesRun command bound workers cells recursive keep_going (map (λ s. s.now) folders.items)
-Gives command (Objects bound workers cells recursive keep_going folders) =
-    GivesObjects command bound workers cells recursive keep_going (map (λ s. s.now) folders.items)
+Gives command (Run bound workers cells input recursive keep_going folders) =
+    GivesRun command bound workers cells input recursive keep_going (map (λ s. s.now) folders.items)
+Gives command (Objects bound workers cells input recursive keep_going folders) =
+    GivesObjects command bound workers cells input recursive keep_going (map (λ s. s.now) folders.items)
 Gives command (Identify bound files) = GivesIdentify command bound (map (λ s. s.now) files.items)
 Gives command (Advance generations file) = GivesAdvance command generations (option_map (λ s. s.now) file)
 Gives command (Draw code rule) = GivesDraw command code.now rule.now
 Gives command (Merge reports) = GivesMerge command (map (λ s. s.now) reports.items)
 Gives command (Table format reports) = GivesTable command format (map (λ s. s.now) reports.items)
 Gives command (Page reports) = GivesPage command (map (λ s. s.now) reports.items)
+
+-- whether the flag `--explain` of the command was used
+abbrev pub Explains : Option (List ℕ × List Row) → Bool → Type 0
+Explains None used = ⊥
+Explains (Some (name, rows)) used = IsFlag (codes "explain") rows used
+
+-- The command and its matches are those of what is asked for, and say whether its faults are to be explained.
+abbrev pub GivesAsked : Option (List ℕ × List Row) → Asked → Type 0
+GivesAsked command asked = Gives command asked.request × Explains command asked.explain
 
 -- ---- what the words ask for
 
@@ -131,14 +145,14 @@ abbrev pub IsMatched : List (List ℕ) → Type 0
 IsMatched words = fault_of census_app words ≡ []
 
 -- the words ask for the census of these folders, or of the bundle on standard input where there is none
-abbrev pub AsksRun : List (List ℕ) → ℕ → ℕ → Option ℕ → Bool → Bool → List (List ℕ) → Type 0
-AsksRun words bound workers cells recursive keep_going folders =
-    IsMatched words × GivesRun (subcommand_of census_app words) bound workers cells recursive keep_going folders
+abbrev pub AsksRun : List (List ℕ) → ℕ → ℕ → Option ℕ → Option ℕ → Bool → Bool → List (List ℕ) → Type 0
+AsksRun words bound workers cells input recursive keep_going folders =
+    IsMatched words × GivesRun (subcommand_of census_app words) bound workers cells input recursive keep_going folders
 
 -- for the census of the objects of these folders, or of those of the bundle
-abbrev pub AsksObjects : List (List ℕ) → ℕ → ℕ → ℕ → Bool → Bool → List (List ℕ) → Type 0
-AsksObjects words bound workers cells recursive keep_going folders =
-    IsMatched words × GivesObjects (subcommand_of census_app words) bound workers cells recursive keep_going folders
+abbrev pub AsksObjects : List (List ℕ) → ℕ → ℕ → ℕ → Option ℕ → Bool → Bool → List (List ℕ) → Type 0
+AsksObjects words bound workers cells input recursive keep_going folders =
+    IsMatched words × GivesObjects (subcommand_of census_app words) bound workers cells input recursive keep_going folders
 
 -- for the blocks of these files, or, where there is none, for the block of standard input
 abbrev pub AsksIdentify : List (List ℕ) → ℕ → List (List ℕ) → Type 0
@@ -167,3 +181,11 @@ AsksPage words reports = IsMatched words × GivesPage (subcommand_of census_app 
 -- for this
 abbrev pub Asks : List (List ℕ) → Request → Type 0
 Asks words request = IsMatched words × Gives (subcommand_of census_app words) request
+
+-- whether the words ask that faults be explained
+abbrev pub AsksToExplain : List (List ℕ) → Bool → Type 0
+AsksToExplain words used = Explains (subcommand_of census_app words) used
+
+-- for this, with its faults explained or not
+abbrev pub AsksFor : List (List ℕ) → Asked → Type 0
+AsksFor words asked = Asks words asked.request × AsksToExplain words asked.explain

@@ -48,6 +48,14 @@ limit_rule = record (new_rule (codes "cells")) {
 abbrev pub cells_rule : Rule
 cells_rule = record limit_rule { defaults = codes "1000000" ∷ [] }
 
+-- `--input N`
+abbrev pub input_rule : Rule
+input_rule = record (new_rule (codes "input")) {
+  long = Some (codes "input");
+  value_names = 1;
+  parser = Some (Unsigned 1 9223372036854775807);
+}
+
 -- `--recursive`
 abbrev pub recursive_rule : Rule
 recursive_rule = record (new_rule (codes "recursive")) {
@@ -61,6 +69,20 @@ abbrev pub keep_going_rule : Rule
 keep_going_rule = record (new_rule (codes "keep-going")) {
   short = Some 107;
   long = Some (codes "keep-going");
+  action = Some SetTrue;
+}
+
+-- `--explain`
+abbrev pub explain_rule : Rule
+explain_rule = record (new_rule (codes "explain")) {
+  long = Some (codes "explain");
+  action = Some SetTrue;
+}
+
+-- `--no-progress`
+abbrev pub no_progress_rule : Rule
+no_progress_rule = record (new_rule (codes "no-progress")) {
+  long = Some (codes "no-progress");
   action = Some SetTrue;
 }
 
@@ -123,29 +145,31 @@ shape_with name rules = record (new_shape name) { rules = rules }
 
 abbrev pub run_shape : Shape
 run_shape = shape_with (codes "run")
-    (bound_rule ∷ workers_rule ∷ limit_rule ∷ recursive_rule ∷ keep_going_rule ∷ folder_rule ∷ [])
+    (bound_rule ∷ workers_rule ∷ limit_rule ∷ input_rule ∷ recursive_rule ∷ keep_going_rule
+    ∷ explain_rule ∷ no_progress_rule ∷ folder_rule ∷ [])
 
 abbrev pub objects_shape : Shape
 objects_shape = shape_with (codes "objects")
-    (search_rule ∷ workers_rule ∷ cells_rule ∷ recursive_rule ∷ keep_going_rule ∷ folder_rule ∷ [])
+    (search_rule ∷ workers_rule ∷ cells_rule ∷ input_rule ∷ recursive_rule ∷ keep_going_rule
+    ∷ explain_rule ∷ no_progress_rule ∷ folder_rule ∷ [])
 
 abbrev pub identify_shape : Shape
-identify_shape = shape_with (codes "identify") (search_rule ∷ files_rule ∷ [])
+identify_shape = shape_with (codes "identify") (search_rule ∷ explain_rule ∷ files_rule ∷ [])
 
 abbrev pub advance_shape : Shape
-advance_shape = shape_with (codes "advance") (generations_rule ∷ file_rule ∷ [])
+advance_shape = shape_with (codes "advance") (generations_rule ∷ explain_rule ∷ file_rule ∷ [])
 
 abbrev pub draw_shape : Shape
-draw_shape = shape_with (codes "draw") (code_rule ∷ rule_rule ∷ [])
+draw_shape = shape_with (codes "draw") (code_rule ∷ rule_rule ∷ explain_rule ∷ [])
 
 abbrev pub merge_shape : Shape
-merge_shape = shape_with (codes "merge") (reports_rule ∷ [])
+merge_shape = shape_with (codes "merge") (explain_rule ∷ reports_rule ∷ [])
 
 abbrev pub table_shape : Shape
-table_shape = shape_with (codes "table") (csv_rule ∷ json_rule ∷ reports_rule ∷ [])
+table_shape = shape_with (codes "table") (csv_rule ∷ json_rule ∷ explain_rule ∷ reports_rule ∷ [])
 
 abbrev pub page_shape : Shape
-page_shape = shape_with (codes "page") (reports_rule ∷ [])
+page_shape = shape_with (codes "page") (explain_rule ∷ reports_rule ∷ [])
 
 -- `census` without its commands: it wants one, its words come without its own name, and it tells its version
 abbrev pub bare_app : App

@@ -4,9 +4,9 @@ ghost use Rattle.clap.specs.Words.{app_of, rule_of, shape_of};
 ghost use Rattle.clap.specs.declared.builder.command.Command.TheViews.{out-Command};
 ghost use Rattle.census_words.specs.CommandLine.{advance_shape, bare_app, census_app, draw_shape, identify_shape};
 ghost use Rattle.census_words.specs.CommandLine.{merge_shape, objects_shape, page_shape, run_shape, table_shape};
-ghost use Rattle.census_words.specs.CommandLine.{bound_rule, cells_rule, code_rule, csv_rule, file_rule, files_rule};
-ghost use Rattle.census_words.specs.CommandLine.{folder_rule, generations_rule, json_rule, keep_going_rule, limit_rule};
-ghost use Rattle.census_words.specs.CommandLine.{recursive_rule, reports_rule, rule_rule, search_rule, workers_rule};
+ghost use Rattle.census_words.specs.CommandLine.{bound_rule, cells_rule, code_rule, csv_rule, explain_rule, file_rule};
+ghost use Rattle.census_words.specs.CommandLine.{files_rule, folder_rule, generations_rule, input_rule, json_rule, keep_going_rule, limit_rule};
+ghost use Rattle.census_words.specs.CommandLine.{no_progress_rule, recursive_rule, reports_rule, rule_rule, search_rule, workers_rule};
 
 use crate::help;
 use clap::error::ErrorKind;
@@ -58,6 +58,16 @@ fn cells<'a>(alloc: Global) -> Arg<'a>
         .help("Live cells that a pattern may have, 1 to 4294967295")
 }
 
+fn input<'a>(alloc: Global) -> Arg<'a>
+    ensures { (rule_of result ≡ input_rule) × (result.global ≡ false) }
+{
+    Arg::new(alloc, "input")
+        .long("input")
+        .value_name("N")
+        .value_parser(value_parser!(u64).range(1..=9_223_372_036_854_775_807))
+        .help(help::INPUT)
+}
+
 fn workers<'a>(alloc: Global) -> Arg<'a>
     ensures { (rule_of result ≡ workers_rule) × (result.global ≡ false) }
 {
@@ -88,6 +98,24 @@ fn keep_going<'a>(alloc: Global) -> Arg<'a>
         .long("keep-going")
         .action(ArgAction::SetTrue)
         .help(help::KEEP_GOING)
+}
+
+fn explain<'a>(alloc: Global) -> Arg<'a>
+    ensures { (rule_of result ≡ explain_rule) × (result.global ≡ false) }
+{
+    Arg::new(alloc, "explain")
+        .long("explain")
+        .action(ArgAction::SetTrue)
+        .help(help::EXPLAIN)
+}
+
+fn no_progress<'a>(alloc: Global) -> Arg<'a>
+    ensures { (rule_of result ≡ no_progress_rule) × (result.global ≡ false) }
+{
+    Arg::new(alloc, "no-progress")
+        .long("no-progress")
+        .action(ArgAction::SetTrue)
+        .help(help::NO_PROGRESS)
 }
 
 fn folder<'a>(alloc: Global) -> Arg<'a>
@@ -181,8 +209,11 @@ fn run<'a>(alloc: Global) -> Result<Command<'a>, AllocError>
         .arg(bound(alloc))?
         .arg(workers(alloc))?
         .arg(limit(alloc))?
+        .arg(input(alloc))?
         .arg(recursive(alloc))?
         .arg(keep_going(alloc))?
+        .arg(explain(alloc))?
+        .arg(no_progress(alloc))?
         .arg(folder(alloc))
 }
 
@@ -195,8 +226,11 @@ fn objects<'a>(alloc: Global) -> Result<Command<'a>, AllocError>
         .arg(search(alloc))?
         .arg(workers(alloc))?
         .arg(cells(alloc))?
+        .arg(input(alloc))?
         .arg(recursive(alloc))?
         .arg(keep_going(alloc))?
+        .arg(explain(alloc))?
+        .arg(no_progress(alloc))?
         .arg(folder(alloc))
 }
 
@@ -207,6 +241,7 @@ fn identify<'a>(alloc: Global) -> Result<Command<'a>, AllocError>
         .about("Read RLE texts and tell of each what its pattern is")
         .after_help(help::IDENTIFY)
         .arg(search(alloc))?
+        .arg(explain(alloc))?
         .arg(files(alloc))
 }
 
@@ -217,6 +252,7 @@ fn advance<'a>(alloc: Global) -> Result<Command<'a>, AllocError>
         .about("Read an RLE text and write that of its generation N")
         .after_help(help::ADVANCE)
         .arg(generations(alloc))?
+        .arg(explain(alloc))?
         .arg(file(alloc))
 }
 
@@ -225,9 +261,10 @@ fn draw<'a>(alloc: Global) -> Result<Command<'a>, AllocError>
 {
     Command::new(alloc, "draw")
         .about("Write the RLE text of the pattern that an apgcode names")
-        .after_help(help::STATUSES)
+        .after_help(help::DRAW)
         .arg(code(alloc))?
-        .arg(rule(alloc))
+        .arg(rule(alloc))?
+        .arg(explain(alloc))
 }
 
 fn merge<'a>(alloc: Global) -> Result<Command<'a>, AllocError>
@@ -236,6 +273,7 @@ fn merge<'a>(alloc: Global) -> Result<Command<'a>, AllocError>
     Command::new(alloc, "merge")
         .about("Make one report of several: all their collections, numbered on")
         .after_help(help::MERGE)
+        .arg(explain(alloc))?
         .arg(reports(alloc))
 }
 
@@ -247,6 +285,7 @@ fn table<'a>(alloc: Global) -> Result<Command<'a>, AllocError>
         .after_help(help::TABLE)
         .arg(csv(alloc))?
         .arg(json(alloc))?
+        .arg(explain(alloc))?
         .arg(reports(alloc))
 }
 
@@ -256,6 +295,7 @@ fn page<'a>(alloc: Global) -> Result<Command<'a>, AllocError>
     Command::new(alloc, "page")
         .about("Write one HTML page of reports, with pictures")
         .after_help(help::PAGE)
+        .arg(explain(alloc))?
         .arg(reports(alloc))
 }
 

@@ -33,10 +33,11 @@ Lines of a report, of pattern I of collection C, both counted from 1:
     };
 }
 
-// The lines of a report of objects and the exit statuses.
+// The lines of a report of objects and the exit statuses, after other parts.
 macro_rules! with_objects {
-    () => {
+    ($($before:literal),*) => {
         with_statuses!(
+            $($before,)*
             "\
 Lines of a report, of pattern I of collection C, both counted from 1:
   open C PATTERNS NAME
@@ -59,6 +60,20 @@ pub const KEEP_GOING: &str = "\
 Go on past what can't be read, and exit with status 4 then.
 A file that can't be read has FAULT 0 in the report";
 
+/// What `--explain` does.
+pub const EXPLAIN: &str = "\
+Tell of each fault on standard error also where it is, what is wrong and what
+would be right";
+
+/// What `--no-progress` does.
+pub const NO_PROGRESS: &str = "\
+Do not tell at a terminal how far the run has come";
+
+/// What `--input` does.
+pub const INPUT: &str = "\
+Bytes that the files of the FOLDERs may have together, 1 to 9223372036854775807
+[default: no limit]";
+
 /// What a FILE is.
 pub const FILE: &str = "An RLE text; - is standard input.\nWith no FILE standard input is read";
 
@@ -70,18 +85,20 @@ A file with a report of run or objects, or with several after one another;
 /// After the help of the program.
 pub const PROGRAM: &str = with_report!(
     "\
-run [--bound N] [--workers N] [--cells N] [-r] [-k] [FOLDER]...
+run [--bound N] [--workers N] [--cells N] [--input N] [-r] [-k] [FOLDER]...
   -b, --bound N    generations that are searched, 1 to 1000000 [default: 1000]
   -w, --workers N  threads that work, 1 to 16 [default: 4]
       --cells N    live cells that a pattern may have, 1 to 4294967295
                    [default: no limit]
+      --input N    bytes that the files of the FOLDERs may have together, 1 to
+                   9223372036854775807 [default: no limit]
   -r, --recursive  take the folders below each FOLDER too that have *.rle files
   -k, --keep-going go on past what can't be read, and exit with status 4 then; a
                    file that can't be read has FAULT 0 in the report
   FOLDER           a collection: its patterns are the *.rle files in the folder;
                    with no FOLDER a bundle of collections is read from standard
                    input
-objects [--bound N] [--workers N] [--cells N] [-r] [-k] [FOLDER]...
+objects [--bound N] [--workers N] [--cells N] [--input N] [-r] [-k] [FOLDER]...
                    as run, but another report ('census help objects'), and
   -b, --bound N    1 to 100000 [default: 10000]
       --cells N    1 to 4294967295 [default: 1000000]
@@ -104,15 +121,42 @@ table [--csv | --json] [REPORT]...
       --csv        comma-separated values, as without a format
       --json       JSON, one object a line
 page [REPORT]...   one HTML page, with pictures ('census help page')
+run and objects
+      --no-progress
+                   do not tell at a terminal how far the run has come
+each of these
+      --explain    tell of each fault on standard error also where it is, what
+                   is wrong and what would be right
+The help of each has examples: census help run
 
 "
 );
 
 /// After the help of `run`.
-pub const RUN: &str = with_report!();
+pub const RUN: &str = with_report!(
+    "\
+Example: census run soups gliders
+         census run --bound 50000 --workers 16 soups
+         census run --cells 100000 --recursive --keep-going soups old
+         census run --explain <bundle.txt
+         census run --no-progress soups >report.txt
+         census run --input 1000000000 --recursive soups
+
+"
+);
 
 /// After the help of `objects`.
-pub const OBJECTS: &str = with_objects!();
+pub const OBJECTS: &str = with_objects!(
+    "\
+Example: census objects soups gliders
+         census objects --bound 50000 --workers 16 soups
+         census objects --cells 20000 --recursive --keep-going soups old
+         census objects --explain <bundle.txt
+         census objects --no-progress soups >report.txt
+         census objects --input 1000000000 --recursive soups
+
+"
+);
 
 /// After the help of `identify`.
 pub const IDENTIFY: &str = with_statuses!(
@@ -134,6 +178,7 @@ or else
   unresolved N         neither within N generations
 
 Example: census identify --bound 50000 glider.rle gun.rle
+         census identify --explain broken.rle
 
 "
 );
@@ -142,6 +187,7 @@ Example: census identify --bound 50000 glider.rle gun.rle
 pub const ADVANCE: &str = with_statuses!(
     "\
 Example: census advance 1103 r_pentomino.rle
+         census advance 4 --explain <glider.rle
 
 "
 );
@@ -153,7 +199,7 @@ The collections of the first REPORT come first, those of the others are numbered
 on, and the last line, end, has the sums.
 
 Example: census merge part1.txt part2.txt >census.txt
-         census run *.parts | census merge - other.txt
+         census run more | census merge --explain census.txt -
 
 "
 );
@@ -162,11 +208,12 @@ Example: census merge part1.txt part2.txt >census.txt
 pub const TABLE: &str = with_statuses!(
     "\
 The columns: collection, collection_name, pattern, name, status (ok, ash, none,
-large or bad), rule, population, onset, period, dx, dy, code, fault; where a name
-is no UTF-8, its bytes in hex in collection_name_hex or name_hex.
+large or bad), rule, population, onset, period, dx, dy, code, fault; where a
+name is no UTF-8, its bytes in hex in collection_name_hex or name_hex.
 
 Example: census table --csv census.txt >census.csv
          census run soups | census table --json
+         census table --explain census.txt
 
 "
 );
@@ -184,4 +231,11 @@ Example: census page census.txt >census.html
 );
 
 /// After the help of `draw`.
-pub const STATUSES: &str = with_statuses!();
+pub const DRAW: &str = with_statuses!(
+    "\
+Example: census draw xq4_153
+         census draw 33 --rule B36/S23
+         census draw --explain xs4_33
+
+"
+);

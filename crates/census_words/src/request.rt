@@ -1,7 +1,7 @@
 //! What words ask for.
 ghost use Rattle.std.specs.Prelude.{◌≡◌, IfOk, MatchResult, Some, codes, map, option_map};
 ghost use Rattle.clap.specs.Words.{first_of, found_of, rows_of, subcommand_rows_of};
-ghost use Rattle.census_words.specs.Asking.{Asks, Gives, IsFlag, number_of, values_of};
+ghost use Rattle.census_words.specs.Asking.{AsksFor, Explains, Gives, GivesAsked, IsFlag, number_of, values_of};
 ghost use Rattle.census_words.specs.Holding.{HasFlag, HasLimit, HasNumber, HasObjects, HasRun, HasTable, HasText};
 ghost use Rattle.census_words.specs.Holding.{IsCommand};
 ghost use Rattle.census_words.specs.Refusing.{NamesFormat, Refuses, RefusesCommand};
@@ -31,6 +31,9 @@ pub enum Request<'a> {
         workers: u32,
         /// How many live cells a pattern may have, 1 to 4,294,967,295, where there is such a limit.
         cells: Option<u32>,
+        /// How many bytes the files of the folders may have together, 1 to 9,223,372,036,854,775,807, where there is such
+        /// a limit.
+        input: Option<u64>,
         /// Whether the folders below a folder are collections too.
         recursive: bool,
         /// Whether the census goes on past what can't be read.
@@ -47,6 +50,9 @@ pub enum Request<'a> {
         workers: u32,
         /// How many live cells a pattern may have, 1 to 4,294,967,295.
         cells: u32,
+        /// How many bytes the files of the folders may have together, 1 to 9,223,372,036,854,775,807, where there is such
+        /// a limit.
+        input: Option<u64>,
         /// Whether the folders below a folder are collections too.
         recursive: bool,
         /// Whether the census goes on past what can't be read.
@@ -90,6 +96,16 @@ pub enum Request<'a> {
     },
 }
 
+/// What words ask for, and how its faults are to be told.
+#[derive(Debug, PartialEq, Drop)]
+pub struct Asked<'a> {
+    /// Whether a fault is told in a sentence too, with its place.
+    pub explain: bool,
+    /// Whether a terminal is not told how far a run has come.
+    pub quiet: bool,
+    pub request: Request<'a>,
+}
+
 // The number of an argument that has one.
 fn number(matches: &ArgMatches<'_>, id: &str) -> u32
     requires { HasNumber id.now (rows_of (found_of matches.now)) }
@@ -100,13 +116,21 @@ fn number(matches: &ArgMatches<'_>, id: &str) -> u32
 
 // The number of an argument, where it has one.
 fn limit(matches: &ArgMatches<'_>, id: &str) -> Option<u32>
-    requires { HasLimit id.now (rows_of (found_of matches.now)) }
+    requires { HasLimit 4294967295 id.now (rows_of (found_of matches.now)) }
     ensures { number_of id.now (rows_of (found_of matches.now)) ≡ result }
 {
     match matches.get_one::<u64>(id) {
         Some(number) => Some(number as u32),
         None => None,
     }
+}
+
+// The number of an argument that may be greater, where it has one.
+fn long_limit(matches: &ArgMatches<'_>, id: &str) -> Option<u64>
+    requires { HasLimit 9223372036854775807 id.now (rows_of (found_of matches.now)) }
+    ensures { number_of id.now (rows_of (found_of matches.now)) ≡ result }
+{
+    matches.get_one::<u64>(id)
 }
 
 // Whether a flag was used.
@@ -151,6 +175,7 @@ fn run_of<'a>(alloc: Global, run: &ArgMatches<'a>) -> Result<Request<'a>, AllocE
         bound: number(run, "bound"),
         workers: number(run, "workers"),
         cells: limit(run, "cells"),
+        input: long_limit(run, "input"),
         recursive: flag(run, "recursive"),
         keep_going: flag(run, "keep-going"),
         folders: texts(alloc, run, "folder")?,
@@ -166,6 +191,7 @@ fn objects_of<'a>(alloc: Global, objects: &ArgMatches<'a>) -> Result<Request<'a>
         bound: number(objects, "bound"),
         workers: number(objects, "workers"),
         cells: number(objects, "cells"),
+        input: long_limit(objects, "input"),
         recursive: flag(objects, "recursive"),
         keep_going: flag(objects, "keep-going"),
         folders: texts(alloc, objects, "folder")?,
@@ -244,6 +270,42 @@ fn request_of<'a>(alloc: Global, matches: &ArgMatches<'a>) -> Result<Request<'a>
     unreachable!()
 }
 
+// Whether the flag `--explain` of the command was used.
+fn explains(matches: &ArgMatches<'_>) -> bool
+    requires { IsCommand (subcommand_rows_of matches.now) }
+    ensures { Explains (subcommand_rows_of matches.now) result }
+{
+    let Some((_, command)) = matches.subcommand() else {
+        unreachable!()
+    };
+    flag(command, "explain")
+}
+
+// Whether the flag `--no-progress` of a command that has it was used.
+fn is_quiet(matches: &ArgMatches<'_>) -> bool
+    requires { IsCommand (subcommand_rows_of matches.now) }
+{
+    if let Some(run) = matches.subcommand_matches("run") {
+        return flag(run, "no-progress");
+    }
+    match matches.subcommand_matches("objects") {
+        Some(objects) => flag(objects, "no-progress"),
+        None => false,
+    }
+}
+
+// What the matches ask for, and how its faults are to be told.
+fn asked_of<'a>(alloc: Global, matches: &ArgMatches<'a>) -> Result<Asked<'a>, WordsFault>
+    requires { IsCommand (subcommand_rows_of matches.now) }
+    ensures { MatchResult result (GivesAsked (subcommand_rows_of matches.now)) (RefusesCommand (subcommand_rows_of matches.now)) }
+{
+    Ok(Asked {
+        explain: explains(matches),
+        quiet: is_quiet(matches),
+        request: request_of(alloc, matches)?,
+    })
+}
+
 /// What the words after the program's own name ask for.
 ///
 /// What words mean is what clap's matches for them say: their command, the value of each option or its default, whether
@@ -252,12 +314,12 @@ fn request_of<'a>(alloc: Global, matches: &ArgMatches<'a>) -> Result<Request<'a>
 /// A fault other than `Memory` comes only where clap has no matches for the words: `Help` where it answers them with help
 /// or with the version, `Refused` where it refuses them. Words that name both formats of `table` alone are `Refused`
 /// though clap has matches for them.
-pub fn read_words<'a>(alloc: Global, words: &'a [&'a str]) -> Result<Request<'a>, WordsFault>
-    ensures { MatchResult result (Asks (map (λ s. s.now) words.entry.now)) (Refuses (map (λ s. s.now) words.entry.now)) }
+pub fn read_words<'a>(alloc: Global, words: &'a [&'a str]) -> Result<Asked<'a>, WordsFault>
+    ensures { MatchResult result (AsksFor (map (λ s. s.now) words.entry.now)) (Refuses (map (λ s. s.now) words.entry.now)) }
 {
     let command = command::census(alloc)?;
     match command.try_get_matches_from(words) {
-        Ok(matches) => request_of(alloc, &matches),
+        Ok(matches) => asked_of(alloc, &matches),
         Err(error) => Err(fault_of(alloc, &error)),
     }
 }

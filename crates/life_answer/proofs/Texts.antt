@@ -1,5 +1,5 @@
 -- What is found of a text.
-use Rattle.std.proofs.Common.{◌≡◌, ℕ, ◌≤◌, Bool, true, false, List, [], ◌∷◌, ◌++◌, Option, Some, None, Result, Ok, Err, cond, is_some, codes, ap, subst, sym, arith, ◌∙◌, ◌≢◌, IfOk, OnOk}
+use Rattle.std.proofs.Common.{◌≡◌, ℕ, ◌≤◌, Bool, true, false, List, [], ◌∷◌, ◌++◌, Option, Some, None, Result, Ok, Err, cond, is_some, codes, ap, subst, sym, arith, ◌∙◌, ◌≢◌, IfOk, IsOk, OnErr, OnOk, refl}
 use Rattle.std.specs.Option.{option_or}
 use Rattle.std.specs.List.{list_all}
 use Rattle.life_cells.specs.Bytes.{is_blank, after_one_of}
@@ -42,6 +42,20 @@ pub refused-answer : {E : Type 0} (r : Result Answer E) (q : Question) (text : L
     → OnOk r (fault ≢ Memory) → (fault ≢ Memory → refusal text ≡ Some fault) → IfOk r (λ a. a ≡ answer_to_question q text)
 refused-answer (Ok a) q text fault e h told = e ∙ sym (answer-refused q text fault (told h))
 refused-answer (Err x) q text fault e h told = tt
+
+-- ---- where memory may be refused
+
+lawful_header : (r : Result Rule RleFault) (ts : List Token) → fault_of (with_body r ts) ≡ None → IsOk r
+lawful_header (Ok rule) ts e = refl
+lawful_header (Err fault) ts e = cc
+
+-- a text without a fault has a lawful header
+pub header_lawful : (text : List ℕ) → refusal text ≡ None → IsOk (header_rule text)
+header_lawful text e = lawful_header (header_rule text) (rle.body_tokens text) e
+
+pub memory_of : {E : Type 0} (r : Result Answer E) (text : List ℕ) (fault : RleFault) → OnErr r (fault ≡ Memory) → (fault ≡ Memory → IsOk (header_rule text)) → OnErr r (IsOk (header_rule text))
+memory_of (Ok a) text fault e h = tt
+memory_of (Err x) text fault e h = h e
 
 -- ---- the numbers of faults
 

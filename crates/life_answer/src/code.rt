@@ -1,5 +1,5 @@
 //! Codes of objects.
-ghost use Rattle.std.specs.Prelude.{◌≡◌, IfOk};
+ghost use Rattle.std.specs.Prelude.{◌≡◌, ◌≤◌, IfOk, IsOk, length};
 
 use smallvec::SmallVec;
 use std::alloc::{AllocError, Global};
@@ -25,7 +25,8 @@ impl Model for Code {
 impl Code {
     /// A copy of these bytes. It takes no memory where they are at most 32.
     pub fn of(alloc: Global, bytes: &[u8]) -> Result<Code, AllocError>
-        ensures { IfOk result (λ c. c ≡ bytes.now) }
+        ensures copied { IfOk result (λ c. c ≡ bytes.now) }
+        ensures short { length bytes.now ≤ 32 → IsOk result }
     {
         Ok(Code {
             bytes: SmallVec::from_slice(alloc, bytes)?,

@@ -1,5 +1,5 @@
 //! The answer to a text that is no pattern.
-ghost use Rattle.std.specs.Prelude.{◌≡◌, ◌≢◌, IfOk, OnOk};
+ghost use Rattle.std.specs.Prelude.{◌≡◌, ◌≢◌, IfOk, OnErr, OnOk};
 ghost use Rattle.life_text.specs.declared.rle.RleFault.TheVariants.{Memory};
 ghost use Rattle.life_answer.specs.declared.finding.Answer.TheVariants.{Refused};
 ghost use Rattle.life_answer.specs.Answers.{fault_number};
@@ -27,10 +27,11 @@ fn number(fault: RleFault) -> u8
     }
 }
 
-/// The answer to a text that has a fault. Out of memory is none.
+/// The answer to a text that has a fault. Out of memory is none, and that alone.
 pub fn refused(fault: RleFault) -> Result<Answer, AllocError>
     ensures answer { IfOk result (λ answer. answer ≡ Refused (fault_number fault)) }
     ensures fault { OnOk result (fault ≢ Memory) }
+    ensures memory { OnErr result (fault ≡ Memory) }
 {
     match fault {
         RleFault::Memory => Err(AllocError),

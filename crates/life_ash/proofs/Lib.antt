@@ -1,6 +1,5 @@
 pub mod Lists
 pub mod Places
-pub mod Moving
 pub mod Finding
 pub mod Turning
 pub mod Survivors

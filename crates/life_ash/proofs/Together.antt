@@ -1,32 +1,19 @@
 -- The cells of sets together.
-use Rattle.std.proofs.Common.{◌≡◌, ◌↔◌, ◌||◌, ◌&&◌, Bool, ◌+◌, ◌<◌, ℕ, T, List, [], ◌∷◌, ◌++◌, flat_map, IsTrue, get_or, length, take, refl, sym, ap, ◌∙◌}
+use Rattle.std.proofs.Common.{◌≡◌, ◌↔◌, ◌&&◌, Bool, ◌+◌, ◌<◌, ℕ, T, List, [], ◌∷◌, ◌++◌, flat_map, IsTrue, get_or, length, take, sym, ap, ◌∙◌}
 use Rattle.std.specs.Bool.{Decides}
 use Rattle.std.specs.Cmp.Lexicographic.{pointwise, pointwise_decides}
-use Rattle.std.specs.List.{list_any}
 use Rattle.std.specs.Ordering.{int_eq}
 use Rattle.std.proofs.lemmas.Bool.Decides.{Decides-and, Decides-int_eq, Decides-like}
 use Rattle.std.proofs.lemmas.Grind.{flat_map-append}
 use Rattle.std.proofs.lemmas.List.{append-nil, map_more}
-use Rattle.std.proofs.lemmas.List.Folds.{list_any-append}
-use Rattle.life_model.specs.Cell.{Cell, same_cell}
-use Rattle.life_model.specs.Generation.{Generation, cells, contains, from_list, is_rising}
+use Rattle.life_model.specs.Cell.{Cell}
+use Rattle.life_model.specs.Generation.{Generation, cells, from_list, is_rising}
 use Rattle.life_model.proofs.Cells.{pair}
-use Rattle.life_model.proofs.Generations.{cells-from_list, contains-cells, contains-from_list, from_list-cells, same_members}
+use Rattle.life_model.proofs.Generations.{cells-from_list, from_list-cells}
 use Rattle.life_objects.specs.Union.{union_of}
-use Rattle.life_objects.proofs.Unions.{contains-union_of}
+use Rattle.life_classes.proofs.Groups.{union_from_cells}
 use Rattle.life_orbit.specs.Course.{Course}
 use Rattle.life_ash.specs.Parts.{sets_of}
-
-cells_any : (Ps : List Generation) (c : Cell) →
-    list_any (same_cell c) (flat_map cells Ps) ≡ list_any (λ P. contains P c) Ps
-cells_any [] c = refl
-cells_any (P ∷ Ps) c =
-    list_any-append (same_cell c) (cells P) (flat_map cells Ps)
-    ∙ (λ i. sym (contains-cells P c) i || cells_any Ps c i)
-
-pub union_from_cells : (Ps : List Generation) → from_list (flat_map cells Ps) ≡ union_of Ps
-union_from_cells Ps = same_members _ _ (λ c.
-    contains-from_list (flat_map cells Ps) c ∙ cells_any Ps c ∙ sym (contains-union_of Ps c))
 
 abbrev same_places : Cell → Cell → Bool
 same_places a b = int_eq a.0 b.0 && int_eq a.1 b.1

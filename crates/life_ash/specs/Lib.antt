@@ -4,3 +4,4 @@ pub mod Spans
 pub mod Later
 pub mod Fates
 pub mod Allowed
+pub mod Met

@@ -7,6 +7,7 @@ ghost use Rattle.life_orbit.specs.Course.{IsCourse};
 ghost use Rattle.life_ash.specs.Parts.{IsFit, IsOf, IsPlaced, sets_of};
 
 use crate::ash::is_ash;
+use crate::known::Known;
 use life_cells::rule::Rule;
 use life_classes::class::Class;
 use life_classes::classes::classes;
@@ -55,9 +56,10 @@ fn orbits_of(
     requires within { All (λ c. All (IsWithin 400000) (generations.cells c.first)) classes.now }
     ensures { IfOk result (λ found. IfSome found (λ orbits. All (IsFit rule.now bound) orbits.items)) }
 {
+    let mut known = Known::new(alloc, rule, bound);
     let mut orbits = Vec::new(alloc);
     for class in classes {
-        match Orbit::of(alloc, rule, &class.first, bound)? {
+        match known.orbit_of(alloc, &class.first)? {
             Some(orbit) => orbits.push(orbit)?,
             None => return Ok(None),
         }

@@ -6,6 +6,7 @@ mod before;
 mod checks;
 pub mod fate;
 mod guess;
+mod known;
 mod limit;
 mod living;
 mod pace;

@@ -8,6 +8,7 @@ ghost use Rattle.life_objects.specs.Ash.{IsAsh};
 ghost use Rattle.life_ash.specs.Parts.{AreEnds, IsEnd, IsFit, sets_of};
 
 use crate::before::set_before;
+use crate::known::Known;
 use crate::living::living;
 use life_cells::cell_list::CellList;
 use life_cells::rule::Rule;
@@ -16,27 +17,23 @@ use life_orbit::orbit::{BOUND_LIMIT, Orbit};
 use life_plane::plane::Plane;
 use std::alloc::{AllocError, Global};
 
-/// The only set that may have become this one after so many generations and that comes again within as many.
-fn part_of(
-    alloc: Global,
-    rule: &Rule,
-    last: &CellList,
-    bound: u32,
-) -> Result<Option<Orbit>, AllocError>
-    requires bound { 1 ≤ bound × bound ≤ BOUND_LIMIT }
+/// The only set that may have become this one after so many generations as is the bound, and that comes again within it.
+fn part_of(alloc: Global, known: &mut Known, last: &CellList) -> Result<Option<Orbit>, AllocError>
     requires within { All (IsWithin 4000000) (generations.cells last.now) }
-    ensures fit { IfOk result (λ found. IfSome found (λ orbit. IsFit rule.now bound orbit)) }
+    ensures same { known.new ≡ known.old }
+    ensures fit { IfOk result (λ found. IfSome found (λ orbit. IsFit known.old.rule known.old.bound orbit)) }
     ensures set { IfOk result (λ found. IfSome found (λ orbit. (P : Generation) →
-        IsEnd rule.now bound last.now P → orbit.set ≡ P)) }
-    ensures none { IfOk result (λ found. IfNone found ((P : Generation) → IsEnd rule.now bound last.now P → ⊥)) }
+        IsEnd known.old.rule known.old.bound last.now P → orbit.set ≡ P)) }
+    ensures none { IfOk result (λ found. IfNone found ((P : Generation) →
+        IsEnd known.old.rule known.old.bound last.now P → ⊥)) }
 {
-    let Some(orbit) = Orbit::of(alloc, rule, last, bound)? else {
+    let Some(orbit) = known.orbit_of(alloc, last)? else {
         return Ok(None);
     };
-    let Some(set) = set_before(alloc, &orbit, bound)? else {
+    let Some(set) = set_before(alloc, &orbit, known.bound())? else {
         return Ok(None);
     };
-    Orbit::of(alloc, rule, &set, bound)
+    known.orbit_of(alloc, &set)
 }
 
 /// The only sets that may have become these ones.
@@ -54,9 +51,10 @@ fn parts_of(
     ensures none { IfOk result (λ found. IfNone found ((last : Generation) × Contains lasts.now last
         × ((P : Generation) → IsEnd rule.now bound last P → ⊥))) }
 {
+    let mut known = Known::new(alloc, rule, bound);
     let mut parts = Vec::new(alloc);
     for last in lasts {
-        match part_of(alloc, rule, last, bound)? {
+        match part_of(alloc, &mut known, last)? {
             Some(part) => parts.push(part)?,
             None => return Ok(None),
         }

@@ -31,7 +31,7 @@ all_together (c ∷ cs) = same_members _ _ (λ q.
     ∙ sym (contains-from_list (c ∷ cs) q))
 
 -- each listed cell is a member
-listed : (G : Generation) → All (λ c. contains G c ≡ true) (cells G)
+pub listed : (G : Generation) → All (λ c. contains G c ≡ true) (cells G)
 listed G k d h =
     let c = get_or (cells G) k d in
     contains-cells G c

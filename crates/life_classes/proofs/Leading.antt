@@ -73,12 +73,3 @@ pub lead_all : (done done' left less : List Class) (c : Class) → left ≡ less
 lead_all done done' left less c is leads =
     in_turn (done ++ left) ((c ∷ done) ++ less) (done' ++ less) (last_first done left less c is)
     (halves_tracked (c ∷ done) less done' less leads (lead_same less))
-
-pub lead_merged : (ones others others' : List Class) (n : ℕ) (c : Class) → n < length ones → c ≡ get_or ones n c →
-    LeadTo (c ∷ others) others' → LeadTo (ones ++ others) (remove ones n ++ others')
-lead_merged ones others others' n c h at leads =
-    let rest = remove ones n in
-    in_turn (ones ++ others) ((c ∷ rest) ++ others) (rest ++ others')
-    (halves_tracked ones others (c ∷ rest) others (taken_first ones n c h at) (lead_same others))
-    (in_turn ((c ∷ rest) ++ others) (rest ++ (c ∷ others)) (rest ++ others') (lead_back c rest others)
-    (halves_tracked rest (c ∷ others) rest others' (lead_same rest) leads))

@@ -11,3 +11,8 @@ pub mod Aparting
 pub mod Later
 pub mod Few
 pub mod NextToNext
+pub mod OnTrue
+pub mod Permuted
+pub mod Groups
+pub mod Lookups
+pub mod Around

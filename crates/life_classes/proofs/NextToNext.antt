@@ -1,8 +1,6 @@
 -- Cells each of which is near the one before it are one class.
-use Rattle.std.proofs.Common.{◌≡◌, ℕ, suc, ◌+◌, ◌-◌, ◌<◌, ◌≤◌, true, ◌||◌, List, [], ◌∷◌, length, get_or, map}
-use Rattle.std.proofs.Common.{inl, inr, refl, sym, ap, ◌∙◌, arith}
-use Rattle.std.proofs.lemmas.Bool.{cases_lt}
-use Rattle.std.proofs.lemmas.List.{get_or_default}
+use Rattle.std.proofs.Common.{◌≡◌, suc, ◌<◌, true, ◌||◌, List, [], ◌∷◌, length, map}
+use Rattle.std.proofs.Common.{refl, sym, ap, ◌∙◌, arith}
 use Rattle.std.specs.List.{list_any}
 use Rattle.life_model.specs.Cell.{Cell, same_cell}
 use Rattle.life_model.specs.Generation.{contains, from_list}
@@ -35,7 +33,7 @@ near_next c d ds h far =
     far c d (first_listed c []) (first_listed d ds)
     (record { left = w.left; right = w.right; above = w.above; below = w.below })
 
-pub lead_chain : (c : Cell) (cs : List Cell) → IsChain (c ∷ cs) →
+lead_chain : (c : Cell) (cs : List Cell) → IsChain (c ∷ cs) →
     LeadTo (map alone (c ∷ cs)) (at_first (c ∷ cs) ∷ [])
 lead_chain c [] h = lead_same (alone c ∷ [])
 lead_chain c (d ∷ ds) h =
@@ -49,17 +47,7 @@ lead_chain c (d ∷ ds) h =
     (lead_joined next (alone c) all [] (with_first c (d ∷ ds)) (with_first c (d ∷ ds))
     (near_next c d ds (h 0 1 c (omega arith) (omega arith))))
 
--- the n-th of the cells is near the one before it, as those before it are
-pub one_link : (cs : List Cell) (n : ℕ) (x y : Cell) → 1 ≤ n → n < length cs →
-    are_within 2 (get_or cs (n - 1) x) (get_or cs n y) ≡ true →
-    ((k j : ℕ) (d : Cell) → j ≡ k + 1 → j < n → are_within 2 (get_or cs k d) (get_or cs j d) ≡ true) →
-    (k j : ℕ) (d : Cell) → j ≡ k + 1 → j < n + 1 → are_within 2 (get_or cs k d) (get_or cs j d) ≡ true
-one_link cs n x y above inside near before k j d e l = elim (cases_lt j n) [
-  | inl less ↦ before k j d e less
-  | inr here ↦
-      let same : n ≡ j = omega arith in
-      let one_less : n - 1 ≡ k = omega arith in
-      let low = get_or_default cs (n - 1) x d (omega arith) ∙ ap (λ m. get_or cs m d) one_less in
-      let high = get_or_default cs n y d inside ∙ ap (λ m. get_or cs m d) same in
-      (λ i. are_within 2 (sym low i) (sym high i)) ∙ near
-]
+-- some cells
+pub lead_cells : (cs : List Cell) → 0 < length cs → IsChain cs → LeadTo (map alone cs) (at_first cs ∷ [])
+lead_cells [] some chain = absurd (omega arith)
+lead_cells (c ∷ cs) some chain = lead_chain c cs chain

@@ -1,23 +1,25 @@
--- Cells in order stand in rows that don't fall, and those that stand elsewhere can be left out.
+-- Cells in order have rows and numbers that don't fall, and those that have others can be left out.
 use Rattle.std.proofs.Common.{◌≡◌, ℕ, zero, suc, ◌+◌, ◌-◌, ◌<◌, ◌≤◌, ℤ, ◌≤ℤ◌, ◌<ℤ◌, Bool, true}
-use Rattle.std.proofs.Common.{false, cond, ◌||◌, T, List, [], ◌∷◌}
+use Rattle.std.proofs.Common.{false, cond, ◌||◌, ◌⊎◌, inl, inr, T, List, [], ◌∷◌}
 use Rattle.std.proofs.Common.{length, get_or, take, drop, filter, int_le, int_lt, Ordering}
 use Rattle.std.proofs.Common.{Less, Equal, Greater, int_cmp}
 use Rattle.std.proofs.Common.{sym, refl, ap, ◌∙◌, get_or-drop, length-drop, arith}
-use Rattle.std.specs.List.{list_any}
+use Rattle.std.specs.List.{All, list_any}
 use Rattle.std.specs.List.Sorted.{IsPartitionedBy, IsStrictlySortedBy}
 use Rattle.std.specs.Ordering.{ordering_then, MatchOrdering}
 use Rattle.std.specs.Cmp.{int_ranks}
 use Rattle.std.proofs.Math.Seq.{take-nil}
 use Rattle.std.proofs.lemmas.Bool.{false_from_ne_true}
 use Rattle.std.proofs.lemmas.Int.{ints}
-use Rattle.std.proofs.lemmas.List.Elements.{All-from_recursion}
+use Rattle.std.proofs.lemmas.List.Elements.{All-from_recursion, All-head, All-tail}
 use Rattle.std.proofs.lemmas.List.{get_or_default}
 use Rattle.std.proofs.lemmas.List.Folds.{Any-from_list_any}
 use Rattle.life_model.specs.Cell.{Cell, cell_cmp, same_cell}
 use Rattle.life_model.specs.Generation.{is_rising}
 use Rattle.life_model.proofs.Cells.{same_cell-is}
+use Rattle.life_cells.specs.Limits.{IsPlace}
 use Rattle.life_cells.proofs.Sorted.{sorted_from_rising}
+use Rattle.life_classes.specs.Tags.{number_of}
 
 not_below : (x y : ℤ) (r s : Ordering) → MatchOrdering r (x <ℤ y) (x ≡ y) (y <ℤ x) → ordering_then r s ≡ Less → x ≤ℤ y
 not_below x y Less s h e = omega (arith, ints)
@@ -27,19 +29,51 @@ not_below x y Greater s h e = cc
 row_not_below : (a b : Cell) → cell_cmp a b ≡ Less → a.1 ≤ℤ b.1
 row_not_below a b e = not_below a.1 b.1 (int_cmp a.1 b.1) (int_cmp a.0 b.0) (int_ranks a.1 b.1) e
 
-sorted_rows : (cs : List Cell) → IsStrictlySortedBy cell_cmp cs → (i j : ℕ) (d : Cell) → i ≤ j → j < length cs →
-    (get_or cs i d).1 ≤ℤ (get_or cs j d).1
-unfolding IsStrictlySortedBy
-sorted_rows [] h i j d k l = absurd (omega arith)
-sorted_rows (c ∷ cs) h zero zero d k l = omega (arith, ints)
-sorted_rows (c ∷ cs) h zero (suc j) d k l =
-    row_not_below c (get_or cs j d) (All-from_recursion (λ y. cell_cmp c y ≡ Less) cs h.0 j d (omega arith))
-sorted_rows (c ∷ cs) h (suc i) zero d k l = absurd (omega arith)
-sorted_rows (c ∷ cs) h (suc i) (suc j) d k l = sorted_rows cs h.1 i j d (omega arith) (omega arith)
+lower : (x y u v : ℤ) (r s : Ordering) → MatchOrdering r (x <ℤ y) (x ≡ y) (y <ℤ x) →
+    MatchOrdering s (u <ℤ v) (u ≡ v) (v <ℤ u) → ordering_then r s ≡ Less → (x <ℤ y) ⊎ ((x ≡ y) × (u ≤ℤ v))
+lower x y u v Less s h k e = inl h
+lower x y u v Equal Less h k e = inr (h, omega (arith, ints))
+lower x y u v Equal Equal h k e = inr (h, omega (arith, ints))
+lower x y u v Equal Greater h k e = cc
+lower x y u v Greater s h k e = cc
 
-pub rows_rise : (cs : List Cell) → T (is_rising cs) → (i j : ℕ) (d : Cell) → i ≤ j → j < length cs →
-    (get_or cs i d).1 ≤ℤ (get_or cs j d).1
-rows_rise cs h = sorted_rows cs (sorted_from_rising cs h)
+number_not_below : (a b : Cell) → cell_cmp a b ≡ Less → IsPlace a → IsPlace b → number_of a ≤ℤ number_of b
+number_not_below a b e p q =
+    let left = p.left in
+    let right = p.right in
+    let left_too = q.left in
+    let right_too = q.right in
+    elim (lower a.1 b.1 a.0 b.0 (int_cmp a.1 b.1) (int_cmp a.0 b.0) (int_ranks a.1 b.1) (int_ranks a.0 b.0) e) [
+      | inl above ↦ omega (arith, ints)
+      | inr beside ↦
+          let row = beside.0 in
+          let further = beside.1 in
+          omega (arith, ints)
+    ]
+
+-- a number of the cells doesn't fall from one to the next
+abbrev pub Rise : (Cell → ℤ) → List Cell → Type 0
+Rise key cs = (i j : ℕ) (d : Cell) → i ≤ j → j < length cs → key (get_or cs i d) ≤ℤ key (get_or cs j d)
+
+sorted_rise : (key : Cell → ℤ) (P : Cell → Type 0) →
+    ((a b : Cell) → cell_cmp a b ≡ Less → P a → P b → key a ≤ℤ key b) → (cs : List Cell) →
+    IsStrictlySortedBy cell_cmp cs → All P cs → Rise key cs
+unfolding IsStrictlySortedBy
+sorted_rise key P step [] h all i j d k l = absurd (omega arith)
+sorted_rise key P step (c ∷ cs) h all zero zero d k l = omega (arith, ints)
+sorted_rise key P step (c ∷ cs) h all zero (suc j) d k l =
+    step c (get_or cs j d) (All-from_recursion (λ y. cell_cmp c y ≡ Less) cs h.0 j d (omega arith)) (All-head P c cs all)
+    (All-tail P c cs all j d (omega arith))
+sorted_rise key P step (c ∷ cs) h all (suc i) zero d k l = absurd (omega arith)
+sorted_rise key P step (c ∷ cs) h all (suc i) (suc j) d k l =
+    sorted_rise key P step cs h.1 (All-tail P c cs all) i j d (omega arith) (omega arith)
+
+pub rows_rise : (cs : List Cell) → T (is_rising cs) → Rise (λ c. c.1) cs
+rows_rise cs h =
+    sorted_rise (λ c. c.1) (λ c. Unit {0}) (λ a b e p q. row_not_below a b e) cs (sorted_from_rising cs h) (λ k d l. tt)
+
+pub numbers_rise : (cs : List Cell) → T (is_rising cs) → All IsPlace cs → Rise number_of cs
+numbers_rise cs h placed = sorted_rise number_of IsPlace number_not_below cs (sorted_from_rising cs h) placed
 
 pub some_listed : (cs : List Cell) (d : Cell) → list_any (same_cell d) cs ≡ true → 0 < length cs
 some_listed cs d one =
@@ -69,15 +103,15 @@ not_rising x y t h e = grind (arith, ints)
 not_rising_to : (x y t : ℤ) → x ≤ℤ y → int_le y t ≡ true → int_le x t ≡ true
 not_rising_to x y t h e = grind (arith, ints)
 
-pub parted_above : (cs : List Cell) (top : ℤ) → T (is_rising cs) → IsPartitionedBy (λ c. int_lt c.1 top) cs
-parted_above cs top h i j d k l e = not_rising _ _ top (rows_rise cs h i j d k l) e
+module _ (key : Cell → ℤ) (cs : List Cell) (rise : Rise key cs) where
+  pub parted_above : (top : ℤ) → IsPartitionedBy (λ c. int_lt (key c) top) cs
+  parted_above top i j d k l e = not_rising _ _ top (rise i j d k l) e
 
-pub parted_below : (cs : List Cell) (s : ℕ) (bottom : ℤ) → T (is_rising cs) →
-    IsPartitionedBy (λ c. int_le c.1 bottom) (drop s cs)
-parted_below cs s bottom h i j d k l e =
-    let long = length-drop s cs in
-    let rise = rows_rise cs h (s + i) (s + j) d (omega arith) (omega arith) in
-    rw get_or-drop (not_rising_to _ _ bottom rise (rw get_or-drop at e))
+  pub parted_below : (s : ℕ) (bottom : ℤ) → IsPartitionedBy (λ c. int_le (key c) bottom) (drop s cs)
+  parted_below s bottom i j d k l e =
+      let long = length-drop s cs in
+      let up = rise (s + i) (s + j) d (omega arith) (omega arith) in
+      rw get_or-drop (not_rising_to _ _ bottom up (rw get_or-drop at e))
 
 -- ---- the elements that pass a test
 
@@ -116,13 +150,13 @@ not_above x t e h = grind (arith, ints)
 not_past : (x t : ℤ) → int_le x t ≡ false → x ≤ℤ t → ⊥
 not_past x t e h = grind (arith, ints)
 
--- a test that is passed in some rows alone, over the cells of these rows
-pub rows_between : (p : Cell → Bool) (cs : List Cell) (top bottom : ℤ) (s n : ℕ) →
-    ((c : Cell) → p c ≡ true → (top ≤ℤ c.1) × (c.1 ≤ℤ bottom)) →
-    ((k : ℕ) (d : Cell) → k < s → int_lt (get_or cs k d).1 top ≡ true) →
-    ((k : ℕ) (d : Cell) → n ≤ k → k < length (drop s cs) → int_le (get_or (drop s cs) k d).1 bottom ≡ false) →
+-- a test that is passed by some numbers alone, over the cells of these numbers
+pub keys_between : (key : Cell → ℤ) (p : Cell → Bool) (cs : List Cell) (top bottom : ℤ) (s n : ℕ) →
+    ((c : Cell) → p c ≡ true → (top ≤ℤ key c) × (key c ≤ℤ bottom)) →
+    ((k : ℕ) (d : Cell) → k < s → int_lt (key (get_or cs k d)) top ≡ true) →
+    ((k : ℕ) (d : Cell) → n ≤ k → k < length (drop s cs) → int_le (key (get_or (drop s cs) k d)) bottom ≡ false) →
     filter p (take n (drop s cs)) ≡ filter p cs
-rows_between p cs top bottom s n only before after =
+keys_between key p cs top bottom s n only before after =
     filter-take p (drop s cs) n (λ k d h l.
     false_from_ne_true _ (λ e. not_past _ bottom (after k d h l) (only _ e).1))
     ∙ filter-drop p cs s (λ k d h l. false_from_ne_true _ (λ e. not_above _ top (before k d h) (only _ e).0))

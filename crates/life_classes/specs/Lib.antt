@@ -1,2 +1,4 @@
 pub mod Nearness
 pub mod Tracking
+pub mod Tags
+pub mod Gathering

@@ -1,7 +1,7 @@
 -- Which cells a set reaches.
 use Rattle.std.specs.Prelude.{◌≡◌, ℕ, ◌+◌, ◌<◌, ◌-ℤ◌, Bool, ◌&&◌, true, List, length, get_or, nat_le, unsigned_abs}
 use Rattle.std.specs.List.{list_any}
-use Rattle.life_model.specs.Cell.{Cell}
+use Rattle.life_model.specs.Cell.{Cell, same_cell}
 use Rattle.life_model.specs.Generation.{Generation, cells}
 
 -- whether two cells are at most r from each other in both directions
@@ -15,6 +15,10 @@ reaches r P c = list_any (are_within r c) (cells P)
 -- whether a cell of P is near one of Q
 abbrev pub are_near : Generation → Generation → Bool
 are_near P Q = list_any (reaches 2 Q) (cells P)
+
+-- whether a cell is listed
+abbrev pub has : List Cell → Cell → Bool
+has cs c = list_any (same_cell c) cs
 
 -- each of the cells is near the one before it
 abbrev pub IsChain : List Cell → Type 0

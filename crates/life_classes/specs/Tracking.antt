@@ -33,10 +33,6 @@ moved_on G c = record { first = c.first; last = keep G (reaches 1 c.last) }
 abbrev pub AreApartNow : List Class → Type 0
 AreApartNow cs = AllPairs (λ c d. AreApart c.last d.last) cs
 
--- what has become of a class is apart from what has become of each of these
-abbrev pub StandsApart : Class → List Class → Type 0
-StandsApart c cs = All (λ d. AreApart d.last c.last) cs
-
 -- G is these classes after n generations, in each of which but the last any two of them were apart, and none of which a
 -- split for b generations tears.
 pub record AreTracked (R : Rule) (b n : ℕ) (G : Generation) (cs : List Class) : Type 0 where

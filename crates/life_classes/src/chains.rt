@@ -1,10 +1,9 @@
 //! Cells each of which is near the one before it.
-ghost use Rattle.std.specs.Prelude.{◌≡◌, ◌<◌, [], ◌∷◌, All, IfOk, length};
-ghost use Rattle.std.specs.Bool.{OnTrue};
+ghost use Rattle.std.specs.Prelude.{◌≡◌, ◌-◌, ◌<◌, ◌≤◌, All, IfOk, drop, length, map, take};
 ghost use Rattle.life_model.specs.Generation.{from_list};
 ghost use Rattle.life_cells.specs.Limits.{IsPlace};
 ghost use Rattle.life_classes.specs.Nearness.{IsChain};
-ghost use Rattle.life_classes.specs.Tracking.{at_first};
+ghost use Rattle.life_classes.specs.Tracking.{LeadTo, alone, at_first};
 
 use crate::class::Class;
 use crate::nearness::are_within;
@@ -12,31 +11,23 @@ use life_cells::cell_list::CellList;
 use life_cells::order::put_in_order;
 use std::alloc::{AllocError, Global};
 
-/// Whether each of the cells is near the one before it.
-pub fn is_chain(cells: &[(i32, i32)]) -> bool
-    ensures { OnTrue result (IsChain cells.now) }
-{
-    for n in 1..cells.len() {
-        if !are_within(2, cells[n - 1], cells[n]) {
-            return false;
-        }
-    }
-    true
-}
+/// So many cells are looked at together at most, so that two chains are soon compared.
+const CHAIN_LIMIT: usize = 64;
 
-/// Where to part some cells: past the middle where one is not near the one before it, if there is such a place.
-pub fn parting(cells: &[(i32, i32)]) -> usize
-    requires { 1 < length cells.now }
-    ensures above { 0 < result }
-    ensures below { result < length cells.now }
+/// The end of the cells from a place on each of which is near the one before it, or of the first of these.
+fn end_of_chain(cells: &[(i32, i32)], start: usize) -> usize
+    requires { start < length cells.now }
+    ensures above { start < result }
+    ensures within { result ≤ length cells.now }
+    ensures chain { IsChain (take (result - start) (drop start cells.now)) }
 {
-    let half = cells.len() / 2;
-    for n in half..cells.len() {
+    let last = cells.len().min(start.saturating_add(CHAIN_LIMIT));
+    for n in start + 1..last {
         if !are_within(2, cells[n - 1], cells[n]) {
             return n;
         }
     }
-    half
+    last
 }
 
 /// The set of some cells.
@@ -50,14 +41,27 @@ fn set_of(alloc: Global, cells: &[(i32, i32)]) -> Result<CellList, AllocError>
 }
 
 /// Some cells as one class.
-pub fn as_one(alloc: Global, cells: &[(i32, i32)]) -> Result<Vec<Class>, AllocError>
+fn as_one(alloc: Global, cells: &[(i32, i32)]) -> Result<Class, AllocError>
     requires { All IsPlace cells.now }
-    ensures { IfOk result (λ classes. classes.items ≡ at_first cells.now ∷ []) }
+    ensures { IfOk result (λ class. class ≡ at_first cells.now) }
 {
-    let mut classes = Vec::new(alloc);
-    classes.push(Class {
+    Ok(Class {
         first: set_of(alloc, cells)?,
         last: set_of(alloc, cells)?,
-    })?;
+    })
+}
+
+/// The cells as classes of those each of which is near the one before it.
+pub fn chains(alloc: Global, cells: &[(i32, i32)]) -> Result<Vec<Class>, AllocError>
+    requires { All IsPlace cells.now }
+    ensures { IfOk result (λ classes. LeadTo (map alone cells.now) classes.items) }
+{
+    let mut classes = Vec::new(alloc);
+    let mut start = 0;
+    while start < cells.len() {
+        let end = end_of_chain(cells, start);
+        classes.push(as_one(alloc, &cells[start..end])?)?;
+        start = end;
+    }
     Ok(classes)
 }

@@ -1,63 +1,26 @@
 //! The finest splitting of a plane's cells into classes that stay apart.
-ghost use Rattle.std.specs.Prelude.{◌≡◌, ◌≤◌, ◌+◌, ◌∷◌, [], All, AllPairs, IfOk, map};
-ghost use Rattle.life_model.specs.Generation.{from_list};
+ghost use Rattle.std.specs.Prelude.{◌≡◌, ◌≤◌, ◌+◌, All, AllPairs, IfOk, map};
 ghost use Rattle.life_cells.specs.Limits.{IsPlace};
 ghost use Rattle.life_objects.specs.Apart.{AreApartFor};
 ghost use Rattle.life_objects.specs.Union.{generations, union_of};
 ghost use Rattle.life_objects.specs.Whole.{StaysWhole};
 ghost use Rattle.life_classes.specs.Tracking.{AreApartNow, LeadTo, alone, firsts, lasts};
 
-use crate::chains::{as_one, is_chain, parting};
+use crate::chains::chains;
 use crate::class::Class;
-use crate::joining::{all_joined, merged};
+use crate::joining::all_joined;
 use crate::stepping::stepped;
-use life_cells::cell_list::CellList;
 use life_cells::rule::Rule;
 use life_plane::plane::{AGE_LIMIT, Plane};
 use std::alloc::{AllocError, Global};
 
-/// The set of one cell.
-fn one_cell(alloc: Global, cell: (i32, i32)) -> Result<CellList, AllocError>
-    requires { IsPlace cell }
-    ensures { IfOk result (λ list. list ≡ from_list (cell ∷ [])) }
-{
-    let mut items = Vec::new(alloc);
-    items.push(cell)?;
-    Ok(CellList::from_ordered(items))
-}
-
-/// Each cell as a class of its own.
-fn each_alone(alloc: Global, cells: &[(i32, i32)]) -> Result<Vec<Class>, AllocError>
-    requires { All IsPlace cells.now }
-    ensures { IfOk result (λ classes. classes.items ≡ map alone cells.now) }
-{
-    let mut classes = Vec::new(alloc);
-    for cell in cells {
-        classes.push(Class {
-            first: one_cell(alloc, *cell)?,
-            last: one_cell(alloc, *cell)?,
-        })?;
-    }
-    Ok(classes)
-}
-
-/// The cells as classes of those that are near each other. The cells are parted again and again until each is near the
-/// one before it, so that few classes are left where many are looked at.
+/// The cells as classes of those that are near each other.
 pub fn first_classes(alloc: Global, cells: &[(i32, i32)]) -> Result<Vec<Class>, AllocError>
     requires { All IsPlace cells.now }
     ensures tracked { IfOk result (λ all. LeadTo (map alone cells.now) all.items) }
     ensures apart { IfOk result (λ all. AreApartNow all.items) }
 {
-    if cells.len() < 2 {
-        return each_alone(alloc, cells);
-    }
-    if is_chain(cells) {
-        return as_one(alloc, cells);
-    }
-    let half = parting(cells);
-    let ones = first_classes(alloc, &cells[..half])?;
-    let others = first_classes(alloc, &cells[half..])?;
-    merged(alloc, ones, others)
+    all_joined(alloc, chains(alloc, cells)?)
 }
 
 /// The classes of a plane's cells that stay apart for so many generations, torn as finely as can be: however the cells

@@ -1,16 +1,20 @@
 //! Classes that are near each other become one.
-ghost use Rattle.std.specs.Prelude.{◌≡◌, ◌∷◌, ◌++◌, IfOk, OnOk};
-ghost use Rattle.std.specs.List.{list_any};
+ghost use Rattle.std.specs.Prelude.{◌≡◌, ◌∷◌, IfOk, OnOk};
 ghost use Rattle.life_objects.specs.Union.{union};
-ghost use Rattle.life_classes.specs.declared.class.Class.{Class as ModelClass};
-ghost use Rattle.life_classes.specs.Nearness.{are_near};
-ghost use Rattle.life_classes.specs.Tracking.{AreApartNow, LeadTo, StandsApart};
+ghost use Rattle.life_classes.specs.Tags.{AreRising};
+ghost use Rattle.life_classes.specs.Tracking.{AreApartNow, LeadTo};
 
 use crate::class::Class;
+use crate::gathering::{gathered, in_ranks};
+use crate::meeting::turns;
 use crate::nearness::are_near;
+use crate::tags::{Tag, stand_apart, tags_in_order};
 use life_cells::cell_list::CellList;
 use life_cells::order::put_in_order;
 use std::alloc::{AllocError, Global};
+
+/// Up to so many classes are compared each with each, which takes fewer steps than to put their cells in order.
+const FEW: usize = 16;
 
 /// The cells of two sets together.
 fn union(alloc: Global, one: &CellList, other: &CellList) -> Result<CellList, AllocError>
@@ -33,21 +37,10 @@ fn joined(alloc: Global, one: &Class, other: &Class) -> Result<Class, AllocError
     })
 }
 
-/// Whether one of the classes is near a class.
-fn is_any_near(classes: &[Class], class: &Class) -> bool
-    ensures { result ≡ list_any (λ other. are_near other.last class.now.last) classes.now }
-{
-    classes
-        .iter()
-        .any(|other| are_near(&other.last, &class.last))
-}
-
 /// Adds a class, joined with those of the classes that it is near.
 fn add(alloc: Global, classes: &mut Vec<Class>, class: Class) -> Result<(), AllocError>
     ensures tracked { OnOk result (LeadTo (class ∷ classes.old.items) classes.new.items) }
     ensures apart { OnOk result (AreApartNow classes.old.items → AreApartNow classes.new.items) }
-    ensures from_others { OnOk result ((other : ModelClass) →
-        StandsApart other (class ∷ classes.old.items) → StandsApart other classes.new.items) }
 {
     let mut class = class;
     let mut n = 0;
@@ -63,29 +56,8 @@ fn add(alloc: Global, classes: &mut Vec<Class>, class: Class) -> Result<(), Allo
     Ok(())
 }
 
-/// The classes of two lists, with those joined that are near each other, where in each list any two are apart. Then it is
-/// enough to look at pairs of one from each list, and again at classes that were joined.
-pub fn merged(alloc: Global, ones: Vec<Class>, others: Vec<Class>) -> Result<Vec<Class>, AllocError>
-    ensures tracked { IfOk result (λ all. LeadTo (ones.items ++ others.items) all.items) }
-    ensures apart { IfOk result (λ all. AreApartNow ones.items → AreApartNow others.items → AreApartNow all.items) }
-{
-    let mut ones = ones;
-    let mut others = others;
-    let mut n = 0;
-    while n < ones.len() {
-        if !is_any_near(others.as_slice(), &ones[n]) {
-            n += 1;
-            continue;
-        }
-        let one = ones.remove(n);
-        add(alloc, &mut others, one)?;
-    }
-    ones.append(&mut others)?;
-    Ok(ones)
-}
-
-/// The classes with those joined that are near each other.
-pub fn all_joined(alloc: Global, classes: Vec<Class>) -> Result<Vec<Class>, AllocError>
+/// The classes with those joined that are near each other, each compared with each.
+fn each_joined(alloc: Global, classes: Vec<Class>) -> Result<Vec<Class>, AllocError>
     ensures tracked { IfOk result (λ all. LeadTo classes.items all.items) }
     ensures apart { IfOk result (λ all. AreApartNow all.items) }
 {
@@ -95,4 +67,43 @@ pub fn all_joined(alloc: Global, classes: Vec<Class>) -> Result<Vec<Class>, Allo
         add(alloc, &mut apart, class)?;
     }
     Ok(apart)
+}
+
+/// The classes with those joined that are seen to hang together, where these are the cells of all.
+fn gathered_by(alloc: Global, classes: Vec<Class>, tags: &[Tag]) -> Result<Vec<Class>, AllocError>
+    requires { AreRising tags.now }
+    ensures { IfOk result (λ all. LeadTo classes.items all.items) }
+{
+    let turns = turns(alloc, classes.as_slice(), tags)?;
+    let ranked = in_ranks(alloc, classes, turns.as_slice())?;
+    gathered(alloc, ranked.as_slice())
+}
+
+/// The classes with those joined that are near each other, where each is looked up among those that may be near it. What
+/// is found so is tested, and where it isn't all, each is compared with each.
+fn all_joined_in_order(alloc: Global, classes: Vec<Class>) -> Result<Vec<Class>, AllocError>
+    ensures tracked { IfOk result (λ all. LeadTo classes.items all.items) }
+    ensures apart { IfOk result (λ all. AreApartNow all.items) }
+{
+    let tags = tags_in_order(alloc, classes.as_slice())?;
+    if stand_apart(tags.as_slice()) {
+        return Ok(classes);
+    }
+    let all = gathered_by(alloc, classes, tags.as_slice())?;
+    let tags = tags_in_order(alloc, all.as_slice())?;
+    if stand_apart(tags.as_slice()) {
+        return Ok(all);
+    }
+    each_joined(alloc, all)
+}
+
+/// The classes with those joined that are near each other.
+pub fn all_joined(alloc: Global, classes: Vec<Class>) -> Result<Vec<Class>, AllocError>
+    ensures tracked { IfOk result (λ all. LeadTo classes.items all.items) }
+    ensures apart { IfOk result (λ all. AreApartNow all.items) }
+{
+    if classes.len() <= FEW {
+        return each_joined(alloc, classes);
+    }
+    all_joined_in_order(alloc, classes)
 }

@@ -4,8 +4,11 @@
 mod chains;
 pub mod class;
 pub mod classes;
+mod gathering;
 mod joining;
+mod meeting;
 mod nearness;
 mod rows;
 mod stepping;
+mod tags;
 pub mod undivided;

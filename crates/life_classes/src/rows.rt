@@ -1,9 +1,12 @@
 //! The rows that cells in order stand in.
-ghost use Rattle.std.specs.Prelude.{◌≡◌, ◌≤ℤ◌, Bool, T, filter, true};
+ghost use Rattle.std.specs.Prelude.{◌≡◌, ◌≤ℤ◌, All, Bool, T, filter, true};
 ghost use Rattle.life_model.specs.Cell.{Cell};
 ghost use Rattle.life_model.specs.Generation.{is_rising};
+ghost use Rattle.life_cells.specs.Limits.{IsPlace};
 ghost use Rattle.life_classes.specs.Nearness.{reaches};
+ghost use Rattle.life_classes.specs.Tags.{number_of};
 
+use crate::tags::number_of;
 use life_cells::cell_list::CellList;
 
 /// Those of the cells that stand in the rows from one to another.
@@ -17,6 +20,23 @@ pub fn rows(cells: &[(i32, i32)], top: i64, bottom: i64) -> &[(i32, i32)]
     let start = cells.partition_point(|cell| i64::from(cell.1) < top);
     let from = &cells[start..];
     let count = from.partition_point(|cell| i64::from(cell.1) <= bottom);
+    &from[..count]
+}
+
+/// Those of the cells whose numbers are from one to another.
+///
+/// No cell that passes a test is left out, where the test is passed by these alone.
+pub fn numbered(cells: &[(i32, i32)], low: i64, high: i64) -> &[(i32, i32)]
+    requires rising { T (is_rising cells.now) }
+    requires placed { All IsPlace cells.now }
+    ensures kept { (p : Cell → Bool) → ((c : Cell) → p c ≡ true → (low ≤ℤ number_of c) × (number_of c ≤ℤ high)) →
+        filter p result.now ≡ filter p cells.now }
+    ensures placed { All IsPlace result.now }
+    ensures passing { (p : Cell → Bool) → All (λ c. p c ≡ true) cells.now → All (λ c. p c ≡ true) result.now }
+{
+    let start = cells.partition_point(|cell| number_of(*cell) < low);
+    let from = &cells[start..];
+    let count = from.partition_point(|cell| number_of(*cell) <= high);
     &from[..count]
 }
 

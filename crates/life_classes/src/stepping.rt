@@ -1,14 +1,21 @@
 //! What becomes of classes.
-ghost use Rattle.std.specs.Prelude.{◌≡◌, IfOk, filter, map};
-ghost use Rattle.life_model.specs.Generation.{keep};
-ghost use Rattle.life_classes.specs.Nearness.{reaches};
+ghost use Rattle.std.specs.Prelude.{◌≡◌, All, IfOk, OnOk, filter, map, true};
+ghost use Rattle.life_model.specs.Cell.{Cell};
+ghost use Rattle.life_model.specs.Generation.{contains, keep};
+ghost use Rattle.life_cells.specs.Limits.{IsPlace};
+ghost use Rattle.life_classes.specs.Nearness.{are_within, has, reaches};
 ghost use Rattle.life_classes.specs.Tracking.{moved_on};
 
 use crate::class::Class;
 use crate::nearness::reaches;
-use crate::rows::{rows, rows_about};
+use crate::rows::{numbered, rows, rows_about};
+use crate::tags::{ROW, number_of};
 use life_cells::cell_list::CellList;
+use life_cells::order::put_in_order;
 use std::alloc::{AllocError, Global};
+
+/// Where there are more than so many cells for each of a set, those near it are looked up one by one.
+const MANY: usize = 256;
 
 /// Those of the cells that are at most one away from a cell of a set.
 fn touched_cells(
@@ -25,13 +32,57 @@ fn touched_cells(
         .collect(alloc)
 }
 
-/// Those of the cells that are at most one away from a cell of a set.
-fn touched(alloc: Global, cells: &CellList, set: &CellList) -> Result<CellList, AllocError>
+/// Adds those of the cells that are at most one away from a cell, which are looked up in three rows.
+fn add_around(
+    items: &mut Vec<(i32, i32)>,
+    cells: &CellList,
+    cell: (i32, i32),
+) -> Result<(), AllocError>
+    ensures kept { OnOk result ((c : Cell) → has items.old.items c ≡ true → has items.new.items c ≡ true) }
+    ensures added { OnOk result ((c : Cell) → contains cells.now c ≡ true → are_within 1 c cell ≡ true →
+        has items.new.items c ≡ true) }
+    ensures only { OnOk result (All (λ c. contains cells.now c ≡ true) items.old.items →
+        All (λ c. contains cells.now c ≡ true) items.new.items) }
+    ensures placed { OnOk result (All IsPlace items.old.items → All IsPlace items.new.items) }
+{
+    let all = cells.as_slice();
+    let low = number_of(cell) - 1;
+    items.extend_from_slice(numbered(all, low - ROW, low - ROW + 2))?;
+    items.extend_from_slice(numbered(all, low, low + 2))?;
+    items.extend_from_slice(numbered(all, low + ROW, low + ROW + 2))?;
+    Ok(())
+}
+
+/// Those of the cells that may be at most one away from a cell of a set.
+fn around(alloc: Global, cells: &CellList, set: &CellList) -> Result<CellList, AllocError>
+    ensures { IfOk result (λ list. keep list (reaches 1 set.now) ≡ keep cells.now (reaches 1 set.now)) }
+{
+    let mut items = Vec::new(alloc);
+    for cell in set.as_slice() {
+        add_around(&mut items, cells, *cell)?;
+    }
+    put_in_order(&mut items);
+    Ok(CellList::from_ordered(items))
+}
+
+/// Those of the cells that are at most one away from a cell of a set, where all in its rows are looked at.
+fn touched_in_rows(alloc: Global, cells: &CellList, set: &CellList) -> Result<CellList, AllocError>
     ensures { IfOk result (λ list. list ≡ keep cells.now (reaches 1 set.now)) }
 {
     let (top, bottom) = rows_about(1, set);
     let items = touched_cells(alloc, rows(cells.as_slice(), top, bottom), set)?;
     Ok(CellList::from_ordered(items))
+}
+
+/// Those of the cells that are at most one away from a cell of a set.
+fn touched(alloc: Global, cells: &CellList, set: &CellList) -> Result<CellList, AllocError>
+    ensures { IfOk result (λ list. list ≡ keep cells.now (reaches 1 set.now)) }
+{
+    if cells.len() / MANY > set.len() {
+        let near = around(alloc, cells, set)?;
+        return touched_in_rows(alloc, &near, set);
+    }
+    touched_in_rows(alloc, cells, set)
 }
 
 /// The classes a generation later, where these are all cells of that generation.

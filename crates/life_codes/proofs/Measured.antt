@@ -1,12 +1,15 @@
 -- The lengths of texts, as loops count them from either side.
-use Rattle.std.proofs.Common.{◌≡◌, ℕ, zero, suc, ◌+◌, ◌*◌, ◌/◌, ◌%◌, ◌<◌, ◌≤◌, List, [], ◌∷◌, ◌++◌, length, get_or, take, drop, reverse, inl, inr, subst, sym, refl, ap, ◌∙◌, arith, bit_or, length-append}
-use Rattle.std.proofs.lemmas.Bool.{cases_lt}
-use Rattle.std.proofs.lemmas.Nat.{le_or_l, le_or_r}
+use Rattle.std.proofs.Common.{◌≡◌, ℕ, zero, suc, ◌+◌, ◌-◌, ◌*◌, ◌/◌, ◌%◌, ◌<◌, ◌≤◌, List, [], ◌∷◌, ◌++◌, length, get_or, take, drop, reverse, Bool, true, false, not, eqb, inl, inr, ⊎_elim, subst, sym, refl, ap, ◌∙◌, arith, true≢false, length-append}
+use Rattle.std.specs.List.{prefix_len}
+use Rattle.std.proofs.lemmas.Bool.{cases_lt, ne_eqb}
 use Rattle.std.proofs.lemmas.List.{take_more, reverse-append}
+use Rattle.std.proofs.lemmas.List.Sums.{prefix_len-le-length, prefix_len_passes}
+use Rattle.std.proofs.lemmas.Simd.{length-chunk, get_or-chunk}
 use Rattle.life_shape.specs.Dots.{strip_mark}
 use Rattle.life_shape.specs.Wechsler.{digit, full_runs, short_zeros, zeros, columns_text}
 use Rattle.life_shape.proofs.Columns.{joined, joined_turn}
 use Rattle.life_codes.proofs.Written.{rest_from, one_more}
+use lib.Lanes.{chunk}
 
 -- ---- runs of zeros
 
@@ -20,45 +23,36 @@ length-zeros n short e =
     let both = length-append (full_runs (n / 39)) (short_zeros (n % 39)) in
     omega arith
 
--- ---- eight columns at once
+-- ---- sixteen columns at once
 
-both_zero : (a b : ℕ) → bit_or a b ≡ 0 → (a ≡ 0) × (b ≡ 0)
-both_zero a b e = let west = le_or_l a b in let east = le_or_r a b in (omega arith, omega arith)
+not_not : (b : Bool) → not (not b) ≡ b
+not_not true = refl
+not_not false = refl
 
-four_zero : (a b c d : ℕ) → bit_or (bit_or (bit_or a b) c) d ≡ 0 → ((a ≡ 0) × (b ≡ 0)) × ((c ≡ 0) × (d ≡ 0))
-four_zero a b c d e =
-    let last = both_zero _ d e in
-    let third = both_zero _ c last.0 in
-    (both_zero a b third.0, (third.1, last.1))
+-- those that don't differ from 0 are 0
+pub none_differ : (xs : List ℕ) → prefix_len (λ v. not (not (eqb v 0))) xs ≡ prefix_len (λ v. eqb v 0) xs
+none_differ xs i = prefix_len (λ v. not_not (eqb v 0) i) xs
 
-abbrev eight : List ℕ → ℕ → ℕ
-eight xs p = bit_or (bit_or (bit_or (bit_or (get_or xs p 0) (get_or xs (p + 1) 0)) (get_or xs (p + 2) 0)) (get_or xs (p + 3) 0)) (bit_or (bit_or (bit_or (get_or xs (p + 4) 0) (get_or xs (p + 5) 0)) (get_or xs (p + 6) 0)) (get_or xs (p + 7) 0))
+pub sixteen_few : (xs : List ℕ) (place count : ℕ) → place + 16 ≤ length xs → count ≡ prefix_len (λ v. eqb v 0) (chunk place 16 xs) → count ≤ 16
+sixteen_few xs place count room is = omega (arith, is, length-chunk place 16 xs room, prefix_len-le-length (λ v. eqb v 0) (chunk place 16 xs))
 
--- where eight columns together are 0, each is
-eight_zero : (xs : List ℕ) (p : ℕ) → eight xs p ≡ 0 → (i : ℕ) → i < 8 → get_or xs (p + i) 0 ≡ 0
-eight_zero xs p e i h =
-    let halves = both_zero _ _ e in
-    let west = four_zero _ _ _ _ halves.0 in
-    let east = four_zero _ _ _ _ halves.1 in
-    each i h west.0.0 west.0.1 west.1.0 west.1.1 east.0.0 east.0.1 east.1.0 east.1.1
-  where
-    each : (i : ℕ) → i < 8 → get_or xs p 0 ≡ 0 → get_or xs (p + 1) 0 ≡ 0 → get_or xs (p + 2) 0 ≡ 0 → get_or xs (p + 3) 0 ≡ 0 → get_or xs (p + 4) 0 ≡ 0 → get_or xs (p + 5) 0 ≡ 0 → get_or xs (p + 6) 0 ≡ 0 → get_or xs (p + 7) 0 ≡ 0 → get_or xs (p + i) 0 ≡ 0
-    each zero h a0 a1 a2 a3 a4 a5 a6 a7 = let at : p + 0 ≡ p = omega arith in ap (λ n. get_or xs n 0) at ∙ a0
-    each (suc zero) h a0 a1 a2 a3 a4 a5 a6 a7 = a1
-    each (suc (suc zero)) h a0 a1 a2 a3 a4 a5 a6 a7 = a2
-    each (suc (suc (suc zero))) h a0 a1 a2 a3 a4 a5 a6 a7 = a3
-    each (suc (suc (suc (suc zero)))) h a0 a1 a2 a3 a4 a5 a6 a7 = a4
-    each (suc (suc (suc (suc (suc zero))))) h a0 a1 a2 a3 a4 a5 a6 a7 = a5
-    each (suc (suc (suc (suc (suc (suc zero)))))) h a0 a1 a2 a3 a4 a5 a6 a7 = a6
-    each (suc (suc (suc (suc (suc (suc (suc zero))))))) h a0 a1 a2 a3 a4 a5 a6 a7 = a7
-    each (suc (suc (suc (suc (suc (suc (suc (suc i)))))))) h a0 a1 a2 a3 a4 a5 a6 a7 = absurd (omega arith)
+is_zero : (x : ℕ) → eqb x 0 ≡ true → x ≡ 0
+is_zero zero e = refl
+is_zero (suc x) e = absurd (true≢false (sym e ∙ ne_eqb (suc x) 0 (λ h. omega arith)))
 
--- so are these after one that is 0
-pub nine_zero : (xs : List ℕ) (p : ℕ) → get_or xs p 0 ≡ 0 → eight xs (p + 1) ≡ 0 → (i : ℕ) → i < 9 → get_or xs (p + i) 0 ≡ 0
-nine_zero xs p here e zero h = let at : p + 0 ≡ p = omega arith in ap (λ n. get_or xs n 0) at ∙ here
-nine_zero xs p here e (suc i) h =
-    let at : p + suc i ≡ p + 1 + i = omega arith in
-    ap (λ n. get_or xs n 0) at ∙ eight_zero xs (p + 1) e i (omega arith)
+-- those that are 0, and those after them
+pub zeros_on : (xs : List ℕ) (place known count : ℕ) → place + known + 16 ≤ length xs →
+    ((i : ℕ) → i < known → get_or xs (place + i) 0 ≡ 0) → count ≡ prefix_len (λ v. eqb v 0) (chunk (place + known) 16 xs) →
+    (i : ℕ) → i < known + count → get_or xs (place + i) 0 ≡ 0
+zeros_on xs place known count room before is i h =
+    ⊎_elim
+    (λ (early : i < known). before i early)
+    (λ (late : known ≤ i).
+    let few = sixteen_few xs (place + known) count room is in
+    let at : place + known + (i - known) ≡ place + i = omega arith in
+    let same = get_or-chunk (place + known) 16 xs (i - known) 0 (omega arith) ∙ ap (λ n. get_or xs n 0) at in
+    is_zero (get_or xs (place + i) 0) (ap (λ n. eqb n 0) (sym same) ∙ prefix_len_passes (λ v. eqb v 0) (chunk (place + known) 16 xs) (i - known) 0 (omega (arith, is))))
+    (cases_lt i known)
 
 -- ---- one column after another, from the first
 

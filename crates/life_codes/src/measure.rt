@@ -1,10 +1,12 @@
 //! How long the texts of grids are.
-ghost use Rattle.std.specs.Prelude.{◌≡◌, ℕ, ◌+◌, ◌*◌, ◌<◌, ◌≤◌, false, length, slice_index, true};
+ghost use Rattle.std.specs.Prelude.{◌≡◌, ℕ, ◌+◌, ◌*◌, ◌<◌, ◌≤◌, ◌==◌, drop, false, length, slice_index, take, true};
+ghost use Rattle.std.specs.List.{prefix_len};
 ghost use Rattle.life_shape.specs.Dots.{strip_mark};
 ghost use Rattle.life_shape.specs.Wechsler.{columns_text, short_zeros, zeros};
 ghost use Rattle.life_codes.specs.Grids.{facing, grid_text};
 
 use crate::writing::strip_of;
+use std::simd::prelude::*;
 
 /// How long a text is, read from either side.
 #[derive(Clone, Copy)]
@@ -38,7 +40,19 @@ fn zeros_length(count: usize) -> usize
     }
 }
 
-/// How many columns from one that is 0 on are known to be 0: nine where the next eight are, else this one.
+/// How many of sixteen columns from a place on are 0 before the first that isn't, all compared with 0 at once.
+fn zeros_of_sixteen(strip: &[u8], place: usize) -> u32
+    requires { place + 16 ≤ length strip.now }
+    ensures { result ≡ prefix_len (λ v. v == 0) (take 16 (drop place strip.now)) }
+{
+    let live = u8x16::from_slice(&strip[place..])
+        .simd_ne(u8x16::splat(0))
+        .to_bitmask();
+    if live == 0 { 16 } else { live.trailing_zeros() }
+}
+
+/// How many columns from one that is 0 on are known to be 0: those before the first that isn't, as far as sixteen that are
+/// not known yet are left.
 fn zeros_from(strip: &[u8], place: usize) -> usize
     requires within { place < length strip.now }
     requires here { slice_index strip.now place ≡ 0 }
@@ -46,14 +60,15 @@ fn zeros_from(strip: &[u8], place: usize) -> usize
     ensures end { place + result ≤ length strip.now }
     ensures zeros { (i : ℕ) → i < result → slice_index strip.now (place + i) ≡ 0 }
 {
-    if strip.len() - place < 9 {
-        return 1;
+    let mut count = 1;
+    'sixteens: while strip.len() - place - count >= 16 {
+        let more = zeros_of_sixteen(strip, place + count) as usize;
+        count += more;
+        if more < 16 {
+            return count;
+        }
     }
-    // (eight that are not known are compared with 0 as one word)
-    let next = place + 1;
-    let west = strip[next] | strip[next + 1] | strip[next + 2] | strip[next + 3];
-    let east = strip[next + 4] | strip[next + 5] | strip[next + 6] | strip[next + 7];
-    if west | east == 0 { 9 } else { 1 }
+    count
 }
 
 /// How long the text of a strip is.

@@ -1,7 +1,8 @@
 //! What is found of a text.
-ghost use Rattle.std.specs.Prelude.{◌≡◌, ◌≤◌, IfOk};
+ghost use Rattle.std.specs.Prelude.{◌≡◌, ◌≤◌, IfOk, IsOk, OnErr};
 ghost use Rattle.life_answer.specs.declared.question.Question.TheVariants.{Settles};
 ghost use Rattle.life_answer.specs.Questions.{answer_to_question};
+ghost use Rattle.life_text.specs.Rle.{header_rule};
 
 use crate::find::find_limited;
 use crate::limit::BOUND_LIMIT;
@@ -20,7 +21,8 @@ fn answer_on<P: Plane>(
     limit: Option<u32>,
 ) -> Result<Answer, AllocError>
     requires { 1 ≤ bound × bound ≤ BOUND_LIMIT }
-    ensures { IfOk result (λ answer. answer ≡ answer_to_question (Settles bound limit) text.now) }
+    ensures answer { IfOk result (λ answer. answer ≡ answer_to_question (Settles bound limit) text.now) }
+    ensures memory { OnErr result (IsOk (header_rule text.now)) }
 {
     match read_rle(alloc, text) {
         Ok(pattern) => {
@@ -45,7 +47,8 @@ pub fn answer(
     limit: Option<u32>,
 ) -> Result<Answer, AllocError>
     requires { 1 ≤ bound × bound ≤ BOUND_LIMIT }
-    ensures { IfOk result (λ answer. answer ≡ answer_to_question (Settles bound limit) text.now) }
+    ensures answer { IfOk result (λ answer. answer ≡ answer_to_question (Settles bound limit) text.now) }
+    ensures memory { OnErr result (IsOk (header_rule text.now)) }
 {
     answer_on::<TilePlane>(alloc, text, bound, limit)
 }

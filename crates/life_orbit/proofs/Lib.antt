@@ -6,3 +6,5 @@ pub mod Clearances
 pub mod Reaching
 pub mod HullLemmas
 pub mod Watching
+pub mod Moves
+pub mod MovedCells

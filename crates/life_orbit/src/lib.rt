@@ -4,6 +4,7 @@
 mod horizon;
 pub mod hull;
 mod meeting;
+mod moving;
 mod near;
 pub mod orbit;
 pub mod shift;

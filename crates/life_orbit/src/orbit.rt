@@ -8,6 +8,7 @@ ghost use Rattle.life_orbit.specs.Course.{IsCourse};
 ghost use Rattle.life_orbit.specs.Hulls.{IsHullOf};
 
 use crate::hull::{Hull, hull_of};
+use crate::moving::moved_sets;
 use crate::walk::{copied, next_list, way};
 use life_cells::cell_list::CellList;
 use life_cells::corner::corner;
@@ -82,6 +83,28 @@ impl Orbit {
             phase = next;
         }
         Ok(None)
+    }
+
+    /// The orbit of some cells, where they are the set, moved as a whole, and all its generations have places so moved.
+    pub fn moved_to(&self, alloc: Global, cells: &CellList) -> Result<Option<Orbit>, AllocError>
+        ensures rule { IfOk result (λ found. IfSome found (λ orbit. orbit.rule ≡ self.now.rule)) }
+        ensures set { IfOk result (λ found. IfSome found (λ orbit. orbit.set ≡ cells.now)) }
+        ensures period { IfOk result (λ found. IfSome found (λ orbit. orbit.period ≡ self.now.period)) }
+        ensures recurs { IfOk result (λ found. IfSome found (λ orbit. IsCourse orbit)) }
+    {
+        let Some(by) = way(self.set(), cells) else {
+            return Ok(None);
+        };
+        let Some(phases) = moved_sets(alloc, self.phases.as_slice(), by)? else {
+            return Ok(None);
+        };
+        let hull = hull_of(corner(cells.as_slice()), phases.as_slice());
+        Ok(Some(Orbit {
+            rule: self.rule,
+            phases,
+            displacement: self.displacement,
+            hull,
+        }))
     }
 
     /// The rule by which it evolves.

@@ -30,27 +30,30 @@ pub trait Plane: Sized + Drop {
     fn from_cells(alloc: Global, list: &CellList) -> Result<Self, AllocError>
         requires { All (IsWithin 0) (generation.cells list.now) }
         ensures cells { IfOk result (λ plane. members plane ≡ list.now) }
-        ensures age { IfOk result (λ plane. steps_made plane ≡ 0) };
+        ensures age { IfOk result (λ plane. steps_made plane ≡ 0) }
+        ensures within { IfOk result (λ plane. All (IsWithin (steps_made plane)) (generation.cells (members plane))) };
 
     /// The plane of these cells at some age, at which their places may be.
     fn at_age(alloc: Global, list: &CellList, age: u32) -> Result<Self, AllocError>
         requires age { age ≤ AGE_LIMIT }
         requires within { All (IsWithin age) (generation.cells list.now) }
         ensures cells { IfOk result (λ plane. members plane ≡ list.now) }
-        ensures age { IfOk result (λ plane. steps_made plane ≡ age) };
+        ensures age { IfOk result (λ plane. steps_made plane ≡ age) }
+        ensures within { IfOk result (λ plane. All (IsWithin (steps_made plane)) (generation.cells (members plane))) };
 
     /// Makes the next generation. After an `Err` the cells and the age are what they were.
     fn step(&mut self, rule: &Rule) -> Result<(), AllocError>
         requires { steps_made self.old < AGE_LIMIT }
         ensures cells { OnOk result (members self.new ≡ next rule.now (members self.old)) }
         ensures age { OnOk result (steps_made self.new ≡ steps_made self.old + 1) }
-        ensures unchanged { OnErr result ((members self.new ≡ members self.old) × (steps_made self.new ≡ steps_made self.old)) };
+        ensures unchanged { OnErr result ((members self.new ≡ members self.old) × (steps_made self.new ≡ steps_made self.old)) }
+        ensures within { OnOk result (All (IsWithin (steps_made self.new)) (generation.cells (members self.new))) };
 
     /// How many live cells there are.
     fn population(&self) -> u64
         ensures { result ≡ generation.size (members self.now) };
 
-    /// How many steps it has made.
+    /// How many steps it has made. No cell is further from the places of age 0 than that.
     fn age(&self) -> u32
         ensures age { result ≡ steps_made self.now }
         ensures within { All (IsWithin (steps_made self.now)) (generation.cells (members self.now)) };
@@ -88,5 +91,6 @@ pub trait Plane: Sized + Drop {
     /// Another plane with the same cells and the same age.
     fn copy(&self) -> Result<Self, AllocError>
         ensures cells { IfOk result (λ plane. members plane ≡ members self.now) }
-        ensures age { IfOk result (λ plane. steps_made plane ≡ steps_made self.now) };
+        ensures age { IfOk result (λ plane. steps_made plane ≡ steps_made self.now) }
+        ensures within { IfOk result (λ plane. All (IsWithin (steps_made plane)) (generation.cells (members plane))) };
 }

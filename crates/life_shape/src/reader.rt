@@ -163,11 +163,13 @@ fn read_cells(alloc: Global, text: &[u8]) -> Result<Vec<(i32, i32)>, CodeFault>
     Ok(cells)
 }
 
-/// The shape that a Wechsler text spells, in any spelling: zeros may stand anywhere.
+/// The shape that a Wechsler text spells, in any spelling: zeros may stand anywhere. Memory is never refused to an empty
+/// text.
 pub fn read_wechsler(alloc: Global, text: &[u8]) -> Result<Shape, CodeFault>
     ensures shape { IfOk result (λ shape. shape ≡ normal (spelt text.now)) }
     ensures lawful { OnOk result (refusal text.now ≡ None) }
     ensures refused { IfErr result (λ fault. fault ≢ Memory → refusal text.now ≡ Some fault) }
+    ensures memory { IfErr result (λ fault. fault ≡ Memory → 1 ≤ length text.now) }
 {
     if text.is_empty() {
         return Err(CodeFault::Empty);

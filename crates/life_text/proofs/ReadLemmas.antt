@@ -1,9 +1,15 @@
 -- What a reading says of the text's fault.
-use Rattle.std.proofs.Common.{◌≡◌, ◌≢◌, ℕ, List, Some, None, Result, Ok, Err, IfOk, IfErr, OnOk, refl}
+use Rattle.std.proofs.Common.{◌≡◌, ◌≢◌, ℕ, Bool, true, false, if◌then◌else◌, is_some, codes, List, Option, Some, None, Result, Ok, Err, IfOk, IfErr, OnOk, refl}
+use Rattle.std.specs.List.{list_all}
+use Rattle.life_model.specs.Rule.{Rule}
+use Rattle.life_cells.specs.Bytes.{after_one_of, is_blank, trimmed}
+use Rattle.life_cells.specs.Rules.{life, rule_of}
+use Rattle.life_cells.specs.declared.rule.RuleFault.{RuleFault}
+use Rattle.life_cells.specs.declared.rule.RuleFault.TheVariants.{NotLifeLike, HasB0}
 use Rattle.life_text.specs.declared.rle.RleFault.{RleFault}
-use Rattle.life_text.specs.declared.rle.RleFault.TheVariants.{Memory}
+use Rattle.life_text.specs.declared.rle.RleFault.TheVariants.{BadHeader, Memory, NoHeader}
 use Rattle.life_text.specs.declared.rle.Plot.{Plot}
-use Rattle.life_text.specs.Rle.{Meaning, reading, fault_of, refusal}
+use Rattle.life_text.specs.Rle.{Meaning, after_rule_name, after_sizes, fault_of, line_rule, named_rule, reading, refusal, rule_behind, told}
 use Rattle.life_text.specs.Reader.{Gives}
 use Rattle.life_text.specs.Drawing.{Drawing, drawing, drawing_of}
 
@@ -26,3 +32,25 @@ found text (Err fault) h = tt
 pub refused : (text : List ℕ) (r : Result Plot RleFault) → Gives drawing r (drawing_of (reading text)) → IfErr r (λ fault. fault ≢ Memory → refusal text ≡ Some fault)
 refused text (Ok pattern) h = tt
 refused text (Err fault) h = λ known. fault_is (reading text) fault (h known)
+
+-- # A header's fault is never that memory was refused
+
+neither : (b : Bool) (r s : Result Rule RleFault) → r ≢ Err Memory → s ≢ Err Memory → (if b then r else s) ≢ Err Memory
+neither true r s one other = one
+neither false r s one other = other
+
+told_memory : (r : Result Rule RuleFault) → told r ≢ Err Memory
+told_memory (Ok rule) = λ e. cc
+told_memory (Err NotLifeLike) = λ e. cc
+told_memory (Err HasB0) = λ e. cc
+
+named_memory : (text : Option (List ℕ)) → named_rule text ≢ Err Memory
+named_memory None = λ e. cc
+named_memory (Some text) = told_memory (rule_of (trimmed is_blank text))
+
+behind_memory : (rest : Option (List ℕ)) → rule_behind rest ≢ Err Memory
+behind_memory None = λ e. cc
+behind_memory (Some text) = neither (list_all is_blank text) (Ok life) (named_rule (after_rule_name text)) (λ e. cc) (named_memory (after_rule_name text))
+
+pub no_memory : (line : List ℕ) → line_rule line ≢ Err Memory
+no_memory line = neither (is_some (after_one_of (codes "xX") line)) (rule_behind (after_sizes line)) (Err NoHeader) (behind_memory (after_sizes line)) (λ e. cc)

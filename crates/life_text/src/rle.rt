@@ -1,12 +1,12 @@
 //! RLE texts that are read.
-ghost use Rattle.std.specs.Prelude.{[], ◌+◌, ◌-◌, ◌<◌, ◌≡◌, ◌≢◌, ◌≤◌, IfErr, IfOk, List, OnOk, drop, false, length, take};
+ghost use Rattle.std.specs.Prelude.{[], ◌+◌, ◌-◌, ◌<◌, ◌≡◌, ◌≢◌, ◌≤◌, IfErr, IfOk, IsOk, List, OnOk, drop, false, length, take};
 ghost use Rattle.std.specs.List.{after_first, before_first};
 ghost use Rattle.life_text.specs.Drawing.{drawing, drawing_of};
 ghost use Rattle.life_text.specs.Found.{seen};
 ghost use Rattle.life_text.specs.Picture.{picture_of};
 ghost use Rattle.life_text.specs.Reader.{Gives, IsPlain, cap, drawn, first_pen, is_line_feed, placed_all, plain_at, tokens_at};
 ghost use Rattle.life_text.specs.Rising.{RisesFrom};
-ghost use Rattle.life_text.specs.Rle.{Token, cell_limit, cells_after, first_fault, reading, refusal, token_fault};
+ghost use Rattle.life_text.specs.Rle.{Token, cell_limit, cells_after, first_fault, header_rule, reading, refusal, token_fault};
 ghost use Rattle.life_text.specs.declared.rle.RleFault.TheVariants.{Memory};
 
 use crate::header::line_rule;
@@ -155,7 +155,8 @@ pub fn line_end(text: &[u8], start: usize) -> usize
 
 // The pattern that an RLE text means, or its fault.
 fn read_text(alloc: Global, text: &[u8]) -> Result<Plot, RleFault>
-    ensures { Gives drawing result (drawing_of (reading text.now)) }
+    ensures gives { Gives drawing result (drawing_of (reading text.now)) }
+    ensures memory { IfErr result (λ fault. fault ≡ Memory → IsOk (header_rule text.now)) }
 {
     let start = skip_spaces(text, 0);
     let end = line_end(text, start);
@@ -178,13 +179,16 @@ pub fn rises()
 /// Reads an RLE text: the pattern that it means, or its first fault.
 ///
 /// The rules are those of Golly's help on the extended RLE format, in a lenient profile for two states: each fault
-/// says which rule is broken, and at which byte. `Memory` may come at any growth before the place of the fault.
+/// says which rule is broken, and at which byte. `Memory` may come at any growth before the place of the fault, and never
+/// where the header has a fault.
 pub fn read_rle(alloc: Global, text: &[u8]) -> Result<Pattern, RleFault>
     // What is read is what the text means, and the text has no fault.
     ensures found { IfOk result (λ pattern. picture_of (reading text.now) ≡ Ok pattern) }
     ensures lawful { OnOk result (refusal text.now ≡ None) }
     // A fault is the text's.
     ensures refused { IfErr result (λ fault. fault ≢ Memory → refusal text.now ≡ Some fault) }
+    // Memory is refused to a text with a lawful header alone.
+    ensures memory { IfErr result (λ fault. fault ≡ Memory → IsOk (header_rule text.now)) }
 {
     match read_text(alloc, text) {
         Ok(plot) => Ok(Pattern::within(plot.rule, CellList::from_ordered(plot.cells))),

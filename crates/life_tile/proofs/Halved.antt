@@ -1,12 +1,11 @@
 -- A cell that is sought in a list in order.
-use Rattle.std.proofs.Common.{◌≡◌, ◌≢◌, ℕ, zero, suc, ◌+◌, ◌<◌, ◌≤◌, ◌<ℤ◌, ⊎_elim, true, false, T, List, [], ◌∷◌, Less, length, get_or, refl, sym, subst, ap, ◌∙◌, arith}
+use Rattle.std.proofs.Common.{◌≡◌, ◌≢◌, ℕ, zero, suc, ◌+◌, ◌<◌, ◌≤◌, ◌<ℤ◌, ⊎_elim, true, false, T, List, [], ◌∷◌, Less, length, get_or, sym, subst, ap, ◌∙◌, arith}
 use Rattle.std.specs.Ordering.{int_cmp}
 use Rattle.std.proofs.lemmas.Bool.{cases_eq, cases_lt}
 use Rattle.std.proofs.lemmas.Int.{ints}
 use Rattle.std.proofs.lemmas.List.{get_or_default}
 use Rattle.life_model.specs.Cell.{Cell, cell_cmp, origin, plus, opposite}
 use Rattle.life_model.specs.Generation.{Generation, contains, from_list, below_all, is_rising}
-use Rattle.life_model.specs.Symmetry.{moved}
 use Rattle.life_model.proofs.Cells.{pair}
 use Rattle.life_model.proofs.Generations.{contains-from_list}
 use Rattle.life_model.proofs.Symmetries.{contains-moved}

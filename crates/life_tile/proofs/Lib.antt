@@ -21,6 +21,7 @@ pub mod Advanced
 pub mod Put
 pub mod Copied
 pub mod Listed
+pub mod Seated
 pub mod Sizes
 pub mod EndBits
 pub mod EndCells
@@ -29,3 +30,4 @@ pub mod Placed
 pub mod SameCells
 pub mod Covered
 pub mod Halved
+pub mod Fits

@@ -6,7 +6,7 @@ use Rattle.life_bits.specs.declared.tile.Tile.{Tile}
 use Rattle.life_tile.specs.Places.{start_at}
 use Rattle.life_tile.specs.Cells.{row_cells, block_cells, tiles_cells}
 
-row_set : (left y : ℤ) (word n : ℕ) → bit_at word n ≡ 1 → row_cells left y word (suc n) ≡ (left +ℤ pos n, y) ∷ row_cells left y word n
+pub row_set : (left y : ℤ) (word n : ℕ) → bit_at word n ≡ 1 → row_cells left y word (suc n) ≡ (left +ℤ pos n, y) ∷ row_cells left y word n
 unfolding row_cells
 row_set left y word n is = ap (λ (b : Bool). cond b ((left +ℤ pos n, y) ∷ row_cells left y word n) (row_cells left y word n)) (eq-eqb (bit_at word n) 1 is)
 

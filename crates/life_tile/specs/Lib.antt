@@ -1,6 +1,7 @@
 pub mod Places
 pub mod Cells
 pub mod Slots
+pub mod Seats
 pub mod Rims
 pub mod Work
 pub mod Slabs

@@ -9,7 +9,7 @@ ghost use Rattle.life_tile.specs.Slabs.{IsKept, members_of};
 
 use crate::covering::corner_in;
 use crate::ends::is_before;
-use crate::listing::tile_in;
+use crate::listing::{next_bit, tile_in};
 use crate::sameness::moved;
 use crate::slab::Slab;
 use life_bits::Tile;
@@ -42,13 +42,12 @@ fn lists_row(cells: &[(i32, i32)], word: u64, start: (i32, i32)) -> bool
     requires reach { IsInReach start }
     ensures { result ≡ false → IsRowIn (from_list cells.now) word start → ⊥ }
 {
-    if word == 0 {
-        return true;
-    }
-    for x in 0..64usize {
-        if (word >> x) & 1 == 1 && !is_listed(cells, (start.0 + x as i32, start.1)) {
+    let mut x = next_bit(word, 0);
+    while x < 64 {
+        if !is_listed(cells, (start.0 + x as i32, start.1)) {
             return false;
         }
+        x = next_bit(word, x + 1);
     }
     true
 }

@@ -27,7 +27,7 @@ fn count_rows(tile: &Tile, top: usize) -> u64
 }
 
 /// How many cells of a tile are live. Most eights of rows have none, which is quicker to see than to count.
-fn count_tile(tile: &Tile) -> u64
+pub fn count_tile(tile: &Tile) -> u64
     ensures { (left top : ℤ) → result ≡ length (block_cells left top tile.now.rows 64) }
 {
     let mut count = 0;

@@ -11,12 +11,16 @@ mod listing;
 mod plane;
 mod rim;
 mod sameness;
+mod seats;
 mod slab;
 mod slot;
 mod stepping;
 mod touched;
 
+pub use counting::count_tile;
 pub use life_bits::{Around, Strand, Tile, count_planes, next_row};
 pub use life_plane::list_plane::ListPlane;
 pub use life_plane::plane::Plane;
+pub use listing::push_row;
 pub use plane::TilePlane;
+pub use rim::Rim;

@@ -1,53 +1,46 @@
 //! The cells of tiles as a list.
-ghost use Rattle.std.specs.Prelude.{◌≡◌, ℕ, ℤ, ◌<◌, ◌≤ℤ◌, pos, negsuc, OnOk, Some, length, reverse, ◌++◌};
-ghost use Rattle.std.specs.BTreeMap.{get};
-ghost use Rattle.life_tile.specs.Cells.{row_cells, block_cells, tiles_cells};
-ghost use Rattle.life_tile.specs.Places.{place_cmp, IsInside};
-ghost use Rattle.life_tile.specs.Slots.{shown, tile_of};
+ghost use Rattle.std.specs.Prelude.{◌≡◌, ℕ, ◌+◌, ◌<◌, ◌≤◌, ℤ, ◌≤ℤ◌, pos, negsuc, ◌||◌, All, OnOk, length, reverse, ◌++◌};
+ghost use Rattle.std.specs.Int.{bit_at};
+ghost use Rattle.std.specs.List.{list_any};
+ghost use Rattle.life_model.specs.Cell.{Cell, same_cell};
+ghost use Rattle.life_tile.specs.Cells.{row_cells};
+ghost use Rattle.life_tile.specs.Seats.{has_line, has_rows, has_tile, IsSeat};
+ghost use Rattle.life_tile.specs.Slots.{tile_of};
 
 use crate::grid::corner_of;
-use life_bits::{Tile, end_of_eights, first_eight};
+use crate::seats::{Seat, end_of_row};
+use life_bits::Tile;
 use std::alloc::AllocError;
-use std::collections::BTreeMap;
 
-/// Appends the live cells of a row, the easternmost first. Bit 0 of the word is the cell at `(left, y)`.
-fn push_row(cells: &mut Vec<(i32, i32)>, left: i32, y: i32, word: u64) -> Result<(), AllocError>
-    requires west { negsuc 1000000000 ≤ℤ left }
-    requires east { left ≤ℤ pos 1000000000 }
-    ensures { OnOk result (cells.new.items ≡ cells.old.items ++ row_cells left y word 64) }
+/// The first bit of a word that is set, from a bit on; 64 where none is.
+pub fn next_bit(word: u64, from: usize) -> usize
+    requires { from ≤ 64 }
+    ensures small { result ≤ 64 }
+    ensures from { from ≤ result }
+    ensures set { result < 64 → bit_at word result ≡ 1 }
+    ensures between { (j : ℕ) → from ≤ j → j < result → bit_at word j ≡ 0 }
 {
-    if word == 0 {
-        return Ok(());
+    if from >= 64 {
+        return 64;
     }
-    let first = word.trailing_zeros();
-    let mut x = 64 - word.leading_zeros();
-    while x > first {
-        x -= 1;
-        if (word >> x) & 1 == 1 {
-            cells.push((left + x as i32, y))?;
-        }
+    let rest = word >> from;
+    if rest == 0 {
+        64
+    } else {
+        from + rest.trailing_zeros() as usize
     }
-    Ok(())
 }
 
-/// Appends the live cells of a tile, the southernmost row first. Its first cell is at `(left, top)`.
-fn push_tile(
-    cells: &mut Vec<(i32, i32)>,
-    left: i32,
-    top: i32,
-    tile: &Tile,
-) -> Result<(), AllocError>
+/// Appends the live cells of a row from west to east. Bit 0 of the word is the cell at `(left, y)`.
+pub fn push_row(cells: &mut Vec<(i32, i32)>, left: i32, y: i32, word: u64) -> Result<(), AllocError>
     requires west { negsuc 1000000000 ≤ℤ left }
     requires east { left ≤ℤ pos 1000000000 }
-    requires north { negsuc 1000000000 ≤ℤ top }
-    requires south { top ≤ℤ pos 1000000000 }
-    ensures { OnOk result (cells.new.items ≡ cells.old.items ++ block_cells left top tile.now.rows 64) }
+    ensures { OnOk result (cells.new.items ≡ cells.old.items ++ reverse (row_cells left y word 64)) }
 {
-    let first = first_eight(tile);
-    let mut y = end_of_eights(tile);
-    while y > first {
-        y -= 1;
-        push_row(cells, left, top + y as i32, tile.rows[y])?;
+    let mut x = next_bit(word, 0);
+    while x < 64 {
+        cells.push((left + x as i32, y))?;
+        x = next_bit(word, x + 1);
     }
     Ok(())
 }
@@ -60,19 +53,54 @@ pub fn tile_in(tiles: &[Tile], slot: usize) -> &Tile
     &tiles[slot]
 }
 
-/// Appends the live cells of the tiles of all slots of an index, those of the last slot first.
-pub fn push_tiles(
+/// Appends the live cells of row `y` of the tiles of some seats, seat by seat.
+fn push_line(
     cells: &mut Vec<(i32, i32)>,
-    index: &BTreeMap<(i32, i32), u32>,
+    seats: &[Seat],
+    tiles: &[Tile],
+    y: usize,
+) -> Result<(), AllocError>
+    requires seats { All (IsSeat (length tiles.now)) seats.now }
+    requires row { y < 64 }
+    ensures { OnOk result ((q : Cell) → list_any (same_cell q) cells.new.items
+        ≡ (list_any (same_cell q) cells.old.items || list_any (has_line tiles.now y q) seats.now)) }
+{
+    for seat in seats {
+        let (left, top) = corner_of((seat.column, seat.row));
+        let tile = tile_in(tiles, seat.slot as usize);
+        push_row(cells, left, top + y as i32, tile.rows[y])?;
+    }
+    Ok(())
+}
+
+/// Appends the live cells of the tiles of some seats, row by row.
+fn push_lines(cells: &mut Vec<(i32, i32)>, seats: &[Seat], tiles: &[Tile]) -> Result<(), AllocError>
+    requires seats { All (IsSeat (length tiles.now)) seats.now }
+    ensures { OnOk result ((q : Cell) → list_any (same_cell q) cells.new.items
+        ≡ (list_any (same_cell q) cells.old.items || list_any (has_tile tiles.now q) seats.now)) }
+{
+    for y in 0..64 {
+        push_line(cells, seats, tiles, y)?;
+    }
+    Ok(())
+}
+
+/// Appends the live cells of the tiles of some seats: those of seats that follow one another in one row of tiles together,
+/// row by row. So the cells come in order where the seats stand by rows.
+pub fn push_seats(
+    cells: &mut Vec<(i32, i32)>,
+    seats: &[Seat],
     tiles: &[Tile],
 ) -> Result<(), AllocError>
-    requires inside { (p : ℤ × ℤ) (k : ℕ) → get place_cmp index.now p ≡ Some k → IsInside p }
-    requires slots { (p : ℤ × ℤ) (k : ℕ) → get place_cmp index.now p ≡ Some k → k < length tiles.now }
-    ensures { OnOk result (cells.new.items ≡ cells.old.items ++ tiles_cells (shown (reverse index.now.entries) tiles.now)) }
+    requires seats { All (IsSeat (length tiles.now)) seats.now }
+    ensures { OnOk result ((q : Cell) → list_any (same_cell q) cells.new.items
+        ≡ (list_any (same_cell q) cells.old.items || list_any (has_tile tiles.now q) seats.now)) }
 {
-    for (place, slot) in index.iter().rev() {
-        let (left, top) = corner_of(*place);
-        push_tile(cells, left, top, tile_in(tiles, *slot as usize))?;
+    let mut from = 0;
+    while from < seats.len() {
+        let to = end_of_row(seats, from);
+        push_lines(cells, &seats[from..to], tiles)?;
+        from = to;
     }
     Ok(())
 }

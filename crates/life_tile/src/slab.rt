@@ -12,8 +12,9 @@ use crate::bands::Bands;
 use crate::counting::count_cells;
 use crate::ends::{Ends, ends_of, is_void};
 use crate::grid::split;
-use crate::listing::{push_tiles, tile_in};
+use crate::listing::{push_seats, tile_in};
 use crate::rim::Rim;
+use crate::seats::seats_by_rows;
 use crate::slot::{HERE, Slot, connect, links_around, neighbour, slot_or_none, with_link};
 use crate::stepping::{mark_all, next_tiles};
 use life_bits::Tile;
@@ -24,6 +25,9 @@ use std::mem::swap;
 
 /// So many cells are few: a list begins with room for them.
 const FEW: usize = 32;
+
+/// Room for so many tiles is asked for at first, for the empty one and one more: pieces of memory that are quick to get.
+const FIRST_TILES: usize = 2;
 
 /// Tiles in slots. Slot 0 has the empty tile and no place.
 #[derive(Drop)]
@@ -59,11 +63,13 @@ impl Slab {
         ensures age { IfOk result (λ slab. slab.age ≡ age) }
         ensures fresh { IfOk result (λ slab. slab.fresh ≡ true) }
     {
+        let cur = Vec::with_capacity(alloc, FIRST_TILES)?;
+        let alt = Vec::with_capacity(alloc, FIRST_TILES)?;
         let mut slab = Slab {
             index: BTreeMap::new(alloc),
             slots: Vec::new(alloc),
-            cur: Vec::new(alloc),
-            alt: Vec::new(alloc),
+            cur,
+            alt,
             todo: Vec::new(alloc),
             marks: Vec::new(alloc),
             rule: Rule::life(),
@@ -370,10 +376,10 @@ impl Slab {
         ensures members { IfOk result (λ cells. from_list cells.items ≡ members_of self.now) }
         ensures within { IfOk result (λ cells. All (IsWithin self.now.age) cells.items) }
     {
-        let mut cells = Vec::with_capacity(*self.slots.allocator(), FEW)?;
-        push_tiles(&mut cells, &self.index, &self.cur)?;
-        // (tiles are listed from their last cell to their first, and a list in order is sorted at once)
-        cells.reverse();
+        let alloc = *self.slots.allocator();
+        let seats = seats_by_rows(alloc, &self.index, &self.cur)?;
+        let mut cells = Vec::with_capacity(alloc, FEW)?;
+        push_seats(&mut cells, &seats, &self.cur)?;
         Ok(cells)
     }
 

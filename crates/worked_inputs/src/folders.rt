@@ -35,13 +35,13 @@ fn a_folder_of_the_system_is_read(rt: HostRuntime) -> Result<(), Fail> {
     for (path, text) in FILES {
         fs::write(&rt, path, *text)?;
     }
-    check(&rt, &read_folders(&rt, rt.alloc(), &[FOLDER])?, SHOWN);
+    check(&rt, &read_folders(&rt, rt.alloc(), &[FOLDER], None)?, SHOWN);
 
     // A folder in the place of a file, and no folder.
     fs::create_dir(&rt, "worked_inputs_folder/c.rle")?;
-    let file = read_folders(&rt, rt.alloc(), &[FOLDER]).err();
+    let file = read_folders(&rt, rt.alloc(), &[FOLDER], None).err();
     fs::remove_dir_all(&rt, FOLDER)?;
-    let folder = read_folders(&rt, rt.alloc(), &[FOLDER]).err();
+    let folder = read_folders(&rt, rt.alloc(), &[FOLDER], None).err();
     assert!(rt; file == Some(FoldersFault::Read) && folder == Some(FoldersFault::Read));
     Ok(())
 }
@@ -53,7 +53,7 @@ fn read_link(rt: &HostRuntime, original: &str) -> Result<Option<FoldersFault>, F
     let _ = fs::remove_dir_all(rt, OTHERS);
     fs::create_dir(rt, OTHERS)?;
     symlink(rt, original, "worked_inputs_others/a.rle")?;
-    let fault = read_folders(rt, rt.alloc(), &[OTHERS]).err();
+    let fault = read_folders(rt, rt.alloc(), &[OTHERS], None).err();
     fs::remove_dir_all(rt, OTHERS)?;
     Ok(fault)
 }
@@ -134,7 +134,7 @@ fn files_that_end_in_rle_come_in_the_order_of_their_bytes(rt: HostRuntime) -> Re
             entries: &[],
         },
     ];
-    let bundle = read_folders(&shelf, rt.alloc(), &["t", "u/v/", "empty"])?;
+    let bundle = read_folders(&shelf, rt.alloc(), &["t", "u/v/", "empty"], None)?;
     check(&rt, &bundle, SHOWN);
     Ok(())
 }
@@ -151,8 +151,59 @@ fn the_first_failure_decides(rt: HostRuntime) {
     ];
     let shelf = Memory { leaves: LEAVES };
     for (words, fault) in CASES {
-        assert!(rt; read_folders(&shelf, rt.alloc(), words).err() == Some(*fault));
+        assert!(rt; read_folders(&shelf, rt.alloc(), words, None).err() == Some(*fault));
     }
+}
+
+#[test]
+fn texts_past_the_limit_are_too_long(rt: HostRuntime) {
+    // The texts of `t` have 0, 1, 3 and 6 bytes, and that of `u/v/` 3.
+    const CASES: &[(&[&str], u64, Option<FoldersFault>)] = &[
+        (&["t", "u/v/", "empty"], 13, None),
+        (&["t", "u/v/", "empty"], 12, Some(FoldersFault::TooLong)),
+        (&["t", "missing"], 10, Some(FoldersFault::Read)),
+        (&["t", "missing"], 9, Some(FoldersFault::TooLong)),
+        (&["t"], 0, Some(FoldersFault::TooLong)),
+        (&["empty"], 0, None),
+        (&["piped"], 0, Some(FoldersFault::Read)),
+    ];
+    let shelf = Memory { leaves: LEAVES };
+    for (words, limit, fault) in CASES {
+        assert!(rt; read_folders(&shelf, rt.alloc(), words, Some(*limit)).err() == *fault);
+    }
+}
+
+const LONG: &str = "worked_inputs_long";
+
+#[test]
+fn a_file_of_100_kib_is_read_whole(rt: HostRuntime) -> Result<(), Fail> {
+    let mut text = Vec::new(rt.alloc());
+    for number in 0..102_400u32 {
+        text.push((number % 251) as u8)?;
+    }
+    let shown = [Shown {
+        name: LONG.as_bytes(),
+        entries: &[(b"a.rle", text.as_slice())],
+    }];
+
+    let leaves = [
+        leaf!(LONG, b"", b"a.rle\0"),
+        leaf!(LONG, b"a.rle", text.as_slice()),
+    ];
+    let shelf = Memory { leaves: &leaves };
+    let bundle = read_folders(&shelf, rt.alloc(), &[LONG], Some(102_400))?;
+    check(&rt, &bundle, &shown);
+    let fault = read_folders(&shelf, rt.alloc(), &[LONG], Some(102_399)).err();
+    assert!(rt; fault == Some(FoldersFault::TooLong));
+
+    // The same file on the disk.
+    let _ = fs::remove_dir_all(&rt, LONG);
+    fs::create_dir(&rt, LONG)?;
+    fs::write(&rt, "worked_inputs_long/a.rle", text.as_slice())?;
+    let bundle = read_folders(&rt, rt.alloc(), &[LONG], Some(102_400))?;
+    check(&rt, &bundle, &shown);
+    fs::remove_dir_all(&rt, LONG)?;
+    Ok(())
 }
 
 // Whether these are the folders at and below a word.

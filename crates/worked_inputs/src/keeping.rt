@@ -42,7 +42,7 @@ fn reading_a_shelf_in_memory_goes_on(rt: HostRuntime) -> Result<(), Fail> {
     ];
     let shelf = Memory { leaves: LEAVES };
     let words = ["t", "missing", " t", "u/", "empty"];
-    let kept = read_folders_on(&shelf, rt.alloc(), &words)?;
+    let kept = read_folders_on(&shelf, rt.alloc(), &words, None)?;
     const SHOWN: &[Shown<'static>] = &[
         Shown {
             name: b"t",
@@ -81,12 +81,40 @@ fn reading_a_shelf_in_memory_goes_on(rt: HostRuntime) -> Result<(), Fail> {
 }
 
 #[test]
+fn a_text_past_the_limit_is_lost(rt: HostRuntime) -> Result<(), Fail> {
+    const LEAVES: &[Leaf<'static>] = &[
+        leaf!("t", b"", b"a.rle\0b.rle\0c.rle\0"),
+        leaf!("t", b"a.rle", b"3o!"),
+        leaf!("t", b"b.rle", b"2o$2o!"),
+        leaf!("t", b"c.rle", b"o!"),
+        leaf!("u", b"", b"a.rle\0"),
+        leaf!("u", b"a.rle", b"3o!"),
+    ];
+    let shelf = Memory { leaves: LEAVES };
+    let kept = read_folders_on(&shelf, rt.alloc(), &["t", "u"], Some(8))?;
+    const SHOWN: &[Shown<'static>] = &[
+        Shown {
+            name: b"t",
+            entries: &[(b"a.rle", b"3o!"), (b"b.rle", b""), (b"c.rle", b"o!")],
+        },
+        Shown {
+            name: b"u",
+            entries: &[(b"a.rle", b"3o!")],
+        },
+    ];
+    check(&rt, &kept.bundle, SHOWN);
+    check_lost(&rt, &kept.lost, &[(b"t/b.rle", Some((1, 2)))]);
+    assert!(rt; kept.left == Some(0));
+    Ok(())
+}
+
+#[test]
 fn too_many_folders_end_the_reading(rt: HostRuntime) -> Result<(), Fail> {
     let shelf = Memory { leaves: &[] };
     let words = vec![in rt.alloc(); "t"; 65_536]?;
-    let kept = read_folders_on(&shelf, rt.alloc(), &words[1..])?;
+    let kept = read_folders_on(&shelf, rt.alloc(), &words[1..], None)?;
     assert!(rt; kept.lost.as_slice().len() == 65_535);
-    let fault = read_folders_on(&shelf, rt.alloc(), &words).err();
+    let fault = read_folders_on(&shelf, rt.alloc(), &words, None).err();
     assert!(rt; fault == Some(FoldersFault::Add(AddFault::TooMany)));
     Ok(())
 }
@@ -99,7 +127,7 @@ fn reading_folders_of_the_system_goes_on(rt: HostRuntime) -> Result<(), Fail> {
     fs::create_dir(&rt, KEPT)?;
     fs::write(&rt, "worked_inputs_kept/a.rle", b"3o!".as_slice())?;
     fs::create_dir(&rt, "worked_inputs_kept/b.rle")?;
-    let kept = read_folders_on(&rt, rt.alloc(), &[KEPT, "worked_inputs_kept/missing"])?;
+    let kept = read_folders_on(&rt, rt.alloc(), &[KEPT, "worked_inputs_kept/missing"], None)?;
     const SHOWN: &[Shown<'static>] = &[
         Shown {
             name: b"worked_inputs_kept",

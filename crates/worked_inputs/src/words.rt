@@ -1,7 +1,8 @@
 //! What words ask for, and which words are refused.
 
 use census_words::fault::WordsFault;
-use census_words::request::{Request, TableFormat, read_words};
+use census_words::request::{Asked as Wanted, Request, TableFormat, read_words};
+use std::alloc::Global;
 use std::test::Fail;
 
 /// The words of a command line, or of a part of one.
@@ -9,6 +10,12 @@ type Words = &'static [&'static str];
 
 /// What words ask of a census: its bound, its number of workers, its limit of cells and its folders.
 type Asked = (u32, u32, Option<u32>, Words);
+
+// What words ask for, whether or not its faults are to be explained.
+fn request_of(alloc: Global, words: Words) -> Result<Request<'static>, WordsFault> {
+    let Wanted { request, .. } = read_words(alloc, words)?;
+    Ok(request)
+}
 
 // Words that ask for a census.
 const RUNS: &[(Words, Asked)] = &[
@@ -53,6 +60,7 @@ fn is_asked(request: &Request, words: Words, asked: &Asked, flags: (bool, bool))
             bound,
             workers,
             cells,
+            input: _,
             recursive,
             keep_going,
             folders,
@@ -66,6 +74,7 @@ fn is_asked(request: &Request, words: Words, asked: &Asked, flags: (bool, bool))
             bound,
             workers,
             cells,
+            input: _,
             recursive,
             keep_going,
             folders,
@@ -89,7 +98,7 @@ fn a_census_has_defaults_and_folders_in_their_order(rt: HostRuntime) -> Result<(
     for (words, asked) in RUNS {
         assert!(rt;
             is_asked(
-                &read_words(rt.alloc(), words)?,
+                &request_of(rt.alloc(), words)?,
                 words,
                 asked,
                 (false, false)
@@ -128,7 +137,7 @@ fn a_census_of_objects_has_its_own_defaults(rt: HostRuntime) -> Result<(), Fail>
     for (words, asked) in OBJECTS {
         assert!(rt;
             is_asked(
-                &read_words(rt.alloc(), words)?,
+                &request_of(rt.alloc(), words)?,
                 words,
                 asked,
                 (false, false)
@@ -182,7 +191,49 @@ const FLAGGED: &[(Words, (bool, bool), Asked)] = &[
 #[test]
 fn flags_are_used_or_not(rt: HostRuntime) -> Result<(), Fail> {
     for (words, flags, asked) in FLAGGED {
-        assert!(rt; is_asked(&read_words(rt.alloc(), words)?, words, asked, *flags));
+        assert!(rt; is_asked(&request_of(rt.alloc(), words)?, words, asked, *flags));
+    }
+    Ok(())
+}
+
+#[test]
+fn the_bytes_of_files_have_a_limit_where_one_is_asked_for(rt: HostRuntime) -> Result<(), Fail> {
+    const ASKED: &[(Words, Option<u64>)] = &[
+        (&["run", "a"], None),
+        (&["run", "--input", "1", "a"], Some(1)),
+        (
+            &["run", "--input=9223372036854775807"],
+            Some(9_223_372_036_854_775_807),
+        ),
+        (&["run", "--", "--input", "1"], None),
+        (&["objects", "a"], None),
+        (
+            &["objects", "-k", "--input", "4294967296", "a"],
+            Some(4_294_967_296),
+        ),
+    ];
+    for (words, limit) in ASKED {
+        let found = match request_of(rt.alloc(), words)? {
+            Request::Run { input, .. } | Request::Objects { input, .. } => input,
+            other => panic!(rt; "{words:?}: {other:?}"),
+        };
+        assert_eq!(rt; found, *limit, "{words:?}");
+    }
+    Ok(())
+}
+
+#[test]
+fn progress_is_left_out_where_that_is_asked_for(rt: HostRuntime) -> Result<(), Fail> {
+    const ASKED: &[(Words, bool)] = &[
+        (&["run", "a"], false),
+        (&["run", "--no-progress", "a"], true),
+        (&["objects"], false),
+        (&["objects", "a", "--no-progress"], true),
+        (&["merge", "--", "--no-progress"], false),
+    ];
+    for (words, quiet) in ASKED {
+        let asked = read_words(rt.alloc(), words)?;
+        assert_eq!(rt; asked.quiet, *quiet, "{words:?}");
     }
     Ok(())
 }
@@ -203,7 +254,7 @@ const IDENTIFIED: &[(Words, u32, Words)] = &[
 #[test]
 fn patterns_are_identified_in_the_order_of_their_files(rt: HostRuntime) -> Result<(), Fail> {
     for (words, asked_bound, asked_files) in IDENTIFIED {
-        let asked = match &read_words(rt.alloc(), words)? {
+        let asked = match &request_of(rt.alloc(), words)? {
             Request::Identify { bound, files } => {
                 *bound == *asked_bound && files.as_slice() == *asked_files
             }
@@ -228,7 +279,7 @@ const ADVANCES: &[(Words, u32, Option<&str>)] = &[
 #[test]
 fn a_file_advances_by_a_number(rt: HostRuntime) -> Result<(), Fail> {
     for (words, generations, file) in ADVANCES {
-        let asked = match &read_words(rt.alloc(), words)? {
+        let asked = match &request_of(rt.alloc(), words)? {
             Request::Advance {
                 generations: found,
                 file: at,
@@ -256,7 +307,7 @@ const DRAWS: &[(Words, &str, &str)] = &[
 #[test]
 fn a_code_is_drawn_under_a_rule(rt: HostRuntime) -> Result<(), Fail> {
     for (words, code, rule) in DRAWS {
-        let asked = match &read_words(rt.alloc(), words)? {
+        let asked = match &request_of(rt.alloc(), words)? {
             Request::Draw {
                 code: drawn,
                 rule: under,
@@ -280,7 +331,7 @@ const MERGED: &[(Words, Words)] = &[
 #[test]
 fn reports_are_merged_in_the_order_of_the_words(rt: HostRuntime) {
     for (words, asked) in MERGED {
-        match read_words(rt.alloc(), words) {
+        match request_of(rt.alloc(), words) {
             Ok(Request::Merge { reports }) => {
                 assert_eq!(rt; reports.as_slice(), *asked, "{words:?}");
             }
@@ -293,7 +344,7 @@ fn reports_are_merged_in_the_order_of_the_words(rt: HostRuntime) {
 fn a_page_has_reports(rt: HostRuntime) {
     const ASKED: &[(Words, Words)] = &[(&["page"], &[]), (&["page", "b", "-"], &["b", "-"])];
     for (words, asked) in ASKED {
-        match read_words(rt.alloc(), words) {
+        match request_of(rt.alloc(), words) {
             Ok(Request::Page { reports }) => {
                 assert_eq!(rt; reports.as_slice(), *asked, "{words:?}");
             }
@@ -323,7 +374,7 @@ const TABLES: &[(Words, TableFormat, Words)] = &[
 #[test]
 fn a_table_has_a_format_and_reports(rt: HostRuntime) {
     for (words, asked_format, asked) in TABLES {
-        match read_words(rt.alloc(), words) {
+        match request_of(rt.alloc(), words) {
             Ok(Request::Table { format, reports }) => {
                 assert_eq!(rt; format, *asked_format, "{words:?}");
                 assert_eq!(rt; reports.as_slice(), *asked, "{words:?}");
@@ -349,7 +400,7 @@ fn a_table_has_one_format(rt: HostRuntime) {
         &["table", "--json", "a", "--csv", "b"],
     ];
     for words in BOTH {
-        match read_words(rt.alloc(), words) {
+        match request_of(rt.alloc(), words) {
             Err(WordsFault::Refused(text)) => assert_eq!(rt;
                 text.as_str(),
                 TWO_FORMATS,
@@ -358,6 +409,27 @@ fn a_table_has_one_format(rt: HostRuntime) {
             other => panic!(rt; "{words:?}: {other:?}"),
         }
     }
+}
+
+#[test]
+fn each_command_explains_its_faults_where_it_is_asked_to(rt: HostRuntime) -> Result<(), Fail> {
+    const ASKED: &[(Words, bool)] = &[
+        (&["run", "--explain"], true),
+        (&["run", "--", "--explain"], false),
+        (&["objects", "a", "--explain", "-k"], true),
+        (&["identify", "--explain", "a"], true),
+        (&["advance", "1", "--explain"], true),
+        (&["draw", "0", "--explain"], true),
+        (&["draw", "0"], false),
+        (&["merge", "--explain", "-"], true),
+        (&["table", "--json", "--explain"], true),
+        (&["page", "--explain"], true),
+    ];
+    for (words, explain) in ASKED {
+        let asked = read_words(rt.alloc(), words)?;
+        assert_eq!(rt; asked.explain, *explain, "{words:?}");
+    }
+    Ok(())
 }
 
 // Words that are refused, and a part of the text that says so.
@@ -372,9 +444,12 @@ const REFUSED: &[(Words, &str)] = &[
     (&["run", "--workers", "17"], "--workers"),
     (&["run", "--cells", "0"], "--cells"),
     (&["run", "--cells", "4294967296"], "--cells"),
+    (&["run", "--input", "0"], "--input"),
+    (&["run", "--input", "9223372036854775808"], "--input"),
     (&["run", "-r", "-r"], "--recursive"),
     (&["run", "--keep-going", "-k"], "--keep-going"),
     (&["run", "-rx"], "-x"),
+    (&["run", "--explain", "--explain"], "--explain"),
     (&["objects", "--bound", "100001"], "--bound"),
     (&["objects", "--cells", "0"], "--cells"),
     (&["objects", "--cells", "4294967296"], "--cells"),
@@ -382,6 +457,7 @@ const REFUSED: &[(Words, &str)] = &[
     (&["identify", "--bound", "100001"], "--bound"),
     (&["identify", "--workers", "2"], "--workers"),
     (&["identify", "-k"], "-k"),
+    (&["identify", "--no-progress"], "--no-progress"),
     (&["advance"], "<N>"),
     (&["advance", "4194305"], "error"),
     (&["advance", "1", "a", "b"], "b"),
@@ -407,7 +483,7 @@ const REFUSED: &[(Words, &str)] = &[
 #[test]
 fn other_words_are_refused(rt: HostRuntime) {
     for (words, part) in REFUSED {
-        let refused = match &read_words(rt.alloc(), words) {
+        let refused = match &request_of(rt.alloc(), words) {
             Err(WordsFault::Refused(text)) => holds(text.as_str(), &[part]),
             _ => false,
         };
@@ -419,7 +495,7 @@ fn other_words_are_refused(rt: HostRuntime) {
 fn the_version_is_told(rt: HostRuntime) {
     const ASKED: &[Words] = &[&["--version"], &["-V"], &["-V", "run"], &["-Vx"]];
     for words in ASKED {
-        match read_words(rt.alloc(), words) {
+        match request_of(rt.alloc(), words) {
             Err(WordsFault::Help(text)) => assert_eq!(rt;
                 text.as_str(),
                 "census 0.1.0\n",
@@ -484,11 +560,13 @@ const PROGRAM_PARTS: Words = &[
     "[default: B3/S23]",
     "-V, --version",
     "merge [REPORT]...",
+    "--explain",
     "table [--csv | --json] [REPORT]...",
 ];
 
 const RUN_PARTS: Words = &[
     "Usage: census run [OPTIONS] [FOLDER]...",
+    "--explain",
     "--bound <N>",
     "1 to 1000000 [default: 1000]",
     "--workers <N>",
@@ -501,6 +579,7 @@ const RUN_PARTS: Words = &[
 
 const OBJECTS_PARTS: Words = &[
     "Usage: census objects [OPTIONS] [FOLDER]...",
+    "--explain",
     "-b, --bound <N>",
     "1 to 100000 [default: 10000]",
     "-w, --workers <N>",
@@ -513,6 +592,7 @@ const OBJECTS_PARTS: Words = &[
 
 const IDENTIFY_PARTS: Words = &[
     "Usage: census identify [OPTIONS] [FILE]...",
+    "--explain",
     "-b, --bound <N>",
     "1 to 100000 [default: 10000]",
     "An RLE text; - is standard input",
@@ -538,17 +618,24 @@ const BLOCK_PARTS: Words = &[
 ];
 
 const ADVANCE_PARTS: Words = &[
-    "Usage: census advance <N> [FILE]",
+    "Usage: census advance [OPTIONS] <N> [FILE]",
+    "--explain",
     "0 to 4194304",
     "An RLE text; - is standard input",
     "With no FILE standard input is read",
     "Example: census advance",
 ];
 
-const DRAW_PARTS: Words = &["Usage: census draw [OPTIONS] <CODE>", "[default: B3/S23]"];
+const DRAW_PARTS: Words = &[
+    "Usage: census draw [OPTIONS] <CODE>",
+    "[default: B3/S23]",
+    "--explain",
+    "Example: census draw",
+];
 
 const MERGE_PARTS: Words = &[
-    "Usage: census merge [REPORT]...",
+    "Usage: census merge [OPTIONS] [REPORT]...",
+    "--explain",
     "- is standard input",
     "With no REPORT standard input is read",
     "Example: census merge",
@@ -556,6 +643,7 @@ const MERGE_PARTS: Words = &[
 
 const TABLE_PARTS: Words = &[
     "Usage: census table [OPTIONS] [REPORT]...",
+    "--explain",
     "--csv",
     "--json",
     "- is standard input",
@@ -596,7 +684,7 @@ const HELPED: &[(Words, [Words; 2])] = &[
 #[test]
 fn help_explains_options_report_and_statuses(rt: HostRuntime) {
     for (words, parts) in HELPED {
-        let explained = match &read_words(rt.alloc(), words) {
+        let explained = match &request_of(rt.alloc(), words) {
             Err(WordsFault::Help(text)) => {
                 holds(text.as_str(), parts[0]) && holds(text.as_str(), parts[1])
             }

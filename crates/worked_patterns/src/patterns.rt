@@ -48,7 +48,16 @@ impl Example {
     }
 }
 
-// A glider, which needs a bound of its period, a row that becomes a beehive, and a lightweight spaceship.
+// A queen bee between two blocks.
+const QUEEN_BEE: &[u8] = b"x = 22, y = 7
+9bo$7bobo$6bobo$2o3bo2bo11b2o$2o4bobo11b2o$7bobo$9bo!";
+
+// Two bees between four blocks.
+const TWIN_BEES: &[u8] = b"x = 29, y = 11
+17b2o$2o15bobo7b2o$2o17bo7b2o$17b3o4$17b3o$2o17bo7b2o$2o15bobo7b2o$17b2o!";
+
+// A glider, which needs a bound of its period, a row that becomes a beehive, a lightweight spaceship, and two shuttles of long
+// periods.
 const EXAMPLES: &[Example] = &[
     Example {
         text: b"x = 3, y = 3\n.A.$..A$3A!",
@@ -73,6 +82,24 @@ const EXAMPLES: &[Example] = &[
         bound: 10,
         population: 9,
         settled: Some((0, 4, (-2, 0), b"xq4_6frc")),
+    },
+    Example {
+        text: QUEEN_BEE,
+        bound: 30,
+        population: 20,
+        settled: Some((0, 30, (0, 0), b"xp30_w33z8kqrqk8zzzw33")),
+    },
+    Example {
+        text: TWIN_BEES,
+        bound: 46,
+        population: 32,
+        settled: Some((0, 46, (0, 0), b"xp46_033y133zzzckgsxsgkczz0ccy1cc")),
+    },
+    Example {
+        text: TWIN_BEES,
+        bound: 45,
+        population: 32,
+        settled: None,
     },
 ];
 

@@ -1,10 +1,10 @@
 //! Reports that files and standard input have, written as one report or as a table.
 
+use crate::lines::lines_of;
 use census_reports::error::ReportsError;
 use census_reports::form::Form;
 use census_reports::reports::write_reports;
 use census_rows::row::Row;
-use census_rows::write::push_row;
 use std::alloc::{AllocError, Global};
 use std::io;
 use std::io::{ErrorKind, Read, Write};
@@ -47,7 +47,7 @@ const CSV: &[u8] =
     b"collection,collection_name,pattern,name,status,rule,population,onset,period,dx,dy,code,fault,collection_name_hex,name_hex
 1,a,1,block,ok,B3/S23,4,0,1,0,0,xs4_33,,,
 1,a,2,broken,bad,,,,,,,,10,,
-1,b,1,r,none,B3/S23,5,,,,,,,,
+2,b,1,r,none,B3/S23,5,,,,,,,,
 ";
 
 const JSON: &[u8] =
@@ -162,38 +162,26 @@ fn reports_of_files_and_of_standard_input(rt: HostRuntime) -> Result<(), Fail> {
 
 // A report of so many collections, none of which has a pattern.
 fn empty_collections(alloc: Global, count: u64) -> Result<Vec<u8>, AllocError> {
-    let mut text = Vec::new(alloc);
+    let mut rows = Vec::new(alloc);
     for collection in 1..=count {
-        push_row(
-            &mut text,
-            &Row::Open {
-                collection,
-                patterns: 0,
-                name: b"x",
-            },
-        )?;
-        text.push(b'\n')?;
-        push_row(
-            &mut text,
-            &Row::Close {
-                collection,
-                patterns: 0,
-                resolved: 0,
-                unresolved: 0,
-                refused: 0,
-            },
-        )?;
-        text.push(b'\n')?;
-    }
-    push_row(
-        &mut text,
-        &Row::End {
-            collections: count,
+        rows.push(Row::Open {
+            collection,
             patterns: 0,
-        },
-    )?;
-    text.push(b'\n')?;
-    Ok(text)
+            name: b"x",
+        })?;
+        rows.push(Row::Close {
+            collection,
+            patterns: 0,
+            resolved: 0,
+            unresolved: 0,
+            refused: 0,
+        })?;
+    }
+    rows.push(Row::End {
+        collections: count,
+        patterns: 0,
+    })?;
+    lines_of(alloc, rows.as_slice())
 }
 
 #[test]
@@ -228,9 +216,9 @@ impl<'a> Read for FailingReader<'a> {
 
 /// Takes bytes until it holds as many as it has room for, and fails then.
 #[derive(Drop)]
-struct FailingWriter {
-    written: Vec<u8>,
-    room: usize,
+pub(crate) struct FailingWriter {
+    pub(crate) written: Vec<u8>,
+    pub(crate) room: usize,
 }
 
 impl Write for FailingWriter {
@@ -256,13 +244,15 @@ fn streams_that_fail(rt: HostRuntime) -> Result<(), Fail> {
     let (result, text) = written(alloc, Form::Merged, &["second", "-"], reader);
     assert!(rt; result == Err(ReportsError::Read));
     assert!(rt; text.is_empty());
-    let mut input = Watched::new(FIRST);
-    let mut output = Watched::new(FailingWriter {
-        written: Vec::new(alloc),
-        room: 20,
-    });
-    let result = write_reports(&SHELF, alloc, Form::Merged, &["-"], &mut input, &mut output);
-    assert!(rt; result == Err(ReportsError::Write));
-    assert_eq!(rt; output.into_inner().written.as_slice(), &FIRST[..20]);
+    for (form, whole) in [(Form::Merged, FIRST), (Form::Csv, CSV)] {
+        let mut input = Watched::new(FIRST);
+        let mut output = Watched::new(FailingWriter {
+            written: Vec::new(alloc),
+            room: 20,
+        });
+        let result = write_reports(&SHELF, alloc, form, &["-"], &mut input, &mut output);
+        assert!(rt; result == Err(ReportsError::Write));
+        assert_eq!(rt; output.into_inner().written.as_slice(), &whole[..20]);
+    }
     Ok(())
 }

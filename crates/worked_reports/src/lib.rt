@@ -1,8 +1,13 @@
-//! Worked examples of reports that are read back and merged, of tables, and of files that have reports.
+//! Worked examples of reports that are read back and merged, of tables, of files that have reports, and of bytes that are
+//! told by way of a block.
 #![tactic(auto)]
 
 #[cfg(test)]
 mod files;
+#[cfg(test)]
+mod gathering;
+#[cfg(test)]
+mod lines;
 #[cfg(test)]
 mod merging;
 #[cfg(test)]

@@ -1,13 +1,14 @@
 //! Reports that are merged: collections numbered on, and one `end` line with the sums.
 
-use census_merge::merging::merge;
+use census_merge::merging::{put_merged, sums};
 use census_readback::reading::read_report;
-use census_rows::row::Row;
-use census_rows::write::push_row;
+use gathered::block::Block;
+use gathered::putting::send;
 use std::alloc::{AllocError, Global};
+use watched::watched::Watched;
 
 // Two reports, whose sections interleave, and one of no collection between them.
-const PARTS: &[u8] = b"open 2 1 b
+pub const PARTS: &[u8] = b"open 2 1 b
 open 1 1 a
 line 2 1 ash B3/S23 5 25 r
 part 2 1 xp2_7 4
@@ -26,7 +27,7 @@ close 1 2 1 0 1
 end 1 2
 ";
 
-const MERGED: &[u8] = b"open 2 1 b
+pub const MERGED: &[u8] = b"open 2 1 b
 open 1 1 a
 line 2 1 ash B3/S23 5 25 r
 part 2 1 xp2_7 4
@@ -43,24 +44,20 @@ close 3 2 1 0 1
 end 3 4
 ";
 
-// The rows' lines.
-fn written(alloc: Global, rows: &[Row]) -> Result<Vec<u8>, AllocError> {
-    let mut text = Vec::new(alloc);
-    for row in rows {
-        push_row(&mut text, row)?;
-        text.push(b'\n')?;
-    }
-    Ok(text)
-}
-
 // The merged report, or nothing where there is none.
 fn merged(alloc: Global, text: &[u8]) -> Result<Vec<u8>, AllocError> {
-    match read_report(alloc, text)? {
-        Ok(rows) => match merge(alloc, rows.as_slice())? {
-            Ok(all) => written(alloc, all.as_slice()),
-            Err(_) => Ok(Vec::new(alloc)),
-        },
-        Err(_) => Ok(Vec::new(alloc)),
+    let Ok(rows) = read_report(alloc, text)? else {
+        return Ok(Vec::new(alloc));
+    };
+    if sums(rows.as_slice()).is_err() {
+        return Ok(Vec::new(alloc));
+    }
+    let mut block = Block::new(alloc);
+    let mut writer = Watched::new(Vec::new(alloc));
+    put_merged(rows.as_slice(), &mut block, &mut writer);
+    match send(&mut block, &mut writer) {
+        Ok(()) => Ok(writer.into_inner()),
+        Err(_) => Err(AllocError),
     }
 }
 

@@ -1,9 +1,9 @@
 //! Reports that are read back: lines, collections, and the line of a fault.
 
+use crate::lines::lines_of;
 use census_readback::reading::read_report;
 use census_readback::sections::collections;
 use census_rows::row::{Outcome, Row};
-use census_rows::write::push_row;
 use std::alloc::{AllocError, Global};
 
 const RUN: &[u8] = b"open 1 5 demo
@@ -34,16 +34,6 @@ end 2 3
 end 0 0
 ";
 
-// The rows' lines.
-fn written(alloc: Global, rows: &[Row]) -> Result<Vec<u8>, AllocError> {
-    let mut text = Vec::new(alloc);
-    for row in rows {
-        push_row(&mut text, row)?;
-        text.push(b'\n')?;
-    }
-    Ok(text)
-}
-
 // The line of the fault, or 0.
 fn fault(alloc: Global, text: &[u8]) -> Result<usize, AllocError> {
     match read_report(alloc, text)? {
@@ -56,7 +46,7 @@ fn fault(alloc: Global, text: &[u8]) -> Result<usize, AllocError> {
 fn reports_are_read_and_written_again(rt: HostRuntime) -> Result<(), AllocError> {
     for text in [RUN, OBJECTS] {
         match read_report(rt.alloc(), text)? {
-            Ok(rows) => assert!(rt; written(rt.alloc(), rows.as_slice())?.as_slice() == text),
+            Ok(rows) => assert!(rt; lines_of(rt.alloc(), rows.as_slice())?.as_slice() == text),
             Err(_) => assert!(rt; false),
         }
     }

@@ -1,9 +1,13 @@
 //! Reports as tables, in CSV and as JSON lines.
 
+use crate::merging::{MERGED, PARTS};
 use census_readback::reading::read_report;
-use census_table::comma::csv_table;
-use census_table::json_lines::json_table;
+use census_table::table::{Format, put_table};
+use gathered::block::Block;
+use gathered::putting::send;
 use std::alloc::{AllocError, Global};
+use std::test::Fail;
+use watched::watched::Watched;
 
 // Two collections that interleave, with each status, and names with a blank, quotes, a comma, and
 // bytes that are not UTF-8.
@@ -44,23 +48,71 @@ const JSON: &str =
 {\"code\":null,\"collection\":2,\"collection_name\":\"\u{fffd}\",\"collection_name_hex\":\"c3\",\"dx\":null,\"dy\":null,\"fault\":3,\"name\":\"last\",\"name_hex\":null,\"onset\":null,\"pattern\":1,\"period\":null,\"population\":null,\"rule\":null,\"status\":\"bad\"}
 ";
 
-// The two tables of a report.
-fn tables(alloc: Global, report: &[u8]) -> Result<(Vec<u8>, Vec<u8>), AllocError> {
-    match read_report(alloc, report)? {
-        Ok(rows) => Ok((
-            csv_table(alloc, rows.as_slice())?,
-            json_table(alloc, rows.as_slice())?,
-        )),
+// The collections of `PARTS`, which are those of two reports, with one of no collection between them.
+const PARTS_CSV: &str =
+    "collection,collection_name,pattern,name,status,rule,population,onset,period,dx,dy,code,fault,collection_name_hex,name_hex
+1,a,1,a block,ok,B3/S23,4,0,1,0,0,xs4_33,,,
+2,b,1,r,ash,B3/S23,5,,,,,,,,
+3,c,1,broken,bad,,,,,,,,10,,
+3,c,2,d,ok,B36/S23,4,0,1,0,0,xs4_33,,,
+";
+
+// The table of a report.
+fn table(alloc: Global, format: Format, report: &[u8]) -> Result<Vec<u8>, AllocError> {
+    let Ok(rows) = read_report(alloc, report)? else {
+        return Err(AllocError);
+    };
+    let mut block = Block::new(alloc);
+    let mut writer = Watched::new(Vec::new(alloc));
+    put_table(alloc, format, rows.as_slice(), &mut block, &mut writer)?;
+    match send(&mut block, &mut writer) {
+        Ok(()) => Ok(writer.into_inner()),
         Err(_) => Err(AllocError),
     }
 }
 
 #[test]
 fn patterns_are_told_as_tables(rt: HostRuntime) -> Result<(), AllocError> {
-    let (csv, json) = tables(rt.alloc(), REPORT)?;
+    let csv = table(rt.alloc(), Format::Csv, REPORT)?;
+    let json = table(rt.alloc(), Format::Json, REPORT)?;
     assert!(rt; csv.as_slice() == CSV.as_bytes());
     assert!(rt; json.as_slice() == JSON.as_bytes());
-    let (csv, json) = tables(rt.alloc(), b"end 0 0\n")?;
+    let csv = table(rt.alloc(), Format::Csv, b"end 0 0\n")?;
+    let json = table(rt.alloc(), Format::Json, b"end 0 0\n")?;
     assert!(rt; csv.len() == 122 && json.is_empty());
+    Ok(())
+}
+
+#[test]
+fn collections_are_numbered_on(rt: HostRuntime) -> Result<(), AllocError> {
+    let alloc = rt.alloc();
+    assert!(rt; table(alloc, Format::Csv, PARTS)?.as_slice() == PARTS_CSV.as_bytes());
+    // A table of reports is the table of what they are merged to.
+    assert!(rt; table(alloc, Format::Csv, MERGED)?.as_slice() == PARTS_CSV.as_bytes());
+    let json = table(alloc, Format::Json, MERGED)?;
+    assert!(rt; table(alloc, Format::Json, PARTS)?.as_slice() == json.as_slice());
+    Ok(())
+}
+
+#[test]
+fn many_patterns_of_one_collection(rt: HostRuntime) -> Result<(), Fail> {
+    let alloc = rt.alloc();
+    let mut report = String::from_str(alloc, "open 1 700 x\n")?;
+    let mut wanted = String::from_str(alloc, &CSV[..122])?;
+    for pattern in 1..=700 {
+        write!(report, "line 1 {} none B3/S23 5 p\n", pattern)?;
+        write!(wanted, "1,x,{},p,none,B3/S23,5,,,,,,,,\n", pattern)?;
+    }
+    report.push_str("close 1 700 0 700 0\nend 1 700\n")?;
+    let csv = table(alloc, Format::Csv, report.as_bytes())?;
+    assert!(rt; csv.as_slice() == wanted.as_bytes());
+    let json = table(alloc, Format::Json, report.as_bytes())?;
+    assert!(rt;
+        json.as_slice()
+            .iter()
+            .filter(|byte| **byte == b'\n')
+            .count()
+            == 700
+    );
     Ok(())
 }

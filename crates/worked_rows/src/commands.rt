@@ -2,7 +2,8 @@
 
 use crate::bundles::{DEMO, DEMO_REPORT};
 use crate::ends::Broken;
-use crate::program::called;
+use crate::program::{called, called_through};
+use census_crew::gate::OpenGate;
 use std::alloc::Global;
 use std::io::Read;
 use std::rt::Files;
@@ -120,7 +121,68 @@ const CALLS: &[Call] = &[
         b"",
     ),
     (&["objects", " a"], b"", 1, b"", b"census: folder fault 1\n"),
+    (
+        &["objects", "--bound=8", "-w", "1", "--explain"],
+        BUNDLE,
+        0,
+        REPORT,
+        b"  one/broken:3:1: the text ends too early: its body must end with `!`\n",
+    ),
+    (
+        &["draw", "xq4_", "--explain"],
+        b"",
+        1,
+        b"",
+        b"census: code fault 1
+  1:5: the code has no body: something must follow its first `_`, as `153` in `xq4_153`
+",
+    ),
 ];
+
+#[test]
+fn at_a_terminal_faults_are_explained_without_being_asked_for(rt: HostRuntime) {
+    const CALLS: &[Call] = &[
+        (
+            &["objects", "--bound=8", "-w", "1"],
+            BUNDLE,
+            0,
+            REPORT,
+            b"  one/broken:3:1: the text ends too early: its body must end with `!`\n",
+        ),
+        (
+            &["draw", "xq4_"],
+            b"",
+            1,
+            b"",
+            b"census: code fault 1
+  1:5: the code has no body: something must follow its first `_`, as `153` in `xq4_153`
+",
+        ),
+        (
+            &["draw", "xq4_153"],
+            b"",
+            0,
+            b"x = 3, y = 3, rule = B3/S23\n3o$2bo$bo!\n",
+            b"",
+        ),
+    ];
+    for (words, input, wanted, written, told) in CALLS {
+        let output = Vec::new(rt.alloc());
+        let errors = Vec::new(rt.alloc());
+        let (status, output, errors) = called_through(
+            &rt,
+            rt.alloc(),
+            words,
+            &OpenGate,
+            *input,
+            output,
+            errors,
+            true,
+        );
+        assert!(rt; status == *wanted);
+        assert!(rt; output.as_slice() == *written && errors.as_slice() == *told);
+    }
+}
 
 // Two blocks and a blinker, a text without its end, and a glider.
 const BUNDLE: &[u8] = b"@folder one

@@ -50,8 +50,65 @@ fn as_many_workers_as_the_words_say_meet_at_the_gate(rt: HostRuntime) {
             DEMO,
             Vec::new(rt.alloc()),
             Vec::new(rt.alloc()),
+            false,
         );
         assert!(rt; status == 0 && gate.gave_up.load(Ordering::SeqCst) == 0);
         assert!(rt; output.as_slice() == DEMO_REPORT && errors.is_empty());
+    }
+}
+
+// A gate that notes what it is told of runs.
+#[derive(Drop)]
+struct Notes {
+    patterns: AtomicU64,
+    begun: AtomicU64,
+    ended: AtomicU64,
+}
+
+impl Gate for Notes {
+    fn begin(&self, patterns: u64) {
+        self.patterns.store(patterns, Ordering::SeqCst);
+        self.begun.fetch_add(1, Ordering::SeqCst);
+    }
+
+    fn enter(&self, _ticket: Ticket) {}
+
+    fn end(&self) {
+        self.ended.fetch_add(1, Ordering::SeqCst);
+    }
+}
+
+#[test]
+fn the_gate_is_told_of_a_run_unless_it_is_to_be_quiet(rt: HostRuntime) {
+    const CALLS: &[(&[&str], (u64, u64, u64))] = &[
+        (&["run", "--bound", "50"], (5, 1, 1)),
+        (&["run", "--no-progress", "--bound", "50"], (0, 0, 0)),
+        (&["objects", "--no-progress"], (0, 0, 0)),
+        (&["draw", "xq4_153"], (0, 0, 0)),
+    ];
+    for (words, told) in CALLS {
+        let gate = Notes {
+            patterns: AtomicU64::new(0),
+            begun: AtomicU64::new(0),
+            ended: AtomicU64::new(0),
+        };
+        let output = Vec::new(rt.alloc());
+        let errors = Vec::new(rt.alloc());
+        let (status, _, _) = called_through(
+            &rt,
+            rt.alloc(),
+            words,
+            &gate,
+            DEMO,
+            output,
+            errors,
+            false,
+        );
+        let noted = (
+            gate.patterns.load(Ordering::SeqCst),
+            gate.begun.load(Ordering::SeqCst),
+            gate.ended.load(Ordering::SeqCst),
+        );
+        assert!(rt; status == 0 && noted == *told);
     }
 }

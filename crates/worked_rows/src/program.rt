@@ -17,19 +17,28 @@ pub(crate) fn called<
     E: Write + Drop,
     R: Threads + Wait + Sync + Files + Alloc + Clone + Drop,
 >(rt: &R, alloc: Global, words: &[&str], input: I, output: O, errors: E) -> (u8, O, E) {
-    called_through(rt, alloc, words, &OpenGate, input, output, errors)
+    called_through(rt, alloc, words, &OpenGate, input, output, errors, false)
 }
 
-// The same through a gate.
+// The same through a gate, where standard error is a terminal or not.
 pub(crate) fn called_through<
     G: Gate,
     I: Read + Drop,
     O: Write + Drop,
     E: Write + Drop,
     R: Threads + Wait + Sync + Files + Alloc + Clone + Drop,
->(rt: &R, alloc: Global, words: &[&str], gate: &G, input: I, output: O, errors: E) -> (u8, O, E) {
+>(
+    rt: &R,
+    alloc: Global,
+    words: &[&str],
+    gate: &G,
+    input: I,
+    output: O,
+    errors: E,
+    is_terminal: bool,
+) -> (u8, O, E) {
     let mut streams = Streams::new(input, output);
-    let mut errors = ErrorStream::new(errors);
+    let mut errors = ErrorStream::new(errors, is_terminal);
     let status = dispatch(rt, rt, alloc, words, gate, &mut streams, &mut errors);
     let (_, output) = streams.into_inner();
     (status, output, errors.into_inner())

@@ -111,3 +111,29 @@ fn as_many_workers_as_were_asked_for_meet_at_the_gate(rt: HostRuntime) -> Result
     }
     Ok(())
 }
+
+// A block, the pi-heptomino, which comes to rest at generation 173, and another block.
+const LONG_AMONG_SHORT: &[u8] = b"@folder mixed
+@file a
+x = 2, y = 2
+2o$2o!
+@file b
+x = 3, y = 3
+3o$obo$obo!
+@file c
+x = 2, y = 2
+2o$2o!
+";
+
+#[test]
+fn one_worker_works_what_is_not_soon_done(rt: HostRuntime) -> Result<(), Fail> {
+    let bundle = read_bundle(rt.alloc(), LONG_AMONG_SHORT)?;
+    let question = Question::Settles {
+        bound: 1_000,
+        cells: None,
+    };
+    let mut out = Watched::new(Vec::new(rt.alloc()));
+    let tally = run(&rt, rt.alloc(), &bundle, question, 1, &OpenGate, &mut out)?;
+    assert!(rt; tally.resolved == 3 && tally.caught_up == 0);
+    Ok(())
+}

@@ -111,6 +111,10 @@ fn work_keeps_what_it_was_given(rt: HostRuntime) -> Result<(), Fail> {
         };
         let done = Done::work(rt.alloc(), ticket(2, 7), entry, question)?;
         assert!(rt; is_kept(&done, ticket(2, 7)));
+        match Done::work_soon(rt.alloc(), ticket(2, 7), entry, question)? {
+            Some(done) => assert!(rt; is_kept(&done, ticket(2, 7))),
+            None => assert!(rt; false),
+        }
     }
     Ok(())
 }

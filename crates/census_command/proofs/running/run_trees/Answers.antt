@@ -1,11 +1,18 @@
 use Rattle.std.proofs.Common.{ap, ◌∙◌, map, string_bytes}
 use Rattle.census_command.specs.Shelves.{tellings}
-use Rattle.census_command.proofs.Reports.{trees_fail}
+use Rattle.census_command.proofs.Reports.{trees_done, trees_fail}
 use Rattle.census_command.proofs.running.run_trees.Goals as goal
 
 pub returns-clause-fails : goal.returns-clause-fails
 returns-clause-fails g c =
-    trees_fail (tellings (g.S.Shelf.listed c.args.shelf.now) (g.S.Shelf.inner c.args.shelf.now) (g.S.Shelf.held c.args.shelf.now)) _ _ _ c.args.question _ _
+    trees_fail (tellings (g.S.Shelf.listed c.args.shelf.now) (g.S.Shelf.inner c.args.shelf.now) (g.S.Shelf.held c.args.shelf.now)) c.args.limit _ _ _ c.args.question _ _
     c.run_folders.result c.in_ok-own.ensures
     (ap (map (λ s. s.now)) c.as_slice-2.ensures.value ∙ c.in_ok-folders.ensures ∙ ap (map (λ word. string_bytes word)) c.as_slice.ensures.value)
     c.run_folders.ensures.fails
+
+pub returns-clause-done : goal.returns-clause-done
+returns-clause-done g c =
+    trees_done (λ v. v.items) (tellings (g.S.Shelf.listed c.args.shelf.now) (g.S.Shelf.inner c.args.shelf.now) (g.S.Shelf.held c.args.shelf.now)) c.args.limit _ _ _ c.args.question
+    c.args.explain _ _ c.run_folders.result c.in_ok-own.ensures
+    (ap (map (λ s. s.now)) c.as_slice-2.ensures.value ∙ c.in_ok-folders.ensures ∙ ap (map (λ word. string_bytes word)) c.as_slice.ensures.value)
+    c.run_folders.ensures.done

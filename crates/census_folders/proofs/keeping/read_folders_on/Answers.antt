@@ -9,4 +9,4 @@ loop-word-preserved g c = next_folder _ _ _ _ _ _ _ _ (omega arith) c.loop-word.
 pub returns-in_err-keep_folder : goal.returns-in_err-keep_folder
 returns-in_err-keep_folder g c =
     let p = err_from_is_err_and c.from_residual.result c.from_residual.ensures.1 in
-    rw (p.1, p.2) (stops_keeping _ _ _ _ _ _ _ (omega arith) c.loop-word.invariant c.in_err-keep_folder.ensures)
+    rw (p.1, p.2) (stops_keeping _ _ _ _ _ _ _ _ (omega arith) c.loop-word.invariant c.in_err-keep_folder.ensures)

@@ -1,4 +1,4 @@
-use Rattle.std.proofs.Common.{take, map, []}
+use Rattle.std.proofs.Common.{take, map}
 use Rattle.std.specs.Prelude.{string_bytes}
 use Rattle.census_folders.specs.Trees.{HoldsTrees}
 use Rattle.census_folders.proofs.Stops.{words_of}

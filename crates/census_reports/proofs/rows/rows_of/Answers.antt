@@ -10,7 +10,7 @@ returns-in-Err-clause-rows c =
 pub loop-index-preserved : goal.loop-index-preserved
 loop-index-preserved c =
     report_read c.args.texts.now c.loop-index.index _ c.loop-index-test.true c.loop-index.rows.items c.loop-index.invariant c.as_slice.result.now (c.as_slice.ensures ∙ c.index-texts-index.is)
-    c.in_ok-own.field-0 c.in-Ok.own c.append.new.self.items c.in-Ok.is c.in_ok-own.ensures.sound c.in_ok-append-in-Ok.ensures.items
+    c.in_ok-own.field-0 c.in-Ok.own c.add_rows.new.rows.items c.in-Ok.is c.in_ok-own.ensures.sound c.in_ok-add_rows-in-Ok.ensures
 
 pub returns-clause-reports : goal.returns-clause-reports
 returns-clause-reports c =

@@ -4,14 +4,14 @@ use Rattle.std.proofs.lemmas.Result.{MatchResult-weaker}
 use Rattle.clap.specs.Faults.{fault_of, is_simple_and_free}
 use Rattle.clap.specs.Simple.{App, is_simple, subcommand_of}
 use Rattle.clap.specs.Walk.{Row}
-use Rattle.census_words.specs.Asking.{Gives}
+use Rattle.census_words.specs.Asking.{GivesAsked}
 use Rattle.census_words.specs.Holding.{IsCommand}
 use Rattle.census_words.specs.Refusing.{RefusesCommand}
 use Rattle.census_words.specs.CommandLine.{census_app}
 use Rattle.census_words.proofs.Commands.{is_command}
 use Rattle.census_words.proofs.Told.{refuses, refuses_matched}
 use Rattle.census_words.specs.declared.fault.WordsFault.{WordsFault}
-use Rattle.census_words.specs.declared.request.Request.{Request}
+use Rattle.census_words.specs.declared.request.Asked.{Asked}
 use Rattle.census_words.proofs.request.read_words.Goals as goal
 
 simple : is_simple census_app ≡ true
@@ -20,8 +20,8 @@ simple = refl
 free : is_simple_and_free census_app ≡ true
 free = refl
 
-pub request_of-requires : goal.request_of-requires
-request_of-requires c =
+pub asked_of-requires : goal.asked_of-requires
+asked_of-requires c =
     let app = c.in_ok-command.ensures in
     let words = map (λ s. s.now) c.args.words.now in
     let matched = ap (λ (a : App). fault_of a words) (sym app) ∙ c.in-Ok.ensures.kinds (ap is_simple_and_free app ∙ free) in
@@ -34,8 +34,8 @@ returns-in-Ok c =
     let words = map (λ s. s.now) c.args.words.now in
     let matched = ap (λ (a : App). fault_of a words) (sym app) ∙ c.in-Ok.ensures.kinds (ap is_simple_and_free app ∙ free) in
     let entered = (c.in-Ok.ensures.matches (ap is_simple app ∙ simple)).1 ∙ ap (λ (a : App). subcommand_of a words) app in
-    MatchResult-weaker c.request_of.result c.request_of.ensures
-    (λ (r : Request) gives. (matched, subst (λ (o : Option (List ℕ × List Row)). Gives o r) entered gives))
+    MatchResult-weaker c.asked_of.result c.asked_of.ensures
+    (λ (asked : Asked) gives. let all = subst (λ (o : Option (List ℕ × List Row)). GivesAsked o asked) entered gives in ((matched, all.0), all.1))
     (λ (fault : WordsFault) h. refuses_matched words fault matched (subst (λ (o : Option (List ℕ × List Row)). RefusesCommand o fault) entered h))
 
 pub returns-in-Err : goal.returns-in-Err

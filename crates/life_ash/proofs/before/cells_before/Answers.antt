@@ -4,7 +4,7 @@ use Rattle.life_model.specs.Cell.{opposite}
 use Rattle.life_model.specs.Generation.{cells}
 use Rattle.life_model.proofs.Generations.{cells-from_list}
 use Rattle.life_cells.specs.Limits.{IsWithin}
-use Rattle.life_ash.proofs.Moving.{items_rise, place_then, set_then}
+use Rattle.life_orbit.proofs.MovedCells.{items_rise, place_then, set_then}
 use Rattle.life_ash.proofs.before.cells_before.Goals as goal
 
 pub returns-in-None-clause-outside : goal.returns-in-None-clause-outside

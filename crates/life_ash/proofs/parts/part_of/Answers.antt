@@ -1,55 +1,84 @@
-use Rattle.std.proofs.Common.{◌≡◌, sym, subst, ◌∙◌}
+use Rattle.std.proofs.Common.{◌≡◌, ℕ, ◌≤◌, sym, ap, subst, ◌∙◌}
+use Rattle.std.specs.List.{All}
 use Rattle.std.proofs.lemmas.Option.{IfSome_then}
 use Rattle.std.proofs.lemmas.Result.{IfOk-weaker}
 use Rattle.life_model.specs.Evolution.{generation}
-use Rattle.life_model.specs.Generation.{Generation}
+use Rattle.life_model.specs.Generation.{Generation, cells}
 use Rattle.life_model.specs.Recurrence.{RecursBy}
+use Rattle.life_cells.specs.Limits.{IsWithin}
 use Rattle.life_objects.specs.Ash.{RecursWithin}
-use Rattle.life_orbit.specs.Course.{IsCourse}
-use Rattle.life_ash.specs.Parts.{IsEnd}
-use Rattle.life_ash.proofs.Finding.{none_then, of_none, of_some}
+use Rattle.life_orbit.specs.Course.{Course}
+use Rattle.life_ash.specs.Met.{IsMet, Terms}
+use Rattle.life_ash.specs.Parts.{IsEnd, IsFit}
+use Rattle.life_ash.proofs.Finding.{both_then, none_then, of_none, of_some}
 use Rattle.life_ash.proofs.Turning.{end_goes_round, end_reached, end_recurs}
 use Rattle.life_ash.proofs.parts.part_of.Goals as goal
 
+module _ (t : Terms) (last : Generation) (o : Course) (met : IsMet t o) (set : o.set ≡ last) (n : ℕ) (ago : n ≡ t.bound)
+  where
+    goes_round : (P : Generation) → IsEnd t.rule t.bound last P → RecursBy o.rule P o.period o.displacement
+    goes_round P end = end_goes_round t.rule t.bound last P end o met.rule set met.recurs
+
+    reached : (P : Generation) → IsEnd t.rule t.bound last P → generation o.rule P n ≡ o.set
+    reached P end =
+        subst (λ m. generation o.rule P m ≡ o.set) (sym ago)
+        (end_reached t.rule t.bound last P end o met.rule set met.recurs)
+
+-- what recurs so and stood in the field is fit
+fit_then : (t s : Terms) → s ≡ t → (S : Generation) → All (IsWithin 400000) (cells S) → (part : Course) → IsMet s part →
+    part.set ≡ S → IsFit t.rule t.bound part
+fit_then t s same S within part met set = record {
+  rule = met.rule ∙ ap (λ (u : Terms). u.rule) same;
+  recurs = met.recurs;
+  period = subst (λ (u : Terms). part.period ≤ u.bound) same met.period;
+  within = subst (λ (G : Generation). All (IsWithin 400000) (cells G)) (sym set) within;
+}
+
 pub returns-in_default-clause-none : goal.returns-in_default-clause-none
 returns-in_default-clause-none c P end =
-    of_none c.in_default.is c.in_ok-orbit.ensures.none (end_recurs c.args.rule.now c.args.bound c.args.last.now P end)
+    let t = c.args.known.now in
+    of_none c.in_default.is c.in_ok-orbit.ensures.none (end_recurs t.rule t.bound c.args.last.now P end)
 
 pub returns-in_default-2-clause-none : goal.returns-in_default-2-clause-none
 returns-in_default-2-clause-none c P end =
-    let R = c.args.rule.now in
-    let b = c.args.bound in
+    let t = c.args.known.now in
     let last = c.args.last.now in
     let o = c.in-Some.orbit in
-    let rule = of_some (λ x. x.rule ≡ R) c.in-Some.is c.in_ok-orbit.ensures.rule in
-    let set = of_some (λ x. x.set ≡ last) c.in-Some.is c.in_ok-orbit.ensures.set in
-    let course = of_some IsCourse c.in-Some.is c.in_ok-orbit.ensures.recurs in
-    of_none c.in_default-2.is c.in_ok-set.ensures.outside P (end_goes_round R b last P end o rule set course)
-    (end_reached R b last P end o rule set course) end.within
+    let met = of_some (IsMet t) c.in-Some.is c.in_ok-orbit.ensures.met in
+    let set = of_some (λ (x : Course). x.set ≡ last) c.in-Some.is c.in_ok-orbit.ensures.set in
+    let ago = c.bound.ensures.value ∙ ap (λ (u : Terms). u.bound) c.orbit_of.ensures.same in
+    of_none c.in_default-2.is c.in_ok-set.ensures.outside P (goes_round t last o met set c.bound.result ago P end)
+    (reached t last o met set c.bound.result ago P end) end.within
+
+pub returns-clause-fit : goal.returns-clause-fit
+returns-clause-fit c =
+    both_then c.orbit_of-2.result c.orbit_of-2.ensures.met c.orbit_of-2.ensures.set
+    (λ part met set. fit_then c.args.known.now c.orbit_of.new.self c.orbit_of.ensures.same c.in-Some-2.set
+    (of_some (λ (S : Generation). All (IsWithin 400000) (cells S)) c.in-Some-2.is c.in_ok-set.ensures.within) part met set)
 
 -- what was before is whatever becomes the last set and recurs
 was_before : (c : goal.After-drop-orbit-inside-2) (P : Generation) →
-    IsEnd c.args.rule.now c.args.bound c.args.last.now P → c.in-Some-2.set ≡ P
+    IsEnd c.args.known.now.rule c.args.known.now.bound c.args.last.now P → c.in-Some-2.set ≡ P
 was_before c P end =
-    let R = c.args.rule.now in
-    let b = c.args.bound in
+    let t = c.args.known.now in
     let last = c.args.last.now in
     let o = c.in-Some.orbit in
-    let rule = of_some (λ x. x.rule ≡ R) c.in-Some.is c.in_ok-orbit.ensures.rule in
-    let set = of_some (λ x. x.set ≡ last) c.in-Some.is c.in_ok-orbit.ensures.set in
-    let course = of_some IsCourse c.in-Some.is c.in_ok-orbit.ensures.recurs in
-    of_some (λ S. (Q : Generation) → RecursBy o.rule Q o.period o.displacement → generation o.rule Q b ≡ o.set → S ≡ Q)
-    c.in-Some-2.is c.in_ok-set.ensures.set P (end_goes_round R b last P end o rule set course)
-    (end_reached R b last P end o rule set course)
+    let met = of_some (IsMet t) c.in-Some.is c.in_ok-orbit.ensures.met in
+    let set = of_some (λ (x : Course). x.set ≡ last) c.in-Some.is c.in_ok-orbit.ensures.set in
+    let ago = c.bound.ensures.value ∙ ap (λ (u : Terms). u.bound) c.orbit_of.ensures.same in
+    of_some (λ S. (Q : Generation) → RecursBy o.rule Q o.period o.displacement → generation o.rule Q c.bound.result ≡ o.set → S ≡ Q)
+    c.in-Some-2.is c.in_ok-set.ensures.set P (goes_round t last o met set c.bound.result ago P end)
+    (reached t last o met set c.bound.result ago P end)
 
 pub returns-clause-set : goal.returns-clause-set
 returns-clause-set c =
-    IfOk-weaker c.of-2.result _ _ (λ found h. IfSome_then found h (λ part e P end. e ∙ was_before c P end))
-    c.of-2.ensures.set
+    IfOk-weaker c.orbit_of-2.result _ _ (λ found h. IfSome_then found h (λ part e P end. e ∙ was_before c P end))
+    c.orbit_of-2.ensures.set
 
 pub returns-clause-none : goal.returns-clause-none
 returns-clause-none c =
-    IfOk-weaker c.of-2.result _ _
+    IfOk-weaker c.orbit_of-2.result _ _
     (λ found h. none_then found h
-    (λ no P end. no (subst (RecursWithin c.args.rule.now c.args.bound) (sym (was_before c P end)) end.recurs)))
-    c.of-2.ensures.none
+    (λ no P end. no (subst (λ (u : Terms). RecursWithin u.rule u.bound c.in-Some-2.set) (sym c.orbit_of.ensures.same)
+    (subst (RecursWithin c.args.known.now.rule c.args.known.now.bound) (sym (was_before c P end)) end.recurs))))
+    c.orbit_of-2.ensures.none

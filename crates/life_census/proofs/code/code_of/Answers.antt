@@ -18,4 +18,4 @@ returns c =
     c.in_ok-text.text.items c.deref.result.now code
     (c.len-population.ensures ∙ ap size (c.phase.ensures ∙ generation-zero R H))
     (c.in_ok-text.ensures ∙ (λ i. prefix c.len-population.result (c.period-period.ensures.value i) (c.displacement.ensures i) ++ codes "_"))
-    (c.deref.ensures.value ∙ c.in_ok-body.ensures) (kept ∙ c.deref-2.ensures.value ∙ c.in_ok-extend_from_slice.ensures.items)) c.of.ensures
+    (c.deref.ensures.value ∙ c.in_ok-body.ensures) (kept ∙ c.deref-2.ensures.value ∙ c.in_ok-extend_from_slice.ensures.items)) c.of.ensures.copied

@@ -2,9 +2,9 @@ use Rattle.std.proofs.Common.{◌<◌, ◌∷◌, length, sym, subst, ◌∙◌,
 use Rattle.std.proofs.lemmas.List.{get_or_default}
 use Rattle.std.proofs.lemmas.List.Quantifiers.{all_pairs_remove}
 use Rattle.life_objects.specs.Apart.{AreApart}
-use Rattle.life_classes.specs.Tracking.{AreApartNow, LeadTo, StandsApart}
+use Rattle.life_classes.specs.Tracking.{AreApartNow, LeadTo}
 use Rattle.life_classes.proofs.Aparting.{LastsApart, StandsApartUpTo, apart_at_end, apart_in_front, one_further}
-use Rattle.life_classes.proofs.Aparting.{stands_at_end, still_apart, still_apart_from}
+use Rattle.life_classes.proofs.Aparting.{still_apart}
 use Rattle.life_classes.proofs.Leading.{lead_end, lead_gathered}
 use Rattle.life_classes.proofs.Merging.{in_turn}
 use Rattle.life_classes.proofs.Reaches.{apart_by_test, near_by_test}
@@ -37,9 +37,6 @@ loop-n-preserved-then-are_near c =
       looked_at = λ now.
           subst (StandsApartUpTo n e) is
           (still_apart cs n class other e inside value last (at.apart now) (at.looked_at now));
-      from_others = λ o all.
-          subst (λ ds. StandsApart o (e ∷ ds)) is
-          (still_apart_from cs n class other e inside value last o (at.from_others o all));
     }
 
 pub loop-n-preserved : goal.loop-n-preserved
@@ -56,7 +53,6 @@ loop-n-preserved c =
       tracked = at.tracked;
       apart = at.apart;
       looked_at = λ now. one_further cs n class c.index.result.now inside c.index.ensures far (at.looked_at now);
-      from_others = at.from_others;
     }
 
 pub returns-clause-tracked : goal.returns-clause-tracked
@@ -72,8 +68,3 @@ returns-clause-apart c now =
     subst AreApartNow (sym c.in_ok-push.ensures.items)
     (apart_at_end cs c.loop-n.class
     (apart_in_front cs c.loop-n.class (at.apart now) (λ k d h. at.looked_at now k d (omega arith))))
-
-pub returns-clause-from_others : goal.returns-clause-from_others
-returns-clause-from_others c o all =
-    subst (StandsApart o) (sym c.in_ok-push.ensures.items)
-    (stands_at_end c.loop-n.classes.items c.loop-n.class o (c.loop-n.invariant.from_others o all))

@@ -1,6 +1,5 @@
 use Rattle.std.proofs.Common.{◌≤◌, ◌-◌, ◌∷◌, length}
-use Rattle.life_classes.specs.Tracking.{AreApartNow, LeadTo, StandsApart}
-use Rattle.life_classes.specs.declared.class.Class.{Class}
+use Rattle.life_classes.specs.Tracking.{AreApartNow, LeadTo}
 use Rattle.life_classes.proofs.Aparting.{StandsApartUpTo}
 use Rattle.life_classes.proofs.joining.add.Given as goal
 
@@ -11,8 +10,6 @@ invariant-loop-n l = record {
   tracked : LeadTo (l.fn.class ∷ l.fn.classes.items) (l.class ∷ l.classes.items);
   apart : AreApartNow l.fn.classes.items → AreApartNow l.classes.items;
   looked_at : AreApartNow l.fn.classes.items → StandsApartUpTo l.n l.class l.classes.items;
-  from_others : (other : Class) →
-      StandsApart other (l.fn.class ∷ l.fn.classes.items) → StandsApart other (l.class ∷ l.classes.items);
 }
 
 abbrev pub decreases-loop-n : goal.decreases-loop-n

@@ -12,7 +12,7 @@ returns-clause-known c =
     let text = c.args.text.now in
     let reach = c.min-reach.result in
     let least = c.min-reach.ensures in
-    let found = c.in_ok-found.ensures in
+    let found = c.in_ok-found.ensures.answer in
     elim c.else-reach-bound.branch [
       | else-reach-bound-via-then-reach-bound+else-is_open w ↦
           let within : reach ≤ c.args.bound = omega arith in

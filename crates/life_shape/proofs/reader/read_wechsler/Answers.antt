@@ -1,4 +1,4 @@
-use Rattle.std.proofs.Common.{◌≢◌, length, ap, ◌∙◌, arith}
+use Rattle.std.proofs.Common.{◌≢◌, ◌≤◌, length, ap, ◌∙◌, arith}
 use Rattle.std.proofs.lemmas.Bool.Decides.{nat_tests}
 use Rattle.std.proofs.lemmas.Result.{err_from_is_err_and}
 use Rattle.life_model.specs.Symmetry.{normal}
@@ -31,3 +31,12 @@ pub returns-clause-lawful : goal.returns-clause-lawful
 returns-clause-lawful c =
     let more : length c.args.text.now ≢ 0 = grind (arith, nat_tests) in
     lawful c.args.text.now c.in_ok-cells.cells.items more c.in_ok-cells.ensures.drawn
+
+pub returns-then-is_empty-clause-memory : goal.returns-then-is_empty-clause-memory
+returns-then-is_empty-clause-memory c = λ e. cc
+
+pub returns-in_err-cells-clause-memory : goal.returns-in_err-cells-clause-memory
+returns-in_err-cells-clause-memory c =
+    let more : 1 ≤ length c.args.text.now = grind (arith, nat_tests) in
+    let p = err_from_is_err_and c.from_residual.result c.from_residual.ensures.1 in
+    rw (p.1, p.2) (λ refused. more)

@@ -1,4 +1,4 @@
-use Rattle.std.proofs.Common.{◌≡◌, ◌≢◌, ℕ, ℤ, pos, ◌+◌, ◌-◌, ◌/◌, ◌<◌, ⊎_elim, w32, of_z, length, get_or, sym, ap, ◌∙◌, arith}
+use Rattle.std.proofs.Common.{pos, ◌+◌, ◌-◌, ◌/◌, ⊎_elim, w32, of_z, ap, arith}
 use Rattle.life_model.specs.Cell.{Cell}
 use Rattle.life_tile.proofs.Halved.{narrowed_low, narrowed_high, narrowed_none}
 use Rattle.life_tile.proofs.changed.is_listed.Goals as goal

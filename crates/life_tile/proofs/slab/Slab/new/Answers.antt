@@ -26,16 +26,16 @@ module _ (c : goal.After-append) where
   slots = c.append.ensures.slots ∙ ap (λ (ss : List Slot). ss ++ first ∷ []) (c.reserve_one.ensures.alike.slots ∙ c.new-2.ensures.items)
 
   cur : c.append.new.self.cur.items ≡ empty_tile ∷ []
-  cur = c.append.ensures.cur ∙ ap (λ (ts : List Tile). ts ++ empty_tile ∷ []) (c.reserve_one.ensures.alike.cur ∙ c.new-3.ensures.items)
+  cur = c.append.ensures.cur ∙ ap (λ (ts : List Tile). ts ++ empty_tile ∷ []) (c.reserve_one.ensures.alike.cur ∙ c.in_ok-cur.ensures.items)
 
   alt : c.append.new.self.alt.items ≡ empty_tile ∷ []
-  alt = c.append.ensures.alt ∙ ap (λ (ts : List Tile). ts ++ empty_tile ∷ []) (c.reserve_one.ensures.alike.alt ∙ c.new-4.ensures.items)
+  alt = c.append.ensures.alt ∙ ap (λ (ts : List Tile). ts ++ empty_tile ∷ []) (c.reserve_one.ensures.alike.alt ∙ c.in_ok-alt.ensures.items)
 
   todo : c.append.new.self.todo.items ≡ all_bands ∷ []
-  todo = c.append.ensures.todo ∙ ap (λ (bs : List Bands). bs ++ all_bands ∷ []) (c.reserve_one.ensures.alike.todo ∙ c.new-5.ensures.items)
+  todo = c.append.ensures.todo ∙ ap (λ (bs : List Bands). bs ++ all_bands ∷ []) (c.reserve_one.ensures.alike.todo ∙ c.new-3.ensures.items)
 
   marks : c.append.new.self.marks.items ≡ no_bands ∷ []
-  marks = c.append.ensures.marks ∙ ap (λ (bs : List Bands). bs ++ no_bands ∷ []) (c.reserve_one.ensures.alike.marks ∙ c.new-6.ensures.items)
+  marks = c.append.ensures.marks ∙ ap (λ (bs : List Bands). bs ++ no_bands ∷ []) (c.reserve_one.ensures.alike.marks ∙ c.new-4.ensures.items)
 
   young : c.append.new.self.age ≤ 4194304
   young = subst (λ (n : ℕ). n ≤ 4194304) (sym (c.append.ensures.age ∙ c.reserve_one.ensures.alike.age)) c.requires

@@ -1,0 +1,27 @@
+//! How many bytes may be read in all, where that is limited.
+ghost use Rattle.std.specs.Prelude.{◌≡◌};
+ghost use Rattle.census_folders.specs.Sums.{Fits, less, most_of};
+
+/// The most bytes of a file.
+const FILE_LIMIT: usize = 67_108_864;
+
+// The most bytes of the next file, where so many may still be read in all.
+pub fn most_of(left: Option<u64>) -> usize
+    ensures { result ≡ most_of left }
+{
+    match left {
+        Some(left) => left.min(FILE_LIMIT as u64) as usize,
+        None => FILE_LIMIT,
+    }
+}
+
+// What may still be read after so many bytes.
+pub fn less(left: Option<u64>, count: usize) -> Option<u64>
+    requires { Fits left count }
+    ensures { result ≡ less left count }
+{
+    match left {
+        Some(left) => Some(left - count as u64),
+        None => None,
+    }
+}

@@ -1,0 +1,75 @@
+-- What is told of a table by way of a block is written, as far as memory lasts.
+use Rattle.std.proofs.Common.{◌≡◌, ◌∙◌, ℕ, ◌+◌, ◌≤◌, Bool, true, false, List, [], ◌++◌, length, take, Option, Result, Ok, Err, MatchBool, MatchResult, refl, sym, ap, subst, inl, inr, arith, append-nil, length-append}
+use Rattle.std.proofs.lemmas.List.{take-append-le, take_all}
+use Rattle.std.specs.Io.KnownBytes.{Appends}
+use Rattle.watched.specs.Watching.{AppendsFront}
+use Rattle.gathered.specs.Telling.{Sheet, Tells}
+use Rattle.gathered.proofs.Telling.{all_told, tells_more}
+use Rattle.census_identify.specs.Streams.{Sink, Writes, WritesFront}
+use Rattle.census_rows.specs.declared.row.Row.{Row}
+use Rattle.census_table.specs.Entries.{entries_of}
+use Rattle.census_table.specs.Tables.{table_text}
+use Rattle.census_table.specs.Told.{TellsFront}
+use Rattle.census_table.specs.declared.table.Format.{Format}
+use Rattle.census_table.specs.declared.table.Format.TheVariants.{Csv, Json}
+use Rattle.census_reports.specs.Forms.{IsMade, IsTable, table_in}
+use Rattle.census_reports.specs.Written.{FailsRows, HaltsRows, WritesRows, WritesRowsInPart, WritesSome}
+use Rattle.census_reports.specs.declared.error.ReportsError.{ReportsError}
+use Rattle.census_reports.specs.declared.error.ReportsError.TheVariants.{Memory, Write}
+use Rattle.census_reports.proofs.Told.{sink_of}
+
+is_table : (format : Format) → IsTable (table_in format)
+is_table Csv = tt
+is_table Json = tt
+
+is_made : (format : Format) (rows : List Row) → IsMade (table_in format) rows (table_text format (entries_of rows))
+is_made Csv rows = refl
+is_made Json rows = refl
+
+-- a prefix of a text is one of a longer text
+front_longer : (a b : Option (List ℕ)) (all xs ys : List ℕ) → all ≡ xs ++ ys → AppendsFront a b xs → AppendsFront a b all
+front_longer a b all xs ys e q =
+    let within : q.0 ≤ length xs = q.1 in
+    (q.0, (let h = ap length e in omega (arith, h, length-append xs ys)), subst (Appends a b) (sym (ap (take q.0) e ∙ take-append-le q.0 xs ys within)) q.2)
+
+-- what was written, whole or in part, is a prefix
+any_front : (failed : Bool) (a b : Option (List ℕ)) (xs : List ℕ) → MatchBool failed (AppendsFront a b xs) (Appends a b xs) → AppendsFront a b xs
+any_front true a b xs h = h
+any_front false a b xs h = (length xs, omega arith, subst (Appends a b) (sym (take_all (length xs) xs (omega arith))) h)
+
+front_of : {A B : Type 0} (r : Result A B) (text : List ℕ) (a b : Sheet) → MatchResult r (λ _. Tells text a b) (λ _. TellsFront text a b) → TellsFront text a b
+front_of (Ok x) text a b h = record { front = text; rest = []; whole = sym (append-nil text); tells = h }
+front_of (Err e) text a b h = h
+
+module _ (format : Format) (rows : List Row) (a b c : Sheet) (empty : a.pending ≡ []) (sent : Tells [] b c) (clear : c.pending ≡ []) where
+  abbrev text : List ℕ
+  text = table_text format (entries_of rows)
+
+  told : (bytes : List ℕ) → Tells bytes a b → MatchBool c.failed (AppendsFront a.written c.written bytes) (Appends a.written c.written bytes)
+  told bytes h = all_told bytes a c empty clear (subst (λ t. Tells t a c) (append-nil bytes) (tells_more bytes [] a b c h sent))
+
+  in_front : TellsFront text a b → AppendsFront a.written c.written text
+  in_front h = front_longer a.written c.written text h.front h.rest h.whole (any_front c.failed a.written c.written h.front (told h.front h.tells))
+
+  pub table_written : Tells text a b → c.failed ≡ false → WritesRows (table_in format) rows (sink_of a) (sink_of c)
+  table_written h sound = record {
+    made = text;
+    is = is_made format rows;
+    written = record { written = subst (λ f. MatchBool f (AppendsFront a.written c.written text) (Appends a.written c.written text)) sound (told text h); sound = sound };
+  }
+
+  pub table_halted : TellsFront text a b → c.failed ≡ false → HaltsRows (table_in format) rows (sink_of a) (sink_of c)
+  table_halted h sound = record {
+    table = is_table format;
+    made = text;
+    is = is_made format rows;
+    front = record { written = in_front h; sound = sound };
+  }
+
+  pub table_lost : {A B : Type 0} (r : Result A B) → MatchResult r (λ _. Tells text a b) (λ _. TellsFront text a b) → c.failed ≡ true
+      → WritesRowsInPart (table_in format) rows (sink_of a) (sink_of c)
+  table_lost r h failed = record {
+    made = text;
+    is = is_made format rows;
+    front = record { written = in_front (front_of r text a b h); failed = failed };
+  }

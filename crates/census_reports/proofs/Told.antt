@@ -1,0 +1,21 @@
+-- What is told by way of a block is written.
+use Rattle.std.proofs.Common.{◌≡◌, ℕ, Bool, true, false, List, [], Result, Ok, Err, MatchBool, MatchResult, subst, append-nil}
+use Rattle.std.specs.Io.KnownBytes.{Appends}
+use Rattle.watched.specs.Watching.{AppendsFront}
+use Rattle.gathered.specs.Telling.{Sheet, Tells}
+use Rattle.gathered.proofs.Telling.{all_told, tells_more}
+use Rattle.census_identify.specs.Streams.{Sink, Writes, WritesFront}
+
+-- a writer without its block
+abbrev pub sink_of : Sheet → Sink
+sink_of s = record { written = s.written; failed = s.failed }
+
+pub told_whole : {A B : Type 0} (r : Result A B) (text : List ℕ) (a b c : Sheet) → a.pending ≡ [] → Tells text a b → Tells [] b c → c.pending ≡ []
+    → MatchResult r (λ _. c.failed ≡ false) (λ _. c.failed ≡ true)
+    → MatchResult r (λ _. Writes text (sink_of a) (sink_of c)) (λ _. WritesFront text (sink_of a) (sink_of c))
+told_whole (Ok x) text a b c empty p q sent failed =
+    let all = all_told text a c empty sent (subst (λ t. Tells t a c) (append-nil text) (tells_more text [] a b c p q)) in
+    record { written = subst (λ f. MatchBool f (AppendsFront a.written c.written text) (Appends a.written c.written text)) failed all; sound = failed }
+told_whole (Err e) text a b c empty p q sent failed =
+    let all = all_told text a c empty sent (subst (λ t. Tells t a c) (append-nil text) (tells_more text [] a b c p q)) in
+    record { written = subst (λ f. MatchBool f (AppendsFront a.written c.written text) (Appends a.written c.written text)) failed all; failed = failed }

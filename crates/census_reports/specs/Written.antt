@@ -1,0 +1,64 @@
+-- What is made of reports, written.
+use Rattle.std.specs.Prelude.{◌≡◌, ◌⊎◌, ℕ, false, List}
+use Rattle.watched.specs.Watching.{AppendsFront}
+use Rattle.census_identify.specs.Streams.{Sink, Writes, WritesFront}
+use Rattle.census_rows.specs.declared.row.Row.{Row}
+use Rattle.census_reports.specs.Forms.{IsMade, IsMadeOf, IsTable, RefusesRows, RefusesTexts}
+use Rattle.census_reports.specs.declared.error.ReportsError.{ReportsError}
+use Rattle.census_reports.specs.declared.error.ReportsError.TheVariants.{Memory, Write}
+use Rattle.census_reports.specs.declared.form.Form.{Form}
+
+-- a prefix of these bytes was written, and the writer has not failed
+pub record WritesSome (bytes : List ℕ) (before after : Sink) : Type 0 where
+  pub written : AppendsFront before.written after.written bytes
+  pub sound : after.failed ≡ false
+
+-- what is made of rows was written
+pub record WritesRows (form : Form) (rows : List Row) (before after : Sink) : Type 0 where
+  pub made : List ℕ
+  pub is : IsMade form rows made
+  pub written : Writes made before after
+
+-- as far as the writer took it
+pub record WritesRowsInPart (form : Form) (rows : List Row) (before after : Sink) : Type 0 where
+  pub made : List ℕ
+  pub is : IsMade form rows made
+  pub front : WritesFront made before after
+
+-- a prefix of a table was written
+pub record HaltsRows (form : Form) (rows : List Row) (before after : Sink) : Type 0 where
+  pub table : IsTable form
+  pub made : List ℕ
+  pub is : IsMade form rows made
+  pub front : WritesSome made before after
+
+-- Why not all was written. Where the writer didn't fail, nothing was, or out of memory a prefix of a table.
+abbrev pub FailsRows : ReportsError → Form → List Row → Sink → Sink → Type 0
+FailsRows Write form rows before after = WritesRowsInPart form rows before after
+FailsRows Memory form rows before after = (after ≡ before) ⊎ HaltsRows form rows before after
+FailsRows error form rows before after = RefusesRows error form rows × (after ≡ before)
+
+-- what is made of the reports in texts was written
+pub record WritesTexts (form : Form) (texts : List (List ℕ)) (before after : Sink) : Type 0 where
+  pub made : List ℕ
+  pub is : IsMadeOf form texts made
+  pub written : Writes made before after
+
+-- as far as the writer took it
+pub record WritesTextsInPart (form : Form) (texts : List (List ℕ)) (before after : Sink) : Type 0 where
+  pub made : List ℕ
+  pub is : IsMadeOf form texts made
+  pub front : WritesFront made before after
+
+-- a prefix of a table was written
+pub record HaltsTexts (form : Form) (texts : List (List ℕ)) (before after : Sink) : Type 0 where
+  pub table : IsTable form
+  pub made : List ℕ
+  pub is : IsMadeOf form texts made
+  pub front : WritesSome made before after
+
+-- Why not all was written. Where the writer didn't fail, nothing was, or out of memory a prefix of a table.
+abbrev pub FailsTexts : ReportsError → Form → List (List ℕ) → Sink → Sink → Type 0
+FailsTexts Write form texts before after = WritesTextsInPart form texts before after
+FailsTexts Memory form texts before after = (after ≡ before) ⊎ HaltsTexts form texts before after
+FailsTexts error form texts before after = RefusesTexts error form texts × (after ≡ before)

@@ -1,0 +1,74 @@
+-- The text of rows, of which some stand before others.
+use Rattle.std.proofs.Common.{◌≡◌, ℕ, ◌+◌, ◌-◌, ◌<◌, List, [], ◌∷◌, ◌++◌, Bor, Option, Some, None, length, take, drop, get_or, refl, sym, ap, ◌∙◌, append_assoc, drop-cons, suc, arith}
+use Rattle.std.proofs.lemmas.List.{drop-drop, map-append, take-append-drop}
+use Rattle.std.specs.declared.vec.Vec.{Vec}
+use Rattle.census_rows.specs.declared.row.Row.{Row}
+use Rattle.census_readback.specs.Grouped.{items_of, lent}
+use Rattle.census_table.specs.Entries.{all_entries, entry_before, entry_in, lines_under, section_entries}
+use Rattle.csv.specs.Writing.{default_writer, row_text}
+use Rattle.serde_json.specs.Data.{object}
+use Rattle.serde_json.specs.Written.{compact_text}
+use Rattle.census_table.specs.Tables.{csv_records, entry_fields, entry_members, head_text, json_text, rows_text, table_text}
+use Rattle.census_table.specs.declared.entry.Entry.{Entry}
+use Rattle.census_table.specs.declared.table.Format.{Format}
+use Rattle.census_table.specs.declared.table.Format.TheVariants.{Csv, Json}
+
+rows-append : (format : Format) (xs ys : List Entry) → rows_text format (xs ++ ys) ≡ rows_text format xs ++ rows_text format ys
+rows-append Csv [] ys = refl
+rows-append Csv (x ∷ xs) ys =
+    let row = row_text default_writer (entry_fields x) in
+    ap (λ t. row ++ t) (rows-append Csv xs ys) ∙ sym (append_assoc row (csv_records xs) (csv_records ys))
+rows-append Json [] ys = refl
+rows-append Json (x ∷ xs) ys =
+    let row = compact_text (object (entry_members x)) ++ 10 ∷ [] in
+    ap (λ t. row ++ t) (rows-append Json xs ys) ∙ sym (append_assoc row (json_text xs) (json_text ys))
+
+pub whole-table : (format : Format) (entries : List Entry) → table_text format entries ≡ head_text format ++ rows_text format entries
+whole-table Csv entries = refl
+whole-table Json entries = refl
+
+before-append : (entry : Option Entry) (xs ys : List Entry) → entry_before entry (xs ++ ys) ≡ entry_before entry xs ++ ys
+before-append None xs ys = refl
+before-append (Some entry) xs ys = refl
+
+under-append : (number : ℕ) (heading : Row) (xs ys : List Row) → lines_under number heading (xs ++ ys) ≡ lines_under number heading xs ++ lines_under number heading ys
+under-append number heading [] ys = refl
+under-append number heading (x ∷ xs) ys =
+    ap (λ (es : List Entry). entry_before (entry_in number heading x) es) (under-append number heading xs ys)
+    ∙ before-append (entry_in number heading x) (lines_under number heading xs) (lines_under number heading ys)
+
+-- some elements from a place on, and those behind them
+pub drop-cut : {X : Type 0} (xs : List X) (start count : ℕ) → drop start xs ≡ take (start + count - start) (drop start xs) ++ drop (start + count) xs
+drop-cut xs start count =
+    let k = start + count - start in
+    sym (take-append-drop k (drop start xs))
+    ∙ ap (λ t. take k (drop start xs) ++ t) (drop-drop k start xs ∙ ap (λ n. drop n xs) (let e : start + k ≡ start + count = omega arith in e))
+
+-- some rows of a collection, and those behind them
+pub rows-cut : (format : Format) (number : ℕ) (heading : Row) (rows some others : List (Bor Row)) (entries : List Entry) → rows ≡ some ++ others
+    → entries ≡ lines_under number heading (lent some)
+    → rows_text format (lines_under number heading (lent rows)) ≡ rows_text format entries ++ rows_text format (lines_under number heading (lent others))
+rows-cut format number heading rows some others entries e are =
+    ap (λ rows. rows_text format (lines_under number heading rows)) (ap lent e ∙ map-append (λ row. row.now) some others)
+    ∙ ap (rows_text format) (under-append number heading (lent some) (lent others))
+    ∙ rows-append format (lines_under number heading (lent some)) (lines_under number heading (lent others))
+    ∙ ap (λ es. rows_text format es ++ rows_text format (lines_under number heading (lent others))) (sym are)
+
+-- a collection, and those behind it
+pub sections-cut : {A : Type 0} (format : Format) (sections : List (Vec (Bor Row) A)) (i : ℕ) (d : Vec (Bor Row) A) (rows : List (Bor Row)) → i < length sections
+    → rows ≡ (get_or sections i d).items
+    → rows_text format (all_entries (i + 1) (items_of (drop i sections)))
+    ≡ rows_text format (section_entries (i + 1) (lent rows)) ++ rows_text format (all_entries (i + 1 + 1) (items_of (drop (i + 1) sections)))
+sections-cut format sections i d rows less are =
+    let behind = drop (i + 1) sections in
+    let next : drop i sections ≡ get_or sections i d ∷ behind =
+    drop-cons sections i d less ∙ ap (λ k. get_or sections i d ∷ drop k sections) (let e : suc i ≡ i + 1 = omega arith in e) in
+    ap (λ s. rows_text format (all_entries (i + 1) (items_of s))) next
+    ∙ rows-append format (section_entries (i + 1) (lent (get_or sections i d).items)) (all_entries (i + 1 + 1) (items_of behind))
+    ∙ ap (λ r. rows_text format (section_entries (i + 1) (lent r)) ++ rows_text format (all_entries (i + 1 + 1) (items_of behind))) (sym are)
+
+-- a collection without rows
+pub section-empty : (format : Format) (number : ℕ) (rows : List (Bor Row)) → length rows < 1 → rows_text format (section_entries number (lent rows)) ≡ []
+section-empty Csv number [] none = refl
+section-empty Json number [] none = refl
+section-empty format number (r ∷ rows) none = absurd (omega arith)

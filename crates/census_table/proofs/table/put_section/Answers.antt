@@ -1,0 +1,10 @@
+use Rattle.std.proofs.Common.{subst, sym}
+use Rattle.gathered.specs.Telling.{Tells, sheet}
+use Rattle.gathered.proofs.Telling.{tells_none}
+use Rattle.census_table.proofs.Texts.{section-empty}
+use Rattle.census_table.proofs.table.put_section.Goals as goal
+
+pub returns-in-empty : goal.returns-in-empty
+returns-in-empty g c =
+    let here = sheet g.W.Write.contents c.args.block.now c.args.writer.now in
+    subst (λ t. Tells t here here) (sym (section-empty c.args.format c.args.number c.args.rows.now c.in-empty.len_below)) (tells_none here)

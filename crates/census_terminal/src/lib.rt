@@ -1,0 +1,11 @@
+//! What people see at a terminal beside what a command writes to files and pipes: that standard input is read, how far a
+//! run has come, and names that can't steer the terminal.
+#![tactic(auto)]
+
+mod announced;
+mod screen;
+mod shown;
+
+pub use announced::Announced;
+pub use screen::Screen;
+pub use shown::Shown;

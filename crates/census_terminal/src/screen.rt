@@ -1,0 +1,107 @@
+//! The line at a terminal that tells how far a run has come.
+use census_bundle::ticket::Ticket;
+use census_crew::gate::Gate;
+use std::io::Eprint;
+use std::sync::atomic::{AtomicBool, AtomicU64, Ordering};
+use std::time::Clock;
+
+/// A run tells how far it has come once it has taken so many milliseconds.
+const PATIENCE: u64 = 500;
+
+/// It is told again after so many milliseconds, which is at most four times a second.
+const PAUSE: u64 = 250;
+
+/// Standard error, where it is a terminal: how far a run has come stands in its last line, and is wiped before anything
+/// else is written.
+#[derive(Drop)]
+pub struct Screen<'a, R> {
+    rt: &'a R,
+    is_terminal: bool,
+    /// Whether the last line tells how far the run has come.
+    stands: AtomicBool,
+    /// How many patterns the run has, or 0 where none has begun.
+    patterns: AtomicU64,
+    /// How many of them were taken by workers.
+    taken: AtomicU64,
+    /// The millisecond from which on it may be told again.
+    next: AtomicU64,
+}
+
+impl<'a, R: Clock + Eprint> Screen<'a, R> {
+    /// A screen on which nothing stands. Where standard error is no terminal, nothing is ever told on it.
+    pub fn new(rt: &'a R, is_terminal: bool) -> Self {
+        Screen {
+            rt,
+            is_terminal,
+            stands: AtomicBool::new(false),
+            patterns: AtomicU64::new(0),
+            taken: AtomicU64::new(0),
+            next: AtomicU64::new(u64::MAX),
+        }
+    }
+
+    /// Wipes the line that tells how far the run has come, if it stands.
+    pub fn wipe(&self) {
+        if self.stands.swap(false, Ordering::SeqCst) {
+            let _ = eprint!(self.rt; "\r\x1b[K");
+        }
+    }
+
+    /// Says that standard input is read, where standard error is a terminal.
+    pub fn tell_reading(&self) {
+        if self.is_terminal {
+            let _ = eprint!(self.rt; "census: reading standard input\n");
+        }
+    }
+
+    // Milliseconds on a clock that never goes back.
+    fn now(&self) -> u64 {
+        match self.rt.monotonic() {
+            Ok(time) => time.as_millis().min(u64::MAX as u128) as u64,
+            Err(_) => 0,
+        }
+    }
+
+    // Tells how far the run has come, where that is due.
+    fn tell(&self, taken: u64) {
+        let next = self.next.load(Ordering::SeqCst);
+        let now = self.now();
+        if now < next {
+            return;
+        }
+        let later = now.saturating_add(PAUSE);
+        if self
+            .next
+            .compare_exchange(next, later, Ordering::SeqCst, Ordering::SeqCst)
+            .is_err()
+        {
+            return;
+        }
+        let patterns = self.patterns.load(Ordering::SeqCst);
+        self.stands.store(true, Ordering::SeqCst);
+        let _ = eprint!(self.rt; "\rcensus: {taken} of {patterns} patterns");
+    }
+}
+
+impl<'a, R: Clock + Eprint + Sync> Gate for Screen<'a, R> {
+    fn begin(&self, patterns: u64) {
+        if self.is_terminal {
+            self.patterns.store(patterns, Ordering::SeqCst);
+            self.taken.store(0, Ordering::SeqCst);
+            let due = self.now().saturating_add(PATIENCE);
+            self.next.store(due, Ordering::SeqCst);
+        }
+    }
+
+    fn enter(&self, _ticket: Ticket) {
+        if self.is_terminal {
+            let before = self.taken.fetch_add(1, Ordering::SeqCst);
+            self.tell(before.saturating_add(1));
+        }
+    }
+
+    fn end(&self) {
+        self.next.store(u64::MAX, Ordering::SeqCst);
+        self.wipe();
+    }
+}

@@ -1,0 +1,101 @@
+//! What is written to a terminal, where no name can steer it.
+use crate::screen::Screen;
+use arrayvec::ArrayVec;
+use std::io;
+use std::io::{Eprint, Write};
+use std::time::Clock;
+
+/// So many bytes are handed on at once.
+const ROOM: usize = 4096;
+
+const DIGITS: [u8; 16] = *b"0123456789abcdef";
+
+/// A writer that first wipes what a screen tells. Where it is a terminal, each character from U+0080 to U+009F, with which a
+/// terminal can be steered, and each byte that belongs to no character of UTF-8 is written as `\x` and its two hexadecimal
+/// digits; every other byte is written as it is.
+#[derive(Drop)]
+pub struct Shown<'a, W, R> {
+    writer: W,
+    is_terminal: bool,
+    screen: &'a Screen<'a, R>,
+}
+
+/// Bytes that are handed on once there are many.
+type Block = ArrayVec<u8, ROOM>;
+
+// Writes the bytes that are held.
+fn hand_on<W: Write>(block: &mut Block, writer: &mut W) -> io::Result<()> {
+    writer.write_all(block.as_slice())?;
+    block.clear();
+    Ok(())
+}
+
+// Adds bytes; where there is no room for one, those that are held are written first.
+fn add<W: Write>(block: &mut Block, writer: &mut W, bytes: &[u8]) -> io::Result<()> {
+    for byte in bytes {
+        if block.is_full() {
+            hand_on(block, writer)?;
+        }
+        let _ = block.try_push(*byte);
+    }
+    Ok(())
+}
+
+// Adds bytes as `\x` and two digits each.
+fn add_escaped<W: Write>(block: &mut Block, writer: &mut W, bytes: &[u8]) -> io::Result<()> {
+    for byte in bytes {
+        let high = DIGITS[(*byte / 16) as usize];
+        let low = DIGITS[(*byte % 16) as usize];
+        add(block, writer, &[b'\\', b'x', high, low])?;
+    }
+    Ok(())
+}
+
+// Whether a terminal could take a character as a command, though it is no byte below 128.
+fn is_steering(one: char) -> bool {
+    ('\u{80}'..='\u{9f}').contains(&one)
+}
+
+impl<'a, W: Write, R: Clock + Eprint> Shown<'a, W, R> {
+    /// A writer to a terminal, or, where it is none, one that hands on each byte as it is.
+    pub fn new(writer: W, is_terminal: bool, screen: &'a Screen<'a, R>) -> Self {
+        Shown {
+            writer,
+            is_terminal,
+            screen,
+        }
+    }
+}
+
+// Writes bytes, those that could steer a terminal escaped.
+fn write_escaped<W: Write>(writer: &mut W, bytes: &[u8]) -> io::Result<()> {
+    let mut block = Block::new();
+    for chunk in bytes.utf8_chunks() {
+        for one in chunk.valid().chars() {
+            let mut room = [0; 4];
+            let encoded = one.encode_utf8(&mut room);
+            if is_steering(one) {
+                add_escaped(&mut block, writer, encoded.as_bytes())?;
+            } else {
+                add(&mut block, writer, encoded.as_bytes())?;
+            }
+        }
+        add_escaped(&mut block, writer, chunk.invalid())?;
+    }
+    hand_on(&mut block, writer)
+}
+
+impl<'a, W: Write, R: Clock + Eprint> Write for Shown<'a, W, R> {
+    fn write(&mut self, bytes: &[u8]) -> io::Result<usize> {
+        self.screen.wipe();
+        if !self.is_terminal {
+            return self.writer.write(bytes);
+        }
+        write_escaped(&mut self.writer, bytes)?;
+        Ok(bytes.len())
+    }
+
+    fn flush(&mut self) -> io::Result<()> {
+        self.writer.flush()
+    }
+}

@@ -1,0 +1,33 @@
+-- What is told to a watched writer by way of a block.
+use Rattle.std.specs.Prelude.{◌≡◌, ℕ, Bool, List, ◌++◌, Option, MatchBool}
+use Rattle.std.specs.Io.KnownBytes.{Appends}
+use Rattle.watched.specs.Watching.{AppendsFront, has_failed, inner_of}
+use Rattle.watched.specs.declared.watched.Watched.{Watched}
+use Rattle.gathered.specs.declared.block.Block.{Block}
+
+-- the bytes of a block
+abbrev pub pending_of : Block → List ℕ
+pending_of block = block.bytes.items
+
+-- a writer and its block: the bytes that were written, where the writer tells any, those that it is to be given yet, and
+-- whether it has failed
+pub record Sheet : Type 0 where
+  pub written : Option (List ℕ)
+  pub pending : List ℕ
+  pub failed : Bool
+
+abbrev pub sheet : {W : Type 0} → (W → Option (List ℕ)) → Block → Watched W → Sheet
+sheet contents block writer =
+    record { written = contents (inner_of writer); pending = pending_of block; failed = has_failed writer }
+
+-- Where the bytes that were written are told after the first ones: all but those of the block, and a prefix of them where
+-- the writer has failed.
+abbrev pub IsTold : Option (List ℕ) → List ℕ → Sheet → Type 0
+IsTold first bytes s =
+    MatchBool s.failed (AppendsFront first s.written bytes)
+    ((front : List ℕ) × (bytes ≡ front ++ s.pending) × Appends first s.written front)
+
+-- these bytes are told after whatever was told before
+unfoldable pub Tells : List ℕ → Sheet → Sheet → Type 0
+Tells bytes before after =
+    (first : Option (List ℕ)) (told : List ℕ) → IsTold first told before → IsTold first (told ++ bytes) after

@@ -1,0 +1,5 @@
+//! Bytes gathered into blocks before a watched writer is given them.
+#![tactic(auto)]
+
+pub mod block;
+pub mod putting;

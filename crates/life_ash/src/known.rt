@@ -1,0 +1,114 @@
+//! Sets that were met, so that none that is one of them, moved as a whole, is followed again.
+ghost use Rattle.std.specs.Prelude.{◌≡◌, ◌≤◌, All, IfNone, IfOk, IfSome};
+ghost use Rattle.life_model.specs.Generation as generations;
+ghost use Rattle.life_cells.specs.Limits.{IsWithin};
+ghost use Rattle.life_objects.specs.Ash.{RecursWithin};
+ghost use Rattle.life_orbit.specs.Course.{IsCourse};
+ghost use Rattle.life_ash.specs.Met.{IsMet, Terms};
+
+use life_cells::cell_list::CellList;
+use life_cells::rule::Rule;
+use life_orbit::orbit::{BOUND_LIMIT, Orbit};
+use std::alloc::{AllocError, Global};
+use std::marker::Model;
+
+/// How many orbits are kept at most.
+const MOST: usize = 64;
+
+/// The greatest period of an orbit that is kept.
+const LONGEST: u32 = 64;
+
+/// How many cells a set has at most that is kept.
+const LARGEST: usize = 256;
+
+/// Orbits of sets that recur by one rule within one bound. Each is right; not all that were met are kept.
+#[derive(Drop)]
+pub struct Known {
+    rule: Rule,
+    bound: u32,
+    orbits: Vec<Orbit>,
+}
+
+impl Model for Known {
+    ghost use Rattle.life_ash.specs.Met.{AreKnown, Terms, coded_terms};
+
+    ghost Value = { Terms };
+
+    ghost coded = { coded_terms };
+
+    ghost view = { λ k. record { rule = k.rule; bound = k.bound } };
+
+    ghost invariant = { λ k. AreKnown (record { rule = k.rule; bound = k.bound }) k.orbits.items };
+}
+
+/// The orbit of a set that is one of some sets, moved as a whole. That none is found tells nothing.
+fn moved_orbit(
+    alloc: Global,
+    orbits: &[Orbit],
+    cells: &CellList,
+) -> Result<Option<Orbit>, AllocError>
+    ensures set { IfOk result (λ found. IfSome found (λ orbit. orbit.set ≡ cells.now)) }
+    ensures met { (t : Terms) → All (IsMet t) orbits.now → IfOk result (λ found. IfSome found (IsMet t)) }
+{
+    for orbit in orbits {
+        if let Some(found) = orbit.moved_to(alloc, cells)? {
+            return Ok(Some(found));
+        }
+    }
+    Ok(None)
+}
+
+/// Keeps an orbit, where it is small and there is room for it.
+fn keep(alloc: Global, orbits: &mut Vec<Orbit>, orbit: &Orbit) -> Result<(), AllocError>
+    ensures { (t : Terms) → All (IsMet t) orbits.old.items → IsMet t orbit.now → All (IsMet t) orbits.new.items }
+{
+    if orbits.len() < MOST && orbit.period() <= LONGEST && orbit.set().len() <= LARGEST {
+        if let Some(copy) = orbit.moved_to(alloc, orbit.set())? {
+            orbits.push(copy)?;
+        }
+    }
+    Ok(())
+}
+
+impl Known {
+    /// No orbit yet, of sets that recur by this rule within so many generations.
+    pub fn new(alloc: Global, rule: &Rule, bound: u32) -> Known
+        requires { 1 ≤ bound × bound ≤ BOUND_LIMIT }
+        ensures rule { result.rule ≡ rule.now }
+        ensures bound { result.bound ≡ bound }
+    {
+        Known {
+            rule: *rule,
+            bound,
+            orbits: Vec::new(alloc),
+        }
+    }
+
+    /// Within how many generations the sets recur.
+    pub fn bound(&self) -> u32
+        ensures value { result ≡ self.now.bound }
+        ensures some { 1 ≤ result }
+        ensures short { result ≤ BOUND_LIMIT }
+    {
+        self.bound
+    }
+
+    /// The orbit of a set, where it recurs within the bound. It is worked out where no orbit of this set, moved as a
+    /// whole, is kept.
+    pub fn orbit_of(&mut self, alloc: Global, cells: &CellList) -> Result<Option<Orbit>, AllocError>
+        requires within { All (IsWithin 4000000) (generations.cells cells.now) }
+        ensures same { self.new ≡ self.old }
+        ensures set { IfOk result (λ found. IfSome found (λ orbit. orbit.set ≡ cells.now)) }
+        ensures met { IfOk result (λ found. IfSome found (IsMet self.old)) }
+        ensures none { IfOk result (λ found. IfNone found (RecursWithin self.old.rule self.old.bound cells.now → ⊥)) }
+    {
+        if let Some(orbit) = moved_orbit(alloc, &self.orbits, cells)? {
+            return Ok(Some(orbit));
+        }
+        let Some(orbit) = Orbit::of(alloc, &self.rule, cells, self.bound)? else {
+            return Ok(None);
+        };
+        keep(alloc, &mut self.orbits, &orbit)?;
+        Ok(Some(orbit))
+    }
+}

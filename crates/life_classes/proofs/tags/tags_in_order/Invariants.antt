@@ -1,0 +1,10 @@
+use Rattle.std.specs.List.{All}
+use Rattle.life_classes.specs.Tags.{IsNumbered}
+use Rattle.life_classes.proofs.Lookups.{AreThere}
+use Rattle.life_classes.proofs.tags.tags_in_order.Given as goal
+
+abbrev pub invariant-loop-n : goal.invariant-loop-n
+invariant-loop-n l = record {
+  tags : AreThere l.classes l.n l.tags.items;
+  numbered : All IsNumbered l.tags.items;
+}

@@ -1,0 +1,123 @@
+//! The cells of classes in order, each with the place of its class.
+ghost use Rattle.std.specs.Prelude.{◌≡◌, ◌-◌, ℕ, ℤ, ◌+ℤ◌, ◌≤ℤ◌, ◌+◌, ◌^◌, neg_ℤ, pos, ◌++◌, All, List, IfOk, OnOk, map};
+ghost use Rattle.std.specs.Bool.{OnTrue};
+ghost use Rattle.life_model.specs.Generation as generations;
+ghost use Rattle.life_classes.specs.declared.class.Class.{Class as ModelClass};
+ghost use Rattle.life_classes.specs.Tags.{AreOf, AreOfUpTo, AreRising, AreTags, IsAlone, IsNumbered, number_of, tag_of};
+ghost use Rattle.life_classes.specs.Tracking.{AreApartNow};
+
+use crate::class::Class;
+use life_cells::cell_list::CellList;
+use std::alloc::{AllocError, Global};
+
+/// How much greater the number of a cell is than that of the one above it.
+pub const ROW: i64 = 2_147_483_648;
+
+/// A cell of a class, told by its number, and the place of the class in a list.
+#[derive(Clone, Copy)]
+pub struct Tag {
+    pub number: i64,
+    pub place: usize,
+}
+
+/// A number that rises along each row and from row to row.
+pub fn number_of(cell: (i32, i32)) -> i64
+    ensures number { result ≡ number_of cell }
+    ensures low { neg_ℤ (pos (2 ^ 62 + 2 ^ 31)) ≤ℤ result }
+    ensures high { result ≤ℤ pos (2 ^ 62 + 2 ^ 31) }
+{
+    i64::from(cell.1) * ROW + i64::from(cell.0)
+}
+
+/// Adds the cells of a set, as those of the class in some place.
+fn add(tags: &mut Vec<Tag>, set: &CellList, place: usize) -> Result<(), AllocError>
+    ensures items { OnOk result (tags.new.items ≡ tags.old.items ++ map (tag_of place) (generations.cells set.now)) }
+    ensures numbered { OnOk result (All IsNumbered tags.old.items → All IsNumbered tags.new.items) }
+{
+    for cell in set.as_slice() {
+        tags.push(Tag {
+            number: number_of(*cell),
+            place,
+        })?;
+    }
+    Ok(())
+}
+
+/// The cells of what is left of the classes, in order.
+pub fn tags_in_order(alloc: Global, classes: &[Class]) -> Result<Vec<Tag>, AllocError>
+    ensures tags { IfOk result (λ tags. AreTags classes.now tags.items) }
+    ensures rising { IfOk result (λ tags. AreRising tags.items) }
+    ensures numbered { IfOk result (λ tags. All IsNumbered tags.items) }
+{
+    let mut tags = Vec::new(alloc);
+    for n in 0..classes.len() {
+        add(&mut tags, &classes[n].last, n)?;
+    }
+    tags.sort_unstable_by_key(|tag| tag.number);
+    Ok(tags)
+}
+
+/// The tags from the first on whose number is not less.
+pub fn tags_from(tags: &[Tag], low: i64) -> &[Tag]
+    requires { AreRising tags.now }
+    ensures rising { AreRising result.now }
+    ensures kept { (high : ℤ) (place : ℕ) → AreOfUpTo high place result.now →
+        All (λ t. low ≤ℤ t.number → t.number ≤ℤ high → t.place ≡ place) tags.now }
+{
+    let start = tags.partition_point(|tag| tag.number < low);
+    &tags[start..]
+}
+
+/// Whether those tags with a number up to this one are all of one class.
+fn are_of_up_to(tags: &[Tag], high: i64, place: usize) -> bool
+    requires { AreRising tags.now }
+    ensures { OnTrue result (AreOfUpTo high place tags.now) }
+{
+    for tag in tags {
+        if tag.number > high {
+            return true;
+        }
+        if tag.place != place {
+            return false;
+        }
+    }
+    true
+}
+
+/// Whether those tags with a number from this one to four more are all of one class.
+fn are_of(tags: &[Tag], low: i64, place: usize) -> bool
+    requires rising { AreRising tags.now }
+    requires small { low ≤ℤ pos (2 ^ 63 - 5) }
+    ensures { OnTrue result (AreOf low place tags.now) }
+{
+    are_of_up_to(tags_from(tags, low), low + 4, place)
+}
+
+/// Whether no cell of another class is near a cell, in its row and in the two below it.
+fn is_alone(tags: &[Tag], tag: Tag) -> bool
+    requires rising { AreRising tags.now }
+    requires numbered { IsNumbered tag }
+    ensures { OnTrue result (IsAlone tag tags.now) }
+{
+    if !are_of(tags, tag.number - 2, tag.place) {
+        return false;
+    }
+    if !are_of(tags, tag.number + ROW - 2, tag.place) {
+        return false;
+    }
+    are_of(tags, tag.number + 2 * ROW - 2, tag.place)
+}
+
+/// Whether no cell is near one of another class. Each is looked up among those that may be near it.
+pub fn stand_apart(tags: &[Tag]) -> bool
+    requires rising { AreRising tags.now }
+    requires numbered { All IsNumbered tags.now }
+    ensures { OnTrue result ((classes : List ModelClass) → AreTags classes tags.now → AreApartNow classes) }
+{
+    for tag in tags {
+        if !is_alone(tags, *tag) {
+            return false;
+        }
+    }
+    true
+}

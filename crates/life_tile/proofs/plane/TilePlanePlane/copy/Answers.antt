@@ -1,0 +1,5 @@
+use Rattle.life_tile.proofs.Fits.{fits}
+use Rattle.life_tile.proofs.plane.TilePlanePlane.copy.Goals as goal
+
+pub returns-clause-within : goal.returns-clause-within
+returns-clause-within c = fits c.in_ok-slab.slab c.in_ok-slab.ensures.kept

@@ -1,0 +1,22 @@
+//! Rows as a text.
+
+use census_rows::row::Row;
+use census_rows::write::put_row;
+use gathered::block::Block;
+use gathered::putting::{put, send};
+use std::alloc::{AllocError, Global};
+use watched::watched::Watched;
+
+// The rows' lines.
+pub fn lines_of(alloc: Global, rows: &[Row]) -> Result<Vec<u8>, AllocError> {
+    let mut block = Block::new(alloc);
+    let mut writer = Watched::new(Vec::new(alloc));
+    for row in rows {
+        put_row(row, &mut block, &mut writer);
+        put(b"\n", &mut block, &mut writer);
+    }
+    match send(&mut block, &mut writer) {
+        Ok(()) => Ok(writer.into_inner()),
+        Err(_) => Err(AllocError),
+    }
+}
