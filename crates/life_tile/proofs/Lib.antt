@@ -31,3 +31,4 @@ pub mod SameCells
 pub mod Covered
 pub mod Halved
 pub mod Fits
+pub mod Tallied

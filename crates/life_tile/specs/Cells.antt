@@ -1,5 +1,5 @@
 -- The cells of tiles at their places.
-use Rattle.std.specs.Prelude.{◌≡◌, ℕ, zero, suc, ℤ, pos, ◌+◌, ◌+ℤ◌, ◌==◌, List, [], ◌∷◌, ◌++◌, length, slice_index, if◌then◌else◌}
+use Rattle.std.specs.Prelude.{◌≡◌, Bool, count_by, nat_lt, ℕ, zero, suc, ℤ, pos, ◌+◌, ◌+ℤ◌, ◌==◌, List, [], ◌∷◌, ◌++◌, length, slice_index, if◌then◌else◌}
 use Rattle.std.specs.Int.{bit_at}
 use Rattle.life_model.specs.Cell.{Cell}
 use Rattle.life_bits.specs.declared.tile.Tile.{Tile}
@@ -24,6 +24,14 @@ tiles_cells (e ∷ es) = block_cells (start_at e.0.0) (start_at e.0.1) e.1.rows 
 -- how many cells of a tile are live
 abbrev pub tile_count : Tile → ℕ
 tile_count tile = length (block_cells (pos 0) (pos 0) tile.rows 64)
+
+-- whether some cell of a tile is live
+abbrev pub has_cell : Tile → Bool
+has_cell tile = nat_lt 0 (tile_count tile)
+
+-- how many tiles have a live cell
+abbrev pub live_tiles : List Tile → ℕ
+live_tiles tiles = count_by has_cell tiles
 
 -- how many cells the n rows from a row on add to those before
 abbrev pub IsCountFrom : List ℕ → ℕ → ℕ → ℕ → Type 0

@@ -13,6 +13,7 @@ use Rattle.life_tile.specs.Places.{place_cmp, start_at}
 use Rattle.life_tile.specs.declared.slot.Slot.{Slot}
 use Rattle.life_tile.specs.declared.slab.Slab.{Slab}
 use Rattle.life_tile.specs.Slots.{Index, slot_at, neighbour_at, place_of, link_of, tile_of, empty_tile, generation_shown, IsReached}
+use Rattle.life_tile.specs.Ends.{IsVoid}
 use Rattle.life_tile.specs.Rims.{IsStill}
 use Rattle.life_tile.specs.Work.{mark_of}
 use Rattle.life_tile.specs.declared.bands.Bands.{Bands}
@@ -171,3 +172,12 @@ pub record IsShowing (before after : Slab) (slot : ℕ) (tile : Tile) : Type 0 w
   pub count : length after.cur.items ≡ length before.cur.items
   pub apart : (k : ℕ) → k ≢ slot → tile_of after.cur.items k ≡ tile_of before.cur.items k
   pub here : tile_of after.cur.items slot ≡ tile
+
+-- each slot has a tile that it had before, or this one
+pub record HasTilesOf (before after : Slab) (tile : Tile) : Type 0 where
+  pub each : (k : ℕ) → k < length after.slots.items →
+      (tile_of after.cur.items k ≡ tile) ⊎ ((k < length before.slots.items) × (tile_of after.cur.items k ≡ tile_of before.cur.items k))
+
+-- each slot but the first has a tile with a live cell
+pub record IsCompact (slab : Slab) : Type 0 where
+  pub live : (k : ℕ) → 0 < k → k < length slab.slots.items → IsVoid (tile_of slab.cur.items k) → ⊥

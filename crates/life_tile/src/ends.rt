@@ -56,7 +56,8 @@ fn first_in(tile: &Tile) -> Option<(usize, usize)>
 
 /// Whether no cell of a tile is live.
 pub fn is_void(tile: &Tile) -> bool
-    ensures { result ≡ true → IsVoid tile.now }
+    ensures void { result ≡ true → IsVoid tile.now }
+    ensures some { result ≡ false → IsVoid tile.now → ⊥ }
 {
     first_in(tile).is_none()
 }

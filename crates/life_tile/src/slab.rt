@@ -4,6 +4,7 @@ ghost use Rattle.life_bits.specs.Area.{tile_cell};
 ghost use Rattle.life_model.specs.Evolution.{next};
 ghost use Rattle.life_model.specs.Generation.{empty, from_list, insert, size};
 ghost use Rattle.life_cells.specs.Limits.{IsWithin};
+ghost use Rattle.life_tile.specs.Cells.{live_tiles};
 ghost use Rattle.life_tile.specs.Ends.{AreEnds, IsMember};
 ghost use Rattle.life_tile.specs.Slots.{slot_at, place_of, link_of, tile_of, IsReached};
 ghost use Rattle.life_tile.specs.Rims.{IsRimOf, IsStill};
@@ -53,7 +54,7 @@ pub struct Slab {
 }
 
 impl Slab {
-    ghost use Rattle.life_tile.specs.Slabs.{HasRoom, IsAlike, IsCalm, IsAppended, IsClosed, IsExtended, IsGrown, IsIdle, IsKept, IsSameBut, IsSet, IsShowing, IsSlotOf, IsTileAt, cell_of, members_of};
+    ghost use Rattle.life_tile.specs.Slabs.{HasRoom, HasTilesOf, IsAlike, IsCalm, IsCompact, IsAppended, IsClosed, IsExtended, IsGrown, IsIdle, IsKept, IsSameBut, IsSet, IsShowing, IsSlotOf, IsTileAt, cell_of, members_of};
 
     /// The slab without a live cell.
     pub fn new(alloc: Global, age: u32) -> Result<Slab, AllocError>
@@ -62,6 +63,7 @@ impl Slab {
         ensures members { IfOk result (λ slab. members_of slab ≡ empty) }
         ensures age { IfOk result (λ slab. slab.age ≡ age) }
         ensures fresh { IfOk result (λ slab. slab.fresh ≡ true) }
+        ensures one { IfOk result (λ slab. length slab.slots.items ≡ 1) }
     {
         let cur = Vec::with_capacity(alloc, FIRST_TILES)?;
         let alt = Vec::with_capacity(alloc, FIRST_TILES)?;
@@ -126,6 +128,7 @@ impl Slab {
         ensures extended { IsExtended self.old self.new }
         ensures slot { OnOk result (IsSlotOf self.new.slots.items place (length self.old.slots.items)) }
         ensures indexed { OnOk result (slot_at self.new.index place ≡ length self.old.slots.items) }
+        ensures count { OnOk result (length self.new.slots.items ≡ length self.old.slots.items + 1) }
     {
         let slot = self.next_slot()?;
         let links = with_link(links_around(&self.index, place), HERE, slot);
@@ -293,6 +296,8 @@ impl Slab {
         ensures kept { IsKept self.new }
         ensures extended { IsExtended self.old self.new }
         ensures slot { IfOk result (IsSlotOf self.new.slots.items place) }
+        ensures made { IfOk result (λ slot. (k : ℕ) → length self.old.slots.items ≤ k → k < length self.new.slots.items → k ≡ slot) }
+        ensures count { OnOk result (slot_at self.old.index place ≡ 0 → length self.new.slots.items ≡ length self.old.slots.items + 1) }
     {
         let slot = slot_or_none(&self.index, place);
         if slot != 0 {
@@ -322,6 +327,7 @@ impl Slab {
         ensures fresh { OnOk result (self.new.fresh ≡ true) }
         ensures age { OnOk result (self.new.age ≡ self.old.age) }
         ensures members { OnOk result (members_of self.new ≡ insert (members_of self.old) cell) }
+        ensures compact { OnOk result (IsCompact self.old → IsCompact self.new) }
     {
         let (column, x) = split(cell.0);
         let (row, y) = split(cell.1);
@@ -349,19 +355,23 @@ impl Slab {
         ensures age { OnOk result (self.new.age ≡ self.old.age) }
         ensures tile { OnOk result (IsTileAt (members_of self.new) tile.now place) }
         ensures others { OnOk result (IsSameBut (members_of self.old) (members_of self.new) place) }
+        ensures tiles { OnOk result (HasTilesOf self.old self.new tile.now) }
+        ensures count { OnOk result (slot_at self.old.index place ≡ 0 → length self.new.slots.items ≡ length self.old.slots.items + 1) }
     {
         let slot = self.slot_for(place)?;
         self.show(slot, tile);
         Ok(())
     }
 
-    /// The slab of these cells, which may come in any order and with repeats.
+    /// The slab of these cells, which may come in any order and with repeats. It has no slot for a tile without a live cell, but
+    /// the first.
     pub fn of(alloc: Global, cells: &[(i32, i32)], age: u32) -> Result<Slab, AllocError>
         requires young { age ≤ 4194304 }
         requires within { All (IsWithin age) cells.now }
         ensures kept { IfOk result IsKept }
         ensures members { IfOk result (λ slab. members_of slab ≡ from_list cells.now) }
         ensures age { IfOk result (λ slab. slab.age ≡ age) }
+        ensures compact { IfOk result IsCompact }
     {
         let mut slab = Slab::new(alloc, age)?;
         for cell in cells {
@@ -399,13 +409,15 @@ impl Slab {
         count_cells(&self.cur)
     }
 
-    /// The same cells at the same age in a slab that has no slot for a tile without a live cell. Beside the new slab it
-    /// takes no memory.
+    /// The same cells at the same age in a slab that has no slot for a tile without a live cell, but the first: one tile more
+    /// than there are tiles with a live cell here. Beside the new slab it takes no memory.
     pub fn compacted(&self) -> Result<Slab, AllocError>
         requires { IsKept self.now }
         ensures kept { IfOk result IsKept }
         ensures members { IfOk result (λ slab. members_of slab ≡ members_of self.now) }
         ensures age { IfOk result (λ slab. slab.age ≡ self.now.age) }
+        ensures compact { IfOk result IsCompact }
+        ensures count { IfOk result (λ slab. length slab.slots.items ≡ 1 + live_tiles self.now.cur.items) }
     {
         let mut slab = Slab::new(*self.slots.allocator(), self.age)?;
         for slot in 1..self.slots.len() {

@@ -45,7 +45,7 @@ loop-place-preserved-in-Continue-1 c =
 
 pub loop-place-preserved : goal.loop-place-preserved
 loop-place-preserved c =
-    let void : IsVoid (tile_of c.args.tiles.now c.in-Some.slot.now) = subst (λ (t : Tile). IsVoid t) c.tile_in.ensures (c.is_void.ensures c.if-not-is_void.false) in
+    let void : IsVoid (tile_of c.args.tiles.now c.in-Some.slot.now) = subst (λ (t : Tile). IsVoid t) c.tile_in.ensures (c.is_void.ensures.void c.if-not-is_void.false) in
     record {
       next_is = search rules;
       inside = all_rest (λ e. IsInside e.0) _ _ _ c.in-Some.ensures.steps c.loop-place.invariant.inside;

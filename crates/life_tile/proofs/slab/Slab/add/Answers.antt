@@ -102,3 +102,6 @@ returns-clause-extended c = added_extended c.args.self.now _ c.args.place c.with
 
 pub returns-clause-slot : goal.returns-clause-slot
 returns-clause-slot c = added_slot c.args.self.now _ c.args.place c.with_link-links.result c.requires.kept.whole c.requires.absent (added c)
+
+pub returns-clause-count : goal.returns-clause-count
+returns-clause-count c = (added c).count ∙ length-append c.args.self.now.slots.items (record { place = c.args.place; links = c.with_link-links.result } ∷ [])

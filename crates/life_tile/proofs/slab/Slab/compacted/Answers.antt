@@ -1,12 +1,16 @@
-use Rattle.std.proofs.Common.{◌≡◌, ℕ, ℤ, ◌+◌, subst, sym, ap, ◌∙◌, arith}
+use Rattle.std.proofs.Common.{◌≡◌, ℕ, ℤ, ◌+◌, ◌<◌, ⊎_elim, List, [], length, take, count_by, subst, sym, ap, ◌∙◌, arith}
+use Rattle.std.proofs.lemmas.List.{take_all}
+use Rattle.std.proofs.lemmas.List.Sums.{count_by_more_no, count_by_more_yes}
 use Rattle.life_bits.specs.declared.tile.Tile.{Tile}
 use Rattle.life_bits.specs.Area.{tile_cell}
 use Rattle.life_cells.specs.Limits.{IsWithin}
 use Rattle.life_tile.specs.declared.slab.Slab.{Slab}
 use Rattle.life_tile.specs.Ends.{IsVoid}
-use Rattle.life_tile.specs.Slots.{place_of, tile_of}
-use Rattle.life_tile.specs.Slabs.{IsTileAt, IsSameBut, cell_of, members_of}
+use Rattle.life_tile.specs.Cells.{has_cell, live_tiles}
+use Rattle.life_tile.specs.Slots.{place_of, slot_at, tile_of}
+use Rattle.life_tile.specs.Slabs.{IsCompact, IsTileAt, IsSameBut, cell_of, members_of}
 use Rattle.life_tile.proofs.Copied.{IsCopying, copied_none, copied_void, copied_more, copied_all, within_slot}
+use Rattle.life_tile.proofs.Tallied.{absent_yet, compact_one, empty_is_void, live_tile, void_tile}
 use Rattle.life_tile.proofs.slab.Slab.compacted.Goals as goal
 use Rattle.life_tile.proofs.slab.Slab.compacted.Goals.{then-not-is_void+in_ok-put_tile, else-not-is_void}
 
@@ -18,6 +22,15 @@ loop-slot-init c = record {
     age = c.in_ok-slab.ensures.age;
     cells = copied_none c.args.self.now c.requires (members_of c.in_ok-slab.slab) c.in_ok-slab.ensures.members;
   };
+  compact = compact_one c.in_ok-slab.slab c.in_ok-slab.ensures.one;
+  count =
+      let one : length c.in_ok-slab.slab.slots.items ≡ 1 = c.in_ok-slab.ensures.one in
+      let some : 0 < length c.args.self.now.slots.items = c.requires.whole.indexed.some in
+      let same : length c.args.self.now.cur.items ≡ length c.args.self.now.slots.items = c.requires.whole.cur_length in
+      let inside : 0 < length c.args.self.now.cur.items = omega arith in
+      let none : count_by has_cell (take (0 + 1) c.args.self.now.cur.items) ≡ count_by has_cell (take 0 c.args.self.now.cur.items) =
+      count_by_more_no has_cell c.args.self.now.cur.items 0 (record { rows = [] }) inside (void_tile _ (empty_is_void _ c.requires.whole.cur_none)) in
+      one ∙ ap (λ (n : ℕ). 1 + n) (sym none);
 }
 
 pub put_tile-requires-clause-kept : goal.put_tile-requires-clause-kept
@@ -34,6 +47,9 @@ put_tile-requires-clause-within c = λ x y wide high live.
     (subst (λ (p : ℤ × ℤ). IsWithin c.args.self.now.age (cell_of p x y)) (sym c.place.ensures)
     (within_slot c.args.self.now c.requires c.loop-slot.slot x y (omega arith) (omega arith) wide high
     (sym (ap (λ (t : Tile). tile_cell t x y) tile_is) ∙ live)))
+
+one_more : (a b m n : ℕ) → a ≡ b + 1 → b ≡ 1 + m → n ≡ m + 1 → a ≡ 1 + n
+one_more a b m n more before counted = omega arith
 
 pub loop-slot-preserved : goal.loop-slot-preserved
 loop-slot-preserved c =
@@ -65,8 +81,37 @@ loop-slot-preserved c =
               age = c.loop-slot.invariant.copying.age;
               cells =
                   copied_void c.args.self.now c.requires (members_of c.loop-slot.slab) c.loop-slot.slot c.loop-slot.invariant.copying.cells
-                  (subst IsVoid tile_is (c.is_void.ensures w.if-not-is_void.false));
+                  (subst IsVoid tile_is (c.is_void.ensures.void w.if-not-is_void.false));
             })
+      ];
+      compact = elim c.if-not-is_void.branch [
+        | then-not-is_void+in_ok-put_tile w ↦
+            subst IsCompact (sym w.slab-is)
+            (record {
+              live = λ k later inside void.
+                  ⊎_elim
+                  (λ is. c.is_void.ensures.some w.if-not-is_void.true (subst IsVoid is void))
+                  (λ old. c.loop-slot.invariant.compact.live k later old.0 (subst IsVoid old.1 void))
+                  (w.in_ok-put_tile.ensures.tiles.each k inside);
+            })
+        | else-not-is_void w ↦ subst IsCompact (sym w.slab-is) c.loop-slot.invariant.compact
+      ];
+      count = elim c.if-not-is_void.branch [
+        | then-not-is_void+in_ok-put_tile w ↦
+            let absent : slot_at c.loop-slot.slab.index w.place.result ≡ 0 =
+            subst (λ (p : ℤ × ℤ). slot_at c.loop-slot.slab.index p ≡ 0) (sym w.place.ensures)
+            (absent_yet c.args.self.now c.loop-slot.slab c.loop-slot.slot c.requires before.kept c.loop-slot.invariant.compact (omega arith) (omega arith) before.cells) in
+            subst (λ (slab : Slab). length slab.slots.items ≡ 1 + live_tiles (take (c.loop-slot.slot + 1) c.args.self.now.cur.items)) (sym w.slab-is)
+            (one_more _ _ _ _ (w.in_ok-put_tile.ensures.count absent) c.loop-slot.invariant.count
+            (count_by_more_yes has_cell c.args.self.now.cur.items c.loop-slot.slot (record { rows = [] }) (omega arith)
+            (live_tile (tile_of c.args.self.now.cur.items c.loop-slot.slot) (λ void. c.is_void.ensures.some w.if-not-is_void.true (subst IsVoid (sym tile_is) void)))))
+        | else-not-is_void w ↦
+            subst (λ (slab : Slab). length slab.slots.items ≡ 1 + live_tiles (take (c.loop-slot.slot + 1) c.args.self.now.cur.items)) (sym w.slab-is)
+            (c.loop-slot.invariant.count
+            ∙ ap (λ (n : ℕ). 1 + n)
+            (sym
+            (count_by_more_no has_cell c.args.self.now.cur.items c.loop-slot.slot (record { rows = [] }) (omega arith)
+            (void_tile (tile_of c.args.self.now.cur.items c.loop-slot.slot) (subst IsVoid tile_is (c.is_void.ensures.void w.if-not-is_void.false))))))
       ];
     }
 
@@ -78,3 +123,11 @@ returns-clause-members c = copied_all c.args.self.now c.requires (members_of c.l
 
 pub returns-clause-age : goal.returns-clause-age
 returns-clause-age c = c.loop-slot.invariant.copying.age
+
+pub returns-clause-compact : goal.returns-clause-compact
+returns-clause-compact c = c.loop-slot.invariant.compact
+
+pub returns-clause-count : goal.returns-clause-count
+returns-clause-count c =
+    let same : length c.args.self.now.cur.items ≡ length c.args.self.now.slots.items = c.requires.whole.cur_length in
+    c.loop-slot.invariant.count ∙ ap (λ (ts : List Tile). 1 + live_tiles ts) (take_all c.loop-slot.slot c.args.self.now.cur.items (omega arith))

@@ -1,4 +1,4 @@
-use Rattle.std.proofs.Common.{◌≡◌, ℕ, ◌≤◌, pos, true, List, [], ◌∷◌, ◌++◌, sym, subst, ap, ◌∙◌}
+use Rattle.std.proofs.Common.{◌≡◌, ℕ, ◌≤◌, pos, true, List, [], ◌∷◌, ◌++◌, length, sym, subst, ap, ◌∙◌}
 use Rattle.std.specs.BTreeMap.{IsOrdered}
 use Rattle.life_bits.specs.declared.tile.Tile.{Tile}
 use Rattle.life_tile.specs.Places.{place_cmp}
@@ -48,3 +48,6 @@ returns-clause-kept c = kept_new c.append.new.self first (none c) (ordered c) (s
 
 pub returns-clause-members : goal.returns-clause-members
 returns-clause-members c = members_new c.append.new.self first (none c) (ordered c) (slots c) (cur c) (alt c) (todo c) (marks c) (young c) (fresh c)
+
+pub returns-clause-one : goal.returns-clause-one
+returns-clause-one c = ap (λ (ss : List Slot). length ss) (slots c)

@@ -4,10 +4,17 @@ use Rattle.life_model.specs.Generation.{from_list}
 use Rattle.life_cells.specs.Limits.{IsWithin}
 use Rattle.life_tile.proofs.Inserted.{list_more}
 use Rattle.life_tile.specs.Slabs.{members_of}
+use Rattle.life_tile.proofs.Tallied.{compact_one}
 use Rattle.life_tile.proofs.slab.Slab.of.Goals as goal
 
 pub loop-cell-init : goal.loop-cell-init
-loop-cell-init c = record { kept = c.in_ok-slab.ensures.kept; fresh = c.in_ok-slab.ensures.fresh; age = c.in_ok-slab.ensures.age; members = c.in_ok-slab.ensures.members }
+loop-cell-init c = record {
+  kept = c.in_ok-slab.ensures.kept;
+  fresh = c.in_ok-slab.ensures.fresh;
+  age = c.in_ok-slab.ensures.age;
+  members = c.in_ok-slab.ensures.members;
+  compact = compact_one c.in_ok-slab.slab c.in_ok-slab.ensures.one;
+}
 
 pub put-requires-clause-kept : goal.put-requires-clause-kept
 put-requires-clause-kept c = c.loop-cell.invariant.kept
@@ -29,6 +36,7 @@ loop-cell-preserved c =
       age = c.in_ok-put.ensures.age ∙ c.loop-cell.invariant.age;
       members = list_more c.args.cells.now c.loop-cell.cell-index (pos 0, pos 0) (get_or c.args.cells.now c.loop-cell.cell-index (pos 0, pos 0))
           (members_of c.loop-cell.slab) (members_of c.put.new.self) inside c.loop-cell.invariant.members c.in_ok-put.ensures.members refl;
+      compact = c.in_ok-put.ensures.compact c.loop-cell.invariant.compact;
     }
 
 pub returns-clause-kept : goal.returns-clause-kept
@@ -41,3 +49,6 @@ returns-clause-members c =
 
 pub returns-clause-age : goal.returns-clause-age
 returns-clause-age c = c.loop-cell.invariant.age
+
+pub returns-clause-compact : goal.returns-clause-compact
+returns-clause-compact c = c.loop-cell.invariant.compact

@@ -1,7 +1,11 @@
 use Rattle.std.proofs.lemmas.Int.{ints}
-use Rattle.std.proofs.Common.{◌≡◌, ◌≢◌, ℕ, ℤ, pos, ◌+ℤ◌, w32, to_z, of_z, ◌<◌, true, sym, subst, ap, ◌∙◌, arith}
+use Rattle.std.proofs.Common.{◌≡◌, ◌≢◌, ℕ, ℤ, pos, ◌+ℤ◌, w32, to_z, of_z, ◌<◌, ⊎_elim, true, length, sym, subst, ap, ◌∙◌, arith}
+use Rattle.std.proofs.lemmas.Bool.{cases_eq, cases_lt}
+use Rattle.life_bits.specs.Area.{tile_cell}
 use Rattle.life_model.specs.Generation.{Generation, insert}
 use Rattle.life_cells.specs.Limits.{IsWithin}
+use Rattle.life_tile.specs.declared.slab.Slab.{Slab}
+use Rattle.life_tile.specs.Ends.{IsVoid}
 use Rattle.life_tile.specs.Places.{start_at}
 use Rattle.life_tile.specs.Slots.{tile_of, empty_tile}
 use Rattle.life_tile.specs.Slabs.{IsKept, IsSlotOf, members_of}
@@ -56,3 +60,24 @@ returns-clause-members c =
     c.set.ensures.count c.set.ensures.here c.set.ensures.others (none c)
     ∙ ap (λ (G : Generation). insert G c.args.cell)
     (members_extended c.args.self.now c.slot_for.new.self c.requires.kept.whole c.slot_for.ensures.kept.whole c.slot_for.ensures.extended)
+
+pub returns-clause-compact : goal.returns-clause-compact
+returns-clause-compact c = λ before.
+    let count : length c.set.new.self.slots.items ≡ length c.slot_for.new.self.slots.items = ap (λ (s : Slab). length s.slots.items) c.set.ensures.same in
+    record {
+      live = λ k later inside void.
+          ⊎_elim
+          (λ (same : k ≡ c.in_ok-slot.slot).
+          let alive : tile_cell (tile_of c.set.new.self.cur.items k) c.split-column.result.1 c.split-row.result.1 ≡ 1 =
+          ap (λ (n : ℕ). tile_cell (tile_of c.set.new.self.cur.items n) c.split-column.result.1 c.split-row.result.1) same ∙ c.set.ensures.here in
+          let dead : tile_cell (tile_of c.set.new.self.cur.items k) c.split-column.result.1 c.split-row.result.1 ≡ 0 =
+          void.dead c.split-column.result.1 c.split-row.result.1 c.split-column.ensures.small c.split-row.ensures.small in
+          absurd (omega arith))
+          (λ (other : k ≢ c.in_ok-slot.slot).
+          ⊎_elim
+          (λ (less : k < length c.args.self.now.slots.items).
+          before.live k later less (subst IsVoid (c.set.ensures.apart k other ∙ c.slot_for.ensures.extended.cur k less) void))
+          (λ past. absurd (other (c.in_ok-slot.ensures.made k past (omega arith))))
+          (cases_lt k (length c.args.self.now.slots.items)))
+          (cases_eq k c.in_ok-slot.slot);
+    }

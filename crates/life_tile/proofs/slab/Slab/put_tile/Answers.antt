@@ -1,7 +1,10 @@
-use Rattle.std.proofs.Common.{◌≡◌, ℕ, ◌<◌, true, subst, sym, ap, ◌∙◌}
+use Rattle.std.proofs.Common.{◌≡◌, ◌≢◌, ℕ, ◌<◌, inl, inr, ⊎_elim, true, length, subst, sym, ap, ◌∙◌, arith}
+use Rattle.std.proofs.lemmas.Bool.{cases_eq, cases_lt}
 use Rattle.life_bits.specs.Area.{tile_cell}
 use Rattle.life_model.specs.Generation.{Generation}
 use Rattle.life_cells.specs.Limits.{IsWithin}
+use Rattle.life_tile.specs.declared.slab.Slab.{Slab}
+use Rattle.life_tile.specs.Slots.{tile_of}
 use Rattle.life_tile.specs.Slabs.{IsKept, IsSameBut, IsTileAt, cell_of, members_of}
 use Rattle.life_tile.proofs.Kept.{members_extended}
 use Rattle.life_tile.proofs.Copied.{kept_shown, tile_at, same_but}
@@ -33,3 +36,21 @@ returns-clause-others c =
     (subst (λ (G : Generation). IsSameBut (members_of c.slot_for.new.self) G c.args.place) (sym (ap members_of c.show.ensures.same))
     (same_but c.slot_for.new.self c.show.new.self c.in_ok-slot.slot c.args.tile.now c.args.place c.slot_for.ensures.kept (fresh c) c.in_ok-slot.ensures.slot
     c.show.ensures.count c.show.ensures.apart c.show.ensures.here (within c)))
+
+pub returns-clause-tiles : goal.returns-clause-tiles
+returns-clause-tiles c =
+    let count : length c.show.new.self.slots.items ≡ length c.slot_for.new.self.slots.items = ap (λ (s : Slab). length s.slots.items) c.show.ensures.same in
+    record {
+      each = λ k inside.
+          ⊎_elim
+          (λ (same : k ≡ c.in_ok-slot.slot). inl (ap (tile_of c.show.new.self.cur.items) same ∙ c.show.ensures.here))
+          (λ (other : k ≢ c.in_ok-slot.slot).
+          ⊎_elim
+          (λ (less : k < length c.args.self.now.slots.items). inr (less, c.show.ensures.apart k other ∙ c.slot_for.ensures.extended.cur k less))
+          (λ past. absurd (other (c.in_ok-slot.ensures.made k past (omega arith))))
+          (cases_lt k (length c.args.self.now.slots.items)))
+          (cases_eq k c.in_ok-slot.slot);
+    }
+
+pub returns-clause-count : goal.returns-clause-count
+returns-clause-count c = λ absent. ap (λ (s : Slab). length s.slots.items) c.show.ensures.same ∙ c.in_ok-slot.ensures.count absent

@@ -1,0 +1,80 @@
+-- How many tiles have a live cell, and that a slab which has no other tiles has no slot yet for a place that isn't copied.
+use Rattle.std.proofs.Common.{◌≡◌, ℕ, zero, suc, ℤ, pos, ◌+ℤ◌, ◌<◌, ◌≤◌, ◌==◌, ⊎_elim, true, false, cond, List, [], ◌∷◌, ◌++◌, length, nat_lt, slice_index, refl, sym, subst, ap, ◌∙◌, arith, true≢false}
+use Rattle.std.specs.Int.{bit_at}
+use Rattle.std.proofs.lemmas.Nat.Bits.{bit_at-lt}
+use Rattle.life_model.specs.Cell.{Cell}
+use Rattle.life_bits.specs.declared.tile.Tile.{Tile}
+use Rattle.life_bits.specs.Area.{tile_cell}
+use Rattle.life_tile.specs.Cells.{row_cells, block_cells, has_cell}
+use Rattle.life_tile.specs.Ends.{IsVoid}
+use Rattle.life_tile.specs.declared.slab.Slab.{Slab}
+use Rattle.life_tile.specs.Slots.{slot_at, place_of, empty_tile}
+use Rattle.life_tile.specs.Slabs.{IsCompact, IsKept, IsSlotOf, members_of}
+use Rattle.life_tile.proofs.Members.{Has, has_none, row_in, block_in}
+use Rattle.life_tile.proofs.Orders.{true_or_false}
+use Rattle.life_tile.proofs.Splits.{not_one}
+use Rattle.life_tile.proofs.Shown.{empty_cell, shown_state}
+use Rattle.life_tile.proofs.Places.{slot_cases, slot_of_place}
+use Rattle.life_tile.proofs.Copied.{IsCopied}
+
+row_dead : (left y : ℤ) (word n : ℕ) → ((x : ℕ) → x < n → bit_at word x ≡ 0) → row_cells left y word n ≡ []
+unfolding row_cells
+row_dead left y word zero dead = refl
+row_dead left y word (suc n) dead =
+    ap (λ (b : ℕ). cond (b == 1) ((left +ℤ pos n, y) ∷ row_cells left y word n) (row_cells left y word n)) (dead n (omega arith))
+    ∙ row_dead left y word n (λ x less. dead x (omega arith))
+
+block_dead : (left top : ℤ) (rows : List ℕ) (n : ℕ) → ((x y : ℕ) → x < 64 → y < n → bit_at (slice_index rows y) x ≡ 0) → block_cells left top rows n ≡ []
+unfolding block_cells
+block_dead left top rows zero dead = refl
+block_dead left top rows (suc n) dead =
+    (λ i. row_dead left (top +ℤ pos n) (slice_index rows n) 64 (λ x wide. dead x n wide (omega arith)) i
+    ++ block_dead left top rows n (λ x y wide less. dead x y wide (omega arith)) i)
+
+pub void_tile : (tile : Tile) → IsVoid tile → has_cell tile ≡ false
+void_tile tile void = ap (λ (cs : List Cell). nat_lt 0 (length cs)) (block_dead (pos 0) (pos 0) tile.rows 64 void.dead)
+
+none_of : (cs : List Cell) → nat_lt 0 (length cs) ≡ false → cs ≡ []
+none_of [] none = refl
+none_of (c ∷ cs) none = let some : nat_lt 0 (suc (length cs)) ≡ true = grind arith in absurd (true≢false (sym some ∙ none))
+
+pub live_tile : (tile : Tile) → (IsVoid tile → ⊥) → has_cell tile ≡ true
+live_tile tile live =
+    ⊎_elim (λ some. some)
+    (λ (lacks : has_cell tile ≡ false).
+    let none : block_cells (pos 0) (pos 0) tile.rows 64 ≡ [] = none_of (block_cells (pos 0) (pos 0) tile.rows 64) lacks in
+    absurd
+    (live
+    (record {
+      dead = λ x y wide high.
+          not_one (tile_cell tile x y) (bit_at-lt (slice_index tile.rows y) x)
+          (λ one.
+          has_none (pos 0 +ℤ pos x, pos 0 +ℤ pos y)
+          (subst (λ (cs : List Cell). Has cs (pos 0 +ℤ pos x, pos 0 +ℤ pos y)) none
+          (block_in (pos 0) (pos 0) tile.rows 64 y (pos 0 +ℤ pos x, pos 0 +ℤ pos y) high
+          (row_in (pos 0) (pos 0 +ℤ pos y) (slice_index tile.rows y) 64 x wide one))));
+    })))
+    (true_or_false (has_cell tile))
+
+pub empty_is_void : (tile : Tile) → tile ≡ empty_tile → IsVoid tile
+empty_is_void tile is = record { dead = λ x y wide high. ap (λ (t : Tile). tile_cell t x y) is ∙ empty_cell x y }
+
+pub compact_one : (slab : Slab) → length slab.slots.items ≡ 1 → IsCompact slab
+compact_one slab one = record { live = λ k later inside. absurd (omega arith) }
+
+pub absent_yet : (s slab : Slab) (n : ℕ) → IsKept s → IsKept slab → IsCompact slab → 0 < n → n < length s.slots.items → IsCopied s (members_of slab) n →
+    slot_at slab.index (place_of s.slots.items n) ≡ 0
+absent_yet s slab n kept_s kept compact later inside copied =
+    let p : ℤ × ℤ = place_of s.slots.items n in
+    let slot_is : slot_at s.index (place_of s.slots.items n) ≡ n = slot_of_place s.index s.slots.items kept_s.whole.indexed n later inside in
+    let from : n ≤ slot_at s.index (place_of s.slots.items n) = omega arith in
+    ⊎_elim (λ absent. absent)
+    (λ (there : IsSlotOf slab.slots.items (place_of s.slots.items n) (slot_at slab.index (place_of s.slots.items n))).
+    absurd
+    (compact.live (slot_at slab.index (place_of s.slots.items n)) there.later there.inside
+    (record {
+      dead = λ x y wide high.
+          sym (shown_state slab.index slab.cur.items kept.whole.indexed.ordered kept.whole.cur_none (place_of s.slots.items n).0 (place_of s.slots.items n).1 x y wide high)
+          ∙ copied.rest (place_of s.slots.items n) x y wide high from;
+    })))
+    (slot_cases slab.index slab.slots.items kept.whole.indexed (place_of s.slots.items n))
