@@ -138,16 +138,21 @@ fn tell_heading<E: Write>(name: Option<&[u8]>, spot: Spot, errors: &mut ErrorStr
     }
 }
 
+// Tells ` (WORD)`.
+fn tell_in_brackets<E: Write>(word: &[u8], errors: &mut ErrorStream<E>)
+    ensures { TellsMore (word_text (Some word.now)) errors.old errors.new }
+{
+    errors.tell_more(b" (");
+    tell_bytes(word, errors);
+    errors.tell_more(b")");
+}
+
 // Tells ` (WORD)`, where there is a word.
 fn tell_word<E: Write>(word: Option<&[u8]>, errors: &mut ErrorStream<E>)
     ensures { TellsMore (word_text (option_copied word.entry)) errors.old errors.new }
 {
     match word {
-        Some(word) => {
-            errors.tell_more(b" (");
-            tell_bytes(word, errors);
-            errors.tell_more(b")");
-        }
+        Some(word) => tell_in_brackets(word, errors),
         None => errors.tell_more(b""),
     }
 }
