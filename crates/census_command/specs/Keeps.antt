@@ -13,7 +13,7 @@ use Rattle.census_folders.specs.declared.keeping.Kept.{Kept}
 use Rattle.census_folders.specs.declared.loss.Loss.{Loss}
 use Rattle.census_command.specs.Errors.{run_error_of_folders, run_status}
 use Rattle.census_command.specs.Messages.{error_line}
-use Rattle.census_command.specs.Sayings.{refused_lines, run_line, said_if}
+use Rattle.census_command.specs.Sayings.{SaysOfReport, run_line, said_if}
 use Rattle.census_command.specs.Shelves.{Tellings}
 use Rattle.census_command.specs.Streams.{Errors, IsSound, IsUntouched, State, Tells, WriteFails}
 use Rattle.census_command.specs.declared.keeping.Gathered.{Gathered}
@@ -84,8 +84,8 @@ StopsKeeping shelf limit recursive words error = (error ≡ Memory) ⊎ HasTooMa
 
 -- # What is written and told
 
--- A report of what could be read was written, and a line was told for each loss, and then one for each `bad` line where
--- faults are explained. Nothing was read from standard input.
+-- A report of what could be read was written, and a line was told for each loss, and then the lines that are said beside the
+-- report, where faults are explained. Nothing was read from standard input.
 pub record KeepsWhole (shelf : Tellings) (limit : Option ℕ) (recursive : Bool) (words : List (List ℕ)) (question : Question) (explain : Bool) (status : ℕ)
     (before after : State) (old new : Errors) : Type 0 where
   pub bundle : List Folder
@@ -94,7 +94,9 @@ pub record KeepsWhole (shelf : Tellings) (limit : Option ℕ) (recursive : Bool)
   pub report : WritesReport before.written after.written bundle question
   pub unread : after.unread ≡ before.unread
   pub sound : IsSound after
-  pub told : Tells (lost_lines lost ++ refused_lines explain bundle) old new
+  pub lines : List ℕ
+  pub said : SaysOfReport shelf.listed true explain bundle lines
+  pub told : Tells (lost_lines lost ++ lines) old new
   pub status_is : status ≡ kept_status lost
 
 -- out of memory, or standard output has failed

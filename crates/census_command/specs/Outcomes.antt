@@ -55,8 +55,8 @@ pub record AreExplained (words : List (List ℕ)) (errors : Errors) (explain : B
 
 -- # What is done
 
--- The words ask for something, and it was done. What was refused on the way was explained, where faults are explained, and
--- else nothing was told.
+-- The words ask for something, and it was done. Where faults are explained, what is said beside it was told, and else
+-- nothing.
 pub record DoesAsked (shelf : Tellings) (words : List (List ℕ)) (before after : State) (old new : Errors) : Type 0 where
   pub request : Request
   pub explain : Bool

@@ -39,7 +39,7 @@ IsDone (Table format reports) = ⊥
 IsDone (Page reports) = ⊥
 IsDone request = EndsAtFirst request
 
--- What is asked for was done, and these lines explain what was refused on the way, where faults are explained.
+-- What is asked for was done, and these lines are said beside it, where faults are explained.
 abbrev pub Does : Tellings → Request → Bool → List ℕ → State → State → Type 0
 Does shelf (Run bound workers cells input recursive keep_going folders) explain lines before after =
     Runs shelf (source_of input recursive keep_going (map (λ s. s.now) folders.items)) (question.Settles bound cells) explain lines before after

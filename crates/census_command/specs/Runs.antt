@@ -1,5 +1,5 @@
 -- What `run` reads and writes, and what each of its errors says.
-use Rattle.std.specs.Prelude.{◌≡◌, ◌⊎◌, ℕ, Bool, List, Option}
+use Rattle.std.specs.Prelude.{◌≡◌, ◌⊎◌, ℕ, Bool, true, false, List, Option}
 use Rattle.census_bundle.specs.declared.bundle.Folder.{Folder}
 use Rattle.census_crew.specs.Bytes.{ReadsFault, ReadsFolders}
 use Rattle.census_crew.specs.Writing.{WritesFront, WritesReport}
@@ -13,7 +13,7 @@ use Rattle.census_folders.specs.declared.fault.FoldersFault.TheVariants as folde
 use Rattle.census_command.specs.Advances.{ReadsTooMuch}
 use Rattle.life_answer.specs.declared.question.Question.{Question}
 use Rattle.census_command.specs.Errors.{run_error_of_folders}
-use Rattle.census_command.specs.Sayings.{refused_lines}
+use Rattle.census_command.specs.Sayings.{SaysOfReport}
 use Rattle.census_command.specs.Shelves.{Tellings}
 use Rattle.census_command.specs.Sources.{Source, Input, Folders, Trees, Kept}
 use Rattle.census_command.specs.Streams.{IsSound, IsUntouched, ReadFails, State, WriteFails, WritesNothing}
@@ -22,13 +22,13 @@ use Rattle.census_command.specs.declared.run_error.RunError.TheVariants.{Bundle,
 
 -- # Standard input
 
--- Standard input, read to its end, is the text of a bundle, and a report of that bundle was written. These lines explain
--- what it tells as `bad`, where faults are explained.
-pub record ReportsInput (question : Question) (explain : Bool) (lines : List ℕ) (before after : State) : Type 0 where
+-- Standard input, read to its end, is the text of a bundle, and a report of that bundle was written. These lines are said
+-- beside it, where faults are explained.
+pub record ReportsInput (shelf : Tellings) (question : Question) (explain : Bool) (lines : List ℕ) (before after : State) : Type 0 where
   pub bundle : List Folder
   pub read : ReadsFolders before.unread after.unread bundle
   pub report : WritesReport before.written after.written bundle question
-  pub lines_are : lines ≡ refused_lines explain bundle
+  pub said : SaysOfReport shelf.listed false explain bundle lines
 
 -- as far as the writer took it
 pub record ReportsInputInPart (question : Question) (before after : State) : Type 0 where
@@ -49,8 +49,8 @@ InputFails Write question before after = ReportsInputInPart question before afte
 -- # Folders
 
 -- There is a folder for each word, named so, in the order of the words, as the shelf tells, their files have no more bytes
--- than there may be, and a report of these folders was written. Nothing was read from standard input. These lines explain what the report tells as `bad`, where faults are
--- explained.
+-- than there may be, and a report of these folders was written. Nothing was read from standard input. These lines are said
+-- beside the report, where faults are explained.
 pub record ReportsFolders (shelf : Tellings) (limit : Option ℕ) (words : List (List ℕ)) (question : Question) (explain : Bool) (lines : List ℕ)
     (before after : State) : Type 0 where
   pub bundle : List Folder
@@ -58,7 +58,7 @@ pub record ReportsFolders (shelf : Tellings) (limit : Option ℕ) (words : List 
   pub told : HoldsShelf shelf.listed shelf.held words bundle
   pub within : Fits limit (bytes_of_all bundle)
   pub report : WritesReport before.written after.written bundle question
-  pub lines_are : lines ≡ refused_lines explain bundle
+  pub said : SaysOfReport shelf.listed true explain bundle lines
   pub unread : after.unread ≡ before.unread
 
 -- as far as the writer took it
@@ -119,9 +119,9 @@ TreesFail error shelf limit words question before after =
 
 -- # Each
 
--- A report of what comes from there was written, and these lines explain what it tells as `bad`, where faults are explained.
+-- A report of what comes from there was written, and these lines are said beside it, where faults are explained.
 abbrev pub Runs : Tellings → Source → Question → Bool → List ℕ → State → State → Type 0
-Runs shelf Input question explain lines before after = ReportsInput question explain lines before after
+Runs shelf Input question explain lines before after = ReportsInput shelf question explain lines before after
 Runs shelf (Folders limit words) question explain lines before after = ReportsFolders shelf limit words question explain lines before after
 Runs shelf (Trees limit words) question explain lines before after = ReportsTrees shelf limit words question explain lines before after
 Runs shelf (Kept limit recursive words) question explain lines before after = ⊥

@@ -1,5 +1,5 @@
 -- What is said of an error besides its line, where faults are explained.
-use Rattle.std.specs.Prelude.{◌≡◌, ℕ, ◌-◌, Bool, true, false, List, [], Option, Some, None, map, option_map, slice_get}
+use Rattle.std.specs.Prelude.{◌≡◌, ℕ, ◌-◌, Bool, true, false, List, [], ◌++◌, Option, None, option_map, slice_get, MatchBool}
 use Rattle.std.specs.Option.{option_copied, option_or}
 use Rattle.census_bundle.specs.declared.bundle.AddFault.TheVariants as add
 use Rattle.census_bundle.specs.declared.bundle.Folder.{Folder}
@@ -11,6 +11,8 @@ use Rattle.census_faults.specs.declared.fault.Fault.{Fault}
 use Rattle.census_faults.specs.declared.fault.Fault.TheVariants as fault
 use Rattle.census_faults.specs.declared.spot.Spot.{Spot}
 use Rattle.census_faults.specs.declared.spot.Spot.TheVariants.{Nowhere, Line}
+use Rattle.census_folders.specs.Told.{Told}
+use Rattle.census_hints.specs.Hints.{Hints}
 use Rattle.census_reports.specs.declared.error.ReportsError.{ReportsError}
 use Rattle.census_reports.specs.declared.error.ReportsError.TheVariants as reports
 use Rattle.census_words.specs.declared.request.Request.{Request}
@@ -166,7 +168,13 @@ line_said request error place = explained_at (fault_said request error) (name_sa
 
 -- # Of a bundle
 
--- the lines that explain what a report of it tells as `bad`, where faults are explained
-abbrev pub refused_lines : Bool → List Folder → List ℕ
-refused_lines true bundle = refusal_lines bundle
-refused_lines false bundle = []
+-- The lines that explain what a report of it tells as `bad`, and then those that hint at what may have been overlooked in it. Where it
+-- was read from folders, these are what they list, as far as the shelf tells.
+pub record SaysBesideReport (listed : List ℕ → Told) (from_folders : Bool) (bundle : List Folder) (lines : List ℕ) : Type 0 where
+  pub hints : List ℕ
+  pub hinted : Hints listed from_folders bundle hints
+  pub lines_are : lines ≡ refusal_lines bundle ++ hints
+
+-- where faults are explained, and else nothing
+abbrev pub SaysOfReport : (List ℕ → Told) → Bool → Bool → List Folder → List ℕ → Type 0
+SaysOfReport listed from_folders explain bundle lines = MatchBool explain (SaysBesideReport listed from_folders bundle lines) (lines ≡ [])

@@ -116,7 +116,7 @@ fn kept_of<'r, 'a>(request: &'r Request<'a>) -> Option<KeptCensus<'r, 'a>>
 }
 
 // Does what is asked for, which is neither to tell what patterns are nor to make something of reports, and ends at the
-// first thing that can't be read. It gives the lines that explain what was refused on the way, where faults are explained.
+// first thing that can't be read. It gives the lines that are said beside what was written, where faults are explained.
 fn execute<S: Shelf, I: Read, O: Write, G: Gate, R: Threads + Wait + Sync>(
     rt: &R,
     shelf: &S,
@@ -272,7 +272,8 @@ pub fn answer<I: Read, O: Write, E: Write>(
 /// Where the status is 0, nothing is written to `errors`. Else the error's one line is, or for status 2 clap's own text:
 /// whole where `errors` does not fail, else a prefix of it. With `--explain`, and where `errors` is a terminal, one more line
 /// follows the error's, which says where the fault is, what is wrong and what would be right; and after a report there is
-/// such a line for each pattern that it tells as `bad`.
+/// such a line for each pattern that it tells as `bad`, and then one for each whose text may hold the next pattern, and one
+/// with how many collections are empty and how many names were passed over that look like those of patterns.
 ///
 /// With `--no-progress` the gate isn't told how many patterns a run has, nor that it has ended.
 pub fn dispatch<S: Shelf, I: Read, O: Write, E: Write, G: Gate, R: Threads + Wait + Sync>(

@@ -134,7 +134,8 @@ fn status_of_kept(lines: &[u8]) -> u8
 /// - 4: the report was written, and something was lost; or standard output has failed, and a prefix of it was written.
 ///
 /// After status 1, and after a prefix or nothing at 3 and 4, the error's line was told too, and one more where faults are
-/// explained. After a whole report that are the lines that explain what it tells as `bad`.
+/// explained. After a whole report those are the lines that explain what it tells as `bad`, and the hints at what may have
+/// been overlooked in the folders.
 pub fn keep_going<S: Shelf, I: Read, O: Write, E: Write, G: Gate, R: Threads + Wait + Sync>(
     rt: &R,
     shelf: &S,
@@ -168,8 +169,10 @@ pub fn keep_going<S: Shelf, I: Read, O: Write, E: Write, G: Gate, R: Threads + W
     let bundle = &gathered.bundle;
     match report(
         rt,
+        shelf,
         alloc,
         bundle,
+        true,
         question,
         workers,
         explain,

@@ -1,16 +1,18 @@
-//! The report of a bundle, and the lines that explain it.
+//! The report of a bundle, and the lines that are said beside it.
 ghost use Rattle.std.specs.Prelude.{◌≡◌, ◌≤◌, false, IfOk, MatchResult};
 ghost use Rattle.life_answer.specs.Questions.{IsAnswered};
 ghost use Rattle.watched.specs.Watching.{has_failed, inner_of};
 ghost use Rattle.census_crew.specs.Faults.{FitsFault};
 ghost use Rattle.census_crew.specs.Writing.{WritesFront, WritesReport};
-ghost use Rattle.census_command.specs.Sayings.{refused_lines};
+ghost use Rattle.census_command.specs.Sayings.{SaysBesideReport, SaysOfReport};
 
 use census_bundle::bundle::Bundle;
 use census_crew::fault::RunFault;
 use census_crew::gate::Gate;
 use census_crew::run::run;
 use census_faults::refusals::refusal_lines;
+use census_folders::shelf::Shelf;
+use census_hints::hint_lines;
 use life_answer::question::Question;
 use std::alloc::{AllocError, Global};
 use std::io::Write;
@@ -18,23 +20,49 @@ use std::sync::Wait;
 use std::thread::Threads;
 use watched::watched::Watched;
 
-// The lines that explain what a report of a bundle tells as `bad`, where faults are explained, and else nothing.
-fn refused_lines(alloc: Global, bundle: &Bundle, explain: bool) -> Result<Vec<u8>, AllocError>
-    ensures { IfOk result (λ lines. lines.items ≡ refused_lines explain bundle.now) }
+// The lines that are said beside a report of a bundle: those that explain what it tells as `bad`, and then the hints at what
+// may have been overlooked in the bundle.
+fn lines_beside<S: Shelf>(
+    shelf: &S,
+    alloc: Global,
+    bundle: &Bundle,
+    from_folders: bool,
+) -> Result<Vec<u8>, AllocError>
+    ensures { IfOk result (λ lines. SaysBesideReport (S.listed shelf.now) from_folders bundle.now lines.items) }
+{
+    let mut lines = refusal_lines(alloc, bundle)?;
+    let hints = hint_lines(shelf, alloc, bundle, from_folders)?;
+    lines.extend_from_slice(hints.as_slice())?;
+    Ok(lines)
+}
+
+// The same where faults are explained, and else nothing.
+fn lines_of<S: Shelf>(
+    shelf: &S,
+    alloc: Global,
+    bundle: &Bundle,
+    from_folders: bool,
+    explain: bool,
+) -> Result<Vec<u8>, AllocError>
+    ensures { IfOk result (λ lines. SaysOfReport (S.listed shelf.now) from_folders explain bundle.now lines.items) }
 {
     if explain {
-        refusal_lines(alloc, bundle)
+        lines_beside(shelf, alloc, bundle, from_folders)
     } else {
         Ok(Vec::new(alloc))
     }
 }
 
-/// Writes the report of a bundle as `run` does, and gives the lines that explain what it tells as `bad`, where faults are
-/// explained. Where memory is refused for these, the whole report was written.
-pub fn report<G: Gate, W: Write, R: Threads + Wait + Sync>(
+/// Writes the report of a bundle as `run` does, and gives the lines that are said beside it, where faults are explained:
+/// those that explain what it tells as `bad`, and the hints at what may have been overlooked in the bundle. Only where that
+/// was read from folders is the shelf asked what these list. Where memory is refused for these lines, the whole report was
+/// written.
+pub fn report<S: Shelf, G: Gate, W: Write, R: Threads + Wait + Sync>(
     rt: &R,
+    shelf: &S,
     alloc: Global,
     bundle: &Bundle,
+    from_folders: bool,
     question: Question,
     workers: u32,
     explain: bool,
@@ -48,10 +76,10 @@ pub fn report<G: Gate, W: Write, R: Threads + Wait + Sync>(
     ensures report { MatchResult result
         (λ _. WritesReport (W.contents (inner_of out.old)) (W.contents (inner_of out.new)) bundle.now question)
         (λ _. WritesFront (W.contents (inner_of out.old)) (W.contents (inner_of out.new)) bundle.now question) }
-    ensures lines { IfOk result (λ lines. lines.items ≡ refused_lines explain bundle.now) }
+    ensures lines { IfOk result (λ lines. SaysOfReport (S.listed shelf.now) from_folders explain bundle.now lines.items) }
 {
     run(rt, alloc, bundle, question, workers, gate, out)?;
-    match refused_lines(alloc, bundle, explain) {
+    match lines_of(shelf, alloc, bundle, from_folders, explain) {
         Ok(lines) => Ok(lines),
         Err(_) => Err(RunFault::Memory),
     }

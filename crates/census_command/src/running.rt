@@ -50,8 +50,9 @@ fn read_input<I: Read>(alloc: Global, input: &mut Watched<I>) -> Result<Bundle, 
 }
 
 // Reads a bundle to the reader's end and writes its report.
-fn run_input<I: Read, O: Write, G: Gate, R: Threads + Wait + Sync>(
+fn run_input<S: Shelf, I: Read, O: Write, G: Gate, R: Threads + Wait + Sync>(
     rt: &R,
+    shelf: &S,
     alloc: Global,
     question: Question,
     workers: u32,
@@ -62,13 +63,17 @@ fn run_input<I: Read, O: Write, G: Gate, R: Threads + Wait + Sync>(
     requires question { IsAnswered question }
     requires workers { (1 ≤ workers) × (workers ≤ 16) }
     requires sound { IsSound streams.old }
-    ensures done { IfOk result (λ lines. ReportsInput question explain lines.items streams.old streams.new) }
+    ensures done { IfOk result
+        (λ lines. ReportsInput (tellings (S.listed shelf.now) (S.inner shelf.now) (S.held shelf.now))
+        question explain lines.items streams.old streams.new) }
     ensures sound { OnOk result (IsSound streams.new) }
     ensures fails { IfErr result (λ e. InputFails e question streams.old streams.new) }
 {
     let Streams { input, output } = streams;
     let bundle = read_input(alloc, input)?;
-    let lines = report(rt, alloc, &bundle, question, workers, explain, gate, output)?;
+    let lines = report(
+        rt, shelf, alloc, &bundle, false, question, workers, explain, gate, output,
+    )?;
     Ok(lines)
 }
 
@@ -100,8 +105,10 @@ fn run_folders<S: Shelf, I: Read, O: Write, G: Gate, R: Threads + Wait + Sync>(
     let bundle = read_folders(shelf, alloc, folders, limit)?;
     let lines = report(
         rt,
+        shelf,
         alloc,
         &bundle,
+        true,
         question,
         workers,
         explain,
@@ -159,7 +166,8 @@ fn run_trees<S: Shelf, I: Read, O: Write, G: Gate, R: Threads + Wait + Sync>(
 /// end. With words nothing is read from it. Where there is a limit, the files of the folders may have so many bytes together:
 /// the file that goes past it is too long.
 ///
-/// What is answered are the lines that explain what the report tells as `bad`, where faults are explained.
+/// What is answered are the lines that are said beside the report, where faults are explained: those that explain what it
+/// tells as `bad`, and the hints at what may have been overlooked in the collections.
 ///
 /// All is read before the first byte is written, so nothing is written where a bundle, a folder or a file is refused or
 /// can't be read. Where memory is refused or the writer fails, what was written is nothing or a prefix of a report.
@@ -189,7 +197,7 @@ pub fn run_command<S: Shelf, I: Read, O: Write, G: Gate, R: Threads + Wait + Syn
         (source_of limit recursive false (map (λ s. s.now) folders.now)) question streams.old streams.new) }
 {
     if folders.is_empty() {
-        run_input(rt, alloc, question, workers, explain, gate, streams)
+        run_input(rt, shelf, alloc, question, workers, explain, gate, streams)
     } else if recursive {
         run_trees(
             rt, shelf, alloc, question, workers, folders, limit, explain, gate, streams,

@@ -1,7 +1,7 @@
 use Rattle.std.proofs.Common.{List, ℕ, inl, inr, refl, ap, subst, ◌∙◌, ◌≡◌}
 use Rattle.census_command.specs.Keeps.{error_lines, lost_lines}
 use Rattle.census_command.specs.Messages.{error_line}
-use Rattle.census_command.specs.Sayings.{refused_lines, run_line, said_if}
+use Rattle.census_command.specs.Sayings.{run_line, said_if}
 use Rattle.census_command.specs.Streams.{Tells, TellsMore}
 use Rattle.census_command.specs.declared.error.CommandError.TheVariants as command
 use Rattle.census_command.proofs.Kept.{status_kept, told_after}
@@ -15,8 +15,9 @@ returns-in-Ok-report g c =
     let bundle = c.in-Ok.gathered.bundle in
     let lines : c.as_slice.result.now ≡ lost_lines lost = c.as_slice.ensures.value ∙ c.in-Ok.ensures.2 in
     let first : Tells (lost_lines lost) c.args.errors.now c.tell.new.self = subst (λ (l : List ℕ). Tells l c.args.errors.now c.tell.new.self) lines c.tell.ensures in
-    let more : TellsMore (refused_lines c.args.explain bundle) c.tell.new.self c.tell_more.new.self =
-    subst (λ (l : List ℕ). TellsMore l c.tell.new.self c.tell_more.new.self) (c.as_slice-in-Ok-report.ensures.value ∙ c.in-Ok-report.ensures.lines) c.tell_more.ensures in
+    let beside = c.in-Ok-report.lines.items in
+    let more : TellsMore beside c.tell.new.self c.tell_more.new.self =
+    subst (λ (l : List ℕ). TellsMore l c.tell.new.self c.tell_more.new.self) c.as_slice-in-Ok-report.ensures.value c.tell_more.ensures in
     rw (← c.streams.view_is) (inl (record {
       bundle = bundle;
       lost = lost;
@@ -24,7 +25,9 @@ returns-in-Ok-report g c =
       report = c.in-Ok-report.ensures.report;
       unread = refl;
       sound = record { read = ap (λ s. s.read_failed) c.streams.view_is ∙ c.requires.sound.read; write = c.in-Ok-report.ensures.failed };
-      told = told_after (lost_lines lost) (refused_lines c.args.explain bundle) c.args.errors.now c.tell.new.self c.tell_more.new.self first more;
+      lines = beside;
+      said = c.in-Ok-report.ensures.lines;
+      told = told_after (lost_lines lost) beside c.args.errors.now c.tell.new.self c.tell_more.new.self first more;
       status_is = status_kept lost c.as_slice-in-Ok-report-2.result.now c.status_of_kept.result (c.as_slice-in-Ok-report-2.ensures.value ∙ c.in-Ok.ensures.2)
           c.status_of_kept.ensures.none c.status_of_kept.ensures.some;
     }))

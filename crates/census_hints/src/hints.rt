@@ -1,0 +1,96 @@
+//! The lines that hint at what may have been overlooked.
+ghost use Rattle.std.specs.Prelude.{◌≡◌, ◌++◌, IfOk, OnOk, decimal};
+ghost use Rattle.census_hints.specs.Hints.{Hints, empty, note, passed_text, passed_text_if};
+
+use crate::passed::passed_over;
+use crate::stray::stray_lines;
+use census_bundle::bundle::Bundle;
+use census_folders::shelf::Shelf;
+use itoa::Buffer;
+use std::alloc::{AllocError, Global};
+
+// How many collections have no pattern.
+fn empty(bundle: &Bundle) -> usize
+    ensures { result ≡ empty bundle.now }
+{
+    bundle
+        .folders()
+        .iter()
+        .filter(|folder| folder.entries.as_slice().is_empty())
+        .count()
+}
+
+// Appends a number.
+fn push_number(lines: &mut Vec<u8>, number: u128) -> Result<(), AllocError>
+    ensures { OnOk result (lines.new.items ≡ lines.old.items ++ decimal number) }
+{
+    let mut buffer = Buffer::new();
+    lines.extend_from_slice(buffer.format(number).as_bytes())?;
+    Ok(())
+}
+
+// Appends how many names were passed over.
+fn push_passed(lines: &mut Vec<u8>, passed: u128) -> Result<(), AllocError>
+    ensures { OnOk result (lines.new.items ≡ lines.old.items ++ passed_text passed) }
+{
+    lines.extend_from_slice(b"; names passed over that look like patterns: ")?;
+    push_number(lines, passed)?;
+    lines.extend_from_slice(b"; the name of a pattern file must end in `.rle`")?;
+    Ok(())
+}
+
+// Appends the same of a bundle that was read from folders, and else nothing.
+fn push_passed_if(lines: &mut Vec<u8>, from_folders: bool, passed: u128) -> Result<(), AllocError>
+    ensures { OnOk result (lines.new.items ≡ lines.old.items ++ passed_text_if from_folders passed) }
+{
+    if from_folders {
+        push_passed(lines, passed)?;
+    }
+    Ok(())
+}
+
+// Appends the line that says how many collections have no pattern and how many names were passed over, where there are
+// any.
+fn push_note(
+    lines: &mut Vec<u8>,
+    from_folders: bool,
+    empty: usize,
+    passed: u128,
+) -> Result<(), AllocError>
+    ensures { OnOk result (lines.new.items ≡ lines.old.items ++ note from_folders empty passed) }
+{
+    if empty == 0 && passed == 0 {
+        return Ok(());
+    }
+    lines.extend_from_slice(b"  collections without a pattern: ")?;
+    push_number(lines, empty as u128)?;
+    push_passed_if(lines, from_folders, passed)?;
+    lines.extend_from_slice(b"\n")?;
+    Ok(())
+}
+
+/// The lines that hint at what may have been overlooked in the collections of a bundle, each after two blanks: one for
+/// each pattern in whose text `@file ` or `@folder ` stands after the first `!`, as `COLLECTION/NAME: ` and a sentence, in
+/// the order of the bundle; and one that says how many collections have no pattern and how many names were passed over
+/// that look like patterns, where there are any. These end in `.RLE`, `.rle.gz`, `.cells`, `.lif` or `.mc`. A text that is
+/// lost isn't looked at.
+///
+/// Only where the bundle was read from folders, under their names, is the shelf asked what these list, and are names told
+/// that were passed over. A folder that can't be listed has none.
+pub fn hint_lines<S: Shelf>(
+    shelf: &S,
+    alloc: Global,
+    bundle: &Bundle,
+    from_folders: bool,
+) -> Result<Vec<u8>, AllocError>
+    ensures { IfOk result (λ lines. Hints (S.listed shelf.now) from_folders bundle.now lines.items) }
+{
+    let mut lines = stray_lines(alloc, bundle)?;
+    let passed = if from_folders {
+        passed_over(shelf, alloc, bundle)?
+    } else {
+        0
+    };
+    push_note(&mut lines, from_folders, empty(bundle), passed)?;
+    Ok(lines)
+}

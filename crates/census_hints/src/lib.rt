@@ -1,0 +1,8 @@
+//! Hints at what may have been overlooked in collections, beside the lines that explain faults.
+#![tactic(auto)]
+
+mod hints;
+mod passed;
+mod stray;
+
+pub use crate::hints::hint_lines;
