@@ -5,6 +5,7 @@ use crate::bundles::{DEMO, DEMO_REPORT, SETTLES, blinkers, demo_tally};
 use census_bundle::bundle::Bundle;
 use census_bundle::reading::read_bundle;
 use census_bundle::ticket::Ticket;
+use census_crew::bytes::run_bytes;
 use census_crew::gate::{Gate, OpenGate};
 use census_crew::run::run;
 use census_crew::tally::Tally;
@@ -110,6 +111,17 @@ fn as_many_workers_as_were_asked_for_meet_at_the_gate(rt: HostRuntime) -> Result
         let gave_up = gate.gave_up.load(Ordering::SeqCst);
         assert!(rt; gave_up == 0 && gate.entered.load(Ordering::SeqCst) == 16);
     }
+    Ok(())
+}
+
+#[test]
+fn a_text_is_worked_by_as_many_as_were_asked_for(rt: HostRuntime) -> Result<(), Fail> {
+    let gate = Crowd::of(5);
+    let mut reader = Watched::new(DEMO);
+    let mut out = Watched::new(Vec::new(rt.alloc()));
+    let tally = run_bytes(&rt, rt.alloc(), &mut reader, SETTLES, 5, &gate, &mut out)?;
+    assert!(rt; tally == demo_tally(0) && out.into_inner().as_slice() == DEMO_REPORT);
+    assert!(rt; gate.gave_up.load(Ordering::SeqCst) == 0);
     Ok(())
 }
 
