@@ -1,8 +1,7 @@
 //! The program `census`: its arguments, its standard streams and its exit status.
 #![tactic(auto)]
 
-use census_command::program::program;
-use census_command::streams::{ErrorStream, Streams};
+use census_command::{ErrorStream, Streams, program};
 use census_terminal::{Announced, Screen, Shown};
 use std::io::IsTerminal;
 use std::process::ExitCode;

@@ -6,10 +6,8 @@ ghost use Rattle.life_answer.specs.Answers.{finding_of};
 ghost use Rattle.life_answer.specs.Census.{census_of};
 ghost use Rattle.census_blocks.specs.Known.{fallen, known_of, settled};
 
-use life_answer::code::Code;
-use life_answer::finding::{Answer, Finding};
-use life_answer::parts::Parts;
-use life_text::pattern::Pattern;
+use life_answer::{Answer, Code, Finding, Parts};
+use life_text::Pattern;
 use std::alloc::{AllocError, Global};
 
 /// The greatest bound within which is answered.
@@ -84,7 +82,7 @@ fn settling(
     requires meant { picture_of (reading text.now) ≡ Ok pattern.now }
     ensures { IfOk result (λ known. known ≡ settled (finding_of pattern.now.rule pattern.now.cells bound)) }
 {
-    match life_find::answer::answer(alloc, text, bound, None)? {
+    match life_find::answer(alloc, text, bound, None)? {
         Answer::Found { rule: _, finding } => Ok(settled(finding)),
         Answer::Refused(_) => Ok(None),
     }
@@ -101,7 +99,7 @@ fn falling_apart(
     requires meant { picture_of (reading text.now) ≡ Ok pattern.now }
     ensures { IfOk result (λ known. known ≡ fallen (census_of pattern.now.rule pattern.now.cells bound)) }
 {
-    match life_census::answer::answer(alloc, text, bound, None)? {
+    match life_census::answer(alloc, text, bound, None)? {
         Answer::Found { rule: _, finding } => Ok(fallen(finding)),
         Answer::Refused(_) => Ok(Known::Unresolved),
     }

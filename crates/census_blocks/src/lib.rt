@@ -1,7 +1,10 @@
 //! What is written of one pattern: a block of lines that tells what it is.
 #![tactic(auto)]
 
-pub mod block;
-pub mod known;
+mod block_text;
+mod known;
 mod lines;
 mod size;
+
+pub use block_text::{BlockText, block};
+pub use known::{BOUND_LIMIT, Known, known_of};

@@ -6,9 +6,8 @@ ghost use Rattle.census_blocks.specs.Lines.{behind, head_lines, known_lines, lin
 
 use crate::known::Known;
 use itoa::{Buffer, Integer};
-use life_answer::part::Part;
-use life_answer::parts::Parts;
-use life_cells::rule::Rule;
+use life_answer::{Part, Parts};
+use life_cells::Rule;
 use std::alloc::AllocError;
 
 // A blank and these bytes.

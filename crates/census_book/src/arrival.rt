@@ -6,9 +6,8 @@ ghost use Rattle.census_book.specs.Progress.{taken_of};
 
 use crate::done::Done;
 use crate::results::Results;
-use census_bundle::bundle::Bundle;
-use census_bundle::ticket::Ticket;
-use life_answer::question::Question;
+use census_bundle::{Bundle, Ticket};
+use life_answer::Question;
 use std::marker::Model;
 
 /// A result that is to be taken, beside those that were. It is seen as the tickets of all of them.

@@ -9,12 +9,10 @@ ghost use Rattle.census_book.specs.Reports.{closing};
 ghost use Rattle.census_book.specs.Tallying.{HasTally};
 
 use crate::lines::{push_field, push_number, push_rule};
-use census_bundle::bundle::Folder;
+use census_bundle::Folder;
 use indexmap::IndexMap;
-use life_answer::finding::{Answer, Finding};
-use life_answer::part::Part;
-use life_answer::question::Question;
-use life_cells::rule::Rule;
+use life_answer::{Answer, Finding, Part, Question};
+use life_cells::Rule;
 use std::alloc::{AllocError, Global};
 use std::hash::{Hash, Hasher};
 use std::marker::Model;

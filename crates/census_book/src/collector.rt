@@ -13,9 +13,8 @@ use crate::front::Front;
 use crate::offer::Offer;
 use crate::release::{Release, push_start, released};
 use crate::results::Results;
-use census_bundle::bundle::Bundle;
-use census_bundle::ticket::Ticket;
-use life_answer::question::Question;
+use census_bundle::{Bundle, Ticket};
+use life_answer::Question;
 use std::alloc::{AllocError, Global};
 use std::marker::Model;
 

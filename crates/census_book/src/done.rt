@@ -7,11 +7,9 @@ ghost use Rattle.census_book.specs.Soon.{IsLongWork};
 
 use crate::lines::push_head;
 use crate::parts::push_tail;
-use census_bundle::bundle::{Entry, Text};
-use census_bundle::ticket::Ticket;
-use life_answer::finding::Answer;
-use life_answer::question::Question;
-use life_find::soon::answer_soon;
+use census_bundle::{Entry, Text, Ticket};
+use life_answer::{Answer, Question};
+use life_find::answer_soon;
 use std::alloc::{AllocError, Global};
 use std::marker::Model;
 
@@ -57,10 +55,8 @@ fn find(alloc: Global, entry: &Entry, question: Question) -> Result<Answer, Allo
     }
     let text = entry.text.as_slice();
     match question {
-        Question::Settles { bound, cells } => life_find::answer::answer(alloc, text, bound, cells),
-        Question::Objects { bound, cells } => life_census::answer::answer(
-            alloc, text, bound, cells,
-        ),
+        Question::Settles { bound, cells } => life_find::answer(alloc, text, bound, cells),
+        Question::Objects { bound, cells } => life_census::answer(alloc, text, bound, cells),
     }
 }
 

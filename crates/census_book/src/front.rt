@@ -4,7 +4,7 @@ ghost use Rattle.census_bundle.specs.Sizes.{IsSmall};
 ghost use Rattle.census_bundle.specs.Tickets.{no_tickets};
 ghost use Rattle.census_book.specs.Front.{IsFront, IsNextOpen};
 
-use census_bundle::bundle::Folder;
+use census_bundle::Folder;
 use std::alloc::{AllocError, Global};
 
 /// For each collection how many of its patterns have arrived before the first that has not, and the first collection

@@ -6,11 +6,10 @@ ghost use Rattle.census_book.specs.Heads.{headed, line_head};
 ghost use Rattle.census_book.specs.Lines.{behind, end_line, finding_fields, open_line, pattern_count};
 
 use crate::parts::count_objects;
-use census_bundle::bundle::{Bundle, Entry, Folder};
-use census_bundle::ticket::Ticket;
+use census_bundle::{Bundle, Entry, Folder, Ticket};
 use itoa::{Buffer, Integer};
-use life_answer::finding::{Answer, Finding};
-use life_cells::rule::Rule;
+use life_answer::{Answer, Finding};
+use life_cells::Rule;
 use std::alloc::AllocError;
 
 /// A blank and these bytes.

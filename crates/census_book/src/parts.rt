@@ -5,9 +5,8 @@ ghost use Rattle.census_book.specs.Heads.{line_tail};
 ghost use Rattle.census_book.specs.Lines.{part_line, text_of};
 
 use crate::lines::{push_field, push_number};
-use census_bundle::ticket::Ticket;
-use life_answer::finding::{Answer, Finding};
-use life_answer::part::Part;
+use census_bundle::Ticket;
+use life_answer::{Answer, Finding, Part};
 use std::alloc::AllocError;
 
 /// How many objects these are in all.

@@ -13,10 +13,8 @@ use crate::done::Done;
 use crate::front::{Front, next_open};
 use crate::lines::{push_number, push_open, push_pattern};
 use crate::results::Results;
-use census_bundle::bundle::Folder;
-use census_bundle::ticket::Ticket;
-use life_answer::finding::Answer;
-use life_answer::question::Question;
+use census_bundle::{Folder, Ticket};
+use life_answer::{Answer, Question};
 use std::alloc::{AllocError, Global};
 
 // How many patterns of the collection have arrived before the first that has not, where these have.

@@ -7,9 +7,8 @@ ghost use Rattle.census_book.specs.Progress.{taken_of};
 use crate::done::Done;
 use crate::offer::Offer;
 use crate::slots::Slots;
-use census_bundle::bundle::{Bundle, Folder};
-use census_bundle::ticket::Ticket;
-use life_answer::question::Question;
+use census_bundle::{Bundle, Folder, Ticket};
+use life_answer::Question;
 use std::alloc::{AllocError, Global};
 use std::marker::Model;
 

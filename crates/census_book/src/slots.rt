@@ -3,8 +3,7 @@ ghost use Rattle.std.specs.Prelude.{◌≡◌, IfSome, IfNone, IfOk, None, Some,
 ghost use Rattle.census_book.specs.Slots.{empty_slots, padded, result_at, slot_at, with_result, HasSlot};
 
 use crate::done::Done;
-use census_bundle::bundle::Folder;
-use census_bundle::ticket::Ticket;
+use census_bundle::{Folder, Ticket};
 use std::alloc::{AllocError, Global};
 use std::marker::Model;
 

@@ -1,10 +1,15 @@
 //! Bundles of patterns, and the tickets that name their patterns.
 #![tactic(auto)]
 
-pub mod bundle;
-pub mod fault;
+mod bundle;
+mod fault;
 mod last;
 mod lines;
 mod names;
-pub mod reading;
-pub mod ticket;
+mod reading;
+mod ticket;
+
+pub use bundle::{AddFault, Bundle, Entries, Entry, Folder, Text};
+pub use fault::BundleFault;
+pub use reading::read_bundle;
+pub use ticket::Ticket;

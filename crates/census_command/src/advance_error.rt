@@ -1,12 +1,10 @@
 //! Why `advance` writes no text.
 
-use census_faults::fault::Fault;
-use census_faults::spot::Spot;
-use life_text::rle::RleFault;
+use census_faults::{Fault, Spot};
+use life_text::RleFault;
 use std::alloc::AllocError;
 use thiserror::Error;
-use watched::reading::ReadFault;
-use watched::watched::Failed;
+use watched::{Failed, ReadFault};
 
 /// Why `advance` did not write the whole text of a generation.
 #[derive(Clone, Copy, Debug, PartialEq, Eq, Drop, Error)]

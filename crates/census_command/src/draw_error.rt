@@ -1,10 +1,10 @@
 //! Why `draw` writes no text.
 
-use life_cells::rule::RuleFault;
-use life_shape::reader::CodeFault;
+use life_cells::RuleFault;
+use life_shape::CodeFault;
 use std::alloc::AllocError;
 use thiserror::Error;
-use watched::watched::Failed;
+use watched::Failed;
 
 /// Why `draw` did not write the whole text of a code's shape.
 #[derive(Clone, Copy, Debug, PartialEq, Eq, Drop, Error)]

@@ -5,7 +5,7 @@ ghost use Rattle.census_command.specs.Errors.{advance_status, draw_status, run_s
 use crate::advance_error::AdvanceError;
 use crate::draw_error::DrawError;
 use crate::run_error::RunError;
-use census_reports::error::ReportsError;
+use census_reports::ReportsError;
 use std::alloc::AllocError;
 use std::io;
 use std::io::ErrorKind;

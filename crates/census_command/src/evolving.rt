@@ -2,9 +2,9 @@
 ghost use Rattle.std.specs.Prelude.{◌≡◌, ◌≤◌, IfOk};
 ghost use Rattle.life_model.specs.Evolution.{generation};
 
-use life_cells::cell_list::CellList;
-use life_plane::plane::{AGE_LIMIT, Plane};
-use life_text::pattern::Pattern;
+use life_cells::CellList;
+use life_plane::{AGE_LIMIT, Plane};
+use life_text::Pattern;
 use std::alloc::{AllocError, Global};
 
 /// The live cells of a pattern after so many generations, by one kind of plane.

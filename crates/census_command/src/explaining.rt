@@ -12,11 +12,10 @@ use crate::error::CommandError;
 use crate::files::file_of;
 use crate::run_error::RunError;
 use crate::saying::Saying;
-use census_bundle::bundle::AddFault;
-use census_faults::fault::{Fault, rule_fault};
-use census_faults::spot::{Spot, spot_of_bundle, spot_of_code};
-use census_reports::error::ReportsError;
-use census_words::request::Request;
+use census_bundle::AddFault;
+use census_faults::{Fault, Spot, rule_fault, spot_of_bundle, spot_of_code};
+use census_reports::ReportsError;
+use census_words::Request;
 
 // A fault whose place is not known.
 fn nowhere<'a>(fault: Fault) -> Saying<'a>

@@ -2,7 +2,7 @@
 ghost use Rattle.std.specs.Prelude.{◌≡◌, option_map};
 ghost use Rattle.census_command.specs.Files.{file_of};
 
-use census_identify::heard::is_input;
+use census_identify::is_input;
 
 /// The file of a word: `-` is none.
 pub fn file_of<'a>(word: Option<&'a str>) -> Option<&'a str>

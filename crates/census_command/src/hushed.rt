@@ -1,6 +1,6 @@
 //! A gate that isn't told of a run where nobody wants to see how far it has come.
-use census_bundle::ticket::Ticket;
-use census_crew::gate::Gate;
+use census_bundle::Ticket;
+use census_crew::Gate;
 
 /// A gate that each worker passes, and that is told when a run begins and ends only where it isn't quiet.
 #[derive(Drop)]

@@ -1,25 +1,41 @@
 //! What the words of a command line do.
 #![tactic(auto)]
 
-pub mod advance;
-pub mod advance_error;
-pub mod dispatch;
-pub mod draw;
-pub mod draw_error;
-pub mod error;
-pub mod evolving;
+mod advance_error;
+mod advancing;
+mod dispatching;
+mod draw_error;
+mod drawing;
+mod error;
+mod evolving;
 mod explaining;
 mod files;
 mod hushed;
-pub mod keeping;
+mod keeping;
 mod lending;
-pub mod messages;
-pub mod place;
+mod messages;
+mod place;
 mod placing;
-pub mod program;
-pub mod remaking;
+mod remaking;
 mod reporting;
-pub mod run_error;
-pub mod running;
-pub mod saying;
-pub mod streams;
+mod run_error;
+mod running;
+mod saying;
+mod streams;
+mod whole_program;
+
+pub use advance_error::AdvanceError;
+pub use advancing::{INPUT_LIMIT, advance};
+pub use dispatching::{answer, dispatch, stop};
+pub use draw_error::DrawError;
+pub use drawing::draw;
+pub use error::CommandError;
+pub use evolving::evolved;
+pub use keeping::keep_going;
+pub use place::Place;
+pub use remaking::{form_of, remake};
+pub use run_error::RunError;
+pub use running::run_command;
+pub use saying::{Saying, say, say_if, stop_saying};
+pub use streams::{ErrorStream, Streams};
+pub use whole_program::program;

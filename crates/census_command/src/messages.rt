@@ -9,13 +9,12 @@ use crate::draw_error::DrawError;
 use crate::error::CommandError;
 use crate::run_error::RunError;
 use arrayvec::ArrayString;
-use census_bundle::bundle::AddFault;
-use census_bundle::fault::BundleFault;
-use census_reports::error::ReportsError;
+use census_bundle::{AddFault, BundleFault};
+use census_reports::ReportsError;
 use itoa::Buffer;
-use life_cells::rule::RuleFault;
-use life_shape::reader::CodeFault;
-use life_text::rle::RleFault;
+use life_cells::RuleFault;
+use life_shape::CodeFault;
+use life_text::RleFault;
 
 /// The most bytes of a line.
 const LINE_LIMIT: usize = 80;

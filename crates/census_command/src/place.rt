@@ -2,7 +2,7 @@
 ghost use Rattle.std.specs.Prelude.{◌≡◌};
 ghost use Rattle.census_command.specs.Places.{nowhere};
 
-use census_bundle::bundle::Text;
+use census_bundle::Text;
 
 /// What is known of where something stands that can't be read, or is refused.
 #[derive(Drop)]

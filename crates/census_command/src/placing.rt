@@ -11,16 +11,13 @@ use crate::files::file_of;
 use crate::lending::lent;
 use crate::place::Place;
 use crate::run_error::RunError;
-use census_bundle::bundle::Text;
-use census_folders::keeping::read_folders_on;
-use census_folders::loss::Loss;
-use census_folders::shelf::Shelf;
-use census_folders::trees::{folders_below_each, folders_below_each_on};
-use census_identify::heard::{TEXT_LIMIT, is_input, read_file};
-use census_reports::error::ReportsError;
-use census_words::request::Request;
+use census_bundle::Text;
+use census_folders::{Loss, Shelf, folders_below_each, folders_below_each_on, read_folders_on};
+use census_identify::{TEXT_LIMIT, is_input, read_file};
+use census_reports::ReportsError;
+use census_words::Request;
 use std::alloc::Global;
-use watched::reading::ReadFault;
+use watched::ReadFault;
 
 // The path of the first loss, if anything was lost.
 fn first_path(alloc: Global, lost: &[Loss]) -> Option<Text>

@@ -9,12 +9,10 @@ use crate::explaining::reports_saying;
 use crate::placing::reports_place_if;
 use crate::saying::stop_saying;
 use crate::streams::{ErrorStream, Streams};
-use census_folders::shelf::Shelf;
-use census_reports::error::ReportsError;
-use census_reports::form::Form;
-use census_reports::reports::write_reports;
-use census_words::request::TableFormat;
-use lawful_merge::merge::merge_reports;
+use census_folders::Shelf;
+use census_reports::{Form, ReportsError, write_reports};
+use census_words::TableFormat;
+use lawful_merge::merge_reports;
 use std::alloc::Global;
 use std::io::{Read, Write};
 

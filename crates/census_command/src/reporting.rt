@@ -6,19 +6,17 @@ ghost use Rattle.census_crew.specs.Faults.{FitsFault};
 ghost use Rattle.census_crew.specs.Writing.{WritesFront, WritesReport};
 ghost use Rattle.census_command.specs.Sayings.{SaysBesideReport, SaysOfReport};
 
-use census_bundle::bundle::Bundle;
-use census_crew::fault::RunFault;
-use census_crew::gate::Gate;
-use census_crew::run::run;
-use census_faults::refusals::refusal_lines;
-use census_folders::shelf::Shelf;
+use census_bundle::Bundle;
+use census_crew::{Gate, RunFault, run};
+use census_faults::refusal_lines;
+use census_folders::Shelf;
 use census_hints::hint_lines;
-use life_answer::question::Question;
+use life_answer::Question;
 use std::alloc::{AllocError, Global};
 use std::io::Write;
 use std::sync::Wait;
 use std::thread::Threads;
-use watched::watched::Watched;
+use watched::Watched;
 
 // The lines that are said beside a report of a bundle: those that explain what it tells as `bad`, and then the hints at what
 // may have been overlooked in the bundle.

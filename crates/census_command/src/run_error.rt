@@ -1,10 +1,8 @@
 //! Why `run` or `objects` writes no whole report.
 
-use census_bundle::bundle::AddFault;
-use census_bundle::fault::BundleFault;
-use census_crew::bytes::BytesFault;
-use census_crew::fault::RunFault;
-use census_folders::fault::FoldersFault;
+use census_bundle::{AddFault, BundleFault};
+use census_crew::{BytesFault, RunFault};
+use census_folders::FoldersFault;
 use std::alloc::AllocError;
 use thiserror::Error;
 

@@ -10,26 +10,20 @@ ghost use Rattle.census_command.specs.Shelves.{tellings};
 ghost use Rattle.census_command.specs.Sources.{source_of};
 ghost use Rattle.census_command.specs.Streams.{IsSound};
 
-use crate::advance::INPUT_LIMIT;
+use crate::advancing::INPUT_LIMIT;
 use crate::lending::lent;
 use crate::reporting::report;
 use crate::run_error::RunError;
 use crate::streams::Streams;
-use census_bundle::bundle::Bundle;
-use census_bundle::fault::BundleFault;
-use census_bundle::reading::read_bundle;
-use census_crew::bytes::BytesFault;
-use census_crew::gate::Gate;
-use census_folders::reading::read_folders;
-use census_folders::shelf::Shelf;
-use census_folders::trees::folders_below_each;
-use life_answer::question::Question;
+use census_bundle::{Bundle, BundleFault, read_bundle};
+use census_crew::{BytesFault, Gate};
+use census_folders::{Shelf, folders_below_each, read_folders};
+use life_answer::Question;
 use std::alloc::Global;
 use std::io::{Read, Write};
 use std::sync::Wait;
 use std::thread::Threads;
-use watched::reading::{ReadFault, read_all};
-use watched::watched::Watched;
+use watched::{ReadFault, Watched, read_all};
 
 // Reads a bundle up to the reader's end.
 fn read_input<I: Read>(alloc: Global, input: &mut Watched<I>) -> Result<Bundle, BytesFault>

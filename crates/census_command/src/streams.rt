@@ -5,8 +5,7 @@ ghost use Rattle.census_command.specs.Streams.{Errors, State, Tells, TellsMore};
 
 use std::io::{Read, Write};
 use std::marker::Model;
-use watched::watched::Watched;
-use watched::writing::put_all;
+use watched::{Watched, put_all};
 
 /// Standard input and standard output. A clause sees what is left to read, what was written, and which of the two has
 /// failed.

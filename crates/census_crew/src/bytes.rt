@@ -7,19 +7,16 @@ ghost use Rattle.census_crew.specs.declared.bytes.BytesFault.{BytesFault};
 
 use crate::fault::RunFault;
 use crate::gate::Gate;
-use crate::run::run;
+use crate::running::run;
 use crate::tally::Tally;
-use census_bundle::bundle::Bundle;
-use census_bundle::fault::BundleFault;
-use census_bundle::reading::read_bundle;
-use life_answer::question::Question;
+use census_bundle::{Bundle, BundleFault, read_bundle};
+use life_answer::Question;
 use std::alloc::Global;
 use std::io::{Read, Write};
 use std::sync::Wait;
 use std::thread::Threads;
 use thiserror::Error;
-use watched::reading::{ReadFault, read_all};
-use watched::watched::Watched;
+use watched::{ReadFault, Watched, read_all};
 
 /// Why a bundle text was not run to its end.
 #[derive(Clone, Copy, Debug, PartialEq, Eq, Drop, Error)]

@@ -9,7 +9,7 @@ use crossbeam_channel::Receiver;
 use std::alloc::Global;
 use std::io::Write;
 use std::sync::Wait;
-use watched::watched::{Failed, Watched};
+use watched::{Failed, Watched};
 
 /// What is gathered while the workers work, and where it is written.
 pub(crate) struct Collecting<'c, 'a, W> {

@@ -2,7 +2,7 @@
 
 use std::alloc::AllocError;
 use thiserror::Error;
-use watched::watched::Failed;
+use watched::Failed;
 
 /// Why a run did not write its whole report. What it wrote is a prefix of a report.
 #[derive(Clone, Copy, Debug, PartialEq, Eq, Drop, Error)]

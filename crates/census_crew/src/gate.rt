@@ -1,7 +1,7 @@
 //! What workers pass before they work.
 ghost use Rattle.std.specs.Prelude.{◌≡◌};
 
-use census_bundle::ticket::Ticket;
+use census_bundle::Ticket;
 
 /// Called by each worker with a ticket that it took, before it works. It may hold the worker.
 pub trait Gate: Sync {

@@ -11,14 +11,12 @@ ghost use Rattle.census_crew.specs.Writing.{StaysInStep, StopsInStep};
 
 use crate::tally::Tally;
 use crate::writing::flush;
-use census_book::collector::Collector;
-use census_book::done::Done;
-use census_book::offer::Offer;
-use census_bundle::bundle::Bundle;
-use life_answer::question::Question;
+use census_book::{Collector, Done, Offer};
+use census_bundle::Bundle;
+use life_answer::Question;
 use std::alloc::{AllocError, Global};
 use std::io::Write;
-use watched::watched::{Failed, Watched};
+use watched::{Failed, Watched};
 
 /// The results of a bundle that have come so far, and how many patterns are of each kind.
 #[derive(Drop)]

@@ -1,13 +1,20 @@
 //! Workers, the report that is written from their results, and the run.
 #![tactic(auto)]
 
-pub mod bytes;
+mod bytes;
 mod collecting;
-pub mod fault;
-pub mod gate;
+mod fault;
+mod gate;
 mod gathering;
-pub mod run;
-pub mod settling;
-pub mod tally;
+mod running;
+mod settling;
+mod tally;
 mod working;
 mod writing;
+
+pub use bytes::{BytesFault, run_bytes};
+pub use fault::RunFault;
+pub use gate::{Gate, OpenGate};
+pub use running::{run, run_on};
+pub use settling::settle;
+pub use tally::Tally;

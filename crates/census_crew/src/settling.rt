@@ -11,14 +11,12 @@ ghost use Rattle.census_crew.specs.Writing.{EndsInStep, StaysInStep, StopsInStep
 use crate::fault::RunFault;
 use crate::gathering::Gathering;
 use crate::tally::Tally;
-use census_book::done::Done;
-use census_book::offer::Offer;
-use census_bundle::bundle::Bundle;
-use census_bundle::ticket::Ticket;
-use life_answer::question::Question;
+use census_book::{Done, Offer};
+use census_bundle::{Bundle, Ticket};
+use life_answer::Question;
 use std::alloc::Global;
 use std::io::Write;
-use watched::watched::{Failed, Watched};
+use watched::{Failed, Watched};
 
 /// Writes the report of what is asked of the bundle's patterns to a writer that has not failed. A bound is 1 to 1,000,000
 /// generations. The results are offered in their order, and each ticket that is then missing is worked here. `Ok` says

@@ -2,7 +2,7 @@
 ghost use Rattle.std.specs.Prelude.{◌≡◌, ◌<◌, ◌^◌};
 ghost use Rattle.census_crew.specs.Tallying.{tallied, no_tally};
 
-use life_answer::finding::{Answer, Finding};
+use life_answer::{Answer, Finding};
 
 /// What a run counts.
 #[derive(Clone, Copy, Debug, PartialEq, Eq)]

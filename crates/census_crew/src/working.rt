@@ -3,12 +3,11 @@ ghost use Rattle.std.specs.Prelude.{◌≡◌, ◌≤◌};
 ghost use Rattle.life_answer.specs.Questions.{IsAnswered};
 
 use crate::gate::{Gate, Passed, pass};
-use census_book::done::Done;
-use census_bundle::bundle::Bundle;
-use census_feed::handles::Hand;
+use census_book::Done;
+use census_bundle::Bundle;
+use census_feed::Hand;
 use crossbeam_channel::{SendError, Sender};
-use life_answer::finding::{Answer, Finding};
-use life_answer::question::Question;
+use life_answer::{Answer, Finding, Question};
 use std::alloc::Global;
 use std::hint::spin_loop;
 use std::sync::{Mutex, Wait};

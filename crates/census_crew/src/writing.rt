@@ -3,10 +3,9 @@ ghost use Rattle.std.specs.Prelude.{◌≡◌, [], true, false, MatchResult};
 ghost use Rattle.watched.specs.Watching.{inner_of, has_failed};
 ghost use Rattle.census_crew.specs.Writing.{StaysInStep, StopsInStep};
 
-use census_book::collector::Collector;
+use census_book::Collector;
 use std::io::Write;
-use watched::watched::{Failed, Watched};
-use watched::writing::put_all;
+use watched::{Failed, Watched, put_all};
 
 /// Writes all that is unsent.
 pub(crate) fn flush<W: Write>(collector: &mut Collector, out: &mut Watched<W>) -> Result<(), Failed>

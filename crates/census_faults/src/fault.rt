@@ -4,13 +4,11 @@ ghost use Rattle.life_faults.specs.Sentences.{words_of};
 ghost use Rattle.census_faults.specs.Faults.{rule_fault, text_fault};
 ghost use Rattle.census_faults.specs.Sentences.{sentence_of};
 
-use census_bundle::bundle::AddFault;
-use census_bundle::fault::BundleFault;
-use life_cells::rule::RuleFault;
-use life_faults::header::rule_in_header;
-use life_faults::kinds::{RuleKind, rule_kind};
-use life_shape::reader::CodeFault;
-use life_text::rle::RleFault;
+use census_bundle::{AddFault, BundleFault};
+use life_cells::RuleFault;
+use life_faults::{RuleKind, rule_in_header, rule_kind};
+use life_shape::CodeFault;
+use life_text::RleFault;
 
 /// What can be wrong, wherever it is told.
 #[derive(Clone, Copy, Debug, PartialEq, Eq, Drop)]

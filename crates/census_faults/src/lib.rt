@@ -2,13 +2,18 @@
 //! pattern was refused.
 #![tactic(auto)]
 
-pub mod explained;
-pub mod fault;
-pub mod printed;
-pub mod refusal;
-pub mod refusals;
-pub mod sentences;
-pub mod spot;
+mod explaining;
+mod fault;
+mod printing;
+mod refusal;
+mod refusals;
+mod sentences;
+mod spot;
 
-pub use crate::fault::Fault;
-pub use crate::spot::Spot;
+pub use explaining::explained;
+pub use fault::{Fault, rule_fault, text_fault};
+pub use printing::{is_name_byte, printed, shown_names};
+pub use refusal::refusal_line;
+pub use refusals::refusal_lines;
+pub use sentences::{faults_differ, sentence};
+pub use spot::{Spot, spot_of_bundle, spot_of_code, spot_of_text};

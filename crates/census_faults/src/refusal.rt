@@ -4,9 +4,9 @@ ghost use Rattle.std.specs.Option.{option_map};
 ghost use Rattle.life_text.specs.Rle.{refusal};
 ghost use Rattle.census_faults.specs.Refusals.{refusal_line};
 
-use crate::printed::push_printed;
-use life_faults::told::sentence_line;
-use life_text::rle::{RleFault, read_rle};
+use crate::printing::push_printed;
+use life_faults::sentence_line;
+use life_text::{RleFault, read_rle};
 use std::alloc::{AllocError, Global};
 
 // The line of a fault.

@@ -2,11 +2,11 @@
 ghost use Rattle.std.specs.Prelude.{◌≡◌, ◌++◌, IfOk, OnOk};
 ghost use Rattle.census_faults.specs.BundleRefusals.{entry_lines, folder_lines, lost_line, refusal_lines};
 
-use crate::explained::explained;
+use crate::explaining::explained;
 use crate::fault::Fault;
 use crate::refusal::refusal_line;
 use crate::spot::Spot;
-use census_bundle::bundle::{Bundle, Entry, Folder};
+use census_bundle::{Bundle, Entry, Folder};
 use std::alloc::{AllocError, Global};
 
 // The line of a pattern whose text is lost.

@@ -3,11 +3,10 @@ ghost use Rattle.std.specs.Prelude.{◌≡◌};
 ghost use Rattle.census_faults.specs.Sentences.{FaultsDiffer, bundle_sentence, code_sentence, folder_sentence, sentence_of};
 
 use crate::fault::Fault;
-use census_bundle::bundle::AddFault;
-use census_bundle::fault::BundleFault;
-use life_faults::sentences::{rule_sentence, sentence as text_sentence};
-use life_shape::reader::CodeFault;
-use life_text::rle::RleFault;
+use census_bundle::{AddFault, BundleFault};
+use life_faults::{rule_sentence, sentence as text_sentence};
+use life_shape::CodeFault;
+use life_text::RleFault;
 
 // Of a bundle text.
 fn bundle_sentence(fault: BundleFault) -> &'static str

@@ -3,12 +3,10 @@ ghost use Rattle.std.specs.Prelude.{◌≡◌, ◌+◌, length};
 ghost use Rattle.life_shape.specs.TextOrder.{body_of};
 ghost use Rattle.census_faults.specs.Spots.{body_spot, body_start, spot_of_bundle, spot_of_code, spot_of_text};
 
-use census_bundle::fault::BundleFault;
-use life_faults::line::{place, place_of};
-use life_faults::place::Place;
-use life_shape::code_text::body_of;
-use life_shape::reader::CodeFault;
-use life_text::rle::RleFault;
+use census_bundle::BundleFault;
+use life_faults::{Place, place, place_of};
+use life_shape::{CodeFault, body_of};
+use life_text::RleFault;
 
 /// What is known of where a fault stands in what was read.
 #[derive(Clone, Copy, Debug, PartialEq, Eq, Drop)]

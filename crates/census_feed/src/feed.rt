@@ -11,7 +11,7 @@ use crate::closing::{end_all, pop_all};
 use crate::filling::{deal, push_marks, push_tickets};
 use crate::handles::{Feed, Hand};
 use crate::turns::Owner;
-use census_bundle::bundle::Bundle;
+use census_bundle::Bundle;
 use std::alloc::{AllocError, Global};
 
 impl Feed {

@@ -10,8 +10,7 @@ ghost use Rattle.census_feed.specs.Feeds.{IsNew};
 use crate::handles::Hand;
 use crate::item::Item;
 use crate::turns::{Begins, Owner, Pushes};
-use census_bundle::bundle::Bundle;
-use census_bundle::ticket::Ticket;
+use census_bundle::{Bundle, Ticket};
 use std::alloc::{AllocError, Global};
 
 // Pushes one item.

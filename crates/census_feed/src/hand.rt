@@ -10,7 +10,7 @@ ghost use Rattle.census_feed.specs.Feeds.{list_of, source_of, SameHand, IsTicket
 use crate::handles::Hand;
 use crate::item::Item;
 use crate::turns::{HandPass, Steals, Thief};
-use census_bundle::ticket::Ticket;
+use census_bundle::Ticket;
 use crossbeam_deque::Steal;
 use std::sync::Wait;
 

@@ -4,10 +4,15 @@
 #![tactic(auto)]
 
 mod closing;
-pub mod feed;
+mod feed;
 mod filling;
-pub mod hand;
-pub mod handles;
-pub mod item;
-pub mod turns;
-pub mod view;
+mod hand;
+mod handles;
+mod item;
+mod turns;
+mod view;
+
+pub use handles::{Feed, Hand};
+pub use item::Item;
+pub use turns::{Begins, Ends, HandPass, Owner, Pops, Pushes, Steals, Thief, Turns};
+pub use view::{Role, View};

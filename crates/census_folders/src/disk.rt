@@ -13,8 +13,7 @@ use std::io::{BufReader, ErrorKind, Read};
 use std::path::{Path, PathBuf};
 use std::rt::Files;
 use std::{fs, io};
-use watched::reading::{ReadFault, read_all};
-use watched::watched::Watched;
+use watched::{ReadFault, Watched, read_all};
 
 // The system's own want of memory is want of memory.
 fn fault_of(error: io::Error) -> ReadFault

@@ -1,9 +1,9 @@
 //! Why folders are not read.
 
-use census_bundle::bundle::AddFault;
+use census_bundle::AddFault;
 use std::alloc::{AllocError, AllocFailed};
 use thiserror::Error;
-use watched::reading::ReadFault;
+use watched::ReadFault;
 
 /// Why folders are not read.
 #[derive(Clone, Copy, Debug, PartialEq, Eq, Drop, Error)]

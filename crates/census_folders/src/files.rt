@@ -9,9 +9,9 @@ ghost use Rattle.census_folders.specs.Told.{GivesTold, RefusesFile};
 use crate::fault::FoldersFault;
 use crate::shelf::Shelf;
 use crate::sums::{less, most_of};
-use census_bundle::bundle::Bundle;
+use census_bundle::Bundle;
 use std::alloc::Global;
-use watched::reading::ReadFault;
+use watched::ReadFault;
 
 // The bytes of a file in a folder, which is not opened where it is no regular file.
 pub fn read_file<S: Shelf>(

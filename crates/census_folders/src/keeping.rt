@@ -10,9 +10,9 @@ use crate::listing::pattern_names;
 use crate::loss::{Losses, last_place, path_of};
 use crate::shelf::Shelf;
 use crate::sums::less;
-use census_bundle::bundle::{AddFault, Bundle};
+use census_bundle::{AddFault, Bundle};
 use std::alloc::Global;
-use watched::reading::ReadFault;
+use watched::ReadFault;
 
 /// Folders that were read, and what was lost.
 #[derive(Drop)]

@@ -2,14 +2,22 @@
 #![tactic(auto)]
 
 mod disk;
-pub mod fault;
+mod fault;
 mod files;
-pub mod keeping;
+mod keeping;
 mod listing;
-pub mod loss;
-pub mod reading;
-pub mod shelf;
+mod loss;
+mod reading;
+mod shelf;
 mod sums;
-pub mod trees;
-pub mod walking;
+mod trees;
+mod walking;
 mod walking_on;
+
+pub use fault::FoldersFault;
+pub use keeping::{Kept, read_folders_on};
+pub use loss::{Loss, Losses, last_place, path_of};
+pub use reading::read_folders;
+pub use shelf::Shelf;
+pub use trees::{Trees, folders_below_each, folders_below_each_on};
+pub use walking::folders_below;

@@ -4,8 +4,7 @@ ghost use Rattle.census_bundle.specs.Growing.{last_entries};
 ghost use Rattle.census_folders.specs.Losses.{last_place};
 ghost use Rattle.census_folders.specs.Walks.{path_of};
 
-use census_bundle::bundle::{Bundle, Text};
-use census_bundle::ticket::Ticket;
+use census_bundle::{Bundle, Text, Ticket};
 use std::alloc::{AllocError, Global};
 use std::marker::Model;
 

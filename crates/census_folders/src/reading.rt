@@ -9,7 +9,7 @@ use crate::fault::FoldersFault;
 use crate::files::add_file;
 use crate::listing::pattern_names;
 use crate::shelf::Shelf;
-use census_bundle::bundle::Bundle;
+use census_bundle::Bundle;
 use std::alloc::Global;
 
 // Adds the folder of a word with its pattern files.

@@ -3,7 +3,7 @@ ghost use Rattle.std.specs.Prelude.{◌≡◌, ◌≤◌, ℕ, Bool, true, false
 ghost use Rattle.census_folders.specs.Told.{Told, Untold, GivesTold, MayFail, RefusesFile, RefusesList};
 
 use std::alloc::Global;
-use watched::reading::ReadFault;
+use watched::ReadFault;
 
 /// A shelf of folders, each with files. It may tell what stands on it: of a folder its names, of a file of a folder its
 /// bytes, or that it can't be read. A disk tells nothing.

@@ -11,7 +11,7 @@ use crate::loss::{Losses, path_of};
 use crate::shelf::Shelf;
 use crate::walking::{is_any, path_in};
 use std::alloc::{AllocError, Global};
-use watched::reading::ReadFault;
+use watched::ReadFault;
 
 // What a folder lists, or nothing where it can't be listed.
 fn list_on<S: Shelf>(

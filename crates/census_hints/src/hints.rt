@@ -4,8 +4,8 @@ ghost use Rattle.census_hints.specs.Hints.{Hints, empty, note, passed_text, pass
 
 use crate::passed::passed_over;
 use crate::stray::stray_lines;
-use census_bundle::bundle::Bundle;
-use census_folders::shelf::Shelf;
+use census_bundle::Bundle;
+use census_folders::Shelf;
 use itoa::Buffer;
 use std::alloc::{AllocError, Global};
 

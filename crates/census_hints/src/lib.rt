@@ -5,4 +5,4 @@ mod hints;
 mod passed;
 mod stray;
 
-pub use crate::hints::hint_lines;
+pub use hints::hint_lines;

@@ -4,10 +4,10 @@ ghost use Rattle.std.specs.List.{slice_split};
 ghost use Rattle.census_folders.specs.Shelves.{is_end};
 ghost use Rattle.census_hints.specs.Hints.{Lists, PassesFolder, PassesOver, is_alike};
 
-use census_bundle::bundle::{Bundle, Folder};
-use census_folders::shelf::Shelf;
+use census_bundle::{Bundle, Folder};
+use census_folders::Shelf;
 use std::alloc::{AllocError, Global};
-use watched::reading::ReadFault;
+use watched::ReadFault;
 
 // Whether a name looks like that of a pattern, and doesn't end in `.rle`.
 fn is_alike(name: &[u8]) -> bool

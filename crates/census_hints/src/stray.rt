@@ -3,7 +3,7 @@ ghost use Rattle.std.specs.Prelude.{◌≡◌, ◌++◌, ◌<◌, length, IfOk, 
 ghost use Rattle.std.specs.List.{after_first};
 ghost use Rattle.census_hints.specs.Hints.{entry_lines, folder_lines, has_line, is_mark, is_stray, stands_in, stray_line, stray_lines, stray_place, stray_sentence};
 
-use census_bundle::bundle::{Bundle, Entry, Folder};
+use census_bundle::{Bundle, Entry, Folder};
 use memchr::{memchr, memmem};
 use std::alloc::{AllocError, Global};
 

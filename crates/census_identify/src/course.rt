@@ -7,8 +7,7 @@ ghost use Rattle.census_identify.specs.Courses.{with_told};
 
 use crate::told::Told;
 use std::io::Write;
-use watched::watched::{Failed, Watched};
-use watched::writing::put_all;
+use watched::{Failed, Watched, put_all};
 
 /// What was told of the words so far: whether there was a block, and the greatest status that a line asked for.
 #[derive(Drop)]

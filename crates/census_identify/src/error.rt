@@ -4,7 +4,7 @@ ghost use Rattle.census_identify.specs.Errors.{error_line, error_status};
 
 use std::alloc::AllocError;
 use thiserror::Error;
-use watched::watched::Failed;
+use watched::Failed;
 
 /// What ends the telling at once.
 #[derive(Clone, Copy, Debug, PartialEq, Eq, Drop, Error)]

@@ -6,11 +6,10 @@ ghost use Rattle.census_identify.specs.Hearing.{Hears, HearsFile, HearsInput, he
 ghost use Rattle.census_identify.specs.Streams.{source};
 
 use crate::bytes::Bytes;
-use census_folders::shelf::Shelf;
+use census_folders::Shelf;
 use std::alloc::{AllocError, Global};
 use std::io::Read;
-use watched::reading::{ReadFault, read_all};
-use watched::watched::Watched;
+use watched::{ReadFault, Watched, read_all};
 
 /// The most bytes of one text.
 pub const TEXT_LIMIT: usize = 67_108_864;

@@ -2,9 +2,15 @@
 //! read or has a fault.
 #![tactic(auto)]
 
-pub mod bytes;
+mod bytes;
 mod course;
-pub mod error;
-pub mod heard;
-pub mod identify;
-pub mod told;
+mod error;
+mod heard;
+mod identifying;
+mod told;
+
+pub use bytes::Bytes;
+pub use error::IdentifyError;
+pub use heard::{Heard, TEXT_LIMIT, hear, is_input, read_file};
+pub use identifying::identify;
+pub use told::{Told, told_of};

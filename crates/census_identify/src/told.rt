@@ -5,9 +5,8 @@ ghost use Rattle.census_identify.specs.Telling.{headed, message_line, told_of, t
 
 use crate::bytes::Bytes;
 use crate::heard::{Heard, is_input};
-use census_blocks::block::block;
-use census_blocks::known::BOUND_LIMIT;
-use life_faults::told::fault_line;
+use census_blocks::{BOUND_LIMIT, block};
+use life_faults::fault_line;
 use std::alloc::{AllocError, Global};
 
 /// What is told of one text.

@@ -7,7 +7,7 @@ use Rattle.census_rows.specs.declared.row.Row.{Row}
 use Rattle.census_rows.specs.declared.row.Row.TheVariants.{End}
 use Rattle.census_readback.specs.Texts.{line_of, text_of}
 use Rattle.census_readback.proofs.Rows.{text-append}
-use Rattle.census_merge.specs.declared.sums.Sums.{Sums}
+use Rattle.census_merge.specs.declared.totals.Sums.{Sums}
 use Rattle.census_merge.specs.Sums.{first_excess, none, plus, sums_in, sums_of, with_more}
 use Rattle.census_merge.specs.Merged.{merged, numbered_on, renumbered}
 

@@ -2,7 +2,7 @@
 use Rattle.std.specs.Prelude.{ℕ, ◌+◌, ◌-◌, ◌^◌, ◌&&◌, nat_le, if◌then◌else◌, Option, Some, None as Nothing, List, [], ◌∷◌}
 use Rattle.census_rows.specs.declared.row.Row.{Row}
 use Rattle.census_rows.specs.declared.row.Row.TheVariants.{Open, Line, Part, Code, Close, End}
-use Rattle.census_merge.specs.declared.sums.Sums.{Sums}
+use Rattle.census_merge.specs.declared.totals.Sums.{Sums}
 
 -- those of no report
 abbrev pub none : Sums

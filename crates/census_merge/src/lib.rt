@@ -1,6 +1,9 @@
 //! Several reports made one: the collections of all, numbered on, and one `end` line with the sums.
 #![tactic(auto)]
 
-pub mod merging;
+mod merging;
 mod renumber;
-pub mod sums;
+mod totals;
+
+pub use merging::{TooMany, put_merged, sums};
+pub use totals::{Sums, ended};

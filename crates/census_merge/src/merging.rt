@@ -12,13 +12,11 @@ ghost use Rattle.census_merge.specs.Merged.{merged};
 ghost use Rattle.census_merge.specs.Sums.{first_excess, none, sums_in};
 
 use crate::renumber::renumbered;
-use crate::sums::{Sums, ended};
-use census_rows::row::Row;
-use census_rows::write::put_row;
-use gathered::block::Block;
-use gathered::putting::put;
+use crate::totals::{Sums, ended};
+use census_rows::{Row, put_row};
+use gathered::{Block, put};
 use std::io::Write;
-use watched::watched::Watched;
+use watched::Watched;
 
 /// The number, from 1, of the first of several reports with which there are too many collections,
 /// which is more than 65,535, or too many patterns, which is more than 64 bits can count.

@@ -3,7 +3,7 @@ ghost use Rattle.std.specs.Prelude.{◌≡◌, ◌≤◌};
 ghost use Rattle.census_merge.specs.Merged.{renumbered};
 ghost use Rattle.census_readback.specs.Steps.{collection_of};
 
-use census_rows::row::Row;
+use census_rows::Row;
 
 // A row, where so many collections come before those of its report.
 pub fn renumbered<'a>(before: u64, row: Row<'a>) -> Row<'a>

@@ -6,7 +6,7 @@ ghost use Rattle.census_page.specs.Pages.{code_row, code_rows, object_cells, pla
 use crate::escape::{push_number, push_told};
 use crate::holder::{Holder, push_holders};
 use crate::picture::push_picture;
-use census_rows::row::Row;
+use census_rows::Row;
 use std::alloc::{AllocError, Global};
 
 // Adds a code with its picture and its rule.

@@ -4,7 +4,7 @@ ghost use Rattle.census_readback.specs.Grouped.{lent};
 ghost use Rattle.census_page.specs.Holders.{has_code, holder_item, holder_items, holder_of, holders_from, naming_after, part_of};
 
 use crate::escape::push_told;
-use census_rows::row::{Outcome, Row};
+use census_rows::{Outcome, Row};
 use std::alloc::{AllocError, Global};
 
 /// A pattern and a code that it has, or one of its parts.

@@ -1,10 +1,17 @@
 //! One HTML page of a report, that stands alone.
 #![tactic(auto)]
 
-pub mod code_row;
-pub mod escape;
-pub mod holder;
+mod code_row;
+mod escape;
+mod holder;
 mod markup;
-pub mod page;
-pub mod picture;
-pub mod stray;
+mod picture;
+mod stray;
+mod whole_page;
+
+pub use code_row::push_code_rows;
+pub use escape::{an_escaped_text_has_no_markup, push_escaped, push_number, push_told};
+pub use holder::{Holder, holders, push_holders};
+pub use picture::{SIDE_LIMIT, push_picture};
+pub use stray::push_stray;
+pub use whole_page::{each_code_has_a_row, page};

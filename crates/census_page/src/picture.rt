@@ -4,9 +4,7 @@ ghost use Rattle.census_page.specs.Pictures.{canvas, cell_step, cell_steps, pict
 
 use crate::escape::push_number;
 use itoa::Buffer;
-use life_shape::code_text::body_of;
-use life_shape::reader::{CodeFault, read_wechsler};
-use life_shape::shape::Shape;
+use life_shape::{CodeFault, Shape, body_of, read_wechsler};
 use std::alloc::{AllocError, Global};
 
 /// A shape that is wider or higher than so many cells has no picture.

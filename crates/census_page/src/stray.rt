@@ -3,7 +3,7 @@ ghost use Rattle.std.specs.Prelude.{◌≡◌, ◌++◌, OnOk, decimal};
 ghost use Rattle.census_page.specs.Pages.{fault_reason, is_stray, reason, stray_item, unresolved_reason};
 
 use crate::escape::{push_number, push_told};
-use census_rows::row::Outcome;
+use census_rows::Outcome;
 use std::alloc::{AllocError, Global};
 
 // Adds a number after a text.

@@ -4,5 +4,8 @@
 mod lines;
 mod place;
 mod progress;
-pub mod reading;
-pub mod sections;
+mod reading;
+mod sectioning;
+
+pub use reading::read_report;
+pub use sectioning::{collections, sections};

@@ -4,8 +4,7 @@ ghost use Rattle.census_rows.specs.declared.row.Row.{Row};
 ghost use Rattle.census_rows.specs.Lines.{SameRow};
 ghost use Rattle.census_readback.specs.Texts.{AllLines, IsLine, IsStuck, SameRows, line_of, text_of};
 
-use census_rows::read::read_row;
-use census_rows::row::Row;
+use census_rows::{Row, read_row};
 use std::alloc::{AllocError, Global};
 
 // A row, and what stands after its line.

@@ -2,7 +2,7 @@
 ghost use Rattle.std.specs.Prelude.{◌≡◌, ◌<◌};
 ghost use Rattle.census_readback.specs.Sections.{closes, next, next_within, with_line};
 
-use census_rows::row::{Outcome, Row};
+use census_rows::{Outcome, Row};
 
 // As many patterns as a collection can have.
 pub const MOST: u64 = 65_535;

@@ -4,7 +4,7 @@ ghost use Rattle.std.specs.List.{list_all};
 ghost use Rattle.census_readback.specs.Steps.{collection_of, end_step, is_behind, opened, padded, place_at, put, reading_of, section_step, start, step};
 
 use crate::place::{MOST, Place, next};
-use census_rows::row::Row;
+use census_rows::Row;
 use std::alloc::{AllocError, Global};
 
 // The places of the collections, how many patterns these have, and whether the last row ended a

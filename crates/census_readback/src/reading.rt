@@ -14,7 +14,7 @@ ghost use Rattle.census_readback.specs.Texts.{SameRows};
 
 use crate::lines::read_rows;
 use crate::progress::Progress;
-use census_rows::row::Row;
+use census_rows::Row;
 use std::alloc::{AllocError, Global};
 
 // The number, from 1, of the first row that may not stand where it does.

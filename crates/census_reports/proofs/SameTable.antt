@@ -3,7 +3,7 @@ use Rattle.std.proofs.Common.{◌≡◌, ℕ, zero, suc, ◌+◌, ◌<◌, ◌�
 use Rattle.std.proofs.lemmas.Bool.{cases_Bool}
 use Rattle.census_rows.specs.declared.row.Row.{Row}
 use Rattle.census_rows.specs.declared.row.Row.TheVariants.{Open, Line, Part, Code, Close, End}
-use Rattle.census_merge.specs.declared.sums.Sums.{Sums}
+use Rattle.census_merge.specs.declared.totals.Sums.{Sums}
 use Rattle.census_merge.specs.Sums.{none, plus, sums_in, sums_of}
 use Rattle.census_merge.specs.Merged.{merged, numbered_on, renumbered}
 use Rattle.census_readback.specs.Steps.{collection_of}

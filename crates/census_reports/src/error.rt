@@ -4,8 +4,7 @@ ghost use Rattle.census_reports.specs.Errors.{status_of};
 
 use std::alloc::{AllocError, AllocFailed};
 use thiserror::Error;
-use watched::reading::ReadFault;
-use watched::watched::Failed;
+use watched::{Failed, ReadFault};
 
 /// Why what was asked for of reports was not written whole.
 #[derive(Clone, Copy, Debug, PartialEq, Eq, Drop, Error)]

@@ -11,16 +11,14 @@ ghost use Rattle.census_reports.specs.Forms.{table_in};
 ghost use Rattle.census_reports.specs.Written.{FailsRows, WritesRows};
 
 use crate::error::ReportsError;
-use census_merge::merging::{put_merged, sums};
-use census_page::page::page;
-use census_rows::row::Row;
-use census_table::table::{Format, put_table};
-use gathered::block::Block;
-use gathered::putting::send;
+use census_merge::{put_merged, sums};
+use census_page::page;
+use census_rows::Row;
+use census_table::{Format, put_table};
+use gathered::{Block, send};
 use std::alloc::Global;
 use std::io::Write;
-use watched::watched::{Failed, Watched};
-use watched::writing::put_all;
+use watched::{Failed, Watched, put_all};
 
 /// What is written of reports.
 #[derive(Clone, Copy, Debug, PartialEq, Eq)]

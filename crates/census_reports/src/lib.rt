@@ -1,8 +1,12 @@
 //! Reports that are read from files or from standard input, and written as one report, as a table or as a page.
 #![tactic(auto)]
 
-pub mod error;
-pub mod form;
-pub mod reports;
+mod error;
+mod form;
+mod reports;
 mod rows;
 mod texts;
+
+pub use error::ReportsError;
+pub use form::{Form, merging_changes_no_table, write_made};
+pub use reports::write_reports;

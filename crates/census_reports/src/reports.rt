@@ -10,11 +10,11 @@ use crate::error::ReportsError;
 use crate::form::{Form, write_made};
 use crate::rows::rows_of;
 use crate::texts::{asked, read_texts};
-use census_folders::shelf::Shelf;
-use census_identify::bytes::Bytes;
+use census_folders::Shelf;
+use census_identify::Bytes;
 use std::alloc::Global;
 use std::io::{Read, Write};
-use watched::watched::Watched;
+use watched::Watched;
 
 // Writes what is made of the reports in these texts.
 fn write_of<O: Write>(

@@ -4,9 +4,9 @@ ghost use Rattle.census_readback.specs.Shapes.{AreReports};
 ghost use Rattle.census_reports.specs.Rows.{AreRowsOf, LackRows};
 
 use crate::error::ReportsError;
-use census_identify::bytes::Bytes;
-use census_readback::reading::read_report;
-use census_rows::row::Row;
+use census_identify::Bytes;
+use census_readback::read_report;
+use census_rows::Row;
 use std::alloc::{AllocError, Global};
 
 // Adds rows, and copies none where there was none before.

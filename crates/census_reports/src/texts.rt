@@ -8,13 +8,11 @@ ghost use Rattle.census_identify.specs.declared.heard.Heard.TheVariants.{Text};
 ghost use Rattle.census_reports.specs.Texts.{ReadsEach, RefusesWord, StopsReading};
 
 use crate::error::ReportsError;
-use census_folders::shelf::Shelf;
-use census_identify::bytes::Bytes;
-use census_identify::heard::{TEXT_LIMIT, is_input, read_file};
+use census_folders::Shelf;
+use census_identify::{Bytes, TEXT_LIMIT, is_input, read_file};
 use std::alloc::Global;
 use std::io::Read;
-use watched::reading::read_all;
-use watched::watched::Watched;
+use watched::{Watched, read_all};
 
 // Standard input alone, where there is no word.
 pub fn asked<'a, 'b>(words: &'a [&'b str]) -> &'a [&'b str]

@@ -2,11 +2,10 @@
 ghost use Rattle.std.specs.Prelude.{◌∷◌};
 ghost use Rattle.gathered.specs.Telling.{Tells, sheet};
 
-use gathered::block::Block;
-use gathered::putting::{put, put_number as put_digits};
+use gathered::{Block, put, put_number as put_digits};
 use itoa::Integer;
 use std::io::Write;
-use watched::watched::Watched;
+use watched::Watched;
 
 /// Tells a blank and these bytes.
 pub fn put_field<W: Write>(field: &[u8], block: &mut Block, writer: &mut Watched<W>)

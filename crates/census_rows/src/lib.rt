@@ -3,6 +3,10 @@
 
 mod fields;
 mod numbers;
-pub mod read;
-pub mod row;
-pub mod write;
+mod read;
+mod row;
+mod write;
+
+pub use read::read_row;
+pub use row::{Outcome, Row};
+pub use write::put_row;

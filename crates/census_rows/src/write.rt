@@ -6,10 +6,9 @@ ghost use Rattle.census_rows.specs.Lines.{behind, outcome_fields, row_text};
 
 use crate::fields::{put_field, put_number};
 use crate::row::{Outcome, Row};
-use gathered::block::Block;
-use gathered::putting::put;
+use gathered::{Block, put};
 use std::io::Write;
-use watched::watched::Watched;
+use watched::Watched;
 
 // What was found, the pattern's rule and its population.
 fn put_found<W: Write>(

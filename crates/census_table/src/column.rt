@@ -5,7 +5,7 @@ ghost use Rattle.census_table.specs.Contents.{content_of};
 
 use crate::cell::Cell;
 use crate::entry::Entry;
-use census_rows::row::Outcome;
+use census_rows::Outcome;
 
 /// A column. A row has nothing in it but what stands here.
 #[derive(Clone, Copy)]

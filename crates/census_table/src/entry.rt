@@ -3,7 +3,7 @@ ghost use Rattle.std.specs.Prelude.{◌≡◌, IfOk};
 ghost use Rattle.census_readback.specs.Grouped.{lent};
 ghost use Rattle.census_table.specs.Entries.{entry_in, lines_under};
 
-use census_rows::row::{Outcome, Row};
+use census_rows::{Outcome, Row};
 use std::alloc::{AllocError, Global};
 
 /// What a table has of a pattern. Numbers count from 1.

@@ -1,9 +1,14 @@
 //! Rows for spreadsheets and databases: one for each pattern of a report.
 #![tactic(auto)]
 
-pub mod cell;
-pub mod column;
+mod cell;
+mod column;
 mod comma;
-pub mod entry;
+mod entry;
 mod json_lines;
-pub mod table;
+mod table;
+
+pub use cell::Cell;
+pub use column::Column;
+pub use entry::{Entry, entries_under};
+pub use table::{Format, each_line_has_a_row, put_table};

@@ -11,13 +11,12 @@ ghost use Rattle.census_table.specs.Told.{TellsFront};
 use crate::comma::{header, records};
 use crate::entry::{Entry, entries_under};
 use crate::json_lines::lines;
-use census_readback::sections::collections;
-use census_rows::row::Row;
-use gathered::block::Block;
-use gathered::putting::put;
+use census_readback::collections;
+use census_rows::Row;
+use gathered::{Block, put};
 use std::alloc::{AllocError, Global};
 use std::io::Write;
-use watched::watched::Watched;
+use watched::Watched;
 
 /// How a table is written.
 #[derive(Clone, Copy, Debug, PartialEq, Eq)]

@@ -1,6 +1,6 @@
 //! The line at a terminal that tells how far a run has come.
-use census_bundle::ticket::Ticket;
-use census_crew::gate::Gate;
+use census_bundle::Ticket;
+use census_crew::Gate;
 use std::io::Eprint;
 use std::sync::atomic::{AtomicBool, AtomicU64, Ordering};
 use std::time::Clock;

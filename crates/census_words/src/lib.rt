@@ -5,6 +5,9 @@
 #![tactic(auto)]
 
 mod command;
-pub mod fault;
+mod fault;
 mod help;
-pub mod request;
+mod request;
+
+pub use fault::WordsFault;
+pub use request::{Asked, Request, TableFormat, read_words};

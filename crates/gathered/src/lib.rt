@@ -1,5 +1,8 @@
 //! Bytes gathered into blocks before a watched writer is given them.
 #![tactic(auto)]
 
-pub mod block;
-pub mod putting;
+mod block;
+mod putting;
+
+pub use block::Block;
+pub use putting::{put, put_number, send};

@@ -6,8 +6,7 @@ ghost use Rattle.gathered.specs.Telling.{Tells, pending_of, sheet};
 use crate::block::Block;
 use itoa::{Buffer, Integer};
 use std::io::Write;
-use watched::watched::{Failed, Watched};
-use watched::writing::put_all;
+use watched::{Failed, Watched, put_all};
 
 /// Gives the writer the bytes of the block, which has none then.
 pub fn send<W: Write>(block: &mut Block, writer: &mut Watched<W>) -> Result<(), Failed>

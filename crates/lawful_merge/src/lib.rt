@@ -1,4 +1,6 @@
 //! `census merge`, with its promise: of lawful reports it makes a lawful report.
 #![tactic(auto)]
 
-pub mod merge;
+mod merge;
+
+pub use merge::merge_reports;

@@ -5,13 +5,11 @@ ghost use Rattle.census_reports.specs.Outcomes.{ReportsFail, WritesReports};
 ghost use Rattle.census_reports.specs.Streams.{streams};
 ghost use Rattle.lawful_merge.specs.Lawful.{MergesLawfully};
 
-use census_folders::shelf::Shelf;
-use census_reports::error::ReportsError;
-use census_reports::form::Form;
-use census_reports::reports::write_reports;
+use census_folders::Shelf;
+use census_reports::{Form, ReportsError, write_reports};
 use std::alloc::Global;
 use std::io::{Read, Write};
-use watched::watched::Watched;
+use watched::Watched;
 
 /// Reads the texts of words, and writes one report of all the reports in them, as `write_reports` does. Where these are
 /// lawful reports of bundles under one question, what is written is a lawful report of the bundles, one after another.

@@ -1,7 +1,7 @@
 //! What is found of a pattern and of a text.
 use crate::code::Code;
 use crate::parts::Parts;
-use life_cells::rule::Rule;
+use life_cells::Rule;
 
 /// What is found of a pattern within a bound.
 #[derive(Drop)]

@@ -2,10 +2,22 @@
 //! of functions that do nothing.
 #![tactic(auto)]
 
-pub mod code;
-pub mod finding;
-pub mod laws;
-pub mod part;
-pub mod parts;
-pub mod question;
-pub mod refusal;
+mod code;
+mod finding;
+mod laws;
+mod part;
+mod parts;
+mod question;
+mod refusal;
+
+pub use code::Code;
+pub use finding::{Answer, Finding};
+pub use laws::{
+    a_settled_set_recurs, a_text_is_found_or_refused, an_unresolved_set_settles_nowhere,
+    codes_tell_objects, counts_know_no_order, one_finding, the_first_generation_past_the_limit,
+    what_comes_again_is_no_ash,
+};
+pub use part::Part;
+pub use parts::Parts;
+pub use question::Question;
+pub use refusal::refused;

@@ -5,7 +5,7 @@ ghost use Rattle.life_answer.specs.declared.finding.Answer.TheVariants.{Refused}
 ghost use Rattle.life_answer.specs.Answers.{fault_number};
 
 use crate::finding::Answer;
-use life_text::rle::RleFault;
+use life_text::RleFault;
 use std::alloc::AllocError;
 
 /// The number of a fault of a text, by which reports name it.

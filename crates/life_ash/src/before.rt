@@ -9,9 +9,8 @@ ghost use Rattle.life_model.specs.Symmetry.{moved};
 ghost use Rattle.life_cells.specs.Limits.{IsWithin};
 ghost use Rattle.life_orbit.specs.Reach.{IsReach};
 
-use life_cells::cell_list::CellList;
-use life_orbit::orbit::{BOUND_LIMIT, Orbit};
-use life_orbit::shift::repeated;
+use life_cells::CellList;
+use life_orbit::{BOUND_LIMIT, Orbit, repeated};
 use std::alloc::{AllocError, Global};
 
 /// The cell, moved back, where it then is in the field at age 400,000.

@@ -8,9 +8,8 @@ ghost use Rattle.life_ash.specs.Parts.{IsOf, sets_of};
 
 use crate::span::spans_in_order;
 use crate::sweep::are_apart_in_order;
-use life_cells::cell_list::CellList;
-use life_cells::order::put_in_order;
-use life_orbit::orbit::Orbit;
+use life_cells::{CellList, put_in_order};
+use life_orbit::Orbit;
 use std::alloc::{AllocError, Global};
 
 /// Up to so many sets are compared each with each, which takes fewer steps than to put them in order.

@@ -6,13 +6,12 @@ ghost use Rattle.life_objects.specs.Ash.{IsAsh};
 ghost use Rattle.life_orbit.specs.Course.{IsCourse};
 ghost use Rattle.life_ash.specs.Parts.{IsFit, IsOf, IsPlaced, sets_of};
 
-use crate::ash::is_ash;
+use crate::ashes::is_ash;
 use crate::known::Known;
-use life_cells::rule::Rule;
-use life_classes::class::Class;
-use life_classes::classes::classes;
-use life_orbit::orbit::{BOUND_LIMIT, Orbit};
-use life_plane::plane::Plane;
+use life_cells::Rule;
+use life_classes::{Class, classes};
+use life_orbit::{BOUND_LIMIT, Orbit};
+use life_plane::Plane;
 use std::alloc::{AllocError, Global};
 
 /// How far a guess looks.

@@ -6,9 +6,8 @@ ghost use Rattle.life_objects.specs.Ash.{RecursWithin};
 ghost use Rattle.life_orbit.specs.Course.{IsCourse};
 ghost use Rattle.life_ash.specs.Met.{IsMet, Terms};
 
-use life_cells::cell_list::CellList;
-use life_cells::rule::Rule;
-use life_orbit::orbit::{BOUND_LIMIT, Orbit};
+use life_cells::{CellList, Rule};
+use life_orbit::{BOUND_LIMIT, Orbit};
 use std::alloc::{AllocError, Global};
 use std::marker::Model;
 

@@ -1,18 +1,22 @@
 //! The objects that a set of cells falls apart into.
 #![tactic(auto)]
 
-pub mod ash;
+mod ashes;
 mod before;
 mod checks;
-pub mod fate;
+mod fates;
 mod guess;
 mod known;
 mod limit;
 mod living;
 mod pace;
 mod parts;
-pub mod pattern;
+mod pattern;
 mod sizes;
 mod span;
 mod sweep;
 mod whole;
+
+pub use ashes::{Ash, ash_of, is_ash};
+pub use fates::Fate;
+pub use pattern::{ash, fate};

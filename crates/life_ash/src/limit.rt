@@ -10,9 +10,9 @@ ghost use Rattle.life_ash.specs.Parts.{IsOf, sets_of};
 
 use crate::pace::{Pace, STRIDE};
 use crate::sizes::are_few;
-use life_cells::rule::Rule;
-use life_orbit::orbit::Orbit;
-use life_plane::plane::{AGE_LIMIT, Plane};
+use life_cells::Rule;
+use life_orbit::Orbit;
+use life_plane::{AGE_LIMIT, Plane};
 use std::alloc::AllocError;
 
 /// Whether so many cells are allowed.

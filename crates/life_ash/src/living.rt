@@ -3,8 +3,8 @@ ghost use Rattle.std.specs.Prelude.{◌≡◌, IfOk, filter};
 ghost use Rattle.life_classes.specs.Tracking.{lasts};
 ghost use Rattle.life_ash.specs.Living.{lives};
 
-use life_cells::cell_list::CellList;
-use life_classes::class::Class;
+use life_cells::CellList;
+use life_classes::Class;
 use std::alloc::{AllocError, Global};
 
 /// Whether there is a cell.

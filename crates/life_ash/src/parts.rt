@@ -10,11 +10,10 @@ ghost use Rattle.life_ash.specs.Parts.{AreEnds, IsEnd, IsFit, sets_of};
 use crate::before::set_before;
 use crate::known::Known;
 use crate::living::living;
-use life_cells::cell_list::CellList;
-use life_cells::rule::Rule;
-use life_classes::classes::classes;
-use life_orbit::orbit::{BOUND_LIMIT, Orbit};
-use life_plane::plane::Plane;
+use life_cells::{CellList, Rule};
+use life_classes::classes;
+use life_orbit::{BOUND_LIMIT, Orbit};
+use life_plane::Plane;
 use std::alloc::{AllocError, Global};
 
 /// The only set that may have become this one after so many generations as is the bound, and that comes again within it.

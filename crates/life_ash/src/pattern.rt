@@ -7,15 +7,14 @@ ghost use Rattle.life_objects.specs.Ash.{HasFallenApart};
 ghost use Rattle.life_ash.specs.Fates.{IsFate};
 ghost use Rattle.life_ash.specs.Parts.{IsOf, sets_of};
 
-use crate::ash::{Ash, ash_of};
-use crate::fate::Fate;
+use crate::ashes::{Ash, ash_of};
+use crate::fates::Fate;
 use crate::guess::guessed_parts;
 use crate::limit::{few_until, first_past, first_past_of_ash};
 use crate::pace::Pace;
-use life_cells::cell_list::CellList;
-use life_cells::rule::Rule;
-use life_orbit::orbit::BOUND_LIMIT;
-use life_plane::plane::Plane;
+use life_cells::{CellList, Rule};
+use life_orbit::BOUND_LIMIT;
+use life_plane::Plane;
 use std::alloc::{AllocError, Global};
 
 /// What becomes of a pattern within the bound. What it falls apart into is looked for now and then on the way to the

@@ -4,7 +4,7 @@ ghost use Rattle.life_model.specs.Evolution.{generation};
 ghost use Rattle.life_model.specs.Generation.{size};
 ghost use Rattle.life_ash.specs.Later.{total_later};
 
-use life_orbit::orbit::Orbit;
+use life_orbit::Orbit;
 
 /// How many cells the largest generation of a set that recurs has.
 fn largest(orbit: &Orbit) -> u64

@@ -2,7 +2,7 @@
 ghost use Rattle.std.specs.Prelude.{◌≡◌, Bool, IfOk};
 ghost use Rattle.life_ash.specs.Spans.{AreRising, AreSpans, IsSpanOf};
 
-use life_orbit::orbit::Orbit;
+use life_orbit::Orbit;
 use std::alloc::{AllocError, Global};
 
 /// The first and the last column in which a set stays for ever, or the first and the last row, and its place in a list.

@@ -7,7 +7,7 @@ ghost use Rattle.life_ash.specs.Parts.{IsOf, sets_of};
 ghost use Rattle.life_ash.specs.Spans.{AreRising, AreSpans, IsApartFrom, IsPast, IsSpanIn, IsSpanOf};
 
 use crate::span::Span;
-use life_orbit::orbit::Orbit;
+use life_orbit::Orbit;
 
 /// Whether what begins here is more than two columns, or rows, past what ends there.
 fn is_past(end: i32, start: i32) -> bool

@@ -6,11 +6,9 @@ ghost use Rattle.life_objects.specs.Ash.{IsObject};
 ghost use Rattle.life_objects.specs.Piece.{IsOnePiece, IsUndivided};
 ghost use Rattle.life_ash.specs.Parts.{IsFit, sets_of};
 
-use life_cells::cell_list::CellList;
-use life_cells::rule::Rule;
-use life_classes::undivided;
-use life_orbit::orbit::{BOUND_LIMIT, Orbit};
-use life_plane::plane::Plane;
+use life_cells::{CellList, Rule};
+use life_orbit::{BOUND_LIMIT, Orbit};
+use life_plane::Plane;
 use std::alloc::{AllocError, Global};
 
 /// Whether of no two sets into which the cells split do both live on. Mostly the cells are near each other, which needs
@@ -25,11 +23,11 @@ fn is_undivided<P: Plane>(
     requires within { All (IsWithin 500000) (generations.cells cells.now) }
     ensures { IfOk result (λ is. IsTrue is ↔ IsUndivided rule.now bound cells.now) }
 {
-    if undivided::hold_together(alloc, cells)? {
+    if life_classes::hold_together(alloc, cells)? {
         return Ok(true);
     }
     let plane = P::at_age(alloc, cells, 500_000)?;
-    undivided::is_undivided(alloc, plane, rule, bound)
+    life_classes::is_undivided(alloc, plane, rule, bound)
 }
 
 /// Whether no generation of a set that recurs is divided.

@@ -8,7 +8,7 @@ ghost use Rattle.life_band.specs.Sums.{number_at};
 ghost use Rattle.life_band.specs.Logics.{IsSpreadOf, IsLogicOf, turned, sum_of_four, sum_at, term_at};
 
 use life_bits::add_two;
-use life_cells::rule::Rule;
+use life_cells::Rule;
 
 /// At each of 64 places a number of live neighbours, from 0 to 8: bit `j` of `ones`, and twice the sum of bit `j` of the
 /// other four.

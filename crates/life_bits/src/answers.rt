@@ -7,7 +7,7 @@ ghost use Rattle.life_model.specs.Rule.{Rule, born, stays};
 
 use crate::strand::{Strand, count_planes};
 use crate::sums::choose;
-use life_cells::rule::Rule;
+use life_cells::Rule;
 
 /// For each count from 0 to 8 a word of ones where the rule's answer is a live cell, else of zeros.
 #[derive(Clone, Copy)]

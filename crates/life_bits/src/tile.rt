@@ -6,7 +6,7 @@ ghost use Rattle.life_bits.specs.Area.{tile_cell, nine_of, next_in_area};
 
 use crate::answers::{Answers, next_row_by};
 use crate::strand::Strand;
-use life_cells::rule::Rule;
+use life_cells::Rule;
 
 /// A square of 64 by 64 cells, seen as the set of its live ones: bit `x` of `rows[y]` says whether the cell in column `x` and
 /// row `y` is live.

@@ -1,7 +1,14 @@
 //! Life-like rules, and lists of cells.
 #![tactic(auto)]
 
-pub mod cell_list;
-pub mod corner;
-pub mod order;
-pub mod rule;
+mod cell_list;
+mod cornering;
+mod order;
+mod rule;
+
+pub use cell_list::{CellFault, CellList};
+pub use cornering::corner;
+pub use order::put_in_order;
+pub use rule::{
+    Rule, RuleFault, after_byte, after_either, forms, members_are_digits, printed_rules_are_read,
+};

@@ -8,10 +8,9 @@ ghost use Rattle.life_shape.specs.TextOrder.{least_text};
 ghost use Rattle.life_answer.specs.Apgcode.{bodies, code_of, turned_bodies};
 ghost use Rattle.life_codes.specs.Least.{with_text};
 
-use life_answer::code::Code;
-use life_codes::least_text::LeastText;
-use life_codes::prefix::prefix;
-use life_orbit::orbit::Orbit;
+use life_answer::Code;
+use life_codes::{LeastText, prefix};
+use life_orbit::Orbit;
 use std::alloc::{AllocError, Global};
 
 /// Adds the texts of one phase.

@@ -1,7 +1,12 @@
 //! The census of a pattern: the objects that it falls apart into, counted by their codes.
 #![tactic(auto)]
 
-pub mod answer;
-pub mod code;
-pub mod parts;
-pub mod pattern;
+mod answering;
+mod code;
+mod parts;
+mod pattern;
+
+pub use answering::answer;
+pub use code::code_of;
+pub use parts::parts_of;
+pub use pattern::census;

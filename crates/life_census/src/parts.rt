@@ -6,8 +6,8 @@ ghost use Rattle.life_answer.specs.Parts.{counted_codes};
 ghost use Rattle.life_census.specs.Courses.{course_code};
 
 use crate::code::code_of;
-use life_answer::parts::Parts;
-use life_orbit::orbit::Orbit;
+use life_answer::Parts;
+use life_orbit::Orbit;
 use std::alloc::{AllocError, Global};
 
 /// The objects that the sets are, counted by their codes. Their cells are places at age 400,000.

@@ -6,13 +6,11 @@ ghost use Rattle.life_answer.specs.Questions.{finding_to};
 ghost use Rattle.life_answer.specs.declared.question.Question.TheVariants.{Objects};
 
 use crate::parts::parts_of;
-use life_answer::finding::Finding;
-use life_ash::fate::Fate;
-use life_ash::pattern::fate;
-use life_cells::cell_list::CellList;
-use life_cells::rule::Rule;
-use life_orbit::orbit::BOUND_LIMIT;
-use life_plane::plane::Plane;
+use life_answer::Finding;
+use life_ash::{Fate, fate};
+use life_cells::{CellList, Rule};
+use life_orbit::BOUND_LIMIT;
+use life_plane::Plane;
 use std::alloc::{AllocError, Global};
 
 /// What a pattern falls apart into within the bound, counted by codes: `Ash` exactly where it does, else `Unresolved`. But

@@ -7,8 +7,7 @@ ghost use Rattle.life_classes.specs.Tracking.{LeadTo, alone, at_first};
 
 use crate::class::Class;
 use crate::nearness::are_within;
-use life_cells::cell_list::CellList;
-use life_cells::order::put_in_order;
+use life_cells::{CellList, put_in_order};
 use std::alloc::{AllocError, Global};
 
 /// So many cells are looked at together at most, so that two chains are soon compared.

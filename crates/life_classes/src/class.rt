@@ -1,5 +1,5 @@
 //! A set of a pattern's cells, and what has become of it.
-use life_cells::cell_list::CellList;
+use life_cells::CellList;
 
 /// A class: its cells at first, and those that have become of them.
 #[derive(Drop)]

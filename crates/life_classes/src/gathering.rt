@@ -9,8 +9,7 @@ ghost use Rattle.life_classes.specs.Tracking.{LeadTo};
 use crate::class::Class;
 use crate::meeting::Turn;
 use crate::nearness::are_near;
-use life_cells::cell_list::CellList;
-use life_cells::order::put_in_order;
+use life_cells::{CellList, put_in_order};
 use std::alloc::{AllocError, Global};
 
 /// A class and when it was met.

@@ -9,8 +9,7 @@ use crate::gathering::{gathered, in_ranks};
 use crate::meeting::turns;
 use crate::nearness::are_near;
 use crate::tags::{Tag, stand_apart, tags_in_order};
-use life_cells::cell_list::CellList;
-use life_cells::order::put_in_order;
+use life_cells::{CellList, put_in_order};
 use std::alloc::{AllocError, Global};
 
 /// Up to so many classes are compared each with each, which takes fewer steps than to put their cells in order.

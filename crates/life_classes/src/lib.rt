@@ -2,13 +2,17 @@
 #![tactic(auto)]
 
 mod chains;
-pub mod class;
-pub mod classes;
+mod class;
 mod gathering;
 mod joining;
 mod meeting;
 mod nearness;
 mod rows;
+mod splitting;
 mod stepping;
 mod tags;
-pub mod undivided;
+mod undivided;
+
+pub use class::Class;
+pub use splitting::{classes, first_classes};
+pub use undivided::{hold_together, is_undivided};

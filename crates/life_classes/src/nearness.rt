@@ -4,7 +4,7 @@ ghost use Rattle.std.specs.List.{list_any};
 ghost use Rattle.life_classes.specs.Nearness.{are_near, are_within, reaches};
 
 use crate::rows::{rows, rows_about};
-use life_cells::cell_list::CellList;
+use life_cells::CellList;
 
 /// Whether two cells are at most so far from each other in both directions.
 pub fn are_within(reach: u32, cell: (i32, i32), other: (i32, i32)) -> bool

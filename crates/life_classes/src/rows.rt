@@ -7,7 +7,7 @@ ghost use Rattle.life_classes.specs.Nearness.{reaches};
 ghost use Rattle.life_classes.specs.Tags.{number_of};
 
 use crate::tags::number_of;
-use life_cells::cell_list::CellList;
+use life_cells::CellList;
 
 /// Those of the cells that stand in the rows from one to another.
 ///

@@ -10,8 +10,7 @@ use crate::class::Class;
 use crate::nearness::reaches;
 use crate::rows::{numbered, rows, rows_about};
 use crate::tags::{ROW, number_of};
-use life_cells::cell_list::CellList;
-use life_cells::order::put_in_order;
+use life_cells::{CellList, put_in_order};
 use std::alloc::{AllocError, Global};
 
 /// Where there are more than so many cells for each of a set, those near it are looked up one by one.

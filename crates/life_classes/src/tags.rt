@@ -7,7 +7,7 @@ ghost use Rattle.life_classes.specs.Tags.{AreOf, AreOfUpTo, AreRising, AreTags, 
 ghost use Rattle.life_classes.specs.Tracking.{AreApartNow};
 
 use crate::class::Class;
-use life_cells::cell_list::CellList;
+use life_cells::CellList;
 use std::alloc::{AllocError, Global};
 
 /// How much greater the number of a cell is than that of the one above it.

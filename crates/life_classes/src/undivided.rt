@@ -5,12 +5,11 @@ ghost use Rattle.life_objects.specs.Piece.{IsUndivided};
 ghost use Rattle.life_classes.specs.Tracking.{AreFew, HaveDied};
 
 use crate::class::Class;
-use crate::classes::first_classes;
 use crate::joining::all_joined;
+use crate::splitting::first_classes;
 use crate::stepping::stepped;
-use life_cells::cell_list::CellList;
-use life_cells::rule::Rule;
-use life_plane::plane::{AGE_LIMIT, Plane};
+use life_cells::{CellList, Rule};
+use life_plane::{AGE_LIMIT, Plane};
 use std::alloc::{AllocError, Global};
 
 /// Whether nothing is left of the classes from a place on.

@@ -2,7 +2,7 @@
 ghost use Rattle.std.specs.Prelude.{◌≡◌, ◌<◌, ◌∷◌, IsSomeAnd, IsTrue, List, None, OnOk, [], length, unwrap_or, ℕ};
 ghost use Rattle.life_codes.specs.Least.{with_text};
 
-use life_shape::code_text::shorter;
+use life_shape::shorter;
 use std::alloc::{AllocError, Global};
 use std::cmp::Ordering;
 use std::marker::Model;

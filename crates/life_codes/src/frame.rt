@@ -4,7 +4,7 @@ ghost use Rattle.life_cells.specs.Limits.{IsPlace};
 ghost use Rattle.life_shape.specs.Orients.{orientation};
 ghost use Rattle.life_codes.specs.Frames.{IsBounded, frame_of, strips_of, turned_frame, wide_of};
 
-use life_shape::orient::Orient;
+use life_shape::Orient;
 
 /// The least and the greatest places of cells.
 #[derive(Clone, Copy)]

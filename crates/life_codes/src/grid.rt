@@ -8,7 +8,7 @@ ghost use Rattle.life_codes.specs.Frames.{IsBounded, IsInFrame, placed, strips_o
 ghost use Rattle.life_codes.specs.Grids.{HoldsWeights, both_texts};
 
 use crate::frame::Frame;
-use life_shape::orient::Orient;
+use life_shape::Orient;
 use std::alloc::{AllocError, Global};
 
 /// The values of columns of five rows, strip by strip.

@@ -4,7 +4,10 @@
 mod choice;
 mod frame;
 mod grid;
-pub mod least_text;
+mod least_text;
 mod measure;
-pub mod prefix;
+mod prefixes;
 mod writing;
+
+pub use least_text::LeastText;
+pub use prefixes::prefix;

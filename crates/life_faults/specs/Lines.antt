@@ -2,7 +2,7 @@
 use Rattle.std.specs.Prelude.{ℕ, List, ◌++◌, Option, Some, None, codes, decimal}
 use Rattle.life_text.specs.declared.rle.RleFault.{RleFault}
 use Rattle.life_text.specs.declared.rle.RleFault.TheVariants.{NoHeader, BadHeader, RuleNotLifeLike, RuleHasB0, ManyStates, BadChar, BadRun, TooFar, TooMany, NoEnd, Memory}
-use Rattle.life_faults.specs.declared.place.Place.{Place}
+use Rattle.life_faults.specs.declared.places.Place.{Place}
 use Rattle.life_faults.specs.Places.{place_of}
 use Rattle.life_faults.specs.Sentences.{words_of}
 

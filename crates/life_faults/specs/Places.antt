@@ -5,7 +5,7 @@ use Rattle.life_cells.specs.Bytes.{is_space}
 use Rattle.life_text.specs.Rle.{without_comments}
 use Rattle.life_text.specs.declared.rle.RleFault.{RleFault}
 use Rattle.life_text.specs.declared.rle.RleFault.TheVariants.{NoHeader, BadHeader, RuleNotLifeLike, RuleHasB0, ManyStates, BadChar, BadRun, TooFar, TooMany, NoEnd, Memory}
-use Rattle.life_faults.specs.declared.place.Place.{Place}
+use Rattle.life_faults.specs.declared.places.Place.{Place}
 
 -- how often a byte stands in a text
 abbrev pub times_in : ℕ → List ℕ → ℕ

@@ -4,9 +4,7 @@ ghost use Rattle.std.specs.Option.{option_copied};
 ghost use Rattle.life_faults.specs.Places.{header_place};
 ghost use Rattle.life_faults.specs.Rules.{rule_in_header, rule_in_line};
 
-use life_text::header::{after_rule_name, after_sizes, drop_blanks, skip_blanks};
-use life_text::rle::line_end;
-use life_text::skip_spaces;
+use life_text::{after_rule_name, after_sizes, drop_blanks, line_end, skip_blanks, skip_spaces};
 
 /// The place of the first byte that is neither blank nor LF nor in a line of comment, where the header line begins, or
 /// the text's length.

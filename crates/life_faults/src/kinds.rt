@@ -5,7 +5,7 @@ ghost use Rattle.life_cells.specs.Bytes.{is_blank, is_digit};
 ghost use Rattle.life_faults.specs.Rules.{begins_with_range, has_arrangement_behind, has_word_behind, is_arrangement, is_generations, is_in_numbers, is_isotropic, is_larger, is_map, is_name, is_non_totalistic, is_number, is_states, rule_kind};
 
 use crate::bytes::{behind_last, count_of};
-use life_text::bytes::{is_blank, is_digit, is_letter};
+use life_text::{is_blank, is_digit, is_letter};
 
 /// Which kind of rule a text names that is no Life-like rule.
 #[derive(Clone, Copy, Debug, PartialEq, Eq, Drop)]

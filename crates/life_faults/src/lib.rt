@@ -2,13 +2,17 @@
 #![tactic(auto)]
 
 mod bytes;
-pub mod header;
-pub mod kinds;
-pub mod line;
-pub mod place;
-pub mod sentences;
-pub mod told;
+mod header;
+mod kinds;
+mod line;
+mod places;
+mod sentences;
+mod told;
 
-pub use crate::kinds::RuleKind;
-pub use crate::place::Place;
-pub use life_text::rle::RleFault;
+pub use header::{header_place, rule_in_header};
+pub use kinds::{RuleKind, rule_kind};
+pub use life_text::RleFault;
+pub use line::{place, place_of};
+pub use places::Place;
+pub use sentences::{refused_rules_are_told, rule_sentence, sentence, sentences_differ, words_of};
+pub use told::{fault_line, sentence_line};

@@ -4,8 +4,8 @@ ghost use Rattle.life_faults.specs.Places.{place, place_in, place_of};
 
 use crate::bytes::{count_of, last_line_len};
 use crate::header::header_place;
-use crate::place::Place;
-use life_text::rle::RleFault;
+use crate::places::Place;
+use life_text::RleFault;
 
 /// The line and the column of a byte, or of the end of the text, both counted from 1. LF ends a line, and belongs to
 /// it. CR is a byte like any other: where a line ends with CR and LF, CR is the last but one byte of its line, and CR

@@ -5,7 +5,7 @@ ghost use Rattle.life_faults.specs.Sentences.{RuleSentencesDiffer, SentencesDiff
 
 use crate::header::rule_in_header;
 use crate::kinds::{RuleKind, rule_kind};
-use life_text::rle::RleFault;
+use life_text::RleFault;
 
 /// The sentence for a fault: what is wrong, and what would be right.
 pub fn sentence(fault: RleFault) -> &'static str

@@ -3,10 +3,10 @@ ghost use Rattle.std.specs.Prelude.{◌≡◌, ◌++◌, OnOk, IfOk, decimal};
 ghost use Rattle.life_faults.specs.Lines.{fault_line, number_of, numbered, place_text, sentence_line};
 
 use crate::line::place_of;
-use crate::place::Place;
+use crate::places::Place;
 use crate::sentences::words_of;
 use itoa::Buffer;
-use life_text::rle::RleFault;
+use life_text::RleFault;
 use std::alloc::{AllocError, Global};
 
 // Appends a number.

@@ -6,11 +6,10 @@ ghost use Rattle.life_answer.specs.Apgcode.{bodies, code_of, turned_bodies};
 ghost use Rattle.life_codes.specs.Least.{with_text};
 
 use crate::recurrence::Recurrence;
-use life_answer::code::Code;
-use life_cells::rule::Rule;
-use life_codes::least_text::LeastText;
-use life_codes::prefix::prefix;
-use life_plane::plane::{AGE_LIMIT, Plane};
+use life_answer::Code;
+use life_cells::Rule;
+use life_codes::{LeastText, prefix};
+use life_plane::{AGE_LIMIT, Plane};
 use std::alloc::{AllocError, Global};
 
 /// Adds the texts of what a plane holds.

@@ -5,10 +5,9 @@ ghost use Rattle.life_cells.specs.Limits.{IsWithin};
 ghost use Rattle.life_answer.specs.Limited.{first_larger, limited};
 ghost use Rattle.life_answer.specs.declared.finding.Finding.{Finding as Found};
 
-use life_answer::finding::Finding;
-use life_cells::cell_list::CellList;
-use life_cells::rule::Rule;
-use life_plane::plane::{AGE_LIMIT, Plane};
+use life_answer::Finding;
+use life_cells::{CellList, Rule};
+use life_plane::{AGE_LIMIT, Plane};
 use std::alloc::{AllocError, Global};
 
 /// The first generation from 0 to the last that has more cells than so many. No generation after it is looked at.

@@ -1,17 +1,24 @@
 //! When a pattern comes again: its onset, period, displacement and code.
 #![tactic(auto)]
 
-pub mod answer;
+mod answering;
 mod apgcode;
 mod candidates;
-pub mod find;
-pub mod larger;
-pub mod limit;
+mod finding;
+mod larger;
+mod limit;
 mod outline;
 mod recurrence;
 mod rounds;
-pub mod same_object;
+mod sameness;
 mod search;
 mod sighting;
-pub mod soon;
+mod soon;
 mod way;
+
+pub use answering::answer;
+pub use finding::{find, find_cells, find_limited};
+pub use larger::{first_larger, too_large};
+pub use limit::BOUND_LIMIT;
+pub use sameness::same_object;
+pub use soon::answer_soon;

@@ -3,9 +3,8 @@ ghost use Rattle.std.specs.Prelude.{◌≡◌, IfOk};
 ghost use Rattle.life_model.specs.Generation as generations;
 ghost use Rattle.life_find.specs.Outline.{IsOutline, agree, spans_agree};
 
-use life_cells::cell_list::CellList;
-use life_plane::plane::Plane;
-use life_plane::span::span_of;
+use life_cells::CellList;
+use life_plane::{Plane, span_of};
 use std::alloc::AllocError;
 
 /// How many cells a generation has, and how far the last of them is from the first where that was looked at.

@@ -6,13 +6,12 @@ ghost use Rattle.life_answer.specs.Questions.{finding_to};
 ghost use Rattle.life_answer.specs.declared.finding.Finding.TheVariants.{Unresolved};
 ghost use Rattle.life_answer.specs.declared.question.Question.TheVariants.{Settles};
 
-use crate::find::find_cells;
+use crate::finding::find_cells;
 use crate::larger::too_large;
 use crate::limit::BOUND_LIMIT;
-use life_answer::finding::Finding;
-use life_cells::cell_list::CellList;
-use life_cells::rule::Rule;
-use life_plane::plane::Plane;
+use life_answer::Finding;
+use life_cells::{CellList, Rule};
+use life_plane::Plane;
 use std::alloc::{AllocError, Global};
 
 /// Up to which generation the first round goes.

@@ -11,9 +11,8 @@ use crate::limit::BOUND_LIMIT;
 use crate::recurrence::Recurrence;
 use crate::sighting::seen_again;
 use crate::way::way;
-use life_cells::cell_list::CellList;
-use life_cells::rule::Rule;
-use life_plane::plane::{AGE_LIMIT, Plane};
+use life_cells::{CellList, Rule};
+use life_plane::{AGE_LIMIT, Plane};
 use std::alloc::{AllocError, Global};
 
 /// Makes so many steps.

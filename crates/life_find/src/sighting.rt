@@ -10,9 +10,8 @@ use crate::limit::BOUND_LIMIT;
 use crate::outline::{Outline, outline_of, outline_on};
 use crate::recurrence::Recurrence;
 use crate::way::way_to;
-use life_cells::cell_list::CellList;
-use life_cells::rule::Rule;
-use life_plane::plane::{AGE_LIMIT, Plane};
+use life_cells::{CellList, Rule};
+use life_plane::{AGE_LIMIT, Plane};
 use std::alloc::{AllocError, Global};
 
 /// How many generations are compared with the first one.

@@ -4,9 +4,9 @@ ghost use Rattle.life_answer.specs.declared.question.Question.TheVariants.{Settl
 ghost use Rattle.life_answer.specs.Questions.{answer_to_question};
 ghost use Rattle.life_find.specs.Soon.{is_open, soon_reach};
 
-use crate::answer::answer;
+use crate::answering::answer;
 use crate::limit::BOUND_LIMIT;
-use life_answer::finding::{Answer, Finding};
+use life_answer::{Answer, Finding};
 use std::alloc::{AllocError, Global};
 
 /// The greatest bound within which no generation past 256 is looked at, as a search goes up to twice its bound.

@@ -5,8 +5,8 @@ ghost use Rattle.life_plane.specs.Ways.{IsWay};
 ghost use Rattle.life_find.specs.Outline.{IsOutline};
 
 use crate::outline::{Outline, agree};
-use life_cells::cell_list::CellList;
-use life_plane::plane::Plane;
+use life_cells::CellList;
+use life_plane::Plane;
 use std::alloc::AllocError;
 
 /// How far the cells of the plane are from the listed ones, where they are those moved as a whole. They are looked at where

@@ -4,7 +4,7 @@ ghost use Rattle.std.specs.Bool.{OnTrue};
 ghost use Rattle.life_orbit.specs.Hulls.{AreFar, HasAll, IsInside, IsPartOf};
 ghost use Rattle.life_orbit.specs.Reach.{IsReach};
 
-use life_cells::cell_list::CellList;
+use life_cells::CellList;
 
 /// The least and the greatest places of some cells.
 #[derive(Clone, Copy)]

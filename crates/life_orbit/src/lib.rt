@@ -2,10 +2,14 @@
 #![tactic(auto)]
 
 mod horizon;
-pub mod hull;
+mod hull;
 mod meeting;
 mod moving;
 mod near;
-pub mod orbit;
-pub mod shift;
+mod orbit;
+mod shift;
 mod walk;
+
+pub use hull::{Hull, are_far, hull_of};
+pub use orbit::{BOUND_LIMIT, Orbit};
+pub use shift::{repeated, way_at};

@@ -9,7 +9,7 @@ use crate::hull::{Hull, are_far};
 use crate::near::are_clear;
 use crate::orbit::Orbit;
 use crate::shift::way_at;
-use life_cells::cell_list::CellList;
+use life_cells::CellList;
 
 /// The phase that a set has after so many generations.
 fn phase_at(orbit: &Orbit, time: u128) -> &CellList

@@ -4,7 +4,7 @@ ghost use Rattle.life_model.specs.Cell.{plus};
 ghost use Rattle.life_model.specs.Symmetry.{moved};
 ghost use Rattle.life_cells.specs.Limits.{IsPlace};
 
-use life_cells::cell_list::CellList;
+use life_cells::CellList;
 use std::alloc::{AllocError, Global};
 
 /// The number, moved, where it is one of a place of a list of cells then.

@@ -10,9 +10,7 @@ ghost use Rattle.life_orbit.specs.Hulls.{IsHullOf};
 use crate::hull::{Hull, hull_of};
 use crate::moving::moved_sets;
 use crate::walk::{copied, next_list, way};
-use life_cells::cell_list::CellList;
-use life_cells::corner::corner;
-use life_cells::rule::Rule;
+use life_cells::{CellList, Rule, corner};
 use std::alloc::{AllocError, Global};
 use std::marker::Model;
 

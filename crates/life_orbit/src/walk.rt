@@ -5,10 +5,8 @@ ghost use Rattle.life_model.specs.Generation as generations;
 ghost use Rattle.life_cells.specs.Limits.{IsWithin};
 ghost use Rattle.life_plane.specs.Ways.{AreApart, IsWay};
 
-use life_cells::cell_list::CellList;
-use life_cells::rule::Rule;
-use life_plane::evolve::next_cells;
-use life_plane::way::way_between;
+use life_cells::{CellList, Rule};
+use life_plane::{next_cells, way_between};
 use std::alloc::{AllocError, Global};
 
 /// The same set again.

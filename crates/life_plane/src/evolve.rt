@@ -7,8 +7,7 @@ ghost use Rattle.life_model.specs.Generation.{from_list, is_rising};
 ghost use Rattle.life_cells.specs.Limits.{IsWithin};
 ghost use Rattle.life_plane.specs.Field.{HasReached, IsBehind, IsStep, candidates_of, has};
 
-use life_cells::order::put_in_order;
-use life_cells::rule::Rule;
+use life_cells::{Rule, put_in_order};
 use std::alloc::{AllocError, Global};
 use std::cmp::Ordering;
 

@@ -1,8 +1,14 @@
 //! Planes: sets of cells that evolve.
 #![tactic(auto)]
 
-pub mod evolve;
-pub mod list_plane;
-pub mod plane;
-pub mod span;
-pub mod way;
+mod evolve;
+mod list_plane;
+mod plane;
+mod span;
+mod way;
+
+pub use evolve::next_cells;
+pub use list_plane::ListPlane;
+pub use plane::{AGE_LIMIT, Plane};
+pub use span::{move_between, span_of};
+pub use way::way_between;

@@ -5,8 +5,7 @@ ghost use Rattle.life_cells.specs.Limits.{IsWithin};
 
 use crate::evolve::next_cells;
 use crate::plane::Plane;
-use life_cells::cell_list::CellList;
-use life_cells::rule::Rule;
+use life_cells::{CellList, Rule};
 use std::alloc::{AllocError, Global};
 use std::marker::Model;
 

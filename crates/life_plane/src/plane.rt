@@ -9,8 +9,7 @@ ghost use Rattle.life_plane.specs.Ways.{AreApart, IsWay};
 
 use crate::span::span_of;
 use crate::way::way_between;
-use life_cells::cell_list::CellList;
-use life_cells::rule::Rule;
+use life_cells::{CellList, Rule};
 use std::alloc::{AllocError, Global};
 
 /// The greatest age that a plane may reach.

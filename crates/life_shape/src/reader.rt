@@ -8,8 +8,7 @@ ghost use Rattle.life_shape.specs.Drawing.{Begins, Gives, IsSmall, drawn, marks_
 ghost use Rattle.life_shape.specs.declared.reader.CodeFault.TheVariants.{Memory, TooFar};
 
 use crate::shape::Shape;
-use life_cells::cell_list::CellList;
-use life_cells::order::put_in_order;
+use life_cells::{CellList, put_in_order};
 use std::alloc::{AllocError, Global};
 use thiserror::Error;
 

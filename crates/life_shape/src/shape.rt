@@ -11,9 +11,7 @@ ghost use Rattle.life_shape.specs.Wechsler.{body};
 
 use crate::orient::Orient;
 use crate::writer::text_of;
-use life_cells::cell_list::CellList;
-use life_cells::corner::corner;
-use life_cells::order::put_in_order;
+use life_cells::{CellList, corner, put_in_order};
 use std::alloc::{AllocError, Global};
 use std::marker::Model;
 

@@ -7,7 +7,7 @@ ghost use Rattle.life_text.specs.Rle.{part, after_size, after_sizes, after_rule_
 
 use crate::bytes::{is_blank, is_digit};
 use crate::rle::RleFault;
-use life_cells::rule::{Rule, RuleFault, after_byte, after_either};
+use life_cells::{Rule, RuleFault, after_byte, after_either};
 
 /// The text from its first byte on that is no blank, tab or CR.
 pub fn skip_blanks(text: &[u8]) -> &[u8]

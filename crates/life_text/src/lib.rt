@@ -1,21 +1,21 @@
 //! RLE texts of Life-like patterns.
 #![tactic(auto)]
 
-pub mod bytes;
-pub mod header;
-pub mod lines;
-pub mod pattern;
+mod bytes;
+mod header;
+mod lines;
+mod pattern;
 mod pen;
-pub mod rle;
+mod rle;
 mod token;
-pub mod write;
+mod write;
 
-pub use crate::pattern::Pattern;
-pub use crate::rle::{RleFault, read_rle};
-pub use crate::token::skip_spaces;
-pub use crate::write::write_rle;
-pub use life_cells::cell_list::{CellFault, CellList};
-pub use life_cells::rule::{Rule, RuleFault};
-pub use watched::reading::{ReadFault, read_all};
-pub use watched::watched::{Failed, Watched};
-pub use watched::writing::put_all;
+pub use bytes::{is_blank, is_digit, is_letter, is_space};
+pub use header::{after_rule_name, after_sizes, drop_blanks, line_rule, skip_blanks};
+pub use life_cells::{CellFault, CellList, Rule, RuleFault};
+pub use lines::put_token;
+pub use pattern::Pattern;
+pub use rle::{RleFault, line_end, read_rle, rises};
+pub use token::skip_spaces;
+pub use watched::{Failed, ReadFault, Watched, put_all, read_all};
+pub use write::{write_rle, written_texts_are_read};

@@ -3,8 +3,7 @@ ghost use Rattle.std.specs.Prelude.{◌≡◌, All, IfErr, IfOk, OnErr, OnOk};
 ghost use Rattle.life_model.specs.Generation as generation;
 ghost use Rattle.life_cells.specs.Limits.{IsWithin};
 
-use life_cells::cell_list::CellList;
-use life_cells::rule::Rule;
+use life_cells::{CellList, Rule};
 use std::marker::Model;
 
 /// A Life-like rule and a finite set of live cells, whose places are from 0 to 1,048,575.

@@ -15,8 +15,7 @@ use crate::pen::{Pen, advanced, is_too_far, is_too_many, push_span};
 use crate::token::{
     Found, is_bad_run, is_missing, is_no_tag, is_other_state, next_token, skip_spaces,
 };
-use life_cells::cell_list::CellList;
-use life_cells::rule::Rule;
+use life_cells::{CellList, Rule};
 use std::alloc::{AllocError, Global};
 use thiserror::Error;
 

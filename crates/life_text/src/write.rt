@@ -15,9 +15,7 @@ ghost use Rattle.life_text.specs.Writer.{places_from, tokens_from, unwritten};
 
 use crate::lines::put_token;
 use itoa::Buffer;
-use life_cells::cell_list::CellList;
-use life_cells::corner::corner;
-use life_cells::rule::Rule;
+use life_cells::{CellList, Rule, corner};
 use std::alloc::AllocError;
 
 // Where the writer stands: how many characters its line has, the row and the column after the last cell, and how many

@@ -19,8 +19,7 @@ mod touched;
 
 pub use counting::count_tile;
 pub use life_bits::{Around, Strand, Tile, count_planes, next_row};
-pub use life_plane::list_plane::ListPlane;
-pub use life_plane::plane::Plane;
+pub use life_plane::{ListPlane, Plane};
 pub use listing::push_row;
 pub use plane::TilePlane;
 pub use rim::Rim;

@@ -5,11 +5,8 @@ ghost use Rattle.life_tile.specs.Slabs.{IsKept, members_of};
 use crate::ends::is_void;
 use crate::sameness;
 use crate::slab::Slab;
-use life_cells::cell_list::CellList;
-use life_cells::order::put_in_order;
-use life_cells::rule::Rule;
-use life_plane::plane::Plane;
-use life_plane::span::move_between;
+use life_cells::{CellList, Rule, put_in_order};
+use life_plane::{Plane, move_between};
 use std::alloc::{AllocError, Global};
 use std::marker::Model;
 

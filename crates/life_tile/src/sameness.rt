@@ -14,7 +14,7 @@ use crate::grid::split;
 use crate::listing::tile_in;
 use crate::slab::Slab;
 use crate::slot::slot_or_none;
-use life_plane::span::move_between;
+use life_plane::move_between;
 
 /// Whether a cell is live.
 fn is_live(slab: &Slab, cell: (i32, i32)) -> bool

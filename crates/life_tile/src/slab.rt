@@ -19,7 +19,7 @@ use crate::seats::seats_by_rows;
 use crate::slot::{HERE, Slot, connect, links_around, neighbour, slot_or_none, with_link};
 use crate::stepping::{mark_all, next_tiles};
 use life_bits::Tile;
-use life_cells::rule::Rule;
+use life_cells::Rule;
 use std::alloc::{AllocError, Global};
 use std::collections::BTreeMap;
 use std::mem::swap;

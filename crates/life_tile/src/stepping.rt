@@ -10,7 +10,7 @@ use crate::slot::{HERE, Slot};
 use crate::touched::Touched;
 use life_band::{Logic, Window, band};
 use life_bits::{Around, Tile};
-use life_cells::rule::Rule;
+use life_cells::Rule;
 
 /// Makes each of the marks the same.
 pub fn mark_all(marks: &mut [Bands], value: Bands)

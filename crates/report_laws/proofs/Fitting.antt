@@ -3,7 +3,7 @@ use Rattle.std.proofs.Common.{◌≡◌, ℕ, ◌+◌, ◌-◌, ◌*◌, ◌<◌
 use Rattle.std.proofs.lemmas.Bool.{le-leb}
 use Rattle.census_bundle.specs.declared.bundle.Folder.{Folder}
 use Rattle.census_book.specs.Lines.{pattern_count}
-use Rattle.census_merge.specs.declared.sums.Sums.{Sums}
+use Rattle.census_merge.specs.declared.totals.Sums.{Sums}
 use Rattle.census_merge.specs.Sums.{first_excess, none, plus, with_more}
 use Rattle.census_readback.specs.Shapes.{joined}
 use Rattle.census_rows.specs.declared.row.Row.{Row}

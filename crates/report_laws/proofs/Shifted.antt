@@ -2,7 +2,7 @@
 use Rattle.std.proofs.Common.{◌≡◌, ℕ, zero, suc, ◌+◌, ◌≤◌, true, false, cond, eqb, Option, Some, None as Nothing, List, [], ◌∷◌, ◌++◌, map, ap, ◌∙◌, sym, refl, arith, append_assoc}
 use Rattle.std.proofs.Math.Dec.{eqb-suc-zero}
 use Rattle.std.proofs.lemmas.Bool.{eq-eqb, eqb-false, eqb-true, ne_eqb}
-use Rattle.census_merge.specs.declared.sums.Sums.{Sums}
+use Rattle.census_merge.specs.declared.totals.Sums.{Sums}
 use Rattle.census_merge.specs.Sums.{plus, sums_in, sums_of}
 use Rattle.census_merge.specs.Merged.{numbered_on, renumbered}
 use Rattle.census_readback.specs.Steps.{collection_of}

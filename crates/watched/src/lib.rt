@@ -6,6 +6,10 @@
 #![tactic(auto)]
 
 mod interrupted;
-pub mod reading;
-pub mod watched;
-pub mod writing;
+mod reading;
+mod watched;
+mod writing;
+
+pub use reading::{ReadFault, read_all};
+pub use watched::{Failed, Watched};
+pub use writing::put_all;

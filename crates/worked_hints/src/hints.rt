@@ -1,15 +1,13 @@
 //! Hints of bundles, and of folders on a shelf in memory.
 
-use census_bundle::bundle::Bundle;
-use census_bundle::reading::read_bundle;
-use census_folders::reading::read_folders;
-use census_folders::shelf::Shelf;
+use census_bundle::{Bundle, read_bundle};
+use census_folders::{Shelf, read_folders};
 use census_hints::hint_lines;
 use std::alloc::Global;
 use std::process::Abort;
 use std::test::Fail;
-use watched::reading::ReadFault;
-use worked_inputs::memory::{Leaf, Memory};
+use watched::ReadFault;
+use worked_inputs::{Leaf, Memory};
 
 // A regular file, or without a name a folder.
 macro_rules! leaf {

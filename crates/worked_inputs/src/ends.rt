@@ -4,9 +4,7 @@ use std::alloc::Global;
 use std::io;
 use std::io::{ErrorKind, Read, Write};
 use std::test::Fail;
-use watched::reading::{ReadFault, read_all};
-use watched::watched::{Failed, Watched};
-use watched::writing::put_all;
+use watched::{Failed, ReadFault, Watched, put_all, read_all};
 
 /// Gives its bytes one at a time, fails once they are gone, and counts the calls.
 #[derive(Drop)]

@@ -2,10 +2,8 @@
 
 use crate::memory::{Leaf, Memory};
 use crate::shown::{Shown, check};
-use census_bundle::bundle::AddFault;
-use census_folders::fault::FoldersFault;
-use census_folders::reading::read_folders;
-use census_folders::walking::folders_below;
+use census_bundle::AddFault;
+use census_folders::{FoldersFault, folders_below, read_folders};
 use std::alloc::Global;
 use std::fs;
 use std::io::pipe;
@@ -207,7 +205,7 @@ fn a_file_of_100_kib_is_read_whole(rt: HostRuntime) -> Result<(), Fail> {
 }
 
 // Whether these are the folders at and below a word.
-fn check_below<S: census_folders::shelf::Shelf>(
+fn check_below<S: census_folders::Shelf>(
     rt: &impl Abort,
     alloc: Global,
     shelf: &S,

@@ -3,11 +3,8 @@
 use crate::folders::leaf;
 use crate::memory::{Leaf, Memory};
 use crate::shown::{Shown, check};
-use census_bundle::bundle::AddFault;
-use census_bundle::ticket::Ticket;
-use census_folders::fault::FoldersFault;
-use census_folders::keeping::read_folders_on;
-use census_folders::loss::Losses;
+use census_bundle::{AddFault, Ticket};
+use census_folders::{FoldersFault, Losses, read_folders_on};
 use std::fs;
 use std::process::Abort;
 use std::test::Fail;

@@ -11,10 +11,12 @@ mod ends;
 mod folders;
 #[cfg(test)]
 mod keeping;
-pub mod memory;
+mod memory;
 #[cfg(test)]
 mod shown;
 #[cfg(test)]
 mod trees;
 #[cfg(test)]
 mod words;
+
+pub use memory::{Leaf, Memory};

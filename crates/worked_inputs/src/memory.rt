@@ -3,9 +3,9 @@ ghost use Rattle.std.specs.Prelude.{◌≡◌, [], IfSome, IfNone, codes};
 ghost use Rattle.census_folders.specs.Told.{Unreadable};
 ghost use Rattle.worked_inputs.specs.Memory.{told_in, told_of};
 
-use census_folders::shelf::Shelf;
+use census_folders::Shelf;
 use std::alloc::Global;
-use watched::reading::ReadFault;
+use watched::ReadFault;
 
 /// What stands under a name in a folder: bytes, of a regular file or of something else. Without a name it is the folder
 /// itself, whose bytes are its names, each ended by a byte 0; and under the name of a slash stand those of its names that

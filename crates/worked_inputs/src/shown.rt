@@ -1,5 +1,5 @@
 //! What a bundle holds.
-use census_bundle::bundle::{Bundle, Folder};
+use census_bundle::{Bundle, Folder};
 use std::process::Abort;
 
 /// A folder's name, and the names and texts of its entries.

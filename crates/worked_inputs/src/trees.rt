@@ -3,15 +3,14 @@
 use crate::folders::leaf;
 use crate::keeping::{Gone, check_lost};
 use crate::memory::{Leaf, Memory};
-use census_folders::fault::FoldersFault;
-use census_folders::trees::{folders_below_each, folders_below_each_on};
+use census_folders::{FoldersFault, folders_below_each, folders_below_each_on};
 use std::alloc::Global;
 use std::fs;
 use std::process::Abort;
 use std::test::Fail;
 
 // Whether these are the folders at and below words, and this is what is lost on the way.
-fn check_trees<S: census_folders::shelf::Shelf>(
+fn check_trees<S: census_folders::Shelf>(
     rt: &impl Abort,
     alloc: Global,
     shelf: &S,
@@ -29,7 +28,7 @@ fn check_trees<S: census_folders::shelf::Shelf>(
 }
 
 // Whether the walk that goes on finds what the walk that stops does, and loses nothing.
-fn check_whole<S: census_folders::shelf::Shelf>(
+fn check_whole<S: census_folders::Shelf>(
     rt: &impl Abort,
     alloc: Global,
     shelf: &S,

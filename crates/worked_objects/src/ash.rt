@@ -1,9 +1,8 @@
 //! Patterns of Life whose ash is known, and the codes of its parts.
-use life_answer::finding::Finding;
-use life_cells::cell_list::CellList;
-use life_cells::rule::Rule;
-use life_census::pattern::census;
-use life_plane::list_plane::ListPlane;
+use life_answer::Finding;
+use life_cells::{CellList, Rule};
+use life_census::census;
+use life_plane::ListPlane;
 use std::alloc::{AllocError, Global};
 use std::test::Fail;
 

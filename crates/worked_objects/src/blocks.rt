@@ -1,8 +1,7 @@
 //! Texts and their blocks.
 
-use census_blocks::block::block;
-use census_blocks::known::BOUND_LIMIT;
-use life_text::rle::RleFault;
+use census_blocks::{BOUND_LIMIT, block};
+use life_text::RleFault;
 use std::test::Fail;
 
 // A block, a blinker, and a glider that goes away from both.

@@ -1,9 +1,7 @@
 //! Small patterns of Life whose classes are known.
-use life_cells::cell_list::CellList;
-use life_cells::rule::Rule;
-use life_classes::classes::classes;
-use life_plane::list_plane::ListPlane;
-use life_plane::plane::{AGE_LIMIT, Plane};
+use life_cells::{CellList, Rule};
+use life_classes::classes;
+use life_plane::{AGE_LIMIT, ListPlane, Plane};
 use std::test::Fail;
 
 // A glider, and a block far away.

@@ -1,10 +1,7 @@
 //! Texts of every fault, and the lines that tell them.
 
-use life_faults::kinds::{RuleKind, rule_kind};
-use life_faults::line::{place, place_of};
-use life_faults::sentences::sentence;
-use life_faults::told::{fault_line, sentence_line};
-use life_text::rle::{RleFault, read_rle};
+use life_faults::{RuleKind, fault_line, place, place_of, rule_kind, sentence, sentence_line};
+use life_text::{RleFault, read_rle};
 use std::alloc::Global;
 use std::process::Abort;
 use std::test::Fail;

@@ -2,9 +2,8 @@
 ghost use Rattle.std.specs.Prelude.{◌≡◌, IfOk, IfSome};
 ghost use Rattle.life_cells.specs.Rules.{life};
 
-use life_cells::cell_list::{CellFault, CellList};
-use life_cells::rule::Rule;
-use life_orbit::orbit::Orbit;
+use life_cells::{CellFault, CellList, Rule};
+use life_orbit::Orbit;
 use std::alloc::Global;
 use std::test::Fail;
 

@@ -1,18 +1,14 @@
 //! Faults, and the lines that explain them.
 
-use census_bundle::bundle::AddFault;
-use census_bundle::fault::BundleFault;
-use census_faults::explained::explained;
-use census_faults::fault::{rule_fault, text_fault};
-use census_faults::printed::printed;
-use census_faults::refusal::refusal_line;
-use census_faults::spot::{spot_of_bundle, spot_of_code, spot_of_text};
-use census_faults::{Fault, Spot};
-use life_cells::rule::RuleFault;
-use life_faults::kinds::RuleKind;
-use life_faults::place::Place;
-use life_shape::reader::CodeFault;
-use life_text::rle::RleFault;
+use census_bundle::{AddFault, BundleFault};
+use census_faults::{
+    Fault, Spot, explained, printed, refusal_line, rule_fault, spot_of_bundle, spot_of_code,
+    spot_of_text, text_fault,
+};
+use life_cells::RuleFault;
+use life_faults::{Place, RuleKind};
+use life_shape::CodeFault;
+use life_text::RleFault;
 use std::test::Fail;
 
 // An RLE text under a rule that has a name.

@@ -1,11 +1,10 @@
 //! Words that name files or standard input, and what is told of them.
 
-use census_folders::shelf::Shelf;
-use census_identify::identify::identify;
+use census_folders::Shelf;
+use census_identify::identify;
 use std::alloc::Global;
 use std::test::Fail;
-use watched::reading::ReadFault;
-use watched::watched::Watched;
+use watched::{ReadFault, Watched};
 
 const GLIDER: &[u8] = b"x = 3, y = 3, rule = B3/S23\nbo$2bo$3o!";
 

@@ -1,10 +1,8 @@
 //! Planes of both kinds: gliders that cross the corners of tiles, copies, and planes that begin at an age.
 
 use crate::evolved::{after, shows, step};
-use life_cells::cell_list::CellList;
-use life_cells::rule::Rule;
-use life_plane::list_plane::ListPlane;
-use life_plane::plane::{AGE_LIMIT, Plane};
+use life_cells::{CellList, Rule};
+use life_plane::{AGE_LIMIT, ListPlane, Plane};
 use life_tile::TilePlane;
 use std::alloc::{AllocError, Global};
 use std::process::Abort;

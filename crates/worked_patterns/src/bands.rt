@@ -2,7 +2,7 @@
 
 use life_band::{Change, Logic, RowSums, Window, band, sums};
 use life_bits::{Around, Sum, Tile};
-use life_cells::rule::{Rule, RuleFault};
+use life_cells::{Rule, RuleFault};
 
 #[test]
 fn of_the_words_beside_a_row_only_the_nearest_bits_count(rt: HostRuntime) {

@@ -1,7 +1,6 @@
 //! Rule texts and lists of cells, by what they show.
 
-use life_cells::cell_list::{CellFault, CellList};
-use life_cells::rule::{Rule, RuleFault};
+use life_cells::{CellFault, CellList, Rule, RuleFault};
 use std::alloc::Global;
 use std::test::Fail;
 

@@ -1,7 +1,7 @@
 //! The least texts of sets in all eight orientations.
 
-use life_codes::least_text::LeastText;
-use life_shape::reader::read_wechsler;
+use life_codes::LeastText;
+use life_shape::read_wechsler;
 use std::alloc::Global;
 use std::process::Abort;
 use std::test::Fail;

@@ -1,8 +1,7 @@
 //! Planes after some generations.
 
-use life_cells::cell_list::CellList;
-use life_cells::rule::Rule;
-use life_plane::plane::{AGE_LIMIT, Plane};
+use life_cells::{CellList, Rule};
+use life_plane::{AGE_LIMIT, Plane};
 use std::alloc::{AllocError, Global};
 use std::process::Abort;
 use std::test::Fail;

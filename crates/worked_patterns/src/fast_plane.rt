@@ -1,9 +1,8 @@
 //! The fast plane: spans and ways across tiles, another rule, and the tiles that it keeps.
 
 use crate::evolved::{after, shows, step};
-use life_cells::cell_list::CellList;
-use life_cells::rule::Rule;
-use life_plane::plane::Plane;
+use life_cells::{CellList, Rule};
+use life_plane::Plane;
 use life_tile::TilePlane;
 use std::alloc::Global;
 use std::process::Abort;

@@ -2,13 +2,10 @@
 //! that grows.
 ghost use Rattle.std.specs.Prelude.{◌≤◌};
 
-use life_answer::finding::{Answer, Finding};
-use life_find::find::find_limited;
-use life_find::limit::BOUND_LIMIT;
-use life_find::soon::answer_soon;
-use life_plane::list_plane::ListPlane;
-use life_plane::plane::Plane;
-use life_text::rle::read_rle;
+use life_answer::{Answer, Finding};
+use life_find::{BOUND_LIMIT, answer_soon, find_limited};
+use life_plane::{ListPlane, Plane};
+use life_text::read_rle;
 use life_tile::TilePlane;
 use std::alloc::Global;
 use std::process::Abort;

@@ -1,8 +1,7 @@
 //! Whether two sets of cells become one object.
 
-use life_cells::cell_list::CellList;
-use life_cells::rule::Rule;
-use life_find::same_object::same_object;
+use life_cells::{CellList, Rule};
+use life_find::same_object;
 use std::alloc::Global;
 use std::process::Abort;
 use std::test::Fail;

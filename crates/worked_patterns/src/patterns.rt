@@ -1,13 +1,10 @@
 //! What is found of patterns: over planes of either kind, and as the answer to their texts.
 
-use life_answer::finding::{Answer, Finding};
-use life_cells::rule::Rule;
-use life_find::answer::answer;
-use life_find::find::find;
-use life_find::limit::BOUND_LIMIT;
-use life_plane::list_plane::ListPlane;
-use life_plane::plane::Plane;
-use life_text::rle::read_rle;
+use life_answer::{Answer, Finding};
+use life_cells::Rule;
+use life_find::{BOUND_LIMIT, answer, find};
+use life_plane::{ListPlane, Plane};
+use life_text::read_rle;
 use life_tile::TilePlane;
 use std::alloc::Global;
 use std::process::Abort;

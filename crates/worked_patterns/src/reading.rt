@@ -1,7 +1,7 @@
 //! RLE texts that are read.
 
-use life_cells::rule::Rule;
-use life_text::rle::{RleFault, read_rle};
+use life_cells::Rule;
+use life_text::{RleFault, read_rle};
 use std::alloc::Global;
 use std::test::Fail;
 

@@ -1,11 +1,8 @@
 //! Shapes and Wechsler texts.
 
-use life_answer::code::Code;
-use life_cells::cell_list::{CellFault, CellList};
-use life_shape::code_text::{body_of, shorter};
-use life_shape::orient::Orient;
-use life_shape::reader::{CodeFault, read_wechsler};
-use life_shape::shape::Shape;
+use life_answer::Code;
+use life_cells::{CellFault, CellList};
+use life_shape::{CodeFault, Orient, Shape, body_of, read_wechsler, shorter};
 use std::alloc::Global;
 use std::cmp::Ordering;
 use std::test::Fail;

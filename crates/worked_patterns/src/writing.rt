@@ -1,9 +1,7 @@
 //! RLE texts that are written.
 
-use life_cells::cell_list::CellList;
-use life_cells::rule::Rule;
-use life_text::pattern::Pattern;
-use life_text::write::write_rle;
+use life_cells::{CellList, Rule};
+use life_text::{Pattern, write_rle};
 use std::alloc::Global;
 use std::test::Fail;
 

@@ -1,16 +1,14 @@
 //! Reports that files and standard input have, written as one report or as a table.
 
 use crate::lines::lines_of;
-use census_reports::error::ReportsError;
-use census_reports::form::Form;
-use census_reports::reports::write_reports;
-use census_rows::row::Row;
+use census_reports::{Form, ReportsError, write_reports};
+use census_rows::Row;
 use std::alloc::{AllocError, Global};
 use std::io;
 use std::io::{ErrorKind, Read, Write};
 use std::test::Fail;
-use watched::watched::Watched;
-use worked_inputs::memory::{Leaf, Memory};
+use watched::Watched;
+use worked_inputs::{Leaf, Memory};
 
 const FIRST: &[u8] = b"open 1 2 a
 line 1 1 ok B3/S23 4 0 1 0 0 xs4_33 block

@@ -1,12 +1,11 @@
 //! Bytes that are told at once and are more than a block has.
 
 use crate::files::FailingWriter;
-use gathered::block::Block;
-use gathered::putting::{put, send};
+use gathered::{Block, put, send};
 use std::alloc::{AllocError, Global};
 use std::io::Write;
 use std::test::Fail;
-use watched::watched::{Failed, Watched};
+use watched::{Failed, Watched};
 
 const FIRST: &[u8] = b"first ";
 

@@ -1,11 +1,9 @@
 //! Rows as a text.
 
-use census_rows::row::Row;
-use census_rows::write::put_row;
-use gathered::block::Block;
-use gathered::putting::{put, send};
+use census_rows::{Row, put_row};
+use gathered::{Block, put, send};
 use std::alloc::{AllocError, Global};
-use watched::watched::Watched;
+use watched::Watched;
 
 // The rows' lines.
 pub fn lines_of(alloc: Global, rows: &[Row]) -> Result<Vec<u8>, AllocError> {

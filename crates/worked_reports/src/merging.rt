@@ -1,11 +1,10 @@
 //! Reports that are merged: collections numbered on, and one `end` line with the sums.
 
-use census_merge::merging::{put_merged, sums};
-use census_readback::reading::read_report;
-use gathered::block::Block;
-use gathered::putting::send;
+use census_merge::{put_merged, sums};
+use census_readback::read_report;
+use gathered::{Block, send};
 use std::alloc::{AllocError, Global};
-use watched::watched::Watched;
+use watched::Watched;
 
 // Two reports, whose sections interleave, and one of no collection between them.
 pub const PARTS: &[u8] = b"open 2 1 b

@@ -1,7 +1,7 @@
 //! Reports as a page.
 
-use census_page::page::page;
-use census_readback::reading::read_report;
+use census_page::page;
+use census_readback::read_report;
 use std::alloc::{AllocError, Global};
 
 // Two collections that interleave, with each status, and names with markup, quotes, an entity, and

@@ -1,9 +1,8 @@
 //! Reports that are read back: lines, collections, and the line of a fault.
 
 use crate::lines::lines_of;
-use census_readback::reading::read_report;
-use census_readback::sections::collections;
-use census_rows::row::{Outcome, Row};
+use census_readback::{collections, read_report};
+use census_rows::{Outcome, Row};
 use std::alloc::{AllocError, Global};
 
 const RUN: &[u8] = b"open 1 5 demo

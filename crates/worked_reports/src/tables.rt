@@ -1,13 +1,12 @@
 //! Reports as tables, in CSV and as JSON lines.
 
 use crate::merging::{MERGED, PARTS};
-use census_readback::reading::read_report;
-use census_table::table::{Format, put_table};
-use gathered::block::Block;
-use gathered::putting::send;
+use census_readback::read_report;
+use census_table::{Format, put_table};
+use gathered::{Block, send};
 use std::alloc::{AllocError, Global};
 use std::test::Fail;
-use watched::watched::Watched;
+use watched::Watched;
 
 // Two collections that interleave, with each status, and names with a blank, quotes, a comma, and
 // bytes that are not UTF-8.

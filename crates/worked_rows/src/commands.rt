@@ -3,7 +3,7 @@
 use crate::bundles::{DEMO, DEMO_REPORT};
 use crate::ends::Broken;
 use crate::program::{called, called_through};
-use census_crew::gate::OpenGate;
+use census_crew::OpenGate;
 use std::alloc::Global;
 use std::io::Read;
 use std::rt::Files;

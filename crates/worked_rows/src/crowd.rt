@@ -2,8 +2,8 @@
 
 use crate::bundles::{DEMO, DEMO_REPORT};
 use crate::program::called_through;
-use census_bundle::ticket::Ticket;
-use census_crew::gate::Gate;
+use census_bundle::Ticket;
+use census_crew::Gate;
 use std::sync::atomic::{AtomicU64, Ordering};
 
 // How often a worker looks whether the others have come.

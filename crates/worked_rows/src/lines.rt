@@ -1,11 +1,7 @@
 //! The lines on standard error.
 
-use census_bundle::bundle::AddFault;
-use census_bundle::fault::BundleFault;
-use census_command::advance_error::AdvanceError;
-use census_command::draw_error::DrawError;
-use census_command::error::CommandError;
-use census_command::run_error::RunError;
+use census_bundle::{AddFault, BundleFault};
+use census_command::{AdvanceError, CommandError, DrawError, RunError};
 use std::test::Fail;
 
 #[test]

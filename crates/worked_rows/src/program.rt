@@ -1,8 +1,7 @@
 //! One call of the program.
 
-use census_command::dispatch::dispatch;
-use census_command::streams::{ErrorStream, Streams};
-use census_crew::gate::{Gate, OpenGate};
+use census_command::{ErrorStream, Streams, dispatch};
+use census_crew::{Gate, OpenGate};
 use std::alloc::Global;
 use std::io::{Read, Write};
 use std::rt::Files;

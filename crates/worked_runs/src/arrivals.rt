@@ -1,17 +1,13 @@
 //! Results that arrive in some order, and reports that the caller works alone.
 
 use crate::bundles::{TWO_FOLDERS_REPORT, two_folders};
-use census_book::collector::Collector;
-use census_book::done::Done;
-use census_book::offer::Offer;
-use census_bundle::bundle::Bundle;
-use census_bundle::ticket::Ticket;
-use census_crew::settling::settle;
-use census_crew::tally::Tally;
-use life_answer::question::Question;
+use census_book::{Collector, Done, Offer};
+use census_bundle::{Bundle, Ticket};
+use census_crew::{Tally, settle};
+use life_answer::Question;
 use std::alloc::Global;
 use std::test::Fail;
-use watched::watched::Watched;
+use watched::Watched;
 
 /// A result that comes: its ticket, the pattern that was worked for it, what becomes of it, the text that it releases,
 /// and the least ticket that is missing then. A ticket is a folder and a number.

@@ -1,8 +1,8 @@
 //! Bundles and their reports.
 
-use census_bundle::bundle::{AddFault, Bundle};
-use census_crew::tally::Tally;
-use life_answer::question::Question;
+use census_bundle::{AddFault, Bundle};
+use census_crew::Tally;
+use life_answer::Question;
 use std::alloc::Global;
 
 // A folder `demo` of five patterns.

@@ -3,8 +3,8 @@ ghost use Rattle.std.specs.Prelude.{◌≡◌, true, All, IfOk};
 ghost use Rattle.census_feed.specs.Items.{ends_with_mark};
 ghost use Rattle.census_feed.specs.Feeds.{list_of, AreHandsOf, SameHand};
 
-use census_bundle::ticket::Ticket;
-use census_feed::handles::{Feed, Hand};
+use census_bundle::Ticket;
+use census_feed::{Feed, Hand};
 use std::alloc::AllocError;
 use std::sync::Wait;
 use std::thread;

@@ -1,20 +1,15 @@
 //! Readers and writers that fail, take little at a time, or never end.
 
 use crate::bundles::{DEMO, DEMO_REPORT, SETTLES, TWO_FOLDERS_REPORT, demo_tally, two_folders};
-use census_bundle::bundle::Bundle;
-use census_bundle::reading::read_bundle;
-use census_crew::bytes::{BytesFault, run_bytes};
-use census_crew::fault::RunFault;
-use census_crew::gate::OpenGate;
-use census_crew::run::run;
-use census_crew::settling::settle;
+use census_bundle::{Bundle, read_bundle};
+use census_crew::{BytesFault, OpenGate, RunFault, run, run_bytes, settle};
 use std::alloc::Global;
 use std::io;
 use std::io::{ErrorKind, Read, Write};
 use std::sync::Wait;
 use std::test::Fail;
 use std::thread::Threads;
-use watched::watched::Watched;
+use watched::Watched;
 
 /// Gives its bytes, and fails once they are gone.
 #[derive(Drop)]

@@ -1,8 +1,7 @@
 //! What faults say.
 
-use census_bundle::fault::BundleFault;
-use census_crew::bytes::BytesFault;
-use census_crew::fault::RunFault;
+use census_bundle::BundleFault;
+use census_crew::{BytesFault, RunFault};
 use std::alloc::{AllocError, Global};
 use std::fmt::Display;
 use std::test::Fail;

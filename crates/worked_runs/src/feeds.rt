@@ -1,8 +1,7 @@
 //! Feeds that hands draw from, in one thread and in several.
 use crate::draining::{drain, take_at};
-use census_bundle::bundle::Bundle;
-use census_bundle::ticket::Ticket;
-use census_feed::handles::Feed;
+use census_bundle::{Bundle, Ticket};
+use census_feed::Feed;
 use std::alloc::Global;
 use std::sync::Mutex;
 use std::test::*;

@@ -2,20 +2,15 @@
 ghost use Rattle.std.specs.Prelude.{◌≤◌};
 
 use crate::bundles::{DEMO, DEMO_REPORT, SETTLES, blinkers, demo_tally};
-use census_bundle::bundle::Bundle;
-use census_bundle::reading::read_bundle;
-use census_bundle::ticket::Ticket;
-use census_crew::bytes::run_bytes;
-use census_crew::gate::{Gate, OpenGate};
-use census_crew::run::run;
-use census_crew::tally::Tally;
-use life_answer::question::Question;
+use census_bundle::{Bundle, Ticket, read_bundle};
+use census_crew::{Gate, OpenGate, Tally, run, run_bytes};
+use life_answer::Question;
 use std::alloc::Global;
 use std::sync::Wait;
 use std::sync::atomic::{AtomicU64, Ordering};
 use std::test::Fail;
 use std::thread::Threads;
-use watched::watched::Watched;
+use watched::Watched;
 
 // How often a gate looks whether others have come.
 const TURNS: u64 = 1_000_000_000;

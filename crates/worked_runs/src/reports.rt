@@ -2,14 +2,9 @@
 ghost use Rattle.std.specs.Prelude.{◌≤◌};
 
 use crate::bundles::{DEMO, DEMO_REPORT};
-use census_book::collector::Collector;
-use census_book::done::Done;
-use census_book::offer::Offer;
-use census_bundle::bundle::{AddFault, Bundle};
-use census_bundle::reading::read_bundle;
-use census_bundle::ticket::Ticket;
-use life_answer::finding::Answer;
-use life_answer::question::Question;
+use census_book::{Collector, Done, Offer};
+use census_bundle::{AddFault, Bundle, Ticket, read_bundle};
+use life_answer::{Answer, Question};
 use std::alloc::Global;
 use std::test::Fail;
 

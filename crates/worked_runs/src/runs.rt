@@ -1,15 +1,12 @@
 //! A bundle text that is run by one worker and by many, and from a feed of the caller's.
 
 use crate::bundles::{DEMO, DEMO_REPORT, SETTLES, demo_tally};
-use census_bundle::reading::read_bundle;
-use census_bundle::ticket::Ticket;
-use census_crew::bytes::run_bytes;
-use census_crew::gate::{Gate, OpenGate};
-use census_crew::run::{run, run_on};
-use census_feed::handles::Feed;
+use census_bundle::{Ticket, read_bundle};
+use census_crew::{Gate, OpenGate, run, run_bytes, run_on};
+use census_feed::Feed;
 use std::sync::atomic::{AtomicU64, Ordering};
 use std::test::Fail;
-use watched::watched::Watched;
+use watched::Watched;
 
 #[test]
 fn a_bundle_has_one_report_by_any_number_of_workers(rt: HostRuntime) -> Result<(), Fail> {

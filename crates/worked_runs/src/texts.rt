@@ -1,10 +1,7 @@
 //! Worked rows of bundles and bundle texts.
 use crate::bundles::DEMO;
 use crate::faults::says;
-use census_bundle::bundle::{AddFault, Bundle};
-use census_bundle::fault::BundleFault;
-use census_bundle::reading::read_bundle;
-use census_bundle::ticket::Ticket;
+use census_bundle::{AddFault, Bundle, BundleFault, Ticket, read_bundle};
 use std::alloc::Global;
 use std::test::Fail;
 

@@ -1,0 +1,88 @@
+use Rattle.std.proofs.Common.{List, ℕ, ◌++◌, inl, inr, refl, sym, ap, subst, map}
+use Rattle.census_reports.specs.declared.form.Form.TheVariants as form
+use Rattle.census_command.specs.Outcomes.{IsIdentify, IsRemaking}
+use Rattle.census_command.specs.Messages.{error_line}
+use Rattle.census_command.specs.Sayings.{said_if}
+use Rattle.census_command.specs.Streams.{Tells, TellsIf}
+use Rattle.census_command.proofs.Outcomes.{are_explained, ends_answered, ends_done, ends_failed}
+use Rattle.census_command.proofs.Said.{says_at}
+use Rattle.census_command.proofs.dispatching.dispatch.Goals as goal
+
+pub returns-in-Err : goal.returns-in-Err
+returns-in-Err g c = inr (inr (inr (ends_answered _ _ _ _ _ _ _ c.in-Err.fault c.in-Err.ensures c.answer.ensures)))
+
+pub returns-in-Identify : goal.returns-in-Identify
+returns-in-Identify g c =
+    let words = map (λ s. s.now) c.as_slice.result.now in
+    rw (← c.streams.view_is, ← c.errors.view_is)
+    (inl (record {
+      bound = c.in-Identify.bound;
+      files = words;
+      asked = record {
+        request = c.in-Ok.asked.request;
+        asked = c.in-Ok.ensures.0;
+        is = subst (λ r. IsIdentify r c.in-Identify.bound words) (sym c.in-Identify.is) (refl, ap (λ files. map (λ s. s.now) files) c.as_slice.ensures.value);
+      };
+      identifies = c.identify.ensures;
+    }))
+
+pub returns-in-Merge : goal.returns-in-Merge
+returns-in-Merge g c =
+    let files = map (λ s. s.now) c.as_slice-in-Merge.result.now in
+    inr (inl (record {
+      request = c.in-Ok.asked.request;
+      asked = c.in-Ok.ensures.0;
+      form = form.Merged;
+      files = files;
+      is = subst (λ r. IsRemaking r form.Merged files) (sym c.in-Merge.is) (refl, ap (λ fs. map (λ s. s.now) fs) c.as_slice-in-Merge.ensures.value);
+      explain = c.explains-explain.result;
+      explained = are_explained (map (λ s. s.now) c.args.words.now) c.args.errors.now c.in-Ok.asked.explain c.explains-explain.result c.in-Ok.ensures.1 c.explains-explain.ensures;
+      remakes = c.remake.ensures;
+    }))
+
+pub returns-in-Table : goal.returns-in-Table
+returns-in-Table g c =
+    let files = map (λ s. s.now) c.as_slice-in-Table.result.now in
+    inr (inl (record {
+      request = c.in-Ok.asked.request;
+      asked = c.in-Ok.ensures.0;
+      form = c.form_of-form.result;
+      files = files;
+      is = subst (λ r. IsRemaking r c.form_of-form.result files) (sym c.in-Table.is) (c.form_of-form.ensures, ap (λ fs. map (λ s. s.now) fs) c.as_slice-in-Table.ensures.value);
+      explain = c.explains-explain.result;
+      explained = are_explained (map (λ s. s.now) c.args.words.now) c.args.errors.now c.in-Ok.asked.explain c.explains-explain.result c.in-Ok.ensures.1 c.explains-explain.ensures;
+      remakes = c.remake-in-Table.ensures;
+    }))
+
+pub returns-in-Page : goal.returns-in-Page
+returns-in-Page g c =
+    let files = map (λ s. s.now) c.as_slice-in-Page.result.now in
+    inr (inl (record {
+      request = c.in-Ok.asked.request;
+      asked = c.in-Ok.ensures.0;
+      form = form.Page;
+      files = files;
+      is = subst (λ r. IsRemaking r form.Page files) (sym c.in-Page.is) (refl, ap (λ fs. map (λ s. s.now) fs) c.as_slice-in-Page.ensures.value);
+      explain = c.explains-explain.result;
+      explained = are_explained (map (λ s. s.now) c.args.words.now) c.args.errors.now c.in-Ok.asked.explain c.explains-explain.result c.in-Ok.ensures.1 c.explains-explain.ensures;
+      remakes = c.remake-in-Page.ensures;
+    }))
+
+pub returns-in-Ok-execute : goal.returns-in-Ok-execute
+returns-in-Ok-execute g c =
+    let explain = c.explains-explain.result in
+    let explained = are_explained (map (λ s. s.now) c.args.words.now) c.args.errors.now c.in-Ok.asked.explain explain c.in-Ok.ensures.1 c.explains-explain.ensures in
+    let told = subst (λ (l : List ℕ). TellsIf explain l c.args.errors.now c.tell_if.new.errors) c.as_slice-in-Ok-execute.ensures.value c.tell_if.ensures in
+    inr (inr (inr (ends_done _ _ _ _ _ _ c.in-Ok.asked.request explain c.in-Ok-execute.lines.items c.in-Ok.ensures.0 explained
+    c.in-Ok-execute.ensures.done c.in-Ok-execute.ensures.sound told)))
+
+pub returns : goal.returns
+returns g c =
+    let explain = c.explains-explain.result in
+    let explained = are_explained (map (λ s. s.now) c.args.words.now) c.args.errors.now c.in-Ok.asked.explain explain c.in-Ok.ensures.1 c.explains-explain.ensures in
+    let error = c.in-Err-execute.error in
+    let place = c.place_if-place.result in
+    let lines = subst (λ (l : List ℕ). Tells (error_line error ++ said_if explain l) c.args.errors.now c.stop_saying.new.errors)
+    (says_at _ _ _ c.saying_of.result place c.at-saying.result c.saying_of.ensures c.at-saying.ensures) c.stop_saying.ensures.lines in
+    rw c.stop_saying.ensures.status
+    (inr (inr (inr (ends_failed _ _ _ _ _ _ c.in-Ok.asked.request explain c.in-Ok.ensures.0 explained error c.in-Err-execute.ensures.fails place c.place_if-place.ensures lines))))

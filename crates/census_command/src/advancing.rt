@@ -1,0 +1,124 @@
+//! `census advance N [FILE]`: generation N of the pattern of a file, or of that on standard input.
+ghost use Rattle.std.specs.Prelude.{◌≡◌, ◌≤◌, option_map, IfErr, MatchResult, OnOk};
+ghost use Rattle.census_command.specs.Advances.{AdvanceFails, AdvanceFileFails, AdvanceFromFails};
+ghost use Rattle.census_command.specs.Advances.{Advances, AdvancesFile, AdvancesFrom, IsAdvanced, RefusesText};
+ghost use Rattle.census_command.specs.Errors.{advance_error_of_text};
+ghost use Rattle.census_command.specs.Files.{file_of};
+ghost use Rattle.census_command.specs.Shelves.{tellings};
+ghost use Rattle.census_command.specs.Streams.{IsSound};
+
+use crate::advance_error::AdvanceError;
+use crate::evolving::evolved;
+use crate::files::file_of;
+use crate::streams::Streams;
+use census_faults::{spot_of_text, text_fault};
+use census_folders::Shelf;
+use census_identify::read_file;
+use life_plane::AGE_LIMIT;
+use life_text::{RleFault, read_rle, write_rle};
+use life_tile::TilePlane;
+use std::alloc::Global;
+use std::io::{Read, Write};
+use watched::{put_all, read_all};
+
+/// The most bytes of one text.
+pub const INPUT_LIMIT: usize = 67_108_864;
+
+// The error that the fault of a text is, with what is said of it.
+fn refused(text: &[u8], fault: RleFault) -> AdvanceError
+    ensures { result ≡ advance_error_of_text text.now fault }
+{
+    match fault {
+        RleFault::Memory => AdvanceError::Memory,
+        _ => AdvanceError::Text {
+            fault,
+            told: text_fault(text, fault),
+            spot: spot_of_text(text, &fault),
+        },
+    }
+}
+
+// The RLE text of a generation of the pattern that a text means.
+fn advanced_text(alloc: Global, text: &[u8], generations: u32) -> Result<Vec<u8>, AdvanceError>
+    requires { generations ≤ AGE_LIMIT }
+    ensures { MatchResult result
+        (λ written. IsAdvanced text.now generations written.items)
+        (λ error. RefusesText error text.now) }
+{
+    let pattern = match read_rle(alloc, text) {
+        Ok(pattern) => pattern,
+        Err(fault) => return Err(refused(text, fault)),
+    };
+    let cells = evolved::<TilePlane>(alloc, &pattern, generations)?;
+    let mut written = Vec::new(alloc);
+    write_rle(&pattern.rule(), &cells, &mut written)?;
+    Ok(written)
+}
+
+// Reads standard input to its end and writes the RLE text of generation N of its pattern.
+fn advance_input<I: Read, O: Write>(
+    alloc: Global,
+    generations: u32,
+    streams: &mut Streams<I, O>,
+) -> Result<(), AdvanceError>
+    requires generations { generations ≤ AGE_LIMIT }
+    requires sound { IsSound streams.old }
+    ensures done { OnOk result (Advances generations streams.old streams.new) }
+    ensures sound { OnOk result (IsSound streams.new) }
+    ensures fails { IfErr result (λ e. AdvanceFails e generations streams.old streams.new) }
+{
+    let text = read_all(alloc, &mut streams.input, INPUT_LIMIT)?;
+    let written = advanced_text(alloc, text.as_slice(), generations)?;
+    put_all(&mut streams.output, written.as_slice())?;
+    Ok(())
+}
+
+// Reads a file and writes the RLE text of generation N of its pattern.
+fn advance_file<S: Shelf, I: Read, O: Write>(
+    shelf: &S,
+    alloc: Global,
+    generations: u32,
+    path: &str,
+    streams: &mut Streams<I, O>,
+) -> Result<(), AdvanceError>
+    requires generations { generations ≤ AGE_LIMIT }
+    requires sound { IsSound streams.old }
+    ensures done { OnOk result (AdvancesFile (tellings (S.listed shelf.now) (S.inner shelf.now) (S.held shelf.now))
+        path.now generations streams.old streams.new) }
+    ensures sound { OnOk result (IsSound streams.new) }
+    ensures fails { IfErr result (λ e. AdvanceFileFails e
+        (tellings (S.listed shelf.now) (S.inner shelf.now) (S.held shelf.now))
+        path.now generations streams.old streams.new) }
+{
+    let text = read_file(shelf, alloc, path.as_bytes())?;
+    let later = advanced_text(alloc, text.as_slice(), generations)?;
+    put_all(&mut streams.output, later.as_slice())?;
+    Ok(())
+}
+
+/// Reads the RLE text of a file, or where there is none or it is `-` that on standard input, up to its end, and writes the
+/// RLE text of generation N of its pattern.
+///
+/// The whole text stands before its first byte is written, so nothing is written where the input is refused or memory is.
+/// A file that is no regular file is not opened, and can't be read.
+pub fn advance<S: Shelf, I: Read, O: Write>(
+    shelf: &S,
+    alloc: Global,
+    generations: u32,
+    file: Option<&str>,
+    streams: &mut Streams<I, O>,
+) -> Result<(), AdvanceError>
+    requires generations { generations ≤ AGE_LIMIT }
+    requires sound { IsSound streams.old }
+    ensures done { OnOk result (AdvancesFrom (tellings (S.listed shelf.now) (S.inner shelf.now) (S.held shelf.now))
+        (file_of (option_map (λ s. s.now) file.entry)) generations streams.old streams.new) }
+    ensures sound { OnOk result (IsSound streams.new) }
+    ensures fails { IfErr result (λ e. AdvanceFromFails e
+        (tellings (S.listed shelf.now) (S.inner shelf.now) (S.held shelf.now))
+        (file_of (option_map (λ s. s.now) file.entry)) generations streams.old streams.new) }
+{
+    match file_of(file) {
+        Some(path) => advance_file(shelf, alloc, generations, path, streams),
+        None => advance_input(alloc, generations, streams),
+    }
+}

@@ -1,0 +1,366 @@
+//! What the program does with its words.
+ghost use Rattle.std.specs.Prelude.{◌≡◌, ◌≤◌, ◌||◌, false, map, IfErr, IfNone, IfOk, IfSome, OnOk};
+ghost use Rattle.life_answer.specs.Questions.{IsAnswered};
+ghost use Rattle.census_command.specs.Errors.{status_of};
+ghost use Rattle.census_command.specs.Messages.{error_line};
+ghost use Rattle.census_command.specs.Outcomes.{Answers, IsKeeping, Outcome};
+ghost use Rattle.census_command.specs.Requests.{Does, EndsAtFirst, Fails, IsDone, IsLawful};
+ghost use Rattle.census_command.specs.Shelves.{tellings};
+ghost use Rattle.census_command.specs.Sources.{IsWhole, Kept, source_of};
+ghost use Rattle.census_command.specs.Streams.{IsSound, Tells, TellsIf};
+
+use crate::advancing::advance;
+use crate::drawing::draw;
+use crate::error::CommandError;
+use crate::explaining::saying_of;
+use crate::hushed::Hushed;
+use crate::keeping::keep_going;
+use crate::placing::place_if;
+use crate::remaking::{form_of, remake};
+use crate::running::run_command;
+use crate::saying::stop_saying;
+use crate::streams::{ErrorStream, Streams};
+use census_crew::Gate;
+use census_folders::Shelf;
+use census_identify::identify;
+use census_reports::Form;
+use census_words::{Request, WordsFault, read_words};
+use life_answer::Question;
+use std::alloc::Global;
+use std::io::{Read, Write};
+use std::sync::Wait;
+use std::thread::Threads;
+use watched::put_all;
+
+// A census of folders that goes on past what can't be read.
+#[derive(Clone, Copy)]
+struct KeptCensus<'r, 'a> {
+    question: Question,
+    workers: u32,
+    limit: Option<u64>,
+    recursive: bool,
+    folders: &'r [&'a str],
+}
+
+// The census of these folders, where it goes on past what can't be read: without a folder nothing does.
+fn kept_census<'r, 'a>(
+    keep_going: bool,
+    question: Question,
+    workers: u32,
+    limit: Option<u64>,
+    recursive: bool,
+    folders: &'r [&'a str],
+) -> Option<KeptCensus<'r, 'a>>
+    ensures some { IfSome result (λ census. (census.question ≡ question) × (census.workers ≡ workers)
+        × (source_of limit recursive keep_going (map (λ s. s.now) folders.now)
+        ≡ Kept census.limit census.recursive (map (λ s. s.now) census.folders.now))) }
+    ensures none { IfNone result (IsWhole (source_of limit recursive keep_going (map (λ s. s.now) folders.now))) }
+{
+    if !keep_going || folders.is_empty() {
+        return None;
+    }
+    Some(KeptCensus {
+        question,
+        workers,
+        limit,
+        recursive,
+        folders,
+    })
+}
+
+// The census that is asked for, where it goes on past what can't be read.
+fn kept_of<'r, 'a>(request: &'r Request<'a>) -> Option<KeptCensus<'r, 'a>>
+    requires { IsLawful request.now }
+    ensures some { IfSome result (λ census.
+        IsKeeping request.now census.limit census.recursive (map (λ s. s.now) census.folders.now) census.question) }
+    ensures question { IfSome result (λ census. IsAnswered census.question) }
+    ensures workers { IfSome result (λ census. (1 ≤ census.workers) × (census.workers ≤ 16)) }
+    ensures none { IfNone result (EndsAtFirst request.now) }
+{
+    match request {
+        Request::Run {
+            bound,
+            workers,
+            cells,
+            input,
+            recursive,
+            keep_going,
+            folders,
+        } => {
+            let question = Question::Settles {
+                bound: *bound,
+                cells: *cells,
+            };
+            let folders = folders.as_slice();
+            kept_census(*keep_going, question, *workers, *input, *recursive, folders)
+        }
+        Request::Objects {
+            bound,
+            workers,
+            cells,
+            input,
+            recursive,
+            keep_going,
+            folders,
+        } => {
+            let question = Question::Objects {
+                bound: *bound,
+                cells: Some(*cells),
+            };
+            let folders = folders.as_slice();
+            kept_census(*keep_going, question, *workers, *input, *recursive, folders)
+        }
+        _ => None,
+    }
+}
+
+// Does what is asked for, which is neither to tell what patterns are nor to make something of reports, and ends at the
+// first thing that can't be read. It gives the lines that are said beside what was written, where faults are explained.
+fn execute<S: Shelf, I: Read, O: Write, G: Gate, R: Threads + Wait + Sync>(
+    rt: &R,
+    shelf: &S,
+    alloc: Global,
+    request: &Request<'_>,
+    explain: bool,
+    gate: &G,
+    streams: &mut Streams<I, O>,
+) -> Result<Vec<u8>, CommandError>
+    requires lawful { IsLawful request.now }
+    requires more { IsDone request.now }
+    requires sound { IsSound streams.old }
+    ensures done { IfOk result (λ lines. Does (tellings (S.listed shelf.now) (S.inner shelf.now) (S.held shelf.now))
+        request.now explain lines.items streams.old streams.new) }
+    ensures sound { OnOk result (IsSound streams.new) }
+    ensures fails { IfErr result (λ e. Fails e (tellings (S.listed shelf.now) (S.inner shelf.now) (S.held shelf.now))
+        request.now streams.old streams.new) }
+{
+    match request {
+        Request::Run {
+            bound,
+            workers,
+            cells,
+            input,
+            recursive,
+            folders,
+            ..
+        } => Ok(run_command(
+            rt,
+            shelf,
+            alloc,
+            Question::Settles {
+                bound: *bound,
+                cells: *cells,
+            },
+            *workers,
+            folders.as_slice(),
+            *input,
+            *recursive,
+            explain,
+            gate,
+            streams,
+        )?),
+        Request::Objects {
+            bound,
+            workers,
+            cells,
+            input,
+            recursive,
+            folders,
+            ..
+        } => Ok(run_command(
+            rt,
+            shelf,
+            alloc,
+            Question::Objects {
+                bound: *bound,
+                cells: Some(*cells),
+            },
+            *workers,
+            folders.as_slice(),
+            *input,
+            *recursive,
+            explain,
+            gate,
+            streams,
+        )?),
+        Request::Identify { .. }
+        | Request::Merge { .. }
+        | Request::Table { .. }
+        | Request::Page { .. } => unreachable!(),
+        Request::Advance { generations, file } => {
+            advance(shelf, alloc, *generations, *file, streams)?;
+            Ok(Vec::new(alloc))
+        }
+        Request::Draw { code, rule } => {
+            draw(alloc, code.as_bytes(), rule.as_bytes(), streams)?;
+            Ok(Vec::new(alloc))
+        }
+    }
+}
+
+// Whether faults are explained: where that is asked for, or at a terminal.
+fn explains<E: Write>(asked: bool, errors: &ErrorStream<E>) -> bool
+    ensures { result ≡ asked || errors.now.is_terminal }
+{
+    asked || errors.is_terminal()
+}
+
+// Tells lines, where they are asked for.
+fn tell_if<E: Write>(asked: bool, lines: &[u8], errors: &mut ErrorStream<E>)
+    requires { errors.old.failed ≡ false }
+    ensures { TellsIf asked lines.now errors.old errors.new }
+{
+    if asked {
+        errors.tell(lines);
+    }
+}
+
+/// Tells an error by its line, and gives its exit status. That it can't be told changes nothing.
+pub fn stop<E: Write>(error: CommandError, errors: &mut ErrorStream<E>) -> u8
+    requires { errors.old.failed ≡ false }
+    ensures status { result ≡ status_of error }
+    ensures line { Tells (error_line error) errors.old errors.new }
+{
+    errors.tell(error.line().as_str().as_bytes());
+    error.status()
+}
+
+/// Writes why words ask for nothing that can be done, and gives the exit status: help by its own text on standard output,
+/// and a refusal by its own text on standard error.
+pub fn answer<I: Read, O: Write, E: Write>(
+    fault: &WordsFault,
+    streams: &mut Streams<I, O>,
+    errors: &mut ErrorStream<E>,
+) -> u8
+    requires streams { IsSound streams.old }
+    requires errors { errors.old.failed ≡ false }
+    ensures { Answers fault.now result streams.old streams.new errors.old errors.new }
+{
+    match fault {
+        WordsFault::Help(text) => match put_all(&mut streams.output, text.as_bytes()) {
+            Ok(()) => 0,
+            Err(_) => stop(CommandError::Write, errors),
+        },
+        WordsFault::Refused(text) => {
+            errors.tell(text.as_bytes());
+            2
+        }
+        WordsFault::Memory => stop(CommandError::Memory, errors),
+    }
+}
+
+/// Does what the program `census` does with its words, which are those after its name, and gives its exit status.
+///
+/// What the words mean is what clap's matches for them say. By `run` and by `objects` each worker passes the gate with a
+/// ticket before it works. Folders and files are read from the shelf, which may tell what stands on it; with `--recursive`
+/// the folders below those of the words too.
+///
+/// - 0: what was asked for was done. By `run` and by `objects` the report of the folders, or without any of the bundle on
+///   standard input, was written: what their patterns become, or the objects in it; by `advance N` standard input is an
+///   RLE text, and the text of generation N was written; by `draw CODE [--rule R]` the text of the code's shape under the
+///   rule; by `merge` one report of reports that were read, by `table` a table of them, and by `page` a page. Or help
+///   was asked for and written.
+/// - 1: the collections, the pattern, the rule or the code is refused, and nothing was written.
+/// - 2: clap refuses the words, and not because memory was refused; nothing was read or written.
+/// - 3: memory was refused, and nothing was written, or by `run` and by `objects` a prefix of the report, or by `table`
+///   one of the table.
+/// - 4: standard input or standard output has failed, or a folder could not be listed or a file of it be read. What was
+///   written is a prefix of what was asked for, or nothing; after a failed read it is nothing. With `--keep-going` it is
+///   the whole report of what could be read, after a line on `errors` for each folder, file or name that was lost.
+///
+/// Where the status is 0, nothing is written to `errors`. Else the error's one line is, or for status 2 clap's own text:
+/// whole where `errors` does not fail, else a prefix of it. With `--explain`, and where `errors` is a terminal, one more line
+/// follows the error's, which says where the fault is, what is wrong and what would be right; and after a report there is
+/// such a line for each pattern that it tells as `bad`, and then one for each whose text may hold the next pattern, and one
+/// with how many collections are empty and how many names were passed over that look like those of patterns.
+///
+/// With `--no-progress` the gate isn't told how many patterns a run has, nor that it has ended.
+pub fn dispatch<S: Shelf, I: Read, O: Write, E: Write, G: Gate, R: Threads + Wait + Sync>(
+    rt: &R,
+    shelf: &S,
+    alloc: Global,
+    words: &[&str],
+    gate: &G,
+    streams: &mut Streams<I, O>,
+    errors: &mut ErrorStream<E>,
+) -> u8
+    requires streams { IsSound streams.old }
+    requires errors { errors.old.failed ≡ false }
+    ensures { Outcome (tellings (S.listed shelf.now) (S.inner shelf.now) (S.held shelf.now))
+        (map (λ s. s.now) words.now) result streams.old streams.new errors.old errors.new }
+{
+    let asked = match read_words(alloc, &*words) {
+        Ok(asked) => asked,
+        Err(fault) => return answer(&fault, streams, errors),
+    };
+    let explain = explains(asked.explain, &*errors);
+    let gate = &Hushed::new(gate, asked.quiet);
+    let request = &asked.request;
+    if let Some(census) = kept_of(request) {
+        return keep_going(
+            rt,
+            shelf,
+            alloc,
+            census.question,
+            census.workers,
+            census.folders,
+            census.limit,
+            census.recursive,
+            explain,
+            gate,
+            streams,
+            errors,
+        );
+    }
+    if let Request::Identify { bound, files } = request {
+        let Streams { input, output } = streams;
+        let told = &mut errors.inner;
+        return identify(shelf, alloc, *bound, files.as_slice(), input, output, told);
+    }
+    if let Request::Merge { reports } = request {
+        return remake(
+            shelf,
+            alloc,
+            Form::Merged,
+            reports.as_slice(),
+            explain,
+            streams,
+            errors,
+        );
+    }
+    if let Request::Table { format, reports } = request {
+        let form = form_of(*format);
+        return remake(
+            shelf,
+            alloc,
+            form,
+            reports.as_slice(),
+            explain,
+            streams,
+            errors,
+        );
+    }
+    if let Request::Page { reports } = request {
+        let form = Form::Page;
+        return remake(
+            shelf,
+            alloc,
+            form,
+            reports.as_slice(),
+            explain,
+            streams,
+            errors,
+        );
+    }
+    match execute(rt, shelf, alloc, request, explain, gate, streams) {
+        Ok(lines) => {
+            tell_if(explain, lines.as_slice(), errors);
+            0
+        }
+        Err(error) => {
+            let place = place_if(explain, shelf, alloc, request, error);
+            let saying = saying_of(request, error).at(&place);
+            stop_saying(error, saying, explain, errors)
+        }
+    }
+}

@@ -1,0 +1,19 @@
+use Rattle.std.proofs.Common.{[], inr, subst, ◌∙◌}
+use Rattle.census_identify.specs.Identifies.{Stops, asked}
+use Rattle.census_identify.specs.Streams.{TellsMore, sink, streams}
+use Rattle.census_identify.proofs.Words.{stops_told, texts}
+use Rattle.census_identify.proofs.identifying.identify.Goals as goal
+
+pub returns-in-Err : goal.returns-in-Err
+returns-in-Err g c =
+    let held = g.S.Shelf.held c.args.shelf.now [] in
+    let before = streams g.I.Read.remaining g.O.Write.contents g.E.Write.contents c.args.input.now c.args.output.now c.args.errors.now in
+    let now = streams g.I.Read.remaining g.O.Write.contents g.E.Write.contents c.identify_each.new.input c.identify_each.new.output c.identify_each.new.errors in
+    let errors = sink g.E.Write.contents c.tell_line.new.errors in
+    inr (record {
+      error = c.in-Err.error;
+      status_is = c.status.ensures;
+      stops = stops_told c.in-Err.error held c.args.bound (asked (texts c.args.words.now)) before now errors
+          (subst (λ ws. Stops c.in-Err.error [] held c.args.bound ws before now) c.asked.ensures c.in-Err.ensures)
+          (subst (λ l. TellsMore l now.errors errors) (c.as_bytes.ensures.value ∙ c.line.ensures) c.tell_line.ensures);
+    })

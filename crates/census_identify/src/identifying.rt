@@ -1,0 +1,92 @@
+//! `census identify`: what each of several patterns is.
+ghost use Rattle.std.specs.Prelude.{◌≡◌, ◌≤◌, false, [], map, MatchResult};
+ghost use Rattle.watched.specs.Watching.{has_failed};
+ghost use Rattle.census_identify.specs.Identifies.{Identifies, Stops, TellsAll, asked};
+ghost use Rattle.census_identify.specs.Streams.{streams};
+
+use crate::course::{Course, tell, tell_line};
+use crate::error::IdentifyError;
+use crate::heard::hear;
+use crate::told::told_of;
+use census_blocks::BOUND_LIMIT;
+use census_folders::Shelf;
+use std::alloc::Global;
+use std::io::{Read, Write};
+use watched::Watched;
+
+// Standard input alone, where there is no word.
+fn asked<'a, 'b>(words: &'a [&'b str]) -> &'a [&'b str]
+    ensures { map (λ s. s.now) result.now ≡ asked (map (λ s. s.now) words.now) }
+{
+    if words.is_empty() { &["-"] } else { words }
+}
+
+// Tells what each word is, and gives the greatest status that was asked for.
+fn identify_each<S: Shelf, I: Read, O: Write, E: Write>(
+    shelf: &S,
+    alloc: Global,
+    bound: u32,
+    words: &[&str],
+    input: &mut Watched<I>,
+    output: &mut Watched<O>,
+    errors: &mut Watched<E>,
+) -> Result<u8, IdentifyError>
+    requires bound { 1 ≤ bound × bound ≤ BOUND_LIMIT }
+    requires output { has_failed output.old ≡ false }
+    requires errors { has_failed errors.old ≡ false }
+    ensures { MatchResult result
+        (λ status. TellsAll (S.held shelf.now []) bound (map (λ s. s.now) words.now) status
+        (streams I.remaining O.contents E.contents input.old output.old errors.old)
+        (streams I.remaining O.contents E.contents input.new output.new errors.new))
+        (λ error. Stops error [] (S.held shelf.now []) bound (map (λ s. s.now) words.now)
+        (streams I.remaining O.contents E.contents input.old output.old errors.old)
+        (streams I.remaining O.contents E.contents input.new output.new errors.new)) }
+{
+    let mut course = Course {
+        has_block: false,
+        status: 0,
+    };
+    for word in words {
+        let heard = hear(shelf, alloc, word, input)?;
+        let told = told_of(alloc, word, &heard, bound)?;
+        tell(&told, &mut course, output, errors)?;
+    }
+    Ok(course.status)
+}
+
+/// Tells what the pattern of each word is, in the order of the words: of `-` that of the RLE text that standard input
+/// has left, and of any other word that of the file of this path. Without a word it is standard input's alone. The
+/// bound is 1 to 100,000 generations.
+///
+/// The block of a text goes to standard output, after the line `file WORD` where the word isn't `-`; an empty line
+/// parts it from the block before it. Where a text has a fault, is longer than 67,108,864 bytes or can't be read, a
+/// line goes to standard error, and the next word is told. The answer is the exit status: the greatest that a line
+/// asked for, 1 for a fault or a text that is too long and 4 for one that can't be read; without such a line 0.
+///
+/// Where memory is refused or standard output fails, that is told on standard error and ends it at once: the answer is
+/// 3 or 4, and what went out before stays. Where standard error fails, the lines from then on are lost, and nothing
+/// else changes.
+pub fn identify<S: Shelf, I: Read, O: Write, E: Write>(
+    shelf: &S,
+    alloc: Global,
+    bound: u32,
+    words: &[&str],
+    input: &mut Watched<I>,
+    output: &mut Watched<O>,
+    errors: &mut Watched<E>,
+) -> u8
+    requires bound { 1 ≤ bound × bound ≤ BOUND_LIMIT }
+    requires output { has_failed output.old ≡ false }
+    requires errors { has_failed errors.old ≡ false }
+    ensures { Identifies (S.held shelf.now []) bound (map (λ s. s.now) words.now) result
+        (streams I.remaining O.contents E.contents input.old output.old errors.old)
+        (streams I.remaining O.contents E.contents input.new output.new errors.new) }
+{
+    match identify_each(shelf, alloc, bound, asked(words), input, output, errors) {
+        Ok(status) => status,
+        Err(error) => {
+            tell_line(error.line().as_bytes(), errors);
+            error.status()
+        }
+    }
+}

@@ -1,8 +1,0 @@
-use Rattle.std.proofs.Common.{◌≡◌, ◌++◌, drop}
-use Rattle.census_readback.specs.Grouped.{items_of}
-use Rattle.census_page.specs.Pages.{sections_text}
-use Rattle.census_page.proofs.page.push_sections.Given as goal
-
-abbrev pub invariant-loop-index : goal.invariant-loop-index
-invariant-loop-index l =
-    l.text.items ++ sections_text (items_of (drop l.index l.sections)) ≡ l.fn.text.items ++ sections_text (items_of l.sections)

@@ -1,0 +1,52 @@
+//! What is found of a text.
+ghost use Rattle.std.specs.Prelude.{◌≡◌, ◌≤◌, IfOk, IsOk, OnErr};
+ghost use Rattle.life_answer.specs.declared.question.Question.TheVariants.{Objects};
+ghost use Rattle.life_answer.specs.Questions.{answer_to_question};
+ghost use Rattle.life_text.specs.Rle.{header_rule};
+
+use crate::pattern::census;
+use life_answer::{Answer, refused};
+use life_orbit::BOUND_LIMIT;
+use life_plane::Plane;
+use life_text::read_rle;
+use life_tile::TilePlane;
+use std::alloc::{AllocError, Global};
+
+/// The objects that the pattern of an RLE text falls apart into within the bound, over planes of one kind.
+fn answer_on<P: Plane>(
+    alloc: Global,
+    text: &[u8],
+    bound: u32,
+    limit: Option<u32>,
+) -> Result<Answer, AllocError>
+    requires { 1 ≤ bound × bound ≤ BOUND_LIMIT }
+    ensures answer { IfOk result (λ answer. answer ≡ answer_to_question (Objects bound limit) text.now) }
+    ensures memory { OnErr result (IsOk (header_rule text.now)) }
+{
+    match read_rle(alloc, text) {
+        Ok(pattern) => {
+            let rule = pattern.rule();
+            let finding = census::<P>(alloc, &rule, pattern.cells(), bound, limit)?;
+            Ok(Answer::Found { rule, finding })
+        }
+        Err(fault) => refused(fault),
+    }
+}
+
+/// What is found of an RLE text within the bound: the rule and the objects of the pattern that it means, counted by their
+/// codes, where it falls apart; or the number of its fault. The bound is 1 to 100,000 generations. With a limit
+/// no generation from 0 to three times the bound may have more cells.
+///
+/// It may look at generations past the bound, up to three times the bound.
+pub fn answer(
+    alloc: Global,
+    text: &[u8],
+    bound: u32,
+    limit: Option<u32>,
+) -> Result<Answer, AllocError>
+    requires { 1 ≤ bound × bound ≤ BOUND_LIMIT }
+    ensures answer { IfOk result (λ answer. answer ≡ answer_to_question (Objects bound limit) text.now) }
+    ensures memory { OnErr result (IsOk (header_rule text.now)) }
+{
+    answer_on::<TilePlane>(alloc, text, bound, limit)
+}

@@ -1,0 +1,48 @@
+//! The finest splitting of a plane's cells into classes that stay apart.
+ghost use Rattle.std.specs.Prelude.{◌≡◌, ◌≤◌, ◌+◌, All, AllPairs, IfOk, map};
+ghost use Rattle.life_cells.specs.Limits.{IsPlace};
+ghost use Rattle.life_objects.specs.Apart.{AreApartFor};
+ghost use Rattle.life_objects.specs.Union.{generations, union_of};
+ghost use Rattle.life_objects.specs.Whole.{StaysWhole};
+ghost use Rattle.life_classes.specs.Tracking.{AreApartNow, LeadTo, alone, firsts, lasts};
+
+use crate::chains::chains;
+use crate::class::Class;
+use crate::joining::all_joined;
+use crate::stepping::stepped;
+use life_cells::Rule;
+use life_plane::{AGE_LIMIT, Plane};
+use std::alloc::{AllocError, Global};
+
+/// The cells as classes of those that are near each other.
+pub fn first_classes(alloc: Global, cells: &[(i32, i32)]) -> Result<Vec<Class>, AllocError>
+    requires { All IsPlace cells.now }
+    ensures tracked { IfOk result (λ all. LeadTo (map alone cells.now) all.items) }
+    ensures apart { IfOk result (λ all. AreApartNow all.items) }
+{
+    all_joined(alloc, chains(alloc, cells)?)
+}
+
+/// The classes of a plane's cells that stay apart for so many generations, torn as finely as can be: however the cells
+/// split into two sets that stay apart for as long, each class lies in one of the two. A class that has died out stays
+/// in the list, with no last cell.
+pub fn classes<P: Plane>(
+    alloc: Global,
+    plane: P,
+    rule: &Rule,
+    bound: u32,
+) -> Result<Vec<Class>, AllocError>
+    requires young { P.steps_made plane + bound ≤ AGE_LIMIT }
+    ensures together { IfOk result (λ all. union_of (firsts all.items) ≡ P.members plane) }
+    ensures whole { IfOk result (λ all. All (StaysWhole rule.now bound (P.members plane)) (firsts all.items)) }
+    ensures apart { IfOk result (λ all. AllPairs (AreApartFor rule.now bound) (firsts all.items)) }
+    ensures later { IfOk result (λ all. lasts all.items ≡ generations rule.now (firsts all.items) bound) }
+{
+    let mut plane = plane;
+    let mut classes = first_classes(alloc, plane.cells()?.as_slice())?;
+    for _ in 0..bound {
+        plane.step(rule)?;
+        classes = all_joined(alloc, stepped(alloc, classes, &plane.cells()?)?)?;
+    }
+    Ok(classes)
+}

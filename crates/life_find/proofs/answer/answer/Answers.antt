@@ -1,4 +1,0 @@
-use Rattle.life_find.proofs.answer.answer.Goals as goal
-
-pub returns : goal.returns
-returns c = c.answer_on.ensures

@@ -1,0 +1,36 @@
+use Rattle.std.proofs.Common.{refl, ◌+◌, ◌≤◌, ◌∙◌, arith}
+use Rattle.life_model.specs.Evolution.{generation}
+use Rattle.life_model.proofs.Recurrences.{onset-period-le}
+use Rattle.life_find.proofs.Found.{unresolved-found, recurs-found}
+use Rattle.life_codes.proofs.Phases.{code_by_shape}
+use Rattle.life_find.proofs.finding.find_cells.Goals as goal
+
+pub returns-in-None : goal.returns-in-None
+returns-in-None g c =
+    let G = c.args.cells.now in
+    let none = rw c.in-None.is at c.in_ok-settling.ensures.none in
+    unresolved-found c.args.rule.now G G refl c.args.bound c.len-population.result c.len-population.ensures none
+
+pub code_of-requires-clause-young : goal.code_of-requires-clause-young
+code_of-requires-clause-young g c =
+    let r = c.in-Some.recurrence in
+    let settles = rw c.in-Some.is at c.in_ok-settling.ensures.found in
+    let age = rw c.in-Some.is at c.in_ok-settling.ensures.age in
+    let bound = c.requires.bound in
+    let within : r.onset + r.period ≤ c.args.bound = onset-period-le c.args.rule.now c.args.cells.now c.args.bound r.onset r.period r.displacement settles in
+    omega arith
+
+pub code_of-requires-clause-period : goal.code_of-requires-clause-period
+code_of-requires-clause-period g c =
+    let settles = rw c.in-Some.is at c.in_ok-settling.ensures.found in settles.recurs.later
+
+pub returns-in_ok-code-in-Some : goal.returns-in_ok-code-in-Some
+returns-in_ok-code-in-Some g c =
+    let R = c.args.rule.now in
+    let G = c.args.cells.now in
+    let r = c.in-Some.recurrence in
+    let settles = rw c.in-Some.is at c.in_ok-settling.ensures.found in
+    let same = rw c.in-Some.is at c.in_ok-settling.ensures.shape in
+    c.recurs.ensures
+    ∙ recurs-found R G G refl c.args.bound c.len-population.result c.len-population.ensures r.onset r.period r.displacement (generation R G r.onset) c.in_ok-code-in-Some.code settles refl
+    (c.in_ok-code-in-Some.ensures ∙ code_by_shape R (g.P.Plane.members c.in-Some.plane) (generation R G r.onset) r.period r.displacement same)
