@@ -142,6 +142,9 @@ Example: census run soups gliders
          census run --no-progress soups >report.txt
          census run --input 1000000000 --recursive soups
 
+To make a bundle of files, where echo ends a last line that has no line feed:
+  (echo @folder demo; for f in *.rle; do echo \"@file $f\"; cat \"$f\"; echo; done)
+
 "
 );
 
