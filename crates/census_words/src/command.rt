@@ -309,12 +309,15 @@ pub(crate) fn two_formats(alloc: Global) -> Result<String, AllocError> {
     format!(in alloc; "{error}")
 }
 
+// The program's version, and the logic of the kit that proves it, as `rt version` ends.
+const VERSION: &str = "0.1.0\nrattle logic dac8208d650f15bf";
+
 fn bare<'a>(alloc: Global) -> Result<Command<'a>, AllocError>
     ensures { IfOk result (λ c. app_of c ≡ bare_app) }
 {
     let named = Command::new(alloc, "census")
         .about("Takes a census of Life-like patterns: what each becomes on the unbounded plane")
-        .version("0.1.0")
+        .version(VERSION)
         .after_help(help::PROGRAM)
         .bin_name("census")?;
     Ok(named.no_binary_name(true).subcommand_required(true))
