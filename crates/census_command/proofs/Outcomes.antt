@@ -5,12 +5,12 @@ use Rattle.census_folders.specs.declared.fault.FoldersFault.TheVariants as folde
 use Rattle.census_folders.specs.Trees.{HoldsTrees, StopsTrees}
 use Rattle.census_folders.specs.Walks.{StopsWalk}
 use Rattle.census_bundle.specs.declared.bundle.AddFault.{AddFault}
-use Rattle.census_words.specs.Asking.{Asks, AsksToExplain}
-use Rattle.census_words.specs.Refusing.{AsksHelp, IsRefused, Refuses}
-use Rattle.census_words.specs.declared.fault.WordsFault.{WordsFault}
-use Rattle.census_words.specs.declared.fault.WordsFault.TheVariants as words_fault
-use Rattle.census_words.specs.declared.request.Request.{Request}
-use Rattle.census_words.specs.declared.request.Request.TheVariants.{Run, Objects, Identify, Advance, Draw, Merge, Table, Page}
+use Rattle.census_cli.specs.Asking.{Asks, AsksToExplain}
+use Rattle.census_cli.specs.Refusing.{AsksHelp, IsRefused, Refuses}
+use Rattle.census_cli.specs.declared.fault.WordsFault.{WordsFault}
+use Rattle.census_cli.specs.declared.fault.WordsFault.TheVariants as words_fault
+use Rattle.census_cli.specs.declared.request.Request.{Request}
+use Rattle.census_cli.specs.declared.request.Request.TheVariants.{Run, Objects, Identify, Advance, Draw, Merge, Table, Page}
 use Rattle.life_answer.specs.declared.question.Question.TheVariants as question
 use Rattle.life_answer.specs.declared.question.Question.{Question}
 use Rattle.census_command.specs.Advances.{AdvanceFromFails, AdvancesFromInPart}

@@ -13,12 +13,12 @@ use Rattle.census_bundle.specs.declared.bundle.AddFault.{AddFault}
 use Rattle.census_bundle.specs.declared.fault.BundleFault.{BundleFault}
 use Rattle.census_crew.specs.Bytes.{ReadsFault, input_limit}
 use Rattle.census_folders.specs.declared.fault.FoldersFault.TheVariants as folder_fault
-use Rattle.census_words.specs.Asking.{Asks, AsksToExplain, IsMatched}
-use Rattle.census_words.specs.Refusing.{AsksHelp, IsRefused}
-use Rattle.census_words.specs.declared.fault.WordsFault.{WordsFault}
-use Rattle.census_words.specs.declared.fault.WordsFault.TheVariants.{Help, Refused, Memory}
-use Rattle.census_words.specs.declared.request.Request.{Request}
-use Rattle.census_words.specs.declared.request.Request.TheVariants.{Run, Objects, Identify, Advance, Draw, Merge, Table, Page}
+use Rattle.census_cli.specs.Asking.{Asks, AsksToExplain, IsMatched}
+use Rattle.census_cli.specs.Refusing.{AsksHelp, IsRefused}
+use Rattle.census_cli.specs.declared.fault.WordsFault.{WordsFault}
+use Rattle.census_cli.specs.declared.fault.WordsFault.TheVariants.{Help, Refused, Memory}
+use Rattle.census_cli.specs.declared.request.Request.{Request}
+use Rattle.census_cli.specs.declared.request.Request.TheVariants.{Run, Objects, Identify, Advance, Draw, Merge, Table, Page}
 use Rattle.life_answer.specs.declared.question.Question.{Question}
 use Rattle.life_answer.specs.declared.question.Question.TheVariants as question
 use Rattle.census_faults.specs.declared.fault.Fault.{Fault}

@@ -8,8 +8,8 @@ use Rattle.census_reports.specs.declared.error.ReportsError.{ReportsError}
 use Rattle.census_reports.specs.declared.form.Form.{Form}
 use Rattle.census_reports.specs.declared.form.Form.TheVariants as form
 use Rattle.lawful_merge.specs.Lawful.{MergesLawfully}
-use Rattle.census_words.specs.declared.request.TableFormat.{TableFormat}
-use Rattle.census_words.specs.declared.request.TableFormat.TheVariants.{Csv, Json}
+use Rattle.census_cli.specs.declared.request.TableFormat.{TableFormat}
+use Rattle.census_cli.specs.declared.request.TableFormat.TheVariants.{Csv, Json}
 use Rattle.census_command.specs.Messages.{error_line}
 use Rattle.census_command.specs.Places.{IsReportsPlace}
 use Rattle.census_command.specs.Sayings.{reports_line, said_if}

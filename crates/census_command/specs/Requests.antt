@@ -1,7 +1,7 @@
 -- What is done where something is asked for, and what each error says.
 use Rattle.std.specs.Prelude.{◌≡◌, ℕ, ◌≤◌, Bool, List, [], Some, map, option_map}
-use Rattle.census_words.specs.declared.request.Request.{Request}
-use Rattle.census_words.specs.declared.request.Request.TheVariants.{Run, Objects, Identify, Advance, Draw, Merge, Table, Page}
+use Rattle.census_cli.specs.declared.request.Request.{Request}
+use Rattle.census_cli.specs.declared.request.Request.TheVariants.{Run, Objects, Identify, Advance, Draw, Merge, Table, Page}
 use Rattle.life_answer.specs.declared.question.Question.TheVariants as question
 use Rattle.census_command.specs.Advances.{AdvanceFromFails, AdvancesFrom, AdvancesFromInPart}
 use Rattle.census_command.specs.Files.{file_of}

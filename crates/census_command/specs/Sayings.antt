@@ -15,8 +15,8 @@ use Rattle.census_folders.specs.Told.{Told}
 use Rattle.census_hints.specs.Hints.{Hints}
 use Rattle.census_reports.specs.declared.error.ReportsError.{ReportsError}
 use Rattle.census_reports.specs.declared.error.ReportsError.TheVariants as reports
-use Rattle.census_words.specs.declared.request.Request.{Request}
-use Rattle.census_words.specs.declared.request.Request.TheVariants.{Advance, Draw}
+use Rattle.census_cli.specs.declared.request.Request.{Request}
+use Rattle.census_cli.specs.declared.request.Request.TheVariants.{Advance, Draw}
 use Rattle.census_command.specs.Files.{file_of}
 use Rattle.census_command.specs.Places.{fault_at}
 use Rattle.census_command.specs.declared.advance_error.AdvanceError.{AdvanceError}

@@ -24,7 +24,7 @@ use census_crew::Gate;
 use census_folders::Shelf;
 use census_identify::identify;
 use census_reports::Form;
-use census_words::{Request, WordsFault, read_words};
+use census_cli::{Request, WordsFault, read_words};
 use life_answer::Question;
 use std::alloc::Global;
 use std::io::{Read, Write};

@@ -15,7 +15,7 @@ use crate::saying::Saying;
 use census_bundle::AddFault;
 use census_faults::{Fault, Spot, rule_fault, spot_of_bundle, spot_of_code};
 use census_reports::ReportsError;
-use census_words::Request;
+use census_cli::Request;
 
 // A fault whose place is not known.
 fn nowhere<'a>(fault: Fault) -> Saying<'a>

@@ -11,7 +11,7 @@ use crate::saying::stop_saying;
 use crate::streams::{ErrorStream, Streams};
 use census_folders::Shelf;
 use census_reports::{Form, ReportsError, write_reports};
-use census_words::TableFormat;
+use census_cli::TableFormat;
 use lawful_merge::merge_reports;
 use std::alloc::Global;
 use std::io::{Read, Write};

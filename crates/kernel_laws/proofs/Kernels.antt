@@ -8,8 +8,8 @@ use Rattle.life_model.specs.Evolution.{count, next}
 use Rattle.life_bits.specs.declared.strand.Strand.{Strand}
 use Rattle.life_bits.specs.Bits.{IsStrandOf, neighbours, next_state}
 use Rattle.life_bits.specs.Area.{Nine, area_row, area_cell, next_in_area, sum_around}
-use Rattle.life_band.specs.declared.window.Window.{Window}
-use Rattle.life_band.specs.Windows.{IsWindowOf, next_in_window, window_cell, window_row}
+use Rattle.life_bits.specs.declared.window.Window.{Window}
+use Rattle.life_bits.specs.Windows.{IsWindowOf, next_in_window, window_cell, window_row}
 use Rattle.kernel_laws.specs.Rows.{state, IsRowAt, AreRowsAt, IsWindowAt, IsNineAt}
 use Rattle.kernel_laws.proofs.Counts.{three_rows, next_by_bit}
 

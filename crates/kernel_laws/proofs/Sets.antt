@@ -12,8 +12,8 @@ use Rattle.life_model.proofs.Cells.{same_cell-is}
 use Rattle.life_model.proofs.Generations.{contains-from_list}
 use Rattle.life_bits.specs.Flags.{as_bit}
 use Rattle.life_bits.specs.Area.{Nine, area_row}
-use Rattle.life_band.specs.declared.window.Window.{Window}
-use Rattle.life_band.specs.Windows.{window_row}
+use Rattle.life_bits.specs.declared.window.Window.{Window}
+use Rattle.life_bits.specs.Windows.{window_row}
 use Rattle.kernel_laws.specs.Rows.{IsRowAt, AreRowsAt, IsWindowAt, IsNineAt}
 
 apart : (a b : Cell) → (a ≡ b → ⊥) → same_cell a b ≡ false

@@ -5,8 +5,8 @@ use Rattle.life_model.specs.Cell.{Cell}
 use Rattle.life_model.specs.Generation.{Generation, contains}
 use Rattle.life_bits.specs.Flags.{as_bit}
 use Rattle.life_bits.specs.Area.{Nine, area_row}
-use Rattle.life_band.specs.declared.window.Window.{Window}
-use Rattle.life_band.specs.Windows.{window_row}
+use Rattle.life_bits.specs.declared.window.Window.{Window}
+use Rattle.life_bits.specs.Windows.{window_row}
 
 -- 1 for a live cell of a set, 0 for a dead one
 abbrev pub state : Generation → Cell → ℕ

@@ -10,8 +10,8 @@ ghost use Rattle.life_model.specs.Rule.{Rule};
 ghost use Rattle.life_bits.specs.declared.strand.Strand.{Strand};
 ghost use Rattle.life_bits.specs.Area.{Nine, area_cell, next_in_area, sum_around};
 ghost use Rattle.life_bits.specs.Bits.{IsStrandOf, neighbours, next_state};
-ghost use Rattle.life_band.specs.declared.window.Window.{Window};
-ghost use Rattle.life_band.specs.Windows.{IsWindowOf, next_in_window, window_cell};
+ghost use Rattle.life_bits.specs.declared.window.Window.{Window};
+ghost use Rattle.life_bits.specs.Windows.{IsWindowOf, next_in_window, window_cell};
 ghost use Rattle.kernel_laws.specs.Rows.{AreRowsAt, IsNineAt, IsWindowAt, state};
 
 /// Strands of three rows of a set, one below another: the neighbours that are set at a column are as many as live neighbours

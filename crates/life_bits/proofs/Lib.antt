@@ -5,3 +5,11 @@ pub mod Filling
 pub mod Rows
 pub mod OneCell
 pub mod EmptyRows
+pub mod EdgeBits
+pub mod LifeCases
+pub mod PlaneSums
+pub mod Terms
+pub mod Joining
+pub mod Filled
+pub mod Counting
+pub mod Differing

@@ -3,3 +3,8 @@ pub mod Bits
 pub mod Area
 pub mod Sums
 pub mod Eights
+pub mod Numbers
+pub mod Rows
+pub mod Logics
+pub mod Windows
+pub mod Changes

@@ -5,8 +5,8 @@ ghost use Rattle.life_bits.specs.Flags.{as_bit};
 ghost use Rattle.life_bits.specs.Bits.{neighbours, next_state, spelt, IsAnswersOf};
 ghost use Rattle.life_model.specs.Rule.{Rule, born, stays};
 
+use crate::adders::choose;
 use crate::strand::{Strand, count_planes};
-use crate::sums::choose;
 use life_cells::Rule;
 
 /// For each count from 0 to 8 a word of ones where the rule's answer is a live cell, else of zeros.

@@ -1,14 +1,24 @@
-//! Rows of 64 cells worked at a time, and tiles of 64 by 64 cells with their next generation.
+//! Rows of 64 cells worked at a time, tiles of 64 by 64 cells, and the kernel that makes eight of their rows at a time.
+//! `Strand`, `count_planes`, `next_row` and `Tile::next` are the reference kernel: the plain way, by which tests judge `band`.
 #![tactic(auto)]
 
+mod adders;
 mod answers;
+mod band_sums;
 mod eights;
+mod kernel;
+mod logic;
+mod row_sums;
 mod strand;
-mod sums;
 mod tile;
+mod window;
 
+pub use adders::{Sum, add_three, add_two, choose};
 pub use answers::next_row;
 pub use eights::{end_of_eights, first_eight, has_cells};
+pub use kernel::{Change, band};
+pub use logic::{Count, Logic, Spread};
+pub use row_sums::{RowSums, sums};
 pub use strand::{Strand, count_planes};
-pub use sums::{Sum, add_three, add_two, choose};
 pub use tile::{Around, Tile};
+pub use window::{RowTriple, Window};

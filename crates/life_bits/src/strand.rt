@@ -3,7 +3,7 @@ ghost use Rattle.std.specs.Prelude.{◌≡◌, ℕ, ◌+◌, ◌*◌, ◌<◌, s
 ghost use Rattle.std.specs.Int.{bit_at};
 ghost use Rattle.life_bits.specs.Bits.{strip, IsStrandOf, neighbours, spelt};
 
-use crate::sums::{add_three, add_two};
+use crate::adders::{add_three, add_two};
 
 /// A row of 64 cells, and what is to the left and to the right of each: bit `j` of `here` is the cell in column `j`, bit `j` of
 /// `west` the cell to its left and bit `j` of `east` the cell to its right.

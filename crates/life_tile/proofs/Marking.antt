@@ -4,8 +4,8 @@ use Rattle.std.specs.Int.{bit_at}
 use Rattle.std.proofs.lemmas.Bool.{cases_eq}
 use Rattle.std.proofs.lemmas.Nat.Bits.{bit_at-lt}
 use Rattle.life_bits.specs.declared.tile.Tile.{Tile}
-use Rattle.life_band.specs.declared.kernel.Change.{Change}
-use Rattle.life_band.specs.Changes.{IsChange, IsSameCell}
+use Rattle.life_bits.specs.declared.kernel.Change.{Change}
+use Rattle.life_bits.specs.Changes.{IsChange, IsSameCell}
 use Rattle.life_tile.specs.Rims.{IsEdge, IsSideClear}
 use Rattle.life_tile.specs.Work.{IsTouchedBeside}
 use Rattle.life_tile.proofs.Splits.{not_one}

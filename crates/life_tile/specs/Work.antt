@@ -4,7 +4,7 @@ use Rattle.std.specs.Int.{bit_at}
 use Rattle.life_model.specs.Rule.{Rule}
 use Rattle.life_bits.specs.declared.tile.Tile.{Tile}
 use Rattle.life_bits.specs.Area.{tile_cell, next_in_area}
-use Rattle.life_band.specs.Changes.{IsSameCell}
+use Rattle.life_bits.specs.Changes.{IsSameCell}
 use Rattle.life_tile.specs.declared.bands.Bands.{Bands}
 use Rattle.life_tile.specs.declared.slot.Slot.{Slot}
 use Rattle.life_tile.specs.Slots.{links_of, link_of, tile_of, nine_linked}

@@ -2,14 +2,13 @@
 ghost use Rattle.std.specs.Prelude.{◌≡◌, ℕ, ◌+◌, ◌*◌, ◌%◌, ◌/◌, ◌<◌, ◌≤◌, length, slice_index};
 ghost use Rattle.std.specs.Int.{bit_at};
 ghost use Rattle.life_model.specs.Rule.{Rule};
-ghost use Rattle.life_band.specs.Logics.{IsLogicOf};
+ghost use Rattle.life_bits.specs.Logics.{IsLogicOf};
 ghost use Rattle.life_tile.specs.Work.{mark_of, IsLinked, IsTileWorkedOut, IsWorkedOut};
 
 use crate::bands::Bands;
 use crate::slot::{HERE, Slot};
 use crate::touched::Touched;
-use life_band::{Logic, Window, band};
-use life_bits::{Around, Tile};
+use life_bits::{Around, Logic, Tile, Window, band};
 use life_cells::Rule;
 
 /// Makes each of the marks the same.

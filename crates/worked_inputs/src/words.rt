@@ -1,6 +1,6 @@
 //! What words ask for, and which words are refused.
 
-use census_words::{Asked as Wanted, Request, TableFormat, WordsFault, read_words};
+use census_cli::{Asked as Wanted, Request, TableFormat, WordsFault, read_words};
 use std::alloc::Global;
 use std::test::Fail;
 

@@ -1,7 +1,6 @@
 //! Rows and windows worked by hand.
 
-use life_band::{Change, Logic, RowSums, Window, band, sums};
-use life_bits::{Around, Sum, Tile};
+use life_bits::{Around, Change, Logic, RowSums, Sum, Tile, Window, band, sums};
 use life_cells::{Rule, RuleFault};
 
 #[test]

@@ -1,6 +1,6 @@
 use Rattle.std.proofs.Common.{subst}
-use Rattle.life_band.specs.declared.logic.Logic.{Logic}
-use Rattle.life_band.specs.Logics.{IsLogicOf}
+use Rattle.life_bits.specs.declared.logic.Logic.{Logic}
+use Rattle.life_bits.specs.Logics.{IsLogicOf}
 use Rattle.life_tile.proofs.stepping.next_tiles.Goals as goal
 
 pub returns-in-Life : goal.returns-in-Life

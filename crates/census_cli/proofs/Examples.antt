@@ -1,0 +1,97 @@
+-- What some words come to, by computing the definitions.
+use Rattle.std.proofs.Common.{◌≡◌, [], ◌∷◌, Some, None, true, false, codes, refl, lit≤}
+use Rattle.clap.specs.Faults.{fault_of}
+use Rattle.clap.specs.declared.error.kind.ErrorKind.TheVariants.{DisplayHelp, DisplayVersion, MissingSubcommand, UnknownArgument, ValueValidation}
+use Rattle.clap.proofs.OnLiterals.{clap_on_literals}
+use Rattle.census_cli.specs.CommandLine.{census_app}
+use Rattle.census_cli.specs.Asking.{AsksAdvance, AsksDraw, AsksIdentify, AsksMerge, AsksObjects, AsksPage, AsksRun, AsksTable, AsksToExplain}
+use Rattle.census_cli.specs.Refusing.{AsksTwoFormats}
+use Rattle.census_cli.specs.declared.request.TableFormat.TheVariants.{Csv, Json}
+
+run_alone : AsksRun (codes "run" ∷ []) 1000 4 None None false false []
+unfolding clap_on_literals
+run_alone = (refl, record { rows = _; named = refl; bound_is = refl; bound_in = (lit≤ tt, lit≤ tt); workers_are = refl; workers_in = (lit≤ tt, lit≤ tt); cells_are = refl; cells_in = tt; input_is = refl; input_in = tt; recursive_is = refl; keep_going_is = refl; folders_are = refl })
+
+run_among : AsksRun (codes "run" ∷ codes "a" ∷ codes "--bound" ∷ codes "50" ∷ codes "b" ∷ codes "-w2" ∷ []) 50 2 None None false false (codes "a" ∷ codes "b" ∷ [])
+unfolding clap_on_literals
+run_among = (refl, record { rows = _; named = refl; bound_is = refl; bound_in = (lit≤ tt, lit≤ tt); workers_are = refl; workers_in = (lit≤ tt, lit≤ tt); cells_are = refl; cells_in = tt; input_is = refl; input_in = tt; recursive_is = refl; keep_going_is = refl; folders_are = refl })
+
+run_small : AsksRun (codes "run" ∷ codes "--cells" ∷ codes "5" ∷ []) 1000 4 (Some 5) None false false []
+unfolding clap_on_literals
+run_small = (refl, record { rows = _; named = refl; bound_is = refl; bound_in = (lit≤ tt, lit≤ tt); workers_are = refl; workers_in = (lit≤ tt, lit≤ tt); cells_are = refl; cells_in = (lit≤ tt, lit≤ tt); input_is = refl; input_in = tt; recursive_is = refl; keep_going_is = refl; folders_are = refl })
+
+run_flags : AsksRun (codes "run" ∷ codes "--recursive" ∷ codes "a" ∷ codes "-k" ∷ []) 1000 4 None None true true (codes "a" ∷ [])
+unfolding clap_on_literals
+run_flags = (refl, record { rows = _; named = refl; bound_is = refl; bound_in = (lit≤ tt, lit≤ tt); workers_are = refl; workers_in = (lit≤ tt, lit≤ tt); cells_are = refl; cells_in = tt; input_is = refl; input_in = tt; recursive_is = refl; keep_going_is = refl; folders_are = refl })
+
+objects_alone : AsksObjects (codes "objects" ∷ []) 10000 4 1000000 None false false []
+unfolding clap_on_literals
+objects_alone = (refl, record { rows = _; named = refl; bound_is = refl; bound_in = (lit≤ tt, lit≤ tt); workers_are = refl; workers_in = (lit≤ tt, lit≤ tt); cells_are = refl; cells_in = (lit≤ tt, lit≤ tt); input_is = refl; input_in = tt; recursive_is = refl; keep_going_is = refl; folders_are = refl })
+
+objects_flags : AsksObjects (codes "objects" ∷ codes "-rb5" ∷ codes "a" ∷ []) 5 4 1000000 None true false (codes "a" ∷ [])
+unfolding clap_on_literals
+objects_flags = (refl, record { rows = _; named = refl; bound_is = refl; bound_in = (lit≤ tt, lit≤ tt); workers_are = refl; workers_in = (lit≤ tt, lit≤ tt); cells_are = refl; cells_in = (lit≤ tt, lit≤ tt); input_is = refl; input_in = tt; recursive_is = refl; keep_going_is = refl; folders_are = refl })
+
+identify_among : AsksIdentify (codes "identify" ∷ codes "a" ∷ codes "-b" ∷ codes "50" ∷ codes "-" ∷ []) 50 (codes "a" ∷ codes "-" ∷ [])
+unfolding clap_on_literals
+identify_among = (refl, record { rows = _; named = refl; bound_is = refl; bound_in = (lit≤ tt, lit≤ tt); files_are = refl })
+
+advance_file : AsksAdvance (codes "advance" ∷ codes "4" ∷ codes "a" ∷ []) 4 (Some (codes "a"))
+unfolding clap_on_literals
+advance_file = (refl, record { rows = _; named = refl; generations_are = refl; generations_in = lit≤ tt; file_is = refl })
+
+draw_glider : AsksDraw (codes "draw" ∷ codes "xq4_153" ∷ []) (codes "xq4_153") (codes "B3/S23")
+unfolding clap_on_literals
+draw_glider = (refl, record { rows = _; named = refl; code_is = refl; rule_is = refl })
+
+merge_among : AsksMerge (codes "merge" ∷ codes "a" ∷ codes "-" ∷ []) (codes "a" ∷ codes "-" ∷ [])
+unfolding clap_on_literals
+merge_among = (refl, record { rows = _; named = refl; reports_are = refl })
+
+table_json : AsksTable (codes "table" ∷ codes "a" ∷ codes "--json" ∷ codes "b" ∷ []) Json (codes "a" ∷ codes "b" ∷ [])
+unfolding clap_on_literals
+table_json = (refl, record { rows = _; named = refl; format_is = (refl, refl); reports_are = refl })
+
+page_among : AsksPage (codes "page" ∷ codes "a" ∷ codes "-" ∷ []) (codes "a" ∷ codes "-" ∷ [])
+unfolding clap_on_literals
+page_among = (refl, record { rows = _; named = refl; reports_are = refl })
+
+table_both : AsksTwoFormats (codes "table" ∷ codes "--json" ∷ codes "--csv" ∷ [])
+unfolding clap_on_literals
+table_both = (refl, record { rows = _; named = refl; csv = refl; json = refl })
+
+run_explained : AsksToExplain (codes "run" ∷ codes "a" ∷ codes "--explain" ∷ []) true
+unfolding clap_on_literals
+run_explained = refl
+
+bound_of_none : fault_of census_app (codes "run" ∷ codes "--bound" ∷ codes "0" ∷ []) ≡ ValueValidation ∷ []
+unfolding clap_on_literals
+bound_of_none = refl
+
+workers_17 : fault_of census_app (codes "run" ∷ codes "--workers" ∷ codes "17" ∷ []) ≡ ValueValidation ∷ []
+unfolding clap_on_literals
+workers_17 = refl
+
+objects_bound_100001 : fault_of census_app (codes "objects" ∷ codes "--bound" ∷ codes "100001" ∷ []) ≡ ValueValidation ∷ []
+unfolding clap_on_literals
+objects_bound_100001 = refl
+
+past_the_age : fault_of census_app (codes "advance" ∷ codes "4194305" ∷ []) ≡ ValueValidation ∷ []
+unfolding clap_on_literals
+past_the_age = refl
+
+no_word : fault_of census_app [] ≡ MissingSubcommand ∷ []
+unfolding clap_on_literals
+no_word = refl
+
+version : fault_of census_app (codes "-V" ∷ []) ≡ DisplayVersion ∷ []
+unfolding clap_on_literals
+version = refl
+
+version_of_run : fault_of census_app (codes "run" ∷ codes "--version" ∷ []) ≡ UnknownArgument ∷ []
+unfolding clap_on_literals
+version_of_run = refl
+
+help : fault_of census_app (codes "run" ∷ codes "--help" ∷ []) ≡ DisplayHelp ∷ []
+unfolding clap_on_literals
+help = refl

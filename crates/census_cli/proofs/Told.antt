@@ -1,0 +1,35 @@
+-- How an error of clap is told.
+use Rattle.std.proofs.Common.{◌≡◌, ◌⊎◌, ℕ, List, inl, inr, subst}
+use Rattle.clap.specs.Faults.{fault_of}
+use Rattle.clap.specs.Kinds.{HasKind, IsAmong}
+use Rattle.clap.specs.Simple.{App, subcommand_of}
+use Rattle.clap.specs.Values.{kind_of}
+use Rattle.clap.specs.declared.error.Error.{Error}
+use Rattle.clap.specs.declared.error.kind.ErrorKind.{ErrorKind}
+use Rattle.clap.specs.declared.error.kind.ErrorKind.TheVariants.{OutOfMemory}
+use Rattle.census_cli.specs.Asking.{IsMatched}
+use Rattle.census_cli.specs.CommandLine.{census_app}
+use Rattle.census_cli.specs.Refusing.{Refuses, RefusesCommand, TellsKind}
+use Rattle.census_cli.specs.declared.fault.WordsFault.{WordsFault}
+use Rattle.census_cli.specs.declared.fault.WordsFault.TheVariants.{Help, Refused, Memory}
+
+told : (words : List (List ℕ)) (kind : ErrorKind) (fault : WordsFault) → TellsKind kind fault
+    → (kind ≡ OutOfMemory) ⊎ IsAmong kind (fault_of census_app words) → Refuses words fault
+told words kind (Help text) (inl help) (inl memory) = cc
+told words kind (Help text) (inr version) (inl memory) = cc
+told words kind (Help text) (inl help) (inr among) = inl (subst (λ (k : ErrorKind). IsAmong k (fault_of census_app words)) help among)
+told words kind (Help text) (inr version) (inr among) = inr (subst (λ (k : ErrorKind). IsAmong k (fault_of census_app words)) version among)
+told words kind (Refused text) tells (inl memory) = absurd (tells.2 memory)
+told words kind (Refused text) tells (inr among) = inl (record { kind = kind; among = among; no_help = tells.0; no_version = tells.1; no_memory = tells.2 })
+told words kind Memory tells h = tt
+
+pub refuses : (app : App) (words : List (List ℕ)) (error : Error) (fault : WordsFault) → app ≡ census_app → TellsKind (kind_of error) fault
+    → HasKind (fault_of app words) error → Refuses words fault
+refuses app words error fault same tells h =
+    told words (kind_of error) fault tells (subst (λ (a : App). HasKind (fault_of a words) error) same h)
+
+-- words that clap takes are refused as the command that they name is
+pub refuses_matched : (words : List (List ℕ)) (fault : WordsFault) → IsMatched words → RefusesCommand (subcommand_of census_app words) fault → Refuses words fault
+refuses_matched words (Help text) matched h = absurd h
+refuses_matched words (Refused text) matched h = inr (matched, h)
+refuses_matched words Memory matched h = tt

@@ -1,0 +1,15 @@
+use Rattle.std.proofs.Common.{rules, ap, codes}
+use Rattle.std.proofs.lemmas.Result.{IfOk-weaker}
+use Rattle.clap.specs.Simple.{App}
+use Rattle.clap.specs.Words.{new_app}
+use Rattle.census_cli.proofs.Shapes.{IsBuilt, adds_rule}
+use Rattle.census_cli.proofs.command.table.Goals as goal
+
+pub returns : goal.returns
+returns c =
+    let bare : IsBuilt c.after_help.result (new_app (codes "table")) = search rules in
+    let with_csv = adds_rule _ _ _ _ _ c.in_ok-arg.ensures c.csv.ensures bare in
+    let with_json = adds_rule _ _ _ _ _ c.in_ok-arg-2.ensures c.json.ensures with_csv in
+    let with_explain = adds_rule _ _ _ _ _ c.in_ok-arg-3.ensures c.explain.ensures with_json in
+    IfOk-weaker c.arg-4.result _ _
+    (λ command adds. let whole = adds_rule _ _ _ _ _ adds c.reports.ensures with_explain in (ap (λ (a : App). a.top) whole.0, whole.1)) c.arg-4.ensures

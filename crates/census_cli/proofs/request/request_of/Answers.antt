@@ -1,0 +1,33 @@
+use Rattle.std.proofs.Common.{refl, codes, subst}
+use Rattle.clap.specs.Matches.{found_of}
+use Rattle.clap.specs.Walk.{rows_of}
+use Rattle.census_cli.specs.Holding.{IsCommand}
+use Rattle.census_cli.proofs.Commands.{advance_command, objects_command, run_command}
+use Rattle.census_cli.proofs.Getters.{entered_as, number_within}
+use Rattle.census_cli.proofs.request.request_of.Goals as goal
+
+pub returns-in-Some-subcommand_matches-3 : goal.returns-in-Some-subcommand_matches-3
+returns-in-Some-subcommand_matches-3 c =
+    let arm = c.in-Some-subcommand_matches-3 in
+    let rows = rows_of (found_of arm.advance.now) in
+    let named = entered_as c.args.matches.now (codes "advance") rows (arm.ensures.found.0 refl) arm.ensures.rows in
+    let has = advance_command rows (subst IsCommand named c.requires) in
+    record {
+      rows = rows;
+      named = named;
+      generations_are = c.number-in-Some-subcommand_matches-3.ensures;
+      generations_in = (number_within 0 4194304 (codes "generations") rows _ has.generations c.number-in-Some-subcommand_matches-3.ensures).1;
+      file_is = c.text_if_used.ensures;
+    }
+
+pub run_of-requires : goal.run_of-requires
+run_of-requires c =
+    let arm = c.in-Some in
+    let rows = rows_of (found_of arm.run'.now) in
+    run_command rows (subst IsCommand (entered_as c.args.matches.now (codes "run") rows (arm.ensures.found.0 refl) arm.ensures.rows) c.requires)
+
+pub objects_of-requires : goal.objects_of-requires
+objects_of-requires c =
+    let arm = c.in-Some-subcommand_matches in
+    let rows = rows_of (found_of arm.objects.now) in
+    objects_command rows (subst IsCommand (entered_as c.args.matches.now (codes "objects") rows (arm.ensures.found.0 refl) arm.ensures.rows) c.requires)

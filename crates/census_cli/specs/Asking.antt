@@ -1,0 +1,191 @@
+-- What the words of a command line ask for, by the matches that clap gives for them.
+use Rattle.std.specs.Prelude.{◌≡◌, ℕ, ◌≤◌, List, [], Bool, true, false, Option, Some, None, map, codes}
+use Rattle.std.specs.Prelude.{option_map, unwrap_or}
+use Rattle.std.specs.Str.Parse.{digits_value, without_leading_plus}
+use Rattle.clap.specs.Faults.{fault_of}
+use Rattle.clap.specs.Simple.{subcommand_of}
+use Rattle.clap.specs.Values.{bool_text}
+use Rattle.clap.specs.Walk.{Row, all_of, first_of, one_of}
+use Rattle.census_cli.specs.CommandLine.{census_app}
+use Rattle.census_cli.specs.declared.request.Asked.{Asked}
+use Rattle.census_cli.specs.declared.request.Request.{Request}
+use Rattle.census_cli.specs.declared.request.Request.TheVariants.{Run, Objects, Identify, Advance, Draw, Merge, Table, Page}
+use Rattle.census_cli.specs.declared.request.TableFormat.{TableFormat}
+use Rattle.census_cli.specs.declared.request.TableFormat.TheVariants.{Csv, Json}
+
+-- ---- what the matches of a command say
+
+-- the number of an argument
+abbrev pub number_of : List ℕ → List Row → Option ℕ
+number_of id rows = option_map (λ text. digits_value 10 (without_leading_plus text)) (one_of id rows)
+
+-- the values of an argument, none where it was not used
+abbrev pub values_of : List ℕ → List Row → List (List ℕ)
+values_of id rows = unwrap_or (all_of id rows) []
+
+-- whether a flag was used
+abbrev pub IsFlag : List ℕ → List Row → Bool → Type 0
+IsFlag id rows used = one_of id rows ≡ Some (bool_text used)
+
+-- a limit is none, or from 1 to the most
+abbrev pub IsLimit : ℕ → Option ℕ → Type 0
+IsLimit most None = Unit {0}
+IsLimit most (Some n) = (1 ≤ n) × (n ≤ most)
+
+-- JSON is asked for by its flag alone, and CSV without that of JSON
+abbrev pub IsFormat : TableFormat → List Row → Type 0
+IsFormat Csv rows = IsFlag (codes "json") rows false
+IsFormat Json rows = IsFlag (codes "json") rows true × IsFlag (codes "csv") rows false
+
+-- The command and its matches are those of a census of these folders, or of the bundle on standard input where there is
+-- none.
+pub record GivesRun (command : Option (List ℕ × List Row)) (bound workers : ℕ) (cells input : Option ℕ)
+    (recursive keep_going : Bool) (folders : List (List ℕ)) : Type 0 where
+  pub rows : List Row
+  pub named : command ≡ Some (codes "run", rows)
+  pub bound_is : number_of (codes "bound") rows ≡ Some bound
+  pub bound_in : (1 ≤ bound) × (bound ≤ 1000000)
+  pub workers_are : number_of (codes "workers") rows ≡ Some workers
+  pub workers_in : (1 ≤ workers) × (workers ≤ 16)
+  pub cells_are : number_of (codes "cells") rows ≡ cells
+  pub cells_in : IsLimit 4294967295 cells
+  pub input_is : number_of (codes "input") rows ≡ input
+  pub input_in : IsLimit 9223372036854775807 input
+  pub recursive_is : IsFlag (codes "recursive") rows recursive
+  pub keep_going_is : IsFlag (codes "keep-going") rows keep_going
+  pub folders_are : values_of (codes "folder") rows ≡ folders
+
+-- those of a census of the objects of these folders, or of those of the bundle
+pub record GivesObjects (command : Option (List ℕ × List Row)) (bound workers cells : ℕ) (input : Option ℕ)
+    (recursive keep_going : Bool) (folders : List (List ℕ)) : Type 0 where
+  pub rows : List Row
+  pub named : command ≡ Some (codes "objects", rows)
+  pub bound_is : number_of (codes "bound") rows ≡ Some bound
+  pub bound_in : (1 ≤ bound) × (bound ≤ 100000)
+  pub workers_are : number_of (codes "workers") rows ≡ Some workers
+  pub workers_in : (1 ≤ workers) × (workers ≤ 16)
+  pub cells_are : number_of (codes "cells") rows ≡ Some cells
+  pub cells_in : (1 ≤ cells) × (cells ≤ 4294967295)
+  pub input_is : number_of (codes "input") rows ≡ input
+  pub input_in : IsLimit 9223372036854775807 input
+  pub recursive_is : IsFlag (codes "recursive") rows recursive
+  pub keep_going_is : IsFlag (codes "keep-going") rows keep_going
+  pub folders_are : values_of (codes "folder") rows ≡ folders
+
+-- those of the blocks of these files, or, where there is none, of the block of standard input
+pub record GivesIdentify (command : Option (List ℕ × List Row)) (bound : ℕ)
+    (files : List (List ℕ)) : Type 0 where
+  pub rows : List Row
+  pub named : command ≡ Some (codes "identify", rows)
+  pub bound_is : number_of (codes "bound") rows ≡ Some bound
+  pub bound_in : (1 ≤ bound) × (bound ≤ 100000)
+  pub files_are : values_of (codes "file") rows ≡ files
+
+-- those of so many generations of this file, or, where there is none, of standard input
+pub record GivesAdvance (command : Option (List ℕ × List Row)) (generations : ℕ)
+    (file : Option (List ℕ)) : Type 0 where
+  pub rows : List Row
+  pub named : command ≡ Some (codes "advance", rows)
+  pub generations_are : number_of (codes "generations") rows ≡ Some generations
+  pub generations_in : generations ≤ 4194304
+  pub file_is : first_of (codes "file") rows ≡ file
+
+-- those of the drawing of a code under a rule
+pub record GivesDraw (command : Option (List ℕ × List Row)) (code rule : List ℕ) : Type 0 where
+  pub rows : List Row
+  pub named : command ≡ Some (codes "draw", rows)
+  pub code_is : first_of (codes "code") rows ≡ Some code
+  pub rule_is : first_of (codes "rule") rows ≡ Some rule
+
+-- those of the one report that these reports make, or, where there is none, that of standard input
+pub record GivesMerge (command : Option (List ℕ × List Row)) (reports : List (List ℕ)) : Type 0 where
+  pub rows : List Row
+  pub named : command ≡ Some (codes "merge", rows)
+  pub reports_are : values_of (codes "report") rows ≡ reports
+
+-- those of the table in this format of these reports, or, where there is none, of that of standard input
+pub record GivesTable (command : Option (List ℕ × List Row)) (format : TableFormat)
+    (reports : List (List ℕ)) : Type 0 where
+  pub rows : List Row
+  pub named : command ≡ Some (codes "table", rows)
+  pub format_is : IsFormat format rows
+  pub reports_are : values_of (codes "report") rows ≡ reports
+
+-- those of the page of these reports, or, where there is none, of that of standard input
+pub record GivesPage (command : Option (List ℕ × List Row)) (reports : List (List ℕ)) : Type 0 where
+  pub rows : List Row
+  pub named : command ≡ Some (codes "page", rows)
+  pub reports_are : values_of (codes "report") rows ≡ reports
+
+abbrev pub Gives : Option (List ℕ × List Row) → Request → Type 0
+Gives command (Run bound workers cells input recursive keep_going folders) =
+    GivesRun command bound workers cells input recursive keep_going (map (λ s. s.now) folders.items)
+Gives command (Objects bound workers cells input recursive keep_going folders) =
+    GivesObjects command bound workers cells input recursive keep_going (map (λ s. s.now) folders.items)
+Gives command (Identify bound files) = GivesIdentify command bound (map (λ s. s.now) files.items)
+Gives command (Advance generations file) = GivesAdvance command generations (option_map (λ s. s.now) file)
+Gives command (Draw code rule) = GivesDraw command code.now rule.now
+Gives command (Merge reports) = GivesMerge command (map (λ s. s.now) reports.items)
+Gives command (Table format reports) = GivesTable command format (map (λ s. s.now) reports.items)
+Gives command (Page reports) = GivesPage command (map (λ s. s.now) reports.items)
+
+-- whether the flag `--explain` of the command was used
+abbrev pub Explains : Option (List ℕ × List Row) → Bool → Type 0
+Explains None used = ⊥
+Explains (Some (name, rows)) used = IsFlag (codes "explain") rows used
+
+-- The command and its matches are those of what is asked for, and say whether its faults are to be explained.
+abbrev pub GivesAsked : Option (List ℕ × List Row) → Asked → Type 0
+GivesAsked command asked = Gives command asked.request × Explains command asked.explain
+
+-- ---- what the words ask for
+
+-- clap gives matches for the words: it refuses nothing
+abbrev pub IsMatched : List (List ℕ) → Type 0
+IsMatched words = fault_of census_app words ≡ []
+
+-- the words ask for the census of these folders, or of the bundle on standard input where there is none
+abbrev pub AsksRun : List (List ℕ) → ℕ → ℕ → Option ℕ → Option ℕ → Bool → Bool → List (List ℕ) → Type 0
+AsksRun words bound workers cells input recursive keep_going folders =
+    IsMatched words × GivesRun (subcommand_of census_app words) bound workers cells input recursive keep_going folders
+
+-- for the census of the objects of these folders, or of those of the bundle
+abbrev pub AsksObjects : List (List ℕ) → ℕ → ℕ → ℕ → Option ℕ → Bool → Bool → List (List ℕ) → Type 0
+AsksObjects words bound workers cells input recursive keep_going folders =
+    IsMatched words × GivesObjects (subcommand_of census_app words) bound workers cells input recursive keep_going folders
+
+-- for the blocks of these files, or, where there is none, for the block of standard input
+abbrev pub AsksIdentify : List (List ℕ) → ℕ → List (List ℕ) → Type 0
+AsksIdentify words bound files = IsMatched words × GivesIdentify (subcommand_of census_app words) bound files
+
+-- for so many generations of this file, or, where there is none, of standard input
+abbrev pub AsksAdvance : List (List ℕ) → ℕ → Option (List ℕ) → Type 0
+AsksAdvance words generations file = IsMatched words × GivesAdvance (subcommand_of census_app words) generations file
+
+-- for the drawing of a code under a rule
+abbrev pub AsksDraw : List (List ℕ) → List ℕ → List ℕ → Type 0
+AsksDraw words code rule = IsMatched words × GivesDraw (subcommand_of census_app words) code rule
+
+-- for the one report that these reports make, or, where there is none, that of standard input
+abbrev pub AsksMerge : List (List ℕ) → List (List ℕ) → Type 0
+AsksMerge words reports = IsMatched words × GivesMerge (subcommand_of census_app words) reports
+
+-- for the table in this format of these reports, or, where there is none, of that of standard input
+abbrev pub AsksTable : List (List ℕ) → TableFormat → List (List ℕ) → Type 0
+AsksTable words format reports = IsMatched words × GivesTable (subcommand_of census_app words) format reports
+
+-- for the page of these reports, or, where there is none, of that of standard input
+abbrev pub AsksPage : List (List ℕ) → List (List ℕ) → Type 0
+AsksPage words reports = IsMatched words × GivesPage (subcommand_of census_app words) reports
+
+-- for this
+abbrev pub Asks : List (List ℕ) → Request → Type 0
+Asks words request = IsMatched words × Gives (subcommand_of census_app words) request
+
+-- whether the words ask that faults be explained
+abbrev pub AsksToExplain : List (List ℕ) → Bool → Type 0
+AsksToExplain words used = Explains (subcommand_of census_app words) used
+
+-- for this, with its faults explained or not
+abbrev pub AsksFor : List (List ℕ) → Asked → Type 0
+AsksFor words asked = Asks words asked.request × AsksToExplain words asked.explain

@@ -1,0 +1,63 @@
+-- Why the words of a command line are no request.
+use Rattle.std.specs.Prelude.{◌≡◌, ◌≢◌, ◌⊎◌, ℕ, List, Option, Some, None, true, codes}
+use Rattle.clap.specs.Faults.{fault_of}
+use Rattle.clap.specs.Kinds.{IsAmong}
+use Rattle.clap.specs.Simple.{subcommand_of}
+use Rattle.clap.specs.Walk.{Row}
+use Rattle.clap.specs.declared.error.kind.ErrorKind.{ErrorKind}
+use Rattle.clap.specs.declared.error.kind.ErrorKind.TheVariants.{DisplayHelp, DisplayVersion, OutOfMemory}
+use Rattle.census_cli.specs.Asking.{IsFlag, IsFormat, IsMatched}
+use Rattle.census_cli.specs.CommandLine.{census_app}
+use Rattle.census_cli.specs.declared.fault.WordsFault.{WordsFault}
+use Rattle.census_cli.specs.declared.fault.WordsFault.TheVariants.{Help, Refused, Memory}
+use Rattle.census_cli.specs.declared.request.TableFormat.{TableFormat}
+
+-- how an error of clap is told, by its kind
+abbrev pub TellsKind : ErrorKind → WordsFault → Type 0
+TellsKind kind (Help text) = (kind ≡ DisplayHelp) ⊎ (kind ≡ DisplayVersion)
+TellsKind kind (Refused text) = (kind ≢ DisplayHelp) × (kind ≢ DisplayVersion) × (kind ≢ OutOfMemory)
+TellsKind kind Memory = Unit {0}
+
+-- clap answers the words with help or with the version, and has no matches for them
+abbrev pub AsksHelp : List (List ℕ) → Type 0
+AsksHelp words = IsAmong DisplayHelp (fault_of census_app words) ⊎ IsAmong DisplayVersion (fault_of census_app words)
+
+-- clap refuses the words, and not because memory ran out
+pub record IsUnmatched (words : List (List ℕ)) : Type 0 where
+  pub kind : ErrorKind
+  pub among : IsAmong kind (fault_of census_app words)
+  pub no_help : kind ≢ DisplayHelp
+  pub no_version : kind ≢ DisplayVersion
+  pub no_memory : kind ≢ OutOfMemory
+
+-- The command and its matches are those of a table in two formats.
+pub record HasTwoFormats (command : Option (List ℕ × List Row)) : Type 0 where
+  pub rows : List Row
+  pub named : command ≡ Some (codes "table", rows)
+  pub csv : IsFlag (codes "csv") rows true
+  pub json : IsFlag (codes "json") rows true
+
+-- the format of the table of matches, or none where they name two
+abbrev pub NamesFormat : List Row → Option TableFormat → Type 0
+NamesFormat rows (Some format) = IsFormat format rows
+NamesFormat rows None = IsFlag (codes "csv") rows true × IsFlag (codes "json") rows true
+
+-- why a command and its matches are no request
+abbrev pub RefusesCommand : Option (List ℕ × List Row) → WordsFault → Type 0
+RefusesCommand command (Help text) = ⊥
+RefusesCommand command (Refused text) = HasTwoFormats command
+RefusesCommand command Memory = Unit {0}
+
+-- the words ask for a table in two formats, which clap lets pass
+abbrev pub AsksTwoFormats : List (List ℕ) → Type 0
+AsksTwoFormats words = IsMatched words × HasTwoFormats (subcommand_of census_app words)
+
+-- the words are refused
+abbrev pub IsRefused : List (List ℕ) → Type 0
+IsRefused words = IsUnmatched words ⊎ AsksTwoFormats words
+
+-- why the words are no request
+abbrev pub Refuses : List (List ℕ) → WordsFault → Type 0
+Refuses words (Help text) = AsksHelp words
+Refuses words (Refused text) = IsRefused words
+Refuses words Memory = Unit {0}

@@ -1,0 +1,339 @@
+//! The command line, built with `clap`.
+ghost use Rattle.std.specs.Prelude.{◌≡◌, IfOk, false};
+ghost use Rattle.clap.specs.Words.{app_of, rule_of, shape_of};
+ghost use Rattle.clap.specs.declared.builder.command.Command.TheViews.{out-Command};
+ghost use Rattle.census_cli.specs.CommandLine.{advance_shape, bare_app, census_app, draw_shape, identify_shape};
+ghost use Rattle.census_cli.specs.CommandLine.{merge_shape, objects_shape, page_shape, run_shape, table_shape};
+ghost use Rattle.census_cli.specs.CommandLine.{bound_rule, cells_rule, code_rule, csv_rule, explain_rule, file_rule};
+ghost use Rattle.census_cli.specs.CommandLine.{files_rule, folder_rule, generations_rule, input_rule, json_rule, keep_going_rule, limit_rule};
+ghost use Rattle.census_cli.specs.CommandLine.{no_progress_rule, recursive_rule, reports_rule, rule_rule, search_rule, workers_rule};
+
+use crate::help;
+use clap::error::ErrorKind;
+use clap::{Arg, ArgAction, Command, value_parser};
+use std::alloc::{AllocError, Global};
+
+fn bound<'a>(alloc: Global) -> Arg<'a>
+    ensures { (rule_of result ≡ bound_rule) × (result.global ≡ false) }
+{
+    Arg::new(alloc, "bound")
+        .short('b')
+        .long("bound")
+        .value_name("N")
+        .value_parser(value_parser!(u64).range(1..=1_000_000))
+        .default_value("1000")
+        .help("Generations that are searched, 1 to 1000000")
+}
+
+fn search<'a>(alloc: Global) -> Arg<'a>
+    ensures { (rule_of result ≡ search_rule) × (result.global ≡ false) }
+{
+    Arg::new(alloc, "bound")
+        .short('b')
+        .long("bound")
+        .value_name("N")
+        .value_parser(value_parser!(u64).range(1..=100_000))
+        .default_value("10000")
+        .help("Generations that are searched, 1 to 100000")
+}
+
+fn limit<'a>(alloc: Global) -> Arg<'a>
+    ensures { (rule_of result ≡ limit_rule) × (result.global ≡ false) }
+{
+    Arg::new(alloc, "cells")
+        .long("cells")
+        .value_name("N")
+        .value_parser(value_parser!(u64).range(1..=4_294_967_295))
+        .help("Live cells that a pattern may have, 1 to 4294967295 [default: no limit]")
+}
+
+fn cells<'a>(alloc: Global) -> Arg<'a>
+    ensures { (rule_of result ≡ cells_rule) × (result.global ≡ false) }
+{
+    Arg::new(alloc, "cells")
+        .long("cells")
+        .value_name("N")
+        .value_parser(value_parser!(u64).range(1..=4_294_967_295))
+        .default_value("1000000")
+        .help("Live cells that a pattern may have, 1 to 4294967295")
+}
+
+fn input<'a>(alloc: Global) -> Arg<'a>
+    ensures { (rule_of result ≡ input_rule) × (result.global ≡ false) }
+{
+    Arg::new(alloc, "input")
+        .long("input")
+        .value_name("N")
+        .value_parser(value_parser!(u64).range(1..=9_223_372_036_854_775_807))
+        .help(help::INPUT)
+}
+
+fn workers<'a>(alloc: Global) -> Arg<'a>
+    ensures { (rule_of result ≡ workers_rule) × (result.global ≡ false) }
+{
+    Arg::new(alloc, "workers")
+        .short('w')
+        .long("workers")
+        .value_name("N")
+        .value_parser(value_parser!(u64).range(1..=16))
+        .default_value("4")
+        .help("Threads that work, 1 to 16")
+}
+
+fn recursive<'a>(alloc: Global) -> Arg<'a>
+    ensures { (rule_of result ≡ recursive_rule) × (result.global ≡ false) }
+{
+    Arg::new(alloc, "recursive")
+        .short('r')
+        .long("recursive")
+        .action(ArgAction::SetTrue)
+        .help("Take the folders below each FOLDER too that have *.rle files")
+}
+
+fn keep_going<'a>(alloc: Global) -> Arg<'a>
+    ensures { (rule_of result ≡ keep_going_rule) × (result.global ≡ false) }
+{
+    Arg::new(alloc, "keep-going")
+        .short('k')
+        .long("keep-going")
+        .action(ArgAction::SetTrue)
+        .help(help::KEEP_GOING)
+}
+
+fn explain<'a>(alloc: Global) -> Arg<'a>
+    ensures { (rule_of result ≡ explain_rule) × (result.global ≡ false) }
+{
+    Arg::new(alloc, "explain")
+        .long("explain")
+        .action(ArgAction::SetTrue)
+        .help(help::EXPLAIN)
+}
+
+fn no_progress<'a>(alloc: Global) -> Arg<'a>
+    ensures { (rule_of result ≡ no_progress_rule) × (result.global ≡ false) }
+{
+    Arg::new(alloc, "no-progress")
+        .long("no-progress")
+        .action(ArgAction::SetTrue)
+        .help(help::NO_PROGRESS)
+}
+
+fn folder<'a>(alloc: Global) -> Arg<'a>
+    ensures { (rule_of result ≡ folder_rule) × (result.global ≡ false) }
+{
+    Arg::new(alloc, "folder")
+        .value_name("FOLDER")
+        .num_args(1..)
+        .help(
+            "A collection: its patterns are the *.rle files in the folder.\nWith no FOLDER a bundle of collections is read from standard input",
+        )
+}
+
+fn files<'a>(alloc: Global) -> Arg<'a>
+    ensures { (rule_of result ≡ files_rule) × (result.global ≡ false) }
+{
+    Arg::new(alloc, "file")
+        .value_name("FILE")
+        .num_args(1..)
+        .help(help::FILE)
+}
+
+fn generations<'a>(alloc: Global) -> Arg<'a>
+    ensures { (rule_of result ≡ generations_rule) × (result.global ≡ false) }
+{
+    Arg::new(alloc, "generations")
+        .value_name("N")
+        .required(true)
+        .value_parser(value_parser!(u64).range(0..=4_194_304))
+        .help("Generations, 0 to 4194304")
+}
+
+fn file<'a>(alloc: Global) -> Arg<'a>
+    ensures { (rule_of result ≡ file_rule) × (result.global ≡ false) }
+{
+    Arg::new(alloc, "file").value_name("FILE").help(help::FILE)
+}
+
+fn code<'a>(alloc: Global) -> Arg<'a>
+    ensures { (rule_of result ≡ code_rule) × (result.global ≡ false) }
+{
+    Arg::new(alloc, "code")
+        .value_name("CODE")
+        .required(true)
+        .help("An apgcode, or the part of one after its first _")
+}
+
+fn rule<'a>(alloc: Global) -> Arg<'a>
+    ensures { (rule_of result ≡ rule_rule) × (result.global ≡ false) }
+{
+    Arg::new(alloc, "rule")
+        .long("rule")
+        .value_name("R")
+        .default_value("B3/S23")
+        .help("A Life-like rule without B0")
+}
+
+fn csv<'a>(alloc: Global) -> Arg<'a>
+    ensures { (rule_of result ≡ csv_rule) × (result.global ≡ false) }
+{
+    Arg::new(alloc, "csv")
+        .long("csv")
+        .action(ArgAction::SetTrue)
+        .help("Comma-separated values under a row of names, as without a format")
+}
+
+fn json<'a>(alloc: Global) -> Arg<'a>
+    ensures { (rule_of result ≡ json_rule) × (result.global ≡ false) }
+{
+    Arg::new(alloc, "json")
+        .long("json")
+        .action(ArgAction::SetTrue)
+        .help("JSON, one object a line")
+}
+
+fn reports<'a>(alloc: Global) -> Arg<'a>
+    ensures { (rule_of result ≡ reports_rule) × (result.global ≡ false) }
+{
+    Arg::new(alloc, "report")
+        .value_name("REPORT")
+        .num_args(1..)
+        .help(help::REPORT)
+}
+
+fn run<'a>(alloc: Global) -> Result<Command<'a>, AllocError>
+    ensures { IfOk result (λ c. (shape_of c ≡ run_shape) × ((out-Command c).has_globals ≡ false)) }
+{
+    Command::new(alloc, "run")
+        .about("Report what the patterns of collections become")
+        .after_help(help::RUN)
+        .arg(bound(alloc))?
+        .arg(workers(alloc))?
+        .arg(limit(alloc))?
+        .arg(input(alloc))?
+        .arg(recursive(alloc))?
+        .arg(keep_going(alloc))?
+        .arg(explain(alloc))?
+        .arg(no_progress(alloc))?
+        .arg(folder(alloc))
+}
+
+fn objects<'a>(alloc: Global) -> Result<Command<'a>, AllocError>
+    ensures { IfOk result (λ c. (shape_of c ≡ objects_shape) × ((out-Command c).has_globals ≡ false)) }
+{
+    Command::new(alloc, "objects")
+        .about("Report the objects in what the patterns of collections become")
+        .after_help(help::OBJECTS)
+        .arg(search(alloc))?
+        .arg(workers(alloc))?
+        .arg(cells(alloc))?
+        .arg(input(alloc))?
+        .arg(recursive(alloc))?
+        .arg(keep_going(alloc))?
+        .arg(explain(alloc))?
+        .arg(no_progress(alloc))?
+        .arg(folder(alloc))
+}
+
+fn identify<'a>(alloc: Global) -> Result<Command<'a>, AllocError>
+    ensures { IfOk result (λ c. (shape_of c ≡ identify_shape) × ((out-Command c).has_globals ≡ false)) }
+{
+    Command::new(alloc, "identify")
+        .about("Read RLE texts and tell of each what its pattern is")
+        .after_help(help::IDENTIFY)
+        .arg(search(alloc))?
+        .arg(explain(alloc))?
+        .arg(files(alloc))
+}
+
+fn advance<'a>(alloc: Global) -> Result<Command<'a>, AllocError>
+    ensures { IfOk result (λ c. (shape_of c ≡ advance_shape) × ((out-Command c).has_globals ≡ false)) }
+{
+    Command::new(alloc, "advance")
+        .about("Read an RLE text and write that of its generation N")
+        .after_help(help::ADVANCE)
+        .arg(generations(alloc))?
+        .arg(explain(alloc))?
+        .arg(file(alloc))
+}
+
+fn draw<'a>(alloc: Global) -> Result<Command<'a>, AllocError>
+    ensures { IfOk result (λ c. (shape_of c ≡ draw_shape) × ((out-Command c).has_globals ≡ false)) }
+{
+    Command::new(alloc, "draw")
+        .about("Write the RLE text of the pattern that an apgcode names")
+        .after_help(help::DRAW)
+        .arg(code(alloc))?
+        .arg(rule(alloc))?
+        .arg(explain(alloc))
+}
+
+fn merge<'a>(alloc: Global) -> Result<Command<'a>, AllocError>
+    ensures { IfOk result (λ c. (shape_of c ≡ merge_shape) × ((out-Command c).has_globals ≡ false)) }
+{
+    Command::new(alloc, "merge")
+        .about("Make one report of several: all their collections, numbered on")
+        .after_help(help::MERGE)
+        .arg(explain(alloc))?
+        .arg(reports(alloc))
+}
+
+fn table<'a>(alloc: Global) -> Result<Command<'a>, AllocError>
+    ensures { IfOk result (λ c. (shape_of c ≡ table_shape) × ((out-Command c).has_globals ≡ false)) }
+{
+    Command::new(alloc, "table")
+        .about("Write a row for each pattern of reports")
+        .after_help(help::TABLE)
+        .arg(csv(alloc))?
+        .arg(json(alloc))?
+        .arg(explain(alloc))?
+        .arg(reports(alloc))
+}
+
+fn page<'a>(alloc: Global) -> Result<Command<'a>, AllocError>
+    ensures { IfOk result (λ c. (shape_of c ≡ page_shape) × ((out-Command c).has_globals ≡ false)) }
+{
+    Command::new(alloc, "page")
+        .about("Write one HTML page of reports, with pictures")
+        .after_help(help::PAGE)
+        .arg(explain(alloc))?
+        .arg(reports(alloc))
+}
+
+/// What is said of words that name both formats of a table, as clap says it of arguments in conflict.
+pub(crate) fn two_formats(alloc: Global) -> Result<String, AllocError> {
+    let mut command = table(alloc)?.bin_name("census table")?;
+    let error = command.error(
+        ErrorKind::ArgumentConflict,
+        "the argument '--csv' cannot be used with '--json'",
+    )?;
+    format!(in alloc; "{error}")
+}
+
+// The program's version, and the logic of the kit that proves it, as `rt version` ends.
+const VERSION: &str = "0.1.0\nrattle logic dac8208d650f15bf";
+
+fn bare<'a>(alloc: Global) -> Result<Command<'a>, AllocError>
+    ensures { IfOk result (λ c. app_of c ≡ bare_app) }
+{
+    let named = Command::new(alloc, "census")
+        .about("Takes a census of Life-like patterns: what each becomes on the unbounded plane")
+        .version(VERSION)
+        .after_help(help::PROGRAM)
+        .bin_name("census")?;
+    Ok(named.no_binary_name(true).subcommand_required(true))
+}
+
+/// The whole command line.
+pub(crate) fn census<'a>(alloc: Global) -> Result<Command<'a>, AllocError>
+    ensures { IfOk result (λ c. app_of c ≡ census_app) }
+{
+    bare(alloc)?
+        .subcommand(run(alloc)?)?
+        .subcommand(objects(alloc)?)?
+        .subcommand(identify(alloc)?)?
+        .subcommand(advance(alloc)?)?
+        .subcommand(draw(alloc)?)?
+        .subcommand(merge(alloc)?)?
+        .subcommand(table(alloc)?)?
+        .subcommand(page(alloc)?)
+}

@@ -1,0 +1,325 @@
+//! What words ask for.
+ghost use Rattle.std.specs.Prelude.{◌≡◌, IfOk, MatchResult, Some, codes, map, option_map};
+ghost use Rattle.clap.specs.Words.{first_of, found_of, rows_of, subcommand_rows_of};
+ghost use Rattle.census_cli.specs.Asking.{AsksFor, Explains, Gives, GivesAsked, IsFlag, number_of, values_of};
+ghost use Rattle.census_cli.specs.Holding.{HasFlag, HasLimit, HasNumber, HasObjects, HasRun, HasTable, HasText};
+ghost use Rattle.census_cli.specs.Holding.{IsCommand};
+ghost use Rattle.census_cli.specs.Refusing.{NamesFormat, Refuses, RefusesCommand};
+
+use crate::command;
+use crate::fault::{WordsFault, fault_of};
+use clap::ArgMatches;
+use std::alloc::{AllocError, Global};
+
+/// How a table is written.
+#[derive(Clone, Copy, Debug, PartialEq, Eq)]
+pub enum TableFormat {
+    /// Comma-separated values under a row of the columns' names.
+    Csv,
+    /// One JSON object a line.
+    Json,
+}
+
+/// What words ask for.
+#[derive(Debug, PartialEq, Drop)]
+pub enum Request<'a> {
+    /// The census of collections: of these folders, or, where there is none, of the bundle on standard input.
+    Run {
+        /// How many generations are searched, 1 to 1,000,000.
+        bound: u32,
+        /// How many threads work, 1 to 16.
+        workers: u32,
+        /// How many live cells a pattern may have, 1 to 4,294,967,295, where there is such a limit.
+        cells: Option<u32>,
+        /// How many bytes the files of the folders may have together, 1 to 9,223,372,036,854,775,807, where there is such
+        /// a limit.
+        input: Option<u64>,
+        /// Whether the folders below a folder are collections too.
+        recursive: bool,
+        /// Whether the census goes on past what can't be read.
+        keep_going: bool,
+        /// In the order of the words.
+        folders: Vec<&'a str>,
+    },
+    /// The census of the objects in what collections become: of these folders, or, where there is none, of the bundle on
+    /// standard input.
+    Objects {
+        /// How many generations are searched, 1 to 100,000.
+        bound: u32,
+        /// How many threads work, 1 to 16.
+        workers: u32,
+        /// How many live cells a pattern may have, 1 to 4,294,967,295.
+        cells: u32,
+        /// How many bytes the files of the folders may have together, 1 to 9,223,372,036,854,775,807, where there is such
+        /// a limit.
+        input: Option<u64>,
+        /// Whether the folders below a folder are collections too.
+        recursive: bool,
+        /// Whether the census goes on past what can't be read.
+        keep_going: bool,
+        /// In the order of the words.
+        folders: Vec<&'a str>,
+    },
+    /// What the pattern of each of these files is, or, where there is none, that of standard input.
+    Identify {
+        /// How many generations are searched, 1 to 100,000.
+        bound: u32,
+        /// In the order of the words. `-` is standard input.
+        files: Vec<&'a str>,
+    },
+    /// The RLE text of a pattern so many generations later, 0 to 4,194,304.
+    Advance {
+        generations: u32,
+        /// The file that has the pattern, `-` for standard input; where there is none it is standard input too.
+        file: Option<&'a str>,
+    },
+    /// The RLE text of what a code draws under the rule that a text names.
+    Draw {
+        code: &'a str,
+        rule: &'a str,
+    },
+    /// One report of all collections of these reports, or, where there is none, of that on standard input.
+    Merge {
+        /// In the order of the words. `-` is standard input.
+        reports: Vec<&'a str>,
+    },
+    /// A row for each pattern of these reports, or, where there is none, of that on standard input.
+    Table {
+        format: TableFormat,
+        /// In the order of the words. `-` is standard input.
+        reports: Vec<&'a str>,
+    },
+    /// One HTML page of these reports, or, where there is none, of that on standard input.
+    Page {
+        /// In the order of the words. `-` is standard input.
+        reports: Vec<&'a str>,
+    },
+}
+
+/// What words ask for, and how its faults are to be told.
+#[derive(Debug, PartialEq, Drop)]
+pub struct Asked<'a> {
+    /// Whether a fault is told in a sentence too, with its place.
+    pub explain: bool,
+    /// Whether a terminal is not told how far a run has come.
+    pub quiet: bool,
+    pub request: Request<'a>,
+}
+
+// The number of an argument that has one.
+fn number(matches: &ArgMatches<'_>, id: &str) -> u32
+    requires { HasNumber id.now (rows_of (found_of matches.now)) }
+    ensures { number_of id.now (rows_of (found_of matches.now)) ≡ Some result }
+{
+    matches.get_one::<u64>(id).unwrap() as u32
+}
+
+// The number of an argument, where it has one.
+fn limit(matches: &ArgMatches<'_>, id: &str) -> Option<u32>
+    requires { HasLimit 4294967295 id.now (rows_of (found_of matches.now)) }
+    ensures { number_of id.now (rows_of (found_of matches.now)) ≡ result }
+{
+    match matches.get_one::<u64>(id) {
+        Some(number) => Some(number as u32),
+        None => None,
+    }
+}
+
+// The number of an argument that may be greater, where it has one.
+fn long_limit(matches: &ArgMatches<'_>, id: &str) -> Option<u64>
+    requires { HasLimit 9223372036854775807 id.now (rows_of (found_of matches.now)) }
+    ensures { number_of id.now (rows_of (found_of matches.now)) ≡ result }
+{
+    matches.get_one::<u64>(id)
+}
+
+// Whether a flag was used.
+fn flag(matches: &ArgMatches<'_>, id: &str) -> bool
+    requires { HasFlag id.now (rows_of (found_of matches.now)) }
+    ensures { IsFlag id.now (rows_of (found_of matches.now)) result }
+{
+    matches.get_flag(id)
+}
+
+// The text of an argument that has one.
+fn text<'a>(matches: &ArgMatches<'a>, id: &str) -> &'a str
+    requires { HasText id.now (rows_of (found_of matches.now)) }
+    ensures { first_of id.now (rows_of (found_of matches.now)) ≡ Some result.now }
+{
+    matches.get_str(id).unwrap()
+}
+
+// The text of an argument, where it has one.
+fn text_if_used<'a>(matches: &ArgMatches<'a>, id: &str) -> Option<&'a str>
+    ensures { first_of id.now (rows_of (found_of matches.now)) ≡ option_map (λ s. s.now) result }
+{
+    matches.get_str(id)
+}
+
+// All texts of an argument.
+fn texts<'a>(alloc: Global, matches: &ArgMatches<'a>, id: &str) -> Result<Vec<&'a str>, AllocError>
+    ensures { IfOk result (λ texts. values_of id.now (rows_of (found_of matches.now)) ≡ map (λ s. s.now) texts.items) }
+{
+    match matches.get_strs(id) {
+        Some(texts) => texts.to_vec(alloc),
+        None => Ok(Vec::new(alloc)),
+    }
+}
+
+// What the matches of `run` ask for.
+fn run_of<'a>(alloc: Global, run: &ArgMatches<'a>) -> Result<Request<'a>, AllocError>
+    requires { HasRun (rows_of (found_of run.now)) }
+    ensures { IfOk result (Gives (Some (codes "run", rows_of (found_of run.now)))) }
+{
+    Ok(Request::Run {
+        bound: number(run, "bound"),
+        workers: number(run, "workers"),
+        cells: limit(run, "cells"),
+        input: long_limit(run, "input"),
+        recursive: flag(run, "recursive"),
+        keep_going: flag(run, "keep-going"),
+        folders: texts(alloc, run, "folder")?,
+    })
+}
+
+// What the matches of `objects` ask for.
+fn objects_of<'a>(alloc: Global, objects: &ArgMatches<'a>) -> Result<Request<'a>, AllocError>
+    requires { HasObjects (rows_of (found_of objects.now)) }
+    ensures { IfOk result (Gives (Some (codes "objects", rows_of (found_of objects.now)))) }
+{
+    Ok(Request::Objects {
+        bound: number(objects, "bound"),
+        workers: number(objects, "workers"),
+        cells: number(objects, "cells"),
+        input: long_limit(objects, "input"),
+        recursive: flag(objects, "recursive"),
+        keep_going: flag(objects, "keep-going"),
+        folders: texts(alloc, objects, "folder")?,
+    })
+}
+
+// The format that the flags of `table` name, where they don't name two.
+fn format(table: &ArgMatches<'_>) -> Option<TableFormat>
+    requires { HasTable (rows_of (found_of table.now)) }
+    ensures { NamesFormat (rows_of (found_of table.now)) result }
+{
+    match (flag(table, "csv"), flag(table, "json")) {
+        (true, true) => None,
+        (false, true) => Some(TableFormat::Json),
+        (_, false) => Some(TableFormat::Csv),
+    }
+}
+
+// What the matches of `table` ask for.
+fn table_of<'a>(alloc: Global, table: &ArgMatches<'a>) -> Result<Request<'a>, WordsFault>
+    requires { HasTable (rows_of (found_of table.now)) }
+    ensures { MatchResult result (Gives (Some (codes "table", rows_of (found_of table.now))))
+        (RefusesCommand (Some (codes "table", rows_of (found_of table.now)))) }
+{
+    let Some(format) = format(table) else {
+        return Err(WordsFault::Refused(command::two_formats(alloc)?));
+    };
+    Ok(Request::Table {
+        format,
+        reports: texts(alloc, table, "report")?,
+    })
+}
+
+// What the matches ask for.
+fn request_of<'a>(alloc: Global, matches: &ArgMatches<'a>) -> Result<Request<'a>, WordsFault>
+    requires { IsCommand (subcommand_rows_of matches.now) }
+    ensures { MatchResult result (Gives (subcommand_rows_of matches.now)) (RefusesCommand (subcommand_rows_of matches.now)) }
+{
+    if let Some(run) = matches.subcommand_matches("run") {
+        return Ok(run_of(alloc, run)?);
+    }
+    if let Some(objects) = matches.subcommand_matches("objects") {
+        return Ok(objects_of(alloc, objects)?);
+    }
+    if let Some(identify) = matches.subcommand_matches("identify") {
+        return Ok(Request::Identify {
+            bound: number(identify, "bound"),
+            files: texts(alloc, identify, "file")?,
+        });
+    }
+    if let Some(advance) = matches.subcommand_matches("advance") {
+        return Ok(Request::Advance {
+            generations: number(advance, "generations"),
+            file: text_if_used(advance, "file"),
+        });
+    }
+    if let Some(draw) = matches.subcommand_matches("draw") {
+        return Ok(Request::Draw {
+            code: text(draw, "code"),
+            rule: text(draw, "rule"),
+        });
+    }
+    if let Some(merge) = matches.subcommand_matches("merge") {
+        return Ok(Request::Merge {
+            reports: texts(alloc, merge, "report")?,
+        });
+    }
+    if let Some(table) = matches.subcommand_matches("table") {
+        return table_of(alloc, table);
+    }
+    if let Some(page) = matches.subcommand_matches("page") {
+        return Ok(Request::Page {
+            reports: texts(alloc, page, "report")?,
+        });
+    }
+    unreachable!()
+}
+
+// Whether the flag `--explain` of the command was used.
+fn explains(matches: &ArgMatches<'_>) -> bool
+    requires { IsCommand (subcommand_rows_of matches.now) }
+    ensures { Explains (subcommand_rows_of matches.now) result }
+{
+    let Some((_, command)) = matches.subcommand() else {
+        unreachable!()
+    };
+    flag(command, "explain")
+}
+
+// Whether the flag `--no-progress` of a command that has it was used.
+fn is_quiet(matches: &ArgMatches<'_>) -> bool
+    requires { IsCommand (subcommand_rows_of matches.now) }
+{
+    if let Some(run) = matches.subcommand_matches("run") {
+        return flag(run, "no-progress");
+    }
+    match matches.subcommand_matches("objects") {
+        Some(objects) => flag(objects, "no-progress"),
+        None => false,
+    }
+}
+
+// What the matches ask for, and how its faults are to be told.
+fn asked_of<'a>(alloc: Global, matches: &ArgMatches<'a>) -> Result<Asked<'a>, WordsFault>
+    requires { IsCommand (subcommand_rows_of matches.now) }
+    ensures { MatchResult result (GivesAsked (subcommand_rows_of matches.now)) (RefusesCommand (subcommand_rows_of matches.now)) }
+{
+    Ok(Asked {
+        explain: explains(matches),
+        quiet: is_quiet(matches),
+        request: request_of(alloc, matches)?,
+    })
+}
+
+/// What the words after the program's own name ask for.
+///
+/// What words mean is what clap's matches for them say: their command, the value of each option or its default, whether
+/// each flag is used, and the folders, files or reports in order. Numbers are decimal, with any zeros or one `+` in front, and
+/// their ranges are clap's to judge.
+/// A fault other than `Memory` comes only where clap has no matches for the words: `Help` where it answers them with help
+/// or with the version, `Refused` where it refuses them. Words that name both formats of `table` alone are `Refused`
+/// though clap has matches for them.
+pub fn read_words<'a>(alloc: Global, words: &'a [&'a str]) -> Result<Asked<'a>, WordsFault>
+    ensures { MatchResult result (AsksFor (map (λ s. s.now) words.entry.now)) (Refuses (map (λ s. s.now) words.entry.now)) }
+{
+    let command = command::census(alloc)?;
+    match command.try_get_matches_from(words) {
+        Ok(matches) => asked_of(alloc, &matches),
+        Err(error) => Err(fault_of(alloc, &error)),
+    }
+}

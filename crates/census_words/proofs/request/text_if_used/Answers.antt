@@ -1,7 +1,0 @@
-use Rattle.std.proofs.Common.{◌∙◌, sym}
-use Rattle.clap.specs.Matches.{found_of}
-use Rattle.clap.proofs.WalkLemmas.{first_value-rows}
-use Rattle.census_words.proofs.request.text_if_used.Goals as goal
-
-pub returns : goal.returns
-returns c = sym (first_value-rows (found_of c.args.matches.now) c.args.id.now) ∙ sym c.get_str.ensures

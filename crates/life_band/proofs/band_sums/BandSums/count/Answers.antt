@@ -1,6 +1,0 @@
-use Rattle.life_band.proofs.Counting.{counted}
-use Rattle.life_band.proofs.band_sums.BandSums.count.Goals as goal
-
-pub returns : goal.returns
-returns c = λ window is x below.
-    counted c.args.self.now window is x c.args.y below c.requires _ _ (c.add_three-sum.ensures x)

@@ -1,0 +1,13 @@
+use Rattle.std.proofs.Common.{sym, ap, ◌∙◌, arith}
+use Rattle.std.specs.Int.{bit_at}
+use Rattle.life_bits.specs.Bits.{next_state}
+use Rattle.life_bits.specs.Numbers.{number_at}
+use Rattle.life_bits.proofs.LifeCases.{life_at}
+use Rattle.life_bits.proofs.logic.LifeBranch.next.Goals as goal
+
+pub returns : goal.returns
+returns c = λ rule is j below few.
+    life_at c.add_two-outer.result.ones c.add_two-outer.result.twos c.add_two-inner.result.ones c.add_two-inner.result.twos
+    c.args.count.ones c.args.here c.args.count.above c.args.count.below c.args.count.beside c.args.count.carried j
+    (omega arith) (omega arith) below (c.add_two-outer.ensures j) (c.add_two-inner.ensures j)
+    ∙ ap (λ r. next_state r (bit_at c.args.here j) (number_at c.args.count j)) (sym is)
