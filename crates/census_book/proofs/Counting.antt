@@ -5,7 +5,7 @@ use Rattle.census_bundle.specs.declared.bundle.Folder.{Folder}
 use Rattle.census_bundle.specs.declared.ticket.Ticket.{Ticket}
 use Rattle.life_answer.specs.declared.finding.Answer.{Answer}
 use Rattle.census_bundle.specs.Tickets.{Tickets, ticket, numbered, entry_at, has_ticket, with_ticket, IsTicketOf}
-use Rattle.census_book.specs.Lines.{answer_to_entry}
+use Rattle.census_format.specs.Lines.{answer_to_entry}
 use Rattle.census_book.specs.Counts.{numbered_sum, bundle_weight, one_if, taken_count, missing_count, CountsStep}
 use Rattle.census_book.proofs.TicketSets.{has_other, has_same}
 use Rattle.census_book.proofs.Releases.{folder_at}

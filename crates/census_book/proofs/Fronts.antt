@@ -9,15 +9,15 @@ use Rattle.census_bundle.specs.declared.ticket.Ticket.{Ticket}
 use Rattle.census_bundle.specs.Tickets.{Tickets, no_tickets, numbered, entry_at, with_ticket, has_ticket, ticket}
 use Rattle.census_book.specs.Front.{IsFront, IsNextOpen, run_at}
 use Rattle.census_book.specs.Collecting.{Belongs, IsLeastMissing}
-use Rattle.census_book.specs.Lines.{end_line, text_of}
-use Rattle.census_book.specs.Reports.{run_of, has_all, end_if, folder_out, out, out_of}
+use Rattle.census_format.specs.Lines.{end_line, text_of}
+use Rattle.census_format.specs.Reports.{run_of, has_all, end_if, folder_out, out, out_of}
 use Rattle.census_book.proofs.TicketSets.{has_other, has_kept}
 use Rattle.census_book.proofs.Runs.{run_same, run_before, run_within}
 use Rattle.census_book.proofs.Missing.{least_missing}
 use Rattle.census_bundle.specs.Sizes.{IsSmall}
 use Rattle.census_book.proofs.Releases.{all_each, all_not, run_none, folder_at, not_whole}
 use Rattle.census_book.proofs.Texts.{ticket_in}
-use Rattle.census_book.proofs.Owning.{eqb_same, eqb_apart}
+use Rattle.census_format.proofs.Owning.{eqb_same, eqb_apart}
 use Rattle.life_answer.specs.declared.question.Question.{Question}
 
 -- the runs are those of these tickets, and the first open collection was looked for from one before which all are whole

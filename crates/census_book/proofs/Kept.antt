@@ -6,10 +6,10 @@ use Rattle.census_bundle.specs.declared.bundle.Entry.{Entry}
 use Rattle.census_bundle.specs.Tickets.{ticket, numbered, entry_in}
 use Rattle.census_book.specs.Work.{Work}
 use Rattle.census_book.specs.Collecting.{Belongs, IsResult}
-use Rattle.census_book.specs.Heads.{headed, line_head, line_tail}
-use Rattle.census_book.specs.Lines.{answer_to_entry, pattern_text}
-use Rattle.census_book.proofs.Fields.{headed_line}
-use Rattle.census_book.proofs.Lost.{same_answer}
+use Rattle.census_format.specs.Heads.{headed, line_head, line_tail}
+use Rattle.census_format.specs.Lines.{answer_to_entry, pattern_text}
+use Rattle.census_format.proofs.Fields.{headed_line}
+use Rattle.census_format.proofs.Lost.{same_answer}
 use Rattle.life_answer.specs.declared.question.Question.{Question}
 
 -- what is told of a `None` follows from what was told of it

@@ -8,7 +8,7 @@ use Rattle.std.specs.FinSet.{nat_cmp-IsAntisymmetric}
 use Rattle.census_bundle.specs.declared.bundle.Folder.{Folder}
 use Rattle.census_bundle.specs.declared.ticket.Ticket.{Ticket}
 use Rattle.census_bundle.specs.Tickets.{Tickets, ticket, has_ticket, numbered, entry_in, IsTicketOf, HasAll}
-use Rattle.census_book.specs.Reports.{run_of, run_from}
+use Rattle.census_format.specs.Reports.{run_of, run_from}
 use Rattle.census_book.specs.Collecting.{IsLeastMissing}
 use Rattle.census_book.proofs.Runs.{run_end, run_before}
 use Rattle.census_book.proofs.Releases.{folder_at, numbered_bounds, not_whole, entry_here}

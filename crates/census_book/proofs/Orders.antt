@@ -4,7 +4,7 @@ use Rattle.census_bundle.specs.declared.bundle.Folder.{Folder}
 use Rattle.census_bundle.specs.declared.ticket.Ticket.{Ticket}
 use Rattle.census_bundle.specs.declared.bundle.Entry.{Entry}
 use Rattle.census_bundle.specs.Tickets.{Tickets, no_tickets, with_ticket, entry_at, IsTicketOf}
-use Rattle.census_book.specs.Reports.{start, out}
+use Rattle.census_format.specs.Reports.{start, out}
 use Rattle.census_book.specs.Released.{IsReleased}
 use Rattle.census_book.specs.declared.offer.Offer.{Offer}
 use Rattle.census_book.specs.declared.offer.Offer.TheVariants.{Stranger, Double, Taken}

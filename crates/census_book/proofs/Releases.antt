@@ -10,12 +10,12 @@ use Rattle.census_bundle.specs.declared.bundle.Entry.{Entry}
 use Rattle.census_bundle.specs.declared.bundle.Folder.{Folder}
 use Rattle.census_bundle.specs.declared.ticket.Ticket.{Ticket}
 use Rattle.census_bundle.specs.Tickets.{Tickets, ticket, ticket_cmp, no_tickets, with_ticket, has_ticket, numbered, entry_in, IsTicketOf, HasAll}
-use Rattle.census_book.specs.Lines.{Line, text_of, open_line, end_line, pattern_lines, pattern_count}
-use Rattle.census_book.specs.Reports.{IsReport, IsReportFront, start, out, out_of, folder_out, lines_of, owned_text, closing, closing_if, end_if, opening, run_of, run_from, all_from, has_all, section_of, folder_section}
+use Rattle.census_format.specs.Lines.{Line, text_of, open_line, end_line, pattern_lines, pattern_count}
+use Rattle.census_format.specs.Reports.{IsReport, IsReportFront, start, out, out_of, folder_out, lines_of, owned_text, closing, closing_if, end_if, opening, run_of, run_from, all_from, has_all, section_of, folder_section}
 use Rattle.census_book.specs.Released.{IsReleased, shown, shown_of, shown_lines}
 use Rattle.census_book.proofs.TicketSets.{has_other, has_kept}
 use Rattle.census_book.proofs.Runs.{run_grows, run_same, run_whole, run_all}
-use Rattle.census_book.proofs.Owning.{own, gathered, given, eqb_same, eqb_apart, lines_of-append, lines_of-own, lines_of-other, owned_text-append, owned_text-own, lines_of-gathered}
+use Rattle.census_format.proofs.Owning.{own, gathered, given, eqb_same, eqb_apart, lines_of-append, lines_of-own, lines_of-other, owned_text-append, owned_text-own, lines_of-gathered}
 use Rattle.life_answer.specs.declared.question.Question.{Question}
 
 -- cases on a number's test

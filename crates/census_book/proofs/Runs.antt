@@ -1,7 +1,7 @@
 -- How long a collection's run is.
 use Rattle.std.proofs.Common.{◌≡◌, ℕ, zero, suc, ◌+◌, ◌<◌, ◌≤◌, Bool, true, false, cond, List, [], ◌∷◌, length, refl, sym, ap, subst, ◌∙◌, arith}
 use Rattle.census_bundle.specs.declared.bundle.Entry.{Entry}
-use Rattle.census_book.specs.Reports.{run_from}
+use Rattle.census_format.specs.Reports.{run_from}
 
 pub run_within : (p : ℕ → Bool) (i : ℕ) (es : List Entry) → run_from p i es ≤ length es
 run_within p i [] = omega arith

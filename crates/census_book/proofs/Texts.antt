@@ -7,10 +7,10 @@ use Rattle.census_bundle.specs.declared.ticket.Ticket.{Ticket}
 use Rattle.census_book.proofs.Releases.{folder_at, numbered_bounds}
 use Rattle.census_bundle.specs.Tickets.{Tickets, with_ticket, numbered, entry_at}
 use Rattle.life_answer.specs.declared.finding.Answer.{Answer}
-use Rattle.census_book.specs.Objects.{code_line, code_lines, objects, same_object, tally}
-use Rattle.census_book.specs.Lines.{answer_to_entry, answers, close_line, text_of, end_line, pattern_text, pattern_lines, pattern_count}
-use Rattle.census_book.specs.Reports.{out, out_of, folder_out, closing, closing_if, end_if, run_of, has_all}
-use Rattle.census_book.proofs.Owning.{text_of-append, eqb_same, eqb_apart}
+use Rattle.census_format.specs.Objects.{code_line, code_lines, objects, same_object, tally}
+use Rattle.census_format.specs.Lines.{answer_to_entry, answers, close_line, text_of, end_line, pattern_text, pattern_lines, pattern_count}
+use Rattle.census_format.specs.Reports.{out, out_of, folder_out, closing, closing_if, end_if, run_of, has_all}
+use Rattle.census_format.proofs.Owning.{text_of-append, eqb_same, eqb_apart}
 use Rattle.life_answer.specs.declared.question.Question.{Question}
 
 lines_at : (question : Question) (c s : ℕ) (es : List Entry) (k : ℕ) (e : Entry) → slice_get es k ≡ Some e → drop k (pattern_lines question c s es) ≡ pattern_text question c (s + k) e ∷ drop (k + 1) (pattern_lines question c s es)
@@ -81,18 +81,6 @@ appended t t' x y z w one two three = ap (λ u. u ++ y) one ∙ append_assoc t x
 pub ticket_in : (b : List Folder) (t : Ticket) (e : Entry) → entry_at b t ≡ Some e → (0 < t.folder) × (t.folder ≤ length b)
 ticket_in b t e at = let f = folder_at (numbered b t.folder) t.number e at in numbered_bounds b t.folder f.0 f.1
 
--- what ends a section is its `code` lines and its last line
-pub closing_text : (question : Question) (c : ℕ) (f : Folder) → text_of (closing question c f) ≡ text_of (code_lines question c f) ++ close_line question c f
-unfolding closing
-closing_text question c f = text_of-append (code_lines question c f) (close_line question c f ∷ []) ∙ ap (λ t. text_of (code_lines question c f) ++ t) (append-nil (close_line question c f))
-
-pub ended : (question : Question) (c : ℕ) (f : Folder) (found : List Answer) (t₀ t₁ t₂ : List ℕ) → found ≡ answers question f.entries
-    → t₁ ≡ t₀ ++ text_of (map (λ e. code_line c e.0 e.1) (tally same_object (objects found))) → t₂ ≡ t₁ ++ close_line question c f → t₂ ≡ t₀ ++ text_of (closing question c f)
-ended question c f found t₀ t₁ t₂ is one two =
-    two ∙ ap (λ t. t ++ close_line question c f) (one ∙ ap (λ xs. t₀ ++ text_of (map (λ e. code_line c e.0 e.1) (tally same_object (objects xs)))) is)
-    ∙ append_assoc t₀ (text_of (code_lines question c f)) (close_line question c f)
-    ∙ ap (λ t. t₀ ++ t) (sym (closing_text question c f))
-
 pub answers_more : (question : Question) (i : ℕ) (es : List Entry) (e : Entry) → slice_get es i ≡ Some e → answers question (take (i + 1) es) ≡ answers question (take i es) ++ answer_to_entry question e ∷ []
 answers_more question i [] e at = absurd (cc)
 answers_more question zero (x ∷ es) e at =
@@ -101,15 +89,6 @@ answers_more question zero (x ∷ es) e at =
 answers_more question (suc i) (x ∷ es) e at =
     let n : suc i + 1 ≡ suc (i + 1) = omega arith in
     ap (λ m. answers question (take m (x ∷ es))) n ∙ ap (λ xs. answer_to_entry question x ∷ xs) (answers_more question i es e at)
-
-pub count_at : (i : ℕ) (fs : List Folder) (f : Folder) → slice_get fs i ≡ Some f → pattern_count (drop i fs) ≡ length f.entries + pattern_count (drop (i + 1) fs)
-count_at i [] f at = absurd (cc)
-count_at zero (g ∷ fs) f at =
-    let same : g ≡ f = cc in
-    ap (λ (h : Folder). length h.entries + pattern_count fs) same
-count_at (suc i) (g ∷ fs) f at =
-    let n : suc i + 1 ≡ suc (i + 1) = omega arith in
-    count_at i fs f at ∙ ap (λ m. length f.entries + pattern_count (drop m (g ∷ fs))) (sym n)
 
 pub folder_text : (question : Question) (c : ℕ) (f : Folder) (k m : ℕ) (t₀ t₁ t₂ : List ℕ) → text_of (closing question c f) ≡ text_of (closing_if (eqb m (length f.entries)) question c f)
     → t₁ ≡ t₀ ++ text_of (take (m - k) (drop k (pattern_lines question c 1 f.entries))) → t₂ ≡ t₁ ++ text_of (closing question c f) → t₂ ≡ t₀ ++ text_of (folder_out question c f k m)

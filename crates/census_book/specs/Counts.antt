@@ -6,7 +6,7 @@ use Rattle.census_bundle.specs.declared.ticket.Ticket.{Ticket}
 use Rattle.life_answer.specs.declared.finding.Answer.{Answer}
 use Rattle.census_bundle.specs.Tickets.{Tickets, ticket, has_ticket, with_ticket, entry_at}
 use Rattle.life_answer.specs.declared.question.Question.{Question}
-use Rattle.census_book.specs.Lines.{answer_to_entry}
+use Rattle.census_format.specs.Lines.{answer_to_entry}
 
 -- what g gives for each element and its number, the first of which is i, added up
 abbrev pub numbered_sum : {A : Type 0} → (ℕ → A → ℕ) → ℕ → List A → ℕ

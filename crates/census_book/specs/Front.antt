@@ -3,7 +3,7 @@ use Rattle.std.specs.Prelude.{◌≡◌, ℕ, ◌+◌, ◌<◌, ◌≤◌, List,
 use Rattle.census_bundle.specs.declared.bundle.Folder.{Folder}
 use Rattle.census_bundle.specs.declared.ticket.Ticket.{Ticket}
 use Rattle.census_bundle.specs.Tickets.{Tickets, numbered, with_ticket}
-use Rattle.census_book.specs.Reports.{run_of, out}
+use Rattle.census_format.specs.Reports.{run_of, out}
 use Rattle.life_answer.specs.declared.question.Question.{Question}
 
 -- for each collection its run, and the first collection that has not arrived whole, or how many there are

@@ -6,7 +6,7 @@ use Rattle.census_bundle.specs.Tickets.{Tickets, no_tickets, with_ticket, has_ti
 use Rattle.census_book.specs.declared.offer.Offer.{Offer}
 use Rattle.census_book.specs.Collecting.{Offered}
 use Rattle.census_book.specs.Progress.{Progress, started}
-use Rattle.census_book.specs.Reports.{IsReport, IsReportFront, start, out}
+use Rattle.census_format.specs.Reports.{IsReport, IsReportFront, start, out}
 use Rattle.census_book.specs.Work.{Work}
 use Rattle.life_answer.specs.declared.question.Question.{Question}
 

@@ -3,7 +3,7 @@ use Rattle.std.specs.Prelude.{ℕ, List, ◌++◌, drop}
 use Rattle.census_bundle.specs.declared.bundle.Folder.{Folder}
 use Rattle.census_bundle.specs.declared.ticket.Ticket.{Ticket}
 use Rattle.census_bundle.specs.Tickets.{Tickets, no_tickets, with_ticket}
-use Rattle.census_book.specs.Reports.{start, out}
+use Rattle.census_format.specs.Reports.{start, out}
 use Rattle.life_answer.specs.declared.question.Question.{Question}
 
 -- the tickets of a bundle that were taken

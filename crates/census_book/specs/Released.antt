@@ -2,8 +2,8 @@
 use Rattle.std.specs.Prelude.{◌≡◌, ℕ, List, [], ◌∷◌, ◌++◌, Option, None, Some, take, length, ◌==◌}
 use Rattle.census_bundle.specs.declared.bundle.Folder.{Folder}
 use Rattle.census_bundle.specs.Tickets.{Tickets, numbered}
-use Rattle.census_book.specs.Lines.{Line, open_line, pattern_lines}
-use Rattle.census_book.specs.Reports.{Owned, lines_of, owned_text, has_all, end_if, run_of, closing_if}
+use Rattle.census_format.specs.Lines.{Line, open_line, pattern_lines}
+use Rattle.census_format.specs.Reports.{Owned, lines_of, owned_text, has_all, end_if, run_of, closing_if}
 use Rattle.life_answer.specs.declared.question.Question.{Question}
 
 -- the lines of a collection that are released where its first k patterns have arrived

@@ -6,7 +6,7 @@ ghost use Rattle.census_book.specs.Collecting.{Belongs, IsLeastMissing, Judged, 
 ghost use Rattle.census_book.specs.declared.offer.Offer.TheVariants.{Taken};
 ghost use Rattle.census_book.specs.Front.{IsFront, IsRelease};
 ghost use Rattle.census_book.specs.Progress.{sent_of, started, taken_of};
-ghost use Rattle.census_book.specs.Reports.{out};
+ghost use Rattle.census_format.specs.Reports.{out};
 
 use crate::done::Done;
 use crate::front::Front;

@@ -1,13 +1,12 @@
 //! Patterns that were worked.
 ghost use Rattle.std.specs.Prelude.{◌≡◌, ◌≤◌, IfNone, IfOk, IfSome};
 ghost use Rattle.life_answer.specs.Questions.{IsAnswered};
-ghost use Rattle.census_book.specs.Lines.{answer_to_entry};
-ghost use Rattle.census_book.specs.Heads.{line_head, line_tail};
+ghost use Rattle.census_format.specs.Lines.{answer_to_entry};
+ghost use Rattle.census_format.specs.Heads.{line_head, line_tail};
 ghost use Rattle.census_book.specs.Soon.{IsLongWork};
 
-use crate::lines::push_head;
-use crate::parts::push_tail;
 use census_bundle::{Entry, Text, Ticket};
+use census_format::{push_head, push_tail};
 use life_answer::{Answer, Question};
 use life_find::answer_soon;
 use std::alloc::{AllocError, Global};
@@ -31,8 +30,8 @@ pub struct Done<'a> {
 
 impl<'a> Model for Done<'a> {
     ghost use Rattle.std.specs.Prelude.{◌≡◌};
-    ghost use Rattle.census_book.specs.Heads.{line_head, line_tail};
-    ghost use Rattle.census_book.specs.Lines.{answer_to_entry};
+    ghost use Rattle.census_format.specs.Heads.{line_head, line_tail};
+    ghost use Rattle.census_format.specs.Lines.{answer_to_entry};
     ghost use Rattle.census_book.specs.Work.{Work, work_code};
 
     ghost Value = { Work };
@@ -45,7 +44,7 @@ impl<'a> Model for Done<'a> {
 }
 
 // What is found of an entry, whatever is asked.
-#[tactic(auto, unfolding(crate::specs::Lines::answer_to_entry))]
+#[tactic(auto, unfolding(census_format::specs::Lines::answer_to_entry))]
 fn find(alloc: Global, entry: &Entry, question: Question) -> Result<Answer, AllocError>
     requires { IsAnswered question }
     ensures { IfOk result (λ found. found ≡ answer_to_entry question entry.now) }
@@ -62,7 +61,7 @@ fn find(alloc: Global, entry: &Entry, question: Question) -> Result<Answer, Allo
 
 // What is found of an entry, where the first 256 generations of its pattern tell it and objects are not asked for, or its
 // text is lost.
-#[tactic(auto, unfolding(crate::specs::Lines::answer_to_entry))]
+#[tactic(auto, unfolding(census_format::specs::Lines::answer_to_entry))]
 fn find_soon(alloc: Global, entry: &Entry, question: Question) -> Result<Option<Answer>, AllocError>
     requires { IsAnswered question }
     ensures known { IfOk result (λ soon. IfSome soon (λ found. found ≡ answer_to_entry question entry.now)) }

@@ -2,18 +2,17 @@
 ghost use Rattle.std.specs.Prelude.{◌≡◌, ◌≤◌, ◌<◌, ◌++◌, ◌-◌, ◌+◌, ℕ, true, false, [], ◌∷◌, length, take, drop, map, OnOk, IfOk, Some};
 ghost use Rattle.census_bundle.specs.Sizes.{IsSmall};
 ghost use Rattle.census_bundle.specs.Tickets.{has_ticket, numbered, ticket};
-ghost use Rattle.census_book.specs.Lines.{answers, end_line, pattern_lines, pattern_count, text_of};
+ghost use Rattle.census_format.specs.Lines.{answers, end_line, pattern_lines, pattern_count, text_of};
 ghost use Rattle.census_book.specs.Collecting.{Belongs};
 ghost use Rattle.census_book.specs.Front.{IsFront, IsRelease};
-ghost use Rattle.census_book.specs.Reports.{folder_out, run_of, start};
+ghost use Rattle.census_format.specs.Reports.{folder_out, run_of, start};
 
 use crate::arrival::Arrival;
-use crate::closing::push_closing;
 use crate::done::Done;
 use crate::front::{Front, next_open};
-use crate::lines::{push_number, push_open, push_pattern};
 use crate::results::Results;
 use census_bundle::{Folder, Ticket};
+use census_format::{push_closing, push_end, push_open, push_pattern};
 use life_answer::{Answer, Question};
 use std::alloc::{AllocError, Global};
 
@@ -86,31 +85,6 @@ fn folder_answers<'r>(
         found.push(done.answer())?;
     }
     Ok(found)
-}
-
-// How many patterns there are.
-fn count_patterns(folders: &[Folder]) -> u64
-    requires { IsSmall folders.now }
-    ensures { result ≡ pattern_count folders.now }
-{
-    let mut count = 0u64;
-    for folder in folders {
-        count += folder.entries.as_slice().len() as u64;
-    }
-    count
-}
-
-// The last line of a report.
-#[tactic(auto, unfolding(crate::specs::Lines::end_line))]
-fn push_end(text: &mut Vec<u8>, folders: &[Folder]) -> Result<(), AllocError>
-    requires { IsSmall folders.now }
-    ensures { OnOk result (text.new.items ≡ text.old.items ++ end_line folders.now) }
-{
-    text.extend_from_slice(b"end")?;
-    push_number(text, folders.len())?;
-    push_number(text, count_patterns(folders))?;
-    text.push(b'\n')?;
-    Ok(())
 }
 
 /// Appends what is released before any ticket is taken.

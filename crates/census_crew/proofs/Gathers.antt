@@ -8,7 +8,7 @@ use Rattle.census_bundle.specs.Tickets.{Tickets, with_ticket, HasAll}
 use Rattle.census_book.specs.Collecting.{Offered}
 use Rattle.census_book.specs.declared.offer.Offer.TheVariants.{Double, Stranger, Taken}
 use Rattle.census_book.specs.declared.offer.Offer.{Offer}
-use Rattle.census_book.specs.Lines.{answer_to_entry, is_refused, is_resolved, is_unresolved}
+use Rattle.census_format.specs.Lines.{answer_to_entry, is_refused, is_resolved, is_unresolved}
 use Rattle.life_answer.specs.declared.finding.Answer.{Answer}
 use Rattle.census_book.specs.Progress.{Progress, started}
 use Rattle.census_crew.specs.declared.tally.Tally.{Tally}

@@ -8,7 +8,7 @@ use Rattle.census_bundle.specs.declared.bundle.Entry.{Entry}
 use Rattle.census_bundle.specs.declared.ticket.Ticket.{Ticket}
 use Rattle.census_bundle.specs.declared.bundle.Folder.{Folder}
 use Rattle.census_bundle.specs.Tickets.{IsTicketOf, HasAll, has_ticket}
-use Rattle.census_book.specs.Reports.{out}
+use Rattle.census_format.specs.Reports.{out}
 use Rattle.census_book.specs.Released.{IsReleased}
 use Rattle.census_book.specs.Progress.{Progress, started, with_taken, sent_of}
 use Rattle.census_crew.specs.Writing.{EndsInStep, WritesReport, WritesFront, IsInStep, StaysInStep, StopsInStep}

@@ -9,9 +9,9 @@ use Rattle.census_bundle.specs.Tickets.{Tickets, ticket_cmp, ticket, no_tickets,
 use Rattle.life_answer.specs.declared.finding.Answer.{Answer}
 use Rattle.census_book.specs.Collecting.{Belongs}
 use Rattle.census_book.specs.Counts.{numbered_sum, one_if, count_of, taken_count}
-use Rattle.census_book.specs.Lines.{answer_to_entry, is_refused, is_resolved, is_unresolved, pattern_count}
+use Rattle.census_format.specs.Lines.{answer_to_entry, is_refused, is_resolved, is_unresolved, pattern_count}
 use Rattle.census_book.proofs.Counting.{count_more}
-use Rattle.census_book.proofs.Lost.{same_answer}
+use Rattle.census_format.proofs.Lost.{same_answer}
 use Rattle.census_crew.specs.declared.tally.Tally.{Tally}
 use Rattle.census_crew.specs.Tallying.{tallied, no_tally, TalliesTaken, TalliesPatterns}
 use Rattle.life_answer.specs.declared.question.Question.{Question}

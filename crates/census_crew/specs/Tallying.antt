@@ -4,7 +4,7 @@ use Rattle.census_bundle.specs.declared.bundle.Folder.{Folder}
 use Rattle.census_bundle.specs.Tickets.{Tickets}
 use Rattle.life_answer.specs.declared.finding.Answer.{Answer}
 use Rattle.census_book.specs.Counts.{count_of, one_if, taken_count}
-use Rattle.census_book.specs.Lines.{is_refused, is_resolved, is_unresolved, pattern_count}
+use Rattle.census_format.specs.Lines.{is_refused, is_resolved, is_unresolved, pattern_count}
 use Rattle.census_crew.specs.declared.tally.Tally.{Tally}
 use Rattle.life_answer.specs.declared.question.Question.{Question}
 

@@ -2,7 +2,7 @@
 use Rattle.std.specs.Prelude.{◌≡◌, ℕ, List, ◌++◌, Option}
 use Rattle.std.specs.Io.KnownBytes.{Appends}
 use Rattle.census_bundle.specs.declared.bundle.Folder.{Folder}
-use Rattle.census_book.specs.Reports.{IsReport, IsReportFront}
+use Rattle.census_format.specs.Reports.{IsReport, IsReportFront}
 use Rattle.census_book.specs.Progress.{Progress}
 use Rattle.census_book.specs.Released.{IsReleased}
 use Rattle.life_answer.specs.declared.question.Question.{Question}

@@ -10,9 +10,9 @@ use Rattle.life_model.specs.Rule.{Rule}
 use Rattle.life_objects.proofs.Lists.{Contains-head, Contains-later, head_or_later}
 use Rattle.life_shape.specs.TextOrder.{shorter_cmp}
 use Rattle.life_shape.proofs.TextOrders.{shorter_exact}
-use Rattle.census_book.specs.Objects.{Object, object, same_object}
-use Rattle.census_book.specs.PartCounts.{parts_as}
-use Rattle.census_book.proofs.Tallies.{count_first}
+use Rattle.census_format.specs.Objects.{Object, object, same_object}
+use Rattle.census_format.specs.PartCounts.{parts_as}
+use Rattle.census_format.proofs.Tallies.{count_first}
 
 -- ---- the objects counted by their codes
 

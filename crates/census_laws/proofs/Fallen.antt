@@ -22,8 +22,8 @@ use Rattle.life_model.specs.Rule.{Rule}
 use Rattle.life_text.specs.declared.rle.RleFault.{RleFault}
 use Rattle.life_text.specs.Picture.{Picture, picture_of}
 use Rattle.life_text.specs.Rle.{reading}
-use Rattle.census_book.specs.Lines.{answer_to_entry}
-use Rattle.census_book.proofs.Lost.{found_kept, kept_answer}
+use Rattle.census_format.specs.Lines.{answer_to_entry}
+use Rattle.census_format.proofs.Lost.{found_kept, kept_answer}
 use Rattle.census_laws.specs.Fallen.{FallsApart}
 
 -- ---- what is found of a set that falls apart

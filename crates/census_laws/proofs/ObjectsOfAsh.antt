@@ -13,10 +13,10 @@ use Rattle.life_model.specs.Generation.{Generation}
 use Rattle.life_model.specs.Recurrence.{AreOneObject}
 use Rattle.life_model.specs.Rule.{Rule}
 use Rattle.life_objects.specs.Ash.{IsObject}
-use Rattle.census_book.specs.Objects.{Object, object, same_object}
-use Rattle.census_book.specs.ObjectLaws.{one_object, same_itself}
-use Rattle.census_book.specs.PartCounts.{fallen_as, CountsParts}
-use Rattle.census_book.proofs.PartCounts.{codes_count_parts}
+use Rattle.census_format.specs.Objects.{Object, object, same_object}
+use Rattle.census_format.specs.ObjectLaws.{one_object, same_itself}
+use Rattle.census_format.specs.PartCounts.{fallen_as, CountsParts}
+use Rattle.census_format.proofs.PartCounts.{codes_count_parts}
 use Rattle.census_laws.specs.Fallen.{FallsApart, AreCounted, CountsIn}
 use Rattle.census_laws.specs.ObjectsOfAsh.{IsCoded, CountsObject, code_counts, PartsHaveOneLine, CodesCountObjectsOfAsh}
 use Rattle.census_laws.proofs.CodeCounts.{adding, as_counted, count-map, passing, some_count, some_sum}

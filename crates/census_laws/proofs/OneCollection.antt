@@ -1,9 +1,9 @@
 -- With one collection there is one report.
 use Rattle.std.proofs.Common.{◌≡◌, ◌↔◌, ℕ, zero, suc, true, false, cond, eqb, List, [], ◌∷◌, ◌++◌, refl, sym, ap, ◌∙◌, arith}
 use Rattle.census_bundle.specs.declared.bundle.Folder.{Folder}
-use Rattle.census_book.specs.Lines.{Line, end_line, text_of}
-use Rattle.census_book.specs.Reports.{IsReport, Owned, folder_section, lines_of, owned_text, section}
-use Rattle.census_book.proofs.Owning.{eqb_same, lines_of-other, lines_of-own, own, owned_text-own}
+use Rattle.census_format.specs.Lines.{Line, end_line, text_of}
+use Rattle.census_format.specs.Reports.{IsReport, Owned, folder_section, lines_of, owned_text, section}
+use Rattle.census_format.proofs.Owning.{eqb_same, lines_of-other, lines_of-own, own, owned_text-own}
 use Rattle.life_answer.specs.declared.question.Question.{Question}
 
 -- no line belongs to another collection than the first

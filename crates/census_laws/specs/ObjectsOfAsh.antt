@@ -8,8 +8,8 @@ use Rattle.life_model.specs.Cell.{Cell}
 use Rattle.life_model.specs.Generation.{Generation}
 use Rattle.life_model.specs.Recurrence.{Settles}
 use Rattle.life_model.specs.Rule.{Rule}
-use Rattle.census_book.specs.Lines.{answers}
-use Rattle.census_book.specs.Objects.{Object, object, objects, same_object, tally}
+use Rattle.census_format.specs.Lines.{answers}
+use Rattle.census_format.specs.Objects.{Object, object, objects, same_object, tally}
 use Rattle.census_laws.specs.Fallen.{CountsIn, FallsApart}
 
 -- P comes again within the bound, and this is the rule and P's code.

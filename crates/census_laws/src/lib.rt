@@ -4,8 +4,8 @@
 
 ghost use Rattle.std.specs.Prelude.{◌≡◌, ◌↔◌, ◌++◌, [], ◌∷◌, ℕ, List};
 ghost use Rattle.census_bundle.specs.declared.bundle.Folder.{Folder};
-ghost use Rattle.census_book.specs.Lines.{end_line, text_of};
-ghost use Rattle.census_book.specs.Reports.{IsReport, folder_section};
+ghost use Rattle.census_format.specs.Lines.{end_line, text_of};
+ghost use Rattle.census_format.specs.Reports.{IsReport, folder_section};
 ghost use Rattle.census_laws.specs.ObjectsOfAsh.{CodesCountObjectsOfAsh};
 ghost use Rattle.life_answer.specs.declared.question.Question.{Question};
 

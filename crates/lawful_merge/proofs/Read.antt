@@ -2,7 +2,7 @@
 use Rattle.std.proofs.Common.{◌≡◌, ℕ, ◌<◌, List, [], ◌∷◌, ◌++◌, length, refl, sym, ap, ◌∙◌, subst, arith}
 use Rattle.std.proofs.lemmas.List.{take_all}
 use Rattle.std.specs.List.{AllZip}
-use Rattle.census_book.specs.Reports.{IsReport}
+use Rattle.census_format.specs.Reports.{IsReport}
 use Rattle.census_folders.specs.Told.{Told}
 use Rattle.census_rows.specs.declared.row.Row.{Row}
 use Rattle.census_readback.specs.Reports.{IsReport as IsReadBack}

@@ -1,6 +1,6 @@
 -- What is written of lawful reports.
 use Rattle.std.specs.Prelude.{◌≡◌, ℕ, List}
-use Rattle.census_book.specs.Reports.{IsReport}
+use Rattle.census_format.specs.Reports.{IsReport}
 use Rattle.census_bundle.specs.declared.bundle.Folder.{Folder}
 use Rattle.census_folders.specs.Told.{Told}
 use Rattle.census_identify.specs.Streams.{Writes}

@@ -5,8 +5,8 @@ use Rattle.std.specs.List.{AllByRecursion as Each, fold}
 use Rattle.std.specs.declared.cmp.Ordering.{Ordering}
 use Rattle.std.specs.declared.cmp.Ordering.TheVariants.{Less, Equal, Greater}
 use Rattle.census_bundle.specs.declared.bundle.Entry.{Entry}
-use Rattle.census_book.specs.Lines.{answer_to_entry, answers}
-use Rattle.census_book.specs.Objects.{Object, distinct, object, objects, part_objects, tally}
+use Rattle.census_format.specs.Lines.{answer_to_entry, answers}
+use Rattle.census_format.specs.Objects.{Object, distinct, object, objects, part_objects, tally}
 use Rattle.life_answer.specs.Answers.{finding_at, finding_from, finding_of}
 use Rattle.life_answer.specs.Census.{census_found, census_of, code_found, part_code}
 use Rattle.life_answer.specs.Limited.{unless_large}

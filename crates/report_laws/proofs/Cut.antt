@@ -3,8 +3,8 @@ use Rattle.std.proofs.Common.{◌≡◌, ℕ, ◌<◌, ◌^◌, ◌⊎◌, inl, 
 use Rattle.std.specs.List.{AllByRecursion as Each}
 use Rattle.std.proofs.lemmas.Bool.{eq-eqb, eqb-true}
 use Rattle.std.proofs.lemmas.Fmt.{decimal_injective}
-use Rattle.census_book.specs.Lines as book
-use Rattle.census_book.specs.Reports.{Owned, lines_of, owned_text}
+use Rattle.census_format.specs.Lines as book
+use Rattle.census_format.specs.Reports.{Owned, lines_of, owned_text}
 use Rattle.census_merge.specs.Sums.{sums_of}
 use Rattle.census_readback.specs.Steps.{collection_of}
 use Rattle.census_readback.specs.Texts.{AllLines, HasNoFeed, text_of}

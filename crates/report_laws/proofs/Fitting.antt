@@ -2,7 +2,7 @@
 use Rattle.std.proofs.Common.{◌≡◌, ℕ, ◌+◌, ◌-◌, ◌*◌, ◌<◌, ◌≤◌, ◌^◌, ◌&&◌, cond, leb, Option, Some, None as Nothing, List, [], ◌∷◌, ◌++◌, ap, ◌∙◌, refl, arith, length, length-append, append_assoc}
 use Rattle.std.proofs.lemmas.Bool.{le-leb}
 use Rattle.census_bundle.specs.declared.bundle.Folder.{Folder}
-use Rattle.census_book.specs.Lines.{pattern_count}
+use Rattle.census_format.specs.Lines.{pattern_count}
 use Rattle.census_merge.specs.declared.totals.Sums.{Sums}
 use Rattle.census_merge.specs.Sums.{first_excess, none, plus, with_more}
 use Rattle.census_readback.specs.Shapes.{joined}

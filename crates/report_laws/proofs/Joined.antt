@@ -1,7 +1,7 @@
 -- Rows that tell of several bundles, made one report.
 use Rattle.std.proofs.Common.{◌≡◌, ℕ, zero, suc, ◌+◌, ◌-◌, List, [], ◌∷◌, ◌++◌, ap, ◌∙◌, sym, refl, arith, length, length-append, append-nil, append_assoc, eq-zero-or-pos, ⊎_elim, slice_get}
 use Rattle.census_bundle.specs.declared.bundle.Folder.{Folder}
-use Rattle.census_book.specs.Lines.{pattern_count}
+use Rattle.census_format.specs.Lines.{pattern_count}
 use Rattle.census_merge.specs.declared.totals.Sums.{Sums}
 use Rattle.census_merge.specs.Sums.{none, plus, sums_in}
 use Rattle.census_merge.specs.Merged.{merged, numbered_on}

@@ -5,9 +5,9 @@ use Rattle.std.proofs.lemmas.List.{append-nil, map-append}
 use Rattle.census_bundle.specs.declared.bundle.Entry.{Entry}
 use Rattle.census_bundle.specs.declared.bundle.Folder.{Folder}
 use Rattle.census_bundle.specs.Tickets.{numbered}
-use Rattle.census_book.specs.Lines.{Line, answer_fields, answer_to_entry, answers, close_line, end_line, line, open_line, part_line, part_lines, pattern_count, pattern_line, pattern_lines, pattern_text, text_of}
-use Rattle.census_book.specs.Objects.{Object, code_line, code_lines, objects, same_object, tally}
-use Rattle.census_book.specs.Reports.{closing, folder_section, section, section_of}
+use Rattle.census_format.specs.Lines.{Line, answer_fields, answer_to_entry, answers, close_line, end_line, line, open_line, part_line, part_lines, pattern_count, pattern_line, pattern_lines, pattern_text, text_of}
+use Rattle.census_format.specs.Objects.{Object, code_line, code_lines, objects, same_object, tally}
+use Rattle.census_format.specs.Reports.{closing, folder_section, section, section_of}
 use Rattle.life_answer.specs.declared.finding.Answer.{Answer}
 use Rattle.life_answer.specs.declared.finding.Answer.TheVariants.{Found, Refused}
 use Rattle.life_answer.specs.declared.finding.Finding.TheVariants.{Recurs, Unresolved, Large, Ash}

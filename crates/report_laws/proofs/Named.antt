@@ -7,8 +7,8 @@ use Rattle.census_bundle.specs.declared.bundle.Entry.{Entry}
 use Rattle.census_bundle.specs.declared.bundle.Folder.{Folder}
 use Rattle.census_bundle.specs.Names.{HasLawfulNames, IsNamedEntry, IsNamedFolder, is_name, is_name_byte}
 use Rattle.census_bundle.specs.Sizes.{IsSmall}
-use Rattle.census_book.specs.Lines.{answer_fields, answer_to_entry, answers, is_refused, is_resolved, is_unresolved, pattern_count}
-use Rattle.census_book.specs.Objects.{Object, objects, same_object, tally}
+use Rattle.census_format.specs.Lines.{answer_fields, answer_to_entry, answers, is_refused, is_resolved, is_unresolved, pattern_count}
+use Rattle.census_format.specs.Objects.{Object, objects, same_object, tally}
 use Rattle.census_readback.specs.Texts.{HasNoFeed}
 use Rattle.life_answer.specs.declared.finding.Answer.{Answer}
 use Rattle.life_answer.specs.declared.finding.Answer.TheVariants.{Found, Refused}

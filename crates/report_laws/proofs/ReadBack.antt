@@ -1,8 +1,8 @@
 -- Reports that are read back tell their bundles.
 use Rattle.std.proofs.Common.{◌≡◌, None as Nothing, ℕ, ◌<◌, ◌≤◌, ◌^◌, List, [], ◌∷◌, ◌++◌, length, ap, ◌∙◌, sym, refl, arith, append-nil, append_assoc}
 use Rattle.census_bundle.specs.declared.bundle.Folder.{Folder}
-use Rattle.census_book.specs.Lines.{end_line, pattern_count}
-use Rattle.census_book.specs.Reports.{IsReport, owned_text}
+use Rattle.census_format.specs.Lines.{end_line, pattern_count}
+use Rattle.census_format.specs.Reports.{IsReport, owned_text}
 use Rattle.census_merge.specs.Merged.{merged}
 use Rattle.census_merge.specs.Sums.{first_excess, none}
 use Rattle.census_readback.specs.Reports.{IsReport as IsReadBack}

@@ -4,9 +4,9 @@ use Rattle.std.specs.Prelude.{codes, decimal}
 use Rattle.std.proofs.lemmas.Bool.{eqb-true}
 use Rattle.std.proofs.lemmas.List.{append-nil}
 use Rattle.census_bundle.specs.declared.bundle.Folder.{Folder}
-use Rattle.census_book.specs.Lines.{end_line, line, pattern_count}
-use Rattle.census_book.specs.Lines as book
-use Rattle.census_book.specs.Reports.{IsReport, Owned, lines_of, owned_text}
+use Rattle.census_format.specs.Lines.{end_line, line, pattern_count}
+use Rattle.census_format.specs.Lines as book
+use Rattle.census_format.specs.Reports.{IsReport, Owned, lines_of, owned_text}
 use Rattle.census_merge.specs.Sums.{sums_of}
 use Rattle.census_readback.specs.Steps.{collection_of}
 use Rattle.census_readback.specs.Texts.{line_of, text_of}

@@ -3,7 +3,7 @@ use Rattle.std.specs.Prelude.{ℕ, List, [], ◌∷◌, ◌++◌, ⊤}
 use Rattle.census_bundle.specs.declared.bundle.Folder.{Folder}
 use Rattle.census_bundle.specs.Names.{HasLawfulNames}
 use Rattle.census_bundle.specs.Sizes.{IsSmall}
-use Rattle.census_book.specs.Reports.{IsReport}
+use Rattle.census_format.specs.Reports.{IsReport}
 use Rattle.census_rows.specs.declared.row.Row.{Row}
 use Rattle.life_answer.specs.declared.question.Question.{Question}
 use Rattle.report_laws.specs.Telling.{Tells}

@@ -3,8 +3,8 @@ use Rattle.std.specs.Prelude.{ℕ, suc, Option, Some, None, List, [], ◌∷◌,
 use Rattle.census_bundle.specs.declared.bundle.Entry.{Entry}
 use Rattle.census_bundle.specs.declared.bundle.Folder.{Folder}
 use Rattle.census_bundle.specs.Tickets.{numbered}
-use Rattle.census_book.specs.Lines.{answer_fields, answer_to_entry, answers, is_refused, is_resolved, is_unresolved}
-use Rattle.census_book.specs.Objects.{Object, objects, same_object, tally}
+use Rattle.census_format.specs.Lines.{answer_fields, answer_to_entry, answers, is_refused, is_resolved, is_unresolved}
+use Rattle.census_format.specs.Objects.{Object, objects, same_object, tally}
 use Rattle.life_answer.specs.declared.finding.Answer.{Answer}
 use Rattle.life_answer.specs.declared.finding.Answer.TheVariants.{Found, Refused}
 use Rattle.life_answer.specs.declared.finding.Finding.TheVariants.{Recurs, Unresolved, Large, Ash}

@@ -1,7 +1,7 @@
 -- What rows tell of a bundle.
 use Rattle.std.specs.Prelude.{◌≡◌, ◌==◌, ℕ, None as Nothing, if◌then◌else◌, List, [], ◌∷◌, ◌++◌, map, length, codes, decimal, ⊤}
 use Rattle.census_bundle.specs.declared.bundle.Folder.{Folder}
-use Rattle.census_book.specs.Lines.{pattern_count}
+use Rattle.census_format.specs.Lines.{pattern_count}
 use Rattle.census_merge.specs.Sums.{sums_of}
 use Rattle.census_readback.specs.Steps.{collection_of}
 use Rattle.census_rows.specs.declared.row.Row.{Row}

@@ -3,7 +3,7 @@
 #![tactic(auto)]
 
 ghost use Rattle.std.specs.Prelude.{◌≡◌, ◌≤◌, ℕ, List, None, length};
-ghost use Rattle.census_book.specs.Reports.{IsReport};
+ghost use Rattle.census_format.specs.Reports.{IsReport};
 ghost use Rattle.census_bundle.specs.declared.bundle.Folder.{Folder};
 ghost use Rattle.census_merge.specs.Merged.{merged};
 ghost use Rattle.census_merge.specs.Sums.{first_excess, none};

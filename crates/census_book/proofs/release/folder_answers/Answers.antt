@@ -1,8 +1,8 @@
 use Rattle.std.proofs.Common.{◌≡◌, ℕ, ◌+◌, ◌<◌, ◌++◌, ◌∷◌, [], true, map, length, take, sym, ap, subst, ◌∙◌, arith}
 use Rattle.std.proofs.lemmas.List.{map-append}
 use Rattle.census_bundle.specs.Tickets.{has_ticket, ticket}
-use Rattle.census_book.specs.Lines.{answers}
-use Rattle.census_book.specs.Reports.{run_of}
+use Rattle.census_format.specs.Lines.{answers}
+use Rattle.census_format.specs.Reports.{run_of}
 use Rattle.census_book.proofs.Kept.{result_answer, numbered_next}
 use Rattle.census_book.proofs.Releases.{entry_here}
 use Rattle.census_book.proofs.Runs.{run_before}

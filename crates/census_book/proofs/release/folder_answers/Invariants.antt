@@ -1,5 +1,5 @@
 use Rattle.std.proofs.Common.{◌≡◌, map, take}
-use Rattle.census_book.specs.Lines.{answers}
+use Rattle.census_format.specs.Lines.{answers}
 use Rattle.census_book.proofs.release.folder_answers.Given as goal
 
 abbrev pub invariant-loop-i : goal.invariant-loop-i

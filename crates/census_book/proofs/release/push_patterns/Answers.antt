@@ -1,7 +1,7 @@
 use Rattle.std.proofs.Common.{◌≡◌, ℕ, ◌+◌, ◌<◌, ◌++◌, Some, true, length, slice_get, ap, subst, refl, ◌∙◌, arith}
 use Rattle.std.proofs.lemmas.Option.{slice_get_read}
 use Rattle.census_bundle.specs.Tickets.{has_ticket, ticket}
-use Rattle.census_book.specs.Reports.{run_of}
+use Rattle.census_format.specs.Reports.{run_of}
 use Rattle.census_book.proofs.Kept.{result_line, numbered_next}
 use Rattle.census_book.proofs.Runs.{run_before}
 use Rattle.census_book.proofs.Texts.{text_step, appended}

@@ -1,5 +1,5 @@
 use Rattle.std.proofs.Common.{◌≡◌, ◌-◌, ◌++◌, take, drop}
-use Rattle.census_book.specs.Lines.{text_of, pattern_lines}
+use Rattle.census_format.specs.Lines.{text_of, pattern_lines}
 use Rattle.census_book.proofs.release.push_patterns.Given as goal
 
 abbrev pub invariant-loop-i : goal.invariant-loop-i

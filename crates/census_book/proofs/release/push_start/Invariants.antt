@@ -1,6 +1,6 @@
 use Rattle.std.proofs.Common.{◌≡◌, ◌+◌, ◌++◌, ◌&&◌, ◌==◌, drop}
-use Rattle.census_book.specs.Lines.{pattern_count}
-use Rattle.census_book.specs.Reports.{opening}
+use Rattle.census_format.specs.Lines.{pattern_count}
+use Rattle.census_format.specs.Reports.{opening}
 use Rattle.census_book.proofs.release.push_start.Given as goal
 
 abbrev pub invariant-loop-i : goal.invariant-loop-i

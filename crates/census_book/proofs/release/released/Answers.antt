@@ -3,8 +3,8 @@ use Rattle.census_bundle.specs.declared.bundle.Folder.{Folder}
 use Rattle.census_bundle.specs.declared.ticket.Ticket.{Ticket}
 use Rattle.census_bundle.specs.Tickets.{has_ticket, ticket, numbered, with_ticket}
 use Rattle.census_book.specs.Front.{IsNextOpen}
-use Rattle.census_book.specs.Lines.{text_of, end_line}
-use Rattle.census_book.specs.Reports.{run_of, folder_out}
+use Rattle.census_format.specs.Lines.{text_of, end_line}
+use Rattle.census_format.specs.Reports.{run_of, folder_out}
 use Rattle.census_book.proofs.Runs.{run_within}
 use Rattle.census_book.proofs.Fronts.{run_read, same_folder, run_kept, front_after, end_when, no_end_when, released_text}
 use Rattle.census_book.proofs.release.released.Goals as goal

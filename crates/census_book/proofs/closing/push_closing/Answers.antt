@@ -1,5 +1,0 @@
-use Rattle.census_book.proofs.Texts.{ended}
-use Rattle.census_book.proofs.closing.push_closing.Goals as goal
-
-pub returns : goal.returns
-returns c = ended c.args.question c.args.c c.args.folder.now _ _ _ _ c.requires.found c.in_ok-push_objects.ensures c.in_ok-push_close.ensures

@@ -1,5 +1,0 @@
-use Rattle.census_book.proofs.PartCounts.{codes_count_parts}
-use Rattle.census_book.proofs.codes.codes_count_parts.Goals as goal
-
-pub returns : goal.returns
-returns c = codes_count_parts

@@ -1,0 +1,217 @@
+-- The counts of a closing count objects.
+use Rattle.std.proofs.Common.{◌≡◌, ℕ, zero, suc, ◌+◌, ◌<◌, Bool, true, false, cond, ◌||◌, List, [], ◌∷◌, Option, length, map, get_or, Ok, Err, Result, refl, sym, ap, subst, ◌∙◌, arith, Decides, ℤ, zero-add}
+use Rattle.std.proofs.lemmas.Bool.{false≢true, or_right}
+use Rattle.std.proofs.lemmas.List.Folds.{list_any-append}
+use Rattle.std.proofs.lemmas.List.Elements.{All-map, Contains-append_right}
+use Rattle.std.specs.List.{All, Contains, list_any, count_by}
+use Rattle.census_bundle.specs.declared.bundle.Entry.{Entry}
+use Rattle.life_answer.specs.Answers.{finding_of}
+use Rattle.life_answer.specs.Questions.{answer_to, answer_to_question, finding_to}
+use Rattle.life_answer.specs.Apgcode.{code_of}
+use Rattle.life_answer.specs.declared.finding.Answer.{Answer}
+use Rattle.life_answer.specs.declared.finding.Answer.TheVariants.{Found, Refused}
+use Rattle.life_answer.specs.declared.finding.Finding.{Finding}
+use Rattle.life_answer.specs.declared.finding.Finding.TheVariants.{Recurs, Unresolved, Large, Ash}
+use Rattle.life_answer.specs.declared.question.Question.TheVariants as question
+use Rattle.life_answer.proofs.Codes.{codes_tell_objects}
+use Rattle.life_answer.proofs.Findings.{finding-settled, settles_by_finding}
+use Rattle.life_answer.proofs.Limits.{limited-else, limited-same}
+use Rattle.life_answer.proofs.Texts.{answer-found, answer-no_ash}
+use Rattle.life_model.specs.Evolution.{generation}
+use Rattle.life_model.specs.Generation.{size}
+use Rattle.life_model.specs.Recurrence.{AreOneObject, Settles}
+use Rattle.life_model.specs.Rule.{Rule}
+use Rattle.life_text.specs.declared.rle.RleFault.{RleFault}
+use Rattle.life_text.specs.Picture.{Picture, picture_of}
+use Rattle.life_text.specs.Rle.{reading}
+use Rattle.census_format.specs.Lines.{answer_to_entry, answers}
+use Rattle.census_format.specs.Objects.{Object, object, objects, same_object, distinct, tally}
+use Rattle.census_format.specs.ObjectCounts.{Resolves, settled_cells, settled_object, SettlesInto, CountsObject, CodesCountObjects}
+use Rattle.census_format.specs.ObjectLaws.{one_object, same_itself}
+use Rattle.census_format.proofs.Lost.{found_answer, found_kept, kept_answer}
+use Rattle.census_format.proofs.Tallies.{objects-append, count_first, any_distinct, count_distinct}
+
+-- ---- a pattern that is said to recur resolves into what is said
+
+abbrev answer_in : ℕ → Option ℕ → Entry → Answer
+answer_in bound most e = answer_to_entry (question.Settles bound most) e
+
+answer_by : (e : Entry) (bound : ℕ) (most : Option ℕ) (r : Result Picture RleFault) → e.is_lost ≡ false → picture_of (reading e.text) ≡ r → answer_in bound most e ≡ answer_to (question.Settles bound most) r
+unfolding answer_to_question
+answer_by e bound most r kept read = kept_answer (question.Settles bound most) e kept ∙ ap (answer_to (question.Settles bound most)) read
+
+found_parts : (r s : Rule) (f g : Finding) → Found r f ≡ Found s g → (r ≡ s) × (f ≡ g)
+found_parts r s f g e = (cc, cc)
+
+recurs_code : (p o n p' o' n' : ℕ) (x y x' y' : ℤ) (c c' : List ℕ) → Recurs p o n x y c ≡ Recurs p' o' n' x' y' c' → c ≡ c'
+recurs_code p o n p' o' n' x y x' y' c c' e = cc
+
+not_large : (p o n : ℕ) (x y : ℤ) (c : List ℕ) (population first : ℕ) → Recurs p o n x y c ≡ Large population first → ⊥
+not_large p o n x y c population first e = cc
+
+said : (bound : ℕ) (most : Option ℕ) (e : Entry) (rule : Rule) (population onset period : ℕ) (dx dy : ℤ) (code : List ℕ) → answer_in bound most e ≡ Found rule (Recurs population onset period dx dy code)
+    → (r : Result Picture RleFault) → picture_of (reading e.text) ≡ r → (s : Resolves bound most e) × (object rule code ≡ settled_object bound most e s)
+said bound most e rule population onset period dx dy code is (Err fault) read =
+    let kept = found_kept (question.Settles bound most) e rule (Recurs population onset period dx dy code) is in
+    absurd (let fails = sym is ∙ answer_by e bound most (Err fault) kept read in cc)
+said bound most e rule population onset period dx dy code is (Ok pattern) read =
+    let kept = found_kept (question.Settles bound most) e rule (Recurs population onset period dx dy code) is in
+    let parts = found_parts rule pattern.rule (Recurs population onset period dx dy code) (finding_to (question.Settles bound most) pattern.rule pattern.cells) (sym is ∙ answer_by e bound most (Ok pattern) kept read) in
+    let found = limited-else pattern.rule pattern.cells bound most (finding_of pattern.rule pattern.cells bound) (Recurs population onset period dx dy code) (sym parts.1) (not_large population onset period dx dy code) in
+    let settles : Settles pattern.rule pattern.cells bound onset period (dx, dy) = settles_by_finding pattern.rule pattern.cells bound population onset period dx dy code found.1 in
+    let codes : code ≡ code_of pattern.rule (generation pattern.rule pattern.cells onset) period (dx, dy) = recurs_code _ _ _ _ _ _ _ _ _ _ _ _ (sym found.1 ∙ finding-settled pattern.rule pattern.cells bound onset period (dx, dy) settles) in (
+      record { rule = pattern.rule; cells = pattern.cells; kept = kept; reads = read; onset = onset; period = period; displacement = (dx, dy); settles = settles; small = found.0 },
+      ap (λ r. object r code) parts.0 ∙ ap (object pattern.rule) codes,
+    )
+
+-- and of one that resolves it is said
+to_say : (bound : ℕ) (most : Option ℕ) (e : Entry) (s : Resolves bound most e) → answer_in bound most e ≡ Found s.rule (Recurs (size s.cells) s.onset s.period s.displacement.0 s.displacement.1 (settled_object bound most e s).code)
+to_say bound most e s =
+    kept_answer (question.Settles bound most) e s.kept ∙ answer-found (question.Settles bound most) e.text (record { rule = s.rule; cells = s.cells }) s.reads
+    ∙ ap (Found s.rule) (limited-same s.rule s.cells bound most (finding_of s.rule s.cells bound) s.small ∙ finding-settled s.rule s.cells bound s.onset s.period s.displacement s.settles)
+
+-- ---- the patterns of an object
+
+-- whether this object is said
+says : Object → Answer → Bool
+says k (Found rule (Recurs population onset period dx dy code)) = same_object k (object rule code)
+says k (Found rule (Unresolved population)) = false
+says k (Found rule (Large population first)) = false
+says k (Found rule (Ash population parts)) = false
+says k (Refused number) = false
+
+count_said : (bound : ℕ) (most : Option ℕ) (k : Object) (e : Entry) (a : Answer) (rest : List Answer) → answer_in bound most e ≡ a
+    → count_by (same_object k) (objects (a ∷ rest)) ≡ cond (says k a) 1 0 + count_by (same_object k) (objects rest)
+unfolding says
+count_said bound most k e (Found rule (Recurs population onset period dx dy code)) rest is = count_first (same_object k) (object rule code) (objects rest)
+count_said bound most k e (Found rule (Unresolved population)) rest is = sym (zero-add (count_by (same_object k) (objects rest)))
+count_said bound most k e (Found rule (Large population first)) rest is = sym (zero-add (count_by (same_object k) (objects rest)))
+count_said bound most k e (Found rule (Ash population parts)) rest is = absurd (answer-no_ash e.text bound most rule population parts (found_answer (question.Settles bound most) e rule (Ash population parts) is))
+count_said bound most k e (Refused number) rest is = sym (zero-add (count_by (same_object k) (objects rest)))
+
+count_map : {A B : Type 0} (f : A → B) (p : B → Bool) (xs : List A) → count_by p (map f xs) ≡ count_by (λ x. p (f x)) xs
+count_map f p [] = refl
+count_map f p (x ∷ xs) = count_first p (f x) (map f xs) ∙ ap (λ n. cond (p (f x)) 1 0 + n) (count_map f p xs) ∙ sym (count_first (λ y. p (f y)) x xs)
+
+count_of_object : (bound : ℕ) (most : Option ℕ) (k : Object) (es : List Entry) → count_by (same_object k) (objects (answers (question.Settles bound most) es)) ≡ count_by (λ (e : Entry). says k (answer_in bound most e)) es
+count_of_object bound most k [] = refl
+count_of_object bound most k (e ∷ es) =
+    count_said bound most k e (answer_in bound most e) (answers (question.Settles bound most) es) refl
+    ∙ ap (λ n. cond (says k (answer_in bound most e)) 1 0 + n) (count_of_object bound most k es)
+    ∙ sym (count_first (λ (x : Entry). says k (answer_in bound most x)) e es)
+
+module _ (bound : ℕ) (most : Option ℕ) (pattern : Entry) (s : Resolves bound most pattern) where
+  abbrev into : Entry → Type 0
+  into e = SettlesInto bound most e s.rule (settled_cells bound most pattern s)
+
+  -- two patterns that resolve under one rule have one code exactly where they settle into one object
+  one_code : (e : Entry) (r : Resolves bound most e) → settled_object bound most pattern s ≡ settled_object bound most e r → into e
+  one_code e r is =
+      let rules : s.rule ≡ r.rule = ap (λ (k : Object). k.rule) is in
+      let R = s.rule in
+      let settles : Settles R r.cells bound r.onset r.period r.displacement = subst (λ q. Settles q r.cells bound r.onset r.period r.displacement) (sym rules) r.settles in
+      let codes : code_of R (generation R s.cells s.onset) s.period s.displacement ≡ code_of R (generation R r.cells r.onset) r.period r.displacement =
+      ap (λ (k : Object). k.code) is ∙ ap (λ q. code_of q (generation q r.cells r.onset) r.period r.displacement) (sym rules) in
+      let told = codes_tell_objects R r.cells s.cells bound bound r.onset r.period s.onset s.period r.displacement s.displacement settles s.settles in
+      record { resolves = r; same_rule = sym rules; one = subst (λ q. AreOneObject R (generation q r.cells r.onset) (settled_cells bound most pattern s)) rules (told.0 (sym codes)) }
+
+  told_by : (e : Entry) → into e → says (settled_object bound most pattern s) (answer_in bound most e) ≡ true
+  unfolding says
+  told_by e h =
+      let r = h.resolves in
+      let R = s.rule in
+      let settles : Settles R r.cells bound r.onset r.period r.displacement = subst (λ q. Settles q r.cells bound r.onset r.period r.displacement) h.same_rule r.settles in
+      let one : AreOneObject R (generation R r.cells r.onset) (settled_cells bound most pattern s) = subst (λ q. AreOneObject R (generation q r.cells r.onset) (settled_cells bound most pattern s)) h.same_rule h.one in
+      let told = codes_tell_objects R r.cells s.cells bound bound r.onset r.period s.onset s.period r.displacement s.displacement settles s.settles in
+      let codes : code_of R (generation R r.cells r.onset) r.period r.displacement ≡ code_of R (generation R s.cells s.onset) s.period s.displacement = told.1 one in
+      let same : settled_object bound most e r ≡ settled_object bound most pattern s = ap (λ q. object q (code_of q (generation q r.cells r.onset) r.period r.displacement)) h.same_rule ∙ ap (object R) codes in
+      ap (says (settled_object bound most pattern s)) (to_say bound most e r) ∙ ap (same_object (settled_object bound most pattern s)) same ∙ same_itself (settled_object bound most pattern s)
+
+  tells_by : (e : Entry) (a : Answer) → answer_in bound most e ≡ a → says (settled_object bound most pattern s) a ≡ true → into e
+  unfolding says
+  tells_by e (Found rule (Recurs population onset period dx dy code)) is holds =
+      let r = said bound most e rule population onset period dx dy code is (picture_of (reading e.text)) refl in
+      one_code e r.0 (one_object (settled_object bound most pattern s) (object rule code) holds ∙ r.1)
+  tells_by e (Found rule (Unresolved population)) is fails = absurd (false≢true fails)
+  tells_by e (Found rule (Large population first)) is fails = absurd (false≢true fails)
+  tells_by e (Found rule (Ash population parts)) is fails = absurd (false≢true fails)
+  tells_by e (Refused number) is fails = absurd (false≢true fails)
+
+  test_tells : (e : Entry) → Decides (says (settled_object bound most pattern s) (answer_in bound most e)) (into e)
+  test_tells e = (λ holds. tells_by e (answer_in bound most e) refl holds, told_by e)
+
+-- ---- the lines
+
+shown_object : (bound : ℕ) (most : Option ℕ) (k : Object) (e : Entry) (a : Answer) (rest : List Answer) → answer_in bound most e ≡ a → list_any (same_object k) (objects (a ∷ rest)) ≡ true
+    → (P : Type 0) → ((r : Resolves bound most e) → k ≡ settled_object bound most e r → P) → (list_any (same_object k) (objects rest) ≡ true → P) → P
+shown_object bound most k e (Found rule (Recurs population onset period dx dy code)) rest is holds P here there =
+    elim (same_object k (object rule code)) as (λ b. same_object k (object rule code) ≡ b → (b || list_any (same_object k) (objects rest)) ≡ true → P) [
+      | true ↦ λ same _. let r = said bound most e rule population onset period dx dy code is (picture_of (reading e.text)) refl in here r.0 (one_object k (object rule code) same ∙ r.1)
+      | false ↦ λ _ rest'. there rest'
+    ] refl holds
+shown_object bound most k e (Found rule (Unresolved population)) rest is holds P here there = there holds
+shown_object bound most k e (Found rule (Large population first)) rest is holds P here there = there holds
+shown_object bound most k e (Found rule (Ash population parts)) rest is holds P here there = absurd (answer-no_ash e.text bound most rule population parts (found_answer (question.Settles bound most) e rule (Ash population parts) is))
+shown_object bound most k e (Refused number) rest is holds P here there = there holds
+
+record IsFrom (bound : ℕ) (most : Option ℕ) (es : List Entry) (k : Object) : Type 0 where
+  pattern : Entry
+  among : Contains es pattern
+  resolves : Resolves bound most pattern
+  named : k ≡ settled_object bound most pattern resolves
+
+-- each object among these is that of a pattern
+origin : (bound : ℕ) (most : Option ℕ) (k : Object) (es : List Entry) → list_any (same_object k) (objects (answers (question.Settles bound most) es)) ≡ true → IsFrom bound most es k
+origin bound most k [] fails = absurd (false≢true fails)
+origin bound most k (e ∷ es) holds =
+    shown_object bound most k e (answer_in bound most e) (answers (question.Settles bound most) es) refl holds (IsFrom bound most (e ∷ es) k)
+    (λ r is. record { pattern = e; among = (0, omega arith, refl); resolves = r; named = is })
+    (λ rest. let o = origin bound most k es rest in record { pattern = o.pattern; among = Contains-append_right (e ∷ []) es o.pattern o.among; resolves = o.resolves; named = o.named })
+
+any_at : {A : Type 0} (p : A → Bool) (xs : List A) (i : ℕ) (d : A) → i < length xs → p (get_or xs i d) ≡ true → list_any p xs ≡ true
+any_at p [] i d lt holds = absurd (omega arith)
+any_at p (x ∷ xs) zero d lt holds = ap (λ b. b || list_any p xs) holds
+any_at p (x ∷ xs) (suc i) d lt holds = ap (λ b. p x || b) (any_at p xs i d (omega arith) holds) ∙ or_right (p x) true refl
+
+each_line : (bound : ℕ) (most : Option ℕ) (es : List Entry) → All (CountsObject bound most es) (tally same_object (objects (answers (question.Settles bound most) es)))
+each_line bound most es =
+    let ks = objects (answers (question.Settles bound most) es) in
+    All-map (CountsObject bound most es) (λ k. (k, count_by (same_object k) ks)) (distinct same_object ks) (λ i d lt.
+    let k = get_or (distinct same_object ks) i d in
+    let any : list_any (same_object k) ks ≡ true = sym (any_distinct same_object one_object same_itself k ks) ∙ any_at (same_object k) (distinct same_object ks) i d lt (same_itself k) in
+    let o = origin bound most k es any in
+    record {
+      pattern = o.pattern;
+      among = o.among;
+      resolves = o.resolves;
+      named = o.named;
+      test = λ (e : Entry). says (settled_object bound most o.pattern o.resolves) (answer_in bound most e);
+      tells = test_tells bound most o.pattern o.resolves;
+      count = count_of_object bound most k es ∙ ap (λ x. count_by (λ (e : Entry). says x (answer_in bound most e)) es) o.named;
+    })
+
+objects_first : (k : Object) (a : Answer) (rest : List Answer) → list_any (same_object k) (objects (a ∷ rest)) ≡ (list_any (same_object k) (objects (a ∷ [])) || list_any (same_object k) (objects rest))
+objects_first k a rest = ap (list_any (same_object k)) (objects-append (a ∷ []) rest) ∙ list_any-append (same_object k) (objects (a ∷ [])) (objects rest)
+
+-- the object of a pattern is among these
+objects_any : (bound : ℕ) (most : Option ℕ) (k : Object) (e : Entry) (es : List Entry) (i : ℕ) → i < length es → get_or es i e ≡ e → list_any (same_object k) (objects (answer_in bound most e ∷ [])) ≡ true → list_any (same_object k) (objects (answers (question.Settles bound most) es)) ≡ true
+objects_any bound most k e [] i lt is one = absurd (omega arith)
+objects_any bound most k e (x ∷ es) zero lt is one =
+    objects_first k (answer_in bound most x) (answers (question.Settles bound most) es) ∙ ap (λ (y : Entry). list_any (same_object k) (objects (answer_in bound most y ∷ [])) || list_any (same_object k) (objects (answers (question.Settles bound most) es))) is
+    ∙ ap (λ b. b || list_any (same_object k) (objects (answers (question.Settles bound most) es))) one
+objects_any bound most k e (x ∷ es) (suc i) lt is one =
+    objects_first k (answer_in bound most x) (answers (question.Settles bound most) es) ∙ ap (λ b. list_any (same_object k) (objects (answer_in bound most x ∷ [])) || b) (objects_any bound most k e es i (omega arith) is one)
+    ∙ or_right (list_any (same_object k) (objects (answer_in bound most x ∷ []))) true refl
+
+each_pattern : (bound : ℕ) (most : Option ℕ) (es : List Entry) (e : Entry) → Contains es e → (r : Resolves bound most e)
+    → count_by (λ line. same_object (settled_object bound most e r) line.0) (tally same_object (objects (answers (question.Settles bound most) es))) ≡ 1
+each_pattern bound most es e at r =
+    let ks = objects (answers (question.Settles bound most) es) in
+    let k = settled_object bound most e r in
+    let one : list_any (same_object k) (objects (answer_in bound most e ∷ [])) ≡ true =
+    ap (λ a. list_any (same_object k) (objects (a ∷ []))) (to_say bound most e r) ∙ ap (λ b. b || false) (same_itself k) in
+    count_map (λ x. (x, count_by (same_object x) ks)) (λ line. same_object k line.0) (distinct same_object ks)
+    ∙ count_distinct same_object one_object same_itself k ks (objects_any bound most k e es at.0 at.1 at.2 one)
+
+pub codes_count_objects : CodesCountObjects
+codes_count_objects bound most es = (each_line bound most es, each_pattern bound most es)

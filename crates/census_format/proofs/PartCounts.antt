@@ -1,0 +1,143 @@
+-- The counts of a closing count the objects that patterns fall apart into.
+use Rattle.std.proofs.Common.{◌≡◌, ℕ, zero, suc, ◌+◌, ◌*◌, ◌<◌, ◌≤◌, Bool, true, false, cond, ◌||◌, List, [], ◌∷◌, ◌++◌, Option, Some, None, length, map, get_or, replicate, Ok, Err, Result, refl, sym, ap, ◌∙◌, arith, zero-add, ℤ}
+use Rattle.std.proofs.lemmas.Bool.{false≢true, or_right}
+use Rattle.std.proofs.lemmas.List.Elements.{All-map}
+use Rattle.std.proofs.lemmas.List.Folds.{sum_by-replicate}
+use Rattle.std.proofs.lemmas.List.Sums.{sum_by-append, sum_by-cons}
+use Rattle.std.specs.List.{All, list_any, count_by, sum_by}
+use Rattle.census_bundle.specs.declared.bundle.Entry.{Entry}
+use Rattle.life_answer.specs.Census.{census_found, census_of}
+use Rattle.life_answer.specs.Limited.{first_past, limited, unless_large}
+use Rattle.life_answer.specs.Questions.{answer_to, answer_to_question}
+use Rattle.life_answer.specs.declared.finding.Answer.{Answer}
+use Rattle.life_answer.specs.declared.finding.Answer.TheVariants.{Found, Refused}
+use Rattle.life_answer.specs.declared.finding.Finding.{Finding}
+use Rattle.life_answer.specs.declared.finding.Finding.TheVariants.{Recurs, Unresolved, Large, Ash}
+use Rattle.life_answer.specs.declared.part.Part.{Part}
+use Rattle.life_answer.specs.declared.question.Question.TheVariants as question
+use Rattle.life_model.specs.Generation.{Generation, size}
+use Rattle.life_model.specs.Rule.{Rule}
+use Rattle.life_text.specs.declared.rle.RleFault.{RleFault}
+use Rattle.life_text.specs.Picture.{Picture, picture_of}
+use Rattle.life_text.specs.Rle.{reading}
+use Rattle.census_format.specs.Lines.{answer_to_entry, answers}
+use Rattle.census_format.specs.Objects.{Object, object, objects, part_objects, same_object, distinct, tally}
+use Rattle.census_format.specs.ObjectLaws.{one_object, same_itself}
+use Rattle.census_format.specs.PartCounts.{parts_as, fallen_as, all_fallen_as, CountsParts, CodesCountParts}
+use Rattle.census_format.proofs.Lost.{found_answer}
+use Rattle.census_format.proofs.Tallies.{count_first, count_none, any_distinct, count_distinct}
+
+-- ---- where objects are asked for, no pattern is said to come again
+
+module _ (population onset period : ℕ) (dx dy : ℤ) (code : List ℕ) where
+  census_found-apart : (R : Rule) (b cells : ℕ) (o : Option (List Generation)) → census_found R b cells o ≡ Recurs population onset period dx dy code → ⊥
+  census_found-apart R b cells None e = cc
+  census_found-apart R b cells (Some parts) e = cc
+
+  census_of-apart : (R : Rule) (G : Generation) (b : ℕ) → census_of R G b ≡ Recurs population onset period dx dy code → ⊥
+  unfolding census_of
+  census_of-apart R G b e = census_found-apart R b (size G) _ e
+
+  large_apart : (found : Finding) (cells : ℕ) (o : Option ℕ) → (found ≡ Recurs population onset period dx dy code → ⊥) → unless_large found cells o ≡ Recurs population onset period dx dy code → ⊥
+  large_apart found cells None apart e = apart e
+  large_apart found cells (Some n) apart e = cc
+
+  limited_apart : (most : Option ℕ) (R : Rule) (G : Generation) (last : ℕ) (found : Finding) → (found ≡ Recurs population onset period dx dy code → ⊥) → limited most R G last found ≡ Recurs population onset period dx dy code → ⊥
+  limited_apart most R G last found apart e = large_apart found (size G) (first_past most R G last) apart e
+
+  same_finding : (r s : Rule) (f g : Finding) → Found r f ≡ Found s g → f ≡ g
+  same_finding r s f g e = cc
+
+  answer_apart : (bound : ℕ) (most : Option ℕ) (rule : Rule) (r : Result Picture RleFault) → answer_to (question.Objects bound most) r ≡ Found rule (Recurs population onset period dx dy code) → ⊥
+  answer_apart bound most rule (Ok pattern) e =
+      limited_apart most pattern.rule pattern.cells (3 * bound) _ (census_of-apart pattern.rule pattern.cells bound) (same_finding pattern.rule rule _ _ e)
+  answer_apart bound most rule (Err fault) e = cc
+
+  no_recurrence : (bound : ℕ) (most : Option ℕ) (text : List ℕ) (rule : Rule) → answer_to_question (question.Objects bound most) text ≡ Found rule (Recurs population onset period dx dy code) → ⊥
+  unfolding answer_to_question
+  no_recurrence bound most text rule e = answer_apart bound most rule (picture_of (reading text)) e
+
+-- ---- the objects with a rule and a code
+
+count_append : {A : Type 0} (p : A → Bool) (xs ys : List A) → count_by p (xs ++ ys) ≡ count_by p xs + count_by p ys
+count_append p xs ys = sum_by-append (λ x. cond (p x) 1 0) xs ys
+
+times : (n : ℕ) (b : Bool) → n * cond b 1 0 ≡ cond b n 0
+times n true = omega arith
+times n false = omega arith
+
+count_replicate : {A : Type 0} (p : A → Bool) (n : ℕ) (x : A) → count_by p (replicate n x) ≡ cond (p x) n 0
+count_replicate p n x = sum_by-replicate (λ y. cond (p y) 1 0) n x ∙ times n (p x)
+
+count_parts : (k : Object) (rule : Rule) (parts : List Part) → count_by (same_object k) (part_objects rule parts) ≡ parts_as k rule parts
+count_parts k rule [] = refl
+count_parts k rule (part ∷ parts) =
+    count_append (same_object k) (replicate part.count (object rule part.code)) (part_objects rule parts)
+    ∙ ap (λ n. n + count_by (same_object k) (part_objects rule parts)) (count_replicate (same_object k) part.count (object rule part.code))
+    ∙ ap (λ n. cond (same_object k (object rule part.code)) part.count 0 + n) (count_parts k rule parts)
+
+module _ (bound : ℕ) (most : Option ℕ) where
+  abbrev answer_in : Entry → Answer
+  answer_in e = answer_to_entry (question.Objects bound most) e
+
+  abbrev all_objects : List Entry → List Object
+  all_objects es = objects (answers (question.Objects bound most) es)
+
+  count_answer : (k : Object) (e : Entry) (a : Answer) (rest : List Answer) → answer_in e ≡ a → count_by (same_object k) (objects (a ∷ rest)) ≡ fallen_as k a + count_by (same_object k) (objects rest)
+  count_answer k e (Found rule (Recurs population onset period dx dy code)) rest is = absurd (no_recurrence population onset period dx dy code bound most e.text rule (found_answer (question.Objects bound most) e rule (Recurs population onset period dx dy code) is))
+  count_answer k e (Found rule (Unresolved population)) rest is = sym (zero-add (count_by (same_object k) (objects rest)))
+  count_answer k e (Found rule (Large population first)) rest is = sym (zero-add (count_by (same_object k) (objects rest)))
+  count_answer k e (Found rule (Ash population parts)) rest is =
+      count_append (same_object k) (part_objects rule parts) (objects rest) ∙ ap (λ n. n + count_by (same_object k) (objects rest)) (count_parts k rule parts)
+  count_answer k e (Refused number) rest is = sym (zero-add (count_by (same_object k) (objects rest)))
+
+  count_all : (k : Object) (es : List Entry) → count_by (same_object k) (all_objects es) ≡ all_fallen_as bound most es k
+  count_all k [] = refl
+  count_all k (e ∷ es) =
+      count_answer k e (answer_in e) (answers (question.Objects bound most) es) refl
+      ∙ ap (λ n. fallen_as k (answer_in e) + n) (count_all k es)
+      ∙ sym (sum_by-cons (λ (x : Entry). fallen_as k (answer_in x)) e es)
+
+any_at : {A : Type 0} (p : A → Bool) (xs : List A) (i : ℕ) (d : A) → i < length xs → p (get_or xs i d) ≡ true → list_any p xs ≡ true
+any_at p [] i d lt holds = absurd (omega arith)
+any_at p (x ∷ xs) zero d lt holds = ap (λ b. b || list_any p xs) holds
+any_at p (x ∷ xs) (suc i) d lt holds = ap (λ b. p x || b) (any_at p xs i d (omega arith) holds) ∙ or_right (p x) true refl
+
+count_map : {A B : Type 0} (f : A → B) (p : B → Bool) (xs : List A) → count_by p (map f xs) ≡ count_by (λ x. p (f x)) xs
+count_map f p [] = refl
+count_map f p (x ∷ xs) = count_first p (f x) (map f xs) ∙ ap (λ n. cond (p (f x)) 1 0 + n) (count_map f p xs) ∙ sym (count_first (λ y. p (f y)) x xs)
+
+some_where : {A : Type 0} (p : A → Bool) (xs : List A) → list_any p xs ≡ true → 1 ≤ count_by p xs
+some_where p [] none = absurd (false≢true none)
+some_where p (x ∷ xs) some =
+    let first : count_by p (x ∷ xs) ≡ cond (p x) 1 0 + count_by p xs = count_first p x xs in
+    elim (p x) as (λ b. p x ≡ b → (b || list_any p xs) ≡ true → 1 ≤ count_by p (x ∷ xs)) [
+      | true ↦ λ e _. let one = ap {B = ℕ} (λ b. cond b 1 0) e in omega (arith, first, one)
+      | false ↦ λ e rest. let none = ap {B = ℕ} (λ b. cond b 1 0) e in let more = some_where p xs rest in omega (arith, first, none, more)
+    ] refl some
+
+any_where : (k : Object) (ks : List Object) → 1 ≤ count_by (same_object k) ks → list_any (same_object k) ks ≡ true
+any_where k ks some =
+    elim (list_any (same_object k) ks) as (λ b. list_any (same_object k) ks ≡ b → b ≡ true) [
+      | true ↦ λ _. refl
+      | false ↦ λ none. let zero_of = count_none same_object one_object same_itself k ks none in absurd (omega (arith, zero_of, some))
+    ] refl
+
+each_line : (bound : ℕ) (most : Option ℕ) (es : List Entry) → All (CountsParts bound most es) (tally same_object (objects (answers (question.Objects bound most) es)))
+each_line bound most es =
+    let ks = objects (answers (question.Objects bound most) es) in
+    All-map (CountsParts bound most es) (λ k. (k, count_by (same_object k) ks)) (distinct same_object ks) (λ i d lt.
+    let k = get_or (distinct same_object ks) i d in
+    let any : list_any (same_object k) ks ≡ true = sym (any_distinct same_object one_object same_itself k ks) ∙ any_at (same_object k) (distinct same_object ks) i d lt (same_itself k) in
+    record { count = count_all bound most k es; some = some_where (same_object k) ks any })
+
+each_object : (bound : ℕ) (most : Option ℕ) (es : List Entry) (k : Object) → 1 ≤ all_fallen_as bound most es k
+    → count_by (λ line. same_object k line.0) (tally same_object (objects (answers (question.Objects bound most) es))) ≡ 1
+each_object bound most es k some =
+    let ks = objects (answers (question.Objects bound most) es) in
+    let all = count_all bound most k es in
+    count_map (λ x. (x, count_by (same_object x) ks)) (λ line. same_object k line.0) (distinct same_object ks)
+    ∙ count_distinct same_object one_object same_itself k ks (any_where k ks (omega (arith, all, some)))
+
+pub codes_count_parts : CodesCountParts
+codes_count_parts bound most es = (each_line bound most es, each_object bound most es)

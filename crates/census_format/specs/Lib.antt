@@ -1,0 +1,9 @@
+pub mod Lines
+pub mod Heads
+pub mod Objects
+pub mod ObjectCode
+pub mod ObjectLaws
+pub mod Reports
+pub mod Tallying
+pub mod ObjectCounts
+pub mod PartCounts

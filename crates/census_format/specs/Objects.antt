@@ -1,0 +1,58 @@
+-- The objects of a collection, and its `code` lines.
+use Rattle.std.specs.Prelude.{ℕ, List, [], ◌∷◌, ◌++◌, replicate, Bool, not, ◌&&◌, ◌==◌, nat_eq, codes, decimal, map, filter, count_by}
+use Rattle.std.specs.Cmp.Lexicographic.{pointwise}
+use Rattle.census_bundle.specs.declared.bundle.Folder.{Folder}
+use Rattle.life_answer.specs.declared.finding.Answer.{Answer}
+use Rattle.life_answer.specs.declared.finding.Answer.TheVariants.{Found, Refused}
+use Rattle.life_answer.specs.declared.finding.Finding.TheVariants.{Recurs, Unresolved, Large, Ash}
+use Rattle.life_answer.specs.declared.part.Part.{Part}
+use Rattle.life_cells.specs.Rules.{rule_text}
+use Rattle.life_model.specs.Rule.{Rule}
+use Rattle.census_format.specs.Lines.{Line, line, answers}
+use Rattle.life_answer.specs.declared.question.Question.{Question}
+
+-- a rule, and the code of an object under it
+pub record Object : Type 0 where
+  pub rule : Rule
+  pub code : List ℕ
+
+abbrev pub object : Rule → List ℕ → Object
+object rule code = record { rule = rule; code = code }
+
+abbrev pub same_rule : Rule → Rule → Bool
+same_rule r s = (r.birth == s.birth) && (r.survival == s.survival)
+
+-- the same rule, and the same code byte by byte
+abbrev pub same_object : Object → Object → Bool
+same_object k l = same_rule k.rule l.rule && pointwise nat_eq k.code l.code
+
+-- the objects that these parts are, each as often as it is counted
+abbrev pub part_objects : Rule → List Part → List Object
+part_objects rule [] = []
+part_objects rule (part ∷ parts) = replicate part.count (object rule part.code) ++ part_objects rule parts
+
+-- what the resolved ones among these are, in their order
+abbrev pub objects : List Answer → List Object
+objects [] = []
+objects (Found rule (Recurs population onset period dx dy code) ∷ found) = object rule code ∷ objects found
+objects (Found rule (Unresolved population) ∷ found) = objects found
+objects (Found rule (Large population generation) ∷ found) = objects found
+objects (Found rule (Ash population parts) ∷ found) = part_objects rule parts ++ objects found
+objects (Refused number ∷ found) = objects found
+
+-- each of these once, in the order of first appearance
+abbrev pub distinct : {A : Type 0} → (A → A → Bool) → List A → List A
+distinct same [] = []
+distinct same (x ∷ xs) = x ∷ filter (λ y. not (same x y)) (distinct same xs)
+
+-- each of these once, in the order of first appearance, and how often it stands there
+abbrev pub tally : {A : Type 0} → (A → A → Bool) → List A → List (A × ℕ)
+tally same xs = map (λ x. (x, count_by (same x) xs)) (distinct same xs)
+
+-- `code`, the collection, a rule and a code, and a number
+unfoldable pub code_line : ℕ → Object → ℕ → Line
+code_line c k count = line (codes "code") (decimal c ∷ rule_text k.rule ∷ k.code ∷ decimal count ∷ [])
+
+-- the `code` lines of a collection
+abbrev pub code_lines : Question → ℕ → Folder → List Line
+code_lines question c f = map (λ e. code_line c e.0 e.1) (tally same_object (objects (answers question f.entries)))

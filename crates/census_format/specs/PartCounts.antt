@@ -1,0 +1,42 @@
+-- What the counts of a closing say of the objects that patterns fall apart into.
+use Rattle.std.specs.Prelude.{◌≡◌, ℕ, ◌+◌, ◌≤◌, if◌then◌else◌, List, [], ◌∷◌, Option, count_by}
+use Rattle.std.specs.List.{All, sum_by}
+use Rattle.census_bundle.specs.declared.bundle.Entry.{Entry}
+use Rattle.life_answer.specs.declared.finding.Answer.{Answer}
+use Rattle.life_answer.specs.declared.finding.Answer.TheVariants.{Found, Refused}
+use Rattle.life_answer.specs.declared.finding.Finding.TheVariants.{Recurs, Unresolved, Large, Ash}
+use Rattle.life_answer.specs.declared.part.Part.{Part}
+use Rattle.life_answer.specs.declared.question.Question.TheVariants as question
+use Rattle.life_model.specs.Rule.{Rule}
+use Rattle.census_format.specs.Lines.{answer_to_entry, answers}
+use Rattle.census_format.specs.Objects.{Object, object, objects, same_object, tally}
+
+-- how many objects among these parts have this rule and code
+abbrev pub parts_as : Object → Rule → List Part → ℕ
+parts_as k rule [] = 0
+parts_as k rule (part ∷ parts) = (if same_object k (object rule part.code) then part.count else 0) + parts_as k rule parts
+
+-- how many objects with this rule and code a pattern of which this was found has fallen apart into
+abbrev pub fallen_as : Object → Answer → ℕ
+fallen_as k (Found rule (Recurs population onset period dx dy code)) = 0
+fallen_as k (Found rule (Unresolved population)) = 0
+fallen_as k (Found rule (Large population generation)) = 0
+fallen_as k (Found rule (Ash population parts)) = parts_as k rule parts
+fallen_as k (Refused number) = 0
+
+-- how many objects with this rule and code these patterns have fallen apart into in all
+abbrev pub all_fallen_as : (bound : ℕ) (most : Option ℕ) → List Entry → Object → ℕ
+all_fallen_as bound most es k = sum_by (λ (e : Entry). fallen_as k (answer_to_entry (question.Objects bound most) e)) es
+
+-- The line with this rule and code and this number counts the objects that have them, of which there are some.
+pub record CountsParts (bound : ℕ) (most : Option ℕ) (es : List Entry) (line : Object × ℕ) : Type 0 where
+  pub count : line.1 ≡ all_fallen_as bound most es line.0
+  pub some : 1 ≤ line.1
+
+-- Each `code` line of a collection counts the objects that have its rule and code, and each rule and code that an object
+-- has stand in one line.
+abbrev pub CodesCountParts : Type 0
+CodesCountParts =
+    (bound : ℕ) (most : Option ℕ) (es : List Entry)
+    → All (CountsParts bound most es) (tally same_object (objects (answers (question.Objects bound most) es)))
+    × ((k : Object) → 1 ≤ all_fallen_as bound most es k → count_by (λ line. same_object k line.0) (tally same_object (objects (answers (question.Objects bound most) es))) ≡ 1)

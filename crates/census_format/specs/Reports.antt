@@ -1,0 +1,97 @@
+-- The report of a bundle: the sections of its collections, and what each taken ticket releases.
+use Rattle.std.specs.Prelude.{◌≡◌, ℕ, suc, ◌-◌, Bool, true, if◌then◌else◌, ◌==◌, ◌&&◌, List, [], ◌∷◌, ◌++◌, Some, None, Option, length, take, drop}
+use Rattle.census_bundle.specs.declared.ticket.Ticket.{Ticket}
+use Rattle.census_bundle.specs.declared.bundle.Folder.{Folder}
+use Rattle.census_bundle.specs.declared.bundle.Entry.{Entry}
+use Rattle.census_bundle.specs.Tickets.{Tickets, ticket, with_ticket, has_ticket, numbered}
+use Rattle.census_format.specs.Lines.{Line, text_of, open_line, pattern_lines, close_line, pattern_count, end_line}
+use Rattle.census_format.specs.Objects.{code_lines}
+use Rattle.life_answer.specs.declared.question.Question.{Question}
+
+-- what ends a section
+unfoldable pub closing : Question → ℕ → Folder → List Line
+closing question c f = code_lines question c f ++ close_line question c f ∷ []
+
+-- the lines of a collection
+abbrev pub folder_section : Question → ℕ → Folder → List Line
+folder_section question c f = open_line c f ∷ (pattern_lines question c 1 f.entries ++ closing question c f)
+
+abbrev pub section_of : Question → ℕ → Option Folder → List Line
+section_of question c None = []
+section_of question c (Some f) = folder_section question c f
+
+abbrev pub section : List Folder → Question → ℕ → List Line
+section b question c = section_of question c (numbered b c)
+
+-- a line and the collection that it belongs to
+pub record Owned : Type 0 where
+  pub owner : ℕ
+  pub line : Line
+
+-- the lines that belong to the collection c, in their order
+abbrev pub lines_of : ℕ → List Owned → List Line
+lines_of c [] = []
+lines_of c (l ∷ ls) = if l.owner == c then (l.line ∷ lines_of c ls) else lines_of c ls
+
+-- the bytes of all lines
+abbrev pub owned_text : List Owned → List ℕ
+owned_text [] = []
+owned_text (l ∷ ls) = l.line ++ owned_text ls
+
+-- The text is the sections of all collections, interleaved line by line, and then the end line. The lines of one pattern
+-- stay together.
+pub record IsReport (b : List Folder) (question : Question) (text : List ℕ) : Type 0 where
+  pub lines : List Owned
+  pub sections : (c : ℕ) → lines_of c lines ≡ section b question c
+  pub whole : text ≡ owned_text lines ++ end_line b
+
+-- the text begins a report
+pub record IsReportFront (b : List Folder) (question : Question) (text : List ℕ) : Type 0 where
+  pub rest : List ℕ
+  pub report : IsReport b question (text ++ rest)
+
+-- how many of these patterns, the first of which has the number i, pass before the first that does not
+abbrev pub run_from : (ℕ → Bool) → ℕ → List Entry → ℕ
+run_from passes i [] = 0
+run_from passes i (e ∷ es) = if passes i then suc (run_from passes (suc i) es) else 0
+
+-- the greatest k such that the patterns 1 to k of the collection are taken
+abbrev pub run_of : Tickets → ℕ → Folder → ℕ
+run_of taken c f = run_from (λ i. has_ticket taken (ticket c i)) 1 f.entries
+
+-- the collections from c on have arrived whole
+abbrev pub all_from : Tickets → ℕ → List Folder → Bool
+all_from taken c [] = true
+all_from taken c (f ∷ fs) = (run_of taken c f == length f.entries) && all_from taken (suc c) fs
+
+-- no pattern is missing
+abbrev pub has_all : List Folder → Tickets → Bool
+has_all b taken = all_from taken 1 b
+
+abbrev pub end_if : Bool → List Folder → List ℕ
+end_if whole b = if whole then end_line b else []
+
+-- the closing lines where the collection has arrived whole
+abbrev pub closing_if : Bool → Question → ℕ → Folder → List Line
+closing_if whole question c f = if whole then closing question c f else []
+
+abbrev pub opening : Question → ℕ → List Folder → List ℕ
+opening question c [] = []
+opening question c (f ∷ fs) = open_line c f ++ text_of (closing_if (0 == length f.entries) question c f) ++ opening question (suc c) fs
+
+-- what is released before any ticket is taken
+abbrev pub start : List Folder → Question → List ℕ
+start b question = opening question 1 b ++ end_if (pattern_count b == 0) b
+
+-- the lines of a collection that taking one of its tickets releases, where its run grows from k to m
+abbrev pub folder_out : Question → ℕ → Folder → ℕ → ℕ → List Line
+folder_out question c f k m =
+    take (m - k) (drop k (pattern_lines question c 1 f.entries)) ++ closing_if (m == length f.entries) question c f
+
+abbrev pub out_of : Question → Option Folder → Tickets → Ticket → List ℕ
+out_of question None taken t = []
+out_of question (Some f) taken t = text_of (folder_out question t.folder f (run_of taken t.folder f) (run_of (with_ticket taken t) t.folder f))
+
+-- what taking a ticket releases, where these were taken before
+abbrev pub out : List Folder → Question → Tickets → Ticket → List ℕ
+out b question taken t = out_of question (numbered b t.folder) taken t ++ end_if (has_all b (with_ticket taken t)) b

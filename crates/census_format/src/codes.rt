@@ -1,0 +1,17 @@
+//! What the counts of a closing say.
+ghost use Rattle.census_format.specs.ObjectCounts.{CodesCountObjects};
+ghost use Rattle.census_format.specs.PartCounts.{CodesCountParts};
+
+/// Each `code` line of a collection counts one object: its number is how many of the collection's patterns settle into
+/// that object under the line's rule, with no generation up to the bound that is too large. And each pattern that resolves
+/// has exactly one line of its rule and code.
+pub fn codes_count_objects()
+    ensures { CodesCountObjects }
+{}
+
+/// Where objects are asked for, the number of each `code` line of a collection is how many parts with the line's rule and
+/// code the collection's patterns have fallen apart into: one at least. And each rule and code of such a part has exactly
+/// one line.
+pub fn codes_count_parts()
+    ensures { CodesCountParts }
+{}

@@ -1,0 +1,13 @@
+//! The format of a report: its lines, the counts of its codes, and what a report of a bundle is (`specs/Reports.antt`). Tested in
+//! `worked_runs`.
+#![tactic(auto)]
+
+mod closing;
+mod codes;
+mod lines;
+mod parts;
+
+pub use closing::push_closing;
+pub use codes::{codes_count_objects, codes_count_parts};
+pub use lines::{push_end, push_head, push_number, push_open, push_pattern};
+pub use parts::push_tail;

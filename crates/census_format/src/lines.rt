@@ -1,0 +1,174 @@
+//! The lines of a report.
+ghost use Rattle.std.specs.Prelude.{◌≡◌, ◌≤◌, ◌++◌, ℕ, [], ◌∷◌, List, length, OnOk, decimal};
+ghost use Rattle.std.specs.Fmt.{signed_decimal};
+ghost use Rattle.life_cells.specs.Rules.{rule_text};
+ghost use Rattle.census_bundle.specs.Sizes.{IsSmall};
+ghost use Rattle.census_format.specs.Heads.{headed, line_head};
+ghost use Rattle.census_format.specs.Lines.{behind, end_line, finding_fields, open_line, pattern_count};
+
+use crate::parts::count_objects;
+use census_bundle::{Bundle, Entry, Folder, Ticket};
+use itoa::{Buffer, Integer};
+use life_answer::{Answer, Finding};
+use life_cells::Rule;
+use std::alloc::AllocError;
+
+/// A blank and these bytes.
+pub fn push_field(text: &mut Vec<u8>, field: &[u8]) -> Result<(), AllocError>
+    ensures { OnOk result (text.new.items ≡ text.old.items ++ 32 ∷ field.now) }
+{
+    text.push(b' ')?;
+    text.extend_from_slice(field)?;
+    Ok(())
+}
+
+/// A blank and a number.
+pub fn push_number<I: Integer>(text: &mut Vec<u8>, number: I) -> Result<(), AllocError>
+    ensures { OnOk result (text.new.items ≡ text.old.items ++ 32 ∷ I.text number) }
+{
+    let mut buffer = Buffer::new();
+    push_field(text, buffer.format(number).as_bytes())
+}
+
+/// A blank and a rule.
+pub fn push_rule(text: &mut Vec<u8>, rule: &Rule) -> Result<(), AllocError>
+    ensures { OnOk result (text.new.items ≡ text.old.items ++ 32 ∷ rule_text rule.now) }
+{
+    text.push(b' ')?;
+    rule.text_into(text)
+}
+
+/// The line that opens a section.
+#[tactic(auto, unfolding(crate::specs::Lines::open_line))]
+pub fn push_open(text: &mut Vec<u8>, c: u32, folder: &Folder) -> Result<(), AllocError>
+    ensures { OnOk result (text.new.items ≡ text.old.items ++ open_line c folder.now) }
+{
+    text.extend_from_slice(b"open")?;
+    push_number(text, c)?;
+    push_number(text, folder.entries.as_slice().len())?;
+    push_field(text, folder.name.as_slice())?;
+    text.push(b'\n')?;
+    Ok(())
+}
+
+// A word, a rule and how many live cells generation 0 has.
+fn push_population(
+    text: &mut Vec<u8>,
+    word: &[u8],
+    rule: &Rule,
+    population: u64,
+) -> Result<(), AllocError>
+    ensures { OnOk result (text.new.items ≡ text.old.items ++ behind (word.now ∷ rule_text rule.now ∷ decimal population ∷ [])) }
+{
+    push_field(text, word)?;
+    push_rule(text, rule)?;
+    push_number(text, population)
+}
+
+// When a pattern recurs, and how it has moved then.
+fn push_recurrence(
+    text: &mut Vec<u8>,
+    onset: u32,
+    period: u32,
+    dx: &i32,
+    dy: &i32,
+) -> Result<(), AllocError>
+    ensures { OnOk result (text.new.items ≡ text.old.items ++ behind (decimal onset ∷ decimal period ∷ signed_decimal dx.now ∷ signed_decimal dy.now ∷ [])) }
+{
+    push_number(text, onset)?;
+    push_number(text, period)?;
+    push_number(text, *dx)?;
+    push_number(text, *dy)
+}
+
+// What was found of a pattern.
+fn push_finding(text: &mut Vec<u8>, answer: &Answer) -> Result<(), AllocError>
+    ensures { OnOk result (text.new.items ≡ text.old.items ++ behind (finding_fields answer.now)) }
+{
+    match answer {
+        Answer::Found { rule, finding } => match finding {
+            Finding::Recurs {
+                population,
+                onset,
+                period,
+                dx,
+                dy,
+                code,
+            } => {
+                push_population(text, b"ok", rule, *population)?;
+                push_recurrence(text, *onset, *period, dx, dy)?;
+                push_field(text, code.as_slice())
+            }
+            Finding::Unresolved { population } => {
+                push_population(text, b"none", rule, *population)
+            }
+            Finding::Large {
+                population,
+                generation,
+            } => {
+                push_population(text, b"large", rule, *population)?;
+                push_number(text, *generation)
+            }
+            Finding::Ash { population, parts } => {
+                push_population(text, b"ash", rule, *population)?;
+                push_number(text, count_objects(parts.as_slice()))
+            }
+        },
+        Answer::Refused(number) => {
+            push_field(text, b"bad")?;
+            push_number(text, *number)
+        }
+    }
+}
+
+/// The line of a pattern of which this was found, as far as its name.
+#[tactic(auto, unfolding(crate::specs::Heads::line_head))]
+pub fn push_head(text: &mut Vec<u8>, ticket: Ticket, answer: &Answer) -> Result<(), AllocError>
+    ensures { OnOk result (text.new.items ≡ text.old.items ++ line_head ticket.folder ticket.number answer.now) }
+{
+    text.extend_from_slice(b"line")?;
+    push_number(text, ticket.folder)?;
+    push_number(text, ticket.number)?;
+    push_finding(text, answer)
+}
+
+/// The lines of a pattern, which begin with this head and end with this tail.
+pub fn push_pattern(
+    text: &mut Vec<u8>,
+    head: &[u8],
+    tail: &[u8],
+    entry: &Entry,
+) -> Result<(), AllocError>
+    ensures { OnOk result (text.new.items ≡ text.old.items ++ headed head.now tail.now entry.now) }
+{
+    text.extend_from_slice(head)?;
+    push_field(text, entry.name.as_slice())?;
+    text.push(b'\n')?;
+    text.extend_from_slice(tail)?;
+    Ok(())
+}
+
+// How many patterns there are.
+fn count_patterns(folders: &[Folder]) -> u64
+    requires { IsSmall folders.now }
+    ensures { result ≡ pattern_count folders.now }
+{
+    let mut count = 0u64;
+    for folder in folders {
+        count += folder.entries.as_slice().len() as u64;
+    }
+    count
+}
+
+/// The last line of a report.
+#[tactic(auto, unfolding(crate::specs::Lines::end_line))]
+pub fn push_end(text: &mut Vec<u8>, folders: &[Folder]) -> Result<(), AllocError>
+    requires { IsSmall folders.now }
+    ensures { OnOk result (text.new.items ≡ text.old.items ++ end_line folders.now) }
+{
+    text.extend_from_slice(b"end")?;
+    push_number(text, folders.len())?;
+    push_number(text, count_patterns(folders))?;
+    text.push(b'\n')?;
+    Ok(())
+}

@@ -1,0 +1,65 @@
+//! The objects of a pattern that has fallen apart, and its `part` lines.
+ghost use Rattle.std.specs.Prelude.{◌≡◌, ◌<◌, ◌^◌, ◌++◌, OnOk, map};
+ghost use Rattle.life_answer.specs.Parts.{objects_in};
+ghost use Rattle.census_format.specs.Heads.{line_tail};
+ghost use Rattle.census_format.specs.Lines.{part_line, text_of};
+
+use crate::lines::{push_field, push_number};
+use census_bundle::Ticket;
+use life_answer::{Answer, Finding, Part};
+use std::alloc::AllocError;
+
+/// How many objects these are in all.
+pub fn count_objects(parts: &[Part]) -> u64
+    requires { objects_in parts.now < 2 ^ 32 }
+    ensures { result ≡ objects_in parts.now }
+{
+    let mut count = 0u64;
+    for part in parts {
+        count += part.count;
+    }
+    count
+}
+
+// The line of those parts that are one object.
+#[tactic(auto, unfolding(crate::specs::Lines::part_line))]
+fn push_part(text: &mut Vec<u8>, ticket: Ticket, part: &Part) -> Result<(), AllocError>
+    ensures { OnOk result (text.new.items ≡ text.old.items ++ part_line ticket.folder ticket.number part.now) }
+{
+    text.extend_from_slice(b"part")?;
+    push_number(text, ticket.folder)?;
+    push_number(text, ticket.number)?;
+    push_field(text, part.code.as_slice())?;
+    push_number(text, part.count)?;
+    text.push(b'\n')?;
+    Ok(())
+}
+
+// The lines of all parts.
+fn push_parts(text: &mut Vec<u8>, ticket: Ticket, parts: &[Part]) -> Result<(), AllocError>
+    ensures { OnOk result (text.new.items ≡ text.old.items ++ text_of (map (part_line ticket.folder ticket.number) parts.now)) }
+{
+    for part in parts {
+        push_part(text, ticket, part)?;
+    }
+    Ok(())
+}
+
+/// The `part` lines of a pattern of which this was found.
+#[tactic(auto, unfolding(crate::specs::Heads::line_tail))]
+pub fn push_tail(text: &mut Vec<u8>, ticket: Ticket, answer: &Answer) -> Result<(), AllocError>
+    ensures { OnOk result (text.new.items ≡ text.old.items ++ line_tail ticket.folder ticket.number answer.now) }
+{
+    match answer {
+        Answer::Found { rule: _, finding } => match finding {
+            Finding::Recurs { .. } => Ok(()),
+            Finding::Unresolved { .. } => Ok(()),
+            Finding::Large { .. } => Ok(()),
+            Finding::Ash {
+                population: _,
+                parts,
+            } => push_parts(text, ticket, parts.as_slice()),
+        },
+        Answer::Refused(_) => Ok(()),
+    }
+}
