@@ -8,7 +8,7 @@ pub mod EmptyRows
 pub mod EdgeBits
 pub mod LifeCases
 pub mod PlaneSums
-pub mod Terms
+pub mod Polynomials
 pub mod Joining
 pub mod Filled
 pub mod Counting

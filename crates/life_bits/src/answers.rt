@@ -24,15 +24,16 @@ impl Answers {
         let mut dead = [0; 9];
         let mut live = [0; 9];
         for count in 0..9 {
-            dead[count] = spread(rule.born(count as u32));
-            live[count] = spread(rule.stays(count as u32));
+            dead[count] = word_of(rule.born(count as u32));
+            live[count] = word_of(rule.stays(count as u32));
         }
         Answers { dead, live }
     }
 }
 
 /// A word of ones for true, of zeros for false.
-fn spread(answer: bool) -> u64
+#[inline(always)]
+pub fn word_of(answer: bool) -> u64
     ensures { (j : ℕ) → j < 64 → bit_at result j ≡ as_bit answer }
 {
     if answer { u64::MAX } else { 0 }

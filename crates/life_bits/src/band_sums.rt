@@ -5,7 +5,7 @@ ghost use Rattle.life_bits.specs.Numbers.{number_at};
 ghost use Rattle.life_bits.specs.Windows.{window_cell, IsSumsOf};
 ghost use Rattle.life_bits.specs.declared.window.Window.{Window};
 
-use crate::adders::add_three;
+use crate::adders::full_adder;
 use crate::logic::Count;
 use crate::window::Window;
 
@@ -58,7 +58,7 @@ impl BandSums {
         ensures { (window : Window) → IsSumsOf self.now window → (x : ℕ) → x < 64 →
             number_at result x ≡ sum_around (window_cell window) (x + 63) y }
     {
-        let sum = add_three(self.three_ones[y], self.three_ones[y + 2], self.two_ones[y]);
+        let sum = full_adder(self.three_ones[y], self.three_ones[y + 2], self.two_ones[y]);
         Count {
             ones: sum.ones,
             above: self.three_twos[y],

@@ -13,11 +13,11 @@ mod strand;
 mod tile;
 mod window;
 
-pub use adders::{Sum, add_three, add_two, choose};
+pub use adders::{Sum, choose, full_adder, half_adder};
 pub use answers::next_row;
 pub use eights::{end_of_eights, first_eight, has_cells};
 pub use kernel::{Change, band};
-pub use logic::{Count, Logic, Spread};
+pub use logic::{Count, Logic, RulePolynomial};
 pub use row_sums::{RowSums, sums};
 pub use strand::{Strand, count_planes};
 pub use tile::{Around, Tile};

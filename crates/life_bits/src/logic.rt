@@ -5,9 +5,10 @@ ghost use Rattle.life_model.specs.Rule.{Rule};
 ghost use Rattle.life_bits.specs.Flags.{as_bit};
 ghost use Rattle.life_bits.specs.Bits.{spelt, next_state};
 ghost use Rattle.life_bits.specs.Numbers.{number_at};
-ghost use Rattle.life_bits.specs.Logics.{IsSpreadOf, IsLogicOf, turned, sum_of_four, sum_at, term_at};
+ghost use Rattle.life_bits.specs.Logics.{IsPolynomialOf, IsLogicOf, xor_if, sum_of_four, polynomial_at, term_at};
 
-use crate::adders::add_two;
+use crate::adders::half_adder;
+use crate::answers::word_of;
 use life_cells::Rule;
 
 /// At each of 64 places a number of live neighbours, from 0 to 8: bit `j` of `ones`, and twice the sum of bit `j` of the
@@ -31,9 +32,9 @@ impl Count {
     fn planes(self) -> [u64; 4]
         ensures { (j : ℕ) → spelt result j ≡ number_at self j }
     {
-        let outer = add_two(self.above, self.below);
-        let inner = add_two(self.beside, self.carried);
-        let twos = add_two(outer.ones, inner.ones);
+        let outer = half_adder(self.above, self.below);
+        let inner = half_adder(self.beside, self.carried);
+        let twos = half_adder(outer.ones, inner.ones);
         [
             self.ones,
             twos.ones,
@@ -69,31 +70,23 @@ impl Branch for Life {
     // The number is 3, or it is 2 and the cell is live, where exactly one of the four twos is set.
     #[inline(always)]
     fn next(&self, here: u64, count: Count) -> u64 {
-        let outer = add_two(count.above, count.below);
-        let inner = add_two(count.beside, count.carried);
+        let outer = half_adder(count.above, count.below);
+        let inner = half_adder(count.beside, count.carried);
         (outer.ones ^ inner.ones) & !(outer.twos | inner.twos) & (count.ones | here)
     }
 }
 
 /// At each of 64 places the bit of `word`, turned round where `bit` and `more` are set.
 #[inline(always)]
-fn turn_where(bit: u64, word: u64, more: u64) -> u64
-    ensures { (j : ℕ) → bit_at result j ≡ turned (bit_at bit j) (bit_at word j) (bit_at more j) }
+fn xor_where(bit: u64, word: u64, more: u64) -> u64
+    ensures { (j : ℕ) → bit_at result j ≡ xor_if (bit_at bit j) (bit_at word j) (bit_at more j) }
 {
     word ^ (bit & more)
 }
 
-/// A word of ones for true, of zeros for false.
-#[inline(always)]
-fn word_of(answer: bool) -> u64
-    ensures { (j : ℕ) → j < 64 → bit_at result j ≡ as_bit answer }
-{
-    if answer { u64::MAX } else { 0 }
-}
-
-/// Four terms that make these words: each word is the sum, without carries, of the terms whose places have no bit but those of its
-/// own place.
-fn four_terms(words: [u64; 4]) -> [u64; 4]
+/// The coefficients of the polynomial of two bits, over the field of two elements, that has these values: its algebraic normal
+/// form, by the Möbius transform.
+fn four_coefficients(words: [u64; 4]) -> [u64; 4]
     ensures { (j a b : ℕ) → a < 2 → b < 2 →
         sum_of_four (λ n. bit_at (slice_index result n) j) a b ≡ bit_at (slice_index words (a + 2 * b)) j }
 {
@@ -106,14 +99,14 @@ fn four_terms(words: [u64; 4]) -> [u64; 4]
     ]
 }
 
-/// Nine terms that make these words. The first eight do so in the same way, and the last word is the sum of the first term and the
-/// last.
-fn terms(words: &[u64; 9]) -> [u64; 9]
+/// The coefficients of the polynomial that has these values at the numbers 0 to 8: eight by the Möbius transform of three bits,
+/// and the ninth where the number is 8.
+fn coefficients(words: &[u64; 9]) -> [u64; 9]
     ensures { (j number : ℕ) → number ≤ 8 →
-        sum_at (λ n. bit_at (slice_index result n) j) number ≡ bit_at (slice_index words.now number) j }
+        polynomial_at (λ n. bit_at (slice_index result n) j) number ≡ bit_at (slice_index words.now number) j }
 {
-    let low = four_terms([words[0], words[1], words[2], words[3]]);
-    let high = four_terms([
+    let low = four_coefficients([words[0], words[1], words[2], words[3]]);
+    let high = four_coefficients([
         words[0] ^ words[4],
         words[1] ^ words[5],
         words[2] ^ words[6],
@@ -132,19 +125,19 @@ fn terms(words: &[u64; 9]) -> [u64; 9]
     ]
 }
 
-/// Any rule, as sums without carries, which are less work than choices. Whether a cell lives next is the sum of some of nine terms:
-/// of the first eight those whose places have no bit but the ones of the number of live neighbours, and the last one where that
-/// number is 8. `dead` has each term of a dead cell, as a word of ones or of zeros, and `turn` what a live cell adds to it.
+/// Any rule, in its algebraic normal form: whether a cell lives next is a polynomial, over the field of two elements, of the bits
+/// of the number of its live neighbours. Such a sum, by exclusive or, is less work than choices. `dead` has each coefficient for a
+/// dead cell, as a word of ones or of zeros, and `turn` what a live cell adds to it.
 #[derive(Clone, Copy)]
-pub struct Spread {
+pub struct RulePolynomial {
     dead: [u64; 9],
     turn: [u64; 9],
 }
 
-impl Spread {
-    /// The words of a rule.
-    pub fn of(rule: &Rule) -> Spread
-        ensures { IsSpreadOf result rule.now }
+impl RulePolynomial {
+    /// The polynomial of a rule.
+    pub fn of(rule: &Rule) -> RulePolynomial
+        ensures { IsPolynomialOf result rule.now }
     {
         let mut dead = [0; 9];
         let mut live = [0; 9];
@@ -152,11 +145,11 @@ impl Spread {
             dead[number] = word_of(rule.born(number as u32));
             live[number] = word_of(rule.stays(number as u32));
         }
-        Spread::between(&terms(&dead), &terms(&live))
+        RulePolynomial::between(&coefficients(&dead), &coefficients(&live))
     }
 
-    /// The words whose terms are these for a dead cell and those for a live one.
-    fn between(dead: &[u64; 9], live: &[u64; 9]) -> Spread
+    /// The polynomial with these coefficients for a dead cell and those for a live one.
+    fn between(dead: &[u64; 9], live: &[u64; 9]) -> RulePolynomial
         ensures dead { (j n : ℕ) → n ≤ 8 → term_at result 0 j n ≡ bit_at (slice_index dead.now n) j }
         ensures live { (j n : ℕ) → n ≤ 8 → term_at result 1 j n ≡ bit_at (slice_index live.now n) j }
     {
@@ -164,35 +157,35 @@ impl Spread {
         for number in 0..9 {
             turn[number] = dead[number] ^ live[number];
         }
-        Spread { dead: *dead, turn }
+        RulePolynomial { dead: *dead, turn }
     }
 
-    /// The terms at a place for the cells of `here`.
+    /// The coefficients at a place for the cells of `here`.
     #[inline(always)]
     fn at(&self, here: u64, place: usize) -> u64
         requires { place ≤ 8 }
         ensures { (j : ℕ) → bit_at result j ≡ term_at self.now (bit_at here j) j place }
     {
-        turn_where(here, self.dead[place], self.turn[place])
+        xor_where(here, self.dead[place], self.turn[place])
     }
 }
 
-impl Branch for Spread {
-    ghost use Rattle.life_bits.specs.Logics.{IsSpreadOf};
+impl Branch for RulePolynomial {
+    ghost use Rattle.life_bits.specs.Logics.{IsPolynomialOf};
 
-    ghost is_of = { IsSpreadOf };
+    ghost is_of = { IsPolynomialOf };
 
     #[inline(always)]
     fn next(&self, here: u64, count: Count) -> u64 {
         let [ones, twos, fours, eights] = count.planes();
-        let none = turn_where(ones, self.at(here, 0), self.at(here, 1));
-        let two = turn_where(ones, self.at(here, 2), self.at(here, 3));
-        let four = turn_where(ones, self.at(here, 4), self.at(here, 5));
-        let six = turn_where(ones, self.at(here, 6), self.at(here, 7));
-        let low = turn_where(twos, none, two);
-        let high = turn_where(twos, four, six);
-        let seven = turn_where(fours, low, high);
-        turn_where(eights, seven, self.at(here, 8))
+        let none = xor_where(ones, self.at(here, 0), self.at(here, 1));
+        let two = xor_where(ones, self.at(here, 2), self.at(here, 3));
+        let four = xor_where(ones, self.at(here, 4), self.at(here, 5));
+        let six = xor_where(ones, self.at(here, 6), self.at(here, 7));
+        let low = xor_where(twos, none, two);
+        let high = xor_where(twos, four, six);
+        let seven = xor_where(fours, low, high);
+        xor_where(eights, seven, self.at(here, 8))
     }
 }
 
@@ -202,7 +195,7 @@ pub enum Logic {
     /// Conway's Life, B3/S23.
     Life,
     /// Any rule.
-    General(Spread),
+    General(RulePolynomial),
 }
 
 impl Logic {
@@ -213,7 +206,7 @@ impl Logic {
         if *rule == Rule::life() {
             Logic::Life
         } else {
-            Logic::General(Spread::of(rule))
+            Logic::General(RulePolynomial::of(rule))
         }
     }
 

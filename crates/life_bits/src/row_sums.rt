@@ -2,7 +2,7 @@
 ghost use Rattle.life_bits.specs.Bits.{strip};
 ghost use Rattle.life_bits.specs.Rows.{IsRowSumsOf};
 
-use crate::adders::{Sum, add_three};
+use crate::adders::{Sum, full_adder};
 
 /// Of each of 64 cells of a row how many of the two beside it are live, and how many of those and itself.
 #[derive(Clone, Copy, PartialEq, Eq, Debug)]
@@ -21,7 +21,7 @@ pub fn sums(west: u64, here: u64, east: u64) -> RowSums
 {
     // The cells beyond both edges stand apart: in their columns one of the moved rows has none.
     let beyond = (west >> 63) | (east << 63);
-    let two = add_three(here << 1, here >> 1, beyond);
+    let two = full_adder(here << 1, here >> 1, beyond);
     let three = Sum {
         ones: two.ones ^ here,
         twos: two.twos | (two.ones & here),

@@ -3,7 +3,7 @@ ghost use Rattle.std.specs.Prelude.{◌≡◌, ℕ, ◌+◌, ◌*◌, ◌<◌, s
 ghost use Rattle.std.specs.Int.{bit_at};
 ghost use Rattle.life_bits.specs.Bits.{strip, IsStrandOf, neighbours, spelt};
 
-use crate::adders::{add_three, add_two};
+use crate::adders::{full_adder, half_adder};
 
 /// A row of 64 cells, and what is to the left and to the right of each: bit `j` of `here` is the cell in column `j`, bit `j` of
 /// `west` the cell to its left and bit `j` of `east` the cell to its right.
@@ -33,12 +33,12 @@ impl Strand {
 pub fn count_planes(up: Strand, mid: Strand, down: Strand) -> [u64; 4]
     ensures { (j : ℕ) → spelt result j ≡ neighbours up mid down j }
 {
-    let above = add_three(up.west, up.here, up.east);
-    let beside = add_two(mid.west, mid.east);
-    let below = add_three(down.west, down.here, down.east);
-    let ones = add_three(above.ones, beside.ones, below.ones);
-    let twos = add_three(above.twos, beside.twos, below.twos);
-    let carried = add_two(ones.twos, twos.ones);
-    let fours = add_two(twos.twos, carried.twos);
+    let above = full_adder(up.west, up.here, up.east);
+    let beside = half_adder(mid.west, mid.east);
+    let below = full_adder(down.west, down.here, down.east);
+    let ones = full_adder(above.ones, beside.ones, below.ones);
+    let twos = full_adder(above.twos, beside.twos, below.twos);
+    let carried = half_adder(ones.twos, twos.ones);
+    let fours = half_adder(twos.twos, carried.twos);
     [ones.ones, carried.ones, fours.ones, fours.twos]
 }

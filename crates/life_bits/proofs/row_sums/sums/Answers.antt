@@ -9,12 +9,12 @@ use Rattle.life_bits.proofs.row_sums.sums.Goals as goal
 pub returns : goal.returns
 returns c =
     record {
-      two = λ x below. c.add_three-two.ensures x ∙ beside_at c.args.west c.args.here c.args.east (omega arith) (omega arith) x below;
+      two = λ x below. c.full_adder-two.ensures x ∙ beside_at c.args.west c.args.here c.args.east (omega arith) (omega arith) x below;
       three = λ x below.
-          with_itself c.add_three-two.result.ones c.add_three-two.result.twos c.args.here
+          with_itself c.full_adder-two.result.ones c.full_adder-two.result.twos c.args.here
           (bit_at (strip c.args.west c.args.here c.args.east) (x + 63)) (bit_at (strip c.args.west c.args.here c.args.east) (x + 65)) x
           (bit_at-lt (strip c.args.west c.args.here c.args.east) (x + 63)) (bit_at-lt (strip c.args.west c.args.here c.args.east) (x + 65))
-          (c.add_three-two.ensures x ∙ beside_at c.args.west c.args.here c.args.east (omega arith) (omega arith) x below)
+          (c.full_adder-two.ensures x ∙ beside_at c.args.west c.args.here c.args.east (omega arith) (omega arith) x below)
           ∙ ap (λ n. bit_at (strip c.args.west c.args.here c.args.east) (x + 63) + n + bit_at (strip c.args.west c.args.here c.args.east) (x + 65))
           (sym (strip_middle c.args.west c.args.here c.args.east x below));
     }

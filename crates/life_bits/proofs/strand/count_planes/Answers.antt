@@ -5,11 +5,11 @@ pub returns : goal.returns
 returns c = λ j.
     omega (
       arith,
-      c.add_three-above.ensures j,
-      c.add_two-beside.ensures j,
-      c.add_three-below.ensures j,
-      c.add_three-ones.ensures j,
-      c.add_three-twos.ensures j,
-      c.add_two-carried.ensures j,
-      c.add_two-fours.ensures j,
+      c.full_adder-above.ensures j,
+      c.half_adder-beside.ensures j,
+      c.full_adder-below.ensures j,
+      c.full_adder-ones.ensures j,
+      c.full_adder-twos.ensures j,
+      c.half_adder-carried.ensures j,
+      c.half_adder-fours.ensures j,
     )

@@ -14,8 +14,8 @@ loop-count-preserved c =
       live_nine = search rules;
       dead =
           filled_more (λ n v. (j : ℕ) → j < 64 → bit_at v j ≡ as_bit (born c.args.rule.now n))
-          _ _ _ dead_room c.loop-count.invariant.dead (λ j below. c.spread.ensures j below ∙ ap as_bit c.born.ensures);
+          _ _ _ dead_room c.loop-count.invariant.dead (λ j below. c.word_of.ensures j below ∙ ap as_bit c.born.ensures);
       live =
           filled_more (λ n v. (j : ℕ) → j < 64 → bit_at v j ≡ as_bit (stays c.args.rule.now n))
-          _ _ _ live_room c.loop-count.invariant.live (λ j below. c.spread-in-loop-count.ensures j below ∙ ap as_bit c.stays.ensures);
+          _ _ _ live_room c.loop-count.invariant.live (λ j below. c.word_of-in-loop-count.ensures j below ∙ ap as_bit c.stays.ensures);
     }

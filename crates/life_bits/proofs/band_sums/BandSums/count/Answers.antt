@@ -3,4 +3,4 @@ use Rattle.life_bits.proofs.band_sums.BandSums.count.Goals as goal
 
 pub returns : goal.returns
 returns c = λ window is x below.
-    counted c.args.self.now window is x c.args.y below c.requires _ _ (c.add_three-sum.ensures x)
+    counted c.args.self.now window is x c.args.y below c.requires _ _ (c.full_adder-sum.ensures x)

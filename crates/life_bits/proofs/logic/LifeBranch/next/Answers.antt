@@ -7,7 +7,7 @@ use Rattle.life_bits.proofs.logic.LifeBranch.next.Goals as goal
 
 pub returns : goal.returns
 returns c = λ rule is j below few.
-    life_at c.add_two-outer.result.ones c.add_two-outer.result.twos c.add_two-inner.result.ones c.add_two-inner.result.twos
+    life_at c.half_adder-outer.result.ones c.half_adder-outer.result.twos c.half_adder-inner.result.ones c.half_adder-inner.result.twos
     c.args.count.ones c.args.here c.args.count.above c.args.count.below c.args.count.beside c.args.count.carried j
-    (omega arith) (omega arith) below (c.add_two-outer.ensures j) (c.add_two-inner.ensures j)
+    (omega arith) (omega arith) below (c.half_adder-outer.ensures j) (c.half_adder-inner.ensures j)
     ∙ ap (λ r. next_state r (bit_at c.args.here j) (number_at c.args.count j)) (sym is)

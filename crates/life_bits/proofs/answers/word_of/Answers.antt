@@ -1,7 +1,7 @@
 use Rattle.std.proofs.Common.{sym, ap, ◌∙◌}
 use Rattle.std.proofs.lemmas.Nat.Bits.{bit_at_ones, bit_at-zero}
 use Rattle.life_bits.specs.Flags.{as_bit}
-use Rattle.life_bits.proofs.answers.spread.Goals as goal
+use Rattle.life_bits.proofs.answers.word_of.Goals as goal
 
 pub returns-then-answer : goal.returns-then-answer
 returns-then-answer c = λ j below. bit_at_ones 64 j below ∙ sym (ap as_bit c.if-answer.true)

@@ -1,5 +1,5 @@
 use Rattle.std.proofs.Common.{◌≡◌, ℕ, ◌<◌, slice_index, length, bit_xor}
-use Rattle.life_bits.proofs.logic.Spread.between.Given as goal
+use Rattle.life_bits.proofs.logic.RulePolynomial.between.Given as goal
 
 abbrev pub invariant-loop-number : goal.invariant-loop-number
 invariant-loop-number l = record {

@@ -1,7 +1,7 @@
 use Rattle.std.proofs.Common.{ℕ, ◌+◌, ◌%◌, ◌<◌, slice_index, ap, ◌∙◌, arith}
 use Rattle.std.specs.Int.{bit_at}
-use Rattle.life_bits.proofs.Terms.{over}
-use Rattle.life_bits.proofs.logic.Spread.between.Goals as goal
+use Rattle.life_bits.proofs.Polynomials.{over}
+use Rattle.life_bits.proofs.logic.RulePolynomial.between.Goals as goal
 
 pub returns-clause-live : goal.returns-clause-live
 returns-clause-live c = λ j n few.

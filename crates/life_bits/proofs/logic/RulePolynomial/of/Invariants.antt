@@ -2,7 +2,7 @@ use Rattle.std.proofs.Common.{◌≡◌, ℕ, ◌<◌, slice_index, length}
 use Rattle.std.specs.Int.{bit_at}
 use Rattle.life_model.specs.Rule.{born, stays}
 use Rattle.life_bits.specs.Flags.{as_bit}
-use Rattle.life_bits.proofs.logic.Spread.of.Given as goal
+use Rattle.life_bits.proofs.logic.RulePolynomial.of.Given as goal
 
 abbrev pub invariant-loop-number : goal.invariant-loop-number
 invariant-loop-number l = record {

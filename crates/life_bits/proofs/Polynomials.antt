@@ -2,12 +2,12 @@
 use Rattle.std.proofs.Common.{◌≡◌, ℕ, zero, suc, ◌+◌, ◌*◌, ◌/◌, ◌%◌, ◌<◌, ◌≤◌, List, [], ◌∷◌, slice_index, bit_and, bit_xor, min, refl, ◌∙◌, arith}
 use Rattle.std.specs.Int.{bit_at}
 use Rattle.std.proofs.lemmas.Nat.Bits.{bit_at_and, bit_at_xor, bit_at-lt}
-use Rattle.life_bits.specs.Logics.{turned, sum_of_four, sum_of, sum_at}
+use Rattle.life_bits.specs.Logics.{xor_if, sum_of_four, sum_of, polynomial_at}
 
-turned_bit : (b w m : ℕ) → b < 2 → w < 2 → m < 2 → (w + min b m) % 2 ≡ turned b w m
+turned_bit : (b w m : ℕ) → b < 2 → w < 2 → m < 2 → (w + min b m) % 2 ≡ xor_if b w m
 turned_bit b w m p q r = grind arith
 
-pub turned_at : (b w m j : ℕ) → bit_at (bit_xor w (bit_and b m)) j ≡ turned (bit_at b j) (bit_at w j) (bit_at m j)
+pub turned_at : (b w m j : ℕ) → bit_at (bit_xor w (bit_and b m)) j ≡ xor_if (bit_at b j) (bit_at w j) (bit_at m j)
 turned_at b w m j =
     rw (bit_at_xor w (bit_and b m) j, bit_at_and b m j)
     (turned_bit _ _ _ (bit_at-lt b j) (bit_at-lt w j) (bit_at-lt m j))
@@ -20,7 +20,7 @@ pub over : (a b j : ℕ) → (bit_at a j + bit_at (bit_xor a b) j) % 2 ≡ bit_a
 over a b j = rw (bit_at_xor a b j) (back _ _ (bit_at-lt a j) (bit_at-lt b j))
 
 -- the bits of a number pick its terms
-pub spelt_sum : (term : ℕ → ℕ) (a b c d n : ℕ) → a < 2 → b < 2 → c < 2 → d < 2 → a + 2 * b + 4 * c + 8 * d ≡ n → sum_of term a b c d ≡ sum_at term n
+pub spelt_sum : (term : ℕ → ℕ) (a b c d n : ℕ) → a < 2 → b < 2 → c < 2 → d < 2 → a + 2 * b + 4 * c + 8 * d ≡ n → sum_of term a b c d ≡ polynomial_at term n
 spelt_sum term a b c d n pa pb pc pd is =
     let first : a ≡ n % 2 = omega arith in
     let second : b ≡ n / 2 % 2 = omega arith in
@@ -66,7 +66,7 @@ summed_by : (term : ℕ → ℕ) (ws : List ℕ) (j number : ℕ) → number ≤
     bit_at (slice_index (bit_xor (slice_index ws 0) (slice_index ws 4) ∷ bit_xor (slice_index ws 1) (slice_index ws 5)
     ∷ bit_xor (slice_index ws 2) (slice_index ws 6) ∷ bit_xor (slice_index ws 3) (slice_index ws 7) ∷ []) (a + 2 * b)) j) →
     term 8 ≡ bit_at (bit_xor (slice_index ws 0) (slice_index ws 8)) j →
-    sum_at term number ≡ bit_at (slice_index ws number) j
+    polynomial_at term number ≡ bit_at (slice_index ws number) j
 summed_by term ws j zero few low high last = low 0 0 (omega arith) (omega arith)
 summed_by term ws j (suc zero) few low high last = low 1 0 (omega arith) (omega arith)
 summed_by term ws j (suc (suc zero)) few low high last = low 0 1 (omega arith) (omega arith)
@@ -89,7 +89,7 @@ pub all_summed : (ws low high : List ℕ) (j number : ℕ) → number ≤ 8 →
     ((a b : ℕ) → a < 2 → b < 2 → sum_of_four (λ n. bit_at (slice_index high n) j) a b ≡
     bit_at (slice_index (bit_xor (slice_index ws 0) (slice_index ws 4) ∷ bit_xor (slice_index ws 1) (slice_index ws 5)
     ∷ bit_xor (slice_index ws 2) (slice_index ws 6) ∷ bit_xor (slice_index ws 3) (slice_index ws 7) ∷ []) (a + 2 * b)) j) →
-    sum_at (λ n. bit_at (slice_index (slice_index low 0 ∷ slice_index low 1 ∷ slice_index low 2 ∷ slice_index low 3
+    polynomial_at (λ n. bit_at (slice_index (slice_index low 0 ∷ slice_index low 1 ∷ slice_index low 2 ∷ slice_index low 3
     ∷ slice_index high 0 ∷ slice_index high 1 ∷ slice_index high 2 ∷ slice_index high 3
     ∷ bit_xor (slice_index ws 0) (slice_index ws 8) ∷ []) n) j) number
     ≡ bit_at (slice_index ws number) j
@@ -100,7 +100,7 @@ all_summed ws low high j number few lower higher =
     ws j number few lower higher refl
 
 -- a sum takes no other terms
-pub same_sum : (term other : ℕ → ℕ) → ((n : ℕ) → n ≤ 8 → term n ≡ other n) → (number : ℕ) → sum_at term number ≡ sum_at other number
+pub same_sum : (term other : ℕ → ℕ) → ((n : ℕ) → n ≤ 8 → term n ≡ other n) → (number : ℕ) → polynomial_at term number ≡ polynomial_at other number
 same_sum term other same number =
     rw (
       same 0 (omega arith),

@@ -3,30 +3,30 @@ use Rattle.std.specs.Int.{bit_at}
 use Rattle.std.proofs.lemmas.Nat.Bits.{bit_at-lt}
 use Rattle.life_model.specs.Rule.{Rule}
 use Rattle.life_bits.specs.Bits.{next_state}
-use Rattle.life_bits.specs.declared.logic.Spread.{Spread}
+use Rattle.life_bits.specs.declared.logic.RulePolynomial.{RulePolynomial}
 use Rattle.life_bits.specs.Numbers.{number_at}
-use Rattle.life_bits.specs.Logics.{IsSpreadOf, mask_at, term_at}
-use Rattle.life_bits.proofs.Terms.{spelt_sum}
-use Rattle.life_bits.proofs.logic.SpreadBranch.next.Goals as goal
+use Rattle.life_bits.specs.Logics.{IsPolynomialOf, mask_at, term_at}
+use Rattle.life_bits.proofs.Polynomials.{spelt_sum}
+use Rattle.life_bits.proofs.logic.RulePolynomialBranch.next.Goals as goal
 
 -- the words of a rule answer for each state and number
-answered : (spread : Spread) (rule : Rule) (state number j : ℕ) → state < 2 → IsSpreadOf spread rule → number ≤ 8 → j < 64 →
-    mask_at spread state number j ≡ next_state rule state number
-answered spread rule zero number j small is few below = is.dead number j few below
-answered spread rule (suc zero) number j small is few below = is.live number j few below
-answered spread rule (suc (suc state)) number j small is few below = absurd (omega arith)
+answered : (polynomial : RulePolynomial) (rule : Rule) (state number j : ℕ) → state < 2 → IsPolynomialOf polynomial rule → number ≤ 8 → j < 64 →
+    mask_at polynomial state number j ≡ next_state rule state number
+answered polynomial rule zero number j small is few below = is.dead number j few below
+answered polynomial rule (suc zero) number j small is few below = is.live number j few below
+answered polynomial rule (suc (suc state)) number j small is few below = absurd (omega arith)
 
 pub returns : goal.returns
 returns c = λ rule is j below few.
     rw (
-      c.turn_where.ensures j,
-      c.turn_where-seven.ensures j,
-      c.turn_where-low.ensures j,
-      c.turn_where-high.ensures j,
-      c.turn_where-none.ensures j,
-      c.turn_where-two.ensures j,
-      c.turn_where-four.ensures j,
-      c.turn_where-six.ensures j,
+      c.xor_where.ensures j,
+      c.xor_where-seven.ensures j,
+      c.xor_where-low.ensures j,
+      c.xor_where-high.ensures j,
+      c.xor_where-none.ensures j,
+      c.xor_where-two.ensures j,
+      c.xor_where-four.ensures j,
+      c.xor_where-six.ensures j,
       c.at.ensures j,
       c.at-2.ensures j,
       c.at-3.ensures j,

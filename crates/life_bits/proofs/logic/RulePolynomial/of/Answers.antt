@@ -1,7 +1,7 @@
 use Rattle.std.proofs.Common.{◌<◌, ◌∙◌, arith}
 use Rattle.life_bits.specs.Logics.{term_at}
-use Rattle.life_bits.proofs.Terms.{same_sum}
-use Rattle.life_bits.proofs.logic.Spread.of.Goals as goal
+use Rattle.life_bits.proofs.Polynomials.{same_sum}
+use Rattle.life_bits.proofs.logic.RulePolynomial.of.Goals as goal
 
 pub returns : goal.returns
 returns c = record {
@@ -9,12 +9,12 @@ returns c = record {
       let past = c.loop-number-test.false in
       let inside : number < c.loop-number.number = omega arith in
       same_sum (term_at c.between.result 0 j) _ (λ n less. c.between.ensures.dead j n less) number
-      ∙ c.terms.ensures j number few
+      ∙ c.coefficients.ensures j number few
       ∙ c.loop-number.invariant.dead number inside j below;
   live = λ number j few below.
       let past = c.loop-number-test.false in
       let inside : number < c.loop-number.number = omega arith in
       same_sum (term_at c.between.result 1 j) _ (λ n less. c.between.ensures.live j n less) number
-      ∙ c.terms-2.ensures j number few
+      ∙ c.coefficients-2.ensures j number few
       ∙ c.loop-number.invariant.live number inside j below;
 }
