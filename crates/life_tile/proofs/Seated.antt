@@ -1,6 +1,7 @@
 -- The cells of seats, listed row by row.
-use Rattle.std.proofs.Common.{◌≡◌, ℕ, suc, ℤ, pos, negsuc, ◌+ℤ◌, ◌≤ℤ◌, ⊎_elim, w32, to_z, of_z, ◌+◌, ◌-◌, ◌<◌, ◌≤◌, Bool, true, false, ◌||◌, All, List, [], ◌∷◌, ◌++◌, length, reverse, take, drop, get_or, slice_index, refl, sym, subst, ap, ◌∙◌, append_assoc, append-nil, arith}
+use Rattle.std.proofs.Common.{◌≡◌, ℕ, zero, suc, ℤ, pos, negsuc, ◌+ℤ◌, ◌≤ℤ◌, ⊎_elim, w32, to_z, of_z, ◌+◌, ◌-◌, ◌<◌, ◌≤◌, Bool, true, false, ◌||◌, All, List, [], ◌∷◌, ◌++◌, length, reverse, take, drop, get_or, slice_index, refl, sym, subst, ap, ◌∙◌, append_assoc, append-nil, arith}
 use Rattle.std.specs.Int.{bit_at}
+use Rattle.std.proofs.lemmas.Nat.Bits.{bit_at-zero}
 use Rattle.std.specs.List.{list_any}
 use Rattle.std.proofs.lemmas.Int.{ints}
 use Rattle.std.proofs.lemmas.List.{reverse-append, take_more, take-append-drop, take-take, drop-take}
@@ -11,7 +12,7 @@ use Rattle.life_model.proofs.Tests.{list_any-alike, list_any-or, list_any-revers
 use Rattle.life_bits.specs.declared.tile.Tile.{Tile}
 use Rattle.life_tile.specs.Cells.{row_cells, block_cells, tiles_cells}
 use Rattle.life_tile.specs.Places.{start_at, IsInside}
-use Rattle.life_tile.specs.Seats.{has_line, has_rows, has_tile}
+use Rattle.life_tile.specs.Seats.{has_line, has_rows, has_tile, IsBetween}
 use Rattle.life_tile.specs.Ends.{IsVoid}
 use Rattle.life_tile.specs.Slots.{tile_of, shown}
 use Rattle.life_tile.specs.declared.seats.Seat.{Seat}
@@ -61,6 +62,10 @@ row_gone_on left y word x next start items new is before after more none =
 
 -- ---- seat by seat
 
+pub all_pushed : (P : Seat → Type 0) (seats : List Seat) (seat : Seat) (new : List Seat) → new ≡ seats ++ seat ∷ [] → All P seats → P seat → All P new
+all_pushed P seats seat new is all here =
+    subst (λ (ss : List Seat). All P ss) (sym is) (All-push P seats seat all here)
+
 pub seat_more : (p : Seat → Bool) (seats : List Seat) (i : ℕ) (d : Seat) → i < length seats →
     list_any p (take (i + 1) seats) ≡ (list_any p (take i seats) || p (get_or seats i d))
 seat_more p seats i d inside =
@@ -88,9 +93,60 @@ rows_more tiles y q seats =
 no_rows : (tiles : List Tile) (q : Cell) (seat : Seat) → has_rows tiles 0 q seat ≡ false
 no_rows tiles q seat = ap (list_any (same_cell q)) (block_none (start_at seat.column) (start_at seat.row) (tile_of tiles seat.slot).rows)
 
-pub rows_none : (tiles : List Tile) (q : Cell) (seats : List Seat) → list_any (has_rows tiles 0 q) seats ≡ false
-rows_none tiles q [] = refl
-rows_none tiles q (s ∷ ss) = ap (λ b. b || list_any (has_rows tiles 0 q) ss) (no_rows tiles q s) ∙ rows_none tiles q ss
+-- rows without a live cell add none
+line_void : (tiles : List Tile) (y : ℕ) (q : Cell) (seat : Seat) → slice_index (tile_of tiles seat.slot).rows y ≡ 0 → has_line tiles y q seat ≡ false
+line_void tiles y q seat void =
+    let left : ℤ = start_at seat.column in
+    let top : ℤ = start_at seat.row +ℤ pos y in
+    ap (λ (w : ℕ). list_any (same_cell q) (row_cells left top w 64)) void
+    ∙ ap (list_any (same_cell q)) (row_short left top 0 0 64 64 (let same : 64 + 0 ≡ 64 = omega arith in same) (λ j from inside. bit_at-zero j) ∙ row_none left top 0)
+
+rows_past : (tiles : List Tile) (q : Cell) (seat : Seat) (n m : ℕ) → ((y : ℕ) → n ≤ y → y < n + m → slice_index (tile_of tiles seat.slot).rows y ≡ 0) →
+    has_rows tiles (n + m) q seat ≡ has_rows tiles n q seat
+rows_past tiles q seat n zero void = let same : n + 0 ≡ n = omega arith in ap (λ (k : ℕ). has_rows tiles k q seat) same
+rows_past tiles q seat n (suc m) void =
+    let next : n + suc m ≡ suc (n + m) = omega arith in
+    ap (λ (k : ℕ). has_rows tiles k q seat) next
+    ∙ rows_step tiles (n + m) q seat
+    ∙ ap (λ b. has_rows tiles (n + m) q seat || b) (line_void tiles (n + m) q seat (void (n + m) (omega arith) (omega arith)))
+    ∙ or_none (has_rows tiles (n + m) q seat)
+    ∙ rows_past tiles q seat n m (λ y from less. void y from (omega arith))
+
+pub rows_above : (tiles : List Tile) (q : Cell) (first end : ℕ) (seats : List Seat) → All (IsBetween tiles first end) seats →
+    list_any (has_rows tiles first q) seats ≡ false
+rows_above tiles q first end [] each = refl
+rows_above tiles q first end (s ∷ ss) each =
+    let here : IsBetween tiles first end s = each 0 s (omega arith) in
+    let all : 0 + first ≡ first = omega arith in
+    let none : has_rows tiles first q s ≡ false =
+    ap (λ (k : ℕ). has_rows tiles k q s) (sym all) ∙ rows_past tiles q s 0 first (λ y from less. here.above y (omega arith)) ∙ no_rows tiles q s in
+    ap (λ b. b || list_any (has_rows tiles first q) ss) none ∙ rows_above tiles q first end ss (λ k d below. each (suc k) d (omega arith))
+
+pub rows_below : (tiles : List Tile) (q : Cell) (first end y : ℕ) (seats : List Seat) → end ≤ y → y ≤ 64 → All (IsBetween tiles first end) seats →
+    list_any (has_rows tiles y q) seats ≡ list_any (has_tile tiles q) seats
+rows_below tiles q first end y [] past small each = refl
+rows_below tiles q first end y (s ∷ ss) past small each =
+    let here : IsBetween tiles first end s = each 0 s (omega arith) in
+    let all : y + (64 - y) ≡ 64 = omega arith in
+    let same : has_rows tiles y q s ≡ has_tile tiles q s =
+    sym (ap (λ (k : ℕ). has_rows tiles k q s) (sym all) ∙ rows_past tiles q s y (64 - y) (λ z from less. here.below z (omega arith) (omega arith))) in
+    (λ i. same i || rows_below tiles q first end y ss past small (λ k d below. each (suc k) d (omega arith)) i)
+
+-- one seat more whose tile's rows are between two
+pub between_none : (tiles : List Tile) (first end : ℕ) (seats : List Seat) → All (IsBetween tiles first end) (take 0 seats)
+between_none tiles first end seats = λ k d below. absurd (omega arith)
+
+wider : (tiles : List Tile) (a b c d : ℕ) (seat : Seat) → c ≤ a → b ≤ d → IsBetween tiles a b seat → IsBetween tiles c d seat
+wider tiles a b c d seat low high is = record {
+  above = λ y less. is.above y (omega arith);
+  below = λ y past small. is.below y (omega arith) small;
+}
+
+pub between_more : (tiles : List Tile) (a b c d i : ℕ) (seats : List Seat) (none : Seat) → i < length seats → c ≤ a → b ≤ d →
+    All (IsBetween tiles a b) (take i seats) → IsBetween tiles c d (get_or seats i none) → All (IsBetween tiles c d) (take (i + 1) seats)
+between_more tiles a b c d i seats none inside low high each here =
+    all_pushed (IsBetween tiles c d) (take i seats) (get_or seats i none) (take (i + 1) seats) (take_more seats i none inside)
+    (λ k e below. wider tiles a b c d _ low high (each k e below)) here
 
 take_joined : (n m : ℕ) (xs : List Seat) → take (n + m) xs ≡ take n xs ++ take m (drop n xs)
 take_joined n m xs =
@@ -187,10 +243,6 @@ pub no_more : (tiles : List Tile) (q : Cell) (all : List Entry) (seats : List Se
 no_more tiles q all seats is =
     sym (or_none (list_any (has_tile tiles q) seats))
     ∙ ap (λ b. list_any (has_tile tiles q) seats || b) (sym (ap (list_any (same_cell q)) (tiles_none (shown all tiles) (shown_none tiles all is))))
-
-pub all_pushed : (P : Seat → Type 0) (seats : List Seat) (seat : Seat) (new : List Seat) → new ≡ seats ++ seat ∷ [] → All P seats → P seat → All P new
-all_pushed P seats seat new is all here =
-    subst (λ (ss : List Seat). All P ss) (sym is) (All-push P seats seat all here)
 
 -- the seat that is pushed is the entry's, since its place fits into 32 bits
 pub seat_pushed : (e : Entry) (seats new : List Seat) → IsInside e.0 →

@@ -1,14 +1,16 @@
 -- How many tiles have a live cell, and that a slab which has no other tiles has no slot yet for a place that isn't copied.
-use Rattle.std.proofs.Common.{◌≡◌, ℕ, zero, suc, ℤ, pos, ◌+ℤ◌, ◌<◌, ◌≤◌, ◌==◌, ⊎_elim, true, false, cond, List, [], ◌∷◌, ◌++◌, length, nat_lt, slice_index, refl, sym, subst, ap, ◌∙◌, arith, true≢false}
+use Rattle.std.proofs.Common.{◌≡◌, ℕ, zero, suc, ℤ, pos, ◌+ℤ◌, ◌+◌, ◌-◌, ◌<◌, ◌≤◌, ◌==◌, ⊎_elim, true, false, cond, List, [], ◌∷◌, ◌++◌, length, take, drop, nat_lt, slice_index, refl, sym, subst, ap, ◌∙◌, arith, true≢false}
 use Rattle.std.specs.Int.{bit_at}
+use Rattle.std.specs.List.{fold, sum_by}
+use Rattle.std.proofs.lemmas.List.{take_all}
 use Rattle.std.proofs.lemmas.Nat.Bits.{bit_at-lt}
 use Rattle.life_model.specs.Cell.{Cell}
 use Rattle.life_bits.specs.declared.tile.Tile.{Tile}
 use Rattle.life_bits.specs.Area.{tile_cell}
-use Rattle.life_tile.specs.Cells.{row_cells, block_cells, has_cell}
+use Rattle.life_tile.specs.Cells.{row_cells, block_cells, has_cell, tile_count}
 use Rattle.life_tile.specs.Ends.{IsVoid}
 use Rattle.life_tile.specs.declared.slab.Slab.{Slab}
-use Rattle.life_tile.specs.Slots.{slot_at, place_of, empty_tile}
+use Rattle.life_tile.specs.Slots.{slot_at, place_of, tile_of, empty_tile}
 use Rattle.life_tile.specs.Slabs.{IsCompact, IsKept, IsSlotOf, members_of}
 use Rattle.life_tile.proofs.Members.{Has, has_none, row_in, block_in}
 use Rattle.life_tile.proofs.Orders.{true_or_false}
@@ -34,6 +36,9 @@ block_dead left top rows (suc n) dead =
 pub void_tile : (tile : Tile) → IsVoid tile → has_cell tile ≡ false
 void_tile tile void = ap (λ (cs : List Cell). nat_lt 0 (length cs)) (block_dead (pos 0) (pos 0) tile.rows 64 void.dead)
 
+pub void_count : (tile : Tile) → IsVoid tile → tile_count tile ≡ 0
+void_count tile void = ap (λ (cs : List Cell). length cs) (block_dead (pos 0) (pos 0) tile.rows 64 void.dead)
+
 none_of : (cs : List Cell) → nat_lt 0 (length cs) ≡ false → cs ≡ []
 none_of [] none = refl
 none_of (c ∷ cs) none = let some : nat_lt 0 (suc (length cs)) ≡ true = grind arith in absurd (true≢false (sym some ∙ none))
@@ -58,6 +63,14 @@ live_tile tile live =
 
 pub empty_is_void : (tile : Tile) → tile ≡ empty_tile → IsVoid tile
 empty_is_void tile is = record { dead = λ x y wide high. ap (λ (t : Tile). tile_cell t x y) is ∙ empty_cell x y }
+
+-- the first tile has no live cell, so the others have them all
+pub sum_past_first : (tiles : List Tile) → tile_of tiles 0 ≡ empty_tile → sum_by tile_count (take (length tiles - 1) (drop 1 tiles)) ≡ sum_by tile_count tiles
+sum_past_first [] none = refl
+sum_past_first (tile ∷ rest) none =
+    let all : length rest ≤ length (tile ∷ rest) - 1 = omega arith in
+    ap (sum_by tile_count) (take_all (length (tile ∷ rest) - 1) rest all)
+    ∙ ap (λ (n : ℕ). fold (λ a t. a + tile_count t) (0 + n) rest) (sym (void_count tile (empty_is_void tile none)))
 
 pub compact_one : (slab : Slab) → length slab.slots.items ≡ 1 → IsCompact slab
 compact_one slab one = record { live = λ k later inside. absurd (omega arith) }

@@ -1,5 +1,5 @@
 -- Which cells the tiles of seats have.
-use Rattle.std.specs.Prelude.{ℕ, pos, ◌+ℤ◌, ◌<◌, Bool, List, slice_index}
+use Rattle.std.specs.Prelude.{◌≡◌, ℕ, pos, ◌+ℤ◌, ◌<◌, ◌≤◌, Bool, List, slice_index}
 use Rattle.std.specs.List.{list_any}
 use Rattle.life_model.specs.Cell.{Cell, same_cell}
 use Rattle.life_bits.specs.declared.tile.Tile.{Tile}
@@ -12,6 +12,11 @@ use Rattle.life_tile.specs.declared.seats.Seat.{Seat}
 pub record IsSeat (count : ℕ) (seat : Seat) : Type 0 where
   pub inside : IsInside (seat.column, seat.row)
   pub slot : seat.slot < count
+
+-- its tile has live cells only from a row on and before another one
+pub record IsBetween (tiles : List Tile) (first end : ℕ) (seat : Seat) : Type 0 where
+  pub above : (y : ℕ) → y < first → slice_index (tile_of tiles seat.slot).rows y ≡ 0
+  pub below : (y : ℕ) → end ≤ y → y < 64 → slice_index (tile_of tiles seat.slot).rows y ≡ 0
 
 -- whether the first n rows of its tile have the cell
 abbrev pub has_rows : List Tile → ℕ → Cell → Seat → Bool

@@ -4,12 +4,12 @@ ghost use Rattle.std.specs.Int.{bit_at};
 ghost use Rattle.std.specs.List.{list_any};
 ghost use Rattle.life_model.specs.Cell.{Cell, same_cell};
 ghost use Rattle.life_tile.specs.Cells.{row_cells};
-ghost use Rattle.life_tile.specs.Seats.{has_line, has_rows, has_tile, IsSeat};
+ghost use Rattle.life_tile.specs.Seats.{has_line, has_rows, has_tile, IsBetween, IsSeat};
 ghost use Rattle.life_tile.specs.Slots.{tile_of};
 
 use crate::grid::corner_of;
 use crate::seats::{Seat, end_of_row};
-use life_bits::Tile;
+use life_bits::{Tile, end_of_eights, first_eight};
 use std::alloc::AllocError;
 
 /// The first bit of a word that is set, from a bit on; 64 where none is.
@@ -73,13 +73,31 @@ fn push_line(
     Ok(())
 }
 
+/// The first row from which the tiles of some seats may have live cells, and the row after the last of them.
+fn rows_in(seats: &[Seat], tiles: &[Tile]) -> (usize, usize)
+    requires seats { All (IsSeat (length tiles.now)) seats.now }
+    ensures first { result.0 ≤ 64 }
+    ensures end { result.1 ≤ 64 }
+    ensures rows { All (IsBetween tiles.now result.0 result.1) seats.now }
+{
+    let mut first = 64;
+    let mut end = 0;
+    for seat in seats {
+        let tile = tile_in(tiles, seat.slot as usize);
+        first = first_eight(tile).min(first);
+        end = end_of_eights(tile).max(end);
+    }
+    (first, end)
+}
+
 /// Appends the live cells of the tiles of some seats, row by row.
 fn push_lines(cells: &mut Vec<(i32, i32)>, seats: &[Seat], tiles: &[Tile]) -> Result<(), AllocError>
     requires seats { All (IsSeat (length tiles.now)) seats.now }
     ensures { OnOk result ((q : Cell) → list_any (same_cell q) cells.new.items
         ≡ (list_any (same_cell q) cells.old.items || list_any (has_tile tiles.now q) seats.now)) }
 {
-    for y in 0..64 {
+    let (first, end) = rows_in(seats, tiles);
+    for y in first..end {
         push_line(cells, seats, tiles, y)?;
     }
     Ok(())

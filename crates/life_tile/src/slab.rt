@@ -406,7 +406,8 @@ impl Slab {
         requires { IsKept self.now }
         ensures { result ≡ size (members_of self.now) }
     {
-        count_cells(&self.cur)
+        // (the first tile has none)
+        count_cells(&self.cur[1..])
     }
 
     /// The same cells at the same age in a slab that has no slot for a tile without a live cell, but the first: one tile more
