@@ -1,5 +1,5 @@
 -- What a slab keeps in a step.
-use Rattle.std.proofs.Common.{◌≡◌, ℕ, ℤ, pos, ◌+ℤ◌, ◌+◌, ◌/◌, ◌<◌, ⊎_elim, true, false, List, length, refl, sym, subst, ap, ◌∙◌, arith}
+use Rattle.std.proofs.Common.{◌≡◌, ℕ, ℤ, pos, ◌+ℤ◌, ◌+◌, ◌<◌, false, List, length, refl, sym, subst, ap, ◌∙◌, arith}
 use Rattle.std.proofs.lemmas.Int.{ints}
 use Rattle.life_model.specs.Cell.{Cell, IsNear}
 use Rattle.life_model.specs.Rule.{Rule}
@@ -8,16 +8,15 @@ use Rattle.life_model.specs.Evolution.{next}
 use Rattle.life_model.proofs.Near.{next_near}
 use Rattle.life_cells.specs.Limits.{IsWithin}
 use Rattle.life_bits.specs.declared.tile.Tile.{Tile}
-use Rattle.life_bits.specs.Flags.{as_bit}
 use Rattle.life_bits.specs.Area.{tile_cell}
 use Rattle.life_tile.specs.Places.{start_at}
-use Rattle.life_tile.proofs.Orders.{true_or_false}
 use Rattle.life_tile.specs.declared.bands.Bands.{Bands}
 use Rattle.life_tile.specs.declared.slot.Slot.{Slot}
 use Rattle.life_tile.specs.declared.slab.Slab.{Slab}
 use Rattle.life_tile.specs.Slots.{place_of, tile_of, generation_shown, IsReached}
 use Rattle.life_tile.specs.Work.{mark_of, IsWorkedOut}
-use Rattle.life_tile.specs.Slabs.{state_at, members_of, IsClosed, IsIdle, IsCalm, IsKept, IsGrown}
+use Rattle.life_tile.specs.Slabs.{state_at, members_of, IsClosed, IsIdle, IsKept, IsGrown, IsBegun}
+use Rattle.life_tile.proofs.Marks.{clear_before}
 use Rattle.life_tile.proofs.Steps.{advanced, settled_again, closed_again, closed_idle}
 
 within_near : (age : ℕ) (g c : Cell) → IsWithin age g → IsNear c g → IsWithin (age + 1) c
@@ -36,43 +35,27 @@ reached_later age place reached = record {
   south = omega (arith, ints, reached.south);
 }
 
-pub worked_at : (slots slots' : List Slot) (cur cur' : List Tile) (todo todo' : List Bands) (rule : Rule) (alt alt' after : List Tile) (marks marked : List Bands) →
-    slots ≡ slots' → cur ≡ cur' → todo ≡ todo' → alt ≡ alt' →
-    IsWorkedOut slots cur todo rule alt after marks marked (length slots) → IsWorkedOut slots' cur' todo' rule alt' after marks marked (length slots')
-worked_at slots slots' cur cur' todo todo' rule alt alt' after marks marked p q r s worked =
-    subst (λ (z : List Slot). IsWorkedOut z cur' todo' rule alt' after marks marked (length z)) p
-    (subst (λ (z : List Tile). IsWorkedOut slots z todo' rule alt' after marks marked (length slots)) q
-    (subst (λ (z : List Bands). IsWorkedOut slots cur z rule alt' after marks marked (length slots)) r
-    (subst (λ (z : List Tile). IsWorkedOut slots cur todo rule z after marks marked (length slots)) s worked)))
+pub worked_at : (slots slots' : List Slot) (cur cur' : List Tile) (todo todo' : List Bands) (rule rule' : Rule) (alt alt' after : List Tile) (marks marks' marked : List Bands) →
+    slots ≡ slots' → cur ≡ cur' → todo ≡ todo' → rule ≡ rule' → alt ≡ alt' → marks ≡ marks' →
+    IsWorkedOut slots cur todo rule alt after marks marked (length slots) → IsWorkedOut slots' cur' todo' rule' alt' after marks' marked (length slots')
+worked_at slots slots' cur cur' todo todo' rule rule' alt alt' after marks marks' marked p q r t s v worked =
+    subst (λ (z : List Slot). IsWorkedOut z cur' todo' rule' alt' after marks' marked (length z)) p
+    (subst (λ (z : List Tile). IsWorkedOut slots z todo' rule' alt' after marks' marked (length slots)) q
+    (subst (λ (z : List Bands). IsWorkedOut slots cur z rule' alt' after marks' marked (length slots)) r
+    (subst (λ (z : Rule). IsWorkedOut slots cur todo z alt' after marks' marked (length slots)) t
+    (subst (λ (z : List Tile). IsWorkedOut slots cur todo rule z after marks' marked (length slots)) s
+    (subst (λ (z : List Bands). IsWorkedOut slots cur todo rule alt after z marked (length slots)) v worked)))))
 
-module _ (s u : Slab) (after : List Tile) (marks marked : List Bands) (kept : IsKept s) (grown : IsGrown s) (young : s.age < 4194304)
-    (worked : IsWorkedOut s.slots.items s.cur.items s.todo.items s.rule s.alt.items after marks marked (length s.slots.items))
-    (marks_count : length marks ≡ length s.slots.items) (marks_are : (k band : ℕ) → k < length marks → band < 8 → mark_of marks k band ≡ as_bit s.fresh)
+module _ (s b u : Slab) (after : List Tile) (marked : List Bands) (kept : IsKept s) (grown : IsGrown s) (young : s.age < 4194304) (begun : IsBegun s b)
+    (worked : IsWorkedOut s.slots.items s.cur.items b.todo.items s.rule b.alt.items after b.marks.items marked (length s.slots.items))
     (cur_is : u.cur.items ≡ after) (alt_is : u.alt.items ≡ s.cur.items) (todo_is : u.todo.items ≡ marked) (marks_length : length u.marks.items ≡ length s.slots.items) where
   after_is : generation_shown s.index after ≡ next s.rule (members_of s)
   after_is =
-      advanced s.index s.slots.items kept.whole.indexed s.cur.items s.alt.items after s.todo.items marks marked s.rule kept.whole.cur_none kept.whole.alt_none worked
-      grown.closed (λ k x y later inside wide high clear. (kept.settled k (y / 8) later inside (omega arith) clear).cell x y wide high refl)
-
-  -- in a fresh slab every band is marked
-  known : (k band : ℕ) → k < length s.slots.items → band < 8 → mark_of marked k band ≡ 0 → s.fresh ≡ false
-  known k band inside small clear =
-      ⊎_elim
-      (λ (fresh : s.fresh ≡ true).
-      let mark : mark_of marks k band ≡ 1 = marks_are k band (omega arith) small ∙ ap as_bit fresh in
-      let never : 1 ≡ 0 = sym (worked.kept k band mark) ∙ clear in
-      absurd (omega arith))
-      (λ not. not)
-      (true_or_false s.fresh)
+      advanced s.index s.slots.items kept.whole.indexed s.cur.items b.alt.items after b.todo.items b.marks.items marked s.rule kept.whole.cur_none begun.alt_none worked
+      grown.closed begun.settled
 
   idle_marks : (k : ℕ) → IsIdle u.todo.items k → IsIdle marked k
   idle_marks k idle = λ band small. sym (ap (λ (bs : List Bands). mark_of bs k band) todo_is) ∙ idle band small
-
-  calm_marks : IsCalm u.todo.items → IsCalm marked
-  calm_marks = idle_marks 0
-
-  known_calm : IsCalm u.todo.items → s.fresh ≡ false
-  known_calm calm = known 0 0 kept.whole.indexed.some (omega arith) (calm_marks calm 0 (omega arith))
 
   pub members_next : generation_shown s.index u.cur.items ≡ next s.rule (members_of s)
   members_next = ap (generation_shown s.index) cur_is ∙ after_is
@@ -84,11 +67,11 @@ module _ (s u : Slab) (after : List Tile) (marks marked : List Bands) (kept : Is
   kept_next = record {
     whole = record {
       indexed = kept.whole.indexed;
-      cur_length = ap (λ (ts : List Tile). length ts) cur_is ∙ worked.length_after ∙ kept.whole.alt_length;
+      cur_length = ap (λ (ts : List Tile). length ts) cur_is ∙ worked.length_after ∙ begun.alt_length;
       alt_length = ap (λ (ts : List Tile). length ts) alt_is ∙ kept.whole.cur_length;
-      todo_length = ap (λ (bs : List Bands). length bs) todo_is ∙ worked.length_marked ∙ marks_count;
+      todo_length = ap (λ (bs : List Bands). length bs) todo_is ∙ worked.length_marked ∙ begun.marks_length;
       marks_length = marks_length;
-      cur_none = ap (λ (ts : List Tile). tile_of ts 0) cur_is ∙ worked.first ∙ kept.whole.alt_none;
+      cur_none = ap (λ (ts : List Tile). tile_of ts 0) cur_is ∙ worked.first ∙ begun.alt_none;
       alt_none = ap (λ (ts : List Tile). tile_of ts 0) alt_is ∙ kept.whole.cur_none;
     };
     young = omega arith;
@@ -99,26 +82,26 @@ module _ (s u : Slab) (after : List Tile) (marks marked : List Bands) (kept : Is
     earlier = λ _. members_next ∙ ap (next s.rule) (sym earlier_is);
     earlier_closed = λ _ k later inside. subst (λ (ts : List Tile). IsClosed s.slots.items ts k) (sym alt_is) (grown.closed k later inside);
     settled = λ k band later inside small clear.
-        let clear_mark : mark_of marked k band ≡ 0 = sym (ap (λ (bs : List Bands). mark_of bs k band) todo_is) ∙ clear in
-        let was_known : s.fresh ≡ false = known k band inside small clear_mark in
+        let clear_after : mark_of marked k band ≡ 0 = sym (ap (λ (bs : List Bands). mark_of bs k band) todo_is) ∙ clear in
+        let clear_mark : mark_of b.marks.items k band ≡ 0 = clear_before b.marks.items marked k band (worked.kept k band) clear_after in
         record {
           known = refl;
           cell = λ x y wide high in_band.
               ap (λ (ts : List Tile). tile_cell (tile_of ts k) x y) alt_is
-              ∙ settled_again s.index s.slots.items kept.whole.indexed s.cur.items s.alt.items after s.todo.items marks marked s.rule kept.whole.cur_none kept.whole.alt_none worked
-              (kept.earlier was_known) k x y later inside wide high (ap (mark_of marked k) in_band ∙ clear_mark)
+              ∙ settled_again s.index s.slots.items kept.whole.indexed s.cur.items b.alt.items after b.todo.items b.marks.items marked s.rule kept.whole.cur_none begun.alt_none worked
+              k x y later inside wide high (ap (mark_of marked k) in_band ∙ clear_after)
+              (begun.again k x y later inside wide high (ap (mark_of b.marks.items k) in_band ∙ clear_mark))
               ∙ ap (λ (ts : List Tile). state_at (next s.rule (generation_shown s.index ts)) (start_at (place_of s.slots.items k).0 +ℤ pos x) (start_at (place_of s.slots.items k).1 +ℤ pos y)) (sym cur_is);
         };
     closed = λ k later inside idle.
-        let was_known : s.fresh ≡ false = known k 0 inside (omega arith) (idle_marks k idle 0 (omega arith)) in
         subst (λ (ts : List Tile). IsClosed s.slots.items ts k) (sym cur_is)
-        (closed_idle s.index s.slots.items kept.whole.indexed s.cur.items s.alt.items after s.todo.items marks marked s.rule kept.whole.cur_none kept.whole.alt_none worked
-        k later inside (idle_marks k idle) (kept.earlier_closed was_known k later inside));
+        (closed_idle s.index s.slots.items kept.whole.indexed s.cur.items b.alt.items after b.todo.items b.marks.items marked s.rule kept.whole.cur_none begun.alt_none worked
+        k later inside (idle_marks k idle) (begun.alt_closed k later inside));
     calm = λ _. refl;
     grown = λ calm. record {
       closed = λ k later inside.
           subst (λ (ts : List Tile). IsClosed s.slots.items ts k) (sym cur_is)
-          (closed_again s.index s.slots.items kept.whole.indexed s.cur.items s.alt.items after s.todo.items marks marked s.rule kept.whole.cur_none kept.whole.alt_none worked
-          (calm_marks calm) (kept.earlier_closed (known_calm calm)) k later inside);
+          (closed_again s.index s.slots.items kept.whole.indexed s.cur.items b.alt.items after b.todo.items b.marks.items marked s.rule kept.whole.cur_none begun.alt_none worked
+          (idle_marks 0 calm) begun.alt_closed k later inside);
     };
   }

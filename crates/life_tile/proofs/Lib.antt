@@ -18,6 +18,7 @@ pub mod Steps
 pub mod Kept
 pub mod Added
 pub mod Advanced
+pub mod Begun
 pub mod Put
 pub mod Copied
 pub mod Listed

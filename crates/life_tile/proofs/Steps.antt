@@ -3,7 +3,6 @@ use Rattle.std.proofs.Common.{◌≡◌, ℕ, ℤ, pos, ◌+ℤ◌, ◌-ℤ◌, 
 use Rattle.std.proofs.lemmas.Bool.{cases_eq}
 use Rattle.std.proofs.lemmas.Int.{ints}
 use Rattle.life_model.specs.Rule.{Rule}
-use Rattle.life_model.specs.Generation.{Generation}
 use Rattle.life_model.specs.Evolution.{next}
 use Rattle.life_bits.specs.declared.tile.Tile.{Tile}
 use Rattle.life_bits.specs.Area.{tile_cell}
@@ -18,7 +17,7 @@ use Rattle.life_tile.specs.Slabs.{state_at, IsIndexed, IsSlotOf, IsClosed, IsIdl
 use Rattle.life_tile.proofs.Bits.{bit_cases}
 use Rattle.life_tile.proofs.Shown.{shown_state, same_states}
 use Rattle.life_tile.proofs.Windows.{next_alike}
-use Rattle.life_tile.proofs.Places.{here_is, Direction, direction_of, slot_cases, slot_of_place, state_absent, state_of_slot, next_linked, quiet, dead_next}
+use Rattle.life_tile.proofs.Places.{here_is, Direction, direction_of, slot_cases, slot_of_place, state_absent, next_linked, quiet, dead_next}
 
 -- the rows next to a band, counted from the tile that they are in
 next_to : (m band y : ℕ) (row p Y : ℤ) → ((row +ℤ pos (m / 3)) -ℤ pos 1) ≡ p → Y ≡ (start_at row +ℤ pos y) →
@@ -120,15 +119,14 @@ module _ (index : Index) (slots : List Slot) (whole : IsIndexed index slots) (cu
       (slot_cases index slots whole (s.quotient, t.quotient))
       ∙ sym (λ i. state_at (generation_shown index alt) (s.is i) (t.is i))
 
-  -- so it will be again what it is now
-  pub settled_again : generation_shown index cur ≡ next rule (generation_shown index alt) →
-      (j x y : ℕ) → 0 < j → j < length slots → x < 64 → y < 64 → mark_of marked j (y / 8) ≡ 0 →
+  -- so it will be again what it is now, where this is what becomes of the generation before
+  pub settled_again : (j x y : ℕ) → 0 < j → j < length slots → x < 64 → y < 64 → mark_of marked j (y / 8) ≡ 0 →
+      tile_cell (tile_of cur j) x y ≡ state_at (next rule (generation_shown index alt)) (start_at (place_of slots j).0 +ℤ pos x) (start_at (place_of slots j).1 +ℤ pos y) →
       tile_cell (tile_of cur j) x y ≡ state_at (next rule (generation_shown index after)) (start_at (place_of slots j).0 +ℤ pos x) (start_at (place_of slots j).1 +ℤ pos y)
-  settled_again earlier j x y later inside wide high clear =
+  settled_again j x y later inside wide high clear earlier =
       let row : 8 * (y / 8) ≤ y = omega arith in
       let end : y < 8 * (y / 8) + 8 = omega arith in
-      sym (state_of_slot index slots whole cur cur_none j later inside x y wide high)
-      ∙ ap (λ (G : Generation). state_at G (start_at (place_of slots j).0 +ℤ pos x) (start_at (place_of slots j).1 +ℤ pos y)) earlier
+      earlier
       ∙ sym
       (next_alike rule (generation_shown index after) (generation_shown index alt) (start_at (place_of slots j).0 +ℤ pos x) (start_at (place_of slots j).1 +ℤ pos y)
       (λ a b a1 a2 b1 b2.

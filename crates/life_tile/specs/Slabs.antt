@@ -92,6 +92,22 @@ pub record IsKept (slab : Slab) : Type 0 where
   pub calm : IsCalm slab.todo.items → slab.fresh ≡ false
   pub grown : IsCalm slab.todo.items → IsGrown slab
 
+-- Of a slab that is ready for a step each band without something to do is already in `alt` what it will be, and each band without
+-- a mark is what it becomes of what `alt` shows.
+pub record IsBegun (before after : Slab) : Type 0 where
+  pub same : after ≡ record before { alt = after.alt; todo = after.todo; marks = after.marks }
+  pub alt_length : length after.alt.items ≡ length before.slots.items
+  pub todo_length : length after.todo.items ≡ length before.slots.items
+  pub marks_length : length after.marks.items ≡ length before.slots.items
+  pub alt_none : tile_of after.alt.items 0 ≡ empty_tile
+  pub alt_closed : (k : ℕ) → 0 < k → k < length before.slots.items → IsClosed before.slots.items after.alt.items k
+  pub settled : (k x y : ℕ) → 0 < k → k < length before.slots.items → x < 64 → y < 64 → mark_of after.todo.items k (y / 8) ≡ 0 →
+      tile_cell (tile_of after.alt.items k) x y
+      ≡ state_at (next before.rule (members_of before)) (start_at (place_of before.slots.items k).0 +ℤ pos x) (start_at (place_of before.slots.items k).1 +ℤ pos y)
+  pub again : (k x y : ℕ) → 0 < k → k < length before.slots.items → x < 64 → y < 64 → mark_of after.marks.items k (y / 8) ≡ 0 →
+      tile_cell (tile_of before.cur.items k) x y
+      ≡ state_at (next before.rule (generation_shown before.index after.alt.items)) (start_at (place_of before.slots.items k).0 +ℤ pos x) (start_at (place_of before.slots.items k).1 +ℤ pos y)
+
 -- the same slab, but for how it lies in memory
 pub record IsAlike (before after : Slab) : Type 0 where
   pub age : after.age ≡ before.age

@@ -1,7 +1,6 @@
 //! Marks for the bands of a tile.
 ghost use Rattle.std.specs.Prelude.{◌≡◌, ℕ, ◌<◌, ◌≤◌, max, true};
 ghost use Rattle.std.specs.Int.{bit_at};
-ghost use Rattle.life_bits.specs.Flags.{as_bit};
 
 /// Which of the eight bands of a tile are marked. Band `k` is rows `8 * k` to `8 * k + 7`, and its mark is bit `k`.
 #[derive(Clone, Copy)]
@@ -15,13 +14,6 @@ impl Bands {
 
     /// All eight bands.
     pub const ALL: Bands = Bands { bits: 255 };
-
-    /// All bands, or none.
-    pub fn all_or_none(all: bool) -> Bands
-        ensures { (band : ℕ) → band < 8 → bit_at result.bits band ≡ as_bit all }
-    {
-        if all { Bands::ALL } else { Bands::NONE }
-    }
 
     /// Whether no band is marked.
     pub fn is_empty(self) -> bool

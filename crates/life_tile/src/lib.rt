@@ -14,6 +14,7 @@ mod sameness;
 mod seats;
 mod slab;
 mod slot;
+mod starting;
 mod stepping;
 mod touched;
 

@@ -17,6 +17,7 @@ use crate::listing::{push_seats, tile_in};
 use crate::rim::Rim;
 use crate::seats::seats_by_rows;
 use crate::slot::{HERE, Slot, connect, links_around, neighbour, slot_or_none, with_link};
+use crate::starting::{clear_all, mark_near};
 use crate::stepping::{mark_all, next_tiles};
 use life_bits::Tile;
 use life_cells::Rule;
@@ -54,7 +55,7 @@ pub struct Slab {
 }
 
 impl Slab {
-    ghost use Rattle.life_tile.specs.Slabs.{HasRoom, HasTilesOf, IsAlike, IsCalm, IsCompact, IsAppended, IsClosed, IsExtended, IsGrown, IsIdle, IsKept, IsSameBut, IsSet, IsShowing, IsSlotOf, IsTileAt, cell_of, members_of};
+    ghost use Rattle.life_tile.specs.Slabs.{HasRoom, HasTilesOf, IsAlike, IsCalm, IsCompact, IsAppended, IsBegun, IsClosed, IsExtended, IsGrown, IsIdle, IsKept, IsSameBut, IsSet, IsShowing, IsSlotOf, IsTileAt, cell_of, members_of};
 
     /// The slab without a live cell.
     pub fn new(alloc: Global, age: u32) -> Result<Slab, AllocError>
@@ -265,6 +266,21 @@ impl Slab {
         }
     }
 
+    /// Makes ready for a step. In a fresh slab the generation before is taken as empty, so that a band has something to do only
+    /// where a live cell is in or next to it, and again in the step after, since that generation was not the one before.
+    fn begin(&mut self)
+        requires { IsKept self.old }
+        ensures { IsBegun self.old self.new }
+    {
+        if self.fresh {
+            clear_all(&mut self.alt);
+            mark_near(&mut self.marks, &self.slots, &self.cur);
+            self.todo.copy_from_slice(&self.marks);
+        } else {
+            mark_all(&mut self.marks, Bands::NONE);
+        }
+    }
+
     /// The next generation.
     pub fn advance(&mut self)
         requires kept { IsKept self.old }
@@ -274,7 +290,7 @@ impl Slab {
         ensures members { members_of self.new ≡ next self.old.rule (members_of self.old) }
         ensures age { self.new.age ≡ self.old.age + 1 }
     {
-        mark_all(&mut self.marks, Bands::all_or_none(self.fresh));
+        self.begin();
         next_tiles(
             &self.slots,
             &self.cur,
