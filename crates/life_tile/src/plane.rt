@@ -56,19 +56,19 @@ impl TilePlane {
         self.slab.slots.len()
     }
 
-    /// Makes the slab anew where it has many slots, most of them without a live cell, and says whether it did.
-    fn compact(&mut self) -> Result<bool, AllocError>
+    /// Makes the slab anew where it has many slots, most of them without a live cell.
+    fn compact(&mut self) -> Result<(), AllocError>
         ensures { self.new ≡ self.old }
     {
         if self.slab.slots.len() <= self.limit {
-            return Ok(false);
+            return Ok(());
         }
-        if !is_sparse(&self.slab) {
+        if is_sparse(&self.slab) {
+            self.slab = self.slab.compacted()?;
+        } else {
             self.limit = limit_of(&self.slab);
-            return Ok(false);
         }
-        self.slab = self.slab.compacted()?;
-        Ok(true)
+        Ok(())
     }
 }
 
@@ -90,11 +90,12 @@ impl Plane for TilePlane {
     }
 
     fn step(&mut self, rule: &Rule) -> Result<(), AllocError> {
-        let is_new = self.compact()?;
+        self.compact()?;
+        let is_new = self.slab.fresh;
         self.slab.follow(rule);
         self.slab.grow()?;
         if is_new {
-            // (a slab that was just made anew has no slot yet for the tiles around the live ones)
+            // (a slab that was just made had no slots yet for the tiles around the live ones)
             self.limit = limit_of(&self.slab);
         }
         self.slab.advance();

@@ -1,5 +1,5 @@
 //! The next generation of the bands that may change.
-ghost use Rattle.std.specs.Prelude.{◌≡◌, ℕ, ◌+◌, ◌*◌, ◌%◌, ◌/◌, ◌<◌, ◌≤◌, length, slice_index};
+ghost use Rattle.std.specs.Prelude.{◌≡◌, ℕ, ◌+◌, ◌*◌, ◌%◌, ◌/◌, ◌<◌, ◌≤◌, false, length, slice_index};
 ghost use Rattle.std.specs.Int.{bit_at};
 ghost use Rattle.life_model.specs.Rule.{Rule};
 ghost use Rattle.life_bits.specs.Logics.{IsLogicOf};
@@ -51,6 +51,21 @@ fn work_out(tile: &mut Tile, cur: &[Tile], links: &[u32; 9], todo: Bands, logic:
     touched
 }
 
+/// So many slots are passed over at once where none of them has something to do.
+const STRIDE: usize = 32;
+
+/// Whether one of so many slots has something to do.
+fn is_busy(todo: &[Bands], from: usize) -> bool
+    requires { from + STRIDE ≤ length todo.now }
+    ensures { result ≡ false → (k band : ℕ) → from ≤ k → k < from + STRIDE → mark_of todo.now k band ≡ 0 }
+{
+    let mut all = Bands::NONE;
+    for slot in 0..STRIDE {
+        all = all.union(todo[from + slot]);
+    }
+    !all.is_empty()
+}
+
 /// The first slot from a slot on that has something to do, or one past the last where there is none.
 ///
 /// It stands apart in the program too: within `next_tiles` compilers would count slots in memory.
@@ -60,6 +75,9 @@ fn first_busy(todo: &[Bands], from: usize) -> usize
     ensures idle { (k band : ℕ) → from ≤ k → k < result → mark_of todo.now k band ≡ 0 }
 {
     let mut slot = from;
+    while todo.len() >= STRIDE && slot <= todo.len() - STRIDE && !is_busy(todo, slot) {
+        slot += STRIDE;
+    }
     while slot < todo.len() && todo[slot].is_empty() {
         slot += 1;
     }
