@@ -56,6 +56,37 @@ in_own x y high = record {
   to = omega arith;
 }
 
+module _ (index : Index) (slots : List Slot) (whole : IsIndexed index slots) (alt after : List Tile) (marked : List Bands) (alt_none : tile_of alt 0 ≡ empty_tile) (after_none : tile_of after 0 ≡ empty_tile)
+    (around : (k m band x y : ℕ) → 0 < k → k < length slots → m < 9 → band < 8 → x < 64 → y < 64 → IsNextToBand m band x y → mark_of marked (link_of slots k m) band ≡ 0 →
+    tile_cell (tile_of after k) x y ≡ tile_cell (tile_of alt k) x y) where
+  -- in and next to a band that is not marked nothing changed
+  pub unchanged : (j band : ℕ) → 0 < j → j < length slots → band < 8 → mark_of marked j band ≡ 0 → (X Y : ℤ) → IsBeside X (place_of slots j).0 →
+      ((start_at (place_of slots j).1 +ℤ pos (8 * band)) -ℤ pos 1) ≤ℤ Y → Y ≤ℤ (start_at (place_of slots j).1 +ℤ pos (8 * band + 8)) →
+      state_at (generation_shown index after) X Y ≡ state_at (generation_shown index alt) X Y
+  unchanged j band later inside b_small clear X Y beside_x low high =
+      let beside_y : IsBeside Y (place_of slots j).1 = record { from = omega (arith, ints); to = omega (arith, ints) } in
+      let s : Split X = split X in
+      let t : Split Y = split Y in
+      (λ i. state_at (generation_shown index after) (s.is i) (t.is i))
+      ∙ ⊎_elim
+      (λ absent.
+      state_absent index slots whole after after_none (s.quotient, t.quotient) s.remainder t.remainder s.small t.small absent
+      ∙ sym (state_absent index slots whole alt alt_none (s.quotient, t.quotient) s.remainder t.remainder s.small t.small absent))
+      (λ (there : IsSlotOf slots (s.quotient, t.quotient) (slot_at index (s.quotient, t.quotient))).
+      let k : ℕ = slot_at index (s.quotient, t.quotient) in
+      let d : Direction (s.quotient, t.quotient) (place_of slots j) s.remainder t.remainder =
+      direction_of (s.quotient, t.quotient) (place_of slots j) s.remainder t.remainder s.small t.small
+      (subst (λ (z : ℤ). IsBeside z (place_of slots j).0) s.is beside_x) (subst (λ (z : ℤ). IsBeside z (place_of slots j).1) t.is beside_y) in
+      let link : link_of slots k d.m ≡ j =
+      whole.linked k d.m there.later there.inside d.small ∙ ap (λ (z : ℤ × ℤ). slot_at index (neighbour_at z d.m)) there.place ∙ ap (slot_at index) d.is ∙ slot_of_place index slots whole j later inside in
+      let rows = next_to d.m band t.remainder t.quotient (place_of slots j).1 Y (ap (λ (z : ℤ × ℤ). z.1) d.is) t.is low high in
+      shown_state index after whole.ordered after_none s.quotient t.quotient s.remainder t.remainder s.small t.small
+      ∙ around k d.m band s.remainder t.remainder there.later there.inside d.small b_small s.small t.small
+      (record { column = d.edge.column; from = rows.0; to = rows.1 }) (ap (λ i. mark_of marked i band) link ∙ clear)
+      ∙ sym (shown_state index alt whole.ordered alt_none s.quotient t.quotient s.remainder t.remainder s.small t.small))
+      (slot_cases index slots whole (s.quotient, t.quotient))
+      ∙ sym (λ i. state_at (generation_shown index alt) (s.is i) (t.is i))
+
 module _ (index : Index) (slots : List Slot) (whole : IsIndexed index slots) (cur alt after : List Tile) (todo marks marked : List Bands) (rule : Rule)
     (cur_none : tile_of cur 0 ≡ empty_tile) (alt_none : tile_of alt 0 ≡ empty_tile)
     (worked : IsWorkedOut slots cur todo rule alt after marks marked (length slots)) where
@@ -91,34 +122,6 @@ module _ (index : Index) (slots : List Slot) (whole : IsIndexed index slots) (cu
       ∙ ap (λ (p : ℤ × ℤ). state_at (next rule (generation_shown index cur)) (start_at p.0 +ℤ pos x) (start_at p.1 +ℤ pos y)) there.place)
       (slot_cases index slots whole (column, row)))
 
-  -- in and next to a band that is not marked nothing changed
-  unchanged : (j band : ℕ) → 0 < j → j < length slots → band < 8 → mark_of marked j band ≡ 0 → (X Y : ℤ) → IsBeside X (place_of slots j).0 →
-      ((start_at (place_of slots j).1 +ℤ pos (8 * band)) -ℤ pos 1) ≤ℤ Y → Y ≤ℤ (start_at (place_of slots j).1 +ℤ pos (8 * band + 8)) →
-      state_at (generation_shown index after) X Y ≡ state_at (generation_shown index alt) X Y
-  unchanged j band later inside b_small clear X Y beside_x low high =
-      let beside_y : IsBeside Y (place_of slots j).1 = record { from = omega (arith, ints); to = omega (arith, ints) } in
-      let s : Split X = split X in
-      let t : Split Y = split Y in
-      (λ i. state_at (generation_shown index after) (s.is i) (t.is i))
-      ∙ ⊎_elim
-      (λ absent.
-      state_absent index slots whole after after_none (s.quotient, t.quotient) s.remainder t.remainder s.small t.small absent
-      ∙ sym (state_absent index slots whole alt alt_none (s.quotient, t.quotient) s.remainder t.remainder s.small t.small absent))
-      (λ (there : IsSlotOf slots (s.quotient, t.quotient) (slot_at index (s.quotient, t.quotient))).
-      let k : ℕ = slot_at index (s.quotient, t.quotient) in
-      let d : Direction (s.quotient, t.quotient) (place_of slots j) s.remainder t.remainder =
-      direction_of (s.quotient, t.quotient) (place_of slots j) s.remainder t.remainder s.small t.small
-      (subst (λ (z : ℤ). IsBeside z (place_of slots j).0) s.is beside_x) (subst (λ (z : ℤ). IsBeside z (place_of slots j).1) t.is beside_y) in
-      let link : link_of slots k d.m ≡ j =
-      whole.linked k d.m there.later there.inside d.small ∙ ap (λ (z : ℤ × ℤ). slot_at index (neighbour_at z d.m)) there.place ∙ ap (slot_at index) d.is ∙ slot_of_place index slots whole j later inside in
-      let rows = next_to d.m band t.remainder t.quotient (place_of slots j).1 Y (ap (λ (z : ℤ × ℤ). z.1) d.is) t.is low high in
-      shown_state index after whole.ordered after_none s.quotient t.quotient s.remainder t.remainder s.small t.small
-      ∙ worked.around k d.m band s.remainder t.remainder there.later there.inside d.small b_small s.small t.small
-      (record { column = d.edge.column; from = rows.0; to = rows.1 }) (ap (λ i. mark_of marked i band) link ∙ clear)
-      ∙ sym (shown_state index alt whole.ordered alt_none s.quotient t.quotient s.remainder t.remainder s.small t.small))
-      (slot_cases index slots whole (s.quotient, t.quotient))
-      ∙ sym (λ i. state_at (generation_shown index alt) (s.is i) (t.is i))
-
   -- so it will be again what it is now, where this is what becomes of the generation before
   pub settled_again : (j x y : ℕ) → 0 < j → j < length slots → x < 64 → y < 64 → mark_of marked j (y / 8) ≡ 0 →
       tile_cell (tile_of cur j) x y ≡ state_at (next rule (generation_shown index alt)) (start_at (place_of slots j).0 +ℤ pos x) (start_at (place_of slots j).1 +ℤ pos y) →
@@ -130,7 +133,7 @@ module _ (index : Index) (slots : List Slot) (whole : IsIndexed index slots) (cu
       ∙ sym
       (next_alike rule (generation_shown index after) (generation_shown index alt) (start_at (place_of slots j).0 +ℤ pos x) (start_at (place_of slots j).1 +ℤ pos y)
       (λ a b a1 a2 b1 b2.
-      unchanged j (y / 8) later inside (omega arith) clear a b
+      unchanged index slots whole alt after marked alt_none after_none worked.around j (y / 8) later inside (omega arith) clear a b
       (record { from = omega (arith, ints); to = omega (arith, ints) }) (omega (arith, ints)) (omega (arith, ints))))
 
   -- and where no band is marked that places without a slot stand for, no live cell is next to one

@@ -1,5 +1,5 @@
 -- What one step makes of the tiles of slots.
-use Rattle.std.specs.Prelude.{◌≡◌, ◌≢◌, ℕ, ◌+◌, ◌*◌, ◌%◌, ◌/◌, ◌<◌, ◌≤◌, List, length, slice_index, slice_index_or}
+use Rattle.std.specs.Prelude.{◌≡◌, ℕ, ◌+◌, ◌*◌, ◌%◌, ◌/◌, ◌<◌, ◌≤◌, List, length, slice_index, slice_index_or}
 use Rattle.std.specs.Int.{bit_at}
 use Rattle.life_model.specs.Rule.{Rule}
 use Rattle.life_bits.specs.declared.tile.Tile.{Tile}
@@ -18,14 +18,10 @@ bands_of marks k = slice_index_or marks k (record { bits = 0 })
 abbrev pub mark_of : List Bands → ℕ → ℕ → ℕ
 mark_of marks k band = bit_at (bands_of marks k).bits band
 
--- a tile has no live cell in or next to one of its bands
-pub record IsBare (tile : Tile) (band : ℕ) : Type 0 where
-  pub rows : (y : ℕ) → y < 64 → 8 * band ≤ y + 1 → y ≤ 8 * band + 8 → slice_index tile.rows y ≡ 0
-
--- the same of the tile of a slot, which has no slot around it
-pub record IsBareIn (slots : List Slot) (tiles : List Tile) (k band : ℕ) : Type 0 where
-  pub alone : (m : ℕ) → m < 9 → m ≢ 4 → link_of slots k m ≡ 0
-  pub here : IsBare (tile_of tiles k) band
+-- each band is marked that a live cell of the tile of a slot from 1 to n is in or next to
+pub record IsMarkedNear (slots : List Slot) (tiles : List Tile) (marks : List Bands) (n : ℕ) : Type 0 where
+  pub near : (k m band x y : ℕ) → 0 < k → k < n → m < 9 → band < 8 → x < 64 → y < 64 → IsNextToBand m band x y → mark_of marks (link_of slots k m) band ≡ 0 →
+      tile_cell (tile_of tiles k) x y ≡ 0
 
 -- each link of each slot but the first is a slot
 pub record IsLinked (slots : List Slot) : Type 0 where

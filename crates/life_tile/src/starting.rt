@@ -1,13 +1,16 @@
 //! The bands that have something to do in a first step.
-ghost use Rattle.std.specs.Prelude.{◌≡◌, ◌≢◌, ℕ, ◌<◌, true, false, length, slice_index};
-ghost use Rattle.std.specs.Int.{bit_at};
+ghost use Rattle.std.specs.Prelude.{◌≡◌, ℕ, ◌<◌, ◌≤◌, length};
+ghost use Rattle.life_bits.specs.Area.{tile_cell};
+ghost use Rattle.life_bits.specs.Changes.{IsChange};
+ghost use Rattle.life_tile.specs.Rims.{IsNextToBand};
 ghost use Rattle.life_tile.specs.Slots.{tile_of, empty_tile};
-ghost use Rattle.life_tile.specs.Work.{mark_of, IsBare, IsBareIn};
+ghost use Rattle.life_tile.specs.Work.{touch_of, IsLinked, IsMarkedNear};
 
 use crate::bands::Bands;
-use crate::slot::{HERE, Slot};
-use crate::touched::{bands_in, with_bits};
-use life_bits::{Tile, has_cells};
+use crate::slot::Slot;
+use crate::stepping::mark_all;
+use crate::touched::Touched;
+use life_bits::{Change, Tile, has_cells};
 
 /// Makes each tile empty.
 pub fn clear_all(tiles: &mut [Tile])
@@ -19,53 +22,46 @@ pub fn clear_all(tiles: &mut [Tile])
     }
 }
 
-/// Whether a tile has a live cell in or next to one of its bands.
-fn is_near(tile: &Tile, band: usize) -> bool
-    requires { band < 8 }
-    ensures { result ≡ false → IsBare tile.now band }
+/// What eight rows of a tile, from `top` on, differ in from those of the empty tile.
+fn birth(tile: &Tile, top: usize) -> Change
+    requires { top ≤ 56 }
+    ensures { IsChange result empty_tile tile.now top }
 {
-    has_cells(tile, 8 * band)
-        || (band > 0 && tile.rows[8 * band - 1] != 0)
-        || (band < 7 && tile.rows[8 * band + 8] != 0)
+    let mut all = 0;
+    for y in 0..8 {
+        all |= tile.rows[top + y];
+    }
+    Change {
+        all,
+        first: tile.rows[top],
+        last: tile.rows[top + 7],
+    }
 }
 
-/// The bands of a tile that it has a live cell in or next to.
-fn bands_near(tile: &Tile) -> Bands
-    ensures { (band : ℕ) → band < 8 → bit_at result.bits band ≡ 0 → IsBare tile.now band }
+/// Of nine tiles the bands that a live cell of the tile in the middle is in or next to.
+fn bands_near(tile: &Tile) -> Touched
+    ensures { (m band x y : ℕ) → m < 9 → band < 8 → x < 64 → y < 64 → IsNextToBand m band x y → touch_of result.columns m band ≡ 0 →
+        tile_cell tile.now x y ≡ 0 }
 {
-    let mut bits = 0;
-    for band in 0..8 {
-        if is_near(tile, band) {
-            bits = with_bits(bits, band, 1);
+    let mut touched = Touched::NONE;
+    for index in 0..8 {
+        if has_cells(tile, 8 * index) {
+            touched = touched.with_band(index, &birth(tile, 8 * index));
         }
     }
-    bands_in(bits, 0)
+    touched
 }
 
-/// Whether there is no slot around a slot with these links.
-fn is_alone(links: &[u32; 9]) -> bool
-    ensures { result ≡ true → (m : ℕ) → m < 9 → m ≢ 4 → slice_index links.now m ≡ 0 }
-{
-    for direction in 0..9 {
-        if direction != HERE && links[direction] != 0 {
-            return false;
-        }
-    }
-    true
-}
-
-/// Marks of each slot the bands that a live cell is in or next to, and all where there are slots around it.
+/// Marks the bands that a live cell is in or next to, and no others.
 pub fn mark_near(marks: &mut [Bands], slots: &[Slot], tiles: &[Tile])
+    requires linked { IsLinked slots.now }
     requires tiles { length tiles.now ≡ length slots.now }
     requires marks { length marks.old ≡ length slots.now }
     ensures length { length marks.new ≡ length marks.old }
-    ensures bare { (k band : ℕ) → k < length slots.now → band < 8 → mark_of marks.new k band ≡ 0 → IsBareIn slots.now tiles.now k band }
+    ensures near { IsMarkedNear slots.now tiles.now marks.new (length slots.now) }
 {
-    for slot in 0..slots.len() {
-        marks[slot] = if is_alone(&slots[slot].links) {
-            bands_near(&tiles[slot])
-        } else {
-            Bands::ALL
-        };
+    mark_all(marks, Bands::NONE);
+    for slot in 1..slots.len() {
+        bands_near(&tiles[slot]).mark(marks, &slots[slot].links);
     }
 }

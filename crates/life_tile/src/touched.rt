@@ -35,7 +35,7 @@ fn rows_beside(change: &Change, side: usize) -> u32
 
 /// A word with three bits more, which stand from bit `at` on.
 #[inline(always)]
-pub fn with_bits(word: u32, at: usize, bits: u32) -> u32
+fn with_bits(word: u32, at: usize, bits: u32) -> u32
     requires { at < 24 }
     ensures kept { (k : ℕ) → bit_at word k ≡ 1 → bit_at result k ≡ 1 }
     ensures set { (k : ℕ) → k < 3 → bit_at result (at + k) ≡ 0 → bit_at bits k ≡ 0 }
@@ -56,7 +56,7 @@ fn with_change(column: u32, side: usize, index: usize, change: &Change) -> u32
 }
 
 /// The bands of the tile in a row of three tiles of a column.
-pub fn bands_in(column: u32, row: usize) -> Bands
+fn bands_in(column: u32, row: usize) -> Bands
     requires { row < 3 }
     ensures { (k : ℕ) → k < 8 → bit_at result.bits k ≡ bit_at column (8 * row + k) }
 {

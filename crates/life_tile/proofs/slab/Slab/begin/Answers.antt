@@ -4,7 +4,7 @@ use Rattle.life_bits.specs.declared.tile.Tile.{Tile}
 use Rattle.life_tile.specs.declared.bands.Bands.{Bands}
 use Rattle.life_tile.specs.declared.slot.Slot.{Slot}
 use Rattle.life_tile.specs.Slots.{tile_of}
-use Rattle.life_tile.specs.Work.{mark_of, IsBareIn}
+use Rattle.life_tile.specs.Work.{IsMarkedNear}
 use Rattle.life_tile.proofs.Begun.{begun_fresh, begun_going}
 use Rattle.life_tile.proofs.Kept.{written_back}
 use Rattle.life_tile.proofs.slab.Slab.begin.Goals as goal
@@ -24,10 +24,9 @@ returns-then-self c =
     (ap (λ (ts : List Tile). length ts) cleared ∙ c.clear_all.ensures.length ∙ alts)
     (c.copy_from_slice.ensures.items ∙ c.deref-then-self-2.ensures.value)
     (λ k inside. ap (λ (ts : List Tile). tile_of ts k) cleared ∙ c.clear_all.ensures.empty k (omega arith))
-    (λ k band inside small clear.
-    subst (λ (ss : List Slot). IsBareIn ss c.args.self.now.cur.items k band) c.deref.ensures.value
-    (subst (λ (ts : List Tile). IsBareIn c.deref.result.now ts k band) c.deref-then-self.ensures.value
-    (c.mark_near.ensures.bare k band (omega arith) small (sym (ap (λ (bs : List Bands). mark_of bs k band) marked) ∙ clear))))
+    (subst (λ (bs : List Bands). IsMarkedNear c.args.self.now.slots.items c.args.self.now.cur.items bs (length c.args.self.now.slots.items)) (sym marked)
+    (subst (λ (ss : List Slot). IsMarkedNear ss c.args.self.now.cur.items c.mark_near.new.marks (length ss)) c.deref.ensures.value
+    (subst (λ (ts : List Tile). IsMarkedNear c.deref.result.now ts c.mark_near.new.marks (length c.deref.result.now)) c.deref-then-self.ensures.value c.mark_near.ensures.near)))
 
 pub returns-else-self : goal.returns-else-self
 returns-else-self c =
