@@ -32,6 +32,11 @@ const FEW: usize = 32;
 const FIRST_TILES: usize = 2;
 
 /// Tiles in slots. Slot 0 has the empty tile and no place.
+///
+/// A slot takes 1,070 bytes: 1,024 for its tile in two generations, 44 for its place and its links, and 2 for its marks; and its
+/// entry in the index takes 12 bytes, with the room that nodes of the index keep about twice that. The vectors grow by doubling,
+/// so that room for up to twice as many slots is reserved. A live cell in the corner of its tile needs four slots, of which three
+/// have empty tiles.
 #[derive(Drop)]
 pub struct Slab {
     /// From the place of each tile to its slot.
