@@ -22,3 +22,11 @@ agree_by_shape G H a b e one other =
     let populations = (Decides-eqb a.population b.population).1 (one.population ∙ size_by_shape G H e ∙ sym other.population) in
     let spans = one_span a.span b.span (set_span G) one.span (subst (λ c. IfSome b.span (λ x. x ≡ c)) (sym (set_span_by_shape G H e)) other.span) in
     λ i. populations i && spans i
+
+two_spans : (s t : Option Cell) (c d : Cell) → c ≡ d → IfSome s (λ x. x ≡ c) → IfSome t (λ x. x ≡ d) → IfSome s (λ x. IfSome t (λ y. x ≡ y))
+two_spans None t c d e h k = tt
+two_spans (Some a) None c d e h k = tt
+two_spans (Some a) (Some b) c d e h k = h ∙ e ∙ sym k
+
+pub spans_by_shape : (G H : Generation) (a b : Outline) → normal G ≡ normal H → IsOutline G a → IsOutline H b → IfSome a.span (λ s. IfSome b.span (λ t. s ≡ t))
+spans_by_shape G H a b e one other = two_spans a.span b.span (set_span G) (set_span H) (set_span_by_shape G H e) one.span other.span
