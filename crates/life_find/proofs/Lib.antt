@@ -1,6 +1,7 @@
 pub mod Ways
 pub mod Apart
 pub mod Outlines
+pub mod Quiet
 pub mod Possible
 pub mod Found
 pub mod FirstLarger

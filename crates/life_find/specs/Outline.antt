@@ -1,5 +1,5 @@
 -- What is noted of a generation, by which most generations are told apart without their cells.
-use Rattle.std.specs.Prelude.{◌≡◌, ◌&&◌, Bool, true, Option, Some, None, IfSome, eqb}
+use Rattle.std.specs.Prelude.{◌≡◌, ◌&&◌, ℕ, Bool, true, Option, Some, None, IfSome, eqb}
 use Rattle.std.specs.Ordering.{int_eq}
 use Rattle.life_model.specs.Cell.{Cell}
 use Rattle.life_model.specs.Generation.{Generation, size}
@@ -8,7 +8,7 @@ use Rattle.life_find.specs.declared.outline.Outline.{Outline}
 
 -- what the outline says is so
 pub record IsOutline (G : Generation) (o : Outline) : Type 0 where
-  pub population : o.population ≡ size G
+  pub population : IfSome o.population (λ n. n ≡ size G)
   pub span : IfSome o.span (λ s. s ≡ set_span G)
 
 -- whether two spans, where both are known, are equal
@@ -17,10 +17,16 @@ spans_agree None other = true
 spans_agree (Some a) None = true
 spans_agree (Some a) (Some b) = int_eq a.0 b.0 && int_eq a.1 b.1
 
+-- whether two populations, where both are known, are equal
+abbrev pub counts_agree : Option ℕ → Option ℕ → Bool
+counts_agree None other = true
+counts_agree (Some a) None = true
+counts_agree (Some a) (Some b) = eqb a b
+
 -- whether two outlines may be those of one shape
 abbrev pub agree : Outline → Outline → Bool
-agree a b = eqb a.population b.population && spans_agree a.span b.span
+agree a b = counts_agree a.population b.population && spans_agree a.span b.span
 
--- that of no cell
+-- that of a generation that wasn't looked at
 abbrev pub no_outline : Outline
-no_outline = record { population = 0; span = None }
+no_outline = record { population = None; span = None }

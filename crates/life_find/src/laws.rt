@@ -7,7 +7,7 @@ ghost use Rattle.life_find.specs.declared.outline.Outline.{Outline};
 ghost use Rattle.life_find.specs.Outline.{IsOutline, agree};
 
 /// Sets that are equal up to a move have outlines that agree, so a set and its image under a move have. Generations whose
-/// outlines disagree are thus told apart without their cells. And where both have a span, the outlines are equal.
+/// outlines disagree are thus told apart without their cells. And where both have a span, it is the same one.
 pub fn outlines_follow_moves()
     ensures shape { (G H : Generation) (a b : Outline) → normal G ≡ normal H → IsOutline G a → IsOutline H b → agree a b ≡ true }
     ensures moved { (G : Generation) (d : Cell) (a b : Outline) → IsOutline G a → IsOutline (moved G d) b → agree a b ≡ true }

@@ -8,6 +8,8 @@ mod finding;
 mod larger;
 mod laws;
 mod limit;
+mod lookout;
+mod missing;
 mod outline;
 mod recurrence;
 mod rounds;

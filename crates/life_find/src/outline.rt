@@ -1,17 +1,38 @@
 //! What is noted of a generation, by which most generations are told apart without their cells.
 ghost use Rattle.std.specs.Prelude.{◌≡◌, IfOk};
 ghost use Rattle.life_model.specs.Generation as generations;
-ghost use Rattle.life_find.specs.Outline.{IsOutline, agree, spans_agree};
+ghost use Rattle.life_find.specs.Outline.{IsOutline, agree, counts_agree, spans_agree};
 
 use life_cells::CellList;
 use life_plane::{Plane, span_of};
 use std::alloc::AllocError;
 
-/// How many cells a generation has, and how far the last of them is from the first where that was looked at.
+/// How many cells a generation has, and how far the last of them is from the first, each where it was looked at.
 #[derive(Clone, Copy)]
 pub struct Outline {
-    pub population: u64,
+    pub population: Option<u64>,
     pub span: Option<(i32, i32)>,
+}
+
+impl Outline {
+    /// That of a generation that wasn't looked at.
+    pub const UNKNOWN: Outline = Outline {
+        population: None,
+        span: None,
+    };
+}
+
+/// Whether two populations may be those of one shape: they are equal where both are known.
+fn counts_agree(one: Option<u64>, other: Option<u64>) -> bool
+    ensures { result ≡ counts_agree one other }
+{
+    match one {
+        None => true,
+        Some(one) => match other {
+            None => true,
+            Some(other) => one == other,
+        },
+    }
 }
 
 /// Whether two spans may be those of one shape: they are equal where both are known.
@@ -31,7 +52,7 @@ fn spans_agree(one: Option<(i32, i32)>, other: Option<(i32, i32)>) -> bool
 pub fn agree(one: Outline, other: Outline) -> bool
     ensures { result ≡ agree one other }
 {
-    one.population == other.population && spans_agree(one.span, other.span)
+    counts_agree(one.population, other.population) && spans_agree(one.span, other.span)
 }
 
 /// The outline of a list of cells.
@@ -39,7 +60,7 @@ pub fn outline_of(list: &CellList) -> Outline
     ensures { IsOutline list.now result }
 {
     Outline {
-        population: list.len() as u64,
+        population: Some(list.len() as u64),
         span: Some(span_of(list.as_slice())),
     }
 }
@@ -55,13 +76,13 @@ pub fn outline_on<P: Plane>(
 {
     if !spanned {
         return Ok(Outline {
-            population,
+            population: Some(population),
             span: None,
         });
     }
     let span = plane.span()?;
     Ok(Outline {
-        population,
+        population: Some(population),
         span: Some(span),
     })
 }

@@ -7,9 +7,9 @@ ghost use Rattle.life_find.specs.Search.{AreOutlines, IsReturn};
 
 use crate::candidates::{candidates, strike_periods};
 use crate::limit::BOUND_LIMIT;
-use crate::outline::{Outline, outline_of, outline_on};
+use crate::lookout::Lookout;
+use crate::outline::{Outline, outline_of};
 use crate::recurrence::Recurrence;
-use crate::way::way_to;
 use life_cells::{CellList, Rule};
 use life_plane::{AGE_LIMIT, Plane};
 use std::alloc::{AllocError, Global};
@@ -30,6 +30,7 @@ fn watch<P: Plane>(
     outlines: &mut Vec<Outline>,
 ) -> Result<Option<(u32, (i32, i32))>, AllocError>
     requires listed { listed.now ≡ P.members runner.old }
+    requires steps { steps ≤ BOUND_LIMIT }
     requires young { P.steps_made runner.old + steps ≤ AGE_LIMIT }
     ensures found { IfOk result (λ answer. IfSome answer (λ r. IsReturn rule.now (P.members runner.old) r.0 r.1)) }
     ensures within { IfOk result (λ answer. IfSome answer (λ r. r.0 ≤ steps)) }
@@ -43,13 +44,13 @@ fn watch<P: Plane>(
         AreOutlines rule.now first outlines.new.items) }
 {
     let marked = outline_of(listed);
+    let mut lookout = Lookout::new();
     for taken in 0..steps {
         runner.step(rule)?;
-        let population = runner.population();
-        let spanned = population == marked.population || taken % SPAN_STEP == SPAN_STEP - 1;
-        let outline = outline_on(runner, population, spanned)?;
-        outlines.push(outline)?;
-        if let Some(displacement) = way_to(listed, marked, runner, outline)? {
+        let spanned = taken % SPAN_STEP == SPAN_STEP - 1;
+        let sight = lookout.look(listed, marked, runner, taken, spanned)?;
+        outlines.push(sight.outline)?;
+        if let Some(displacement) = sight.way {
             return Ok(Some((taken + 1, displacement)));
         }
     }
@@ -131,14 +132,15 @@ pub fn seen_again<P: Plane>(
     let marked = outline_of(&anchor);
     let candidates = candidates(alloc, outlines, bound)?;
     let mut periods = candidates.as_slice();
+    let mut lookout = Lookout::new();
     for lead in 0..bound {
         if periods.is_empty() {
             return Ok(None);
         }
         runner.step(rule)?;
-        let outline = outline_on(runner, runner.population(), true)?;
-        outlines.push(outline)?;
-        if let Some(displacement) = way_to(&anchor, marked, runner, outline)? {
+        let sight = lookout.look(&anchor, marked, runner, lead, true)?;
+        outlines.push(sight.outline)?;
+        if let Some(displacement) = sight.way {
             return Ok(Some(Recurrence {
                 onset: bound,
                 period: lead + 1,

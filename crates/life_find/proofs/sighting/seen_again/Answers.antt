@@ -5,9 +5,11 @@ use Rattle.life_model.specs.Evolution.{next, generation}
 use Rattle.life_model.specs.Symmetry.{normal}
 use Rattle.life_model.proofs.Recurrences.{generation-next, generation-add}
 use Rattle.life_find.specs.Outline.{IsOutline}
+use Rattle.life_find.specs.Quiet.{IsQuiet}
 use Rattle.life_plane.specs.Ways.{IsWay}
 use Rattle.life_find.specs.Search.{AreOutlines, ends_alike, from_first}
 use Rattle.life_find.proofs.Apart.{IsApart, IsApart-start, IsApart-next, IsReturn-found}
+use Rattle.life_find.proofs.Quiet.{quiet_none}
 use Rattle.life_find.proofs.Possible.{length-more, AreOutlines-more, AreLeft-start, AreLeft-next, nowhere_left, nowhere_past}
 use Rattle.life_find.proofs.sighting.seen_again.Goals as goal
 
@@ -27,6 +29,7 @@ loop-lead-init g c =
       counted = count ∙ ap (λ n. n + 1) here;
       outlines = c.in_ok-seen.ensures.outlines;
       apart = IsApart-start R (generation R G b);
+      quiet = quiet_none R _ _ _ c.new-lookout.ensures;
       left = AreLeft-start R G b list _ c.in_ok-seen.ensures.outlines count
           (c.as_slice-periods.ensures.value ∙ c.in_ok-candidates.ensures ∙ ap (λ l. filter (ends_alike l) (range_with_len 1 b)) c.deref.ensures.value);
     }
@@ -36,38 +39,48 @@ returns-then-is_empty-clause-none g c =
     let none : length c.loop-lead.periods.now ≡ 0 = omega (arith, eqb-true _ 0 (sym c.is_empty.ensures ∙ c.if-is_empty.true)) in
     nowhere_left c.args.rule.now c.args.cells.now c.args.bound c.loop-lead.periods.now none c.loop-lead.invariant.left
 
-pub returns-in-Some-2-clause-found : goal.returns-in-Some-2-clause-found
-returns-in-Some-2-clause-found g c =
+pub look-requires-clause-quiet : goal.look-requires-clause-quiet
+look-requires-clause-quiet g c =
+    let R = c.args.rule.now in
+    let H = generation R c.args.cells.now c.args.bound in
+    let here : c.in_ok-anchor.anchor ≡ H = c.in_ok-anchor.ensures.cells ∙ rw c.in_default.is at c.in_ok-seen.ensures.there in (
+      R,
+      subst (λ A. IsQuiet R A (g.P.Plane.members c.step.new.self) c.loop-lead.lookout.quiet) (sym here)
+          (subst (λ F. IsQuiet R H F c.loop-lead.lookout.quiet) (sym c.in_ok-step.ensures.cells) c.loop-lead.invariant.quiet),
+    )
+
+pub returns-in-Some-way-clause-found : goal.returns-in-Some-way-clause-found
+returns-in-Some-way-clause-found g c =
     let R = c.args.rule.now in
     let G = c.args.cells.now in
     let b = c.args.bound in
     let n = c.loop-lead.lead in
     let H = generation R G b in
-    let d = c.in-Some-2.displacement in
+    let d = c.in-Some-way.displacement in
     let at = c.loop-lead.invariant in
     let here : c.in_ok-anchor.anchor ≡ H = c.in_ok-anchor.ensures.cells ∙ rw c.in_default.is at c.in_ok-seen.ensures.there in
     let there : g.P.Plane.members c.step.new.self ≡ generation R H (n + 1) =
     c.in_ok-step.ensures.cells ∙ ap (next R) (at.there ∙ sym (generation-add R G b n)) ∙ sym (generation-next R H n) in
-    let way = rw c.in-Some-2.is at c.in_ok-displacement.ensures.way in
+    let way = rw c.in-Some-way.is at c.in_ok-sight.ensures.way in
     IsReturn-found R H n at.apart d (subst (λ F. IsWay H F d) there (subst (λ F. IsWay F (g.P.Plane.members c.step.new.self) d) here way))
 
-pub returns-in-Some-2-clause-seen : goal.returns-in-Some-2-clause-seen
-returns-in-Some-2-clause-seen g c =
+pub returns-in-Some-way-clause-seen : goal.returns-in-Some-way-clause-seen
+returns-in-Some-way-clause-seen g c =
     let R = c.args.rule.now in
     let G = c.args.cells.now in
     let n = c.args.bound + c.loop-lead.lead in
     c.in_ok-step.ensures.cells ∙ ap (next R) c.loop-lead.invariant.there ∙ sym (generation-next R G n)
     ∙ ap (generation R G) (let e : n + 1 ≡ c.args.bound + (c.loop-lead.lead + 1) = omega arith in e)
 
-pub returns-in-Some-2-clause-outlines : goal.returns-in-Some-2-clause-outlines
-returns-in-Some-2-clause-outlines g c =
+pub returns-in-Some-way-clause-outlines : goal.returns-in-Some-way-clause-outlines
+returns-in-Some-way-clause-outlines g c =
     let R = c.args.rule.now in
     let G = c.args.cells.now in
     let age = c.args.bound + c.loop-lead.lead in
     let at = c.loop-lead.invariant in
     let there = c.in_ok-step.ensures.cells ∙ ap (next R) at.there ∙ sym (generation-next R G age) in
-    AreOutlines-more R G c.loop-lead.outlines.items c.push.new.self.items c.in_ok-outline.outline (age + 1)
-    c.in_ok-push.ensures.items at.counted at.outlines (subst (λ H. IsOutline H c.in_ok-outline.outline) there c.in_ok-outline.ensures)
+    AreOutlines-more R G c.loop-lead.outlines.items c.push.new.self.items c.in_ok-sight.sight.outline (age + 1)
+    c.in_ok-push.ensures.items at.counted at.outlines (subst (λ H. IsOutline H c.in_ok-sight.sight.outline) there c.in_ok-sight.ensures.outline)
 
 pub loop-lead-preserved : goal.loop-lead-preserved
 loop-lead-preserved g c =
@@ -86,16 +99,19 @@ loop-lead-preserved g c =
     c.in_ok-step.ensures.cells ∙ ap (next R) at.there ∙ sym (generation-next R G age) in
     let again : g.P.Plane.members c.step.new.self ≡ generation R H (n + 1) = there ∙ ap (generation R G) later ∙ sym (generation-add R G b (n + 1)) in
     let aged : g.P.Plane.steps_made c.step.new.self ≡ age + 1 = c.in_ok-step.ensures.age ∙ ap (λ k. k + 1) at.aged in
-    let missed = rw c.in_default-2.is at c.in_ok-displacement.ensures.apart in
-    let counted : length after ≡ (age + 1) + 1 = length-more R G before after c.in_ok-outline.outline (age + 1) c.in_ok-push.ensures.items at.counted in
-    let outlines : AreOutlines R G after = AreOutlines-more R G before after c.in_ok-outline.outline (age + 1)
-    c.in_ok-push.ensures.items at.counted at.outlines (subst (λ H. IsOutline H c.in_ok-outline.outline) there c.in_ok-outline.ensures) in
+    let missed = rw c.in_default-way.is at c.in_ok-sight.ensures.apart in
+    let counted : length after ≡ (age + 1) + 1 = length-more R G before after c.in_ok-sight.sight.outline (age + 1) c.in_ok-push.ensures.items at.counted in
+    let outlines : AreOutlines R G after = AreOutlines-more R G before after c.in_ok-sight.sight.outline (age + 1)
+    c.in_ok-push.ensures.items at.counted at.outlines (subst (λ H. IsOutline H c.in_ok-sight.sight.outline) there c.in_ok-sight.ensures.outline) in
     record {
       there = there ∙ ap (generation R G) later;
       aged = aged ∙ later;
       counted = counted ∙ ap (λ k. k + 1) later;
       outlines = outlines;
       apart = IsApart-next R H n at.apart (λ e. missed (ap normal here ∙ e ∙ ap normal (sym again)));
+      quiet = subst (λ A. IsQuiet R A (next R (g.P.Plane.members c.step.new.self)) c.look.new.self.quiet) here
+          (c.in_ok-sight.ensures.quiet R (subst (λ A. IsQuiet R A (g.P.Plane.members c.step.new.self) c.loop-lead.lookout.quiet) (sym here)
+          (subst (λ F. IsQuiet R H F c.loop-lead.lookout.quiet) (sym c.in_ok-step.ensures.cells) at.quiet)));
       left = AreLeft-next R G b after c.loop-lead.periods.now _ outlines (omega arith) at.left
           (c.strike_periods-periods.ensures ∙ ap (λ l. from_first (ends_alike l) c.loop-lead.periods.now) c.deref-in-loop-lead.ensures.value);
     }

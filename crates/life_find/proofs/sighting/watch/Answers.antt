@@ -3,8 +3,10 @@ use Rattle.life_model.specs.Evolution.{next, generation}
 use Rattle.life_model.specs.Symmetry.{normal}
 use Rattle.life_model.proofs.Recurrences.{generation-zero, generation-next, generation-add}
 use Rattle.life_find.specs.Outline.{IsOutline}
+use Rattle.life_find.specs.Quiet.{IsQuiet}
 use Rattle.life_plane.specs.Ways.{IsWay}
 use Rattle.life_find.proofs.Apart.{IsApart-start, IsApart-next, IsReturn-found}
+use Rattle.life_find.proofs.Quiet.{quiet_none}
 use Rattle.life_find.proofs.Possible.{AreOutlines-more, length-more}
 use Rattle.life_find.proofs.sighting.watch.Goals as goal
 
@@ -13,9 +15,15 @@ loop-taken-init g c = record {
   there = sym (generation-zero _ _);
   aged = sym (add-zero _);
   apart = IsApart-start _ _;
+  quiet = quiet_none _ _ _ _ c.new-lookout.ensures;
   counted = sym (add-zero _);
   outlines = λ first age e n are. are;
 }
+
+pub look-requires-clause-quiet : goal.look-requires-clause-quiet
+look-requires-clause-quiet g c =
+    let R = c.args.rule.now in
+    (R, subst (λ H. IsQuiet R c.args.listed.now H c.loop-taken.lookout.quiet) (sym c.in_ok-step.ensures.cells) c.loop-taken.invariant.quiet)
 
 pub returns-in-Some-clause-found : goal.returns-in-Some-clause-found
 returns-in-Some-clause-found g c =
@@ -26,7 +34,7 @@ returns-in-Some-clause-found g c =
     let at = c.loop-taken.invariant in
     let there : g.P.Plane.members c.step.new.self ≡ generation R G (n + 1) =
     c.in_ok-step.ensures.cells ∙ ap (next R) at.there ∙ sym (generation-next R G n) in
-    let way = rw c.in-Some.is at c.in_ok-displacement.ensures.way in
+    let way = rw c.in-Some.is at c.in_ok-sight.ensures.way in
     IsReturn-found R G n at.apart d (subst (λ H. IsWay G H d) there (subst (λ F. IsWay F (g.P.Plane.members c.step.new.self) d) c.requires.listed way))
 
 pub returns-in-Some-clause-seen : goal.returns-in-Some-clause-seen
@@ -43,8 +51,8 @@ returns-in-Some-clause-outlines g c first age e count are =
     let counted : length c.loop-taken.outlines.items ≡ length c.args.outlines.now.items + n = at.counted in
     let there : g.P.Plane.members c.step.new.self ≡ generation R first (age + (n + 1)) =
     c.in_ok-step.ensures.cells ∙ ap (next R) at.there ∙ sym (generation-next R G n) ∙ ap (λ H. generation R H (n + 1)) e ∙ generation-add R first age (n + 1) in
-    AreOutlines-more R first c.loop-taken.outlines.items c.push.new.self.items c.in_ok-outline.outline (age + (n + 1))
-    c.in_ok-push.ensures.items (omega arith) (at.outlines first age e count are) (subst (λ H. IsOutline H c.in_ok-outline.outline) there c.in_ok-outline.ensures)
+    AreOutlines-more R first c.loop-taken.outlines.items c.push.new.self.items c.in_ok-sight.sight.outline (age + (n + 1))
+    c.in_ok-push.ensures.items (omega arith) (at.outlines first age e count are) (subst (λ H. IsOutline H c.in_ok-sight.sight.outline) there c.in_ok-sight.ensures.outline)
 
 pub loop-taken-preserved : goal.loop-taken-preserved
 loop-taken-preserved g c =
@@ -54,18 +62,19 @@ loop-taken-preserved g c =
     let at = c.loop-taken.invariant in
     let there : g.P.Plane.members c.step.new.self ≡ generation R G (n + 1) =
     c.in_ok-step.ensures.cells ∙ ap (next R) at.there ∙ sym (generation-next R G n) in
-    let missed = rw c.in_default.is at c.in_ok-displacement.ensures.apart in
+    let missed = rw c.in_default.is at c.in_ok-sight.ensures.apart in
     let counted : length c.loop-taken.outlines.items ≡ length c.args.outlines.now.items + n = at.counted in
     let more : length c.push.new.self.items ≡ length c.loop-taken.outlines.items + 1 =
-    length-more R G c.loop-taken.outlines.items c.push.new.self.items c.in_ok-outline.outline (length c.loop-taken.outlines.items) c.in_ok-push.ensures.items refl in
+    length-more R G c.loop-taken.outlines.items c.push.new.self.items c.in_ok-sight.sight.outline (length c.loop-taken.outlines.items) c.in_ok-push.ensures.items refl in
     record {
       there = there;
       aged = c.in_ok-step.ensures.age ∙ ap (λ k. k + 1) at.aged ∙ add_assoc _ _ _;
       apart = IsApart-next R G n at.apart (λ e. missed (ap normal c.requires.listed ∙ e ∙ ap normal (sym there)));
+      quiet = c.in_ok-sight.ensures.quiet R (subst (λ H. IsQuiet R c.args.listed.now H c.loop-taken.lookout.quiet) (sym c.in_ok-step.ensures.cells) at.quiet);
       counted = omega arith;
       outlines = λ first age e count are.
           let later : g.P.Plane.members c.step.new.self ≡ generation R first (age + (n + 1)) =
           there ∙ ap (λ H. generation R H (n + 1)) e ∙ generation-add R first age (n + 1) in
-          AreOutlines-more R first c.loop-taken.outlines.items c.push.new.self.items c.in_ok-outline.outline (age + (n + 1))
-          c.in_ok-push.ensures.items (omega arith) (at.outlines first age e count are) (subst (λ H. IsOutline H c.in_ok-outline.outline) later c.in_ok-outline.ensures);
+          AreOutlines-more R first c.loop-taken.outlines.items c.push.new.self.items c.in_ok-sight.sight.outline (age + (n + 1))
+          c.in_ok-push.ensures.items (omega arith) (at.outlines first age e count are) (subst (λ H. IsOutline H c.in_ok-sight.sight.outline) later c.in_ok-sight.ensures.outline);
     }

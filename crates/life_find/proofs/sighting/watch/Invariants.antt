@@ -1,6 +1,7 @@
 use Rattle.std.proofs.Common.{◌≡◌, ℕ, ◌+◌, length}
 use Rattle.life_model.specs.Generation.{Generation}
-use Rattle.life_model.specs.Evolution.{generation}
+use Rattle.life_model.specs.Evolution.{generation, next}
+use Rattle.life_find.specs.Quiet.{IsQuiet}
 use Rattle.life_find.specs.Search.{AreOutlines}
 use Rattle.life_find.proofs.Apart.{IsApart}
 use Rattle.life_find.proofs.sighting.watch.Given as goal
@@ -13,6 +14,7 @@ invariant-loop-taken g l =
       there : g.P.Plane.members l.runner ≡ generation l.rule start l.taken;
       aged : g.P.Plane.steps_made l.runner ≡ g.P.Plane.steps_made l.fn.runner + l.taken;
       apart : IsApart l.rule start l.taken;
+      quiet : IsQuiet l.rule l.listed (next l.rule (g.P.Plane.members l.runner)) l.lookout.quiet;
       counted : length l.outlines.items ≡ length before + l.taken;
       outlines : (first : Generation) (age : ℕ) → start ≡ generation l.rule first age → length before ≡ age + 1 → AreOutlines l.rule first before → AreOutlines l.rule first l.outlines.items;
     }

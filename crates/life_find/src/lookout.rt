@@ -1,0 +1,127 @@
+//! The lookout for a set that is to stand again.
+ghost use Rattle.std.specs.Prelude.{◌≡◌, ℕ, ◌<◌, ◌≤◌, IfNone, IfOk, IfSome, OnOk};
+ghost use Rattle.life_model.specs.Evolution.{generation, next};
+ghost use Rattle.life_model.specs.Rule.{Rule};
+ghost use Rattle.life_model.specs.Symmetry.{normal};
+ghost use Rattle.life_plane.specs.Ways.{IsWay};
+ghost use Rattle.life_find.specs.Outline.{IsOutline};
+ghost use Rattle.life_find.specs.Quiet.{IsQuiet};
+
+use crate::missing::are_away;
+use crate::outline::{Outline, outline_on};
+use crate::way::way_to;
+use life_cells::CellList;
+use life_plane::Plane;
+use std::alloc::AllocError;
+
+/// So many cells are few enough that each may be compared with each.
+const FEW: usize = 64;
+
+/// So many generations in a row may have as many cells as the set that is to stand again before it is looked how far they are.
+const PATIENCE: u32 = 64;
+
+/// The part of the generations so far for which the lookout may rest at once.
+const REST: u32 = 10;
+
+/// What is known of the coming generations.
+#[derive(Clone, Copy)]
+pub struct Lookout {
+    /// So many generations that come are known to be others.
+    pub quiet: u32,
+    /// So many generations in a row had as many cells.
+    pub alike: u32,
+}
+
+/// What was seen of a generation: its outline, and how far it is from the set that is to stand again, where it is that set.
+#[derive(Clone, Copy)]
+pub struct Sight {
+    pub outline: Outline,
+    pub way: Option<(i32, i32)>,
+}
+
+/// Of so many generations that come, all or none: all if a listed cell is missed so far that it can't come sooner, wherever
+/// the listed ones are moved to.
+fn quiet_for<P: Plane>(listed: &CellList, plane: &P, wanted: u32) -> Result<u32, AllocError>
+    requires { wanted ≤ 1000000 }
+    ensures { IfOk result (λ quiet. (R : Rule) (k : ℕ) → 0 < k → k ≤ quiet →
+        normal listed.now ≡ normal (generation R (P.members plane.now) k) → ⊥) }
+{
+    let listed = listed.as_slice();
+    if listed.is_empty() || listed.len() > FEW {
+        return Ok(0);
+    }
+    let cells = plane.cells()?;
+    if !are_away(listed, cells.as_slice(), 2 * wanted) {
+        return Ok(0);
+    }
+    Ok(wanted)
+}
+
+impl Lookout {
+    /// Nothing is known yet.
+    pub fn new() -> Lookout
+        ensures { result.quiet ≡ 0 }
+    {
+        Lookout { quiet: 0, alike: 0 }
+    }
+
+    /// Looks how long the coming generations are others, where many in a row had as many cells.
+    fn rest<P: Plane>(
+        &mut self,
+        listed: &CellList,
+        plane: &P,
+        is_alike: bool,
+        taken: u32,
+    ) -> Result<(), AllocError>
+        requires { taken ≤ 1000000 }
+        ensures { OnOk result ((R : Rule) (k : ℕ) → 0 < k → k ≤ self.new.quiet →
+            normal listed.now ≡ normal (generation R (P.members plane.now) k) → ⊥) }
+    {
+        self.quiet = 0;
+        self.alike = if is_alike {
+            self.alike.saturating_add(1)
+        } else {
+            0
+        };
+        if self.alike < PATIENCE {
+            return Ok(());
+        }
+        self.quiet = quiet_for(listed, plane, taken / REST)?;
+        self.alike = if self.quiet > 0 { PATIENCE } else { 0 };
+        Ok(())
+    }
+
+    /// What is seen of a generation that came so many steps after the listed set, of which the span is wanted or not. It isn't
+    /// looked at where it is known to be another.
+    pub fn look<P: Plane>(
+        &mut self,
+        listed: &CellList,
+        marked: Outline,
+        plane: &P,
+        taken: u32,
+        spanned: bool,
+    ) -> Result<Sight, AllocError>
+        requires marked { IsOutline listed.now marked }
+        requires taken { taken ≤ 1000000 }
+        requires quiet { (R : Rule) × IsQuiet R listed.now (P.members plane.now) self.old.quiet }
+        ensures outline { IfOk result (λ sight. IsOutline (P.members plane.now) sight.outline) }
+        ensures way { IfOk result (λ sight. IfSome sight.way (λ d. IsWay listed.now (P.members plane.now) d)) }
+        ensures apart { IfOk result (λ sight. IfNone sight.way (normal listed.now ≡ normal (P.members plane.now) → ⊥)) }
+        ensures quiet { OnOk result ((R : Rule) → IsQuiet R listed.now (P.members plane.now) self.old.quiet →
+            IsQuiet R listed.now (next R (P.members plane.now)) self.new.quiet) }
+    {
+        if self.quiet > 0 {
+            self.quiet -= 1;
+            return Ok(Sight {
+                outline: Outline::UNKNOWN,
+                way: None,
+            });
+        }
+        let population = plane.population();
+        let is_alike = marked.population == Some(population);
+        let outline = outline_on(plane, population, is_alike || spanned)?;
+        let way = way_to(listed, marked, plane, outline)?;
+        self.rest(listed, plane, is_alike, taken)?;
+        Ok(Sight { outline, way })
+    }
+}
