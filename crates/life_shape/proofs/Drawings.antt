@@ -91,10 +91,10 @@ far_fault at k x v h = ap (λ b. if b then Some (TooFar at) else None) h
 pub record AreNear (a b : ℕ) : Type 0 where
   pub same : min a place_limit ≡ min b place_limit
 
-far_column : (x y : ℕ) → AreNear x y → nat_le place_limit x ≡ nat_le place_limit y
+pub far_column : (x y : ℕ) → AreNear x y → nat_le place_limit x ≡ nat_le place_limit y
 far_column x y h = grind (arith, nat_tests)
 
-far_row : (k l j : ℕ) → AreNear k l → nat_le place_limit (5 * k + j) ≡ nat_le place_limit (5 * l + j)
+pub far_row : (k l j : ℕ) → AreNear k l → nat_le place_limit (5 * k + j) ≡ nat_le place_limit (5 * l + j)
 far_row k l j h = grind (arith, nat_tests)
 
 module _ (k l x y : ℕ) (strips : AreNear k l) (columns : AreNear x y) where
@@ -111,10 +111,10 @@ module _ (k l x y : ℕ) (strips : AreNear k l) (columns : AreNear x y) where
       let e = near_column j (or_parts _ _ h).0 in
       λ i. map {B = ℕ × ℕ} (λ r. (e.0 i, 5 * e.1 i + r)) (j ∷ rows)
 
-near_more : (x y n : ℕ) → AreNear x y → AreNear (x + n) (y + n)
+pub near_more : (x y n : ℕ) → AreNear x y → AreNear (x + n) (y + n)
 near_more x y n h = record { same = omega arith }
 
-near_itself : (x : ℕ) → AreNear x x
+pub near_itself : (x : ℕ) → AreNear x x
 near_itself x = record { same = refl }
 
 pub near_capped : (x : ℕ) → AreNear x (min x place_limit)

@@ -4,6 +4,7 @@ pub mod TextOrders
 pub mod Marks
 pub mod Drawings
 pub mod Readings
+pub mod Kept
 pub mod Columns
 pub mod Weights
 pub mod DotLists

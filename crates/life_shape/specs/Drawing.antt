@@ -1,5 +1,5 @@
 -- What the reader keeps: the place in the text, the strip and the column, and what follows from there.
-use Rattle.std.specs.Prelude.{◌≡◌, ℕ, ◌+◌, ◌-◌, ◌*◌, ◌<◌, ◌≤◌, ◌==◌, List, [], ◌∷◌, ◌++◌, Option, Some, None, Result, Ok, Err, drop, map, ◌≢◌}
+use Rattle.std.specs.Prelude.{◌≡◌, ℕ, ◌+◌, ◌-◌, ◌*◌, ◌<◌, ◌≤◌, ◌==◌, Bool, List, [], ◌∷◌, ◌++◌, Option, Some, None, Result, Ok, Err, drop, map, ◌≢◌}
 use Rattle.std.specs.List.{filter, range_with_len}
 use Rattle.std.specs.Int.{bit_at}
 use Rattle.std.specs.Option.{option_or}
@@ -8,7 +8,7 @@ use Rattle.life_shape.specs.declared.reader.CodeFault.{CodeFault}
 use Rattle.life_shape.specs.declared.reader.CodeFault.TheVariants.{Memory}
 use Rattle.life_shape.specs.declared.reader.Sign.{Sign}
 use Rattle.life_shape.specs.declared.reader.Sign.TheVariants.{Value, Skip, Down}
-use Rattle.life_shape.specs.Reading.{Mark, Column, Zeros, NextStrip, Offence, mark_cells, mark_fault, marks, placed}
+use Rattle.life_shape.specs.Reading.{Mark, Column, Zeros, NextStrip, Offence, begins_near, mark_cells, mark_fault, marks, placed, until_offence}
 
 -- strip and column after a mark
 abbrev pub strip_behind : ℕ → Mark → ℕ
@@ -39,6 +39,10 @@ cells_unless (Some fault) cells = Err fault
 
 abbrev pub drawn : ℕ → ℕ → List Mark → Result (List Cell) CodeFault
 drawn k x ms = cells_unless (fault_from k x ms) (cells_from k x ms)
+
+-- whether a live cell is kept of the marks from strip k and column x on
+abbrev pub keeps_from : ℕ → ℕ → List Mark → Bool
+keeps_from k x ms = begins_near (cells_from k x (until_offence ms))
 
 -- the marks from a place of the text on
 abbrev pub marks_at : List ℕ → ℕ → List Mark

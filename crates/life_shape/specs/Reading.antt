@@ -1,5 +1,5 @@
 -- Wechsler texts, as they are read: which cells a text spells, and the first character that offends.
-use Rattle.std.specs.Prelude.{ℕ, ◌+◌, ◌-◌, ◌*◌, Bool, true, false, ◌&&◌, ◌||◌, List, [], ◌∷◌, ◌++◌, Option, Some, None, map, pos, nat_le, ◌==◌, if◌then◌else◌}
+use Rattle.std.specs.Prelude.{ℕ, ◌+◌, ◌-◌, ◌*◌, Bool, true, false, not, ◌&&◌, ◌||◌, List, [], ◌∷◌, ◌++◌, Option, Some, None, map, pos, nat_le, ◌==◌, if◌then◌else◌}
 use Rattle.std.specs.List.{list_any, range_with_len, after_last, filter, sum_by}
 use Rattle.std.specs.Option.{option_or}
 use Rattle.std.specs.Int.{bit_at}
@@ -107,6 +107,26 @@ placed (x, y) = (pos x, pos y)
 -- the cells that the text's lawful characters spell, of any size
 unfoldable pub spelt : List ℕ → Generation
 spelt text = from_list (map placed (cells_after [] (marks_of text)))
+
+abbrev pub is_offence : Mark → Bool
+is_offence (Column at v) = false
+is_offence (Zeros n) = false
+is_offence NextStrip = false
+is_offence (Offence fault) = true
+
+-- the marks before the first that offends
+abbrev pub until_offence : List Mark → List Mark
+until_offence [] = []
+until_offence (m ∷ ms) = if is_offence m then [] else m ∷ until_offence ms
+
+-- there is a first cell, and it is not too far
+abbrev pub begins_near : List (ℕ × ℕ) → Bool
+begins_near [] = false
+begins_near (c ∷ cells) = not (is_far c)
+
+-- whether a live cell is kept before the first fault: before the first byte that offends there is one, and the first of these is not too far
+unfoldable pub keeps_a_cell : List ℕ → Bool
+keeps_a_cell text = begins_near (cells_after [] (until_offence (marks_of text)))
 
 -- why a text is refused
 unfoldable pub refusal : List ℕ → Option CodeFault

@@ -3,8 +3,8 @@ ghost use Rattle.std.specs.Prelude.{◌≡◌, ◌≢◌, ◌+◌, ◌*◌, ◌<
 ghost use Rattle.std.specs.List.{list_any};
 ghost use Rattle.life_model.specs.Symmetry.{normal};
 ghost use Rattle.life_cells.specs.Limits.{IsWithin};
-ghost use Rattle.life_shape.specs.Reading.{Offence, column_cells, digit_value, is_digit, is_far, placed, refusal, spelt};
-ghost use Rattle.life_shape.specs.Drawing.{Begins, Gives, IsSmall, drawn, marks_at, seen};
+ghost use Rattle.life_shape.specs.Reading.{Offence, begins_near, column_cells, digit_value, is_digit, is_far, keeps_a_cell, placed, refusal, spelt};
+ghost use Rattle.life_shape.specs.Drawing.{Begins, Gives, IsSmall, drawn, keeps_from, marks_at, seen};
 ghost use Rattle.life_shape.specs.declared.reader.CodeFault.TheVariants.{Memory, TooFar};
 
 use crate::shape::Shape;
@@ -75,6 +75,7 @@ fn next_sign(text: &[u8], at: usize) -> Result<(Sign, usize), CodeFault>
     ensures further { IfOk result (λ p. at < p.1) }
     ensures within { IfOk result (λ p. p.1 ≤ length text.now) }
     ensures refused { IfErr result (λ fault. Begins (Offence fault) (marks_at text.now at)) }
+    ensures told { IfErr result (λ fault. fault ≢ Memory) }
 {
     if text[at] == b'y' {
         let Some(byte) = text.get(at + 1) else {
@@ -122,6 +123,7 @@ fn push_column(
     ensures within { OnOk result (All (IsWithin 0) cells.old.items → All (IsWithin 0) cells.new.items) }
     ensures told { IfErr result (λ fault. fault ≢ Memory → fault ≡ TooFar at) }
     ensures far { IfErr result (λ fault. fault ≢ Memory → list_any is_far (column_cells strip column value) ≡ true) }
+    ensures memory { IfErr result (λ fault. fault ≡ Memory → begins_near (column_cells strip column value) ≡ true) }
 {
     'rows: for row in 0..5 {
         if (value >> row) % 2 == 1 {
@@ -139,6 +141,8 @@ fn push_column(
 fn read_cells(alloc: Global, text: &[u8]) -> Result<Vec<(i32, i32)>, CodeFault>
     ensures drawn { Gives (λ cells. cells.items) result (drawn 0 0 (marks_at text.now 0)) }
     ensures within { IfOk result (λ cells. All (IsWithin 0) cells.items) }
+    ensures kept { IfOk result (λ cells. 0 < length cells.items → keeps_from 0 0 (marks_at text.now 0) ≡ true) }
+    ensures memory { IfErr result (λ fault. fault ≡ Memory → keeps_from 0 0 (marks_at text.now 0) ≡ true) }
 {
     let mut cells = Vec::new(alloc);
     let mut strip = 0;
@@ -162,13 +166,13 @@ fn read_cells(alloc: Global, text: &[u8]) -> Result<Vec<(i32, i32)>, CodeFault>
     Ok(cells)
 }
 
-/// The shape that a Wechsler text spells, in any spelling: zeros may stand anywhere. Memory is never refused to an empty
-/// text.
+/// The shape that a Wechsler text spells, in any spelling: zeros may stand anywhere. Memory is refused only where a live
+/// cell is kept before the first fault.
 pub fn read_wechsler(alloc: Global, text: &[u8]) -> Result<Shape, CodeFault>
     ensures shape { IfOk result (λ shape. shape ≡ normal (spelt text.now)) }
     ensures lawful { OnOk result (refusal text.now ≡ None) }
     ensures refused { IfErr result (λ fault. fault ≢ Memory → refusal text.now ≡ Some fault) }
-    ensures memory { IfErr result (λ fault. fault ≡ Memory → 1 ≤ length text.now) }
+    ensures memory { IfErr result (λ fault. fault ≡ Memory → keeps_a_cell text.now ≡ true) }
 {
     if text.is_empty() {
         return Err(CodeFault::Empty);

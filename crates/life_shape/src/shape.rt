@@ -1,5 +1,5 @@
 //! Shapes: sets of cells without regard to where they stand.
-ghost use Rattle.std.specs.Prelude.{◌≡◌, ◌↔◌, ◌≤◌, ◌++◌, All, IfOk, IsTrue, OnErr, OnOk, T, map};
+ghost use Rattle.std.specs.Prelude.{◌≡◌, ◌↔◌, ◌<◌, ◌≤◌, ◌++◌, All, IfOk, IsTrue, OnErr, OnOk, T, length, map};
 ghost use Rattle.life_model.specs.Box.{height, width};
 ghost use Rattle.life_model.specs.Cell.{opposite, plus};
 ghost use Rattle.life_model.specs.Generation.{cells, is_rising};
@@ -75,7 +75,8 @@ fn moved_back(
     corner: (i32, i32),
 ) -> Result<Vec<(i32, i32)>, AllocError>
     requires { All (IsAhead corner) cells.now }
-    ensures { IfOk result (λ moved. moved.items ≡ map (λ c. plus c (opposite corner)) cells.now) }
+    ensures moved { IfOk result (λ moved. moved.items ≡ map (λ c. plus c (opposite corner)) cells.now) }
+    ensures memory { OnErr result (0 < length cells.now) }
 {
     let mut moved = Vec::with_capacity(alloc, cells.len())?;
     for cell in cells {
@@ -108,6 +109,8 @@ impl Shape {
         requires high { height list.now ≤ 16_777_216 }
         ensures shape { IfOk result (λ r. r.0 ≡ normal list.now) }
         ensures corner { IfOk result (λ r. r.1 ≡ corner list.now) }
+        // Memory is never refused to no cell.
+        ensures memory { OnErr result (0 < length (cells list.now)) }
     {
         let cells = list.as_slice();
         let corner = corner(cells);

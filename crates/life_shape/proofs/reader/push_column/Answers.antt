@@ -3,8 +3,9 @@ use Rattle.std.specs.Prelude.{All}
 use Rattle.std.specs.List.{list_any}
 use Rattle.life_model.specs.Cell.{Cell}
 use Rattle.life_cells.specs.Limits.{IsWithin}
-use Rattle.life_shape.specs.Reading.{is_far, placed}
+use Rattle.life_shape.specs.Reading.{begins_near, is_far, placed}
 use Rattle.life_shape.proofs.Drawings.{cells_left-dead, cells_left-end, bit_set, bit_clear, left_far, left_near, left_more}
+use Rattle.life_shape.proofs.Kept.{if_refused, near_left}
 use Rattle.life_shape.proofs.reader.push_column.Goals.{then-column-ge-PLACE_LIMIT-via-then-column-ge-PLACE_LIMIT, then-column-ge-PLACE_LIMIT-via-else-column-ge-PLACE_LIMIT+then-y-ge-PLACE_LIMIT, then-value-row-eq1+else-column-ge-PLACE_LIMIT+else-y-ge-PLACE_LIMIT+in_ok-push_cell, else-value-row-eq1}
 use Rattle.life_shape.proofs.reader.push_column.Goals as goal
 
@@ -16,6 +17,10 @@ returns-then-column-ge-PLACE_LIMIT-clause-far c = λ _.
       | then-column-ge-PLACE_LIMIT-via-then-column-ge-PLACE_LIMIT w ↦ left_far c.args.strip c.args.column c.args.value c.rows.row (omega arith) live (inl w.if-column-ge-PLACE_LIMIT.true)
       | then-column-ge-PLACE_LIMIT-via-else-column-ge-PLACE_LIMIT+then-y-ge-PLACE_LIMIT w ↦ left_far c.args.strip c.args.column c.args.value c.rows.row (omega arith) live (inr w.if-y-ge-PLACE_LIMIT.true)
     ]
+
+pub returns-in_err-push_cell-clause-memory : goal.returns-in_err-push_cell-clause-memory
+returns-in_err-push_cell-clause-memory c =
+    if_refused _ (c.rows.invariant.first (near_left c.args.strip c.args.column c.args.value c.rows.row (omega arith) (bit_set c.args.value c.rows.row c.if-value-row-eq1.true) (omega arith) (omega arith)))
 
 pub rows-preserved : goal.rows-preserved
 rows-preserved c =
@@ -30,6 +35,7 @@ rows-preserved c =
           record {
             cells = left_more k x v j _ c.rows.cells.items _ (omega arith) live c.rows.invariant.cells (e ∙ w.in_ok-push_cell.ensures.cells);
             far = c.rows.invariant.far ∙ left_near k x v j (omega arith) live (omega arith) (omega arith);
+            first = λ _. c.rows.invariant.first (near_left k x v j (omega arith) live (omega arith) (omega arith));
             within = λ all. subst (λ cells. All (IsWithin 0) cells) (sym e) (w.in_ok-push_cell.ensures.within (c.rows.invariant.within all));
           }
       | else-value-row-eq1 w ↦
@@ -38,6 +44,7 @@ rows-preserved c =
           record {
             cells = c.rows.invariant.cells ∙ (λ i. sym e i ++ map placed (dead i));
             far = c.rows.invariant.far ∙ ap (list_any is_far) dead;
+            first = λ near. c.rows.invariant.first (ap begins_near dead ∙ near);
             within = λ all. subst (λ cells. All (IsWithin 0) cells) (sym e) (c.rows.invariant.within all);
           }
     ]

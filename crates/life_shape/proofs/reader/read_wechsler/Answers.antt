@@ -1,8 +1,9 @@
-use Rattle.std.proofs.Common.{◌≢◌, ◌≤◌, length, ap, ◌∙◌, arith}
+use Rattle.std.proofs.Common.{◌≢◌, length, ap, ◌∙◌, arith}
 use Rattle.std.proofs.lemmas.Bool.Decides.{nat_tests}
 use Rattle.std.proofs.lemmas.Result.{err_from_is_err_and}
 use Rattle.life_model.specs.Symmetry.{normal}
 use Rattle.life_shape.proofs.Readings.{refusal_empty, told, lawful, spelt_is, all_placed, width_of_list, height_of_list}
+use Rattle.life_shape.proofs.Kept.{keeps_whole, some_cell}
 use Rattle.life_shape.proofs.reader.read_wechsler.Goals as goal
 
 pub returns-then-is_empty-clause-refused : goal.returns-then-is_empty-clause-refused
@@ -37,6 +38,11 @@ returns-then-is_empty-clause-memory c = λ e. cc
 
 pub returns-in_err-cells-clause-memory : goal.returns-in_err-cells-clause-memory
 returns-in_err-cells-clause-memory c =
-    let more : 1 ≤ length c.args.text.now = grind (arith, nat_tests) in
     let p = err_from_is_err_and c.from_residual.result c.from_residual.ensures.1 in
-    rw (p.1, p.2) (λ refused. more)
+    rw (p.1, p.2) (λ refused. keeps_whole c.args.text.now (c.in_err-cells.ensures.memory refused))
+
+pub returns-in_err-shape-clause-memory : goal.returns-in_err-shape-clause-memory
+returns-in_err-shape-clause-memory c =
+    let p = err_from_is_err_and c.from_residual-in_err-shape.result c.from_residual-in_err-shape.ensures.1 in
+    rw (p.1, p.2) (λ refused. keeps_whole c.args.text.now
+    (c.in_ok-cells.ensures.kept (some_cell _ _ (c.from_ordered.ensures ∙ c.put_in_order.ensures.same) c.in_err-shape.ensures.memory)))

@@ -14,20 +14,20 @@ moved_back-requires c =
 
 pub from_ordered-list-requires-clause-rising : goal.from_ordered-list-requires-clause-rising
 from_ordered-list-requires-clause-rising c =
-    subst (λ cs. T (is_rising cs)) (sym (cells-normal _ _ _ _ c.as_slice-cells.ensures.cells c.corner-corner.ensures c.in_ok-moved_back.ensures)) (cells-rise (normal c.args.list.now))
+    subst (λ cs. T (is_rising cs)) (sym (cells-normal _ _ _ _ c.as_slice-cells.ensures.cells c.corner-corner.ensures c.in_ok-moved_back.ensures.moved)) (cells-rise (normal c.args.list.now))
 
 pub from_ordered-list-requires-clause-placed : goal.from_ordered-list-requires-clause-placed
 from_ordered-list-requires-clause-placed c =
-    subst (λ cs. All IsPlace cs) (sym (cells-normal _ _ _ _ c.as_slice-cells.ensures.cells c.corner-corner.ensures c.in_ok-moved_back.ensures)) (normal_placed c.args.list.now c.requires.wide c.requires.high)
+    subst (λ cs. All IsPlace cs) (sym (cells-normal _ _ _ _ c.as_slice-cells.ensures.cells c.corner-corner.ensures c.in_ok-moved_back.ensures.moved)) (normal_placed c.args.list.now c.requires.wide c.requires.high)
 
 pub invariant_of-result : goal.invariant_of-result
 invariant_of-result c =
-    let e = c.from_ordered-list.ensures ∙ ap from_list (cells-normal _ _ _ _ c.as_slice-cells.ensures.cells c.corner-corner.ensures c.in_ok-moved_back.ensures) ∙ from_list-cells (normal c.args.list.now) in
+    let e = c.from_ordered-list.ensures ∙ ap from_list (cells-normal _ _ _ _ c.as_slice-cells.ensures.cells c.corner-corner.ensures c.in_ok-moved_back.ensures.moved) ∙ from_list-cells (normal c.args.list.now) in
     subst IsNormal (sym e) (normal_normal c.args.list.now)
 
 pub returns-clause-shape : goal.returns-clause-shape
 returns-clause-shape c =
-    c.from_ordered-list.ensures ∙ ap from_list (cells-normal _ _ _ _ c.as_slice-cells.ensures.cells c.corner-corner.ensures c.in_ok-moved_back.ensures) ∙ from_list-cells (normal c.args.list.now)
+    c.from_ordered-list.ensures ∙ ap from_list (cells-normal _ _ _ _ c.as_slice-cells.ensures.cells c.corner-corner.ensures c.in_ok-moved_back.ensures.moved) ∙ from_list-cells (normal c.args.list.now)
 
 pub returns-clause-corner : goal.returns-clause-corner
 returns-clause-corner c = c.corner-corner.ensures ∙ corner-cells _ _ c.as_slice-cells.ensures.cells
