@@ -60,6 +60,9 @@ fn zeros_from(strip: &[u8], place: usize) -> usize
     ensures end { place + result ≤ length strip.now }
     ensures zeros { (i : ℕ) → i < result → slice_index strip.now (place + i) ≡ 0 }
 {
+    if strip.len() - place <= 16 {
+        return 1;
+    }
     let mut count = 1;
     'sixteens: while strip.len() - place - count >= 16 {
         let more = zeros_of_sixteen(strip, place + count) as usize;
@@ -87,6 +90,10 @@ fn strip_lengths(strip: &[u8]) -> Lengths
             let count = zeros_from(strip, place);
             skipped += count;
             place += count;
+        } else if skipped == 0 {
+            forward += 1;
+            backward += 1;
+            place += 1;
         } else {
             let run = zeros_length(skipped);
             forward += run + 1;

@@ -1,4 +1,4 @@
-use Rattle.std.proofs.Common.{◌≡◌, ◌<◌, [], ◌∷◌, map, true, false, arith, ap, ◌∙◌}
+use Rattle.std.proofs.Common.{◌≡◌, ◌<◌, [], ◌∷◌, map, true, false, arith, ◌∙◌}
 use Rattle.life_model.specs.Generation.{from_list}
 use Rattle.life_model.specs.Symmetry.{FlipX, turned}
 use Rattle.life_shape.specs.Orients.{orientation}
