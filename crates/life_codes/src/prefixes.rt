@@ -5,6 +5,9 @@ ghost use Rattle.life_answer.specs.Apgcode.{prefix};
 use itoa::Buffer;
 use std::alloc::{AllocError, Global};
 
+// The bytes of most codes, for which there is room from the start.
+const CODE_ROOM: usize = 48;
+
 /// The prefix of a code, with the `_` after it: `xs` and the population of a still life, `xp` and the period of an
 /// oscillator, `xq` and the period of a spaceship.
 pub fn prefix(
@@ -22,7 +25,8 @@ pub fn prefix(
     } else {
         (b'p', u64::from(period))
     };
-    let mut text = Vec::from_slice(alloc, &[b'x', mark])?;
+    let mut text = Vec::with_capacity(alloc, CODE_ROOM)?;
+    text.extend_from_slice(&[b'x', mark])?;
     text.extend_from_slice(Buffer::new().format(number).as_bytes())?;
     text.push(b'_')?;
     Ok(text)
