@@ -18,6 +18,9 @@ pub struct Pen {
 // One more than the greatest place of a live cell.
 const PLACE_LIMIT: u32 = 1_048_576;
 
+// There is room for so many live cells from the first one on.
+const FIRST_CELLS: usize = 16;
+
 // The most live cells.
 const CELL_LIMIT: u32 = 1_048_576;
 
@@ -74,6 +77,16 @@ fn cell(x: u32, y: u32) -> (i32, i32)
     (x as i32, y as i32)
 }
 
+// Takes the memory of the first cells at once.
+fn make_room(cells: &mut Vec<(i32, i32)>) -> Result<(), AllocError>
+    ensures { cells.new.items ≡ cells.old.items }
+{
+    if cells.is_empty() {
+        cells.reserve(FIRST_CELLS)?;
+    }
+    Ok(())
+}
+
 /// Draws the live cells of the token that was found, at this column and row.
 pub fn push_span(
     cells: &mut Vec<(i32, i32)>,
@@ -87,6 +100,7 @@ pub fn push_span(
     ensures { OnOk result (cells.new.items ≡ cells.old.items ++ map placed (span y x (seen found.now))) }
 {
     if is_live(found) {
+        make_room(cells)?;
         for step in 0..found.times {
             cells.push(cell(x + step, y))?;
         }
