@@ -1,6 +1,7 @@
 -- Until when two sets that recur have to be watched.
-use Rattle.std.proofs.Common.{◌≡◌, ℕ, ℤ, pos, negsuc, ◌+ℤ◌, ◌-ℤ◌, ◌<ℤ◌, ◌≤ℤ◌}
-use Rattle.std.proofs.Common.{◌*◌, ◌<◌, ◌≤◌, true, inl, inr, sym, refl, subst, arith}
+use Rattle.std.proofs.Common.{◌≡◌, ℕ, ℤ, pos, negsuc, ◌+ℤ◌, ◌-ℤ◌, ◌≤ℤ◌}
+use Rattle.std.proofs.Common.{◌⊎◌, ◌*◌, ◌<◌, ◌≤◌, min, true, inl, inr, sym, refl, subst, arith}
+use Rattle.std.proofs.lemmas.Bool.{cases_lt}
 use Rattle.std.proofs.lemmas.Int.{ints}
 use Rattle.life_model.specs.Cell.{Cell}
 use Rattle.life_model.specs.Evolution.{generation}
@@ -33,15 +34,12 @@ passed_later low high forward back missing gained rounds gain a b enough e =
     let more : missing ≤ rounds * gain = subst (λ g. missing ≤ rounds * g) same enough in
     omega (arith, ints)
 
-further : (x y : ℤ) → y <ℤ x → (v : ℕ) × (x ≡ y +ℤ pos v)
+further : (x y : ℤ) → y ≤ℤ x → (v : ℕ) × (x ≡ y +ℤ pos v)
 further x y h =
     elim (x -ℤ y) as (λ z. x -ℤ y ≡ z → (v : ℕ) × (x ≡ y +ℤ pos v)) [
       | pos n ↦ λ e. (n, omega (arith, ints))
       | negsuc n ↦ λ e. absurd (omega (arith, ints))
     ] refl
-
-not_before : (x y : ℤ) → y <ℤ x → y ≤ℤ x
-not_before x y h = omega (arith, ints)
 
 -- ---- a set that recurs, by other names
 
@@ -69,6 +67,35 @@ passed_same l h x y l' h' x' y' k a b c d passed =
     (subst (λ z. IsPassed l z k x' y') b
     (subst (λ z. IsPassed l h k z y') c (subst (λ z. IsPassed l h k x z) d passed)))
 
+-- one of the two has passed the other, with the same numbers by other names
+pub either_same : {l r x l' r' x' m n y m' n' y' : ℤ} (k : ℕ) → l ≡ l' → r ≡ r' → x ≡ x' → m ≡ m' → n ≡ n' → y ≡ y' →
+    IsPassed l n k x y ⊎ IsPassed m r k y x → IsPassed l' n' k x' y' ⊎ IsPassed m' r' k y' x'
+either_same {l} {r} {x} {l'} {r'} {x'} {m} {n} {y} {m'} {n'} {y'} k a b c d e f passed =
+    elim passed [
+      | inl first ↦ inl (passed_same l n x y l' n' x' y' k a e c f first)
+      | inr second ↦ inr (passed_same m r y x m' r' y' x' k d b f c second)
+    ]
+
+-- the sooner of two moments at which the boxes have passed each other, along the one axis and along the other
+pub sooner : (g h : Hull) (x y : Cell) (m n k : ℕ) → k ≡ min m n →
+    IsPassed g.left h.right m x.0 y.0 ⊎ IsPassed h.left g.right m y.0 x.0 →
+    IsPassed g.top h.bottom n x.1 y.1 ⊎ IsPassed h.top g.bottom n y.1 x.1 → IsWatch g x h y k
+sooner g h x y m n k least across down =
+    elim (cases_lt n m) [
+      | inl less ↦
+          let here : n ≡ k = omega arith in
+          subst (IsWatch g x h y) here (elim down [
+            | inl below ↦ inr (inr (inl below))
+            | inr above ↦ inr (inr (inr (inl above)))
+          ])
+      | inr most ↦
+          let here : m ≡ k = omega arith in
+          subst (IsWatch g x h y) here (elim across [
+            | inl right ↦ inl right
+            | inr left ↦ inr (inl left)
+          ])
+    ]
+
 -- two sets that recur, and after so many periods of each stand as they began
 pub record IsPair (R : Rule) (P Q : Generation) (p q a b : ℕ) (d e : Cell) : Type 0 where
   pub first : RecursBy R P p d
@@ -91,11 +118,11 @@ module _ (R : Rule) (P Q : Generation) (p q a b : ℕ) (d e : Cell) (pair : IsPa
     (in_g : Holds g R P p) (in_h : Holds h R Q q) (k : ℕ) (before : AreApartBefore R (k * (a * p)) P Q) where
   apart_on_right : IsPassed g.left h.right k (times a d).0 (times b e).0 → AreApartForEver R P Q
   apart_on_right passed =
-      let v = further (times a d).0 (times b e).0 passed.faster in
+      let v = further (times a d).0 (times b e).0 passed.order in
       apart_by_right R (k * (a * p)) (a * p) P Q (times a d) (times b e)
       (whole_first (λ c. c.0) x_axis R P Q p q a b d e pair.first pair.second pair.together pair.some pair.others)
       (whole_second (λ c. c.0) x_axis R P Q p q a b d e pair.first pair.second pair.together pair.some pair.others)
-      before (not_before (times a d).0 (times b e).0 passed.faster)
+      before passed.order
       (λ m within i j in_P in_Q.
       gap_from (λ c. c.0) x_axis R P Q p q a b d e pair.first pair.second pair.together pair.some pair.others
       g.left h.right k v.0 (λ n c early at. (in_g n c early at).left) (λ n c early at. (in_h n c early at).right) v.1
@@ -103,11 +130,11 @@ module _ (R : Rule) (P Q : Generation) (p q a b : ℕ) (d e : Cell) (pair : IsPa
 
   apart_below : IsPassed g.top h.bottom k (times a d).1 (times b e).1 → AreApartForEver R P Q
   apart_below passed =
-      let v = further (times a d).1 (times b e).1 passed.faster in
+      let v = further (times a d).1 (times b e).1 passed.order in
       apart_by_below R (k * (a * p)) (a * p) P Q (times a d) (times b e)
       (whole_first (λ c. c.1) y_axis R P Q p q a b d e pair.first pair.second pair.together pair.some pair.others)
       (whole_second (λ c. c.1) y_axis R P Q p q a b d e pair.first pair.second pair.together pair.some pair.others)
-      before (not_before (times a d).1 (times b e).1 passed.faster)
+      before passed.order
       (λ m within i j in_P in_Q.
       gap_from (λ c. c.1) y_axis R P Q p q a b d e pair.first pair.second pair.together pair.some pair.others
       g.top h.bottom k v.0 (λ n c early at. (in_g n c early at).above) (λ n c early at. (in_h n c early at).below) v.1

@@ -1,5 +1,6 @@
 //! Until when two sets that recur have to be watched.
-ghost use Rattle.std.specs.Prelude.{◌≡◌, ◌+◌, ◌*◌, ◌<◌, ◌≤◌, ◌^◌, pos, neg_ℤ, ◌+ℤ◌, ◌<ℤ◌, ◌≤ℤ◌};
+ghost use Rattle.std.specs.Prelude.{◌≡◌, ◌⊎◌, ◌+◌, ◌*◌, ◌<◌, ◌≤◌, ◌^◌, IfNone, IfSome, pos, neg_ℤ, ◌+ℤ◌, ◌<ℤ◌, ◌≤ℤ◌};
+ghost use Rattle.std.specs.Bool.{OnTrue};
 ghost use Rattle.std.specs.Int.{int_max, int_min};
 ghost use Rattle.life_objects.specs.Apart.{AreApartBefore, AreApartForEver};
 ghost use Rattle.life_orbit.specs.Hulls.{IsHullOf};
@@ -91,26 +92,92 @@ fn rounds_to_pass(left: i32, forward: i128, right: i32, back: i128) -> u128
     rounds_to_gain(difference(high + 3, low), difference(forward, back))
 }
 
-/// How many rounds of two sets have to be watched, where they move so far in each.
+/// The first and the last place that cells have along one axis, and how far they move along it in a round.
+#[derive(Clone, Copy)]
+struct Lane {
+    first: i32,
+    last: i32,
+    by: i128,
+}
+
+/// Whether what moves at least as fast as the other stands past it over a whole round, and so stays past it.
+fn stays_past(lane: Lane, other: Lane) -> bool
+    requires order { other.by ≤ℤ lane.by }
+    requires low { neg_ℤ (pos (2 ^ 49)) ≤ℤ lane.by }
+    requires high { other.by ≤ℤ pos (2 ^ 49) }
+    ensures { OnTrue result (IsPassed lane.first other.last 0 lane.by other.by) }
+{
+    if high_end(other.last, other.by) + 3 <= low_end(lane.first, lane.by) {
+        return true;
+    }
+    false
+}
+
+/// After how many rounds the one has passed the other along an axis, for good; or nothing, where neither ever does or
+/// both move as fast and their places are near.
+fn rounds_along(lane: Lane, other: Lane) -> Option<u128>
+    requires low { neg_ℤ (pos (2 ^ 49)) ≤ℤ lane.by }
+    requires high { lane.by ≤ℤ pos (2 ^ 49) }
+    requires other_low { neg_ℤ (pos (2 ^ 49)) ≤ℤ other.by }
+    requires other_high { other.by ≤ℤ pos (2 ^ 49) }
+    ensures passed { IfSome result (λ rounds. IsPassed lane.first other.last rounds lane.by other.by
+        ⊎ IsPassed other.first lane.last rounds other.by lane.by) }
+    ensures few { IfSome result (λ rounds. rounds ≤ 2 ^ 52) }
+    ensures same { IfNone result (lane.by ≡ other.by) }
+{
+    if other.by < lane.by {
+        return Some(rounds_to_pass(lane.first, lane.by, other.last, other.by));
+    }
+    if lane.by < other.by {
+        return Some(rounds_to_pass(other.first, other.by, lane.last, lane.by));
+    }
+    if stays_past(lane, other) {
+        return Some(0);
+    }
+    if stays_past(other, lane) {
+        return Some(0);
+    }
+    None
+}
+
+/// How many rounds of two sets have to be watched, where they move so far in each: until their boxes have passed each
+/// other along one of the axes, whichever is sooner.
 fn rounds_to_watch(hull: Hull, by: (i128, i128), other_hull: Hull, other_by: (i128, i128)) -> u128
     requires reach { IsReach (2 ^ 49) by }
     requires other_reach { IsReach (2 ^ 49) other_by }
     ensures watch { IsWatch hull by other_hull other_by result }
     ensures few { result ≤ 2 ^ 52 }
 {
-    if other_by.0 < by.0 {
-        return rounds_to_pass(hull.left, by.0, other_hull.right, other_by.0);
+    let across = rounds_along(
+        Lane {
+            first: hull.left,
+            last: hull.right,
+            by: by.0,
+        },
+        Lane {
+            first: other_hull.left,
+            last: other_hull.right,
+            by: other_by.0,
+        },
+    );
+    let down = rounds_along(
+        Lane {
+            first: hull.top,
+            last: hull.bottom,
+            by: by.1,
+        },
+        Lane {
+            first: other_hull.top,
+            last: other_hull.bottom,
+            by: other_by.1,
+        },
+    );
+    match (across, down) {
+        (Some(columns), Some(rows)) => columns.min(rows),
+        (Some(columns), None) => columns,
+        (None, Some(rows)) => rows,
+        (None, None) => 1,
     }
-    if by.0 < other_by.0 {
-        return rounds_to_pass(other_hull.left, other_by.0, hull.right, by.0);
-    }
-    if other_by.1 < by.1 {
-        return rounds_to_pass(hull.top, by.1, other_hull.bottom, other_by.1);
-    }
-    if by.1 < other_by.1 {
-        return rounds_to_pass(other_hull.top, other_by.1, hull.bottom, by.1);
-    }
-    1
 }
 
 /// A number of generations: two sets that are apart until then stay apart for ever.

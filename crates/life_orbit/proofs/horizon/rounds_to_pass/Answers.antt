@@ -7,7 +7,7 @@ use Rattle.life_orbit.proofs.horizon.rounds_to_pass.Goals as goal
 
 pub returns-then-high-low-clause-passed : goal.returns-then-high-low-clause-passed
 returns-then-high-low-clause-passed c = record {
-  faster = c.requires.faster;
+  order = let faster = c.requires.faster in omega (arith, ints);
   passes = λ gain e.
       let low : c.low_end-low.result ≡ c.args.left +ℤ int_min (pos 0) c.args.forward =
       c.low_end-low.ensures.end
@@ -23,7 +23,7 @@ returns-then-high-low-clause-passed c = record {
 
 pub returns-clause-passed : goal.returns-clause-passed
 returns-clause-passed c = record {
-  faster = c.requires.faster;
+  order = let faster = c.requires.faster in omega (arith, ints);
   passes = λ gain e.
       let low : c.low_end-low.result ≡ c.args.left +ℤ int_min (pos 0) c.args.forward =
       c.low_end-low.ensures.end
