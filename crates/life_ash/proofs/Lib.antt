@@ -8,7 +8,7 @@ pub mod Cores
 pub mod Following
 pub mod Together
 pub mod Pairs
-pub mod Columns
+pub mod Bands
 pub mod Sweeping
 pub mod Objects
 pub mod Later

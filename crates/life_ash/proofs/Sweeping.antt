@@ -1,22 +1,23 @@
--- Pairs of sets, whatever the order in which they stand.
-use Rattle.std.proofs.Common.{◌≡◌, ℕ, ◌+◌, ◌-◌, ◌<◌, ◌≤◌, List, length, get_or, map, take, drop}
-use Rattle.std.proofs.Common.{Bool, inl, inr, sym, ap, subst, ◌∙◌, arith}
-use Rattle.std.specs.List.{All, AllPairs}
+-- Sets of which any two stay apart for ever, band by band where they stay where they are.
+use Rattle.std.proofs.Common.{◌≡◌, ◌⊎◌, ℕ, ◌<◌, List, length, get_or, map}
+use Rattle.std.proofs.Common.{Bool, true, false, inl, inr, refl, sym, subst, ◌∙◌, true≢false, arith}
+use Rattle.std.specs.List.{All, AllPairs, Contains}
+use Rattle.std.specs.List.Sorted.{IsPermutation}
 use Rattle.std.proofs.lemmas.Bool.{cases_lt}
-use Rattle.std.proofs.lemmas.List.{get_or-drop, get_or-map, get_or-take, get_or_default, get_or_read, length-drop, length-map, length-take-le}
-use Rattle.std.proofs.lemmas.List.Sorted.{IsPermutation-sym}
-use Rattle.life_model.specs.Cell.{origin}
-use Rattle.life_model.specs.Generation.{empty}
+use Rattle.std.proofs.lemmas.List.{get_or-map, length-map}
+use Rattle.std.proofs.lemmas.List.Sorted.{All-permutation, Contains-permutation}
+use Rattle.life_model.specs.Cell.{Cell, origin, same_cell}
 use Rattle.life_model.specs.Rule.{Rule}
+use Rattle.life_model.proofs.Cells.{same_cell-is}
 use Rattle.life_objects.specs.Apart.{AreApartForEver}
 use Rattle.life_objects.proofs.Lists.{AllPairs-map}
 use Rattle.life_objects.proofs.Times.{AreApartForEver-swap}
-use Rattle.life_classes.proofs.Permuted.{AllPairs-permutation}
 use Rattle.life_orbit.specs.Course.{Course}
-use Rattle.life_ash.specs.Parts.{sets_of}
-use Rattle.life_ash.specs.Spans.{AreSpans, IsApartFrom}
+use Rattle.life_orbit.proofs.Clearances.{apart_at_rest}
+use Rattle.life_ash.specs.Parts.{IsOf, sets_of}
+use Rattle.life_ash.specs.Spans.{AreApartInOrder, AreMoversApart, ArePlacesApart, AreSpans, HasSpans, IsPlacedIn}
 use Rattle.life_ash.specs.declared.span.Span.{Span}
-use Rattle.life_ash.proofs.Columns.{placed}
+use Rattle.life_ash.proofs.Bands.{close_apart, far_or_close}
 
 AllPairs-unmap : {X Y : Type 0} (R : Y → Y → Type 0) (f : X → Y) (xs : List X) → AllPairs R (map f xs) →
     AllPairs (λ x y. R (f x) (f y)) xs
@@ -26,69 +27,104 @@ AllPairs-unmap R f xs all i j d before within =
     (subst (R (get_or (map f xs) i (f d))) (get_or-map f xs j d (f d) within)
     (all i j (f d) before (omega (arith, length-map xs f))))
 
--- the sets of any two of the first n spans and any other stay apart for ever
-abbrev pub AreApartUpTo : Rule → List Course → List Span → ℕ → Type 0
-AreApartUpTo R os ss n = (i j : ℕ) (d : Span) (e : Course) → i < j → i < n → j < length ss →
-    AreApartForEver R (get_or os (get_or ss i d).place e).set (get_or os (get_or ss j d).place e).set
-
-module _ (R : Rule) (by_rows : Bool) (os : List Course) (ss : List Span)
-    (spans : AreSpans by_rows os ss) where
-  turned : (o w : Course) → AreApartForEver R o.set w.set → AreApartForEver R w.set o.set
-  turned o w far = AreApartForEver-swap R o.set w.set far
-
-  pub apart_by_spans : (n : ℕ) → length ss ≤ n → AreApartUpTo R os ss n → AllPairs (AreApartForEver R) (sets_of os)
-  apart_by_spans n whole each =
-      let e : Course = record { rule = R; set = empty; period = 0; displacement = origin } in
-      AllPairs-map (AreApartForEver R) (λ o. o.set) os
-      (AllPairs-permutation (λ o w. AreApartForEver R o.set w.set) turned (placed os e ss) os
-      (IsPermutation-sym os (placed os e ss) (spans.order e))
-      (AllPairs-map (λ o w. AreApartForEver R o.set w.set) (λ s. get_or os s.place e) ss
-      (λ i j d before within. each i j d e before (omega arith) within)))
-
-  pub spans_apart : AllPairs (AreApartForEver R) (sets_of os) → (n : ℕ) → AreApartUpTo R os ss n
-  spans_apart pairs n i j d e before early within =
-      AllPairs-unmap (λ o w. AreApartForEver R o.set w.set) (λ s. get_or os s.place e) ss
-      (AllPairs-permutation (λ o w. AreApartForEver R o.set w.set) turned os (placed os e ss) (spans.order e)
-      (AllPairs-unmap (AreApartForEver R) (λ o. o.set) os pairs)) i j d before within
-
--- the spans after this one
-abbrev pub later : ℕ → List Span → List Span
-later n ss = take (length ss - (n + 1)) (drop (n + 1) ss)
-
-module _ (R : Rule) (os : List Course) (ss : List Span) (n : ℕ) (s : Span) (o : Course) (within : n < length ss)
-    (there : (get_or ss n s).place < length os) (is : o ≡ get_or os (get_or ss n s).place o) where
-  at_later : (j : ℕ) (d : Span) → n < j → j < length ss → get_or (later n ss) (j - (n + 1)) d ≡ get_or ss j d
-  at_later j d before h =
-      get_or-take (length ss - (n + 1)) (drop (n + 1) ss) (j - (n + 1)) d (omega arith)
-      ∙ get_or-drop (n + 1) ss (j - (n + 1)) d ∙ ap (λ k. get_or ss k d) (let z : (n + 1) + (j - (n + 1)) ≡ j = omega arith in z)
-
-  here : (d : Span) (e : Course) → get_or os (get_or ss n d).place e ≡ o
-  here d e =
-      ap (λ t. get_or os t.place e) (get_or_default ss n d s within)
-      ∙ sym (get_or_read os (get_or ss n s).place o there is e)
-
-  -- one span more, with a set that stays apart for ever from those with the spans after it
-  pub one_span_on : AreApartUpTo R os ss n → All (IsApartFrom R o.set os) (later n ss) → AreApartUpTo R os ss (n + 1)
-  one_span_on so_far apart i j d e before early h =
-      elim (cases_lt i n) [
-        | inl sooner ↦ so_far i j d e before sooner h
-        | inr late ↦
-            let last : n ≡ i = omega arith in
-            let long : length (later n ss) ≡ length ss - (n + 1) =
-            length-take-le (length ss - (n + 1)) (drop (n + 1) ss) (omega (arith, length-drop (n + 1) ss)) in
-            subst (λ k. AreApartForEver R (get_or os (get_or ss k d).place e).set
-            (get_or os (get_or ss j d).place e).set) last
-            (subst (λ c. AreApartForEver R c.set (get_or os (get_or ss j d).place e).set) (sym (here d e))
-            (subst (λ t. AreApartForEver R o.set (get_or os t.place e).set) (at_later j d (omega arith) h)
-            (apart (j - (n + 1)) d (omega arith) e)))
+-- where any two sets stay apart for ever, so do those in two places
+pub places_apart : (R : Rule) (os : List Course) → AllPairs (AreApartForEver R) (sets_of os) → (i j : ℕ) → i < length os →
+    j < length os → ArePlacesApart R os i j
+places_apart R os pairs i j within other =
+    let each = AllPairs-unmap (AreApartForEver R) (λ o. o.set) os pairs in
+    elim (cases_lt i j) [
+      | inl before ↦ inr (λ e. each i j e before other)
+      | inr more ↦ elim (cases_lt j i) [
+        | inl after ↦ inr (λ e. AreApartForEver-swap R (get_or os j e).set (get_or os i e).set (each j i e after within))
+        | inr most ↦ inl (omega arith)
       ]
+    ]
 
-  -- what stays apart for ever from all others does so from those with the spans after it
-  pub from_later : AreApartUpTo R os ss (n + 1) → All (IsApartFrom R o.set os) (later n ss)
-  from_later far k d h e =
-      let long : length (later n ss) ≡ length ss - (n + 1) =
-      length-take-le (length ss - (n + 1)) (drop (n + 1) ss) (omega (arith, length-drop (n + 1) ss)) in
-      subst (λ c. AreApartForEver R c.set (get_or os (get_or (later n ss) k d).place e).set) (here d e)
-      (subst (λ t. AreApartForEver R (get_or os (get_or ss n d).place e).set (get_or os t.place e).set)
-      (sym (get_or-take (length ss - (n + 1)) (drop (n + 1) ss) k d (omega arith) ∙ get_or-drop (n + 1) ss k d))
-      (far n ((n + 1) + k) d e (omega arith) (omega arith) (omega arith)))
+rests_or_moves : (d : Cell) → (d ≡ origin) ⊎ (d ≡ origin → ⊥)
+rests_or_moves d =
+    let by : (t : Bool) → same_cell d origin ≡ t → (d ≡ origin) ⊎ (d ≡ origin → ⊥) = elim [
+      | true ↦ λ e. inl ((same_cell-is d origin).0 e)
+      | false ↦ λ e. inr (λ same. true≢false (sym ((same_cell-is d origin).1 same) ∙ e))
+    ] in
+    by (same_cell d origin) refl
+
+module _ (R : Rule) (os : List Course) (ss : List Span) (of : All (IsOf R) os) (spans : AreSpans os ss)
+    (movers : AreMoversApart R os) (in_order : AreApartInOrder R os ss) where
+  -- two places, and the sets there
+  module _ (i j : ℕ) (e : Course) (before : i < j) (within : j < length os) where
+    abbrev one : Course
+    one = get_or os i e
+
+    abbrev other : Course
+    other = get_or os j e
+
+    differ : i ≡ j → ⊥
+    differ same = absurd (omega arith)
+
+    straight : ArePlacesApart R os i j → AreApartForEver R one.set other.set
+    straight places = elim places [
+      | inl same ↦ absurd (differ same)
+      | inr apart ↦ apart e
+    ]
+
+    swapped : ArePlacesApart R os j i → AreApartForEver R one.set other.set
+    swapped places = elim places [
+      | inl same ↦ absurd (differ (sym same))
+      | inr apart ↦ AreApartForEver-swap R other.set one.set (apart e)
+    ]
+
+    both_rest : one.displacement ≡ origin → other.displacement ≡ origin → AreApartForEver R one.set other.set
+    both_rest rests other_rests =
+        let here = spans.each i e (omega arith) rests in
+        let there = spans.each j e within other_rests in
+        let first : one.rule ≡ R = of i e (omega arith) in
+        let second : other.rule ≡ R = of j e within in
+        elim (far_or_close here.box there.box) [
+          | inl far ↦ subst (λ S. AreApartForEver S one.set other.set) first
+              (apart_at_rest one other (first ∙ sym second) here.recurs there.recurs here.box there.box here.has there.has
+              rests other_rests far)
+          | inr close ↦ elim (close_apart R os ss in_order here.box there.box i j differ close here.bands there.bands) [
+            | inl places ↦ straight places
+            | inr places ↦ swapped places
+          ]
+        ]
+
+    pair_apart : AreApartForEver R one.set other.set
+    pair_apart =
+        elim (rests_or_moves one.displacement) [
+          | inr moves ↦ straight (movers i (omega arith) e moves j within)
+          | inl rests ↦ elim (rests_or_moves other.displacement) [
+            | inr moves ↦ swapped (movers j within e moves i (omega arith))
+            | inl other_rests ↦ both_rest rests other_rests
+          ]
+        ]
+
+  pub all_apart : AllPairs (AreApartForEver R) (sets_of os)
+  all_apart =
+      AllPairs-map (AreApartForEver R) (λ o. o.set) os (λ i j e before within. pair_apart i j e before (omega arith))
+
+-- ---- more spans
+
+pub spans_kept : (ss ts : List Span) (o : Course) (i : ℕ) → ((s : Span) → Contains ss s → Contains ts s) → HasSpans ss o i →
+    HasSpans ts o i
+spans_kept ss ts o i kept here = record {
+  recurs = here.recurs;
+  box = here.box;
+  has = here.has;
+  bands = record {
+    first = here.bands.first;
+    last = here.bands.last;
+    top = here.bands.top;
+    bottom = here.bands.bottom;
+    each = λ band from to. kept _ (here.bands.each band from to);
+  };
+}
+
+-- ---- in another order
+
+pub reordered : (os : List Course) (ss ts : List Span) → IsPermutation ss ts → AreSpans os ss → AreSpans os ts
+reordered os ss ts moved spans = record {
+  placed = All-permutation (IsPlacedIn (length os)) ss ts moved spans.placed;
+  each = λ i e within rests. spans_kept ss ts (get_or os i e) i (λ s. Contains-permutation ss ts s moved)
+      (spans.each i e within rests);
+}

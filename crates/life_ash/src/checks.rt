@@ -7,7 +7,7 @@ ghost use Rattle.life_objects.specs.Union.{union_of};
 ghost use Rattle.life_ash.specs.Parts.{IsOf, sets_of};
 
 use crate::span::spans_in_order;
-use crate::sweep::are_apart_in_order;
+use crate::sweep::are_apart_by_bands;
 use life_cells::{CellList, put_in_order};
 use life_orbit::Orbit;
 use std::alloc::{AllocError, Global};
@@ -63,7 +63,8 @@ fn each_is_apart(orbits: &[Orbit]) -> bool
 }
 
 /// Whether any two of the sets stay apart for ever. Of more than a few, those that stay where they are are compared only
-/// with those whose columns are near. Where memory for that is not there, each is compared with each.
+/// with those in the same band of rows whose columns are near. Where memory for that is not there, each is compared with
+/// each.
 pub fn are_apart(alloc: Global, orbits: &[Orbit]) -> bool
     requires { (R : ModelRule) × All (IsOf R) orbits.now }
     ensures { (R : ModelRule) → All (IsOf R) orbits.now →
@@ -71,7 +72,7 @@ pub fn are_apart(alloc: Global, orbits: &[Orbit]) -> bool
 {
     if orbits.len() > FEW {
         if let Ok(spans) = spans_in_order(alloc, orbits) {
-            return are_apart_in_order(orbits, spans.as_slice());
+            return are_apart_by_bands(orbits, spans.as_slice());
         }
     }
     each_is_apart(orbits)
