@@ -1,5 +1,5 @@
 //! Parts that are guessed, and then checked.
-ghost use Rattle.std.specs.Prelude.{◌≤◌, All, IfOk, IfSome};
+ghost use Rattle.std.specs.Prelude.{◌≡◌, ◌≤◌, All, IfOk, IfSome};
 ghost use Rattle.life_model.specs.Generation as generations;
 ghost use Rattle.life_cells.specs.Limits.{IsWithin};
 ghost use Rattle.life_objects.specs.Ash.{IsAsh};
@@ -8,9 +8,8 @@ ghost use Rattle.life_ash.specs.Parts.{IsFit, IsOf, IsPlaced, sets_of};
 
 use crate::ashes::is_ash;
 use crate::known::Known;
-use life_cells::Rule;
 use life_classes::{Class, classes};
-use life_orbit::{BOUND_LIMIT, Orbit};
+use life_orbit::Orbit;
 use life_plane::Plane;
 use std::alloc::{AllocError, Global};
 
@@ -44,21 +43,22 @@ const EFFORTS: [Effort; 4] = [
     },
 ];
 
-/// The orbits of the classes as they were at first, where each recurs within the bound.
+/// The orbits of the classes as they were at first, where each recurs within so many generations or was met before.
 fn orbits_of(
     alloc: Global,
-    rule: &Rule,
+    known: &mut Known,
     classes: &[Class],
-    bound: u32,
+    tried: u32,
 ) -> Result<Option<Vec<Orbit>>, AllocError>
-    requires bound { 1 ≤ bound × bound ≤ BOUND_LIMIT }
+    requires some { 1 ≤ tried }
+    requires most { tried ≤ known.now.bound }
     requires within { All (λ c. All (IsWithin 400000) (generations.cells c.first)) classes.now }
-    ensures { IfOk result (λ found. IfSome found (λ orbits. All (IsFit rule.now bound) orbits.items)) }
+    ensures same { known.new ≡ known.old }
+    ensures fit { IfOk result (λ found. IfSome found (λ orbits. All (IsFit known.old.rule known.old.bound) orbits.items)) }
 {
-    let mut known = Known::new(alloc, rule, bound);
     let mut orbits = Vec::new(alloc);
     for class in classes {
-        match known.orbit_of(alloc, &class.first)? {
+        match known.orbit_of(alloc, &class.first, tried)? {
             Some(orbit) => orbits.push(orbit)?,
             None => return Ok(None),
         }
@@ -66,56 +66,56 @@ fn orbits_of(
     Ok(Some(orbits))
 }
 
-/// Parts of which a plane's cells are ash within the bound, where one effort finds them.
+/// Parts of which a plane's cells are ash within the bound of what is known, where one effort finds them.
 fn parts_by_effort<P: Plane>(
     alloc: Global,
     plane: &P,
-    rule: &Rule,
-    bound: u32,
+    known: &mut Known,
     effort: Effort,
 ) -> Result<Option<Vec<Orbit>>, AllocError>
-    requires bound { 1 ≤ bound × bound ≤ BOUND_LIMIT }
     requires young { P.steps_made plane.now ≤ 400000 }
+    ensures same { known.new ≡ known.old }
     ensures ash { IfOk result (λ found. IfSome found (λ parts.
-        IsAsh rule.now bound (P.members plane.now) (sets_of parts.items))) }
-    ensures rule { IfOk result (λ found. IfSome found (λ parts. All (IsOf rule.now) parts.items)) }
+        IsAsh known.old.rule known.old.bound (P.members plane.now) (sets_of parts.items))) }
+    ensures rule { IfOk result (λ found. IfSome found (λ parts. All (IsOf known.old.rule) parts.items)) }
     ensures placed { IfOk result (λ found. IfSome found (λ parts. All IsPlaced parts.items)) }
     ensures courses { IfOk result (λ found. IfSome found (λ parts. All IsCourse parts.items)) }
 {
+    let rule = known.rule();
+    let bound = known.bound();
     let followed = bound.min(effort.followed);
-    let recurs = bound.min(effort.recurs.max(1));
+    let tried = bound.min(effort.recurs.max(1));
     let copy = plane.copy()?;
     let _age = copy.age();
-    let all = classes(alloc, copy, rule, followed)?;
-    let Some(parts) = orbits_of(alloc, rule, all.as_slice(), recurs)? else {
+    let all = classes(alloc, copy, &rule, followed)?;
+    let Some(parts) = orbits_of(alloc, known, all.as_slice(), tried)? else {
         return Ok(None);
     };
-    if is_ash(alloc, plane, parts.as_slice(), rule, bound)? {
+    if is_ash(alloc, plane, parts.as_slice(), &rule, bound)? {
         return Ok(Some(parts));
     }
     Ok(None)
 }
 
-/// Parts of which a plane's cells are ash within the bound, where they are found at once: cells that belong together
-/// come near each other within a while, and each part comes again within a while. That none are found tells nothing. At
-/// most so many efforts are made, each greater than those before it.
+/// Parts of which a plane's cells are ash within the bound of what is known, where they are found at once: cells that
+/// belong together come near each other within a while, and each part comes again within a while or was met before. That
+/// none are found tells nothing. At most so many efforts are made, each greater than those before it.
 pub fn guessed_parts<P: Plane>(
     alloc: Global,
     plane: &P,
-    rule: &Rule,
-    bound: u32,
+    known: &mut Known,
     most: usize,
 ) -> Result<Option<Vec<Orbit>>, AllocError>
-    requires bound { 1 ≤ bound × bound ≤ BOUND_LIMIT }
     requires young { P.steps_made plane.now ≤ 400000 }
+    ensures same { known.new ≡ known.old }
     ensures ash { IfOk result (λ found. IfSome found (λ parts.
-        IsAsh rule.now bound (P.members plane.now) (sets_of parts.items))) }
-    ensures rule { IfOk result (λ found. IfSome found (λ parts. All (IsOf rule.now) parts.items)) }
+        IsAsh known.old.rule known.old.bound (P.members plane.now) (sets_of parts.items))) }
+    ensures rule { IfOk result (λ found. IfSome found (λ parts. All (IsOf known.old.rule) parts.items)) }
     ensures placed { IfOk result (λ found. IfSome found (λ parts. All IsPlaced parts.items)) }
     ensures courses { IfOk result (λ found. IfSome found (λ parts. All IsCourse parts.items)) }
 {
     for effort in &EFFORTS[..most.min(EFFORTS.len())] {
-        if let Some(parts) = parts_by_effort(alloc, plane, rule, bound, *effort)? {
+        if let Some(parts) = parts_by_effort(alloc, plane, known, *effort)? {
             return Ok(Some(parts));
         }
     }

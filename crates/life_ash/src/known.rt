@@ -92,19 +92,33 @@ impl Known {
         self.bound
     }
 
-    /// The orbit of a set, where it recurs within the bound. It is worked out where no orbit of this set, moved as a
-    /// whole, is kept.
-    pub fn orbit_of(&mut self, alloc: Global, cells: &CellList) -> Result<Option<Orbit>, AllocError>
+    /// The rule by which the sets recur.
+    pub fn rule(&self) -> Rule
+        ensures { result ≡ self.now.rule }
+    {
+        self.rule
+    }
+
+    /// The orbit of a set, where it recurs within so many generations, which are no more than the bound. It is worked out
+    /// where no orbit of this set, moved as a whole, is kept; one that is kept may recur later, but within the bound.
+    pub fn orbit_of(
+        &mut self,
+        alloc: Global,
+        cells: &CellList,
+        tried: u32,
+    ) -> Result<Option<Orbit>, AllocError>
+        requires some { 1 ≤ tried }
+        requires most { tried ≤ self.now.bound }
         requires within { All (IsWithin 4000000) (generations.cells cells.now) }
         ensures same { self.new ≡ self.old }
         ensures set { IfOk result (λ found. IfSome found (λ orbit. orbit.set ≡ cells.now)) }
         ensures met { IfOk result (λ found. IfSome found (IsMet self.old)) }
-        ensures none { IfOk result (λ found. IfNone found (RecursWithin self.old.rule self.old.bound cells.now → ⊥)) }
+        ensures none { IfOk result (λ found. IfNone found (RecursWithin self.old.rule tried cells.now → ⊥)) }
     {
         if let Some(orbit) = moved_orbit(alloc, &self.orbits, cells)? {
             return Ok(Some(orbit));
         }
-        let Some(orbit) = Orbit::of(alloc, &self.rule, cells, self.bound)? else {
+        let Some(orbit) = Orbit::of(alloc, &self.rule, cells, tried)? else {
             return Ok(None);
         };
         keep(alloc, &mut self.orbits, &orbit)?;

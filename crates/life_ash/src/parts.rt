@@ -26,13 +26,14 @@ fn part_of(alloc: Global, known: &mut Known, last: &CellList) -> Result<Option<O
     ensures none { IfOk result (λ found. IfNone found ((P : Generation) →
         IsEnd known.old.rule known.old.bound last.now P → ⊥)) }
 {
-    let Some(orbit) = known.orbit_of(alloc, last)? else {
+    let bound = known.bound();
+    let Some(orbit) = known.orbit_of(alloc, last, bound)? else {
         return Ok(None);
     };
-    let Some(set) = set_before(alloc, &orbit, known.bound())? else {
+    let Some(set) = set_before(alloc, &orbit, bound)? else {
         return Ok(None);
     };
-    known.orbit_of(alloc, &set)
+    known.orbit_of(alloc, &set, bound)
 }
 
 /// The only sets that may have become these ones.

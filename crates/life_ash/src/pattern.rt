@@ -3,19 +3,43 @@ ghost use Rattle.std.specs.Prelude.{◌≡◌, ◌≤◌, All, IfNone, IfOk, IfS
 ghost use Rattle.life_model.specs.Generation.{Generation};
 ghost use Rattle.life_model.specs.Generation as generations;
 ghost use Rattle.life_cells.specs.Limits.{IsWithin};
-ghost use Rattle.life_objects.specs.Ash.{HasFallenApart};
+ghost use Rattle.life_objects.specs.Ash.{HasFallenApart, IsAsh};
+ghost use Rattle.life_orbit.specs.Course.{IsCourse};
 ghost use Rattle.life_ash.specs.Fates.{IsFate};
-ghost use Rattle.life_ash.specs.Parts.{IsOf, sets_of};
+ghost use Rattle.life_ash.specs.Parts.{IsOf, IsPlaced, sets_of};
 
 use crate::ashes::{Ash, ash_of};
 use crate::fates::Fate;
 use crate::guess::guessed_parts;
+use crate::known::Known;
 use crate::limit::{few_until, first_past, first_past_of_ash};
 use crate::pace::Pace;
 use life_cells::{CellList, Rule};
-use life_orbit::BOUND_LIMIT;
+use life_orbit::{BOUND_LIMIT, Orbit};
 use life_plane::Plane;
 use std::alloc::{AllocError, Global};
+
+/// Parts of which a plane's cells are ash, where a look at this age is due and finds them.
+fn parts_if_due<P: Plane>(
+    alloc: Global,
+    plane: &P,
+    met: &mut Known,
+    pace: &mut Pace,
+    age: u32,
+) -> Result<Option<Vec<Orbit>>, AllocError>
+    requires young { P.steps_made plane.now ≤ 400000 }
+    ensures same { met.new ≡ met.old }
+    ensures ash { IfOk result (λ found. IfSome found (λ parts.
+        IsAsh met.old.rule met.old.bound (P.members plane.now) (sets_of parts.items))) }
+    ensures rule { IfOk result (λ found. IfSome found (λ parts. All (IsOf met.old.rule) parts.items)) }
+    ensures placed { IfOk result (λ found. IfSome found (λ parts. All IsPlaced parts.items)) }
+    ensures courses { IfOk result (λ found. IfSome found (λ parts. All IsCourse parts.items)) }
+{
+    if !pace.is_due(age) {
+        return Ok(None);
+    }
+    guessed_parts(alloc, plane, met, pace.looks())
+}
 
 /// What becomes of a pattern within the bound. What it falls apart into is looked for now and then on the way to the
 /// bound, since what is ash stays so. With a limit no generation from 0 to three times the bound may have more cells;
@@ -33,22 +57,21 @@ pub fn fate<P: Plane>(
 {
     let mut plane = P::from_cells(alloc, cells)?;
     let mut pace = Pace::new();
+    let mut met = Known::new(alloc, rule, bound);
     let mut known = 0;
     for age in 0..bound {
         let Some(until) = few_until(limit, &plane, age, known, &mut pace) else {
             return Ok(Fate::Large { generation: age });
         };
         known = until;
-        if pace.is_due(age) {
-            if let Some(parts) = guessed_parts(alloc, &plane, rule, bound, pace.looks())? {
-                let past = first_past_of_ash(&plane, &parts, rule, limit, 3 * bound - age)?;
-                return Ok(match past {
-                    Some(n) => Fate::Large {
-                        generation: age + n,
-                    },
-                    None => Fate::Ash(Ash::of(parts, bound - age)),
-                });
-            }
+        if let Some(parts) = parts_if_due(alloc, &plane, &mut met, &mut pace, age)? {
+            let past = first_past_of_ash(&plane, &parts, rule, limit, 3 * bound - age)?;
+            return Ok(match past {
+                Some(n) => Fate::Large {
+                    generation: age + n,
+                },
+                None => Fate::Ash(Ash::of(parts, bound - age)),
+            });
         }
         plane.step(rule)?;
     }

@@ -3,10 +3,9 @@ use Rattle.std.specs.List.{All}
 use Rattle.life_ash.specs.Parts.{IsFit}
 use Rattle.life_ash.proofs.guess.orbits_of.Given as goal
 
--- the orbits so far are fit, and what is known is of this rule and this bound
+-- the orbits so far are fit, and what is known has its rule and its bound still
 abbrev pub invariant-loop-class : goal.invariant-loop-class
 invariant-loop-class l = record {
-  fit : All (IsFit l.rule l.bound) l.orbits.items;
-  rule : l.known.rule ≡ l.rule;
-  bound : l.known.bound ≡ l.bound;
+  fit : All (IsFit l.initial.known.rule l.initial.known.bound) l.orbits.items;
+  same : l.known ≡ l.initial.known;
 }

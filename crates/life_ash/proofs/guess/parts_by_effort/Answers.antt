@@ -9,6 +9,6 @@ use Rattle.life_ash.proofs.guess.parts_by_effort.Goals as goal
 pub orbits_of-requires-clause-within : goal.orbits_of-requires-clause-within
 orbits_of-requires-clause-within g c =
     All-same (λ x. All (IsWithin 400000) (cells x.first)) _ _ c.as_slice.ensures.value
-    (firsts_within c.args.rule.now (g.P.Plane.steps_made c.in_ok-copy.copy) 400000
+    (firsts_within c.rule-rule.result (g.P.Plane.steps_made c.in_ok-copy.copy) 400000
     (g.P.Plane.members c.in_ok-copy.copy) c.in_ok-all.all.items c.in_ok-all.ensures.together
     (omega (arith, c.in_ok-copy.ensures.age)) c.age-age.ensures.within)

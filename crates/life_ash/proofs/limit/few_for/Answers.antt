@@ -1,4 +1,4 @@
-use Rattle.std.proofs.Common.{◌≡◌, ◌*◌, ◌≤◌, zero, sym, ap, subst, ◌∙◌, arith}
+use Rattle.std.proofs.Common.{◌≡◌, ◌≤◌, sym, ap, subst, ◌∙◌, arith}
 use Rattle.life_model.specs.Evolution.{generation}
 use Rattle.life_model.specs.Generation.{size}
 use Rattle.life_model.proofs.Recurrences.{generation-zero}

@@ -37,7 +37,9 @@ fit_then t s same S within part met set = record {
 pub returns-in_default-clause-none : goal.returns-in_default-clause-none
 returns-in_default-clause-none c P end =
     let t = c.args.known.now in
-    of_none c.in_default.is c.in_ok-orbit.ensures.none (end_recurs t.rule t.bound c.args.last.now P end)
+    of_none c.in_default.is c.in_ok-orbit.ensures.none
+    (subst (λ n. RecursWithin t.rule n c.args.last.now) (sym c.bound-bound.ensures.value)
+    (end_recurs t.rule t.bound c.args.last.now P end))
 
 pub returns-in_default-2-clause-none : goal.returns-in_default-2-clause-none
 returns-in_default-2-clause-none c P end =
@@ -46,9 +48,9 @@ returns-in_default-2-clause-none c P end =
     let o = c.in-Some.orbit in
     let met = of_some (IsMet t) c.in-Some.is c.in_ok-orbit.ensures.met in
     let set = of_some (λ (x : Course). x.set ≡ last) c.in-Some.is c.in_ok-orbit.ensures.set in
-    let ago = c.bound.ensures.value ∙ ap (λ (u : Terms). u.bound) c.orbit_of.ensures.same in
-    of_none c.in_default-2.is c.in_ok-set.ensures.outside P (goes_round t last o met set c.bound.result ago P end)
-    (reached t last o met set c.bound.result ago P end) end.within
+    let ago = c.bound-bound.ensures.value in
+    of_none c.in_default-2.is c.in_ok-set.ensures.outside P (goes_round t last o met set c.bound-bound.result ago P end)
+    (reached t last o met set c.bound-bound.result ago P end) end.within
 
 pub returns-clause-fit : goal.returns-clause-fit
 returns-clause-fit c =
@@ -65,10 +67,10 @@ was_before c P end =
     let o = c.in-Some.orbit in
     let met = of_some (IsMet t) c.in-Some.is c.in_ok-orbit.ensures.met in
     let set = of_some (λ (x : Course). x.set ≡ last) c.in-Some.is c.in_ok-orbit.ensures.set in
-    let ago = c.bound.ensures.value ∙ ap (λ (u : Terms). u.bound) c.orbit_of.ensures.same in
-    of_some (λ S. (Q : Generation) → RecursBy o.rule Q o.period o.displacement → generation o.rule Q c.bound.result ≡ o.set → S ≡ Q)
-    c.in-Some-2.is c.in_ok-set.ensures.set P (goes_round t last o met set c.bound.result ago P end)
-    (reached t last o met set c.bound.result ago P end)
+    let ago = c.bound-bound.ensures.value in
+    of_some (λ S. (Q : Generation) → RecursBy o.rule Q o.period o.displacement → generation o.rule Q c.bound-bound.result ≡ o.set → S ≡ Q)
+    c.in-Some-2.is c.in_ok-set.ensures.set P (goes_round t last o met set c.bound-bound.result ago P end)
+    (reached t last o met set c.bound-bound.result ago P end)
 
 pub returns-clause-set : goal.returns-clause-set
 returns-clause-set c =
@@ -79,6 +81,8 @@ pub returns-clause-none : goal.returns-clause-none
 returns-clause-none c =
     IfOk-weaker c.orbit_of-2.result _ _
     (λ found h. none_then found h
-    (λ no P end. no (subst (λ (u : Terms). RecursWithin u.rule u.bound c.in-Some-2.set) (sym c.orbit_of.ensures.same)
-    (subst (RecursWithin c.args.known.now.rule c.args.known.now.bound) (sym (was_before c P end)) end.recurs))))
+    (λ no P end. no (subst (λ (u : Terms). RecursWithin u.rule c.bound-bound.result c.in-Some-2.set)
+    (sym c.orbit_of.ensures.same)
+    (subst (λ n. RecursWithin c.args.known.now.rule n c.in-Some-2.set) (sym c.bound-bound.ensures.value)
+    (subst (RecursWithin c.args.known.now.rule c.args.known.now.bound) (sym (was_before c P end)) end.recurs)))))
     c.orbit_of-2.ensures.none

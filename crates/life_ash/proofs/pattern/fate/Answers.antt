@@ -1,4 +1,5 @@
-use Rattle.std.proofs.Common.{◌≡◌, ◌+◌, ◌*◌, ◌-◌, ◌≤◌, Some, refl, sym, ap, subst, ◌∙◌, true≢false, arith}
+use Rattle.std.proofs.Common.{◌≡◌, ◌+◌, ◌*◌, ◌-◌, ◌≤◌, Some, sym, ap, subst, ◌∙◌, arith}
+use Rattle.std.specs.List.{All}
 use Rattle.std.proofs.lemmas.List.Elements.{All-same}
 use Rattle.life_model.specs.Evolution.{generation, next}
 use Rattle.life_model.specs.Generation.{size}
@@ -17,6 +18,8 @@ pub loop-age-init : goal.loop-age-init
 loop-age-init g c = record {
   members = c.in_ok-plane.ensures.cells ∙ sym (generation-zero c.args.rule.now c.args.cells.now);
   aged = c.in_ok-plane.ensures.age;
+  rule = c.new-met.ensures.rule;
+  bound = c.new-met.ensures.bound;
   before = none_before c.args.rule.now c.args.cells.now c.args.limit;
   known = none_before c.args.rule.now c.args.cells.now c.args.limit;
 }
@@ -56,8 +59,12 @@ returns-in-Some-2 g c =
           (past_later R G c.args.limit (3 * b) age w.in-Some-past.n (omega arith) c.loop-age.invariant.before (past ∙ w.in-Some-past.is))
       | in-None w ↦
           let parts = c.in-Some-2.parts.items in
-          let found = rw c.in-Some-2.is at c.in_ok-parts.ensures.ash in
-          let of = rw c.in-Some-2.is at c.in_ok-parts.ensures.rule in
+          let here = g.P.Plane.members c.loop-age.plane in
+          let found = subst (λ n. IsAsh R n here (sets_of parts)) c.loop-age.invariant.bound
+          (subst (λ S. IsAsh S c.loop-age.met.bound here (sets_of parts)) c.loop-age.invariant.rule
+          (rw c.in-Some-2.is at c.in_ok-parts.ensures.ash)) in
+          let of = subst (λ S. All (IsOf S) parts) c.loop-age.invariant.rule
+          (rw c.in-Some-2.is at c.in_ok-parts.ensures.rule) in
           subst (IsFate R G b c.args.limit) (sym w.result-is) (
             past_nowhere_later R G c.args.limit (3 * b) age (omega arith) c.loop-age.invariant.before (past ∙ w.in-None.is),
             subst (λ os. HasFallenApart R b G (sets_of os)) (sym w.of.ensures)
@@ -76,6 +83,8 @@ loop-age-preserved g c =
     record {
       members = c.in_ok-step.ensures.cells ∙ ap (next R) c.loop-age.invariant.members ∙ sym (generation-next R G age);
       aged = c.in_ok-step.ensures.age ∙ ap (λ k. k + 1) c.loop-age.invariant.aged;
+      rule = ap (λ t. t.rule) c.in_ok-parts.ensures.same ∙ c.loop-age.invariant.rule;
+      bound = ap (λ t. t.bound) c.in_ok-parts.ensures.same ∙ c.loop-age.invariant.bound;
       before = λ m h. known m (omega arith);
       known = known;
     }

@@ -1,4 +1,4 @@
-use Rattle.std.proofs.Common.{◌≡◌, ◌≤◌, subst}
+use Rattle.std.proofs.Common.{◌≡◌, ◌≤◌, sym, subst, arith}
 use Rattle.std.proofs.lemmas.List.Elements.{All-same}
 use Rattle.life_orbit.specs.Course.{Course, IsCourse}
 use Rattle.life_ash.specs.Met.{IsMet, Terms}
@@ -20,7 +20,10 @@ invariant_of-self c =
       right = c.keep.ensures t c.self.invariant.right (record {
         rule = of_some (λ (o : Course). o.rule ≡ t.rule) c.in-Some-2.is c.in_ok-orbit-2.ensures.rule;
         recurs = of_some IsCourse c.in-Some-2.is c.in_ok-orbit-2.ensures.recurs;
-        period = of_some (λ (o : Course). o.period ≤ t.bound) c.in-Some-2.is c.in_ok-orbit-2.ensures.period;
+        period =
+            let least = of_some (λ (o : Course). o.period ≤ c.args.tried) c.in-Some-2.is c.in_ok-orbit-2.ensures.period in
+            let most = subst (λ (s : Terms). c.args.tried ≤ s.bound) (sym c.self.view_is) c.requires.most in
+            omega arith;
       });
     }
 
@@ -32,6 +35,9 @@ invariant_of-self-2 c =
       right = c.keep.ensures t c.self.invariant.right (record {
         rule = of_some (λ (o : Course). o.rule ≡ t.rule) c.in-Some-2.is c.in_ok-orbit-2.ensures.rule;
         recurs = of_some IsCourse c.in-Some-2.is c.in_ok-orbit-2.ensures.recurs;
-        period = of_some (λ (o : Course). o.period ≤ t.bound) c.in-Some-2.is c.in_ok-orbit-2.ensures.period;
+        period =
+            let least = of_some (λ (o : Course). o.period ≤ c.args.tried) c.in-Some-2.is c.in_ok-orbit-2.ensures.period in
+            let most = subst (λ (s : Terms). c.args.tried ≤ s.bound) (sym c.self.view_is) c.requires.most in
+            omega arith;
       });
     }
