@@ -9,3 +9,4 @@ pub mod Missing
 pub mod Orders
 pub mod Counting
 pub mod Fronts
+pub mod Memory

@@ -1,12 +1,14 @@
 //! Patterns that were worked.
-ghost use Rattle.std.specs.Prelude.{◌≡◌, ◌≤◌, IfNone, IfOk, IfSome};
+ghost use Rattle.std.specs.Prelude.{◌≡◌, ◌≤◌, ◌++◌, ℕ, false, IfNone, IfOk, IfSome, OnErr, OnOk};
+ghost use Rattle.life_answer.specs.declared.finding.Answer.TheVariants.{Refused};
 ghost use Rattle.life_answer.specs.Questions.{IsAnswered};
 ghost use Rattle.census_format.specs.Lines.{answer_to_entry};
-ghost use Rattle.census_format.specs.Heads.{line_head, line_tail};
+ghost use Rattle.census_format.specs.Heads.{headed, line_head, line_tail};
 ghost use Rattle.census_book.specs.Soon.{IsLongWork};
+ghost use Rattle.census_book.specs.Work.{TakesMemory};
 
 use census_bundle::{Entry, Text, Ticket};
-use census_format::{push_head, push_tail};
+use census_format::{push_head, push_pattern, push_tail};
 use life_answer::{Answer, Question};
 use life_find::answer_soon;
 use std::alloc::{AllocError, Global};
@@ -17,19 +19,20 @@ const HEAD_LEN: usize = 64;
 
 /// The work of one ticket: a ticket, the entry that was worked, what was asked, and what was found. What was found is
 /// what the definition gives for the question and the entry. The report's lines of the pattern are made here, all
-/// but the name, and so beside other work where results are collected by one thread.
+/// but the name, and so beside other work where results are collected by one thread. Those of a pattern that is refused
+/// are made where they are written, so that it takes no memory here.
 #[derive(Drop)]
 pub struct Done<'a> {
     ticket: Ticket,
     entry: &'a Entry,
     question: Question,
     answer: Answer,
-    head: Text,
+    head: Option<Text>,
     tail: Vec<u8>,
 }
 
 impl<'a> Model for Done<'a> {
-    ghost use Rattle.std.specs.Prelude.{◌≡◌};
+    ghost use Rattle.std.specs.Prelude.{◌≡◌, IfSome};
     ghost use Rattle.census_format.specs.Heads.{line_head, line_tail};
     ghost use Rattle.census_format.specs.Lines.{answer_to_entry};
     ghost use Rattle.census_book.specs.Work.{Work, work_code};
@@ -40,14 +43,15 @@ impl<'a> Model for Done<'a> {
 
     ghost view = { λ d. record { ticket = d.ticket; entry = d.entry.now; question = d.question } };
 
-    ghost invariant = { λ d. (d.answer ≡ answer_to_entry d.question d.entry.now) × (d.head ≡ line_head d.ticket.folder d.ticket.number d.answer) × (d.tail.items ≡ line_tail d.ticket.folder d.ticket.number d.answer) };
+    ghost invariant = { λ d. (d.answer ≡ answer_to_entry d.question d.entry.now) × IfSome d.head (λ head. head ≡ line_head d.ticket.folder d.ticket.number d.answer) × (d.tail.items ≡ line_tail d.ticket.folder d.ticket.number d.answer) };
 }
 
 // What is found of an entry, whatever is asked.
 #[tactic(auto, unfolding(census_format::specs::Lines::answer_to_entry))]
 fn find(alloc: Global, entry: &Entry, question: Question) -> Result<Answer, AllocError>
     requires { IsAnswered question }
-    ensures { IfOk result (λ found. found ≡ answer_to_entry question entry.now) }
+    ensures found { IfOk result (λ found. found ≡ answer_to_entry question entry.now) }
+    ensures memory { OnErr result (TakesMemory entry.now) }
 {
     if entry.is_lost {
         return Ok(Answer::Refused(0));
@@ -66,6 +70,7 @@ fn find_soon(alloc: Global, entry: &Entry, question: Question) -> Result<Option<
     requires { IsAnswered question }
     ensures known { IfOk result (λ soon. IfSome soon (λ found. found ≡ answer_to_entry question entry.now)) }
     ensures long { IfOk result (λ soon. IfNone soon (IsLongWork question entry.now)) }
+    ensures memory { OnErr result (entry.now.is_lost ≡ false) }
 {
     match (entry.is_lost, question) {
         (true, _) => Ok(Some(Answer::Refused(0))),
@@ -74,6 +79,35 @@ fn find_soon(alloc: Global, entry: &Entry, question: Question) -> Result<Option<
         }
         (false, Question::Objects { .. }) => Ok(None),
     }
+}
+
+// The line of a pattern of which this was found, as far as its name; none where it is refused.
+fn head_of(alloc: Global, ticket: Ticket, answer: &Answer) -> Result<Option<Text>, AllocError>
+    ensures head { IfOk result (λ made. IfSome made (λ head. head ≡ line_head ticket.folder ticket.number answer.now)) }
+    ensures memory { OnErr result ((number : ℕ) → answer.now ≡ Refused number → ⊥) }
+{
+    match answer {
+        Answer::Found { .. } => {
+            let mut head = Vec::with_capacity(alloc, HEAD_LEN)?;
+            push_head(&mut head, ticket, answer)?;
+            Ok(Some(Text::of(alloc, &head)?))
+        }
+        Answer::Refused(_) => Ok(None),
+    }
+}
+
+// The `part` lines of a pattern of which this was found.
+#[tactic(auto, unfolding(census_format::specs::Heads::line_tail))]
+fn tail_of(alloc: Global, ticket: Ticket, answer: &Answer) -> Result<Vec<u8>, AllocError>
+    ensures tail { IfOk result (λ tail. tail.items ≡ line_tail ticket.folder ticket.number answer.now) }
+    ensures memory { OnErr result ((number : ℕ) → answer.now ≡ Refused number → ⊥) }
+{
+    let mut tail = Vec::new(alloc);
+    match answer {
+        Answer::Found { .. } => push_tail(&mut tail, ticket, answer)?,
+        Answer::Refused(_) => {}
+    }
+    Ok(tail)
 }
 
 impl<'a> Done<'a> {
@@ -89,23 +123,23 @@ impl<'a> Done<'a> {
         ensures ticket { IfOk result (λ d. d.ticket ≡ ticket) }
         ensures entry { IfOk result (λ d. d.entry ≡ entry.now) }
         ensures question { IfOk result (λ d. d.question ≡ question) }
+        ensures memory { OnErr result ((number : ℕ) → answer ≡ Refused number → ⊥) }
     {
-        let mut head = Vec::with_capacity(alloc, HEAD_LEN)?;
-        push_head(&mut head, ticket, &answer)?;
-        let mut tail = Vec::new(alloc);
-        push_tail(&mut tail, ticket, &answer)?;
+        let head = head_of(alloc, ticket, &answer)?;
+        let tail = tail_of(alloc, ticket, &answer)?;
         Ok(Done {
             ticket,
             entry,
             question,
             answer,
-            head: Text::of(alloc, &head)?,
+            head,
             tail,
         })
     }
 
     /// Works a ticket: what is found of the entry's text. Where that is lost, no work is done, and it is refused under the
-    /// number 0. A bound is 1 to 1,000,000 generations, and 1 to 100,000 where objects are asked for.
+    /// number 0. A bound is 1 to 1,000,000 generations, and 1 to 100,000 where objects are asked for. Memory is taken only for
+    /// a text that has a header.
     pub fn work(
         alloc: Global,
         ticket: Ticket,
@@ -116,13 +150,15 @@ impl<'a> Done<'a> {
         ensures ticket { IfOk result (λ d. d.ticket ≡ ticket) }
         ensures entry { IfOk result (λ d. d.entry ≡ entry.now) }
         ensures question { IfOk result (λ d. d.question ≡ question) }
+        ensures memory { OnErr result (TakesMemory entry.now) }
     {
         let answer = find(alloc, entry, question)?;
         Done::of(alloc, ticket, entry, question, answer)
     }
 
     /// Does what `work` does where it is soon done: the entry's text is lost or no pattern, or which generation comes again
-    /// is asked and the first 256 generations tell it. No later one is looked at. `None` says that it isn't soon done.
+    /// is asked and the first 256 generations tell it. No later one is looked at. `None` says that it isn't soon done. No
+    /// memory is taken where the text is lost.
     pub fn work_soon(
         alloc: Global,
         ticket: Ticket,
@@ -134,6 +170,7 @@ impl<'a> Done<'a> {
         ensures entry { IfOk result (λ soon. IfSome soon (λ d. d.entry ≡ entry.now)) }
         ensures question { IfOk result (λ soon. IfSome soon (λ d. d.question ≡ question)) }
         ensures long { IfOk result (λ soon. IfNone soon (IsLongWork question entry.now)) }
+        ensures memory { OnErr result (entry.now.is_lost ≡ false) }
     {
         match find_soon(alloc, entry, question)? {
             Some(answer) => Ok(Some(Done::of(alloc, ticket, entry, question, answer)?)),
@@ -169,17 +206,18 @@ impl<'a> Done<'a> {
         &self.answer
     }
 
-    // The `part` lines of the pattern.
-    pub(crate) fn tail(&self) -> &[u8]
-        ensures { result.now ≡ line_tail self.now.ticket.folder self.now.ticket.number (answer_to_entry self.now.question self.now.entry) }
+    // Appends the lines of the pattern, under the name of this entry.
+    pub(crate) fn push_lines(&self, text: &mut Vec<u8>, entry: &Entry) -> Result<(), AllocError>
+        ensures { OnOk result (text.new.items ≡ text.old.items ++ headed
+            (line_head self.now.ticket.folder self.now.ticket.number (answer_to_entry self.now.question self.now.entry))
+            (line_tail self.now.ticket.folder self.now.ticket.number (answer_to_entry self.now.question self.now.entry)) entry.now) }
     {
-        self.tail.as_slice()
-    }
-
-    // The line of the pattern as far as its name.
-    pub(crate) fn head(&self) -> &[u8]
-        ensures { result.now ≡ line_head self.now.ticket.folder self.now.ticket.number (answer_to_entry self.now.question self.now.entry) }
-    {
-        self.head.as_slice()
+        match self.head.as_ref() {
+            Some(head) => push_pattern(text, head.as_slice(), self.tail.as_slice(), entry),
+            None => {
+                push_head(text, self.ticket, &self.answer)?;
+                push_pattern(text, &[], self.tail.as_slice(), entry)
+            }
+        }
     }
 }

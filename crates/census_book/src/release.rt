@@ -12,7 +12,7 @@ use crate::done::Done;
 use crate::front::{Front, next_open};
 use crate::results::Results;
 use census_bundle::{Folder, Ticket};
-use census_format::{push_closing, push_end, push_open, push_pattern};
+use census_format::{push_closing, push_end, push_open};
 use life_answer::{Answer, Question};
 use std::alloc::{AllocError, Global};
 
@@ -58,7 +58,7 @@ fn push_patterns(
             folder: c,
             number: i as u32 + 1,
         });
-        push_pattern(text, done.head(), done.tail(), &entries[i])?;
+        done.push_lines(text, &entries[i])?;
     }
     Ok(())
 }

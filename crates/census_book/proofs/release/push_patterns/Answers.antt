@@ -22,5 +22,5 @@ loop-i-preserved c =
     let e = c.index-entries-i.result in
     let is = rw c.as_slice-entries.ensures at c.index-entries-i.is in
     let at : slice_get es i ≡ Some e = slice_get_read es (length es) i e refl (omega arith) is in
-    let line = result_line _ _ c.args.c (i + 1) c.args.folder.now e _ c.head.result.now c.tail.result.now c.get-done.ensures c.requires.at (numbered_next es i e at) c.head.ensures c.tail.ensures in
-    appended _ _ _ _ _ _ (c.in_ok-push_pattern.ensures ∙ ap (λ l. c.loop-i.text.items ++ l) line) (text_step c.args.arrival.now.question c.args.c c.args.m i es e (omega arith) at) c.loop-i.invariant
+    let line = result_line _ _ c.args.c (i + 1) c.args.folder.now e _ _ _ c.get-done.ensures c.requires.at (numbered_next es i e at) refl refl in
+    appended _ _ _ _ _ _ (c.in_ok-push_lines.ensures ∙ ap (λ l. c.loop-i.text.items ++ l) line) (text_step c.args.arrival.now.question c.args.c c.args.m i es e (omega arith) at) c.loop-i.invariant
