@@ -2,7 +2,9 @@
 
    REFUSE_AT=N     the Nth growth (malloc or realloc) is refused
    REFUSE_FROM=N   the Nth growth and each later one are
-   GROWTHS=FILE    FILE gets the number of growths, when the program ends
+   THREAD=T        only the growths of thread T are counted and refused: 0 is the program's first thread, and the others are 1, 2 and
+                   so on in the order of their first growths
+   GROWTHS=FILE    FILE gets the number of growths that were counted, when the program ends
    FAIL_READ=N     the Nth read (of anything) and each later one fail
    FAIL_WRITE=N    the Nth write to standard output and each later one fail
    SHORT=1         each read and write moves one byte */
@@ -21,13 +23,18 @@
 extern void *__libc_malloc(size_t);
 extern void *__libc_realloc(void *, size_t);
 
-static long refuse_at, refuse_from, fail_read, fail_write, is_short;
+static long refuse_at, refuse_from, thread, fail_read, fail_write, is_short;
 static const char *growths_file;
-static atomic_long growths, reads, writes;
+static atomic_long growths, threads, reads, writes;
+static _Thread_local long own_thread __attribute__((tls_model("initial-exec"))) = -1;
+
+static long number_or(const char *name, long other) {
+    const char *text = getenv(name);
+    return text ? atol(text) : other;
+}
 
 static long number(const char *name) {
-    const char *text = getenv(name);
-    return text ? atol(text) : 0;
+    return number_or(name, 0);
 }
 
 static void tell_growths(void) {
@@ -44,10 +51,13 @@ static void tell_growths(void) {
 __attribute__((constructor)) static void begin(void) {
     refuse_at = number("REFUSE_AT");
     refuse_from = number("REFUSE_FROM");
+    thread = number_or("THREAD", -1);
     fail_read = number("FAIL_READ");
     fail_write = number("FAIL_WRITE");
     is_short = number("SHORT");
     growths_file = getenv("GROWTHS");
+    own_thread = 0;
+    atomic_store(&threads, 1);
     atomic_store(&growths, 0);
 }
 
@@ -60,6 +70,10 @@ void _exit(int status) {
 }
 
 static int refused(void) {
+    if (own_thread < 0)
+        own_thread = atomic_fetch_add(&threads, 1);
+    if (thread >= 0 && own_thread != thread)
+        return 0;
     long count = atomic_fetch_add(&growths, 1) + 1;
     return count == refuse_at || (refuse_from && count >= refuse_from);
 }

@@ -6,6 +6,7 @@ import subprocess
 import sys
 import tempfile
 from concurrent.futures import ThreadPoolExecutor
+from itertools import count
 
 HERE = os.path.dirname(os.path.realpath(__file__))
 OF_COLLECTION = re.compile(rb"(?:open|line|part|code|close) ([0-9]+) ")
@@ -28,6 +29,7 @@ class Disturbed:
         self.program = os.path.realpath(program)
         self.room = tempfile.mkdtemp(prefix="disturbed-")
         self.shim = f"{self.room}/disturb.so"
+        self.files = count()
         compiler = os.environ.get("CC") or shutil.which("cc") or shutil.which("gcc")
         if not compiler:
             sys.exit("checks: a C compiler (cc) is needed for this check")
@@ -41,12 +43,16 @@ class Disturbed:
                              cwd=f"{HERE}/..", env={**os.environ, **named, "LD_PRELOAD": self.shim})
         return ran.returncode, ran.stdout, ran.stderr
 
-    def growths(self, words, given):
-        """How many growths an undisturbed run makes."""
-        file = f"{self.room}/growths"
-        self.run(words, given, GROWTHS=file)
+    def counted(self, words, given, **how):
+        """What `run` gives, and how many growths were counted."""
+        file = f"{self.room}/growths-{next(self.files)}"
+        ran = self.run(words, given, GROWTHS=file, **how)
         with open(file, encoding="ascii") as it:
-            return int(it.read())
+            return *ran, int(it.read())
+
+    def growths(self, words, given, **how):
+        """How many growths such a run makes."""
+        return self.counted(words, given, **how)[-1]
 
     def close(self):
         shutil.rmtree(self.room, ignore_errors=True)
