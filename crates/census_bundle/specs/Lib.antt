@@ -1,3 +1,4 @@
+pub mod Places
 pub mod Sizes
 pub mod Names
 pub mod Tickets

@@ -1,6 +1,7 @@
 //! Folders of patterns.
-ghost use Rattle.std.specs.Prelude.{◌≡◌, ℕ, List, [], IfOk};
+ghost use Rattle.std.specs.Prelude.{◌≡◌, ◌≤◌, ℕ, List, [], IfOk, IsOk, length};
 
+use crate::bytes::Bytes;
 use crate::last::{last_len, push_to_last};
 use crate::names::is_lawful;
 use crate::ticket::Ticket;
@@ -12,10 +13,10 @@ use thiserror::Error;
 /// The most folders of a bundle, and the most entries of a folder.
 const COUNT_LIMIT: usize = 65_535;
 
-/// So many bytes of a text need no memory of their own, which are enough for most names and for small patterns.
+/// So many bytes of a text need no memory of their own, which are enough for most lines.
 const SHORT_LEN: usize = 48;
 
-/// Bytes as they stand in a bundle.
+/// Bytes that are told of a bundle, as a line or a path.
 #[derive(Drop)]
 pub struct Text {
     bytes: SmallVec<u8, SHORT_LEN>,
@@ -30,7 +31,8 @@ impl Model for Text {
 impl Text {
     /// A copy of these bytes. It takes no memory where they are at most 48.
     pub fn of(alloc: Global, bytes: &[u8]) -> Result<Text, AllocError>
-        ensures { IfOk result (λ t. t ≡ bytes.now) }
+        ensures copied { IfOk result (λ t. t ≡ bytes.now) }
+        ensures short { length bytes.now ≤ 48 → IsOk result }
     {
         Ok(Text {
             bytes: SmallVec::from_slice(alloc, bytes)?,
@@ -49,9 +51,9 @@ impl Text {
 #[derive(Drop)]
 pub struct Entry {
     /// Its name.
-    pub name: Text,
+    pub name: Bytes,
     /// The text that is read as RLE. Where it is lost it isn't looked at.
-    pub text: Text,
+    pub text: Bytes,
     /// Whether the text is lost, since it couldn't be read.
     pub is_lost: bool,
 }
@@ -101,7 +103,7 @@ impl Entries {
 /// A collection of patterns.
 #[derive(Drop)]
 pub struct Folder {
-    pub name: Text,
+    pub name: Bytes,
     pub entries: Entries,
 }
 
@@ -109,8 +111,8 @@ pub struct Folder {
 fn entry_of(alloc: Global, name: &[u8], text: &[u8], is_lost: bool) -> Result<Entry, AllocError>
     ensures { IfOk result (λ e. e ≡ record { name = name.now; text = text.now; is_lost = is_lost }) }
 {
-    let name = Text::of(alloc, name)?;
-    let text = Text::of(alloc, text)?;
+    let name = Bytes::of(alloc, name)?;
+    let text = Bytes::of(alloc, text)?;
     Ok(Entry {
         name,
         text,
@@ -122,7 +124,7 @@ fn entry_of(alloc: Global, name: &[u8], text: &[u8], is_lost: bool) -> Result<En
 fn folder_of(alloc: Global, name: &[u8]) -> Result<Folder, AllocError>
     ensures { IfOk result (λ f. f ≡ record { name = name.now; entries = [] }) }
 {
-    let name = Text::of(alloc, name)?;
+    let name = Bytes::of(alloc, name)?;
     let entries = Entries::of(Vec::new(alloc));
     Ok(Folder { name, entries })
 }

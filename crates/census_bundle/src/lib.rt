@@ -2,6 +2,7 @@
 #![tactic(auto)]
 
 mod bundle;
+mod bytes;
 mod fault;
 mod last;
 mod lines;
@@ -10,6 +11,7 @@ mod reading;
 mod ticket;
 
 pub use bundle::{AddFault, Bundle, Entries, Entry, Folder, Text};
+pub use bytes::Bytes;
 pub use fault::BundleFault;
 pub use reading::read_bundle;
 pub use ticket::Ticket;

@@ -1,0 +1,71 @@
+//! Names and texts as they stand in a bundle.
+ghost use Rattle.std.specs.Prelude.{◌≡◌, ◌≤◌, IfOk, IsOk, length};
+
+use std::alloc::{AllocError, Global};
+use std::marker::Model;
+
+/// So many bytes need no memory of their own, which are enough for most names. With them a value takes 16 bytes in all.
+const PLACE_LEN: usize = 14;
+
+// Where bytes are kept: so many of these, or as many as there are.
+#[derive(Drop)]
+enum Place {
+    Short(u8, [u8; PLACE_LEN]),
+    Long(Box<Vec<u8>>),
+}
+
+/// Bytes as they stand in a bundle. As few as most names have are kept in the value itself, which takes 16 bytes.
+#[derive(Drop)]
+pub struct Bytes {
+    place: Place,
+}
+
+impl Model for Bytes {
+    ghost use Rattle.std.specs.Prelude.{List, ℕ};
+    ghost use Rattle.census_bundle.specs.Places.{kept_in, FitsPlace};
+
+    ghost Value = { List ℕ };
+
+    ghost view = { λ b. kept_in b.place };
+
+    ghost invariant = { λ b. FitsPlace b.place };
+}
+
+impl Bytes {
+    // A copy of few bytes.
+    fn short(bytes: &[u8]) -> Bytes
+        requires { length bytes.now ≤ 14 }
+        ensures { result ≡ bytes.now }
+    {
+        let mut place = [0; PLACE_LEN];
+        let (copy, _) = place.split_at_mut(bytes.len());
+        copy.copy_from_slice(bytes);
+        Bytes {
+            place: Place::Short(bytes.len() as u8, place),
+        }
+    }
+
+    /// A copy of these bytes. It takes no memory where they are at most 14.
+    pub fn of(alloc: Global, bytes: &[u8]) -> Result<Bytes, AllocError>
+        ensures copied { IfOk result (λ b. b ≡ bytes.now) }
+        ensures short { length bytes.now ≤ 14 → IsOk result }
+    {
+        if bytes.len() <= PLACE_LEN {
+            return Ok(Bytes::short(bytes));
+        }
+        let copy = bytes.to_vec(alloc)?;
+        Ok(Bytes {
+            place: Place::Long(Box::new(alloc, copy)?),
+        })
+    }
+
+    /// The bytes. It takes no memory.
+    pub fn as_slice(&self) -> &[u8]
+        ensures { result.now ≡ self.now }
+    {
+        match &self.place {
+            Place::Short(len, bytes) => &bytes[..*len as usize],
+            Place::Long(bytes) => bytes.as_slice(),
+        }
+    }
+}
