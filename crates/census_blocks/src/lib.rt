@@ -1,4 +1,6 @@
 //! What is written of one pattern: a block of lines that tells what it is.
+//!
+//! Tested in `tests_objects`.
 #![tactic(auto)]
 
 mod block_text;

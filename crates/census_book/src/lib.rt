@@ -1,5 +1,7 @@
 //! What was found of patterns, and the collector, which takes results in any order and releases the report's lines in theirs: a
 //! reorder buffer.
+//!
+//! Tested in `tests_runs`.
 #![tactic(auto)]
 
 mod arrival;

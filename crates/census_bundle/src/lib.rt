@@ -1,4 +1,6 @@
 //! Bundles of patterns, and the tickets that name their patterns.
+//!
+//! Tested in `tests_runs` and `tests_inputs`.
 #![tactic(auto)]
 
 mod bundle;

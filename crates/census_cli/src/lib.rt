@@ -2,6 +2,8 @@
 //! their patterns become; `identify`, what single patterns are; `advance`, a later generation of a pattern; `draw`, the
 //! drawing of a code; `merge`, one report of several; `table`, a row for each pattern of reports; `page`, one
 //! HTML page of reports; help; or the version.
+//!
+//! Tested in `tests_inputs`.
 #![tactic(auto)]
 
 mod command;

@@ -13,9 +13,9 @@ use crate::files::file_of;
 use crate::run_error::RunError;
 use crate::saying::Saying;
 use census_bundle::AddFault;
+use census_cli::Request;
 use census_faults::{Fault, Spot, rule_fault, spot_of_bundle, spot_of_code};
 use census_reports::ReportsError;
-use census_cli::Request;
 
 // A fault whose place is not known.
 fn nowhere<'a>(fault: Fault) -> Saying<'a>

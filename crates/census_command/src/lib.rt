@@ -1,4 +1,6 @@
 //! What the words of a command line do.
+//!
+//! Tested in `tests_program`.
 #![tactic(auto)]
 
 mod advance_error;

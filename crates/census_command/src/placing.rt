@@ -12,10 +12,10 @@ use crate::lending::lent;
 use crate::place::Place;
 use crate::run_error::RunError;
 use census_bundle::Text;
+use census_cli::Request;
 use census_folders::{Loss, Shelf, folders_below_each, folders_below_each_on, read_folders_on};
 use census_identify::{TEXT_LIMIT, is_input, read_file};
 use census_reports::ReportsError;
-use census_cli::Request;
 use std::alloc::Global;
 use watched::ReadFault;
 

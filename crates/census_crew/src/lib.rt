@@ -1,4 +1,6 @@
 //! Workers, the report that is written from their results, and the run.
+//!
+//! Tested in `tests_runs`.
 #![tactic(auto)]
 
 mod bytes;

@@ -1,5 +1,7 @@
 //! Every fault that the program tells, in words: the line that explains an error, and the line that explains why a
 //! pattern was refused.
+//!
+//! Tested in `tests_objects`.
 #![tactic(auto)]
 
 mod explaining;

@@ -1,4 +1,6 @@
 //! Folders of pattern files, read into a bundle.
+//!
+//! Tested in `tests_inputs`.
 #![tactic(auto)]
 
 mod disk;

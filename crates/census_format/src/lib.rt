@@ -1,5 +1,6 @@
-//! The format of a report: its lines, the counts of its codes, and what a report of a bundle is (`specs/Reports.antt`). Tested in
-//! `worked_runs`.
+//! The format of a report: its lines, the counts of its codes, and what a report of a bundle is (`specs/Reports.antt`).
+//!
+//! Tested in `tests_runs`.
 #![tactic(auto)]
 
 mod closing;

@@ -1,4 +1,6 @@
 //! Hints at what may have been overlooked in collections, beside the lines that explain faults.
+//!
+//! Tested in `tests_hints`.
 #![tactic(auto)]
 
 mod hints;

@@ -1,5 +1,7 @@
 //! What is told of single patterns: a block of lines for each text that means one, and a line for each that can't be
 //! read or has a fault.
+//!
+//! Tested in `tests_objects`.
 #![tactic(auto)]
 
 mod bytes;

@@ -1,4 +1,6 @@
 //! Several reports made one: the collections of all, numbered on, and one `end` line with the sums.
+//!
+//! Tested in `tests_reports`.
 #![tactic(auto)]
 
 mod merging;

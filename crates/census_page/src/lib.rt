@@ -1,4 +1,6 @@
 //! One HTML page of a report, that stands alone.
+//!
+//! Tested in `tests_reports`.
 #![tactic(auto)]
 
 mod code_row;

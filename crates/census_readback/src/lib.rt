@@ -1,4 +1,6 @@
 //! Reports read back: whether a text is one report or several, and which rows it has.
+//!
+//! Tested in `tests_reports`.
 #![tactic(auto)]
 
 mod lines;

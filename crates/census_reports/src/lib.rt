@@ -1,4 +1,6 @@
 //! Reports that are read from files or from standard input, and written as one report, as a table or as a page.
+//!
+//! Tested in `tests_reports`.
 #![tactic(auto)]
 
 mod error;

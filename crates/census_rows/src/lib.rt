@@ -1,4 +1,6 @@
 //! The lines of a report, by themselves.
+//!
+//! Tested in `tests_reports`.
 #![tactic(auto)]
 
 mod fields;

@@ -1,4 +1,6 @@
 //! Rows for spreadsheets and databases: one for each pattern of a report.
+//!
+//! Tested in `tests_reports`.
 #![tactic(auto)]
 
 mod cell;

@@ -1,4 +1,6 @@
 //! Bytes gathered into blocks before a watched writer is given them.
+//!
+//! Tested in `tests_reports`.
 #![tactic(auto)]
 
 mod block;

@@ -1,4 +1,6 @@
 //! `census merge`, with its promise: of lawful reports it makes a lawful report.
+//!
+//! Tested in `tests_reports` and `bench/scale`.
 #![tactic(auto)]
 
 mod merge;

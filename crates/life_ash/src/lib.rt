@@ -1,4 +1,6 @@
 //! The objects that a set of cells falls apart into.
+//!
+//! Tested in `tests_objects`, by `life_census`.
 #![tactic(auto)]
 
 mod ashes;

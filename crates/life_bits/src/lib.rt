@@ -1,5 +1,7 @@
 //! Rows of 64 cells worked at a time, tiles of 64 by 64 cells, and the kernel that makes eight of their rows at a time.
 //! `Strand`, `count_planes`, `next_row` and `Tile::next` are the reference kernel: the plain way, by which tests judge `band`.
+//!
+//! Tested in `tests_patterns`.
 #![tactic(auto)]
 
 mod adders;

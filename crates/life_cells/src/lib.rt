@@ -1,4 +1,6 @@
 //! Life-like rules, and lists of cells.
+//!
+//! Tested in `tests_patterns`.
 #![tactic(auto)]
 
 mod cell_list;

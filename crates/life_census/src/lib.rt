@@ -1,4 +1,6 @@
 //! The census of a pattern: the objects that it falls apart into, counted by their codes.
+//!
+//! Tested in `tests_objects`.
 #![tactic(auto)]
 
 mod answering;

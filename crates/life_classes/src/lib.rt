@@ -1,4 +1,6 @@
 //! The sets that a pattern falls apart into where it is torn as finely as sets that stay apart allow.
+//!
+//! Tested in `tests_objects`.
 #![tactic(auto)]
 
 mod chains;

@@ -1,4 +1,6 @@
 //! The least Wechsler text of sets of cells in all eight orientations.
+//!
+//! Tested in `tests_patterns`.
 #![tactic(auto)]
 
 mod choice;

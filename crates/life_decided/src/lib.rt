@@ -1,5 +1,7 @@
 //! Whether a set is ash within a bound, and of which parts: a definition that computes, in `specs/`, and as the
 //! contracts of functions that do nothing the laws that it decides this and that what it finds lasts.
+//!
+//! Tested in `tests_objects`, by `life_census`.
 #![tactic(auto)]
 
 ghost use Rattle.std.specs.Prelude.{◌≡◌, ℕ, ◌-◌, ◌≤◌, List, [], None, Some};

@@ -1,4 +1,6 @@
 //! Faults of RLE texts in words: where a fault stands, and what is wrong.
+//!
+//! Tested in `tests_objects`.
 #![tactic(auto)]
 
 mod bytes;

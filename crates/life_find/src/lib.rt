@@ -1,4 +1,6 @@
 //! When a pattern comes again: its onset, period, displacement and code.
+//!
+//! Tested in `tests_patterns`.
 #![tactic(auto)]
 
 mod answering;

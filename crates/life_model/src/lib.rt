@@ -1,5 +1,7 @@
 //! The mathematics of Life-like rules on the unbounded plane: definitions in `specs/`, and their laws as the
 //! contracts of functions that do nothing.
+//!
+//! Tested in `checks/laws`.
 #![tactic(auto)]
 
 ghost use Rattle.std.specs.Prelude.{◌≡◌, ℕ, ◌+◌, ◌<◌, ◌≤◌, ◌↔◌, Bool, true, false, cond, T, List, map};

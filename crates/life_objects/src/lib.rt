@@ -1,5 +1,7 @@
 //! The objects that a pattern of a Life-like rule falls apart into: definitions in `specs/`, and their laws as the
 //! contracts of functions that do nothing.
+//!
+//! Tested in `checks/laws`.
 #![tactic(auto)]
 
 ghost use Rattle.std.specs.Prelude.{◌≡◌, ◌≢◌, ℕ, ◌+◌, ◌-◌, ◌*◌, ◌<◌, ◌≤◌, ◌↔◌, ◌||◌, ◌≤ℤ◌, true};

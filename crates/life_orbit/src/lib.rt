@@ -1,4 +1,6 @@
 //! Sets of cells that recur, and whether two of them stay apart for ever.
+//!
+//! Tested in `tests_objects`.
 #![tactic(auto)]
 
 mod horizon;

@@ -1,4 +1,6 @@
 //! Planes: sets of cells that evolve.
+//!
+//! Tested in `tests_patterns`.
 #![tactic(auto)]
 
 mod evolve;

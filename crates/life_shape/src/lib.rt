@@ -1,4 +1,6 @@
 //! Shapes of sets of cells, the eight maps of the plane, and Wechsler texts.
+//!
+//! Tested in `tests_patterns`.
 #![tactic(auto)]
 
 mod code_text;

@@ -1,4 +1,6 @@
 //! RLE texts of Life-like patterns.
+//!
+//! Tested in `tests_patterns`.
 #![tactic(auto)]
 
 mod bytes;

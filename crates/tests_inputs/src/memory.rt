@@ -1,0 +1,90 @@
+//! A shelf in memory, which tells all that stands on it.
+ghost use Rattle.std.specs.Prelude.{◌≡◌, [], IfSome, IfNone, codes};
+ghost use Rattle.census_folders.specs.Told.{Unreadable};
+ghost use Rattle.tests_inputs.specs.Memory.{told_in, told_of};
+
+use census_folders::Shelf;
+use std::alloc::Global;
+use watched::ReadFault;
+
+/// What stands under a name in a folder: bytes, of a regular file or of something else. Without a name it is the folder
+/// itself, whose bytes are its names, each ended by a byte 0; and under the name of a slash stand those of its names that
+/// are folders.
+#[derive(Clone, Copy)]
+pub struct Leaf<'a> {
+    pub folder: &'a str,
+    pub name: &'a [u8],
+    pub bytes: &'a [u8],
+    pub regular: bool,
+}
+
+/// All that stands on a shelf. Nothing else can be read.
+#[derive(Clone, Copy)]
+pub struct Memory<'a> {
+    pub leaves: &'a [Leaf<'a>],
+}
+
+// The first leaf of this folder and name.
+fn find<'b, 'a>(leaves: &'b [Leaf<'a>], folder: &str, name: &[u8]) -> Option<&'b Leaf<'a>>
+    ensures some { IfSome result (λ leaf. told_in leaves.now folder.now name.now ≡ told_of leaf.now) }
+    ensures none { IfNone result (told_in leaves.now folder.now name.now ≡ Unreadable) }
+{
+    for leaf in leaves {
+        if leaf.folder == folder && leaf.name == name {
+            return Some(leaf);
+        }
+    }
+    None
+}
+
+impl<'a> Shelf for Memory<'a> {
+    ghost use Rattle.census_folders.specs.Told.{Told};
+    ghost use Rattle.tests_inputs.specs.Memory.{is_held};
+
+    ghost listed = { λ shelf folder. told_in shelf.leaves.now folder [] };
+
+    ghost inner = { λ shelf folder. told_in shelf.leaves.now folder (codes "/") };
+
+    ghost held = { λ shelf folder name. told_in shelf.leaves.now folder name };
+
+    ghost may_open = { λ shelf folder name. is_held (told_in shelf.leaves.now folder name) };
+
+    fn list(&self, alloc: Global, folder: &str) -> Result<Vec<u8>, ReadFault> {
+        match find(self.leaves, folder, b"") {
+            Some(leaf) if leaf.regular => Ok(leaf.bytes.to_vec(alloc)?),
+            _ => Err(ReadFault::Read),
+        }
+    }
+
+    fn list_folders(&self, alloc: Global, folder: &str) -> Result<Vec<u8>, ReadFault> {
+        match find(self.leaves, folder, b"/") {
+            Some(leaf) if leaf.regular => Ok(leaf.bytes.to_vec(alloc)?),
+            _ => Err(ReadFault::Read),
+        }
+    }
+
+    fn is_file(&self, _alloc: Global, folder: &str, name: &[u8]) -> Result<bool, ReadFault> {
+        match find(self.leaves, folder, name) {
+            Some(leaf) => Ok(leaf.regular),
+            None => Ok(false),
+        }
+    }
+
+    fn read(
+        &self,
+        alloc: Global,
+        folder: &str,
+        name: &[u8],
+        limit: usize,
+    ) -> Result<Vec<u8>, ReadFault> {
+        match find(self.leaves, folder, name) {
+            Some(leaf) if leaf.regular => {
+                if leaf.bytes.len() > limit {
+                    return Err(ReadFault::TooLong);
+                }
+                Ok(leaf.bytes.to_vec(alloc)?)
+            }
+            _ => Err(ReadFault::Read),
+        }
+    }
+}

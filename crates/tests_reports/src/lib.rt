@@ -1,0 +1,18 @@
+//! Tests of reports that are read back and merged, of tables, of files that have reports, and of bytes that are
+//! told by way of a block.
+#![tactic(auto)]
+
+#[cfg(test)]
+mod files;
+#[cfg(test)]
+mod gathering;
+#[cfg(test)]
+mod lines;
+#[cfg(test)]
+mod merging;
+#[cfg(test)]
+mod page;
+#[cfg(test)]
+mod readback;
+#[cfg(test)]
+mod tables;
