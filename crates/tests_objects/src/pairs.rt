@@ -28,12 +28,44 @@ const MEETING_GLIDER: Cells = &[(41, 42), (40, 41), (42, 40), (41, 40), (40, 40)
 // The same, past the first one.
 const MISSING_GLIDER: Cells = &[(61, 42), (60, 41), (62, 40), (61, 40), (60, 40)];
 
+// It flies to the left and down, through the columns of the first one, in rows that are far from that one's.
+const GLIDER_BELOW: Cells = &[
+    (99_999, 12),
+    (99_998, 13),
+    (99_998, 14),
+    (99_999, 14),
+    (100_000, 14),
+];
+
+// The same in rows that are near.
+const NEAR_BELOW: Cells = &[(39, 4), (38, 5), (38, 6), (39, 6), (40, 6)];
+
+// The same one row further down, which is far enough.
+const NEXT_BELOW: Cells = &[(39, 5), (38, 6), (38, 7), (39, 7), (40, 7)];
+
+// It flies to the right and up, through the rows of the first one, in columns that are far from that one's.
+const GLIDER_BESIDE: Cells = &[
+    (12, 100_000),
+    (13, 100_000),
+    (14, 100_000),
+    (14, 100_001),
+    (13, 100_002),
+];
+
+// The same in columns that are near.
+const NEAR_BESIDE: Cells = &[(4, 40), (5, 40), (6, 40), (6, 41), (5, 42)];
+
 const PAIRS: &[(Cells, Cells, bool)] = &[
     (BLOCK, FAR_BLINKER, true),
     (BLOCK, NEAR_BLINKER, false),
     (GLIDER, SECOND_GLIDER, true),
     (GLIDER, MEETING_GLIDER, false),
     (GLIDER, MISSING_GLIDER, true),
+    (GLIDER, GLIDER_BELOW, true),
+    (GLIDER, NEAR_BELOW, false),
+    (GLIDER, NEXT_BELOW, true),
+    (GLIDER, GLIDER_BESIDE, true),
+    (GLIDER, NEAR_BESIDE, false),
 ];
 
 fn orbit_of(alloc: Global, cells: &[(i32, i32)]) -> Result<Option<Orbit>, CellFault>
