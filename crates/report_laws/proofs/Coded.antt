@@ -126,11 +126,11 @@ objects-coded (Found rule (Ash population parts) ∷ found) h =
     each-append IsSolidObject (part_objects rule parts) (objects found) (parts-coded rule parts h.0) (objects-coded found h.1)
 objects-coded (Refused number ∷ found) h = objects-coded found h.1
 
-distinct-each : {A : Type 0} (P : A → Type 0) (same : A → A → Bool) (xs : List A) → Each P xs → Each P (distinct same xs)
+pub distinct-each : {A : Type 0} (P : A → Type 0) (same : A → A → Bool) (xs : List A) → Each P xs → Each P (distinct same xs)
 distinct-each P same [] h = tt
 distinct-each P same (x ∷ xs) h = (h.0, each-filter P (λ y. not (same x y)) (distinct same xs) (distinct-each P same xs h.1))
 
-counted-each : {A : Type 0} (P : A → Type 0) (f : A → ℕ) (xs : List A) → Each P xs → Each (λ (x : A × ℕ). P x.0) (map (λ x. (x, f x)) xs)
+pub counted-each : {A : Type 0} (P : A → Type 0) (f : A → ℕ) (xs : List A) → Each P xs → Each (λ (x : A × ℕ). P x.0) (map (λ x. (x, f x)) xs)
 counted-each P f [] h = tt
 counted-each P f (x ∷ xs) h = (h.0, counted-each P f xs h.1)
 

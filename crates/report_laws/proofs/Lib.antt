@@ -9,3 +9,9 @@ pub mod Cut
 pub mod Named
 pub mod ReadBack
 pub mod Fitting
+pub mod Rowed
+pub mod Laid
+pub mod Counted
+pub mod Formed
+pub mod Ranged
+pub mod Readable

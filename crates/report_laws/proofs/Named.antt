@@ -37,7 +37,7 @@ no-feeds (b ∷ bytes) e =
 name-flat : (name : List ℕ) → is_name name ≡ true → HasNoFeed name
 name-flat name e = no-feeds name (both _ _ (both _ _ (both _ _ e).1).1).0
 
-each-of : {X : Type 0} (P : X → Type 0) (xs : List X) → All P xs → Each P xs
+pub each-of : {X : Type 0} (P : X → Type 0) (xs : List X) → All P xs → Each P xs
 each-of P [] h = tt
 each-of P (x ∷ xs) h = (h 0 x (omega arith), each-of P xs (λ k d less. h (suc k) d (omega arith)))
 

@@ -46,7 +46,7 @@ row-line c row own isnt =
     ∙ written (saying row).word (decimal (collection_of row) ∷ (saying row).fields)
     ∙ ap (λ k. said_line k (saying row)) own
 
-rows-line : (c : ℕ) (rows : List Row) → AreOwned c rows → text_of rows ≡ group_line c (map saying rows)
+pub rows-line : (c : ℕ) (rows : List Row) → AreOwned c rows → text_of rows ≡ group_line c (map saying rows)
 rows-line c [] h = refl
 rows-line c (row ∷ rows) h =
     ap (λ w. w ++ text_of rows) (row-line c row h.0 h.1) ∙ ap (λ w. said_line c (saying row) ++ w) (rows-line c rows h.2)
@@ -73,7 +73,7 @@ told-text : (groups : List Group) → text_of (rows_in groups) ≡ owned_text (t
 told-text [] = refl
 told-text (group ∷ groups) = text-append group.rows (rows_in groups) ∙ ap (λ w. text_of group.rows ++ w) (told-text groups)
 
-end-text : (b : List Folder) → text_of (End (length b) (pattern_count b) ∷ []) ≡ end_line b
+pub end-text : (b : List Folder) → text_of (End (length b) (pattern_count b) ∷ []) ≡ end_line b
 end-text b =
     append-nil (line_of (End (length b) (pattern_count b)))
     ∙ written (codes "end") (decimal (length b) ∷ decimal (pattern_count b) ∷ [])

@@ -1,3 +1,4 @@
 pub mod Said
 pub mod Telling
 pub mod Joining
+pub mod Ranges

@@ -13,6 +13,7 @@ ghost use Rattle.census_readback.specs.Texts.{text_of};
 ghost use Rattle.census_rows.specs.declared.row.Row.{Row};
 ghost use Rattle.life_answer.specs.declared.question.Question.{Question};
 ghost use Rattle.report_laws.specs.Joining.{AreBundles, EachIsReport, EachTells, IsBundle, bundles, texts};
+ghost use Rattle.report_laws.specs.Ranges.{InRange, Readable};
 ghost use Rattle.report_laws.specs.Telling.{Tells};
 
 /// Rows that tell what is found of a bundle's patterns are, written line by line, a lawful report of it.
@@ -47,4 +48,10 @@ pub fn reports_that_fit_are_merged()
     ensures { (question : Question) (parts : List (List Folder)) (reports : List (List ℕ)) (rows : List Row)
         → AreBundles parts → EachIsReport question parts reports → IsReadBack rows (texts reports)
         → length (bundles parts) ≤ 65535 → first_excess 1 none rows ≡ None }
+{}
+
+/// A lawful report of a bundle is read back, where the numbers that are found of its patterns are in the range of a line.
+pub fn a_lawful_report_in_range_is_read()
+    ensures { (b : List Folder) (question : Question) (text : List ℕ) → IsBundle b → InRange b question
+        → IsReport b question text → Readable text }
 {}

@@ -1,0 +1,162 @@
+-- The rows that say what is said of a collection have the shape of a section.
+use Rattle.std.proofs.Common.{◌≡◌, ℕ, zero, suc, ◌+◌, ◌<◌, ◌≤◌, Bool, true, false, cond, subst, List, [], ◌∷◌, ◌++◌, map, length, count_by, ap, ◌∙◌, sym, refl, arith, append_assoc, append-nil}
+use Rattle.std.proofs.lemmas.List.Sums.{sum_by-cons}
+use Rattle.census_bundle.specs.declared.bundle.Entry.{Entry}
+use Rattle.census_bundle.specs.declared.bundle.Folder.{Folder}
+use Rattle.census_format.specs.Lines.{answer_to_entry, answers}
+use Rattle.census_format.specs.Lines as book
+use Rattle.census_format.specs.Objects.{Object}
+use Rattle.census_readback.specs.Shapes.{AreCodes, AreLines, IsSection, any, is_ash, is_refused, is_resolved, is_unresolved, joined, lines_that, patterns_in}
+use Rattle.census_rows.specs.declared.row.Outcome.{Outcome}
+use Rattle.census_rows.specs.declared.row.Row.{Row}
+use Rattle.census_rows.specs.declared.row.Row.TheVariants.{Open, Line, Part, Code, Close, End}
+use Rattle.life_answer.specs.declared.finding.Answer.{Answer}
+use Rattle.life_answer.specs.declared.finding.Answer.TheVariants.{Found, Refused}
+use Rattle.life_answer.specs.declared.finding.Finding.TheVariants.{Recurs, Unresolved, Large, Ash}
+use Rattle.life_answer.specs.declared.part.Part as part
+use Rattle.life_answer.specs.declared.question.Question.{Question}
+use Rattle.report_laws.proofs.Counted.{codes-open-none, lines-open-none, patterns-append}
+use Rattle.report_laws.proofs.Rowed.{answer_rows, close_row, code_row, code_rows, counted_in, open_row, outcome_of, part_row, part_rows, pattern_rows, section_rows}
+
+joined-append : (xs ys : List (List Row)) → joined (xs ++ ys) ≡ joined xs ++ joined ys
+joined-append [] ys = refl
+joined-append (x ∷ xs) ys = ap (λ w. x ++ w) (joined-append xs ys) ∙ sym (append_assoc x (joined xs) (joined ys))
+
+-- ---- `line` lines and those after them
+
+parts-ordered : (c i : ℕ) (parts : List part.Part) (rest : List Row) → AreLines i true rest → AreLines i true (map (part_row c i) parts ++ rest)
+parts-ordered c i [] rest h = h
+parts-ordered c i (p ∷ parts) rest h = (refl, refl, parts-ordered c i parts rest h)
+
+after-ordered : (c i : ℕ) (found : Answer) (rest : List Row) → ((ash : Bool) → AreLines i ash rest) → AreLines i (is_ash (outcome_of found)) (part_rows c i found ++ rest)
+after-ordered c i (Found rule (Recurs population onset period dx dy code)) rest h = h false
+after-ordered c i (Found rule (Unresolved population)) rest h = h false
+after-ordered c i (Found rule (Large population generation)) rest h = h false
+after-ordered c i (Found rule (Ash population parts)) rest h = parts-ordered c i parts rest (h true)
+after-ordered c i (Refused number) rest h = h false
+
+ordered : (question : Question) (c last i : ℕ) (ash : Bool) (es : List Entry) → i ≡ last + 1 → AreLines last ash (joined (pattern_rows question c i es))
+ordered question c last i ash [] e = tt
+ordered question c last i ash (x ∷ es) e =
+    let found = answer_to_entry question x in
+    let rest = joined (pattern_rows question c (suc i) es) in
+    let next : suc i ≡ i + 1 = omega arith in
+    (e, subst (λ k. AreLines k (is_ash (outcome_of found)) (part_rows c i found ++ rest)) e
+        (after-ordered c i found rest (λ after. ordered question c i (suc i) after es next)))
+
+-- ---- how many there are
+
+lines-append : (kind : Outcome → Bool) (xs ys : List Row) → lines_that kind (xs ++ ys) ≡ lines_that kind xs + lines_that kind ys
+lines-append kind [] ys = (let e : lines_that kind ys ≡ 0 + lines_that kind ys = omega arith in e)
+lines-append kind (x ∷ xs) ys = (let inner = lines-append kind xs ys in omega (arith, inner))
+
+parts-none : (kind : Outcome → Bool) (c i : ℕ) (parts : List part.Part) → lines_that kind (map (part_row c i) parts) ≡ 0
+parts-none kind c i [] = refl
+parts-none kind c i (p ∷ parts) = let e = parts-none kind c i parts in omega (arith, e)
+
+no-lines : (kind : Outcome → Bool) (c i : ℕ) (found : Answer) → lines_that kind (part_rows c i found) ≡ 0
+no-lines kind c i (Found rule (Recurs population onset period dx dy code)) = refl
+no-lines kind c i (Found rule (Unresolved population)) = refl
+no-lines kind c i (Found rule (Large population generation)) = refl
+no-lines kind c i (Found rule (Ash population parts)) = parts-none kind c i parts
+no-lines kind c i (Refused number) = refl
+
+lines-counted : (kind : Outcome → Bool) (test : Answer → Bool) → ((found : Answer) → kind (outcome_of found) ≡ test found) → (question : Question) (c i : ℕ) (es : List Entry)
+    → lines_that kind (joined (pattern_rows question c i es)) ≡ count_by test (answers question es)
+lines-counted kind test same question c i [] = refl
+lines-counted kind test same question c i (x ∷ es) =
+    let found = answer_to_entry question x in
+    let apart = lines-append kind (part_rows c i found) (joined (pattern_rows question c (suc i) es)) in
+    let none = no-lines kind c i found in
+    let rest = lines-counted kind test same question c (suc i) es in
+    let after : lines_that kind (part_rows c i found ++ joined (pattern_rows question c (suc i) es)) ≡ count_by test (answers question es) = omega (arith, apart, none, rest) in
+    ap (λ v. cond v 1 0 + lines_that kind (part_rows c i found ++ joined (pattern_rows question c (suc i) es))) (same found)
+    ∙ ap (λ n. cond (test found) 1 0 + n) after
+    ∙ sym (sum_by-cons (λ found. cond (test found) 1 0) found (answers question es))
+
+-- ---- a section
+
+resolved-same : (found : Answer) → is_resolved (outcome_of found) ≡ book.is_resolved found
+resolved-same (Found rule (Recurs population onset period dx dy code)) = refl
+resolved-same (Found rule (Unresolved population)) = refl
+resolved-same (Found rule (Large population generation)) = refl
+resolved-same (Found rule (Ash population parts)) = refl
+resolved-same (Refused number) = refl
+
+unresolved-same : (found : Answer) → is_unresolved (outcome_of found) ≡ book.is_unresolved found
+unresolved-same (Found rule (Recurs population onset period dx dy code)) = refl
+unresolved-same (Found rule (Unresolved population)) = refl
+unresolved-same (Found rule (Large population generation)) = refl
+unresolved-same (Found rule (Ash population parts)) = refl
+unresolved-same (Refused number) = refl
+
+refused-same : (found : Answer) → is_refused (outcome_of found) ≡ book.is_refused found
+refused-same (Found rule (Recurs population onset period dx dy code)) = refl
+refused-same (Found rule (Unresolved population)) = refl
+refused-same (Found rule (Large population generation)) = refl
+refused-same (Found rule (Ash population parts)) = refl
+refused-same (Refused number) = refl
+
+all-counted : (question : Question) (es : List Entry) → count_by (λ found. true) (answers question es) ≡ length es
+all-counted question [] = refl
+all-counted question (x ∷ es) =
+    let first = sum_by-cons (λ found. cond true 1 0) (answer_to_entry question x) (answers question es) in
+    let rest = all-counted question es in
+    omega (arith, first, rest)
+
+codes-are : (c : ℕ) (counted : List (Object × ℕ)) → AreCodes (joined (code_rows c counted))
+codes-are c [] = tt
+codes-are c (x ∷ counted) = codes-are c counted
+
+module _ (question : Question) (c : ℕ) (f : Folder) where
+  abbrev the_lines : List Row
+  the_lines = joined (pattern_rows question c 1 f.entries)
+
+  abbrev the_codes : List Row
+  the_codes = joined (code_rows c (counted_in question f))
+
+  abbrev the_close : Row
+  the_close = close_row c (answers question f.entries) (length f.entries)
+
+  count-any : lines_that any the_lines ≡ length f.entries
+  count-any = lines-counted any (λ found. true) (λ found. refl) question c 1 f.entries ∙ all-counted question f.entries
+
+  written : joined (section_rows question c f) ≡ open_row c f ∷ (the_lines ++ (the_codes ++ the_close ∷ []))
+  written =
+      ap (λ w. open_row c f ∷ w)
+      (joined-append (pattern_rows question c 1 f.entries) (code_rows c (counted_in question f) ++ (the_close ∷ []) ∷ [])
+      ∙ ap (λ w. the_lines ++ w) (joined-append (code_rows c (counted_in question f)) ((the_close ∷ []) ∷ [])))
+
+  closed : the_close ≡ Close c (lines_that any the_lines) (lines_that is_resolved the_lines) (lines_that is_unresolved the_lines) (lines_that is_refused the_lines)
+  closed =
+      let all = sym count-any in
+      let resolved = sym (lines-counted is_resolved book.is_resolved resolved-same question c 1 f.entries) in
+      let unresolved = sym (lines-counted is_unresolved book.is_unresolved unresolved-same question c 1 f.entries) in
+      let refused = sym (lines-counted is_refused book.is_refused refused-same question c 1 f.entries) in
+      λ i. Close c (all i) (resolved i) (unresolved i) (refused i)
+
+  lines-are : AreLines 0 false the_lines
+  lines-are = ordered question c 0 1 false f.entries refl
+
+  pub section-formed : length f.entries ≤ 65535 → IsSection (joined (section_rows question c f))
+  section-formed few = record {
+    first = open_row c f;
+    lines = the_lines;
+    codes = the_codes;
+    collection = c;
+    whole = written ∙ ap (λ row. open_row c f ∷ (the_lines ++ (the_codes ++ row ∷ []))) closed;
+    opens = tt;
+    all = sym count-any;
+    ordered = lines-are;
+    counts = codes-are c (counted_in question f);
+    few = (let e = count-any in omega (arith, e, few));
+  }
+
+  pub section-opens : patterns_in (joined (section_rows question c f)) ≡ length f.entries
+  section-opens =
+      let rest = patterns-append the_lines (the_codes ++ the_close ∷ []) in
+      let ends = patterns-append the_codes (the_close ∷ []) in
+      let none = lines-open-none 0 false the_lines lines-are in
+      let no = codes-open-none the_codes (codes-are c (counted_in question f)) in
+      let all : length f.entries + patterns_in (the_lines ++ (the_codes ++ the_close ∷ [])) ≡ length f.entries = omega (arith, rest, ends, none, no) in
+      ap patterns_in written ∙ all

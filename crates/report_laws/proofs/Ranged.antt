@@ -1,0 +1,136 @@
+-- The rows that say what is said of a bundle stand on lines, where their numbers are in range.
+use Rattle.std.proofs.Common.{◌≡◌, ℕ, zero, suc, ◌+◌, ◌-◌, ◌<◌, ⊎_elim, eq-zero-or-pos, replicate, ◌≤◌, ◌^◌, Bool, true, false, None as Nothing, Some, List, [], ◌∷◌, ◌++◌, map, length, count_by, slice_get, ap, ◌∙◌, sym, refl, arith, subst}
+use Rattle.std.specs.List.{AllByRecursion as Each}
+use Rattle.std.proofs.lemmas.List.{length-append, length-map}
+use Rattle.std.proofs.lemmas.List.Sums.{count_by-le-length}
+use Rattle.std.proofs.lemmas.Option.{slice_get_past}
+use Rattle.census_bundle.specs.Sizes.{IsSmall}
+use Rattle.census_bundle.specs.declared.bundle.Entry.{Entry}
+use Rattle.census_bundle.specs.declared.bundle.Folder.{Folder}
+use Rattle.census_format.specs.Lines.{answer_to_entry, answers, is_refused, is_resolved, is_unresolved}
+use Rattle.census_format.specs.Objects.{Object, distinct, object, objects, part_objects, same_object}
+use Rattle.census_merge.specs.Sums.{sums_of}
+use Rattle.census_readback.specs.Steps.{collection_of}
+use Rattle.census_rows.specs.declared.row.Row.{Row}
+use Rattle.census_rows.specs.declared.row.Row.TheVariants.{Open, Line, Part, Code, Close, End}
+use Rattle.census_rows.specs.Lines.{HasNoBlank, IsOutcome, IsRow, IsWord}
+use Rattle.life_answer.specs.declared.finding.Answer.{Answer}
+use Rattle.life_answer.specs.declared.finding.Answer.TheVariants.{Found, Refused}
+use Rattle.life_answer.specs.declared.finding.Finding.TheVariants.{Recurs, Unresolved, Large, Ash}
+use Rattle.life_answer.specs.declared.part.Part as part
+use Rattle.life_answer.specs.declared.question.Question.{Question}
+use Rattle.life_answer.specs.Parts.{objects_in}
+use Rattle.life_cells.specs.Rules.{rule_text}
+use Rattle.life_model.specs.Rule.{Rule}
+use Rattle.report_laws.specs.Ranges.{HasCode, InRange, IsToldAnswer, IsToldFolder}
+use Rattle.report_laws.proofs.Coded.{IsCodedAnswer, IsSolidObject, IsSolidPart, counted-each, distinct-each, entry-coded, tally-coded}
+use Rattle.report_laws.proofs.Parsed.{solid-plain}
+use Rattle.report_laws.proofs.Rowed.{close_row, code_rows, counted_in, optional_rows, outcome_of, part_row, part_rows, pattern_rows, rows_by, section_rows}
+use Rattle.report_laws.proofs.Solid.{IsSolid, each-append, each-replicate, rule-solid}
+
+-- a row of the collection c, with numbers in range
+abbrev pub IsFit : ℕ → Row → Type 0
+IsFit c row = (collection_of row ≡ c) × (sums_of row ≡ Nothing) × IsRow row
+
+rule-word : (rule : Rule) → IsWord (rule_text rule)
+rule-word rule = (omega arith, solid-plain (rule_text rule) (rule-solid rule))
+
+word : (code : List ℕ) → 0 < length code → IsSolid code → IsWord code
+word code some h = (some, solid-plain code h)
+
+outcome-fits : (found : Answer) → IsToldAnswer found → IsCodedAnswer found → IsOutcome (outcome_of found)
+outcome-fits (Found rule (Recurs population onset period dx dy code)) h k =
+    (rule-word rule, h.0, h.1, h.2, h.3, h.4, word code h.5 k)
+outcome-fits (Found rule (Unresolved population)) h k = (rule-word rule, h)
+outcome-fits (Found rule (Large population generation)) h k = (rule-word rule, h.0, h.1)
+outcome-fits (Found rule (Ash population parts)) h k = (rule-word rule, h.0, h.1)
+outcome-fits (Refused number) h k = h
+
+parts-fit : (c i : ℕ) (parts : List part.Part) → c < 2 ^ 64 → i < 2 ^ 64 → objects_in parts < 2 ^ 64 → Each HasCode parts → Each IsSolidPart parts
+    → Each (IsFit c) (map (part_row c i) parts)
+parts-fit c i [] a b few some h = tt
+parts-fit c i (p ∷ parts) a b few some h =
+    let here : p.count < 2 ^ 64 = omega (arith, few) in
+    let more : objects_in parts < 2 ^ 64 = omega (arith, few) in
+    ((refl, refl, (a, b, word p.code some.0 h.0, here)), parts-fit c i parts a b more some.1 h.1)
+
+after-fit : (c i : ℕ) (found : Answer) → c < 2 ^ 64 → i < 2 ^ 64 → IsToldAnswer found → IsCodedAnswer found → Each (IsFit c) (part_rows c i found)
+after-fit c i (Found rule (Recurs population onset period dx dy code)) a b h k = tt
+after-fit c i (Found rule (Unresolved population)) a b h k = tt
+after-fit c i (Found rule (Large population generation)) a b h k = tt
+after-fit c i (Found rule (Ash population parts)) a b h k = parts-fit c i parts a b h.1 h.2 k
+after-fit c i (Refused number) a b h k = tt
+
+patterns-fit : (question : Question) (c i : ℕ) (es : List Entry) → c < 2 ^ 64 → i + length es < 2 ^ 64 → Each IsToldAnswer (answers question es)
+    → Each (Each (IsFit c)) (pattern_rows question c i es)
+patterns-fit question c i [] a b h = tt
+patterns-fit question c i (e ∷ es) a b h =
+    let found = answer_to_entry question e in
+    let coded = entry-coded question e in
+    let here : i < 2 ^ 64 = omega (arith, b) in
+    (((refl, refl, (a, here, outcome-fits found h.0 coded)), after-fit c i found a here h.0 coded),
+    patterns-fit question c (suc i) es a (omega (arith, b)) h.1)
+
+abbrev HasObjectCode : Object → Type 0
+HasObjectCode o = 0 < length o.code
+
+parts-some : (rule : Rule) (parts : List part.Part) → Each HasCode parts → Each HasObjectCode (part_objects rule parts)
+parts-some rule [] h = tt
+parts-some rule (p ∷ parts) h =
+    each-append HasObjectCode (replicate p.count (object rule p.code)) (part_objects rule parts)
+    (each-replicate HasObjectCode p.count (object rule p.code) h.0) (parts-some rule parts h.1)
+
+objects-some : (found : List Answer) → Each IsToldAnswer found → Each HasObjectCode (objects found)
+objects-some [] h = tt
+objects-some (Found rule (Recurs population onset period dx dy code) ∷ found) h = (h.0.5, objects-some found h.1)
+objects-some (Found rule (Unresolved population) ∷ found) h = objects-some found h.1
+objects-some (Found rule (Large population generation) ∷ found) h = objects-some found h.1
+objects-some (Found rule (Ash population parts) ∷ found) h =
+    each-append HasObjectCode (part_objects rule parts) (objects found) (parts-some rule parts h.0.2) (objects-some found h.1)
+objects-some (Refused number ∷ found) h = objects-some found h.1
+
+counts-fit : (all xs : List Object) → length all < 2 ^ 64 → Each (λ (x : Object × ℕ). x.1 < 2 ^ 64) (map (λ x. (x, count_by (same_object x) all)) xs)
+counts-fit all [] few = tt
+counts-fit all (x ∷ xs) few = (let most = count_by-le-length (same_object x) all in omega (arith, most, few), counts-fit all xs few)
+
+codes-fit : (c : ℕ) (ones : List (Object × ℕ)) → c < 2 ^ 64 → Each (λ (x : Object × ℕ). IsSolidObject x.0) ones
+    → Each (λ (x : Object × ℕ). HasObjectCode x.0) ones → Each (λ (x : Object × ℕ). x.1 < 2 ^ 64) ones → Each (Each (IsFit c)) (code_rows c ones)
+codes-fit c [] a h k few = tt
+codes-fit c (x ∷ ones) a h k few =
+    (((refl, refl, (a, rule-word x.0.rule, word x.0.code k.0 h.0, few.0)), tt), codes-fit c ones a h.1 k.1 few.1)
+
+few-that : (test : Answer → Bool) (question : Question) (es : List Entry) → length es ≤ 65535 → count_by test (answers question es) < 2 ^ 64
+few-that test question es few =
+    let most = count_by-le-length test (answers question es) in
+    let all = length-map es (answer_to_entry question) in
+    omega (arith, most, all, few)
+
+section-fit : (question : Question) (c : ℕ) (f : Folder) → c < 2 ^ 64 → length f.entries ≤ 65535 → IsToldFolder question f
+    → Each (Each (IsFit c)) (section_rows question c f)
+section-fit question c f a few h =
+    let all = objects (answers question f.entries) in
+    let coded = code_rows c (counted_in question f) in
+    let last = (close_row c (answers question f.entries) (length f.entries) ∷ []) ∷ [] in
+    let size : length f.entries < 2 ^ 64 = omega (arith, few) in
+    let counted = codes-fit c (counted_in question f) a (tally-coded same_object question f.entries)
+    (counted-each HasObjectCode (λ x. count_by (same_object x) all) (distinct same_object all) (distinct-each HasObjectCode same_object all (objects-some (answers question f.entries) h.0)))
+    (counts-fit all (distinct same_object all) h.1) in
+    let closes : Each (Each (IsFit c)) last =
+    (((refl, refl, (a, size, few-that is_resolved question f.entries few, few-that is_unresolved question f.entries few, few-that is_refused question f.entries few)), tt), tt) in (
+      ((refl, refl, (a, size)), tt),
+      each-append (Each (IsFit c)) (pattern_rows question c 1 f.entries) (coded ++ last) (patterns-fit question c 1 f.entries a (omega (arith, few)) h.0)
+          (each-append (Each (IsFit c)) coded last counted closes),
+    )
+
+at-fit : (question : Question) (c : ℕ) (b : List Folder) (k : ℕ) → c < 2 ^ 64 → ((j : ℕ) (f : Folder) → slice_get b j ≡ Some f → length f.entries ≤ 65535)
+    → Each (IsToldFolder question) b → Each (Each (IsFit c)) (optional_rows question c (slice_get b k))
+at-fit question c [] k a few h = tt
+at-fit question c (f ∷ b) zero a few h = section-fit question c f a (few 0 f refl) h.0
+at-fit question c (f ∷ b) (suc k) a few h = at-fit question c b k a (λ j g. few (suc j) g) h.1
+
+pub rows-fit : (question : Question) (b : List Folder) → IsSmall b → InRange b question → (c : ℕ) → Each (Each (IsFit c)) (rows_by b question c)
+rows-fit question b small h zero = tt
+rows-fit question b small h (suc k) = ⊎_elim
+    (λ none. subst (λ o. Each (Each (IsFit (suc k))) (optional_rows question (suc k) o)) (sym (slice_get_past b k (omega arith))) tt)
+    (λ some. at-fit question (suc k) b k (omega (arith, small.folders)) small.entries h)
+    (eq-zero-or-pos (length b - k))

@@ -1,0 +1,45 @@
+-- Numbers that a line can tell.
+use Rattle.std.specs.Prelude.{ℕ, FitsSigned, List, ◌<◌, ◌^◌, length}
+use Rattle.std.specs.Int.{w64}
+use Rattle.std.specs.List.{AllByRecursion as Each}
+use Rattle.census_bundle.specs.declared.bundle.Folder.{Folder}
+use Rattle.census_format.specs.Lines.{answers}
+use Rattle.census_format.specs.Objects.{objects}
+use Rattle.census_readback.specs.Reports.{IsReport as IsReadBack}
+use Rattle.census_rows.specs.declared.row.Row.{Row}
+use Rattle.life_answer.specs.Parts.{objects_in}
+use Rattle.life_answer.specs.declared.finding.Answer.{Answer}
+use Rattle.life_answer.specs.declared.finding.Answer.TheVariants.{Found, Refused}
+use Rattle.life_answer.specs.declared.finding.Finding.{Finding}
+use Rattle.life_answer.specs.declared.finding.Finding.TheVariants.{Recurs, Unresolved, Large, Ash}
+use Rattle.life_answer.specs.declared.part.Part.{Part}
+use Rattle.life_answer.specs.declared.question.Question.{Question}
+
+-- the part has a code
+abbrev pub HasCode : Part → Type 0
+HasCode part = 0 < length part.code
+
+-- the numbers found fit 64 bits, and each object has a code
+abbrev pub IsTold : Finding → Type 0
+IsTold (Recurs population onset period dx dy code) =
+    (population < 2 ^ 64) × (onset < 2 ^ 64) × (period < 2 ^ 64) × FitsSigned w64 dx × FitsSigned w64 dy × (0 < length code)
+IsTold (Unresolved population) = population < 2 ^ 64
+IsTold (Large population generation) = (population < 2 ^ 64) × (generation < 2 ^ 64)
+IsTold (Ash population parts) = (population < 2 ^ 64) × (objects_in parts < 2 ^ 64) × Each HasCode parts
+
+abbrev pub IsToldAnswer : Answer → Type 0
+IsToldAnswer (Found rule finding) = IsTold finding
+IsToldAnswer (Refused number) = number < 2 ^ 64
+
+-- what is found of the folder's patterns can be told, and there are fewer than 2^64 objects in all
+abbrev pub IsToldFolder : Question → Folder → Type 0
+IsToldFolder question f = Each IsToldAnswer (answers question f.entries) × (length (objects (answers question f.entries)) < 2 ^ 64)
+
+-- what is found of the bundle's patterns has numbers in the range of a line
+abbrev pub InRange : List Folder → Question → Type 0
+InRange b question = Each (IsToldFolder question) b
+
+-- the text is read back, giving these rows
+pub record Readable (text : List ℕ) : Type 0 where
+  pub rows : List Row
+  pub read : IsReadBack rows text
