@@ -1,5 +1,5 @@
 -- How many patterns rows open, by their collections.
-use Rattle.std.proofs.Common.{◌≡◌, ℕ, zero, suc, ◌+◌, ◌<◌, ◌≤◌, Bool, true, false, eqb, if◌then◌else◌, inl, inr, Option, Some, None, List, [], ◌∷◌, ◌++◌, length, slice_get, ap, ◌∙◌, sym, refl, subst, arith}
+use Rattle.std.proofs.Common.{◌≡◌, ℕ, zero, suc, ◌+◌, ◌<◌, ◌≤◌, Bool, true, false, eqb, if◌then◌else◌, inl, inr, Option, Some, None, List, [], ◌∷◌, ◌++◌, length, slice_get, ap, ◌∙◌, sym, refl, arith}
 use Rattle.std.proofs.lemmas.Bool.{cases_Bool}
 use Rattle.census_bundle.specs.declared.bundle.Folder.{Folder}
 use Rattle.census_format.specs.Lines.{pattern_count}
@@ -85,8 +85,8 @@ total-count body first (f ∷ fs) h =
     let at : first + 0 ≡ first = omega arith in
     let here : patterns_in (rows_of first body) ≡ length f.entries = ap (λ c. patterns_in (rows_of c body)) (sym at) ∙ h 0 in
     let others = total-count body (suc first) fs (λ k.
-        let next : suc first + k ≡ first + suc k = omega arith in
-        ap (λ c. patterns_in (rows_of c body)) next ∙ h (suc k)) in
+    let next : suc first + k ≡ first + suc k = omega arith in
+    ap (λ c. patterns_in (rows_of c body)) next ∙ h (suc k)) in
     omega (arith, here, others)
 
 pub patterns-counted : (body : List Row) (b : List Folder) → AreOf (length b) body → ((k : ℕ) → patterns_in (rows_of (suc k) body) ≡ size_of (slice_get b k))

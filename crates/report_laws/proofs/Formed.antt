@@ -1,5 +1,5 @@
 -- The rows that say what is said of a collection have the shape of a section.
-use Rattle.std.proofs.Common.{◌≡◌, ℕ, zero, suc, ◌+◌, ◌<◌, ◌≤◌, Bool, true, false, cond, subst, List, [], ◌∷◌, ◌++◌, map, length, count_by, ap, ◌∙◌, sym, refl, arith, append_assoc, append-nil}
+use Rattle.std.proofs.Common.{◌≡◌, ℕ, suc, ◌+◌, ◌≤◌, Bool, true, false, cond, subst, List, [], ◌∷◌, ◌++◌, map, length, count_by, ap, ◌∙◌, sym, refl, arith, append_assoc}
 use Rattle.std.proofs.lemmas.List.Sums.{sum_by-cons}
 use Rattle.census_bundle.specs.declared.bundle.Entry.{Entry}
 use Rattle.census_bundle.specs.declared.bundle.Folder.{Folder}
@@ -9,14 +9,14 @@ use Rattle.census_format.specs.Objects.{Object}
 use Rattle.census_readback.specs.Shapes.{AreCodes, AreLines, IsSection, any, is_ash, is_refused, is_resolved, is_unresolved, joined, lines_that, patterns_in}
 use Rattle.census_rows.specs.declared.row.Outcome.{Outcome}
 use Rattle.census_rows.specs.declared.row.Row.{Row}
-use Rattle.census_rows.specs.declared.row.Row.TheVariants.{Open, Line, Part, Code, Close, End}
+use Rattle.census_rows.specs.declared.row.Row.TheVariants.{Close}
 use Rattle.life_answer.specs.declared.finding.Answer.{Answer}
 use Rattle.life_answer.specs.declared.finding.Answer.TheVariants.{Found, Refused}
 use Rattle.life_answer.specs.declared.finding.Finding.TheVariants.{Recurs, Unresolved, Large, Ash}
 use Rattle.life_answer.specs.declared.part.Part as part
 use Rattle.life_answer.specs.declared.question.Question.{Question}
 use Rattle.report_laws.proofs.Counted.{codes-open-none, lines-open-none, patterns-append}
-use Rattle.report_laws.proofs.Rowed.{answer_rows, close_row, code_row, code_rows, counted_in, open_row, outcome_of, part_row, part_rows, pattern_rows, section_rows}
+use Rattle.report_laws.proofs.Rowed.{close_row, code_rows, counted_in, open_row, outcome_of, part_row, part_rows, pattern_rows, section_rows}
 
 joined-append : (xs ys : List (List Row)) → joined (xs ++ ys) ≡ joined xs ++ joined ys
 joined-append [] ys = refl
@@ -40,9 +40,11 @@ ordered question c last i ash [] e = tt
 ordered question c last i ash (x ∷ es) e =
     let found = answer_to_entry question x in
     let rest = joined (pattern_rows question c (suc i) es) in
-    let next : suc i ≡ i + 1 = omega arith in
-    (e, subst (λ k. AreLines k (is_ash (outcome_of found)) (part_rows c i found ++ rest)) e
-        (after-ordered c i found rest (λ after. ordered question c i (suc i) after es next)))
+    let next : suc i ≡ i + 1 = omega arith in (
+      e,
+      subst (λ k. AreLines k (is_ash (outcome_of found)) (part_rows c i found ++ rest)) e
+          (after-ordered c i found rest (λ after. ordered question c i (suc i) after es next)),
+    )
 
 -- ---- how many there are
 

@@ -1,7 +1,7 @@
 -- The rows that say what is said of a bundle stand on lines, where their numbers are in range.
-use Rattle.std.proofs.Common.{◌≡◌, ℕ, zero, suc, ◌+◌, ◌-◌, ◌<◌, ⊎_elim, eq-zero-or-pos, replicate, ◌≤◌, ◌^◌, Bool, true, false, None as Nothing, Some, List, [], ◌∷◌, ◌++◌, map, length, count_by, slice_get, ap, ◌∙◌, sym, refl, arith, subst}
+use Rattle.std.proofs.Common.{◌≡◌, ℕ, zero, suc, ◌+◌, ◌-◌, ◌<◌, ⊎_elim, eq-zero-or-pos, replicate, ◌≤◌, ◌^◌, Bool, None as Nothing, Some, List, [], ◌∷◌, ◌++◌, map, length, count_by, slice_get, sym, refl, arith, subst}
 use Rattle.std.specs.List.{AllByRecursion as Each}
-use Rattle.std.proofs.lemmas.List.{length-append, length-map}
+use Rattle.std.proofs.lemmas.List.{length-map}
 use Rattle.std.proofs.lemmas.List.Sums.{count_by-le-length}
 use Rattle.std.proofs.lemmas.Option.{slice_get_past}
 use Rattle.census_bundle.specs.Sizes.{IsSmall}
@@ -12,8 +12,7 @@ use Rattle.census_format.specs.Objects.{Object, distinct, object, objects, part_
 use Rattle.census_merge.specs.Sums.{sums_of}
 use Rattle.census_readback.specs.Steps.{collection_of}
 use Rattle.census_rows.specs.declared.row.Row.{Row}
-use Rattle.census_rows.specs.declared.row.Row.TheVariants.{Open, Line, Part, Code, Close, End}
-use Rattle.census_rows.specs.Lines.{HasNoBlank, IsOutcome, IsRow, IsWord}
+use Rattle.census_rows.specs.Lines.{IsOutcome, IsRow, IsWord}
 use Rattle.life_answer.specs.declared.finding.Answer.{Answer}
 use Rattle.life_answer.specs.declared.finding.Answer.TheVariants.{Found, Refused}
 use Rattle.life_answer.specs.declared.finding.Finding.TheVariants.{Recurs, Unresolved, Large, Ash}
@@ -67,9 +66,10 @@ patterns-fit question c i [] a b h = tt
 patterns-fit question c i (e ∷ es) a b h =
     let found = answer_to_entry question e in
     let coded = entry-coded question e in
-    let here : i < 2 ^ 64 = omega (arith, b) in
-    (((refl, refl, (a, here, outcome-fits found h.0 coded)), after-fit c i found a here h.0 coded),
-    patterns-fit question c (suc i) es a (omega (arith, b)) h.1)
+    let here : i < 2 ^ 64 = omega (arith, b) in (
+      ((refl, refl, (a, here, outcome-fits found h.0 coded)), after-fit c i found a here h.0 coded),
+      patterns-fit question c (suc i) es a (omega (arith, b)) h.1,
+    )
 
 abbrev HasObjectCode : Object → Type 0
 HasObjectCode o = 0 < length o.code

@@ -4,15 +4,14 @@ use Rattle.std.specs.List.{AllByRecursion as Each}
 use Rattle.std.proofs.lemmas.Option.{slice_get_past}
 use Rattle.census_bundle.specs.declared.bundle.Folder.{Folder}
 use Rattle.census_format.specs.Lines.{end_line, pattern_count}
-use Rattle.census_format.specs.Reports.{IsReport, lines_of}
-use Rattle.census_merge.specs.Sums.{sums_of}
+use Rattle.census_format.specs.Reports.{IsReport}
 use Rattle.census_readback.specs.Shapes.{AreOf, IsSection, IsWhole, joined, patterns_in, rows_of}
 use Rattle.census_readback.specs.Steps.{collection_of}
 use Rattle.census_readback.specs.Texts.{AllLines, HasNoFeed, IsLine, text_of}
 use Rattle.census_readback.proofs.Rows.{lines-more}
 use Rattle.census_rows.specs.declared.row.Row.{Row}
 use Rattle.census_rows.specs.declared.row.Row.TheVariants.{End}
-use Rattle.census_rows.specs.Lines.{behind, row_text}
+use Rattle.census_rows.specs.Lines.{row_text}
 use Rattle.life_answer.specs.declared.question.Question.{Question}
 use Rattle.report_laws.specs.Joining.{IsBundle}
 use Rattle.report_laws.specs.Ranges.{InRange, Readable}

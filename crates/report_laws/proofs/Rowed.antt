@@ -1,19 +1,16 @@
 -- The rows that say what is said of a bundle.
-use Rattle.std.proofs.Common.{◌≡◌, ℕ, zero, suc, ◌+◌, ◌<◌, ◌≤◌, ◌^◌, Bor, None as Nothing, Option, Some, List, [], ◌∷◌, ◌++◌, map, length, count_by, slice_get, ap, ◌∙◌, sym, refl, arith, append_assoc}
+use Rattle.std.proofs.Common.{◌≡◌, ℕ, suc, Bor, None as Nothing, Option, Some, List, [], ◌∷◌, ◌++◌, map, length, count_by, ap, ◌∙◌, refl}
 use Rattle.std.specs.Prelude.{codes, decimal}
 use Rattle.std.proofs.lemmas.List.{map-append}
-use Rattle.std.specs.List.{AllByRecursion as Each}
 use Rattle.census_bundle.specs.declared.bundle.Entry.{Entry}
 use Rattle.census_bundle.specs.declared.bundle.Folder.{Folder}
 use Rattle.census_bundle.specs.Tickets.{numbered}
 use Rattle.census_format.specs.Lines.{answer_to_entry, answers, finding_fields, is_refused, is_resolved, is_unresolved}
 use Rattle.census_format.specs.Objects.{Object, objects, same_object, tally}
-use Rattle.census_merge.specs.Sums.{sums_of}
-use Rattle.census_readback.specs.Steps.{collection_of}
 use Rattle.census_rows.specs.declared.row.Outcome.{Outcome}
 use Rattle.census_rows.specs.declared.row.Outcome.TheVariants as outcomes
 use Rattle.census_rows.specs.declared.row.Row.{Row}
-use Rattle.census_rows.specs.declared.row.Row.TheVariants.{Open, Line, Part, Code, Close, End}
+use Rattle.census_rows.specs.declared.row.Row.TheVariants.{Open, Line, Part, Code, Close}
 use Rattle.census_rows.specs.Lines.{outcome_fields}
 use Rattle.life_answer.specs.declared.finding.Answer.{Answer}
 use Rattle.life_answer.specs.declared.finding.Answer.TheVariants.{Found, Refused}
@@ -22,9 +19,8 @@ use Rattle.life_answer.specs.declared.part.Part as part
 use Rattle.life_answer.specs.declared.question.Question.{Question}
 use Rattle.life_answer.specs.Parts.{objects_in}
 use Rattle.life_cells.specs.Rules.{rule_text}
-use Rattle.report_laws.specs.Said.{Said, said, said_answer, said_by, said_close, said_code, said_of, said_part, said_parts, said_patterns, said_section}
+use Rattle.report_laws.specs.Said.{said, said_answer, said_by, said_close, said_code, said_of, said_part, said_parts, said_patterns, said_section}
 use Rattle.report_laws.specs.Telling.{saying}
-use Rattle.report_laws.proofs.Solid.{each-append}
 
 -- these bytes, wherever they stand
 abbrev pub lent : List ℕ → Bor (List ℕ)
