@@ -16,9 +16,9 @@ use Rattle.census_cli.specs.declared.fault.WordsFault.TheVariants.{Help, Refused
 told : (words : List (List ℕ)) (kind : ErrorKind) (fault : WordsFault) → TellsKind kind fault
     → (kind ≡ OutOfMemory) ⊎ IsAmong kind (fault_of census_app words) → Refuses words fault
 told words kind (Help text) (inl help) (inl memory) = cc
-told words kind (Help text) (inr version) (inl memory) = cc
+told words kind (Help text) (inr (version, same)) (inl memory) = cc
 told words kind (Help text) (inl help) (inr among) = inl (subst (λ (k : ErrorKind). IsAmong k (fault_of census_app words)) help among)
-told words kind (Help text) (inr version) (inr among) = inr (subst (λ (k : ErrorKind). IsAmong k (fault_of census_app words)) version among)
+told words kind (Help text) (inr (version, same)) (inr among) = inr (subst (λ (k : ErrorKind). IsAmong k (fault_of census_app words)) version among, same)
 told words kind (Refused text) tells (inl memory) = absurd (tells.2 memory)
 told words kind (Refused text) tells (inr among) = inl (record { kind = kind; among = among; no_help = tells.0; no_version = tells.1; no_memory = tells.2 })
 told words kind Memory tells h = tt

@@ -1,5 +1,5 @@
 -- Why the words of a command line are no request.
-use Rattle.std.specs.Prelude.{◌≡◌, ◌≢◌, ◌⊎◌, ℕ, List, Option, Some, None, true, codes}
+use Rattle.std.specs.Prelude.{◌≡◌, ◌≢◌, ◌⊎◌, ℕ, List, Option, Some, None, true, codes, string_bytes}
 use Rattle.clap.specs.Faults.{fault_of}
 use Rattle.clap.specs.Kinds.{IsAmong}
 use Rattle.clap.specs.Simple.{subcommand_of}
@@ -12,15 +12,24 @@ use Rattle.census_cli.specs.declared.fault.WordsFault.{WordsFault}
 use Rattle.census_cli.specs.declared.fault.WordsFault.TheVariants.{Help, Refused, Memory}
 use Rattle.census_cli.specs.declared.request.TableFormat.{TableFormat}
 
--- how an error of clap is told, by its kind
+-- what is written of the version: the program's, and the logic of the kit that proves it
+abbrev pub version_text : List ℕ
+version_text = codes "census 0.1.0\nrattle logic dac8208d650f15bf\n"
+
+-- how an error of clap is told, by its kind: for the version exactly its text goes out
 abbrev pub TellsKind : ErrorKind → WordsFault → Type 0
-TellsKind kind (Help text) = (kind ≡ DisplayHelp) ⊎ (kind ≡ DisplayVersion)
+TellsKind kind (Help text) = (kind ≡ DisplayHelp) ⊎ ((kind ≡ DisplayVersion) × (string_bytes text ≡ version_text))
 TellsKind kind (Refused text) = (kind ≢ DisplayHelp) × (kind ≢ DisplayVersion) × (kind ≢ OutOfMemory)
 TellsKind kind Memory = Unit {0}
 
 -- clap answers the words with help or with the version, and has no matches for them
 abbrev pub AsksHelp : List (List ℕ) → Type 0
 AsksHelp words = IsAmong DisplayHelp (fault_of census_app words) ⊎ IsAmong DisplayVersion (fault_of census_app words)
+
+-- the words are answered with this text: some text of clap's where it answers them with help, and with the version exactly its own
+abbrev pub AsksText : List (List ℕ) → List ℕ → Type 0
+AsksText words text =
+    IsAmong DisplayHelp (fault_of census_app words) ⊎ (IsAmong DisplayVersion (fault_of census_app words) × (text ≡ version_text))
 
 -- clap refuses the words, and not because memory ran out
 pub record IsUnmatched (words : List (List ℕ)) : Type 0 where
@@ -58,6 +67,6 @@ IsRefused words = IsUnmatched words ⊎ AsksTwoFormats words
 
 -- why the words are no request
 abbrev pub Refuses : List (List ℕ) → WordsFault → Type 0
-Refuses words (Help text) = AsksHelp words
+Refuses words (Help text) = AsksText words (string_bytes text)
 Refuses words (Refused text) = IsRefused words
 Refuses words Memory = Unit {0}

@@ -8,6 +8,7 @@ ghost use Rattle.census_cli.specs.CommandLine.{bound_rule, cells_rule, code_rule
 ghost use Rattle.census_cli.specs.CommandLine.{files_rule, folder_rule, generations_rule, input_rule, json_rule, keep_going_rule, limit_rule};
 ghost use Rattle.census_cli.specs.CommandLine.{no_progress_rule, recursive_rule, reports_rule, rule_rule, search_rule, workers_rule};
 
+use crate::fault::VERSION_TEXT;
 use crate::help;
 use clap::error::ErrorKind;
 use clap::{Arg, ArgAction, Command, value_parser};
@@ -309,15 +310,12 @@ pub(crate) fn two_formats(alloc: Global) -> Result<String, AllocError> {
     format!(in alloc; "{error}")
 }
 
-// The program's version, and the logic of the kit that proves it, as `rt version` ends.
-const VERSION: &str = "0.1.0\nrattle logic dac8208d650f15bf";
-
 fn bare<'a>(alloc: Global) -> Result<Command<'a>, AllocError>
     ensures { IfOk result (λ c. app_of c ≡ bare_app) }
 {
     let named = Command::new(alloc, "census")
         .about("Takes a census of Life-like patterns: what each becomes on the unbounded plane")
-        .version(VERSION)
+        .version(VERSION_TEXT)
         .after_help(help::PROGRAM)
         .bin_name("census")?;
     Ok(named.no_binary_name(true).subcommand_required(true))

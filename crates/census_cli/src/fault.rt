@@ -1,5 +1,6 @@
 //! Why words ask for nothing that can be done.
 ghost use Rattle.clap.specs.Values.{kind_of};
+ghost use Rattle.clap.specs.declared.error.kind.ErrorKind.TheVariants.{DisplayVersion};
 ghost use Rattle.census_cli.specs.Refusing.{TellsKind};
 
 use clap::error::ErrorKind;
@@ -41,7 +42,20 @@ impl<T: Drop> From<AllocFailed<T>> for WordsFault {
     }
 }
 
-// The fault that an error of clap is.
+// What `--version` writes: the program's version, and the logic of the kit that proves it, as `rt version` ends.
+pub(crate) const VERSION_TEXT: &str = "census 0.1.0\nrattle logic dac8208d650f15bf\n";
+
+// The text of the version, to be printed.
+fn version_fault(alloc: Global) -> WordsFault
+    ensures { TellsKind DisplayVersion result }
+{
+    match String::from_str(alloc, VERSION_TEXT) {
+        Ok(text) => WordsFault::Help(text),
+        Err(_) => WordsFault::Memory,
+    }
+}
+
+// The fault that an error of clap is. The version is told by its own text, and not by clap's.
 pub(crate) fn fault_of(alloc: Global, error: &clap::Error) -> WordsFault
     ensures { TellsKind (kind_of error.now) result }
 {
@@ -51,7 +65,8 @@ pub(crate) fn fault_of(alloc: Global, error: &clap::Error) -> WordsFault
     };
     match error.kind() {
         ErrorKind::OutOfMemory => WordsFault::Memory,
-        ErrorKind::DisplayHelp | ErrorKind::DisplayVersion => WordsFault::Help(text),
+        ErrorKind::DisplayHelp => WordsFault::Help(text),
+        ErrorKind::DisplayVersion => version_fault(alloc),
         _ => WordsFault::Refused(text),
     }
 }

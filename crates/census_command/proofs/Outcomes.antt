@@ -6,7 +6,7 @@ use Rattle.census_folders.specs.Trees.{HoldsTrees, StopsTrees}
 use Rattle.census_folders.specs.Walks.{StopsWalk}
 use Rattle.census_bundle.specs.declared.bundle.AddFault.{AddFault}
 use Rattle.census_cli.specs.Asking.{Asks, AsksToExplain}
-use Rattle.census_cli.specs.Refusing.{AsksHelp, IsRefused, Refuses}
+use Rattle.census_cli.specs.Refusing.{AsksHelp, AsksText, IsRefused, Refuses}
 use Rattle.census_cli.specs.declared.fault.WordsFault.{WordsFault}
 use Rattle.census_cli.specs.declared.fault.WordsFault.TheVariants as words_fault
 use Rattle.census_cli.specs.declared.request.Request.{Request}
@@ -289,15 +289,20 @@ module _ (shelf : Tellings) (words : List (List ℕ)) (before after : State) (ol
         }
 
   module _ (status : ℕ) where
+    -- words that are answered with a text ask for help
+    asks_help : (text : List ℕ) → AsksText words text → AsksHelp words
+    asks_help text (inl help) = inl help
+    asks_help text (inr (version, same)) = inr version
+
     -- help was written
-    ends_helped : (text : List ℕ) → AsksHelp words → status ≡ 0 → Shows text before after old new → Ends shelf words status before after old new
+    ends_helped : (text : List ℕ) → AsksText words text → status ≡ 0 → Shows text before after old new → Ends shelf words status before after old new
     ends_helped text help is shows = record {
       known = omega arith;
-      done = λ h. inr (record { asked = help; text = text; written = shows.written; unread = shows.unread }, shows.quiet);
+      done = λ h. inr (record { text = text; asked = help; written = shows.written; unread = shows.unread }, shows.quiet);
       quiet = λ h unwanted. shows.quiet;
       faulty = λ h. absurd (omega arith);
       refused = λ h. absurd (omega arith);
-      unmatched = λ h. inr (inr help);
+      unmatched = λ h. inr (inr (asks_help text help));
       memory = λ h. absurd (omega arith);
       failed = λ h. absurd (omega arith);
       cut = λ h. absurd (omega arith);
@@ -307,16 +312,16 @@ module _ (shelf : Tellings) (words : List (List ℕ)) (before after : State) (ol
     }
 
     -- a prefix of it was
-    ends_cut : (text : List ℕ) → AsksHelp words → status ≡ 4 → ShowsInPart text before after old new → Ends shelf words status before after old new
+    ends_cut : (text : List ℕ) → AsksText words text → status ≡ 4 → ShowsInPart text before after old new → Ends shelf words status before after old new
     ends_cut text help is shows =
-        let part : HelpsInPart words before after = record { asked = help; text = text; written = shows.written; unread = shows.unread } in
+        let part : HelpsInPart words before after = record { text = text; asked = help; written = shows.written; unread = shows.unread } in
         record {
           known = omega arith;
           done = λ h. absurd (omega arith);
           quiet = λ h unwanted. absurd (omega arith);
           faulty = λ h. absurd (omega arith);
           refused = λ h. absurd (omega arith);
-          unmatched = λ h. inr (inr help);
+          unmatched = λ h. inr (inr (asks_help text help));
           memory = λ h. absurd (omega arith);
           failed = λ h. inl (inr shows.fails.write);
           cut = λ h. inr (inr part);

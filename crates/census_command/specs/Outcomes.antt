@@ -14,7 +14,7 @@ use Rattle.census_bundle.specs.declared.fault.BundleFault.{BundleFault}
 use Rattle.census_crew.specs.Bytes.{ReadsFault, input_limit}
 use Rattle.census_folders.specs.declared.fault.FoldersFault.TheVariants as folder_fault
 use Rattle.census_cli.specs.Asking.{Asks, AsksToExplain, IsMatched}
-use Rattle.census_cli.specs.Refusing.{AsksHelp, IsRefused}
+use Rattle.census_cli.specs.Refusing.{AsksHelp, AsksText, IsRefused}
 use Rattle.census_cli.specs.declared.fault.WordsFault.{WordsFault}
 use Rattle.census_cli.specs.declared.fault.WordsFault.TheVariants.{Help, Refused, Memory}
 use Rattle.census_cli.specs.declared.request.Request.{Request}
@@ -66,10 +66,10 @@ pub record DoesAsked (shelf : Tellings) (words : List (List ℕ)) (before after 
   pub done : Does shelf request explain lines before after
   pub told : TellsIf explain lines old new
 
--- The words ask for help, and some text was written; nothing was read.
+-- The words ask for help or for the version, and a text that answers them was written; nothing was read.
 pub record Helps (words : List (List ℕ)) (before after : State) : Type 0 where
-  pub asked : AsksHelp words
   pub text : List ℕ
+  pub asked : AsksText words text
   pub written : Appends before.written after.written text
   pub unread : after.unread ≡ before.unread
 
@@ -122,10 +122,10 @@ pub record DoesAskedInPart (shelf : Tellings) (words : List (List ℕ)) (before 
   pub asked : Asks words request
   pub part : DoesInPart shelf request before after
 
--- The words ask for help, and a prefix of some text was written; nothing was read.
+-- The words ask for help or for the version, and a prefix of a text that answers them was written; nothing was read.
 pub record HelpsInPart (words : List (List ℕ)) (before after : State) : Type 0 where
-  pub asked : AsksHelp words
   pub text : List ℕ
+  pub asked : AsksText words text
   pub written : AppendsFront before.written after.written text
   pub unread : after.unread ≡ before.unread
 
