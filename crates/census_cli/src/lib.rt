@@ -3,7 +3,7 @@
 //! drawing of a code; `merge`, one report of several; `table`, a row for each pattern of reports; `page`, one
 //! HTML page of reports; help; or the version.
 //!
-//! Tested in `tests_inputs`.
+//! Tested in `tests_words`.
 #![tactic(auto)]
 
 mod command;

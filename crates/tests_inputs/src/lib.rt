@@ -1,5 +1,4 @@
-//! Tests of what the program is given: words of a command line, folders of files, and readers and writers that
-//! end, fail, stop or go on without end.
+//! Tests of what the program is given: folders of files, and readers and writers that end, fail, stop or go on without end.
 //!
 //! What the built program reads of folders is in `checks/rows`, and where a read fails or memory is refused in `checks/ends` and
 //! `checks/growths`.
@@ -16,7 +15,5 @@ mod memory;
 mod shown;
 #[cfg(test)]
 mod trees;
-#[cfg(test)]
-mod words;
 
 pub use memory::{Leaf, Memory};
