@@ -1,0 +1,268 @@
+-- What is found of patterns whose objects are asked for has numbers in the range of a line.
+use Rattle.std.proofs.Common.{◌≡◌, ℕ, suc, ◌+◌, ◌*◌, ◌<◌, ◌≤◌, ◌^◌, true, false, cond, inl, inr, Option, Some, None, Result, Ok, Err, List, [], ◌∷◌, ◌++◌, codes, length, map, slice_get, refl, sym, ap, subst, ◌∙◌, arith}
+use Rattle.std.specs.List.{All, AllByRecursion as Each, fold}
+use Rattle.std.specs.declared.cmp.Ordering.{Ordering}
+use Rattle.std.specs.declared.cmp.Ordering.TheVariants.{Less, Equal, Greater}
+use Rattle.std.proofs.lemmas.List.{length-append, length-map}
+use Rattle.std.proofs.lemmas.List.Elements.{All-head, All-tail}
+use Rattle.census_bundle.specs.Sizes.{IsSmall}
+use Rattle.census_bundle.specs.declared.bundle.Entry.{Entry}
+use Rattle.census_bundle.specs.declared.bundle.Folder.{Folder}
+use Rattle.census_format.specs.Lines.{answer_to_entry, answers}
+use Rattle.census_format.specs.Objects.{objects, part_objects}
+use Rattle.census_format.proofs.AshParts.{length-part_objects}
+use Rattle.life_answer.specs.Answers.{fault_number}
+use Rattle.life_answer.specs.Apgcode.{bodies, code_of, prefix}
+use Rattle.life_answer.specs.Census.{census_found, census_of, code_found, part_code}
+use Rattle.life_answer.specs.Limited.{first_past, unless_large}
+use Rattle.life_answer.specs.Parts.{beside, counted_codes, objects_in, with_code}
+use Rattle.life_answer.specs.Questions.{IsAnswered, answer_to, answer_to_question, finding_to}
+use Rattle.life_answer.specs.declared.finding.Answer.{Answer}
+use Rattle.life_answer.specs.declared.finding.Answer.TheVariants.{Found, Refused}
+use Rattle.life_answer.specs.declared.finding.Finding.{Finding}
+use Rattle.life_answer.specs.declared.finding.Finding.TheVariants.{Recurs, Unresolved, Large, Ash}
+use Rattle.life_answer.specs.declared.part.Part.{Part}
+use Rattle.life_answer.specs.declared.question.Question.{Question}
+use Rattle.life_answer.specs.declared.question.Question.TheVariants.{Objects}
+use Rattle.life_answer.proofs.Findings.{settled_or_not}
+use Rattle.life_answer.proofs.Tallying.{counted_all}
+use Rattle.life_ash.proofs.Limits.{past_within}
+use Rattle.life_ash.proofs.Places.{generation_within, place_of}
+use Rattle.life_cells.specs.Limits.{IsWithin}
+use Rattle.life_decided.specs.Decided.{ash_of}
+use Rattle.life_decided.proofs.Deciding.{ash_if_found}
+use Rattle.life_model.specs.Cell.{Cell}
+use Rattle.life_model.specs.Evolution.{generation}
+use Rattle.life_model.specs.Generation.{Generation, cells, contains, from_list, size}
+use Rattle.life_model.specs.Recurrence.{SettlesAt}
+use Rattle.life_model.specs.Rule.{Rule}
+use Rattle.life_model.specs.Symmetry.{moved}
+use Rattle.life_model.proofs.Generations.{cells-from_list}
+use Rattle.life_model.proofs.Recurrences.{generation-zero}
+use Rattle.life_objects.specs.Ash.{IsObject}
+use Rattle.life_shape.specs.TextOrder.{least_text, shorter_cmp}
+use Rattle.life_text.specs.Picture.{picture_of}
+use Rattle.life_text.specs.Reader.{placed}
+use Rattle.life_text.specs.Rle.{Token, body_tokens, cells_after, first_fault, header_rule, unless_fault, with_body}
+use Rattle.life_text.specs.declared.rle.RleFault.{RleFault}
+use Rattle.life_text.specs.declared.rle.RleFault.TheVariants.{NoHeader, BadHeader, RuleNotLifeLike, RuleHasB0, ManyStates, BadChar, BadRun, TooFar, TooMany, NoEnd, Memory}
+use Rattle.life_text.proofs.PictureLemmas.{placed_rises, placed_within}
+use Rattle.life_text.proofs.RisingLemmas.{meaning_rises}
+use Rattle.report_laws.specs.Ranges.{HasCode, InRange, IsTold, IsToldAnswer, IsToldFolder}
+use Rattle.range_laws.proofs.CellCounts.{few_cells, few_parts}
+use Rattle.report_laws.proofs.Solid.{each-map}
+
+-- ---- the codes of parts
+
+abbrev IsSome : List ℕ → Type 0
+IsSome code = 0 < length code
+
+code-some : (R : Rule) (H : Generation) (period : ℕ) (displacement : Cell) → IsSome (code_of R H period displacement)
+unfolding code_of
+code-some R H period displacement =
+    let start = prefix (size H) period displacement in
+    let all = length-append (start ++ codes "_") (least_text (bodies R H period)) in
+    let first = length-append start (codes "_") in
+    let one : length (codes "_") ≡ 1 = refl in
+    omega arith
+
+module _ (R : Rule) (b : ℕ) (P : Generation) (object : IsObject R b P) where
+  settles : SettlesAt R P b 0
+  settles =
+      let n : ℕ = object.recurs.steps in
+      let within : n ≤ b = object.recurs.within in
+      record {
+        steps = n;
+        by = object.recurs.by;
+        later = object.recurs.recurs.later;
+        within = let whole : 0 + n ≤ b = omega arith in whole;
+        again = ap (generation R P) (let e : 0 + n ≡ n = omega arith in e) ∙ object.recurs.recurs.again
+            ∙ ap (λ G. moved G object.recurs.by) (sym (generation-zero R P));
+      }
+
+  part-some : IsSome (part_code R b P)
+  part-some =
+      elim (settled_or_not R P b) [
+        | inl one ↦
+            subst (λ f. IsSome (code_found f)) (sym one.found)
+            (code-some R (generation R P one.onset) one.period one.by)
+        | inr none ↦ absurd (none.nowhere 0 settles)
+      ]
+
+parts-some : (R : Rule) (b : ℕ) (parts : List Generation) → All (IsObject R b) parts
+    → Each IsSome (map (part_code R b) parts)
+parts-some R b [] h = tt
+parts-some R b (P ∷ parts) h =
+    (part-some R b P (All-head (IsObject R b) P parts h), parts-some R b parts (All-tail (IsObject R b) P parts h))
+
+beside-some : (order : Ordering) (code : List ℕ) (part : Part) (parts rest : List Part)
+    → IsSome code → Each HasCode (part ∷ parts) → Each HasCode rest → Each HasCode (beside order code part parts rest)
+beside-some Less code part parts rest h k l = (h, k)
+beside-some Equal code part parts rest h k l = (k.0, k.1)
+beside-some Greater code part parts rest h k l = (k.0, l)
+
+with-some : (code : List ℕ) (parts : List Part) → IsSome code → Each HasCode parts → Each HasCode (with_code code parts)
+with-some code [] h k = (h, tt)
+with-some code (part ∷ parts) h k =
+    beside-some (shorter_cmp code part.code) code part parts (with_code code parts) h k (with-some code parts h k.1)
+
+counted-some : (all : List (List ℕ)) (parts : List Part) → Each IsSome all → Each HasCode parts
+    → Each HasCode (fold (λ parts code. with_code code parts) parts all)
+counted-some [] parts h k = k
+counted-some (code ∷ all) parts h k = counted-some all (with_code code parts) h.1 (with-some code parts h.0 k)
+
+-- ---- what is found of a set
+
+-- the finding can be told, and is of at most 2^48 objects
+abbrev IsRanged : Finding → Type 0
+IsRanged (Recurs population onset period dx dy code) = IsTold (Recurs population onset period dx dy code)
+IsRanged (Unresolved population) = IsTold (Unresolved population)
+IsRanged (Large population generation) = IsTold (Large population generation)
+IsRanged (Ash population parts) = IsTold (Ash population parts) × (objects_in parts ≤ 2 ^ 48)
+
+abbrev IsRangedAnswer : Answer → Type 0
+IsRangedAnswer (Found rule finding) = IsRanged finding
+IsRangedAnswer (Refused number) = number < 2 ^ 64
+
+ranged-told : (finding : Finding) → IsRanged finding → IsTold finding
+ranged-told (Recurs population onset period dx dy code) h = h
+ranged-told (Unresolved population) h = h
+ranged-told (Large population generation) h = h
+ranged-told (Ash population parts) h = h.0
+
+unless-ranged : (found : Finding) (population : ℕ) (large : Option ℕ) → IsRanged found → population < 2 ^ 64
+    → ((n : ℕ) → large ≡ Some n → n < 2 ^ 64) → IsRanged (unless_large found population large)
+unless-ranged found population None h few early = h
+unless-ranged found population (Some n) h few early = (few, early n refl)
+
+module _ (R : Rule) (G : Generation) (b : ℕ) (few : b ≤ 100000) (within : All (IsWithin 0) (cells G)) where
+  abbrev last : Generation
+  last = generation R G b
+
+  within_last : (c : Cell) → contains last c ≡ true → IsWithin b c
+  within_last =
+      place_of b last
+      (subst (λ k. All (IsWithin k) (cells last)) (let e : 0 + b ≡ b = omega arith in e) (generation_within R 0 G within b))
+
+  population_fits : size G < 2 ^ 64
+  population_fits =
+      let most : size G ≤ 2 ^ 48 = few_cells G 0 (omega arith) (place_of 0 G within) in
+      omega arith
+
+  ash-ranged : (parts : List Generation) → ash_of R b last ≡ Some parts
+      → IsRanged (Ash (size G) (counted_codes (map (part_code R b) parts)))
+  ash-ranged parts e =
+      let ash = ash_if_found R b last parts e in
+      let all = map (part_code R b) parts in
+      let most : length parts ≤ 2 ^ 48 = few_parts R b last parts ash b (omega arith) within_last in
+      let counted : objects_in (counted_codes all) ≡ length all = counted_all all in
+      let long : length all ≡ length parts = length-map parts (part_code R b) in
+      let small : objects_in (counted_codes all) ≤ 2 ^ 48 = omega arith in
+      let fits : objects_in (counted_codes all) < 2 ^ 64 = omega arith in
+      ((population_fits, fits, counted-some all [] (parts-some R b parts ash.objects) tt), small)
+
+  found-ranged : (o : Option (List Generation)) → ash_of R b last ≡ o → IsRanged (census_found R b (size G) o)
+  found-ranged None e = population_fits
+  found-ranged (Some parts) e = ash-ranged parts e
+
+  census-ranged : IsRanged (census_of R G b)
+  unfolding census_of
+  census-ranged = found-ranged (ash_of R b last) refl
+
+  finding-ranged : (limit : Option ℕ) → IsRanged (finding_to (Objects b limit) R G)
+  finding-ranged limit =
+      unless-ranged (census_of R G b) (size G) (first_past limit R G (3 * b)) census-ranged population_fits
+      (λ n past. let early : n ≤ 3 * b = past_within R G limit (3 * b) n past in omega arith)
+
+-- ---- what is found of a text
+
+fault-fits : (fault : RleFault) → fault_number fault < 2 ^ 64
+fault-fits NoHeader = omega arith
+fault-fits BadHeader = omega arith
+fault-fits RuleNotLifeLike = omega arith
+fault-fits RuleHasB0 = omega arith
+fault-fits (ManyStates at) = omega arith
+fault-fits (BadChar at) = omega arith
+fault-fits (BadRun at) = omega arith
+fault-fits (TooFar at) = omega arith
+fault-fits (TooMany at) = omega arith
+fault-fits NoEnd = omega arith
+fault-fits Memory = omega arith
+
+module _ (bound : ℕ) (limit : Option ℕ) (answered : IsAnswered (Objects bound limit)) where
+  abbrev question : Question
+  question = Objects bound limit
+
+  body-ranged : (r : Rule) (ts : List Token) (o : Option RleFault) → first_fault [] ts ≡ o
+      → IsRangedAnswer (answer_to question (picture_of (unless_fault o (record { rule = r; cells = cells_after [] ts }))))
+  body-ranged r ts None e =
+      let places = cells_after [] ts in
+      let rises = meaning_rises ts e in
+      finding-ranged r (from_list (map placed places)) bound answered.1
+      (subst (All (IsWithin 0)) (sym (cells-from_list (map placed places) (placed_rises 0 0 places rises)))
+      (placed_within 0 0 places rises))
+      limit
+  body-ranged r ts (Some fault) e = fault-fits fault
+
+  rule-ranged : (r : Result Rule RleFault) (ts : List Token) → IsRangedAnswer (answer_to question (picture_of (with_body r ts)))
+  rule-ranged (Ok r) ts = body-ranged r ts (first_fault [] ts) refl
+  rule-ranged (Err fault) ts = fault-fits fault
+
+  text-ranged : (text : List ℕ) → IsRangedAnswer (answer_to_question question text)
+  unfolding answer_to_question
+  text-ranged text = rule-ranged (header_rule text) (body_tokens text)
+
+  entry-ranged : (e : Entry) → IsRangedAnswer (answer_to_entry question e)
+  unfolding answer_to_entry
+  entry-ranged e =
+      elim e.is_lost as (λ v. IsRangedAnswer (cond v (Refused 0) (answer_to_question question e.text))) [
+        | true ↦ omega arith
+        | false ↦ text-ranged e.text
+      ]
+
+answer-told : (found : Answer) → IsRangedAnswer found → IsToldAnswer found
+answer-told (Found rule finding) h = ranged-told finding h
+answer-told (Refused number) h = h
+
+pub objects_are_told : (bound : ℕ) (limit : Option ℕ) (text : List ℕ) → IsAnswered (Objects bound limit)
+    → IsToldAnswer (answer_to_question (Objects bound limit) text)
+objects_are_told bound limit text answered =
+    answer-told (answer_to_question (Objects bound limit) text) (text-ranged bound limit answered text)
+
+-- ---- what is found of a bundle's patterns
+
+few-objects : (found : List Answer) → Each IsRangedAnswer found → length (objects found) ≤ 2 ^ 48 * length found
+few-objects [] h = omega arith
+few-objects (Found rule (Recurs population onset period dx dy code) ∷ found) h =
+    let rest = few-objects found h.1 in omega arith
+few-objects (Found rule (Unresolved population) ∷ found) h = let rest = few-objects found h.1 in omega arith
+few-objects (Found rule (Large population generation) ∷ found) h = let rest = few-objects found h.1 in omega arith
+few-objects (Found rule (Ash population parts) ∷ found) h =
+    let rest = few-objects found h.1 in
+    let here : objects_in parts ≤ 2 ^ 48 = h.0.1 in
+    let long = length-append (part_objects rule parts) (objects found) in
+    let each = length-part_objects rule parts in
+    omega arith
+few-objects (Refused number ∷ found) h = let rest = few-objects found h.1 in omega arith
+
+all-told : (found : List Answer) → Each IsRangedAnswer found → Each IsToldAnswer found
+all-told [] h = tt
+all-told (a ∷ found) h = (answer-told a h.0, all-told found h.1)
+
+module _ (bound : ℕ) (limit : Option ℕ) (answered : IsAnswered (Objects bound limit)) where
+  folder-told : (f : Folder) → length f.entries ≤ 65535 → IsToldFolder (Objects bound limit) f
+  folder-told f small =
+      let found = answers (Objects bound limit) f.entries in
+      let each = each-map IsRangedAnswer (answer_to_entry (Objects bound limit)) (entry-ranged bound limit answered) f.entries in
+      let most : length (objects found) ≤ 2 ^ 48 * length found = few-objects found each in
+      let long : length found ≡ length f.entries = length-map f.entries (answer_to_entry (Objects bound limit)) in
+      let fits : length (objects found) < 2 ^ 64 = omega arith in
+      (all-told found each, fits)
+
+  folders-told : (b : List Folder) → ((j : ℕ) (f : Folder) → slice_get b j ≡ Some f → length f.entries ≤ 65535)
+      → InRange b (Objects bound limit)
+  folders-told [] small = tt
+  folders-told (f ∷ b) small = (folder-told f (small 0 f refl), folders-told b (λ j g. small (suc j) g))
+
+  pub objects_in_range : (b : List Folder) → IsSmall b → InRange b (Objects bound limit)
+  objects_in_range b small = folders-told b small.entries

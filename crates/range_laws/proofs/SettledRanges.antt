@@ -1,0 +1,171 @@
+-- What is found of patterns that are asked whether they recur has numbers in the range of a line.
+use Rattle.std.proofs.Common.{◌≡◌, ℕ, suc, ◌+◌, ◌<◌, ◌≤◌, ◌^◌, true, false, cond, ⊎_elim, Option, Some, None, Result, Ok, Err, List, [], ◌∷◌, ◌++◌, length, slice_get, sym, refl, arith, subst}
+use Rattle.std.specs.Prelude.{⊤}
+use Rattle.std.specs.List.{AllByRecursion as Each}
+use Rattle.std.proofs.lemmas.List.{length-map}
+use Rattle.census_bundle.specs.Sizes.{IsSmall}
+use Rattle.census_bundle.specs.declared.bundle.Entry.{Entry}
+use Rattle.census_bundle.specs.declared.bundle.Folder.{Folder}
+use Rattle.census_format.specs.Lines.{answer_to_entry, answers}
+use Rattle.census_format.specs.Objects.{objects}
+use Rattle.life_answer.proofs.Findings.{settled_or_not}
+use Rattle.life_answer.proofs.Limits.{first_past-is}
+use Rattle.life_answer.proofs.Texts.{answer-no_ash}
+use Rattle.life_answer.specs.Answers.{fault_number, finding_of, settled}
+use Rattle.life_answer.specs.Apgcode.{bodies, code_of, prefix}
+use Rattle.life_answer.specs.Limited.{first_past, limited, unless_large}
+use Rattle.life_answer.specs.Questions.{IsAnswered, answer_to, answer_to_question}
+use Rattle.life_answer.specs.declared.finding.Answer.{Answer}
+use Rattle.life_answer.specs.declared.finding.Answer.TheVariants.{Found, Refused}
+use Rattle.life_answer.specs.declared.finding.Finding.{Finding}
+use Rattle.life_answer.specs.declared.finding.Finding.TheVariants.{Recurs, Unresolved, Large, Ash}
+use Rattle.life_answer.specs.declared.question.Question.TheVariants.{Settles}
+use Rattle.life_model.proofs.Recurrences.{onset-period-least}
+use Rattle.life_model.specs.Cell.{Cell}
+use Rattle.life_model.specs.Evolution.{generation}
+use Rattle.life_model.specs.Generation.{Generation, size}
+use Rattle.life_model.specs.Recurrence.{Settles as IsSettling}
+use Rattle.life_model.specs.Rule.{Rule}
+use Rattle.life_shape.specs.TextOrder.{least_text}
+use Rattle.life_text.specs.Picture.{Picture, picture_of}
+use Rattle.life_text.specs.Rle.{reading}
+use Rattle.life_text.specs.declared.rle.RleFault.{RleFault}
+use Rattle.life_text.specs.declared.rle.RleFault.TheVariants.{NoHeader, BadHeader, RuleNotLifeLike, RuleHasB0, ManyStates, BadChar, BadRun, TooFar, TooMany, NoEnd, Memory}
+use Rattle.report_laws.specs.Ranges.{InRange, IsTold, IsToldAnswer, IsToldFolder}
+use Rattle.report_laws.proofs.Solid.{each-map}
+use Rattle.range_laws.proofs.Standing.{IsTextual, IsTextualPicture, Stands, generation-stands, moved-fits, text-textual}
+
+-- ---- codes and faults
+
+after-some : (xs : List ℕ) (y : ℕ) (ys : List ℕ) → 0 < length ((xs ++ y ∷ []) ++ ys)
+after-some [] y ys = omega arith
+after-some (x ∷ xs) y ys = omega arith
+
+-- the code of what comes again is not empty
+pub code-some : (R : Rule) (H : Generation) (period : ℕ) (d : Cell) → 0 < length (code_of R H period d)
+unfolding code_of
+code-some R H period d = after-some (prefix (size H) period d) 95 (least_text (bodies R H period))
+
+pub fault-small : (fault : RleFault) → fault_number fault < 2 ^ 64
+fault-small NoHeader = omega arith
+fault-small BadHeader = omega arith
+fault-small RuleNotLifeLike = omega arith
+fault-small RuleHasB0 = omega arith
+fault-small (ManyStates at) = omega arith
+fault-small (BadChar at) = omega arith
+fault-small (BadRun at) = omega arith
+fault-small (TooFar at) = omega arith
+fault-small (TooMany at) = omega arith
+fault-small NoEnd = omega arith
+fault-small Memory = omega arith
+
+-- ---- objects
+
+-- it is not found that a pattern has fallen apart
+abbrev IsWholeAnswer : Answer → Type 0
+IsWholeAnswer (Found rule (Recurs population onset period dx dy code)) = ⊤
+IsWholeAnswer (Found rule (Unresolved population)) = ⊤
+IsWholeAnswer (Found rule (Large population generation)) = ⊤
+IsWholeAnswer (Found rule (Ash population parts)) = ⊥
+IsWholeAnswer (Refused number) = ⊤
+
+-- patterns that have not fallen apart are at most one object each
+whole-objects : (found : List Answer) → Each IsWholeAnswer found → length (objects found) ≤ length found
+whole-objects [] h = omega arith
+whole-objects (Found rule (Recurs population onset period dx dy code) ∷ found) h =
+    let most = whole-objects found h.1 in
+    omega (arith, most)
+whole-objects (Found rule (Unresolved population) ∷ found) h = let most = whole-objects found h.1 in omega (arith, most)
+whole-objects (Found rule (Large population generation) ∷ found) h = let most = whole-objects found h.1 in omega (arith, most)
+whole-objects (Found rule (Ash population parts) ∷ found) h = absurd h.0
+whole-objects (Refused number ∷ found) h = let most = whole-objects found h.1 in omega (arith, most)
+
+-- ---- what is found of a set
+
+module _ (R : Rule) (G : Generation) (b : ℕ) (textual : IsTextual G) where
+  settled-told : (onset period : ℕ) (d : Cell) → b ≤ 1000000 → IsSettling R G b onset period d
+      → IsTold (settled R G onset period d)
+  settled-told onset period d low s =
+      let both = onset-period-least R G b onset period d s b onset s.settles in
+      let here : Stands (onset + 0) (generation R G onset) = generation-stands R 0 G textual.stands onset in
+      let later = generation-stands R (onset + 0) (generation R G onset) here period in
+      let again = subst (Stands (period + (onset + 0))) s.recurs.again later in
+      let young : onset + 0 ≤ 4000000 = omega (arith, both, low) in
+      let soon : period + (onset + 0) ≤ 4000000 = omega (arith, both, low) in
+      let fits = moved-fits (onset + 0) (period + (onset + 0)) (generation R G onset) d young soon here again s.unmoved in
+      let code = code-some R (generation R G onset) period d in
+      (textual.few, omega (arith, both, low), omega (arith, both, low), fits.0, fits.1, code)
+
+  pub found-told : b ≤ 1000000 → IsTold (finding_of R G b)
+  found-told low = ⊎_elim
+      (λ some. subst IsTold (sym some.found) (settled-told some.onset some.period some.by low some.settles))
+      (λ none. subst IsTold (sym none.found) textual.few)
+      (settled_or_not R G b)
+
+-- where what is found can be told, so can it where a generation may be too large
+module _ (R : Rule) (G : Generation) (last : ℕ) (few : size G < 2 ^ 64) (short : last < 2 ^ 64)
+    (found : Finding) (told : IsTold found) where
+  past-told : (most : ℕ) (large : Option ℕ) → first_past (Some most) R G last ≡ large
+      → IsTold (unless_large found (size G) large)
+  past-told most None e = told
+  past-told most (Some n) e = let first = (first_past-is R G last most n).0 e in (few, omega (arith, first.0, short))
+
+  pub limited-told : (limit : Option ℕ) → IsTold (limited limit R G last found)
+  limited-told None = told
+  limited-told (Some most) = past-told most (first_past (Some most) R G last) refl
+
+-- ---- what is found of a text
+
+module _ (bound : ℕ) (cells : Option ℕ) (answered : IsAnswered (Settles bound cells)) where
+  picture-told : (read : Result Picture RleFault) → IsTextualPicture read → IsToldAnswer (answer_to (Settles bound cells) read)
+  picture-told (Ok pattern) textual =
+      let told = found-told pattern.rule pattern.cells bound textual answered.1 in
+      let short : bound < 2 ^ 64 = omega (arith, answered.1) in
+      limited-told pattern.rule pattern.cells bound textual.few short (finding_of pattern.rule pattern.cells bound) told cells
+  picture-told (Err fault) textual = fault-small fault
+
+  pub settled-is-told : (text : List ℕ) → IsToldAnswer (answer_to_question (Settles bound cells) text)
+  unfolding answer_to_question
+  settled-is-told text = picture-told (picture_of (reading text)) (text-textual text)
+
+  -- ---- what is found of a bundle
+
+  pub entry-is-told : (e : Entry) → IsToldAnswer (answer_to_entry (Settles bound cells) e)
+  unfolding answer_to_entry
+  entry-is-told e =
+      elim e.is_lost as (λ v. IsToldAnswer (cond v (Refused 0) (answer_to_question (Settles bound cells) e.text))) [
+        | true ↦ omega arith
+        | false ↦ settled-is-told e.text
+      ]
+
+  -- no pattern has fallen apart
+  answer-whole : (text : List ℕ) (found : Answer) → answer_to_question (Settles bound cells) text ≡ found → IsWholeAnswer found
+  answer-whole text (Found rule (Recurs population onset period dx dy code)) e = tt
+  answer-whole text (Found rule (Unresolved population)) e = tt
+  answer-whole text (Found rule (Large population generation)) e = tt
+  answer-whole text (Found rule (Ash population parts)) e = answer-no_ash text bound cells rule population parts e
+  answer-whole text (Refused number) e = tt
+
+  entry-whole : (e : Entry) → IsWholeAnswer (answer_to_entry (Settles bound cells) e)
+  unfolding answer_to_entry
+  entry-whole e =
+      elim e.is_lost as (λ v. IsWholeAnswer (cond v (Refused 0) (answer_to_question (Settles bound cells) e.text))) [
+        | true ↦ tt
+        | false ↦ answer-whole e.text (answer_to_question (Settles bound cells) e.text) refl
+      ]
+
+  folder-is-told : (f : Folder) → length f.entries ≤ 65535 → IsToldFolder (Settles bound cells) f
+  folder-is-told f few =
+      let found = answers (Settles bound cells) f.entries in
+      let most = whole-objects found (each-map IsWholeAnswer (answer_to_entry (Settles bound cells)) entry-whole f.entries) in
+      let count = length-map f.entries (answer_to_entry (Settles bound cells)) in
+      (each-map IsToldAnswer (answer_to_entry (Settles bound cells)) entry-is-told f.entries, omega (arith, most, count, few))
+
+  folders-are-told : (b : List Folder) → ((k : ℕ) (f : Folder) → slice_get b k ≡ Some f → length f.entries ≤ 65535)
+      → Each (IsToldFolder (Settles bound cells)) b
+  folders-are-told [] few = tt
+  folders-are-told (f ∷ b) few = (folder-is-told f (few 0 f refl), folders-are-told b (λ k g. few (suc k) g))
+
+  -- the numbers that are found of a bundle's patterns are in the range of a line
+  pub settled-in-range : (b : List Folder) → IsSmall b → InRange b (Settles bound cells)
+  settled-in-range b small = folders-are-told b small.entries
