@@ -1,3 +1,4 @@
 pub mod Phases
 pub mod PartCodes
 pub mod LaterParts
+pub mod MovedCodes

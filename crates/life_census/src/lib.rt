@@ -5,6 +5,7 @@
 
 mod answering;
 mod code;
+mod known_codes;
 mod parts;
 mod pattern;
 

@@ -5,7 +5,7 @@ ghost use Rattle.life_cells.specs.Limits.{IsWithin};
 ghost use Rattle.life_answer.specs.Parts.{counted_codes};
 ghost use Rattle.life_census.specs.Courses.{course_code};
 
-use crate::code::code_of;
+use crate::known_codes::KnownCodes;
 use life_answer::Parts;
 use life_orbit::Orbit;
 use std::alloc::{AllocError, Global};
@@ -16,8 +16,9 @@ pub fn parts_of(alloc: Global, orbits: &[Orbit]) -> Result<Parts, AllocError>
     ensures { IfOk result (λ parts. parts ≡ counted_codes (map course_code orbits.now)) }
 {
     let mut parts = Parts::none(alloc);
+    let mut known = KnownCodes::new(alloc);
     for n in 0..orbits.len() {
-        parts.add(code_of(alloc, &orbits[n])?)?;
+        parts.add(known.code_of(alloc, &orbits[n])?)?;
     }
     Ok(parts)
 }
