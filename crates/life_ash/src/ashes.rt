@@ -7,6 +7,7 @@ ghost use Rattle.life_orbit.specs.Course.{IsCourse};
 ghost use Rattle.life_ash.specs.Parts.{IsFit, IsOf, IsPlaced, sets_of};
 
 use crate::checks::{are_apart, are_together};
+use crate::known::Known;
 use crate::parts::only_parts;
 use crate::whole::are_objects;
 use life_cells::Rule;
@@ -80,6 +81,30 @@ pub fn is_ash<P: Plane>(
     are_objects::<P>(alloc, parts, rule, bound)
 }
 
+/// The ash that a plane's cells are within the bound of what is known, where they are ash at all.
+pub fn ash_by<P: Plane>(
+    alloc: Global,
+    plane: &P,
+    known: &mut Known,
+) -> Result<Option<Ash>, AllocError>
+    requires young { P.steps_made plane.now ≤ 400000 }
+    ensures some { IfOk result (λ found. IfSome found (λ ash.
+        IsAsh known.old.rule known.old.bound (P.members plane.now) (sets_of ash))) }
+    ensures rule { IfOk result (λ found. IfSome found (λ ash. All (IsOf known.old.rule) ash)) }
+    ensures none { IfOk result (λ found. IfNone found ((parts : List Generation) →
+        IsAsh known.old.rule known.old.bound (P.members plane.now) parts → ⊥)) }
+{
+    let rule = known.rule();
+    let bound = known.bound();
+    let Some(parts) = only_parts(alloc, plane, known)? else {
+        return Ok(None);
+    };
+    if !is_ash(alloc, plane, parts.as_slice(), &rule, bound)? {
+        return Ok(None);
+    }
+    Ok(Some(Ash::of(parts, 0)))
+}
+
 /// The ash that a plane's cells are within the bound, where they are ash at all.
 pub fn ash_of<P: Plane>(
     alloc: Global,
@@ -95,11 +120,6 @@ pub fn ash_of<P: Plane>(
     ensures none { IfOk result (λ found. IfNone found ((parts : List Generation) →
         IsAsh rule.now bound (P.members plane.now) parts → ⊥)) }
 {
-    let Some(parts) = only_parts(alloc, plane, rule, bound)? else {
-        return Ok(None);
-    };
-    if !is_ash(alloc, plane, parts.as_slice(), rule, bound)? {
-        return Ok(None);
-    }
-    Ok(Some(Ash::of(parts, 0)))
+    let mut known = Known::new(alloc, rule, bound);
+    ash_by(alloc, plane, &mut known)
 }

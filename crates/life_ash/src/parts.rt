@@ -10,9 +10,9 @@ ghost use Rattle.life_ash.specs.Parts.{AreEnds, IsEnd, IsFit, sets_of};
 use crate::before::set_before;
 use crate::known::Known;
 use crate::living::living;
-use life_cells::{CellList, Rule};
+use life_cells::CellList;
 use life_classes::classes;
-use life_orbit::{BOUND_LIMIT, Orbit};
+use life_orbit::Orbit;
 use life_plane::Plane;
 use std::alloc::{AllocError, Global};
 
@@ -39,22 +39,20 @@ fn part_of(alloc: Global, known: &mut Known, last: &CellList) -> Result<Option<O
 /// The only sets that may have become these ones.
 fn parts_of(
     alloc: Global,
-    rule: &Rule,
+    known: &mut Known,
     lasts: &[CellList],
-    bound: u32,
 ) -> Result<Option<Vec<Orbit>>, AllocError>
-    requires bound { 1 ≤ bound × bound ≤ BOUND_LIMIT }
     requires within { All (λ G. All (IsWithin 4000000) (generations.cells G)) lasts.now }
-    ensures fit { IfOk result (λ found. IfSome found (λ orbits. All (IsFit rule.now bound) orbits.items)) }
+    ensures same { known.new ≡ known.old }
+    ensures fit { IfOk result (λ found. IfSome found (λ orbits. All (IsFit known.old.rule known.old.bound) orbits.items)) }
     ensures sets { IfOk result (λ found. IfSome found (λ orbits.
-        AreEnds rule.now bound lasts.now orbits.items)) }
+        AreEnds known.old.rule known.old.bound lasts.now orbits.items)) }
     ensures none { IfOk result (λ found. IfNone found ((last : Generation) × Contains lasts.now last
-        × ((P : Generation) → IsEnd rule.now bound last P → ⊥))) }
+        × ((P : Generation) → IsEnd known.old.rule known.old.bound last P → ⊥))) }
 {
-    let mut known = Known::new(alloc, rule, bound);
     let mut parts = Vec::new(alloc);
     for last in lasts {
-        match part_of(alloc, &mut known, last)? {
+        match part_of(alloc, known, last)? {
             Some(part) => parts.push(part)?,
             None => return Ok(None),
         }
@@ -62,25 +60,26 @@ fn parts_of(
     Ok(Some(parts))
 }
 
-/// The only parts of which the cells of a plane may be ash.
+/// The only parts of which the cells of a plane may be ash within the bound of what is known.
 pub fn only_parts<P: Plane>(
     alloc: Global,
     plane: &P,
-    rule: &Rule,
-    bound: u32,
+    known: &mut Known,
 ) -> Result<Option<Vec<Orbit>>, AllocError>
-    requires bound { 1 ≤ bound × bound ≤ BOUND_LIMIT }
     requires young { P.steps_made plane.now ≤ 400000 }
-    ensures fit { IfOk result (λ found. IfSome found (λ orbits. All (IsFit rule.now bound) orbits.items)) }
+    ensures same { known.new ≡ known.old }
+    ensures fit { IfOk result (λ found. IfSome found (λ orbits. All (IsFit known.old.rule known.old.bound) orbits.items)) }
     ensures only { IfOk result (λ found. IfSome found (λ orbits. (parts : List Generation) →
-        IsAsh rule.now bound (P.members plane.now) parts →
-        IsAsh rule.now bound (P.members plane.now) (sets_of orbits.items))) }
+        IsAsh known.old.rule known.old.bound (P.members plane.now) parts →
+        IsAsh known.old.rule known.old.bound (P.members plane.now) (sets_of orbits.items))) }
     ensures none { IfOk result (λ found. IfNone found ((parts : List Generation) →
-        IsAsh rule.now bound (P.members plane.now) parts → ⊥)) }
+        IsAsh known.old.rule known.old.bound (P.members plane.now) parts → ⊥)) }
 {
+    let rule = known.rule();
+    let bound = known.bound();
     let copy = plane.copy()?;
     // (at its age no cell is too far out)
     let age = copy.age();
-    let lasts = living(alloc, classes(alloc, copy, rule, bound)?)?;
-    parts_of(alloc, rule, lasts.as_slice(), bound)
+    let lasts = living(alloc, classes(alloc, copy, &rule, bound)?)?;
+    parts_of(alloc, known, lasts.as_slice())
 }

@@ -8,7 +8,7 @@ ghost use Rattle.life_orbit.specs.Course.{IsCourse};
 ghost use Rattle.life_ash.specs.Fates.{IsFate};
 ghost use Rattle.life_ash.specs.Parts.{IsOf, IsPlaced, sets_of};
 
-use crate::ashes::{Ash, ash_of};
+use crate::ashes::{Ash, ash_by};
 use crate::fates::Fate;
 use crate::guess::guessed_parts;
 use crate::known::Known;
@@ -80,7 +80,7 @@ pub fn fate<P: Plane>(
             generation: bound + n,
         });
     }
-    Ok(match ash_of(alloc, &plane, rule, bound)? {
+    Ok(match ash_by(alloc, &plane, &mut met)? {
         Some(ash) => Fate::Ash(ash),
         None => Fate::Unresolved,
     })

@@ -1,23 +1,24 @@
-use Rattle.std.proofs.Common.{sym, subst}
-use Rattle.std.proofs.lemmas.List.Elements.{All-same, All-weaker}
+use Rattle.std.proofs.Common.{IfNone, IfOk, IfSome, List, subst}
+use Rattle.std.specs.List.{All}
+use Rattle.life_model.specs.Generation.{Generation}
 use Rattle.life_objects.specs.Ash.{IsAsh}
-use Rattle.life_ash.specs.Parts.{IsFit, IsOf, sets_of}
-use Rattle.life_ash.proofs.Later.{ash_now, of_later}
+use Rattle.life_ash.specs.Parts.{IsOf, sets_of}
 use Rattle.life_ash.proofs.ashes.ash_of.Goals as goal
 
 pub returns-clause-some : goal.returns-clause-some
 returns-clause-some g c =
-    let R = c.args.rule.now in
     let G = g.P.Plane.members c.args.plane.now in
-    subst (λ os. IsAsh R c.args.bound G (sets_of os)) (sym c.of.ensures)
-    (ash_now R c.args.bound G c.in-Some.parts.items
-    (subst (λ os. IsAsh R c.args.bound G (sets_of os)) c.as_slice.ensures.value
-    (c.in_ok-is_ash.ensures.0 c.if-not-branch.false)))
+    subst (λ n. IfOk c.ash_by.result (λ found. IfSome found (λ ash. IsAsh c.args.rule.now n G (sets_of ash)))) c.new-known.ensures.bound
+    (subst (λ S. IfOk c.ash_by.result (λ found. IfSome found (λ ash. IsAsh S c.new-known.result.bound G (sets_of ash)))) c.new-known.ensures.rule
+    c.ash_by.ensures.some)
 
 pub returns-clause-rule : goal.returns-clause-rule
 returns-clause-rule g c =
-    let R = c.args.rule.now in
-    All-same (IsOf R) _ _ c.of.ensures
-    (of_later R 0 c.in-Some.parts.items
-    (All-weaker (IsFit R c.args.bound) (IsOf R) (λ o fit. fit.rule) c.in-Some.parts.items
-    (rw c.in-Some.is at c.in_ok-parts.ensures.fit)))
+    subst (λ S. IfOk c.ash_by.result (λ found. IfSome found (All (IsOf S)))) c.new-known.ensures.rule c.ash_by.ensures.rule
+
+pub returns-clause-none : goal.returns-clause-none
+returns-clause-none g c =
+    let G = g.P.Plane.members c.args.plane.now in
+    subst (λ n. IfOk c.ash_by.result (λ found. IfNone found ((parts : List Generation) → IsAsh c.args.rule.now n G parts → ⊥))) c.new-known.ensures.bound
+    (subst (λ S. IfOk c.ash_by.result (λ found. IfNone found ((parts : List Generation) → IsAsh S c.new-known.result.bound G parts → ⊥))) c.new-known.ensures.rule
+    c.ash_by.ensures.none)

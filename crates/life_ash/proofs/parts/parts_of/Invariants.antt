@@ -5,13 +5,12 @@ use Rattle.life_orbit.specs.Course.{Course}
 use Rattle.life_ash.specs.Parts.{IsFit, IsOnlyOne}
 use Rattle.life_ash.proofs.parts.parts_of.Given as goal
 
--- one for each set so far, in order; and what is known is of this rule and this bound
+-- one for each set so far, in order; and what is known has its rule and its bound still
 abbrev pub invariant-loop-last : goal.invariant-loop-last
 invariant-loop-last l = record {
-  fit : All (IsFit l.rule l.bound) l.parts.items;
-  rule : l.known.rule ≡ l.rule;
-  bound : l.known.bound ≡ l.bound;
+  fit : All (IsFit l.initial.known.rule l.initial.known.bound) l.parts.items;
+  same : l.known ≡ l.initial.known;
   count : length l.parts.items ≡ l.last-index;
   only : (k : ℕ) (e : Course) (d : Generation) → k < length l.parts.items →
-      IsOnlyOne l.rule l.bound (slice_index_or l.lasts k d) (slice_index_or l.parts.items k e);
+      IsOnlyOne l.initial.known.rule l.initial.known.bound (slice_index_or l.lasts k d) (slice_index_or l.parts.items k e);
 }

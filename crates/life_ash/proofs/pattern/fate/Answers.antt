@@ -1,8 +1,8 @@
-use Rattle.std.proofs.Common.{◌≡◌, ◌+◌, ◌*◌, ◌-◌, ◌≤◌, Some, sym, ap, subst, ◌∙◌, arith}
+use Rattle.std.proofs.Common.{◌≡◌, ◌+◌, ◌*◌, ◌-◌, ◌≤◌, List, Some, sym, ap, subst, ◌∙◌, arith}
 use Rattle.std.specs.List.{All}
 use Rattle.std.proofs.lemmas.List.Elements.{All-same}
 use Rattle.life_model.specs.Evolution.{generation, next}
-use Rattle.life_model.specs.Generation.{size}
+use Rattle.life_model.specs.Generation.{Generation, size}
 use Rattle.life_model.proofs.Recurrences.{generation-zero, generation-next}
 use Rattle.life_answer.specs.Limited.{IsAllowed, first_past}
 use Rattle.life_objects.specs.Ash.{HasFallenApart, IsAsh}
@@ -127,14 +127,23 @@ returns g c =
     let small = past_nowhere_later R G c.args.limit (3 * b) age (omega arith) c.loop-age.invariant.before (past ∙ c.in_default-3.is) in
     elim c.match-branch-9.branch [
       | in-Some-4 w ↦
+          let ash = w.in-Some-4.ash in
+          let here = g.P.Plane.members c.loop-age.plane in
+          let found = subst (λ n. IsAsh R n here (sets_of ash)) c.loop-age.invariant.bound
+          (subst (λ S. IsAsh S c.loop-age.met.bound here (sets_of ash)) c.loop-age.invariant.rule
+          (rw w.in-Some-4.is at c.in_ok-ash.ensures.some)) in
           subst (IsFate R G b c.args.limit) (sym w.result-is) (
             small,
-            subst (λ H. IsAsh R b H (sets_of w.in-Some-4.ash)) reached (rw w.in-Some-4.is at c.in_ok-ash.ensures.some),
-            rw w.in-Some-4.is at c.in_ok-ash.ensures.rule,
+            subst (λ H. IsAsh R b H (sets_of ash)) reached found,
+            subst (λ S. All (IsOf S) ash) c.loop-age.invariant.rule (rw w.in-Some-4.is at c.in_ok-ash.ensures.rule),
           )
       | in-None-2 w ↦
+          let here = g.P.Plane.members c.loop-age.plane in
+          let none = subst (λ n. (parts : List Generation) → IsAsh R n here parts → ⊥) c.loop-age.invariant.bound
+          (subst (λ S. (parts : List Generation) → IsAsh S c.loop-age.met.bound here parts → ⊥) c.loop-age.invariant.rule
+          (of_none w.in-None-2.is c.in_ok-ash.ensures.none)) in
           subst (IsFate R G b c.args.limit) (sym w.result-is) (
             small,
-            λ parts fallen. of_none w.in-None-2.is c.in_ok-ash.ensures.none parts (subst (λ H. IsAsh R b H parts) (sym reached) fallen),
+            λ parts fallen. none parts (subst (λ H. IsAsh R b H parts) (sym reached) fallen),
           )
     ]
