@@ -134,7 +134,7 @@ module _ (G : Generation) (f : Frame) (h : Framed G f) where
       ∙ ap (λ k. contains G (plus (pos (wide_of f - 1 - x), pos y) k)) (sym (corner_framed G f h))
       ∙ sym (contains-normal G (pos (wide_of f - 1 - x), pos y))
 
-  column-mirror : (k x : ℕ) → x < wide_of f → column_value (normal (turned G FlipX)) k x ≡ column_value (normal G) k (wide_of f - 1 - x)
+  pub column-mirror : (k x : ℕ) → x < wide_of f → column_value (normal (turned G FlipX)) k x ≡ column_value (normal G) k (wide_of f - 1 - x)
   column-mirror k x inside = ap (λ (live : ℕ → Bool). live_value live) (λ i j. contains-mirror x (5 * k + j) inside i)
 
 -- ---- strips
@@ -187,7 +187,7 @@ module _ (values : List ℕ) (wide strips : ℕ) (room : length values ≡ strip
 
 -- ---- the two texts of a grid
 
-strip_number : (G : Generation) (f : Frame) → Framed G f → strips_of f ≡ (height G + 4) / 5
+pub strip_number : (G : Generation) (f : Frame) → Framed G f → strips_of f ≡ (height G + 4) / 5
 strip_number G f h = let e = height_framed G f h in let same : nat_abs (f.bottom -ℤ f.top) + 5 ≡ height G + 4 = omega arith in ap (λ n. n / 5) same
 
 module _ (cs : List Cell) (m : Orientation) (f : Frame) (h : Framed (turned (from_list cs) m) f) (rising : T (is_rising cs)) (values : List ℕ) (room : length values ≡ strips_of f * wide_of f) (held : HoldsWeights values (wide_of f) (strips_of f) (map (placed m f) cs)) where

@@ -42,19 +42,19 @@ weight_at k x p i h =
     ap (λ (live : ℕ → Bool). live_value live) (λ t j. (same_places x (5 * k + j) p (5 * k + i) ∙ ap (λ b. (p == x) && b) (same_rows k j i)) t)
     ∙ when (p == x) (λ j. j == i) ∙ ap (λ n. if p == x then n else 0) (row_weight i h)
 
-weight_here : (p r : ℕ) → weight (r / 5) p (pos p, pos r) ≡ 2 ^ (r % 5)
+pub weight_here : (p r : ℕ) → weight (r / 5) p (pos p, pos r) ≡ 2 ^ (r % 5)
 weight_here p r =
     let at : r ≡ 5 * (r / 5) + r % 5 = omega arith in
     let same : (p == p) ≡ true = grind (arith, nat_tests) in
     ap (λ n. weight (r / 5) p (pos p, pos n)) at ∙ weight_at (r / 5) p p (r % 5) (omega arith) ∙ ap (λ b. if b then 2 ^ (r % 5) else 0) same
 
-other_column : (x p r : ℕ) → p ≢ x → weight (r / 5) x (pos p, pos r) ≡ 0
+pub other_column : (x p r : ℕ) → p ≢ x → weight (r / 5) x (pos p, pos r) ≡ 0
 other_column x p r apart =
     let at : r ≡ 5 * (r / 5) + r % 5 = omega arith in
     let differ : (p == x) ≡ false = grind (arith, nat_tests) in
     ap (λ n. weight (r / 5) x (pos p, pos n)) at ∙ weight_at (r / 5) x p (r % 5) (omega arith) ∙ ap (λ b. if b then 2 ^ (r % 5) else 0) differ
 
-other_strip : (k x p r : ℕ) → k ≢ r / 5 → weight k x (pos p, pos r) ≡ 0
+pub other_strip : (k x p r : ℕ) → k ≢ r / 5 → weight k x (pos p, pos r) ≡ 0
 other_strip k x p r apart =
     elim (eqb_tells (k - r / 5) 0) [
       | inl h ↦
@@ -100,7 +100,7 @@ apart k q x p wide h l differ =
 -- ---- one cell after another
 
 module _ (d : Cell → Cell) (cells : List Cell) (i : ℕ) where
-  weights_more : (k x : ℕ) → i < length cells → weights k (map d (take (i + 1) cells)) x ≡ weights k (map d (take i cells)) x + weight k x (d (get_or cells i origin))
+  pub weights_more : (k x : ℕ) → i < length cells → weights k (map d (take (i + 1) cells)) x ≡ weights k (map d (take i cells)) x + weight k x (d (get_or cells i origin))
   weights_more k x h =
       let one = d (get_or cells i origin) in
       let last = sum_by-cons (weight k x) one [] in

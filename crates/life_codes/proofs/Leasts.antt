@@ -82,6 +82,14 @@ two_later least a b c d e =
     ∙ ap (λ l. with_text l d) (either_first (with_text least a) c b)
     ∙ ap (λ l. with_text (with_text l c) d) e
 
+-- it is all one which two are taken first
+pub either_two : (least : Option (List ℕ)) (a b c d : List ℕ) → with_text (with_text (with_text (with_text least a) b) c) d ≡ with_text (with_text (with_text (with_text least c) d) a) b
+either_two least a b c d =
+    ap (λ l. with_text l d) (either_first (with_text least a) b c)
+    ∙ either_first (with_text (with_text least a) c) b d
+    ∙ ap (λ l. with_text (with_text l d) b) (either_first least a c)
+    ∙ ap (λ l. with_text l b) (either_first (with_text least c) a d)
+
 -- ---- one map after another
 
 abbrev pub orients : List Orient

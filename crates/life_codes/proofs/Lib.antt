@@ -6,3 +6,5 @@ pub mod Leasts
 pub mod Measured
 pub mod Phases
 pub mod Firsts
+pub mod Worded
+pub mod Marked

@@ -1,9 +1,11 @@
 -- The least of some texts, as they come one after another.
-use Rattle.std.specs.Prelude.{ℕ, Bool, List, [], ◌∷◌, Option, Some, None, if◌then◌else◌}
+use Rattle.std.specs.Prelude.{◌≡◌, ℕ, ◌<◌, Bool, List, [], ◌∷◌, Option, Some, None, if◌then◌else◌}
+use Rattle.std.specs.List.{fold}
 use Rattle.life_model.specs.Generation.{Generation}
 use Rattle.life_model.specs.Symmetry.{Orientation, FlipX, turned}
 use Rattle.life_shape.specs.TextOrder.{lesser}
 use Rattle.life_shape.specs.Wechsler.{body}
+use Rattle.life_codes.specs.Grids.{both_texts}
 
 -- the least so far, with one more text
 abbrev pub with_text : Option (List ℕ) → List ℕ → Option (List ℕ)
@@ -17,3 +19,7 @@ kept some text = if some then Some text else None
 -- the text of a set that is turned, and that of its mirror image
 abbrev pub two_bodies : Generation → Orientation → List (List ℕ)
 two_bodies G m = body (turned G m) ∷ body (turned (turned G m) FlipX) ∷ []
+
+-- A grid's texts were taken, where it has a strip.
+abbrev pub IsTaken : Option (List ℕ) → List ℕ → ℕ → ℕ → Type 0
+IsTaken least values wide strips = 0 < strips → fold with_text least (both_texts values wide strips) ≡ least

@@ -1,3 +1,4 @@
 pub mod Frames
 pub mod Grids
 pub mod Least
+pub mod Words

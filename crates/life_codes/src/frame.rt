@@ -1,8 +1,9 @@
 //! The least and the greatest places of cells.
-ghost use Rattle.std.specs.Prelude.{◌≡◌, ◌<◌, All, IfSome, length};
+ghost use Rattle.std.specs.Prelude.{◌≡◌, ◌+◌, ◌-ℤ◌, ◌<◌, All, IfSome, IsTrue, length, nat_abs};
 ghost use Rattle.life_cells.specs.Limits.{IsPlace};
 ghost use Rattle.life_shape.specs.Orients.{orientation};
 ghost use Rattle.life_codes.specs.Frames.{IsBounded, frame_of, strips_of, turned_frame, wide_of};
+ghost use Rattle.life_codes.specs.Words.{IsSmall};
 
 use life_shape::Orient;
 
@@ -82,12 +83,28 @@ impl Frame {
         (self.right - self.left + 1) as usize
     }
 
+    /// How high it is.
+    fn height(self) -> usize
+        requires { IsBounded self }
+        ensures { result ≡ nat_abs (self.bottom -ℤ self.top) + 1 }
+    {
+        (self.bottom - self.top + 1) as usize
+    }
+
     /// How many strips of five rows it takes.
     pub fn strips(self) -> usize
         requires { IsBounded self }
         ensures { result ≡ strips_of self }
     {
         ((self.bottom - self.top + 5) as usize) / 5
+    }
+
+    /// Whether it is at most 64 wide and at most 64 high.
+    pub fn is_small(self) -> bool
+        requires { IsBounded self }
+        ensures { IsTrue result → IsSmall self }
+    {
+        self.width() <= 64 && self.height() <= 64
     }
 
     /// Whether its columns of five rows, and its rows of five columns, are few beside so many cells.

@@ -30,16 +30,24 @@ impl Grid {
         }
     }
 
+    /// Has no strip from now on.
+    pub fn forget(&mut self)
+        ensures { self.new.strips ≡ 0 }
+    {
+        self.strips = 0;
+    }
+
     /// Whether it has the columns of another.
     pub fn is_same(&self, other: &Grid) -> bool
-        ensures { IsTrue result → both_texts self.now.values.items self.now.wide self.now.strips ≡ both_texts other.now.values.items other.now.wide other.now.strips }
+        ensures strips { IsTrue result → self.now.strips ≡ other.now.strips }
+        ensures texts { IsTrue result → both_texts self.now.values.items self.now.wide self.now.strips ≡ both_texts other.now.values.items other.now.wide other.now.strips }
     {
         self.wide == other.wide && self.strips == other.strips && self.values == other.values
     }
 }
 
 /// Where the map takes the cell, seen from the corner of the frame.
-fn place_in(cell: (i32, i32), orient: Orient, frame: Frame) -> (usize, usize)
+pub fn place_in(cell: (i32, i32), orient: Orient, frame: Frame) -> (usize, usize)
     requires placed { IsPlace cell }
     requires bounded { IsBounded frame }
     requires inside { IsInFrame frame (turn (orientation orient) cell) }

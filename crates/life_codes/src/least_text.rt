@@ -1,5 +1,5 @@
 //! The least text of sets in all eight orientations.
-ghost use Rattle.std.specs.Prelude.{◌≡◌, ◌*◌, ◌<◌, ◌≤◌, All, IsTrue, None, OnErr, OnOk, T, [], length, unwrap_or};
+ghost use Rattle.std.specs.Prelude.{◌≡◌, ◌*◌, ◌<◌, ◌≤◌, All, IsTrue, None, OnErr, OnOk, T, [], false, length, true, unwrap_or};
 ghost use Rattle.std.specs.List.{fold};
 ghost use Rattle.life_model.specs.Box.{height, width};
 ghost use Rattle.life_model.specs.Generation.{from_list, is_rising};
@@ -8,12 +8,14 @@ ghost use Rattle.life_shape.specs.Orients.{orientation};
 ghost use Rattle.life_answer.specs.Apgcode.{turned_bodies};
 ghost use Rattle.life_codes.specs.Frames.{IsBounded, frame_of};
 ghost use Rattle.life_codes.specs.Grids.{both_texts, grid_text};
-ghost use Rattle.life_codes.specs.Least.{two_bodies, with_text};
+ghost use Rattle.life_codes.specs.Least.{IsTaken, two_bodies, with_text};
+ghost use Rattle.life_codes.specs.Words.{IsSmall};
 
 use crate::choice::Choice;
 use crate::frame::{Frame, frame_of};
 use crate::grid::{Grid, make_grid};
-use crate::measure::text_lengths;
+use crate::measure::{Lengths, text_lengths};
+use crate::words::turned_lengths;
 use crate::writing::{digit, strip_of, value_at, write_text};
 use life_cells::CellList;
 use life_shape::{Orient, Shape};
@@ -177,6 +179,77 @@ fn add_cells(
     add_unseen(least, text, &room.first, &room.second)
 }
 
+/// Takes the texts of the second grid, unless it is the first, whose texts were taken. It becomes the first.
+fn add_second(least: &mut Choice, room: &mut Room, lengths: Lengths) -> Result<(), AllocError>
+    requires some { 0 < room.old.second.strips }
+    requires wide { 0 < room.old.second.wide }
+    requires room { length room.old.second.values.items ≡ room.old.second.strips * room.old.second.wide }
+    requires small { All (λ v. v < 36) room.old.second.values.items }
+    requires forward { lengths.forward ≡ length (grid_text room.old.second.values.items room.old.second.wide room.old.second.strips false) }
+    requires backward { lengths.backward ≡ length (grid_text room.old.second.values.items room.old.second.wide room.old.second.strips true) }
+    requires taken { IsTaken least.old room.old.first.values.items room.old.first.wide room.old.first.strips }
+    ensures texts { OnOk result (least.new ≡ fold with_text least.old (both_texts room.old.second.values.items room.old.second.wide room.old.second.strips)) }
+    ensures taken { OnOk result (IsTaken least.new room.new.first.values.items room.new.first.wide room.new.first.strips) }
+{
+    if room.second.is_same(&room.first) {
+        return Ok(());
+    }
+    add_text(least, &mut room.text, &room.second, false, lengths.forward)?;
+    add_text(least, &mut room.text, &room.second, true, lengths.backward)?;
+    swap(&mut room.first, &mut room.second);
+    Ok(())
+}
+
+/// Takes the texts of cells of a small frame, turned by a map, and of their mirror image. A grid is made only where the least
+/// text may not be shorter than both; the first is the last whose texts were taken.
+#[inline(always)]
+fn add_turned(
+    least: &mut Choice,
+    room: &mut Room,
+    cells: &[(i32, i32)],
+    frame: Frame,
+    orient: Orient,
+) -> Result<(), AllocError>
+    requires some { 0 < length cells.now }
+    requires rising { T (is_rising cells.now) }
+    requires placed { All IsPlace cells.now }
+    requires frame { frame ≡ frame_of cells.now }
+    requires bounded { IsBounded frame }
+    requires small { IsSmall frame }
+    requires taken { IsTaken least.old room.old.first.values.items room.old.first.wide room.old.first.strips }
+    ensures texts { OnOk result (least.new ≡ fold with_text least.old (two_bodies (from_list cells.now) (orientation orient))) }
+    ensures taken { OnOk result (IsTaken least.new room.new.first.values.items room.new.first.wide room.new.first.strips) }
+{
+    let lengths = turned_lengths(cells, frame, orient);
+    if least.is_shorter(lengths.forward) && least.is_shorter(lengths.backward) {
+        return Ok(());
+    }
+    make_turned(&mut room.second, cells, frame, orient)?;
+    add_second(least, room, lengths)
+}
+
+/// Takes the texts of cells of a small frame, turned by each of the eight maps.
+fn add_small(
+    least: &mut Choice,
+    room: &mut Room,
+    cells: &[(i32, i32)],
+    frame: Frame,
+) -> Result<(), AllocError>
+    requires some { 0 < length cells.now }
+    requires rising { T (is_rising cells.now) }
+    requires placed { All IsPlace cells.now }
+    requires frame { frame ≡ frame_of cells.now }
+    requires bounded { IsBounded frame }
+    requires small { IsSmall frame }
+    ensures { OnOk result (least.new ≡ fold with_text least.old (turned_bodies (from_list cells.now))) }
+{
+    room.first.forget();
+    add_turned(least, room, cells, frame, Orient::Same)?;
+    add_turned(least, room, cells, frame, Orient::Half)?;
+    add_turned(least, room, cells, frame, Orient::SwapHalf)?;
+    add_turned(least, room, cells, frame, Orient::Swap)
+}
+
 /// Takes the texts of a shape, turned by each of the eight maps.
 fn add_shape(least: &mut Choice, shape: &Shape) -> Result<(), AllocError>
     ensures { OnOk result (least.new ≡ fold with_text least.old (turned_bodies shape.now)) }
@@ -188,7 +261,8 @@ fn add_shape(least: &mut Choice, shape: &Shape) -> Result<(), AllocError>
     Ok(())
 }
 
-/// Takes the texts of a set, turned by each of the eight maps: from grids, unless those were mostly empty.
+/// Takes the texts of a set, turned by each of the eight maps: from words and grids where their
+/// frame is small, from grids, unless those were mostly empty, and else from shapes.
 fn add_list(
     alloc: Global,
     least: &mut Choice,
@@ -201,6 +275,7 @@ fn add_list(
 {
     let cells = list.as_slice();
     match frame_of(cells) {
+        Some(frame) if frame.is_small() => add_small(least, room, cells, frame),
         Some(frame) if frame.is_dense(cells.len()) => add_cells(least, room, cells, frame),
         _ => {
             let (shape, _) = Shape::of(alloc, list)?;

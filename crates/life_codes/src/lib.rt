@@ -9,6 +9,7 @@ mod grid;
 mod least_text;
 mod measure;
 mod prefixes;
+mod words;
 mod writing;
 
 pub use least_text::LeastText;

@@ -29,7 +29,7 @@ fn short_length(count: usize) -> usize
 }
 
 /// How long the text of so many zeros is.
-fn zeros_length(count: usize) -> usize
+pub fn zeros_length(count: usize) -> usize
     ensures length { result ≡ length (zeros count) }
     ensures small { result ≤ count }
 {
@@ -109,7 +109,7 @@ fn strip_lengths(strip: &[u8]) -> Lengths
 }
 
 /// How long it is what stands before a strip.
-fn mark_length(strip: usize) -> usize
+pub fn mark_length(strip: usize) -> usize
     ensures length { result ≡ length (strip_mark strip) }
     ensures small { result ≤ 1 }
 {

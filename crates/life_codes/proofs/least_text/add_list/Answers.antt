@@ -10,6 +10,12 @@ use Rattle.life_codes.proofs.least_text.add_list.Goals as goal
 
 pub returns-in-Some : goal.returns-in-Some
 returns-in-Some c =
+    on_ok_weaker c.add_small.result
+    (λ new. new ∙ ap (λ G. fold with_text c.args.least.now (turned_bodies G)) (ap from_list c.as_slice-cells.ensures.cells ∙ from_list-cells c.args.list.now))
+    c.add_small.ensures
+
+pub returns-in-Some-2 : goal.returns-in-Some-2
+returns-in-Some-2 c =
     on_ok_weaker c.add_cells.result
     (λ new. new ∙ ap (λ G. fold with_text c.args.least.now (turned_bodies G)) (ap from_list c.as_slice-cells.ensures.cells ∙ from_list-cells c.args.list.now))
     c.add_cells.ensures

@@ -1,0 +1,31 @@
+-- Strips of at most 64 columns as words of bits, and the texts of the bits.
+use Rattle.std.specs.Prelude.{◌≡◌, ℕ, ◌<◌, ◌≤◌, Bool, List, length, map, slice_index, nat_abs, ◌-ℤ◌}
+use Rattle.std.specs.Int.{bit_at}
+use Rattle.std.specs.List.{range_with_len}
+use Rattle.life_model.specs.Cell.{Cell}
+use Rattle.life_shape.specs.Dots.{weights}
+use Rattle.life_shape.specs.Wechsler.{columns_text, strips_text}
+use Rattle.life_codes.specs.declared.frame.Frame.{Frame}
+use Rattle.life_codes.specs.Grids.{facing}
+
+-- either both are 0 or neither
+abbrev pub AreZeroTogether : ℕ → ℕ → Type 0
+AreZeroTogether a b = (a ≡ 0 → b ≡ 0) × (b ≡ 0 → a ≡ 0)
+
+-- Bit x of word k is set where the cells weigh something in column x of strip k, and no bit is set beyond so many columns.
+pub record HoldsMarks (words : List ℕ) (wide : ℕ) (cells : List Cell) : Type 0 where
+  pub each : (k x : ℕ) → k < length words → AreZeroTogether (bit_at (slice_index words k) x) (weights k cells x)
+  pub beyond : (k x : ℕ) → k < length words → wide ≤ x → bit_at (slice_index words k) x ≡ 0
+
+-- its bits as so many columns
+abbrev pub word_columns : ℕ → ℕ → List ℕ
+word_columns wide word = map (bit_at word) (range_with_len 0 wide)
+
+-- the text of so many strips, as it were if each column that is marked held 1
+abbrev pub words_text : List ℕ → ℕ → ℕ → Bool → List ℕ
+words_text words wide strips back = strips_text (λ k. columns_text 0 (facing back (word_columns wide (slice_index words k)))) strips
+
+-- It is at most 64 wide and at most 64 high.
+pub record IsSmall (f : Frame) : Type 0 where
+  pub across : nat_abs (f.right -ℤ f.left) < 64
+  pub down : nat_abs (f.bottom -ℤ f.top) < 64
