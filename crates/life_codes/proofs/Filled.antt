@@ -100,7 +100,7 @@ apart k q x p wide h l differ =
 -- ---- one cell after another
 
 module _ (d : Cell → Cell) (cells : List Cell) (i : ℕ) where
-  pub weights_more : (k x : ℕ) → i < length cells → weights k (map d (take (i + 1) cells)) x ≡ weights k (map d (take i cells)) x + weight k x (d (get_or cells i origin))
+  weights_more : (k x : ℕ) → i < length cells → weights k (map d (take (i + 1) cells)) x ≡ weights k (map d (take i cells)) x + weight k x (d (get_or cells i origin))
   weights_more k x h =
       let one = d (get_or cells i origin) in
       let last = sum_by-cons (weight k x) one [] in

@@ -9,13 +9,13 @@ ghost use Rattle.life_answer.specs.Apgcode.{turned_bodies};
 ghost use Rattle.life_codes.specs.Frames.{IsBounded, frame_of};
 ghost use Rattle.life_codes.specs.Grids.{both_texts, grid_text};
 ghost use Rattle.life_codes.specs.Least.{IsTaken, two_bodies, with_text};
-ghost use Rattle.life_codes.specs.Words.{IsSmall};
+ghost use Rattle.life_codes.specs.Words.{AreLengths, IsSmall};
 
 use crate::choice::Choice;
 use crate::frame::{Frame, frame_of};
 use crate::grid::{Grid, make_grid};
 use crate::measure::{Lengths, text_lengths};
-use crate::words::turned_lengths;
+use crate::words::four_lengths;
 use crate::writing::{digit, strip_of, value_at, write_text};
 use life_cells::CellList;
 use life_shape::{Orient, Shape};
@@ -200,8 +200,8 @@ fn add_second(least: &mut Choice, room: &mut Room, lengths: Lengths) -> Result<(
     Ok(())
 }
 
-/// Takes the texts of cells of a small frame, turned by a map, and of their mirror image. A grid is made only where the least
-/// text may not be shorter than both; the first is the last whose texts were taken.
+/// Takes the texts of cells, turned by a map, and of their mirror image, which have these lengths. A grid is made only where
+/// the least text may not be shorter than both; the first is the last whose texts were taken.
 #[inline(always)]
 fn add_turned(
     least: &mut Choice,
@@ -209,18 +209,18 @@ fn add_turned(
     cells: &[(i32, i32)],
     frame: Frame,
     orient: Orient,
+    lengths: Lengths,
 ) -> Result<(), AllocError>
     requires some { 0 < length cells.now }
     requires rising { T (is_rising cells.now) }
     requires placed { All IsPlace cells.now }
     requires frame { frame ≡ frame_of cells.now }
     requires bounded { IsBounded frame }
-    requires small { IsSmall frame }
+    requires lengths { AreLengths lengths (from_list cells.now) (orientation orient) }
     requires taken { IsTaken least.old room.old.first.values.items room.old.first.wide room.old.first.strips }
     ensures texts { OnOk result (least.new ≡ fold with_text least.old (two_bodies (from_list cells.now) (orientation orient))) }
     ensures taken { OnOk result (IsTaken least.new room.new.first.values.items room.new.first.wide room.new.first.strips) }
 {
-    let lengths = turned_lengths(cells, frame, orient);
     if least.is_shorter(lengths.forward) && least.is_shorter(lengths.backward) {
         return Ok(());
     }
@@ -243,11 +243,19 @@ fn add_small(
     requires small { IsSmall frame }
     ensures { OnOk result (least.new ≡ fold with_text least.old (turned_bodies (from_list cells.now))) }
 {
+    let lengths = four_lengths(cells, frame);
     room.first.forget();
-    add_turned(least, room, cells, frame, Orient::Same)?;
-    add_turned(least, room, cells, frame, Orient::Half)?;
-    add_turned(least, room, cells, frame, Orient::SwapHalf)?;
-    add_turned(least, room, cells, frame, Orient::Swap)
+    add_turned(least, room, cells, frame, Orient::Same, lengths.same)?;
+    add_turned(least, room, cells, frame, Orient::Half, lengths.half)?;
+    add_turned(
+        least,
+        room,
+        cells,
+        frame,
+        Orient::SwapHalf,
+        lengths.swap_half,
+    )?;
+    add_turned(least, room, cells, frame, Orient::Swap, lengths.swap)
 }
 
 /// Takes the texts of a shape, turned by each of the eight maps.

@@ -7,6 +7,7 @@ mod choice;
 mod frame;
 mod grid;
 mod least_text;
+mod marks;
 mod measure;
 mod prefixes;
 mod words;

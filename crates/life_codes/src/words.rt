@@ -1,22 +1,28 @@
-//! Strips as words of bits: which of their columns have a cell, and how long their texts are.
-ghost use Rattle.std.specs.Prelude.{◌≡◌, ℕ, ◌/◌, ◌^◌, ◌+◌, ◌<◌, ◌≤◌, All, T, false, length, map, slice_index, true};
+//! How long the texts of strips are, told by words that have a bit for each column with a cell.
+ghost use Rattle.std.specs.Prelude.{◌≡◌, ℕ, ◌/◌, ◌^◌, ◌+◌, ◌<◌, ◌≤◌, All, T, false, length, slice_index, true};
 ghost use Rattle.std.specs.Int.{bit_at};
 ghost use Rattle.life_model.specs.Generation.{from_list, is_rising};
-ghost use Rattle.life_model.specs.Symmetry.{FlipX, turn, turned};
-ghost use Rattle.life_cells.specs.Limits.{IsPlace};
+ghost use Rattle.life_model.specs.Symmetry.{Half, Same, Swap, SwapHalf};
 ghost use Rattle.life_shape.specs.Orients.{orientation};
-ghost use Rattle.life_shape.specs.Wechsler.{body, columns_text};
-ghost use Rattle.life_codes.specs.Frames.{IsBounded, IsInFrame, frame_of, placed, strips_of, wide_of};
+ghost use Rattle.life_shape.specs.Wechsler.{columns_text};
+ghost use Rattle.life_cells.specs.Limits.{IsPlace};
+ghost use Rattle.life_codes.specs.Frames.{IsBounded, frame_of, strips_of, turned_frame, wide_of};
 ghost use Rattle.life_codes.specs.Grids.{facing};
-ghost use Rattle.life_codes.specs.Words.{HoldsMarks, IsSmall, word_columns, words_text};
+ghost use Rattle.life_codes.specs.Words.{AreLengths, IsSmall, word_columns, words_text};
 
 use crate::frame::Frame;
-use crate::grid::place_in;
+use crate::marks::marks_of;
 use crate::measure::{Lengths, mark_length, zeros_length};
 use life_shape::Orient;
 
-// How many strips of five rows 64 rows take.
-const STRIPS: usize = 13;
+/// How long the texts of cells and of their mirror image are, turned by each of four maps.
+#[derive(Clone, Copy)]
+pub struct FourLengths {
+    pub same: Lengths,
+    pub half: Lengths,
+    pub swap: Lengths,
+    pub swap_half: Lengths,
+}
 
 /// How many bits are not set before the lowest that is, and the bits after that one.
 fn next_column(rest: u64) -> (usize, u64)
@@ -83,38 +89,37 @@ fn words_lengths(words: &[u64], wide: usize, strips: usize) -> Lengths
     Lengths { forward, backward }
 }
 
-/// Marks each column that has a cell of those that the map takes these cells to. They stand in the frame.
-fn mark(words: &mut [u64], cells: &[(i32, i32)], orient: Orient, frame: Frame)
-    requires room { strips_of frame ≤ length words.old }
-    requires empty { All (λ w. w ≡ 0) words.old }
+/// How long the text of the strips is that a frame takes when it is turned.
+fn turned_lengths(words: &[u64], frame: Frame, orient: Orient) -> Lengths
+    requires room { length words.now ≡ 13 }
     requires bounded { IsBounded frame }
-    requires narrow { wide_of frame ≤ 64 }
-    requires placed { All IsPlace cells.now }
-    requires inside { All (λ c. IsInFrame frame (turn (orientation orient) c)) cells.now }
-    ensures len { length words.new ≡ length words.old }
-    ensures marks { HoldsMarks words.new (wide_of frame) (map (placed (orientation orient) frame) cells.now) }
+    requires small { IsSmall frame }
+    requires beyond { (k i : ℕ) → k < length words.now → wide_of (turned_frame (orientation orient) frame) ≤ i → bit_at (slice_index words.now k) i ≡ 0 }
+    ensures forward { result.forward ≡ length (words_text words.now (wide_of (turned_frame (orientation orient) frame)) (strips_of (turned_frame (orientation orient) frame)) false) }
+    ensures backward { result.backward ≡ length (words_text words.now (wide_of (turned_frame (orientation orient) frame)) (strips_of (turned_frame (orientation orient) frame)) true) }
 {
-    for cell in cells {
-        let (column, row) = place_in(*cell, orient, frame);
-        words[row / 5] |= 1 << column;
-    }
+    let turned = frame.turned(orient);
+    words_lengths(words, turned.width(), turned.strips())
 }
 
-/// How long the texts of cells, turned by a map, and of their mirror image are. It is compiled once for each of the four
-/// maps that it is called with, so that a cell's turn costs no branch.
-#[inline(always)]
-pub fn turned_lengths(cells: &[(i32, i32)], frame: Frame, orient: Orient) -> Lengths
+/// How long the texts of cells and of their mirror image are, turned by each of four maps.
+pub fn four_lengths(cells: &[(i32, i32)], frame: Frame) -> FourLengths
     requires some { 0 < length cells.now }
     requires rising { T (is_rising cells.now) }
     requires placed { All IsPlace cells.now }
     requires frame { frame ≡ frame_of cells.now }
     requires bounded { IsBounded frame }
     requires small { IsSmall frame }
-    ensures forward { result.forward ≡ length (body (turned (from_list cells.now) (orientation orient))) }
-    ensures backward { result.backward ≡ length (body (turned (turned (from_list cells.now) (orientation orient)) FlipX)) }
+    ensures same { AreLengths result.same (from_list cells.now) Same }
+    ensures half { AreLengths result.half (from_list cells.now) Half }
+    ensures swap { AreLengths result.swap (from_list cells.now) Swap }
+    ensures swap_half { AreLengths result.swap_half (from_list cells.now) SwapHalf }
 {
-    let turned = frame.turned(orient);
-    let mut words = [0; STRIPS];
-    mark(&mut words, cells, orient, turned);
-    words_lengths(&words, turned.width(), turned.strips())
+    let marks = marks_of(cells, frame);
+    FourLengths {
+        same: turned_lengths(&marks.same, frame, Orient::Same),
+        half: turned_lengths(&marks.half, frame, Orient::Half),
+        swap: turned_lengths(&marks.swap, frame, Orient::Swap),
+        swap_half: turned_lengths(&marks.swap_half, frame, Orient::SwapHalf),
+    }
 }
