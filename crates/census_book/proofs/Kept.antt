@@ -1,16 +1,22 @@
 -- What a result says of its ticket's pattern.
-use Rattle.std.proofs.Common.{◌≡◌, ℕ, suc, ◌+◌, List, Option, None, Some, IfSome, IfNone, unwrap_or, sym, ap, subst, ◌∙◌, arith, slice_get}
+use Rattle.std.proofs.Common.{◌≡◌, ℕ, suc, ◌+◌, true, false, refl, List, Option, None, Some, IfSome, IfNone, is_some, unwrap_or, sym, ap, subst, ◌∙◌, arith, slice_get}
 use Rattle.census_bundle.specs.declared.bundle.Folder.{Folder}
 use Rattle.census_bundle.specs.declared.ticket.Ticket.{Ticket}
 use Rattle.census_bundle.specs.declared.bundle.Entry.{Entry}
-use Rattle.census_bundle.specs.Tickets.{ticket, numbered, entry_in}
+use Rattle.census_bundle.specs.Tickets.{Tickets, ticket, numbered, entry_in, has_ticket, with_ticket}
 use Rattle.census_book.specs.Work.{Work}
-use Rattle.census_book.specs.Collecting.{Belongs, IsResult}
+use Rattle.census_book.specs.Collecting.{Belongs, HasCollection, IsResult}
+use Rattle.census_book.proofs.TicketSets.{new_ticket}
 use Rattle.census_format.specs.Heads.{headed, line_head, line_tail}
 use Rattle.census_format.specs.Lines.{answer_to_entry, pattern_text}
 use Rattle.census_format.proofs.Fields.{headed_line}
 use Rattle.census_format.proofs.Lost.{same_answer}
 use Rattle.life_answer.specs.declared.question.Question.{Question}
+
+-- two options of which one is there where the other is
+pub some_alike : {A : Type 0} (o : Option A) (f : A → Work) (r : Option Work) → IfSome o (λ x. r ≡ Some (f x)) → IfNone o (r ≡ None) → is_some o ≡ is_some r
+some_alike None f r some none = sym (ap is_some none)
+some_alike (Some x) f r some none = sym (ap is_some some)
 
 -- what is told of a `None` follows from what was told of it
 pub none_then : {X N M : Type 0} (o : Option X) → IfNone o N → (N → M) → IfNone o M
@@ -28,6 +34,20 @@ result_at_own b question t w own belongs = record {
   own = own;
   belongs = subst (λ s. Belongs b question s w.entry w.question) own belongs;
 }
+
+-- A ticket is that of the result that arrives where it is then taken, and was before only in a collection that had arrived
+-- whole.
+pub own_result : (b : List Folder) (question : Question) (taken : Tickets) (w : Work) (t : Ticket) → Belongs b question w.ticket w.entry w.question → has_ticket taken w.ticket ≡ false → t.folder ≡ w.ticket.folder
+    → has_ticket (with_ticket taken w.ticket) t ≡ true → (has_ticket taken t ≡ true → HasCollection b taken t.folder) → IsResult b question t w
+own_result b question taken w t belongs new same has whole =
+    result_at_own b question t w (sym (new_ticket taken w.ticket t not has)) belongs
+  where
+    not : has_ticket taken t ≡ false
+    not =
+        elim (has_ticket taken t) as (λ x. has_ticket taken t ≡ x → x ≡ false) [
+          | true ↦ λ was. absurd (let again = whole was w.ticket (belongs.entry, belongs.at) (sym same) in cc)
+          | false ↦ λ was. refl
+        ] refl
 
 -- what a result says is what the definition gives for the pattern of its ticket's number
 pub result_answer : (b : List Folder) (question : Question) (c n : ℕ) (f : Folder) (e : Entry) (w : Work) → IsResult b question (ticket c n) w → numbered b c ≡ Some f → numbered f.entries n ≡ Some e

@@ -1,5 +1,5 @@
 -- Where working an entry takes memory.
-use Rattle.std.proofs.Common.{◌≡◌, ℕ, Bool, true, false, List, Option, Some, None, Result, Ok, Err, IsOk, IfSome, OnErr, cond, refl, subst}
+use Rattle.std.proofs.Common.{◌≡◌, ℕ, Bool, true, false, List, Option, Some, None, Result, Ok, Err, IsOk, IfSome, OnOk, OnErr, is_err, cond, refl, sym, subst}
 use Rattle.census_bundle.specs.declared.bundle.Entry.{Entry}
 use Rattle.life_answer.specs.declared.finding.Answer.TheVariants.{Refused}
 use Rattle.life_answer.specs.declared.question.Question.{Question}
@@ -40,3 +40,18 @@ on_err (Err error) h = h
 -- what holds of the value in a `Some`
 pub some_is : {X : Type 0} (P : X → Type 0) (o : Option X) (x : X) → o ≡ Some x → IfSome o P → P x
 some_is P o x is told = subst (λ y. IfSome y P) is told
+
+-- what holds after no error
+pub ok_then : {A E P : Type 0} (r : Result A E) → is_err r ≡ false → OnOk r P → P
+ok_then (Ok value) ok h = h
+ok_then (Err error) ok h = absurd (cc)
+
+-- what is told after no error follows from what was told
+pub on_ok_then : {A E P Q : Type 0} (r : Result A E) → (P → Q) → OnOk r P → OnOk r Q
+on_ok_then (Ok value) f h = f h
+on_ok_then (Err error) f h = tt
+
+-- what holds of the value that is made where there is no error, and of the value before
+pub made_or_left : {A E S : Type 0} (P : S → Type 0) (r : Result A E) {new made old : S} → OnOk r (new ≡ made) → OnErr r (new ≡ old) → P made → P old → P new
+made_or_left P (Ok value) is _ one other = subst P (sym is) one
+made_or_left P (Err error) _ is one other = subst P (sym is) other

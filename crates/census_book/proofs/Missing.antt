@@ -9,7 +9,7 @@ use Rattle.census_bundle.specs.declared.bundle.Folder.{Folder}
 use Rattle.census_bundle.specs.declared.ticket.Ticket.{Ticket}
 use Rattle.census_bundle.specs.Tickets.{Tickets, ticket, has_ticket, numbered, entry_in, IsTicketOf, HasAll}
 use Rattle.census_format.specs.Reports.{run_of, run_from}
-use Rattle.census_book.specs.Collecting.{IsLeastMissing}
+use Rattle.census_book.specs.Collecting.{HasCollection, IsLeastMissing}
 use Rattle.census_book.proofs.Runs.{run_end, run_before}
 use Rattle.census_book.proofs.Releases.{folder_at, numbered_bounds, not_whole, entry_here}
 use Rattle.census_book.proofs.Texts.{ticket_in}
@@ -33,6 +33,18 @@ taken_before b taken i before u of le =
 -- where each collection has arrived whole, each ticket is taken
 pub all_taken : (b : List Folder) (taken : Tickets) (i : ℕ) → WholeBefore b taken i → length b ≤ i → HasAll b taken
 all_taken b taken i before le t of = let w = ticket_in b t of.0 of.1 in taken_before b taken i before t of (omega (arith, w))
+
+-- a collection whose run is all of it has arrived whole
+pub run_collection : (b : List Folder) (taken : Tickets) (c : ℕ) (f : Folder) → numbered b c ≡ Some f → run_of taken c f ≡ length f.entries → HasCollection b taken c
+run_collection b taken c f at whole t of own =
+    let g = folder_at (numbered b t.folder) t.number of.0 of.1 in
+    let one : Some g.0 ≡ Some f = sym g.1 ∙ ap (numbered b) own ∙ at in
+    let same : g.0 ≡ f = cc in
+    let is : run_of taken t.folder g.0 ≡ length g.0.entries = ap (λ n. run_of taken n g.0) own ∙ ap (run_of taken c) same ∙ whole ∙ ap (λ (x : Folder). length x.entries) (sym same) in
+    elim (has_ticket taken t) as (λ x. has_ticket taken t ≡ x → x ≡ true) [
+      | true ↦ λ e. refl
+      | false ↦ λ e. absurd (not_whole taken g.0 t of.0 g.2 e is)
+    ] refl
 
 nat_less : (m n : ℕ) → nat_cmp m n ≡ Less → m < n
 nat_less m n is =

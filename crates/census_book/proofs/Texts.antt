@@ -1,14 +1,12 @@
 -- The text of lines that are written one after another.
-use Rattle.std.proofs.Common.{◌≡◌, ℕ, zero, suc, ◌+◌, ◌-◌, ◌<◌, ◌≤◌, Bool, true, false, eqb, List, [], ◌∷◌, ◌++◌, map, length, take, drop, get_or, Some, refl, sym, ap, ◌∙◌, arith, append_assoc, append-nil, slice_get}
+use Rattle.std.proofs.Common.{◌≡◌, ℕ, zero, suc, ◌+◌, ◌-◌, ◌<◌, ◌≤◌, Bool, true, false, eqb, List, [], ◌∷◌, ◌++◌, length, take, drop, get_or, Some, refl, sym, ap, ◌∙◌, arith, append_assoc, slice_get}
 use Rattle.std.proofs.lemmas.Option.{slice_get_read}
 use Rattle.census_bundle.specs.declared.bundle.Entry.{Entry}
 use Rattle.census_bundle.specs.declared.bundle.Folder.{Folder}
 use Rattle.census_bundle.specs.declared.ticket.Ticket.{Ticket}
 use Rattle.census_book.proofs.Releases.{folder_at, numbered_bounds}
 use Rattle.census_bundle.specs.Tickets.{Tickets, with_ticket, numbered, entry_at}
-use Rattle.life_answer.specs.declared.finding.Answer.{Answer}
-use Rattle.census_format.specs.Objects.{code_line, code_lines, objects, same_object, tally}
-use Rattle.census_format.specs.Lines.{answer_to_entry, answers, close_line, text_of, end_line, pattern_text, pattern_lines, pattern_count}
+use Rattle.census_format.specs.Lines.{answer_to_entry, answers, text_of, end_line, pattern_text, pattern_lines}
 use Rattle.census_format.specs.Reports.{out, out_of, folder_out, closing, closing_if, end_if, run_of, has_all}
 use Rattle.census_format.proofs.Owning.{text_of-append, eqb_same, eqb_apart}
 use Rattle.life_answer.specs.declared.question.Question.{Question}

@@ -1,5 +1,5 @@
 -- What a collector does with a result.
-use Rattle.std.specs.Prelude.{◌≡◌, ◌≢◌, true, false, List, Some}
+use Rattle.std.specs.Prelude.{◌≡◌, ◌≢◌, ℕ, true, false, List, Some}
 use Rattle.std.specs.declared.cmp.Ordering.TheVariants.{Less}
 use Rattle.census_bundle.specs.declared.bundle.Entry.{Entry}
 use Rattle.census_bundle.specs.declared.bundle.Folder.{Folder}
@@ -24,6 +24,10 @@ pub record Belongs (b : List Folder) (question : Question) (t : Ticket) (worked 
 pub record IsResult (b : List Folder) (question : Question) (t : Ticket) (w : Work) : Type 0 where
   pub own : w.ticket ≡ t
   pub belongs : Belongs b question t w.entry w.question
+
+-- each ticket of the collection c is taken
+abbrev pub HasCollection : List Folder → Tickets → ℕ → Type 0
+HasCollection b taken c = (t : Ticket) → IsTicketOf b t → t.folder ≡ c → has_ticket taken t ≡ true
 
 -- what is answered to a result where these tickets were taken
 abbrev pub Judged : List Folder → Question → Tickets → Ticket → Entry → Question → Offer → Type 0

@@ -15,6 +15,16 @@ pub record Taken : Type 0 where
 abbrev pub taken_of : List Folder → Question → Tickets → Taken
 taken_of b question taken = record { bundle = b; question = question; taken = taken }
 
+-- the tickets that are taken where one more arrives, and its collection
+pub record Arrived : Type 0 where
+  pub bundle : List Folder
+  pub question : Question
+  pub taken : Tickets
+  pub folder : ℕ
+
+abbrev pub arrived_of : Taken → Ticket → Arrived
+arrived_of r t = record { bundle = r.bundle; question = r.question; taken = with_ticket r.taken t; folder = t.folder }
+
 -- the tickets taken, and the text that was released and not yet written
 pub record Progress : Type 0 where
   pub bundle : List Folder

@@ -1,8 +1,8 @@
 //! A result beside those that were taken before.
 ghost use Rattle.std.specs.Prelude.{◌≡◌, true, false};
-ghost use Rattle.census_bundle.specs.Tickets.{has_ticket, with_ticket};
+ghost use Rattle.census_bundle.specs.Tickets.{has_ticket};
 ghost use Rattle.census_book.specs.Collecting.{Belongs, IsResult};
-ghost use Rattle.census_book.specs.Progress.{taken_of};
+ghost use Rattle.census_book.specs.Progress.{arrived_of};
 
 use crate::done::Done;
 use crate::results::Results;
@@ -10,7 +10,7 @@ use census_bundle::{Bundle, Ticket};
 use life_answer::Question;
 use std::marker::Model;
 
-/// A result that is to be taken, beside those that were. It is seen as the tickets of all of them.
+/// A result that is to be taken, beside those that were. It is seen as the tickets of all of them, and its collection.
 #[derive(Drop)]
 pub struct Arrival<'r, 'a> {
     results: &'r Results<'a>,
@@ -18,25 +18,27 @@ pub struct Arrival<'r, 'a> {
 }
 
 impl<'r, 'a> Model for Arrival<'r, 'a> {
-    ghost use Rattle.census_bundle.specs.Tickets.{with_ticket};
-    ghost use Rattle.census_book.specs.Coded.{taken_code};
+    ghost use Rattle.std.specs.Prelude.{◌≡◌, false};
+    ghost use Rattle.census_bundle.specs.Tickets.{has_ticket};
+    ghost use Rattle.census_book.specs.Coded.{arrived_code};
     ghost use Rattle.census_book.specs.Collecting.{Belongs};
-    ghost use Rattle.census_book.specs.Progress.{Taken, taken_of};
+    ghost use Rattle.census_book.specs.Progress.{Arrived, arrived_of};
 
-    ghost Value = { Taken };
+    ghost Value = { Arrived };
 
-    ghost coded = { taken_code };
+    ghost coded = { arrived_code };
 
-    ghost view = { λ a. taken_of a.results.now.bundle a.results.now.question (with_ticket a.results.now.taken a.done.now.ticket) };
+    ghost view = { λ a. arrived_of a.results.now a.done.now.ticket };
 
-    ghost invariant = { λ a. Belongs a.results.now.bundle a.results.now.question a.done.now.ticket a.done.now.entry a.done.now.question };
+    ghost invariant = { λ a. Belongs a.results.now.bundle a.results.now.question a.done.now.ticket a.done.now.entry a.done.now.question × (has_ticket a.results.now.taken a.done.now.ticket ≡ false) };
 }
 
 impl<'r, 'a> Arrival<'r, 'a> {
-    /// A result that belongs to the bundle and the question.
+    /// A result that belongs to the bundle and the question, and is new.
     pub fn new(results: &'r Results<'a>, done: &'r Done<'a>) -> Arrival<'r, 'a>
-        requires { Belongs results.now.bundle results.now.question done.now.ticket done.now.entry done.now.question }
-        ensures { result ≡ taken_of results.now.bundle results.now.question (with_ticket results.now.taken done.now.ticket) }
+        requires belongs { Belongs results.now.bundle results.now.question done.now.ticket done.now.entry done.now.question }
+        requires new { has_ticket results.now.taken done.now.ticket ≡ false }
+        ensures { result ≡ arrived_of results.now done.now.ticket }
     {
         Arrival { results, done }
     }
@@ -69,9 +71,10 @@ impl<'r, 'a> Arrival<'r, 'a> {
         true
     }
 
-    /// The result of this ticket.
+    /// The result of this ticket, which is of the collection of the result that is to be taken.
     pub fn get(&self, ticket: Ticket) -> &'r Done<'a>
-        requires { has_ticket self.now.taken ticket ≡ true }
+        requires taken { has_ticket self.now.taken ticket ≡ true }
+        requires own { ticket.folder ≡ self.now.folder }
         ensures { IsResult self.now.bundle self.now.question ticket result.now }
     {
         let own = self.done.ticket();

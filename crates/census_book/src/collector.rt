@@ -10,19 +10,14 @@ ghost use Rattle.census_format.specs.Reports.{out};
 
 use crate::done::Done;
 use crate::front::Front;
+use crate::no_room::NoRoom;
 use crate::offer::Offer;
-use crate::release::{Release, push_start, released};
+use crate::release::{Release, folder_at, push_start, released};
 use crate::results::Results;
 use census_bundle::{Bundle, Ticket};
 use life_answer::Question;
 use std::alloc::{AllocError, Global};
 use std::marker::Model;
-
-/// There was no memory to take a result, which comes back.
-#[derive(Drop)]
-pub struct NoRoom<'a> {
-    pub done: Done<'a>,
-}
 
 /// Takes the results of a bundle and a question in any order, and releases the lines of its report: those of each
 /// collection in their order, and the last line of all when nothing is missing. It is seen as the tickets taken and the
@@ -51,7 +46,8 @@ impl<'a> Model for Collector<'a> {
     ghost invariant = { λ s. IsFront s.results.bundle s.results.taken s.front.runs.items s.front.first_open };
 }
 
-// Takes a result that belongs and is new, with what it releases. All growths come before any change that stays.
+// Takes a result that belongs and is new, with what it releases, and drops the results of its collection where that has
+// arrived whole. All growths come before any change that stays.
 fn accept<'a>(
     results: &mut Results<'a>,
     front: &mut Front,
@@ -71,14 +67,20 @@ fn accept<'a>(
     ensures results { OnErr result (results.new ≡ results.old) }
     ensures unsent { OnErr result (unsent.new.items ≡ unsent.old.items) }
 {
-    match unsent.extend_from_slice(text) {
-        Ok(()) => {}
-        Err(_) => return Err(NoRoom { done }),
+    if unsent.reserve(text.len()).is_err() {
+        return Err(NoRoom { done });
     }
-    let place = done.ticket().folder as usize - 1;
-    results.add(done);
-    front.runs[place] = release.run;
+    let number = done.ticket().folder;
+    let folder = folder_at(results.bundle().folders(), number);
+    results.add(done)?;
+    let Ok(()) = unsent.extend_from_slice(text) else {
+        unreachable!()
+    };
+    front.runs[number as usize - 1] = release.run;
     front.first_open = release.first_open;
+    if release.run as usize == folder.entries.as_slice().len() {
+        results.drop_collection(number);
+    }
     Ok(())
 }
 
@@ -133,17 +135,15 @@ impl<'a> Collector<'a> {
         let Ok(release) = made else {
             return Err(NoRoom { done });
         };
-        match accept(
+        accept(
             &mut self.results,
             &mut self.front,
             &mut self.unsent,
             done,
             &self.text,
             release,
-        ) {
-            Ok(()) => Ok(Offer::Taken),
-            Err(refused) => Err(refused),
-        }
+        )?;
+        Ok(Offer::Taken)
     }
 
     /// The text that was released and not yet sent.

@@ -9,12 +9,14 @@ mod arrivals;
 mod collector;
 mod done;
 mod front;
+mod no_room;
 mod offer;
 mod release;
 mod results;
 mod slots;
 
 pub use arrivals::{every_arrival_is_lawful, every_order_is_lawful, taking_adds_one};
-pub use collector::{Collector, NoRoom};
+pub use collector::Collector;
 pub use done::Done;
+pub use no_room::NoRoom;
 pub use offer::Offer;

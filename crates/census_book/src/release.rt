@@ -48,6 +48,7 @@ fn push_patterns(
 ) -> Result<(), AllocError>
     requires small { length folder.now.entries ≤ 65535 }
     requires at { numbered arrival.now.bundle c ≡ Some folder.now }
+    requires own { c ≡ arrival.now.folder }
     requires run { m ≡ run_of arrival.now.taken c folder.now }
     requires within { m ≤ length folder.now.entries }
     ensures { OnOk result (text.new.items ≡ text.old.items ++ text_of (take (m - k) (drop k (pattern_lines arrival.now.question c 1 folder.now.entries)))) }
@@ -72,6 +73,7 @@ fn folder_answers<'r>(
 ) -> Result<Vec<&'r Answer>, AllocError>
     requires small { length folder.now.entries ≤ 65535 }
     requires at { numbered arrival.now.bundle c ≡ Some folder.now }
+    requires own { c ≡ arrival.now.folder }
     requires whole { length folder.now.entries ≡ run_of arrival.now.taken c folder.now }
     ensures { IfOk result (λ v. map (λ a. a.now) v.items ≡ answers arrival.now.question folder.now.entries) }
 {
@@ -126,6 +128,7 @@ fn push_folder(
 ) -> Result<(), AllocError>
     requires small { length folder.now.entries ≤ 65535 }
     requires at { numbered arrival.now.bundle c ≡ Some folder.now }
+    requires own { c ≡ arrival.now.folder }
     requires run { m ≡ run_of arrival.now.taken c folder.now }
     requires within { m ≤ length folder.now.entries }
     ensures { OnOk result (text.new.items ≡ text.old.items ++ text_of (folder_out arrival.now.question c folder.now k m)) }
@@ -146,8 +149,8 @@ pub struct Release {
     pub first_open: usize,
 }
 
-// The collection of this number.
-fn folder_at(folders: &[Folder], c: u32) -> &Folder
+/// The collection of this number.
+pub fn folder_at(folders: &[Folder], c: u32) -> &Folder
     requires small { IsSmall folders.now }
     requires number { (0 < c) × (c ≤ length folders.now) }
     ensures at { numbered folders.now c ≡ Some result.now }

@@ -1,10 +1,11 @@
 //! The results that were taken.
-ghost use Rattle.std.specs.Prelude.{◌≡◌, ◌≢◌, true, false, Some, IfOk, IfSome, IfNone, MatchBool};
+ghost use Rattle.std.specs.Prelude.{◌≡◌, ◌≢◌, ◌<◌, ◌≤◌, true, false, length, Some, IfOk, IfErr, OnOk, OnErr, IfSome, IfNone, MatchBool};
 ghost use Rattle.census_bundle.specs.Tickets.{has_ticket, no_tickets, with_ticket};
-ghost use Rattle.census_book.specs.Collecting.{Belongs, IsResult, Judged};
+ghost use Rattle.census_book.specs.Collecting.{Belongs, HasCollection, IsResult, Judged};
 ghost use Rattle.census_book.specs.Progress.{taken_of};
 
 use crate::done::Done;
+use crate::no_room::NoRoom;
 use crate::offer::Offer;
 use crate::slots::Slots;
 use census_bundle::{Bundle, Folder, Ticket};
@@ -12,7 +13,8 @@ use life_answer::Question;
 use std::alloc::{AllocError, Global};
 use std::marker::Model;
 
-/// The results of a bundle's tickets that were taken, of one question.
+/// The results of a bundle's tickets that were taken, of one question. Those of a collection that has arrived whole may be
+/// dropped.
 #[derive(Drop)]
 pub struct Results<'a> {
     bundle: &'a Bundle,
@@ -76,13 +78,13 @@ impl<'a> Results<'a> {
     pub fn holds(&self, ticket: Ticket) -> bool
         ensures { result ≡ has_ticket self.now.taken ticket }
     {
-        self.slots.get(ticket).is_some()
+        self.slots.holds(ticket)
     }
 
-    /// The result of this ticket, where it was taken.
+    /// The result of this ticket, where it was taken and another of its collection was not.
     pub fn get(&self, ticket: Ticket) -> Option<&Done<'a>>
         ensures found { IfSome result (λ d. IsResult self.now.bundle self.now.question ticket d.now) }
-        ensures missing { IfNone result (has_ticket self.now.taken ticket ≡ false) }
+        ensures missing { IfNone result (has_ticket self.now.taken ticket ≡ true → HasCollection self.now.bundle self.now.taken ticket.folder) }
     {
         self.slots.get(ticket)
     }
@@ -111,12 +113,23 @@ impl<'a> Results<'a> {
         }
     }
 
-    /// Takes a result.
-    pub fn add(&mut self, done: Done<'a>)
+    /// Takes a result. It comes back where there is no memory.
+    pub fn add(&mut self, done: Done<'a>) -> Result<(), NoRoom<'a>>
         requires belongs { Belongs self.old.bundle self.old.question done.ticket done.entry done.question }
         requires new { has_ticket self.old.taken done.ticket ≡ false }
-        ensures { self.new ≡ taken_of self.old.bundle self.old.question (with_ticket self.old.taken done.entry.ticket) }
+        ensures taken { OnOk result (self.new ≡ taken_of self.old.bundle self.old.question (with_ticket self.old.taken done.entry.ticket)) }
+        ensures back { IfErr result (λ e. e.done ≡ done.entry) }
+        ensures unchanged { OnErr result (self.new ≡ self.old) }
     {
-        self.slots.put(done);
+        self.slots.put(done)
+    }
+
+    /// Drops the results of a collection that has arrived whole, and frees their memory. Its tickets stay taken.
+    pub fn drop_collection(&mut self, folder: u32)
+        requires number { (0 < folder) × (folder ≤ length self.old.bundle) }
+        requires whole { HasCollection self.old.bundle self.old.taken folder }
+        ensures { self.new ≡ self.old }
+    {
+        self.slots.drop_results(folder);
     }
 }

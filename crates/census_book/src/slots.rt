@@ -1,72 +1,115 @@
 //! A slot for the result of each pattern of a bundle.
-ghost use Rattle.std.specs.Prelude.{◌≡◌, IfSome, IfNone, IfOk, None, Some, length, replicate, slice_set, vec_capacity, ◌-◌, ◌<◌, ◌≤◌};
-ghost use Rattle.census_book.specs.Slots.{empty_slots, padded, result_at, slot_at, with_result, HasSlot};
+ghost use Rattle.std.specs.Prelude.{◌≡◌, IfSome, IfNone, IfOk, IfErr, OnOk, OnErr, None, Some, is_some, length, map, replicate, slice_set, ◌-◌, ◌<◌, ◌≤◌};
+ghost use Rattle.census_bundle.specs.Tickets.{numbered};
+ghost use Rattle.census_book.specs.Slots.{dropped, empty_slots, held, padded, result_at, slot_at, taking_at, with_result, without_results, HasSlot, IsFull, Row};
 
 use crate::done::Done;
+use crate::no_room::NoRoom;
 use census_bundle::{Folder, Ticket};
 use std::alloc::{AllocError, Global};
 use std::marker::Model;
 
-/// The slots of a collection. They are seen as what stands in each. Those after the last result are only made room for,
-/// so that their memory is first touched where a result is put.
+/// The slots of a collection. They are seen as what stands in each: a result, or only that it was taken. Room for all of
+/// them is made with the first result, and memory is first touched where one is put. Once each is taken the results may be
+/// dropped.
 #[derive(Drop)]
 pub struct Row<'a> {
     slots: Vec<Option<Done<'a>>>,
     len: usize,
+    is_dropped: bool,
 }
 
 impl<'a> Model for Row<'a> {
-    ghost use Rattle.std.specs.Prelude.{◌≤◌, length, vec_capacity};
-    ghost use Rattle.census_book.specs.Slots.{Row, padded};
+    ghost use Rattle.std.specs.Prelude.{◌≡◌, ◌≤◌, [], true, length};
+    ghost use Rattle.census_book.specs.Slots.{Row, row_of};
 
     ghost Value = { Row };
 
-    ghost view = { λ r. padded r.len r.slots.items };
+    ghost view = { λ r. row_of r.is_dropped r.len r.slots.items };
 
-    ghost invariant = { λ r. (length r.slots.items ≤ r.len) × (r.len ≤ vec_capacity r.slots) };
+    ghost invariant = { λ r. (length r.slots.items ≤ r.len) × (r.is_dropped ≡ true → r.slots.items ≡ []) };
 }
 
-// Appends empty slots, up to so many in all.
-fn fill<'a>(slots: &mut Vec<Option<Done<'a>>>, len: usize)
-    requires { len ≤ vec_capacity slots.old }
-    ensures items { slots.new.items ≡ padded len slots.old.items }
-    ensures capacity { vec_capacity slots.new ≡ vec_capacity slots.old }
+// Appends empty slots, up to so many, where there is room for all.
+fn fill<'a>(slots: &mut Vec<Option<Done<'a>>>, len: usize, all: usize) -> Result<(), AllocError>
+    requires { (len ≤ all) × (length slots.old.items ≤ all) }
+    ensures items { OnOk result (slots.new.items ≡ padded len slots.old.items) }
+    ensures unchanged { OnErr result (slots.new.items ≡ slots.old.items) }
 {
+    slots.reserve_exact(all - slots.len())?;
     for _ in slots.len()..len {
         slots.push_reserved(None);
+    }
+    Ok(())
+}
+
+// The result in the slot of this number, from 1.
+fn result_in<'r, 'a>(slots: &'r [Option<Done<'a>>], number: u32) -> Option<&'r Done<'a>>
+    ensures some { IfSome result (λ d. held (numbered slots.now number) ≡ Some d.now) }
+    ensures none { IfNone result (held (numbered slots.now number) ≡ None) }
+{
+    if number == 0 {
+        return None;
+    }
+    match slots.get(number as usize - 1) {
+        Some(slot) => slot.as_ref(),
+        None => None,
     }
 }
 
 impl<'a> Row<'a> {
     /// So many empty slots.
-    pub fn new(alloc: Global, len: usize) -> Result<Row<'a>, AllocError>
-        ensures { IfOk result (λ r. r ≡ replicate len None) }
+    pub fn new(alloc: Global, len: usize) -> Row<'a>
+        ensures { result ≡ replicate len None }
     {
-        let slots = Vec::with_capacity(alloc, len)?;
-        Ok(Row { slots, len })
+        Row {
+            slots: Vec::new(alloc),
+            len,
+            is_dropped: false,
+        }
     }
 
-    /// The result in the slot of this number, from 1.
+    /// Whether the slot of this number, from 1, is taken.
+    pub fn holds(&self, number: u32) -> bool
+        ensures { result ≡ is_some (slot_at self.now number) }
+    {
+        if self.is_dropped {
+            return 0 < number && number as usize <= self.len;
+        }
+        self.get(number).is_some()
+    }
+
+    /// The result that is kept in the slot of this number, from 1.
     pub fn get(&self, number: u32) -> Option<&Done<'a>>
-        ensures some { IfSome result (λ d. slot_at self.now number ≡ Some d.now) }
-        ensures none { IfNone result (slot_at self.now number ≡ None) }
+        ensures some { IfSome result (λ d. held (slot_at self.now number) ≡ Some d.now) }
+        ensures none { IfNone result (held (slot_at self.now number) ≡ None) }
     {
-        if number == 0 {
-            return None;
-        }
-        match self.slots.get(number as usize - 1) {
-            Some(slot) => slot.as_ref(),
-            None => None,
-        }
+        result_in(self.slots.as_slice(), number)
     }
 
-    /// Puts a result into the slot of this number, from 1.
-    pub fn put(&mut self, number: u32, done: Done<'a>)
-        requires { (0 < number) × (number ≤ length self.old) }
-        ensures { self.new ≡ slice_set self.old (number - 1) (Some done.entry) }
+    /// Puts a result into the slot of this number, from 1, which is empty. The result comes back where there is no memory.
+    pub fn put(&mut self, number: u32, done: Done<'a>) -> Result<(), NoRoom<'a>>
+        requires within { (0 < number) × (number ≤ length self.old) }
+        requires empty { slot_at self.old number ≡ None }
+        ensures put { OnOk result (self.new ≡ slice_set self.old (number - 1) (Some (Some done.entry))) }
+        ensures back { IfErr result (λ e. e.done ≡ done.entry) }
+        ensures unchanged { OnErr result (self.new ≡ self.old) }
     {
-        fill(&mut self.slots, number as usize);
+        if fill(&mut self.slots, number as usize, self.len).is_err() {
+            return Err(NoRoom { done });
+        }
         self.slots[number as usize - 1] = Some(done);
+        Ok(())
+    }
+
+    /// Drops the results, and frees their memory. Each slot stays taken.
+    pub fn drop_results(&mut self)
+        requires { IsFull self.old }
+        ensures { self.new ≡ map dropped self.old }
+    {
+        self.slots.clear();
+        self.slots.shrink_to_fit();
+        self.is_dropped = true;
     }
 }
 
@@ -92,31 +135,61 @@ impl<'a> Slots<'a> {
     {
         let mut rows = Vec::with_capacity(alloc, folders.len())?;
         for folder in folders {
-            rows.push(Row::new(alloc, folder.entries.as_slice().len())?)?;
+            rows.push(Row::new(alloc, folder.entries.as_slice().len()))?;
         }
         Ok(Slots { rows })
     }
 
-    /// The result in the slot of this ticket.
+    // The slots of the collection of this number.
+    fn row(&self, folder: u32) -> Option<&Row<'a>>
+        ensures some { IfSome result (λ r. numbered self.now folder ≡ Some r.now) }
+        ensures none { IfNone result (numbered self.now folder ≡ None) }
+    {
+        if folder == 0 {
+            return None;
+        }
+        self.rows.get(folder as usize - 1)
+    }
+
+    /// Whether the slot of this ticket is taken.
+    pub fn holds(&self, ticket: Ticket) -> bool
+        ensures { result ≡ is_some (taking_at self.now ticket) }
+    {
+        match self.row(ticket.folder) {
+            Some(row) => row.holds(ticket.number),
+            None => false,
+        }
+    }
+
+    /// The result that is kept in the slot of this ticket.
     pub fn get(&self, ticket: Ticket) -> Option<&Done<'a>>
         ensures some { IfSome result (λ d. result_at self.now ticket ≡ Some d.now) }
         ensures none { IfNone result (result_at self.now ticket ≡ None) }
     {
-        if ticket.folder == 0 {
-            return None;
-        }
-        match self.rows.get(ticket.folder as usize - 1) {
+        match self.row(ticket.folder) {
             Some(row) => row.get(ticket.number),
             None => None,
         }
     }
 
-    /// Puts a result into the slot of its ticket.
-    pub fn put(&mut self, done: Done<'a>)
-        requires { HasSlot self.old done.ticket }
-        ensures { self.new ≡ with_result self.old done.entry }
+    /// Puts a result into the slot of its ticket, which is empty. The result comes back where there is no memory.
+    pub fn put(&mut self, done: Done<'a>) -> Result<(), NoRoom<'a>>
+        requires slot { HasSlot self.old done.ticket }
+        requires empty { taking_at self.old done.ticket ≡ None }
+        ensures put { OnOk result (self.new ≡ with_result self.old done.entry) }
+        ensures back { IfErr result (λ e. e.done ≡ done.entry) }
+        ensures unchanged { OnErr result (self.new ≡ self.old) }
     {
         let ticket = done.ticket();
-        self.rows[ticket.folder as usize - 1].put(ticket.number, done);
+        self.rows[ticket.folder as usize - 1].put(ticket.number, done)
+    }
+
+    /// Drops the results of the collection of this number, each of whose slots is taken, and frees their memory.
+    pub fn drop_results(&mut self, folder: u32)
+        requires within { (0 < folder) × (folder ≤ length self.old) }
+        requires full { (row : Row) → numbered self.old folder ≡ Some row → IsFull row }
+        ensures { self.new ≡ without_results self.old folder }
+    {
+        self.rows[folder as usize - 1].drop_results();
     }
 }

@@ -9,8 +9,8 @@ use Rattle.census_book.proofs.Runs.{run_before}
 use Rattle.census_book.proofs.Texts.{answers_more}
 use Rattle.census_book.proofs.release.folder_answers.Goals as goal
 
-pub get-done-requires : goal.get-done-requires
-get-done-requires c =
+pub get-done-requires-clause-taken : goal.get-done-requires-clause-taken
+get-done-requires-clause-taken c =
     let p = λ (i : ℕ). has_ticket c.args.arrival.now.taken (ticket c.args.c i) in
     let i = c.loop-i.i in
     let size : length c.as_slice-len.result.now ≡ length c.args.folder.now.entries = ap length c.as_slice-len.ensures in

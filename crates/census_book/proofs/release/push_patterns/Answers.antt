@@ -7,8 +7,8 @@ use Rattle.census_book.proofs.Runs.{run_before}
 use Rattle.census_book.proofs.Texts.{text_step, appended}
 use Rattle.census_book.proofs.release.push_patterns.Goals as goal
 
-pub get-done-requires : goal.get-done-requires
-get-done-requires c =
+pub get-done-requires-clause-taken : goal.get-done-requires-clause-taken
+get-done-requires-clause-taken c =
     let p = λ (i : ℕ). has_ticket c.args.arrival.now.taken (ticket c.args.c i) in
     let i = c.loop-i.i in
     let within : i < run_of c.args.arrival.now.taken c.args.c c.args.folder.now = subst (λ n. i < n) c.requires.run c.loop-i-test.true in

@@ -8,5 +8,5 @@ invariant-loop l = record {
   items : l.slots.items ≡ padded l.counter l.fn.slots.items;
   few : length l.fn.slots.items ≤ l.counter;
   most : l.counter - length l.fn.slots.items ≤ l.len - length l.fn.slots.items;
-  capacity : vec_capacity l.slots ≡ vec_capacity l.fn.slots;
+  capacity : l.all ≤ vec_capacity l.slots;
 }

@@ -1,10 +1,10 @@
-use Rattle.std.proofs.Common.{sym, ap, ◌∙◌, is_some, subst}
+use Rattle.std.proofs.Common.{◌≡◌, true, subst}
 use Rattle.std.proofs.lemmas.Option.{IfSome_then}
 use Rattle.census_bundle.specs.Tickets.{has_ticket}
-use Rattle.census_book.specs.Collecting.{IsResult}
+use Rattle.census_book.specs.Collecting.{HasCollection, IsResult}
 use Rattle.census_book.specs.Progress.{Taken}
 use Rattle.census_book.proofs.Kept.{none_then}
-use Rattle.census_book.proofs.Rows.{has_result}
+use Rattle.census_book.proofs.Rows.{not_kept}
 use Rattle.census_book.proofs.results.Results.get.Goals as goal
 
 pub returns-clause-found : goal.returns-clause-found
@@ -15,4 +15,5 @@ returns-clause-found c =
 pub returns-clause-missing : goal.returns-clause-missing
 returns-clause-missing c =
     none_then c.get.result c.get.ensures.none (λ none.
-    ap (λ (r : Taken). has_ticket r.taken c.args.ticket) (sym c.self.view_is) ∙ has_result c.self.inside.slots c.args.ticket ∙ ap is_some none)
+    subst (λ (r : Taken). has_ticket r.taken c.args.ticket ≡ true → HasCollection r.bundle r.taken c.args.ticket.folder) c.self.view_is
+    (not_kept c.self.inside.bundle.now c.self.inside.question c.self.inside.slots c.args.ticket c.self.invariant none))
