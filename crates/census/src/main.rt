@@ -1,7 +1,8 @@
 //! The program `census`: its arguments, its standard streams and its exit status.
 #![tactic(auto)]
 
-use census_command::{ErrorStream, Streams, program};
+use census_command::{Streams, program};
+use census_errors::ErrorStream;
 use census_terminal::{Announced, Screen, Shown};
 use std::io::IsTerminal;
 use std::process::ExitCode;

@@ -1,28 +1,12 @@
 -- What a census that goes on past what can't be read wrote and told.
-use Rattle.std.proofs.Common.{◌≡◌, ◌≢◌, ◌⊎◌, ℕ, ◌+◌, ◌<◌, Bool, true, false, List, [], ◌∷◌, ◌++◌, Option, length, get_or, drop, Result, Ok, Err, MatchResult, inl, inr, refl, sym, ap, ◌∙◌, MatchBool}
+use Rattle.std.proofs.Common.{◌≡◌, ◌≢◌, ◌⊎◌, ℕ, ◌+◌, ◌<◌, Bool, true, false, List, [], ◌∷◌, ◌++◌, Option, length, get_or, drop, Result, Ok, Err, MatchResult, inl, inr, refl, sym, ap, ◌∙◌}
 use Rattle.std.proofs.lemmas.List.{append_assoc, drop_more}
 use Rattle.census_folders.specs.declared.loss.Loss.{Loss}
-use Rattle.census_identify.proofs.Written.{tells_more}
-use Rattle.census_identify.specs.Streams.{Sink}
 use Rattle.census_command.specs.Keeps.{IsKept, KeepsInto, StopsKeeping, StopsKeepingIn, kept_status, lost_line, lost_lines}
-use Rattle.census_command.specs.Shelves.{Tellings}
+use Rattle.census_errors.specs.Shelves.{Tellings}
 use Rattle.census_command.specs.declared.keeping.Gathered.{Gathered}
-use Rattle.census_command.specs.declared.run_error.RunError.{RunError}
-use Rattle.census_command.specs.Sources.{IsWhole, Kept, source_of}
-use Rattle.census_command.specs.Streams.{Errors, Tells, TellsMore}
-
--- # Standard error
-
-abbrev sink_of : Errors → Sink
-sink_of e = record { written = e.told; failed = e.failed }
-
--- one text was told after another
-pub told_after : (xs ys : List ℕ) (a b c : Errors) → Tells xs a b → TellsMore ys b c → Tells (xs ++ ys) a c
-told_after xs ys a b c first more = tells_more xs ys (sink_of a) (sink_of b) (sink_of c) first (as_sinks b.failed more)
-  where
-    as_sinks : (f : Bool) → MatchBool f (c ≡ b) (Tells ys b c) → MatchBool f (sink_of c ≡ sink_of b) (Tells ys b c)
-    as_sinks true same = ap sink_of same
-    as_sinks false told = told
+use Rattle.census_errors.specs.declared.run_error.RunError.{RunError}
+use Rattle.census_errors.specs.Sources.{IsWhole, Kept, source_of}
 
 -- # The lines
 

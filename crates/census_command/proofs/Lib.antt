@@ -2,5 +2,3 @@ pub mod Advanced
 pub mod Outcomes
 pub mod Reports
 mod Kept
-mod Said
-pub mod Placed

@@ -14,28 +14,29 @@ use Rattle.census_cli.specs.declared.request.Request.TheVariants.{Run, Objects, 
 use Rattle.life_answer.specs.declared.question.Question.TheVariants as question
 use Rattle.life_answer.specs.declared.question.Question.{Question}
 use Rattle.census_command.specs.Advances.{AdvanceFromFails, AdvancesFromInPart}
-use Rattle.census_command.specs.Errors.{advance_status, run_error_of_folders, run_status, status_of}
-use Rattle.census_command.specs.Messages.{error_line}
+use Rattle.census_errors.specs.Errors.{advance_status, run_error_of_folders, run_status, status_of}
+use Rattle.census_errors.specs.Messages.{error_line}
 use Rattle.census_command.specs.Outcomes.{Answers, AreExplained, Ends, HelpsInPart}
-use Rattle.census_command.specs.Files.{file_of}
+use Rattle.census_errors.specs.Files.{file_of}
 use Rattle.census_command.specs.Outcomes.{MissesFile, RefusesText}
 use Rattle.census_command.specs.Outcomes.{MissesSource, RefusesCollections, RefusesFolders, RefusesInput, ReportsInPart, Shows, ShowsInPart}
 use Rattle.census_command.specs.Outcomes.{StopsAtFolder, TellsError, TellsRefusal}
-use Rattle.census_command.specs.Places.{IsPlaceOf}
+use Rattle.census_errors.specs.Places.{IsPlaceOf}
 use Rattle.census_command.specs.Requests.{Does, DoesInPart, Fails}
 use Rattle.census_command.specs.Runs.{FoldersFail, ReportsFoldersInPart, RunFails, RunsInPart, StopsReading}
-use Rattle.census_command.specs.Sayings.{line_said, said_if}
-use Rattle.census_command.specs.Shelves.{Tellings}
-use Rattle.census_command.specs.Sources.{Source, Input, Folders, Trees, Kept, source_of}
-use Rattle.census_command.specs.Streams.{Errors, HasFailed, IsSound, IsUntouched, State, Tells, TellsIf, WritesNothing}
-use Rattle.census_command.specs.declared.advance_error.AdvanceError.{AdvanceError}
-use Rattle.census_command.specs.declared.advance_error.AdvanceError.TheVariants as advance
-use Rattle.census_command.specs.declared.draw_error.DrawError.TheVariants as draw
-use Rattle.census_command.specs.declared.place.Place.{Place}
-use Rattle.census_command.specs.declared.run_error.RunError.{RunError}
-use Rattle.census_command.specs.declared.run_error.RunError.TheVariants as run
-use Rattle.census_command.specs.declared.error.CommandError.{CommandError}
-use Rattle.census_command.specs.declared.error.CommandError.TheVariants as command
+use Rattle.census_errors.specs.Sayings.{line_said, said_if}
+use Rattle.census_errors.specs.Shelves.{Tellings}
+use Rattle.census_errors.specs.Sources.{Source, Input, Folders, Trees, Kept, source_of}
+use Rattle.census_errors.specs.ErrorStreams.{Errors, Tells, TellsIf}
+use Rattle.census_command.specs.Streams.{HasFailed, IsSound, IsUntouched, State, WritesNothing}
+use Rattle.census_errors.specs.declared.advance_error.AdvanceError.{AdvanceError}
+use Rattle.census_errors.specs.declared.advance_error.AdvanceError.TheVariants as advance
+use Rattle.census_errors.specs.declared.draw_error.DrawError.TheVariants as draw
+use Rattle.census_errors.specs.declared.place.Place.{Place}
+use Rattle.census_errors.specs.declared.run_error.RunError.{RunError}
+use Rattle.census_errors.specs.declared.run_error.RunError.TheVariants as run
+use Rattle.census_errors.specs.declared.error.CommandError.{CommandError}
+use Rattle.census_errors.specs.declared.error.CommandError.TheVariants as command
 
 -- ---- streams that have not failed
 

@@ -17,11 +17,11 @@ use Rattle.census_folders.specs.Trees.{HoldsTrees}
 use Rattle.census_folders.specs.declared.fault.FoldersFault.{FoldersFault}
 use Rattle.census_folders.specs.declared.fault.FoldersFault.TheVariants as folder_fault
 use Rattle.life_answer.specs.declared.question.Question.{Question}
-use Rattle.census_command.specs.Errors.{run_error_of_bytes, run_error_of_folders, run_error_of_run}
+use Rattle.census_errors.specs.Errors.{run_error_of_bytes, run_error_of_folders, run_error_of_run}
 use Rattle.census_command.specs.Runs.{FoldersFail, InputFails, ReportsFolders, ReportsFoldersInPart, ReportsTrees, StopsReading, TreesFail}
-use Rattle.census_command.specs.declared.run_error.RunError.{RunError}
+use Rattle.census_errors.specs.declared.run_error.RunError.{RunError}
 use Rattle.census_command.specs.Keeps.{IsCut}
-use Rattle.census_command.specs.Shelves.{Tellings}
+use Rattle.census_errors.specs.Shelves.{Tellings}
 use Rattle.census_command.specs.Streams.{IsSound, State}
 
 is_down : (failed : Bool) → (failed ≡ true → ⊥) → failed ≡ false

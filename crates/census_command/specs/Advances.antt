@@ -13,10 +13,10 @@ use Rattle.census_faults.specs.Faults.{text_fault}
 use Rattle.census_faults.specs.Spots.{spot_of_text}
 use Rattle.census_faults.specs.declared.fault.Fault.{Fault}
 use Rattle.census_faults.specs.declared.spot.Spot.{Spot}
-use Rattle.census_command.specs.Shelves.{Tellings}
+use Rattle.census_errors.specs.Shelves.{Tellings}
 use Rattle.census_command.specs.Streams.{IsUntouched, ReadFails, State, WriteFails, WritesNothing}
-use Rattle.census_command.specs.declared.advance_error.AdvanceError.{AdvanceError}
-use Rattle.census_command.specs.declared.advance_error.AdvanceError.TheVariants.{Text, TooLong, Memory, Read, Write}
+use Rattle.census_errors.specs.declared.advance_error.AdvanceError.{AdvanceError}
+use Rattle.census_errors.specs.declared.advance_error.AdvanceError.TheVariants.{Text, TooLong, Memory, Read, Write}
 
 -- the text of generation n of a rule and a set
 abbrev pub advanced_text : Picture → ℕ → List ℕ

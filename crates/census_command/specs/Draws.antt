@@ -9,8 +9,8 @@ use Rattle.life_shape.specs.Reading as wechsler
 use Rattle.life_shape.specs.TextOrder.{body_of}
 use Rattle.life_text.specs.RleText.{rle_text}
 use Rattle.census_command.specs.Streams.{IsUntouched, State, WriteFails}
-use Rattle.census_command.specs.declared.draw_error.DrawError.{DrawError}
-use Rattle.census_command.specs.declared.draw_error.DrawError.TheVariants.{Rule as RuleText, Code, Memory, Write}
+use Rattle.census_errors.specs.declared.draw_error.DrawError.{DrawError}
+use Rattle.census_errors.specs.declared.draw_error.DrawError.TheVariants.{Rule as RuleText, Code, Memory, Write}
 
 -- the RLE text of the shape that the body of a code spells
 abbrev pub drawn_text : Rule → List ℕ → List ℕ

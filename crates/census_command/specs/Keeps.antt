@@ -11,15 +11,17 @@ use Rattle.census_folders.specs.Trees.{KeepsTrees}
 use Rattle.census_folders.specs.declared.fault.FoldersFault.{FoldersFault}
 use Rattle.census_folders.specs.declared.keeping.Kept.{Kept}
 use Rattle.census_folders.specs.declared.loss.Loss.{Loss}
-use Rattle.census_command.specs.Errors.{run_error_of_folders, run_status}
-use Rattle.census_command.specs.Messages.{error_line}
-use Rattle.census_command.specs.Sayings.{SaysOfReport, run_line, said_if}
-use Rattle.census_command.specs.Shelves.{Tellings}
-use Rattle.census_command.specs.Streams.{Errors, IsSound, IsUntouched, State, Tells, WriteFails}
+use Rattle.census_errors.specs.Errors.{run_error_of_folders, run_status}
+use Rattle.census_errors.specs.Messages.{error_line}
+use Rattle.census_errors.specs.Sayings.{run_line, said_if}
+use Rattle.census_command.specs.BesideReports.{SaysOfReport}
+use Rattle.census_errors.specs.Shelves.{Tellings}
+use Rattle.census_errors.specs.ErrorStreams.{Errors, Tells}
+use Rattle.census_command.specs.Streams.{IsSound, IsUntouched, State, WriteFails}
 use Rattle.census_command.specs.declared.keeping.Gathered.{Gathered}
-use Rattle.census_command.specs.declared.error.CommandError.TheVariants as command
-use Rattle.census_command.specs.declared.run_error.RunError.{RunError}
-use Rattle.census_command.specs.declared.run_error.RunError.TheVariants.{Memory, Write}
+use Rattle.census_errors.specs.declared.error.CommandError.TheVariants as command
+use Rattle.census_errors.specs.declared.run_error.RunError.{RunError}
+use Rattle.census_errors.specs.declared.run_error.RunError.TheVariants.{Memory, Write}
 
 -- # What was lost
 

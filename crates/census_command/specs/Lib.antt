@@ -1,11 +1,5 @@
 pub mod Streams
-pub mod Shelves
-pub mod Sources
-pub mod Errors
-pub mod Files
-pub mod Places
-pub mod Sayings
-pub mod Messages
+pub mod BesideReports
 pub mod Advances
 pub mod Draws
 pub mod Runs

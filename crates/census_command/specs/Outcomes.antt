@@ -27,23 +27,24 @@ use Rattle.census_folders.specs.Told.{MayExceed, MayFail}
 use Rattle.census_folders.specs.Trees.{HoldsTrees, StopsTrees}
 use Rattle.census_identify.specs.Identifies.{Identifies}
 use Rattle.census_command.specs.Advances.{HasFault, HasFileFault, ReadsTooMuch}
-use Rattle.census_command.specs.Errors.{IsArgumentsError, status_of}
-use Rattle.census_command.specs.Files.{file_of}
+use Rattle.census_errors.specs.Errors.{IsArgumentsError, status_of}
+use Rattle.census_errors.specs.Files.{file_of}
 use Rattle.census_command.specs.Keeps.{Keeps}
-use Rattle.census_command.specs.Messages.{error_line}
-use Rattle.census_command.specs.Places.{IsPlaceOf}
+use Rattle.census_errors.specs.Messages.{error_line}
+use Rattle.census_errors.specs.Places.{IsPlaceOf}
 use Rattle.census_command.specs.Remakes.{Remakes, form_of}
 use Rattle.census_command.specs.Requests.{Does, DoesInPart, Fails}
 use Rattle.census_reports.specs.declared.form.Form.{Form}
 use Rattle.census_reports.specs.declared.form.Form.TheVariants as form
 use Rattle.census_command.specs.Runs.{RunsInPart, StopsReading}
-use Rattle.census_command.specs.Sayings.{line_said, said_if}
-use Rattle.census_command.specs.Shelves.{Tellings}
-use Rattle.census_command.specs.Sources.{Source, Input, Folders, Trees, Kept, source_of}
-use Rattle.census_command.specs.Streams.{Errors, all_streams, HasFailed, IsSound, IsUntouched, State, Tells, TellsIf, WriteFails, WritesNothing}
-use Rattle.census_command.specs.declared.error.CommandError.{CommandError}
-use Rattle.census_command.specs.declared.place.Place.{Place}
-use Rattle.census_command.specs.declared.error.CommandError.TheVariants as command
+use Rattle.census_errors.specs.Sayings.{line_said, said_if}
+use Rattle.census_errors.specs.Shelves.{Tellings}
+use Rattle.census_errors.specs.Sources.{Source, Input, Folders, Trees, Kept, source_of}
+use Rattle.census_errors.specs.ErrorStreams.{Errors, Tells, TellsIf}
+use Rattle.census_command.specs.Streams.{all_streams, HasFailed, IsSound, IsUntouched, State, WriteFails, WritesNothing}
+use Rattle.census_errors.specs.declared.error.CommandError.{CommandError}
+use Rattle.census_errors.specs.declared.place.Place.{Place}
+use Rattle.census_errors.specs.declared.error.CommandError.TheVariants as command
 
 -- # What is explained
 

@@ -10,12 +10,13 @@ use Rattle.census_reports.specs.declared.form.Form.TheVariants as form
 use Rattle.lawful_merge.specs.Lawful.{MergesLawfully}
 use Rattle.census_cli.specs.declared.request.TableFormat.{TableFormat}
 use Rattle.census_cli.specs.declared.request.TableFormat.TheVariants.{Csv, Json}
-use Rattle.census_command.specs.Messages.{error_line}
-use Rattle.census_command.specs.Places.{IsReportsPlace}
-use Rattle.census_command.specs.Sayings.{reports_line, said_if}
-use Rattle.census_command.specs.Streams.{Errors, State, Tells}
-use Rattle.census_command.specs.declared.error.CommandError.TheVariants as command
-use Rattle.census_command.specs.declared.place.Place.{Place}
+use Rattle.census_errors.specs.Messages.{error_line}
+use Rattle.census_errors.specs.Places.{IsReportsPlace}
+use Rattle.census_errors.specs.Sayings.{reports_line, said_if}
+use Rattle.census_errors.specs.ErrorStreams.{Errors, Tells}
+use Rattle.census_command.specs.Streams.{State}
+use Rattle.census_errors.specs.declared.error.CommandError.TheVariants as command
+use Rattle.census_errors.specs.declared.place.Place.{Place}
 
 -- what is made of reports, by the format of a table
 abbrev pub form_of : TableFormat → Form

@@ -4,14 +4,14 @@ use Rattle.census_cli.specs.declared.request.Request.{Request}
 use Rattle.census_cli.specs.declared.request.Request.TheVariants.{Run, Objects, Identify, Advance, Draw, Merge, Table, Page}
 use Rattle.life_answer.specs.declared.question.Question.TheVariants as question
 use Rattle.census_command.specs.Advances.{AdvanceFromFails, AdvancesFrom, AdvancesFromInPart}
-use Rattle.census_command.specs.Files.{file_of}
+use Rattle.census_errors.specs.Files.{file_of}
 use Rattle.census_command.specs.Draws.{DrawFails, Draws, DrawsInPart}
 use Rattle.census_command.specs.Runs.{RunFails, Runs, RunsInPart}
-use Rattle.census_command.specs.Shelves.{Tellings}
-use Rattle.census_command.specs.Sources.{IsWhole, source_of}
+use Rattle.census_errors.specs.Shelves.{Tellings}
+use Rattle.census_errors.specs.Sources.{IsWhole, source_of}
 use Rattle.census_command.specs.Streams.{State}
-use Rattle.census_command.specs.declared.error.CommandError.{CommandError}
-use Rattle.census_command.specs.declared.error.CommandError.TheVariants as error
+use Rattle.census_errors.specs.declared.error.CommandError.{CommandError}
+use Rattle.census_errors.specs.declared.error.CommandError.TheVariants as error
 
 -- its numbers are in their ranges
 abbrev pub IsLawful : Request → Type 0

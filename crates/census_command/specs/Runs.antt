@@ -12,13 +12,13 @@ use Rattle.census_folders.specs.declared.fault.FoldersFault.{FoldersFault}
 use Rattle.census_folders.specs.declared.fault.FoldersFault.TheVariants as folder_fault
 use Rattle.census_command.specs.Advances.{ReadsTooMuch}
 use Rattle.life_answer.specs.declared.question.Question.{Question}
-use Rattle.census_command.specs.Errors.{run_error_of_folders}
-use Rattle.census_command.specs.Sayings.{SaysOfReport}
-use Rattle.census_command.specs.Shelves.{Tellings}
-use Rattle.census_command.specs.Sources.{Source, Input, Folders, Trees, Kept}
+use Rattle.census_errors.specs.Errors.{run_error_of_folders}
+use Rattle.census_command.specs.BesideReports.{SaysOfReport}
+use Rattle.census_errors.specs.Shelves.{Tellings}
+use Rattle.census_errors.specs.Sources.{Source, Input, Folders, Trees, Kept}
 use Rattle.census_command.specs.Streams.{IsSound, IsUntouched, ReadFails, State, WriteFails, WritesNothing}
-use Rattle.census_command.specs.declared.run_error.RunError.{RunError}
-use Rattle.census_command.specs.declared.run_error.RunError.TheVariants.{Bundle, Folder as FolderFault, TooLong, Memory, Read, Write}
+use Rattle.census_errors.specs.declared.run_error.RunError.{RunError}
+use Rattle.census_errors.specs.declared.run_error.RunError.TheVariants.{Bundle, Folder as FolderFault, TooLong, Memory, Read, Write}
 
 -- # Standard input
 

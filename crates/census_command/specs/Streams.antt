@@ -1,8 +1,7 @@
 -- What stands in the streams of a command: one value before and one after.
-use Rattle.std.specs.Prelude.{◌≡◌, ◌⊎◌, ℕ, Bool, true, false, List, Option, MatchBool}
-use Rattle.std.specs.Io.KnownBytes.{Appends}
-use Rattle.watched.specs.Watching.{AppendsFront}
+use Rattle.std.specs.Prelude.{◌≡◌, ◌⊎◌, ℕ, Bool, true, false, List, Option}
 use Rattle.census_identify.specs.Streams as three
+use Rattle.census_errors.specs.ErrorStreams.{Errors}
 
 -- Standard input and standard output. The bytes are those that the reader and the writer tell, if they tell any.
 pub record State : Type 0 where
@@ -43,25 +42,6 @@ pub record WriteFails (after : State) : Type 0 where
 -- one of the streams has failed
 abbrev pub HasFailed : State → Type 0
 HasFailed s = (s.read_failed ≡ true) ⊎ (s.write_failed ≡ true)
-
--- Standard error: what was told on it, whether it has failed, and whether it is a terminal.
-pub record Errors : Type 0 where
-  pub told : Option (List ℕ)
-  pub failed : Bool
-  pub is_terminal : Bool
-
--- this text was told, whole where the stream has not failed, else a prefix of it, and nothing else
-abbrev pub Tells : List ℕ → Errors → Errors → Type 0
-Tells text before after =
-    MatchBool after.failed (AppendsFront before.told after.told text) (Appends before.told after.told text)
-
--- a stream that has failed stays as it is; on any other this text was told
-abbrev pub TellsMore : List ℕ → Errors → Errors → Type 0
-TellsMore text before after = MatchBool before.failed (after ≡ before) (Tells text before after)
-
--- this text was told, where it is asked for, and else nothing
-abbrev pub TellsIf : Bool → List ℕ → Errors → Errors → Type 0
-TellsIf asked text before after = MatchBool asked (Tells text before after) (after ≡ before)
 
 -- all three streams
 abbrev pub all_streams : State → Errors → three.Streams

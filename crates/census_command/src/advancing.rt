@@ -2,15 +2,14 @@
 ghost use Rattle.std.specs.Prelude.{◌≡◌, ◌≤◌, option_map, IfErr, MatchResult, OnOk};
 ghost use Rattle.census_command.specs.Advances.{AdvanceFails, AdvanceFileFails, AdvanceFromFails};
 ghost use Rattle.census_command.specs.Advances.{Advances, AdvancesFile, AdvancesFrom, IsAdvanced, RefusesText};
-ghost use Rattle.census_command.specs.Errors.{advance_error_of_text};
-ghost use Rattle.census_command.specs.Files.{file_of};
-ghost use Rattle.census_command.specs.Shelves.{tellings};
+ghost use Rattle.census_errors.specs.Errors.{advance_error_of_text};
+ghost use Rattle.census_errors.specs.Files.{file_of};
+ghost use Rattle.census_errors.specs.Shelves.{tellings};
 ghost use Rattle.census_command.specs.Streams.{IsSound};
 
-use crate::advance_error::AdvanceError;
 use crate::evolving::evolved;
-use crate::files::file_of;
 use crate::streams::Streams;
+use census_errors::{AdvanceError, file_of};
 use census_faults::{spot_of_text, text_fault};
 use census_folders::Shelf;
 use census_identify::read_file;

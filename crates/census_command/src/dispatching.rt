@@ -1,27 +1,25 @@
 //! What the program does with its words.
 ghost use Rattle.std.specs.Prelude.{◌≡◌, ◌≤◌, ◌||◌, false, map, IfErr, IfNone, IfOk, IfSome, OnOk};
 ghost use Rattle.life_answer.specs.Questions.{IsAnswered};
-ghost use Rattle.census_command.specs.Errors.{status_of};
-ghost use Rattle.census_command.specs.Messages.{error_line};
+ghost use Rattle.census_errors.specs.Errors.{status_of};
+ghost use Rattle.census_errors.specs.Messages.{error_line};
 ghost use Rattle.census_command.specs.Outcomes.{Answers, IsKeeping, Outcome};
 ghost use Rattle.census_command.specs.Requests.{Does, EndsAtFirst, Fails, IsDone, IsLawful};
-ghost use Rattle.census_command.specs.Shelves.{tellings};
-ghost use Rattle.census_command.specs.Sources.{IsWhole, Kept, source_of};
-ghost use Rattle.census_command.specs.Streams.{IsSound, Tells, TellsIf};
+ghost use Rattle.census_errors.specs.Shelves.{tellings};
+ghost use Rattle.census_errors.specs.Sources.{IsWhole, Kept, source_of};
+ghost use Rattle.census_errors.specs.ErrorStreams.{Tells, TellsIf};
+ghost use Rattle.census_command.specs.Streams.{IsSound};
 
 use crate::advancing::advance;
 use crate::drawing::draw;
-use crate::error::CommandError;
-use crate::explaining::saying_of;
-use crate::hushed::Hushed;
 use crate::keeping::keep_going;
-use crate::placing::place_if;
+use crate::quiet_gate::QuietGate;
 use crate::remaking::{form_of, remake};
 use crate::running::run_command;
-use crate::saying::stop_saying;
-use crate::streams::{ErrorStream, Streams};
+use crate::streams::Streams;
 use census_cli::{Request, WordsFault, read_words};
 use census_crew::Gate;
+use census_errors::{CommandError, ErrorStream, place_if, saying_of, stop_saying};
 use census_folders::Shelf;
 use census_identify::identify;
 use census_reports::Form;
@@ -294,7 +292,7 @@ pub fn dispatch<S: Shelf, I: Read, O: Write, E: Write, G: Gate, R: Threads + Wai
         Err(fault) => return answer(&fault, streams, errors),
     };
     let explain = explains(asked.explain, &*errors);
-    let gate = &Hushed::new(gate, asked.quiet);
+    let gate = &QuietGate::new(gate, asked.quiet);
     let request = &asked.request;
     if let Some(census) = kept_of(request) {
         return keep_going(

@@ -3,8 +3,8 @@ ghost use Rattle.std.specs.Prelude.{◌≡◌, IfErr, MatchResult, OnOk};
 ghost use Rattle.census_command.specs.Draws.{DrawFails, Draws, IsDrawn, RefusesCode};
 ghost use Rattle.census_command.specs.Streams.{IsSound};
 
-use crate::draw_error::DrawError;
 use crate::streams::Streams;
+use census_errors::DrawError;
 use life_cells::Rule;
 use life_shape::{body_of, read_wechsler};
 use life_text::write_rle;

@@ -4,21 +4,19 @@ ghost use Rattle.std.specs.List.{FoldsTo};
 ghost use Rattle.life_answer.specs.Questions.{IsAnswered};
 ghost use Rattle.census_folders.specs.Losses.{KeepsFolder, StopsKeepingAt};
 ghost use Rattle.census_folders.specs.declared.loss.Loss.{Loss};
-ghost use Rattle.census_command.specs.Errors.{run_error_of_folders};
+ghost use Rattle.census_errors.specs.Errors.{run_error_of_folders};
 ghost use Rattle.census_command.specs.Keeps.{IsKept, Keeps, KeepsInto, StopsKeeping, StopsKeepingIn, lost_line, lost_lines};
-ghost use Rattle.census_command.specs.Shelves.{tellings};
+ghost use Rattle.census_errors.specs.Shelves.{tellings};
 ghost use Rattle.census_command.specs.Streams.{IsSound};
-ghost use Rattle.census_command.specs.declared.run_error.RunError.TheVariants.{Memory};
+ghost use Rattle.census_errors.specs.declared.run_error.RunError.TheVariants.{Memory};
 
-use crate::error::CommandError;
-use crate::explaining::run_saying;
-use crate::lending::lent;
 use crate::reporting::report;
-use crate::run_error::RunError;
-use crate::saying::{say_if, stop_saying};
-use crate::streams::{ErrorStream, Streams};
+use crate::streams::Streams;
 use census_bundle::Bundle;
 use census_crew::Gate;
+use census_errors::{
+    CommandError, ErrorStream, RunError, borrowed_words, run_saying, say_if, stop_saying,
+};
 use census_faults::printed;
 use census_folders::{Loss, Shelf, folders_below_each_on, read_folders_on};
 use life_answer::Question;
@@ -97,7 +95,7 @@ fn gather<S: Shelf>(
         return gather_folders(shelf, alloc, words, limit, &[]);
     }
     let trees = folders_below_each_on(shelf, alloc, words)?;
-    let folders = lent(alloc, trees.folders.as_slice())?;
+    let folders = borrowed_words(alloc, trees.folders.as_slice())?;
     gather_folders(
         shelf,
         alloc,

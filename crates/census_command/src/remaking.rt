@@ -4,12 +4,9 @@ ghost use Rattle.census_reports.specs.Outcomes.{ReportsFail, WritesReports};
 ghost use Rattle.census_command.specs.Remakes.{KeepsLaw, Remakes, both_streams, form_of};
 ghost use Rattle.census_command.specs.Streams.{IsSound};
 
-use crate::error::CommandError;
-use crate::explaining::reports_saying;
-use crate::placing::reports_place_if;
-use crate::saying::stop_saying;
-use crate::streams::{ErrorStream, Streams};
+use crate::streams::Streams;
 use census_cli::TableFormat;
+use census_errors::{CommandError, ErrorStream, reports_place_if, reports_saying, stop_saying};
 use census_folders::Shelf;
 use census_reports::{Form, ReportsError, write_reports};
 use lawful_merge::merge_reports;

@@ -4,7 +4,7 @@ ghost use Rattle.life_answer.specs.Questions.{IsAnswered};
 ghost use Rattle.watched.specs.Watching.{has_failed, inner_of};
 ghost use Rattle.census_crew.specs.Faults.{FitsFault};
 ghost use Rattle.census_crew.specs.Writing.{WritesFront, WritesReport};
-ghost use Rattle.census_command.specs.Sayings.{SaysBesideReport, SaysOfReport};
+ghost use Rattle.census_command.specs.BesideReports.{SaysBesideReport, SaysOfReport};
 
 use census_bundle::Bundle;
 use census_crew::{Gate, RunFault, run};

@@ -6,17 +6,16 @@ ghost use Rattle.census_crew.specs.declared.bytes.BytesFault.{BytesFault};
 ghost use Rattle.life_answer.specs.Questions.{IsAnswered};
 ghost use Rattle.census_command.specs.Runs.{FoldersFail, InputFails, ReportsFolders, ReportsInput};
 ghost use Rattle.census_command.specs.Runs.{ReportsTrees, RunFails, Runs, TreesFail};
-ghost use Rattle.census_command.specs.Shelves.{tellings};
-ghost use Rattle.census_command.specs.Sources.{source_of};
+ghost use Rattle.census_errors.specs.Shelves.{tellings};
+ghost use Rattle.census_errors.specs.Sources.{source_of};
 ghost use Rattle.census_command.specs.Streams.{IsSound};
 
 use crate::advancing::INPUT_LIMIT;
-use crate::lending::lent;
 use crate::reporting::report;
-use crate::run_error::RunError;
 use crate::streams::Streams;
 use census_bundle::{Bundle, BundleFault, read_bundle};
 use census_crew::{BytesFault, Gate};
+use census_errors::{RunError, borrowed_words};
 use census_folders::{Shelf, folders_below_each, read_folders};
 use life_answer::Question;
 use std::alloc::Global;
@@ -138,7 +137,7 @@ fn run_trees<S: Shelf, I: Read, O: Write, G: Gate, R: Threads + Wait + Sync>(
         limit (map (λ s. s.now) words.now) question streams.old streams.new) }
 {
     let own = folders_below_each(shelf, alloc, words)?;
-    let folders = lent(alloc, own.as_slice())?;
+    let folders = borrowed_words(alloc, own.as_slice())?;
     run_folders(
         rt,
         shelf,

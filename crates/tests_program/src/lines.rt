@@ -1,7 +1,7 @@
 //! The lines on standard error.
 
 use census_bundle::{AddFault, BundleFault};
-use census_command::{AdvanceError, CommandError, DrawError, RunError};
+use census_errors::{AdvanceError, CommandError, DrawError, RunError};
 use std::test::Fail;
 
 #[test]

@@ -1,7 +1,8 @@
 //! One call of the program.
 
-use census_command::{ErrorStream, Streams, dispatch};
+use census_command::{Streams, dispatch};
 use census_crew::{Gate, OpenGate};
+use census_errors::ErrorStream;
 use std::alloc::Global;
 use std::io::{Read, Write};
 use std::rt::Files;

@@ -1,6 +1,6 @@
 use Rattle.std.proofs.Common.{refl, ap, subst, ◌∙◌, arith, []}
 use Rattle.census_folders.specs.Told.{GivesTold}
-use Rattle.census_command.specs.Shelves.{tellings}
+use Rattle.census_errors.specs.Shelves.{tellings}
 use Rattle.std.proofs.lemmas.Result.{err_from_is_err_and}
 use Rattle.census_command.proofs.Advanced.{advances_file, advances_file_in_part}
 use Rattle.census_command.proofs.advancing.advance_file.Goals as goal

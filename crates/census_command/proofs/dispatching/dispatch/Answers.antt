@@ -1,11 +1,11 @@
 use Rattle.std.proofs.Common.{List, ℕ, ◌++◌, inl, inr, refl, sym, ap, subst, map}
 use Rattle.census_reports.specs.declared.form.Form.TheVariants as form
 use Rattle.census_command.specs.Outcomes.{IsIdentify, IsRemaking}
-use Rattle.census_command.specs.Messages.{error_line}
-use Rattle.census_command.specs.Sayings.{said_if}
-use Rattle.census_command.specs.Streams.{Tells, TellsIf}
+use Rattle.census_errors.specs.Messages.{error_line}
+use Rattle.census_errors.specs.Sayings.{said_if}
+use Rattle.census_errors.specs.ErrorStreams.{Tells, TellsIf}
 use Rattle.census_command.proofs.Outcomes.{are_explained, ends_answered, ends_done, ends_failed}
-use Rattle.census_command.proofs.Said.{says_at}
+use Rattle.census_errors.proofs.Said.{says_at}
 use Rattle.census_command.proofs.dispatching.dispatch.Goals as goal
 
 pub returns-in-Err : goal.returns-in-Err

@@ -1,5 +1,5 @@
 use Rattle.std.proofs.Common.{false, ◌≡◌}
-use Rattle.census_command.specs.Shelves.{tellings}
+use Rattle.census_errors.specs.Shelves.{tellings}
 use Rattle.census_command.proofs.Kept.{gathered_plain}
 use Rattle.census_command.proofs.keeping.gather.Goals as goal
 

@@ -1,12 +1,13 @@
 use Rattle.std.proofs.Common.{List, ℕ, inl, inr, refl, ap, subst, ◌∙◌, ◌≡◌}
 use Rattle.census_command.specs.Keeps.{error_lines, lost_lines}
-use Rattle.census_command.specs.Messages.{error_line}
-use Rattle.census_command.specs.Sayings.{run_line, said_if}
-use Rattle.census_command.specs.Streams.{Tells, TellsMore}
-use Rattle.census_command.specs.declared.error.CommandError.TheVariants as command
-use Rattle.census_command.proofs.Kept.{status_kept, told_after}
+use Rattle.census_errors.specs.Messages.{error_line}
+use Rattle.census_errors.specs.Sayings.{run_line, said_if}
+use Rattle.census_errors.specs.ErrorStreams.{Tells, TellsMore}
+use Rattle.census_errors.specs.declared.error.CommandError.TheVariants as command
+use Rattle.census_errors.proofs.Said.{told_after}
+use Rattle.census_command.proofs.Kept.{status_kept}
 use Rattle.census_command.proofs.Reports.{is_cut}
-use Rattle.census_command.proofs.Said.{more_after, says_line}
+use Rattle.census_errors.proofs.Said.{more_after, says_line}
 use Rattle.census_command.proofs.keeping.keep_going.Goals as goal
 
 pub returns-in-Ok-report : goal.returns-in-Ok-report

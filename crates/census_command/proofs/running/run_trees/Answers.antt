@@ -1,5 +1,5 @@
 use Rattle.std.proofs.Common.{ap, ◌∙◌, map, string_bytes}
-use Rattle.census_command.specs.Shelves.{tellings}
+use Rattle.census_errors.specs.Shelves.{tellings}
 use Rattle.census_command.proofs.Reports.{trees_done, trees_fail}
 use Rattle.census_command.proofs.running.run_trees.Goals as goal
 

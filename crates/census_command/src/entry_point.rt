@@ -1,0 +1,91 @@
+//! The entry point: what the program does with the arguments that the system gives it.
+ghost use Rattle.std.specs.Prelude.{◌≡◌, drop, false, map, string_bytes, IfOk, MatchResult};
+ghost use Rattle.std.specs.IoError.{error_kind};
+ghost use Rattle.std.specs.Process.{exit_status};
+ghost use Rattle.std.specs.Vec.Iter.{into_iter_items};
+ghost use Rattle.census_command.specs.Outcomes.{Outcome, StopsUnread};
+ghost use Rattle.census_errors.specs.Shelves.{tellings};
+ghost use Rattle.census_command.specs.Streams.{IsSound};
+
+use crate::dispatching::{dispatch, stop};
+use crate::streams::Streams;
+use census_crew::Gate;
+use census_errors::{CommandError, ErrorStream, borrowed_words};
+use census_folders::Shelf;
+use std::alloc::{AllocError, Global};
+use std::env::Args;
+use std::io;
+use std::io::{Read, Write};
+use std::process::ExitCode;
+use std::sync::Wait;
+use std::thread::Threads;
+
+// All arguments but the first, which is the program's name.
+fn own_words(alloc: Global, args: Args) -> Result<Vec<String>, AllocError>
+    ensures { IfOk result (λ words. words.items ≡ drop 1 (into_iter_items args)) }
+{
+    let mut rest = args;
+    let _ = rest.next();
+    let mut words = Vec::new(alloc);
+    while let Some(word) = rest.next() {
+        words.push(word)?;
+    }
+    Ok(words)
+}
+
+// Does what the arguments ask for, and gives the exit status.
+fn dispatch_arguments<S: Shelf, I: Read, O: Write, E: Write, G: Gate, R: Threads + Wait + Sync>(
+    rt: &R,
+    shelf: &S,
+    alloc: Global,
+    args: Args,
+    gate: &G,
+    streams: &mut Streams<I, O>,
+    errors: &mut ErrorStream<E>,
+) -> u8
+    requires streams { IsSound streams.old }
+    requires errors { errors.old.failed ≡ false }
+    ensures { Outcome (tellings (S.listed shelf.now) (S.inner shelf.now) (S.held shelf.now))
+        (map (λ word. string_bytes word) (drop 1 (into_iter_items args))) result
+        streams.old streams.new errors.old errors.new }
+{
+    let Ok(own) = own_words(alloc, args) else {
+        return stop(CommandError::Memory, errors);
+    };
+    let Ok(words) = borrowed_words(alloc, own.as_slice()) else {
+        return stop(CommandError::Memory, errors);
+    };
+    dispatch(rt, shelf, alloc, words.as_slice(), gate, streams, errors)
+}
+
+/// The whole program `census` over any shelf, any gate and any streams: `dispatch` on all arguments but the first, which is the
+/// program's name, and its status as the exit status.
+///
+/// Where the system gives no arguments, nothing is read or written, and the error's line is told: `out of memory` with
+/// status 3 where memory is refused, else `bad command line` with status 2, for an argument that is no text.
+pub fn program<S: Shelf, I: Read, O: Write, E: Write, G: Gate, R: Threads + Wait + Sync>(
+    rt: &R,
+    shelf: &S,
+    alloc: Global,
+    args: io::Result<Args>,
+    gate: &G,
+    streams: &mut Streams<I, O>,
+    errors: &mut ErrorStream<E>,
+) -> ExitCode
+    requires streams { IsSound streams.old }
+    requires errors { errors.old.failed ≡ false }
+    ensures { MatchResult args
+        (λ args. Outcome (tellings (S.listed shelf.now) (S.inner shelf.now) (S.held shelf.now))
+        (map (λ word. string_bytes word) (drop 1 (into_iter_items args)))
+        (exit_status result) streams.old streams.new errors.old errors.new)
+        (λ error. StopsUnread (error_kind error) (exit_status result)
+        streams.old streams.new errors.old errors.new) }
+{
+    match args {
+        Ok(args) => {
+            let status = dispatch_arguments(rt, shelf, alloc, args, gate, streams, errors);
+            ExitCode::from(status)
+        }
+        Err(error) => ExitCode::from(stop(CommandError::from(error), errors)),
+    }
+}

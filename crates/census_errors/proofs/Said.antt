@@ -1,0 +1,85 @@
+-- What is told piece by piece.
+use Rattle.std.proofs.Common.{◌≡◌, ℕ, ◌+◌, ◌<◌, Bool, true, false, if◌then◌else◌, List, [], ◌∷◌, ◌++◌, codes, length, take, slice_index, Option, None, Result, Ok, Err, IsOk, OnOk, MatchBool, refl, ap, subst, sym, true≢false, ◌∙◌}
+use Rattle.std.proofs.KnownBytes.{Appends-nil}
+use Rattle.std.proofs.lemmas.Grind.{flat_map-append}
+use Rattle.std.proofs.lemmas.List.{append-nil, take_more}
+use Rattle.std.specs.Option.{option_or}
+use Rattle.std.specs.Io.KnownBytes.{Appends}
+use Rattle.watched.specs.Watching.{AppendsFront}
+use Rattle.hex.specs.Hex.{encode_lower}
+use Rattle.census_identify.proofs.Written.{tells_more}
+use Rattle.census_identify.specs.Streams.{Sink}
+use Rattle.census_bundle.specs.Names.{is_name_byte}
+use Rattle.census_faults.specs.Explained.{explained, heading, spot_text}
+use Rattle.census_faults.specs.Printed.{printed, printed_byte}
+use Rattle.census_faults.specs.declared.fault.Fault.{Fault}
+use Rattle.census_faults.specs.declared.spot.Spot.{Spot}
+use Rattle.census_faults.specs.declared.spot.Spot.TheVariants.{Nowhere, Line, At}
+use Rattle.census_errors.specs.Places.{IsSaidAt, fault_at}
+use Rattle.census_errors.specs.Sayings.{Says, explained_at, said}
+use Rattle.census_errors.specs.ErrorStreams.{Errors, Tells, TellsMore}
+use Rattle.census_errors.specs.declared.place.Place.{Place}
+use Rattle.census_errors.specs.declared.saying.Saying.{Saying}
+
+abbrev sink_of : Errors → Sink
+sink_of e = record { written = e.told; failed = e.failed }
+
+-- one text was told after another
+pub told_after : (xs ys : List ℕ) (a b c : Errors) → Tells xs a b → TellsMore ys b c → Tells (xs ++ ys) a c
+told_after xs ys a b c first more = tells_more xs ys (sink_of a) (sink_of b) (sink_of c) first (as_sinks b.failed more)
+  where
+    as_sinks : (f : Bool) → MatchBool f (c ≡ b) (Tells ys b c) → MatchBool f (sink_of c ≡ sink_of b) (Tells ys b c)
+    as_sinks true same = ap sink_of same
+    as_sinks false told = told
+
+-- nothing was told
+pub no_more : (s : Errors) → TellsMore [] s s
+no_more s = at s.failed
+  where
+    at : (f : Bool) → MatchBool f (s ≡ s) (MatchBool f (AppendsFront s.told s.told []) (Appends s.told s.told []))
+    at true = refl
+    at false = Appends-nil s.told
+
+-- one text was told after another, where either may be lost
+pub more_after : (xs ys : List ℕ) (a b c : Errors) → TellsMore xs a b → TellsMore ys b c → TellsMore (xs ++ ys) a c
+more_after xs ys a b c first more = at a.failed refl first
+  where
+    at : (f : Bool) → a.failed ≡ f → MatchBool f (b ≡ a) (Tells xs a b) → MatchBool f (c ≡ a) (Tells (xs ++ ys) a c)
+    at true failed same =
+        let still : b.failed ≡ true = ap (λ (e : Errors). e.failed) same ∙ failed in
+        let lost : c ≡ b = subst (λ (f : Bool). MatchBool f (c ≡ b) (Tells ys b c)) still more in
+        lost ∙ same
+    at false sound told = told_after xs ys a b c told more
+
+-- one more byte of a name
+pub printed_more : (name : List ℕ) (i : ℕ) → i < length name → printed (take (i + 1) name) ≡ printed (take i name) ++ printed_byte (slice_index name i)
+printed_more name i within =
+    ap printed (take_more name i 0 within)
+    ∙ flat_map-append printed_byte (take i name) (slice_index name i ∷ [])
+    ∙ ap (λ (shown : List ℕ). printed (take i name) ++ shown) (append-nil (printed_byte (slice_index name i)))
+
+-- a byte that no lawful name has
+pub escaped_is : (byte : ℕ) → is_name_byte byte ≡ false → printed_byte byte ≡ 92 ∷ 120 ∷ encode_lower (byte ∷ [])
+escaped_is byte no_name = ap (λ (b : Bool). if b then byte ∷ [] else 92 ∷ 120 ∷ encode_lower (byte ∷ [])) no_name
+
+-- what an answer says that is known to be there
+pub of_ok : {A B : Type 0} (P : Type 0) (r : Result A B) → IsOk r → OnOk r P → P
+of_ok P (Ok x) is p = p
+of_ok P (Err e) is p = absurd (true≢false (sym is))
+
+-- a place that is known, and a blank
+pub place_is : (spot : Spot) → (spot ≡ Nowhere → ⊥) → spot_text spot ++ codes " " ≡ heading None spot
+place_is Nowhere known = absurd (known refl)
+place_is (Line line) known = refl
+place_is (At place) known = refl
+
+-- what is said is the line for the fault, the file and the place
+pub says_line : (f : Fault) (name : Option (List ℕ)) (spot : Spot) (saying : Saying) → Says f name spot saying → said saying ≡ explained f name spot None
+says_line f name spot saying h = λ i. explained (h.fault_is i) (h.name_is i) (h.spot_is i) (h.word_is i)
+
+-- and so it is of what stands at a place
+pub says_at : (f : Fault) (name : Option (List ℕ)) (spot : Spot) (saying : Saying) (place : Place) (at : Saying) → Says f name spot saying
+    → IsSaidAt saying place at → said at ≡ explained_at f name spot place
+says_at f name spot saying place at h s =
+    (λ i. explained (s.fault_is i) (s.name_is i) (s.spot_is i) (s.word_is i))
+    ∙ (λ i. explained (fault_at (h.fault_is i) place) (option_or place.path (h.name_is i)) (h.spot_is i) (option_or place.word (h.word_is i)))

@@ -1,0 +1,102 @@
+-- The error that the fault of a part is, and the exit status of each.
+use Rattle.std.specs.Prelude.{◌≡◌, ◌≢◌, ◌⊎◌, ℕ, List}
+use Rattle.std.specs.declared.io.ErrorKind.{ErrorKind}
+use Rattle.std.specs.declared.io.ErrorKind.TheVariants.{OutOfMemory}
+use Rattle.life_text.specs.declared.rle.RleFault.{RleFault}
+use Rattle.life_text.specs.declared.rle.RleFault.TheVariants as rle
+use Rattle.life_shape.specs.declared.reader.CodeFault.{CodeFault}
+use Rattle.life_shape.specs.declared.reader.CodeFault.TheVariants as codes
+use Rattle.watched.specs.declared.reading.ReadFault.{ReadFault}
+use Rattle.watched.specs.declared.reading.ReadFault.TheVariants as reads
+use Rattle.census_faults.specs.Faults.{text_fault}
+use Rattle.census_faults.specs.Spots.{spot_of_text}
+use Rattle.census_crew.specs.declared.bytes.BytesFault.{BytesFault}
+use Rattle.census_crew.specs.declared.bytes.BytesFault.TheVariants as bytes
+use Rattle.census_crew.specs.declared.fault.RunFault.{RunFault}
+use Rattle.census_crew.specs.declared.fault.RunFault.TheVariants as runs
+use Rattle.census_folders.specs.declared.fault.FoldersFault.{FoldersFault}
+use Rattle.census_folders.specs.declared.fault.FoldersFault.TheVariants as folders
+use Rattle.census_errors.specs.declared.advance_error.AdvanceError.{AdvanceError}
+use Rattle.census_errors.specs.declared.advance_error.AdvanceError.TheVariants as advance
+use Rattle.census_errors.specs.declared.draw_error.DrawError.{DrawError}
+use Rattle.census_errors.specs.declared.draw_error.DrawError.TheVariants as draw
+use Rattle.census_errors.specs.declared.run_error.RunError.{RunError}
+use Rattle.census_errors.specs.declared.run_error.RunError.TheVariants as run
+use Rattle.census_errors.specs.declared.error.CommandError.{CommandError}
+use Rattle.census_errors.specs.declared.error.CommandError.TheVariants.{Run, Advance, Draw, Reports, Arguments, Memory, Write}
+use Rattle.census_reports.specs.Errors as reports
+
+-- # Of `advance`
+
+-- the fault of a text, with what is said of it
+abbrev pub advance_error_of_text : List ℕ → RleFault → AdvanceError
+advance_error_of_text text rle.Memory = advance.Memory
+advance_error_of_text text fault = advance.Text fault (text_fault text fault) (spot_of_text text fault)
+
+abbrev pub advance_error_of_read : ReadFault → AdvanceError
+advance_error_of_read reads.Read = advance.Read
+advance_error_of_read reads.TooLong = advance.TooLong
+advance_error_of_read reads.Memory = advance.Memory
+
+-- # Of `draw`
+
+abbrev pub draw_error_of_code : CodeFault → DrawError
+draw_error_of_code codes.Memory = draw.Memory
+draw_error_of_code fault = draw.Code fault
+
+-- # Of `run`
+
+abbrev pub run_error_of_bytes : BytesFault → RunError
+run_error_of_bytes bytes.Read = run.Read
+run_error_of_bytes bytes.TooLong = run.TooLong
+run_error_of_bytes (bytes.Bundle fault) = run.Bundle fault
+run_error_of_bytes bytes.Memory = run.Memory
+run_error_of_bytes bytes.Write = run.Write
+
+abbrev pub run_error_of_folders : FoldersFault → RunError
+run_error_of_folders (folders.Add fault) = run.Folder fault
+run_error_of_folders folders.Read = run.Read
+run_error_of_folders folders.TooLong = run.TooLong
+run_error_of_folders folders.Memory = run.Memory
+
+abbrev pub run_error_of_run : RunFault → RunError
+run_error_of_run runs.Memory = run.Memory
+run_error_of_run runs.Write = run.Write
+
+-- # Of reading the arguments
+
+-- memory was refused, or an argument is no text
+abbrev pub IsArgumentsError : ErrorKind → CommandError → Type 0
+IsArgumentsError kind error = ((kind ≡ OutOfMemory) × (error ≡ Memory)) ⊎ ((kind ≢ OutOfMemory) × (error ≡ Arguments))
+
+-- # The exit status
+
+abbrev pub advance_status : AdvanceError → ℕ
+advance_status (advance.Text fault told spot) = 1
+advance_status advance.TooLong = 1
+advance_status advance.Memory = 3
+advance_status advance.Read = 4
+advance_status advance.Write = 4
+
+abbrev pub draw_status : DrawError → ℕ
+draw_status (draw.Rule fault) = 1
+draw_status (draw.Code fault) = 1
+draw_status draw.Memory = 3
+draw_status draw.Write = 4
+
+abbrev pub run_status : RunError → ℕ
+run_status (run.Bundle fault) = 1
+run_status (run.Folder fault) = 1
+run_status run.TooLong = 1
+run_status run.Memory = 3
+run_status run.Read = 4
+run_status run.Write = 4
+
+abbrev pub status_of : CommandError → ℕ
+status_of (Run error) = run_status error
+status_of (Advance error) = advance_status error
+status_of (Draw error) = draw_status error
+status_of (Reports error) = reports.status_of error
+status_of Arguments = 2
+status_of Memory = 3
+status_of Write = 4

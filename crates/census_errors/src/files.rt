@@ -1,0 +1,15 @@
+//! The files of words.
+ghost use Rattle.std.specs.Prelude.{◌≡◌, option_map};
+ghost use Rattle.census_errors.specs.Files.{file_of};
+
+use census_identify::is_input;
+
+/// The file of a word: `-` is none.
+pub fn file_of<'a>(word: Option<&'a str>) -> Option<&'a str>
+    ensures { option_map (λ s. s.now) result ≡ file_of (option_map (λ s. s.now) word.entry) }
+{
+    match word {
+        Some(word) if !is_input(word) => Some(word),
+        _ => None,
+    }
+}

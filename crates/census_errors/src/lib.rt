@@ -1,0 +1,30 @@
+//! Why commands do not do what they are asked for: the errors, the exit status and the line of each, where it stands, and
+//! the line that explains it.
+//!
+//! Tested in `tests_program`.
+#![tactic(auto)]
+
+mod advance_error;
+mod borrowing;
+mod draw_error;
+mod error;
+mod error_stream;
+mod explaining;
+mod files;
+mod messages;
+mod place;
+mod placing;
+mod run_error;
+mod saying;
+
+pub use advance_error::AdvanceError;
+pub use borrowing::borrowed_words;
+pub use draw_error::DrawError;
+pub use error::CommandError;
+pub use error_stream::ErrorStream;
+pub use explaining::{reports_saying, run_saying, saying_of};
+pub use files::file_of;
+pub use place::Place;
+pub use placing::{place_if, reports_place_if};
+pub use run_error::RunError;
+pub use saying::{Saying, say, say_if, stop_saying};

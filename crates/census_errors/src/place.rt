@@ -1,0 +1,29 @@
+//! What is known of where something stands that can't be read.
+ghost use Rattle.std.specs.Prelude.{◌≡◌};
+ghost use Rattle.census_errors.specs.Places.{nowhere};
+
+use census_bundle::Text;
+
+/// What is known of where something stands that can't be read, or is refused.
+#[derive(Drop)]
+pub struct Place {
+    /// The path of the file or of the folder.
+    pub path: Option<Text>,
+    /// What the system says of it.
+    pub word: Option<Text>,
+    /// Whether it is a file where a folder is wanted.
+    pub is_file: bool,
+}
+
+impl Place {
+    /// Nothing is known.
+    pub fn nowhere() -> Place
+        ensures { result ≡ nowhere }
+    {
+        Place {
+            path: None,
+            word: None,
+            is_file: false,
+        }
+    }
+}

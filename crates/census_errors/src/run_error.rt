@@ -1,0 +1,87 @@
+//! Why `run` or `objects` writes no whole report.
+
+use census_bundle::{AddFault, BundleFault};
+use census_crew::{BytesFault, RunFault};
+use census_folders::FoldersFault;
+use std::alloc::AllocError;
+use thiserror::Error;
+
+/// Why `run` or `objects` did not write its whole report.
+#[derive(Clone, Copy, Debug, PartialEq, Eq, Drop, Error)]
+pub enum RunError {
+    /// The bundle on standard input has this fault.
+    #[error("{0}")]
+    Bundle(BundleFault),
+    /// A folder or a file of it is refused, for its name or for its number.
+    #[error("{0}")]
+    Folder(AddFault),
+    /// Standard input, or a file, has more bytes than one text may have.
+    #[error("input too long")]
+    TooLong,
+    #[error("out of memory")]
+    Memory,
+    /// Standard input has failed, or a folder can't be listed, or a file can't be read.
+    #[error("read failed")]
+    Read,
+    /// Standard output has failed.
+    #[error("write failed")]
+    Write,
+}
+
+impl From<AllocError> for RunError {
+    ghost use Rattle.std.specs.Prelude.{◌≡◌};
+    ghost use Rattle.census_errors.specs.declared.run_error.RunError.TheVariants.{Memory};
+
+    ghost from_gives = { λ _ error. error ≡ Memory };
+
+    fn from(_: AllocError) -> RunError {
+        RunError::Memory
+    }
+}
+
+impl From<BytesFault> for RunError {
+    ghost use Rattle.std.specs.Prelude.{◌≡◌};
+    ghost use Rattle.census_errors.specs.Errors.{run_error_of_bytes};
+
+    ghost from_gives = { λ fault error. error ≡ run_error_of_bytes fault };
+
+    fn from(fault: BytesFault) -> RunError {
+        match fault {
+            BytesFault::Read => RunError::Read,
+            BytesFault::TooLong => RunError::TooLong,
+            BytesFault::Bundle(fault) => RunError::Bundle(fault),
+            BytesFault::Memory => RunError::Memory,
+            BytesFault::Write => RunError::Write,
+        }
+    }
+}
+
+impl From<FoldersFault> for RunError {
+    ghost use Rattle.std.specs.Prelude.{◌≡◌};
+    ghost use Rattle.census_errors.specs.Errors.{run_error_of_folders};
+
+    ghost from_gives = { λ fault error. error ≡ run_error_of_folders fault };
+
+    fn from(fault: FoldersFault) -> RunError {
+        match fault {
+            FoldersFault::Add(fault) => RunError::Folder(fault),
+            FoldersFault::Read => RunError::Read,
+            FoldersFault::TooLong => RunError::TooLong,
+            FoldersFault::Memory => RunError::Memory,
+        }
+    }
+}
+
+impl From<RunFault> for RunError {
+    ghost use Rattle.std.specs.Prelude.{◌≡◌};
+    ghost use Rattle.census_errors.specs.Errors.{run_error_of_run};
+
+    ghost from_gives = { λ fault error. error ≡ run_error_of_run fault };
+
+    fn from(fault: RunFault) -> RunError {
+        match fault {
+            RunFault::Memory => RunError::Memory,
+            RunFault::Write => RunError::Write,
+        }
+    }
+}

@@ -1,0 +1,195 @@
+//! What is said of an error besides its line, where faults are explained.
+ghost use Rattle.std.specs.Prelude.{◌≡◌, ◌++◌, None, Some, codes, decimal, false};
+ghost use Rattle.std.specs.Option.{option_copied};
+ghost use Rattle.census_faults.specs.Explained.{heading, spot_text, word_text};
+ghost use Rattle.census_faults.specs.Printed.{printed, printed_byte};
+ghost use Rattle.census_errors.specs.Errors.{status_of};
+ghost use Rattle.census_errors.specs.Messages.{error_line};
+ghost use Rattle.census_errors.specs.Sayings.{said, said_if};
+ghost use Rattle.census_errors.specs.Places.{IsSaidAt};
+ghost use Rattle.census_errors.specs.ErrorStreams.{Tells, TellsMore};
+
+use crate::error::CommandError;
+use crate::error_stream::ErrorStream;
+use crate::place::Place;
+use census_faults::{Fault, Spot, is_name_byte, sentence};
+use hex::encode_to_slice;
+use itoa::Buffer;
+use std::io::Write;
+
+/// What is said of an error: its fault, where that stands, as far as it is known, and the system's word.
+#[derive(Clone, Copy)]
+pub struct Saying<'a> {
+    pub fault: Fault,
+    /// The file or the folder that has it.
+    pub name: Option<&'a [u8]>,
+    /// Its place there.
+    pub spot: Spot,
+    /// What the system says of it.
+    pub word: Option<&'a [u8]>,
+}
+
+impl<'a> Saying<'a> {
+    /// The same of what stands at this place, as far as that is known.
+    pub fn at(self, place: &'a Place) -> Saying<'a>
+        ensures { IsSaidAt self.entry place.now result }
+    {
+        let fault = if place.is_file {
+            Fault::FileForFolder
+        } else {
+            self.fault
+        };
+        let name = match &place.path {
+            Some(path) => Some(path.as_slice()),
+            None => self.name,
+        };
+        let word = match &place.word {
+            Some(word) => Some(word.as_slice()),
+            None => self.word,
+        };
+        Saying {
+            fault,
+            name,
+            spot: self.spot,
+            word,
+        }
+    }
+}
+
+// Tells a byte of a name as it is shown.
+fn tell_byte<E: Write>(byte: u8, errors: &mut ErrorStream<E>)
+    ensures { TellsMore (printed_byte byte) errors.old errors.new }
+{
+    if is_name_byte(byte) {
+        errors.tell_more(&[byte]);
+    } else {
+        let mut digits = [0; 2];
+        let _ = encode_to_slice([byte], &mut digits);
+        errors.tell_more(b"\\x");
+        errors.tell_more(&digits);
+    }
+}
+
+// Tells a name as it is shown.
+fn tell_bytes<E: Write>(name: &[u8], errors: &mut ErrorStream<E>)
+    ensures { TellsMore (printed name.now) errors.old errors.new }
+{
+    for byte in name {
+        tell_byte(*byte, errors);
+    }
+}
+
+// Tells a number and `:`.
+fn tell_number<E: Write>(number: u64, errors: &mut ErrorStream<E>)
+    ensures { TellsMore (decimal number ++ codes ":") errors.old errors.new }
+{
+    let mut buffer = Buffer::new();
+    errors.tell_more(buffer.format(number).as_bytes());
+    errors.tell_more(b":");
+}
+
+// Tells `LINE:` or `LINE:COLUMN:`, as far as they are known.
+fn tell_spot<E: Write>(spot: Spot, errors: &mut ErrorStream<E>)
+    ensures { TellsMore (spot_text spot) errors.old errors.new }
+{
+    match spot {
+        Spot::Nowhere => errors.tell_more(b""),
+        Spot::Line(number) => tell_number(number, errors),
+        Spot::At(place) => {
+            tell_number(place.line, errors);
+            tell_number(place.column, errors);
+        }
+    }
+}
+
+// Tells the place of a fault that no file is known of, and a blank where anything is known.
+fn tell_place<E: Write>(spot: Spot, errors: &mut ErrorStream<E>)
+    ensures { TellsMore (heading None spot) errors.old errors.new }
+{
+    match spot {
+        Spot::Nowhere => errors.tell_more(b""),
+        _ => {
+            tell_spot(spot, errors);
+            errors.tell_more(b" ");
+        }
+    }
+}
+
+// Tells the file of a fault, its place there as far as it is known, and a blank.
+fn tell_named<E: Write>(name: &[u8], spot: Spot, errors: &mut ErrorStream<E>)
+    ensures { TellsMore (heading (Some name.now) spot) errors.old errors.new }
+{
+    tell_bytes(name, errors);
+    errors.tell_more(b":");
+    tell_spot(spot, errors);
+    errors.tell_more(b" ");
+}
+
+// Tells what is known of where a fault stands, and a blank where anything is.
+fn tell_heading<E: Write>(name: Option<&[u8]>, spot: Spot, errors: &mut ErrorStream<E>)
+    ensures { TellsMore (heading (option_copied name.entry) spot) errors.old errors.new }
+{
+    match name {
+        Some(name) => tell_named(name, spot, errors),
+        None => tell_place(spot, errors),
+    }
+}
+
+// Tells ` (WORD)`.
+fn tell_in_brackets<E: Write>(word: &[u8], errors: &mut ErrorStream<E>)
+    ensures { TellsMore (word_text (Some word.now)) errors.old errors.new }
+{
+    errors.tell_more(b" (");
+    tell_bytes(word, errors);
+    errors.tell_more(b")");
+}
+
+// Tells ` (WORD)`, where there is a word.
+fn tell_word<E: Write>(word: Option<&[u8]>, errors: &mut ErrorStream<E>)
+    ensures { TellsMore (word_text (option_copied word.entry)) errors.old errors.new }
+{
+    match word {
+        Some(word) => tell_in_brackets(word, errors),
+        None => errors.tell_more(b""),
+    }
+}
+
+/// Tells what is said of an error, in a line that begins with two blanks, and asks for no memory. Where the stream has
+/// failed before, the line is lost.
+pub fn say<E: Write>(saying: Saying<'_>, errors: &mut ErrorStream<E>)
+    ensures { TellsMore (said saying.entry) errors.old errors.new }
+{
+    errors.tell_more(b"  ");
+    tell_heading(saying.name, saying.spot, errors);
+    errors.tell_more(sentence(saying.fault).as_bytes());
+    tell_word(saying.word, errors);
+    errors.tell_more(b"\n");
+}
+
+/// The same where faults are explained, and else nothing.
+pub fn say_if<E: Write>(explain: bool, saying: Saying<'_>, errors: &mut ErrorStream<E>)
+    ensures { TellsMore (said_if explain (said saying.entry)) errors.old errors.new }
+{
+    if explain {
+        say(saying, errors);
+    } else {
+        errors.tell_more(b"");
+    }
+}
+
+/// Tells an error by its line, and by what is said of it where faults are explained, and gives its exit status. That it
+/// can't be told changes nothing.
+pub fn stop_saying<E: Write>(
+    error: CommandError,
+    saying: Saying<'_>,
+    explain: bool,
+    errors: &mut ErrorStream<E>,
+) -> u8
+    requires { errors.old.failed ≡ false }
+    ensures status { result ≡ status_of error }
+    ensures lines { Tells (error_line error ++ said_if explain (said saying.entry)) errors.old errors.new }
+{
+    errors.tell(error.line().as_str().as_bytes());
+    say_if(explain, saying, errors);
+    error.status()
+}
