@@ -1,5 +1,5 @@
 -- What each exit status says.
-use Rattle.std.proofs.Common.{◌≡◌, ◌⊎◌, ℕ, Bool, List, [], ◌∷◌, ◌++◌, Option, None, Some, option_map, true, false, inl, inr, ⊎_elim, refl, sym, ◌∙◌, arith, true≢false, string_bytes, ◌||◌}
+use Rattle.std.proofs.Common.{◌≡◌, ◌⊎◌, ℕ, Bool, List, ◌++◌, Option, None, Some, option_map, true, false, inl, inr, ⊎_elim, refl, sym, ◌∙◌, arith, true≢false, string_bytes, ◌||◌}
 use Rattle.census_folders.specs.declared.fault.FoldersFault.{FoldersFault}
 use Rattle.census_folders.specs.declared.fault.FoldersFault.TheVariants as folder_fault
 use Rattle.census_folders.specs.Trees.{HoldsTrees, StopsTrees}

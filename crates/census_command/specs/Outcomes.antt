@@ -1,5 +1,5 @@
 -- What the exit status of the program says of its arguments and of its streams.
-use Rattle.std.specs.Prelude.{◌≡◌, ℕ, ◌≤◌, ◌<◌, ◌⊎◌, Bool, true, ◌||◌, List, [], ◌∷◌, ◌++◌, map, option_map, Option, None, Some, Err, string_bytes}
+use Rattle.std.specs.Prelude.{◌≡◌, ℕ, ◌≤◌, ◌<◌, ◌⊎◌, Bool, true, ◌||◌, List, [], ◌++◌, map, option_map, Option, None, Some, Err, string_bytes}
 use Rattle.std.specs.Io.KnownBytes.{Appends}
 use Rattle.std.specs.declared.io.ErrorKind.{ErrorKind}
 use Rattle.watched.specs.Watching.{AppendsFront}

@@ -1,4 +1,3 @@
-use Rattle.std.proofs.Common.{false, ◌≡◌}
 use Rattle.census_errors.specs.Shelves.{tellings}
 use Rattle.census_command.proofs.Kept.{gathered_plain}
 use Rattle.census_command.proofs.keeping.gather.Goals as goal
