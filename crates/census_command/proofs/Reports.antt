@@ -49,7 +49,7 @@ module _ (question : Question) (before after : State) where
   pub input_fails : (bundle : List Folder) (fault : RunFault) → FitsFault {A = Tally} (Err fault) after.write_failed
       → ReadsFolders before.unread after.unread bundle → WritesFront before.written after.written bundle question → after.read_failed ≡ false
       → InputFails (run_error_of_run fault) question before after
-  input_fails bundle runs.Memory fits read front down = (inr (record { bundle = bundle; read = read; front = front }), record { read = down; write = fits })
+  input_fails bundle (runs.Memory ticket) fits read front down = (inr (record { bundle = bundle; read = read; front = front }), record { read = down; write = fits })
   input_fails bundle runs.Write fits read front down = (record { bundle = bundle; read = read; front = front }, record { read = down; write = fits })
 
 module _ (shelf : Tellings) (limit : Option ℕ) (words : List (List ℕ)) (question : Question) where
@@ -68,7 +68,7 @@ module _ (shelf : Tellings) (limit : Option ℕ) (words : List (List ℕ)) (ques
 
     pub folders_fail : (fault : RunFault) → FitsFault {A = Tally} (Err fault) after.write_failed
         → FoldersFail (run_error_of_run fault) shelf limit words question before after
-    folders_fail runs.Memory fits = inr (folders_front, record { read = down; write = fits })
+    folders_fail (runs.Memory ticket) fits = inr (folders_front, record { read = down; write = fits })
     folders_fail runs.Write fits = (folders_front, record { read = down; write = fits })
 
 -- the report of trees, from that of their folders
@@ -89,7 +89,7 @@ trees_fail shelf limit words folders named question before after (Err e) trees s
 
 -- out of memory, or standard output has failed
 pub is_cut : (fault : RunFault) (after : State) → after.read_failed ≡ false → FitsFault {A = Tally} (Err fault) after.write_failed → IsCut (run_error_of_run fault) after
-is_cut runs.Memory after down fits = record { read = down; write = fits }
+is_cut (runs.Memory ticket) after down fits = record { read = down; write = fits }
 is_cut runs.Write after down fits = record { read = down; write = fits }
 
 -- a whole report is a prefix of one

@@ -79,6 +79,6 @@ pub fn report<S: Shelf, G: Gate, W: Write, R: Threads + Wait + Sync>(
     run(rt, alloc, bundle, question, workers, gate, out)?;
     match lines_of(shelf, alloc, bundle, from_folders, explain) {
         Ok(lines) => Ok(lines),
-        Err(_) => Err(RunFault::Memory),
+        Err(_) => Err(RunFault::Memory { ticket: None }),
     }
 }

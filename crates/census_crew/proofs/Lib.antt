@@ -2,3 +2,4 @@ pub mod Steps
 pub mod Tallies
 pub mod Gathers
 pub mod Settles
+pub mod Tellings

@@ -87,7 +87,7 @@ pub fn run_bytes<R: Read, G: Gate, W: Write, T: Threads + Wait + Sync>(
     };
     match run(rt, alloc, &bundle, question, workers, gate, out) {
         Ok(tally) => Ok(tally),
-        Err(RunFault::Memory) => Err(BytesFault::Memory),
+        Err(RunFault::Memory { .. }) => Err(BytesFault::Memory),
         Err(RunFault::Write) => Err(BytesFault::Write),
     }
 }

@@ -1,8 +1,8 @@
 //! The parallel run.
-ghost use Rattle.std.specs.Prelude.{◌≡◌, ◌≤◌, [], true, false, MatchResult, OnOk, IfOk};
+ghost use Rattle.std.specs.Prelude.{◌≡◌, ◌≤◌, [], true, false, MatchResult, OnOk, IfOk, IfErr};
 ghost use Rattle.life_answer.specs.Questions.{IsAnswered};
 ghost use Rattle.watched.specs.Watching.{inner_of, has_failed};
-ghost use Rattle.census_crew.specs.Faults.{FitsFault};
+ghost use Rattle.census_crew.specs.Faults.{FitsFault, MayTellTicket, TellsNoTicket};
 ghost use Rattle.census_crew.specs.Tallying.{TalliesPatterns};
 ghost use Rattle.census_crew.specs.Writing.{StaysInStep, StopsInStep, WritesFront, WritesReport};
 
@@ -52,9 +52,10 @@ pub fn run<G: Gate, W: Write, R: Threads + Wait + Sync>(
         (λ _. WritesReport (W.contents (inner_of out.old)) (W.contents (inner_of out.new)) bundle.now question)
         (λ _. WritesFront (W.contents (inner_of out.old)) (W.contents (inner_of out.new)) bundle.now question) }
     ensures tally { IfOk result (TalliesPatterns bundle.now question) }
+    ensures told { IfErr result (MayTellTicket bundle.now) }
 {
     let Ok((feed, hands)) = Feed::fill(alloc, bundle, workers) else {
-        return Err(RunFault::Memory);
+        return Err(RunFault::Memory { ticket: None });
     };
     gate.begin(patterns_of(bundle));
     let written = run_on(rt, alloc, bundle, question, feed, hands, gate, out);
@@ -81,9 +82,10 @@ pub fn run_on<G: Gate, W: Write, R: Threads + Wait + Sync>(
         (λ _. WritesReport (W.contents (inner_of out.old)) (W.contents (inner_of out.new)) bundle.now question)
         (λ _. WritesFront (W.contents (inner_of out.old)) (W.contents (inner_of out.new)) bundle.now question) }
     ensures tally { IfOk result (TalliesPatterns bundle.now question) }
+    ensures told { IfErr result (MayTellTicket bundle.now) }
 {
     let Ok(mut gathering) = Gathering::new(alloc, bundle, question) else {
-        return Err(RunFault::Memory);
+        return Err(RunFault::Memory { ticket: None });
     };
     match gathering.send(out) {
         Ok(()) => {}
@@ -121,9 +123,10 @@ impl<'a> Gathering<'a> {
             (λ g. StaysInStep (W.contents (inner_of out.old)) self.entry.collector (W.contents (inner_of out.new)) g.collector)
             (λ _. StopsInStep (W.contents (inner_of out.old)) self.entry.collector (W.contents (inner_of out.new))) }
         ensures sent { IfOk result (λ g. g.collector.unsent ≡ []) }
+        ensures told { IfErr result TellsNoTicket }
     {
         let Ok((to, from)) = crossbeam_channel::unbounded(alloc) else {
-            return Err(RunFault::Memory);
+            return Err(RunFault::Memory { ticket: None });
         };
         let bundle = self.bundle;
         let question = self.question;

@@ -1,9 +1,9 @@
 //! The run of a caller with workers of its own, or with none.
-ghost use Rattle.std.specs.Prelude.{◌≡◌, ◌≤◌, [], true, false, MatchResult, OnOk, IfOk};
+ghost use Rattle.std.specs.Prelude.{◌≡◌, ◌≤◌, [], true, false, MatchResult, OnOk, IfOk, IfErr};
 ghost use Rattle.watched.specs.Watching.{inner_of, has_failed};
 ghost use Rattle.life_answer.specs.Questions.{IsAnswered};
 ghost use Rattle.census_bundle.specs.Tickets.{has_ticket, with_ticket, HasAll, IsTicketOf};
-ghost use Rattle.census_crew.specs.Faults.{FitsFault};
+ghost use Rattle.census_crew.specs.Faults.{FitsFault, MayTellTicket, TellsTicket, TellsTicketOf};
 ghost use Rattle.census_crew.specs.Strangers.{HasStrangers};
 ghost use Rattle.census_crew.specs.Tallying.{TalliesPatterns};
 ghost use Rattle.census_crew.specs.Writing.{EndsInStep, StaysInStep, StopsInStep, WritesFront, WritesReport};
@@ -36,10 +36,11 @@ pub fn settle<'a, W: Write>(
         (λ _. WritesReport (W.contents (inner_of out.old)) (W.contents (inner_of out.new)) bundle.now question)
         (λ _. WritesFront (W.contents (inner_of out.old)) (W.contents (inner_of out.new)) bundle.now question) }
     ensures tally { IfOk result (TalliesPatterns bundle.now question) }
+    ensures told { IfErr result (MayTellTicket bundle.now) }
     ensures strangers { IfOk result (λ t. HasStrangers bundle.now question arrivals.entry.items t.strangers) }
 {
     let Ok(mut gathering) = Gathering::new(alloc, bundle, question) else {
-        return Err(RunFault::Memory);
+        return Err(RunFault::Memory { ticket: None });
     };
     match gathering.send(out) {
         Ok(()) => {}
@@ -96,6 +97,7 @@ impl<'a> Gathering<'a> {
             (λ _. StaysInStep (W.contents (inner_of out.old)) self.old.collector (W.contents (inner_of out.new)) self.new.collector)
             (λ _. StopsInStep (W.contents (inner_of out.old)) self.old.collector (W.contents (inner_of out.new))) }
         ensures sent { OnOk result (self.new.collector.unsent ≡ []) }
+        ensures told { IfErr result (TellsTicket ticket) }
         ensures taken { OnOk result (self.new.collector.taken ≡ with_ticket self.old.collector.taken ticket) }
         ensures strangers { OnOk result (self.new.tally.strangers ≡ self.old.tally.strangers) }
     {
@@ -103,7 +105,7 @@ impl<'a> Gathering<'a> {
             unreachable!();
         };
         let Ok(done) = Done::work(alloc, ticket, entry, self.question) else {
-            return Err(RunFault::Memory);
+            return Err(RunFault::memory_at(ticket));
         };
         match self.arrive(done, out) {
             Ok(Some(Offer::Taken)) => {
@@ -111,7 +113,7 @@ impl<'a> Gathering<'a> {
                 Ok(())
             }
             Ok(Some(_)) => unreachable!(),
-            Ok(None) => Err(RunFault::Memory),
+            Ok(None) => Err(RunFault::memory_at(ticket)),
             Err(_) => Err(RunFault::Write),
         }
     }
@@ -125,6 +127,7 @@ impl<'a> Gathering<'a> {
         ensures step { MatchResult result
             (λ _. StaysInStep (W.contents (inner_of out.old)) self.old.collector (W.contents (inner_of out.new)) self.new.collector)
             (λ _. StopsInStep (W.contents (inner_of out.old)) self.old.collector (W.contents (inner_of out.new))) }
+        ensures told { IfErr result (TellsTicketOf self.old.collector.bundle) }
         ensures whole { OnOk result ((self.new.collector.unsent ≡ []) × HasAll self.new.collector.bundle self.new.collector.taken) }
         ensures strangers { OnOk result (self.new.tally.strangers ≡ self.old.tally.strangers) }
     {
@@ -149,6 +152,7 @@ impl<'a> Gathering<'a> {
         ensures ends { MatchResult result
             (λ _. EndsInStep (W.contents (inner_of out.old)) self.entry.collector (W.contents (inner_of out.new)))
             (λ _. StopsInStep (W.contents (inner_of out.old)) self.entry.collector (W.contents (inner_of out.new))) }
+        ensures told { IfErr result (TellsTicketOf self.entry.collector.bundle) }
         ensures tally { IfOk result (TalliesPatterns self.entry.bundle.now self.entry.question) }
         ensures strangers { IfOk result (λ t. t.strangers ≡ self.entry.tally.strangers) }
     {

@@ -60,7 +60,7 @@ run_error_of_folders folders.TooLong = run.TooLong
 run_error_of_folders folders.Memory = run.Memory
 
 abbrev pub run_error_of_run : RunFault → RunError
-run_error_of_run runs.Memory = run.Memory
+run_error_of_run (runs.Memory ticket) = run.Memory
 run_error_of_run runs.Write = run.Write
 
 -- # Of reading the arguments

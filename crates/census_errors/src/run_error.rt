@@ -80,7 +80,7 @@ impl From<RunFault> for RunError {
 
     fn from(fault: RunFault) -> RunError {
         match fault {
-            RunFault::Memory => RunError::Memory,
+            RunFault::Memory { .. } => RunError::Memory,
             RunFault::Write => RunError::Write,
         }
     }

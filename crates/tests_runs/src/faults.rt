@@ -15,7 +15,7 @@ pub(crate) fn says<D: Display>(alloc: Global, fault: &D, text: &str) -> Result<b
 #[test]
 fn faults_of_a_run_say_what_happened(rt: HostRuntime) -> Result<(), Fail> {
     let alloc = rt.alloc();
-    assert!(rt; says(alloc, &RunFault::Memory, "out of memory")?);
+    assert!(rt; says(alloc, &RunFault::Memory { ticket: None }, "out of memory")?);
     assert!(rt; says(alloc, &RunFault::Write, "write failed")?);
     Ok(())
 }

@@ -1,5 +1,6 @@
 use Rattle.census_crew.proofs.Settles.{ends_report}
 use Rattle.census_crew.proofs.Steps.{front_at_start, front_from_start, stays_trans, stops_after}
+use Rattle.census_crew.proofs.Tellings.{told_at_end}
 use Rattle.census_crew.proofs.settling.settle.Goals as goal
 
 pub returns-in_default-clause-report : goal.returns-in_default-clause-report
@@ -15,3 +16,7 @@ returns-in-Err-take_all-clause-report g c =
 pub returns-clause-report : goal.returns-clause-report
 returns-clause-report g c =
     ends_report _ _ _ _ _ _ _ _ c.in-Ok.ensures.collector (stays_trans _ _ _ _ _ _ c.in-Ok-send.ensures.step c.in-Ok-take_all.ensures.step) c.finish.ensures.ends
+
+pub returns-clause-told : goal.returns-clause-told
+returns-clause-told g c =
+    told_at_end _ _ _ _ _ _ _ c.in-Ok.ensures.collector (stays_trans _ _ _ _ _ _ c.in-Ok-send.ensures.step c.in-Ok-take_all.ensures.step) c.finish.ensures.told
