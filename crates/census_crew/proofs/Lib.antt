@@ -1,5 +1,4 @@
 pub mod Steps
 pub mod Tallies
-pub mod Gathers
+pub mod RunStates
 pub mod Settles
-pub mod Tellings

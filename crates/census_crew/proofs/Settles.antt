@@ -1,11 +1,10 @@
 -- The results of a list, offered in turn, and the end of a run.
-use Rattle.std.proofs.Common.{◌≡◌, ℕ, ◌+◌, ◌^◌, ◌<◌, ◌≤◌, List, [], ◌∷◌, length, Option, Result, Ok, Err, MatchResult, IfOk, inl, inr, refl, sym, subst, arith}
+use Rattle.std.proofs.Common.{◌≡◌, ℕ, ◌+◌, ◌^◌, ◌<◌, ◌≤◌, List, [], ◌∷◌, length, Option, Result, Ok, Err, MatchResult, inl, inr, refl, sym, subst, arith}
 use Rattle.census_bundle.specs.declared.bundle.Folder.{Folder}
 use Rattle.census_book.specs.Progress.{Progress, started}
 use Rattle.census_book.specs.Work.{Work}
 use Rattle.census_crew.specs.declared.tally.Tally.{Tally}
 use Rattle.census_crew.specs.Strangers.{HasStrangers, NotesStranger}
-use Rattle.census_crew.specs.Tallying.{TalliesPatterns}
 use Rattle.census_crew.specs.Writing.{EndsInStep, StaysInStep, StopsInStep, WritesFront, WritesReport}
 use Rattle.census_crew.proofs.Steps.{front_from_start, report_at_end, stops_after}
 use Rattle.life_answer.specs.declared.question.Question.{Question}
@@ -50,12 +49,3 @@ counted_last b question ws all (x ∷ rest) n is none before = absurd (omega (ar
 pub ends_report : {E : Type 0} (r : Result Tally E) (k l m : Option (List ℕ)) (p q : Progress) (b : List Folder) (question : Question) → p ≡ started b question → StaysInStep k p l q → MatchResult r (λ _. EndsInStep l q m) (λ _. StopsInStep l q m) → MatchResult r (λ _. WritesReport k m b question) (λ _. WritesFront k m b question)
 ends_report (Ok t) k l m p q b question is stays ends = report_at_end k l m p q b question is stays ends
 ends_report (Err e) k l m p q b question is stays stops = front_from_start k m p b question is (stops_after k l m p q stays stops)
-
-pub ends_tally : {E : Type 0} (r : Result Tally E) (b b' : List Folder) (question question' : Question) → b' ≡ b → question' ≡ question → IfOk r (TalliesPatterns b' question') → IfOk r (TalliesPatterns b question)
-ends_tally (Ok t) b b' question question' is_b is_question h = subst (λ fs. TalliesPatterns fs question t) is_b (subst (λ m. TalliesPatterns b' m t) is_question h)
-ends_tally (Err e) b b' question question' is_b is_question h = h
-
-pub ends_strangers : {E : Type 0} (r : Result Tally E) (b b' : List Folder) (question question' : Question) (n : ℕ) (ws : List Work) → b' ≡ b → question' ≡ question → HasStrangers b' question' ws n → IfOk r (λ t. t.strangers ≡ n) → IfOk r (λ t. HasStrangers b question ws t.strangers)
-ends_strangers (Ok t) b b' question question' n ws is_b is_question has h =
-    subst (HasStrangers b question ws) (sym h) (subst (λ fs. HasStrangers fs question ws n) is_b (subst (λ m. HasStrangers b' m ws n) is_question has))
-ends_strangers (Err e) b b' question question' n ws is_b is_question has h = h

@@ -2,5 +2,5 @@ pub mod Writing
 pub mod Faults
 pub mod Tallying
 pub mod Strangers
-pub mod Gathering
+pub mod RunStates
 pub mod Bytes

@@ -81,10 +81,7 @@ pub fn run_bytes<R: Read, G: Gate, W: Write, T: Threads + Wait + Sync>(
     ensures failed { FitsBytesFault result (has_failed out.new) }
     ensures report { RunsBytes question (R.remaining (inner_of reader.old)) (R.remaining (inner_of reader.new)) (W.contents (inner_of out.old)) (W.contents (inner_of out.new)) result }
 {
-    let bundle = match read_input(alloc, reader) {
-        Ok(bundle) => bundle,
-        Err(fault) => return Err(fault),
-    };
+    let bundle = read_input(alloc, reader)?;
     match run(rt, alloc, &bundle, question, workers, gate, out) {
         Ok(tally) => Ok(tally),
         Err(RunFault::Memory { .. }) => Err(BytesFault::Memory),

@@ -1,66 +1,69 @@
-//! Collecting what workers send.
-ghost use Rattle.std.specs.Prelude.{◌≡◌, ℕ, List, [], Option, true, false, MatchResult, IfNone, IfOk, OnOk};
+//! Sharing a run among workers, and collecting what they send.
+ghost use Rattle.std.specs.Prelude.{◌≡◌, ℕ, List, [], Option, true, false, MatchResult, IfErr, IfNone, IfOk, OnOk};
 ghost use Rattle.watched.specs.Watching.{inner_of, has_failed};
+ghost use Rattle.census_crew.specs.Faults.{FitsFault, TellsNoTicket};
 ghost use Rattle.census_crew.specs.Writing.{StaysInStep, StopsInStep};
 
-use crate::gathering::Gathering;
-use crate::working::{Batch, Task};
+use crate::fault::RunFault;
+use crate::gate::Gate;
+use crate::run_state::RunState;
+use crate::working::{Batch, Task, work_beside};
+use census_feed::Hand;
 use crossbeam_channel::Receiver;
 use std::alloc::Global;
 use std::io::Write;
 use std::sync::Wait;
+use std::thread::Threads;
 use watched::{Failed, Watched};
 
-/// What is gathered while the workers work, and where it is written.
-pub(crate) struct Collecting<'c, 'a, W> {
-    pub(crate) gathering: Gathering<'a>,
-    pub(crate) results: Receiver<Batch<'a>, Global>,
-    pub(crate) out: &'c mut Watched<W>,
+/// What the caller does while its workers work: it takes what they send, and writes what that releases.
+struct CollectTask<'c, 'a, W> {
+    state: RunState<'a>,
+    results: Receiver<Batch<'a>, Global>,
+    out: &'c mut Watched<W>,
 }
 
-impl<'c, 'a, W> Drop for Collecting<'c, 'a, W> {
+impl<'c, 'a, W> Drop for CollectTask<'c, 'a, W> {
     fn drop(self) {
-        let Collecting {
-            gathering,
+        let CollectTask {
+            state,
             results,
             out: _,
         } = self;
-        drop(gathering);
+        drop(state);
         drop(results);
     }
 }
 
-/// What was gathered when no more results came, or the writer failed.
-pub(crate) struct Collected<'c, 'a, W> {
-    pub(crate) gathering: Gathering<'a>,
-    pub(crate) written: Result<(), Failed>,
-    pub(crate) out: &'c mut Watched<W>,
+/// The state of the run when no more results came, or the writer failed.
+struct TaskEnd<'c, 'a, W> {
+    state: RunState<'a>,
+    written: Result<(), Failed>,
+    out: &'c mut Watched<W>,
 }
 
-impl<'c, 'a, W: Write> Task for Collecting<'c, 'a, W> {
-    type Output = Collected<'c, 'a, W>;
+impl<'c, 'a, W: Write> Task for CollectTask<'c, 'a, W> {
+    type Output = TaskEnd<'c, 'a, W>;
 
     ghost can_run = { λ s. has_failed s.out.now ≡ false };
 
     ghost run_gives = { λ s r.
         (r.out.ghost_name ≡ s.out.ghost_name)
-        × (r.gathering.bundle.now ≡ s.gathering.bundle.now)
-        × (r.gathering.question ≡ s.gathering.question)
         × MatchResult r.written (λ _. has_failed r.out.now ≡ false) (λ _. has_failed r.out.now ≡ true)
         × MatchResult r.written
-        (λ _. StaysInStep (W.contents (inner_of s.out.now)) s.gathering.collector (W.contents (inner_of r.out.now)) r.gathering.collector)
-        (λ _. StopsInStep (W.contents (inner_of s.out.now)) s.gathering.collector (W.contents (inner_of r.out.now)))
-        × OnOk r.written (r.gathering.collector.unsent ≡ []) };
+        (λ _. StaysInStep (W.contents (inner_of s.out.now)) s.state.collector (W.contents (inner_of r.out.now)) r.state.collector)
+        (λ _. StopsInStep (W.contents (inner_of s.out.now)) s.state.collector (W.contents (inner_of r.out.now)))
+        × OnOk r.written (r.state.collector.unsent ≡ []) };
 
-    fn run<R: Wait>(self, rt: &R) -> Collected<'c, 'a, W> {
-        let Collecting {
-            mut gathering,
+    fn run<R: Wait>(self, rt: &R) -> TaskEnd<'c, 'a, W> {
+        let CollectTask {
+            mut state,
             results,
             out,
         } = self;
-        let written = gathering.collect(rt, results, out);
-        Collected {
-            gathering,
+        let written = state.collect(rt, results, out);
+        TaskEnd {
+            state,
             written,
             out,
         }
@@ -70,7 +73,48 @@ impl<'c, 'a, W: Write> Task for Collecting<'c, 'a, W> {
 /// As many bytes are written although more results stand in the channel.
 const BLOCK_LEN: usize = 65_536;
 
-impl<'a> Gathering<'a> {
+// Ties a reference that came back to the one that was lent.
+fn take_back<T>(lent: &mut T)
+    ensures { lent.new ≡ lent.old }
+{}
+
+impl<'a> RunState<'a> {
+    /// Shares the tickets among workers, takes what they send, and writes what is released.
+    pub(crate) fn share<G: Gate, W: Write, R: Threads + Wait + Sync>(
+        self,
+        rt: &R,
+        alloc: Global,
+        hands: Vec<Hand>,
+        gate: &G,
+        out: &mut Watched<W>,
+    ) -> Result<RunState<'a>, RunFault>
+        requires sound { has_failed out.old ≡ false }
+        requires sent { self.collector.unsent ≡ [] }
+        ensures failed { FitsFault result (has_failed out.new) }
+        ensures step { MatchResult result
+            (λ s. StaysInStep (W.contents (inner_of out.old)) self.entry.collector (W.contents (inner_of out.new)) s.collector)
+            (λ _. StopsInStep (W.contents (inner_of out.old)) self.entry.collector (W.contents (inner_of out.new))) }
+        ensures sent { IfOk result (λ s. s.collector.unsent ≡ []) }
+        ensures told { IfErr result TellsNoTicket }
+    {
+        let (to, from) = crossbeam_channel::unbounded(alloc)?;
+        let bundle = self.bundle;
+        let question = self.question;
+        let task = CollectTask {
+            state: self,
+            results: from,
+            out,
+        };
+        let TaskEnd {
+            state,
+            written,
+            out,
+        } = work_beside(rt, alloc, bundle, question, hands, gate, to, task);
+        take_back(out);
+        written?;
+        Ok(state)
+    }
+
     // The next batch, or none once the channel is closed. All that was released is written before the wait for it.
     fn next_batch<R: Wait, W: Write>(
         &mut self,
@@ -80,7 +124,6 @@ impl<'a> Gathering<'a> {
     ) -> Result<Option<Batch<'a>>, Failed>
         requires sound { has_failed out.old ≡ false }
         ensures failed { MatchResult result (λ _. has_failed out.new ≡ false) (λ _. has_failed out.new ≡ true) }
-        ensures same { (self.new.bundle.now ≡ self.old.bundle.now) × (self.new.question ≡ self.old.question) }
         ensures step { MatchResult result
             (λ _. StaysInStep (W.contents (inner_of out.old)) self.old.collector (W.contents (inner_of out.new)) self.new.collector)
             (λ _. StopsInStep (W.contents (inner_of out.old)) self.old.collector (W.contents (inner_of out.new))) }
@@ -89,16 +132,13 @@ impl<'a> Gathering<'a> {
         if let Ok(batch) = results.try_recv(rt) {
             return Ok(Some(batch));
         }
-        match self.send(out) {
-            Ok(()) => Ok(results.recv(rt).ok()),
-            Err(failed) => Err(failed),
-        }
+        self.send(out)?;
+        Ok(results.recv(rt).ok())
     }
 
     // Takes the results of a batch.
     fn take_batch(&mut self, batch: Batch<'a>)
-        ensures same { (self.new.bundle.now ≡ self.old.bundle.now) × (self.new.question ≡ self.old.question) }
-        ensures step { (written : Option (List ℕ)) → StaysInStep written self.old.collector written self.new.collector }
+        ensures { (written : Option (List ℕ)) → StaysInStep written self.old.collector written self.new.collector }
     {
         for done in batch {
             self.take(done);
@@ -115,24 +155,18 @@ impl<'a> Gathering<'a> {
     ) -> Result<(), Failed>
         requires sound { has_failed out.old ≡ false }
         ensures failed { MatchResult result (λ _. has_failed out.new ≡ false) (λ _. has_failed out.new ≡ true) }
-        ensures same { (self.new.bundle.now ≡ self.old.bundle.now) × (self.new.question ≡ self.old.question) }
         ensures step { MatchResult result
             (λ _. StaysInStep (W.contents (inner_of out.old)) self.old.collector (W.contents (inner_of out.new)) self.new.collector)
             (λ _. StopsInStep (W.contents (inner_of out.old)) self.old.collector (W.contents (inner_of out.new))) }
         ensures sent { OnOk result (self.new.collector.unsent ≡ []) }
     {
         for _ in rt.forever() {
-            let batch = match self.next_batch(rt, &results, out) {
-                Ok(Some(batch)) => batch,
-                Ok(None) => return Ok(()),
-                Err(failed) => return Err(failed),
+            let Some(batch) = self.next_batch(rt, &results, out)? else {
+                return Ok(());
             };
             self.take_batch(batch);
             if self.collector.unsent().len() >= BLOCK_LEN {
-                match self.send(out) {
-                    Ok(()) => {}
-                    Err(failed) => return Err(failed),
-                }
+                self.send(out)?;
             }
         }
         unreachable!()

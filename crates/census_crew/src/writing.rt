@@ -18,10 +18,7 @@ pub(crate) fn flush<W: Write>(collector: &mut Collector, out: &mut Watched<W>) -
     ensures bundle { collector.new.bundle ≡ collector.old.bundle }
     ensures question { collector.new.question ≡ collector.old.question }
 {
-    match put_all(out, collector.unsent()) {
-        Ok(()) => {}
-        Err(failed) => return Err(failed),
-    }
+    put_all(out, collector.unsent())?;
     let count = collector.unsent().len();
     collector.sent(count);
     Ok(())

@@ -1,25 +1,24 @@
+use Rattle.std.proofs.lemmas.Result.{err_from_is_err_and}
 use Rattle.census_crew.proofs.Settles.{ends_report}
 use Rattle.census_crew.proofs.Steps.{front_at_start, front_from_start, stays_trans, stops_after}
-use Rattle.census_crew.proofs.Tellings.{told_at_end, told_none}
 use Rattle.census_crew.proofs.running.run_on.Goals as goal
 
-pub returns-in_default-clause-report : goal.returns-in_default-clause-report
-returns-in_default-clause-report g c = front_at_start _ _ _
+pub returns-in_err-state-clause-report : goal.returns-in_err-state-clause-report
+returns-in_err-state-clause-report g c =
+    let p = err_from_is_err_and c.from_residual.result c.from_residual.ensures.1 in
+    rw p.1 (front_at_start _ _ _)
 
-pub returns-in-Err-clause-report : goal.returns-in-Err-clause-report
-returns-in-Err-clause-report g c = front_from_start _ _ _ _ _ c.in-Ok.ensures.collector c.in-Err.ensures.step
+pub returns-in_err-send-clause-report : goal.returns-in_err-send-clause-report
+returns-in_err-send-clause-report g c =
+    let p = err_from_is_err_and c.from_residual-in_err-send.result c.from_residual-in_err-send.ensures.1 in
+    rw p.1 (front_from_start _ _ _ _ _ c.in_ok-state.ensures.collector c.in_err-send.ensures.step)
 
-pub returns-in-Err-share-clause-report : goal.returns-in-Err-share-clause-report
-returns-in-Err-share-clause-report g c =
-    front_from_start _ _ _ _ _ c.in-Ok.ensures.collector (stops_after _ _ _ _ _ c.in-Ok-send.ensures.step c.in-Err-share.ensures.step)
+pub returns-in_err-state-2-clause-report : goal.returns-in_err-state-2-clause-report
+returns-in_err-state-2-clause-report g c =
+    let p = err_from_is_err_and c.from_residual-in_err-state-2.result c.from_residual-in_err-state-2.ensures.1 in
+    rw p.1
+    (front_from_start _ _ _ _ _ c.in_ok-state.ensures.collector (stops_after _ _ _ _ _ c.in_ok-send.ensures.step c.in_err-state-2.ensures.step))
 
-pub returns-in-Ok-share-clause-report : goal.returns-in-Ok-share-clause-report
-returns-in-Ok-share-clause-report g c =
-    ends_report _ _ _ _ _ _ _ _ c.in-Ok.ensures.collector (stays_trans _ _ _ _ _ _ c.in-Ok-send.ensures.step c.in-Ok-share.ensures.step) c.finish.ensures.ends
-
-pub returns-in-Err-share-clause-told : goal.returns-in-Err-share-clause-told
-returns-in-Err-share-clause-told g c = told_none _ _ c.in-Err-share.ensures.told
-
-pub returns-in-Ok-share-clause-told : goal.returns-in-Ok-share-clause-told
-returns-in-Ok-share-clause-told g c =
-    told_at_end _ _ _ _ _ _ _ c.in-Ok.ensures.collector (stays_trans _ _ _ _ _ _ c.in-Ok-send.ensures.step c.in-Ok-share.ensures.step) c.finish.ensures.told
+pub returns-clause-report : goal.returns-clause-report
+returns-clause-report g c =
+    ends_report _ _ _ _ _ _ _ _ c.in_ok-state.ensures.collector (stays_trans _ _ _ _ _ _ c.in_ok-send.ensures.step c.in_ok-state-2.ensures.step) c.finish.ensures.ends

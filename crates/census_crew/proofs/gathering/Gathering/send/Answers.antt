@@ -1,5 +1,0 @@
-use Rattle.census_crew.proofs.Gathers.{gathers_sent}
-use Rattle.census_crew.proofs.gathering.Gathering.send.Goals as goal
-
-pub invariant_of-self : goal.invariant_of-self
-invariant_of-self g c = record { sound = gathers_sent _ _ _ _ _ c.args.self.now.sound c.flush.ensures.bundle c.flush.ensures.question c.flush.ensures.taken }
