@@ -1,0 +1,6 @@
+pub mod States
+pub mod Nexts
+pub mod Puts
+pub mod Counts
+pub mod Rises
+pub mod Edges

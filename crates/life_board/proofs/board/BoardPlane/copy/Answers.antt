@@ -1,0 +1,5 @@
+use Rattle.life_board.proofs.Counts.{fits}
+use Rattle.life_board.proofs.board.BoardPlane.copy.Goals as goal
+
+pub returns-clause-within : goal.returns-clause-within
+returns-clause-within c = fits c.in_ok-kind.kind c.in_ok-kind.ensures.kept

@@ -1,0 +1,9 @@
+use Rattle.std.proofs.Common.{◌≡◌, ◌≤◌, reverse}
+use Rattle.life_tile.specs.Cells.{block_cells}
+use Rattle.life_board.proofs.small.Square.cells.Given as goal
+
+abbrev pub invariant-loop-y : goal.invariant-loop-y
+invariant-loop-y l = record {
+  inside : l.y ≤ 64;
+  pushed : l.cells.items ≡ reverse (block_cells l.self.left l.self.top l.self.tile.rows l.y);
+}

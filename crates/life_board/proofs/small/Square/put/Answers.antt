@@ -1,0 +1,30 @@
+use Rattle.std.proofs.Common.{◌≡◌, pos, ◌+ℤ◌, arith}
+use Rattle.std.proofs.lemmas.Int.{ints}
+use Rattle.life_model.specs.Generation.{insert}
+use Rattle.life_board.specs.Squares.{shown, members_of}
+use Rattle.life_board.proofs.Puts.{shown_put, within_put}
+use Rattle.life_board.proofs.small.Square.put.Goals as goal
+
+module _ (c : goal.After-set) where
+  at : c.args.cell ≡ (c.args.self.now.left +ℤ pos c.in_ok-x.x, c.args.self.now.top +ℤ pos c.in_ok-y.y)
+  at =
+      let young = c.requires.kept.young in
+      let place = c.requires.kept.place in
+      let across : c.args.cell.0 ≡ (c.args.self.now.left +ℤ pos c.in_ok-x.x) = omega (arith, ints, c.in_ok-x.ensures.is, c.requires.within.left, c.requires.within.right) in
+      let down : c.args.cell.1 ≡ (c.args.self.now.top +ℤ pos c.in_ok-y.y) = omega (arith, ints, c.in_ok-y.ensures.is, c.requires.within.above, c.requires.within.below) in
+      λ i. (across i, down i)
+
+  put : shown c.args.self.now.left c.args.self.now.top c.set.new.self ≡ insert (members_of c.args.self.now) c.args.cell
+  put =
+      shown_put c.args.self.now.left c.args.self.now.top c.args.self.now.tile c.set.new.self c.in_ok-x.x c.in_ok-y.y c.args.cell
+      c.in_ok-x.ensures.small c.in_ok-y.ensures.small at c.set.ensures.here c.set.ensures.elsewhere
+
+pub returns-clause-kept : goal.returns-clause-kept
+returns-clause-kept c = record {
+  place = c.requires.kept.place;
+  young = c.requires.kept.young;
+  within = within_put (members_of c.args.self.now) (shown c.args.self.now.left c.args.self.now.top c.set.new.self) c.args.cell c.args.self.now.age (put c) c.requires.within c.requires.kept.within;
+}
+
+pub returns-clause-members : goal.returns-clause-members
+returns-clause-members c = put c

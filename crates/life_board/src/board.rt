@@ -1,0 +1,69 @@
+//! The plane of small patterns.
+ghost use Rattle.std.specs.Prelude.{◌≡◌};
+ghost use Rattle.life_board.specs.Kinds.{IsKept};
+
+use crate::kind::Kind;
+use life_cells::{CellList, Rule};
+use life_plane::Plane;
+use std::alloc::{AllocError, Global};
+use std::marker::Model;
+
+/// A plane that keeps its live cells in one square of 64 by 64 cells, as rows of bits, for as long as they stay in it, and then in
+/// tiles. In the square a step takes no memory.
+#[derive(Drop)]
+pub struct Board {
+    kind: Kind,
+}
+
+impl Model for Board {
+    ghost use Rattle.std.specs.Prelude.{ℕ};
+    ghost use Rattle.life_model.specs.Generation.{Generation};
+    ghost use Rattle.life_plane.specs.Kept.{coded_plane};
+    ghost use Rattle.life_board.specs.Kinds.{age_of, members_of, IsKept};
+
+    ghost Value = { Generation × ℕ };
+
+    ghost coded = { coded_plane };
+
+    ghost view = { λ p. (members_of p.kind, age_of p.kind) };
+
+    ghost invariant = { λ p. IsKept p.kind };
+}
+
+impl Plane for Board {
+    ghost members = { λ p. p.0 };
+
+    ghost steps_made = { λ p. p.1 };
+
+    fn from_cells(alloc: Global, list: &CellList) -> Result<Self, AllocError> {
+        let kind = Kind::of(alloc, list, 0)?;
+        Ok(Board { kind })
+    }
+
+    fn at_age(alloc: Global, list: &CellList, age: u32) -> Result<Self, AllocError> {
+        let kind = Kind::of(alloc, list, age)?;
+        Ok(Board { kind })
+    }
+
+    fn step(&mut self, rule: &Rule) -> Result<(), AllocError> {
+        self.kind.step(rule)?;
+        Ok(())
+    }
+
+    fn population(&self) -> u64 {
+        self.kind.population()
+    }
+
+    fn age(&self) -> u32 {
+        self.kind.age()
+    }
+
+    fn cells(&self) -> Result<CellList, AllocError> {
+        self.kind.cells()
+    }
+
+    fn copy(&self) -> Result<Self, AllocError> {
+        let kind = self.kind.copy()?;
+        Ok(Board { kind })
+    }
+}

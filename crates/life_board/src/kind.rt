@@ -1,0 +1,130 @@
+//! A pattern in one square or in many tiles.
+ghost use Rattle.std.specs.Prelude.{◌≡◌, ◌+◌, ◌<◌, ◌≤◌, All, IfOk, OnOk, OnErr};
+ghost use Rattle.life_model.specs.Evolution.{next};
+ghost use Rattle.life_model.specs.Generation.{size};
+ghost use Rattle.life_model.specs.Generation as generation;
+ghost use Rattle.life_cells.specs.Limits.{IsWithin};
+ghost use Rattle.life_board.specs.Kinds.{age_of, members_of, HasRoom, IsKept};
+ghost use Rattle.life_board.specs.Squares as squares;
+
+use crate::placing::corner_around;
+use crate::small::Square;
+use life_cells::{CellList, Rule};
+use life_tile::{Plane, TilePlane};
+use std::alloc::{AllocError, Global};
+
+/// How the cells of a board are kept.
+#[derive(Drop)]
+pub enum Kind {
+    Small(Square),
+    Large(TilePlane),
+}
+
+/// The cells of a square as tiles.
+fn as_tiles(square: &Square) -> Result<TilePlane, AllocError>
+    requires { squares.IsKept square.now }
+    ensures cells { IfOk result (λ plane. plane.0 ≡ squares.members_of square.now) }
+    ensures age { IfOk result (λ plane. plane.1 ≡ square.now.age) }
+    ensures within { IfOk result (λ plane. All (IsWithin plane.1) (generation.cells plane.0)) }
+{
+    TilePlane::at_age(square.alloc, &square.cells()?, square.age)
+}
+
+impl Kind {
+    /// The cells of a list at some age.
+    pub fn of(alloc: Global, list: &CellList, age: u32) -> Result<Kind, AllocError>
+        requires age { age ≤ 4194304 }
+        requires within { All (IsWithin age) (generation.cells list.now) }
+        ensures kept { IfOk result IsKept }
+        ensures cells { IfOk result (λ kind. members_of kind ≡ list.now) }
+        ensures age { IfOk result (λ kind. age_of kind ≡ age) }
+    {
+        let cells = list.as_slice();
+        match Square::of(alloc, cells, corner_around(cells), age) {
+            Some(square) => Ok(Kind::Small(square)),
+            None => Ok(Kind::Large(TilePlane::at_age(alloc, list, age)?)),
+        }
+    }
+
+    /// Makes room for a next generation that may have a cell outside a square.
+    fn make_room(&mut self) -> Result<(), AllocError>
+        requires { IsKept self.old }
+        ensures kept { IsKept self.new }
+        ensures cells { members_of self.new ≡ members_of self.old }
+        ensures age { age_of self.new ≡ age_of self.old }
+        ensures room { OnOk result (HasRoom self.new) }
+    {
+        if let Kind::Small(square) = self {
+            if square.is_full() {
+                *self = Kind::Large(as_tiles(square)?);
+            }
+        }
+        Ok(())
+    }
+
+    /// Makes the next generation. After an `Err` the cells and the age are what they were.
+    pub fn step(&mut self, rule: &Rule) -> Result<(), AllocError>
+        requires kept { IsKept self.old }
+        requires young { age_of self.old < 4194304 }
+        ensures kept { IsKept self.new }
+        ensures cells { OnOk result (members_of self.new ≡ next rule.now (members_of self.old)) }
+        ensures age { OnOk result (age_of self.new ≡ age_of self.old + 1) }
+        ensures cells_unchanged { OnErr result (members_of self.new ≡ members_of self.old) }
+        ensures age_unchanged { OnErr result (age_of self.new ≡ age_of self.old) }
+    {
+        self.make_room()?;
+        match self {
+            Kind::Small(square) => {
+                square.advance(rule);
+                Ok(())
+            }
+            Kind::Large(plane) => plane.step(rule),
+        }
+    }
+
+    /// How many live cells there are.
+    pub fn population(&self) -> u64
+        ensures { result ≡ size (members_of self.now) }
+    {
+        match self {
+            Kind::Small(square) => square.population(),
+            Kind::Large(plane) => plane.population(),
+        }
+    }
+
+    /// How many steps it has made.
+    pub fn age(&self) -> u32
+        requires { IsKept self.now }
+        ensures age { result ≡ age_of self.now }
+        ensures within { All (IsWithin (age_of self.now)) (generation.cells (members_of self.now)) }
+    {
+        match self {
+            Kind::Small(square) => square.age,
+            Kind::Large(plane) => plane.age(),
+        }
+    }
+
+    /// The live cells in order.
+    pub fn cells(&self) -> Result<CellList, AllocError>
+        requires { IsKept self.now }
+        ensures { IfOk result (λ list. list ≡ members_of self.now) }
+    {
+        match self {
+            Kind::Small(square) => square.cells(),
+            Kind::Large(plane) => plane.cells(),
+        }
+    }
+
+    /// The same cells at the same age.
+    pub fn copy(&self) -> Result<Kind, AllocError>
+        requires { IsKept self.now }
+        ensures kept { IfOk result IsKept }
+        ensures cells { IfOk result (λ kind. members_of kind ≡ members_of self.now) }
+        ensures age { IfOk result (λ kind. age_of kind ≡ age_of self.now) }
+    {
+        match self {
+            Kind::Small(square) => Ok(Kind::Small(*square)),
+            Kind::Large(plane) => Ok(Kind::Large(plane.copy()?)),
+        }
+    }
+}

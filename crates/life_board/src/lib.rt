@@ -1,0 +1,11 @@
+//! The plane of small patterns: one square of cells, which becomes a plane of tiles where the pattern grows out of it.
+//!
+//! Tested in `tests_patterns`.
+#![tactic(auto)]
+
+mod board;
+mod kind;
+mod placing;
+mod small;
+
+pub use board::Board;

@@ -1,0 +1,43 @@
+//! Where the square of a pattern stands.
+ghost use Rattle.std.specs.Prelude.{pos, negsuc, ◌≤ℤ◌, All};
+ghost use Rattle.life_cells.specs.Limits.{IsPlace};
+ghost use Rattle.life_board.specs.Squares.{IsReached, IsRange};
+
+/// The range with one number more.
+fn widened(range: (i32, i32), number: i32) -> (i32, i32)
+    requires range { IsRange range }
+    requires from { negsuc 16777215 ≤ℤ number }
+    requires to { number ≤ℤ pos 16777215 }
+    ensures { IsRange result }
+{
+    (
+        if number < range.0 { number } else { range.0 },
+        if range.1 < number { number } else { range.1 },
+    )
+}
+
+/// The first of 64 columns that have this range in their middle, where they are wide enough. The same for rows.
+fn start_around(range: (i32, i32)) -> i32
+    requires { IsRange range }
+    ensures from { negsuc 100000000 ≤ℤ result }
+    ensures to { result ≤ℤ pos 100000000 }
+{
+    (range.0 + range.1).div_euclid(2) - 32
+}
+
+/// The corner of a square of 64 by 64 cells that has these cells in its middle, where it is large enough.
+pub fn corner_around(cells: &[(i32, i32)]) -> (i32, i32)
+    requires { All IsPlace cells.now }
+    ensures { IsReached result.0 result.1 }
+{
+    if cells.is_empty() {
+        return (0, 0);
+    }
+    let mut columns = (cells[0].0, cells[0].0);
+    let mut rows = (cells[0].1, cells[0].1);
+    for cell in cells {
+        columns = widened(columns, cell.0);
+        rows = widened(rows, cell.1);
+    }
+    (start_around(columns), start_around(rows))
+}
