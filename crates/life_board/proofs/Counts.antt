@@ -1,11 +1,13 @@
 -- How many cells of a square are live, and where they are.
-use Rattle.std.proofs.Common.{◌≡◌, ℤ, All, length}
+use Rattle.std.proofs.Common.{List, ◌≡◌, ℤ, All, length, ℕ, ◌+◌, ◌-◌, ◌<◌, ◌≤◌, slice_index, sym, ap, ◌∙◌, arith}
+use Rattle.life_model.specs.Cell.{Cell}
 use Rattle.life_model.specs.Generation.{cells, size}
 use Rattle.life_model.proofs.Generations.{contains-cells}
 use Rattle.life_cells.specs.Limits.{IsWithin}
 use Rattle.life_bits.specs.declared.tile.Tile.{Tile}
-use Rattle.life_tile.specs.Cells.{block_cells}
-use Rattle.life_tile.proofs.Counted.{size-fresh}
+use Rattle.life_tile.specs.Cells.{block_cells, row_cells, IsCountFrom}
+use Rattle.life_tile.proofs.Pushed.{block_empty, block_short}
+use Rattle.life_tile.proofs.Counted.{counted_from, counted_from_none, size-fresh}
 use Rattle.life_tile.proofs.Inserted.{all_listed}
 use Rattle.life_tile.proofs.Sizes.{fresh_block}
 use Rattle.life_board.specs.Squares as squares
@@ -25,3 +27,24 @@ square_fits square kept = all_listed (IsWithin square.age) (squares.members_of s
 pub fits : (kind : Kind) → IsKept kind → All (IsWithin (age_of kind)) (cells (members_of kind))
 fits (Small square) kept = square_fits square kept
 fits (Large plane) kept = kept
+
+-- ---- row by row
+
+pub counted_start : (rows : List ℕ) (first : ℕ) → ((k : ℕ) → k < first → slice_index rows k ≡ 0) → (left top : ℤ) → 0 ≡ length (block_cells left top rows first)
+counted_start rows first void left top = sym (ap (λ (cs : List Cell). length cs) (block_empty left top rows first void))
+
+pub counted_more : (rows : List ℕ) (n count row : ℕ) → ((left y : ℤ) → row ≡ length (row_cells left y (slice_index rows n) 64)) →
+    ((left top : ℤ) → count ≡ length (block_cells left top rows n)) → (left top : ℤ) → count + row ≡ length (block_cells left top rows (n + 1))
+counted_more rows n count row counts before left top =
+    let at : n + 0 ≡ n = omega arith in
+    let more : IsCountFrom rows n 1 (0 + row) =
+    counted_from rows n 0 0 row (λ west y. counts west y ∙ ap (λ (k : ℕ). length (row_cells west y (slice_index rows k) 64)) (sym at)) (counted_from_none rows n) in
+    let start : count ≡ length (block_cells left top rows n) = before left top in
+    let all : length (block_cells left top rows n) + (0 + row) ≡ length (block_cells left top rows (n + 1)) = more left top in
+    omega arith
+
+pub counted_end : (rows : List ℕ) (n count : ℕ) → n ≤ 64 → ((k : ℕ) → n ≤ k → k < 64 → slice_index rows k ≡ 0) →
+    ((left top : ℤ) → count ≡ length (block_cells left top rows n)) → (left top : ℤ) → count ≡ length (block_cells left top rows 64)
+counted_end rows n count few void before left top =
+    let sum : (64 - n) + n ≡ 64 = omega arith in
+    before left top ∙ sym (ap (λ (cs : List Cell). length cs) (block_short left top rows n (64 - n) 64 sum void))

@@ -1,7 +1,9 @@
 -- Tiles whose edge has no live cell.
-use Rattle.std.proofs.Common.{◌≡◌, ℕ, Bool, true, false, ◌||◌, refl, arith, true≢false}
+use Rattle.std.proofs.Common.{◌≡◌, ℕ, ◌<◌, Bool, true, false, ◌||◌, ◌↔◌, slice_index, refl, arith, true≢false}
+use Rattle.std.specs.Int.{bit_at}
+use Rattle.life_bits.specs.Area.{tile_cell}
 use Rattle.life_bits.specs.declared.tile.Tile.{Tile}
-use Rattle.life_tile.specs.Rims.{IsEdge, IsStill}
+use Rattle.life_tile.specs.Rims.{IsEdge, IsRimOf, IsStill}
 use Rattle.life_board.specs.Squares.{IsInner}
 
 pub neither : (a b : Bool) → (a || b) ≡ false → (a ≡ false) × (b ≡ false)
@@ -24,3 +26,8 @@ inner tile north west east south = record {
   north = λ x wide. north.still x 0 wide (omega arith) (record { column = any_edge _ x (omega arith); row = first_edge _ (omega arith) });
   south = λ x wide. south.still x 63 wide (omega arith) (record { column = any_edge _ x (omega arith); row = last_edge _ (omega arith) });
 }
+
+-- a rim is its tile's first row, its last and its columns
+pub rim_of : (tile : Tile) (columns : ℕ) → ((x : ℕ) → x < 64 → (bit_at columns x ≡ 0) ↔ ((y : ℕ) → y < 64 → tile_cell tile x y ≡ 0)) →
+    IsRimOf (record { first = slice_index tile.rows 0; last = slice_index tile.rows 63; columns = columns }) tile
+rim_of tile columns is = record { first = λ x wide. refl; last = λ x wide. refl; columns = is }

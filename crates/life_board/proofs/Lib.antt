@@ -4,3 +4,4 @@ pub mod Puts
 pub mod Counts
 pub mod Rises
 pub mod Edges
+pub mod Alone

@@ -1,5 +1,5 @@
 -- Cells put into a square one after another.
-use Rattle.std.proofs.Common.{◌≡◌, ◌≢◌, ℕ, ℤ, pos, ◌+ℤ◌, ◌<◌, ⊎_elim, ◌⊎◌, inl, inr, Bool, true, false, ◌||◌, [], refl, sym, subst, ap, ◌∙◌}
+use Rattle.std.proofs.Common.{◌≡◌, ◌≢◌, ℕ, ℤ, pos, ◌+ℤ◌, ◌<◌, ⊎_elim, ◌⊎◌, inl, inr, Bool, true, false, ◌||◌, [], refl, sym, subst, ap, ◌∙◌, ◌≤◌, List, slice_index, arith}
 use Rattle.std.proofs.lemmas.Bool.{cases_eq}
 use Rattle.life_model.specs.Cell.{Cell, same_cell}
 use Rattle.life_model.specs.Generation.{Generation, contains, empty, from_list, insert}
@@ -14,7 +14,8 @@ use Rattle.life_tile.proofs.Members.{BlockHas}
 use Rattle.life_tile.proofs.Orders.{true_or_false}
 use Rattle.life_tile.proofs.Shown.{empty_cell}
 use Rattle.life_cells.specs.Limits.{IsWithin}
-use Rattle.life_board.specs.Squares.{shown}
+use Rattle.life_board.specs.Squares.{shown, IsVoidOutside}
+use Rattle.life_board.proofs.Alone.{empty_row}
 use Rattle.life_board.proofs.States.{live_at, is_live}
 
 both_ways : (a b : Bool) → (a ≡ true → b ≡ true) → (b ≡ true → a ≡ true) → a ≡ b
@@ -100,3 +101,16 @@ pub within_put : (G H : Generation) (c : Cell) (age : ℕ) → H ≡ insert G c 
 within_put G H c age is here before q live =
     ⊎_elim (λ (same : q ≡ c). subst (IsWithin age) (sym same) here) (λ (old : contains G q ≡ true). before q old)
     (inserted_cases G c q (sym (ap (λ (K : Generation). contains K q) is) ∙ live))
+
+-- no row outside the range changes where one in it does
+pub void_put : (before after : List ℕ) (first end y : ℕ) → IsVoidOutside before first end → first ≤ y → y < end → ((k : ℕ) → k ≢ y → slice_index after k ≡ slice_index before k) →
+    IsVoidOutside after first end
+void_put before after first end y void from to others = record {
+  order = void.order;
+  inside = void.inside;
+  above = λ k less. (let apart : k ≢ y = omega arith in others k apart ∙ void.above k less);
+  below = λ k past small. (let apart : k ≢ y = omega arith in others k apart ∙ void.below k past small);
+}
+
+pub void_none : (first end : ℕ) → first ≤ end → end ≤ 64 → IsVoidOutside empty_tile.rows first end
+void_none first end order inside = record { order = order; inside = inside; above = λ k less. empty_row k; below = λ k past small. empty_row k }

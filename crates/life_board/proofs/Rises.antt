@@ -1,5 +1,5 @@
 -- The cells of a square, row by row from west to east, are in order.
-use Rattle.std.proofs.Common.{◌≡◌, ℕ, zero, suc, ℤ, pos, ◌+ℤ◌, ◌<ℤ◌, ◌<◌, ◌≤◌, ◌==◌, ⊎_elim, true, false, cond, T, All, List, [], ◌∷◌, ◌++◌, reverse, Less, Equal, slice_index, refl, sym, subst, ap, ◌∙◌, arith}
+use Rattle.std.proofs.Common.{◌≡◌, ℕ, zero, suc, ℤ, pos, ◌+ℤ◌, ◌<ℤ◌, ◌<◌, ◌≤◌, ◌==◌, ⊎_elim, true, false, cond, T, All, List, [], ◌∷◌, ◌++◌, reverse, Less, Equal, slice_index, sym, subst, ap, ◌∙◌, arith, ◌-◌, ◌+◌}
 use Rattle.std.specs.Int.{bit_at}
 use Rattle.std.specs.Cmp.{int_cmp_is}
 use Rattle.std.specs.Ordering.{int_cmp, is_lt, ordering_then}
@@ -15,9 +15,10 @@ use Rattle.life_tile.proofs.Inserted.{all_listed, place_from_within}
 use Rattle.life_bits.specs.declared.tile.Tile.{Tile}
 use Rattle.life_tile.specs.Cells.{row_cells, block_cells}
 use Rattle.life_tile.proofs.Members.{Has, has_head, has_tail, has_cases, has_none, has_parts, RowHas, row_has, BlockHas, block_has}
+use Rattle.life_tile.proofs.Pushed.{block_empty, block_short}
 use Rattle.life_tile.proofs.Sizes as sizes
 use Rattle.life_tile.proofs.Sizes.{below_has}
-use Rattle.life_board.specs.Squares.{shown}
+use Rattle.life_board.specs.Squares.{shown, IsVoidOutside}
 
 less_below : (a b : Cell) → a.1 <ℤ b.1 → cell_cmp a b ≡ Less
 less_below a b above =
@@ -107,9 +108,8 @@ row_listed left top rows n items new before after =
     ∙ ap (λ (cs : List Cell). cs ++ reverse (row_cells left (top +ℤ pos n) (slice_index rows n) 64)) before
     ∙ sym (reverse-append (row_cells left (top +ℤ pos n) (slice_index rows n) 64) (block_cells left top rows n))
 
-pub none_listed : (left top : ℤ) (rows : List ℕ) → [] ≡ reverse (block_cells left top rows 0)
-unfolding block_cells
-none_listed left top rows = refl
+pub none_listed : (left top : ℤ) (rows : List ℕ) (first : ℕ) → ((k : ℕ) → k < first → slice_index rows k ≡ 0) → [] ≡ reverse (block_cells left top rows first)
+none_listed left top rows first void = sym (ap (λ (cs : List Cell). reverse cs) (block_empty left top rows first void))
 
 pub places : (left top : ℤ) (tile : Tile) (age : ℕ) → age ≤ 4194304 → ((q : Cell) → contains (shown left top tile) q ≡ true → IsWithin age q) →
     All IsPlace (reverse (block_cells left top tile.rows 64))
@@ -118,9 +118,10 @@ places left top tile age young within =
     (λ q. ap (λ (G : Generation). contains G q) (sym (from_turned left top tile)) ∙ contains-from_list (reverse (block_cells left top tile.rows 64)) q)
     (λ q live. place_from_within age q young (within q live))
 
--- all 64 rows are listed
-pub all_rows : (left top : ℤ) (rows : List ℕ) (n : ℕ) (items : List Cell) → n ≤ 64 → 64 ≤ n → items ≡ reverse (block_cells left top rows n) →
-    items ≡ reverse (block_cells left top rows 64)
-all_rows left top rows n items few all is =
-    let done : n ≡ 64 = omega arith in
-    is ∙ ap (λ (m : ℕ). reverse (block_cells left top rows m)) done
+-- all rows that have live cells are listed
+pub all_rows : (left top : ℤ) (rows : List ℕ) (first end n : ℕ) (items : List Cell) → IsVoidOutside rows first end → n ≤ end → end ≤ n →
+    items ≡ reverse (block_cells left top rows n) → items ≡ reverse (block_cells left top rows 64)
+all_rows left top rows first end n items void few all is =
+    let inside = void.inside in
+    let sum : (64 - n) + n ≡ 64 = omega arith in
+    is ∙ sym (ap (λ (cs : List Cell). reverse cs) (block_short left top rows n (64 - n) 64 sum (λ k past small. void.below k (omega arith) small)))

@@ -3,7 +3,6 @@ use Rattle.std.specs.Prelude.{ℕ, All}
 use Rattle.life_model.specs.Generation.{Generation, cells}
 use Rattle.life_cells.specs.Limits.{IsWithin}
 use Rattle.life_board.specs.Squares as squares
-use Rattle.life_board.specs.Squares.{IsInner}
 use Rattle.life_board.specs.declared.kind.Kind.{Kind}
 use Rattle.life_board.specs.declared.kind.Kind.TheVariants.{Small, Large}
 
@@ -21,5 +20,5 @@ IsKept (Large plane) = All (IsWithin plane.1) (cells plane.0)
 
 -- the next generation of a square has no cell outside it
 abbrev pub HasRoom : Kind → Type 0
-HasRoom (Small square) = IsInner square.tile
+HasRoom (Small square) = squares.HasRoom square
 HasRoom (Large plane) = Unit {0}

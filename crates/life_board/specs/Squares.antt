@@ -1,5 +1,6 @@
 -- The cells of a square at its place.
-use Rattle.std.specs.Prelude.{◌≡◌, ℕ, ℤ, pos, negsuc, true, ◌≤ℤ◌, ◌<◌, ◌≤◌}
+use Rattle.std.specs.Prelude.{◌≡◌, ℕ, ℤ, pos, negsuc, true, ◌≤ℤ◌, ◌<◌, ◌≤◌, ◌+◌, List, slice_index}
+use Rattle.std.specs.Int.{bit_at}
 use Rattle.life_model.specs.Cell.{Cell}
 use Rattle.life_model.specs.Generation.{Generation, contains, from_list}
 use Rattle.life_cells.specs.Limits.{IsWithin}
@@ -23,10 +24,18 @@ pub record IsReached (left top : ℤ) : Type 0 where
   pub north : negsuc 100000000 ≤ℤ top
   pub south : top ≤ℤ pos 100000000
 
+-- no row outside a range has a live cell
+pub record IsVoidOutside (rows : List ℕ) (first end : ℕ) : Type 0 where
+  pub order : first ≤ end
+  pub inside : end ≤ 64
+  pub above : (k : ℕ) → k < first → slice_index rows k ≡ 0
+  pub below : (k : ℕ) → end ≤ k → k < 64 → slice_index rows k ≡ 0
+
 -- what a square keeps
 pub record IsKept (square : Square) : Type 0 where
   pub place : IsReached square.left square.top
   pub young : square.age ≤ 4194304
+  pub void : IsVoidOutside square.tile.rows square.first square.end
   pub within : (c : Cell) → contains (members_of square) c ≡ true → IsWithin square.age c
 
 -- a tile with empty ones around it
@@ -56,3 +65,22 @@ pub record IsRange (range : ℤ × ℤ) : Type 0 where
   pub low_to : range.0 ≤ℤ pos 16777215
   pub high_from : negsuc 16777215 ≤ℤ range.1
   pub high_to : range.1 ≤ℤ pos 16777215
+
+-- How many of the eight cells around a cell are live, in three rows of 192 cells one above the other. The cell is in the middle
+-- row, in column x of the middle 64.
+abbrev pub around_in : ℕ → ℕ → ℕ → ℕ → ℕ
+around_in a b c x =
+    bit_at a (x + 63) + bit_at a (x + 64) + bit_at a (x + 65)
+    + bit_at b (x + 63) + bit_at b (x + 65)
+    + bit_at c (x + 63) + bit_at c (x + 64) + bit_at c (x + 65)
+
+-- the next generation of a square has no cell outside it
+pub record HasRoom (square : Square) : Type 0 where
+  pub above : 0 < square.first
+  pub below : square.end ≤ 62
+  pub inner : IsInner square.tile
+
+-- cells that are not too near to the edge of a square may be put into it
+pub record IsOpen (square : Square) : Type 0 where
+  pub first : square.first ≡ 8
+  pub end : square.end ≡ 56

@@ -84,6 +84,7 @@ impl Kind {
 
     /// How many live cells there are.
     pub fn population(&self) -> u64
+        requires { IsKept self.now }
         ensures { result ≡ size (members_of self.now) }
     {
         match self {

@@ -6,6 +6,7 @@
 mod board;
 mod kind;
 mod placing;
+mod rows;
 mod small;
 
 pub use board::Board;

@@ -1,16 +1,17 @@
 //! A pattern in one square of cells.
-ghost use Rattle.std.specs.Prelude.{◌≡◌, ℕ, pos, negsuc, ◌+◌, ◌+ℤ◌, ◌<◌, ◌≤◌, ◌≤ℤ◌, All, IfOk, IfSome, [], false};
+ghost use Rattle.std.specs.Prelude.{◌≡◌, ◌≢◌, ◌⊎◌, ◌↔◌, ℕ, ℤ, pos, negsuc, ◌+◌, ◌+ℤ◌, ◌<◌, ◌≤◌, ◌≤ℤ◌, All, IfOk, IfSome, [], false, length, slice_index};
+ghost use Rattle.std.specs.Int.{bit_at};
 ghost use Rattle.life_model.specs.Evolution.{next};
 ghost use Rattle.life_model.specs.Generation.{from_list, insert, size};
-ghost use Rattle.life_model.specs.Rule.{Rule};
-ghost use Rattle.life_bits.specs.Area.{next_in_area, tile_cell};
-ghost use Rattle.life_bits.specs.Logics.{IsLogicOf};
+ghost use Rattle.life_bits.specs.Area.{tile_cell};
 ghost use Rattle.life_cells.specs.Limits.{IsWithin};
-ghost use Rattle.life_board.specs.Squares.{alone, members_of, IsInner, IsKept, IsReached};
+ghost use Rattle.life_tile.specs.Cells.{block_cells, row_cells};
+ghost use Rattle.life_board.specs.Squares.{members_of, HasRoom, IsInner, IsKept, IsOpen, IsReached, IsVoidOutside};
 
-use life_bits::{Around, Logic, Tile, Window, band};
+use crate::rows::{advance, end_of_rows, first_row};
+use life_bits::Tile;
 use life_cells::{CellList, Rule};
-use life_tile::{Rim, count_tile, push_row};
+use life_tile::{Rim, push_row};
 use std::alloc::{AllocError, Global};
 
 /// A list of so few cells is made without growing.
@@ -28,19 +29,71 @@ pub struct Square {
     pub left: i32,
     /// The y of row 0.
     pub top: i32,
+    /// No row before this one has a live cell.
+    pub first: usize,
+    /// No row from this one on has a live cell.
+    pub end: usize,
     pub age: u32,
 }
 
+/// At each column whether one of its cells is live.
+fn columns_of(tile: &Tile, first: usize, end: usize) -> u64
+    requires { IsVoidOutside tile.now.rows first end }
+    ensures { (x : ℕ) → x < 64 → (bit_at result x ≡ 0) ↔ ((y : ℕ) → y < 64 → tile_cell tile.now x y ≡ 0) }
+{
+    let mut columns = 0;
+    for y in first..end {
+        columns |= tile.rows[y];
+    }
+    columns
+}
+
 /// Whether a live cell of a tile is at its edge.
-fn is_at_edge(tile: &Tile) -> bool
+fn is_at_edge(tile: &Tile, first: usize, end: usize) -> bool
+    requires { IsVoidOutside tile.now.rows first end }
     ensures { result ≡ false → IsInner tile.now }
 {
-    let rim = Rim::of(tile);
+    let rim = Rim {
+        first: tile.rows[0],
+        last: tile.rows[63],
+        columns: columns_of(tile, first, end),
+    };
     let north = rim.reaches(1);
     let west = rim.reaches(3);
     let east = rim.reaches(5);
     let south = rim.reaches(7);
     north | west | east | south
+}
+
+/// How many cells of a row are live.
+fn count_row(row: u64) -> u64
+    ensures few { result ≤ 64 }
+    ensures cells { (left y : ℤ) → result ≡ length (row_cells left y row 64) }
+{
+    u64::from(row.count_ones())
+}
+
+/// How many cells of a tile are live.
+fn count_rows(tile: &Tile, first: usize, end: usize) -> u64
+    requires { IsVoidOutside tile.now.rows first end }
+    ensures { (left top : ℤ) → result ≡ length (block_cells left top tile.now.rows 64) }
+{
+    let mut count = 0;
+    for y in first..end {
+        count += count_row(tile.rows[y]);
+    }
+    count
+}
+
+/// Makes a cell of a tile live. Every other one stays as it was.
+fn make_live(tile: &mut Tile, x: usize, y: usize)
+    requires column { x < 64 }
+    requires row { y < 64 }
+    ensures here { tile_cell tile.new x y ≡ 1 }
+    ensures elsewhere { (p q : ℕ) → p < 64 → (p ≢ x) ⊎ (q ≢ y) → tile_cell tile.new p q ≡ tile_cell tile.old p q }
+    ensures others { (k : ℕ) → k ≢ y → slice_index tile.new.rows k ≡ slice_index tile.old.rows k }
+{
+    tile.rows[y] |= 1 << x;
 }
 
 /// Which of the 64 columns from a column on this one is, where it is not too near to the first or the last. The same for rows.
@@ -49,7 +102,8 @@ fn column_of(z: i32, from: i32) -> Option<usize>
     requires east { z ≤ℤ pos 100000000 }
     requires from_west { negsuc 100000000 ≤ℤ from }
     requires from_east { from ≤ℤ pos 100000000 }
-    ensures small { IfSome result (λ n. n < 64) }
+    ensures first { IfSome result (λ n. 8 ≤ n) }
+    ensures last { IfSome result (λ n. n < 56) }
     ensures is { IfSome result (λ n. z ≡ (from +ℤ pos n)) }
 {
     let offset = z - from;
@@ -60,36 +114,13 @@ fn column_of(z: i32, from: i32) -> Option<usize>
     }
 }
 
-/// The next generation of a tile around which all cells are dead.
-fn next_tile(tile: &Tile, logic: &Logic) -> Tile
-    ensures { (rule : Rule) → IsLogicOf logic.now rule → (x y : ℕ) → x < 64 → y < 64 →
-        tile_cell result x y ≡ next_in_area rule (alone tile.now) x y }
-{
-    let none = Tile::EMPTY;
-    let around = Around {
-        north: &none,
-        north_east: &none,
-        east: &none,
-        south_east: &none,
-        south: &none,
-        south_west: &none,
-        west: &none,
-        north_west: &none,
-    };
-    let mut next = Tile::EMPTY;
-    for index in 0..8 {
-        let window = Window::of(tile, &around, 8 * index);
-        band(logic, &window, &mut next);
-    }
-    next
-}
-
 impl Square {
     /// The square without a live cell.
     fn empty(alloc: Global, left: i32, top: i32, age: u32) -> Square
         requires place { IsReached left top }
         requires young { age ≤ 4194304 }
         ensures kept { IsKept result }
+        ensures free { IsOpen result }
         ensures members { members_of result ≡ from_list [] }
         ensures age { result.age ≡ age }
     {
@@ -99,6 +130,8 @@ impl Square {
             tile,
             left,
             top,
+            first: MARGIN as usize,
+            end: 64 - MARGIN as usize,
             age,
         }
     }
@@ -107,13 +140,15 @@ impl Square {
     fn put(&mut self, cell: (i32, i32)) -> Option<()>
         requires kept { IsKept self.old }
         requires within { IsWithin self.old.age cell }
+        requires free { IsOpen self.old }
         ensures kept { IfSome result (λ _. IsKept self.new) }
+        ensures free { IsOpen self.new }
         ensures members { IfSome result (λ _. members_of self.new ≡ insert (members_of self.old) cell) }
         ensures age { self.new.age ≡ self.old.age }
     {
         let x = column_of(cell.0, self.left)?;
         let y = column_of(cell.1, self.top)?;
-        self.tile.set(x, y, true);
+        make_live(&mut self.tile, x, y);
         Some(())
     }
 
@@ -130,34 +165,51 @@ impl Square {
         for cell in cells {
             square.put(*cell)?;
         }
+        square.shrink();
         Some(square)
+    }
+
+    /// Leaves out rows without a live cell.
+    fn shrink(&mut self)
+        requires { IsKept self.old }
+        ensures kept { IsKept self.new }
+        ensures members { members_of self.new ≡ members_of self.old }
+        ensures age { self.new.age ≡ self.old.age }
+    {
+        self.first = first_row(&self.tile, self.first, self.end);
+        self.end = end_of_rows(&self.tile, self.first, self.end);
     }
 
     /// Whether the next generation may have a cell outside the square.
     pub fn is_full(&self) -> bool
-        ensures { result ≡ false → IsInner self.now.tile }
+        requires { IsKept self.now }
+        ensures { result ≡ false → HasRoom self.now }
     {
-        is_at_edge(&self.tile)
+        self.first == 0 || self.end > 62 || is_at_edge(&self.tile, self.first, self.end)
     }
 
     /// Makes the next generation.
     pub fn advance(&mut self, rule: &Rule)
         requires kept { IsKept self.old }
-        requires inner { IsInner self.old.tile }
+        requires room { HasRoom self.old }
         requires young { self.old.age < 4194304 }
         ensures kept { IsKept self.new }
         ensures members { members_of self.new ≡ next rule.now (members_of self.old) }
         ensures age { self.new.age ≡ self.old.age + 1 }
     {
-        self.tile = next_tile(&self.tile, &Logic::of(rule));
+        advance(&mut self.tile, self.first, self.end, rule);
+        self.first -= 1;
+        self.end += 1;
         self.age += 1;
+        self.shrink();
     }
 
     /// How many live cells there are.
     pub fn population(&self) -> u64
+        requires { IsKept self.now }
         ensures { result ≡ size (members_of self.now) }
     {
-        count_tile(&self.tile)
+        count_rows(&self.tile, self.first, self.end)
     }
 
     /// The live cells.
@@ -166,7 +218,7 @@ impl Square {
         ensures { IfOk result (λ list. list ≡ members_of self.now) }
     {
         let mut cells = Vec::with_capacity(self.alloc, FEW)?;
-        for y in 0..64 {
+        for y in self.first..self.end {
             push_row(
                 &mut cells,
                 self.left,

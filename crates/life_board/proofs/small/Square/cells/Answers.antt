@@ -8,11 +8,13 @@ use Rattle.life_board.proofs.Rises.{all_rows, from_turned, none_listed, places, 
 use Rattle.life_board.proofs.small.Square.cells.Goals as goal
 
 pub loop-y-init : goal.loop-y-init
-loop-y-init c = record { inside = omega arith; pushed = c.in_ok-cells.ensures.items ∙ none_listed c.args.self.now.left c.args.self.now.top c.args.self.now.tile.rows }
+loop-y-init c = record { inside = c.requires.void.order; pushed = c.in_ok-cells.ensures.items ∙ none_listed c.args.self.now.left c.args.self.now.top c.args.self.now.tile.rows c.args.self.now.first c.requires.void.above }
 
 pub loop-y-preserved : goal.loop-y-preserved
 loop-y-preserved c =
     let place = c.requires.place in
+    let test = c.loop-y-test.true in
+    let end = c.requires.void.inside in
     let small : c.loop-y.y < 64 = omega arith in
     let cast : to_z w32 c.loop-y.y ≡ pos c.loop-y.y = omega (arith, ints) in
     let left : FitsSigned w32 c.args.self.now.left = omega (arith, ints) in
@@ -29,16 +31,19 @@ loop-y-preserved c =
 
 pub from_ordered-requires-clause-rising : goal.from_ordered-requires-clause-rising
 from_ordered-requires-clause-rising c =
-    subst (λ (cs : List Cell). T (is_rising cs)) (sym (all_rows c.args.self.now.left c.args.self.now.top c.args.self.now.tile.rows c.loop-y.y c.loop-y.cells.items c.loop-y.invariant.inside (omega arith) c.loop-y.invariant.pushed))
+    subst (λ (cs : List Cell). T (is_rising cs)) (sym (all_rows c.args.self.now.left c.args.self.now.top c.args.self.now.tile.rows c.args.self.now.first c.args.self.now.end c.loop-y.y c.loop-y.cells.items
+    c.requires.void c.loop-y.invariant.inside c.loop-y-test.false c.loop-y.invariant.pushed))
     (rise_block c.args.self.now.left c.args.self.now.top c.args.self.now.tile.rows 64)
 
 pub from_ordered-requires-clause-placed : goal.from_ordered-requires-clause-placed
 from_ordered-requires-clause-placed c =
-    subst (λ (cs : List Cell). All IsPlace cs) (sym (all_rows c.args.self.now.left c.args.self.now.top c.args.self.now.tile.rows c.loop-y.y c.loop-y.cells.items c.loop-y.invariant.inside (omega arith) c.loop-y.invariant.pushed))
+    subst (λ (cs : List Cell). All IsPlace cs) (sym (all_rows c.args.self.now.left c.args.self.now.top c.args.self.now.tile.rows c.args.self.now.first c.args.self.now.end c.loop-y.y c.loop-y.cells.items
+    c.requires.void c.loop-y.invariant.inside c.loop-y-test.false c.loop-y.invariant.pushed))
     (places c.args.self.now.left c.args.self.now.top c.args.self.now.tile c.args.self.now.age c.requires.young c.requires.within)
 
 pub returns : goal.returns
 returns c =
     c.from_ordered.ensures
-    ∙ ap from_list (all_rows c.args.self.now.left c.args.self.now.top c.args.self.now.tile.rows c.loop-y.y c.loop-y.cells.items c.loop-y.invariant.inside (omega arith) c.loop-y.invariant.pushed)
+    ∙ ap from_list (all_rows c.args.self.now.left c.args.self.now.top c.args.self.now.tile.rows c.args.self.now.first c.args.self.now.end c.loop-y.y c.loop-y.cells.items
+    c.requires.void c.loop-y.invariant.inside c.loop-y-test.false c.loop-y.invariant.pushed)
     ∙ from_turned c.args.self.now.left c.args.self.now.top c.args.self.now.tile

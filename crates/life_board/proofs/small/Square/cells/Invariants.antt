@@ -4,6 +4,6 @@ use Rattle.life_board.proofs.small.Square.cells.Given as goal
 
 abbrev pub invariant-loop-y : goal.invariant-loop-y
 invariant-loop-y l = record {
-  inside : l.y ≤ 64;
+  inside : l.y ≤ l.self.end;
   pushed : l.cells.items ≡ reverse (block_cells l.self.left l.self.top l.self.tile.rows l.y);
 }

@@ -1,11 +1,11 @@
-use Rattle.std.proofs.Common.{◌≡◌, pos, ◌+ℤ◌, arith}
+use Rattle.std.proofs.Common.{◌≡◌, ◌<◌, pos, ◌+ℤ◌, arith}
 use Rattle.std.proofs.lemmas.Int.{ints}
 use Rattle.life_model.specs.Generation.{insert}
 use Rattle.life_board.specs.Squares.{shown, members_of}
-use Rattle.life_board.proofs.Puts.{shown_put, within_put}
+use Rattle.life_board.proofs.Puts.{shown_put, void_put, within_put}
 use Rattle.life_board.proofs.small.Square.put.Goals as goal
 
-module _ (c : goal.After-set) where
+module _ (c : goal.After-make_live) where
   at : c.args.cell ≡ (c.args.self.now.left +ℤ pos c.in_ok-x.x, c.args.self.now.top +ℤ pos c.in_ok-y.y)
   at =
       let young = c.requires.kept.young in
@@ -14,16 +14,23 @@ module _ (c : goal.After-set) where
       let down : c.args.cell.1 ≡ (c.args.self.now.top +ℤ pos c.in_ok-y.y) = omega (arith, ints, c.in_ok-y.ensures.is, c.requires.within.above, c.requires.within.below) in
       λ i. (across i, down i)
 
-  put : shown c.args.self.now.left c.args.self.now.top c.set.new.self ≡ insert (members_of c.args.self.now) c.args.cell
+  wide : c.in_ok-x.x < 64
+  wide = (let less = c.in_ok-x.ensures.last in omega arith)
+
+  high : c.in_ok-y.y < 64
+  high = (let less = c.in_ok-y.ensures.last in omega arith)
+
+  put : shown c.args.self.now.left c.args.self.now.top c.make_live.new.tile ≡ insert (members_of c.args.self.now) c.args.cell
   put =
-      shown_put c.args.self.now.left c.args.self.now.top c.args.self.now.tile c.set.new.self c.in_ok-x.x c.in_ok-y.y c.args.cell
-      c.in_ok-x.ensures.small c.in_ok-y.ensures.small at c.set.ensures.here c.set.ensures.elsewhere
+      shown_put c.args.self.now.left c.args.self.now.top c.args.self.now.tile c.make_live.new.tile c.in_ok-x.x c.in_ok-y.y c.args.cell
+      wide high at c.make_live.ensures.here c.make_live.ensures.elsewhere
 
 pub returns-clause-kept : goal.returns-clause-kept
 returns-clause-kept c = record {
   place = c.requires.kept.place;
   young = c.requires.kept.young;
-  within = within_put (members_of c.args.self.now) (shown c.args.self.now.left c.args.self.now.top c.set.new.self) c.args.cell c.args.self.now.age (put c) c.requires.within c.requires.kept.within;
+  void = void_put c.args.self.now.tile.rows c.make_live.new.tile.rows c.args.self.now.first c.args.self.now.end c.in_ok-y.y c.requires.kept.void (let is = c.requires.free.first in let from = c.in_ok-y.ensures.first in omega arith) (let is = c.requires.free.end in let less = c.in_ok-y.ensures.last in omega arith) c.make_live.ensures.others;
+  within = within_put (members_of c.args.self.now) (shown c.args.self.now.left c.args.self.now.top c.make_live.new.tile) c.args.cell c.args.self.now.age (put c) c.requires.within c.requires.kept.within;
 }
 
 pub returns-clause-members : goal.returns-clause-members

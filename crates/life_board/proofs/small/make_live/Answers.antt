@@ -1,0 +1,20 @@
+use Rattle.std.proofs.Common.{◌<◌, length, w64, slice_index, arith}
+use Rattle.std.proofs.lemmas.Nat.Bits.{bit_at_set_same, bit_at_set_other}
+use Rattle.life_bits.proofs.OneCell.{put_same, put_other}
+use Rattle.life_tile.proofs.Lists.{set_there}
+use Rattle.life_board.proofs.small.make_live.Goals as goal
+
+pub returns-clause-here : goal.returns-clause-here
+returns-clause-here c =
+    let room : c.args.y < length c.args.tile.now.rows = omega arith in
+    put_same c.args.tile.now.rows c.args.x c.args.y _ _ room (bit_at_set_same w64 (slice_index c.args.tile.now.rows c.args.y) c.args.x c.requires.column)
+
+pub returns-clause-elsewhere : goal.returns-clause-elsewhere
+returns-clause-elsewhere c =
+    let room : c.args.y < length c.args.tile.now.rows = omega arith in
+    λ p q column apart.
+    put_other c.args.tile.now.rows c.args.x c.args.y _ p q room column apart
+    (λ i below other. bit_at_set_other w64 (slice_index c.args.tile.now.rows c.args.y) c.args.x c.requires.column i other)
+
+pub returns-clause-others : goal.returns-clause-others
+returns-clause-others c = λ k apart. set_there c.args.tile.now.rows c.args.y k _ 0 apart

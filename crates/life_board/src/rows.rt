@@ -1,0 +1,87 @@
+//! The next generation of a tile around which all cells are dead, in the rows that may have a live cell.
+ghost use Rattle.std.specs.Prelude.{◌≡◌, ℕ, ◌+◌, ◌-◌, ◌<◌, ◌≤◌, slice_index};
+ghost use Rattle.life_model.specs.Rule.{Rule};
+ghost use Rattle.life_bits.specs.Area.{next_in_area, tile_cell};
+ghost use Rattle.life_bits.specs.Logics.{IsLogicOf};
+ghost use Rattle.life_bits.specs.Numbers.{number_at};
+ghost use Rattle.life_bits.specs.Rows.{IsRowSumsOf};
+ghost use Rattle.life_board.specs.Squares.{alone, around_in, IsVoidOutside};
+
+use life_bits::{Count, Logic, RowSums, Tile, full_adder, sums};
+use life_cells::Rule;
+
+/// How many live neighbours each cell of a row has, by the sums of the row above, of its own and of the row below.
+#[inline(always)]
+fn count(above: RowSums, beside: RowSums, below: RowSums) -> Count
+    ensures { (a b c : ℕ) → IsRowSumsOf above a → IsRowSumsOf beside b → IsRowSumsOf below c → (x : ℕ) → x < 64 →
+        number_at result x ≡ around_in a b c x }
+{
+    let sum = full_adder(above.three.ones, below.three.ones, beside.two.ones);
+    Count {
+        ones: sum.ones,
+        above: above.three.twos,
+        below: below.three.twos,
+        beside: beside.two.twos,
+        carried: sum.twos,
+    }
+}
+
+/// Makes a tile its next generation by a logic, as `advance` says.
+#[inline(always)]
+fn advance_by(tile: &mut Tile, first: usize, end: usize, logic: &Logic)
+    requires first { 0 < first }
+    requires end { end ≤ 62 }
+    requires void { IsVoidOutside tile.old.rows first end }
+    ensures next { (rule : Rule) → IsLogicOf logic.now rule → (x y : ℕ) → x < 64 → y < 64 →
+        tile_cell tile.new x y ≡ next_in_area rule (alone tile.old) x y }
+    ensures void { IsVoidOutside tile.new.rows (first - 1) (end + 1) }
+{
+    let mut above = sums(0, 0, 0);
+    let mut beside = sums(0, 0, 0);
+    for y in first - 1..end + 1 {
+        let below = sums(0, tile.rows[y + 1], 0);
+        tile.rows[y] = logic.next(tile.rows[y], count(above, beside, below));
+        above = beside;
+        beside = below;
+    }
+}
+
+/// Makes a tile its next generation, where all cells around it are dead and no row outside a range has a live cell.
+pub fn advance(tile: &mut Tile, first: usize, end: usize, rule: &Rule)
+    requires first { 0 < first }
+    requires end { end ≤ 62 }
+    requires void { IsVoidOutside tile.old.rows first end }
+    ensures next { (x y : ℕ) → x < 64 → y < 64 → tile_cell tile.new x y ≡ next_in_area rule.now (alone tile.old) x y }
+    ensures void { IsVoidOutside tile.new.rows (first - 1) (end + 1) }
+{
+    // Which logic it is, is found out here once for all rows.
+    match Logic::of(rule) {
+        Logic::Life => advance_by(tile, first, end, &Logic::Life),
+        logic => advance_by(tile, first, end, &logic),
+    }
+}
+
+/// The first row of a range that has a live cell, or the end of the range where none has.
+pub fn first_row(tile: &Tile, first: usize, end: usize) -> usize
+    requires { IsVoidOutside tile.now.rows first end }
+    ensures from { first ≤ result }
+    ensures void { IsVoidOutside tile.now.rows result end }
+{
+    let mut y = first;
+    while y < end && tile.rows[y] == 0 {
+        y += 1;
+    }
+    y
+}
+
+/// The row after the last of a range that has a live cell, or the start of the range where none has.
+pub fn end_of_rows(tile: &Tile, first: usize, end: usize) -> usize
+    requires { IsVoidOutside tile.now.rows first end }
+    ensures void { IsVoidOutside tile.now.rows first result }
+{
+    let mut y = end;
+    while first < y && tile.rows[y - 1] == 0 {
+        y -= 1;
+    }
+    y
+}
