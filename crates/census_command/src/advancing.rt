@@ -13,9 +13,9 @@ use census_errors::{AdvanceError, file_of};
 use census_faults::{spot_of_text, text_fault};
 use census_folders::Shelf;
 use census_identify::read_file;
+use life_board::Board;
 use life_plane::AGE_LIMIT;
 use life_text::{RleFault, read_rle, write_rle};
-use life_tile::TilePlane;
 use std::alloc::Global;
 use std::io::{Read, Write};
 use watched::{put_all, read_all};
@@ -48,7 +48,7 @@ fn advanced_text(alloc: Global, text: &[u8], generations: u32) -> Result<Vec<u8>
         Ok(pattern) => pattern,
         Err(fault) => return Err(refused(text, fault)),
     };
-    let cells = evolved::<TilePlane>(alloc, &pattern, generations)?;
+    let cells = evolved::<Board>(alloc, &pattern, generations)?;
     let mut written = Vec::new(alloc);
     write_rle(&pattern.rule(), &cells, &mut written)?;
     Ok(written)

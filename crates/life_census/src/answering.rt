@@ -6,10 +6,10 @@ ghost use Rattle.life_text.specs.Rle.{header_rule};
 
 use crate::pattern::census;
 use life_answer::{Answer, refused};
+use life_board::Board;
 use life_orbit::BOUND_LIMIT;
 use life_plane::Plane;
 use life_text::read_rle;
-use life_tile::TilePlane;
 use std::alloc::{AllocError, Global};
 
 /// The objects that the pattern of an RLE text falls apart into within the bound, over planes of one kind.
@@ -48,5 +48,5 @@ pub fn answer(
     ensures answer { IfOk result (λ answer. answer ≡ answer_to_question (Objects bound limit) text.now) }
     ensures memory { OnErr result (IsOk (header_rule text.now)) }
 {
-    answer_on::<TilePlane>(alloc, text, bound, limit)
+    answer_on::<Board>(alloc, text, bound, limit)
 }

@@ -7,9 +7,9 @@ ghost use Rattle.life_text.specs.Rle.{header_rule};
 use crate::finding::find_limited;
 use crate::limit::BOUND_LIMIT;
 use life_answer::{Answer, refused};
+use life_board::Board;
 use life_plane::Plane;
 use life_text::read_rle;
-use life_tile::TilePlane;
 use std::alloc::{AllocError, Global};
 
 /// What is found of an RLE text within the bound, over planes of one kind.
@@ -49,5 +49,5 @@ pub fn answer(
     ensures answer { IfOk result (λ answer. answer ≡ answer_to_question (Settles bound limit) text.now) }
     ensures memory { OnErr result (IsOk (header_rule text.now)) }
 {
-    answer_on::<TilePlane>(alloc, text, bound, limit)
+    answer_on::<Board>(alloc, text, bound, limit)
 }

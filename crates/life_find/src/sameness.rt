@@ -8,9 +8,9 @@ ghost use Rattle.life_find.specs.Objects.{HasCode, TellsObject};
 use crate::finding::find_cells;
 use crate::limit::BOUND_LIMIT;
 use life_answer::{Code, Finding};
+use life_board::Board;
 use life_cells::{CellList, Rule};
 use life_plane::Plane;
-use life_tile::TilePlane;
 use std::alloc::{AllocError, Global};
 
 /// The code of the object that a set of cells settles into, where it does within the bound.
@@ -76,5 +76,5 @@ pub fn same_object(
     ensures unsettled { IfOk result (λ answer. IfNone answer ((g h : ℕ) →
         SettlesAt rule.now first.now bound g → SettlesAt rule.now second.now bound h → ⊥)) }
 {
-    same_object_on::<TilePlane>(alloc, rule, first, second, bound)
+    same_object_on::<Board>(alloc, rule, first, second, bound)
 }

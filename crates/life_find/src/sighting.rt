@@ -14,8 +14,8 @@ use life_cells::{CellList, Rule};
 use life_plane::{AGE_LIMIT, Plane};
 use std::alloc::{AllocError, Global};
 
-/// How many generations are compared with the first one.
-const FIRST_LEAD: u32 = 4;
+/// How many generations are compared with the first one: most known oscillators and spaceships have no longer period.
+const FIRST_LEAD: u32 = 64;
 
 /// Once in so many generations the span is looked at whatever the population is.
 const SPAN_STEP: u32 = 16;
