@@ -1,4 +1,4 @@
--- Slots with empty ones after them.
+-- Rows of slots: results that are kept or were dropped, and empty slots after them.
 use Rattle.std.proofs.Common.{◌≡◌, ℕ, zero, suc, ◌+◌, ◌-◌, ◌<◌, ◌≤◌, Bool, true, false, List, [], ◌∷◌, ◌++◌, length, map, replicate, is_some, Option, None, Some, refl, sym, ap, ◌∙◌, arith, append_assoc, append-nil, slice_get}
 use Rattle.std.specs.Prelude.{slice_set}
 use Rattle.std.proofs.lemmas.List.{map-set, set-append_left, length-map, length-set, length-append, length-replicate, replicate-append-replicate}
