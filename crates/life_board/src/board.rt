@@ -62,6 +62,18 @@ impl Plane for Board {
         self.kind.cells()
     }
 
+    fn span(&self) -> Result<(i32, i32), AllocError> {
+        self.kind.span()
+    }
+
+    fn way_from(&self, list: &CellList) -> Result<Option<(i32, i32)>, AllocError> {
+        self.kind.way_from(list)
+    }
+
+    fn way_from_plane(&self, other: &Self) -> Result<Option<(i32, i32)>, AllocError> {
+        self.kind.way_from_plane(&other.kind)
+    }
+
     fn copy(&self) -> Result<Self, AllocError> {
         let kind = self.kind.copy()?;
         Ok(Board { kind })

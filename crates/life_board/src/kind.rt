@@ -1,16 +1,19 @@
 //! A pattern in one square or in many tiles.
-ghost use Rattle.std.specs.Prelude.{◌≡◌, ◌+◌, ◌<◌, ◌≤◌, All, IfOk, OnOk, OnErr};
+ghost use Rattle.std.specs.Prelude.{◌≡◌, ◌+◌, ◌<◌, ◌≤◌, All, IfNone, IfOk, IfSome, OnOk, OnErr};
 ghost use Rattle.life_model.specs.Evolution.{next};
 ghost use Rattle.life_model.specs.Generation.{size};
 ghost use Rattle.life_model.specs.Generation as generation;
 ghost use Rattle.life_cells.specs.Limits.{IsWithin};
+ghost use Rattle.life_plane.specs.Span.{set_span};
+ghost use Rattle.life_plane.specs.Ways.{AreApart, IsWay};
 ghost use Rattle.life_board.specs.Kinds.{age_of, members_of, HasRoom, IsKept};
 ghost use Rattle.life_board.specs.Squares as squares;
 
 use crate::placing::corner_around;
 use crate::small::Square;
 use life_cells::{CellList, Rule};
-use life_tile::{Plane, TilePlane};
+use life_plane::Plane;
+use life_tile::TilePlane;
 use std::alloc::{AllocError, Global};
 
 /// How the cells of a board are kept.
@@ -114,6 +117,44 @@ impl Kind {
             Kind::Small(square) => square.cells(),
             Kind::Large(plane) => plane.cells(),
         }
+    }
+
+    /// How far the last of its cells, by y and then by x, is from the first, or (0, 0) where there is none.
+    pub fn span(&self) -> Result<(i32, i32), AllocError>
+        requires { IsKept self.now }
+        ensures { IfOk result (λ span. span ≡ set_span (members_of self.now)) }
+    {
+        match self {
+            Kind::Small(square) => square.span(),
+            Kind::Large(plane) => plane.span(),
+        }
+    }
+
+    /// How far its cells are from the listed ones, where they are those moved as a whole.
+    pub fn way_from(&self, list: &CellList) -> Result<Option<(i32, i32)>, AllocError>
+        requires { IsKept self.now }
+        ensures way { IfOk result (λ way. IfSome way (λ d. IsWay list.now (members_of self.now) d)) }
+        ensures apart { IfOk result (λ way. IfNone way (AreApart list.now (members_of self.now))) }
+    {
+        match self {
+            Kind::Small(square) => square.way_from(list),
+            Kind::Large(plane) => plane.way_from(list),
+        }
+    }
+
+    /// How far its cells are from those of another board, where they are those moved as a whole.
+    pub fn way_from_plane(&self, other: &Kind) -> Result<Option<(i32, i32)>, AllocError>
+        requires kept { IsKept self.now }
+        requires other { IsKept other.now }
+        ensures way { IfOk result (λ way. IfSome way (λ d. IsWay (members_of other.now) (members_of self.now) d)) }
+        ensures apart { IfOk result (λ way. IfNone way (AreApart (members_of other.now) (members_of self.now))) }
+    {
+        if let Kind::Large(to) = self {
+            if let Kind::Large(from) = other {
+                return to.way_from_plane(from);
+            }
+        }
+        self.way_from(&other.cells()?)
     }
 
     /// The same cells at the same age.

@@ -1,16 +1,19 @@
 //! A pattern in one square of cells.
-ghost use Rattle.std.specs.Prelude.{◌≡◌, ◌≢◌, ◌⊎◌, ◌↔◌, ℕ, ℤ, pos, negsuc, ◌+◌, ◌+ℤ◌, ◌<◌, ◌≤◌, ◌≤ℤ◌, All, IfOk, IfSome, [], false, length, slice_index};
+ghost use Rattle.std.specs.Prelude.{◌≡◌, ◌≢◌, ◌⊎◌, ◌↔◌, ℕ, ℤ, pos, negsuc, ◌+◌, ◌+ℤ◌, ◌<◌, ◌≤◌, ◌≤ℤ◌, All, IfNone, IfOk, IfSome, [], false, length, slice_index};
 ghost use Rattle.std.specs.Int.{bit_at};
 ghost use Rattle.life_model.specs.Evolution.{next};
 ghost use Rattle.life_model.specs.Generation.{from_list, insert, size};
 ghost use Rattle.life_bits.specs.Area.{tile_cell};
 ghost use Rattle.life_cells.specs.Limits.{IsWithin};
+ghost use Rattle.life_plane.specs.Span.{set_span};
+ghost use Rattle.life_plane.specs.Ways.{AreApart, IsWay};
 ghost use Rattle.life_tile.specs.Cells.{block_cells, row_cells};
 ghost use Rattle.life_board.specs.Squares.{members_of, HasRoom, IsInner, IsKept, IsOpen, IsReached, IsVoidOutside};
 
 use crate::rows::{advance, end_of_rows, first_row};
 use life_bits::Tile;
 use life_cells::{CellList, Rule};
+use life_plane::{span_of, way_between};
 use life_tile::{Rim, push_row};
 use std::alloc::{AllocError, Global};
 
@@ -227,5 +230,24 @@ impl Square {
             )?;
         }
         Ok(CellList::from_ordered(cells))
+    }
+
+    /// How far the last of its cells, by y and then by x, is from the first, or (0, 0) where there is none.
+    pub fn span(&self) -> Result<(i32, i32), AllocError>
+        requires { IsKept self.now }
+        ensures { IfOk result (λ span. span ≡ set_span (members_of self.now)) }
+    {
+        let cells = self.cells()?;
+        Ok(span_of(cells.as_slice()))
+    }
+
+    /// How far its cells are from the listed ones, where they are those moved as a whole.
+    pub fn way_from(&self, list: &CellList) -> Result<Option<(i32, i32)>, AllocError>
+        requires { IsKept self.now }
+        ensures way { IfOk result (λ way. IfSome way (λ d. IsWay list.now (members_of self.now) d)) }
+        ensures apart { IfOk result (λ way. IfNone way (AreApart list.now (members_of self.now))) }
+    {
+        let cells = self.cells()?;
+        Ok(way_between(list.as_slice(), cells.as_slice()))
     }
 }
