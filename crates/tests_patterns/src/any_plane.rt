@@ -1,6 +1,7 @@
-//! Planes of both kinds: gliders that cross the corners of tiles, copies, and planes that begin at an age.
+//! Planes of each kind: gliders that cross the corners of tiles, copies, and planes that begin at an age.
 
 use crate::evolved::{after, shows, step};
+use life_board::Board;
 use life_cells::{CellList, Rule};
 use life_plane::{AGE_LIMIT, ListPlane, Plane};
 use life_tile::TilePlane;
@@ -80,6 +81,11 @@ fn gliders_move_on_the_tile_plane(rt: HostRuntime) -> Result<(), Fail> {
 }
 
 #[test]
+fn gliders_move_on_the_board(rt: HostRuntime) -> Result<(), Fail> {
+    gliders_move::<Board>(&rt, rt.alloc())
+}
+
+#[test]
 fn a_copy_of_the_list_plane_keeps_older_cells(rt: HostRuntime) -> Result<(), Fail> {
     a_copy_keeps_older_cells::<ListPlane>(&rt, rt.alloc())
 }
@@ -87,6 +93,11 @@ fn a_copy_of_the_list_plane_keeps_older_cells(rt: HostRuntime) -> Result<(), Fai
 #[test]
 fn a_copy_of_the_tile_plane_keeps_older_cells(rt: HostRuntime) -> Result<(), Fail> {
     a_copy_keeps_older_cells::<TilePlane>(&rt, rt.alloc())
+}
+
+#[test]
+fn a_copy_of_the_board_keeps_older_cells(rt: HostRuntime) -> Result<(), Fail> {
+    a_copy_keeps_older_cells::<Board>(&rt, rt.alloc())
 }
 
 #[test]
@@ -100,6 +111,11 @@ fn a_glider_keeps_its_span_on_the_tile_plane(rt: HostRuntime) -> Result<(), Fail
 }
 
 #[test]
+fn a_glider_keeps_its_span_on_the_board(rt: HostRuntime) -> Result<(), Fail> {
+    a_glider_keeps_its_span::<Board>(&rt, rt.alloc())
+}
+
+#[test]
 fn a_list_plane_begins_at_an_age(rt: HostRuntime) -> Result<(), Fail> {
     a_plane_begins_at_an_age::<ListPlane>(&rt, rt.alloc())
 }
@@ -107,4 +123,9 @@ fn a_list_plane_begins_at_an_age(rt: HostRuntime) -> Result<(), Fail> {
 #[test]
 fn a_tile_plane_begins_at_an_age(rt: HostRuntime) -> Result<(), Fail> {
     a_plane_begins_at_an_age::<TilePlane>(&rt, rt.alloc())
+}
+
+#[test]
+fn a_board_begins_at_an_age(rt: HostRuntime) -> Result<(), Fail> {
+    a_plane_begins_at_an_age::<Board>(&rt, rt.alloc())
 }

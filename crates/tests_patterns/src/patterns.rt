@@ -1,6 +1,7 @@
 //! What is found of patterns: over planes of either kind, and as the answer to their texts.
 
 use life_answer::{Answer, Finding};
+use life_board::Board;
 use life_cells::Rule;
 use life_find::{BOUND_LIMIT, answer, find};
 use life_plane::{ListPlane, Plane};
@@ -119,6 +120,11 @@ fn patterns_are_found_on_the_list_plane(rt: HostRuntime) -> Result<(), Fail> {
 #[test]
 fn patterns_are_found_on_the_tile_plane(rt: HostRuntime) -> Result<(), Fail> {
     check::<TilePlane>(&rt, rt.alloc())
+}
+
+#[test]
+fn patterns_are_found_on_the_board(rt: HostRuntime) -> Result<(), Fail> {
+    check::<Board>(&rt, rt.alloc())
 }
 
 #[test]
