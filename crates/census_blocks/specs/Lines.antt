@@ -13,13 +13,13 @@ abbrev pub Line : Type 0
 Line = List ℕ
 
 -- the values, each with a blank before it
-abbrev pub behind : List (List ℕ) → List ℕ
-behind [] = []
-behind (value ∷ values) = 32 ∷ value ++ behind values
+abbrev pub fields_text : List (List ℕ) → List ℕ
+fields_text [] = []
+fields_text (value ∷ values) = 32 ∷ value ++ fields_text values
 
 -- a name and values, parted by blanks, and LF
 unfoldable pub line : List ℕ → List (List ℕ) → Line
-line name values = name ++ behind values ++ codes "\n"
+line name values = name ++ fields_text values ++ codes "\n"
 
 -- the lines' bytes, one line after another
 abbrev pub text_of : List Line → List ℕ

@@ -4,7 +4,7 @@ ghost use Rattle.life_text.specs.Picture.{picture_of};
 ghost use Rattle.life_text.specs.Rle.{reading};
 ghost use Rattle.life_answer.specs.Answers.{finding_of};
 ghost use Rattle.life_answer.specs.Census.{census_of};
-ghost use Rattle.census_blocks.specs.Known.{fallen, known_of, settled};
+ghost use Rattle.census_blocks.specs.Known.{known_parts, known_of, known_recurrence};
 
 use life_answer::{Answer, Code, Finding, Parts};
 use life_text::Pattern;
@@ -36,8 +36,8 @@ pub enum Known {
 }
 
 // What is known of a pattern that settles, by what is found of it.
-fn settled(finding: Finding) -> Option<Known>
-    ensures { result ≡ settled finding }
+fn known_recurrence(finding: Finding) -> Option<Known>
+    ensures { result ≡ known_recurrence finding }
 {
     match finding {
         Finding::Recurs {
@@ -59,8 +59,8 @@ fn settled(finding: Finding) -> Option<Known>
 }
 
 // What is known of a pattern that doesn't settle, by the objects that are found of it.
-fn fallen(finding: Finding) -> Known
-    ensures { result ≡ fallen finding }
+fn known_parts(finding: Finding) -> Known
+    ensures { result ≡ known_parts finding }
 {
     match finding {
         Finding::Ash {
@@ -80,10 +80,10 @@ fn settling(
 ) -> Result<Option<Known>, AllocError>
     requires bound { 1 ≤ bound × bound ≤ BOUND_LIMIT }
     requires meant { picture_of (reading text.now) ≡ Ok pattern.now }
-    ensures { IfOk result (λ known. known ≡ settled (finding_of pattern.now.rule pattern.now.cells bound)) }
+    ensures { IfOk result (λ known. known ≡ known_recurrence (finding_of pattern.now.rule pattern.now.cells bound)) }
 {
     match life_find::answer(alloc, text, bound, None)? {
-        Answer::Found { rule: _, finding } => Ok(settled(finding)),
+        Answer::Found { rule: _, finding } => Ok(known_recurrence(finding)),
         Answer::Refused(_) => Ok(None),
     }
 }
@@ -97,10 +97,10 @@ fn falling_apart(
 ) -> Result<Known, AllocError>
     requires bound { 1 ≤ bound × bound ≤ BOUND_LIMIT }
     requires meant { picture_of (reading text.now) ≡ Ok pattern.now }
-    ensures { IfOk result (λ known. known ≡ fallen (census_of pattern.now.rule pattern.now.cells bound)) }
+    ensures { IfOk result (λ known. known ≡ known_parts (census_of pattern.now.rule pattern.now.cells bound)) }
 {
     match life_census::answer(alloc, text, bound, None)? {
-        Answer::Found { rule: _, finding } => Ok(fallen(finding)),
+        Answer::Found { rule: _, finding } => Ok(known_parts(finding)),
         Answer::Refused(_) => Ok(Known::Unresolved),
     }
 }

@@ -2,7 +2,7 @@
 ghost use Rattle.std.specs.Prelude.{◌≡◌, ◌++◌, [], ◌∷◌, OnOk, codes, decimal, map};
 ghost use Rattle.std.specs.Fmt.{signed_decimal};
 ghost use Rattle.life_cells.specs.Rules.{rule_text};
-ghost use Rattle.census_blocks.specs.Lines.{behind, head_lines, known_lines, line, object_lines, part_line, settled_lines, text_of};
+ghost use Rattle.census_blocks.specs.Lines.{fields_text, head_lines, known_lines, line, object_lines, part_line, settled_lines, text_of};
 
 use crate::known::Known;
 use itoa::{Buffer, Integer};
@@ -89,7 +89,7 @@ pub fn push_head(
 
 // How far a pattern has moved: a blank and a number, twice.
 fn push_moves(text: &mut Vec<u8>, dx: &i32, dy: &i32) -> Result<(), AllocError>
-    ensures { OnOk result (text.new.items ≡ text.old.items ++ behind (signed_decimal dx.now ∷ signed_decimal dy.now ∷ [])) }
+    ensures { OnOk result (text.new.items ≡ text.old.items ++ fields_text (signed_decimal dx.now ∷ signed_decimal dy.now ∷ [])) }
 {
     push_number(text, *dx)?;
     push_number(text, *dy)

@@ -4,7 +4,7 @@ use Rattle.census_bundle.specs.declared.bundle.Entry.{Entry}
 use Rattle.census_bundle.specs.declared.bundle.Folder.{Folder}
 use Rattle.census_bundle.specs.declared.ticket.Ticket.{Ticket}
 use Rattle.life_answer.specs.declared.finding.Answer.{Answer}
-use Rattle.census_bundle.specs.Tickets.{Tickets, ticket, numbered, entry_at, has_ticket, with_ticket, IsTicketOf}
+use Rattle.census_bundle.specs.Tickets.{Tickets, ticket, element_at, entry_at, has_ticket, with_ticket, IsTicketOf}
 use Rattle.census_format.specs.Lines.{answer_to_entry}
 use Rattle.census_book.specs.Counts.{numbered_sum, bundle_weight, one_if, taken_count, missing_count, CountsStep}
 use Rattle.census_book.proofs.TicketSets.{has_other, has_same}
@@ -32,14 +32,14 @@ sum_step g h n i (suc k) d (y ∷ ys) x at same more is =
     let here = same i y (λ e. absurd (omega arith)) in
     omega arith
 
-number_index : {A : Type 0} (xs : List A) (d : ℕ) (x : A) → numbered xs d ≡ Some x → (k : ℕ) × (d ≡ 1 + k) × (slice_get xs k ≡ Some x)
+number_index : {A : Type 0} (xs : List A) (d : ℕ) (x : A) → element_at xs d ≡ Some x → (k : ℕ) × (d ≡ 1 + k) × (slice_get xs k ≡ Some x)
 number_index xs zero x is = absurd (cc)
 number_index xs (suc k) x is = (k, omega arith, is)
 
 -- where two weights differ at one ticket alone, by n, so do their sums
 weight_step : (w v : Ticket → Entry → ℕ) (n : ℕ) (b : List Folder) (t : Ticket) (e : Entry) → ((u : Ticket) (x : Entry) → (u ≡ t → ⊥) → v u x ≡ w u x) → v t e ≡ w t e + n → entry_at b t ≡ Some e → bundle_weight v b ≡ bundle_weight w b + n
 weight_step w v n b t e same more at =
-    let f = folder_at (numbered b t.folder) t.number e at in
+    let f = folder_at (element_at b t.folder) t.number e at in
     let j = number_index b t.folder f.0 f.1 in
     let k = number_index f.0.entries t.number e f.2 in
     let c = t.folder in

@@ -6,11 +6,11 @@ use Rattle.std.proofs.lemmas.Option.{slice_get_within}
 use Rattle.census_bundle.specs.declared.bundle.Entry.{Entry}
 use Rattle.census_bundle.specs.declared.bundle.Folder.{Folder}
 use Rattle.census_bundle.specs.declared.ticket.Ticket.{Ticket}
-use Rattle.census_bundle.specs.Tickets.{Tickets, no_tickets, numbered, entry_at, with_ticket, has_ticket, ticket}
+use Rattle.census_bundle.specs.Tickets.{Tickets, no_tickets, element_at, entry_at, with_ticket, has_ticket, ticket}
 use Rattle.census_book.specs.Front.{IsFront, IsNextOpen, run_at}
 use Rattle.census_book.specs.Collecting.{Belongs, IsLeastMissing}
 use Rattle.census_format.specs.Lines.{end_line, text_of}
-use Rattle.census_format.specs.Reports.{run_of, has_all, end_if, folder_out, out, out_of}
+use Rattle.census_format.specs.Reports.{run_of, has_all, end_if, folder_out, text_released, folder_text_released}
 use Rattle.census_book.proofs.TicketSets.{has_other, has_kept}
 use Rattle.census_book.proofs.Runs.{run_same, run_before, run_within}
 use Rattle.census_book.proofs.Missing.{least_missing}
@@ -51,7 +51,7 @@ front_new b runs first size zeros next =
     next_front b no_tickets runs runs 0 0 0 first size (λ k f at. sym (other k)) (λ k f at. other k ∙ zeros k (slice_get_within b k f at) ∙ sym (run_none (1 + k) 1 f.entries))
     (λ k lt f at. absurd (omega arith)) next
 
-numbered_before : {A : Type 0} (xs : List A) (c k : ℕ) (x : A) → k + 1 ≡ c → slice_get xs k ≡ Some x → numbered xs c ≡ Some x
+numbered_before : {A : Type 0} (xs : List A) (c k : ℕ) (x : A) → k + 1 ≡ c → slice_get xs k ≡ Some x → element_at xs c ≡ Some x
 numbered_before xs zero k x is at = absurd (omega arith)
 numbered_before xs (suc c) k x is at = let n : k ≡ c = omega arith in subst (λ m. slice_get xs m ≡ Some x) n at
 
@@ -62,7 +62,7 @@ run_other taken t c f apart =
 
 -- the runs, where one more ticket has arrived
 pub runs_with : (b : List Folder) (taken : Tickets) (runs : List ℕ) (first : ℕ) (t : Ticket) (m : ℕ) → IsFront b taken runs first
-    → ((f : Folder) → numbered b t.folder ≡ Some f → m ≡ run_of (with_ticket taken t) t.folder f)
+    → ((f : Folder) → element_at b t.folder ≡ Some f → m ≡ run_of (with_ticket taken t) t.folder f)
     → (k : ℕ) (f : Folder) → slice_get b k ≡ Some f → run_at runs t.folder m k ≡ run_of (with_ticket taken t) (1 + k) f
 runs_with b taken runs first t m front here k f at =
     let one : k + 1 ≡ 1 + k = omega arith in
@@ -80,7 +80,7 @@ runs_with b taken runs first t m front here k f at =
 
 -- what a collection whole before is afterwards
 whole_with : (b : List Folder) (taken : Tickets) (runs : List ℕ) (first : ℕ) (t : Ticket) → IsFront b taken runs first
-    → ((f : Folder) → numbered b t.folder ≡ Some f → run_of taken t.folder f ≡ length f.entries → ⊥)
+    → ((f : Folder) → element_at b t.folder ≡ Some f → run_of taken t.folder f ≡ length f.entries → ⊥)
     → (k : ℕ) → k < first → (f : Folder) → slice_get b k ≡ Some f → run_of (with_ticket taken t) (1 + k) f ≡ length f.entries
 whole_with b taken runs first t front part k lt f at =
     let one : k + 1 ≡ 1 + k = omega arith in
@@ -90,8 +90,8 @@ whole_with b taken runs first t front part k lt f at =
 -- the front, where one more ticket has arrived
 pub front_with : (b : List Folder) (taken : Tickets) (runs : List ℕ) (first next : ℕ) (t : Ticket) (m : ℕ) → IsFront b taken runs first
     → (0 < t.folder) × (t.folder ≤ length b)
-    → ((f : Folder) → numbered b t.folder ≡ Some f → m ≡ run_of (with_ticket taken t) t.folder f)
-    → ((f : Folder) → numbered b t.folder ≡ Some f → run_of taken t.folder f ≡ length f.entries → ⊥)
+    → ((f : Folder) → element_at b t.folder ≡ Some f → m ≡ run_of (with_ticket taken t) t.folder f)
+    → ((f : Folder) → element_at b t.folder ≡ Some f → run_of taken t.folder f ≡ length f.entries → ⊥)
     → IsNextOpen b runs t.folder m first next → IsFront b (with_ticket taken t) (set runs (t.folder - 1) m) next
 front_with b taken runs first next t m front within here part behind =
     let new = set runs (t.folder - 1) m in
@@ -124,7 +124,7 @@ part_front b taken runs first front apart =
     folder_here (f ∷ fs) (suc k) lt = folder_here fs k (omega arith)
 
 -- the run of a collection
-pub front_run : (b : List Folder) (taken : Tickets) (runs : List ℕ) (first c : ℕ) (f : Folder) → IsFront b taken runs first → numbered b c ≡ Some f → slice_index runs (c - 1) ≡ run_of taken c f
+pub front_run : (b : List Folder) (taken : Tickets) (runs : List ℕ) (first c : ℕ) (f : Folder) → IsFront b taken runs first → element_at b c ≡ Some f → slice_index runs (c - 1) ≡ run_of taken c f
 front_run b taken runs first zero f front at = absurd (cc)
 front_run b taken runs first (suc k) f front at =
     let one : 1 + k ≡ suc k = omega arith in
@@ -139,14 +139,14 @@ run_kept taken t c k f is j lt =
 
 -- the front after a result that belongs there
 pub front_after : (b : List Folder) (question : Question) (taken : Tickets) (runs : List ℕ) (first next : ℕ) (t : Ticket) (m : ℕ) (worked : Entry) (asked : Question) → IsFront b taken runs first → Belongs b question t worked asked → has_ticket taken t ≡ false
-    → ((f : Folder) → numbered b t.folder ≡ Some f → m ≡ run_of (with_ticket taken t) t.folder f) → IsNextOpen b runs t.folder m first next → IsFront b (with_ticket taken t) (set runs (t.folder - 1) m) next
+    → ((f : Folder) → element_at b t.folder ≡ Some f → m ≡ run_of (with_ticket taken t) t.folder f) → IsNextOpen b runs t.folder m first next → IsFront b (with_ticket taken t) (set runs (t.folder - 1) m) next
 front_after b question taken runs first next t m worked n front belongs new here behind =
-    let at = folder_at (numbered b t.folder) t.number belongs.entry belongs.at in
+    let at = folder_at (element_at b t.folder) t.number belongs.entry belongs.at in
     front_with b taken runs first next t m front (ticket_in b t belongs.entry belongs.at) here
     (λ f is whole.
     let one : Some at.0 ≡ Some f = sym at.1 ∙ is in
     let same : at.0 ≡ f = cc in
-    not_whole taken f t belongs.entry (ap (λ (g : Folder). numbered g.entries t.number) (sym same) ∙ at.2) new whole)
+    not_whole taken f t belongs.entry (ap (λ (g : Folder). element_at g.entries t.number) (sym same) ∙ at.2) new whole)
     behind
 
 -- where no collection is open, the last line
@@ -157,20 +157,20 @@ pub no_end_when : (b : List Folder) (taken : Tickets) (runs : List ℕ) (first :
 no_end_when b taken runs first front apart = ap (λ x. end_if x b) (sym (part_front b taken runs first front apart))
 
 -- the text that a result releases
-pub released_text : (b : List Folder) (question : Question) (taken : Tickets) (t : Ticket) (f : Folder) (k m : ℕ) (text ended : List ℕ) → numbered b t.folder ≡ Some f → k ≡ run_of taken t.folder f → m ≡ run_of (with_ticket taken t) t.folder f
-    → ended ≡ end_if (has_all b (with_ticket taken t)) b → text ≡ text_of (folder_out question t.folder f k m) ++ ended → text ≡ out b question taken t
+pub released_text : (b : List Folder) (question : Question) (taken : Tickets) (t : Ticket) (f : Folder) (k m : ℕ) (text ended : List ℕ) → element_at b t.folder ≡ Some f → k ≡ run_of taken t.folder f → m ≡ run_of (with_ticket taken t) t.folder f
+    → ended ≡ end_if (has_all b (with_ticket taken t)) b → text ≡ text_of (folder_out question t.folder f k m) ++ ended → text ≡ text_released b question taken t
 released_text b question taken t f k m text ended at is_k is_m is_ended is =
     let after = with_ticket taken t in
     is ∙ ap (λ x. text_of (folder_out question t.folder f k m) ++ x) is_ended
     ∙ ap (λ n. text_of (folder_out question t.folder f n m) ++ end_if (has_all b after) b) is_k
     ∙ ap (λ n. text_of (folder_out question t.folder f (run_of taken t.folder f) n) ++ end_if (has_all b after) b) is_m
-    ∙ ap (λ o. out_of question o taken t ++ end_if (has_all b after) b) (sym at)
+    ∙ ap (λ o. folder_text_released question o taken t ++ end_if (has_all b after) b) (sym at)
 
 pub same_folder : (o : Option Folder) (f g : Folder) → o ≡ Some f → o ≡ Some g → f ≡ g
 same_folder o f g one other = let both : Some f ≡ Some g = sym one ∙ other in cc
 
 -- the run that stands in the list
-pub run_read : (b : List Folder) (taken : Tickets) (runs : List ℕ) (first : ℕ) (t : Ticket) (e : Entry) (f : Folder) (k : ℕ) → IsFront b taken runs first → entry_at b t ≡ Some e → numbered b t.folder ≡ Some f
+pub run_read : (b : List Folder) (taken : Tickets) (runs : List ℕ) (first : ℕ) (t : Ticket) (e : Entry) (f : Folder) (k : ℕ) → IsFront b taken runs first → entry_at b t ≡ Some e → element_at b t.folder ≡ Some f
     → k ≡ get_or runs (t.folder - 1) k → k ≡ run_of taken t.folder f
 run_read b taken runs first t e f k front of at is =
     let w = ticket_in b t e of in

@@ -3,11 +3,11 @@ use Rattle.std.proofs.Common.{◌≡◌, ℕ, suc, ◌+◌, true, false, refl, L
 use Rattle.census_bundle.specs.declared.bundle.Folder.{Folder}
 use Rattle.census_bundle.specs.declared.ticket.Ticket.{Ticket}
 use Rattle.census_bundle.specs.declared.bundle.Entry.{Entry}
-use Rattle.census_bundle.specs.Tickets.{Tickets, ticket, numbered, entry_in, has_ticket, with_ticket}
+use Rattle.census_bundle.specs.Tickets.{Tickets, ticket, element_at, entry_in, has_ticket, with_ticket}
 use Rattle.census_book.specs.Work.{Work}
 use Rattle.census_book.specs.Collecting.{Belongs, HasCollection, IsResult}
 use Rattle.census_book.proofs.TicketSets.{new_ticket}
-use Rattle.census_format.specs.Heads.{headed, line_head, line_tail}
+use Rattle.census_format.specs.Heads.{line_with_head, line_head, line_tail}
 use Rattle.census_format.specs.Lines.{answer_to_entry, pattern_text}
 use Rattle.census_format.proofs.Fields.{headed_line}
 use Rattle.census_format.proofs.Lost.{same_answer}
@@ -50,7 +50,7 @@ own_result b question taken w t belongs new same has whole =
         ] refl
 
 -- what a result says is what the definition gives for the pattern of its ticket's number
-pub result_answer : (b : List Folder) (question : Question) (c n : ℕ) (f : Folder) (e : Entry) (w : Work) → IsResult b question (ticket c n) w → numbered b c ≡ Some f → numbered f.entries n ≡ Some e
+pub result_answer : (b : List Folder) (question : Question) (c n : ℕ) (f : Folder) (e : Entry) (w : Work) → IsResult b question (ticket c n) w → element_at b c ≡ Some f → element_at f.entries n ≡ Some e
     → answer_to_entry w.question w.entry ≡ answer_to_entry question e
 result_answer b question c n f e w is at here =
     let mine = is.belongs in
@@ -59,15 +59,15 @@ result_answer b question c n f e w is at here =
     sym (same_answer w.question mine.entry w.entry mine.same_text mine.same_loss) ∙ ap (λ asked. answer_to_entry asked mine.entry) (sym mine.same_question) ∙ ap (λ (x : Entry). answer_to_entry question x) same
 
 -- a result's head and tail make the lines of the pattern of its ticket's number
-pub result_line : (b : List Folder) (question : Question) (c n : ℕ) (f : Folder) (e : Entry) (w : Work) (head tail : List ℕ) → IsResult b question (ticket c n) w → numbered b c ≡ Some f → numbered f.entries n ≡ Some e
-    → head ≡ line_head w.ticket.folder w.ticket.number (answer_to_entry w.question w.entry) → tail ≡ line_tail w.ticket.folder w.ticket.number (answer_to_entry w.question w.entry) → headed head tail e ≡ pattern_text question c n e
+pub result_line : (b : List Folder) (question : Question) (c n : ℕ) (f : Folder) (e : Entry) (w : Work) (head tail : List ℕ) → IsResult b question (ticket c n) w → element_at b c ≡ Some f → element_at f.entries n ≡ Some e
+    → head ≡ line_head w.ticket.folder w.ticket.number (answer_to_entry w.question w.entry) → tail ≡ line_tail w.ticket.folder w.ticket.number (answer_to_entry w.question w.entry) → line_with_head head tail e ≡ pattern_text question c n e
 result_line b question c n f e w head tail is at here head_is tail_is =
     let found = result_answer b question c n f e w is at here in
-    ap (λ h. headed h tail e)
+    ap (λ h. line_with_head h tail e)
     (head_is ∙ ap (λ (t : Ticket). line_head t.folder t.number (answer_to_entry w.question w.entry)) is.own ∙ ap (line_head c n) found)
-    ∙ ap (λ t. headed (line_head c n (answer_to_entry question e)) t e)
+    ∙ ap (λ t. line_with_head (line_head c n (answer_to_entry question e)) t e)
     (tail_is ∙ ap (λ (t : Ticket). line_tail t.folder t.number (answer_to_entry w.question w.entry)) is.own ∙ ap (line_tail c n) found)
     ∙ headed_line question c n e
 
-pub numbered_next : {A : Type 0} (xs : List A) (i : ℕ) (x : A) → slice_get xs i ≡ Some x → numbered xs (i + 1) ≡ Some x
-numbered_next xs i x at = let n : suc i ≡ i + 1 = omega arith in subst (λ m. numbered xs m ≡ Some x) n at
+pub numbered_next : {A : Type 0} (xs : List A) (i : ℕ) (x : A) → slice_get xs i ≡ Some x → element_at xs (i + 1) ≡ Some x
+numbered_next xs i x at = let n : suc i ≡ i + 1 = omega arith in subst (λ m. element_at xs m ≡ Some x) n at

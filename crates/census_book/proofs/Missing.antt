@@ -7,7 +7,7 @@ use Rattle.std.specs.Ordering.{nat_cmp, ordering_then}
 use Rattle.std.specs.FinSet.{nat_cmp-IsAntisymmetric}
 use Rattle.census_bundle.specs.declared.bundle.Folder.{Folder}
 use Rattle.census_bundle.specs.declared.ticket.Ticket.{Ticket}
-use Rattle.census_bundle.specs.Tickets.{Tickets, ticket, has_ticket, numbered, entry_in, IsTicketOf, HasAll}
+use Rattle.census_bundle.specs.Tickets.{Tickets, ticket, has_ticket, element_at, entry_in, IsTicketOf, HasAll}
 use Rattle.census_format.specs.Reports.{run_of, run_from}
 use Rattle.census_book.specs.Collecting.{HasCollection, IsLeastMissing}
 use Rattle.census_book.proofs.Runs.{run_end, run_before}
@@ -17,13 +17,13 @@ use Rattle.census_book.proofs.Texts.{ticket_in}
 abbrev pub WholeBefore : List Folder → Tickets → ℕ → Type 0
 WholeBefore b taken i = (j : ℕ) → j < i → (f : Folder) → slice_get b j ≡ Some f → run_of taken (1 + j) f ≡ length f.entries
 
-whole_here : (b : List Folder) (taken : Tickets) (i c : ℕ) (f : Folder) → WholeBefore b taken i → numbered b c ≡ Some f → c ≤ i → run_of taken c f ≡ length f.entries
+whole_here : (b : List Folder) (taken : Tickets) (i c : ℕ) (f : Folder) → WholeBefore b taken i → element_at b c ≡ Some f → c ≤ i → run_of taken c f ≡ length f.entries
 whole_here b taken i zero f before at le = absurd (cc)
 whole_here b taken i (suc j) f before at le = subst (λ n. run_of taken n f ≡ length f.entries) (omega arith) (before j (omega arith) f at)
 
 taken_before : (b : List Folder) (taken : Tickets) (i : ℕ) → WholeBefore b taken i → (u : Ticket) → IsTicketOf b u → u.folder ≤ i → has_ticket taken u ≡ true
 taken_before b taken i before u of le =
-    let at = folder_at (numbered b u.folder) u.number of.0 of.1 in
+    let at = folder_at (element_at b u.folder) u.number of.0 of.1 in
     let whole = whole_here b taken i u.folder at.0 before at.1 le in
     elim (has_ticket taken u) as (λ x. has_ticket taken u ≡ x → has_ticket taken u ≡ true) [
       | true ↦ λ e. e
@@ -35,10 +35,10 @@ pub all_taken : (b : List Folder) (taken : Tickets) (i : ℕ) → WholeBefore b 
 all_taken b taken i before le t of = let w = ticket_in b t of.0 of.1 in taken_before b taken i before t of (omega (arith, w))
 
 -- a collection whose run is all of it has arrived whole
-pub run_collection : (b : List Folder) (taken : Tickets) (c : ℕ) (f : Folder) → numbered b c ≡ Some f → run_of taken c f ≡ length f.entries → HasCollection b taken c
+pub run_collection : (b : List Folder) (taken : Tickets) (c : ℕ) (f : Folder) → element_at b c ≡ Some f → run_of taken c f ≡ length f.entries → HasCollection b taken c
 run_collection b taken c f at whole t of own =
-    let g = folder_at (numbered b t.folder) t.number of.0 of.1 in
-    let one : Some g.0 ≡ Some f = sym g.1 ∙ ap (numbered b) own ∙ at in
+    let g = folder_at (element_at b t.folder) t.number of.0 of.1 in
+    let one : Some g.0 ≡ Some f = sym g.1 ∙ ap (element_at b) own ∙ at in
     let same : g.0 ≡ f = cc in
     let is : run_of taken t.folder g.0 ≡ length g.0.entries = ap (λ n. run_of taken n g.0) own ∙ ap (run_of taken c) same ∙ whole ∙ ap (λ (x : Folder). length x.entries) (sym same) in
     elim (has_ticket taken t) as (λ x. has_ticket taken t ≡ x → x ≡ true) [
@@ -73,7 +73,7 @@ least_missing b taken i k f before at is lt =
           (λ same.
           let c = nat_cmp-IsAntisymmetric u.folder (suc i) same.0 in
           let n = nat_less u.number (suc k) same.1 in
-          let g = folder_at (numbered b u.folder) u.number of.0 of.1 in
+          let g = folder_at (element_at b u.folder) u.number of.0 of.1 in
           let pos = numbered_bounds g.0.entries u.number of.0 g.2 in
           let has : p (1 + (u.number - 1)) ≡ true = run_before p 1 f.entries (u.number - 1) (omega (arith, pos)) in
           let m : 1 + (u.number - 1) ≡ u.number = omega (arith, pos) in

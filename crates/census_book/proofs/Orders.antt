@@ -4,27 +4,27 @@ use Rattle.census_bundle.specs.declared.bundle.Folder.{Folder}
 use Rattle.census_bundle.specs.declared.ticket.Ticket.{Ticket}
 use Rattle.census_bundle.specs.declared.bundle.Entry.{Entry}
 use Rattle.census_bundle.specs.Tickets.{Tickets, no_tickets, with_ticket, entry_at, IsTicketOf}
-use Rattle.census_format.specs.Reports.{start, out}
+use Rattle.census_format.specs.Reports.{text_at_start, text_released}
 use Rattle.census_book.specs.Released.{IsReleased}
 use Rattle.census_book.specs.declared.offer.Offer.{Offer}
 use Rattle.census_book.specs.declared.offer.Offer.TheVariants.{Stranger, Double, Taken}
 use Rattle.census_book.specs.Collecting.{Offered}
-use Rattle.census_book.specs.Orders.{AreNew, outs, with_all, OrdersAreLawful, OfferedAll, ArrivalsAreLawful}
-use Rattle.census_book.specs.Progress.{Progress, started}
+use Rattle.census_book.specs.Orders.{AreNew, texts_released, with_all, OrdersAreLawful, OfferedAll, ArrivalsAreLawful}
+use Rattle.census_book.specs.Progress.{Progress, initial_progress}
 use Rattle.census_book.specs.Work.{Work}
 use Rattle.census_book.proofs.Releases.{released_start, released_more, released_front, released_whole}
 use Rattle.life_answer.specs.declared.question.Question.{Question}
 
-released_all : (b : List Folder) (question : Question) (taken : Tickets) (text : List ℕ) (ts : List Ticket) → IsReleased b question taken text → AreNew b taken ts → IsReleased b question (with_all taken ts) (text ++ outs b question taken ts)
+released_all : (b : List Folder) (question : Question) (taken : Tickets) (text : List ℕ) (ts : List Ticket) → IsReleased b question taken text → AreNew b taken ts → IsReleased b question (with_all taken ts) (text ++ texts_released b question taken ts)
 released_all b question taken text [] released new = subst (IsReleased b question taken) (sym (append-nil text)) released
 released_all b question taken text (t ∷ ts) released new =
-    subst (IsReleased b question (with_all (with_ticket taken t) ts)) (append_assoc text (out b question taken t) (outs b question (with_ticket taken t) ts))
-    (released_all b question (with_ticket taken t) (text ++ out b question taken t) ts (released_more b question taken text t released new.0 new.1) new.2)
+    subst (IsReleased b question (with_all (with_ticket taken t) ts)) (append_assoc text (text_released b question taken t) (texts_released b question (with_ticket taken t) ts))
+    (released_all b question (with_ticket taken t) (text ++ text_released b question taken t) ts (released_more b question taken text t released new.0 new.1) new.2)
 
 pub orders_are_lawful : OrdersAreLawful
 orders_are_lawful b question ts new =
-    let whole = start b question ++ outs b question no_tickets ts in
-    let released = released_all b question no_tickets (start b question) ts (released_start b question) new in (
+    let whole = text_at_start b question ++ texts_released b question no_tickets ts in
+    let released = released_all b question no_tickets (text_at_start b question) ts (released_start b question) new in (
       released_front b question (with_all no_tickets ts) whole [] (subst (IsReleased b question (with_all no_tickets ts)) (sym (append-nil whole)) released),
       λ all. released_whole b question (with_all no_tickets ts) whole released all,
     )
@@ -41,8 +41,8 @@ way_step b question p q t worked n Double way offered = subst (IsUnderWay b ques
 way_step b question p q t worked n Taken way offered =
     let belongs = offered.0.0 in
     let of : IsTicketOf b t = (belongs.entry, ap (λ fs. entry_at fs t) (sym way.same_bundle) ∙ belongs.at) in
-    let more : IsReleased b question (with_ticket p.taken t) (p.unsent ++ out b question p.taken t) = released_more b question p.taken p.unsent t way.released of offered.0.1 in
-    let told : out b question p.taken t ≡ out p.bundle p.question p.taken t = ap (λ fs. out fs question p.taken t) (sym way.same_bundle) ∙ ap (λ m. out p.bundle m p.taken t) (sym way.same_question) in
+    let more : IsReleased b question (with_ticket p.taken t) (p.unsent ++ text_released b question p.taken t) = released_more b question p.taken p.unsent t way.released of offered.0.1 in
+    let told : text_released b question p.taken t ≡ text_released p.bundle p.question p.taken t = ap (λ fs. text_released fs question p.taken t) (sym way.same_bundle) ∙ ap (λ m. text_released p.bundle m p.taken t) (sym way.same_question) in
     subst (IsUnderWay b question) (sym offered.1) (record {
       same_bundle = way.same_bundle;
       same_question = way.same_question;
@@ -55,7 +55,7 @@ way_all b question p r (w ∷ ws) way all = way_all b question all.0 r ws (way_s
 
 pub arrivals_are_lawful : ArrivalsAreLawful
 arrivals_are_lawful b question ws p all =
-    let way = way_all b question (started b question) p ws (record { same_bundle = refl; same_question = refl; released = released_start b question }) all in (
+    let way = way_all b question (initial_progress b question) p ws (record { same_bundle = refl; same_question = refl; released = released_start b question }) all in (
       released_front b question p.taken p.unsent [] (subst (IsReleased b question p.taken) (sym (append-nil p.unsent)) way.released),
       λ whole. released_whole b question p.taken p.unsent way.released whole,
     )

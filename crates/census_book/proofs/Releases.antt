@@ -9,10 +9,10 @@ use Rattle.std.specs.FinSet.{contains-empty}
 use Rattle.census_bundle.specs.declared.bundle.Entry.{Entry}
 use Rattle.census_bundle.specs.declared.bundle.Folder.{Folder}
 use Rattle.census_bundle.specs.declared.ticket.Ticket.{Ticket}
-use Rattle.census_bundle.specs.Tickets.{Tickets, ticket, ticket_cmp, no_tickets, with_ticket, has_ticket, numbered, entry_in, IsTicketOf, HasAll}
+use Rattle.census_bundle.specs.Tickets.{Tickets, ticket, ticket_cmp, no_tickets, with_ticket, has_ticket, element_at, entry_in, IsTicketOf, HasAll}
 use Rattle.census_format.specs.Lines.{Line, text_of, open_line, end_line, pattern_lines, pattern_count}
-use Rattle.census_format.specs.Reports.{IsReport, IsReportFront, start, out, out_of, folder_out, lines_of, owned_text, closing, closing_if, end_if, opening, run_of, run_from, all_from, has_all, section_of, folder_section}
-use Rattle.census_book.specs.Released.{IsReleased, shown, shown_of, shown_lines}
+use Rattle.census_format.specs.Reports.{IsReport, IsReportFront, text_at_start, text_released, folder_text_released, folder_out, lines_of, owned_text, closing, closing_if, end_if, opening, run_of, run_from, all_from, has_all, section_of, folder_section}
+use Rattle.census_book.specs.Released.{IsReleased, lines_released, shown_of, shown_lines}
 use Rattle.census_book.proofs.TicketSets.{has_other, has_kept}
 use Rattle.census_book.proofs.Runs.{run_grows, run_same, run_whole, run_all}
 use Rattle.census_format.proofs.Owning.{own, gathered, given, eqb_same, eqb_apart, lines_of-append, lines_of-own, lines_of-other, owned_text-append, owned_text-own, lines_of-gathered}
@@ -31,11 +31,11 @@ length-pattern_lines question c i [] = refl
 length-pattern_lines question c i (e ∷ es) = ap suc (length-pattern_lines question c (suc i) es)
 
 -- the folder of a pattern
-pub folder_at : (o : Option Folder) (i : ℕ) (e : Entry) → entry_in o i ≡ Some e → (f : Folder) × (o ≡ Some f) × (numbered f.entries i ≡ Some e)
+pub folder_at : (o : Option Folder) (i : ℕ) (e : Entry) → entry_in o i ≡ Some e → (f : Folder) × (o ≡ Some f) × (element_at f.entries i ≡ Some e)
 folder_at None i e is = absurd (cc)
 folder_at (Some f) i e is = (f, refl, is)
 
-pub numbered_bounds : {A : Type 0} (xs : List A) (i : ℕ) (x : A) → numbered xs i ≡ Some x → (0 < i) × (i ≤ length xs)
+pub numbered_bounds : {A : Type 0} (xs : List A) (i : ℕ) (x : A) → element_at xs i ≡ Some x → (0 < i) × (i ≤ length xs)
 numbered_bounds xs zero x is = absurd (cc)
 numbered_bounds xs (suc i) x is = let w = slice_get_within xs i x is in (omega arith, omega arith)
 
@@ -43,7 +43,7 @@ passes : Tickets → ℕ → ℕ → Bool
 passes taken c i = has_ticket taken (ticket c i)
 
 -- a collection one of whose tickets is missing has not arrived whole
-pub not_whole : (taken : Tickets) (f : Folder) (t : Ticket) (e : Entry) → numbered f.entries t.number ≡ Some e → has_ticket taken t ≡ false → run_of taken t.folder f ≡ length f.entries → ⊥
+pub not_whole : (taken : Tickets) (f : Folder) (t : Ticket) (e : Entry) → element_at f.entries t.number ≡ Some e → has_ticket taken t ≡ false → run_of taken t.folder f ≡ length f.entries → ⊥
 not_whole taken f t e at not whole =
     let b = numbered_bounds f.entries t.number e at in
     let has = run_whole (λ i. has_ticket taken (ticket t.folder i)) 1 f.entries whole (t.number - 1) (omega (arith, b)) in
@@ -148,10 +148,10 @@ none_all c (f ∷ fs) =
     ap (λ n. eqb n (length f.entries) && all_from no_tickets (suc c) fs) (run_none c 1 f.entries)
     ∙ none_here (length f.entries) (pattern_count fs) _ (none_all (suc c) fs)
 
-pub released_start : (b : List Folder) (question : Question) → IsReleased b question no_tickets (start b question)
+pub released_start : (b : List Folder) (question : Question) → IsReleased b question no_tickets (text_at_start b question)
 released_start b question = record {
   lines = gathered (opened question) 1 b;
-  sections = λ d. lines_of-gathered (opened question) d b ∙ opened_shown question d (numbered b d);
+  sections = λ d. lines_of-gathered (opened question) d b ∙ opened_shown question d (element_at b d);
   whole = ap (λ xs. xs ++ end_if (eqb (pattern_count b) 0) b) (opening_owned question 1 b) ∙ ap (λ x. owned_text (gathered (opened question) 1 b) ++ end_if x b) (sym (none_all 1 b));
 }
 
@@ -161,13 +161,13 @@ shown_other question d taken t None other = refl
 shown_other question d taken t (Some f) other =
     ap (shown_lines question d f) (run_same (λ i. has_ticket taken (ticket d i)) (λ i. has_ticket (with_ticket taken t) (ticket d i)) (λ j. sym (has_other taken t (ticket d j) (λ e. other (sym (ap (λ (u : Ticket). u.folder) e))))) 1 f.entries)
 
-not_all_with : (b : List Folder) (taken : Tickets) (c : ℕ) (f : Folder) → numbered b c ≡ Some f → (run_of taken c f ≡ length f.entries → ⊥) → has_all b taken ≡ false
+not_all_with : (b : List Folder) (taken : Tickets) (c : ℕ) (f : Folder) → element_at b c ≡ Some f → (run_of taken c f ≡ length f.entries → ⊥) → has_all b taken ≡ false
 not_all_with b taken zero f at part = absurd (cc)
 not_all_with b taken (suc j) f at part = all_not taken (suc j) 1 j b f (omega arith) at part
 
-pub released_more : (b : List Folder) (question : Question) (taken : Tickets) (text : List ℕ) (t : Ticket) → IsReleased b question taken text → IsTicketOf b t → has_ticket taken t ≡ false → IsReleased b question (with_ticket taken t) (text ++ out b question taken t)
+pub released_more : (b : List Folder) (question : Question) (taken : Tickets) (text : List ℕ) (t : Ticket) → IsReleased b question taken text → IsTicketOf b t → has_ticket taken t ≡ false → IsReleased b question (with_ticket taken t) (text ++ text_released b question taken t)
 released_more b question taken text t released of not =
-    let at = folder_at (numbered b t.folder) t.number of.0 of.1 in
+    let at = folder_at (element_at b t.folder) t.number of.0 of.1 in
     let f = at.0 in
     let c = t.folder in
     let after = with_ticket taken t in
@@ -177,7 +177,7 @@ released_more b question taken text t released of not =
     let part : k ≡ length f.entries → ⊥ = not_whole taken f t of.0 at.2 not in
     let more = folder_out question c f k m in
     let parted : has_all b taken ≡ false = not_all_with b taken c f at.1 part in
-    let given_out : out b question taken t ≡ text_of more ++ end_if (has_all b after) b = ap (λ o. out_of question o taken t ++ end_if (has_all b after) b) at.1 in
+    let given_out : text_released b question taken t ≡ text_of more ++ end_if (has_all b after) b = ap (λ o. folder_text_released question o taken t ++ end_if (has_all b after) b) at.1 in
     record {
       lines = released.lines ++ own c more;
       sections = λ d.
@@ -185,18 +185,18 @@ released_more b question taken text t released of not =
           lines_of-append d released.lines (own c more)
           ∙ ap (λ xs. lines_of d released.lines ++ xs) (lines_of-own c d more same)
           ∙ ap (λ xs. xs ++ more) (released.sections d)
-          ∙ ap (λ n. shown b question taken n ++ more) (sym same)
+          ∙ ap (λ n. lines_released b question taken n ++ more) (sym same)
           ∙ ap (λ o. shown_of question c o taken ++ more) at.1
           ∙ shown_step question c f k m grows part
           ∙ ap (λ o. shown_of question c o after) (sym at.1)
-          ∙ ap (λ n. shown b question after n) same) (λ other.
+          ∙ ap (λ n. lines_released b question after n) same) (λ other.
           lines_of-append d released.lines (own c more)
           ∙ ap (λ xs. lines_of d released.lines ++ xs) (lines_of-other c d more other)
           ∙ append-nil (lines_of d released.lines)
           ∙ released.sections d
-          ∙ shown_other question d taken t (numbered b d) other);
+          ∙ shown_other question d taken t (element_at b d) other);
       whole =
-          ap (λ xs. xs ++ out b question taken t) (released.whole ∙ ap (λ x. owned_text released.lines ++ end_if x b) parted ∙ append-nil (owned_text released.lines))
+          ap (λ xs. xs ++ text_released b question taken t) (released.whole ∙ ap (λ x. owned_text released.lines ++ end_if x b) parted ∙ append-nil (owned_text released.lines))
           ∙ ap (λ xs. owned_text released.lines ++ xs) given_out
           ∙ sym (append_assoc (owned_text released.lines) (text_of more) (end_if (has_all b after) b))
           ∙ ap (λ xs. (owned_text released.lines ++ xs) ++ end_if (has_all b after) b) (sym (owned_text-own c more))
@@ -212,14 +212,14 @@ section_shown : (question : Question) (d : ℕ) (taken : Tickets) (o : Option Fo
 section_shown question d taken None all = refl
 section_shown question d taken (Some f) all = shown_all question d f (run_of taken d f) (all f refl)
 
-whole_at : (b : List Folder) (taken : Tickets) (d : ℕ) (f : Folder) → has_all b taken ≡ true → numbered b d ≡ Some f → run_of taken d f ≡ length f.entries
+whole_at : (b : List Folder) (taken : Tickets) (d : ℕ) (f : Folder) → has_all b taken ≡ true → element_at b d ≡ Some f → run_of taken d f ≡ length f.entries
 whole_at b taken zero f all at = absurd (cc)
 whole_at b taken (suc j) f all at = all_at taken (suc j) 1 j b f (omega arith) at all
 
 report_when : (b : List Folder) (question : Question) (taken : Tickets) (text : List ℕ) → IsReleased b question taken text → has_all b taken ≡ true → IsReport b question text
 report_when b question taken text released all = record {
   lines = released.lines;
-  sections = λ d. released.sections d ∙ section_shown question d taken (numbered b d) (λ f at. whole_at b taken d f all at);
+  sections = λ d. released.sections d ∙ section_shown question d taken (element_at b d) (λ f at. whole_at b taken d f all at);
   whole = released.whole ∙ ap (λ x. owned_text released.lines ++ end_if x b) all;
 }
 
@@ -253,8 +253,8 @@ released_front b question taken text rest released =
               sections = λ d.
                   lines_of-append d released.lines hidden
                   ∙ ap (λ xs. xs ++ lines_of d hidden) (released.sections d)
-                  ∙ ap (λ xs. shown b question taken d ++ xs) (lines_of-gathered (λ c f. hidden_lines question c f (run_of taken c f)) d b)
-                  ∙ completed question d taken (numbered b d);
+                  ∙ ap (λ xs. lines_released b question taken d ++ xs) (lines_of-gathered (λ c f. hidden_lines question c f (run_of taken c f)) d b)
+                  ∙ completed question d taken (element_at b d);
               whole =
                   sym (append_assoc text rest (owned_text hidden ++ end_line b))
                   ∙ ap (λ xs. xs ++ (owned_text hidden ++ end_line b)) shown_text

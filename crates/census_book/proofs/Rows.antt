@@ -12,9 +12,9 @@ use Rattle.std.specs.Ordering.{eq_by_cmp, is_eq}
 use Rattle.census_bundle.specs.declared.bundle.Entry.{Entry}
 use Rattle.census_bundle.specs.declared.bundle.Folder.{Folder}
 use Rattle.census_bundle.specs.declared.ticket.Ticket.{Ticket}
-use Rattle.census_bundle.specs.Tickets.{IsTicketOf, entry_at, entry_in, folder_of, has_ticket, no_tickets, number_of, numbered, ticket, ticket_cmp, tickets_of, with_ticket}
+use Rattle.census_bundle.specs.Tickets.{IsTicketOf, entry_at, entry_in, folder_of, has_ticket, no_tickets, number_of, element_at, ticket, ticket_cmp, tickets_of, with_ticket}
 use Rattle.census_book.specs.Collecting.{Belongs, HasCollection, IsResult}
-use Rattle.census_book.specs.Slots.{Row, Taking, HasSlot, IsFull, KeepsResults, dropped, empty_slots, held, result_at, row_tickets, rows_tickets, slot_at, slot_in, taken_in, taking_at, with_result, without_results}
+use Rattle.census_book.specs.Slots.{Row, Taking, HasSlot, IsFull, KeepsResults, dropped, empty_slots, work_in, result_at, row_tickets, rows_tickets, work_at, slot_in, taken_in, taking_at, with_result, without_results}
 use Rattle.census_book.specs.Work.{Work}
 use Rattle.census_book.proofs.Kept.{result_at_own}
 use Rattle.census_book.proofs.Padding.{held_dropped, held_map, none_in}
@@ -47,7 +47,7 @@ row_other test c i (None ∷ row) none = row_other test c (suc i) row (λ j le. 
 row_other test c i (Some w ∷ row) none =
     ap (λ b. b || list_any test (row_tickets c (suc i) row)) (none i (omega arith)) ∙ row_other test c (suc i) row (λ j le. none j (omega arith))
 
-row_from : (q : Ticket) (c i j : ℕ) (row : Row) → q.folder ≡ c → q.number ≡ i + j → list_any (eq_by_cmp ticket_cmp q) (row_tickets c i row) ≡ is_some (held (slice_get row j))
+row_from : (q : Ticket) (c i j : ℕ) (row : Row) → q.folder ≡ c → q.number ≡ i + j → list_any (eq_by_cmp ticket_cmp q) (row_tickets c i row) ≡ is_some (work_in (slice_get row j))
 row_from q c i j [] p n = refl
 row_from q c i zero (None ∷ row) p n =
     row_other (eq_by_cmp ticket_cmp q) c (suc i) row (λ k le. apart q (ticket c k) (λ e. let same : q.number ≡ k = ap number_of e in absurd (omega arith)))
@@ -59,7 +59,7 @@ row_from q c i (suc j) (Some w ∷ row) p n =
     ap (λ b. b || list_any (eq_by_cmp ticket_cmp q) (row_tickets c (suc i) row)) (apart q (ticket c i) (λ e. let same : q.number ≡ i = ap number_of e in absurd (omega arith)))
     ∙ row_from q c (suc i) j row p (omega (arith, n))
 
-row_at : (c n : ℕ) (row : Row) → list_any (eq_by_cmp ticket_cmp (ticket c n)) (row_tickets c 1 row) ≡ is_some (slot_at row n)
+row_at : (c n : ℕ) (row : Row) → list_any (eq_by_cmp ticket_cmp (ticket c n)) (row_tickets c 1 row) ≡ is_some (work_at row n)
 row_at c zero row = row_other (eq_by_cmp ticket_cmp (ticket c 0)) c 1 row (λ k le. apart (ticket c 0) (ticket c k) (λ e. let same : 0 ≡ k = ap number_of e in absurd (omega arith)))
 row_at c (suc j) row = row_from (ticket c (suc j)) c 1 j row refl (omega arith)
 
@@ -77,7 +77,7 @@ rows_from d n c zero (row ∷ rows) e =
     list_any-append (eq_by_cmp ticket_cmp (ticket d n)) (row_tickets c 1 row) (rows_tickets (suc c) rows)
     ∙ ap (λ b. list_any (eq_by_cmp ticket_cmp (ticket d n)) (row_tickets c 1 row) || b) (rows_other (ticket d n) (suc c) rows (omega (arith, here)))
     ∙ or_none _
-    ∙ subst (λ x. list_any (eq_by_cmp ticket_cmp (ticket d n)) (row_tickets x 1 row) ≡ is_some (slot_at row n)) here (row_at d n row)
+    ∙ subst (λ x. list_any (eq_by_cmp ticket_cmp (ticket d n)) (row_tickets x 1 row) ≡ is_some (work_at row n)) here (row_at d n row)
 rows_from d n c (suc j) (row ∷ rows) e =
     list_any-append (eq_by_cmp ticket_cmp (ticket d n)) (row_tickets c 1 row) (rows_tickets (suc c) rows)
     ∙ ap (λ b. b || list_any (eq_by_cmp ticket_cmp (ticket d n)) (rows_tickets (suc c) rows)) (row_other (eq_by_cmp ticket_cmp (ticket d n)) c 1 row (λ k le. apart (ticket d n) (ticket c k) (λ s. let same : d ≡ c = ap folder_of s in absurd (omega arith))))
@@ -105,20 +105,20 @@ cond_no b x y z is e = e ∙ ap (λ c. cond c x y) (sym is)
 cond_yes : {A : Type 0} (b : Bool) (x y z : A) → b ≡ true → z ≡ x → z ≡ cond b x y
 cond_yes b x y z is e = e ∙ ap (λ c. cond c x y) (sym is)
 
-slot_put : (row : Row) (c m n : ℕ) (w : Taking) → m < length row → slot_at (set row m (Some w)) n ≡ cond (eq_by_cmp ticket_cmp (ticket c (suc m)) (ticket c n)) (Some w) (slot_at row n)
+slot_put : (row : Row) (c m n : ℕ) (w : Taking) → m < length row → work_at (set row m (Some w)) n ≡ cond (eq_by_cmp ticket_cmp (ticket c (suc m)) (ticket c n)) (Some w) (work_at row n)
 slot_put row c m zero w lt = cond_no _ _ _ _ (apart (ticket c (suc m)) (ticket c 0) (λ e. let same : suc m ≡ 0 = ap number_of e in absurd (omega arith))) refl
 slot_put row c m (suc i) w lt = at (same_or_not i m)
   where
-    at : (i ≡ m) ⊎ (i ≡ m → ⊥) → held (slice_get (set row m (Some w)) i) ≡ cond (eq_by_cmp ticket_cmp (ticket c (suc m)) (ticket c (suc i))) (Some w) (held (slice_get row i))
+    at : (i ≡ m) ⊎ (i ≡ m → ⊥) → work_in (slice_get (set row m (Some w)) i) ≡ cond (eq_by_cmp ticket_cmp (ticket c (suc m)) (ticket c (suc i))) (Some w) (work_in (slice_get row i))
     at (inl is) =
         cond_yes _ _ _ _ (tied (ticket c (suc m)) (ticket c (suc i)) refl (ap suc (sym is)))
-        (ap (λ j. held (slice_get (set row m (Some w)) j)) is ∙ ap held (get_set_same row m (Some w) lt))
+        (ap (λ j. work_in (slice_get (set row m (Some w)) j)) is ∙ ap work_in (get_set_same row m (Some w) lt))
     at (inr not) =
         cond_no _ _ _ _ (apart (ticket c (suc m)) (ticket c (suc i)) (λ e. let same : suc m ≡ suc i = ap number_of e in not (omega arith)))
-        (ap held (get_set_other row m i (Some w) not))
+        (ap work_in (get_set_other row m i (Some w) not))
 
 row_put : (rows : List Row) (k m d n : ℕ) (row : Row) (w : Taking) → slice_get rows k ≡ Some row → m < length row
-    → slot_in (numbered (set rows k (set row m (Some w))) d) n ≡ cond (eq_by_cmp ticket_cmp (ticket (suc k) (suc m)) (ticket d n)) (Some w) (slot_in (numbered rows d) n)
+    → slot_in (element_at (set rows k (set row m (Some w))) d) n ≡ cond (eq_by_cmp ticket_cmp (ticket (suc k) (suc m)) (ticket d n)) (Some w) (slot_in (element_at rows d) n)
 row_put rows k m zero n row w at lt = cond_no _ _ _ _ (apart (ticket (suc k) (suc m)) (ticket 0 n) (λ e. let same : suc k ≡ 0 = ap folder_of e in absurd (omega arith))) refl
 row_put rows k m (suc j) n row w at lt = here (same_or_not j k)
   where
@@ -128,7 +128,7 @@ row_put rows k m (suc j) n row w at lt = here (same_or_not j k)
         let old = ap (slice_get rows) is ∙ at in
         ap (λ o. slot_in o n) new
         ∙ slot_put row (suc k) m n w lt
-        ∙ ap (λ c. cond (eq_by_cmp ticket_cmp (ticket (suc k) (suc m)) (ticket (suc c) n)) (Some w) (slot_at row n)) (sym is)
+        ∙ ap (λ c. cond (eq_by_cmp ticket_cmp (ticket (suc k) (suc m)) (ticket (suc c) n)) (Some w) (work_at row n)) (sym is)
         ∙ ap (λ o. cond (eq_by_cmp ticket_cmp (ticket (suc k) (suc m)) (ticket (suc j) n)) (Some w) (slot_in o n)) (sym old)
     here (inr not) =
         cond_no _ _ _ _ (apart (ticket (suc k) (suc m)) (ticket (suc j) n) (λ e. let same : suc k ≡ suc j = ap folder_of e in not (omega arith)))
@@ -164,13 +164,13 @@ tickets_put rows w has =
 pub has_slot : (b : List Folder) (question : Question) (rows : List Row) (t : Ticket) (e : Entry) → KeepsResults b question rows → entry_at b t ≡ Some e → HasSlot rows t
 has_slot b question rows t e keeps at = slot t.folder t.number at
   where
-    in_row : (k i : ℕ) (f : Folder) (row : Row) → slice_get rows k ≡ Some row → length row ≡ length f.entries → numbered f.entries i ≡ Some e → HasSlot rows (ticket (suc k) i)
+    in_row : (k i : ℕ) (f : Folder) (row : Row) → slice_get rows k ≡ Some row → length row ≡ length f.entries → element_at f.entries i ≡ Some e → HasSlot rows (ticket (suc k) i)
     in_row k zero f row here len is = absurd (cc)
     in_row k (suc m) f row here len is =
         let lt : m < length f.entries = slice_get_within f.entries m e is in
         (row, here, omega arith, omega (arith, lt, len))
 
-    slot : (c i : ℕ) → entry_in (numbered b c) i ≡ Some e → HasSlot rows (ticket c i)
+    slot : (c i : ℕ) → entry_in (element_at b c) i ≡ Some e → HasSlot rows (ticket c i)
     slot zero i is = absurd (cc)
     slot (suc k) i is =
         elim (slice_get b k) as (λ o. slice_get b k ≡ o → entry_in o i ≡ Some e → HasSlot rows (ticket (suc k) i)) [
@@ -187,12 +187,12 @@ keeps_put b question rows w keeps belongs =
           let kept = keeps.slots k f at in
           slots k (length f.entries) kept.0 kept.1 kept.2;
       results = λ q v at.
-          elim (eq_by_cmp ticket_cmp w.ticket q) as (λ x. eq_by_cmp ticket_cmp w.ticket q ≡ x → held (cond x (Some (Some w)) (taking_at rows q)) ≡ Some v → IsResult b question q v) [
+          elim (eq_by_cmp ticket_cmp w.ticket q) as (λ x. eq_by_cmp ticket_cmp w.ticket q ≡ x → work_in (cond x (Some (Some w)) (taking_at rows q)) ≡ Some v → IsResult b question q v) [
             | true ↦ λ is here.
                 let same : w ≡ v = cc in
                 subst (IsResult b question q) same (result_at_own b question q w (one_ticket w.ticket q is) belongs)
             | false ↦ λ _ there. keeps.results q v there
-          ] refl (ap held (sym (result_put rows w q has)) ∙ at);
+          ] refl (ap work_in (sym (result_put rows w q has)) ∙ at);
       whole = λ q at u of same.
           elim (eq_by_cmp ticket_cmp w.ticket q) as (λ x. cond x (Some (Some w)) (taking_at rows q) ≡ Some None → is_some (taking_at (with_result rows w) u) ≡ true) [
             | true ↦ λ here. absurd (cc)
@@ -216,7 +216,7 @@ keeps_put b question rows w keeps belongs =
             )
         by (inr not) = (row, get_set_other rows (w.ticket.folder - 1) k _ not ∙ here, len)
 
-slot_empty : (n i : ℕ) → slot_at (replicate n None) i ≡ None
+slot_empty : (n i : ℕ) → work_at (replicate n None) i ≡ None
 slot_empty n zero = refl
 slot_empty n (suc i) = none_in n i
 
@@ -229,7 +229,7 @@ rows_empty (f ∷ b) (suc k) i = rows_empty b k i
 pub result_empty : (b : List Folder) (t : Ticket) → taking_at (empty_slots b) t ≡ None
 result_empty b t = at t.folder t.number
   where
-    at : (c i : ℕ) → slot_in (numbered (empty_slots b) c) i ≡ None
+    at : (c i : ℕ) → slot_in (element_at (empty_slots b) c) i ≡ None
     at zero i = refl
     at (suc k) i = rows_empty b k i
 
@@ -256,7 +256,7 @@ empty_row (g ∷ b) (suc k) f at = empty_row b k f at
 pub keeps_empty : (b : List Folder) (question : Question) → KeepsResults b question (empty_slots b)
 keeps_empty b question = record {
   slots = empty_row b;
-  results = λ t w at. absurd (let none = ap held (result_empty b t) in cc);
+  results = λ t w at. absurd (let none = ap work_in (result_empty b t) in cc);
   whole = λ t at u of same. absurd (let none = result_empty b t in cc);
 }
 
@@ -274,7 +274,7 @@ rows_dropped c (row ∷ rows) (suc k) = ap (λ ts. row_tickets c 1 row ++ ts) (r
 pub tickets_dropped : (rows : List Row) (c : ℕ) → taken_in (without_results rows c) ≡ taken_in rows
 tickets_dropped rows c = ap tickets_of (rows_dropped 1 rows (c - 1))
 
-slot_dropped : (row : Row) (i : ℕ) → slot_at (map dropped row) i ≡ dropped (slot_at row i)
+slot_dropped : (row : Row) (i : ℕ) → work_at (map dropped row) i ≡ dropped (work_at row i)
 slot_dropped row zero = refl
 slot_dropped row (suc i) = held_map dropped refl row i
 
@@ -287,7 +287,7 @@ dropped_here (row ∷ rows) (suc k) i = dropped_here rows k i
 taking_dropped : (rows : List Row) (c : ℕ) (t : Ticket) → 0 < c → t.folder ≡ c → taking_at (without_results rows c) t ≡ dropped (taking_at rows t)
 taking_dropped rows c t pos own = at t.folder own
   where
-    at : (d : ℕ) → d ≡ c → slot_in (numbered (without_results rows c) d) t.number ≡ dropped (slot_in (numbered rows d) t.number)
+    at : (d : ℕ) → d ≡ c → slot_in (element_at (without_results rows c) d) t.number ≡ dropped (slot_in (element_at rows d) t.number)
     at zero e = absurd (omega arith)
     at (suc j) e =
         let k : j ≡ c - 1 = omega arith in
@@ -297,7 +297,7 @@ taking_dropped rows c t pos own = at t.folder own
 taking_other : (rows : List Row) (c : ℕ) (t : Ticket) → 0 < c → (t.folder ≡ c → ⊥) → taking_at (without_results rows c) t ≡ taking_at rows t
 taking_other rows c t pos apart = at t.folder apart
   where
-    at : (d : ℕ) → (d ≡ c → ⊥) → slot_in (numbered (without_results rows c) d) t.number ≡ slot_in (numbered rows d) t.number
+    at : (d : ℕ) → (d ≡ c → ⊥) → slot_in (element_at (without_results rows c) d) t.number ≡ slot_in (element_at rows d) t.number
     at zero ne = refl
     at (suc j) ne = ap (λ o. slot_in o t.number) (get_set_other rows (c - 1) j (map dropped (get_or rows (c - 1) [])) (λ e. ne (omega arith)))
 
@@ -326,8 +326,8 @@ keeps_dropped b question rows c keeps pos whole = record {
     alike u = sym (has_result (without_results rows c) u) ∙ ap (λ ts. has_ticket ts u) (tickets_dropped rows c) ∙ has_result rows u
 
     by : (t : Ticket) (w : Work) → result_at (without_results rows c) t ≡ Some w → (t.folder ≡ c) ⊎ (t.folder ≡ c → ⊥) → IsResult b question t w
-    by t w at (inl own) = absurd (let none = ap held (taking_dropped rows c t pos own) ∙ held_dropped (taking_at rows t) in cc)
-    by t w at (inr apart) = keeps.results t w (ap held (sym (taking_other rows c t pos apart)) ∙ at)
+    by t w at (inl own) = absurd (let none = ap work_in (taking_dropped rows c t pos own) ∙ held_dropped (taking_at rows t) in cc)
+    by t w at (inr apart) = keeps.results t w (ap work_in (sym (taking_other rows c t pos apart)) ∙ at)
 
     full : (t : Ticket) → taking_at (without_results rows c) t ≡ Some None → (u : Ticket) → IsTicketOf b u → u.folder ≡ t.folder → (t.folder ≡ c) ⊎ (t.folder ≡ c → ⊥) → is_some (taking_at rows u) ≡ true
     full t at u of same (inl own) = sym (has_result rows u) ∙ whole u of (same ∙ own)
@@ -338,7 +338,7 @@ pub not_kept : (b : List Folder) (question : Question) (rows : List Row) (t : Ti
 not_kept b question rows t keeps none has u of same =
     has_result rows u ∙ keeps.whole t (was_dropped (taking_at rows t) none (sym (has_result rows t) ∙ has)) u of same
   where
-    was_dropped : (x : Option Taking) → held x ≡ None → is_some x ≡ true → x ≡ Some None
+    was_dropped : (x : Option Taking) → work_in x ≡ None → is_some x ≡ true → x ≡ Some None
     was_dropped None not is = absurd (cc)
     was_dropped (Some taking) not is = ap Some not
 
@@ -355,7 +355,7 @@ element_here [] k lt = absurd (omega arith)
 element_here (x ∷ xs) zero lt = (x, refl)
 element_here (x ∷ xs) (suc k) lt = element_here xs k (omega arith)
 
-element_numbered : {A : Type 0} (xs : List A) (i : ℕ) → 0 < i → i ≤ length xs → (x : A) × (numbered xs i ≡ Some x)
+element_numbered : {A : Type 0} (xs : List A) (i : ℕ) → 0 < i → i ≤ length xs → (x : A) × (element_at xs i ≡ Some x)
 element_numbered xs zero pos le = absurd (omega arith)
 element_numbered xs (suc i) pos le = element_here xs i (omega arith)
 
@@ -369,7 +369,7 @@ row_within b question rows (suc k) keeps within =
     omega arith
 
 -- each slot of a collection that has arrived whole is taken
-pub row_full : (b : List Folder) (question : Question) (rows : List Row) (c : ℕ) (row : Row) → KeepsResults b question rows → c ≤ length b → HasCollection b (taken_in rows) c → numbered rows c ≡ Some row → IsFull row
+pub row_full : (b : List Folder) (question : Question) (rows : List Row) (c : ℕ) (row : Row) → KeepsResults b question rows → c ≤ length b → HasCollection b (taken_in rows) c → element_at rows c ≡ Some row → IsFull row
 row_full b question rows zero row keeps within whole at i pos le = absurd (cc)
 row_full b question rows (suc k) row keeps within whole at i pos le =
     let f = element_here b k (omega arith) in

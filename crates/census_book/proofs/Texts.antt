@@ -5,9 +5,9 @@ use Rattle.census_bundle.specs.declared.bundle.Entry.{Entry}
 use Rattle.census_bundle.specs.declared.bundle.Folder.{Folder}
 use Rattle.census_bundle.specs.declared.ticket.Ticket.{Ticket}
 use Rattle.census_book.proofs.Releases.{folder_at, numbered_bounds}
-use Rattle.census_bundle.specs.Tickets.{Tickets, with_ticket, numbered, entry_at}
+use Rattle.census_bundle.specs.Tickets.{Tickets, with_ticket, element_at, entry_at}
 use Rattle.census_format.specs.Lines.{answer_to_entry, answers, text_of, end_line, pattern_text, pattern_lines}
-use Rattle.census_format.specs.Reports.{out, out_of, folder_out, closing, closing_if, end_if, run_of, has_all}
+use Rattle.census_format.specs.Reports.{text_released, folder_text_released, folder_out, closing, closing_if, end_if, run_of, has_all}
 use Rattle.census_format.proofs.Owning.{text_of-append, eqb_same, eqb_apart}
 use Rattle.life_answer.specs.declared.question.Question.{Question}
 
@@ -37,15 +37,15 @@ text_step question c m i es e lt at =
     (ap (λ xs. text_of (take (m - i) xs)) (lines_at question c 1 es i e at ∙ ap (λ k. pattern_text question c k e ∷ drop (i + 1) ls) n)
     ∙ ap (λ k. text_of (take k (pattern_text question c (i + 1) e ∷ drop (i + 1) ls))) left)
 
-pub numbered_read : {A : Type 0} (xs : List A) (i : ℕ) (x : A) → 0 < i → i ≤ length xs → x ≡ get_or xs (i - 1) x → numbered xs i ≡ Some x
+pub numbered_read : {A : Type 0} (xs : List A) (i : ℕ) (x : A) → 0 < i → i ≤ length xs → x ≡ get_or xs (i - 1) x → element_at xs i ≡ Some x
 numbered_read xs zero x pos le is = absurd (omega arith)
 numbered_read xs (suc i) x pos le is =
     let n : suc i - 1 ≡ i = omega arith in
     slice_get_read xs (length xs) i x refl (omega arith) (is ∙ ap (λ k. get_or xs k x) n)
 
-pub out_text : (b : List Folder) (question : Question) (taken : Tickets) (t : Ticket) (f : Folder) (k m : ℕ) (closed ended : List ℕ) → numbered b t.folder ≡ Some f → k ≡ run_of taken t.folder f → m ≡ run_of (with_ticket taken t) t.folder f
+pub out_text : (b : List Folder) (question : Question) (taken : Tickets) (t : Ticket) (f : Folder) (k m : ℕ) (closed ended : List ℕ) → element_at b t.folder ≡ Some f → k ≡ run_of taken t.folder f → m ≡ run_of (with_ticket taken t) t.folder f
     → closed ≡ text_of (closing_if (eqb m (length f.entries)) question t.folder f) → ended ≡ end_if (has_all b (with_ticket taken t)) b
-    → (text_of (take (m - k) (drop k (pattern_lines question t.folder 1 f.entries))) ++ closed) ++ ended ≡ out b question taken t
+    → (text_of (take (m - k) (drop k (pattern_lines question t.folder 1 f.entries))) ++ closed) ++ ended ≡ text_released b question taken t
 out_text b question taken t f k m closed ended at is_k is_m is_closed is_ended =
     let c = t.folder in
     let after = with_ticket taken t in
@@ -55,7 +55,7 @@ out_text b question taken t f k m closed ended at is_k is_m is_closed is_ended =
     ∙ ap (λ x. x ++ end_if (has_all b after) b) (sym (text_of-append first (closing_if (eqb m (length f.entries)) question c f)))
     ∙ ap (λ n. text_of (folder_out question c f n m) ++ end_if (has_all b after) b) is_k
     ∙ ap (λ n. text_of (folder_out question c f (run_of taken c f) n) ++ end_if (has_all b after) b) is_m
-    ∙ ap (λ o. out_of question o taken t ++ end_if (has_all b after) b) (sym at)
+    ∙ ap (λ o. folder_text_released question o taken t ++ end_if (has_all b after) b) (sym at)
 
 pub joined : (t₀ t₁ t₂ t₃ p x y o : List ℕ) → t₁ ≡ t₀ ++ p → t₂ ≡ t₁ ++ x → t₃ ≡ t₂ ++ y → (p ++ x) ++ y ≡ o → t₃ ≡ t₀ ++ o
 joined t₀ t₁ t₂ t₃ p x y o one two three is =
@@ -77,7 +77,7 @@ pub appended : (t t' x y z w : List ℕ) → t' ≡ t ++ x → x ++ y ≡ z → 
 appended t t' x y z w one two three = ap (λ u. u ++ y) one ∙ append_assoc t x y ∙ ap (λ u. t ++ u) two ∙ three
 
 pub ticket_in : (b : List Folder) (t : Ticket) (e : Entry) → entry_at b t ≡ Some e → (0 < t.folder) × (t.folder ≤ length b)
-ticket_in b t e at = let f = folder_at (numbered b t.folder) t.number e at in numbered_bounds b t.folder f.0 f.1
+ticket_in b t e at = let f = folder_at (element_at b t.folder) t.number e at in numbered_bounds b t.folder f.0 f.1
 
 pub answers_more : (question : Question) (i : ℕ) (es : List Entry) (e : Entry) → slice_get es i ≡ Some e → answers question (take (i + 1) es) ≡ answers question (take i es) ++ answer_to_entry question e ∷ []
 answers_more question i [] e at = absurd (cc)

@@ -2,8 +2,8 @@
 use Rattle.std.specs.Prelude.{◌≡◌, ℕ, ◌+◌, ◌<◌, ◌≤◌, List, length, Some, slice_get, slice_index, if◌then◌else◌, ◌==◌}
 use Rattle.census_bundle.specs.declared.bundle.Folder.{Folder}
 use Rattle.census_bundle.specs.declared.ticket.Ticket.{Ticket}
-use Rattle.census_bundle.specs.Tickets.{Tickets, numbered, with_ticket}
-use Rattle.census_format.specs.Reports.{run_of, out}
+use Rattle.census_bundle.specs.Tickets.{Tickets, element_at, with_ticket}
+use Rattle.census_format.specs.Reports.{run_of, text_released}
 use Rattle.life_answer.specs.declared.question.Question.{Question}
 
 -- for each collection its run, and the first collection that has not arrived whole, or how many there are
@@ -27,6 +27,6 @@ pub record IsNextOpen (b : List Folder) (runs : List ℕ) (c m from first : ℕ)
 
 -- what a ticket's result releases, its collection's run then, and the first collection that is then open
 pub record IsRelease (b : List Folder) (question : Question) (taken : Tickets) (runs : List ℕ) (first : ℕ) (t : Ticket) (text : List ℕ) (run next : ℕ) : Type 0 where
-  pub released : text ≡ out b question taken t
-  pub come_to : (f : Folder) → numbered b t.folder ≡ Some f → run ≡ run_of (with_ticket taken t) t.folder f
+  pub released : text ≡ text_released b question taken t
+  pub come_to : (f : Folder) → element_at b t.folder ≡ Some f → run ≡ run_of (with_ticket taken t) t.folder f
   pub then_open : IsNextOpen b runs t.folder run first next

@@ -5,8 +5,8 @@ use Rattle.census_bundle.specs.declared.ticket.Ticket.{Ticket}
 use Rattle.census_bundle.specs.Tickets.{Tickets, no_tickets, with_ticket, has_ticket, IsTicketOf, HasAll}
 use Rattle.census_book.specs.declared.offer.Offer.{Offer}
 use Rattle.census_book.specs.Collecting.{Offered}
-use Rattle.census_book.specs.Progress.{Progress, started}
-use Rattle.census_format.specs.Reports.{IsReport, IsReportFront, start, out}
+use Rattle.census_book.specs.Progress.{Progress, initial_progress}
+use Rattle.census_format.specs.Reports.{IsReport, IsReportFront, text_at_start, text_released}
 use Rattle.census_book.specs.Work.{Work}
 use Rattle.life_answer.specs.declared.question.Question.{Question}
 
@@ -16,9 +16,9 @@ AreNew b taken [] = Unit {0}
 AreNew b taken (t ∷ ts) = IsTicketOf b t × (has_ticket taken t ≡ false) × AreNew b (with_ticket taken t) ts
 
 -- what taking each of the tickets in turn releases
-abbrev pub outs : List Folder → Question → Tickets → List Ticket → List ℕ
-outs b question taken [] = []
-outs b question taken (t ∷ ts) = out b question taken t ++ outs b question (with_ticket taken t) ts
+abbrev pub texts_released : List Folder → Question → Tickets → List Ticket → List ℕ
+texts_released b question taken [] = []
+texts_released b question taken (t ∷ ts) = text_released b question taken t ++ texts_released b question (with_ticket taken t) ts
 
 -- these, and then the tickets in turn
 abbrev pub with_all : Tickets → List Ticket → Tickets
@@ -29,8 +29,8 @@ with_all taken (t ∷ ts) = with_all (with_ticket taken t) ts
 abbrev pub OrdersAreLawful : Type 0
 OrdersAreLawful =
     (b : List Folder) (question : Question) (ts : List Ticket) → AreNew b no_tickets ts
-    → IsReportFront b question (start b question ++ outs b question no_tickets ts)
-    × (HasAll b (with_all no_tickets ts) → IsReport b question (start b question ++ outs b question no_tickets ts))
+    → IsReportFront b question (text_at_start b question ++ texts_released b question no_tickets ts)
+    × (HasAll b (with_all no_tickets ts) → IsReport b question (text_at_start b question ++ texts_released b question no_tickets ts))
 
 -- the second is what becomes of the first, to which these results were offered in turn
 abbrev pub OfferedAll : Progress → List Work → Progress → Type 0
@@ -41,5 +41,5 @@ OfferedAll p (w ∷ ws) r = (q : Progress) × (o : Offer) × Offered p w.ticket 
 -- begins a report, and it is one where no ticket is missing.
 abbrev pub ArrivalsAreLawful : Type 0
 ArrivalsAreLawful =
-    (b : List Folder) (question : Question) (ws : List Work) (p : Progress) → OfferedAll (started b question) ws p
+    (b : List Folder) (question : Question) (ws : List Work) (p : Progress) → OfferedAll (initial_progress b question) ws p
     → IsReportFront b question p.unsent × (HasAll b p.taken → IsReport b question p.unsent)

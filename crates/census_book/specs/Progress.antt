@@ -3,7 +3,7 @@ use Rattle.std.specs.Prelude.{ℕ, List, ◌++◌, drop}
 use Rattle.census_bundle.specs.declared.bundle.Folder.{Folder}
 use Rattle.census_bundle.specs.declared.ticket.Ticket.{Ticket}
 use Rattle.census_bundle.specs.Tickets.{Tickets, no_tickets, with_ticket}
-use Rattle.census_format.specs.Reports.{start, out}
+use Rattle.census_format.specs.Reports.{text_at_start, text_released}
 use Rattle.life_answer.specs.declared.question.Question.{Question}
 
 -- the tickets of a bundle that were taken
@@ -32,15 +32,15 @@ pub record Progress : Type 0 where
   pub taken : Tickets
   pub unsent : List ℕ
 
-abbrev pub started : List Folder → Question → Progress
-started b question = record { bundle = b; question = question; taken = no_tickets; unsent = start b question }
+abbrev pub initial_progress : List Folder → Question → Progress
+initial_progress b question = record { bundle = b; question = question; taken = no_tickets; unsent = text_at_start b question }
 
 abbrev pub with_taken : Progress → Ticket → Progress
 with_taken p t = record {
   bundle = p.bundle;
   question = p.question;
   taken = with_ticket p.taken t;
-  unsent = p.unsent ++ out p.bundle p.question p.taken t;
+  unsent = p.unsent ++ text_released p.bundle p.question p.taken t;
 }
 
 -- without the first n bytes of the text

@@ -2,7 +2,7 @@
 use Rattle.std.specs.Prelude.{◌≡◌, ℕ, suc, ◌-◌, ◌<◌, ◌≤◌, Bool, true, false, List, [], ◌∷◌, ◌++◌, length, map, replicate, is_some, Option, None, Some, slice_get, slice_index_or, slice_set}
 use Rattle.census_bundle.specs.declared.bundle.Folder.{Folder}
 use Rattle.census_bundle.specs.declared.ticket.Ticket.{Ticket}
-use Rattle.census_bundle.specs.Tickets.{Tickets, numbered, ticket, tickets_of, IsTicketOf}
+use Rattle.census_bundle.specs.Tickets.{Tickets, element_at, ticket, tickets_of, IsTicketOf}
 use Rattle.census_book.specs.Collecting.{IsResult}
 use Rattle.census_book.specs.Work.{Work}
 use Rattle.life_answer.specs.declared.question.Question.{Question}
@@ -16,8 +16,8 @@ abbrev pub Row : Type 0
 Row = List (Option Taking)
 
 -- these slots, and empty ones after them, up to so many in all
-abbrev pub padded : {A : Type 0} → ℕ → List (Option A) → List (Option A)
-padded len row = row ++ replicate (len - length row) None
+abbrev pub padded_row : {A : Type 0} → ℕ → List (Option A) → List (Option A)
+padded_row len row = row ++ replicate (len - length row) None
 
 -- a slot that is taken where a result stands in it
 abbrev pub kept : Option Work → Option Taking
@@ -32,36 +32,36 @@ dropped (Some taking) = Some None
 -- the slots of a collection of which these results are kept, or all results were dropped
 abbrev pub row_of : Bool → ℕ → List (Option Work) → Row
 row_of true len results = replicate len (Some None)
-row_of false len results = map kept (padded len results)
+row_of false len results = map kept (padded_row len results)
 
 -- what stands in a slot, where there is one
-abbrev pub held : {A : Type 0} → Option (Option A) → Option A
-held None = None
-held (Some slot) = slot
+abbrev pub work_in : {A : Type 0} → Option (Option A) → Option A
+work_in None = None
+work_in (Some slot) = slot
 
 -- what stands in the slot of this number, from 1
-abbrev pub slot_at : Row → ℕ → Option Taking
-slot_at row i = held (numbered row i)
+abbrev pub work_at : Row → ℕ → Option Taking
+work_at row i = work_in (element_at row i)
 
 abbrev pub slot_in : Option Row → ℕ → Option Taking
 slot_in None i = None
-slot_in (Some row) i = slot_at row i
+slot_in (Some row) i = work_at row i
 
 -- what stands in the slot of a ticket
 abbrev pub taking_at : List Row → Ticket → Option Taking
-taking_at rows t = slot_in (numbered rows t.folder) t.number
+taking_at rows t = slot_in (element_at rows t.folder) t.number
 
 -- the result that is kept in the slot of a ticket
 abbrev pub result_at : List Row → Ticket → Option Work
-result_at rows t = held (taking_at rows t)
+result_at rows t = work_in (taking_at rows t)
 
 -- each slot is taken
 abbrev pub IsFull : Row → Type 0
-IsFull row = (i : ℕ) → 0 < i → i ≤ length row → is_some (slot_at row i) ≡ true
+IsFull row = (i : ℕ) → 0 < i → i ≤ length row → is_some (work_at row i) ≡ true
 
 -- the ticket has a slot
 abbrev pub HasSlot : List Row → Ticket → Type 0
-HasSlot rows t = (row : Row) × (numbered rows t.folder ≡ Some row) × (0 < t.number) × (t.number ≤ length row)
+HasSlot rows t = (row : Row) × (element_at rows t.folder ≡ Some row) × (0 < t.number) × (t.number ≤ length row)
 
 -- with a result in the slot of its ticket
 abbrev pub with_result : List Row → Work → List Row

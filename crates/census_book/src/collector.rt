@@ -5,8 +5,8 @@ ghost use Rattle.life_answer.specs.Questions.{IsAnswered};
 ghost use Rattle.census_book.specs.Collecting.{Belongs, IsLeastMissing, Judged, Offered};
 ghost use Rattle.census_book.specs.declared.offer.Offer.TheVariants.{Taken};
 ghost use Rattle.census_book.specs.Front.{IsFront, IsRelease};
-ghost use Rattle.census_book.specs.Progress.{sent_of, started, taken_of};
-ghost use Rattle.census_format.specs.Reports.{out};
+ghost use Rattle.census_book.specs.Progress.{sent_of, initial_progress, taken_of};
+ghost use Rattle.census_format.specs.Reports.{text_released};
 
 use crate::done::Done;
 use crate::front::Front;
@@ -61,7 +61,7 @@ fn accept<'a>(
     requires front { IsFront results.old.bundle results.old.taken front.old.runs.items front.old.first_open }
     requires release { IsRelease results.old.bundle results.old.question results.old.taken front.old.runs.items front.old.first_open done.ticket text.now release.run release.first_open }
     ensures taken { OnOk result (results.new ≡ taken_of results.old.bundle results.old.question (with_ticket results.old.taken done.entry.ticket)) }
-    ensures released { OnOk result (unsent.new.items ≡ unsent.old.items ++ out results.old.bundle results.old.question results.old.taken done.entry.ticket) }
+    ensures released { OnOk result (unsent.new.items ≡ unsent.old.items ++ text_released results.old.bundle results.old.question results.old.taken done.entry.ticket) }
     ensures front { IsFront results.new.bundle results.new.taken front.new.runs.items front.new.first_open }
     ensures back { IfErr result (λ e. e.done ≡ done.entry) }
     ensures results { OnErr result (results.new ≡ results.old) }
@@ -94,7 +94,7 @@ impl<'a> Collector<'a> {
         question: Question,
     ) -> Result<Collector<'a>, AllocError>
         requires { IsAnswered question }
-        ensures { IfOk result (λ c. c ≡ started bundle.now question) }
+        ensures { IfOk result (λ c. c ≡ initial_progress bundle.now question) }
     {
         let folders = bundle.folders();
         let front = Front::new(alloc, folders)?;

@@ -3,7 +3,7 @@ ghost use Rattle.std.specs.Prelude.{◌≡◌, ◌≤◌, ◌++◌, ℕ, false, 
 ghost use Rattle.life_answer.specs.declared.finding.Answer.TheVariants.{Refused};
 ghost use Rattle.life_answer.specs.Questions.{IsAnswered};
 ghost use Rattle.census_format.specs.Lines.{answer_to_entry};
-ghost use Rattle.census_format.specs.Heads.{headed, line_head, line_tail};
+ghost use Rattle.census_format.specs.Heads.{line_with_head, line_head, line_tail};
 ghost use Rattle.census_book.specs.Soon.{IsLongWork};
 ghost use Rattle.census_book.specs.Work.{TakesMemory};
 
@@ -208,7 +208,7 @@ impl<'a> Done<'a> {
 
     // Appends the lines of the pattern, under the name of this entry.
     pub(crate) fn push_lines(&self, text: &mut Vec<u8>, entry: &Entry) -> Result<(), AllocError>
-        ensures { OnOk result (text.new.items ≡ text.old.items ++ headed
+        ensures { OnOk result (text.new.items ≡ text.old.items ++ line_with_head
             (line_head self.now.ticket.folder self.now.ticket.number (answer_to_entry self.now.question self.now.entry))
             (line_tail self.now.ticket.folder self.now.ticket.number (answer_to_entry self.now.question self.now.entry)) entry.now) }
     {

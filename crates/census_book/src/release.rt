@@ -1,11 +1,11 @@
 //! What a result releases.
 ghost use Rattle.std.specs.Prelude.{◌≡◌, ◌≤◌, ◌<◌, ◌++◌, ◌-◌, ◌+◌, ℕ, true, false, [], ◌∷◌, length, take, drop, map, OnOk, IfOk, Some};
 ghost use Rattle.census_bundle.specs.Sizes.{IsSmall};
-ghost use Rattle.census_bundle.specs.Tickets.{has_ticket, numbered, ticket};
+ghost use Rattle.census_bundle.specs.Tickets.{has_ticket, element_at, ticket};
 ghost use Rattle.census_format.specs.Lines.{answers, end_line, pattern_lines, pattern_count, text_of};
 ghost use Rattle.census_book.specs.Collecting.{Belongs};
 ghost use Rattle.census_book.specs.Front.{IsFront, IsRelease};
-ghost use Rattle.census_format.specs.Reports.{folder_out, run_of, start};
+ghost use Rattle.census_format.specs.Reports.{folder_out, run_of, text_at_start};
 
 use crate::arrival::Arrival;
 use crate::done::Done;
@@ -47,7 +47,7 @@ fn push_patterns(
     m: usize,
 ) -> Result<(), AllocError>
     requires small { length folder.now.entries ≤ 65535 }
-    requires at { numbered arrival.now.bundle c ≡ Some folder.now }
+    requires at { element_at arrival.now.bundle c ≡ Some folder.now }
     requires own { c ≡ arrival.now.folder }
     requires run { m ≡ run_of arrival.now.taken c folder.now }
     requires within { m ≤ length folder.now.entries }
@@ -72,7 +72,7 @@ fn folder_answers<'r>(
     folder: &Folder,
 ) -> Result<Vec<&'r Answer>, AllocError>
     requires small { length folder.now.entries ≤ 65535 }
-    requires at { numbered arrival.now.bundle c ≡ Some folder.now }
+    requires at { element_at arrival.now.bundle c ≡ Some folder.now }
     requires own { c ≡ arrival.now.folder }
     requires whole { length folder.now.entries ≡ run_of arrival.now.taken c folder.now }
     ensures { IfOk result (λ v. map (λ a. a.now) v.items ≡ answers arrival.now.question folder.now.entries) }
@@ -97,7 +97,7 @@ pub fn push_start(
     question: Question,
 ) -> Result<(), AllocError>
     requires { IsSmall folders.now }
-    ensures { OnOk result (text.new.items ≡ text.old.items ++ start folders.now question) }
+    ensures { OnOk result (text.new.items ≡ text.old.items ++ text_at_start folders.now question) }
 {
     let mut is_empty = true;
     for i in 0..folders.len() {
@@ -127,7 +127,7 @@ fn push_folder(
     m: usize,
 ) -> Result<(), AllocError>
     requires small { length folder.now.entries ≤ 65535 }
-    requires at { numbered arrival.now.bundle c ≡ Some folder.now }
+    requires at { element_at arrival.now.bundle c ≡ Some folder.now }
     requires own { c ≡ arrival.now.folder }
     requires run { m ≡ run_of arrival.now.taken c folder.now }
     requires within { m ≤ length folder.now.entries }
@@ -153,7 +153,7 @@ pub struct Release {
 pub fn folder_at(folders: &[Folder], c: u32) -> &Folder
     requires small { IsSmall folders.now }
     requires number { (0 < c) × (c ≤ length folders.now) }
-    ensures at { numbered folders.now c ≡ Some result.now }
+    ensures at { element_at folders.now c ≡ Some result.now }
     ensures small { length result.now.entries ≤ 65535 }
 {
     &folders[c as usize - 1]

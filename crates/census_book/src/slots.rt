@@ -1,7 +1,7 @@
 //! A slot for the result of each pattern of a bundle.
 ghost use Rattle.std.specs.Prelude.{◌≡◌, IfSome, IfNone, IfOk, IfErr, OnOk, OnErr, None, Some, is_some, length, map, replicate, slice_set, ◌-◌, ◌<◌, ◌≤◌};
-ghost use Rattle.census_bundle.specs.Tickets.{numbered};
-ghost use Rattle.census_book.specs.Slots.{dropped, empty_slots, held, padded, result_at, slot_at, taking_at, with_result, without_results, HasSlot, IsFull, Row};
+ghost use Rattle.census_bundle.specs.Tickets.{element_at};
+ghost use Rattle.census_book.specs.Slots.{dropped, empty_slots, work_in, padded_row, result_at, work_at, taking_at, with_result, without_results, HasSlot, IsFull, Row};
 
 use crate::done::Done;
 use crate::no_room::NoRoom;
@@ -33,7 +33,7 @@ impl<'a> Model for Row<'a> {
 // Appends empty slots, up to so many, where there is room for all.
 fn fill<'a>(slots: &mut Vec<Option<Done<'a>>>, len: usize, all: usize) -> Result<(), AllocError>
     requires { (len ≤ all) × (length slots.old.items ≤ all) }
-    ensures items { OnOk result (slots.new.items ≡ padded len slots.old.items) }
+    ensures items { OnOk result (slots.new.items ≡ padded_row len slots.old.items) }
     ensures unchanged { OnErr result (slots.new.items ≡ slots.old.items) }
 {
     slots.reserve_exact(all - slots.len())?;
@@ -45,8 +45,8 @@ fn fill<'a>(slots: &mut Vec<Option<Done<'a>>>, len: usize, all: usize) -> Result
 
 // The result in the slot of this number, from 1.
 fn result_in<'r, 'a>(slots: &'r [Option<Done<'a>>], number: u32) -> Option<&'r Done<'a>>
-    ensures some { IfSome result (λ d. held (numbered slots.now number) ≡ Some d.now) }
-    ensures none { IfNone result (held (numbered slots.now number) ≡ None) }
+    ensures some { IfSome result (λ d. work_in (element_at slots.now number) ≡ Some d.now) }
+    ensures none { IfNone result (work_in (element_at slots.now number) ≡ None) }
 {
     if number == 0 {
         return None;
@@ -71,7 +71,7 @@ impl<'a> Row<'a> {
 
     /// Whether the slot of this number, from 1, is taken.
     pub fn holds(&self, number: u32) -> bool
-        ensures { result ≡ is_some (slot_at self.now number) }
+        ensures { result ≡ is_some (work_at self.now number) }
     {
         if self.is_dropped {
             return 0 < number && number as usize <= self.len;
@@ -81,8 +81,8 @@ impl<'a> Row<'a> {
 
     /// The result that is kept in the slot of this number, from 1.
     pub fn get(&self, number: u32) -> Option<&Done<'a>>
-        ensures some { IfSome result (λ d. held (slot_at self.now number) ≡ Some d.now) }
-        ensures none { IfNone result (held (slot_at self.now number) ≡ None) }
+        ensures some { IfSome result (λ d. work_in (work_at self.now number) ≡ Some d.now) }
+        ensures none { IfNone result (work_in (work_at self.now number) ≡ None) }
     {
         result_in(self.slots.as_slice(), number)
     }
@@ -90,7 +90,7 @@ impl<'a> Row<'a> {
     /// Puts a result into the slot of this number, from 1, which is empty. The result comes back where there is no memory.
     pub fn put(&mut self, number: u32, done: Done<'a>) -> Result<(), NoRoom<'a>>
         requires within { (0 < number) × (number ≤ length self.old) }
-        requires empty { slot_at self.old number ≡ None }
+        requires empty { work_at self.old number ≡ None }
         ensures put { OnOk result (self.new ≡ slice_set self.old (number - 1) (Some (Some done.entry))) }
         ensures back { IfErr result (λ e. e.done ≡ done.entry) }
         ensures unchanged { OnErr result (self.new ≡ self.old) }
@@ -142,8 +142,8 @@ impl<'a> Slots<'a> {
 
     // The slots of the collection of this number.
     fn row(&self, folder: u32) -> Option<&Row<'a>>
-        ensures some { IfSome result (λ r. numbered self.now folder ≡ Some r.now) }
-        ensures none { IfNone result (numbered self.now folder ≡ None) }
+        ensures some { IfSome result (λ r. element_at self.now folder ≡ Some r.now) }
+        ensures none { IfNone result (element_at self.now folder ≡ None) }
     {
         if folder == 0 {
             return None;
@@ -187,7 +187,7 @@ impl<'a> Slots<'a> {
     /// Drops the results of the collection of this number, each of whose slots is taken, and frees their memory.
     pub fn drop_results(&mut self, folder: u32)
         requires within { (0 < folder) × (folder ≤ length self.old) }
-        requires full { (row : Row) → numbered self.old folder ≡ Some row → IsFull row }
+        requires full { (row : Row) → element_at self.old folder ≡ Some row → IsFull row }
         ensures { self.new ≡ without_results self.old folder }
     {
         self.rows[folder as usize - 1].drop_results();

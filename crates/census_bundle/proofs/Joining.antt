@@ -5,7 +5,7 @@ use Rattle.census_bundle.specs.declared.bundle.Entry.{Entry}
 use Rattle.census_bundle.specs.Entries.{entry_of}
 use Rattle.census_bundle.specs.Growing.{on_last, with_folder, with_one_more, with_entry}
 use Rattle.census_bundle.specs.Lines.{is_folder_line, is_file_line, line_name}
-use Rattle.census_bundle.specs.Reading.{Held, held_with}
+use Rattle.census_bundle.specs.Reading.{LinesContent, content_with_line}
 use Rattle.census_bundle.specs.Scan.{entry_with_text, folder_with_text, with_text, after_line}
 use Rattle.census_bundle.proofs.Lasts.{on_last-push, on_last-on_last, on_last_alike, on_last-kept, folder_same, with_text-nil, with_text-with_text}
 
@@ -17,7 +17,7 @@ abbrev with_entries : List Folder → List Entry → List Folder
 with_entries b es = on_last (folder_with_entries es) b
 
 -- the folders with what further lines hold
-abbrev pub joined : List Folder → Held → List Folder
+abbrev pub joined : List Folder → LinesContent → List Folder
 joined b h = with_entries (with_text b h.text) h.entries ++ h.folders
 
 with_entries-nil : (b : List Folder) → with_entries b [] ≡ b
@@ -26,7 +26,7 @@ with_entries-nil b = on_last-kept (folder_with_entries []) b (λ f. folder_same 
 pub joined-nothing : (b : List Folder) (fs : List Folder) → joined b (record { text = []; entries = []; folders = fs }) ≡ b ++ fs
 joined-nothing b fs = ap (λ c. with_entries c [] ++ fs) (with_text-nil b) ∙ ap (λ c. c ++ fs) (with_entries-nil b)
 
-joined-folder : (b : List Folder) (name : List ℕ) (h : Held) → joined (with_folder b name) h ≡ joined b (record { text = []; entries = []; folders = record { name = name; entries = h.entries } ∷ h.folders })
+joined-folder : (b : List Folder) (name : List ℕ) (h : LinesContent) → joined (with_folder b name) h ≡ joined b (record { text = []; entries = []; folders = record { name = name; entries = h.entries } ∷ h.folders })
 joined-folder b name h =
     let f : Folder = record { name = name; entries = [] } in
     let g : Folder = record { name = name; entries = h.entries } in
@@ -40,7 +40,7 @@ entries_joined name t es rest =
     let e : Entry = entry_of name [] in
     ap (λ c. c ++ rest) (on_last-push (entry_with_text t) es e) ∙ append_assoc es (entry_of name t ∷ []) rest
 
-joined-entry : (b : List Folder) (name : List ℕ) (h : Held) → joined (with_entry b (entry_of name [])) h ≡ joined b (record { text = []; entries = entry_of name h.text ∷ h.entries; folders = h.folders })
+joined-entry : (b : List Folder) (name : List ℕ) (h : LinesContent) → joined (with_entry b (entry_of name [])) h ≡ joined b (record { text = []; entries = entry_of name h.text ∷ h.entries; folders = h.folders })
 joined-entry b name h =
     let e : Entry = entry_of name [] in
     let g : Entry = entry_of name h.text in
@@ -49,17 +49,17 @@ joined-entry b name h =
     ∙ ap (λ c. c ++ h.folders) (on_last_alike _ (folder_with_entries (g ∷ h.entries)) b (λ f. folder_same f.name _ _ (entries_joined name h.text f.entries h.entries)))
     ∙ ap (λ c. with_entries c (g ∷ h.entries) ++ h.folders) (sym (with_text-nil b))
 
-joined-text : (b : List Folder) (line : List ℕ) (h : Held) → joined (with_text b line) h ≡ joined b (record { text = line ++ h.text; entries = h.entries; folders = h.folders })
+joined-text : (b : List Folder) (line : List ℕ) (h : LinesContent) → joined (with_text b line) h ≡ joined b (record { text = line ++ h.text; entries = h.entries; folders = h.folders })
 joined-text b line h = ap (λ c. with_entries c h.entries ++ h.folders) (with_text-with_text b line h.text)
 
 -- one more line read before
-pub joined-after_line : (b : List Folder) (line : List ℕ) (h : Held) → joined (after_line b line) h ≡ joined b (held_with line h)
+pub joined-after_line : (b : List Folder) (line : List ℕ) (h : LinesContent) → joined (after_line b line) h ≡ joined b (content_with_line line h)
 joined-after_line b line h =
     let name = line_name line in
     let e : Entry = entry_of name [] in
-    let a : Held = record { text = []; entries = []; folders = record { name = name; entries = h.entries } ∷ h.folders } in
-    let f : Held = record { text = []; entries = entry_of name h.text ∷ h.entries; folders = h.folders } in
-    let t : Held = record { text = line ++ h.text; entries = h.entries; folders = h.folders } in
+    let a : LinesContent = record { text = []; entries = []; folders = record { name = name; entries = h.entries } ∷ h.folders } in
+    let f : LinesContent = record { text = []; entries = entry_of name h.text ∷ h.entries; folders = h.folders } in
+    let t : LinesContent = record { text = line ++ h.text; entries = h.entries; folders = h.folders } in
     elim (is_folder_line line) as (λ v. joined (if v then with_folder b name else (if is_file_line line then with_entry b e else with_text b line)) h ≡ joined b (if v then a else (if is_file_line line then f else t))) [
       | true ↦ joined-folder b name h
       | false ↦ elim (is_file_line line) as (λ v. joined (if v then with_entry b e else with_text b line) h ≡ joined b (if v then f else t)) [
@@ -68,5 +68,5 @@ joined-after_line b line h =
       ]
     ]
 
-pub joined_start : (h : Held) → joined [] h ≡ h.folders
+pub joined_start : (h : LinesContent) → joined [] h ≡ h.folders
 joined_start h = refl

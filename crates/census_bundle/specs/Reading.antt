@@ -14,25 +14,25 @@ use Rattle.census_bundle.specs.Sizes.{count_limit}
 -- # Folders and entries
 
 -- What lines hold: the text before their first entry or folder, the entries before their first folder, and their folders.
-pub record Held : Type 0 where
+pub record LinesContent : Type 0 where
   pub text : List ℕ
   pub entries : List Entry
   pub folders : List Folder
 
 -- what a line and the lines after it hold, by what those hold
-abbrev pub held_with : List ℕ → Held → Held
-held_with line behind =
+abbrev pub content_with_line : List ℕ → LinesContent → LinesContent
+content_with_line line behind =
     if is_folder_line line then record { text = []; entries = []; folders = record { name = line_name line; entries = behind.entries } ∷ behind.folders } else
     (if is_file_line line then record { text = []; entries = entry_of (line_name line) behind.text ∷ behind.entries; folders = behind.folders }
     else record { text = line ++ behind.text; entries = behind.entries; folders = behind.folders })
 
-abbrev pub held : List (List ℕ) → Held
-held [] = record { text = []; entries = []; folders = [] }
-held (line ∷ lines) = held_with line (held lines)
+abbrev pub content_of_lines : List (List ℕ) → LinesContent
+content_of_lines [] = record { text = []; entries = []; folders = [] }
+content_of_lines (line ∷ lines) = content_with_line line (content_of_lines lines)
 
 -- the folders of a bundle text
 abbrev pub folders_of : List ℕ → List Folder
-folders_of text = (held (whole_lines text)).folders
+folders_of text = (content_of_lines (whole_lines text)).folders
 
 -- # Faults
 

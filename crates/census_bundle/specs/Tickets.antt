@@ -34,17 +34,17 @@ abbrev pub has_ticket : Tickets → Ticket → Bool
 has_ticket taken t = contains taken t
 
 -- the element of this number, from 1
-abbrev pub numbered : {A : Type 0} → List A → ℕ → Option A
-numbered xs zero = None
-numbered xs (suc n) = slice_get xs n
+abbrev pub element_at : {A : Type 0} → List A → ℕ → Option A
+element_at xs zero = None
+element_at xs (suc n) = slice_get xs n
 
 abbrev pub entry_in : Option Folder → ℕ → Option Entry
 entry_in None i = None
-entry_in (Some f) i = numbered f.entries i
+entry_in (Some f) i = element_at f.entries i
 
 -- the pattern of a ticket
 abbrev pub entry_at : List Folder → Ticket → Option Entry
-entry_at b t = entry_in (numbered b t.folder) t.number
+entry_at b t = entry_in (element_at b t.folder) t.number
 
 -- the ticket is one of the bundle's
 abbrev pub IsTicketOf : List Folder → Ticket → Type 0

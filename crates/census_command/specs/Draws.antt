@@ -14,7 +14,7 @@ use Rattle.census_errors.specs.declared.draw_error.DrawError.TheVariants.{Rule a
 
 -- the RLE text of the shape that the body of a code spells
 abbrev pub drawn_text : Rule → List ℕ → List ℕ
-drawn_text R code = rle_text R (normal (wechsler.spelt (body_of code)))
+drawn_text R code = rle_text R (normal (wechsler.cells_spelled (body_of code)))
 
 -- the rule text names a rule, the code's body has no fault, and this is its RLE text
 pub record IsDrawn (code rule written : List ℕ) : Type 0 where

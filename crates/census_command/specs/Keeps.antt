@@ -4,8 +4,8 @@ use Rattle.std.specs.List.{FoldsTo, flat_map}
 use Rattle.life_answer.specs.declared.question.Question.{Question}
 use Rattle.census_bundle.specs.declared.bundle.Folder.{Folder}
 use Rattle.census_crew.specs.Writing.{WritesFront, WritesReport}
-use Rattle.census_faults.specs.Printed.{printed}
-use Rattle.census_folders.specs.Losses.{KeepsFolder, StopsKeepingAt, nothing}
+use Rattle.census_faults.specs.Printed.{printable_text}
+use Rattle.census_folders.specs.Losses.{KeepsFolder, StopsKeepingAt, kept_at_start}
 use Rattle.census_folders.specs.Told.{Told}
 use Rattle.census_folders.specs.Trees.{KeepsTrees}
 use Rattle.census_folders.specs.declared.fault.FoldersFault.{FoldersFault}
@@ -27,7 +27,7 @@ use Rattle.census_errors.specs.declared.run_error.RunError.TheVariants.{Memory, 
 
 -- the line for it on standard error
 abbrev pub lost_line : Loss → List ℕ
-lost_line loss = codes "census: lost " ++ printed loss.path ++ codes "\n"
+lost_line loss = codes "census: lost " ++ printable_text loss.path ++ codes "\n"
 
 abbrev pub lost_lines : List Loss → List ℕ
 lost_lines lost = flat_map lost_line lost
@@ -50,7 +50,7 @@ pub record IsKept (shelf : Tellings) (limit : Option ℕ) (recursive : Bool) (wo
   pub way : List Loss
   pub places : KeepsPlaces shelf recursive words folders way
   pub kept : Kept
-  pub reads : FoldsTo (KeepsFolder shelf.listed shelf.held) (nothing limit) folders kept
+  pub reads : FoldsTo (KeepsFolder shelf.listed shelf.held) (kept_at_start limit) folders kept
   pub bundle_is : bundle ≡ kept.bundle
   pub lost_is : lost ≡ way ++ kept.lost
 
@@ -71,7 +71,7 @@ error_lines explain error = error_line (command.Run error) ++ said_if explain (r
 pub record KeepsInto (listed : List ℕ → Told) (held : List ℕ → List ℕ → Told) (limit : Option ℕ) (folders : List (List ℕ)) (way : List Loss)
     (gathered : Gathered) : Type 0 where
   pub kept : Kept
-  pub reads : FoldsTo (KeepsFolder listed held) (nothing limit) folders kept
+  pub reads : FoldsTo (KeepsFolder listed held) (kept_at_start limit) folders kept
   pub bundle_is : gathered.bundle ≡ kept.bundle
   pub lines_are : gathered.lines.items ≡ lost_lines (way ++ kept.lost)
 

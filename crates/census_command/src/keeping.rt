@@ -17,7 +17,7 @@ use census_crew::Gate;
 use census_errors::{
     CommandError, ErrorStream, RunError, borrowed_words, run_saying, say_if, stop_saying,
 };
-use census_faults::printed;
+use census_faults::printable_text;
 use census_folders::{Loss, Shelf, folders_below_each_on, read_folders_on};
 use life_answer::Question;
 use std::alloc::{AllocError, Global};
@@ -36,7 +36,7 @@ struct Gathered {
 fn push_line(alloc: Global, lines: &mut Vec<u8>, loss: &Loss) -> Result<(), AllocError>
     ensures { OnOk result (lines.new.items ≡ lines.old.items ++ lost_line loss.now) }
 {
-    let path = printed(alloc, loss.path.as_slice())?;
+    let path = printable_text(alloc, loss.path.as_slice())?;
     lines.extend_from_slice(b"census: lost ")?;
     lines.extend_from_slice(path.as_slice())?;
     lines.extend_from_slice(b"\n")?;

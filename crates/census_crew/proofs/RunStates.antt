@@ -10,7 +10,7 @@ use Rattle.census_book.specs.declared.offer.Offer.TheVariants.{Double, Stranger,
 use Rattle.census_book.specs.declared.offer.Offer.{Offer}
 use Rattle.census_format.specs.Lines.{answer_to_entry, is_refused, is_resolved, is_unresolved}
 use Rattle.life_answer.specs.declared.finding.Answer.{Answer}
-use Rattle.census_book.specs.Progress.{Progress, started}
+use Rattle.census_book.specs.Progress.{Progress, initial_progress}
 use Rattle.census_crew.specs.declared.tally.Tally.{Tally}
 use Rattle.census_crew.specs.RunStates.{IsRunState}
 use Rattle.census_crew.specs.Writing.{StaysInStep}
@@ -19,13 +19,13 @@ use Rattle.census_crew.proofs.Tallies.{all_counted, count_small, none_taken, one
 use Rattle.life_answer.specs.Questions.{IsAnswered}
 use Rattle.life_answer.specs.declared.question.Question.{Question}
 
-pub state_start : (b : List Folder) (question : Question) (p : Progress) (t : Tally) → IsSmall b → IsAnswered question → p ≡ started b question → t ≡ no_tally → IsRunState b question p t
+pub state_start : (b : List Folder) (question : Question) (p : Progress) (t : Tally) → IsSmall b → IsAnswered question → p ≡ initial_progress b question → t ≡ no_tally → IsRunState b question p t
 state_start b question p t small lawful is none = record {
   small = small;
   lawful = lawful;
   same_bundle = ap (λ (q : Progress). q.bundle) is;
   same_question = ap (λ (q : Progress). q.question) is;
-  counted = subst (λ (q : Progress). TalliesTaken t b question q.taken) (sym is) (subst (λ s. TalliesTaken s b question (started b question).taken) (sym none) (none_taken b question));
+  counted = subst (λ (q : Progress). TalliesTaken t b question q.taken) (sym is) (subst (λ s. TalliesTaken s b question (initial_progress b question).taken) (sym none) (none_taken b question));
 }
 
 pub state_sent : (b : List Folder) (question : Question) (p q : Progress) (t : Tally) → IsRunState b question p t → q.bundle ≡ p.bundle → q.question ≡ p.question → q.taken ≡ p.taken → IsRunState b question q t

@@ -8,9 +8,9 @@ use Rattle.census_bundle.specs.declared.bundle.Entry.{Entry}
 use Rattle.census_bundle.specs.declared.ticket.Ticket.{Ticket}
 use Rattle.census_bundle.specs.declared.bundle.Folder.{Folder}
 use Rattle.census_bundle.specs.Tickets.{IsTicketOf, HasAll, has_ticket}
-use Rattle.census_format.specs.Reports.{out}
+use Rattle.census_format.specs.Reports.{text_released}
 use Rattle.census_book.specs.Released.{IsReleased}
-use Rattle.census_book.specs.Progress.{Progress, started, with_taken, sent_of}
+use Rattle.census_book.specs.Progress.{Progress, initial_progress, with_taken, sent_of}
 use Rattle.census_crew.specs.Writing.{EndsInStep, WritesReport, WritesFront, IsInStep, StaysInStep, StopsInStep}
 use Rattle.census_book.specs.declared.offer.Offer.{Offer}
 use Rattle.census_book.specs.declared.offer.Offer.TheVariants.{Stranger, Double, Taken}
@@ -18,13 +18,13 @@ use Rattle.census_book.specs.Collecting.{Offered}
 use Rattle.census_book.proofs.Releases.{released_start, released_more, released_front, released_whole}
 use Rattle.life_answer.specs.declared.question.Question.{Question}
 
-pub in_step_start : (k : Option (List ℕ)) (b : List Folder) (question : Question) → IsInStep k k (started b question)
+pub in_step_start : (k : Option (List ℕ)) (b : List Folder) (question : Question) → IsInStep k k (initial_progress b question)
 in_step_start k b question = record { text = []; released = released_start b question; written = Appends-nil k }
 
 pub in_step_more : (old new : Option (List ℕ)) (p : Progress) (t : Ticket) → IsInStep old new p → IsTicketOf p.bundle t → has_ticket p.taken t ≡ false → IsInStep old new (with_taken p t)
 in_step_more old new p t s of not = record {
   text = s.text;
-  released = subst (IsReleased p.bundle p.question _) (append_assoc s.text p.unsent (out p.bundle p.question p.taken t)) (released_more p.bundle p.question p.taken _ t s.released of not);
+  released = subst (IsReleased p.bundle p.question _) (append_assoc s.text p.unsent (text_released p.bundle p.question p.taken t)) (released_more p.bundle p.question p.taken _ t s.released of not);
   written = s.written;
 }
 
@@ -99,11 +99,11 @@ stays_offered k p q t worked question Taken h =
     subst (StaysInStep k p k) (sym h.1) (stays_more k p t (h.0.0.entry, h.0.0.at) h.0.1)
 
 pub front_at_start : (k : Option (List ℕ)) (b : List Folder) (question : Question) → WritesFront k k b question
-front_at_start k b question = front_of_step k k (started b question) (in_step_start k b question)
+front_at_start k b question = front_of_step k k (initial_progress b question) (in_step_start k b question)
 
-pub front_from_start : (k m : Option (List ℕ)) (p : Progress) (b : List Folder) (question : Question) → p ≡ started b question → StopsInStep k p m → WritesFront k m b question
+pub front_from_start : (k m : Option (List ℕ)) (p : Progress) (b : List Folder) (question : Question) → p ≡ initial_progress b question → StopsInStep k p m → WritesFront k m b question
 front_from_start k m p b question is stops =
-    let s : StopsInStep k (started b question) m = subst (λ q. StopsInStep k q m) is stops in
+    let s : StopsInStep k (initial_progress b question) m = subst (λ q. StopsInStep k q m) is stops in
     s.front k (in_step_start k b question)
 
 -- what stays in step with a collector that has all and has sent all ends with a report
@@ -113,9 +113,9 @@ ends_whole k m p q stays none all =
     let Q : Question → Type 0 = λ n. (base : Option (List ℕ)) → IsInStep base k p → WritesReport base m q.bundle n in
     record { report = subst P stays.same_bundle (subst Q stays.same_question (λ base s. report_of_step base m q (stays.in_step base s) all none)) }
 
-pub report_at_end : (k l m : Option (List ℕ)) (p q : Progress) (b : List Folder) (question : Question) → p ≡ started b question → StaysInStep k p l q → EndsInStep l q m → WritesReport k m b question
+pub report_at_end : (k l m : Option (List ℕ)) (p q : Progress) (b : List Folder) (question : Question) → p ≡ initial_progress b question → StaysInStep k p l q → EndsInStep l q m → WritesReport k m b question
 report_at_end k l m p q b question is stays ends =
-    let s : StaysInStep k (started b question) l q = subst (λ q'. StaysInStep k q' l q) is stays in
+    let s : StaysInStep k (initial_progress b question) l q = subst (λ q'. StaysInStep k q' l q) is stays in
     let w = ends.report k (s.in_step k (in_step_start k b question)) in
     let P : List Folder → Type 0 = λ fs. WritesReport k m fs question in
     let Q : Question → Type 0 = λ n. WritesReport k m q.bundle n in

@@ -5,7 +5,7 @@ use Rattle.census_bundle.specs.declared.bundle.Folder.{Folder}
 use Rattle.census_bundle.specs.declared.ticket.Ticket.{Ticket}
 use Rattle.census_bundle.specs.Sizes.{IsSmall}
 use Rattle.std.specs.FinSet.{contains-empty}
-use Rattle.census_bundle.specs.Tickets.{Tickets, ticket_cmp, ticket, no_tickets, numbered, entry_in, has_ticket, with_ticket, HasAll}
+use Rattle.census_bundle.specs.Tickets.{Tickets, ticket_cmp, ticket, no_tickets, element_at, entry_in, has_ticket, with_ticket, HasAll}
 use Rattle.life_answer.specs.declared.finding.Answer.{Answer}
 use Rattle.census_book.specs.Collecting.{Belongs}
 use Rattle.census_book.specs.Counts.{numbered_sum, one_if, count_of, taken_count}
@@ -24,8 +24,8 @@ sum_same g h i (x ∷ xs) same =
     let rest = sum_same g h (suc i) xs (λ j k y e is. same j (suc k) y (omega arith) is) in
     omega arith
 
-at_number : {A : Type 0} (xs : List A) (j k : ℕ) (x : A) → j ≡ 1 + k → slice_get xs k ≡ Some x → numbered xs j ≡ Some x
-at_number xs j k x e is = subst (λ n. numbered xs n ≡ Some x) (let s : suc k ≡ j = omega arith in s) is
+at_number : {A : Type 0} (xs : List A) (j k : ℕ) (x : A) → j ≡ 1 + k → slice_get xs k ≡ Some x → element_at xs j ≡ Some x
+at_number xs j k x e is = subst (λ n. element_at xs n ≡ Some x) (let s : suc k ≡ j = omega arith in s) is
 
 -- a sum of weights that are each at most m
 sum_small : {A : Type 0} (g : ℕ → A → ℕ) (m i : ℕ) (xs : List A) → ((j k : ℕ) (x : A) → slice_get xs k ≡ Some x → g j x ≤ m) → numbered_sum g i xs ≤ length xs * m

@@ -5,7 +5,7 @@ ghost use Rattle.life_answer.specs.Questions.{IsAnswered};
 ghost use Rattle.census_bundle.specs.Sizes.{IsSmall};
 ghost use Rattle.census_bundle.specs.Tickets.{has_ticket, with_ticket, HasAll, IsTicketOf};
 ghost use Rattle.census_book.specs.Collecting.{after_offer, Judged, Offered};
-ghost use Rattle.census_book.specs.Progress.{started};
+ghost use Rattle.census_book.specs.Progress.{initial_progress};
 ghost use Rattle.census_crew.specs.Faults.{FitsFault, TellsTicket, TellsTicketOf};
 ghost use Rattle.census_crew.specs.RunStates.{IsRunState};
 ghost use Rattle.census_crew.specs.Strangers.{HasStrangers, NotesStranger};
@@ -48,7 +48,7 @@ impl<'a> RunState<'a> {
         question: Question,
     ) -> Result<RunState<'a>, AllocError>
         requires { IsAnswered question }
-        ensures collector { IfOk result (λ state. state.collector ≡ started bundle.now question) }
+        ensures collector { IfOk result (λ state. state.collector ≡ initial_progress bundle.now question) }
         ensures strangers { IfOk result (λ state. state.tally.strangers ≡ 0) }
     {
         is_small(bundle);

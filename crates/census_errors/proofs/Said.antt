@@ -10,8 +10,8 @@ use Rattle.hex.specs.Hex.{encode_lower}
 use Rattle.census_identify.proofs.Written.{tells_more}
 use Rattle.census_identify.specs.Streams.{Sink}
 use Rattle.census_bundle.specs.Names.{is_name_byte}
-use Rattle.census_faults.specs.Explained.{explained, heading, spot_text}
-use Rattle.census_faults.specs.Printed.{printed, printed_byte}
+use Rattle.census_faults.specs.Explained.{explanation, heading, spot_text}
+use Rattle.census_faults.specs.Printed.{printable_text, printed_byte}
 use Rattle.census_faults.specs.declared.fault.Fault.{Fault}
 use Rattle.census_faults.specs.declared.spot.Spot.{Spot}
 use Rattle.census_faults.specs.declared.spot.Spot.TheVariants.{Nowhere, Line, At}
@@ -52,11 +52,11 @@ more_after xs ys a b c first more = at a.failed refl first
     at false sound told = told_after xs ys a b c told more
 
 -- one more byte of a name
-pub printed_more : (name : List ℕ) (i : ℕ) → i < length name → printed (take (i + 1) name) ≡ printed (take i name) ++ printed_byte (slice_index name i)
+pub printed_more : (name : List ℕ) (i : ℕ) → i < length name → printable_text (take (i + 1) name) ≡ printable_text (take i name) ++ printed_byte (slice_index name i)
 printed_more name i within =
-    ap printed (take_more name i 0 within)
+    ap printable_text (take_more name i 0 within)
     ∙ flat_map-append printed_byte (take i name) (slice_index name i ∷ [])
-    ∙ ap (λ (shown : List ℕ). printed (take i name) ++ shown) (append-nil (printed_byte (slice_index name i)))
+    ∙ ap (λ (shown : List ℕ). printable_text (take i name) ++ shown) (append-nil (printed_byte (slice_index name i)))
 
 -- a byte that no lawful name has
 pub escaped_is : (byte : ℕ) → is_name_byte byte ≡ false → printed_byte byte ≡ 92 ∷ 120 ∷ encode_lower (byte ∷ [])
@@ -74,12 +74,12 @@ place_is (Line line) known = refl
 place_is (At place) known = refl
 
 -- what is said is the line for the fault, the file and the place
-pub says_line : (f : Fault) (name : Option (List ℕ)) (spot : Spot) (saying : Saying) → Says f name spot saying → said saying ≡ explained f name spot None
-says_line f name spot saying h = λ i. explained (h.fault_is i) (h.name_is i) (h.spot_is i) (h.word_is i)
+pub says_line : (f : Fault) (name : Option (List ℕ)) (spot : Spot) (saying : Saying) → Says f name spot saying → said saying ≡ explanation f name spot None
+says_line f name spot saying h = λ i. explanation (h.fault_is i) (h.name_is i) (h.spot_is i) (h.word_is i)
 
 -- and so it is of what stands at a place
 pub says_at : (f : Fault) (name : Option (List ℕ)) (spot : Spot) (saying : Saying) (place : Place) (at : Saying) → Says f name spot saying
     → IsSaidAt saying place at → said at ≡ explained_at f name spot place
 says_at f name spot saying place at h s =
-    (λ i. explained (s.fault_is i) (s.name_is i) (s.spot_is i) (s.word_is i))
-    ∙ (λ i. explained (fault_at (h.fault_is i) place) (option_or place.path (h.name_is i)) (h.spot_is i) (option_or place.word (h.word_is i)))
+    (λ i. explanation (s.fault_is i) (s.name_is i) (s.spot_is i) (s.word_is i))
+    ∙ (λ i. explanation (fault_at (h.fault_is i) place) (option_or place.path (h.name_is i)) (h.spot_is i) (option_or place.word (h.word_is i)))

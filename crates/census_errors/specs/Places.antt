@@ -5,7 +5,7 @@ use Rattle.std.specs.Option.{option_copied, option_or}
 use Rattle.census_faults.specs.declared.fault.Fault.{Fault}
 use Rattle.census_faults.specs.declared.fault.Fault.TheVariants.{FileForFolder}
 use Rattle.census_folders.specs.Folders.{file_limit}
-use Rattle.census_folders.specs.Losses.{KeepsFolder, nothing}
+use Rattle.census_folders.specs.Losses.{KeepsFolder, kept_at_start}
 use Rattle.census_folders.specs.Told.{Told, MayExceed, MayFail}
 use Rattle.census_folders.specs.Trees.{HoldsTrees, KeepsTrees}
 use Rattle.census_folders.specs.declared.keeping.Kept.{Kept}
@@ -53,7 +53,7 @@ pub record IsFirst (lost : List Loss) (path : List ℕ) : Type 0 where
 -- Where a census of these folders goes on past what can't be read, it loses this first.
 pub record LosesFirst (shelf : Tellings) (limit : Option ℕ) (folders : List (List ℕ)) (path : List ℕ) : Type 0 where
   pub kept : Kept
-  pub reads : FoldsTo (KeepsFolder shelf.listed shelf.held) (nothing limit) folders kept
+  pub reads : FoldsTo (KeepsFolder shelf.listed shelf.held) (kept_at_start limit) folders kept
   pub first : IsFirst kept.lost path
 
 -- the walk to the folders at and below those of these words loses this first

@@ -2,7 +2,7 @@
 use Rattle.std.specs.Prelude.{◌≡◌, ℕ, ◌-◌, Bool, true, false, List, [], Option, None, option_map, slice_get}
 use Rattle.std.specs.Option.{option_copied, option_or}
 use Rattle.census_bundle.specs.declared.bundle.AddFault.TheVariants as add
-use Rattle.census_faults.specs.Explained.{explained}
+use Rattle.census_faults.specs.Explained.{explanation}
 use Rattle.census_faults.specs.Faults.{rule_fault}
 use Rattle.census_faults.specs.Spots.{spot_of_bundle, spot_of_code}
 use Rattle.census_faults.specs.declared.fault.Fault.{Fault}
@@ -28,7 +28,7 @@ use Rattle.census_errors.specs.declared.saying.Saying.{Saying}
 
 -- the line
 abbrev pub said : Saying → List ℕ
-said saying = explained saying.fault (option_copied saying.name) saying.spot (option_copied saying.word)
+said saying = explanation saying.fault (option_copied saying.name) saying.spot (option_copied saying.word)
 
 -- where faults are explained, and else nothing
 abbrev pub said_if : Bool → List ℕ → List ℕ
@@ -44,7 +44,7 @@ pub record Says (f : Fault) (name : Option (List ℕ)) (spot : Spot) (saying : S
 
 -- the line for a fault, with what is known of its place
 abbrev pub explained_at : Fault → Option (List ℕ) → Spot → Place → List ℕ
-explained_at f name spot place = explained (fault_at f place) (option_or place.path name) spot (option_or place.word None)
+explained_at f name spot place = explanation (fault_at f place) (option_or place.path name) spot (option_or place.word None)
 
 -- # Of `run` and of `objects`
 
@@ -62,7 +62,7 @@ run_spot error = Nowhere
 
 -- the line for an error
 abbrev pub run_line : RunError → List ℕ
-run_line error = explained (run_fault error) None (run_spot error) None
+run_line error = explanation (run_fault error) None (run_spot error) None
 
 -- # Of `advance`
 

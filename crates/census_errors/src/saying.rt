@@ -2,7 +2,7 @@
 ghost use Rattle.std.specs.Prelude.{◌≡◌, ◌++◌, None, Some, codes, decimal, false};
 ghost use Rattle.std.specs.Option.{option_copied};
 ghost use Rattle.census_faults.specs.Explained.{heading, spot_text, word_text};
-ghost use Rattle.census_faults.specs.Printed.{printed, printed_byte};
+ghost use Rattle.census_faults.specs.Printed.{printable_text, printed_byte};
 ghost use Rattle.census_errors.specs.Errors.{status_of};
 ghost use Rattle.census_errors.specs.Messages.{error_line};
 ghost use Rattle.census_errors.specs.Sayings.{said, said_if};
@@ -72,7 +72,7 @@ fn tell_byte<E: Write>(byte: u8, errors: &mut ErrorStream<E>)
 
 // Tells a name as it is shown.
 fn tell_bytes<E: Write>(name: &[u8], errors: &mut ErrorStream<E>)
-    ensures { TellsMore (printed name.now) errors.old errors.new }
+    ensures { TellsMore (printable_text name.now) errors.old errors.new }
 {
     for byte in name {
         tell_byte(*byte, errors);

@@ -13,7 +13,7 @@ use Rattle.life_faults.specs.declared.kinds.RuleKind.{RuleKind}
 use Rattle.life_faults.specs.declared.kinds.RuleKind.TheVariants as kinds
 use Rattle.census_faults.specs.declared.fault.Fault.{Fault}
 use Rattle.census_faults.specs.declared.fault.Fault.TheVariants.{Text, Rule, Bundle, Folder, Code, Generation, Report, TooLong, Read, FileForFolder, Write, Arguments, Words, Memory}
-use Rattle.census_faults.specs.Faults.{same}
+use Rattle.census_faults.specs.Faults.{canonical_fault}
 use Rattle.census_faults.specs.Sentences.{FaultsDiffer, sentence_of}
 
 -- the first of these faults that has the sentence, or out of memory
@@ -65,7 +65,7 @@ all_faults =
 abbrev told_by : List ℕ → Fault
 told_by words = told_among all_faults words
 
-text_tells : (fault : RleFault) → told_by (sentence_of (Text fault)) ≡ same (Text fault)
+text_tells : (fault : RleFault) → told_by (sentence_of (Text fault)) ≡ canonical_fault (Text fault)
 text_tells rle.NoHeader = refl
 text_tells rle.BadHeader = refl
 text_tells rle.RuleNotLifeLike = refl
@@ -78,7 +78,7 @@ text_tells (rle.TooMany at) = refl
 text_tells rle.NoEnd = refl
 text_tells rle.Memory = refl
 
-rule_tells : (fault : RuleKind) → told_by (sentence_of (Rule fault)) ≡ same (Rule fault)
+rule_tells : (fault : RuleKind) → told_by (sentence_of (Rule fault)) ≡ canonical_fault (Rule fault)
 rule_tells kinds.Named = refl
 rule_tells kinds.Bounded = refl
 rule_tells kinds.Generations = refl
@@ -87,7 +87,7 @@ rule_tells kinds.NonTotalistic = refl
 rule_tells kinds.Blank = refl
 rule_tells kinds.Other = refl
 
-bundle_tells : (fault : BundleFault) → told_by (sentence_of (Bundle fault)) ≡ same (Bundle fault)
+bundle_tells : (fault : BundleFault) → told_by (sentence_of (Bundle fault)) ≡ canonical_fault (Bundle fault)
 bundle_tells (bundle.StrayText line) = refl
 bundle_tells (bundle.FileBeforeFolder line) = refl
 bundle_tells (bundle.BadAtLine line) = refl
@@ -95,20 +95,20 @@ bundle_tells (bundle.BadName line) = refl
 bundle_tells (bundle.TooMany line) = refl
 bundle_tells bundle.Memory = refl
 
-folder_tells : (fault : AddFault) → told_by (sentence_of (Folder fault)) ≡ same (Folder fault)
+folder_tells : (fault : AddFault) → told_by (sentence_of (Folder fault)) ≡ canonical_fault (Folder fault)
 folder_tells add.BadName = refl
 folder_tells add.NoFolder = refl
 folder_tells add.TooMany = refl
 folder_tells add.Memory = refl
 
-code_tells : (fault : CodeFault) → told_by (sentence_of (Code fault)) ≡ same (Code fault)
+code_tells : (fault : CodeFault) → told_by (sentence_of (Code fault)) ≡ canonical_fault (Code fault)
 code_tells code.Empty = refl
 code_tells (code.BadChar at) = refl
 code_tells (code.CutRun at) = refl
 code_tells (code.TooFar at) = refl
 code_tells code.Memory = refl
 
-fault_tells : (fault : Fault) → told_by (sentence_of fault) ≡ same fault
+fault_tells : (fault : Fault) → told_by (sentence_of fault) ≡ canonical_fault fault
 fault_tells (Text fault) = text_tells fault
 fault_tells (Rule kind) = rule_tells kind
 fault_tells (Bundle fault) = bundle_tells fault

@@ -6,7 +6,7 @@ use Rattle.std.proofs.lemmas.Bool.Decides.{nat_tests}
 use Rattle.std.proofs.lemmas.List.Folds.{list_all-append}
 use Rattle.hex.specs.Hex.{encode_lower, encode_with}
 use Rattle.census_bundle.specs.Names.{is_name_byte}
-use Rattle.census_faults.specs.Printed.{ShowsNameBytes, ShowsNames, printed, printed_byte}
+use Rattle.census_faults.specs.Printed.{ShowsNameBytes, ShowsNames, printable_text, printed_byte}
 
 -- # Bytes of lawful names alone
 
@@ -28,19 +28,19 @@ by_test c false e = escaped_is c (is_low c e)
 pub shows_name_bytes : ShowsNameBytes
 shows_name_bytes [] = refl
 shows_name_bytes (c ∷ rest) =
-    list_all-append is_name_byte (printed_byte c) (printed rest)
-    ∙ and_from (list_all is_name_byte (printed_byte c)) (list_all is_name_byte (printed rest)) (by_test c (is_name_byte c) refl) (shows_name_bytes rest)
+    list_all-append is_name_byte (printed_byte c) (printable_text rest)
+    ∙ and_from (list_all is_name_byte (printed_byte c)) (list_all is_name_byte (printable_text rest)) (by_test c (is_name_byte c) refl) (shows_name_bytes rest)
 
 -- # Lawful names as they are
 
 byte_as_is : (c : ℕ) → is_name_byte c ≡ true → printed_byte c ≡ c ∷ []
 byte_as_is c e = ap (λ (b : Bool). if b then c ∷ [] else escaped c) e
 
-as_is : (name : List ℕ) → list_all is_name_byte name ≡ true → printed name ≡ name
+as_is : (name : List ℕ) → list_all is_name_byte name ≡ true → printable_text name ≡ name
 as_is [] h = refl
 as_is (c ∷ rest) h =
     let parts = and_parts (is_name_byte c) (list_all is_name_byte rest) h in
-    ap (λ shown. shown ++ printed rest) (byte_as_is c parts.0) ∙ ap (λ shown. c ∷ shown) (as_is rest parts.1)
+    ap (λ shown. shown ++ printable_text rest) (byte_as_is c parts.0) ∙ ap (λ shown. c ∷ shown) (as_is rest parts.1)
 
 pub shows_names : ShowsNames
 shows_names name h = as_is name h

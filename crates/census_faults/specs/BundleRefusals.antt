@@ -7,12 +7,12 @@ use Rattle.census_bundle.specs.declared.bundle.Entry.{Entry}
 use Rattle.census_bundle.specs.declared.bundle.Folder.{Folder}
 use Rattle.census_faults.specs.declared.fault.Fault.TheVariants.{Read}
 use Rattle.census_faults.specs.declared.spot.Spot.TheVariants.{Nowhere}
-use Rattle.census_faults.specs.Explained.{explained}
+use Rattle.census_faults.specs.Explained.{explanation}
 use Rattle.census_faults.specs.Refusals.{refusal_line}
 
 -- a text can't be read
 abbrev pub lost_line : List ℕ → List ℕ → List ℕ
-lost_line collection name = explained Read (Some (collection ++ codes "/" ++ name)) Nowhere None
+lost_line collection name = explanation Read (Some (collection ++ codes "/" ++ name)) Nowhere None
 
 -- a text has a fault, or means a pattern
 abbrev pub fault_lines : List ℕ → List ℕ → List ℕ → Option RleFault → List ℕ

@@ -3,13 +3,13 @@ use Rattle.std.specs.Prelude.{ℕ, List, [], ◌++◌, Option, Some, None, codes
 use Rattle.census_faults.specs.declared.fault.Fault.{Fault}
 use Rattle.census_faults.specs.declared.spot.Spot.{Spot}
 use Rattle.census_faults.specs.declared.spot.Spot.TheVariants.{Nowhere, Line, At}
-use Rattle.census_faults.specs.Printed.{printed}
+use Rattle.census_faults.specs.Printed.{printable_text}
 use Rattle.census_faults.specs.Sentences.{sentence_of}
 
 -- `NAME:`, where there is a name
 abbrev pub name_text : Option (List ℕ) → List ℕ
 name_text None = []
-name_text (Some name) = printed name ++ codes ":"
+name_text (Some name) = printable_text name ++ codes ":"
 
 -- `LINE:` or `LINE:COLUMN:`, as far as they are known
 abbrev pub spot_text : Spot → List ℕ
@@ -26,8 +26,8 @@ heading (Some name) spot = name_text (Some name) ++ spot_text spot ++ codes " "
 -- ` (WORD)`, where the system has a word
 abbrev pub word_text : Option (List ℕ) → List ℕ
 word_text None = []
-word_text (Some word) = codes " (" ++ printed word ++ codes ")"
+word_text (Some word) = codes " (" ++ printable_text word ++ codes ")"
 
 -- two blanks, where the fault stands, the sentence, the system's word, and LF
-abbrev pub explained : Fault → Option (List ℕ) → Spot → Option (List ℕ) → List ℕ
-explained fault name spot word = codes "  " ++ heading name spot ++ sentence_of fault ++ word_text word ++ codes "\n"
+abbrev pub explanation : Fault → Option (List ℕ) → Spot → Option (List ℕ) → List ℕ
+explanation fault name spot word = codes "  " ++ heading name spot ++ sentence_of fault ++ word_text word ++ codes "\n"

@@ -68,18 +68,18 @@ same_of_code (codes.TooFar at) = Code (codes.TooFar 0)
 same_of_code codes.Memory = Memory
 
 -- the one fault that these name
-abbrev pub same : Fault → Fault
-same (Text fault) = same_of_text fault
-same (Rule kind) = Rule kind
-same (Bundle fault) = same_of_bundle fault
-same (Folder fault) = same_of_folder fault
-same (Code fault) = same_of_code fault
-same Generation = Generation
-same Report = Report
-same TooLong = TooLong
-same Read = Read
-same FileForFolder = FileForFolder
-same Write = Write
-same Arguments = Arguments
-same Words = Words
-same Memory = Memory
+abbrev pub canonical_fault : Fault → Fault
+canonical_fault (Text fault) = same_of_text fault
+canonical_fault (Rule kind) = Rule kind
+canonical_fault (Bundle fault) = same_of_bundle fault
+canonical_fault (Folder fault) = same_of_folder fault
+canonical_fault (Code fault) = same_of_code fault
+canonical_fault Generation = Generation
+canonical_fault Report = Report
+canonical_fault TooLong = TooLong
+canonical_fault Read = Read
+canonical_fault FileForFolder = FileForFolder
+canonical_fault Write = Write
+canonical_fault Arguments = Arguments
+canonical_fault Words = Words
+canonical_fault Memory = Memory

@@ -8,13 +8,13 @@ use Rattle.census_bundle.specs.Names.{is_name_byte}
 abbrev pub printed_byte : ℕ → List ℕ
 printed_byte c = if is_name_byte c then c ∷ [] else 92 ∷ 120 ∷ encode_lower (c ∷ [])
 
-abbrev pub printed : List ℕ → List ℕ
-printed bytes = flat_map printed_byte bytes
+abbrev pub printable_text : List ℕ → List ℕ
+printable_text bytes = flat_map printed_byte bytes
 
 -- what is shown has bytes of lawful names alone, so that no name ends a line
 abbrev pub ShowsNameBytes : Type 0
-ShowsNameBytes = (bytes : List ℕ) → list_all is_name_byte (printed bytes) ≡ true
+ShowsNameBytes = (bytes : List ℕ) → list_all is_name_byte (printable_text bytes) ≡ true
 
 -- what has such bytes alone, as a lawful name, is shown as it is
 abbrev pub ShowsNames : Type 0
-ShowsNames = (name : List ℕ) → list_all is_name_byte name ≡ true → printed name ≡ name
+ShowsNames = (name : List ℕ) → list_all is_name_byte name ≡ true → printable_text name ≡ name

@@ -10,7 +10,7 @@ use Rattle.census_bundle.specs.declared.bundle.AddFault.TheVariants as add
 use Rattle.life_faults.specs.Sentences as texts
 use Rattle.census_faults.specs.declared.fault.Fault.{Fault}
 use Rattle.census_faults.specs.declared.fault.Fault.TheVariants.{Text, Rule, Bundle, Folder, Code, Generation, Report, TooLong, Read, FileForFolder, Write, Arguments, Words, Memory}
-use Rattle.census_faults.specs.Faults.{same}
+use Rattle.census_faults.specs.Faults.{canonical_fault}
 
 abbrev pub bundle_sentence : BundleFault → List ℕ
 bundle_sentence (bundle.StrayText line) = codes "text stands on a line that belongs to no pattern: it must come after a line `@file NAME`"
@@ -54,4 +54,4 @@ sentence_of Memory = texts.sentence_of rle.Memory
 
 -- what is told by one sentence is one fault
 abbrev pub FaultsDiffer : Type 0
-FaultsDiffer = (f g : Fault) → sentence_of f ≡ sentence_of g → same f ≡ same g
+FaultsDiffer = (f g : Fault) → sentence_of f ≡ sentence_of g → canonical_fault f ≡ canonical_fault g

@@ -5,7 +5,7 @@ use Rattle.life_text.specs.declared.rle.RleFault.TheVariants as rle
 use Rattle.life_shape.specs.TextOrder.{body_of}
 use Rattle.life_shape.specs.declared.reader.CodeFault.{CodeFault}
 use Rattle.life_shape.specs.declared.reader.CodeFault.TheVariants as code
-use Rattle.life_faults.specs.Places.{place, place_of}
+use Rattle.life_faults.specs.Places.{line_and_column, place_of}
 use Rattle.census_bundle.specs.declared.fault.BundleFault.{BundleFault}
 use Rattle.census_bundle.specs.declared.fault.BundleFault.TheVariants as bundle
 use Rattle.census_faults.specs.declared.spot.Spot.{Spot}
@@ -30,7 +30,7 @@ body_start code = length code - length (body_of code)
 
 -- the place of a byte of the body in the code as a whole; a byte past the body's end counts as the end
 abbrev pub body_spot : List ℕ → ℕ → Spot
-body_spot code at = At (place code (body_start code + min at (length (body_of code))))
+body_spot code at = At (line_and_column code (body_start code + min at (length (body_of code))))
 
 abbrev pub spot_of_code : List ℕ → CodeFault → Spot
 spot_of_code text code.Empty = body_spot text 0

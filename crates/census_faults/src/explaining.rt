@@ -1,7 +1,7 @@
 //! The line that explains a fault.
 ghost use Rattle.std.specs.Prelude.{◌≡◌, ◌++◌, IfOk, OnOk, codes, decimal};
 ghost use Rattle.std.specs.Option.{option_copied};
-ghost use Rattle.census_faults.specs.Explained.{explained, heading, name_text, spot_text, word_text};
+ghost use Rattle.census_faults.specs.Explained.{explanation, heading, name_text, spot_text, word_text};
 
 use crate::fault::Fault;
 use crate::printing::push_printed;
@@ -75,7 +75,7 @@ fn push_word(line: &mut Vec<u8>, word: Option<&[u8]>) -> Result<(), AllocError>
 /// `NAME:LINE:COLUMN: `; the sentence; the system's word, where there is one, as ` (WORD)`; and a line feed.
 ///
 /// In the name and in the word each byte below 32 and 127 is written as `\x` and its two digits.
-pub fn explained(
+pub fn explanation(
     alloc: Global,
     fault: Fault,
     name: Option<&[u8]>,
@@ -83,7 +83,7 @@ pub fn explained(
     word: Option<&[u8]>,
 ) -> Result<Vec<u8>, AllocError>
     ensures { IfOk result (λ line.
-        line.items ≡ explained fault (option_copied name.entry) spot (option_copied word.entry)) }
+        line.items ≡ explanation fault (option_copied name.entry) spot (option_copied word.entry)) }
 {
     let mut line = Vec::new(alloc);
     line.extend_from_slice(b"  ")?;

@@ -12,9 +12,9 @@ mod refusals;
 mod sentences;
 mod spot;
 
-pub use explaining::explained;
+pub use explaining::explanation;
 pub use fault::{Fault, rule_fault, text_fault};
-pub use printing::{is_name_byte, printed, shown_names};
+pub use printing::{is_name_byte, printable_text, shown_names};
 pub use refusal::refusal_line;
 pub use refusals::refusal_lines;
 pub use sentences::{faults_differ, sentence};

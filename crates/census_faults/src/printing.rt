@@ -1,7 +1,7 @@
 //! Names as they are shown.
 ghost use Rattle.std.specs.Prelude.{◌≡◌, ◌++◌, IfOk, OnOk};
 ghost use Rattle.census_bundle.specs.Names.{is_name_byte};
-ghost use Rattle.census_faults.specs.Printed.{ShowsNameBytes, ShowsNames, printed, printed_byte};
+ghost use Rattle.census_faults.specs.Printed.{ShowsNameBytes, ShowsNames, printable_text, printed_byte};
 
 use std::alloc::{AllocError, Global};
 
@@ -28,7 +28,7 @@ fn push_byte(text: &mut Vec<u8>, byte: u8) -> Result<(), AllocError>
 
 // Appends bytes as they are shown.
 pub(crate) fn push_printed(text: &mut Vec<u8>, bytes: &[u8]) -> Result<(), AllocError>
-    ensures { OnOk result (text.new.items ≡ text.old.items ++ printed bytes.now) }
+    ensures { OnOk result (text.new.items ≡ text.old.items ++ printable_text bytes.now) }
 {
     for byte in bytes {
         push_byte(text, *byte)?;
@@ -38,8 +38,8 @@ pub(crate) fn push_printed(text: &mut Vec<u8>, bytes: &[u8]) -> Result<(), Alloc
 
 /// Bytes as they are shown: each byte that no lawful name has, which is below 32 or 127, as `\x` and two digits from
 /// `0` to `f`, and every other byte as it is.
-pub fn printed(alloc: Global, bytes: &[u8]) -> Result<Vec<u8>, AllocError>
-    ensures { IfOk result (λ text. text.items ≡ printed bytes.now) }
+pub fn printable_text(alloc: Global, bytes: &[u8]) -> Result<Vec<u8>, AllocError>
+    ensures { IfOk result (λ text. text.items ≡ printable_text bytes.now) }
 {
     let mut text = Vec::new(alloc);
     push_printed(&mut text, bytes)?;

@@ -2,7 +2,7 @@
 ghost use Rattle.std.specs.Prelude.{◌≡◌, ◌++◌, IfOk, OnOk};
 ghost use Rattle.census_faults.specs.BundleRefusals.{entry_lines, folder_lines, lost_line, refusal_lines};
 
-use crate::explaining::explained;
+use crate::explaining::explanation;
 use crate::fault::Fault;
 use crate::refusal::refusal_line;
 use crate::spot::Spot;
@@ -16,7 +16,7 @@ fn lost_line(alloc: Global, collection: &[u8], name: &[u8]) -> Result<Vec<u8>, A
     let mut path = collection.to_vec(alloc)?;
     path.extend_from_slice(b"/")?;
     path.extend_from_slice(name)?;
-    explained(
+    explanation(
         alloc,
         Fault::Read,
         Some(path.as_slice()),

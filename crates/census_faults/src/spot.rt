@@ -4,7 +4,7 @@ ghost use Rattle.life_shape.specs.TextOrder.{body_of};
 ghost use Rattle.census_faults.specs.Spots.{body_spot, body_start, spot_of_bundle, spot_of_code, spot_of_text};
 
 use census_bundle::BundleFault;
-use life_faults::{Place, place, place_of};
+use life_faults::{Place, line_and_column, place_of};
 use life_shape::{CodeFault, body_of};
 use life_text::RleFault;
 
@@ -56,7 +56,7 @@ fn body_spot(code: &[u8], at: usize) -> Spot
     ensures { result ≡ body_spot code.now at }
 {
     let at = at.min(body_of(code).len());
-    Spot::At(place(code, body_start(code) + at))
+    Spot::At(line_and_column(code, body_start(code) + at))
 }
 
 /// Where a fault of a code's body stands: at its byte in the code as a whole, and at the code's end where it has no

@@ -10,30 +10,30 @@ use Rattle.census_bundle.specs.Tickets.{ticket}
 use Rattle.census_bundle.specs.Sizes.{IsSmall}
 use Rattle.census_feed.specs.declared.item.Item.{Item}
 use Rattle.census_feed.specs.declared.item.Item.TheVariants.{Work, Mark}
-use Rattle.census_feed.specs.Items.{folder_tickets, tickets_from, end_marks, items, Before, Rises, same_item, has, is_mark, is_ticket, times, marks, ends_with_mark}
-use Rattle.census_feed.specs.Rule.{joined, AllMarks}
+use Rattle.census_feed.specs.Items.{folder_tickets, tickets_from, end_marks, items, Before, Rises, same_item, has, is_mark, is_ticket, occurrence_count, mark_count, ends_with_mark}
+use Rattle.census_feed.specs.Rule.{all_items_of, AllMarks}
 use Rattle.census_feed.proofs.Orders.{same_is, same_itself, before_itself, all_at}
 
-pub times_cons : (x y : Item) (ys : List Item) → times x (y ∷ ys) ≡ cond (same_item x y) 1 0 + times x ys
+pub times_cons : (x y : Item) (ys : List Item) → occurrence_count x (y ∷ ys) ≡ cond (same_item x y) 1 0 + occurrence_count x ys
 times_cons x y ys = sum_by-cons (λ z. cond (same_item x z) 1 0) y ys
 
-pub times_join : (x : Item) (xs ys : List Item) → times x (xs ++ ys) ≡ times x xs + times x ys
+pub times_join : (x : Item) (xs ys : List Item) → occurrence_count x (xs ++ ys) ≡ occurrence_count x xs + occurrence_count x ys
 times_join x xs ys = sum_by-append (λ z. cond (same_item x z) 1 0) xs ys
 
-pub marks_cons : (y : Item) (ys : List Item) → marks (y ∷ ys) ≡ cond (is_mark y) 1 0 + marks ys
+pub marks_cons : (y : Item) (ys : List Item) → mark_count (y ∷ ys) ≡ cond (is_mark y) 1 0 + mark_count ys
 marks_cons y ys = sum_by-cons (λ z. cond (is_mark z) 1 0) y ys
 
-pub marks_join : (xs ys : List Item) → marks (xs ++ ys) ≡ marks xs + marks ys
+pub marks_join : (xs ys : List Item) → mark_count (xs ++ ys) ≡ mark_count xs + mark_count ys
 marks_join xs ys = sum_by-append (λ z. cond (is_mark z) 1 0) xs ys
 
 one_itself : (x : Item) → cond {A = ℕ} (same_item x x) 1 0 ≡ 1
 one_itself x = cond-true (same_item x x) 1 0 (same_itself x)
 
-pub times_has : (x : Item) (xs : List Item) → has xs x ≡ true → 0 < times x xs
+pub times_has : (x : Item) (xs : List Item) → has xs x ≡ true → 0 < occurrence_count x xs
 times_has x [] e = absurd (false≢true e)
 times_has x (y ∷ ys) e = ⊎_elim (λ s. let c = cond-true {A = ℕ} (same_item x y) 1 0 s in omega (arith, times_cons x y ys)) (λ s. let h = times_has x ys s in omega (arith, times_cons x y ys)) (or_cases (same_item x y) (has ys x) e)
 
-pub has_times : (x : Item) (xs : List Item) → 0 < times x xs → has xs x ≡ true
+pub has_times : (x : Item) (xs : List Item) → 0 < occurrence_count x xs → has xs x ≡ true
 has_times x [] h = absurd (omega arith)
 has_times x (y ∷ ys) h = ⊎_elim (λ s. or_left (same_item x y) (has ys x) s) (λ s. or_right (same_item x y) (has ys x) (let c = cond-false {A = ℕ} (same_item x y) 1 0 s in has_times x ys (omega (arith, times_cons x y ys)))) (cases_Bool (same_item x y))
 
@@ -45,14 +45,14 @@ pub has_last : (xs : List Item) (x : Item) → has (xs ++ x ∷ []) x ≡ true
 has_last xs x = has_join x xs (x ∷ []) ∙ or_right (has xs x) (has (x ∷ []) x) (or_left (same_item x x) false (same_itself x))
 
 -- in a list that rises each item stands at most once
-pub times_rises : (x : Item) (xs : List Item) → Rises xs → times x xs ≡ cond (has xs x) 1 0
+pub times_rises : (x : Item) (xs : List Item) → Rises xs → occurrence_count x xs ≡ cond (has xs x) 1 0
 times_rises x [] r = refl
 times_rises x (y ∷ ys) r =
     ⊎_elim
     (λ s.
     let c = cond-true {A = ℕ} (same_item x y) 1 0 s in let d = cond-true {A = ℕ} (has (y ∷ ys) x) 1 0 (or_left (same_item x y) (has ys x) s) in
     let f : has ys x ≡ true → ⊥ = λ i. before_itself x (subst (λ z. Before z x) (sym (same_is x y s)) (all_at (Before y) ys x r.0 i)) in
-    let z : times x ys ≡ 0 = ⊎_elim (λ i. absurd (f i)) (λ i. times_rises x ys r.1 ∙ cond-false {A = ℕ} (has ys x) 1 0 i) (cases_Bool (has ys x)) in
+    let z : occurrence_count x ys ≡ 0 = ⊎_elim (λ i. absurd (f i)) (λ i. times_rises x ys r.1 ∙ cond-false {A = ℕ} (has ys x) 1 0 i) (cases_Bool (has ys x)) in
     omega (arith, times_cons x y ys))
     (λ s. let c = cond-false {A = ℕ} (same_item x y) 1 0 s in let h = times_rises x ys r.1 in
     let d : cond {A = ℕ} (has (y ∷ ys) x) 1 0 ≡ cond {A = ℕ} (has ys x) 1 0 = ap (λ b. cond {A = ℕ} (b || has ys x) 1 0) s in omega (arith, times_cons x y ys))
@@ -64,71 +64,71 @@ find x [] e = absurd (false≢true e)
 find x (y ∷ ys) e = ⊎_elim (λ s. ([], ys, ap (λ z. z ∷ ys) (sym (same_is x y s)))) (λ s. let r = find x ys s in (y ∷ r.0, r.1, ap (λ l. y ∷ l) r.2)) (or_cases (same_item x y) (has ys x) e)
 
 -- lists in which each item stands as often weigh the same
-pub same_weight : (h : Item → ℕ) (xs ys : List Item) → ((x : Item) → times x xs ≡ times x ys) → sum_by h xs ≡ sum_by h ys
+pub same_weight : (h : Item → ℕ) (xs ys : List Item) → ((x : Item) → occurrence_count x xs ≡ occurrence_count x ys) → sum_by h xs ≡ sum_by h ys
 same_weight h [] [] e = refl
 same_weight h [] (y ∷ ys) e = absurd (let z = e y in let o = one_itself y in omega (arith, times_cons y y ys))
 same_weight h (x ∷ xs) ys e =
     let o = one_itself x in let z = e x in
     let f = find x ys (has_times x ys (omega (arith, times_cons x x xs))) in
-    let rest : (y : Item) → times y xs ≡ times y (f.0 ++ f.1) =
-    λ y. let w = e y in let q = ap (times y) f.2 in omega (arith, times_cons y x xs, times_join y f.0 (x ∷ f.1), times_cons y x f.1, times_join y f.0 f.1) in
+    let rest : (y : Item) → occurrence_count y xs ≡ occurrence_count y (f.0 ++ f.1) =
+    λ y. let w = e y in let q = ap (occurrence_count y) f.2 in omega (arith, times_cons y x xs, times_join y f.0 (x ∷ f.1), times_cons y x f.1, times_join y f.0 f.1) in
     let r = same_weight h xs (f.0 ++ f.1) rest in let q = ap (sum_by h) f.2 in
     omega (arith, sum_by-cons h x xs, sum_by-append h f.0 (x ∷ f.1), sum_by-cons h x f.1, sum_by-append h f.0 f.1)
 
-pub same_marks : (xs ys : List Item) → ((x : Item) → times x xs ≡ times x ys) → marks xs ≡ marks ys
+pub same_marks : (xs ys : List Item) → ((x : Item) → occurrence_count x xs ≡ occurrence_count x ys) → mark_count xs ≡ mark_count ys
 same_marks xs ys e = same_weight (λ z. cond (is_mark z) 1 0) xs ys e
 
 -- a list with a mark has one
-pub mark_in : (xs : List Item) → 0 < marks xs → (k : ℕ) × (has xs (Mark k) ≡ true)
+pub mark_in : (xs : List Item) → 0 < mark_count xs → (k : ℕ) × (has xs (Mark k) ≡ true)
 mark_in [] h = absurd (omega arith)
 mark_in (Work t ∷ xs) h = let r = mark_in xs (omega (arith, marks_cons (Work t) xs)) in (r.0, r.1)
 mark_in (Mark k ∷ xs) h = (k, or_left (same_item (Mark k) (Mark k)) (has xs (Mark k)) (same_itself (Mark k)))
 
 -- how many marks a feed has
-marks_folder : (c n : ℕ) → marks (folder_tickets c n) ≡ 0
+marks_folder : (c n : ℕ) → mark_count (folder_tickets c n) ≡ 0
 marks_folder c zero = refl
 marks_folder c (suc n) = let h = marks_folder c n in omega (arith, marks_join (folder_tickets c n) (Work (ticket c (suc n)) ∷ []))
 
-marks_tickets : (c : ℕ) (fs : List Folder) → marks (tickets_from c fs) ≡ 0
+marks_tickets : (c : ℕ) (fs : List Folder) → mark_count (tickets_from c fs) ≡ 0
 marks_tickets c [] = refl
 marks_tickets c (f ∷ fs) = let n = length f.entries in let h = marks_tickets (suc c) fs in let k = marks_folder c n in omega (arith, marks_join (folder_tickets c n) (tickets_from (suc c) fs))
 
-marks_ends : (n : ℕ) → marks (end_marks n) ≡ n
+marks_ends : (n : ℕ) → mark_count (end_marks n) ≡ n
 marks_ends zero = refl
 marks_ends (suc n) = let h = marks_ends n in omega (arith, marks_join (end_marks n) (Mark (suc n) ∷ []))
 
-pub marks_items : (bundle : List Folder) (workers : ℕ) → marks (items bundle workers) ≡ workers
+pub marks_items : (bundle : List Folder) (workers : ℕ) → mark_count (items bundle workers) ≡ workers
 marks_items bundle workers = let h = marks_tickets 1 bundle in let k = marks_ends workers in omega (arith, marks_join (tickets_from 1 bundle) (end_marks workers))
 
 -- lists of lists
-pub joined_join : (a b : List (List Item)) → joined (a ++ b) ≡ joined a ++ joined b
+pub joined_join : (a b : List (List Item)) → all_items_of (a ++ b) ≡ all_items_of a ++ all_items_of b
 joined_join a b = flat_map-append (λ l. l) a b
 
-pub times_joins : (x : Item) (a b : List (List Item)) → times x (joined (a ++ b)) ≡ times x (joined a) + times x (joined b)
-times_joins x a b = let e = ap (times x) (joined_join a b) in omega (arith, times_join x (joined a) (joined b))
+pub times_joins : (x : Item) (a b : List (List Item)) → occurrence_count x (all_items_of (a ++ b)) ≡ occurrence_count x (all_items_of a) + occurrence_count x (all_items_of b)
+times_joins x a b = let e = ap (occurrence_count x) (joined_join a b) in omega (arith, times_join x (all_items_of a) (all_items_of b))
 
-pub times_joined : (x : Item) (a : List (List Item)) (l : List Item) (b : List (List Item)) → times x (joined (a ++ l ∷ b)) ≡ times x (joined a) + (times x l + times x (joined b))
-times_joined x a l b = let e = ap (times x) (joined_join a (l ∷ b)) in omega (arith, times_join x (joined a) (l ++ joined b), times_join x l (joined b))
+pub times_joined : (x : Item) (a : List (List Item)) (l : List Item) (b : List (List Item)) → occurrence_count x (all_items_of (a ++ l ∷ b)) ≡ occurrence_count x (all_items_of a) + (occurrence_count x l + occurrence_count x (all_items_of b))
+times_joined x a l b = let e = ap (occurrence_count x) (joined_join a (l ∷ b)) in omega (arith, times_join x (all_items_of a) (l ++ all_items_of b), times_join x l (all_items_of b))
 
-pub marks_joined : (a : List (List Item)) (l : List Item) (b : List (List Item)) → marks (joined (a ++ l ∷ b)) ≡ marks (joined a) + (marks l + marks (joined b))
-marks_joined a l b = let e = ap marks (joined_join a (l ∷ b)) in omega (arith, marks_join (joined a) (l ++ joined b), marks_join l (joined b))
+pub marks_joined : (a : List (List Item)) (l : List Item) (b : List (List Item)) → mark_count (all_items_of (a ++ l ∷ b)) ≡ mark_count (all_items_of a) + (mark_count l + mark_count (all_items_of b))
+marks_joined a l b = let e = ap mark_count (joined_join a (l ∷ b)) in omega (arith, marks_join (all_items_of a) (l ++ all_items_of b), marks_join l (all_items_of b))
 
-pub few_marks : (ls : List (List Item)) → AllByRecursion (λ l. Rises l × (marks l ≤ 1)) ls → marks (joined ls) ≤ length ls
+pub few_marks : (ls : List (List Item)) → AllByRecursion (λ l. Rises l × (mark_count l ≤ 1)) ls → mark_count (all_items_of ls) ≤ length ls
 few_marks [] a = omega arith
-few_marks (l ∷ ls) a = let h = few_marks ls a.1 in let k = a.0.1 in omega (arith, marks_join l (joined ls))
+few_marks (l ∷ ls) a = let h = few_marks ls a.1 in let k = a.0.1 in omega (arith, marks_join l (all_items_of ls))
 
-last_or_mark : (seen : Bool) (xs : List Item) → fold (λ seen x. is_mark x) seen xs ≡ true → (seen ≡ true) ⊎ (0 < marks xs)
+last_or_mark : (seen : Bool) (xs : List Item) → fold (λ seen x. is_mark x) seen xs ≡ true → (seen ≡ true) ⊎ (0 < mark_count xs)
 last_or_mark seen [] e = inl e
 last_or_mark seen (x ∷ xs) e = inr (⊎_elim (λ s. let c = cond-true {A = ℕ} (is_mark x) 1 0 s in omega (arith, marks_cons x xs)) (λ s. omega (arith, marks_cons x xs)) (last_or_mark (is_mark x) xs e))
 
-pub marks_at_end : (xs : List Item) → ends_with_mark xs ≡ true → 0 < marks xs
+pub marks_at_end : (xs : List Item) → ends_with_mark xs ≡ true → 0 < mark_count xs
 marks_at_end xs e = ⊎_elim (λ s. absurd (false≢true s)) (λ s. s) (last_or_mark false xs e)
 
 pub marked_at_end : (xs : List Item) (k : ℕ) → ends_with_mark (xs ++ Mark k ∷ []) ≡ true
 marked_at_end xs k = fold_push (λ seen x. is_mark x) false xs (Mark k)
 
 -- the tickets among items
-pub times_tickets : (t : Ticket) (xs : List Item) → times (Work t) (filter is_ticket xs) ≡ times (Work t) xs
+pub times_tickets : (t : Ticket) (xs : List Item) → occurrence_count (Work t) (filter is_ticket xs) ≡ occurrence_count (Work t) xs
 times_tickets t [] = refl
 times_tickets t (Work s ∷ xs) = let h = times_tickets t xs in omega (arith, times_cons (Work t) (Work s) (filter is_ticket xs), times_cons (Work t) (Work s) xs)
 times_tickets t (Mark k ∷ xs) = let h = times_tickets t xs in omega (arith, times_cons (Work t) (Mark k) xs)

@@ -6,15 +6,15 @@ use Rattle.std.proofs.lemmas.List.{append-nil, nil_from_length}
 use Rattle.census_bundle.specs.declared.bundle.Folder.{Folder}
 use Rattle.census_feed.specs.declared.item.Item.{Item}
 use Rattle.census_feed.specs.declared.item.Item.TheVariants.{Work, Mark}
-use Rattle.census_feed.specs.Items.{items, Before, Rises, same_item, has, is_mark, times, marks}
-use Rattle.census_feed.specs.Rule.{joined, IsSound, AllMarks}
+use Rattle.census_feed.specs.Items.{items, Before, Rises, same_item, has, is_mark, occurrence_count, mark_count}
+use Rattle.census_feed.specs.Rule.{all_items_of, IsSound, AllMarks}
 use Rattle.census_feed.proofs.Orders.{same_is, same_itself, before_itself, all_join, all_parts, all_weaker, all_at, all_from, Precedes, rises_join, rises_parts, items_rise}
 use Rattle.census_feed.proofs.Counts.{times_cons, times_join, times_has, has_join, times_rises, same_marks, mark_in, marks_join, marks_cons, marks_items, times_joined, marks_joined, few_marks}
 
 abbrev pub Each : List (List Item) → Type 0
-Each ls = AllByRecursion (λ l. Rises l × (marks l ≤ 1)) ls
+Each ls = AllByRecursion (λ l. Rises l × (mark_count l ≤ 1)) ls
 
-none_times : (x : Item) (ls : List (List Item)) → length ls ≡ 0 → times x (joined ls) ≡ 0
+none_times : (x : Item) (ls : List (List Item)) → length ls ≡ 0 → occurrence_count x (all_items_of ls) ≡ 0
 none_times x [] e = refl
 none_times x (l ∷ ls) e = absurd (omega arith)
 
@@ -33,17 +33,17 @@ module _ (bundle : List Folder) (workers : ℕ) (pushed popped rest : List Item)
   front_first = (rises_parts s.front (popped ++ rest) parts_rise).2
 
   -- what stands in a hand's list has left the deque
-  pub in_front : (x : Item) → 0 < times x (joined hands) → has s.front x ≡ true
+  pub in_front : (x : Item) → 0 < occurrence_count x (all_items_of hands) → has s.front x ≡ true
   in_front x h = ⊎_elim (λ e. e) (λ e. let c = cond-false {A = ℕ} (has s.front x) 1 0 e in absurd (let o = s.once x in omega arith)) (cases_Bool (has s.front x))
 
-  pub as_often : (x : Item) → times x (joined hands) ≡ times x s.front
+  pub as_often : (x : Item) → occurrence_count x (all_items_of hands) ≡ occurrence_count x s.front
   as_often x = s.once x ∙ sym (times_rises x s.front front_rises)
 
-  pub marks_pushed : marks pushed ≤ workers
-  marks_pushed = let e = ap marks s.in_order in let m = marks_items bundle workers in omega (arith, marks_join pushed s.behind)
+  pub marks_pushed : mark_count pushed ≤ workers
+  marks_pushed = let e = ap mark_count s.in_order in let m = marks_items bundle workers in omega (arith, marks_join pushed s.behind)
 
-  pub all_marks_pushed : 0 < length hands → marks pushed ≡ workers
-  all_marks_pushed h = let e = ap marks (s.in_order ∙ ap (λ l. pushed ++ l) (s.all_pushed h)) in let m = marks_items bundle workers in omega (arith, marks_join pushed [])
+  pub all_marks_pushed : 0 < length hands → mark_count pushed ≡ workers
+  all_marks_pushed h = let e = ap mark_count (s.in_order ∙ ap (λ l. pushed ++ l) (s.all_pushed h)) in let m = marks_items bundle workers in omega (arith, marks_join pushed [])
 
 after_mark : (k : ℕ) (x : Item) → Before (Mark k) x → is_mark x ≡ true
 after_mark k (Work t) h = absurd h
@@ -60,7 +60,7 @@ mark_weighs : (y : Item) → cond {A = ℕ} (is_mark y) 1 0 ≤ 1
 mark_weighs (Work t) = omega arith
 mark_weighs (Mark k) = omega arith
 
-at_most_one : (l : List Item) (y : Item) → marks l ≡ 0 → marks (l ++ y ∷ []) ≤ 1
+at_most_one : (l : List Item) (y : Item) → mark_count l ≡ 0 → mark_count (l ++ y ∷ []) ≤ 1
 at_most_one l y e = let w = mark_weighs y in omega (arith, marks_join l (y ∷ []), marks_cons y [])
 
 -- a push, before any hand has begun
@@ -83,23 +83,23 @@ pub begin_sound : (bundle : List Folder) (workers : ℕ) (pushed popped rest : L
     → IsSound bundle' workers' pushed popped rest (hands ++ [] ∷ []) ended
 begin_sound bundle workers pushed popped rest hands ended s bundle' workers' all room =
     let n = length-append hands ([] ∷ []) in
-    let m : workers' ≤ workers = let a = ap marks all in omega (arith, marks_items bundle' workers', marks_pushed bundle workers pushed popped rest hands ended s) in
+    let m : workers' ≤ workers = let a = ap mark_count all in omega (arith, marks_items bundle' workers', marks_pushed bundle workers pushed popped rest hands ended s) in
     record {
       front = s.front;
       behind = [];
       in_order = all ∙ sym (append-nil pushed);
       all_pushed = λ _. refl;
       parts = s.parts;
-      once = λ x. (let t = times_joined x hands [] [] in let z : times x (joined hands) + 0 ≡ times x (joined hands) = omega arith in t ∙ z) ∙ s.once x;
-      each = all_join (λ l. Rises l × (marks l ≤ 1)) hands ([] ∷ []) s.each ((tt, omega arith), tt);
+      once = λ x. (let t = times_joined x hands [] [] in let z : occurrence_count x (all_items_of hands) + 0 ≡ occurrence_count x (all_items_of hands) = omega arith in t ∙ z) ∙ s.once x;
+      each = all_join (λ l. Rises l × (mark_count l ≤ 1)) hands ([] ∷ []) s.each ((tt, omega arith), tt);
       few = omega arith;
       late = λ h. let l = s.late h in omega arith;
     }
 
 -- of a hand that is under way, whose list is l
 module _ (bundle : List Folder) (workers : ℕ) (pushed popped rest : List Item) (a : List (List Item)) (l : List Item) (b : List (List Item)) (ended : ℕ) (s : IsSound bundle workers pushed popped rest (a ++ l ∷ b) ended) where
-  pub its_own : Rises l × (marks l ≤ 1)
-  its_own = (all_parts (λ m. Rises m × (marks m ≤ 1)) a (l ∷ b) s.each).1.0
+  pub its_own : Rises l × (mark_count l ≤ 1)
+  its_own = (all_parts (λ m. Rises m × (mark_count m ≤ 1)) a (l ∷ b) s.each).1.0
 
   pub its_items : (x : Item) → has l x ≡ true → has s.front x ≡ true
   its_items x i = in_front bundle workers pushed popped rest (a ++ l ∷ b) ended s x (let h = times_has x l i in omega (arith, times_joined x a l b))
@@ -117,19 +117,19 @@ module _ (bundle : List Folder) (workers : ℕ) (pushed popped rest : List Item)
       all_at (λ z. AllByRecursion (Before z) (popped ++ rest)) s.front x (front_first bundle workers pushed popped rest (a ++ l ∷ b) ended s) (its_items x i)
 
   -- where its list has a mark, no ticket is left
-  pub marks_left : 0 < marks l → AllMarks (popped ++ rest)
+  pub marks_left : 0 < mark_count l → AllMarks (popped ++ rest)
   marks_left h = let m = mark_in l h in behind_mark m.0 (popped ++ rest) (later_left (Mark m.0) m.1)
 
   -- a hand with no mark does not find the deque empty
-  pub never_empty : ended ≤ length a + length b → marks l ≡ 0 → rest ≡ [] → ⊥
+  pub never_empty : ended ≤ length a + length b → mark_count l ≡ 0 → rest ≡ [] → ⊥
   never_empty e none empty =
       let hands = a ++ l ∷ b in
       let n = length-append a (l ∷ b) in
       let p = s.parts ∙ ap (λ m. s.front ++ m) (ap (λ m. m ++ rest) (nothing_popped e) ∙ empty) ∙ append-nil s.front in
       let all = all_marks_pushed bundle workers pushed popped rest hands ended s (omega arith) in
-      let same = same_marks (joined hands) s.front (as_often bundle workers pushed popped rest hands ended s) in
-      let q = ap marks p in
-      let each = all_parts (λ m. Rises m × (marks m ≤ 1)) a (l ∷ b) s.each in
+      let same = same_marks (all_items_of hands) s.front (as_often bundle workers pushed popped rest hands ended s) in
+      let q = ap mark_count p in
+      let each = all_parts (λ m. Rises m × (mark_count m ≤ 1)) a (l ∷ b) s.each in
       let f = few_marks a each.0 in let g = few_marks b each.1.1 in
       let w = s.few in
       omega (arith, marks_joined a l b)
@@ -155,11 +155,11 @@ module _ (bundle : List Folder) (workers : ℕ) (pushed popped : List Item) (y :
       let q = all_at (λ z. AllByRecursion (Before z) (popped ++ y ∷ rest)) s.front y p i in
       before_itself y (all_parts (Before y) popped (y ∷ rest) q).1.0
 
-  once_more : (x : Item) → times x (joined (a ++ (l ++ y ∷ []) ∷ b)) ≡ cond (has (s.front ++ y ∷ []) x) 1 0
+  once_more : (x : Item) → occurrence_count x (all_items_of (a ++ (l ++ y ∷ []) ∷ b)) ≡ cond (has (s.front ++ y ∷ []) x) 1 0
   once_more x =
       let o = s.once x in
       let j = has_join x s.front (y ∷ []) in
-      let more : times x (joined (a ++ (l ++ y ∷ []) ∷ b)) ≡ times x (joined (a ++ l ∷ b)) + cond {A = ℕ} (same_item x y) 1 0 =
+      let more : occurrence_count x (all_items_of (a ++ (l ++ y ∷ []) ∷ b)) ≡ occurrence_count x (all_items_of (a ++ l ∷ b)) + cond {A = ℕ} (same_item x y) 1 0 =
       omega (arith, times_joined x a (l ++ y ∷ []) b, times_joined x a l b, times_join x l (y ∷ []), times_cons x y []) in
       ⊎_elim
       (λ (e : same_item x y ≡ true).
@@ -176,10 +176,10 @@ module _ (bundle : List Folder) (workers : ℕ) (pushed popped : List Item) (y :
       omega arith)
       (cases_Bool (same_item x y))
 
-  pub take_sound : ended ≤ length a + length b → marks l ≡ 0 → IsSound bundle workers pushed popped rest (a ++ (l ++ y ∷ []) ∷ b) ended
+  pub take_sound : ended ≤ length a + length b → mark_count l ≡ 0 → IsSound bundle workers pushed popped rest (a ++ (l ++ y ∷ []) ∷ b) ended
   take_sound e none =
       let n = length-append a (l ∷ b) in let n' = length-append a ((l ++ y ∷ []) ∷ b) in
-      let each = all_parts (λ m. Rises m × (marks m ≤ 1)) a (l ∷ b) s.each in
+      let each = all_parts (λ m. Rises m × (mark_count m ≤ 1)) a (l ∷ b) s.each in
       let nothing = nothing_popped bundle workers pushed popped (y ∷ rest) a l b ended s e in
       let few = s.few in
       record {
@@ -189,14 +189,14 @@ module _ (bundle : List Folder) (workers : ℕ) (pushed popped : List Item) (y :
         all_pushed = λ h. s.all_pushed (omega arith);
         parts = s.parts ∙ ap (λ m. s.front ++ (m ++ y ∷ rest)) nothing ∙ sym (append_assoc s.front (y ∷ []) rest) ∙ ap (λ m. (s.front ++ y ∷ []) ++ (m ++ rest)) (sym nothing);
         once = once_more;
-        each = all_join (λ m. Rises m × (marks m ≤ 1)) a ((l ++ y ∷ []) ∷ b) each.0 ((taken_rises, at_most_one l y none), each.1.1);
+        each = all_join (λ m. Rises m × (mark_count m ≤ 1)) a ((l ++ y ∷ []) ∷ b) each.0 ((taken_rises, at_most_one l y none), each.1.1);
         few = omega arith;
         late = s.late;
       }
 
 -- the lists of the hands in another order, of which more have ended
 pub reorder_sound : (bundle : List Folder) (workers : ℕ) (pushed popped rest : List Item) (hands : List (List Item)) (ended : ℕ) → IsSound bundle workers pushed popped rest hands ended
-    → (hands' : List (List Item)) (ended' : ℕ) → length hands' ≡ length hands → ((x : Item) → times x (joined hands') ≡ times x (joined hands)) → Each hands' → ended ≤ ended' → IsSound bundle workers pushed popped rest hands' ended'
+    → (hands' : List (List Item)) (ended' : ℕ) → length hands' ≡ length hands → ((x : Item) → occurrence_count x (all_items_of hands') ≡ occurrence_count x (all_items_of hands)) → Each hands' → ended ≤ ended' → IsSound bundle workers pushed popped rest hands' ended'
 reorder_sound bundle workers pushed popped rest hands ended s hands' ended' n t each e = record {
   front = s.front;
   behind = s.behind;
@@ -210,7 +210,7 @@ reorder_sound bundle workers pushed popped rest hands ended s hands' ended' n t 
 }
 
 -- the filler pops the first of the rest, once all hands have ended
-pub pop_sound : (bundle : List Folder) (workers : ℕ) (pushed popped : List Item) (y : Item) (rest : List Item) (hands : List (List Item)) (ended : ℕ) → IsSound bundle workers pushed popped (y ∷ rest) hands ended → 0 < length hands → marks pushed ≤ ended
+pub pop_sound : (bundle : List Folder) (workers : ℕ) (pushed popped : List Item) (y : Item) (rest : List Item) (hands : List (List Item)) (ended : ℕ) → IsSound bundle workers pushed popped (y ∷ rest) hands ended → 0 < length hands → mark_count pushed ≤ ended
     → IsSound bundle workers pushed (popped ++ y ∷ []) rest hands ended
 pop_sound bundle workers pushed popped y rest hands ended s some done =
     let m = all_marks_pushed bundle workers pushed popped (y ∷ rest) hands ended s some in
@@ -231,15 +231,15 @@ popped_within bundle workers pushed popped rest hands ended s = let e = ap lengt
 
 -- what was pushed is in the hands' lists, popped or left
 pub all_there : (bundle : List Folder) (workers : ℕ) (pushed popped rest : List Item) (hands : List (List Item)) (ended : ℕ) → IsSound bundle workers pushed popped rest hands ended
-    → (x : Item) → times x (joined hands) + (times x popped + times x rest) ≡ times x pushed
+    → (x : Item) → occurrence_count x (all_items_of hands) + (occurrence_count x popped + occurrence_count x rest) ≡ occurrence_count x pushed
 all_there bundle workers pushed popped rest hands ended s x =
-    let e = ap (times x) s.parts in let o = as_often bundle workers pushed popped rest hands ended s x in
+    let e = ap (occurrence_count x) s.parts in let o = as_often bundle workers pushed popped rest hands ended s x in
     omega (arith, times_join x s.front (popped ++ rest), times_join x popped rest)
 
 -- where a hand has a mark, no ticket was popped or is left
 pub all_marks : (bundle : List Folder) (workers : ℕ) (pushed popped rest : List Item) (hands : List (List Item)) (ended : ℕ) → IsSound bundle workers pushed popped rest hands ended
-    → 0 < marks (joined hands) → AllMarks (popped ++ rest)
+    → 0 < mark_count (all_items_of hands) → AllMarks (popped ++ rest)
 all_marks bundle workers pushed popped rest hands ended s h =
-    let m = mark_in (joined hands) h in
-    let f = in_front bundle workers pushed popped rest hands ended s (Mark m.0) (times_has (Mark m.0) (joined hands) m.1) in
+    let m = mark_in (all_items_of hands) h in
+    let f = in_front bundle workers pushed popped rest hands ended s (Mark m.0) (times_has (Mark m.0) (all_items_of hands) m.1) in
     behind_mark m.0 (popped ++ rest) (all_at (λ x. AllByRecursion (Before x) (popped ++ rest)) s.front (Mark m.0) (front_first bundle workers pushed popped rest hands ended s) f)

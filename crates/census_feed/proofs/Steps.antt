@@ -12,8 +12,8 @@ use Rattle.census_feed.specs.declared.item.Item.{Item}
 use Rattle.census_feed.specs.declared.view.Role.{Role}
 use Rattle.census_feed.specs.declared.view.Role.TheVariants.{Filler, Holder, Spent}
 use Rattle.census_feed.specs.declared.view.View.{View}
-use Rattle.census_feed.specs.Items.{items, Before, Rises, has, is_mark, times, marks}
-use Rattle.census_feed.specs.Rule.{filling, spent, by_role, lists_of, lists, joined, fillers_of, fillers, KnowsFilled, IsSound, Fed, pushed, took, begins_one, new_hand, ends_one, Stole, Popped, AllMarks, AllOut}
+use Rattle.census_feed.specs.Items.{items, Before, Rises, has, is_mark, occurrence_count, mark_count}
+use Rattle.census_feed.specs.Rule.{view_of_filler, spent_view, by_role, lists_of, lists, all_items_of, fillers_of, views_of_filler, KnowsFilled, IsSound, Fed, view_after_push, view_after_take, begins_one, new_hand, ends_one, Stole, Popped, AllMarks, AllOut}
 use Rattle.census_feed.proofs.Orders.{all_join, all_parts}
 use Rattle.census_feed.proofs.Counts.{times_rises, times_joins, times_joined}
 use Rattle.census_feed.proofs.Sounds.{pushed_rises, push_sound, begin_sound, its_own, later_left, marks_left, never_empty, taken_rises, taken_pushed, take_sound, reorder_sound, pop_sound, popped_within, all_there, all_marks}
@@ -57,8 +57,8 @@ hand_view v = record v { role = Holder }
 record AroundFiller (rest : List Item) (a b : List View) (v : View) : Type 0 where
   bundle : List Folder
   workers : ℕ
-  none_before : fillers a ≡ []
-  none_behind : fillers b ≡ []
+  none_before : views_of_filler a ≡ []
+  none_behind : views_of_filler b ≡ []
   counted : v.begun ≡ length (lists a ++ (v.ended ++ lists b))
   known_before : AllByRecursion (KnowsFilled v.filled) a
   known_behind : AllByRecursion (KnowsFilled v.filled) b
@@ -66,7 +66,7 @@ record AroundFiller (rest : List Item) (a b : List View) (v : View) : Type 0 whe
 
 open_filler : (rest : List Item) (a b : List View) (v : View) → Fed rest (a ++ filler_view v ∷ b) → AroundFiller rest a b v
 open_filler rest a b v h =
-    let o = only (fillers a) (filler_view v) (fillers b) h.filler (sym (flat_map-append fillers_of a (filler_view v ∷ b)) ∙ h.one) in
+    let o = only (views_of_filler a) (filler_view v) (views_of_filler b) h.filler (sym (flat_map-append fillers_of a (filler_view v ∷ b)) ∙ h.one) in
     let k = all_parts (KnowsFilled v.filled) a (filler_view v ∷ b) (subst (λ (f : View). AllByRecursion (KnowsFilled f.filled) (a ++ filler_view v ∷ b)) (sym o.1) h.known) in
     let l : lists (a ++ filler_view v ∷ b) ≡ lists a ++ (v.ended ++ lists b) = lists_join a (filler_view v ∷ b) in
     record {
@@ -89,7 +89,7 @@ close_filler rest a b v r =
       bundle = r.bundle;
       workers = r.workers;
       filler = filler_view v;
-      one = flat_map-append fillers_of a (filler_view v ∷ b) ∙ ap (λ m. m ++ filler_view v ∷ fillers b) r.none_before ∙ ap (λ m. filler_view v ∷ m) r.none_behind;
+      one = flat_map-append fillers_of a (filler_view v ∷ b) ∙ ap (λ m. m ++ filler_view v ∷ views_of_filler b) r.none_before ∙ ap (λ m. filler_view v ∷ m) r.none_behind;
       counted = r.counted ∙ sym (ap length l);
       known = all_join (KnowsFilled v.filled) a (filler_view v ∷ b) r.known_before (not_holder, r.known_behind);
       sound = subst (λ (ls : List (List Item)). IsSound r.bundle r.workers v.filled v.taken rest ls (length v.ended)) (sym l) r.sound;
@@ -100,7 +100,7 @@ record AroundHand (rest : List Item) (a b : List View) (v : View) : Type 0 where
   bundle : List Folder
   workers : ℕ
   filler : View
-  one : fillers a ++ fillers b ≡ filler ∷ []
+  one : views_of_filler a ++ views_of_filler b ≡ filler ∷ []
   counted : filler.begun ≡ length (lists a ++ v.taken ∷ lists b)
   known_before : AllByRecursion (KnowsFilled filler.filled) a
   known_here : v.filled ≡ filler.filled
@@ -137,13 +137,13 @@ close_hand rest a b v r =
     }
 
 -- the lists that the filler has are among all of them
-ended_by : (r : Role) (v : View) (vs : List View) (f : View) → (fillers vs ≡ f ∷ [] → length f.ended ≤ length (lists vs)) → by_role (v ∷ []) [] [] r ++ fillers vs ≡ f ∷ []
+ended_by : (r : Role) (v : View) (vs : List View) (f : View) → (views_of_filler vs ≡ f ∷ [] → length f.ended ≤ length (lists vs)) → by_role (v ∷ []) [] [] r ++ views_of_filler vs ≡ f ∷ []
     → length f.ended ≤ length (by_role v.ended (v.taken ∷ []) [] r ++ lists vs)
-ended_by Filler v vs f ih e = let o = only [] v (fillers vs) f e in let n = ap (λ (u : View). length u.ended) o.1 in omega (arith, length-append v.ended (lists vs))
+ended_by Filler v vs f ih e = let o = only [] v (views_of_filler vs) f e in let n = ap (λ (u : View). length u.ended) o.1 in omega (arith, length-append v.ended (lists vs))
 ended_by Holder v vs f ih e = let h = ih e in omega arith
 ended_by Spent v vs f ih e = ih e
 
-ended_in : (vs : List View) (f : View) → fillers vs ≡ f ∷ [] → length f.ended ≤ length (lists vs)
+ended_in : (vs : List View) (f : View) → views_of_filler vs ≡ f ∷ [] → length f.ended ≤ length (lists vs)
 ended_in [] f e = absurd (let n = ap length e in omega arith)
 ended_in (v ∷ vs) f e = ended_by v.role v vs f (ended_in vs f) e
 
@@ -161,11 +161,11 @@ no_holders [] l e = tt
 no_holders (v ∷ vs) l e = let h = no_holder v.role v vs l e in (h.0, no_holders vs l h.1)
 
 -- at the start
-pub begins : Fed [] (filling [] [] 0 [] ∷ [])
+pub begins : Fed [] (view_of_filler [] [] 0 [] ∷ [])
 begins = record {
   bundle = [];
   workers = 0;
-  filler = filling [] [] 0 [];
+  filler = view_of_filler [] [] 0 [];
   one = refl;
   counted = refl;
   known = ((λ (e : Filler ≡ Holder). (cc)), tt);
@@ -184,14 +184,14 @@ begins = record {
 
 -- push, in `fill`
 push_fed : (x : Item) (bundle : List Folder) (workers : ℕ) (behind rest : List Item) (v : View) → v.begun ≡ 0 → length v.taken ≡ 0 → items bundle workers ≡ (v.filled ++ x ∷ []) ++ behind
-    → (a b : List View) → Fed rest (a ++ filler_view v ∷ b) → Fed (rest ++ x ∷ []) (a ++ filler_view (pushed v (x ∷ [])) ∷ b)
+    → (a b : List View) → Fed rest (a ++ filler_view v ∷ b) → Fed (rest ++ x ∷ []) (a ++ filler_view (view_after_push v (x ∷ [])) ∷ b)
 push_fed x bundle workers behind rest v none nothing next a b h =
     let r = open_filler rest a b v h in
     let hands = lists a ++ (v.ended ++ lists b) in
     let c : v.begun ≡ length hands = r.counted in
     let n = length-append (lists a) (v.ended ++ lists b) in
     let m = length-append v.ended (lists b) in
-    close_filler (rest ++ x ∷ []) a b (pushed v (x ∷ []))
+    close_filler (rest ++ x ∷ []) a b (view_after_push v (x ∷ []))
     record {
       bundle = bundle;
       workers = workers;
@@ -204,10 +204,10 @@ push_fed x bundle workers behind rest v none nothing next a b h =
     }
 
 pub pushes : (port : ℕ) (v : View) (x : Item) (bundle : List Folder) (workers : ℕ) (behind : List Item) → v.role ≡ Filler → v.begun ≡ 0 → length v.taken ≡ 0 → items bundle workers ≡ (v.filled ++ x ∷ []) ++ behind
-    → Pushes Fed port v (x ∷ []) (λ w. w ≡ pushed v (x ∷ []))
+    → Pushes Fed port v (x ∷ []) (λ w. w ≡ view_after_push v (x ∷ []))
 pushes port v x bundle workers behind isf none nothing next =
-    subst (λ (u : View). Pushes Fed port u (x ∷ []) (λ w. w ≡ pushed u (x ∷ []))) (sym (as_filler v isf))
-    (λ rest views h e. (filler_view (pushed v (x ∷ [])), at_view (Fed rest) (Fed (rest ++ x ∷ [])) port (filler_view v) (filler_view (pushed v (x ∷ []))) (push_fed x bundle workers behind rest v none nothing next) views h e, refl))
+    subst (λ (u : View). Pushes Fed port u (x ∷ []) (λ w. w ≡ view_after_push u (x ∷ []))) (sym (as_filler v isf))
+    (λ rest views h e. (filler_view (view_after_push v (x ∷ [])), at_view (Fed rest) (Fed (rest ++ x ∷ [])) port (filler_view v) (filler_view (view_after_push v (x ∷ []))) (push_fed x bundle workers behind rest v none nothing next) views h e, refl))
 
 -- a pass split, in `fill`
 begin_fed : (bundle : List Folder) (workers : ℕ) (rest : List Item) (v : View) → items bundle workers ≡ v.filled → v.begun < workers → (a b : List View) → Fed rest (a ++ filler_view v ∷ b) → Fed rest ((a ++ filler_view (begins_one v) ∷ b) ++ new_hand v ∷ [])
@@ -238,13 +238,13 @@ forks port v bundle workers isf all room =
     (λ rest views h e. at_view (Fed rest) (λ l. Fed rest (l ++ new_hand v ∷ [])) port (filler_view v) (filler_view (begins_one v)) (begin_fed bundle workers rest v all room) views h e)
 
 -- a steal that takes
-steal_fed : (y : Item) (rest : List Item) (v : View) → marks v.taken ≡ 0 → (a b : List View) → Fed (y ∷ rest) (a ++ hand_view v ∷ b) → Fed rest (a ++ hand_view (took v (y ∷ [])) ∷ b) × Stole (hand_view v) (y ∷ []) (hand_view (took v (y ∷ [])))
+steal_fed : (y : Item) (rest : List Item) (v : View) → mark_count v.taken ≡ 0 → (a b : List View) → Fed (y ∷ rest) (a ++ hand_view v ∷ b) → Fed rest (a ++ hand_view (view_after_take v (y ∷ [])) ∷ b) × Stole (hand_view v) (y ∷ []) (hand_view (view_after_take v (y ∷ [])))
 steal_fed y rest v none a b h =
     let r = open_hand (y ∷ rest) a b v h in
     let o = others_ended (y ∷ rest) a b v r in
     let n = length-append (lists a) (v.taken ∷ lists b) in
     let n' = length-append (lists a) ((v.taken ++ y ∷ []) ∷ lists b) in (
-      close_hand rest a b (took v (y ∷ []))
+      close_hand rest a b (view_after_take v (y ∷ []))
           record {
             bundle = r.bundle;
             workers = r.workers;
@@ -268,36 +268,36 @@ one_item [] l m = absurd (omega arith)
 one_item (y ∷ []) l m = (y, refl)
 one_item (y ∷ z ∷ xs) l m = absurd (omega arith)
 
-pub steals : (port : ℕ) (v : View) → v.role ≡ Holder → marks v.taken ≡ 0 → Takes Fed port v 1 (Stole v)
+pub steals : (port : ℕ) (v : View) → v.role ≡ Holder → mark_count v.taken ≡ 0 → Takes Fed port v 1 (Stole v)
 steals port v ish none =
     subst (λ (u : View). Takes Fed port u 1 (Stole u)) (sym (as_holder v ish))
     (λ xs rest views some_items few h e.
     let y = one_item xs some_items few in
-    let w = hand_view (took v (y.0 ∷ [])) in
+    let w = hand_view (view_after_take v (y.0 ∷ [])) in
     let fed = subst (λ (l : List Item). Fed (l ++ rest) views) y.1 h in (
-      hand_view (took v xs),
-      subst (λ (l : List Item). Fed rest (set views port (hand_view (took v l)))) (sym y.1) (at_view (Fed (y.0 ∷ rest)) (Fed rest) port (hand_view v) w (λ a b k. (steal_fed y.0 rest v none a b k).0) views fed e),
-      subst (λ (l : List Item). Stole (hand_view v) l (hand_view (took v l))) (sym y.1) (of_view (Fed (y.0 ∷ rest)) (Stole (hand_view v) (y.0 ∷ []) w) port (hand_view v) (λ a b k. (steal_fed y.0 rest v none a b k).1) views fed e),
+      hand_view (view_after_take v xs),
+      subst (λ (l : List Item). Fed rest (set views port (hand_view (view_after_take v l)))) (sym y.1) (at_view (Fed (y.0 ∷ rest)) (Fed rest) port (hand_view v) w (λ a b k. (steal_fed y.0 rest v none a b k).0) views fed e),
+      subst (λ (l : List Item). Stole (hand_view v) l (hand_view (view_after_take v l))) (sym y.1) (of_view (Fed (y.0 ∷ rest)) (Stole (hand_view v) (y.0 ∷ []) w) port (hand_view v) (λ a b k. (steal_fed y.0 rest v none a b k).1) views fed e),
     ))
 
 -- a hand with no mark never finds the deque empty
-empty_fed : (rest : List Item) (v : View) → marks v.taken ≡ 0 → length rest ≤ 0 → (a b : List View) → Fed rest (a ++ hand_view v ∷ b) → ⊥
+empty_fed : (rest : List Item) (v : View) → mark_count v.taken ≡ 0 → length rest ≤ 0 → (a b : List View) → Fed rest (a ++ hand_view v ∷ b) → ⊥
 empty_fed rest v none empty a b h =
     let r = open_hand rest a b v h in
     never_empty r.bundle r.workers r.filler.filled r.filler.taken rest (lists a) v.taken (lists b) (length r.filler.ended) r.sound (others_ended rest a b v r) none (nil_from_length rest (omega arith))
 
-pub never_finds_empty : (most port : ℕ) (v : View) → most ≡ 0 → v.role ≡ Holder → marks v.taken ≡ 0 → FindsFew Fed most port v ⊥
+pub never_finds_empty : (most port : ℕ) (v : View) → most ≡ 0 → v.role ≡ Holder → mark_count v.taken ≡ 0 → FindsFew Fed most port v ⊥
 never_finds_empty most port v zero_most ish none =
     subst (λ (u : View). FindsFew Fed most port u ⊥) (sym (as_holder v ish))
     (λ rest views short h e. of_view (Fed rest) ⊥ port (hand_view v) (empty_fed rest v none (omega arith)) views h e)
 
 -- once a hand has its mark, no ticket is in the deque
-marked_fed : (rest : List Item) (v : View) → 0 < marks v.taken → (a b : List View) → Fed rest (a ++ hand_view v ∷ b) → AllMarks rest
+marked_fed : (rest : List Item) (v : View) → 0 < mark_count v.taken → (a b : List View) → Fed rest (a ++ hand_view v ∷ b) → AllMarks rest
 marked_fed rest v marked a b h =
     let r = open_hand rest a b v h in
     (all_parts (λ x. is_mark x ≡ true) r.filler.taken rest (marks_left r.bundle r.workers r.filler.filled r.filler.taken rest (lists a) v.taken (lists b) (length r.filler.ended) r.sound marked)).1
 
-pub none_left : (port : ℕ) (v : View) → v.role ≡ Holder → 0 < marks v.taken → Learns Fed port v AllMarks
+pub none_left : (port : ℕ) (v : View) → v.role ≡ Holder → 0 < mark_count v.taken → Learns Fed port v AllMarks
 none_left port v ish marked =
     subst (λ (u : View). Learns Fed port u AllMarks) (sym (as_holder v ish))
     (λ rest views h e. of_view (Fed rest) (AllMarks rest) port (hand_view v) (marked_fed rest v marked) views h e)
@@ -314,14 +314,14 @@ only_later_left port v x ish i =
     (λ rest views h e. of_view (Fed rest) (AllByRecursion (Before x) rest) port (hand_view v) (later_fed rest v x i) views h e)
 
 -- a pop that takes, in `close`
-pop_fed : (y : Item) (rest : List Item) (v : View) → 0 < length v.ended → marks v.filled ≤ length v.ended → (a b : List View) → Fed (y ∷ rest) (a ++ filler_view v ∷ b) → Fed rest (a ++ filler_view (took v (y ∷ [])) ∷ b) × Popped (filler_view v) (y ∷ []) (filler_view (took v (y ∷ [])))
+pop_fed : (y : Item) (rest : List Item) (v : View) → 0 < length v.ended → mark_count v.filled ≤ length v.ended → (a b : List View) → Fed (y ∷ rest) (a ++ filler_view v ∷ b) → Fed rest (a ++ filler_view (view_after_take v (y ∷ [])) ∷ b) × Popped (filler_view v) (y ∷ []) (filler_view (view_after_take v (y ∷ [])))
 pop_fed y rest v some_ended done a b h =
     let r = open_filler (y ∷ rest) a b v h in
     let hands = lists a ++ (v.ended ++ lists b) in
     let n = length-append (lists a) (v.ended ++ lists b) in
     let m = length-append v.ended (lists b) in
     let sound = pop_sound r.bundle r.workers v.filled v.taken y rest hands (length v.ended) r.sound (omega arith) done in (
-      close_filler rest a b (took v (y ∷ []))
+      close_filler rest a b (view_after_take v (y ∷ []))
           record {
             bundle = r.bundle;
             workers = r.workers;
@@ -335,16 +335,16 @@ pop_fed y rest v some_ended done a b h =
       (refl, omega (arith, popped_within r.bundle r.workers v.filled (v.taken ++ y ∷ []) rest hands (length v.ended) sound)),
     )
 
-pub pops : (port : ℕ) (v : View) → v.role ≡ Filler → 0 < length v.ended → marks v.filled ≤ length v.ended → Takes Fed port v 1 (Popped v)
+pub pops : (port : ℕ) (v : View) → v.role ≡ Filler → 0 < length v.ended → mark_count v.filled ≤ length v.ended → Takes Fed port v 1 (Popped v)
 pops port v isf some_ended done =
     subst (λ (u : View). Takes Fed port u 1 (Popped u)) (sym (as_filler v isf))
     (λ xs rest views some_items few h e.
     let y = one_item xs some_items few in
-    let w = filler_view (took v (y.0 ∷ [])) in
+    let w = filler_view (view_after_take v (y.0 ∷ [])) in
     let fed = subst (λ (l : List Item). Fed (l ++ rest) views) y.1 h in (
-      filler_view (took v xs),
-      subst (λ (l : List Item). Fed rest (set views port (filler_view (took v l)))) (sym y.1) (at_view (Fed (y.0 ∷ rest)) (Fed rest) port (filler_view v) w (λ a b k. (pop_fed y.0 rest v some_ended done a b k).0) views fed e),
-      subst (λ (l : List Item). Popped (filler_view v) l (filler_view (took v l))) (sym y.1) (of_view (Fed (y.0 ∷ rest)) (Popped (filler_view v) (y.0 ∷ []) w) port (filler_view v) (λ a b k. (pop_fed y.0 rest v some_ended done a b k).1) views fed e),
+      filler_view (view_after_take v xs),
+      subst (λ (l : List Item). Fed rest (set views port (filler_view (view_after_take v l)))) (sym y.1) (at_view (Fed (y.0 ∷ rest)) (Fed rest) port (filler_view v) w (λ a b k. (pop_fed y.0 rest v some_ended done a b k).0) views fed e),
+      subst (λ (l : List Item). Popped (filler_view v) l (filler_view (view_after_take v l))) (sym y.1) (of_view (Fed (y.0 ∷ rest)) (Popped (filler_view v) (y.0 ∷ []) w) port (filler_view v) (λ a b k. (pop_fed y.0 rest v some_ended done a b k).1) views fed e),
     ))
 
 -- all hands have ended, and the deque is empty
@@ -368,14 +368,14 @@ finds_all_out port v isf all_ended =
     (λ views h e. of_view (Fed []) (AllOut (filler_view v)) port (filler_view v) (out_fed v all_ended) views h e)
 
 -- a pass joined, in `close`: the filler takes over the list of the hand w, which stands between c and d
-merge_fed : (rest : List Item) (v w : View) (a b c d : List View) → a ++ filler_view (ends_one v w) ∷ b ≡ c ++ hand_view w ∷ d → Rises w.taken × (marks w.taken ≤ 1) → Fed rest (a ++ filler_view v ∷ b) → Fed rest (c ++ spent ∷ d)
+merge_fed : (rest : List Item) (v w : View) (a b c d : List View) → a ++ filler_view (ends_one v w) ∷ b ≡ c ++ hand_view w ∷ d → Rises w.taken × (mark_count w.taken ≤ 1) → Fed rest (a ++ filler_view v ∷ b) → Fed rest (c ++ spent_view ∷ d)
 merge_fed rest v w a b c d same own h =
     let r = open_filler rest a b v h in
     let both = ends_one v w in
     let hands = lists a ++ (v.ended ++ lists b) in
     let hands' = lists c ++ lists d in
-    let P : List Item → Type 0 = λ l. Rises l × (marks l ≤ 1) in
-    let l : lists (c ++ spent ∷ d) ≡ hands' = lists_join c (spent ∷ d) in
+    let P : List Item → Type 0 = λ l. Rises l × (mark_count l ≤ 1) in
+    let l : lists (c ++ spent_view ∷ d) ≡ hands' = lists_join c (spent_view ∷ d) in
     let twice : lists a ++ ((v.ended ++ w.taken ∷ []) ++ lists b) ≡ lists c ++ w.taken ∷ lists d = sym (lists_join a (filler_view both ∷ b)) ∙ ap lists same ∙ lists_join c (hand_view w ∷ d) in
     let n0 = length-append (lists a) (v.ended ++ lists b) in
     let n1 = length-append v.ended (lists b) in
@@ -386,9 +386,9 @@ merge_fed rest v w a b c d same own h =
     let n6 = length-append (lists c) (lists d) in
     let n = ap length twice in
     let as_many : length hands' ≡ length hands = omega arith in
-    let as_often : (x : Item) → times x (joined hands') ≡ times x (joined hands) =
+    let as_often : (x : Item) → occurrence_count x (all_items_of hands') ≡ occurrence_count x (all_items_of hands) =
     λ x.
-    let t = ap (λ ls. times x (joined ls)) twice in
+    let t = ap (λ ls. occurrence_count x (all_items_of ls)) twice in
     let t0 = times_joins x (lists a) (v.ended ++ lists b) in
     let t1 = times_joins x v.ended (lists b) in
     let t2 = times_joins x (lists a) ((v.ended ++ w.taken ∷ []) ++ lists b) in
@@ -406,36 +406,36 @@ merge_fed rest v w a b c d same own h =
     let known0 : K (filler_view both) = λ (e : Filler ≡ Holder). cc in
     let known1 = all_join K a (filler_view both ∷ b) r.known_before (known0, r.known_behind) in
     let known2 = all_parts K c (hand_view w ∷ d) (subst (AllByRecursion K) same known1) in
-    let known3 : K spent = λ (e : Spent ≡ Holder). cc in
+    let known3 : K spent_view = λ (e : Spent ≡ Holder). cc in
     record {
       bundle = r.bundle;
       workers = r.workers;
       filler = filler_view both;
-      one = flat_map-append fillers_of c (spent ∷ d) ∙ sym (flat_map-append fillers_of c (hand_view w ∷ d)) ∙ sym (ap fillers same) ∙ flat_map-append fillers_of a (filler_view both ∷ b) ∙ ap (λ m. m ++ filler_view both ∷ fillers b) r.none_before ∙ ap (λ m. filler_view both ∷ m) r.none_behind;
+      one = flat_map-append fillers_of c (spent_view ∷ d) ∙ sym (flat_map-append fillers_of c (hand_view w ∷ d)) ∙ sym (ap views_of_filler same) ∙ flat_map-append fillers_of a (filler_view both ∷ b) ∙ ap (λ m. m ++ filler_view both ∷ views_of_filler b) r.none_before ∙ ap (λ m. filler_view both ∷ m) r.none_behind;
       counted = r.counted ∙ sym (ap length l ∙ as_many);
-      known = all_join K c (spent ∷ d) known2.0 (known3, known2.1.1);
+      known = all_join K c (spent_view ∷ d) known2.0 (known3, known2.1.1);
       sound = subst (λ (ls : List (List Item)). IsSound r.bundle r.workers v.filled v.taken rest ls (length both.ended)) (sym l)
           (reorder_sound r.bundle r.workers v.filled v.taken rest hands (length v.ended) s hands' (length both.ended) as_many as_often (all_join P (lists c) (lists d) each3.0 each3.1.1) (omega arith));
     }
 
 -- what a hand's list is like
-own_fed : (rest : List Item) (w : View) (a b : List View) → Fed rest (a ++ hand_view w ∷ b) → Rises w.taken × (marks w.taken ≤ 1)
+own_fed : (rest : List Item) (w : View) (a b : List View) → Fed rest (a ++ hand_view w ∷ b) → Rises w.taken × (mark_count w.taken ≤ 1)
 own_fed rest w a b h =
     let r = open_hand rest a b w h in
     its_own r.bundle r.workers r.filler.filled r.filler.taken rest (lists a) w.taken (lists b) (length r.filler.ended) r.sound
 
-merges_at : (port : ℕ) (v : View) (other : ℕ) (w : View) → Merges Fed port (filler_view v) other (hand_view w) (ends_one (filler_view v) (hand_view w)) spent
+merges_at : (port : ℕ) (v : View) (other : ℕ) (w : View) → Merges Fed port (filler_view v) other (hand_view w) (ends_one (filler_view v) (hand_view w)) spent_view
 merges_at port v other w rest views h at apart at' =
     let both = filler_view (ends_one v w) in
     let was : get_elem? views other ≡ some (hand_view w) = ⊎_elim (λ (x : (other ≡ port) × (both ≡ hand_view w)). absurd (apart x.0)) (λ (x : (other ≢ port) × (get_elem? views other ≡ some (hand_view w))). x.1) (at_set views port other both (hand_view w) at') in
-    let own = of_view (Fed rest) (Rises w.taken × (marks w.taken ≤ 1)) other (hand_view w) (own_fed rest w) views h was in
+    let own = of_view (Fed rest) (Rises w.taken × (mark_count w.taken ≤ 1)) other (hand_view w) (own_fed rest w) views h was in
     let here = at_place views port (filler_view v) at in
     let there = at_place (set views port both) other (hand_view w) at' in
     let now : set views port both ≡ here.0 ++ both ∷ here.1 = ap (λ l. set l port both) here.3 ∙ set_at here.0 (filler_view v) here.1 both port here.2 in
-    subst (Fed rest) (sym (ap (λ l. set l other spent) there.3 ∙ set_at there.0 (hand_view w) there.1 spent other there.2))
+    subst (Fed rest) (sym (ap (λ l. set l other spent_view) there.3 ∙ set_at there.0 (hand_view w) there.1 spent_view other there.2))
     (merge_fed rest v w here.0 here.1 there.0 there.1 (sym now ∙ there.3) own (subst (Fed rest) here.3 h))
 
-pub merges : (port : ℕ) (v : View) (other : ℕ) (w : View) → v.role ≡ Filler → w.role ≡ Holder → Merges Fed port v other w (ends_one v w) spent
+pub merges : (port : ℕ) (v : View) (other : ℕ) (w : View) → v.role ≡ Filler → w.role ≡ Holder → Merges Fed port v other w (ends_one v w) spent_view
 merges port v other w isf ish =
-    subst (λ (u : View). Merges Fed port u other w (ends_one u w) spent) (sym (as_filler v isf))
-    (subst (λ (u : View). Merges Fed port (filler_view v) other u (ends_one (filler_view v) u) spent) (sym (as_holder w ish)) (merges_at port v other w))
+    subst (λ (u : View). Merges Fed port u other w (ends_one u w) spent_view) (sym (as_filler v isf))
+    (subst (λ (u : View). Merges Fed port (filler_view v) other u (ends_one (filler_view v) u) spent_view) (sym (as_holder w ish)) (merges_at port v other w))

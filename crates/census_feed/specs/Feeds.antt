@@ -13,7 +13,7 @@ use Rattle.census_feed.specs.declared.item.Item.{Item}
 use Rattle.census_feed.specs.declared.item.Item.TheVariants.{Work, Mark}
 use Rattle.census_feed.specs.declared.handles.Hand.{Hand}
 use Rattle.census_feed.specs.declared.handles.Feed.{Feed}
-use Rattle.census_feed.specs.Items.{items, Before, has, is_ticket, times, ends_with_mark}
+use Rattle.census_feed.specs.Items.{items, Before, has, is_ticket, occurrence_count, ends_with_mark}
 use Rattle.census_feed.specs.Rule.{Fed, AllMarks}
 
 -- the tickets that a hand took, with its end mark last once it took one
@@ -82,7 +82,7 @@ all_lists hands = flat_map list_of hands
 
 -- the tickets that were taken and these are the tickets of the feed, each once
 abbrev pub AreLeft : List Item → List Item → List Item → Type 0
-AreLeft filled taken left = All (λ x. is_ticket x ≡ true) left × ((t : Ticket) → times (Work t) taken + times (Work t) left ≡ cond (has filled (Work t)) 1 0)
+AreLeft filled taken left = All (λ x. is_ticket x ≡ true) left × ((t : Ticket) → occurrence_count (Work t) taken + occurrence_count (Work t) left ≡ cond (has filled (Work t)) 1 0)
 
 -- a hand's list ends with an end mark
 abbrev pub some_finished : List Hand → Bool

@@ -6,7 +6,7 @@ use Rattle.census_bundle.specs.declared.bundle.Folder.{Folder}
 use Rattle.census_feed.specs.declared.item.Item.{Item}
 use Rattle.census_feed.specs.declared.view.Role.TheVariants.{Filler}
 use Rattle.census_feed.specs.declared.view.View.{View}
-use Rattle.census_feed.specs.Items.{items, marks, ends_with_mark}
+use Rattle.census_feed.specs.Items.{items, mark_count, ends_with_mark}
 
 -- the filler fills: no hand has ended and nothing was popped
 abbrev pub IsFilling : {A P : Type 0} → Worker Item A View P → ℕ → Type 0
@@ -19,7 +19,7 @@ CanFollow filled next = (bundle : List Folder) × (workers : ℕ) × (behind : L
 
 -- a hand has finished where its list ends with a mark, and else it has none
 abbrev pub Finishes : Bool → List Item → Type 0
-Finishes finished taken = (finished ≡ false → marks taken ≡ 0) × (finished ≡ true → ends_with_mark taken ≡ true)
+Finishes finished taken = (finished ≡ false → mark_count taken ≡ 0) × (finished ≡ true → ends_with_mark taken ≡ true)
 
 -- the filler ends hands: it has begun some, and popped nothing
 abbrev pub IsEnding : {A P : Type 0} → Worker Item A View P → Type 0
@@ -27,4 +27,4 @@ IsEnding w = (worker_flavor w ≡ 0) × ((worker_view w).role ≡ Filler) × (le
 
 -- all hands have ended
 abbrev pub HasEnded : View → Type 0
-HasEnded v = (v.begun ≡ length v.ended) × (v.begun ≡ marks v.filled) × (0 < v.begun)
+HasEnded v = (v.begun ≡ length v.ended) × (v.begun ≡ mark_count v.filled) × (0 < v.begun)

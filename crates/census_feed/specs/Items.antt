@@ -57,16 +57,16 @@ same_item (Mark j) (Work t) = false
 same_item (Mark j) (Mark k) = j == k
 
 -- how often x stands in the list
-abbrev pub times : Item → List Item → ℕ
-times x xs = count_by (same_item x) xs
+abbrev pub occurrence_count : Item → List Item → ℕ
+occurrence_count x xs = count_by (same_item x) xs
 
 -- x stands in the list
 abbrev pub has : List Item → Item → Bool
 has xs x = list_any (same_item x) xs
 
 -- how many end marks stand in the list
-abbrev pub marks : List Item → ℕ
-marks xs = count_by is_mark xs
+abbrev pub mark_count : List Item → ℕ
+mark_count xs = count_by is_mark xs
 
 -- the last item is an end mark
 abbrev pub ends_with_mark : List Item → Bool

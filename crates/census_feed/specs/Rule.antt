@@ -6,19 +6,19 @@ use Rattle.census_feed.specs.declared.item.Item.{Item}
 use Rattle.census_feed.specs.declared.view.Role.{Role}
 use Rattle.census_feed.specs.declared.view.Role.TheVariants.{Filler, Holder, Spent}
 use Rattle.census_feed.specs.declared.view.View.{View}
-use Rattle.census_feed.specs.Items.{items, Rises, has, is_mark, times, marks}
+use Rattle.census_feed.specs.Items.{items, Rises, has, is_mark, occurrence_count, mark_count}
 
 -- what the filler knows: what it pushed and popped, how many hands have begun, and the lists of those that have ended
-abbrev pub filling : List Item → List Item → ℕ → List (List Item) → View
-filling pushed popped begun ended = record { role = Filler; filled = pushed; taken = popped; begun = begun; ended = ended }
+abbrev pub view_of_filler : List Item → List Item → ℕ → List (List Item) → View
+view_of_filler pushed popped begun ended = record { role = Filler; filled = pushed; taken = popped; begun = begun; ended = ended }
 
 -- what a hand knows: what the feed was filled with, and what it took
-abbrev pub holding : List Item → List Item → View
-holding filled taken = record { role = Holder; filled = filled; taken = taken; begun = 0; ended = [] }
+abbrev pub view_of_hand : List Item → List Item → View
+view_of_hand filled taken = record { role = Holder; filled = filled; taken = taken; begun = 0; ended = [] }
 
 -- the view of a pass that has handed all over
-abbrev pub spent : View
-spent = record { role = Spent; filled = []; taken = []; begun = 0; ended = [] }
+abbrev pub spent_view : View
+spent_view = record { role = Spent; filled = []; taken = []; begun = 0; ended = [] }
 
 abbrev pub by_role : {X : Type 0} → X → X → X → Role → X
 by_role filler holder none Filler = filler
@@ -33,14 +33,14 @@ abbrev pub lists : List View → List (List Item)
 lists views = flat_map lists_of views
 
 -- the hands' lists together
-abbrev pub joined : List (List Item) → List Item
-joined ls = flat_map (λ l. l) ls
+abbrev pub all_items_of : List (List Item) → List Item
+all_items_of ls = flat_map (λ l. l) ls
 
 abbrev pub fillers_of : View → List View
 fillers_of v = by_role (v ∷ []) [] [] v.role
 
-abbrev pub fillers : List View → List View
-fillers views = flat_map fillers_of views
+abbrev pub views_of_filler : List View → List View
+views_of_filler views = flat_map fillers_of views
 
 -- a hand knows what was pushed
 abbrev pub KnowsFilled : List Item → View → Type 0
@@ -58,8 +58,8 @@ pub record IsSound (bundle : List Folder) (workers : ℕ) (pushed popped rest : 
   pub in_order : items bundle workers ≡ pushed ++ behind
   pub all_pushed : 0 < length hands → behind ≡ []
   pub parts : pushed ≡ front ++ (popped ++ rest)
-  pub once : (x : Item) → times x (joined hands) ≡ cond (has front x) 1 0
-  pub each : AllByRecursion (λ l. Rises l × (marks l ≤ 1)) hands
+  pub once : (x : Item) → occurrence_count x (all_items_of hands) ≡ cond (has front x) 1 0
+  pub each : AllByRecursion (λ l. Rises l × (mark_count l ≤ 1)) hands
   pub few : length hands ≤ workers
   pub late : 0 < length popped → workers ≤ ended
 
@@ -69,34 +69,34 @@ pub record Fed (rest : List Item) (views : List View) : Type 0 where
   pub bundle : List Folder
   pub workers : ℕ
   pub filler : View
-  pub one : fillers views ≡ filler ∷ []
+  pub one : views_of_filler views ≡ filler ∷ []
   pub counted : filler.begun ≡ length (lists views)
   pub known : AllByRecursion (KnowsFilled filler.filled) views
   pub sound : IsSound bundle workers filler.filled filler.taken rest (lists views) (length filler.ended)
 
 -- how a step changes the view of the pass that makes it
-abbrev pub pushed : View → List Item → View
-pushed v xs = record v { filled = v.filled ++ xs }
+abbrev pub view_after_push : View → List Item → View
+view_after_push v xs = record v { filled = v.filled ++ xs }
 
-abbrev pub took : View → List Item → View
-took v xs = record v { taken = v.taken ++ xs }
+abbrev pub view_after_take : View → List Item → View
+view_after_take v xs = record v { taken = v.taken ++ xs }
 
 abbrev pub begins_one : View → View
 begins_one v = record v { begun = v.begun + 1 }
 
 abbrev pub new_hand : View → View
-new_hand v = holding v.filled []
+new_hand v = view_of_hand v.filled []
 
 abbrev pub ends_one : View → View → View
 ends_one v w = record v { ended = v.ended ++ w.taken ∷ [] }
 
 -- what a steal tells a hand: its list still rises, and it took an item of the feed
 abbrev pub Stole : View → List Item → View → Type 0
-Stole v xs w = (w ≡ took v xs) × Rises w.taken × AllByRecursion (λ x. has v.filled x ≡ true) xs
+Stole v xs w = (w ≡ view_after_take v xs) × Rises w.taken × AllByRecursion (λ x. has v.filled x ≡ true) xs
 
 -- what a pop tells the filler
 abbrev pub Popped : View → List Item → View → Type 0
-Popped v xs w = (w ≡ took v xs) × (length w.taken ≤ length w.filled)
+Popped v xs w = (w ≡ view_after_take v xs) × (length w.taken ≤ length w.filled)
 
 abbrev pub AllMarks : List Item → Type 0
 AllMarks xs = AllByRecursion (λ x. is_mark x ≡ true) xs
@@ -104,5 +104,5 @@ AllMarks xs = AllByRecursion (λ x. is_mark x ≡ true) xs
 -- what the filler knows once all hands have ended and the deque is empty: each item is in one list, once
 abbrev pub AllOut : View → Type 0
 AllOut v =
-    ((x : Item) → times x (joined v.ended) + times x v.taken ≡ cond (has v.filled x) 1 0)
-    × (0 < marks (joined v.ended) → AllMarks v.taken)
+    ((x : Item) → occurrence_count x (all_items_of v.ended) + occurrence_count x v.taken ≡ cond (has v.filled x) 1 0)
+    × (0 < mark_count (all_items_of v.ended) → AllMarks v.taken)

@@ -2,8 +2,8 @@
 ghost use Rattle.std.specs.Prelude.{◌≡◌, ◌<◌, ◌^◌, List, [], ◌∷◌, ◌++◌, length, map, All};
 ghost use Rattle.crossbeam_deque.specs.Handles.{stealer_deque, worker_deque, worker_view};
 ghost use Rattle.census_feed.specs.declared.item.Item.{Item};
-ghost use Rattle.census_feed.specs.Items.{marks};
-ghost use Rattle.census_feed.specs.Rule.{joined};
+ghost use Rattle.census_feed.specs.Items.{mark_count};
+ghost use Rattle.census_feed.specs.Rule.{all_items_of};
 ghost use Rattle.census_feed.specs.Fillings.{IsEnding, HasEnded};
 ghost use Rattle.census_feed.specs.Feeds.{list_of, AreLeft};
 
@@ -43,8 +43,8 @@ pub(crate) fn end_all(owner: &mut Owner, hands: Vec<Hand>)
 pub(crate) fn pop_all(owner: &mut Owner) -> usize
     requires ending { IsEnding owner.old × HasEnded (worker_view owner.old) }
     requires small { length (worker_view owner.old).filled < 2 ^ 62 }
-    ensures left { (left : List Item) × (length left ≡ result) × AreLeft (worker_view owner.old).filled (joined (worker_view owner.old).ended) left }
-    ensures none { 0 < marks (joined (worker_view owner.old).ended) → result ≡ 0 }
+    ensures left { (left : List Item) × (length left ≡ result) × AreLeft (worker_view owner.old).filled (all_items_of (worker_view owner.old).ended) left }
+    ensures none { 0 < mark_count (all_items_of (worker_view owner.old).ended) → result ≡ 0 }
 {
     let mut left = 0;
     while let Some(item) = owner.pop_as::<Pops>() {

@@ -3,7 +3,7 @@ ghost use Rattle.std.specs.Prelude.{◌≡◌, true, [], ◌∷◌, ◌++◌, No
 ghost use Rattle.crossbeam_deque.specs.Handles.{view, IsPassOf, SamePass, stealer_deque, stealer_flavor};
 ghost use Rattle.census_feed.specs.declared.item.Item.TheVariants.{Work};
 ghost use Rattle.census_feed.specs.declared.view.Role.TheVariants.{Holder};
-ghost use Rattle.census_feed.specs.Items.{marks, Rises, has, ends_with_mark};
+ghost use Rattle.census_feed.specs.Items.{mark_count, Rises, has, ends_with_mark};
 ghost use Rattle.census_feed.specs.Rule.{Stole};
 ghost use Rattle.census_feed.specs.Feeds.{list_of, source_of, SameHand, IsTicketFor, TookMark, OnlyLaterLeft, NoTicketLeft};
 
@@ -44,7 +44,7 @@ impl Hand {
 fn steal<R: Wait>(rt: &R, stealer: &Thief, pass: &mut HandPass) -> Item
     requires seated { IsPassOf (stealer_deque stealer.now) pass.old × (stealer_flavor stealer.now ≡ 0) }
     requires holder { (view pass.old).role ≡ Holder }
-    requires unmarked { marks (view pass.old).taken ≡ 0 }
+    requires unmarked { mark_count (view pass.old).taken ≡ 0 }
     ensures same { SamePass pass.old pass.new }
     ensures stole { Stole (view pass.old) (result ∷ []) (view pass.new) }
 {

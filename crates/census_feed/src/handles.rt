@@ -2,7 +2,7 @@
 ghost use Rattle.std.specs.Prelude.{◌≡◌, ◌<◌, ◌^◌, length};
 ghost use Rattle.crossbeam_deque.specs.Handles.{view, IsPassOf, stealer_deque, stealer_flavor, worker_view};
 ghost use Rattle.census_feed.specs.declared.view.Role.TheVariants.{Holder};
-ghost use Rattle.census_feed.specs.Items.{marks};
+ghost use Rattle.census_feed.specs.Items.{mark_count};
 ghost use Rattle.census_feed.specs.Fillings.{IsFilling, Finishes};
 
 use crate::turns::{HandPass, Owner, Thief};
@@ -23,7 +23,7 @@ pub struct Hand {
 #[derive(Drop)]
 pub struct Feed {
     pub(crate) owner: Owner,
-    ghost filled: { IsFilling owner (marks (worker_view owner).filled) },
-    ghost some_hands: { 0 < marks (worker_view owner).filled },
+    ghost filled: { IsFilling owner (mark_count (worker_view owner).filled) },
+    ghost some_hands: { 0 < mark_count (worker_view owner).filled },
     ghost small: { length (worker_view owner).filled < 2 ^ 62 },
 }

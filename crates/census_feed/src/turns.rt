@@ -24,14 +24,14 @@ pub struct Turns;
 
 impl Protocol<Item, View> for Turns {
     ghost use Rattle.std.specs.Prelude.{[]};
-    ghost use Rattle.census_feed.specs.Rule.{Fed, filling};
+    ghost use Rattle.census_feed.specs.Rule.{Fed, view_of_filler};
 
     ghost holds = { Fed };
 
-    ghost first = { filling [] [] 0 [] };
+    ghost first = { view_of_filler [] [] 0 [] };
 
     // The rule has no room for a second filler, so each pass is split off by `Begins`.
-    ghost guest = { filling [] [] 0 [] };
+    ghost guest = { view_of_filler [] [] 0 [] };
 }
 
 /// A push, before any hand has begun: the filler's view gains the item.
@@ -39,9 +39,9 @@ pub struct Pushes;
 
 impl Outcome<Item, View> for Pushes {
     ghost use Rattle.std.specs.Prelude.{◌≡◌};
-    ghost use Rattle.census_feed.specs.Rule.{pushed};
+    ghost use Rattle.census_feed.specs.Rule.{view_after_push};
 
-    ghost then = { λ v xs w. w ≡ pushed v xs };
+    ghost then = { λ v xs w. w ≡ view_after_push v xs };
 }
 
 /// A hand begins: a pass is split off the filler's. It has taken nothing, and knows what was pushed.
@@ -71,11 +71,11 @@ impl Outcome<Item, View> for Steals {
 pub struct Ends;
 
 impl Join<View> for Ends {
-    ghost use Rattle.census_feed.specs.Rule.{ends_one, spent};
+    ghost use Rattle.census_feed.specs.Rule.{ends_one, spent_view};
 
     ghost both = { ends_one };
 
-    ghost spent = { spent };
+    ghost spent = { spent_view };
 }
 
 /// A pop, once all hands have ended: what the filler popped gains the item at the front of the deque. Where the deque

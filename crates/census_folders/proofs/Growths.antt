@@ -14,7 +14,7 @@ use Rattle.census_bundle.specs.Sizes.{count_limit}
 use Rattle.census_folders.specs.declared.fault.FoldersFault.{FoldersFault}
 use Rattle.census_folders.specs.Folders.{IsPatternFile, names_of}
 use Rattle.census_folders.specs.Shelves.{AddsFileOf, AddsFolderOf, IsChosen, StopsAtFile, StopsFile, StopsFolderOf, StopsList}
-use Rattle.census_folders.specs.Sums.{Fits, bytes_in, less}
+use Rattle.census_folders.specs.Sums.{Fits, bytes_in, limit_after}
 use Rattle.census_folders.specs.Told.{Told, GivesTold}
 use Rattle.census_folders.proofs.Listings.{bytes_of}
 use Rattle.census_folders.proofs.Totals.{fits_more, fits_nothing, less_more, less_nothing}
@@ -44,7 +44,7 @@ pub record HoldsFiles (held : List ℕ → Told) (word : List ℕ) (names : List
   pub texts : All (λ e. GivesTold (held e.name) e.text) entries
   pub few : length entries ≤ count_limit
   pub fits : Fits before (bytes_in entries)
-  pub left : after ≡ less before (bytes_in entries)
+  pub left : after ≡ limit_after before (bytes_in entries)
   pub is : new ≡ old ++ record { name = word; entries = entries } ∷ []
 
 pub no_file : (held : List ℕ → Told) (word : List ℕ) (left : Option ℕ) (old new : List Folder) → new ≡ with_folder old word → HoldsFiles held word [] left left old new

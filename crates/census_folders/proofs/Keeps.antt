@@ -11,7 +11,7 @@ use Rattle.census_bundle.specs.Growing.{on_last_of, with_entry, with_one_more}
 use Rattle.census_bundle.specs.Names.{is_name}
 use Rattle.census_folders.specs.declared.fault.FoldersFault.{FoldersFault}
 use Rattle.census_folders.specs.declared.keeping.Kept.{Kept}
-use Rattle.census_folders.specs.Losses.{AddsEntry, KeepsFile, KeepsFiles, KeepsFolder, StopsInFolder, StopsKeepingAt, StopsKeepingFile, StopsKeepingFolder, left_out, nothing, with_empty, with_text}
+use Rattle.census_folders.specs.Losses.{AddsEntry, KeepsFile, KeepsFiles, KeepsFolder, StopsInFolder, StopsKeepingAt, StopsKeepingFile, StopsKeepingFolder, left_out, kept_at_start, with_empty, with_text}
 use Rattle.census_folders.specs.Shelves.{IsChosen}
 use Rattle.census_folders.specs.Told.{Told, GivesTold}
 use Rattle.census_folders.specs.Walks.{path_of}
@@ -73,7 +73,7 @@ next_folder listed held words i d start mid new within before more =
     rw (map_more (λ s. s.now) words i d within) (FoldsTo-push (KeepsFolder listed held) start (words_of (take i words)) mid (get_or words i d).now new before more)
 
 pub stops_keeping : (listed : List ℕ → Told) (held : List ℕ → List ℕ → Told) (limit : Option ℕ) (words : List (Bor (List ℕ))) (i : ℕ) (d : Bor (List ℕ)) (mid : Kept) (fault : FoldersFault) → i < length words
-    → FoldsTo (KeepsFolder listed held) (nothing limit) (words_of (take i words)) mid → StopsKeepingFolder listed held (get_or words i d).now mid fault → StopsKeepingAt listed held limit (words_of words) fault
+    → FoldsTo (KeepsFolder listed held) (kept_at_start limit) (words_of (take i words)) mid → StopsKeepingFolder listed held (get_or words i d).now mid fault → StopsKeepingAt listed held limit (words_of words) fault
 stops_keeping listed held limit words i d mid fault within before why =
     let word = (get_or words i d).now in
     record {

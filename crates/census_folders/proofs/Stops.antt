@@ -14,7 +14,7 @@ use Rattle.census_folders.specs.declared.fault.FoldersFault.TheVariants.{Add, Re
 use Rattle.census_folders.specs.Faults.{IsFolderFault, StopsAtWord}
 use Rattle.census_folders.specs.Folders.{IsPatternFolder}
 use Rattle.census_folders.specs.Shelves.{AddsFolderOf, HoldsShelf, IsFolderOf, StopsAtFile, StopsAtShelf, StopsFile, StopsFolderOf, StopsList}
-use Rattle.census_folders.specs.Sums.{Fits, bytes_in, bytes_of_all, less}
+use Rattle.census_folders.specs.Sums.{Fits, bytes_in, bytes_of_all, limit_after}
 use Rattle.census_folders.specs.Told.{Told}
 use Rattle.census_folders.proofs.Totals.{fits_more, fits_nothing, less_more, less_nothing}
 
@@ -25,7 +25,7 @@ words_of folders = map (λ s. s.now) folders
 pub record HoldsSoFar (listed : List ℕ → Told) (held : List ℕ → List ℕ → Told) (limit : Option ℕ) (words : List (List ℕ)) (b : List Folder) (left : Option ℕ) : Type 0 where
   pub told : HoldsShelf listed held words b
   pub fits : Fits limit (bytes_of_all b)
-  pub rest : left ≡ less limit (bytes_of_all b)
+  pub rest : left ≡ limit_after limit (bytes_of_all b)
 
 pub no_folder : (listed : List ℕ → Told) (held : List ℕ → List ℕ → Told) (limit : Option ℕ) (b : List Folder) → b ≡ [] → HoldsSoFar listed held limit [] b limit
 no_folder listed held limit b none =
@@ -106,7 +106,7 @@ file_fault told left count name Memory why = tt
 
 folder_fault : (listed : List ℕ → Told) (held : List ℕ → List ℕ → Told) (left : Option ℕ) (word : List ℕ) (fault : FoldersFault) → StopsList (listed word) fault ⊎ StopsAtFile listed held left word fault → IsFolderFault fault
 folder_fault listed held left word fault (inl why) = list_fault (listed word) fault why
-folder_fault listed held left word fault (inr stops) = file_fault (held word stops.name) (less left (bytes_in stops.entries)) stops.place stops.name fault stops.why
+folder_fault listed held left word fault (inr stops) = file_fault (held word stops.name) (limit_after left (bytes_in stops.entries)) stops.place stops.name fault stops.why
 
 at_word : (lawful full : Bool) (P : Type 0) (Q R : Type 0) (fault : FoldersFault) → (P → R) → MatchBool lawful (MatchBool full Q P) (fault ≡ Add adds.BadName) → MatchBool lawful (MatchBool full Q R) (fault ≡ Add adds.BadName)
 at_word true true P Q R fault weaker why = why
@@ -115,7 +115,7 @@ at_word false full P Q R fault weaker why = why
 
 pub plain_stop : (listed : List ℕ → Told) (held : List ℕ → List ℕ → Told) (limit : Option ℕ) (words : List (List ℕ)) (fault : FoldersFault) → StopsAtShelf listed held limit words fault → StopsAtWord words fault
 plain_stop listed held limit words fault stops =
-    let left : Option ℕ = less limit (bytes_of_all stops.folders) in
+    let left : Option ℕ = limit_after limit (bytes_of_all stops.folders) in
     record {
       place = stops.place;
       word = stops.word;

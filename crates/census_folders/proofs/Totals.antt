@@ -2,30 +2,30 @@
 use Rattle.std.proofs.Common.{◌≡◌, ℕ, ◌+◌, ◌≤◌, Option, Some, None, refl, sym, ap, ◌∙◌, subst, arith}
 use Rattle.std.proofs.Math.Nat.{min-le_left, min-le_right}
 use Rattle.census_folders.specs.Folders.{file_limit}
-use Rattle.census_folders.specs.Sums.{Fits, less, most_of}
+use Rattle.census_folders.specs.Sums.{Fits, limit_after, most_of}
 
 pub fits_nothing : (left : Option ℕ) → Fits left 0
 fits_nothing None = tt
 fits_nothing (Some left) = omega arith
 
-pub less_nothing : (left : Option ℕ) → left ≡ less left 0
+pub less_nothing : (left : Option ℕ) → left ≡ limit_after left 0
 less_nothing None = refl
 less_nothing (Some left) = ap (λ n. Some n) (omega arith)
 
-fits_sum : (before : Option ℕ) (a b : ℕ) → Fits before a → Fits (less before a) b → Fits before (a + b)
+fits_sum : (before : Option ℕ) (a b : ℕ) → Fits before a → Fits (limit_after before a) b → Fits before (a + b)
 fits_sum None a b first second = tt
 fits_sum (Some left) a b first second = omega (arith, first, second)
 
-less_sum : (before : Option ℕ) (a b : ℕ) → Fits before a → less (less before a) b ≡ less before (a + b)
+less_sum : (before : Option ℕ) (a b : ℕ) → Fits before a → limit_after (limit_after before a) b ≡ limit_after before (a + b)
 less_sum None a b first = refl
 less_sum (Some left) a b first = ap (λ n. Some n) (omega (arith, first))
 
 -- one more text
-pub fits_more : (before mid : Option ℕ) (a b sum : ℕ) → sum ≡ a + b → mid ≡ less before a → Fits before a → Fits mid b → Fits before sum
+pub fits_more : (before mid : Option ℕ) (a b sum : ℕ) → sum ≡ a + b → mid ≡ limit_after before a → Fits before a → Fits mid b → Fits before sum
 fits_more before mid a b sum is rest first second = rw is (fits_sum before a b first (subst (λ l. Fits l b) rest second))
 
-pub less_more : (before mid after : Option ℕ) (a b sum : ℕ) → sum ≡ a + b → mid ≡ less before a → Fits before a → after ≡ less mid b → after ≡ less before sum
-less_more before mid after a b sum is rest first second = second ∙ ap (λ l. less l b) rest ∙ less_sum before a b first ∙ ap (less before) (sym is)
+pub less_more : (before mid after : Option ℕ) (a b sum : ℕ) → sum ≡ a + b → mid ≡ limit_after before a → Fits before a → after ≡ limit_after mid b → after ≡ limit_after before sum
+less_more before mid after a b sum is rest first second = second ∙ ap (λ l. limit_after l b) rest ∙ less_sum before a b first ∙ ap (limit_after before) (sym is)
 
 -- what is no longer than the next file may be
 pub fits_next : (left : Option ℕ) (count : ℕ) → count ≤ most_of left → Fits left count

@@ -11,7 +11,7 @@ use Rattle.census_folders.specs.declared.fault.FoldersFault.TheVariants.{Add, Re
 use Rattle.census_folders.specs.Folders.{AreInOrder}
 use Rattle.census_folders.specs.Shelves.{IsChosen, patterns_in}
 use Rattle.census_folders.specs.Told.{Told, GivesTold}
-use Rattle.census_folders.specs.Walks.{AddsVisit, HoldsTree, IsVisit, StopsNames, StopsVisit, StopsWalk, Visit, below, has_patterns, is_any, names_in, paths, paths_in}
+use Rattle.census_folders.specs.Walks.{AddsVisit, HoldsTree, IsVisit, StopsNames, StopsVisit, StopsWalk, Visit, paths_below, has_patterns, is_any, names_in, paths, paths_in}
 
 -- # One folder
 
@@ -28,22 +28,22 @@ any_chosen listing names count chosen is = ap (nat_le 1) (is ∙ length_permutat
 
 -- # Several folders
 
-below-push : (visits : List Visit) (v : Visit) → below (visits ++ v ∷ []) ≡ below visits ++ paths_in v.path v.inner
-unfolding below
+below-push : (visits : List Visit) (v : Visit) → paths_below (visits ++ v ∷ []) ≡ paths_below visits ++ paths_in v.path v.inner
+unfolding paths_below
 below-push [] v = append-nil (paths_in v.path v.inner)
-below-push (w ∷ visits) v = ap (λ names. paths_in w.path w.inner ++ names) (below-push visits v) ∙ sym (append_assoc (paths_in w.path w.inner) (below visits) (paths_in v.path v.inner))
+below-push (w ∷ visits) v = ap (λ names. paths_in w.path w.inner ++ names) (below-push visits v) ∙ sym (append_assoc (paths_in w.path w.inner) (paths_below visits) (paths_in v.path v.inner))
 
 -- So many folders of those that were found were walked. Those of them that have patterns were chosen.
 pub record Walked (listed inner : List ℕ → Told) (word : List ℕ) (found chosen : List (List ℕ)) (count : ℕ) : Type 0 where
   pub visits : List Visit
   pub told : All (IsVisit listed inner) visits
-  pub found_are : found ≡ word ∷ below visits
+  pub found_are : found ≡ word ∷ paths_below visits
   pub order : paths visits ≡ take count found
   pub within : count ≤ length found
   pub chosen_are : chosen ≡ paths (filter has_patterns visits)
 
 pub none_walked : (listed inner : List ℕ → Told) (word : List ℕ) (found : List (List ℕ)) → found ≡ word ∷ [] → Walked listed inner word found [] 0
-unfolding below
+unfolding paths_below
 none_walked listed inner word found is = record {
   visits = [];
   told = All-nil (IsVisit listed inner);

@@ -14,7 +14,7 @@ use Rattle.census_folders.specs.declared.keeping.Kept.{Kept}
 use Rattle.census_folders.specs.declared.loss.Loss.{Loss}
 use Rattle.census_folders.specs.Folders.{file_limit}
 use Rattle.census_folders.specs.Shelves.{IsChosen}
-use Rattle.census_folders.specs.Sums.{Fits, less, most_of}
+use Rattle.census_folders.specs.Sums.{Fits, limit_after, most_of}
 use Rattle.census_folders.specs.Told.{Told, GivesTold, MayExceed, MayFail}
 use Rattle.census_folders.specs.Walks.{path_of}
 
@@ -38,7 +38,7 @@ GivesText told left None = MayFail told ⊎ MayExceed (most_of left) told
 -- an entry of this text, or a lost one, which is told
 abbrev pub with_text : List ℕ → List ℕ → Option (List ℕ) → Kept → Kept
 with_text folder name (Some text) old =
-    record { bundle = with_entry old.bundle (entry_of name text); lost = old.lost; left = less old.left (length text) }
+    record { bundle = with_entry old.bundle (entry_of name text); lost = old.lost; left = limit_after old.left (length text) }
 with_text folder name None old =
     record {
       bundle = with_entry old.bundle (lost_entry name);
@@ -119,8 +119,8 @@ StopsKeepingFolder listed held word old fault =
     (fault ≡ Memory) ⊎ (((fault ≡ Add adds.TooMany) × (is_name word ≡ true) × (count_limit ≤ length old.bundle)) ⊎ StopsInFolder listed held word old fault)
 
 -- nothing is kept so far, and so many bytes may be read in all
-abbrev pub nothing : Option ℕ → Kept
-nothing limit = record { bundle = []; lost = []; left = limit }
+abbrev pub kept_at_start : Option ℕ → Kept
+kept_at_start limit = record { bundle = []; lost = []; left = limit }
 
 -- the folders of the words before this place were added; the folder of the word at this place was not
 pub record StopsKeepingAt (listed : List ℕ → Told) (held : List ℕ → List ℕ → Told) (limit : Option ℕ) (words : List (List ℕ)) (fault : FoldersFault) : Type 0 where
@@ -128,5 +128,5 @@ pub record StopsKeepingAt (listed : List ℕ → Told) (held : List ℕ → List
   pub word : List ℕ
   pub is : slice_get words place ≡ Some word
   pub kept : Kept
-  pub before : FoldsTo (KeepsFolder listed held) (nothing limit) (take place words) kept
+  pub before : FoldsTo (KeepsFolder listed held) (kept_at_start limit) (take place words) kept
   pub why : StopsKeepingFolder listed held word kept fault

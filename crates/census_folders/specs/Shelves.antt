@@ -11,7 +11,7 @@ use Rattle.census_bundle.specs.Sizes.{count_limit}
 use Rattle.census_folders.specs.declared.fault.FoldersFault.{FoldersFault}
 use Rattle.census_folders.specs.declared.fault.FoldersFault.TheVariants.{Add, Read, TooLong, Memory}
 use Rattle.census_folders.specs.Folders.{AreInOrder, HoldsFolders, IsPatternFile, IsPatternFolder, file_limit, is_pattern_name, names_of}
-use Rattle.census_folders.specs.Sums.{Fits, bytes_in, bytes_of_all, less, most_of}
+use Rattle.census_folders.specs.Sums.{Fits, bytes_in, bytes_of_all, limit_after, most_of}
 use Rattle.census_folders.specs.Told.{Told, GivesTold, MayExceed, MayFail}
 
 -- # Which files
@@ -75,7 +75,7 @@ pub record StopsAtFile (listed : List ℕ → Told) (held : List ℕ → List �
   pub texts : All (λ e. GivesTold (held word e.name) e.text) entries
   pub fits : Fits left (bytes_in entries)
   pub few : place ≤ count_limit
-  pub why : StopsFile (held word name) (less left (bytes_in entries)) place name fault
+  pub why : StopsFile (held word name) (limit_after left (bytes_in entries)) place name fault
 
 -- why the names of a folder are not listed
 abbrev pub StopsList : Told → FoldersFault → Type 0
@@ -99,7 +99,7 @@ pub record StopsAtShelf (listed : List ℕ → Told) (held : List ℕ → List �
   pub before : HoldsShelf listed held (take place words) folders
   pub fits : Fits limit (bytes_of_all folders)
   pub few : place ≤ count_limit
-  pub why : StopsFolderOf listed held (less limit (bytes_of_all folders)) place word fault
+  pub why : StopsFolderOf listed held (limit_after limit (bytes_of_all folders)) place word fault
 
 -- # One more
 
@@ -111,7 +111,7 @@ pub record AddsFileOf (told : Told) (name : List ℕ) (before after : Option ℕ
   pub is_file : IsPatternFile file
   pub text : GivesTold told file.text
   pub fits : Fits before (length file.text)
-  pub left : after ≡ less before (length file.text)
+  pub left : after ≡ limit_after before (length file.text)
   pub room : length (last_entries old) < count_limit
   pub added : new ≡ with_entry old file
 
@@ -123,6 +123,6 @@ pub record AddsFolderOf (listed : List ℕ → Told) (held : List ℕ → List �
   pub is_folder : IsPatternFolder folder
   pub told : IsFolderOf listed held folder
   pub fits : Fits before (bytes_in folder.entries)
-  pub left : after ≡ less before (bytes_in folder.entries)
+  pub left : after ≡ limit_after before (bytes_in folder.entries)
   pub room : length old < count_limit
   pub added : new ≡ old ++ folder ∷ []

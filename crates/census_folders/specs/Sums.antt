@@ -19,9 +19,9 @@ Fits None count = Unit {0}
 Fits (Some left) count = count ≤ left
 
 -- what may still be read after so many bytes
-abbrev pub less : Option ℕ → ℕ → Option ℕ
-less None count = None
-less (Some left) count = Some (left - count)
+abbrev pub limit_after : Option ℕ → ℕ → Option ℕ
+limit_after None count = None
+limit_after (Some left) count = Some (left - count)
 
 -- the most bytes of the next file
 abbrev pub most_of : Option ℕ → ℕ

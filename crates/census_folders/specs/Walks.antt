@@ -31,9 +31,9 @@ abbrev pub paths_in : List ℕ → List ℕ → List (List ℕ)
 paths_in folder inner = map (path_of folder) (names_in inner)
 
 -- the paths of the folders in those that were walked
-unfoldable pub below : List Visit → List (List ℕ)
-below [] = []
-below (v ∷ visits) = paths_in v.path v.inner ++ below visits
+unfoldable pub paths_below : List Visit → List (List ℕ)
+paths_below [] = []
+paths_below (v ∷ visits) = paths_in v.path v.inner ++ paths_below visits
 
 abbrev pub paths : List Visit → List (List ℕ)
 paths visits = map (λ v. v.path) visits
@@ -50,14 +50,14 @@ pub record IsVisit (listed inner : List ℕ → Told) (v : Visit) : Type 0 where
 -- These are the first of the folder of the word and of the folders in those that were walked, in this order.
 pub record IsWalk (listed inner : List ℕ → Told) (word : List ℕ) (visits : List Visit) : Type 0 where
   pub told : All (IsVisit listed inner) visits
-  pub order : paths visits ≡ take (length visits) (word ∷ below visits)
+  pub order : paths visits ≡ take (length visits) (word ∷ paths_below visits)
 
 -- The folder of the word, and each folder in one that was walked, was walked. The folders are exactly those of them
 -- that list a name that ends in `.rle`, in the order of their bytes.
 pub record HoldsTree (listed inner : List ℕ → Told) (word : List ℕ) (folders : List (List ℕ)) : Type 0 where
   pub visits : List Visit
   pub told : All (IsVisit listed inner) visits
-  pub whole : paths visits ≡ word ∷ below visits
+  pub whole : paths visits ≡ word ∷ paths_below visits
   pub same : IsPermutation (paths (filter has_patterns visits)) folders
   pub order : AreInOrder folders
 
@@ -79,7 +79,7 @@ pub record StopsAtVisit (listed inner : List ℕ → Told) (word : List ℕ) (fa
   pub visits : List Visit
   pub walk : IsWalk listed inner word visits
   pub path : List ℕ
-  pub is : slice_get (word ∷ below visits) (length visits) ≡ Some path
+  pub is : slice_get (word ∷ paths_below visits) (length visits) ≡ Some path
   pub why : StopsVisit (listed path) (inner path) fault
 
 -- why the folders below a word are not told

@@ -8,7 +8,7 @@ ghost use Rattle.census_folders.specs.Told.{GivesTold, RefusesFile};
 
 use crate::fault::FoldersFault;
 use crate::shelf::Shelf;
-use crate::sums::{less, most_of};
+use crate::sums::{limit_after, most_of};
 use census_bundle::Bundle;
 use std::alloc::Global;
 use watched::ReadFault;
@@ -48,6 +48,6 @@ pub fn add_file<S: Shelf>(
 {
     let bytes = read_file(shelf, alloc, folder, name, *left)?;
     bundle.add_entry(name, bytes.as_slice())?;
-    *left = less(*left, bytes.len());
+    *left = limit_after(*left, bytes.len());
     Ok(())
 }

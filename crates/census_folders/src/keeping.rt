@@ -2,14 +2,14 @@
 ghost use Rattle.std.specs.Prelude.{◌≡◌, ◌<◌, length, map, option_map, IfErr, MatchResult};
 ghost use Rattle.std.specs.List.{FoldsTo};
 ghost use Rattle.census_folders.specs.declared.fault.FoldersFault.TheVariants.{Memory};
-ghost use Rattle.census_folders.specs.Losses.{GivesText, KeepsFile, KeepsFolder, StopsKeepingAt, StopsKeepingFile, StopsKeepingFolder, nothing};
+ghost use Rattle.census_folders.specs.Losses.{GivesText, KeepsFile, KeepsFolder, StopsKeepingAt, StopsKeepingFile, StopsKeepingFolder, kept_at_start};
 
 use crate::fault::FoldersFault;
 use crate::files::read_file;
 use crate::listing::pattern_names;
 use crate::loss::{Losses, last_place, path_of};
 use crate::shelf::Shelf;
-use crate::sums::less;
+use crate::sums::limit_after;
 use census_bundle::{AddFault, Bundle};
 use std::alloc::Global;
 use watched::ReadFault;
@@ -64,7 +64,7 @@ fn keep_file<S: Shelf>(
     match added {
         Ok(()) => match text {
             Some(bytes) => {
-                kept.left = less(kept.left, bytes.len());
+                kept.left = limit_after(kept.left, bytes.len());
                 Ok(())
             }
             None => {
@@ -135,7 +135,7 @@ pub fn read_folders_on<S: Shelf>(
     limit: Option<u64>,
 ) -> Result<Kept, FoldersFault>
     ensures { MatchResult result
-        (FoldsTo (KeepsFolder (S.listed shelf.now) (S.held shelf.now)) (nothing limit) (map (λ s. s.now) folders.now))
+        (FoldsTo (KeepsFolder (S.listed shelf.now) (S.held shelf.now)) (kept_at_start limit) (map (λ s. s.now) folders.now))
         (StopsKeepingAt (S.listed shelf.now) (S.held shelf.now) limit (map (λ s. s.now) folders.now)) }
 {
     let mut kept = Kept {

@@ -1,6 +1,6 @@
 //! How many bytes may be read in all, where that is limited.
 ghost use Rattle.std.specs.Prelude.{◌≡◌};
-ghost use Rattle.census_folders.specs.Sums.{Fits, less, most_of};
+ghost use Rattle.census_folders.specs.Sums.{Fits, limit_after, most_of};
 
 /// The most bytes of a file.
 const FILE_LIMIT: usize = 67_108_864;
@@ -16,9 +16,9 @@ pub fn most_of(left: Option<u64>) -> usize
 }
 
 // What may still be read after so many bytes.
-pub fn less(left: Option<u64>, count: usize) -> Option<u64>
+pub fn limit_after(left: Option<u64>, count: usize) -> Option<u64>
     requires { Fits left count }
-    ensures { result ≡ less left count }
+    ensures { result ≡ limit_after left count }
 {
     match left {
         Some(left) => Some(left - count as u64),

@@ -25,7 +25,7 @@ use Rattle.life_text.specs.declared.rle.RleFault.{RleFault}
 use Rattle.life_text.specs.Picture.{Picture, picture_of}
 use Rattle.life_text.specs.Rle.{reading}
 use Rattle.census_format.specs.Lines.{answer_to_entry, answers}
-use Rattle.census_format.specs.Objects.{Object, object, objects, same_object, distinct, tally}
+use Rattle.census_format.specs.Objects.{Object, object, objects, same_object, distinct_elements, tally}
 use Rattle.census_format.specs.ObjectCounts.{Resolves, settled_cells, settled_object, SettlesInto, CountsObject, CodesCountObjects}
 use Rattle.census_format.specs.ObjectLaws.{one_object, same_itself}
 use Rattle.census_format.proofs.Lost.{found_answer, found_kept, kept_answer}
@@ -176,9 +176,9 @@ any_at p (x ∷ xs) (suc i) d lt holds = ap (λ b. p x || b) (any_at p xs i d (o
 each_line : (bound : ℕ) (most : Option ℕ) (es : List Entry) → All (CountsObject bound most es) (tally same_object (objects (answers (question.Settles bound most) es)))
 each_line bound most es =
     let ks = objects (answers (question.Settles bound most) es) in
-    All-map (CountsObject bound most es) (λ k. (k, count_by (same_object k) ks)) (distinct same_object ks) (λ i d lt.
-    let k = get_or (distinct same_object ks) i d in
-    let any : list_any (same_object k) ks ≡ true = sym (any_distinct same_object one_object same_itself k ks) ∙ any_at (same_object k) (distinct same_object ks) i d lt (same_itself k) in
+    All-map (CountsObject bound most es) (λ k. (k, count_by (same_object k) ks)) (distinct_elements same_object ks) (λ i d lt.
+    let k = get_or (distinct_elements same_object ks) i d in
+    let any : list_any (same_object k) ks ≡ true = sym (any_distinct same_object one_object same_itself k ks) ∙ any_at (same_object k) (distinct_elements same_object ks) i d lt (same_itself k) in
     let o = origin bound most k es any in
     record {
       pattern = o.pattern;
@@ -210,7 +210,7 @@ each_pattern bound most es e at r =
     let k = settled_object bound most e r in
     let one : list_any (same_object k) (objects (answer_in bound most e ∷ [])) ≡ true =
     ap (λ a. list_any (same_object k) (objects (a ∷ []))) (to_say bound most e r) ∙ ap (λ b. b || false) (same_itself k) in
-    count_map (λ x. (x, count_by (same_object x) ks)) (λ line. same_object k line.0) (distinct same_object ks)
+    count_map (λ x. (x, count_by (same_object x) ks)) (λ line. same_object k line.0) (distinct_elements same_object ks)
     ∙ count_distinct same_object one_object same_itself k ks (objects_any bound most k e es at.0 at.1 at.2 one)
 
 pub codes_count_objects : CodesCountObjects

@@ -2,7 +2,7 @@
 use Rattle.std.proofs.Common.{◌≡◌, ℕ, zero, suc, ◌+◌, ◌<◌, true, false, cond, eqb, List, [], ◌∷◌, ◌++◌, Some, None, Option, refl, sym, ap, ◌∙◌, arith, append_assoc, append-nil, slice_get}
 use Rattle.std.proofs.lemmas.Bool.Decides.{nat_tests}
 use Rattle.census_bundle.specs.declared.bundle.Folder.{Folder}
-use Rattle.census_bundle.specs.Tickets.{numbered}
+use Rattle.census_bundle.specs.Tickets.{element_at}
 use Rattle.census_format.specs.Lines.{Line, text_of}
 use Rattle.census_format.specs.Reports.{Owned, lines_of, owned_text}
 
@@ -80,6 +80,6 @@ module _ (F : ℕ → Folder → List Line) where
       ∙ from d (suc c) j fs (omega arith)
 
   -- of each collection the list has what F gives
-  pub lines_of-gathered : (d : ℕ) (b : List Folder) → lines_of d (gathered F 1 b) ≡ given F d (numbered b d)
+  pub lines_of-gathered : (d : ℕ) (b : List Folder) → lines_of d (gathered F 1 b) ≡ given F d (element_at b d)
   lines_of-gathered zero b = below 0 1 b (omega arith)
   lines_of-gathered (suc j) b = from (suc j) 1 j b (omega arith)

@@ -7,7 +7,7 @@ use Rattle.std.proofs.lemmas.List.Sums.{sum_by-append, sum_by-cons}
 use Rattle.std.specs.List.{All, list_any, count_by, sum_by}
 use Rattle.census_bundle.specs.declared.bundle.Entry.{Entry}
 use Rattle.life_answer.specs.Census.{census_found, census_of}
-use Rattle.life_answer.specs.Limited.{first_past, limited, unless_large}
+use Rattle.life_answer.specs.Limited.{first_past, finding_unless_large, unless_large}
 use Rattle.life_answer.specs.Questions.{answer_to, answer_to_question}
 use Rattle.life_answer.specs.declared.finding.Answer.{Answer}
 use Rattle.life_answer.specs.declared.finding.Answer.TheVariants.{Found, Refused}
@@ -21,7 +21,7 @@ use Rattle.life_text.specs.declared.rle.RleFault.{RleFault}
 use Rattle.life_text.specs.Picture.{Picture, picture_of}
 use Rattle.life_text.specs.Rle.{reading}
 use Rattle.census_format.specs.Lines.{answer_to_entry, answers}
-use Rattle.census_format.specs.Objects.{Object, object, objects, part_objects, same_object, distinct, tally}
+use Rattle.census_format.specs.Objects.{Object, object, objects, part_objects, same_object, distinct_elements, tally}
 use Rattle.census_format.specs.ObjectLaws.{one_object, same_itself}
 use Rattle.census_format.specs.PartCounts.{parts_as, fallen_as, all_fallen_as, CountsParts, CodesCountParts}
 use Rattle.census_format.proofs.Lost.{found_answer}
@@ -42,7 +42,7 @@ module _ (population onset period : ℕ) (dx dy : ℤ) (code : List ℕ) where
   large_apart found cells None apart e = apart e
   large_apart found cells (Some n) apart e = cc
 
-  limited_apart : (most : Option ℕ) (R : Rule) (G : Generation) (last : ℕ) (found : Finding) → (found ≡ Recurs population onset period dx dy code → ⊥) → limited most R G last found ≡ Recurs population onset period dx dy code → ⊥
+  limited_apart : (most : Option ℕ) (R : Rule) (G : Generation) (last : ℕ) (found : Finding) → (found ≡ Recurs population onset period dx dy code → ⊥) → finding_unless_large most R G last found ≡ Recurs population onset period dx dy code → ⊥
   limited_apart most R G last found apart e = large_apart found (size G) (first_past most R G last) apart e
 
   same_finding : (r s : Rule) (f g : Finding) → Found r f ≡ Found s g → f ≡ g
@@ -126,9 +126,9 @@ any_where k ks some =
 each_line : (bound : ℕ) (most : Option ℕ) (es : List Entry) → All (CountsParts bound most es) (tally same_object (objects (answers (question.Objects bound most) es)))
 each_line bound most es =
     let ks = objects (answers (question.Objects bound most) es) in
-    All-map (CountsParts bound most es) (λ k. (k, count_by (same_object k) ks)) (distinct same_object ks) (λ i d lt.
-    let k = get_or (distinct same_object ks) i d in
-    let any : list_any (same_object k) ks ≡ true = sym (any_distinct same_object one_object same_itself k ks) ∙ any_at (same_object k) (distinct same_object ks) i d lt (same_itself k) in
+    All-map (CountsParts bound most es) (λ k. (k, count_by (same_object k) ks)) (distinct_elements same_object ks) (λ i d lt.
+    let k = get_or (distinct_elements same_object ks) i d in
+    let any : list_any (same_object k) ks ≡ true = sym (any_distinct same_object one_object same_itself k ks) ∙ any_at (same_object k) (distinct_elements same_object ks) i d lt (same_itself k) in
     record { count = count_all bound most k es; some = some_where (same_object k) ks any })
 
 each_object : (bound : ℕ) (most : Option ℕ) (es : List Entry) (k : Object) → 1 ≤ all_fallen_as bound most es k
@@ -136,7 +136,7 @@ each_object : (bound : ℕ) (most : Option ℕ) (es : List Entry) (k : Object) �
 each_object bound most es k some =
     let ks = objects (answers (question.Objects bound most) es) in
     let all = count_all bound most k es in
-    count_map (λ x. (x, count_by (same_object x) ks)) (λ line. same_object k line.0) (distinct same_object ks)
+    count_map (λ x. (x, count_by (same_object x) ks)) (λ line. same_object k line.0) (distinct_elements same_object ks)
     ∙ count_distinct same_object one_object same_itself k ks (any_where k ks (omega (arith, all, some)))
 
 pub codes_count_parts : CodesCountParts

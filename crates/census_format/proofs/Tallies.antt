@@ -13,7 +13,7 @@ use Rattle.life_answer.specs.declared.finding.Finding.{Finding}
 use Rattle.life_answer.specs.declared.finding.Finding.TheVariants.{Recurs, Unresolved, Large, Ash}
 use Rattle.life_answer.specs.declared.part.Part.{Part}
 use Rattle.life_model.specs.Rule.{Rule}
-use Rattle.census_format.specs.Objects.{Object, distinct, tally, object, objects, part_objects, same_object}
+use Rattle.census_format.specs.Objects.{Object, distinct_elements, tally, object, objects, part_objects, same_object}
 
 count_push : {A : Type 0} (p : A → Bool) (xs : List A) (x : A) → count_by p (xs ++ x ∷ []) ≡ count_by p xs + cond (p x) 1 0
 count_push p xs x = sum_by-append (λ y. cond (p y) 1 0) xs (x ∷ []) ∙ ap (λ n. count_by p xs + n) (zero-add (cond (p x) 1 0))
@@ -49,24 +49,24 @@ module _ {A : Type 0} (same : A → A → Bool) (exact : (x y : A) → same x y 
         | false ↦ λ e. ap (λ b. same k y || b) (any_filter k x apart ys)
       ] refl
 
-  pub any_distinct : (k : A) (xs : List A) → list_any (same k) (distinct same xs) ≡ list_any (same k) xs
+  pub any_distinct : (k : A) (xs : List A) → list_any (same k) (distinct_elements same xs) ≡ list_any (same k) xs
   any_distinct k [] = refl
   any_distinct k (x ∷ xs) =
-      let left = filter (λ z. not (same x z)) (distinct same xs) in
+      let left = filter (λ z. not (same x z)) (distinct_elements same xs) in
       elim (same k x) as (λ b. same k x ≡ b → (b || list_any (same k) left) ≡ (b || list_any (same k) xs)) [
         | true ↦ λ _. refl
-        | false ↦ λ e. any_filter k x e (distinct same xs) ∙ any_distinct k xs
+        | false ↦ λ e. any_filter k x e (distinct_elements same xs) ∙ any_distinct k xs
       ] refl
 
   with_last : A → List A → List A → List A
   with_last k xs ds = cond (list_any (same k) xs) ds (ds ++ k ∷ [])
 
   -- one more at the end is one more, or stands there already
-  distinct_push : (k : A) (xs : List A) → distinct same (xs ++ k ∷ []) ≡ cond (list_any (same k) xs) (distinct same xs) (distinct same xs ++ k ∷ [])
+  distinct_push : (k : A) (xs : List A) → distinct_elements same (xs ++ k ∷ []) ≡ cond (list_any (same k) xs) (distinct_elements same xs) (distinct_elements same xs ++ k ∷ [])
   distinct_push k [] = refl
   distinct_push k (x ∷ xs) =
       let p = λ (y : A). not (same x y) in
-      let ds = distinct same xs in
+      let ds = distinct_elements same xs in
       let last : (b : Bool) → same k x ≡ b → x ∷ (filter p ds ++ cond (not (same x k)) (k ∷ []) []) ≡ cond (b || false) (x ∷ filter p ds) (x ∷ (filter p ds ++ k ∷ [])) = λ b e.
       ap (λ c. x ∷ (filter p ds ++ cond (not c) (k ∷ []) [])) (swapped x k ∙ e)
       ∙ elim b as (λ c. x ∷ (filter p ds ++ cond (not c) (k ∷ []) []) ≡ cond (c || false) (x ∷ filter p ds) (x ∷ (filter p ds ++ k ∷ []))) [ true ↦ ap (λ zs. x ∷ zs) (append-nil (filter p ds)) | false ↦ refl ] in
@@ -104,9 +104,9 @@ module _ {A : Type 0} (same : A → A → Bool) (exact : (x y : A) → same x y 
         | false ↦ apart_filter q xs h.1
       ]
 
-  apart_distinct : (xs : List A) → Apart (distinct same xs)
+  apart_distinct : (xs : List A) → Apart (distinct_elements same xs)
   apart_distinct [] = tt
-  apart_distinct (x ∷ xs) = (each_other x (distinct same xs), apart_filter (λ y. not (same x y)) (distinct same xs) (apart_distinct xs))
+  apart_distinct (x ∷ xs) = (each_other x (distinct_elements same xs), apart_filter (λ y. not (same x y)) (distinct_elements same xs) (apart_distinct xs))
 
   maps_same : (g h : A → ℕ) (x : A) → ((y : A) → same x y ≡ false → h y ≡ g y) → (ys : List A) → Each (λ y. same x y ≡ false) ys → map {B = A × ℕ} (λ y. (y, g y)) ys ≡ map {B = A × ℕ} (λ y. (y, h y)) ys
   maps_same g h x other [] e = refl
@@ -133,7 +133,7 @@ module _ {A : Type 0} (same : A → A → Bool) (exact : (x y : A) → same x y 
   tally_push xs k v is =
       let h = λ (y : A). count_by (same y) (xs ++ k ∷ []) in
       let H = λ (ys : List A). map {B = A × ℕ} (λ y. (y, h y)) ys in
-      let ds = distinct same xs in
+      let ds = distinct_elements same xs in
       insert_counts (λ y. count_by (same y) xs) h k v ds (apart_distinct xs) (count_push (same k) xs k ∙ ap (λ b. count_by (same k) xs + cond b 1 0) (own k) ∙ sym is)
       (λ y apart. count_push (same y) xs k ∙ ap (λ b. count_by (same y) xs + cond b 1 0) (swapped y k ∙ apart) ∙ omega arith)
       ∙ ap (λ b. H (cond b ds (ds ++ k ∷ []))) (any_distinct k xs)
@@ -182,7 +182,7 @@ module _ {A : Type 0} (same : A → A → Bool) (exact : (x y : A) → same x y 
   -- the count that a look-up finds, 0 where it finds none
   pub lookup_tally : (k : A) (xs : List A) → unwrap_or (lookup (same k) (tally same xs)) 0 ≡ count_by (same k) xs
   lookup_tally k xs =
-      ap (λ o. unwrap_or o 0) (found (λ y. count_by (same y) xs) k (distinct same xs) ∙ ap (λ b. cond b (Some (count_by (same k) xs)) None) (any_distinct k xs))
+      ap (λ o. unwrap_or o 0) (found (λ y. count_by (same y) xs) k (distinct_elements same xs) ∙ ap (λ b. cond b (Some (count_by (same k) xs)) None) (any_distinct k xs))
       ∙ elim (list_any (same k) xs) as (λ b. list_any (same k) xs ≡ b → unwrap_or (cond b (Some (count_by (same k) xs)) None) 0 ≡ count_by (same k) xs) [
         | true ↦ λ _. refl
         | false ↦ λ none. sym (count_none k xs none)
@@ -206,16 +206,16 @@ module _ {A : Type 0} (same : A → A → Bool) (exact : (x y : A) → same x y 
       ] refl
 
   -- what stands among these stands once among the distinct ones
-  pub count_distinct : (k : A) (xs : List A) → list_any (same k) xs ≡ true → count_by (same k) (distinct same xs) ≡ 1
+  pub count_distinct : (k : A) (xs : List A) → list_any (same k) xs ≡ true → count_by (same k) (distinct_elements same xs) ≡ 1
   count_distinct k [] none = absurd (false≢true none)
   count_distinct k (x ∷ xs) some =
-      let left = filter (λ z. not (same x z)) (distinct same xs) in
+      let left = filter (λ z. not (same x z)) (distinct_elements same xs) in
       count_first (same k) x left
       ∙ elim (same k x) as (λ b. same k x ≡ b → (b || list_any (same k) xs) ≡ true → cond b 1 0 + count_by (same k) left ≡ 1) [
         | true ↦ λ e _.
-            let none : list_any (same k) left ≡ false = ap (λ z. list_any (same z) left) (exact k x e) ∙ any_left x (distinct same xs) in
+            let none : list_any (same k) left ≡ false = ap (λ z. list_any (same z) left) (exact k x e) ∙ any_left x (distinct_elements same xs) in
             ap (λ n. 1 + n) (count_none k left none)
-        | false ↦ λ e rest. zero-add (count_by (same k) left) ∙ count_filter k x e (distinct same xs) ∙ count_distinct k xs rest
+        | false ↦ λ e rest. zero-add (count_by (same k) left) ∙ count_filter k x e (distinct_elements same xs) ∙ count_distinct k xs rest
       ] refl some
 
 pub objects-append : (xs ys : List Answer) → objects (xs ++ ys) ≡ objects xs ++ objects ys

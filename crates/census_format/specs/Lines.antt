@@ -17,13 +17,13 @@ abbrev pub Line : Type 0
 Line = List ℕ
 
 -- the fields, each with a blank before it
-abbrev pub behind : List (List ℕ) → List ℕ
-behind [] = []
-behind (field ∷ fields) = 32 ∷ field ++ behind fields
+abbrev pub fields_text : List (List ℕ) → List ℕ
+fields_text [] = []
+fields_text (field ∷ fields) = 32 ∷ field ++ fields_text fields
 
 -- a word and fields, parted by blanks, and LF
 abbrev pub line : List ℕ → List (List ℕ) → Line
-line word fields = word ++ behind fields ++ codes "\n"
+line word fields = word ++ fields_text fields ++ codes "\n"
 
 -- the lines' bytes, one line after another
 abbrev pub text_of : List Line → List ℕ

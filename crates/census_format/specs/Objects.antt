@@ -41,13 +41,13 @@ objects (Found rule (Ash population parts) ∷ found) = part_objects rule parts 
 objects (Refused number ∷ found) = objects found
 
 -- each of these once, in the order of first appearance
-abbrev pub distinct : {A : Type 0} → (A → A → Bool) → List A → List A
-distinct same [] = []
-distinct same (x ∷ xs) = x ∷ filter (λ y. not (same x y)) (distinct same xs)
+abbrev pub distinct_elements : {A : Type 0} → (A → A → Bool) → List A → List A
+distinct_elements same [] = []
+distinct_elements same (x ∷ xs) = x ∷ filter (λ y. not (same x y)) (distinct_elements same xs)
 
 -- each of these once, in the order of first appearance, and how often it stands there
 abbrev pub tally : {A : Type 0} → (A → A → Bool) → List A → List (A × ℕ)
-tally same xs = map (λ x. (x, count_by (same x) xs)) (distinct same xs)
+tally same xs = map (λ x. (x, count_by (same x) xs)) (distinct_elements same xs)
 
 -- `code`, the collection, a rule and a code, and a number
 unfoldable pub code_line : ℕ → Object → ℕ → Line

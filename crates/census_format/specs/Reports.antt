@@ -3,7 +3,7 @@ use Rattle.std.specs.Prelude.{◌≡◌, ℕ, suc, ◌-◌, Bool, true, if◌the
 use Rattle.census_bundle.specs.declared.ticket.Ticket.{Ticket}
 use Rattle.census_bundle.specs.declared.bundle.Folder.{Folder}
 use Rattle.census_bundle.specs.declared.bundle.Entry.{Entry}
-use Rattle.census_bundle.specs.Tickets.{Tickets, ticket, with_ticket, has_ticket, numbered}
+use Rattle.census_bundle.specs.Tickets.{Tickets, ticket, with_ticket, has_ticket, element_at}
 use Rattle.census_format.specs.Lines.{Line, text_of, open_line, pattern_lines, close_line, pattern_count, end_line}
 use Rattle.census_format.specs.Objects.{code_lines}
 use Rattle.life_answer.specs.declared.question.Question.{Question}
@@ -21,7 +21,7 @@ section_of question c None = []
 section_of question c (Some f) = folder_section question c f
 
 abbrev pub section : List Folder → Question → ℕ → List Line
-section b question c = section_of question c (numbered b c)
+section b question c = section_of question c (element_at b c)
 
 -- a line and the collection that it belongs to
 pub record Owned : Type 0 where
@@ -80,18 +80,18 @@ opening question c [] = []
 opening question c (f ∷ fs) = open_line c f ++ text_of (closing_if (0 == length f.entries) question c f) ++ opening question (suc c) fs
 
 -- what is released before any ticket is taken
-abbrev pub start : List Folder → Question → List ℕ
-start b question = opening question 1 b ++ end_if (pattern_count b == 0) b
+abbrev pub text_at_start : List Folder → Question → List ℕ
+text_at_start b question = opening question 1 b ++ end_if (pattern_count b == 0) b
 
 -- the lines of a collection that taking one of its tickets releases, where its run grows from k to m
 abbrev pub folder_out : Question → ℕ → Folder → ℕ → ℕ → List Line
 folder_out question c f k m =
     take (m - k) (drop k (pattern_lines question c 1 f.entries)) ++ closing_if (m == length f.entries) question c f
 
-abbrev pub out_of : Question → Option Folder → Tickets → Ticket → List ℕ
-out_of question None taken t = []
-out_of question (Some f) taken t = text_of (folder_out question t.folder f (run_of taken t.folder f) (run_of (with_ticket taken t) t.folder f))
+abbrev pub folder_text_released : Question → Option Folder → Tickets → Ticket → List ℕ
+folder_text_released question None taken t = []
+folder_text_released question (Some f) taken t = text_of (folder_out question t.folder f (run_of taken t.folder f) (run_of (with_ticket taken t) t.folder f))
 
 -- what taking a ticket releases, where these were taken before
-abbrev pub out : List Folder → Question → Tickets → Ticket → List ℕ
-out b question taken t = out_of question (numbered b t.folder) taken t ++ end_if (has_all b (with_ticket taken t)) b
+abbrev pub text_released : List Folder → Question → Tickets → Ticket → List ℕ
+text_released b question taken t = folder_text_released question (element_at b t.folder) taken t ++ end_if (has_all b (with_ticket taken t)) b

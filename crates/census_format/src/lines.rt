@@ -3,8 +3,8 @@ ghost use Rattle.std.specs.Prelude.{◌≡◌, ◌≤◌, ◌++◌, ℕ, [], ◌
 ghost use Rattle.std.specs.Fmt.{signed_decimal};
 ghost use Rattle.life_cells.specs.Rules.{rule_text};
 ghost use Rattle.census_bundle.specs.Sizes.{IsSmall};
-ghost use Rattle.census_format.specs.Heads.{headed, line_head};
-ghost use Rattle.census_format.specs.Lines.{behind, end_line, finding_fields, open_line, pattern_count};
+ghost use Rattle.census_format.specs.Heads.{line_with_head, line_head};
+ghost use Rattle.census_format.specs.Lines.{fields_text, end_line, finding_fields, open_line, pattern_count};
 
 use crate::parts::count_objects;
 use census_bundle::{Bundle, Entry, Folder, Ticket};
@@ -58,7 +58,7 @@ fn push_population(
     rule: &Rule,
     population: u64,
 ) -> Result<(), AllocError>
-    ensures { OnOk result (text.new.items ≡ text.old.items ++ behind (word.now ∷ rule_text rule.now ∷ decimal population ∷ [])) }
+    ensures { OnOk result (text.new.items ≡ text.old.items ++ fields_text (word.now ∷ rule_text rule.now ∷ decimal population ∷ [])) }
 {
     push_field(text, word)?;
     push_rule(text, rule)?;
@@ -73,7 +73,7 @@ fn push_recurrence(
     dx: &i32,
     dy: &i32,
 ) -> Result<(), AllocError>
-    ensures { OnOk result (text.new.items ≡ text.old.items ++ behind (decimal onset ∷ decimal period ∷ signed_decimal dx.now ∷ signed_decimal dy.now ∷ [])) }
+    ensures { OnOk result (text.new.items ≡ text.old.items ++ fields_text (decimal onset ∷ decimal period ∷ signed_decimal dx.now ∷ signed_decimal dy.now ∷ [])) }
 {
     push_number(text, onset)?;
     push_number(text, period)?;
@@ -83,7 +83,7 @@ fn push_recurrence(
 
 // What was found of a pattern.
 fn push_finding(text: &mut Vec<u8>, answer: &Answer) -> Result<(), AllocError>
-    ensures { OnOk result (text.new.items ≡ text.old.items ++ behind (finding_fields answer.now)) }
+    ensures { OnOk result (text.new.items ≡ text.old.items ++ fields_text (finding_fields answer.now)) }
 {
     match answer {
         Answer::Found { rule, finding } => match finding {
@@ -139,7 +139,7 @@ pub fn push_pattern(
     tail: &[u8],
     entry: &Entry,
 ) -> Result<(), AllocError>
-    ensures { OnOk result (text.new.items ≡ text.old.items ++ headed head.now tail.now entry.now) }
+    ensures { OnOk result (text.new.items ≡ text.old.items ++ line_with_head head.now tail.now entry.now) }
 {
     text.extend_from_slice(head)?;
     push_field(text, entry.name.as_slice())?;

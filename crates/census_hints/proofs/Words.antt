@@ -8,7 +8,7 @@ use Rattle.std.proofs.lemmas.List.{drop_all, length-take}
 use Rattle.std.proofs.lemmas.List.Sums.{position_or_len_is}
 use Rattle.memchr.specs.Find.{FindsNeedle, IsFirstByte, OccursAt, is_byte}
 use Rattle.memchr.proofs.lemmas.MatchLemmas.{OccursAt-from_part, OccursAt-part}
-use Rattle.census_hints.specs.Hints.{is_mark, stands_in}
+use Rattle.census_hints.specs.Hints.{is_exclamation_mark, stands_in}
 
 -- # Words
 
@@ -53,13 +53,13 @@ module _ (word : List ℕ) where
 
 -- # The mark
 
-pub after_found : (text : List ℕ) (at : ℕ) → IsFirstByte (is_byte 33) text (Some at) → after_first is_mark text ≡ drop (at + 1) text
+pub after_found : (text : List ℕ) (at : ℕ) → IsFirstByte (is_byte 33) text (Some at) → after_first is_exclamation_mark text ≡ drop (at + 1) text
 after_found text at h =
     let before = h.0.before in
-    let is : position_or_len is_mark text ≡ at = position_or_len_is is_mark text at 0 (omega (arith, h.0.high)) (λ k below. false_from_ne_true _ (before k (omega arith) below)) (λ within. h.1) in
+    let is : position_or_len is_exclamation_mark text ≡ at = position_or_len_is is_exclamation_mark text at 0 (omega (arith, h.0.high)) (λ k below. false_from_ne_true _ (before k (omega arith) below)) (λ within. h.1) in
     ap (λ k. drop (k + 1) text) is
 
-pub after_none : (text : List ℕ) → IsFirstByte (is_byte 33) text None → after_first is_mark text ≡ []
+pub after_none : (text : List ℕ) → IsFirstByte (is_byte 33) text None → after_first is_exclamation_mark text ≡ []
 after_none text none =
-    let is : position_or_len is_mark text ≡ length text = position_or_len_is is_mark text (length text) 0 (omega arith) (λ k below. false_from_ne_true _ (none k (omega arith) below)) (λ within. absurd (omega arith)) in
+    let is : position_or_len is_exclamation_mark text ≡ length text = position_or_len_is is_exclamation_mark text (length text) 0 (omega arith) (λ k below. false_from_ne_true _ (none k (omega arith) below)) (λ within. absurd (omega arith)) in
     ap (λ k. drop (k + 1) text) is ∙ drop_all (length text + 1) text (omega arith)

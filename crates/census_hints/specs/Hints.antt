@@ -15,8 +15,8 @@ stands_in word [] = false
 stands_in word (c ∷ rest) = starts_with nat_eq (c ∷ rest) word || stands_in word rest
 
 -- the byte `!`
-abbrev pub is_mark : ℕ → Bool
-is_mark c = c == 33
+abbrev pub is_exclamation_mark : ℕ → Bool
+is_exclamation_mark c = c == 33
 
 -- a line of a bundle that begins a pattern or a collection may stand in the text
 abbrev pub has_line : List ℕ → Bool
@@ -24,7 +24,7 @@ has_line text = stands_in (codes "@file ") text || stands_in (codes "@folder ") 
 
 -- such a line may stand after the first `!` of the pattern's text
 abbrev pub is_stray : Entry → Bool
-is_stray entry = not entry.is_lost && has_line (after_first is_mark entry.text)
+is_stray entry = not entry.is_lost && has_line (after_first is_exclamation_mark entry.text)
 
 -- two blanks and `COLLECTION/NAME: `. The names of a bundle are lawful and are shown as they are.
 abbrev pub stray_place : List ℕ → List ℕ → List ℕ
@@ -53,8 +53,8 @@ abbrev pub is_empty : Folder → Bool
 is_empty folder = length folder.entries == 0
 
 -- how many collections have no pattern
-abbrev pub empty : List Folder → ℕ
-empty bundle = count_by is_empty bundle
+abbrev pub empty_folder_count : List Folder → ℕ
+empty_folder_count bundle = count_by is_empty bundle
 
 -- # Names that were passed over
 
@@ -107,4 +107,4 @@ note from_folders empty passed = if (empty == 0) && (passed == 0) then [] else n
 pub record Hints (listed : List ℕ → Told) (from_folders : Bool) (bundle : List Folder) (lines : List ℕ) : Type 0 where
   pub passed : ℕ
   pub known : MatchBool from_folders (PassesOver listed bundle passed) (passed ≡ 0)
-  pub told : lines ≡ stray_lines bundle ++ note from_folders (empty bundle) passed
+  pub told : lines ≡ stray_lines bundle ++ note from_folders (empty_folder_count bundle) passed

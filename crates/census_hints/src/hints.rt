@@ -1,6 +1,6 @@
 //! The lines that hint at what may have been overlooked.
 ghost use Rattle.std.specs.Prelude.{◌≡◌, ◌++◌, IfOk, OnOk, decimal};
-ghost use Rattle.census_hints.specs.Hints.{Hints, empty, note, passed_text, passed_text_if};
+ghost use Rattle.census_hints.specs.Hints.{Hints, empty_folder_count, note, passed_text, passed_text_if};
 
 use crate::passed::passed_over;
 use crate::stray::stray_lines;
@@ -10,8 +10,8 @@ use itoa::Buffer;
 use std::alloc::{AllocError, Global};
 
 // How many collections have no pattern.
-fn empty(bundle: &Bundle) -> usize
-    ensures { result ≡ empty bundle.now }
+fn empty_folder_count(bundle: &Bundle) -> usize
+    ensures { result ≡ empty_folder_count bundle.now }
 {
     bundle
         .folders()
@@ -91,6 +91,6 @@ pub fn hint_lines<S: Shelf>(
     } else {
         0
     };
-    push_note(&mut lines, from_folders, empty(bundle), passed)?;
+    push_note(&mut lines, from_folders, empty_folder_count(bundle), passed)?;
     Ok(lines)
 }

@@ -1,7 +1,7 @@
 //! Texts that the next pattern may be lost in.
 ghost use Rattle.std.specs.Prelude.{◌≡◌, ◌++◌, ◌<◌, length, IfOk, OnOk};
 ghost use Rattle.std.specs.List.{after_first};
-ghost use Rattle.census_hints.specs.Hints.{entry_lines, folder_lines, has_line, is_mark, is_stray, stands_in, stray_line, stray_lines, stray_place, stray_sentence};
+ghost use Rattle.census_hints.specs.Hints.{entry_lines, folder_lines, has_line, is_exclamation_mark, is_stray, stands_in, stray_line, stray_lines, stray_place, stray_sentence};
 
 use census_bundle::{Bundle, Entry, Folder};
 use memchr::{memchr, memmem};
@@ -9,7 +9,7 @@ use std::alloc::{AllocError, Global};
 
 // What stands after the first `!`.
 fn after_mark(text: &[u8]) -> &[u8]
-    ensures { result.now ≡ after_first is_mark text.now }
+    ensures { result.now ≡ after_first is_exclamation_mark text.now }
 {
     match memchr(b'!', text) {
         Some(at) => &text[at + 1..],

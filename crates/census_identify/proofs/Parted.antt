@@ -3,7 +3,7 @@ use Rattle.std.proofs.Common.{◌≡◌, ℕ, Bool, true, false, List, [], ◌�
 use Rattle.std.specs.List.{join_with_byte}
 use Rattle.std.proofs.lemmas.List.{map-append}
 use Rattle.census_identify.specs.Hearing.{Hearing}
-use Rattle.census_identify.specs.Telling.{behind, blocks_in, blocks_text, line_of, lines_text, output_of, status_of, told_of, tellings}
+use Rattle.census_identify.specs.Telling.{block_after, blocks_in, blocks_text, line_of, lines_text, output_of, status_of, told_of, tellings}
 use Rattle.census_identify.specs.declared.told.Told.{Told}
 use Rattle.census_identify.specs.declared.told.Told.TheVariants.{Block, Line}
 
@@ -12,7 +12,7 @@ abbrev pub has_any : {A : Type 0} → List A → Bool
 has_any [] = false
 has_any (x ∷ xs) = true
 
-join_more : (blocks : List (List ℕ)) (block : List ℕ) → join_with_byte 10 (blocks ++ block ∷ []) ≡ join_with_byte 10 blocks ++ behind (has_any blocks) block
+join_more : (blocks : List (List ℕ)) (block : List ℕ) → join_with_byte 10 (blocks ++ block ∷ []) ≡ join_with_byte 10 blocks ++ block_after (has_any blocks) block
 join_more [] block = refl
 join_more (x ∷ []) block = refl
 join_more (x ∷ y ∷ blocks) block =

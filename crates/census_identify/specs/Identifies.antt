@@ -10,9 +10,9 @@ use Rattle.census_identify.specs.declared.error.IdentifyError.{IdentifyError}
 use Rattle.census_identify.specs.declared.error.IdentifyError.TheVariants.{Memory, Write}
 
 -- without a word standard input alone
-abbrev pub asked : List (List ℕ) → List (List ℕ)
-asked [] = codes "-" ∷ []
-asked (word ∷ words) = word ∷ words
+abbrev pub words_or_input : List (List ℕ) → List (List ℕ)
+words_or_input [] = codes "-" ∷ []
+words_or_input (word ∷ words) = word ∷ words
 
 -- Something was got of each word, in their order. Their blocks went to standard output and their lines to standard
 -- error, and this is the greatest status that a line asks for.
@@ -62,4 +62,4 @@ pub record Fails (held : List ℕ → Told) (bound : ℕ) (words : List (List �
 -- Each word was told, or an error ended it. Without a word standard input is told.
 abbrev pub Identifies : (List ℕ → Told) → ℕ → List (List ℕ) → ℕ → Streams → Streams → Type 0
 Identifies held bound words status before after =
-    TellsAll held bound (asked words) status before after ⊎ Fails held bound (asked words) status before after
+    TellsAll held bound (words_or_input words) status before after ⊎ Fails held bound (words_or_input words) status before after

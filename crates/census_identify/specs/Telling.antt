@@ -17,12 +17,12 @@ abbrev pub message_line : List ℕ → List ℕ → List ℕ
 message_line word message = codes "census: " ++ word ++ codes ":" ++ message ++ codes "\n"
 
 -- `file WORD` before the block of a file; nothing before that of standard input
-abbrev pub headed : List ℕ → List ℕ → List ℕ
-headed word block = cond (is_input word) block (codes "file " ++ word ++ codes "\n" ++ block)
+abbrev pub block_with_head : List ℕ → List ℕ → List ℕ
+block_with_head word block = cond (is_input word) block (codes "file " ++ word ++ codes "\n" ++ block)
 
 -- what is told of a text, by its block or its fault
 abbrev pub told_of_block : List ℕ → List ℕ → Result (List ℕ) RleFault → Told
-told_of_block word text (Ok block) = Block (headed word block)
+told_of_block word text (Ok block) = Block (block_with_head word block)
 told_of_block word text (Err fault) = Line (message_line word (fault_line text fault)) 1
 
 -- what is told of a word, by what was got of it
@@ -60,13 +60,13 @@ status_of (Line line status ∷ told) = max status (status_of told)
 -- # One more
 
 -- a block, after others where there are any
-abbrev pub behind : Bool → List ℕ → List ℕ
-behind true block = 10 ∷ block
-behind false block = block
+abbrev pub block_after : Bool → List ℕ → List ℕ
+block_after true block = 10 ∷ block
+block_after false block = block
 
 -- what goes to standard output after others
 abbrev pub output_of : Bool → Told → List ℕ
-output_of has_block (Block block) = behind has_block block
+output_of has_block (Block block) = block_after has_block block
 output_of has_block (Line line status) = []
 
 -- what goes to standard error

@@ -2,7 +2,7 @@
 ghost use Rattle.std.specs.Prelude.{◌≡◌, true, false, MatchResult, OnOk};
 ghost use Rattle.watched.specs.Watching.{has_failed};
 ghost use Rattle.census_identify.specs.Streams.{TellsMore, Writes, WritesFront, sink};
-ghost use Rattle.census_identify.specs.Telling.{behind, line_of, output_of};
+ghost use Rattle.census_identify.specs.Telling.{block_after, line_of, output_of};
 ghost use Rattle.census_identify.specs.Courses.{with_told};
 
 use crate::told::Told;
@@ -23,9 +23,9 @@ fn write_block<O: Write>(
     output: &mut Watched<O>,
 ) -> Result<(), Failed>
     ensures { MatchResult result
-        (λ _. Writes (behind has_block block.now)
+        (λ _. Writes (block_after has_block block.now)
         (sink O.contents output.old) (sink O.contents output.new))
-        (λ _. WritesFront (behind has_block block.now)
+        (λ _. WritesFront (block_after has_block block.now)
         (sink O.contents output.old) (sink O.contents output.new)) }
 {
     if has_block {

@@ -1,7 +1,7 @@
 //! `census identify`: what each of several patterns is.
 ghost use Rattle.std.specs.Prelude.{◌≡◌, ◌≤◌, false, [], map, MatchResult};
 ghost use Rattle.watched.specs.Watching.{has_failed};
-ghost use Rattle.census_identify.specs.Identifies.{Identifies, Stops, TellsAll, asked};
+ghost use Rattle.census_identify.specs.Identifies.{Identifies, Stops, TellsAll, words_or_input};
 ghost use Rattle.census_identify.specs.Streams.{streams};
 
 use crate::course::{Course, tell, tell_line};
@@ -15,8 +15,8 @@ use std::io::{Read, Write};
 use watched::Watched;
 
 // Standard input alone, where there is no word.
-fn asked<'a, 'b>(words: &'a [&'b str]) -> &'a [&'b str]
-    ensures { map (λ s. s.now) result.now ≡ asked (map (λ s. s.now) words.now) }
+fn words_or_input<'a, 'b>(words: &'a [&'b str]) -> &'a [&'b str]
+    ensures { map (λ s. s.now) result.now ≡ words_or_input (map (λ s. s.now) words.now) }
 {
     if words.is_empty() { &["-"] } else { words }
 }
@@ -82,7 +82,15 @@ pub fn identify<S: Shelf, I: Read, O: Write, E: Write>(
         (streams I.remaining O.contents E.contents input.old output.old errors.old)
         (streams I.remaining O.contents E.contents input.new output.new errors.new) }
 {
-    match identify_each(shelf, alloc, bound, asked(words), input, output, errors) {
+    match identify_each(
+        shelf,
+        alloc,
+        bound,
+        words_or_input(words),
+        input,
+        output,
+        errors,
+    ) {
         Ok(status) => status,
         Err(error) => {
             tell_line(error.line().as_bytes(), errors);

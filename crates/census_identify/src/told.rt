@@ -1,7 +1,7 @@
 //! What is told of what was got.
 ghost use Rattle.std.specs.Prelude.{◌≡◌, ◌≤◌, IfOk};
 ghost use Rattle.census_blocks.specs.Blocks.{block_of};
-ghost use Rattle.census_identify.specs.Telling.{headed, message_line, told_of, told_of_block};
+ghost use Rattle.census_identify.specs.Telling.{block_with_head, message_line, told_of, told_of_block};
 
 use crate::bytes::Bytes;
 use crate::heard::{Heard, is_input};
@@ -37,8 +37,8 @@ fn message_line(alloc: Global, word: &str, message: &[u8]) -> Result<Bytes, Allo
 }
 
 // The lines of a block, after the line `file WORD` where the word stands for a file.
-fn headed(alloc: Global, word: &str, block: &[u8]) -> Result<Bytes, AllocError>
-    ensures { IfOk result (λ bytes. bytes ≡ headed word.now block.now) }
+fn block_with_head(alloc: Global, word: &str, block: &[u8]) -> Result<Bytes, AllocError>
+    ensures { IfOk result (λ bytes. bytes ≡ block_with_head word.now block.now) }
 {
     let mut bytes = Vec::new(alloc);
     if !is_input(word) {
@@ -57,7 +57,7 @@ fn told_of_text(alloc: Global, word: &str, text: &[u8], bound: u32) -> Result<To
         told ≡ told_of_block word.now text.now (block_of bound text.now)) }
 {
     match block(alloc, text, bound)? {
-        Ok(block) => Ok(Told::Block(headed(alloc, word, block.as_slice())?)),
+        Ok(block) => Ok(Told::Block(block_with_head(alloc, word, block.as_slice())?)),
         Err(fault) => Ok(Told::Line {
             line: message_line(alloc, word, fault_line(alloc, text, &fault)?.as_slice())?,
             status: 1,

@@ -4,7 +4,7 @@ use Rattle.std.proofs.Common.{Ordering, Less, Equal, Greater, inl, inr, refl, sy
 use Rattle.std.specs.List.{Contains, count_by, sum_by}
 use Rattle.std.proofs.lemmas.Bool.{cases_Bool}
 use Rattle.std.proofs.lemmas.List.Sums.{sum_by-cons}
-use Rattle.life_answer.specs.Parts.{beside, counted_codes, with_code}
+use Rattle.life_answer.specs.Parts.{with_code_by_order, counted_codes, with_code}
 use Rattle.life_answer.specs.declared.part.Part.{Part}
 use Rattle.life_model.specs.Rule.{Rule}
 use Rattle.life_objects.proofs.Lists.{Contains-head, Contains-later, head_or_later}
@@ -26,7 +26,7 @@ module _ (k : Object) (rule : Rule) where
 
   as_beside : (o : Ordering) (code : List ℕ) (part : Part) (parts rest : List Part) → shorter_cmp code part.code ≡ o
       → parts_as k rule rest ≡ cond (is_k code) 1 0 + parts_as k rule parts
-      → parts_as k rule (beside o code part parts rest) ≡ cond (is_k code) 1 0 + parts_as k rule (part ∷ parts)
+      → parts_as k rule (with_code_by_order o code part parts rest) ≡ cond (is_k code) 1 0 + parts_as k rule (part ∷ parts)
   as_beside Less code part parts rest e more = refl
   as_beside Equal code part parts rest e more =
       more_of (is_k part.code) part.count (parts_as k rule parts)

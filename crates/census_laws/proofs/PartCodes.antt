@@ -9,7 +9,7 @@ use Rattle.life_model.specs.Evolution.{generation}
 use Rattle.life_model.specs.Generation.{Generation}
 use Rattle.life_model.specs.Recurrence.{AreOneObject, Settles, SettlesAt}
 use Rattle.life_model.specs.Rule.{Rule}
-use Rattle.life_model.specs.Symmetry.{moved}
+use Rattle.life_model.specs.Symmetry.{translate_of}
 use Rattle.life_model.proofs.Recurrences.{generation-zero}
 use Rattle.life_objects.specs.Ash.{IsObject}
 
@@ -32,7 +32,7 @@ module _ (R : Rule) (b : ℕ) where
         by = by;
         later = one.recurs.recurs.later;
         within = omega arith;
-        again = ap (generation R P) at_n ∙ one.recurs.recurs.again ∙ ap (λ G. moved G by) (sym start);
+        again = ap (generation R P) at_n ∙ one.recurs.recurs.again ∙ ap (λ G. translate_of G by) (sym start);
       } in
       elim (settled_or_not R P b) [
         | inl found ↦

@@ -3,7 +3,7 @@ use Rattle.std.proofs.Common.{ℕ, ◌<◌, ◌≤◌, List, [], ◌∷◌, ◌+
 use Rattle.census_rows.specs.declared.row.Row.{Row}
 use Rattle.census_rows.specs.declared.row.Row.TheVariants.{End}
 use Rattle.census_readback.specs.Steps.{collection_of}
-use Rattle.census_readback.specs.Shapes.{AreOf, AreReports, AreWhole, joined, patterns_in}
+use Rattle.census_readback.specs.Shapes.{AreOf, AreReports, AreWhole, all_rows, patterns_in}
 
 -- each row's number is at most 65,535
 abbrev pub AreFew : List Row → Type 0
@@ -18,13 +18,13 @@ few-body : (n : ℕ) (xs : List Row) → n ≤ 65535 → AreOf n xs → AreFew x
 few-body n [] less h = tt
 few-body n (x ∷ xs) less h = (omega (arith, less, h.1), few-body n xs less h.2)
 
-few-joined : (reports : List (List Row)) → AreWhole reports → AreFew (joined reports)
+few-joined : (reports : List (List Row)) → AreWhole reports → AreFew (all_rows reports)
 few-joined [] h = tt
 few-joined (rows ∷ reports) h =
     let is = h.0 in
     let last : AreFew (End is.collections (patterns_in is.body) ∷ []) = (omega arith, tt) in
     let own : AreFew rows = subst (λ w. AreFew w) (sym is.whole) (few-append is.body (End is.collections (patterns_in is.body) ∷ []) (few-body is.collections is.body is.few is.owned) last) in
-    few-append rows (joined reports) own (few-joined reports h.1)
+    few-append rows (all_rows reports) own (few-joined reports h.1)
 
 pub few-reports : (rows : List Row) → AreReports rows → AreFew rows
 few-reports rows is = subst (λ w. AreFew w) (sym is.whole) (few-joined is.reports is.each)

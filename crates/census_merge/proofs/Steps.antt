@@ -7,27 +7,27 @@ use Rattle.census_rows.specs.declared.row.Row.{Row}
 use Rattle.census_rows.specs.declared.row.Row.TheVariants.{End}
 use Rattle.census_readback.specs.Texts.{line_of, text_of}
 use Rattle.census_readback.proofs.Rows.{text-append}
-use Rattle.census_merge.specs.declared.totals.Sums.{Sums}
-use Rattle.census_merge.specs.Sums.{first_excess, none, plus, sums_in, sums_of, with_more}
-use Rattle.census_merge.specs.Merged.{merged, numbered_on, renumbered}
+use Rattle.census_merge.specs.declared.report_sums.Sums.{Sums}
+use Rattle.census_merge.specs.Sums.{first_excess, no_sums, sums_plus, sums_in, sums_of, with_more}
+use Rattle.census_merge.specs.Merged.{merged_rows, numbered_on, renumbered_row}
 
 -- what is known where the rows up to i are counted: the sums of the reports before, and the number of this one
 pub record Counting (rows : List Row) (i report : ℕ) (s : Sums) : Type 0 where
   pub few : s.collections ≤ 65535
   pub number : report ≤ i + 1
-  pub sums : sums_in s (drop i rows) ≡ sums_in none rows
-  pub excess : first_excess report s (drop i rows) ≡ first_excess 1 none rows
+  pub sums : sums_in s (drop i rows) ≡ sums_in no_sums rows
+  pub excess : first_excess report s (drop i rows) ≡ first_excess 1 no_sums rows
 
 -- What is known where the rows up to i are told: the sums of the reports before, that none of those behind is too much, and
 -- that whoever tells the others has told all.
 pub record Putting (rows : List Row) (i : ℕ) (s : Sums) (a b : Sheet) : Type 0 where
   pub few : s.collections ≤ 65535
   pub report : ℕ
-  pub sums : sums_in s (drop i rows) ≡ sums_in none rows
+  pub sums : sums_in s (drop i rows) ≡ sums_in no_sums rows
   pub excess : first_excess report s (drop i rows) ≡ Nothing
   pub told : (c : Sheet) → Tells (text_of (numbered_on s.collections (drop i rows))) b c → Tells (text_of (numbered_on 0 rows)) a c
 
-pub putting_start : (rows : List Row) (s : Sums) (a : Sheet) → s ≡ none → first_excess 1 none rows ≡ Nothing → Putting rows 0 s a a
+pub putting_start : (rows : List Row) (s : Sums) (a : Sheet) → s ≡ no_sums → first_excess 1 no_sums rows ≡ Nothing → Putting rows 0 s a a
 putting_start rows s a e fits = subst (λ s. Putting rows 0 s a a) (sym e) (record {
   few = omega arith;
   report = 1;
@@ -36,16 +36,16 @@ putting_start rows s a e fits = subst (λ s. Putting rows 0 s a a) (sym e) (reco
   told = λ c h. h;
 })
 
-sum_more : (s more all : Sums) → with_more s more ≡ Some all → s.collections ≤ 65535 → (all ≡ plus s more) × (s.collections + more.collections ≤ 65535)
+sum_more : (s more all : Sums) → with_more s more ≡ Some all → s.collections ≤ 65535 → (all ≡ sums_plus s more) × (s.collections + more.collections ≤ 65535)
 sum_more s more all is few = by_case (nat_le more.collections (65535 - s.collections) && nat_le more.patterns (2 ^ 64 - 1 - s.patterns)) refl
   where
     by_case : (b : Bool) → (nat_le more.collections (65535 - s.collections) && nat_le more.patterns (2 ^ 64 - 1 - s.patterns)) ≡ b
-        → (all ≡ plus s more) × (s.collections + more.collections ≤ 65535)
+        → (all ≡ sums_plus s more) × (s.collections + more.collections ≤ 65535)
     by_case true e = (
-      (let f : Some (plus s more) ≡ Some all = sym (ap (λ (b : Bool). if b then Some (plus s more) else Nothing) e) ∙ is in cc),
+      (let f : Some (sums_plus s more) ≡ Some all = sym (ap (λ (b : Bool). if b then Some (sums_plus s more) else Nothing) e) ∙ is in cc),
       (let f : nat_le more.collections (65535 - s.collections) ≡ true = grind arith in grind arith),
     )
-    by_case false e = absurd (let f : Nothing ≡ Some all = sym (ap (λ (b : Bool). if b then Some (plus s more) else Nothing) e) ∙ is in cc)
+    by_case false e = absurd (let f : Nothing ≡ Some all = sym (ap (λ (b : Bool). if b then Some (sums_plus s more) else Nothing) e) ∙ is in cc)
 
 -- # One row more
 
@@ -59,16 +59,16 @@ module _ (rows : List Row) (i : ℕ) (s : Sums) (d : Row) (a b : Sheet) (p : Put
   next : drop i rows ≡ row ∷ back
   next = drop-cons rows i d less ∙ ap (λ k. row ∷ drop k rows) (let e : suc i ≡ i + 1 = omega arith in e)
 
-  pub row_put : (c : Sheet) → sums_of row ≡ Nothing → Tells (line_of (renumbered s.collections row)) b c → Putting rows (i + 1) s a c
+  pub row_put : (c : Sheet) → sums_of row ≡ Nothing → Tells (line_of (renumbered_row s.collections row)) b c → Putting rows (i + 1) s a c
   row_put c is tells =
-      let r = renumbered s.collections row in
+      let r = renumbered_row s.collections row in
       let on : numbered_on s.collections (drop i rows) ≡ r ∷ numbered_on s.collections back =
       ap (λ w. numbered_on s.collections w) next
       ∙ ap (λ (o : Option Sums). elim o as (λ _. List Row) [ Nothing ↦ r ∷ numbered_on s.collections back | Some more ↦ numbered_on (s.collections + more.collections) back ]) is in
       record {
         few = p.few;
         report = p.report;
-        sums = sym (ap (λ w. sums_in s w) next ∙ ap (λ (o : Option Sums). elim o as (λ _. Sums) [ Nothing ↦ sums_in s back | Some more ↦ sums_in (plus s more) back ]) is) ∙ p.sums;
+        sums = sym (ap (λ w. sums_in s w) next ∙ ap (λ (o : Option Sums). elim o as (λ _. Sums) [ Nothing ↦ sums_in s back | Some more ↦ sums_in (sums_plus s more) back ]) is) ∙ p.sums;
         excess = sym (ap (λ w. first_excess p.report s w) next
             ∙ ap (λ (o : Option Sums). elim o as (λ _. Option ℕ) [ Nothing ↦ first_excess p.report s back | Some more ↦ elim (with_more s more) as (λ _. Option ℕ) [ Nothing ↦ Some p.report | Some all ↦ first_excess (p.report + 1) all back ] ]) is)
             ∙ p.excess;
@@ -86,12 +86,12 @@ module _ (rows : List Row) (i : ℕ) (s : Sums) (d : Row) (a b : Sheet) (p : Put
         subst (λ s. Putting rows (i + 1) s a b) (sym sum.0) (record {
           few = sum.1;
           report = p.report + 1;
-          sums = sym (ap (λ w. sums_in s w) next ∙ ap (λ (o : Option Sums). elim o as (λ _. Sums) [ Nothing ↦ sums_in s back | Some more ↦ sums_in (plus s more) back ]) is) ∙ p.sums;
+          sums = sym (ap (λ w. sums_in s w) next ∙ ap (λ (o : Option Sums). elim o as (λ _. Sums) [ Nothing ↦ sums_in s back | Some more ↦ sums_in (sums_plus s more) back ]) is) ∙ p.sums;
           excess = subst (λ (s : Sums). first_excess (p.report + 1) s back ≡ Nothing) sum.0
               (sym (excess_of ∙ ap (λ (o : Option Sums). elim o as (λ _. Option ℕ) [ Nothing ↦ Some p.report | Some all ↦ first_excess (p.report + 1) all back ]) with) ∙ p.excess);
           told = λ last h. p.told last (subst (λ w. Tells (text_of w) b last) (sym
               (ap (λ w. numbered_on s.collections w) next
-              ∙ ap (λ (o : Option Sums). elim o as (λ _. List Row) [ Nothing ↦ renumbered s.collections row ∷ numbered_on s.collections back | Some more ↦ numbered_on (s.collections + more.collections) back ]) is)) h);
+              ∙ ap (λ (o : Option Sums). elim o as (λ _. List Row) [ Nothing ↦ renumbered_row s.collections row ∷ numbered_on s.collections back | Some more ↦ numbered_on (s.collections + more.collections) back ]) is)) h);
         })
 
     pub no_excess : with_more s more ≡ Nothing → ⊥
@@ -102,21 +102,21 @@ module _ (rows : List Row) (i : ℕ) (s : Sums) (d : Row) (a b : Sheet) (p : Put
 -- # The last row
 
 pub all_put : (rows : List Row) (i : ℕ) (s : Sums) (end : Row) (a b c : Sheet) → Putting rows i s a b → length rows ≤ i → end ≡ End s.collections s.patterns
-    → Tells (line_of end) b c → Tells (text_of (merged rows)) a c
+    → Tells (line_of end) b c → Tells (text_of (merged_rows rows)) a c
 all_put rows i s end a b c p over e tells =
     let none_left : drop i rows ≡ [] = drop_all i rows over in
-    let sum : s ≡ sums_in none rows = sym (ap (λ w. sums_in s w) none_left) ∙ p.sums in
+    let sum : s ≡ sums_in no_sums rows = sym (ap (λ w. sums_in s w) none_left) ∙ p.sums in
     let before : Tells (text_of (numbered_on 0 rows)) a b =
     p.told b (subst (λ w. Tells (text_of (numbered_on s.collections w)) b b) (sym none_left) (tells_none b)) in
-    let last : end ≡ End (sums_in none rows).collections (sums_in none rows).patterns = e ∙ ap (λ (s : Sums). End s.collections s.patterns) sum in
+    let last : end ≡ End (sums_in no_sums rows).collections (sums_in no_sums rows).patterns = e ∙ ap (λ (s : Sums). End s.collections s.patterns) sum in
     subst (λ r. Tells (text_of (numbered_on 0 rows ++ r ∷ [])) a c) last
     (subst (λ t. Tells t a c) (sym (text-append (numbered_on 0 rows) (end ∷ []) ∙ ap (λ w. text_of (numbered_on 0 rows) ++ w) (append-nil (line_of end))))
     (tells_more (text_of (numbered_on 0 rows)) (line_of end) a b c before tells))
 
 -- to a writer that has failed all was told that is to be told yet
-pub stopped_put : (rows : List Row) (i : ℕ) (s : Sums) (a b : Sheet) → Putting rows i s a b → b.failed ≡ true → Tells (text_of (merged rows)) a b
+pub stopped_put : (rows : List Row) (i : ℕ) (s : Sums) (a b : Sheet) → Putting rows i s a b → b.failed ≡ true → Tells (text_of (merged_rows rows)) a b
 stopped_put rows i s a b p failed =
-    let end = End (sums_in none rows).collections (sums_in none rows).patterns in
+    let end = End (sums_in no_sums rows).collections (sums_in no_sums rows).patterns in
     let before : Tells (text_of (numbered_on 0 rows)) a b = p.told b (tells_failed (text_of (numbered_on s.collections (drop i rows))) b failed) in
     subst (λ t. Tells t a b) (sym (text-append (numbered_on 0 rows) (end ∷ [])))
     (tells_more (text_of (numbered_on 0 rows)) (text_of (end ∷ [])) a b b before (tells_failed (text_of (end ∷ [])) b failed))

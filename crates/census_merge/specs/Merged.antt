@@ -2,23 +2,23 @@
 use Rattle.std.specs.Prelude.{ℕ, ◌+◌, Some, None as Nothing, List, [], ◌∷◌, ◌++◌}
 use Rattle.census_rows.specs.declared.row.Row.{Row}
 use Rattle.census_rows.specs.declared.row.Row.TheVariants.{Open, Line, Part, Code, Close, End}
-use Rattle.census_merge.specs.Sums.{none, sums_in, sums_of}
+use Rattle.census_merge.specs.Sums.{no_sums, sums_in, sums_of}
 
 -- a row, where so many collections come before those of its report
-abbrev pub renumbered : ℕ → Row → Row
-renumbered before (Open collection patterns name) = Open (before + collection) patterns name
-renumbered before (Line collection pattern outcome name) = Line (before + collection) pattern outcome name
-renumbered before (Part collection pattern code count) = Part (before + collection) pattern code count
-renumbered before (Code collection rule code count) = Code (before + collection) rule code count
-renumbered before (Close collection patterns resolved unresolved refused) = Close (before + collection) patterns resolved unresolved refused
-renumbered before (End collections patterns) = End collections patterns
+abbrev pub renumbered_row : ℕ → Row → Row
+renumbered_row before (Open collection patterns name) = Open (before + collection) patterns name
+renumbered_row before (Line collection pattern outcome name) = Line (before + collection) pattern outcome name
+renumbered_row before (Part collection pattern code count) = Part (before + collection) pattern code count
+renumbered_row before (Code collection rule code count) = Code (before + collection) rule code count
+renumbered_row before (Close collection patterns resolved unresolved refused) = Close (before + collection) patterns resolved unresolved refused
+renumbered_row before (End collections patterns) = End collections patterns
 
 -- the rows of several reports without `end` rows, numbered on, where so many collections come before them
 abbrev pub numbered_on : ℕ → List Row → List Row
 numbered_on before [] = []
 numbered_on before (row ∷ rows) =
-    elim (sums_of row) [ Nothing ↦ renumbered before row ∷ numbered_on before rows | Some more ↦ numbered_on (before + more.collections) rows ]
+    elim (sums_of row) [ Nothing ↦ renumbered_row before row ∷ numbered_on before rows | Some more ↦ numbered_on (before + more.collections) rows ]
 
 -- the rows of one report of all their collections
-abbrev pub merged : List Row → List Row
-merged rows = numbered_on 0 rows ++ End (sums_in none rows).collections (sums_in none rows).patterns ∷ []
+abbrev pub merged_rows : List Row → List Row
+merged_rows rows = numbered_on 0 rows ++ End (sums_in no_sums rows).collections (sums_in no_sums rows).patterns ∷ []

@@ -2,11 +2,11 @@
 use Rattle.std.specs.Prelude.{ℕ, ◌+◌, ◌-◌, ◌^◌, ◌&&◌, nat_le, if◌then◌else◌, Option, Some, None as Nothing, List, [], ◌∷◌}
 use Rattle.census_rows.specs.declared.row.Row.{Row}
 use Rattle.census_rows.specs.declared.row.Row.TheVariants.{Open, Line, Part, Code, Close, End}
-use Rattle.census_merge.specs.declared.totals.Sums.{Sums}
+use Rattle.census_merge.specs.declared.report_sums.Sums.{Sums}
 
 -- those of no report
-abbrev pub none : Sums
-none = record { collections = 0; patterns = 0 }
+abbrev pub no_sums : Sums
+no_sums = record { collections = 0; patterns = 0 }
 
 -- those of the report that a row ends
 abbrev pub sums_of : Row → Option Sums
@@ -17,18 +17,18 @@ sums_of (Code collection rule code count) = Nothing
 sums_of (Close collection patterns resolved unresolved refused) = Nothing
 sums_of (End collections patterns) = Some (record { collections = collections; patterns = patterns })
 
-abbrev pub plus : Sums → Sums → Sums
-plus s more = record { collections = s.collections + more.collections; patterns = s.patterns + more.patterns }
+abbrev pub sums_plus : Sums → Sums → Sums
+sums_plus s more = record { collections = s.collections + more.collections; patterns = s.patterns + more.patterns }
 
 -- with those of one more report: 65,535 collections at most, and as many patterns as 64 bits can count
 abbrev pub with_more : Sums → Sums → Option Sums
 with_more s more =
-    if nat_le more.collections (65535 - s.collections) && nat_le more.patterns (2 ^ 64 - 1 - s.patterns) then Some (plus s more) else Nothing
+    if nat_le more.collections (65535 - s.collections) && nat_le more.patterns (2 ^ 64 - 1 - s.patterns) then Some (sums_plus s more) else Nothing
 
 -- those of all reports, where these are those before the rows
 abbrev pub sums_in : Sums → List Row → Sums
 sums_in s [] = s
-sums_in s (row ∷ rows) = elim (sums_of row) [ Nothing ↦ sums_in s rows | Some more ↦ sums_in (plus s more) rows ]
+sums_in s (row ∷ rows) = elim (sums_of row) [ Nothing ↦ sums_in s rows | Some more ↦ sums_in (sums_plus s more) rows ]
 
 -- the number, from this one on, of the first report with which there are too many
 abbrev pub first_excess : ℕ → Sums → List Row → Option ℕ

@@ -5,7 +5,7 @@
 
 mod merging;
 mod renumber;
-mod totals;
+mod report_sums;
 
 pub use merging::{TooMany, put_merged, sums};
-pub use totals::{Sums, ended};
+pub use report_sums::{Sums, sums_at_end};

@@ -8,11 +8,11 @@ ghost use Rattle.std.specs.Prelude.{◌≡◌, MatchResult, Some, None};
 ghost use Rattle.gathered.specs.Telling.{Tells, sheet};
 ghost use Rattle.census_readback.specs.Shapes.{AreReports};
 ghost use Rattle.census_readback.specs.Texts.{line_of, text_of};
-ghost use Rattle.census_merge.specs.Merged.{merged};
-ghost use Rattle.census_merge.specs.Sums.{first_excess, none, sums_in};
+ghost use Rattle.census_merge.specs.Merged.{merged_rows};
+ghost use Rattle.census_merge.specs.Sums.{first_excess, no_sums, sums_in};
 
-use crate::renumber::renumbered;
-use crate::totals::{Sums, ended};
+use crate::renumber::renumbered_row;
+use crate::report_sums::{Sums, sums_at_end};
 use census_rows::{Row, put_row};
 use gathered::{Block, put};
 use std::io::Write;
@@ -29,13 +29,13 @@ pub struct TooMany {
 pub fn sums(rows: &[Row]) -> Result<Sums, TooMany>
     requires { AreReports rows.now }
     ensures { MatchResult result
-        (λ all. (first_excess 1 none rows.now ≡ None) × (all ≡ sums_in none rows.now))
-        (λ excess. first_excess 1 none rows.now ≡ Some excess.report) }
+        (λ all. (first_excess 1 no_sums rows.now ≡ None) × (all ≡ sums_in no_sums rows.now))
+        (λ excess. first_excess 1 no_sums rows.now ≡ Some excess.report) }
 {
     let mut sums = Sums::none();
     let mut report = 1;
     for row in rows {
-        let Some(more) = ended(row) else {
+        let Some(more) = sums_at_end(row) else {
             continue;
         };
         let Some(with) = sums.with(more) else {
@@ -59,8 +59,8 @@ fn put_line<W: Write>(row: &Row, block: &mut Block, writer: &mut Watched<W>)
 /// asks for no memory but the block's.
 pub fn put_merged<W: Write>(rows: &[Row], block: &mut Block, writer: &mut Watched<W>)
     requires reports { AreReports rows.now }
-    requires fits { first_excess 1 none rows.now ≡ None }
-    ensures { Tells (text_of (merged rows.now))
+    requires fits { first_excess 1 no_sums rows.now ≡ None }
+    ensures { Tells (text_of (merged_rows rows.now))
         (sheet W.contents block.old writer.old) (sheet W.contents block.new writer.new) }
 {
     let mut sums = Sums::none();
@@ -69,8 +69,8 @@ pub fn put_merged<W: Write>(rows: &[Row], block: &mut Block, writer: &mut Watche
             return;
         }
         let row = rows[index];
-        let Some(more) = ended(&row) else {
-            put_line(&renumbered(sums.collections, row), block, writer);
+        let Some(more) = sums_at_end(&row) else {
+            put_line(&renumbered_row(sums.collections, row), block, writer);
             continue;
         };
         let Some(all) = sums.with(more) else {

@@ -1,15 +1,15 @@
 //! Rows under another number of their collection.
 ghost use Rattle.std.specs.Prelude.{◌≡◌, ◌≤◌};
-ghost use Rattle.census_merge.specs.Merged.{renumbered};
+ghost use Rattle.census_merge.specs.Merged.{renumbered_row};
 ghost use Rattle.census_readback.specs.Steps.{collection_of};
 
 use census_rows::Row;
 
 // A row, where so many collections come before those of its report.
-pub fn renumbered<'a>(before: u64, row: Row<'a>) -> Row<'a>
+pub fn renumbered_row<'a>(before: u64, row: Row<'a>) -> Row<'a>
     requires few { before ≤ 65535 }
     requires small { collection_of row ≤ 65535 }
-    ensures { result ≡ renumbered before row.entry }
+    ensures { result ≡ renumbered_row before row.entry }
 {
     match row {
         Row::Open {

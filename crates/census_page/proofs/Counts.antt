@@ -5,7 +5,7 @@ use Rattle.std.proofs.lemmas.List.{append-nil}
 use Rattle.census_rows.specs.declared.row.Row.{Row}
 use Rattle.census_rows.specs.declared.row.Row.TheVariants.{Open, Line, Part, Code, Close, End}
 use Rattle.census_readback.specs.Steps.{collection_of}
-use Rattle.census_readback.specs.Shapes.{AreOf, AreReports, AreWhole, joined, patterns_in, rows_of}
+use Rattle.census_readback.specs.Shapes.{AreOf, AreReports, AreWhole, all_rows, patterns_in, rows_of}
 use Rattle.census_readback.specs.Grouped.{collections_of, end_of, sections_of}
 use Rattle.census_page.specs.Pages.{codes_in, sections_codes}
 
@@ -84,21 +84,21 @@ collections-body here (r ∷ body) n k m rest h =
     ap (λ (o : Option ℕ). elim o as (λ _. List (List Row)) [ Nothing ↦ collections_of (here ++ r ∷ []) back | Some count ↦ sections_of 1 count here ++ collections_of [] back ]) (no-end r h.0) in
     step ∙ collections-body (here ++ r ∷ []) body n k m rest h.2 ∙ ap (λ (w : List Row). sections_of 1 n w ++ collections_of [] rest) (append_assoc here (r ∷ []) body)
 
-reports-codes : (reports : List (List Row)) → AreWhole reports → sections_codes (collections_of [] (joined reports)) ≡ codes_in (joined reports)
+reports-codes : (reports : List (List Row)) → AreWhole reports → sections_codes (collections_of [] (all_rows reports)) ≡ codes_in (all_rows reports)
 reports-codes [] h = refl
 reports-codes (rows ∷ reports) h =
     let is = h.0 in
     let n = is.collections in
     let last = End n (patterns_in is.body) in
-    let e : rows ++ joined reports ≡ is.body ++ last ∷ joined reports =
-    ap (λ w. w ++ joined reports) is.whole ∙ append_assoc is.body (last ∷ []) (joined reports) in
-    let cut = ap sections_codes (collections-body [] is.body n (patterns_in is.body) n (joined reports) is.owned) in
-    let apart = sections-append (sections_of 1 n is.body) (collections_of [] (joined reports)) in
+    let e : rows ++ all_rows reports ≡ is.body ++ last ∷ all_rows reports =
+    ap (λ w. w ++ all_rows reports) is.whole ∙ append_assoc is.body (last ∷ []) (all_rows reports) in
+    let cut = ap sections_codes (collections-body [] is.body n (patterns_in is.body) n (all_rows reports) is.owned) in
+    let apart = sections-append (sections_of 1 n is.body) (collections_of [] (all_rows reports)) in
     let first = sections-total 1 n is.body in
     let each = total-all n is.body is.owned in
     let others = reports-codes reports h.1 in
-    let lines = codes-append is.body (last ∷ joined reports) in
-    let whole : sections_codes (collections_of [] (is.body ++ last ∷ joined reports)) ≡ codes_in (is.body ++ last ∷ joined reports) =
+    let lines = codes-append is.body (last ∷ all_rows reports) in
+    let whole : sections_codes (collections_of [] (is.body ++ last ∷ all_rows reports)) ≡ codes_in (is.body ++ last ∷ all_rows reports) =
     omega (arith, cut, apart, first, each, others, lines) in
     subst (λ w. sections_codes (collections_of [] w) ≡ codes_in w) (sym e) whole
 

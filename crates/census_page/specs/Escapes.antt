@@ -7,13 +7,13 @@ abbrev pub escaped_byte : ℕ → List ℕ
 escaped_byte c =
     if c == 38 then codes "&amp;" else (if c == 60 then codes "&lt;" else (if c == 62 then codes "&gt;" else (if c == 34 then codes "&quot;" else (if c == 39 then codes "&#39;" else c ∷ []))))
 
-abbrev pub escaped : List ℕ → List ℕ
-escaped [] = []
-escaped (c ∷ cs) = escaped_byte c ++ escaped cs
+abbrev pub escaped_text : List ℕ → List ℕ
+escaped_text [] = []
+escaped_text (c ∷ cs) = escaped_byte c ++ escaped_text cs
 
 -- an element of its own, with U+FFFD for what is not UTF-8
-abbrev pub told : List ℕ → List ℕ
-told bytes = codes "<bdi>" ++ escaped (utf8_lossy bytes) ++ codes "</bdi>"
+abbrev pub name_element : List ℕ → List ℕ
+name_element bytes = codes "<bdi>" ++ escaped_text (utf8_lossy bytes) ++ codes "</bdi>"
 
 abbrev pub starts_with : List ℕ → List ℕ → Bool
 starts_with [] cs = true

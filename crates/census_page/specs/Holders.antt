@@ -9,7 +9,7 @@ use Rattle.census_rows.specs.declared.row.Row.{Row}
 use Rattle.census_rows.specs.declared.row.Row.TheVariants.{Open, Line, Part, Code, Close, End}
 use Rattle.census_page.specs.declared.holder.Holder.{Holder}
 use Rattle.census_page.specs.declared.holder.Naming.{Naming}
-use Rattle.census_page.specs.Escapes.{told}
+use Rattle.census_page.specs.Escapes.{name_element}
 
 -- the rule and the name of the pattern that has fallen apart last, after a row
 abbrev pub naming_in : Option Naming → Outcome → Bor (List ℕ) → Option Naming
@@ -62,7 +62,7 @@ abbrev pub has_code : List ℕ → List ℕ → Holder → Bool
 has_code rule code holder = pointwise nat_eq holder.code.now code && pointwise nat_eq holder.rule.now rule
 
 abbrev pub holder_item : List ℕ → List ℕ → Holder → List ℕ
-holder_item rule code holder = if has_code rule code holder then codes "<li>" ++ told holder.name.now ++ codes "</li>" else []
+holder_item rule code holder = if has_code rule code holder then codes "<li>" ++ name_element holder.name.now ++ codes "</li>" else []
 
 -- an item for each pattern that has this code under this rule
 abbrev pub holder_items : List ℕ → List ℕ → List Holder → List ℕ

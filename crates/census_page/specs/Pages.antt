@@ -7,13 +7,13 @@ use Rattle.census_rows.specs.declared.row.Row.TheVariants.{Open, Line, Part, Cod
 use Rattle.census_readback.specs.Grouped.{collections_of}
 use Rattle.census_page.specs.declared.markup.TheConstants.{LIST_BEGIN, LIST_END, PAGE_BEGIN, PAGE_END, TABLE_BEGIN, TABLE_END}
 use Rattle.census_page.specs.declared.holder.Holder.{Holder}
-use Rattle.census_page.specs.Escapes.{told}
+use Rattle.census_page.specs.Escapes.{name_element}
 use Rattle.census_page.specs.Holders.{holder_items, holders_from}
 use Rattle.census_page.specs.Pictures.{picture}
 
 -- the name of a collection
 abbrev pub name_text : List ℕ → List ℕ
-name_text name = codes "<h2>" ++ told name ++ codes "</h2>\n"
+name_text name = codes "<h2>" ++ name_element name ++ codes "</h2>\n"
 
 -- how many patterns are resolved and how many are not
 abbrev pub counts_text : ℕ → ℕ → ℕ → ℕ → List ℕ
@@ -36,7 +36,7 @@ headings (row ∷ rows) = heading row ++ headings rows
 -- a code with its picture and its rule
 abbrev pub object_cells : List ℕ → List ℕ → List ℕ
 object_cells rule code =
-    codes "<tr><td>" ++ picture code ++ codes "</td><td>" ++ told rule ++ codes "</td><td><code>" ++ told code ++ codes "</code></td>"
+    codes "<tr><td>" ++ picture code ++ codes "</td><td>" ++ name_element rule ++ codes "</td><td><code>" ++ name_element code ++ codes "</code></td>"
 
 -- how often a code occurs, and the patterns that have it
 abbrev pub place_cells : List Holder → List ℕ → List ℕ → ℕ → List ℕ
@@ -82,7 +82,7 @@ is_stray (Bad fault) = true
 
 -- an item for such a pattern
 abbrev pub stray_item : List ℕ → Outcome → List ℕ
-stray_item name outcome = if is_stray outcome then codes "<li>" ++ told name ++ codes ": " ++ reason outcome ++ codes "</li>\n" else []
+stray_item name outcome = if is_stray outcome then codes "<li>" ++ name_element name ++ codes ": " ++ reason outcome ++ codes "</li>\n" else []
 
 abbrev pub stray_row : Row → List ℕ
 stray_row (Open collection patterns name) = []
@@ -97,15 +97,15 @@ stray_rows [] = []
 stray_rows (row ∷ rows) = stray_row row ++ stray_rows rows
 
 -- a text between two others, and nothing where it is empty
-abbrev pub framed : List ℕ → List ℕ → List ℕ → List ℕ
-framed before [] after = []
-framed before (byte ∷ bytes) after = before ++ (byte ∷ bytes) ++ after
+abbrev pub framed_text : List ℕ → List ℕ → List ℕ → List ℕ
+framed_text before [] after = []
+framed_text before (byte ∷ bytes) after = before ++ (byte ∷ bytes) ++ after
 
 abbrev pub code_table : List Row → List ℕ
-code_table rows = framed TABLE_BEGIN.now (code_rows (holders_from Nothing rows) rows) TABLE_END.now
+code_table rows = framed_text TABLE_BEGIN.now (code_rows (holders_from Nothing rows) rows) TABLE_END.now
 
 abbrev pub stray_list : List Row → List ℕ
-stray_list rows = framed LIST_BEGIN.now (stray_rows rows) LIST_END.now
+stray_list rows = framed_text LIST_BEGIN.now (stray_rows rows) LIST_END.now
 
 -- a collection
 abbrev pub section_text : List Row → List ℕ

@@ -5,7 +5,7 @@ use Rattle.life_model.specs.Box.{height, width}
 use Rattle.life_model.specs.Cell.{Cell}
 use Rattle.life_model.specs.Generation.{Generation, cells}
 use Rattle.life_model.specs.Symmetry.{normal}
-use Rattle.life_shape.specs.Reading.{refusal, spelt}
+use Rattle.life_shape.specs.Reading.{refusal, cells_spelled}
 use Rattle.life_shape.specs.TextOrder.{body_of}
 use Rattle.life_shape.specs.declared.reader.CodeFault.{CodeFault}
 
@@ -34,4 +34,4 @@ picture_unless (Some fault) G = []
 
 -- the picture of what the body of a code spells, where it is a Wechsler text
 abbrev pub picture : List ℕ → List ℕ
-picture code = picture_unless (refusal (body_of code)) (normal (spelt (body_of code)))
+picture code = picture_unless (refusal (body_of code)) (normal (cells_spelled (body_of code)))

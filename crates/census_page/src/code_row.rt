@@ -1,6 +1,6 @@
 //! Rows of a table of codes.
 ghost use Rattle.std.specs.Prelude.{◌≡◌, ◌++◌, OnOk};
-ghost use Rattle.census_readback.specs.Grouped.{lent};
+ghost use Rattle.census_readback.specs.Grouped.{rows_lent};
 ghost use Rattle.census_page.specs.Pages.{code_row, code_rows, object_cells, place_cells};
 
 use crate::escape::{push_number, push_told};
@@ -80,7 +80,7 @@ pub fn push_code_rows(
     holders: &[Holder],
     rows: &[&Row],
 ) -> Result<(), AllocError>
-    ensures { OnOk result (text.new.items ≡ text.old.items ++ code_rows holders.now (lent rows.now)) }
+    ensures { OnOk result (text.new.items ≡ text.old.items ++ code_rows holders.now (rows_lent rows.now)) }
 {
     for row in rows {
         push_code_row(alloc, text, holders, *row)?;

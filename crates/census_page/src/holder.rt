@@ -1,6 +1,6 @@
 //! Which patterns have a code.
 ghost use Rattle.std.specs.Prelude.{◌≡◌, ◌++◌, IfOk, None, OnOk};
-ghost use Rattle.census_readback.specs.Grouped.{lent};
+ghost use Rattle.census_readback.specs.Grouped.{rows_lent};
 ghost use Rattle.census_page.specs.Holders.{has_code, holder_item, holder_items, holder_of, holders_from, naming_after, part_of};
 
 use crate::escape::push_told;
@@ -73,7 +73,7 @@ fn holder_of<'a>(naming: &Option<Naming<'a>>, row: &Row<'a>) -> Option<Holder<'a
 /// The patterns of a collection's rows with their codes, in the order of the rows. A pattern that
 /// has fallen apart comes once for each code of its parts. The only error is out of memory.
 pub fn holders<'a>(alloc: Global, rows: &[&Row<'a>]) -> Result<Vec<Holder<'a>>, AllocError>
-    ensures { IfOk result (λ holders. holders.items ≡ holders_from None (lent rows.now)) }
+    ensures { IfOk result (λ holders. holders.items ≡ holders_from None (rows_lent rows.now)) }
 {
     let mut holders = Vec::new(alloc);
     let mut naming = None;

@@ -1,9 +1,9 @@
 //! The page.
 ghost use Rattle.std.specs.Prelude.{◌≡◌, ◌++◌, [], IfOk, List, OnOk};
 ghost use Rattle.census_rows.specs.declared.row.Row.{Row};
-ghost use Rattle.census_readback.specs.Grouped.{collections_of, items_of, lent};
+ghost use Rattle.census_readback.specs.Grouped.{collections_of, items_of, rows_lent};
 ghost use Rattle.census_readback.specs.Shapes.{AreReports};
-ghost use Rattle.census_page.specs.Pages.{code_table, codes_in, counts_text, framed, heading, headings, name_text, page_of, section_text, sections_codes, sections_text, stray_list, stray_row, stray_rows};
+ghost use Rattle.census_page.specs.Pages.{code_table, codes_in, counts_text, framed_text, heading, headings, name_text, page_of, section_text, sections_codes, sections_text, stray_list, stray_row, stray_rows};
 
 use crate::code_row::push_code_rows;
 use crate::escape::{push_number, push_told};
@@ -66,7 +66,7 @@ fn push_heading(alloc: Global, text: &mut Vec<u8>, row: &Row) -> Result<(), Allo
 
 // Adds the name of a collection and its counts.
 fn push_headings(alloc: Global, text: &mut Vec<u8>, rows: &[&Row]) -> Result<(), AllocError>
-    ensures { OnOk result (text.new.items ≡ text.old.items ++ headings (lent rows.now)) }
+    ensures { OnOk result (text.new.items ≡ text.old.items ++ headings (rows_lent rows.now)) }
 {
     for row in rows {
         push_heading(alloc, text, *row)?;
@@ -86,7 +86,7 @@ fn push_stray_row(alloc: Global, text: &mut Vec<u8>, row: &Row) -> Result<(), Al
 
 // Adds an item for each unresolved or refused pattern.
 fn push_stray_rows(alloc: Global, text: &mut Vec<u8>, rows: &[&Row]) -> Result<(), AllocError>
-    ensures { OnOk result (text.new.items ≡ text.old.items ++ stray_rows (lent rows.now)) }
+    ensures { OnOk result (text.new.items ≡ text.old.items ++ stray_rows (rows_lent rows.now)) }
 {
     for row in rows {
         push_stray_row(alloc, text, *row)?;
@@ -102,7 +102,7 @@ fn push_framed(
     after: &[u8],
 ) -> Result<(), AllocError>
     ensures { OnOk result (text.new.items
-        ≡ text.old.items ++ framed before.now inner.now after.now) }
+        ≡ text.old.items ++ framed_text before.now inner.now after.now) }
 {
     if inner.is_empty() {
         return Ok(());
@@ -115,7 +115,7 @@ fn push_framed(
 
 // Adds the table of a collection's codes.
 fn push_code_table(alloc: Global, text: &mut Vec<u8>, rows: &[&Row]) -> Result<(), AllocError>
-    ensures { OnOk result (text.new.items ≡ text.old.items ++ code_table (lent rows.now)) }
+    ensures { OnOk result (text.new.items ≡ text.old.items ++ code_table (rows_lent rows.now)) }
 {
     let holders = holders(alloc, rows)?;
     let mut inner = Vec::new(alloc);
@@ -125,7 +125,7 @@ fn push_code_table(alloc: Global, text: &mut Vec<u8>, rows: &[&Row]) -> Result<(
 
 // Adds the list of a collection's unresolved and refused patterns.
 fn push_stray_list(alloc: Global, text: &mut Vec<u8>, rows: &[&Row]) -> Result<(), AllocError>
-    ensures { OnOk result (text.new.items ≡ text.old.items ++ stray_list (lent rows.now)) }
+    ensures { OnOk result (text.new.items ≡ text.old.items ++ stray_list (rows_lent rows.now)) }
 {
     let mut inner = Vec::new(alloc);
     push_stray_rows(alloc, &mut inner, rows)?;
@@ -134,7 +134,7 @@ fn push_stray_list(alloc: Global, text: &mut Vec<u8>, rows: &[&Row]) -> Result<(
 
 // Adds a collection.
 fn push_section(alloc: Global, text: &mut Vec<u8>, rows: &[&Row]) -> Result<(), AllocError>
-    ensures { OnOk result (text.new.items ≡ text.old.items ++ section_text (lent rows.now)) }
+    ensures { OnOk result (text.new.items ≡ text.old.items ++ section_text (rows_lent rows.now)) }
 {
     text.extend_from_slice(b"<section>\n")?;
     push_headings(alloc, text, rows)?;

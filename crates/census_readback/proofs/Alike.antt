@@ -9,8 +9,8 @@ use Rattle.census_rows.specs.Lines.{SameOutcome, SameRow}
 use Rattle.census_readback.specs.declared.place.Place.{Place}
 use Rattle.census_readback.specs.declared.place.Place.TheVariants.{Before, Within, Behind}
 use Rattle.census_readback.specs.declared.place.Tally.{Tally}
-use Rattle.census_readback.specs.Sections.{with_line, next_within, first_place, next}
-use Rattle.census_readback.specs.Steps.{Reading, collection_of, opened, place_at, gone_on, section_step, end_step, step, stray}
+use Rattle.census_readback.specs.Sections.{with_line, next_within, first_place, place_after}
+use Rattle.census_readback.specs.Steps.{Reading, collection_of, patterns_opened, place_at, gone_on, section_step, end_step, step, first_stray}
 use Rattle.census_readback.specs.Texts.{SameRows}
 
 line-same : (t : Tally) (o p : Outcome) → SameOutcome o p → with_line t o ≡ with_line t p
@@ -43,7 +43,7 @@ within-same t (Close c n a b d) (Close c2 n2 a2 b2 d2) h =
 within-same t (End n k) (End n2 k2) h = refl
 within-same t r q h = absurd h
 
-next-same : (p : Place) (r q : Row) → SameRow r q → next p r ≡ next p q
+next-same : (p : Place) (r q : Row) → SameRow r q → place_after p r ≡ place_after p q
 next-same Before r q h = first-same r q h
 next-same (Within t) r q h = within-same t r q h
 next-same Behind r q h = refl
@@ -57,7 +57,7 @@ collection-same (Close c n a b d) (Close c2 n2 a2 b2 d2) h = h.0
 collection-same (End n k) (End n2 k2) h = refl
 collection-same r q h = absurd h
 
-opened-same : (r q : Row) → SameRow r q → opened r ≡ opened q
+opened-same : (r q : Row) → SameRow r q → patterns_opened r ≡ patterns_opened q
 opened-same (Open c n name) (Open c2 n2 name2) h = h.1
 opened-same (Line c i o name) (Line c2 i2 o2 name2) h = refl
 opened-same (Part c i code k) (Part c2 i2 code2 k2) h = refl
@@ -69,9 +69,9 @@ opened-same r q h = absurd h
 section-same : (s : Reading) (r q : Row) → SameRow r q → section_step s r ≡ section_step s q
 section-same s r q h =
     let c = collection_of q in
-    ap (λ k. if nat_lt 0 k && nat_le k 65535 then gone_on s (k - 1) (opened r) (next (place_at s.places (k - 1)) r) else Nothing) (collection-same r q h)
-    ∙ ap (λ n. if nat_lt 0 c && nat_le c 65535 then gone_on s (c - 1) n (next (place_at s.places (c - 1)) r) else Nothing) (opened-same r q h)
-    ∙ ap (λ p. if nat_lt 0 c && nat_le c 65535 then gone_on s (c - 1) (opened q) p else Nothing) (next-same (place_at s.places (c - 1)) r q h)
+    ap (λ k. if nat_lt 0 k && nat_le k 65535 then gone_on s (k - 1) (patterns_opened r) (place_after (place_at s.places (k - 1)) r) else Nothing) (collection-same r q h)
+    ∙ ap (λ n. if nat_lt 0 c && nat_le c 65535 then gone_on s (c - 1) n (place_after (place_at s.places (c - 1)) r) else Nothing) (opened-same r q h)
+    ∙ ap (λ p. if nat_lt 0 c && nat_le c 65535 then gone_on s (c - 1) (patterns_opened q) p else Nothing) (next-same (place_at s.places (c - 1)) r q h)
 
 step-same : (s : Reading) (r q : Row) → SameRow r q → step s r ≡ step s q
 step-same s (Open c n name) (Open c2 n2 name2) h = section-same s (Open c n name) (Open c2 n2 name2) h
@@ -82,14 +82,14 @@ step-same s (Close c n a b d) (Close c2 n2 a2 b2 d2) h = section-same s (Close c
 step-same s (End n k) (End n2 k2) h = ap (λ m. end_step s m k) h.0 ∙ ap (λ m. end_step s n2 m) h.1
 step-same s r q h = absurd h
 
-pub stray-same : (s : Reading) (n : ℕ) (xs ys : List Row) → SameRows xs ys → stray s n xs ≡ stray s n ys
+pub stray-same : (s : Reading) (n : ℕ) (xs ys : List Row) → SameRows xs ys → first_stray s n xs ≡ first_stray s n ys
 stray-same s n [] [] h = refl
 stray-same s n [] (y ∷ ys) h = absurd h
 stray-same s n (x ∷ xs) [] h = absurd h
 stray-same s n (x ∷ xs) (y ∷ ys) h =
-    let on : (o : Option Reading) → (elim o [ Nothing ↦ Some n | Some t ↦ stray t (n + 1) xs ]) ≡ (elim o [ Nothing ↦ Some n | Some t ↦ stray t (n + 1) ys ]) =
-    λ o. elim o as (λ o. (elim o [ Nothing ↦ Some n | Some t ↦ stray t (n + 1) xs ]) ≡ (elim o [ Nothing ↦ Some n | Some t ↦ stray t (n + 1) ys ])) [
+    let on : (o : Option Reading) → (elim o [ Nothing ↦ Some n | Some t ↦ first_stray t (n + 1) xs ]) ≡ (elim o [ Nothing ↦ Some n | Some t ↦ first_stray t (n + 1) ys ]) =
+    λ o. elim o as (λ o. (elim o [ Nothing ↦ Some n | Some t ↦ first_stray t (n + 1) xs ]) ≡ (elim o [ Nothing ↦ Some n | Some t ↦ first_stray t (n + 1) ys ])) [
       | Nothing ↦ refl
       | Some t ↦ stray-same t (n + 1) xs ys h.1
     ] in
-    ap (λ (o : Option Reading). elim o [ Nothing ↦ Some n | Some t ↦ stray t (n + 1) xs ]) (step-same s x y h.0) ∙ on (step s y)
+    ap (λ (o : Option Reading). elim o [ Nothing ↦ Some n | Some t ↦ first_stray t (n + 1) xs ]) (step-same s x y h.0) ∙ on (step s y)

@@ -5,7 +5,7 @@ use Rattle.std.proofs.lemmas.List.{append-nil, take_more, get_or-drop}
 use Rattle.census_rows.specs.declared.row.Row.{Row}
 use Rattle.census_rows.specs.declared.row.Row.TheVariants.{Open, Line, Part, Code, Close, End}
 use Rattle.census_readback.specs.Steps.{collection_of}
-use Rattle.census_readback.specs.Shapes.{AreOf, AreWhole, AreReports, joined, patterns_in}
+use Rattle.census_readback.specs.Shapes.{AreOf, AreWhole, AreReports, all_rows, patterns_in}
 use Rattle.census_readback.specs.Grouped.{sections_of, collections_of, end_of}
 
 -- each report's rows are of its collections, where these of the first report were passed
@@ -32,13 +32,13 @@ ended-body here (r ∷ body) n k rest before are h =
     subst (λ (o : Option ℕ). let family : Option ℕ → Type 0 = λ (x : Option ℕ). elim x as (λ _. Type 0) [ Nothing ↦ Ended (here ++ r ∷ []) (body ++ End n k ∷ rest) | Some count ↦ AreOf count here × Ended [] (body ++ End n k ∷ rest) ] in family o)
     (sym (no-end r are.0)) inner
 
-ended-all : (reports : List (List Row)) → AreWhole reports → Ended [] (joined reports)
+ended-all : (reports : List (List Row)) → AreWhole reports → Ended [] (all_rows reports)
 ended-all [] h = tt
 ended-all (rows ∷ reports) h =
     let is = h.0 in
-    let e : rows ++ joined reports ≡ is.body ++ End is.collections (patterns_in is.body) ∷ joined reports =
-    ap (λ w. w ++ joined reports) is.whole ∙ append_assoc is.body (End is.collections (patterns_in is.body) ∷ []) (joined reports) in
-    subst (λ w. Ended [] w) (sym e) (ended-body [] is.body is.collections (patterns_in is.body) (joined reports) tt is.owned (ended-all reports h.1))
+    let e : rows ++ all_rows reports ≡ is.body ++ End is.collections (patterns_in is.body) ∷ all_rows reports =
+    ap (λ w. w ++ all_rows reports) is.whole ∙ append_assoc is.body (End is.collections (patterns_in is.body) ∷ []) (all_rows reports) in
+    subst (λ w. Ended [] w) (sym e) (ended-body [] is.body is.collections (patterns_in is.body) (all_rows reports) tt is.owned (ended-all reports h.1))
 
 pub ended-start : (rows : List Row) → AreReports rows → Ended [] rows
 ended-start rows is = subst (λ w. Ended [] w) (sym is.whole) (ended-all is.reports is.each)

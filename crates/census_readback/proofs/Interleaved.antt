@@ -8,10 +8,10 @@ use Rattle.census_rows.specs.declared.row.Row.{Row}
 use Rattle.census_rows.specs.declared.row.Row.TheVariants.{Open, Line, Part, Code, Close, End}
 use Rattle.census_readback.specs.declared.place.Place.{Place}
 use Rattle.census_readback.specs.declared.place.Place.TheVariants.{Before, Within, Behind}
-use Rattle.census_readback.specs.Sections.{next}
+use Rattle.census_readback.specs.Sections.{place_after}
 use Rattle.census_readback.specs.Runs.{run}
-use Rattle.census_readback.specs.Steps.{Reading, collection_of, opened, is_behind, place_at, put, start, gone_on, section_step, end_step, step, stray}
-use Rattle.census_readback.specs.Shapes.{rows_of, AreOf, patterns_in, IsWhole, AreWhole, joined, AreReports}
+use Rattle.census_readback.specs.Steps.{Reading, collection_of, patterns_opened, is_behind, place_at, with_place, initial_reading, gone_on, section_step, end_step, step, first_stray}
+use Rattle.census_readback.specs.Shapes.{rows_of, AreOf, patterns_in, IsWhole, AreWhole, all_rows, AreReports}
 use Rattle.census_readback.proofs.Shaped.{and-both, both-and, section-sound, section-complete}
 use Rattle.census_readback.proofs.Kept.{Kept, kept-none, kept-step, run-split, rows-here, patterns-append}
 
@@ -26,15 +26,15 @@ record Taken (s t : Reading) (r : Row) : Type 0 where
   place : Place
   low : 0 < collection_of r
   high : collection_of r ≤ 65535
-  goes : next (place_at s.places (collection_of r - 1)) r ≡ Some place
-  fits : s.patterns + opened r < 2 ^ 64
-  is : t ≡ record { places = put s.places (collection_of r - 1) place; patterns = s.patterns + opened r; ended = false }
+  goes : place_after (place_at s.places (collection_of r - 1)) r ≡ Some place
+  fits : s.patterns + patterns_opened r < 2 ^ 64
+  is : t ≡ record { places = with_place s.places (collection_of r - 1) place; patterns = s.patterns + patterns_opened r; ended = false }
 
 gone-some : (s t : Reading) (i n : ℕ) (o : Option Place) → gone_on s i n o ≡ Some t
-    → (p : Place) × (o ≡ Some p) × (s.patterns + n < 2 ^ 64) × (t ≡ record { places = put s.places i p; patterns = s.patterns + n; ended = false })
+    → (p : Place) × (o ≡ Some p) × (s.patterns + n < 2 ^ 64) × (t ≡ record { places = with_place s.places i p; patterns = s.patterns + n; ended = false })
 gone-some s t i n None h = absurd (cc)
 gone-some s t i n (Some p) h =
-    let u : Reading = record { places = put s.places i p; patterns = s.patterns + n; ended = false } in
+    let u : Reading = record { places = with_place s.places i p; patterns = s.patterns + n; ended = false } in
     let k = if-some (ltb (s.patterns + n) (2 ^ 64)) (Some u) t h in
     let same : t ≡ u = (let e : Some u ≡ Some t = k.1 in cc) in
     (p, refl, ltb-true _ _ k.0, same)
@@ -42,10 +42,10 @@ gone-some s t i n (Some p) h =
 taken : (s t : Reading) (r : Row) → section_step s r ≡ Some t → Taken s t r
 taken s t r h =
     let i = collection_of r - 1 in
-    let o = next (place_at s.places i) r in
-    let k = if-some (ltb 0 (collection_of r) && leb (collection_of r) 65535) (gone_on s i (opened r) o) t h in
+    let o = place_after (place_at s.places i) r in
+    let k = if-some (ltb 0 (collection_of r) && leb (collection_of r) 65535) (gone_on s i (patterns_opened r) o) t h in
     let b = and-both (ltb 0 (collection_of r)) (leb (collection_of r) 65535) k.0 in
-    let g = gone-some s t i (opened r) o k.1 in
+    let g = gone-some s t i (patterns_opened r) o k.1 in
     record {
       place = g.0;
       low = ltb-true _ _ b.0;
@@ -57,16 +57,16 @@ taken s t r h =
 
 -- a row of a collection that may stand is taken
 taking : (s : Reading) (r : Row) (p : Place) → 0 < collection_of r → collection_of r ≤ 65535
-    → next (place_at s.places (collection_of r - 1)) r ≡ Some p → s.patterns + opened r < 2 ^ 64
-    → section_step s r ≡ Some (record { places = put s.places (collection_of r - 1) p; patterns = s.patterns + opened r; ended = false })
+    → place_after (place_at s.places (collection_of r - 1)) r ≡ Some p → s.patterns + patterns_opened r < 2 ^ 64
+    → section_step s r ≡ Some (record { places = with_place s.places (collection_of r - 1) p; patterns = s.patterns + patterns_opened r; ended = false })
 taking s r p low high goes fits =
     let i = collection_of r - 1 in
-    let o = next (place_at s.places i) r in
-    let u : Reading = record { places = put s.places i p; patterns = s.patterns + opened r; ended = false } in
+    let o = place_after (place_at s.places i) r in
+    let u : Reading = record { places = with_place s.places i p; patterns = s.patterns + patterns_opened r; ended = false } in
     let pass : (ltb 0 (collection_of r) && leb (collection_of r) 65535) ≡ true = both-and _ _ (lt-ltb _ _ low) (le-leb _ _ high) in
-    let small : ltb (s.patterns + opened r) (2 ^ 64) ≡ true = lt-ltb _ _ fits in
-    ap (λ v. if v then gone_on s i (opened r) o else None) pass
-    ∙ ap (λ (w : Option Place). gone_on s i (opened r) w) goes
+    let small : ltb (s.patterns + patterns_opened r) (2 ^ 64) ≡ true = lt-ltb _ _ fits in
+    ap (λ v. if v then gone_on s i (patterns_opened r) o else None) pass
+    ∙ ap (λ (w : Option Place). gone_on s i (patterns_opened r) w) goes
     ∙ ap (λ v. if v then Some u else None) small
 
 -- a row with a collection's number is no `end` row
@@ -81,10 +81,10 @@ section-is-step s (End n k) h = absurd (omega arith)
 -- # From steps to reports
 
 -- the first step, and the others
-stepped : (s : Reading) (n : ℕ) (r : Row) (rows : List Row) → stray s n (r ∷ rows) ≡ None → (t : Reading) × (step s r ≡ Some t) × (stray t (n + 1) rows ≡ None)
+stepped : (s : Reading) (n : ℕ) (r : Row) (rows : List Row) → first_stray s n (r ∷ rows) ≡ None → (t : Reading) × (step s r ≡ Some t) × (first_stray t (n + 1) rows ≡ None)
 stepped s n r rows h =
-    let on : (o : Option Reading) → (elim o as (λ _. Option ℕ) [ None ↦ Some n | Some t ↦ stray t (n + 1) rows ]) ≡ None → (t : Reading) × (o ≡ Some t) × (stray t (n + 1) rows ≡ None) =
-    λ o. elim o as (λ o. (elim o as (λ _. Option ℕ) [ None ↦ Some n | Some t ↦ stray t (n + 1) rows ]) ≡ None → (t : Reading) × (o ≡ Some t) × (stray t (n + 1) rows ≡ None)) [
+    let on : (o : Option Reading) → (elim o as (λ _. Option ℕ) [ None ↦ Some n | Some t ↦ first_stray t (n + 1) rows ]) ≡ None → (t : Reading) × (o ≡ Some t) × (first_stray t (n + 1) rows ≡ None) =
+    λ o. elim o as (λ o. (elim o as (λ _. Option ℕ) [ None ↦ Some n | Some t ↦ first_stray t (n + 1) rows ]) ≡ None → (t : Reading) × (o ≡ Some t) × (first_stray t (n + 1) rows ≡ None)) [
       | None ↦ λ e. absurd (cc)
       | Some t ↦ λ e. (t, refl, e)
     ] in
@@ -93,7 +93,7 @@ stepped s n r rows h =
 -- reports that begin with these rows
 record Found (ended : Bool) (rows : List Row) : Type 0 where
   reports : List (List Row)
-  whole : rows ≡ joined reports
+  whole : rows ≡ all_rows reports
   each : AreWhole reports
   some : ended ≡ false → 0 < length reports
 
@@ -144,7 +144,7 @@ carried t ended seen r rows f e = record {
   some = λ _. f.some e;
 }
 
-found : (s : Reading) (n : ℕ) (seen rows : List Row) → Kept s seen → (s.ended ≡ true → seen ≡ []) → stray s n rows ≡ None → Found s.ended (seen ++ rows)
+found : (s : Reading) (n : ℕ) (seen rows : List Row) → Kept s seen → (s.ended ≡ true → seen ≡ []) → first_stray s n rows ≡ None → Found s.ended (seen ++ rows)
 found s n seen [] kept none h =
     let on : (v : Bool) → s.ended ≡ v → (if v then None else Some n) ≡ None → Found v (seen ++ []) =
     λ v. elim v as (λ v. s.ended ≡ v → (if v then None else Some n) ≡ None → Found v (seen ++ [])) [
@@ -187,9 +187,9 @@ found s n seen (Close c m a b d ∷ rows) kept none h =
     let g = going s st.0 seen (Close c m a b d) kept st.1 in
     carried st.0 s.ended seen (Close c m a b d) rows (found st.0 (n + 1) (seen ++ Close c m a b d ∷ []) rows g.0 (λ e. absurd (cc (e, g.1))) st.2) g.1
 
-pub reports-sound : (rows : List Row) → stray start 1 rows ≡ None → AreReports rows
+pub reports-sound : (rows : List Row) → first_stray initial_reading 1 rows ≡ None → AreReports rows
 reports-sound rows h =
-    let f = found start 1 [] rows (kept-none start refl refl) (λ e. refl) h in
+    let f = found initial_reading 1 [] rows (kept-none initial_reading refl refl) (λ e. refl) h in
     record { reports = f.reports; some = f.some refl; whole = f.whole; each = f.each }
 
 -- # From reports to steps
@@ -197,7 +197,7 @@ reports-sound rows h =
 -- rows of a body are taken
 body : (s : Reading) (n : ℕ) (seen rows rest : List Row) (most : ℕ) → Kept s seen → AreOf most rows → most ≤ 65535
     → ((c : ℕ) → 0 < c → c ≤ most → (z : Place) × (run Before (rows_of c (seen ++ rows)) ≡ Some z)) → patterns_in (seen ++ rows) < 2 ^ 64
-    → (t : Reading) × (m : ℕ) × Kept t (seen ++ rows) × (stray s n (rows ++ rest) ≡ stray t m rest)
+    → (t : Reading) × (m : ℕ) × Kept t (seen ++ rows) × (first_stray s n (rows ++ rest) ≡ first_stray t m rest)
 body s n seen [] rest most kept owned few runs fits = (s, n, rw append-nil kept, refl)
 body s n seen (r ∷ rows) rest most kept owned few runs fits =
     let c = collection_of r in
@@ -206,10 +206,10 @@ body s n seen (r ∷ rows) rest most kept owned few runs fits =
     let here : rows_of c (seen ++ r ∷ rows) ≡ rows_of c seen ++ r ∷ rows_of c rows = rows-here c seen r rows (eq-eqb c c refl) in
     let before : run Before (rows_of c seen) ≡ Some (place_at s.places (c - 1)) = ap (λ m. run Before (rows_of m seen)) (sym number) ∙ kept.places (c - 1) in
     let goes = run-split Before (place_at s.places (c - 1)) whole.0 (rows_of c seen) r (rows_of c rows) before (sym (ap (run Before) here) ∙ whole.1) in
-    let sum : patterns_in (seen ++ r ∷ rows) ≡ patterns_in seen + (opened r + patterns_in rows) = patterns-append seen (r ∷ rows) in
-    let small : s.patterns + opened r < 2 ^ 64 = omega (arith, kept.sum, sum) in
+    let sum : patterns_in (seen ++ r ∷ rows) ≡ patterns_in seen + (patterns_opened r + patterns_in rows) = patterns-append seen (r ∷ rows) in
+    let small : s.patterns + patterns_opened r < 2 ^ 64 = omega (arith, kept.sum, sum) in
     let high : c ≤ 65535 = omega (arith, owned.1) in
-    let t : Reading = record { places = put s.places (c - 1) goes.0; patterns = s.patterns + opened r; ended = false } in
+    let t : Reading = record { places = with_place s.places (c - 1) goes.0; patterns = s.patterns + patterns_opened r; ended = false } in
     let is : step s r ≡ Some t = section-is-step s r owned.0 ∙ taking s r goes.0 owned.0 high goes.1 small in
     let assoc : (seen ++ r ∷ []) ++ rows ≡ seen ++ r ∷ rows = append_assoc seen (r ∷ []) rows in
     let others = body t (n + 1) (seen ++ r ∷ []) rows rest most (kept-step s seen r goes.0 kept owned.0 high goes.1 small) owned.2 few
@@ -217,7 +217,7 @@ body s n seen (r ∷ rows) rest most kept owned few runs fits =
       others.0,
       others.1,
       subst (λ w. Kept others.0 w) assoc others.2,
-      ap (λ (o : Option Reading). elim o as (λ _. Option ℕ) [ None ↦ Some n | Some u ↦ stray u (n + 1) (rows ++ rest) ]) is ∙ others.3,
+      ap (λ (o : Option Reading). elim o as (λ _. Option ℕ) [ None ↦ Some n | Some u ↦ first_stray u (n + 1) (rows ++ rest) ]) is ∙ others.3,
     )
 
 all-behind : (xs : List Place) → ((k : ℕ) → k < length xs → place_at xs k ≡ Behind) → list_all is_behind xs ≡ true
@@ -235,7 +235,7 @@ enough (x ∷ xs) (suc n) h = (let rest : n ≤ length xs = enough xs n (λ j le
 
 -- a report is taken, and what follows begins anew
 report : (s : Reading) (n : ℕ) (rows rest : List Row) → Kept s [] → IsWhole rows
-    → (m : ℕ) × (stray s n (rows ++ rest) ≡ stray (record { places = []; patterns = 0; ended = true }) m rest)
+    → (m : ℕ) × (first_stray s n (rows ++ rest) ≡ first_stray (record { places = []; patterns = 0; ended = true }) m rest)
 report s n rows rest kept is =
     let u : Reading = record { places = []; patterns = 0; ended = true } in
     let k = patterns_in is.body in
@@ -255,17 +255,17 @@ report s n rows rest kept is =
     both-and _ _ all (both-and _ _ (eq-eqb _ _ size) (eq-eqb _ _ b.2.sum)) in
     let taken_end : step t last ≡ Some u = ap (λ v. if v then Some u else None) pass in (
       b.1 + 1,
-      ap (λ w. stray s n (w ++ rest)) is.whole ∙ ap (λ w. stray s n w) (append_assoc is.body (last ∷ []) rest) ∙ b.3
-          ∙ ap (λ (o : Option Reading). elim o as (λ _. Option ℕ) [ None ↦ Some b.1 | Some v ↦ stray v (b.1 + 1) rest ]) taken_end,
+      ap (λ w. first_stray s n (w ++ rest)) is.whole ∙ ap (λ w. first_stray s n w) (append_assoc is.body (last ∷ []) rest) ∙ b.3
+          ∙ ap (λ (o : Option Reading). elim o as (λ _. Option ℕ) [ None ↦ Some b.1 | Some v ↦ first_stray v (b.1 + 1) rest ]) taken_end,
     )
 
-several : (s : Reading) (n : ℕ) (reports : List (List Row)) → Kept s [] → AreWhole reports → (length reports ≡ 0 → s.ended ≡ true) → stray s n (joined reports) ≡ None
+several : (s : Reading) (n : ℕ) (reports : List (List Row)) → Kept s [] → AreWhole reports → (length reports ≡ 0 → s.ended ≡ true) → first_stray s n (all_rows reports) ≡ None
 several s n [] kept each some = ap (λ v. if v then None else Some n) (some refl)
 several s n (rows ∷ reports) kept each some =
     let u : Reading = record { places = []; patterns = 0; ended = true } in
-    let one = report s n rows (joined reports) kept each.0 in
+    let one = report s n rows (all_rows reports) kept each.0 in
     one.1 ∙ several u one.0 reports (kept-none u refl refl) each.1 (λ _. refl)
 
-pub reports-complete : (rows : List Row) → AreReports rows → stray start 1 rows ≡ None
+pub reports-complete : (rows : List Row) → AreReports rows → first_stray initial_reading 1 rows ≡ None
 reports-complete rows is =
-    ap (stray start 1) is.whole ∙ several start 1 is.reports (kept-none start refl refl) is.each (λ e. absurd (omega (arith, e, is.some)))
+    ap (first_stray initial_reading 1) is.whole ∙ several initial_reading 1 is.reports (kept-none initial_reading refl refl) is.each (λ e. absurd (omega (arith, e, is.some)))

@@ -6,9 +6,9 @@ use Rattle.std.proofs.lemmas.List.{length-replicate, append-nil as append-none}
 use Rattle.census_rows.specs.declared.row.Row.{Row}
 use Rattle.census_readback.specs.declared.place.Place.{Place}
 use Rattle.census_readback.specs.declared.place.Place.TheVariants.{Before}
-use Rattle.census_readback.specs.Sections.{next}
+use Rattle.census_readback.specs.Sections.{place_after}
 use Rattle.census_readback.specs.Runs.{run}
-use Rattle.census_readback.specs.Steps.{Reading, collection_of, opened, place_at, padded, put}
+use Rattle.census_readback.specs.Steps.{Reading, collection_of, patterns_opened, place_at, padded_places, with_place}
 use Rattle.census_readback.specs.Shapes.{rows_of, AreOf, patterns_in}
 
 -- # Places
@@ -23,17 +23,17 @@ get-padded [] m k = get-replicate m k
 get-padded (x ∷ xs) m zero = refl
 get-padded (x ∷ xs) m (suc k) = get-padded xs m k
 
-padded-size : (xs : List Place) (n : ℕ) → length (padded xs n) ≡ length xs + (n - length xs)
+padded-size : (xs : List Place) (n : ℕ) → length (padded_places xs n) ≡ length xs + (n - length xs)
 padded-size xs n = length-append xs (replicate (n - length xs) Before) ∙ ap (λ k. length xs + k) (length-replicate (n - length xs) Before)
 
-pub put-size : (xs : List Place) (i : ℕ) (p : Place) → length (put xs i p) ≡ length xs + ((i + 1) - length xs)
-put-size xs i p = length-set (padded xs (i + 1)) i p ∙ padded-size xs (i + 1)
+pub put-size : (xs : List Place) (i : ℕ) (p : Place) → length (with_place xs i p) ≡ length xs + ((i + 1) - length xs)
+put-size xs i p = length-set (padded_places xs (i + 1)) i p ∙ padded-size xs (i + 1)
 
-put-same : (xs : List Place) (i : ℕ) (p : Place) → place_at (put xs i p) i ≡ p
-put-same xs i p = get_or-set_same (padded xs (i + 1)) i p Before (omega (arith, padded-size xs (i + 1)))
+put-same : (xs : List Place) (i : ℕ) (p : Place) → place_at (with_place xs i p) i ≡ p
+put-same xs i p = get_or-set_same (padded_places xs (i + 1)) i p Before (omega (arith, padded-size xs (i + 1)))
 
-put-other : (xs : List Place) (i k : ℕ) (p : Place) → k ≢ i → place_at (put xs i p) k ≡ place_at xs k
-put-other xs i k p other = get_or-set_other (padded xs (i + 1)) i k p Before other ∙ get-padded xs ((i + 1) - length xs) k
+put-other : (xs : List Place) (i k : ℕ) (p : Place) → k ≢ i → place_at (with_place xs i p) k ≡ place_at xs k
+put-other xs i k p other = get_or-set_other (padded_places xs (i + 1)) i k p Before other ∙ get-padded xs ((i + 1) - length xs) k
 
 -- # Rows
 
@@ -83,20 +83,20 @@ run-next : (o : Option Place) → (elim o as (λ _. Option Place) [ None ↦ Non
 run-next None = refl
 run-next (Some p) = refl
 
-pub run-more : (p q : Place) (xs : List Row) (x : Row) → run p xs ≡ Some q → run p (xs ++ x ∷ []) ≡ next q x
-run-more p q [] x h = (let same : p ≡ q = cc in ap (λ w. run w (x ∷ [])) same ∙ run-next (next q x))
+pub run-more : (p q : Place) (xs : List Row) (x : Row) → run p xs ≡ Some q → run p (xs ++ x ∷ []) ≡ place_after q x
+run-more p q [] x h = (let same : p ≡ q = cc in ap (λ w. run w (x ∷ [])) same ∙ run-next (place_after q x))
 run-more p q (y ∷ xs) x h =
     let on : (o : Option Place) → (elim o as (λ _. Option Place) [ None ↦ None | Some after ↦ run after xs ]) ≡ Some q
-    → (elim o as (λ _. Option Place) [ None ↦ None | Some after ↦ run after (xs ++ x ∷ []) ]) ≡ next q x =
+    → (elim o as (λ _. Option Place) [ None ↦ None | Some after ↦ run after (xs ++ x ∷ []) ]) ≡ place_after q x =
     λ o. elim o as (λ o. (elim o as (λ _. Option Place) [ None ↦ None | Some after ↦ run after xs ]) ≡ Some q
-    → (elim o as (λ _. Option Place) [ None ↦ None | Some after ↦ run after (xs ++ x ∷ []) ]) ≡ next q x) [
+    → (elim o as (λ _. Option Place) [ None ↦ None | Some after ↦ run after (xs ++ x ∷ []) ]) ≡ place_after q x) [
       | None ↦ λ k. absurd (cc)
       | Some after ↦ λ k. run-more after q xs x k
     ] in
-    on (next p y) h
+    on (place_after p y) h
 
 -- what follows is taken too
-pub run-split : (p q z : Place) (xs : List Row) (x : Row) (ys : List Row) → run p xs ≡ Some q → run p (xs ++ x ∷ ys) ≡ Some z → (a : Place) × (next q x ≡ Some a)
+pub run-split : (p q z : Place) (xs : List Row) (x : Row) (ys : List Row) → run p xs ≡ Some q → run p (xs ++ x ∷ ys) ≡ Some z → (a : Place) × (place_after q x ≡ Some a)
 run-split p q z [] x ys h k =
     let same : p ≡ q = cc in
     let on : (o : Option Place) → (elim o as (λ _. Option Place) [ None ↦ None | Some after ↦ run after ys ]) ≡ Some z → (a : Place) × (o ≡ Some a) =
@@ -104,16 +104,16 @@ run-split p q z [] x ys h k =
       | None ↦ λ e. absurd (cc)
       | Some after ↦ λ e. (after, refl)
     ] in
-    on (next q x) (ap (λ w. run w (x ∷ ys)) (sym same) ∙ k)
+    on (place_after q x) (ap (λ w. run w (x ∷ ys)) (sym same) ∙ k)
 run-split p q z (y ∷ xs) x ys h k =
     let on : (o : Option Place) → (elim o as (λ _. Option Place) [ None ↦ None | Some after ↦ run after xs ]) ≡ Some q
-    → (elim o as (λ _. Option Place) [ None ↦ None | Some after ↦ run after (xs ++ x ∷ ys) ]) ≡ Some z → (a : Place) × (next q x ≡ Some a) =
+    → (elim o as (λ _. Option Place) [ None ↦ None | Some after ↦ run after (xs ++ x ∷ ys) ]) ≡ Some z → (a : Place) × (place_after q x ≡ Some a) =
     λ o. elim o as (λ o. (elim o as (λ _. Option Place) [ None ↦ None | Some after ↦ run after xs ]) ≡ Some q
-    → (elim o as (λ _. Option Place) [ None ↦ None | Some after ↦ run after (xs ++ x ∷ ys) ]) ≡ Some z → (a : Place) × (next q x ≡ Some a)) [
+    → (elim o as (λ _. Option Place) [ None ↦ None | Some after ↦ run after (xs ++ x ∷ ys) ]) ≡ Some z → (a : Place) × (place_after q x ≡ Some a)) [
       | None ↦ λ e f. absurd (cc)
       | Some after ↦ λ e f. run-split after q z xs x ys e f
     ] in
-    on (next p y) h k
+    on (place_after p y) h k
 
 -- # What is kept
 
@@ -136,34 +136,34 @@ kept-none s none zero_patterns = record {
 }
 
 pub kept-step : (s : Reading) (seen : List Row) (r : Row) (p : Place) → Kept s seen → 0 < collection_of r → collection_of r ≤ 65535
-    → next (place_at s.places (collection_of r - 1)) r ≡ Some p → s.patterns + opened r < 2 ^ 64
-    → Kept (record { places = put s.places (collection_of r - 1) p; patterns = s.patterns + opened r; ended = false }) (seen ++ r ∷ [])
+    → place_after (place_at s.places (collection_of r - 1)) r ≡ Some p → s.patterns + patterns_opened r < 2 ^ 64
+    → Kept (record { places = with_place s.places (collection_of r - 1) p; patterns = s.patterns + patterns_opened r; ended = false }) (seen ++ r ∷ [])
 kept-step s seen r p kept low high goes fits =
     let i = collection_of r - 1 in
     let size = put-size s.places i p in
     record {
       places = λ k.
-          (let here : eqb (collection_of r) (k + 1) ≡ true → run Before (rows_of (k + 1) (seen ++ r ∷ [])) ≡ Some (place_at (put s.places i p) k) = λ e.
+          (let here : eqb (collection_of r) (k + 1) ≡ true → run Before (rows_of (k + 1) (seen ++ r ∷ [])) ≡ Some (place_at (with_place s.places i p) k) = λ e.
           (let number : collection_of r ≡ k + 1 = eqb-true _ _ e in
           let same : k ≡ i = omega arith in
           ap (run Before) (rows-here (k + 1) seen r [] e) ∙ run-more Before (place_at s.places k) (rows_of (k + 1) seen) r (kept.places k)
-          ∙ ap (λ m. next (place_at s.places m) r) same ∙ goes ∙ ap (λ (w : Place). Some w) (sym (put-same s.places i p))
-          ∙ ap (λ m. Some (place_at (put s.places i p) m)) (sym same)) in
-          let elsewhere : eqb (collection_of r) (k + 1) ≡ false → run Before (rows_of (k + 1) (seen ++ r ∷ [])) ≡ Some (place_at (put s.places i p) k) = λ e.
+          ∙ ap (λ m. place_after (place_at s.places m) r) same ∙ goes ∙ ap (λ (w : Place). Some w) (sym (put-same s.places i p))
+          ∙ ap (λ m. Some (place_at (with_place s.places i p) m)) (sym same)) in
+          let elsewhere : eqb (collection_of r) (k + 1) ≡ false → run Before (rows_of (k + 1) (seen ++ r ∷ [])) ≡ Some (place_at (with_place s.places i p) k) = λ e.
           (let number : collection_of r ≢ k + 1 = eqb-false _ _ e in
           let other : k ≢ i = omega arith in
           ap (run Before) (rows-elsewhere (k + 1) seen r [] e ∙ append-none (rows_of (k + 1) seen)) ∙ kept.places k
           ∙ ap (λ (w : Place). Some w) (sym (put-other s.places i k p other))) in
-          let on : (v : Bool) → eqb (collection_of r) (k + 1) ≡ v → run Before (rows_of (k + 1) (seen ++ r ∷ [])) ≡ Some (place_at (put s.places i p) k) =
-          λ v. elim v as (λ v. eqb (collection_of r) (k + 1) ≡ v → run Before (rows_of (k + 1) (seen ++ r ∷ [])) ≡ Some (place_at (put s.places i p) k)) [
+          let on : (v : Bool) → eqb (collection_of r) (k + 1) ≡ v → run Before (rows_of (k + 1) (seen ++ r ∷ [])) ≡ Some (place_at (with_place s.places i p) k) =
+          λ v. elim v as (λ v. eqb (collection_of r) (k + 1) ≡ v → run Before (rows_of (k + 1) (seen ++ r ∷ [])) ≡ Some (place_at (with_place s.places i p) k)) [
             | true ↦ here
             | false ↦ elsewhere
           ] in
           on (eqb (collection_of r) (k + 1)) refl);
       owned =
-          (let more : length s.places ≤ length (put s.places i p) = omega (arith, size) in
-          let most : collection_of r ≤ length (put s.places i p) = omega (arith, size) in
-          of-append (length (put s.places i p)) seen (r ∷ []) (of-more (length s.places) (length (put s.places i p)) seen more kept.owned) (low, most, tt));
+          (let more : length s.places ≤ length (with_place s.places i p) = omega (arith, size) in
+          let most : collection_of r ≤ length (with_place s.places i p) = omega (arith, size) in
+          of-append (length (with_place s.places i p)) seen (r ∷ []) (of-more (length s.places) (length (with_place s.places i p)) seen more kept.owned) (low, most, tt));
       under = λ n h.
           (let before = kept.under n (of-front n seen (r ∷ []) h) in
           let last = (of-back n seen (r ∷ []) h).1 in

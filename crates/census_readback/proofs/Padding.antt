@@ -3,20 +3,20 @@ use Rattle.std.proofs.Common.{◌≡◌, ℕ, ◌+◌, ◌-◌, ◌≤◌, max, 
 use Rattle.std.proofs.lemmas.List.{append-nil, length-replicate, replicate-append-replicate}
 use Rattle.census_readback.specs.declared.place.Place.{Place}
 use Rattle.census_readback.specs.declared.place.Place.TheVariants.{Before}
-use Rattle.census_readback.specs.Steps.{padded}
+use Rattle.census_readback.specs.Steps.{padded_places}
 
-pub padded-none : (xs : List Place) → xs ≡ padded xs (length xs)
+pub padded-none : (xs : List Place) → xs ≡ padded_places xs (length xs)
 padded-none xs = let e : length xs - length xs ≡ 0 = omega arith in rw e (sym (append-nil xs))
 
-pub padded-more : (xs ys : List Place) (n : ℕ) → length xs ≤ n → ys ≡ padded xs n → ys ++ Before ∷ [] ≡ padded xs (n + 1)
+pub padded-more : (xs ys : List Place) (n : ℕ) → length xs ≤ n → ys ≡ padded_places xs n → ys ++ Before ∷ [] ≡ padded_places xs (n + 1)
 padded-more xs ys n least e =
     let more : (n - length xs) + 1 ≡ (n + 1) - length xs = omega arith in
     let one : replicate (n - length xs) Before ++ Before ∷ [] ≡ replicate ((n - length xs) + 1) Before = replicate-append-replicate (n - length xs) 1 Before in
     ap (λ w. w ++ Before ∷ []) e ∙ append_assoc xs (replicate (n - length xs) Before) (Before ∷ []) ∙ ap (λ w. xs ++ w) (one ∙ ap (λ k. replicate k Before) more)
 
-pub padded-length : (xs : List Place) (n : ℕ) → n ≤ length (padded xs n)
+pub padded-length : (xs : List Place) (n : ℕ) → n ≤ length (padded_places xs n)
 padded-length xs n = omega (arith, length-append xs (replicate (n - length xs) Before), length-replicate (n - length xs) Before)
 
 -- padded as far as needed, and no further
-pub padded-enough : (xs : List Place) (n count : ℕ) → length xs ≤ n → n ≤ max count (length xs) → count ≤ n → padded xs n ≡ padded xs count
+pub padded-enough : (xs : List Place) (n count : ℕ) → length xs ≤ n → n ≤ max count (length xs) → count ≤ n → padded_places xs n ≡ padded_places xs count
 padded-enough xs n count least most enough = let e : n - length xs ≡ count - length xs = omega arith in ap (λ k. xs ++ replicate k Before) e

@@ -11,8 +11,8 @@ use Rattle.census_readback.specs.declared.place.Place.TheVariants.{Before, Withi
 use Rattle.census_readback.specs.declared.place.Tally.{Tally}
 use Rattle.census_readback.specs.Sections.{with_line, closes}
 use Rattle.census_readback.specs.Runs.{run}
-use Rattle.census_readback.specs.Steps.{opened}
-use Rattle.census_readback.specs.Shapes.{is_ash, is_resolved, is_unresolved, is_refused, lines_that, any, AreLines, AreCodes, IsOpen, IsSection}
+use Rattle.census_readback.specs.Steps.{patterns_opened}
+use Rattle.census_readback.specs.Shapes.{is_ash, is_resolved, is_unresolved, is_refused, lines_that, any_outcome, AreLines, AreCodes, IsOpen, IsSection}
 
 abbrev one : Bool → ℕ
 one b = if b then 1 else 0
@@ -96,7 +96,7 @@ record Rest (t : Tally) (rows : List Row) : Type 0 where
   whole : rows ≡ lines ++ (codes ++ Close collection n resolved unresolved refused ∷ [])
   ordered : AreLines t.read t.ash lines
   counts : AreCodes codes
-  all : t.read + lines_that any lines ≡ t.patterns
+  all : t.read + lines_that any_outcome lines ≡ t.patterns
   patterns-are : n ≡ t.patterns
   resolved-are : resolved ≡ t.resolved + lines_that is_resolved lines
   unresolved-are : unresolved ≡ t.unresolved + lines_that is_unresolved lines
@@ -114,7 +114,7 @@ nothing-behind [] h = refl
 nothing-behind (row ∷ rows) h = absurd (cc)
 
 -- where no line follows, nor a part of the last, none stands there
-no-lines : (last : ℕ) (lines : List Row) → AreLines last false lines → lines_that any lines ≡ 0 → lines ≡ []
+no-lines : (last : ℕ) (lines : List Row) → AreLines last false lines → lines_that any_outcome lines ≡ 0 → lines ≡ []
 no-lines last [] are none = refl
 no-lines last (Open c n name ∷ lines) are none = absurd are
 no-lines last (Line c i o name ∷ lines) are none = absurd (omega arith)
@@ -234,12 +234,12 @@ section-sound (Open c n name ∷ rows) h =
     let few : n ≤ 65535 = leb-true _ _ k.0 in
     let good : Good t = record { sum = refl; within = omega arith; few = few } in
     let r = within-sound t rows good k.1 in
-    let all : n ≡ lines_that any r.lines = omega (arith, r.all) in
-    let e1 : r.n ≡ lines_that any r.lines = r.patterns-are ∙ all in
+    let all : n ≡ lines_that any_outcome r.lines = omega (arith, r.all) in
+    let e1 : r.n ≡ lines_that any_outcome r.lines = r.patterns-are ∙ all in
     let e2 : r.resolved ≡ lines_that is_resolved r.lines = omega (arith, r.resolved-are) in
     let e3 : r.unresolved ≡ lines_that is_unresolved r.lines = omega (arith, r.unresolved-are) in
     let e4 : r.refused ≡ lines_that is_refused r.lines = omega (arith, r.refused-are) in
-    let last : Close r.collection r.n r.resolved r.unresolved r.refused ≡ Close r.collection (lines_that any r.lines) (lines_that is_resolved r.lines) (lines_that is_unresolved r.lines) (lines_that is_refused r.lines) = cc in
+    let last : Close r.collection r.n r.resolved r.unresolved r.refused ≡ Close r.collection (lines_that any_outcome r.lines) (lines_that is_resolved r.lines) (lines_that is_unresolved r.lines) (lines_that is_refused r.lines) = cc in
     record {
       first = Open c n name;
       lines = r.lines;
@@ -284,7 +284,7 @@ codes-complete t (Close c2 n2 a2 b2 d2 ∷ codes) c n a b d counts e1 e2 e3 e4 e
 codes-complete t (End n2 k ∷ codes) c n a b d counts e1 e2 e3 e4 e5 = absurd counts
 
 within-complete : (t : Tally) (lines codes : List Row) (c n a b d : ℕ) → Good t → AreLines t.read t.ash lines → AreCodes codes
-    → t.read + lines_that any lines ≡ t.patterns → n ≡ t.patterns → a ≡ t.resolved + lines_that is_resolved lines
+    → t.read + lines_that any_outcome lines ≡ t.patterns → n ≡ t.patterns → a ≡ t.resolved + lines_that is_resolved lines
     → b ≡ t.unresolved + lines_that is_unresolved lines → d ≡ t.refused + lines_that is_refused lines
     → run (Within t) (lines ++ (codes ++ Close c n a b d ∷ [])) ≡ Some Behind
 within-complete t [] codes c n a b d g are counts e1 e2 e3 e4 e5 =
@@ -306,12 +306,12 @@ within-complete t (Code c2 rule code k ∷ lines) codes c n a b d g are counts e
 within-complete t (Close c2 n2 a2 b2 d2 ∷ lines) codes c n a b d g are counts e1 e2 e3 e4 e5 = absurd are
 within-complete t (End n2 k ∷ lines) codes c n a b d g are counts e1 e2 e3 e4 e5 = absurd are
 
-opens-complete : (first : Row) (lines codes : List Row) (c : ℕ) → IsOpen first → opened first ≡ lines_that any lines → AreLines 0 false lines → AreCodes codes
-    → lines_that any lines ≤ 65535
-    → run Before (first ∷ (lines ++ (codes ++ Close c (lines_that any lines) (lines_that is_resolved lines) (lines_that is_unresolved lines) (lines_that is_refused lines) ∷ []))) ≡ Some Behind
+opens-complete : (first : Row) (lines codes : List Row) (c : ℕ) → IsOpen first → patterns_opened first ≡ lines_that any_outcome lines → AreLines 0 false lines → AreCodes codes
+    → lines_that any_outcome lines ≤ 65535
+    → run Before (first ∷ (lines ++ (codes ++ Close c (lines_that any_outcome lines) (lines_that is_resolved lines) (lines_that is_unresolved lines) (lines_that is_refused lines) ∷ []))) ≡ Some Behind
 opens-complete (Open c2 n name) lines codes c is all ordered counts few =
     let t : Tally = record { patterns = n; read = 0; resolved = 0; unresolved = 0; refused = 0; ash = false } in
-    let m = lines_that any lines in
+    let m = lines_that any_outcome lines in
     let small : n ≤ 65535 = omega arith in
     let good : Good t = record { sum = refl; within = omega arith; few = small } in
     pass (leb n 65535) (Within t) (lines ++ (codes ++ Close c m (lines_that is_resolved lines) (lines_that is_unresolved lines) (lines_that is_refused lines) ∷ []))

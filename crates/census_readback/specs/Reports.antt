@@ -2,7 +2,7 @@
 use Rattle.std.specs.Prelude.{ℕ, ◌+◌, ◌≡◌, ◌≢◌, ◌++◌, List, [], length, MatchOption}
 use Rattle.census_rows.specs.declared.row.Row.{Row}
 use Rattle.census_readback.specs.Shapes.{AreReports}
-use Rattle.census_readback.specs.Steps.{start, stray}
+use Rattle.census_readback.specs.Steps.{initial_reading, first_stray}
 use Rattle.census_readback.specs.Texts.{AllLines, IsStuck, text_of}
 
 -- the text is a report of these rows, or several
@@ -18,4 +18,4 @@ pub record IsFault (text : List ℕ) (line : ℕ) : Type 0 where
   pub lines : AllLines rows
   pub front : text ≡ text_of rows ++ rest
   pub stuck : IsStuck rest
-  pub first : MatchOption (stray start 1 rows) ((rest ≢ []) × (line ≡ length rows + 1)) (λ number. line ≡ number)
+  pub first : MatchOption (first_stray initial_reading 1 rows) ((rest ≢ []) × (line ≡ length rows + 1)) (λ number. line ≡ number)

@@ -47,7 +47,7 @@ first_place (Close collection patterns resolved unresolved refused) = Nothing
 first_place (End collections patterns) = Nothing
 
 -- the place after a row of the collection, where it may stand here; after `close` nothing stands
-abbrev pub next : Place → Row → Option Place
-next Before row = first_place row
-next (Within tally) row = next_within tally row
-next Behind row = Nothing
+abbrev pub place_after : Place → Row → Option Place
+place_after Before row = first_place row
+place_after (Within tally) row = next_within tally row
+place_after Behind row = Nothing

@@ -4,7 +4,7 @@ use Rattle.census_rows.specs.declared.row.Outcome.{Outcome}
 use Rattle.census_rows.specs.declared.row.Outcome.TheVariants.{Ok, Ash, None, Large, Bad}
 use Rattle.census_rows.specs.declared.row.Row.{Row}
 use Rattle.census_rows.specs.declared.row.Row.TheVariants.{Open, Line, Part, Code, Close, End}
-use Rattle.census_readback.specs.Steps.{collection_of, opened}
+use Rattle.census_readback.specs.Steps.{collection_of, patterns_opened}
 
 abbrev pub is_ash : Outcome → Bool
 is_ash (Ok rule population onset period dx dy code) = false
@@ -48,8 +48,8 @@ abbrev pub lines_that : (Outcome → Bool) → List Row → ℕ
 lines_that kind [] = 0
 lines_that kind (row ∷ rows) = (if is_line kind row then 1 else 0) + lines_that kind rows
 
-abbrev pub any : Outcome → Bool
-any outcome = true
+abbrev pub any_outcome : Outcome → Bool
+any_outcome outcome = true
 
 -- The `line` lines of the patterns after this one, in order, each with its `part` lines after it. These may follow this
 -- pattern too where it is ash.
@@ -86,12 +86,12 @@ pub record IsSection (rows : List Row) : Type 0 where
   pub lines : List Row
   pub codes : List Row
   pub collection : ℕ
-  pub whole : rows ≡ first ∷ (lines ++ (codes ++ Close collection (lines_that any lines) (lines_that is_resolved lines) (lines_that is_unresolved lines) (lines_that is_refused lines) ∷ []))
+  pub whole : rows ≡ first ∷ (lines ++ (codes ++ Close collection (lines_that any_outcome lines) (lines_that is_resolved lines) (lines_that is_unresolved lines) (lines_that is_refused lines) ∷ []))
   pub opens : IsOpen first
-  pub all : opened first ≡ lines_that any lines
+  pub all : patterns_opened first ≡ lines_that any_outcome lines
   pub ordered : AreLines 0 false lines
   pub counts : AreCodes codes
-  pub few : lines_that any lines ≤ 65535
+  pub few : lines_that any_outcome lines ≤ 65535
 
 -- the rows of this collection, in their order
 abbrev pub rows_of : ℕ → List Row → List Row
@@ -106,7 +106,7 @@ AreOf collections (row ∷ rows) = (0 < collection_of row) × (collection_of row
 -- how many patterns the collections have
 abbrev pub patterns_in : List Row → ℕ
 patterns_in [] = 0
-patterns_in (row ∷ rows) = opened row + patterns_in rows
+patterns_in (row ∷ rows) = patterns_opened row + patterns_in rows
 
 -- The rows of a report: those of its collections' sections, interleaved in any way that keeps each section's order, and
 -- then `end`.
@@ -123,13 +123,13 @@ abbrev pub AreWhole : List (List Row) → Type 0
 AreWhole [] = ⊤
 AreWhole (rows ∷ others) = IsWhole rows × AreWhole others
 
-abbrev pub joined : List (List Row) → List Row
-joined [] = []
-joined (rows ∷ others) = rows ++ joined others
+abbrev pub all_rows : List (List Row) → List Row
+all_rows [] = []
+all_rows (rows ∷ others) = rows ++ all_rows others
 
 -- the rows of one report, or of several after one another
 pub record AreReports (rows : List Row) : Type 0 where
   pub reports : List (List Row)
   pub some : 0 < length reports
-  pub whole : rows ≡ joined reports
+  pub whole : rows ≡ all_rows reports
   pub each : AreWhole reports

@@ -6,7 +6,7 @@ use Rattle.census_rows.specs.declared.row.Row.TheVariants.{Open, Line, Part, Cod
 use Rattle.census_readback.specs.declared.place.Place.{Place}
 use Rattle.census_readback.specs.declared.place.Place.TheVariants.{Before, Within, Behind}
 use Rattle.census_readback.specs.declared.progress.Progress.{Progress}
-use Rattle.census_readback.specs.Sections.{next}
+use Rattle.census_readback.specs.Sections.{place_after}
 
 -- the collection that a row belongs to
 abbrev pub collection_of : Row → ℕ
@@ -18,13 +18,13 @@ collection_of (Close collection patterns resolved unresolved refused) = collecti
 collection_of (End collections patterns) = 0
 
 -- how many patterns a row opens
-abbrev pub opened : Row → ℕ
-opened (Open collection patterns name) = patterns
-opened (Line collection pattern outcome name) = 0
-opened (Part collection pattern code count) = 0
-opened (Code collection rule code count) = 0
-opened (Close collection patterns resolved unresolved refused) = 0
-opened (End collections patterns) = 0
+abbrev pub patterns_opened : Row → ℕ
+patterns_opened (Open collection patterns name) = patterns
+patterns_opened (Line collection pattern outcome name) = 0
+patterns_opened (Part collection pattern code count) = 0
+patterns_opened (Code collection rule code count) = 0
+patterns_opened (Close collection patterns resolved unresolved refused) = 0
+patterns_opened (End collections patterns) = 0
 
 abbrev pub is_behind : Place → Bool
 is_behind Before = false
@@ -36,12 +36,12 @@ abbrev pub place_at : List Place → ℕ → Place
 place_at places index = slice_index_or places index Before
 
 -- as many places at least
-abbrev pub padded : List Place → ℕ → List Place
-padded places count = places ++ replicate (count - length places) Before
+abbrev pub padded_places : List Place → ℕ → List Place
+padded_places places count = places ++ replicate (count - length places) Before
 
 -- with this place of the collection at an index
-abbrev pub put : List Place → ℕ → Place → List Place
-put places index place = slice_set (padded places (index + 1)) index place
+abbrev pub with_place : List Place → ℕ → Place → List Place
+with_place places index place = slice_set (padded_places places (index + 1)) index place
 
 -- the places of the collections, how many patterns these have, and whether the last row ended a report
 pub record Reading : Type 0 where
@@ -53,8 +53,8 @@ abbrev pub reading_of : Progress → Reading
 reading_of progress = record { places = progress.places.items; patterns = progress.patterns; ended = progress.ended }
 
 -- before any row
-abbrev pub start : Reading
-start = record { places = []; patterns = 0; ended = false }
+abbrev pub initial_reading : Reading
+initial_reading = record { places = []; patterns = 0; ended = false }
 
 -- after an `end` row: each collection is read to its end, and there are so many, with so many patterns
 abbrev pub end_step : Reading → ℕ → ℕ → Option Reading
@@ -65,13 +65,13 @@ end_step s collections patterns =
 abbrev pub gone_on : Reading → ℕ → ℕ → Option Place → Option Reading
 gone_on s index patterns Nothing = Nothing
 gone_on s index patterns (Some place) =
-    if nat_lt (s.patterns + patterns) (2 ^ 64) then Some (record { places = put s.places index place; patterns = s.patterns + patterns; ended = false }) else Nothing
+    if nat_lt (s.patterns + patterns) (2 ^ 64) then Some (record { places = with_place s.places index place; patterns = s.patterns + patterns; ended = false }) else Nothing
 
 -- after a row of a collection, whose number is 1 to 65,535
 abbrev pub section_step : Reading → Row → Option Reading
 section_step s row =
     let index = collection_of row - 1 in
-    if nat_lt 0 (collection_of row) && nat_le (collection_of row) 65535 then gone_on s index (opened row) (next (place_at s.places index) row) else Nothing
+    if nat_lt 0 (collection_of row) && nat_le (collection_of row) 65535 then gone_on s index (patterns_opened row) (place_after (place_at s.places index) row) else Nothing
 
 -- after a row, where it may stand here
 abbrev pub step : Reading → Row → Option Reading
@@ -84,6 +84,6 @@ step s (End collections patterns) = end_step s collections patterns
 
 -- The number, from this one on, of the first row that may not stand where it does. Where all may, and the last is no
 -- `end` row, it is that of the row that is missing.
-abbrev pub stray : Reading → ℕ → List Row → Option ℕ
-stray s number [] = if s.ended then Nothing else Some number
-stray s number (row ∷ rows) = elim (step s row) [ Nothing ↦ Some number | Some t ↦ stray t (number + 1) rows ]
+abbrev pub first_stray : Reading → ℕ → List Row → Option ℕ
+first_stray s number [] = if s.ended then Nothing else Some number
+first_stray s number (row ∷ rows) = elim (step s row) [ Nothing ↦ Some number | Some t ↦ first_stray t (number + 1) rows ]

@@ -1,6 +1,6 @@
 //! How far the section of a collection is read.
 ghost use Rattle.std.specs.Prelude.{◌≡◌, ◌<◌};
-ghost use Rattle.census_readback.specs.Sections.{closes, next, next_within, with_line};
+ghost use Rattle.census_readback.specs.Sections.{closes, place_after, next_within, with_line};
 
 use census_rows::{Outcome, Row};
 
@@ -125,7 +125,7 @@ fn next_within(tally: Tally, row: &Row) -> Option<Place>
 
 // The place after this row of the collection, where it may stand here.
 pub fn next(place: Place, row: &Row) -> Option<Place>
-    ensures { result ≡ next place row.now }
+    ensures { result ≡ place_after place row.now }
 {
     match place {
         Place::Before => match row {

@@ -1,7 +1,7 @@
 //! How far a report is read.
 ghost use Rattle.std.specs.Prelude.{◌≡◌, ◌<◌, ◌≤◌, ◌-◌, IfOk, OnOk, true, false, None, Some, IsTrue, IsFalse};
 ghost use Rattle.std.specs.List.{list_all};
-ghost use Rattle.census_readback.specs.Steps.{collection_of, end_step, is_behind, opened, padded, place_at, put, reading_of, section_step, start, step};
+ghost use Rattle.census_readback.specs.Steps.{collection_of, end_step, is_behind, patterns_opened, padded_places, place_at, with_place, reading_of, section_step, initial_reading, step};
 
 use crate::place::{MOST, Place, next};
 use census_rows::Row;
@@ -31,8 +31,8 @@ pub fn collection_of(row: &Row) -> u64
 }
 
 // How many patterns a row opens.
-fn opened(row: &Row) -> u64
-    ensures { result ≡ opened row.now }
+fn patterns_opened(row: &Row) -> u64
+    ensures { result ≡ patterns_opened row.now }
 {
     match row {
         Row::Open { patterns, .. } => *patterns,
@@ -70,7 +70,7 @@ fn place_at(places: &[Place], index: usize) -> Place
 
 // As many places at least.
 fn pad(places: &mut Vec<Place>, count: usize) -> Result<(), AllocError>
-    ensures { OnOk result (places.new.items ≡ padded places.old.items count) }
+    ensures { OnOk result (places.new.items ≡ padded_places places.old.items count) }
 {
     while places.len() < count {
         places.push(Place::Before)?;
@@ -81,7 +81,7 @@ fn pad(places: &mut Vec<Place>, count: usize) -> Result<(), AllocError>
 // Writes the place of the collection at this index.
 fn put(places: &mut Vec<Place>, index: usize, place: Place) -> Result<(), AllocError>
     requires { index < 65535 }
-    ensures { OnOk result (places.new.items ≡ put places.old.items index place) }
+    ensures { OnOk result (places.new.items ≡ with_place places.old.items index place) }
 {
     pad(places, index + 1)?;
     places[index] = place;
@@ -90,7 +90,7 @@ fn put(places: &mut Vec<Place>, index: usize, place: Place) -> Result<(), AllocE
 
 impl Progress {
     pub fn start(alloc: Global) -> Self
-        ensures { reading_of result ≡ start }
+        ensures { reading_of result ≡ initial_reading }
     {
         Progress {
             places: Vec::new(alloc),
@@ -132,7 +132,7 @@ impl Progress {
         let Some(place) = next(place_at(self.places.as_slice(), index), row) else {
             return Ok(false);
         };
-        let Some(patterns) = self.patterns.checked_add(opened(row)) else {
+        let Some(patterns) = self.patterns.checked_add(patterns_opened(row)) else {
             return Ok(false);
         };
         put(&mut self.places, index, place)?;

@@ -9,7 +9,7 @@
 ghost use Rattle.std.specs.Prelude.{◌≡◌, ◌+◌, ◌<◌, ◌^◌, ℕ, List, length, IfOk, MatchResult};
 ghost use Rattle.census_rows.specs.declared.row.Row.{Row};
 ghost use Rattle.census_readback.specs.Reports.{IsFault, IsReport};
-ghost use Rattle.census_readback.specs.Steps.{start, stray};
+ghost use Rattle.census_readback.specs.Steps.{initial_reading, first_stray};
 ghost use Rattle.census_readback.specs.Texts.{SameRows};
 
 use crate::lines::read_rows;
@@ -20,7 +20,7 @@ use std::alloc::{AllocError, Global};
 // The number, from 1, of the first row that may not stand where it does.
 fn first_stray(alloc: Global, rows: &[Row]) -> Result<Option<usize>, AllocError>
     requires { length rows.now < 2 ^ 63 }
-    ensures { IfOk result (λ number. number ≡ stray start 1 rows.now) }
+    ensures { IfOk result (λ number. number ≡ first_stray initial_reading 1 rows.now) }
 {
     let mut progress = Progress::start(alloc);
     for index in 0..rows.len() {

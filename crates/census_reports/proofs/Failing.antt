@@ -1,7 +1,7 @@
 -- Why not all was written, from rows to texts and from texts to words.
 use Rattle.std.proofs.Common.{◌≡◌, ℕ, false, List, refl, inl, inr}
 use Rattle.census_folders.specs.Told.{Told}
-use Rattle.census_identify.specs.Identifies.{asked}
+use Rattle.census_identify.specs.Identifies.{words_or_input}
 use Rattle.census_identify.specs.Streams.{Sink}
 use Rattle.census_rows.specs.declared.row.Row.{Row}
 use Rattle.census_reports.specs.Forms.{IsMadeOf}
@@ -35,7 +35,7 @@ failing Write form rows texts a b are part =
     record { made = part.made; is = record { rows = rows; reports = are; is = part.is }; front = part.front }
 
 module _ (form : Form) (held : List ℕ → Told) (words : List (List ℕ)) (a b : Streams) where
-  pub stopping : (error : ReportsError) → StopsReading error held (asked words) a.input b.input → b.output ≡ a.output → ReportsFail error form held words a b
+  pub stopping : (error : ReportsError) → StopsReading error held (words_or_input words) a.input b.input → b.output ≡ a.output → ReportsFail error form held words a b
   stopping (Fault number line) stops same = absurd stops.why
   stopping (TooMany report) stops same = absurd stops.why
   stopping TooLong stops same = (stops, same)

@@ -6,16 +6,16 @@ use Rattle.std.specs.declared.vec.Vec.{Vec}
 use Rattle.std.proofs.lemmas.List.{length-take, length-take-le, take-append-drop, take_more}
 use Rattle.census_rows.specs.declared.row.Row.{Row}
 use Rattle.census_readback.specs.Reports.{IsFault, IsReport}
-use Rattle.census_readback.specs.Shapes.{AreReports, AreWhole, joined}
+use Rattle.census_readback.specs.Shapes.{AreReports, AreWhole, all_rows}
 use Rattle.census_readback.specs.Texts.{SameRows}
 use Rattle.census_reports.specs.Rows.{AreRowsOf, HasFault}
 
 pub rows_none : AreRowsOf [] []
 rows_none = record { parts = []; whole = refl; each = tt }
 
-joined-append : (xs ys : List (List Row)) → joined (xs ++ ys) ≡ joined xs ++ joined ys
+joined-append : (xs ys : List (List Row)) → all_rows (xs ++ ys) ≡ all_rows xs ++ all_rows ys
 joined-append [] ys = refl
-joined-append (x ∷ xs) ys = ap (λ l. x ++ l) (joined-append xs ys) ∙ sym (append_assoc x (joined xs) (joined ys))
+joined-append (x ∷ xs) ys = ap (λ l. x ++ l) (joined-append xs ys) ∙ sym (append_assoc x (all_rows xs) (all_rows ys))
 
 zip_more : (parts : List (List Row)) (texts : List (List ℕ)) (own : List Row) (text : List ℕ) → AllZip IsReport parts texts → IsReport own text
     → AllZip IsReport (parts ++ own ∷ []) (texts ++ text ∷ [])
@@ -28,7 +28,7 @@ rows_more : (rows own all : List Row) (texts : List (List ℕ)) (text : List ℕ
     → AreRowsOf all (texts ++ text ∷ [])
 rows_more rows own all texts text before is e = record {
   parts = before.parts ++ own ∷ [];
-  whole = e ∙ ap (λ l. l ++ own) before.whole ∙ ap (λ l. joined before.parts ++ l) (sym (append-nil own)) ∙ sym (joined-append before.parts (own ∷ []));
+  whole = e ∙ ap (λ l. l ++ own) before.whole ∙ ap (λ l. all_rows before.parts ++ l) (sym (append-nil own)) ∙ sym (joined-append before.parts (own ∷ []));
   each = zip_more before.parts texts own text before.each is;
 }
 
@@ -42,11 +42,11 @@ reports_append : (xs ys : List Row) → AreReports xs → AreReports ys → AreR
 reports_append xs ys p q = record {
   reports = p.reports ++ q.reports;
   some = (let s = p.some in omega (arith, length-append p.reports q.reports));
-  whole = ap (λ l. l ++ ys) p.whole ∙ ap (λ l. joined p.reports ++ l) q.whole ∙ sym (joined-append p.reports q.reports);
+  whole = ap (λ l. l ++ ys) p.whole ∙ ap (λ l. all_rows p.reports ++ l) q.whole ∙ sym (joined-append p.reports q.reports);
   each = whole_append p.reports q.reports p.each q.each;
 }
 
-reports_joined : (parts : List (List Row)) (texts : List (List ℕ)) → AllZip IsReport parts texts → 0 < length texts → AreReports (joined parts)
+reports_joined : (parts : List (List Row)) (texts : List (List ℕ)) → AllZip IsReport parts texts → 0 < length texts → AreReports (all_rows parts)
 reports_joined [] [] each some = absurd (omega arith)
 reports_joined [] (t ∷ texts) each some = absurd each
 reports_joined (p ∷ parts) [] each some = absurd each
@@ -54,7 +54,7 @@ reports_joined (p ∷ []) (t ∷ []) each some = subst AreReports (sym (append-n
 reports_joined (p ∷ []) (t ∷ u ∷ texts) each some = absurd each.1
 reports_joined (p ∷ q ∷ parts) (t ∷ []) each some = absurd each.1
 reports_joined (p ∷ q ∷ parts) (t ∷ u ∷ texts) each some =
-    reports_append p (joined (q ∷ parts)) each.0.shape (reports_joined (q ∷ parts) (u ∷ texts) each.1 (omega arith))
+    reports_append p (all_rows (q ∷ parts)) each.0.shape (reports_joined (q ∷ parts) (u ∷ texts) each.1 (omega arith))
 
 are_reports : (rows : List Row) (texts : List (List ℕ)) → AreRowsOf rows texts → 0 < length texts → AreReports rows
 are_reports rows texts is some = subst AreReports (sym is.whole) (reports_joined is.parts texts is.each some)

@@ -3,7 +3,7 @@ use Rattle.std.proofs.Common.{◌≡◌, ℕ, suc, ◌+◌, ◌<◌, List, [], �
 use Rattle.std.proofs.lemmas.List.{map-append, map_more, take-append-drop}
 use Rattle.census_folders.specs.Told.{Told}
 use Rattle.census_identify.specs.Hearing.{Hears}
-use Rattle.census_identify.specs.Identifies.{asked}
+use Rattle.census_identify.specs.Identifies.{words_or_input}
 use Rattle.census_identify.specs.Streams.{Source}
 use Rattle.census_identify.specs.declared.heard.Heard.TheVariants.{Text}
 use Rattle.census_reports.specs.Texts.{ReadsEach, RefusesWord, StopsReading}
@@ -20,7 +20,7 @@ reads_more held (w ∷ words) [] word text a b c read p = absurd read
 reads_more held (w ∷ words) (t ∷ texts) word text a b c read p = (read.0, read.1, reads_more held words texts word text read.0 b c read.2 p)
 
 -- there are as many texts as words, which is one at least
-pub some_text : (held : List ℕ → Told) (words texts : List (List ℕ)) (a b : Source) → ReadsEach held (asked words) texts a b → 0 < length texts
+pub some_text : (held : List ℕ → Told) (words texts : List (List ℕ)) (a b : Source) → ReadsEach held (words_or_input words) texts a b → 0 < length texts
 some_text held [] [] a b read = absurd read
 some_text held [] (t ∷ texts) a b read = omega arith
 some_text held (w ∷ words) [] a b read = absurd read

@@ -3,11 +3,11 @@ use Rattle.std.proofs.Common.{◌≡◌, ℕ, zero, suc, ◌+◌, ◌<◌, ◌�
 use Rattle.std.proofs.lemmas.Bool.{cases_Bool}
 use Rattle.census_rows.specs.declared.row.Row.{Row}
 use Rattle.census_rows.specs.declared.row.Row.TheVariants.{Open, Line, Part, Code, Close, End}
-use Rattle.census_merge.specs.declared.totals.Sums.{Sums}
-use Rattle.census_merge.specs.Sums.{none, plus, sums_in, sums_of}
-use Rattle.census_merge.specs.Merged.{merged, numbered_on, renumbered}
+use Rattle.census_merge.specs.declared.report_sums.Sums.{Sums}
+use Rattle.census_merge.specs.Sums.{no_sums, sums_plus, sums_in, sums_of}
+use Rattle.census_merge.specs.Merged.{merged_rows, numbered_on, renumbered_row}
 use Rattle.census_readback.specs.Steps.{collection_of}
-use Rattle.census_readback.specs.Shapes.{AreOf, AreReports, AreWhole, IsWhole, joined, patterns_in, rows_of}
+use Rattle.census_readback.specs.Shapes.{AreOf, AreReports, AreWhole, IsWhole, all_rows, patterns_in, rows_of}
 use Rattle.census_readback.specs.Grouped.{collections_of, sections_of}
 use Rattle.census_readback.proofs.Kept.{of-append, rows-append}
 use Rattle.census_readback.proofs.Sorted.{sections-size}
@@ -16,7 +16,7 @@ use Rattle.census_table.proofs.Counts.{all-append, collections-body, rows-one}
 
 -- # Rows under another number of their collection
 
-entry-same : (k b : ℕ) (h r : Row) → entry_in k (renumbered b h) (renumbered b r) ≡ entry_in k h r
+entry-same : (k b : ℕ) (h r : Row) → entry_in k (renumbered_row b h) (renumbered_row b r) ≡ entry_in k h r
 entry-same k b h (Open c n t) = refl
 entry-same k b (Open c n t) (Line d i o name) = refl
 entry-same k b (Line c j p t) (Line d i o name) = refl
@@ -29,17 +29,17 @@ entry-same k b h (Code c rule code n) = refl
 entry-same k b h (Close c n x y z) = refl
 entry-same k b h (End c n) = refl
 
-under-same : (k b : ℕ) (h : Row) (rows : List Row) → lines_under k (renumbered b h) (map (renumbered b) rows) ≡ lines_under k h rows
+under-same : (k b : ℕ) (h : Row) (rows : List Row) → lines_under k (renumbered_row b h) (map (renumbered_row b) rows) ≡ lines_under k h rows
 under-same k b h [] = refl
 under-same k b h (r ∷ rows) =
-    ap (λ e. entry_before e (lines_under k (renumbered b h) (map (renumbered b) rows))) (entry-same k b h r)
+    ap (λ e. entry_before e (lines_under k (renumbered_row b h) (map (renumbered_row b) rows))) (entry-same k b h r)
     ∙ ap (λ es. entry_before (entry_in k h r) es) (under-same k b h rows)
 
-section-same : (k b : ℕ) (rows : List Row) → section_entries k (map (renumbered b) rows) ≡ section_entries k rows
+section-same : (k b : ℕ) (rows : List Row) → section_entries k (map (renumbered_row b) rows) ≡ section_entries k rows
 section-same k b [] = refl
 section-same k b (h ∷ rows) = under-same k b h rows
 
-number-of : (b : ℕ) (r : Row) → 0 < collection_of r → collection_of (renumbered b r) ≡ b + collection_of r
+number-of : (b : ℕ) (r : Row) → 0 < collection_of r → collection_of (renumbered_row b r) ≡ b + collection_of r
 number-of b (Open c n t) h = refl
 number-of b (Line c i o t) h = refl
 number-of b (Part c i code n) h = refl
@@ -56,7 +56,7 @@ no-sums (Close c n x y z) h = refl
 no-sums (End c n) h = absurd (omega arith)
 
 -- the rows of a collection
-shifted-rows : (b n c : ℕ) (body : List Row) → AreOf n body → rows_of (b + c) (map (renumbered b) body) ≡ map (renumbered b) (rows_of c body)
+shifted-rows : (b n c : ℕ) (body : List Row) → AreOf n body → rows_of (b + c) (map (renumbered_row b) body) ≡ map (renumbered_row b) (rows_of c body)
 shifted-rows b n c [] h = refl
 shifted-rows b n c (r ∷ body) h =
     let number = number-of b r h.0 in
@@ -64,47 +64,47 @@ shifted-rows b n c (r ∷ body) h =
     elim (cases_Bool (eqb (collection_of r) c)) [
       | inl same ↦
           let equal : collection_of r ≡ c = grind arith in
-          let there : eqb (collection_of (renumbered b r)) (b + c) ≡ true = grind arith in
-          rows-one (b + c) (renumbered b r) (map (renumbered b) body) true there ∙ ap (λ w. renumbered b r ∷ w) others
-          ∙ sym (ap (λ w. map (renumbered b) w) (rows-one c r body true same))
+          let there : eqb (collection_of (renumbered_row b r)) (b + c) ≡ true = grind arith in
+          rows-one (b + c) (renumbered_row b r) (map (renumbered_row b) body) true there ∙ ap (λ w. renumbered_row b r ∷ w) others
+          ∙ sym (ap (λ w. map (renumbered_row b) w) (rows-one c r body true same))
       | inr other ↦
-          let unequal : eqb (collection_of (renumbered b r)) (b + c) ≡ false = grind arith in
-          rows-one (b + c) (renumbered b r) (map (renumbered b) body) false unequal ∙ others
-          ∙ sym (ap (λ w. map (renumbered b) w) (rows-one c r body false other))
+          let unequal : eqb (collection_of (renumbered_row b r)) (b + c) ≡ false = grind arith in
+          rows-one (b + c) (renumbered_row b r) (map (renumbered_row b) body) false unequal ∙ others
+          ∙ sym (ap (λ w. map (renumbered_row b) w) (rows-one c r body false other))
     ]
 
 -- no row has a number that is too small or too great
-outside-none : (b n c : ℕ) (body : List Row) → AreOf n body → ((m : ℕ) → 0 < m → m ≤ n → eqb (b + m) c ≡ false) → rows_of c (map (renumbered b) body) ≡ []
+outside-none : (b n c : ℕ) (body : List Row) → AreOf n body → ((m : ℕ) → 0 < m → m ≤ n → eqb (b + m) c ≡ false) → rows_of c (map (renumbered_row b) body) ≡ []
 outside-none b n c [] h out = refl
 outside-none b n c (r ∷ body) h out =
-    rows-one c (renumbered b r) (map (renumbered b) body) false (ap (λ m. eqb m c) (number-of b r h.0) ∙ out (collection_of r) h.0 h.1)
+    rows-one c (renumbered_row b r) (map (renumbered_row b) body) false (ap (λ m. eqb m c) (number-of b r h.0) ∙ out (collection_of r) h.0 h.1)
     ∙ outside-none b n c body h.2 out
 
 -- # Reports that are numbered on
 
-body-on : (b m n p : ℕ) (body rest : List Row) → AreOf m body → numbered_on b (body ++ End n p ∷ rest) ≡ map (renumbered b) body ++ numbered_on (b + n) rest
+body-on : (b m n p : ℕ) (body rest : List Row) → AreOf m body → numbered_on b (body ++ End n p ∷ rest) ≡ map (renumbered_row b) body ++ numbered_on (b + n) rest
 body-on b m n p [] rest h = refl
 body-on b m n p (r ∷ body) rest h =
     let back = body ++ End n p ∷ rest in
-    ap (λ (o : Option Sums). elim o as (λ _. List Row) [ Nothing ↦ renumbered b r ∷ numbered_on b back | Some more ↦ numbered_on (b + more.collections) back ]) (no-sums r h.0)
-    ∙ ap (λ w. renumbered b r ∷ w) (body-on b m n p body rest h.2)
+    ap (λ (o : Option Sums). elim o as (λ _. List Row) [ Nothing ↦ renumbered_row b r ∷ numbered_on b back | Some more ↦ numbered_on (b + more.collections) back ]) (no-sums r h.0)
+    ∙ ap (λ w. renumbered_row b r ∷ w) (body-on b m n p body rest h.2)
 
 body-sums : (s : Sums) (m n p : ℕ) (body rest : List Row) → AreOf m body
-    → sums_in s (body ++ End n p ∷ rest) ≡ sums_in (plus s (record { collections = n; patterns = p })) rest
+    → sums_in s (body ++ End n p ∷ rest) ≡ sums_in (sums_plus s (record { collections = n; patterns = p })) rest
 body-sums s m n p [] rest h = refl
 body-sums s m n p (r ∷ body) rest h =
     let back = body ++ End n p ∷ rest in
-    ap (λ (o : Option Sums). elim o as (λ _. Sums) [ Nothing ↦ sums_in s back | Some more ↦ sums_in (plus s more) back ]) (no-sums r h.0)
+    ap (λ (o : Option Sums). elim o as (λ _. Sums) [ Nothing ↦ sums_in s back | Some more ↦ sums_in (sums_plus s more) back ]) (no-sums r h.0)
     ∙ body-sums s m n p body rest h.2
 
 module _ (rows : List Row) (is : IsWhole rows) (rest : List Row) where
   rows-are : rows ++ rest ≡ is.body ++ End is.collections (patterns_in is.body) ∷ rest
   rows-are = ap (λ w. w ++ rest) is.whole ∙ append_assoc is.body (End is.collections (patterns_in is.body) ∷ []) rest
 
-  whole-on : (b : ℕ) → numbered_on b (rows ++ rest) ≡ map (renumbered b) is.body ++ numbered_on (b + is.collections) rest
+  whole-on : (b : ℕ) → numbered_on b (rows ++ rest) ≡ map (renumbered_row b) is.body ++ numbered_on (b + is.collections) rest
   whole-on b = ap (numbered_on b) rows-are ∙ body-on b is.collections is.collections (patterns_in is.body) is.body rest is.owned
 
-  whole-sums : (s : Sums) → sums_in s (rows ++ rest) ≡ sums_in (plus s (record { collections = is.collections; patterns = patterns_in is.body })) rest
+  whole-sums : (s : Sums) → sums_in s (rows ++ rest) ≡ sums_in (sums_plus s (record { collections = is.collections; patterns = patterns_in is.body })) rest
   whole-sums s = ap (sums_in s) rows-are ∙ body-sums s is.collections is.collections (patterns_in is.body) is.body rest is.owned
 
   whole-collections : collections_of [] (rows ++ rest) ≡ sections_of 1 is.collections is.body ++ collections_of [] rest
@@ -115,39 +115,39 @@ abbrev pub count : (reports : List (List Row)) → AreWhole reports → ℕ
 count [] h = 0
 count (rows ∷ reports) h = h.0.collections + count reports h.1
 
-sums-count : (s : Sums) (reports : List (List Row)) (h : AreWhole reports) → (sums_in s (joined reports)).collections ≡ s.collections + count reports h
+sums-count : (s : Sums) (reports : List (List Row)) (h : AreWhole reports) → (sums_in s (all_rows reports)).collections ≡ s.collections + count reports h
 sums-count s [] h = let e : s.collections ≡ s.collections + 0 = omega arith in e
 sums-count s (rows ∷ reports) h =
     let more : Sums = record { collections = h.0.collections; patterns = patterns_in h.0.body } in
-    let inner = sums-count (plus s more) reports h.1 in
-    let e = ap (λ (t : Sums). t.collections) (whole-sums rows h.0 (joined reports) s) in
+    let inner = sums-count (sums_plus s more) reports h.1 in
+    let e = ap (λ (t : Sums). t.collections) (whole-sums rows h.0 (all_rows reports) s) in
     omega (arith, inner, e)
 
-of-shift : (b n m : ℕ) (body : List Row) → AreOf n body → b + n ≤ m → AreOf m (map (renumbered b) body)
+of-shift : (b n m : ℕ) (body : List Row) → AreOf n body → b + n ≤ m → AreOf m (map (renumbered_row b) body)
 of-shift b n m [] h less = tt
 of-shift b n m (r ∷ body) h less =
     let number = number-of b r h.0 in
     (omega (arith, number, h.0), omega (arith, number, h.1), of-shift b n m body h.2 less)
 
-on-of : (b : ℕ) (reports : List (List Row)) (h : AreWhole reports) → AreOf (b + count reports h) (numbered_on b (joined reports))
+on-of : (b : ℕ) (reports : List (List Row)) (h : AreWhole reports) → AreOf (b + count reports h) (numbered_on b (all_rows reports))
 on-of b [] h = tt
 on-of b (rows ∷ reports) h =
     let is = h.0 in
     let most = b + (is.collections + count reports h.1) in
     let same : b + is.collections + count reports h.1 ≡ most = omega arith in
-    subst (AreOf most) (sym (whole-on rows is (joined reports) b))
-    (of-append most (map (renumbered b) is.body) (numbered_on (b + is.collections) (joined reports))
+    subst (AreOf most) (sym (whole-on rows is (all_rows reports) b))
+    (of-append most (map (renumbered_row b) is.body) (numbered_on (b + is.collections) (all_rows reports))
     (of-shift b is.collections most is.body is.owned (omega arith))
-    (subst (λ m. AreOf m (numbered_on (b + is.collections) (joined reports))) same (on-of (b + is.collections) reports h.1)))
+    (subst (λ m. AreOf m (numbered_on (b + is.collections) (all_rows reports))) same (on-of (b + is.collections) reports h.1)))
 
 -- the numbers of these reports are greater
-low-none : (c b : ℕ) (reports : List (List Row)) → AreWhole reports → c ≤ b → rows_of c (numbered_on b (joined reports)) ≡ []
+low-none : (c b : ℕ) (reports : List (List Row)) → AreWhole reports → c ≤ b → rows_of c (numbered_on b (all_rows reports)) ≡ []
 low-none c b [] h less = refl
 low-none c b (rows ∷ reports) h less =
     let is = h.0 in
-    let behind = numbered_on (b + is.collections) (joined reports) in
-    ap (rows_of c) (whole-on rows is (joined reports) b)
-    ∙ rows-append c (map (renumbered b) is.body) behind
+    let behind = numbered_on (b + is.collections) (all_rows reports) in
+    ap (rows_of c) (whole-on rows is (all_rows reports) b)
+    ∙ rows-append c (map (renumbered_row b) is.body) behind
     ∙ ap (λ w. w ++ rows_of c behind) (outside-none b is.collections c is.body is.owned (λ m low high. let e : eqb (b + m) c ≡ false = grind arith in e))
     ∙ low-none c (b + is.collections) reports h.1 (omega arith)
 
@@ -162,7 +162,7 @@ sections-split first (suc n) m rows =
     ∙ ap (λ k. rows_of first rows ∷ (sections_of (suc first) n rows ++ sections_of k m rows)) (let e : suc first + n ≡ first + suc n = omega arith in e)
 
 first-same : (k b first n : ℕ) (all body : List Row)
-    → ((c : ℕ) → first ≤ c → c < first + n → rows_of (b + c) all ≡ map (renumbered b) (rows_of c body))
+    → ((c : ℕ) → first ≤ c → c < first + n → rows_of (b + c) all ≡ map (renumbered_row b) (rows_of c body))
     → all_entries k (sections_of (b + first) n all) ≡ all_entries k (sections_of first n body)
 first-same k b first zero all body each = refl
 first-same k b first (suc n) all body each =
@@ -180,23 +180,23 @@ module _ (k b : ℕ) (front : List Row) (rows : List Row) (is : IsWhole rows) (r
   n = is.collections
 
   abbrev moved : List Row
-  moved = map (renumbered b) is.body
+  moved = map (renumbered_row b) is.body
 
   abbrev behind : List Row
-  behind = numbered_on (b + n) (joined reports)
+  behind = numbered_on (b + n) (all_rows reports)
 
   abbrev all : List Row
-  all = front ++ numbered_on b (rows ++ joined reports)
+  all = front ++ numbered_on b (rows ++ all_rows reports)
 
   all-are : all ≡ (front ++ moved) ++ behind
-  all-are = ap (λ w. front ++ w) (whole-on rows is (joined reports) b) ∙ sym (append_assoc front moved behind)
+  all-are = ap (λ w. front ++ w) (whole-on rows is (all_rows reports) b) ∙ sym (append_assoc front moved behind)
 
   pub above-next : (c : ℕ) → b + n < c → rows_of c (front ++ moved) ≡ []
   above-next c less =
       rows-append c front moved ∙ ap (λ w. w ++ rows_of c moved) (none_above c (omega arith))
       ∙ outside-none b n c is.body is.owned (λ m low high. let e : eqb (b + m) c ≡ false = grind arith in e)
 
-  own : (c : ℕ) → 1 ≤ c → c < 1 + n → rows_of (b + c) all ≡ map (renumbered b) (rows_of c is.body)
+  own : (c : ℕ) → 1 ≤ c → c < 1 + n → rows_of (b + c) all ≡ map (renumbered_row b) (rows_of c is.body)
   own c low high =
       ap (rows_of (b + c)) all-are ∙ rows-append (b + c) (front ++ moved) behind
       ∙ ap (λ w. rows_of (b + c) (front ++ moved) ++ w) (low-none (b + c) (b + n) reports h (omega arith))
@@ -206,12 +206,12 @@ module _ (k b : ℕ) (front : List Row) (rows : List Row) (is : IsWhole rows) (r
       ∙ shifted-rows b n c is.body is.owned
 
   pub same-step : (m : ℕ)
-      → all_entries (k + n) (sections_of (b + n + 1) m ((front ++ moved) ++ behind)) ≡ all_entries (k + n) (collections_of [] (joined reports))
-      → all_entries k (sections_of (b + 1) (n + m) all) ≡ all_entries k (collections_of [] (rows ++ joined reports))
+      → all_entries (k + n) (sections_of (b + n + 1) m ((front ++ moved) ++ behind)) ≡ all_entries (k + n) (collections_of [] (all_rows reports))
+      → all_entries k (sections_of (b + 1) (n + m) all) ≡ all_entries k (collections_of [] (rows ++ all_rows reports))
   same-step m others =
       let here = sections_of (b + 1) n all in
       let there = sections_of 1 n is.body in
-      let rest = collections_of [] (joined reports) in
+      let rest = collections_of [] (all_rows reports) in
       ap (all_entries k) (sections-split (b + 1) n m all)
       ∙ all-append k here (sections_of (b + 1 + n) m all)
       ∙ ap (λ w. w ++ all_entries (k + length here) (sections_of (b + 1 + n) m all)) (first-same k b 1 n all is.body own)
@@ -221,26 +221,26 @@ module _ (k b : ℕ) (front : List Row) (rows : List Row) (is : IsWhole rows) (r
       ∙ ap (λ w. all_entries k there ++ w) others
       ∙ ap (λ j. all_entries k there ++ all_entries (k + j) rest) (sym (sections-size 1 n is.body))
       ∙ sym (all-append k there rest)
-      ∙ ap (all_entries k) (sym (whole-collections rows is (joined reports)))
+      ∙ ap (all_entries k) (sym (whole-collections rows is (all_rows reports)))
 
 same-entries : (k b : ℕ) (front : List Row) (reports : List (List Row)) (h : AreWhole reports) → ((c : ℕ) → b < c → rows_of c front ≡ [])
-    → all_entries k (sections_of (b + 1) (count reports h) (front ++ numbered_on b (joined reports))) ≡ all_entries k (collections_of [] (joined reports))
+    → all_entries k (sections_of (b + 1) (count reports h) (front ++ numbered_on b (all_rows reports))) ≡ all_entries k (collections_of [] (all_rows reports))
 same-entries k b front [] h above = refl
 same-entries k b front (rows ∷ reports) h above =
     let is = h.0 in
     same-step k b front rows is reports h.1 above (count reports h.1)
-    (same-entries (k + is.collections) (b + is.collections) (front ++ map (renumbered b) is.body) reports h.1 (above-next k b front rows is reports h.1 above))
+    (same-entries (k + is.collections) (b + is.collections) (front ++ map (renumbered_row b) is.body) reports h.1 (above-next k b front rows is reports h.1 above))
 
-pub same-table : (rows : List Row) → AreReports rows → entries_of (merged rows) ≡ entries_of rows
+pub same-table : (rows : List Row) → AreReports rows → entries_of (merged_rows rows) ≡ entries_of rows
 same-table rows is =
     let reports = is.reports in
-    let all = numbered_on 0 (joined reports) in
-    let sums = sums_in none (joined reports) in
-    let size : sums.collections ≡ count reports is.each = (let e = sums-count none reports is.each in omega (arith, e)) in
+    let all = numbered_on 0 (all_rows reports) in
+    let sums = sums_in no_sums (all_rows reports) in
+    let size : sums.collections ≡ count reports is.each = (let e = sums-count no_sums reports is.each in omega (arith, e)) in
     let own : AreOf (0 + count reports is.each) all = on-of 0 reports is.each in
-    let joined_same : entries_of (merged (joined reports)) ≡ entries_of (joined reports) =
+    let joined_same : entries_of (merged_rows (all_rows reports)) ≡ entries_of (all_rows reports) =
     ap (all_entries 1) (collections-body [] all sums.collections sums.patterns (0 + count reports is.each) [] own)
     ∙ ap (λ (w : List (List Row)). all_entries 1 w) (append-nil (sections_of 1 sums.collections all))
     ∙ ap (λ m. all_entries 1 (sections_of 1 m all)) size
     ∙ same-entries 1 0 [] reports is.each (λ c less. refl) in
-    subst (λ w. entries_of (merged w) ≡ entries_of w) (sym is.whole) joined_same
+    subst (λ w. entries_of (merged_rows w) ≡ entries_of w) (sym is.whole) joined_same

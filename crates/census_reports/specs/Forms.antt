@@ -2,8 +2,8 @@
 use Rattle.std.specs.Prelude.{◌≡◌, ℕ, List, Some, None}
 use Rattle.census_rows.specs.declared.row.Row.{Row}
 use Rattle.census_readback.specs.Texts.{text_of}
-use Rattle.census_merge.specs.Merged.{merged}
-use Rattle.census_merge.specs.Sums.{first_excess, none}
+use Rattle.census_merge.specs.Merged.{merged_rows}
+use Rattle.census_merge.specs.Sums.{first_excess, no_sums}
 use Rattle.census_page.specs.Pages.{page_of}
 use Rattle.census_table.specs.Entries.{entries_of}
 use Rattle.census_table.specs.Tables.{csv_text, json_text}
@@ -17,7 +17,7 @@ use Rattle.census_reports.specs.declared.form.Form.TheVariants.{Merged, Csv, Jso
 
 -- what is written of the rows of reports that stand one after another
 abbrev pub IsMade : Form → List Row → List ℕ → Type 0
-IsMade Merged rows text = (first_excess 1 none rows ≡ None) × (text ≡ text_of (merged rows))
+IsMade Merged rows text = (first_excess 1 no_sums rows ≡ None) × (text ≡ text_of (merged_rows rows))
 IsMade Csv rows text = text ≡ csv_text (entries_of rows)
 IsMade Json rows text = text ≡ json_text (entries_of rows)
 IsMade Page rows text = text ≡ page_of rows
@@ -36,7 +36,7 @@ table_in format.Json = Json
 
 -- a report with which there are too many collections for one report
 abbrev pub Exceeds : Form → List Row → ℕ → Type 0
-Exceeds Merged rows report = first_excess 1 none rows ≡ Some report
+Exceeds Merged rows report = first_excess 1 no_sums rows ≡ Some report
 Exceeds Csv rows report = ⊥
 Exceeds Json rows report = ⊥
 Exceeds Page rows report = ⊥

@@ -1,7 +1,7 @@
 -- What is read and written of reports, and what each error says.
 use Rattle.std.specs.Prelude.{◌≡◌, ◌⊎◌, ℕ, false, List}
 use Rattle.census_folders.specs.Told.{Told}
-use Rattle.census_identify.specs.Identifies.{asked}
+use Rattle.census_identify.specs.Identifies.{words_or_input}
 use Rattle.census_identify.specs.Streams.{Writes, WritesFront}
 use Rattle.census_reports.specs.Forms.{IsMadeOf, IsTable, RefusesTexts}
 use Rattle.census_reports.specs.Streams.{Streams}
@@ -13,7 +13,7 @@ use Rattle.census_reports.specs.declared.form.Form.{Form}
 
 -- the words have these texts, without a word standard input has one, and standard input has not failed
 pub record ReadsTexts (held : List ℕ → Told) (words texts : List (List ℕ)) (before after : Streams) : Type 0 where
-  pub read : ReadsEach held (asked words) texts before.input after.input
+  pub read : ReadsEach held (words_or_input words) texts before.input after.input
   pub sound : after.input.failed ≡ false
 
 -- nothing was written
@@ -56,8 +56,8 @@ abbrev pub ReportsFail : ReportsError → Form → (List ℕ → Told) → List 
 ReportsFail (Fault number line) form held words before after = Refuses (Fault number line) form held words before after × WritesNothing before after
 ReportsFail (TooMany report) form held words before after = Refuses (TooMany report) form held words before after × WritesNothing before after
 ReportsFail TooLong form held words before after =
-    StopsReading TooLong held (asked words) before.input after.input × WritesNothing before after
+    StopsReading TooLong held (words_or_input words) before.input after.input × WritesNothing before after
 ReportsFail Memory form held words before after =
     (after.input.failed ≡ false) × (WritesNothing before after ⊎ HaltsReports form held words before after)
-ReportsFail Read form held words before after = StopsReading Read held (asked words) before.input after.input × WritesNothing before after
+ReportsFail Read form held words before after = StopsReading Read held (words_or_input words) before.input after.input × WritesNothing before after
 ReportsFail Write form held words before after = WritesReportsInPart form held words before after

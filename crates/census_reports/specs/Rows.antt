@@ -3,14 +3,14 @@ use Rattle.std.specs.Prelude.{◌≡◌, ℕ, ◌+◌, List, ◌∷◌, ◌++◌
 use Rattle.std.specs.List.{AllZip}
 use Rattle.census_rows.specs.declared.row.Row.{Row}
 use Rattle.census_readback.specs.Reports.{IsFault, IsReport}
-use Rattle.census_readback.specs.Shapes.{joined}
+use Rattle.census_readback.specs.Shapes.{all_rows}
 use Rattle.census_reports.specs.declared.error.ReportsError.{ReportsError}
 use Rattle.census_reports.specs.declared.error.ReportsError.TheVariants.{Fault, Memory}
 
 -- Each text is a report, or several, and these are the rows of all.
 pub record AreRowsOf (rows : List Row) (texts : List (List ℕ)) : Type 0 where
   pub parts : List (List Row)
-  pub whole : rows ≡ joined parts
+  pub whole : rows ≡ all_rows parts
   pub each : AllZip IsReport parts texts
 
 -- Each text before the one of this number, from 1, is a report, or several. That one is not, and this is the first of its

@@ -4,8 +4,8 @@ ghost use Rattle.census_rows.specs.declared.row.Row.{Row};
 ghost use Rattle.census_identify.specs.Streams.{Writes, WritesFront, sink};
 ghost use Rattle.census_readback.specs.Shapes.{AreReports};
 ghost use Rattle.census_readback.specs.Texts.{text_of};
-ghost use Rattle.census_merge.specs.Merged.{merged};
-ghost use Rattle.census_merge.specs.Sums.{first_excess, none};
+ghost use Rattle.census_merge.specs.Merged.{merged_rows};
+ghost use Rattle.census_merge.specs.Sums.{first_excess, no_sums};
 ghost use Rattle.census_table.specs.Entries.{entries_of};
 ghost use Rattle.census_reports.specs.Forms.{table_in};
 ghost use Rattle.census_reports.specs.Written.{FailsRows, WritesRows};
@@ -40,10 +40,10 @@ fn write_report<O: Write>(
     output: &mut Watched<O>,
 ) -> Result<(), Failed>
     requires reports { AreReports rows.now }
-    requires fits { first_excess 1 none rows.now ≡ None }
+    requires fits { first_excess 1 no_sums rows.now ≡ None }
     ensures { MatchResult result
-        (λ _. Writes (text_of (merged rows.now)) (sink O.contents output.old) (sink O.contents output.new))
-        (λ _. WritesFront (text_of (merged rows.now)) (sink O.contents output.old) (sink O.contents output.new)) }
+        (λ _. Writes (text_of (merged_rows rows.now)) (sink O.contents output.old) (sink O.contents output.new))
+        (λ _. WritesFront (text_of (merged_rows rows.now)) (sink O.contents output.old) (sink O.contents output.new)) }
 {
     let mut block = Block::new(alloc);
     put_merged(rows, &mut block, output);
@@ -143,5 +143,5 @@ pub fn write_made<O: Write>(
 
 /// A table of reports is that of the one report that they are merged to: each collection has the same number in both.
 pub fn merging_changes_no_table()
-    ensures { (rows : List Row) → AreReports rows → entries_of (merged rows) ≡ entries_of rows }
+    ensures { (rows : List Row) → AreReports rows → entries_of (merged_rows rows) ≡ entries_of rows }
 {}

@@ -9,7 +9,7 @@ ghost use Rattle.census_reports.specs.Streams.{streams};
 use crate::error::ReportsError;
 use crate::form::{Form, write_made};
 use crate::rows::rows_of;
-use crate::texts::{asked, read_texts};
+use crate::texts::{read_texts, words_or_input};
 use census_folders::Shelf;
 use census_identify::Bytes;
 use std::alloc::Global;
@@ -60,6 +60,6 @@ pub fn write_reports<S: Shelf, I: Read, O: Write>(
     ensures fails { IfErr result (λ error. ReportsFail error form (S.held shelf.now []) (map (λ s. s.now) words.now)
         (streams I.remaining O.contents input.old output.old) (streams I.remaining O.contents input.new output.new)) }
 {
-    let texts = read_texts(shelf, alloc, asked(words), input)?;
+    let texts = read_texts(shelf, alloc, words_or_input(words), input)?;
     write_of(alloc, form, texts.as_slice(), output)
 }

@@ -2,7 +2,7 @@
 ghost use Rattle.std.specs.Prelude.{◌≡◌, ◌+◌, [], false, map, IfErr, IfOk, OnOk};
 ghost use Rattle.watched.specs.Watching.{ConsumesAtMost, has_failed, inner_of};
 ghost use Rattle.census_identify.specs.Hearing.{Hears};
-ghost use Rattle.census_identify.specs.Identifies.{asked};
+ghost use Rattle.census_identify.specs.Identifies.{words_or_input};
 ghost use Rattle.census_identify.specs.Streams.{source};
 ghost use Rattle.census_identify.specs.declared.heard.Heard.TheVariants.{Text};
 ghost use Rattle.census_reports.specs.Texts.{ReadsEach, RefusesWord, StopsReading};
@@ -15,8 +15,8 @@ use std::io::Read;
 use watched::{Watched, read_all};
 
 // Standard input alone, where there is no word.
-pub fn asked<'a, 'b>(words: &'a [&'b str]) -> &'a [&'b str]
-    ensures { map (λ s. s.now) result.now ≡ asked (map (λ s. s.now) words.now) }
+pub fn words_or_input<'a, 'b>(words: &'a [&'b str]) -> &'a [&'b str]
+    ensures { map (λ s. s.now) result.now ≡ words_or_input (map (λ s. s.now) words.now) }
 {
     if words.is_empty() { &["-"] } else { words }
 }

@@ -1,24 +1,24 @@
 -- Fields after one another.
 use Rattle.std.proofs.Common.{◌≡◌, ℕ, List, [], ◌∷◌, ◌++◌, append_assoc, ap, ◌∙◌, sym, refl, length, suc, arith}
 use Rattle.std.proofs.lemmas.List.{append-nil}
-use Rattle.census_rows.specs.Lines.{behind, EndsField}
+use Rattle.census_rows.specs.Lines.{fields_text, EndsField}
 
-pub behind-append : (xs ys : List (List ℕ)) → behind (xs ++ ys) ≡ behind xs ++ behind ys
+pub behind-append : (xs ys : List (List ℕ)) → fields_text (xs ++ ys) ≡ fields_text xs ++ fields_text ys
 behind-append [] ys = refl
-behind-append (x ∷ xs) ys = ap (λ w. 32 ∷ w) (ap (λ w. x ++ w) (behind-append xs ys) ∙ sym (append_assoc x (behind xs) (behind ys)))
+behind-append (x ∷ xs) ys = ap (λ w. 32 ∷ w) (ap (λ w. x ++ w) (behind-append xs ys) ∙ sym (append_assoc x (fields_text xs) (fields_text ys)))
 
-pub behind-one : (x : List ℕ) → 32 ∷ x ≡ behind (x ∷ [])
+pub behind-one : (x : List ℕ) → 32 ∷ x ≡ fields_text (x ∷ [])
 behind-one x = ap (λ w. 32 ∷ w) (sym (append-nil x))
 
 -- one field more in front
-pub more-fields : (a : List ℕ) (fs : List (List ℕ)) (x y r : List ℕ) → x ≡ 32 ∷ a ++ y → y ≡ behind fs ++ r → x ≡ behind (a ∷ fs) ++ r
-more-fields a fs x y r e h = e ∙ ap (λ w. 32 ∷ w) (ap (λ w. a ++ w) h ∙ sym (append_assoc a (behind fs) r))
+pub more-fields : (a : List ℕ) (fs : List (List ℕ)) (x y r : List ℕ) → x ≡ 32 ∷ a ++ y → y ≡ fields_text fs ++ r → x ≡ fields_text (a ∷ fs) ++ r
+more-fields a fs x y r e h = e ∙ ap (λ w. 32 ∷ w) (ap (λ w. a ++ w) h ∙ sym (append_assoc a (fields_text fs) r))
 
 -- the first of the fields
-pub first-field : (a : List ℕ) (fs : List (List ℕ)) (x r : List ℕ) → x ≡ behind (a ∷ fs) ++ r → x ≡ 32 ∷ a ++ (behind fs ++ r)
-first-field a fs x r e = e ∙ ap (λ w. 32 ∷ w) (append_assoc a (behind fs) r)
+pub first-field : (a : List ℕ) (fs : List (List ℕ)) (x r : List ℕ) → x ≡ fields_text (a ∷ fs) ++ r → x ≡ 32 ∷ a ++ (fields_text fs ++ r)
+first-field a fs x r e = e ∙ ap (λ w. 32 ∷ w) (append_assoc a (fields_text fs) r)
 
-pub ends-behind : (fs : List (List ℕ)) (r : List ℕ) → EndsField r → EndsField (behind fs ++ r)
+pub ends-behind : (fs : List (List ℕ)) (r : List ℕ) → EndsField r → EndsField (fields_text fs ++ r)
 ends-behind [] r h = h
 ends-behind (f ∷ fs) r h = refl
 

@@ -3,7 +3,7 @@ use Rattle.std.proofs.Common.{◌≡◌, ℕ, List, [], ◌∷◌, ◌++◌, ref
 use Rattle.std.specs.Fmt.{signed_decimal}
 use Rattle.census_rows.specs.declared.row.Outcome.{Outcome}
 use Rattle.census_rows.specs.declared.row.Outcome.TheVariants.{Ok, Ash, None, Large, Bad}
-use Rattle.census_rows.specs.Lines.{behind, outcome_fields, HasNoBlank, EndsField}
+use Rattle.census_rows.specs.Lines.{fields_text, outcome_fields, HasNoBlank, EndsField}
 use Rattle.census_rows.proofs.Behind.{ends-behind}
 use Rattle.census_rows.proofs.Blanks.{one-field}
 
@@ -40,8 +40,8 @@ kind-plain (Bad fault) = (λ e. omega arith, (λ e. omega arith, (λ e. omega ar
 
 -- a text of an outcome begins with its first word, and goes on with its other fields
 pub first-word : (o : Outcome) (found rest after : List ℕ) → HasNoBlank found → EndsField rest → EndsField after
-    → found ++ rest ≡ drop 1 (behind (outcome_fields o)) ++ after → (found ≡ kind_of o) × (rest ≡ behind (others_of o) ++ after)
+    → found ++ rest ≡ drop 1 (fields_text (outcome_fields o)) ++ after → (found ≡ kind_of o) × (rest ≡ fields_text (others_of o) ++ after)
 first-word o found rest after plain ends ended e =
-    let fields : drop 1 (behind (outcome_fields o)) ≡ drop 1 (behind (kind_of o ∷ others_of o)) = ap (λ w. drop 1 (behind w)) (fields-are o) in
-    one-field found (kind_of o) rest (behind (others_of o) ++ after) plain (kind-plain o) ends (ends-behind (others_of o) after ended)
-    (e ∙ ap (λ w. w ++ after) fields ∙ append_assoc (kind_of o) (behind (others_of o)) after)
+    let fields : drop 1 (fields_text (outcome_fields o)) ≡ drop 1 (fields_text (kind_of o ∷ others_of o)) = ap (λ w. drop 1 (fields_text w)) (fields-are o) in
+    one-field found (kind_of o) rest (fields_text (others_of o) ++ after) plain (kind-plain o) ends (ends-behind (others_of o) after ended)
+    (e ∙ ap (λ w. w ++ after) fields ∙ append_assoc (kind_of o) (fields_text (others_of o)) after)

@@ -8,9 +8,9 @@ use Rattle.census_rows.specs.declared.row.Row.{Row}
 use Rattle.census_rows.specs.declared.row.Row.TheVariants.{Open, Line, Part, Code, Close, End}
 
 -- the fields, each with a blank before it
-abbrev pub behind : List (List ℕ) → List ℕ
-behind [] = []
-behind (field ∷ fields) = 32 ∷ field ++ behind fields
+abbrev pub fields_text : List (List ℕ) → List ℕ
+fields_text [] = []
+fields_text (field ∷ fields) = 32 ∷ field ++ fields_text fields
 
 -- what is found of a pattern
 abbrev pub outcome_fields : Outcome → List (List ℕ)
@@ -23,14 +23,14 @@ outcome_fields (Bad fault) = codes "bad" ∷ decimal fault ∷ []
 
 -- the bytes of a line, without its LF
 abbrev pub row_text : Row → List ℕ
-row_text (Open collection patterns name) = codes "open" ++ behind (decimal collection ∷ decimal patterns ∷ name.now ∷ [])
+row_text (Open collection patterns name) = codes "open" ++ fields_text (decimal collection ∷ decimal patterns ∷ name.now ∷ [])
 row_text (Line collection pattern outcome name) =
-    codes "line" ++ behind (decimal collection ∷ decimal pattern ∷ []) ++ behind (outcome_fields outcome) ++ behind (name.now ∷ [])
-row_text (Part collection pattern code count) = codes "part" ++ behind (decimal collection ∷ decimal pattern ∷ code.now ∷ decimal count ∷ [])
-row_text (Code collection rule code count) = codes "code" ++ behind (decimal collection ∷ rule.now ∷ code.now ∷ decimal count ∷ [])
+    codes "line" ++ fields_text (decimal collection ∷ decimal pattern ∷ []) ++ fields_text (outcome_fields outcome) ++ fields_text (name.now ∷ [])
+row_text (Part collection pattern code count) = codes "part" ++ fields_text (decimal collection ∷ decimal pattern ∷ code.now ∷ decimal count ∷ [])
+row_text (Code collection rule code count) = codes "code" ++ fields_text (decimal collection ∷ rule.now ∷ code.now ∷ decimal count ∷ [])
 row_text (Close collection patterns resolved unresolved refused) =
-    codes "close" ++ behind (decimal collection ∷ decimal patterns ∷ decimal resolved ∷ decimal unresolved ∷ decimal refused ∷ [])
-row_text (End collections patterns) = codes "end" ++ behind (decimal collections ∷ decimal patterns ∷ [])
+    codes "close" ++ fields_text (decimal collection ∷ decimal patterns ∷ decimal resolved ∷ decimal unresolved ∷ decimal refused ∷ [])
+row_text (End collections patterns) = codes "end" ++ fields_text (decimal collections ∷ decimal patterns ∷ [])
 
 -- no byte is a blank
 abbrev pub HasNoBlank : List ℕ → Type 0

@@ -4,7 +4,7 @@ ghost use Rattle.std.specs.Fmt.{signed_decimal};
 ghost use Rattle.std.specs.Int.{w64};
 ghost use Rattle.census_rows.specs.declared.row.Outcome.{Outcome};
 ghost use Rattle.census_rows.specs.declared.row.Row.{Row};
-ghost use Rattle.census_rows.specs.Lines.{HasNoBlank, IsWord, EndsField, IsOutcome, SameOutcome, IsRow, SameRow, behind, outcome_fields, row_text};
+ghost use Rattle.census_rows.specs.Lines.{HasNoBlank, IsWord, EndsField, IsOutcome, SameOutcome, IsRow, SameRow, fields_text, outcome_fields, row_text};
 
 use crate::numbers::{number_of, signed_of};
 use crate::row::{Outcome, Row};
@@ -133,10 +133,10 @@ impl<'a> Fields<'a> {
     // What was found of a pattern.
     fn outcome(&mut self) -> Outcome<'a>
         ensures sound { self.new.whole ≡ true → (self.old.whole ≡ true) × IsOutcome result
-            × (self.old.rest.now ≡ behind (outcome_fields result) ++ self.new.rest.now) }
+            × (self.old.rest.now ≡ fields_text (outcome_fields result) ++ self.new.rest.now) }
         ensures all { (outcome : Outcome) (after : List ℕ) → self.old.whole ≡ true
             → IsOutcome outcome → EndsField after
-            → self.old.rest.now ≡ behind (outcome_fields outcome) ++ after
+            → self.old.rest.now ≡ fields_text (outcome_fields outcome) ++ after
             → (self.new.whole ≡ true) × SameOutcome result outcome × (self.new.rest.now ≡ after) }
     {
         let found = self.field();
@@ -147,12 +147,12 @@ impl<'a> Fields<'a> {
     fn outcome_of(&mut self, found: &[u8]) -> Outcome<'a>
         ensures sound { self.new.whole ≡ true → (self.old.whole ≡ true) × IsOutcome result
             × (32 ∷ found.now ++ self.old.rest.now
-            ≡ behind (outcome_fields result) ++ self.new.rest.now)
+            ≡ fields_text (outcome_fields result) ++ self.new.rest.now)
             × EndsField self.new.rest.now }
         ensures all { (outcome : Outcome) (after : List ℕ) → self.old.whole ≡ true
             → IsOutcome outcome → EndsField after
             → HasNoBlank found.now → EndsField self.old.rest.now
-            → found.now ++ self.old.rest.now ≡ drop 1 (behind (outcome_fields outcome)) ++ after
+            → found.now ++ self.old.rest.now ≡ drop 1 (fields_text (outcome_fields outcome)) ++ after
             → (self.new.whole ≡ true) × SameOutcome result outcome × (self.new.rest.now ≡ after) }
     {
         if are_same(found, b"ok") {

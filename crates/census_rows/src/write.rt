@@ -2,7 +2,7 @@
 ghost use Rattle.std.specs.Prelude.{◌≡◌, ◌∷◌, [], decimal};
 ghost use Rattle.std.specs.Fmt.{signed_decimal};
 ghost use Rattle.gathered.specs.Telling.{Tells, sheet};
-ghost use Rattle.census_rows.specs.Lines.{behind, outcome_fields, row_text};
+ghost use Rattle.census_rows.specs.Lines.{fields_text, outcome_fields, row_text};
 
 use crate::fields::{put_field, put_number};
 use crate::row::{Outcome, Row};
@@ -18,7 +18,7 @@ fn put_found<W: Write>(
     block: &mut Block,
     writer: &mut Watched<W>,
 )
-    ensures { Tells (behind (found.now ∷ rule.now ∷ decimal population ∷ []))
+    ensures { Tells (fields_text (found.now ∷ rule.now ∷ decimal population ∷ []))
         (sheet W.contents block.old writer.old) (sheet W.contents block.new writer.new) }
 {
     put_field(found, block, writer);
@@ -43,7 +43,7 @@ fn put_cycle<W: Write>(
     block: &mut Block,
     writer: &mut Watched<W>,
 )
-    ensures { Tells (behind (decimal onset ∷ decimal period ∷ signed_decimal dx.now ∷ signed_decimal dy.now ∷ []))
+    ensures { Tells (fields_text (decimal onset ∷ decimal period ∷ signed_decimal dx.now ∷ signed_decimal dy.now ∷ []))
         (sheet W.contents block.old writer.old) (sheet W.contents block.new writer.new) }
 {
     put_number(onset, block, writer);
@@ -54,7 +54,7 @@ fn put_cycle<W: Write>(
 
 // What was found of a pattern.
 fn put_outcome<W: Write>(outcome: &Outcome, block: &mut Block, writer: &mut Watched<W>)
-    ensures { Tells (behind (outcome_fields outcome.now))
+    ensures { Tells (fields_text (outcome_fields outcome.now))
         (sheet W.contents block.old writer.old) (sheet W.contents block.new writer.new) }
 {
     match outcome {

@@ -6,7 +6,7 @@ use Rattle.std.proofs.lemmas.List.{append-nil, length-append}
 use Rattle.census_rows.specs.declared.row.Row.{Row}
 use Rattle.census_rows.specs.declared.row.Row.TheVariants.{Open, Line, Part, Code, Close, End}
 use Rattle.census_readback.specs.Steps.{collection_of}
-use Rattle.census_readback.specs.Shapes.{AreOf, AreReports, AreWhole, IsOpen, IsSection, any, joined, lines_that, patterns_in, rows_of}
+use Rattle.census_readback.specs.Shapes.{AreOf, AreReports, AreWhole, IsOpen, IsSection, any_outcome, all_rows, lines_that, patterns_in, rows_of}
 use Rattle.census_readback.specs.Grouped.{collections_of, end_of, sections_of}
 use Rattle.census_table.specs.Entries.{all_entries, entries_of, lines_under, section_entries}
 
@@ -16,29 +16,29 @@ zero-plus n = omega arith
 one-plus : (n : ℕ) → suc n ≡ 1 + n
 one-plus n = omega arith
 
-lines-append : (xs ys : List Row) → lines_that any (xs ++ ys) ≡ lines_that any xs + lines_that any ys
-lines-append [] ys = zero-plus (lines_that any ys)
+lines-append : (xs ys : List Row) → lines_that any_outcome (xs ++ ys) ≡ lines_that any_outcome xs + lines_that any_outcome ys
+lines-append [] ys = zero-plus (lines_that any_outcome ys)
 lines-append (x ∷ xs) ys = (let inner = lines-append xs ys in omega (arith, inner))
 
-under-size : (m n k : ℕ) (title : Bor (List ℕ)) (rows : List Row) → length (lines_under m (Open n k title) rows) ≡ lines_that any rows
+under-size : (m n k : ℕ) (title : Bor (List ℕ)) (rows : List Row) → length (lines_under m (Open n k title) rows) ≡ lines_that any_outcome rows
 under-size m n k title [] = refl
-under-size m n k title (Open c p name ∷ rows) = under-size m n k title rows ∙ zero-plus (lines_that any rows)
-under-size m n k title (Line c i o name ∷ rows) = ap (λ x. suc x) (under-size m n k title rows) ∙ one-plus (lines_that any rows)
-under-size m n k title (Part c i code p ∷ rows) = under-size m n k title rows ∙ zero-plus (lines_that any rows)
-under-size m n k title (Code c rule code p ∷ rows) = under-size m n k title rows ∙ zero-plus (lines_that any rows)
-under-size m n k title (Close c p a b d ∷ rows) = under-size m n k title rows ∙ zero-plus (lines_that any rows)
-under-size m n k title (End c p ∷ rows) = under-size m n k title rows ∙ zero-plus (lines_that any rows)
+under-size m n k title (Open c p name ∷ rows) = under-size m n k title rows ∙ zero-plus (lines_that any_outcome rows)
+under-size m n k title (Line c i o name ∷ rows) = ap (λ x. suc x) (under-size m n k title rows) ∙ one-plus (lines_that any_outcome rows)
+under-size m n k title (Part c i code p ∷ rows) = under-size m n k title rows ∙ zero-plus (lines_that any_outcome rows)
+under-size m n k title (Code c rule code p ∷ rows) = under-size m n k title rows ∙ zero-plus (lines_that any_outcome rows)
+under-size m n k title (Close c p a b d ∷ rows) = under-size m n k title rows ∙ zero-plus (lines_that any_outcome rows)
+under-size m n k title (End c p ∷ rows) = under-size m n k title rows ∙ zero-plus (lines_that any_outcome rows)
 
-opened-size : (m : ℕ) (first : Row) (rows : List Row) → IsOpen first → length (section_entries m (first ∷ rows)) ≡ lines_that any (first ∷ rows)
-opened-size m (Open c n name) rows h = under-size m c n name rows ∙ zero-plus (lines_that any rows)
+opened-size : (m : ℕ) (first : Row) (rows : List Row) → IsOpen first → length (section_entries m (first ∷ rows)) ≡ lines_that any_outcome (first ∷ rows)
+opened-size m (Open c n name) rows h = under-size m c n name rows ∙ zero-plus (lines_that any_outcome rows)
 opened-size m (Line c i o name) rows h = absurd h
 opened-size m (Part c i code k) rows h = absurd h
 opened-size m (Code c rule code k) rows h = absurd h
 opened-size m (Close c n a b d) rows h = absurd h
 opened-size m (End n k) rows h = absurd h
 
-section-size : (m : ℕ) (rows : List Row) → IsSection rows → length (section_entries m rows) ≡ lines_that any rows
-section-size m rows is = subst (λ w. length (section_entries m w) ≡ lines_that any w) (sym is.whole) (opened-size m is.first _ is.opens)
+section-size : (m : ℕ) (rows : List Row) → IsSection rows → length (section_entries m rows) ≡ lines_that any_outcome rows
+section-size m rows is = subst (λ w. length (section_entries m w) ≡ lines_that any_outcome w) (sym is.whole) (opened-size m is.first _ is.opens)
 
 pub all-append : (m : ℕ) (xs ys : List (List Row)) → all_entries m (xs ++ ys) ≡ all_entries m xs ++ all_entries (m + length xs) ys
 all-append m [] ys = ap (λ k. all_entries k ys) (let e : m ≡ m + 0 = omega arith in e)
@@ -50,7 +50,7 @@ all-append m (x ∷ xs) ys =
 -- how many `line` rows so many collections have, from this one on
 abbrev pub total : ℕ → ℕ → List Row → ℕ
 total first zero rows = 0
-total first (suc count) rows = lines_that any (rows_of first rows) + total (suc first) count rows
+total first (suc count) rows = lines_that any_outcome (rows_of first rows) + total (suc first) count rows
 
 sections-total : (m first count : ℕ) (rows : List Row) → ((c : ℕ) → first ≤ c → c < first + count → IsSection (rows_of c rows))
     → length (all_entries m (sections_of first count rows)) ≡ total first count rows
@@ -72,27 +72,27 @@ total-passed : (first count : ℕ) (r : Row) (rows : List Row) → collection_of
 total-passed first zero r rows less = refl
 total-passed first (suc count) r rows less =
     let other : eqb (collection_of r) first ≡ false = grind arith in
-    let here = ap (lines_that any) (rows-one first r rows false other) in
+    let here = ap (lines_that any_outcome) (rows-one first r rows false other) in
     let others = total-passed (suc first) count r rows (omega arith) in
     omega (arith, here, others)
 
 total-here : (first count : ℕ) (r : Row) (rows : List Row) → first ≤ collection_of r → collection_of r < first + count
-    → total first count (r ∷ rows) ≡ lines_that any (r ∷ []) + total first count rows
+    → total first count (r ∷ rows) ≡ lines_that any_outcome (r ∷ []) + total first count rows
 total-here first zero r rows low high = absurd (omega arith)
 total-here first (suc count) r rows low high = elim (cases_Bool (eqb (collection_of r) first)) [
   | inl same ↦
       let equal : collection_of r ≡ first = grind arith in
-      let here = ap (lines_that any) (rows-one first r rows true same) in
+      let here = ap (lines_that any_outcome) (rows-one first r rows true same) in
       let others = total-passed (suc first) count r rows (omega (arith, equal)) in
       omega (arith, here, others)
   | inr other ↦
       let further : first < collection_of r = grind arith in
-      let here = ap (lines_that any) (rows-one first r rows false other) in
+      let here = ap (lines_that any_outcome) (rows-one first r rows false other) in
       let others = total-here (suc first) count r rows further (omega arith) in
       omega (arith, here, others)
 ]
 
-total-all : (n : ℕ) (rows : List Row) → AreOf n rows → total 1 n rows ≡ lines_that any rows
+total-all : (n : ℕ) (rows : List Row) → AreOf n rows → total 1 n rows ≡ lines_that any_outcome rows
 total-all n [] h = total-nil 1 n
 total-all n (r ∷ rows) h =
     let here = total-here 1 n r rows (omega (arith, h.0)) (omega (arith, h.1)) in
@@ -116,26 +116,26 @@ collections-body here (r ∷ body) n k m rest h =
     ap (λ (o : Option ℕ). elim o as (λ _. List (List Row)) [ Nothing ↦ collections_of (here ++ r ∷ []) back | Some count ↦ sections_of 1 count here ++ collections_of [] back ]) (no-end r h.0) in
     step ∙ collections-body (here ++ r ∷ []) body n k m rest h.2 ∙ ap (λ (w : List Row). sections_of 1 n w ++ collections_of [] rest) (append_assoc here (r ∷ []) body)
 
-reports-size : (m : ℕ) (reports : List (List Row)) → AreWhole reports → length (all_entries m (collections_of [] (joined reports))) ≡ lines_that any (joined reports)
+reports-size : (m : ℕ) (reports : List (List Row)) → AreWhole reports → length (all_entries m (collections_of [] (all_rows reports))) ≡ lines_that any_outcome (all_rows reports)
 reports-size m [] h = refl
 reports-size m (rows ∷ reports) h =
     let is = h.0 in
     let n = is.collections in
     let last = End n (patterns_in is.body) in
-    let e : rows ++ joined reports ≡ is.body ++ last ∷ joined reports =
-    ap (λ w. w ++ joined reports) is.whole ∙ append_assoc is.body (last ∷ []) (joined reports) in
+    let e : rows ++ all_rows reports ≡ is.body ++ last ∷ all_rows reports =
+    ap (λ w. w ++ all_rows reports) is.whole ∙ append_assoc is.body (last ∷ []) (all_rows reports) in
     let here = sections_of 1 n is.body in
-    let behind = collections_of [] (joined reports) in
-    let cut = ap (λ w. length (all_entries m w)) (collections-body [] is.body n (patterns_in is.body) n (joined reports) is.owned) in
+    let behind = collections_of [] (all_rows reports) in
+    let cut = ap (λ w. length (all_entries m w)) (collections-body [] is.body n (patterns_in is.body) n (all_rows reports) is.owned) in
     let apart = ap length (all-append m here behind) in
     let sum = length-append (all_entries m here) (all_entries (m + length here) behind) in
     let first = sections-total m 1 n is.body (λ c low high. is.sections c (omega arith) (omega arith)) in
     let each = total-all n is.body is.owned in
     let others = reports-size (m + length here) reports h.1 in
-    let lines = lines-append is.body (last ∷ joined reports) in
-    let whole : length (all_entries m (collections_of [] (is.body ++ last ∷ joined reports))) ≡ lines_that any (is.body ++ last ∷ joined reports) =
+    let lines = lines-append is.body (last ∷ all_rows reports) in
+    let whole : length (all_entries m (collections_of [] (is.body ++ last ∷ all_rows reports))) ≡ lines_that any_outcome (is.body ++ last ∷ all_rows reports) =
     omega (arith, cut, apart, sum, first, each, others, lines) in
-    subst (λ w. length (all_entries m (collections_of [] w)) ≡ lines_that any w) (sym e) whole
+    subst (λ w. length (all_entries m (collections_of [] w)) ≡ lines_that any_outcome w) (sym e) whole
 
-pub entries-size : (rows : List Row) → AreReports rows → length (entries_of rows) ≡ lines_that any rows
-entries-size rows is = subst (λ w. length (entries_of w) ≡ lines_that any w) (sym is.whole) (reports-size 1 is.reports is.each)
+pub entries-size : (rows : List Row) → AreReports rows → length (entries_of rows) ≡ lines_that any_outcome rows
+entries-size rows is = subst (λ w. length (entries_of w) ≡ lines_that any_outcome w) (sym is.whole) (reports-size 1 is.reports is.each)

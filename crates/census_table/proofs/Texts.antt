@@ -3,7 +3,7 @@ use Rattle.std.proofs.Common.{◌≡◌, ℕ, ◌+◌, ◌-◌, ◌<◌, List, [
 use Rattle.std.proofs.lemmas.List.{drop-drop, map-append, take-append-drop}
 use Rattle.std.specs.declared.vec.Vec.{Vec}
 use Rattle.census_rows.specs.declared.row.Row.{Row}
-use Rattle.census_readback.specs.Grouped.{items_of, lent}
+use Rattle.census_readback.specs.Grouped.{items_of, rows_lent}
 use Rattle.census_table.specs.Entries.{all_entries, entry_before, entry_in, lines_under, section_entries}
 use Rattle.csv.specs.Writing.{default_writer, row_text}
 use Rattle.serde_json.specs.Data.{object}
@@ -46,29 +46,29 @@ drop-cut xs start count =
 
 -- some rows of a collection, and those behind them
 pub rows-cut : (format : Format) (number : ℕ) (heading : Row) (rows some others : List (Bor Row)) (entries : List Entry) → rows ≡ some ++ others
-    → entries ≡ lines_under number heading (lent some)
-    → rows_text format (lines_under number heading (lent rows)) ≡ rows_text format entries ++ rows_text format (lines_under number heading (lent others))
+    → entries ≡ lines_under number heading (rows_lent some)
+    → rows_text format (lines_under number heading (rows_lent rows)) ≡ rows_text format entries ++ rows_text format (lines_under number heading (rows_lent others))
 rows-cut format number heading rows some others entries e are =
-    ap (λ rows. rows_text format (lines_under number heading rows)) (ap lent e ∙ map-append (λ row. row.now) some others)
-    ∙ ap (rows_text format) (under-append number heading (lent some) (lent others))
-    ∙ rows-append format (lines_under number heading (lent some)) (lines_under number heading (lent others))
-    ∙ ap (λ es. rows_text format es ++ rows_text format (lines_under number heading (lent others))) (sym are)
+    ap (λ rows. rows_text format (lines_under number heading rows)) (ap rows_lent e ∙ map-append (λ row. row.now) some others)
+    ∙ ap (rows_text format) (under-append number heading (rows_lent some) (rows_lent others))
+    ∙ rows-append format (lines_under number heading (rows_lent some)) (lines_under number heading (rows_lent others))
+    ∙ ap (λ es. rows_text format es ++ rows_text format (lines_under number heading (rows_lent others))) (sym are)
 
 -- a collection, and those behind it
 pub sections-cut : {A : Type 0} (format : Format) (sections : List (Vec (Bor Row) A)) (i : ℕ) (d : Vec (Bor Row) A) (rows : List (Bor Row)) → i < length sections
     → rows ≡ (get_or sections i d).items
     → rows_text format (all_entries (i + 1) (items_of (drop i sections)))
-    ≡ rows_text format (section_entries (i + 1) (lent rows)) ++ rows_text format (all_entries (i + 1 + 1) (items_of (drop (i + 1) sections)))
+    ≡ rows_text format (section_entries (i + 1) (rows_lent rows)) ++ rows_text format (all_entries (i + 1 + 1) (items_of (drop (i + 1) sections)))
 sections-cut format sections i d rows less are =
     let behind = drop (i + 1) sections in
     let next : drop i sections ≡ get_or sections i d ∷ behind =
     drop-cons sections i d less ∙ ap (λ k. get_or sections i d ∷ drop k sections) (let e : suc i ≡ i + 1 = omega arith in e) in
     ap (λ s. rows_text format (all_entries (i + 1) (items_of s))) next
-    ∙ rows-append format (section_entries (i + 1) (lent (get_or sections i d).items)) (all_entries (i + 1 + 1) (items_of behind))
-    ∙ ap (λ r. rows_text format (section_entries (i + 1) (lent r)) ++ rows_text format (all_entries (i + 1 + 1) (items_of behind))) (sym are)
+    ∙ rows-append format (section_entries (i + 1) (rows_lent (get_or sections i d).items)) (all_entries (i + 1 + 1) (items_of behind))
+    ∙ ap (λ r. rows_text format (section_entries (i + 1) (rows_lent r)) ++ rows_text format (all_entries (i + 1 + 1) (items_of behind))) (sym are)
 
 -- a collection without rows
-pub section-empty : (format : Format) (number : ℕ) (rows : List (Bor Row)) → length rows < 1 → rows_text format (section_entries number (lent rows)) ≡ []
+pub section-empty : (format : Format) (number : ℕ) (rows : List (Bor Row)) → length rows < 1 → rows_text format (section_entries number (rows_lent rows)) ≡ []
 section-empty Csv number [] none = refl
 section-empty Json number [] none = refl
 section-empty format number (r ∷ rows) none = absurd (omega arith)

@@ -6,8 +6,8 @@ use Rattle.csv.specs.Writing.{default_writer, fields_written, has_written, write
 use Rattle.csv.specs.declared.writer.Writer.{Writer}
 
 -- the text so far
-abbrev pub written : Writer (Vec ℕ Global) → List ℕ
-written writer = (writer_under writer).items ++ writer_pending writer
+abbrev pub text_written : Writer (Vec ℕ Global) → List ℕ
+text_written writer = (writer_under writer).items ++ writer_pending writer
 
 -- by default, and no record is begun
 pub record IsBetween (writer : Writer (Vec ℕ Global)) : Type 0 where

@@ -5,7 +5,7 @@ ghost use Rattle.csv.specs.Writing.{default_writer, row_text};
 ghost use Rattle.census_table.specs.Columns.{cell_of, name_of};
 ghost use Rattle.census_table.specs.Contents.{content_bytes};
 ghost use Rattle.census_table.specs.Tables.{csv_records, entry_fields, header};
-ghost use Rattle.census_table.specs.Written.{IsBetween, written};
+ghost use Rattle.census_table.specs.Written.{IsBetween, text_written};
 
 use crate::column::Column;
 use crate::entry::Entry;
@@ -40,8 +40,8 @@ fn fields(alloc: Global, entry: &Entry, columns: &[Column]) -> Result<ByteRecord
 fn write(writer: &mut Writer<Vec<u8>>, fields: &ByteRecord) -> Result<(), AllocError>
     requires { IsBetween writer.old }
     ensures between { OnOk result (IsBetween writer.new) }
-    ensures text { OnOk result (written writer.new
-        ≡ written writer.old ++ row_text default_writer (fields_of fields.now)) }
+    ensures text { OnOk result (text_written writer.new
+        ≡ text_written writer.old ++ row_text default_writer (fields_of fields.now)) }
 {
     match writer.write_byte_record(fields) {
         Ok(()) => Ok(()),
@@ -53,8 +53,8 @@ fn write(writer: &mut Writer<Vec<u8>>, fields: &ByteRecord) -> Result<(), AllocE
 fn push_entry(alloc: Global, writer: &mut Writer<Vec<u8>>, entry: &Entry) -> Result<(), AllocError>
     requires { IsBetween writer.old }
     ensures between { OnOk result (IsBetween writer.new) }
-    ensures text { OnOk result (written writer.new
-        ≡ written writer.old ++ row_text default_writer (entry_fields entry.now)) }
+    ensures text { OnOk result (text_written writer.new
+        ≡ text_written writer.old ++ row_text default_writer (entry_fields entry.now)) }
 {
     let fields = fields(alloc, entry, &Column::ALL)?;
     write(writer, &fields)
@@ -67,7 +67,7 @@ fn push_entries(
     entries: &[Entry],
 ) -> Result<(), AllocError>
     requires { IsBetween writer.old }
-    ensures { OnOk result (written writer.new ≡ written writer.old ++ csv_records entries.now) }
+    ensures { OnOk result (text_written writer.new ≡ text_written writer.old ++ csv_records entries.now) }
 {
     for entry in entries {
         push_entry(alloc, writer, entry)?;
@@ -77,7 +77,7 @@ fn push_entries(
 
 // What was written.
 fn finish(writer: Writer<Vec<u8>>) -> Result<Vec<u8>, AllocError>
-    ensures { IfOk result (λ text. text.items ≡ written writer) }
+    ensures { IfOk result (λ text. text.items ≡ text_written writer) }
 {
     match writer.into_inner() {
         Ok(text) => Ok(text),

@@ -1,6 +1,6 @@
 //! The patterns of a report.
 ghost use Rattle.std.specs.Prelude.{◌≡◌, IfOk};
-ghost use Rattle.census_readback.specs.Grouped.{lent};
+ghost use Rattle.census_readback.specs.Grouped.{rows_lent};
 ghost use Rattle.census_table.specs.Entries.{entry_in, lines_under};
 
 use census_rows::{Outcome, Row};
@@ -52,7 +52,7 @@ pub fn entries_under<'a>(
     rows: &[&Row<'a>],
 ) -> Result<Vec<Entry<'a>>, AllocError>
     ensures { IfOk result
-        (λ entries. entries.items ≡ lines_under number heading.now (lent rows.now)) }
+        (λ entries. entries.items ≡ lines_under number heading.now (rows_lent rows.now)) }
 {
     let mut entries = Vec::new(alloc);
     for row in rows {

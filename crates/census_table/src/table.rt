@@ -2,8 +2,8 @@
 ghost use Rattle.std.specs.Prelude.{◌≡◌, List, length, IfOk, MatchResult};
 ghost use Rattle.gathered.specs.Telling.{Tells, sheet};
 ghost use Rattle.census_rows.specs.declared.row.Row.{Row};
-ghost use Rattle.census_readback.specs.Grouped.{items_of, lent};
-ghost use Rattle.census_readback.specs.Shapes.{AreReports, any, lines_that};
+ghost use Rattle.census_readback.specs.Grouped.{items_of, rows_lent};
+ghost use Rattle.census_readback.specs.Shapes.{AreReports, any_outcome, lines_that};
 ghost use Rattle.census_table.specs.Entries.{all_entries, entries_of, lines_under, section_entries};
 ghost use Rattle.census_table.specs.Tables.{head_text, rows_text, table_text};
 ghost use Rattle.census_table.specs.Told.{TellsFront};
@@ -95,9 +95,9 @@ fn put_lines<'a, W: Write>(
     writer: &mut Watched<W>,
 ) -> Result<(), AllocError>
     ensures { MatchResult result
-        (λ _. Tells (rows_text format (lines_under number heading.now (lent rows.now)))
+        (λ _. Tells (rows_text format (lines_under number heading.now (rows_lent rows.now)))
         (sheet W.contents block.old writer.old) (sheet W.contents block.new writer.new))
-        (λ _. TellsFront (rows_text format (lines_under number heading.now (lent rows.now)))
+        (λ _. TellsFront (rows_text format (lines_under number heading.now (rows_lent rows.now)))
         (sheet W.contents block.old writer.old) (sheet W.contents block.new writer.new)) }
 {
     let mut start = 0;
@@ -120,9 +120,9 @@ fn put_section<'a, W: Write>(
     writer: &mut Watched<W>,
 ) -> Result<(), AllocError>
     ensures { MatchResult result
-        (λ _. Tells (rows_text format (section_entries number (lent rows.now)))
+        (λ _. Tells (rows_text format (section_entries number (rows_lent rows.now)))
         (sheet W.contents block.old writer.old) (sheet W.contents block.new writer.new))
-        (λ _. TellsFront (rows_text format (section_entries number (lent rows.now)))
+        (λ _. TellsFront (rows_text format (section_entries number (rows_lent rows.now)))
         (sheet W.contents block.old writer.old) (sheet W.contents block.new writer.new)) }
 {
     match rows {
@@ -187,5 +187,5 @@ pub fn put_table<W: Write>(
 /// A table has as many rows as its reports have `line` rows.
 pub fn each_line_has_a_row()
     ensures { (rows : List Row) → AreReports rows
-        → length (entries_of rows) ≡ lines_that any rows }
+        → length (entries_of rows) ≡ lines_that any_outcome rows }
 {}

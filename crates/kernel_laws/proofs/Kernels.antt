@@ -6,7 +6,7 @@ use Rattle.life_model.specs.Rule.{Rule}
 use Rattle.life_model.specs.Generation.{Generation}
 use Rattle.life_model.specs.Evolution.{count, next}
 use Rattle.life_bits.specs.declared.strand.Strand.{Strand}
-use Rattle.life_bits.specs.Bits.{IsStrandOf, neighbours, next_state}
+use Rattle.life_bits.specs.Bits.{IsStrandOf, neighbour_count, next_state}
 use Rattle.life_bits.specs.Area.{Nine, area_row, area_cell, next_in_area, sum_around}
 use Rattle.life_bits.specs.declared.window.Window.{Window}
 use Rattle.life_bits.specs.Windows.{IsWindowOf, next_in_window, window_cell, window_row}
@@ -17,17 +17,17 @@ use Rattle.kernel_laws.proofs.Counts.{three_rows, next_by_bit}
 
 module _ (G : Generation) (left y : ℤ) (above here below : ℕ) (up mid down : Strand) (rows : AreRowsAt G left y above here below)
     (u : IsStrandOf up above) (m : IsStrandOf mid here) (d : IsStrandOf down below) where
-  pub strands_count : (j : ℕ) → j < 64 → neighbours up mid down j ≡ count G (left +ℤ pos j, y)
+  pub strands_count : (j : ℕ) → j < 64 → neighbour_count up mid down j ≡ count G (left +ℤ pos j, y)
   strands_count j column =
       let one_on : j + 64 ≡ j + 63 + 1 = omega arith in
       let two_on : j + 65 ≡ j + 63 + 2 = omega arith in
       rw (u.west j column, u.here j column, u.east j column, m.west j column, m.east j column, d.west j column, d.here j column, d.east j column, one_on, two_on)
       (three_rows G left y above here below j column rows.above rows.here rows.below)
 
-  pub strands_next : (R : Rule) (j : ℕ) → j < 64 → next_state R (bit_at mid.here j) (neighbours up mid down j) ≡ state (next R G) (left +ℤ pos j, y)
+  pub strands_next : (R : Rule) (j : ℕ) → j < 64 → next_state R (bit_at mid.here j) (neighbour_count up mid down j) ≡ state (next R G) (left +ℤ pos j, y)
   strands_next R j column =
-      ap (λ (bit : ℕ). next_state R bit (neighbours up mid down j)) (m.here j column)
-      ∙ next_by_bit R G left y here (neighbours up mid down j) j column rows.here (strands_count j column)
+      ap (λ (bit : ℕ). next_state R bit (neighbour_count up mid down j)) (m.here j column)
+      ∙ next_by_bit R G left y here (neighbour_count up mid down j) j column rows.here (strands_count j column)
 
 -- ---- three rows of many, whose places are given
 

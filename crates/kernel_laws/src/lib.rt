@@ -9,7 +9,7 @@ ghost use Rattle.life_model.specs.Evolution.{count, next};
 ghost use Rattle.life_model.specs.Rule.{Rule};
 ghost use Rattle.life_bits.specs.declared.strand.Strand.{Strand};
 ghost use Rattle.life_bits.specs.Area.{Nine, area_cell, next_in_area, sum_around};
-ghost use Rattle.life_bits.specs.Bits.{IsStrandOf, neighbours, next_state};
+ghost use Rattle.life_bits.specs.Bits.{IsStrandOf, neighbour_count, next_state};
 ghost use Rattle.life_bits.specs.declared.window.Window.{Window};
 ghost use Rattle.life_bits.specs.Windows.{IsWindowOf, next_in_window, window_cell};
 ghost use Rattle.kernel_laws.specs.Rows.{AreRowsAt, IsNineAt, IsWindowAt, state};
@@ -19,10 +19,10 @@ ghost use Rattle.kernel_laws.specs.Rows.{AreRowsAt, IsNineAt, IsWindowAt, state}
 pub fn strands_tell_the_next_generation()
     ensures count { (G : Generation) (left y : ℤ) (above here below : ℕ) (up mid down : Strand) → AreRowsAt G left y above here below →
         IsStrandOf up above → IsStrandOf mid here → IsStrandOf down below → (j : ℕ) → j < 64 →
-        neighbours up mid down j ≡ count G (left +ℤ pos j, y) }
+        neighbour_count up mid down j ≡ count G (left +ℤ pos j, y) }
     ensures next { (R : Rule) (G : Generation) (left y : ℤ) (above here below : ℕ) (up mid down : Strand) → AreRowsAt G left y above here below →
         IsStrandOf up above → IsStrandOf mid here → IsStrandOf down below → (j : ℕ) → j < 64 →
-        next_state R (bit_at mid.here j) (neighbours up mid down j) ≡ state (next R G) (left +ℤ pos j, y) }
+        next_state R (bit_at mid.here j) (neighbour_count up mid down j) ≡ state (next R G) (left +ℤ pos j, y) }
 {}
 
 /// A window of eight rows of a set: the sum around a column of a row is the count of live neighbours of the cell there, and the

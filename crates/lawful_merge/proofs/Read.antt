@@ -6,10 +6,10 @@ use Rattle.census_format.specs.Reports.{IsReport}
 use Rattle.census_folders.specs.Told.{Told}
 use Rattle.census_rows.specs.declared.row.Row.{Row}
 use Rattle.census_readback.specs.Reports.{IsReport as IsReadBack}
-use Rattle.census_readback.specs.Shapes.{joined}
+use Rattle.census_readback.specs.Shapes.{all_rows}
 use Rattle.census_readback.specs.Texts.{AllLines, text_of}
 use Rattle.census_readback.proofs.Rows.{text-append}
-use Rattle.census_merge.specs.Merged.{merged}
+use Rattle.census_merge.specs.Merged.{merged_rows}
 use Rattle.census_reports.specs.Outcomes.{WritesReports}
 use Rattle.census_reports.specs.Rows.{AreRowsOf}
 use Rattle.census_reports.specs.Streams.{Streams}
@@ -24,14 +24,14 @@ lines_append : (xs ys : List Row) → AllLines xs → AllLines ys → AllLines (
 lines_append [] ys h k = k
 lines_append (x ∷ xs) ys h k = (h.0, lines_append xs ys h.1 k)
 
-read_joined : (parts : List (List Row)) (read : List (List ℕ)) → AllZip IsReadBack parts read → AllLines (joined parts) × (texts read ≡ text_of (joined parts))
+read_joined : (parts : List (List Row)) (read : List (List ℕ)) → AllZip IsReadBack parts read → AllLines (all_rows parts) × (texts read ≡ text_of (all_rows parts))
 read_joined [] [] each = (tt, refl)
 read_joined [] (t ∷ read) each = absurd each
 read_joined (p ∷ parts) [] each = absurd each
 read_joined (p ∷ parts) (t ∷ read) each =
     let more = read_joined parts read each.1 in (
-      lines_append p (joined parts) each.0.lines more.0,
-      ap (λ w. w ++ texts read) each.0.whole ∙ ap (λ w. text_of p ++ w) more.1 ∙ sym (text-append p (joined parts)),
+      lines_append p (all_rows parts) each.0.lines more.0,
+      ap (λ w. w ++ texts read) each.0.whole ∙ ap (λ w. text_of p ++ w) more.1 ∙ sym (text-append p (all_rows parts)),
     )
 
 -- the rows of texts are those of the one text that they are, one after another

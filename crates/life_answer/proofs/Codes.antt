@@ -9,7 +9,7 @@ use Rattle.life_model.specs.Cell.{Cell, origin, same_cell}
 use Rattle.life_model.specs.Rule.{Rule}
 use Rattle.life_model.specs.Generation.{Generation, size}
 use Rattle.life_model.specs.Evolution.{generation}
-use Rattle.life_model.specs.Symmetry.{normal, Orientation, Same, FlipX, FlipY, Half, Swap, SwapFlipX, SwapFlipY, SwapHalf, turned}
+use Rattle.life_model.specs.Symmetry.{normal, Orientation, Same, FlipX, FlipY, Half, Swap, SwapFlipX, SwapFlipY, SwapHalf, image_under}
 use Rattle.life_model.specs.Recurrence.{AreOneObject, Settles}
 use Rattle.life_model.proofs.Cells.{same_cell-is}
 use Rattle.life_model.proofs.Objects.{each_phase, object_from_shapes, AreOneObject-swap}
@@ -31,7 +31,7 @@ body-normal G = body_by_shape (normal G) G (normal_normal G)
 
 -- ---- the texts of all phases in all orientations
 
-in_turned : (G : Generation) (m : Orientation) → Member (body (turned G m)) (turned_bodies G)
+in_turned : (G : Generation) (m : Orientation) → Member (body (image_under G m)) (turned_bodies G)
 in_turned G Same = inl refl
 in_turned G FlipX = inr (inl refl)
 in_turned G FlipY = inr (inr (inl refl))
@@ -70,7 +70,7 @@ module _ (R : Rule) where
     phase : ℕ
     map : Orientation
     below : phase < p
-    text : t ≡ body (turned (generation R H phase) map)
+    text : t ≡ body (image_under (generation R H phase) map)
 
   in_bodies : (H : Generation) (p : ℕ) (t : List ℕ) → IsPhase H p t → Member t (bodies R H p)
   in_bodies H p t one =
@@ -81,7 +81,7 @@ module _ (R : Rule) where
   from_bodies : (H : Generation) (p : ℕ) (t : List ℕ) → Member t (bodies R H p) → IsPhase H p t
   from_bodies H p t h =
       let at = from_range (λ n. turned_bodies (generation R H n)) t p 0 h in
-      let turn = member_of_map (λ m. body (turned (generation R H at.place) m)) t orientations at.member in
+      let turn = member_of_map (λ m. body (image_under (generation R H at.place) m)) t orientations at.member in
       let below = at.below in
       record { phase = at.place; map = turn.0; below = omega arith; text = turn.1 }
 
@@ -93,7 +93,7 @@ module _ (R : Rule) where
         let there = each_phase R H K p q d e first.recurs second.recurs one here.phase here.map in
         in_bodies K q t (record { phase = there.0; map = there.1; below = there.2; text = here.text ∙ body_by_shape _ _ there.3 })
 
-    some_body : Member (body (turned (generation R H 0) Same)) (bodies R H p)
+    some_body : Member (body (image_under (generation R H 0) Same)) (bodies R H p)
     some_body = in_bodies H p _ (record { phase = 0; map = Same; below = first.recurs.later; text = refl })
 
     least_phase : IsPhase H p (least_text (bodies R H p))

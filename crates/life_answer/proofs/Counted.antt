@@ -6,7 +6,7 @@ use Rattle.std.proofs.lemmas.List.{drop_more, drop-set, get_or_default, take-app
 use Rattle.life_shape.specs.TextOrder.{shorter_cmp}
 use Rattle.life_shape.proofs.TextOrders.{shorter_total, shorter_exact}
 use Rattle.life_answer.specs.declared.part.Part.{Part}
-use Rattle.life_answer.specs.Parts.{beside, more, objects_in, single, with_code}
+use Rattle.life_answer.specs.Parts.{with_code_by_order, more, objects_in, single, with_code}
 
 -- ---- where a code is counted already
 
@@ -18,7 +18,7 @@ counted_there code parts n part d below at before same =
     before
     ∙ ap (λ ps. take n parts ++ with_code code ps) (drop_more parts n part below)
     ∙ ap (λ p. take n parts ++ with_code code (p ∷ rest)) (sym at)
-    ∙ ap (λ o. take n parts ++ beside o code part rest (with_code code rest)) same
+    ∙ ap (λ o. take n parts ++ with_code_by_order o code part rest (with_code code rest)) same
     ∙ (λ i. sym (take-set parts n (more part)) i ++ sym (drop-set parts n (more part) below) i)
     ∙ take-append-drop n (set parts n (more part))
     ∙ ap (λ p. set parts n (more p)) (at ∙ get_or_default parts n part d below)
@@ -27,7 +27,7 @@ counted_there code parts n part d below at before same =
 
 one_more_beside : (o : Ordering) (code : List ℕ) (part : Part) (parts rest : List Part) →
     objects_in rest ≡ objects_in parts + 1 →
-    objects_in (beside o code part parts rest) ≡ part.count + objects_in parts + 1
+    objects_in (with_code_by_order o code part parts rest) ≡ part.count + objects_in parts + 1
 one_more_beside Less code part parts rest e = omega arith
 one_more_beside Equal code part parts rest e = omega arith
 one_more_beside Greater code part parts rest e = omega (arith, e)
@@ -44,18 +44,18 @@ turned a b o e = shorter_total.antisymm b a ∙ ap ordering_reverse e
 
 -- both before whatever stands there
 both_first : (a b : List ℕ) (parts : List Part) (o : Ordering) → shorter_cmp a b ≡ o →
-    beside o a (single b) parts (single a ∷ parts)
-    ≡ beside (ordering_reverse o) b (single a) parts (single b ∷ parts)
+    with_code_by_order o a (single b) parts (single a ∷ parts)
+    ≡ with_code_by_order (ordering_reverse o) b (single a) parts (single b ∷ parts)
 both_first a b parts Less e = refl
 both_first a b parts Equal e = ap (λ c. more (single c) ∷ parts) (sym (shorter_exact a b e))
 both_first a b parts Greater e = refl
 
 first_pair : (a b : List ℕ) (parts : List Part) →
-    beside (shorter_cmp a b) a (single b) parts (single a ∷ parts)
-    ≡ beside (shorter_cmp b a) b (single a) parts (single b ∷ parts)
+    with_code_by_order (shorter_cmp a b) a (single b) parts (single a ∷ parts)
+    ≡ with_code_by_order (shorter_cmp b a) b (single a) parts (single b ∷ parts)
 first_pair a b parts =
     both_first a b parts (shorter_cmp a b) refl
-    ∙ ap (λ o. beside o b (single a) parts (single b ∷ parts)) (sym (turned a b (shorter_cmp a b) refl))
+    ∙ ap (λ o. with_code_by_order o b (single a) parts (single b ∷ parts)) (sym (turned a b (shorter_cmp a b) refl))
 
 module _ (a b : List ℕ) (part : Part) (less : shorter_cmp a part.code ≡ Less) where
   after_equal : shorter_cmp b part.code ≡ Equal → shorter_cmp b a ≡ Greater
@@ -66,22 +66,22 @@ module _ (a b : List ℕ) (part : Part) (less : shorter_cmp a part.code ≡ Less
 
 -- a code among parts of which the first is compared
 pub with_first : (code : List ℕ) (part : Part) (parts : List Part) (o : Ordering) → shorter_cmp code part.code ≡ o →
-    with_code code (part ∷ parts) ≡ beside o code part parts (with_code code parts)
-with_first code part parts o e = ap (λ x. beside x code part parts (with_code code parts)) e
+    with_code code (part ∷ parts) ≡ with_code_by_order o code part parts (with_code code parts)
+with_first code part parts o e = ap (λ x. with_code_by_order x code part parts (with_code code parts)) e
 
 abbrev pub Commute : List ℕ → List ℕ → List Part → Type 0
 Commute a b ps = with_code a (with_code b ps) ≡ with_code b (with_code a ps)
 
 module _ (a b : List ℕ) (part : Part) (parts : List Part) (later : Commute a b parts) where
   abbrev here : List ℕ → Ordering → List Part
-  here code o = beside o code part parts (with_code code parts)
+  here code o = with_code_by_order o code part parts (with_code code parts)
 
   by_orders : (o p : Ordering) → shorter_cmp a part.code ≡ o → shorter_cmp b part.code ≡ p →
       with_code a (here b p) ≡ with_code b (here a o)
   by_orders Less Less d e =
-      ap (beside (shorter_cmp a b) a (single b) (part ∷ parts)) (with_first a part parts Less d)
+      ap (with_code_by_order (shorter_cmp a b) a (single b) (part ∷ parts)) (with_first a part parts Less d)
       ∙ first_pair a b (part ∷ parts)
-      ∙ ap (beside (shorter_cmp b a) b (single a) (part ∷ parts)) (sym (with_first b part parts Less e))
+      ∙ ap (with_code_by_order (shorter_cmp b a) b (single a) (part ∷ parts)) (sym (with_first b part parts Less e))
   by_orders Less Equal d e =
       with_first a (more part) parts Less d
       ∙ ap (λ ps. single a ∷ ps) (sym (with_first b part parts Equal e))

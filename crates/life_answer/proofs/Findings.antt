@@ -7,7 +7,7 @@ use Rattle.life_model.specs.Cell.{Cell, origin, plus, opposite}
 use Rattle.life_model.specs.Rule.{Rule}
 use Rattle.life_model.specs.Generation.{Generation, cells, from_list, size, empty}
 use Rattle.life_model.specs.Evolution.{generation}
-use Rattle.life_model.specs.Symmetry.{normal, moved, corner, corner_of}
+use Rattle.life_model.specs.Symmetry.{normal, translate_of, corner, corner_of}
 use Rattle.life_model.specs.Recurrence.{SettlesAt, Settles}
 use Rattle.life_model.proofs.Cells.{same_cell-is, pair}
 use Rattle.life_model.proofs.Generations.{from_list-cells, cells-from_list}
@@ -16,7 +16,7 @@ use Rattle.life_model.proofs.Recurrences.{shape, way, move_from_shape, settles_f
 use Rattle.life_answer.specs.declared.finding.Finding.TheVariants.{Recurs, Unresolved, Large, Ash}
 use Rattle.life_answer.specs.declared.part.Part.{Part}
 use Rattle.life_answer.specs.Recurrence.{same_shape, first_from, comes_again, first_return, first_onset}
-use Rattle.life_answer.specs.Answers.{settled, finding_at, finding_from, finding_of}
+use Rattle.life_answer.specs.Answers.{recurrence_finding, finding_at, finding_from, finding_of}
 
 -- ---- one shape
 
@@ -110,7 +110,7 @@ module _ (R : Rule) (G : Generation) where
 
   still_way : (g n : ℕ) → shape R G (g + n) ≡ shape R G g → generation R G g ≡ empty → way R G g n ≡ origin
   still_way g n e none =
-      let later : generation R G (g + n) ≡ empty = move_from_shape R G g n e ∙ ap (λ H. moved H (way R G g n)) none ∙ moved-empty (way R G g n) in
+      let later : generation R G (g + n) ≡ empty = move_from_shape R G g n e ∙ ap (λ H. translate_of H (way R G g n)) none ∙ moved-empty (way R G g n) in
       (λ i. plus (opposite (corner (none i))) (corner (later i))) ∙ (λ i. plus (opposite (corner-empty i)) (corner-empty i))
 
   module _ (b : ℕ) where
@@ -147,7 +147,7 @@ module _ (R : Rule) (G : Generation) where
       pub period : ℕ
       pub by : Cell
       pub settles : Settles R G b onset period by
-      pub found : finding_of R G b ≡ settled R G onset period by
+      pub found : finding_of R G b ≡ recurrence_finding R G onset period by
 
     pub record IsUnsettled : Type 0 where
       pub nowhere : (g : ℕ) → SettlesAt R G b g → ⊥
@@ -185,10 +185,10 @@ module _ (R : Rule) (G : Generation) where
     pub settled_or_not : IsSettled ⊎ IsUnsettled
     settled_or_not = onset_cases (first_onset R G b) refl
 
-    settled_same : (o p o' p' : ℕ) (d d' : Cell) → o ≡ o' → p ≡ p' → d ≡ d' → settled R G o p d ≡ settled R G o' p' d'
-    settled_same o p o' p' d d' x y z = λ i. settled R G (x i) (y i) (z i)
+    settled_same : (o p o' p' : ℕ) (d d' : Cell) → o ≡ o' → p ≡ p' → d ≡ d' → recurrence_finding R G o p d ≡ recurrence_finding R G o' p' d'
+    settled_same o p o' p' d d' x y z = λ i. recurrence_finding R G (x i) (y i) (z i)
 
-    pub finding-settled : (o p : ℕ) (d : Cell) → Settles R G b o p d → finding_of R G b ≡ settled R G o p d
+    pub finding-settled : (o p : ℕ) (d : Cell) → Settles R G b o p d → finding_of R G b ≡ recurrence_finding R G o p d
     finding-settled o p d s =
         elim settled_or_not [
           | inl found ↦
@@ -205,7 +205,7 @@ module _ (R : Rule) (G : Generation) where
           | inr not ↦ not.found
         ]
 
-    settled_apart : (o p n : ℕ) (d : Cell) → settled R G o p d ≡ Unresolved n → ⊥
+    settled_apart : (o p n : ℕ) (d : Cell) → recurrence_finding R G o p d ≡ Unresolved n → ⊥
     settled_apart o p n d e = cc
 
     pub nowhere_by_finding : (n g : ℕ) → finding_of R G b ≡ Unresolved n → SettlesAt R G b g → ⊥
@@ -215,7 +215,7 @@ module _ (R : Rule) (G : Generation) where
           | inr not ↦ not.nowhere g s
         ]
 
-    settles_same : (o p population onset period : ℕ) (d : Cell) (dx dy : ℤ) (code : List ℕ) → settled R G o p d ≡ Recurs population onset period dx dy code → Settles R G b o p d → Settles R G b onset period (dx, dy)
+    settles_same : (o p population onset period : ℕ) (d : Cell) (dx dy : ℤ) (code : List ℕ) → recurrence_finding R G o p d ≡ Recurs population onset period dx dy code → Settles R G b o p d → Settles R G b onset period (dx, dy)
     settles_same o p population onset period d dx dy code e s =
         let onsets : o ≡ onset = cc in
         let periods : p ≡ period = cc in
@@ -230,7 +230,7 @@ module _ (R : Rule) (G : Generation) where
           | inr not ↦ absurd (let apart : Unresolved (size G) ≡ Recurs population onset period dx dy code = sym not.found ∙ e in cc)
         ]
 
-    ash_apart_settled : (o p n : ℕ) (d : Cell) (parts : List Part) → settled R G o p d ≡ Ash n parts → ⊥
+    ash_apart_settled : (o p n : ℕ) (d : Cell) (parts : List Part) → recurrence_finding R G o p d ≡ Ash n parts → ⊥
     ash_apart_settled o p n d parts e = cc
 
     -- no such finding is an ash
@@ -241,7 +241,7 @@ module _ (R : Rule) (G : Generation) where
           | inr not ↦ (let apart : Unresolved (size G) ≡ Ash population parts = sym not.found ∙ e in cc)
         ]
 
-    large_apart_settled : (o p n m : ℕ) (d : Cell) → settled R G o p d ≡ Large n m → ⊥
+    large_apart_settled : (o p n m : ℕ) (d : Cell) → recurrence_finding R G o p d ≡ Large n m → ⊥
     large_apart_settled o p n m d e = cc
 
     -- nor is it that a generation is too large

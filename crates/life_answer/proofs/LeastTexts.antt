@@ -3,7 +3,7 @@ use Rattle.std.proofs.Common.{if◌then◌else◌, ◌≡◌, ℕ, true, false, 
 use Rattle.std.specs.List.{fold}
 use Rattle.std.specs.Ordering.{ordering_reverse, is_gt}
 use Rattle.std.specs.Cmp as cmp
-use Rattle.life_shape.specs.TextOrder.{shorter_cmp, lesser, least_text}
+use Rattle.life_shape.specs.TextOrder.{shorter_cmp, lesser_text, least_text}
 use Rattle.life_shape.proofs.TextOrders.{shorter_total, shorter_exact}
 
 -- t is one of the texts
@@ -42,7 +42,7 @@ record IsLesser (a b l : List ℕ) : Type 0 where
   first : IsUpTo l a
   second : IsUpTo l b
 
-lesser-is : (a b : List ℕ) → IsLesser a b (lesser a b)
+lesser-is : (a b : List ℕ) → IsLesser a b (lesser_text a b)
 lesser-is a b =
     elim (is_gt (shorter_cmp a b)) as (λ t. is_gt (shorter_cmp a b) ≡ t → IsLesser a b (if t then b else a)) [
       | true ↦ λ e. record { one = inr refl; first = upto_back a b e; second = upto_itself b }
@@ -55,25 +55,25 @@ record IsLeast (texts : List (List ℕ)) (l : List ℕ) : Type 0 where
   member : Member l texts
   least : (t : List ℕ) → Member t texts → IsUpTo l t
 
-kept : (t u m : List ℕ) (us : List (List ℕ)) → (lesser t u ≡ t) ⊎ (lesser t u ≡ u) → (m ≡ lesser t u) ⊎ Member m us → (m ≡ t) ⊎ ((m ≡ u) ⊎ Member m us)
+kept : (t u m : List ℕ) (us : List (List ℕ)) → (lesser_text t u ≡ t) ⊎ (lesser_text t u ≡ u) → (m ≡ lesser_text t u) ⊎ Member m us → (m ≡ t) ⊎ ((m ≡ u) ⊎ Member m us)
 kept t u m us (inl e) (inl f) = inl (f ∙ e)
 kept t u m us (inr e) (inl f) = inr (inl (f ∙ e))
 kept t u m us e (inr f) = inr (inr f)
 
-fold-least : (t : List ℕ) (ts : List (List ℕ)) → IsLeast (t ∷ ts) (fold lesser t ts)
+fold-least : (t : List ℕ) (ts : List (List ℕ)) → IsLeast (t ∷ ts) (fold lesser_text t ts)
 fold-least t [] = record { member = inl refl; least = λ u h. elim h [ inl e ↦ subst (IsUpTo t) (sym e) (upto_itself t) | inr none ↦ absurd none ] }
 fold-least t (u ∷ us) =
     let here = lesser-is t u in
-    let rest = fold-least (lesser t u) us in
-    let low : IsUpTo (fold lesser (lesser t u) us) (lesser t u) = rest.least (lesser t u) (inl refl) in
+    let rest = fold-least (lesser_text t u) us in
+    let low : IsUpTo (fold lesser_text (lesser_text t u) us) (lesser_text t u) = rest.least (lesser_text t u) (inl refl) in
     record {
       member = kept t u _ us here.one rest.member;
       least = λ v h.
           elim h [
-            | inl e ↦ subst (IsUpTo (fold lesser (lesser t u) us)) (sym e) (cmp.upto shorter_total _ (lesser t u) t low here.first)
+            | inl e ↦ subst (IsUpTo (fold lesser_text (lesser_text t u) us)) (sym e) (cmp.upto shorter_total _ (lesser_text t u) t low here.first)
             | inr later ↦
                 elim later [
-                  | inl e ↦ subst (IsUpTo (fold lesser (lesser t u) us)) (sym e) (cmp.upto shorter_total _ (lesser t u) u low here.second)
+                  | inl e ↦ subst (IsUpTo (fold lesser_text (lesser_text t u) us)) (sym e) (cmp.upto shorter_total _ (lesser_text t u) u low here.second)
                   | inr among ↦ rest.least v (inr among)
                 ]
           ];

@@ -5,7 +5,7 @@ use Rattle.life_model.specs.Generation.{Generation, size}
 use Rattle.life_model.specs.Evolution.{generation}
 use Rattle.life_answer.specs.declared.finding.Finding.{Finding}
 use Rattle.life_answer.specs.declared.finding.Finding.TheVariants.{Large}
-use Rattle.life_answer.specs.Limited.{StaysWithin, first_larger, first_past, limited, unless_large}
+use Rattle.life_answer.specs.Limited.{StaysWithin, first_larger, first_past, finding_unless_large, unless_large}
 use Rattle.life_answer.proofs.Findings.{first_from-first, first_from-found, first_from-none, first_from-nowhere}
 
 module _ (R : Rule) (G : Generation) (last : ℕ) where
@@ -34,11 +34,11 @@ module _ (R : Rule) (G : Generation) (last : ℕ) where
   stays_within (Some most) none n within = all_smaller most none n within
 
   -- of a pattern that stays within its limit the same is found as without one
-  pub limited-same : (limit : Option ℕ) (found : Finding) → StaysWithin limit R G last → limited limit R G last found ≡ found
+  pub limited-same : (limit : Option ℕ) (found : Finding) → StaysWithin limit R G last → finding_unless_large limit R G last found ≡ found
   limited-same limit found small = ap (unless_large found (size G)) (none_past limit small)
 
   -- where something else is found than that it is too large, it stays within its limit
-  pub limited-else : (limit : Option ℕ) (found other : Finding) → limited limit R G last found ≡ other
+  pub limited-else : (limit : Option ℕ) (found other : Finding) → finding_unless_large limit R G last found ≡ other
       → ((population first : ℕ) → other ≡ Large population first → ⊥) → StaysWithin limit R G last × (found ≡ other)
   limited-else limit found other is differs = small_else (first_past limit R G last) refl is
     where

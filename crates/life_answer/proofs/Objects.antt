@@ -4,7 +4,7 @@ use Rattle.life_model.specs.Cell.{Cell, origin}
 use Rattle.life_model.specs.Rule.{Rule}
 use Rattle.life_model.specs.Generation.{Generation, empty, size}
 use Rattle.life_model.specs.Evolution.{generation}
-use Rattle.life_model.specs.Symmetry.{moved, normal, Orientation, Same, FlipX, FlipY, Half, Swap, SwapFlipX, SwapFlipY, SwapHalf, turn, turned}
+use Rattle.life_model.specs.Symmetry.{translate_of, normal, Orientation, Same, FlipX, FlipY, Half, Swap, SwapFlipX, SwapFlipY, SwapHalf, turn, image_under}
 use Rattle.life_model.specs.Recurrence.{RecursBy, AreOneObject}
 use Rattle.life_model.proofs.Objects.{turned-moved}
 use Rattle.life_model.proofs.Orbits.{far_enough, multiple}
@@ -31,7 +31,7 @@ turn-origin SwapHalf = refl
 
 module _ (R : Rule) where
   -- what recurs after n, in any later phase
-  phase_moved : (H : Generation) (n : ℕ) (d : Cell) → RecursBy R H n d → (k : ℕ) → generation R H (k + n) ≡ moved (generation R H k) d
+  phase_moved : (H : Generation) (n : ℕ) (d : Cell) → RecursBy R H n d → (k : ℕ) → generation R H (k + n) ≡ translate_of (generation R H k) d
   phase_moved H n d r k =
       ap (generation R H) (let e : k + n ≡ n + k = omega arith in e)
       ∙ sym (generation-add R H n k)
@@ -48,24 +48,24 @@ module _ (R : Rule) where
 
   module _ (H K : Generation) (one : AreOneObject R H K) where
     -- the phase of the second that comes n steps after the common one
-    phase_after : (n : ℕ) (d : Cell) → RecursBy R H n d → generation R K (one.second_phase + n) ≡ moved (moved (turned (generation R H one.first_phase) one.map) (turn one.map d)) one.by
+    phase_after : (n : ℕ) (d : Cell) → RecursBy R H n d → generation R K (one.second_phase + n) ≡ translate_of (translate_of (image_under (generation R H one.first_phase) one.map) (turn one.map d)) one.by
     phase_after n d r =
         let k = one.first_phase in
         let A = generation R H k in
         let m = one.map in
         sym (generation-add R K one.second_phase n)
         ∙ ap (λ X. generation R X n) one.same
-        ∙ generation-moved R (turned A m) one.by n
-        ∙ ap (λ X. moved X one.by)
+        ∙ generation-moved R (image_under A m) one.by n
+        ∙ ap (λ X. translate_of X one.by)
         (generation-turned R A m n
-        ∙ ap (λ X. turned X m) (generation-add R H k n ∙ phase_moved H n d r k)
+        ∙ ap (λ X. image_under X m) (generation-add R H k n ∙ phase_moved H n d r k)
         ∙ turned-moved A d m)
 
     -- what comes again after n in the first does so in the second
     recurs_across : (q : ℕ) (e : Cell) → RecursBy R K q e → (n : ℕ) (d : Cell) → RecursBy R H n d → (by : Cell) × RecursBy R K n by
     recurs_across q e back n d r =
         let l = one.second_phase in
-        let A = turned (generation R H one.first_phase) one.map in
+        let A = image_under (generation R H one.first_phase) one.map in
         let again : shape R K (l + n) ≡ shape R K l =
         ap normal (phase_after n d r) ∙ normal-moved _ one.by ∙ normal-moved A (turn one.map d) ∙ sym (normal-moved A one.by) ∙ ap normal (sym one.same) in
         let first : shape R K (0 + q) ≡ shape R K 0 = shape_from_recurs R K 0 q e (at_zero K q e back) in
@@ -97,12 +97,12 @@ module _ (R : Rule) where
       pub in_place_across : p ≡ q → d ≡ origin → e ≡ origin
       in_place_across periods still =
           let l = one.second_phase in
-          let A = turned (generation R H one.first_phase) one.map in
-          let stays : generation R K (l + q) ≡ moved (generation R K l) origin =
+          let A = image_under (generation R H one.first_phase) one.map in
+          let stays : generation R K (l + q) ≡ translate_of (generation R K l) origin =
           ap (λ n. generation R K (l + n)) (sym periods)
           ∙ phase_after p d first.recurs
-          ∙ ap (λ z. moved (moved A z) one.by) (ap (turn one.map) still ∙ turn-origin one.map)
-          ∙ ap (λ X. moved X one.by) (moved-origin A)
+          ∙ ap (λ z. translate_of (translate_of A z) one.by) (ap (turn one.map) still ∙ turn-origin one.map)
+          ∙ ap (λ X. translate_of X one.by) (moved-origin A)
           ∙ sym one.same
           ∙ sym (moved-origin (generation R K l)) in
           elim (nothing_or_some (generation R K l)) [
@@ -123,5 +123,5 @@ module _ (R : Rule) where
           let A = generation R H one.first_phase in
           sym (size_of_phase H d (subst (λ n. RecursBy R H n d) one_step first.recurs) one.first_phase)
           ∙ sym (size-turned A one.map)
-          ∙ size_by_shape (turned A one.map) (generation R K one.second_phase) (sym (normal-moved (turned A one.map) one.by) ∙ ap normal (sym one.same))
+          ∙ size_by_shape (image_under A one.map) (generation R K one.second_phase) (sym (normal-moved (image_under A one.map) one.by) ∙ ap normal (sym one.same))
           ∙ size_of_phase K e (subst (λ n. RecursBy R K n e) one_step_too second.recurs) one.second_phase

@@ -6,7 +6,7 @@ use Rattle.life_model.specs.Cell.{Cell, plus}
 use Rattle.life_model.specs.Rule.{Rule}
 use Rattle.life_model.specs.Generation.{Generation, contains, empty, insert, from_list, cells, size}
 use Rattle.life_model.specs.Evolution.{next, generation}
-use Rattle.life_model.specs.Symmetry.{image, moved, normal, Orientation, turn, turned}
+use Rattle.life_model.specs.Symmetry.{image, translate_of, normal, Orientation, turn, image_under}
 use Rattle.life_model.proofs.Cells.{cell_cmp_total}
 use Rattle.life_model.proofs.Generations.{contains-empty, same_members, size-cells, size-empty}
 use Rattle.life_model.proofs.Lists.{cells-moved}
@@ -33,7 +33,7 @@ size-from_list (c ∷ cs) =
     let k = size-from_list cs in
     omega arith
 
-size-turned_le : (G : Generation) (m : Orientation) → size (turned G m) ≤ size G
+size-turned_le : (G : Generation) (m : Orientation) → size (image_under G m) ≤ size G
 unfolding image
 size-turned_le G m =
     let h = size-from_list (map (turn m) (cells G)) in
@@ -41,22 +41,22 @@ size-turned_le G m =
     let k = size-cells G in
     omega arith
 
-turned_back : (G : Generation) (m : Orientation) → turned (turned G m) (undone m) ≡ G
+turned_back : (G : Generation) (m : Orientation) → image_under (image_under G m) (undone m) ≡ G
 turned_back G m = same_members _ _ (λ c.
-    contains-turned (turned G m) (undone m) c ∙ contains-turned G m (turn (undone (undone m)) c)
+    contains-turned (image_under G m) (undone m) c ∙ contains-turned G m (turn (undone (undone m)) c)
     ∙ ap (contains G) ((turn_keeps (undone m)).inverse.here c))
 
-pub size-turned : (G : Generation) (m : Orientation) → size (turned G m) ≡ size G
+pub size-turned : (G : Generation) (m : Orientation) → size (image_under G m) ≡ size G
 size-turned G m =
     let h = size-turned_le G m in
-    let k = size-turned_le (turned G m) (undone m) in
+    let k = size-turned_le (image_under G m) (undone m) in
     let e = ap size (turned_back G m) in
     omega arith
 
 -- a set that is moved keeps its number of cells
-pub size-moved : (G : Generation) (d : Cell) → size (moved G d) ≡ size G
+pub size-moved : (G : Generation) (d : Cell) → size (translate_of G d) ≡ size G
 size-moved G d =
-    size-cells (moved G d) ∙ ap length (cells-moved G d) ∙ length-map (cells G) (λ c. plus c d) ∙ sym (size-cells G)
+    size-cells (translate_of G d) ∙ ap length (cells-moved G d) ∙ length-map (cells G) (λ c. plus c d) ∙ sym (size-cells G)
 
 -- sets of one shape have as many cells
 pub size_by_shape : (G H : Generation) → normal G ≡ normal H → size G ≡ size H

@@ -11,7 +11,7 @@ use Rattle.life_cells.specs.declared.rule.RuleFault.TheVariants.{NotLifeLike, Ha
 use Rattle.life_text.specs.declared.rle.RleFault.{RleFault}
 use Rattle.life_text.specs.declared.rle.RleFault.TheVariants.{Memory, NoHeader, ManyStates, BadChar, BadRun, TooFar, TooMany, NoEnd}
 use Rattle.life_text.specs.Rle as rle
-use Rattle.life_text.specs.Rle.{Meaning, Token, reading, refusal, fault_of, with_body, unless_fault, first_fault, token_fault, fault_if, header_rule, line_rule, rule_behind, named_rule, told, rule_fault}
+use Rattle.life_text.specs.Rle.{Meaning, Token, reading, refusal, fault_of, with_body, unless_fault, first_fault, token_fault, fault_if, header_rule, line_rule, rule_behind, named_rule, rule_or_fault, rule_fault}
 use Rattle.life_text.specs.Picture.{Picture, picture_of}
 use Rattle.life_answer.specs.declared.finding.Finding.{Finding}
 use Rattle.life_answer.specs.declared.finding.Finding.TheVariants.{Ash}
@@ -19,7 +19,7 @@ use Rattle.life_answer.specs.declared.finding.Answer.{Answer}
 use Rattle.life_answer.specs.declared.finding.Answer.TheVariants.{Found, Refused}
 use Rattle.life_answer.specs.declared.part.Part.{Part}
 use Rattle.life_answer.specs.Answers.{finding_of, fault_number}
-use Rattle.life_answer.specs.Limited.{first_past, limited, unless_large}
+use Rattle.life_answer.specs.Limited.{first_past, finding_unless_large, unless_large}
 use Rattle.life_answer.specs.Questions.{answer_to, answer_to_question, finding_to}
 use Rattle.life_answer.specs.declared.question.Question.{Question}
 use Rattle.life_answer.specs.declared.question.Question.TheVariants.{Settles}
@@ -40,8 +40,8 @@ answer-refused q text fault e = refused_by q (reading text) fault e
 -- an answer that names a fault is that to a text with this fault
 pub refused-answer : {E : Type 0} (r : Result Answer E) (q : Question) (text : List ℕ) (fault : RleFault) → IfOk r (λ a. a ≡ Refused (fault_number fault))
     → OnOk r (fault ≢ Memory) → (fault ≢ Memory → refusal text ≡ Some fault) → IfOk r (λ a. a ≡ answer_to_question q text)
-refused-answer (Ok a) q text fault e h told = e ∙ sym (answer-refused q text fault (told h))
-refused-answer (Err x) q text fault e h told = tt
+refused-answer (Ok a) q text fault e h refuses = e ∙ sym (answer-refused q text fault (refuses h))
+refused-answer (Err x) q text fault e h refuses = tt
 
 -- ---- where memory may be refused
 
@@ -97,7 +97,7 @@ rule_fault-numbered : (fault : RuleFault) → IsNumber (fault_number (rule_fault
 rule_fault-numbered NotLifeLike = (omega arith, omega arith)
 rule_fault-numbered HasB0 = (omega arith, omega arith)
 
-told-numbered : (r : Result Rule RuleFault) → IsTold (told r)
+told-numbered : (r : Result Rule RuleFault) → IsTold (rule_or_fault r)
 told-numbered (Ok rule) = tt
 told-numbered (Err fault) = rule_fault-numbered fault
 
@@ -144,7 +144,7 @@ large_no_ash found size None population parts none e = none e
 large_no_ash found size (Some n) population parts none e = cc
 
 limited_no_ash : (cells : Option ℕ) (R : Rule) (G : Generation) (b population : ℕ) (parts : List Part)
-    → limited cells R G b (finding_of R G b) ≡ Ash population parts → ⊥
+    → finding_unless_large cells R G b (finding_of R G b) ≡ Ash population parts → ⊥
 limited_no_ash cells R G b population parts e =
     large_no_ash (finding_of R G b) (size G) (first_past cells R G b) population parts (finding-no_ash R G b population parts) e
 

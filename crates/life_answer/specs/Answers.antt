@@ -13,14 +13,14 @@ use Rattle.life_answer.specs.Recurrence.{first_onset, first_return, corners_apar
 
 -- The finding of a set that settles: the population is that of the set itself, and the code that of its generation at
 -- the onset.
-abbrev pub settled : Rule → Generation → ℕ → ℕ → Cell → Finding
-settled R G onset period displacement =
+abbrev pub recurrence_finding : Rule → Generation → ℕ → ℕ → Cell → Finding
+recurrence_finding R G onset period displacement =
     Recurs (size G) onset period displacement.0 displacement.1 (code_of R (generation R G onset) period displacement)
 
 abbrev pub finding_at : Rule → Generation → ℕ → Option ℕ → Finding
 finding_at R G onset None = Unresolved (size G)
 finding_at R G onset (Some period) =
-    settled R G onset period (corners_apart (generation R G onset) (generation R G (onset + period)))
+    recurrence_finding R G onset period (corners_apart (generation R G onset) (generation R G (onset + period)))
 
 abbrev pub finding_from : Rule → Generation → ℕ → Option ℕ → Finding
 finding_from R G b None = Unresolved (size G)

@@ -5,7 +5,7 @@ use Rattle.life_model.specs.Cell.{Cell, origin, same_cell}
 use Rattle.life_model.specs.Rule.{Rule}
 use Rattle.life_model.specs.Generation.{Generation, size}
 use Rattle.life_model.specs.Evolution.{generation}
-use Rattle.life_model.specs.Symmetry.{Orientation, Same, FlipX, FlipY, Half, Swap, SwapFlipX, SwapFlipY, SwapHalf, turned}
+use Rattle.life_model.specs.Symmetry.{Orientation, Same, FlipX, FlipY, Half, Swap, SwapFlipX, SwapFlipY, SwapHalf, image_under}
 use Rattle.life_shape.specs.Wechsler.{body}
 use Rattle.life_shape.specs.TextOrder.{least_text}
 
@@ -22,7 +22,7 @@ orientations = Same ∷ FlipX ∷ FlipY ∷ Half ∷ Swap ∷ SwapFlipX ∷ Swap
 
 -- the Wechsler texts of a set, turned by each of the eight maps
 abbrev pub turned_bodies : Generation → List (List ℕ)
-turned_bodies G = map (λ m. body (turned G m)) orientations
+turned_bodies G = map (λ m. body (image_under G m)) orientations
 
 -- those of all phases of one period
 abbrev pub bodies : Rule → Generation → ℕ → List (List ℕ)

@@ -22,8 +22,8 @@ unless_large found population None = found
 unless_large found population (Some n) = Large population n
 
 -- What was found, unless a generation from 0 to the last has more cells than it may have.
-abbrev pub limited : Option ℕ → Rule → Generation → ℕ → Finding → Finding
-limited limit R G last found = unless_large found (size G) (first_past limit R G last)
+abbrev pub finding_unless_large : Option ℕ → Rule → Generation → ℕ → Finding → Finding
+finding_unless_large limit R G last found = unless_large found (size G) (first_past limit R G last)
 
 -- so many cells are allowed
 abbrev pub IsAllowed : Option ℕ → ℕ → Type 0

@@ -19,15 +19,15 @@ abbrev pub more : Part → Part
 more part = record { code = part.code; count = part.count + 1 }
 
 -- a code that is less than, equal to, or greater than that of a part, counted among this part and others
-abbrev pub beside : Ordering → List ℕ → Part → List Part → List Part → List Part
-beside Less code part parts rest = single code ∷ part ∷ parts
-beside Equal code part parts rest = more part ∷ parts
-beside Greater code part parts rest = part ∷ rest
+abbrev pub with_code_by_order : Ordering → List ℕ → Part → List Part → List Part → List Part
+with_code_by_order Less code part parts rest = single code ∷ part ∷ parts
+with_code_by_order Equal code part parts rest = more part ∷ parts
+with_code_by_order Greater code part parts rest = part ∷ rest
 
 -- one more object with this code, counted among parts in the order of their codes, by length and then by bytes
 abbrev pub with_code : List ℕ → List Part → List Part
 with_code code [] = single code ∷ []
-with_code code (part ∷ parts) = beside (shorter_cmp code part.code) code part parts (with_code code parts)
+with_code code (part ∷ parts) = with_code_by_order (shorter_cmp code part.code) code part parts (with_code code parts)
 
 -- objects with these codes, counted: for each code one part, in the order of codes, by length and then by bytes
 abbrev pub counted_codes : List (List ℕ) → List Part

@@ -14,7 +14,7 @@ use Rattle.life_answer.specs.declared.question.Question.{Question}
 use Rattle.life_answer.specs.declared.question.Question.TheVariants.{Objects, Settles}
 use Rattle.life_answer.specs.Answers.{fault_number, finding_of}
 use Rattle.life_answer.specs.Census.{census_of}
-use Rattle.life_answer.specs.Limited.{limited}
+use Rattle.life_answer.specs.Limited.{finding_unless_large}
 
 -- the bound within which is asked
 abbrev pub bound_of : Question → ℕ
@@ -32,8 +32,8 @@ IsAnswered question = (1 ≤ bound_of question) × (bound_of question ≤ greate
 
 -- what is found of a set
 abbrev pub finding_to : Question → Rule → Generation → Finding
-finding_to (Settles bound cells) R G = limited cells R G bound (finding_of R G bound)
-finding_to (Objects bound cells) R G = limited cells R G (3 * bound) (census_of R G bound)
+finding_to (Settles bound cells) R G = finding_unless_large cells R G bound (finding_of R G bound)
+finding_to (Objects bound cells) R G = finding_unless_large cells R G (3 * bound) (census_of R G bound)
 
 abbrev pub answer_to : Question → Result Picture RleFault → Answer
 answer_to question (Ok pattern) = Found pattern.rule (finding_to question pattern.rule pattern.cells)

@@ -8,7 +8,7 @@ ghost use Rattle.life_model.specs.Rule.{Rule};
 ghost use Rattle.life_text.specs.declared.rle.RleFault.{RleFault};
 ghost use Rattle.life_text.specs.Picture.{Picture, picture_of};
 ghost use Rattle.life_text.specs.Rle.{reading, refusal};
-ghost use Rattle.life_answer.specs.Answers.{fault_number, finding_of, settled};
+ghost use Rattle.life_answer.specs.Answers.{fault_number, finding_of, recurrence_finding};
 ghost use Rattle.life_answer.specs.Apgcode.{code_of};
 ghost use Rattle.life_answer.specs.declared.finding.Finding.TheVariants.{Ash, Recurs, Unresolved};
 ghost use Rattle.life_answer.specs.declared.finding.Answer.TheVariants.{Found, Refused};

@@ -14,7 +14,7 @@ use Rattle.life_objects.specs.Whole.{StaysWhole}
 use Rattle.life_objects.proofs.Cores.{core_of, part_around}
 use Rattle.life_objects.proofs.Lists.{AllPairs-map, AllPairs-weaker}
 use Rattle.life_orbit.specs.Course.{Course}
-use Rattle.life_ash.specs.Living.{lives}
+use Rattle.life_ash.specs.Living.{has_cells}
 use Rattle.life_ash.specs.Parts.{AreEnds, IsEnd, sets_of}
 use Rattle.life_ash.proofs.Ends.{IsPartOfEnd, ash_of_ends, part_is_end}
 use Rattle.life_ash.proofs.Lists.{Contains-filter, Contains-map}
@@ -24,14 +24,14 @@ module _ (R : Rule) (b : ℕ) (G : Generation) (Ls : List Generation) (whole : u
     (stay : All (StaysWhole R b G) Ls) (pairs : AllPairs (AreApartFor R b) Ls) where
   ends_apart : AllPairs AreApart (ends R b Ls)
   ends_apart =
-      AllPairs-filter AreApart lives (generations R Ls b)
+      AllPairs-filter AreApart has_cells (generations R Ls b)
       (AllPairs-map AreApart (λ L. generation R L b) Ls
       (AllPairs-weaker (AreApartFor R b) (λ P Q. AreApart (generation R P b) (generation R Q b))
       (λ P Q far. far b (omega arith)) Ls pairs))
 
   module _ (parts : List Generation) (ash : IsAsh R b G parts) where
     abbrev IsLiving : Generation → Type 0
-    IsLiving Q = lives Q ≡ true → IsPartOfEnd R b G parts ash Q
+    IsLiving Q = has_cells Q ≡ true → IsPartOfEnd R b G parts ash Q
 
     living_part : (L : Generation) → Contains Ls L → IsLiving (generation R L b)
     living_part L one h =
@@ -40,16 +40,16 @@ module _ (R : Rule) (b : ℕ) (G : Generation) (Ls : List Generation) (whole : u
 
     of_parts : All (IsPartOfEnd R b G parts ash) (ends R b Ls)
     of_parts k d h =
-        All-filter lives IsLiving (generations R Ls b)
+        All-filter has_cells IsLiving (generations R Ls b)
         (All-map IsLiving (λ L. generation R L b) Ls
         (All-weaker (Contains Ls) (λ L. IsLiving (generation R L b)) living_part Ls (All-contains_itself Ls)))
-        k d h (filter_passes lives (generations R Ls b) k d h)
+        k d h (filter_passes has_cells (generations R Ls b) k d h)
 
     reached : (P : Generation) → Contains parts P → Contains (ends R b Ls) (generation R P b)
     reached P one =
         let L = core_of R b G parts Ls ash whole stay pairs P one in
         subst (Contains (ends R b Ls)) (sym (L.2.later b (omega arith)))
-        (Contains-filter lives (generations R Ls b) (generation R L.0 b)
+        (Contains-filter has_cells (generations R Ls b) (generation R L.0 b)
         (Contains-map (λ Q. generation R Q b) Ls L.0 L.1) (test_by_some (generation R L.0 b) L.2.lives))
 
     module _ (placed : All (IsWithin 400000) (cells G)) where

@@ -14,7 +14,7 @@ use Rattle.life_objects.specs.Union.{generations, union_of}
 use Rattle.life_objects.proofs.Lists.{AllPairs-tail}
 use Rattle.life_objects.proofs.Members.{in_list_now}
 use Rattle.life_orbit.specs.Course.{Course}
-use Rattle.life_ash.specs.Living.{lives}
+use Rattle.life_ash.specs.Living.{has_cells}
 use Rattle.life_ash.specs.Parts.{IsOnlyOne}
 use Rattle.life_ash.proofs.Places.{generation_within, itself_within, subset_within}
 use Rattle.life_ash.proofs.Survivors.{ends}
@@ -68,7 +68,7 @@ rest_decides S x xs first = (AllPairs-cons S x xs first, AllPairs-tail S x xs)
 pub ends_within : (R : Rule) (a b n : ℕ) (G : Generation) (Ls : List Generation) → union_of Ls ≡ G → a + b ≤ n →
     All (IsWithin a) (cells G) → All (λ Q. All (IsWithin n) (cells Q)) (ends R b Ls)
 ends_within R a b n G Ls whole le placed =
-    All-filter lives (λ Q. All (IsWithin n) (cells Q)) (generations R Ls b)
+    All-filter has_cells (λ Q. All (IsWithin n) (cells Q)) (generations R Ls b)
     (All-map (λ Q. All (IsWithin n) (cells Q)) (λ L. generation R L b) Ls
     (All-weaker (Contains Ls) (λ L. All (IsWithin n) (cells (generation R L b)))
     (λ L one.

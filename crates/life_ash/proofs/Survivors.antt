@@ -13,7 +13,7 @@ use Rattle.life_cells.proofs.Sorted.{empty_from_cells, cells_of_empty}
 use Rattle.life_objects.specs.Union.{generations}
 use Rattle.life_objects.proofs.Lists.{AllPairs-nil, AllPairs-map}
 use Rattle.life_objects.proofs.Staying.{NotBothLive}
-use Rattle.life_ash.specs.Living.{lives}
+use Rattle.life_ash.specs.Living.{has_cells}
 use Rattle.life_ash.proofs.Lists.{Contains-filter, Contains-map}
 
 some_length : {X : Type 0} (xs : List X) → not (length xs == 0) ≡ true → xs ≢ []
@@ -23,17 +23,17 @@ no_length : {X : Type 0} (xs : List X) → xs ≢ [] → not (length xs == 0) �
 no_length [] h = absurd (h refl)
 no_length (x ∷ xs) h = grind arith
 
-pub some_by_test : (G : Generation) → lives G ≡ true → G ≢ empty
+pub some_by_test : (G : Generation) → has_cells G ≡ true → G ≢ empty
 some_by_test G h e =
     some_length (cells G) (ap (λ n. not (n == 0)) (sym (size-cells G)) ∙ h) (cells_of_empty G e)
 
-pub test_by_some : (G : Generation) → G ≢ empty → lives G ≡ true
+pub test_by_some : (G : Generation) → G ≢ empty → has_cells G ≡ true
 test_by_some G h =
     ap (λ n. not (n == 0)) (size-cells G) ∙ no_length (cells G) (λ e. h (empty_from_cells G e))
 
 module _ (R : Rule) (b : ℕ) where
   abbrev pub ends : List Generation → List Generation
-  ends Ls = filter lives (generations R Ls b)
+  ends Ls = filter has_cells (generations R Ls b)
 
   some_of : {X : Type 0} (xs : List X) (x : X) → Contains xs x → 1 ≤ length xs
   some_of xs x one = let h : one.0 < length xs = one.1 in omega arith
@@ -41,7 +41,7 @@ module _ (R : Rule) (b : ℕ) where
   pub few_pairs : (Ls : List Generation) → length (ends Ls) ≤ 1 → AllPairs (NotBothLive R b) Ls
   few_pairs [] h = AllPairs-nil (NotBothLive R b)
   few_pairs (L ∷ Ls) h =
-      let tail : (t : Bool) → lives (generation R L b) ≡ t → length (ends Ls) ≤ 1 = elim [
+      let tail : (t : Bool) → has_cells (generation R L b) ≡ t → length (ends Ls) ≤ 1 = elim [
         | true ↦ λ e. let z : length (generation R L b ∷ ends Ls) ≤ 1 = rw e at h in omega arith
         | false ↦ λ e. rw e at h
       ] in
@@ -49,19 +49,19 @@ module _ (R : Rule) (b : ℕ) where
       (λ k d l live other.
       let z : length (generation R L b ∷ ends Ls) ≤ 1 = rw (test_by_some (generation R L b) live) at h in
       let one = some_of (ends Ls) (generation R (get_or Ls k d) b)
-      (Contains-filter lives (generations R Ls b) (generation R (get_or Ls k d) b)
+      (Contains-filter has_cells (generations R Ls b) (generation R (get_or Ls k d) b)
       (Contains-map (λ Q. generation R Q b) Ls (get_or Ls k d) (Contains-get_or Ls k d l))
       (test_by_some (generation R (get_or Ls k d) b) other)) in
       omega arith)
-      (few_pairs Ls (tail (lives (generation R L b)) refl))
+      (few_pairs Ls (tail (has_cells (generation R L b)) refl))
 
   pub pairs_few : (Ls : List Generation) → AllPairs (NotBothLive R b) Ls → length (ends Ls) ≤ 1
   pairs_few Ls pairs =
       elim (cases_lt 1 (length (ends Ls))) [
         | inl two ↦
-            let both = AllPairs-filter (λ P Q. P ≢ empty → Q ≢ empty → ⊥) lives (generations R Ls b)
+            let both = AllPairs-filter (λ P Q. P ≢ empty → Q ≢ empty → ⊥) has_cells (generations R Ls b)
             (AllPairs-map (λ P Q. P ≢ empty → Q ≢ empty → ⊥) (λ Q. generation R Q b) Ls pairs) in
-            let live = filter_passes lives (generations R Ls b) in
+            let live = filter_passes has_cells (generations R Ls b) in
             absurd (both 0 1 empty (omega arith) two
             (some_by_test (get_or (ends Ls) 0 empty) (live 0 empty (omega arith)))
             (some_by_test (get_or (ends Ls) 1 empty) (live 1 empty two)))

@@ -9,7 +9,7 @@ use Rattle.life_model.specs.Evolution.{generation}
 use Rattle.life_model.proofs.Generations.{size-cells, size-empty}
 use Rattle.life_answer.proofs.Sizes.{size-from_list, size-moved}
 use Rattle.life_objects.specs.Ash.{IsAsh}
-use Rattle.life_objects.specs.Drift.{times}
+use Rattle.life_objects.specs.Drift.{multiple_of}
 use Rattle.life_objects.specs.Union.{generations, union, union_of}
 use Rattle.life_objects.proofs.Many.{list_ever}
 use Rattle.life_objects.proofs.Moving.{generation-wrapped}
@@ -25,7 +25,7 @@ largest_by_period o course most few n =
     let r = course.recurs in
     let same : size (generation o.rule o.set n) ≡ size (generation o.rule o.set (n % o.period)) =
     ap size (generation-wrapped o.rule o.set o.period o.displacement r n)
-    ∙ size-moved (generation o.rule o.set (n % o.period)) (times (n / o.period) o.displacement) in
+    ∙ size-moved (generation o.rule o.set (n % o.period)) (multiple_of (n / o.period) o.displacement) in
     let h = few (n % o.period) (mod-lt n r.later) in
     omega arith
 

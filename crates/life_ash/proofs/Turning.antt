@@ -4,10 +4,10 @@ use Rattle.life_model.specs.Cell.{Cell, opposite}
 use Rattle.life_model.specs.Rule.{Rule}
 use Rattle.life_model.specs.Generation.{Generation}
 use Rattle.life_model.specs.Evolution.{generation}
-use Rattle.life_model.specs.Symmetry.{moved}
+use Rattle.life_model.specs.Symmetry.{translate_of}
 use Rattle.life_model.specs.Recurrence.{RecursBy}
 use Rattle.life_model.proofs.Recurrences.{generation-add}
-use Rattle.life_objects.specs.Drift.{times}
+use Rattle.life_objects.specs.Drift.{multiple_of}
 use Rattle.life_objects.proofs.Moving.{RecursBy-times}
 use Rattle.life_objects.proofs.Recurring.{RecursBy-later, RecursBy-sooner, moved_back}
 use Rattle.life_objects.specs.Ash.{RecursWithin}
@@ -16,12 +16,12 @@ use Rattle.life_ash.specs.Parts.{IsEnd}
 
 -- P becomes the set in b generations, and after k more it stands again
 pub moved_to_before : (R : Rule) (P : Generation) (p : ℕ) (d : Cell) → RecursBy R P p d → (b k m : ℕ) (set : Generation) →
-    b + k ≡ m * p → 1 ≤ m → generation R P b ≡ set → moved (generation R set k) (opposite (times m d)) ≡ P
+    b + k ≡ m * p → 1 ≤ m → generation R P b ≡ set → translate_of (generation R set k) (opposite (multiple_of m d)) ≡ P
 moved_to_before R P p d r b k m set e one end =
-    ap (λ H. moved (generation R H k) (opposite (times m d))) (sym end)
-    ∙ ap (λ H. moved H (opposite (times m d)))
+    ap (λ H. translate_of (generation R H k) (opposite (multiple_of m d))) (sym end)
+    ∙ ap (λ H. translate_of H (opposite (multiple_of m d)))
     (generation-add R P b k ∙ ap (generation R P) e ∙ (RecursBy-times R P p d r m one).again)
-    ∙ moved_back P (times m d)
+    ∙ moved_back P (multiple_of m d)
 
 -- how many whole periods reach back so far, and how far on it then is
 pub rounds_back : (n p : ℕ) → 1 ≤ n → 1 ≤ p → n + ((p - 1) - (n - 1) % p) ≡ ((n - 1) / p + 1) * p
@@ -35,9 +35,9 @@ module _ (o : Course) (P : Generation) (ago : ℕ) (one : 1 ≤ ago) (some : 1 �
     (r : RecursBy o.rule P o.period o.displacement) (end : generation o.rule P ago ≡ o.set) where
   pub turned_back : (phase : Generation) (by : Cell) →
       phase ≡ generation o.rule o.set ((o.period - 1) - (ago - 1) % o.period) →
-      by ≡ times ((ago - 1) / o.period + 1) o.displacement → moved phase (opposite by) ≡ P
+      by ≡ multiple_of ((ago - 1) / o.period + 1) o.displacement → translate_of phase (opposite by) ≡ P
   turned_back phase by e f =
-      (λ i. moved (e i) (opposite (f i)))
+      (λ i. translate_of (e i) (opposite (f i)))
       ∙ moved_to_before o.rule P o.period o.displacement r ago ((o.period - 1) - (ago - 1) % o.period)
       ((ago - 1) / o.period + 1) o.set (rounds_back ago o.period one some) (omega arith) end
 

@@ -6,8 +6,8 @@ use Rattle.life_model.specs.Rule.{Rule}
 use Rattle.life_objects.specs.Ash.{HasFallenApart}
 use Rattle.life_answer.specs.Limited.{first_past}
 use Rattle.life_ash.specs.Parts.{IsOf, sets_of}
-use Rattle.life_ash.specs.declared.fates.Fate.{Fate}
-use Rattle.life_ash.specs.declared.fates.Fate.TheVariants.{Ash, Large, Unresolved}
+use Rattle.life_ash.specs.declared.pattern_fate.Fate.{Fate}
+use Rattle.life_ash.specs.declared.pattern_fate.Fate.TheVariants.{Ash, Large, Unresolved}
 
 -- no generation from 0 to three times the bound is past the limit
 abbrev pub IsSmallEnough : Rule → Generation → ℕ → Option ℕ → Type 0

@@ -5,12 +5,12 @@ use Rattle.life_model.specs.Generation.{size}
 use Rattle.life_orbit.specs.Course.{Course}
 
 -- what recurs so, n generations later
-abbrev pub later : ℕ → Course → Course
-later n o = record { rule = o.rule; set = generation o.rule o.set n; period = o.period; displacement = o.displacement }
+abbrev pub course_after : ℕ → Course → Course
+course_after n o = record { rule = o.rule; set = generation o.rule o.set n; period = o.period; displacement = o.displacement }
 
 -- each, n generations later
-abbrev pub all_later : ℕ → List Course → List Course
-all_later n os = map (later n) os
+abbrev pub courses_after : ℕ → List Course → List Course
+courses_after n os = map (course_after n) os
 
 -- how many cells they have together then, counted one by one
 abbrev pub total_later : ℕ → List Course → ℕ

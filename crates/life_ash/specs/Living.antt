@@ -3,5 +3,5 @@ use Rattle.std.specs.Prelude.{Bool, not, ◌==◌}
 use Rattle.life_model.specs.Generation.{Generation, size}
 
 -- whether there is a cell
-abbrev pub lives : Generation → Bool
-lives G = not (size G == 0)
+abbrev pub has_cells : Generation → Bool
+has_cells G = not (size G == 0)

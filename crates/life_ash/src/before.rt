@@ -5,7 +5,7 @@ ghost use Rattle.life_model.specs.Evolution.{generation};
 ghost use Rattle.life_model.specs.Generation.{Generation};
 ghost use Rattle.life_model.specs.Generation as generations;
 ghost use Rattle.life_model.specs.Recurrence.{RecursBy};
-ghost use Rattle.life_model.specs.Symmetry.{moved};
+ghost use Rattle.life_model.specs.Symmetry.{translate_of};
 ghost use Rattle.life_cells.specs.Limits.{IsWithin};
 ghost use Rattle.life_orbit.specs.Reach.{IsReach};
 
@@ -35,10 +35,10 @@ fn cells_before(
     by: (i128, i128),
 ) -> Result<Option<CellList>, AllocError>
     requires { IsReach (2 ^ 126) by }
-    ensures moved { IfOk result (λ found. IfSome found (λ set. set ≡ moved cells.now (opposite by))) }
+    ensures moved { IfOk result (λ found. IfSome found (λ set. set ≡ translate_of cells.now (opposite by))) }
     ensures within { IfOk result (λ found. IfSome found (λ set. All (IsWithin 400000) (generations.cells set))) }
     ensures outside { IfOk result (λ found. IfNone found
-        (All (IsWithin 400000) (generations.cells (moved cells.now (opposite by))) → ⊥)) }
+        (All (IsWithin 400000) (generations.cells (translate_of cells.now (opposite by))) → ⊥)) }
 {
     let places = cells.as_slice();
     let mut items = Vec::new(alloc);

@@ -6,7 +6,7 @@ ghost use Rattle.life_objects.specs.Ash.{IsAsh};
 ghost use Rattle.life_orbit.specs.Course.{IsCourse};
 ghost use Rattle.life_ash.specs.Parts.{IsFit, IsOf, IsPlaced, sets_of};
 
-use crate::ashes::is_ash;
+use crate::ash_orbits::is_ash;
 use crate::known::Known;
 use life_classes::{Class, classes};
 use life_orbit::Orbit;

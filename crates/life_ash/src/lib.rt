@@ -3,10 +3,9 @@
 //! Tested in `tests_objects`, by `life_census`.
 #![tactic(auto)]
 
-mod ashes;
+mod ash_orbits;
 mod before;
 mod checks;
-mod fates;
 mod guess;
 mod known;
 mod limit;
@@ -14,11 +13,12 @@ mod living;
 mod pace;
 mod parts;
 mod pattern;
+mod pattern_fate;
 mod sizes;
 mod span;
 mod sweep;
 mod whole;
 
-pub use ashes::{Ash, ash_of, is_ash};
-pub use fates::Fate;
+pub use ash_orbits::{Ash, ash_of, is_ash};
 pub use pattern::{ash, fate};
+pub use pattern_fate::Fate;

@@ -8,12 +8,12 @@ ghost use Rattle.life_orbit.specs.Course.{IsCourse};
 ghost use Rattle.life_ash.specs.Fates.{IsFate};
 ghost use Rattle.life_ash.specs.Parts.{IsOf, IsPlaced, sets_of};
 
-use crate::ashes::{Ash, ash_by};
-use crate::fates::Fate;
+use crate::ash_orbits::{Ash, ash_by};
 use crate::guess::guessed_parts;
 use crate::known::Known;
 use crate::limit::{few_until, first_past, first_past_of_ash};
 use crate::pace::Pace;
+use crate::pattern_fate::Fate;
 use life_cells::{CellList, Rule};
 use life_orbit::{BOUND_LIMIT, Orbit};
 use life_plane::Plane;

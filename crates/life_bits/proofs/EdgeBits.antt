@@ -3,7 +3,7 @@ use Rattle.std.proofs.Common.{◌≡◌, ℕ, ◌+◌, ◌*◌, ◌<◌, ◌≤�
 use Rattle.std.specs.Int.{bit_at}
 use Rattle.std.proofs.lemmas.Bool.{cases_lt}
 use Rattle.std.proofs.lemmas.Nat.Bits.{bit_at_and, bit_at_or, bit_at_xor, bit_at-lt, bit_at-zero, bit_at_above, bit_at_cat_low}
-use Rattle.life_bits.specs.Bits.{strip}
+use Rattle.life_bits.specs.Bits.{wide_row}
 use Rattle.life_bits.proofs.Strips.{bit_at_mod, west_at, east_at}
 
 -- the cell beyond the western edge is in column 0 alone
@@ -54,13 +54,13 @@ module _ (west row east : ℕ) (west_fits : west < 2 ^ 64) (row_fits : row < 2 ^
   abbrev e : ℕ → ℕ
   e x = bit_at (east * 2 ^ 63 % 2 ^ 64) x
 
-  left_is : (x : ℕ) → x < 64 → max (l x) (w x) ≡ bit_at (strip west row east) (x + 63)
+  left_is : (x : ℕ) → x < 64 → max (l x) (w x) ≡ bit_at (wide_row west row east) (x + 63)
   left_is x below = sym (bit_at_or (row * 2 % 2 ^ 64) (west / 2 ^ 63) x) ∙ west_at west row east x west_fits below
 
-  right_is : (x : ℕ) → x < 64 → max (r x) (e x) ≡ bit_at (strip west row east) (x + 65)
+  right_is : (x : ℕ) → x < 64 → max (r x) (e x) ≡ bit_at (wide_row west row east) (x + 65)
   right_is x below = sym (bit_at_or (row / 2) (east * 2 ^ 63 % 2 ^ 64) x) ∙ east_at west row east x west_fits row_fits below
 
-  parts : (x : ℕ) → x < 64 → l x + r x + max (w x) (e x) ≡ bit_at (strip west row east) (x + 63) + bit_at (strip west row east) (x + 65)
+  parts : (x : ℕ) → x < 64 → l x + r x + max (w x) (e x) ≡ bit_at (wide_row west row east) (x + 63) + bit_at (wide_row west row east) (x + 65)
   parts x below =
       ⊎_elim
       (λ (inside : x < 63).
@@ -78,7 +78,7 @@ module _ (west row east : ℕ) (west_fits : west < 2 ^ 64) (row_fits : row < 2 ^
   -- the cells beside each cell
   pub beside_at : (x : ℕ) → x < 64 →
       bit_at (row * 2 % 2 ^ 64) x + bit_at (row / 2) x + bit_at (bit_or (west / 2 ^ 63) (east * 2 ^ 63 % 2 ^ 64)) x
-      ≡ bit_at (strip west row east) (x + 63) + bit_at (strip west row east) (x + 65)
+      ≡ bit_at (wide_row west row east) (x + 63) + bit_at (wide_row west row east) (x + 65)
   beside_at x below = ap (λ n. l x + r x + n) (bit_at_or (west / 2 ^ 63) (east * 2 ^ 63 % 2 ^ 64) x) ∙ parts x below
 
 -- a bit added to a number that is at most 2

@@ -3,7 +3,7 @@ use Rattle.std.proofs.Common.{◌≡◌, ℕ, true, false, ◌+◌, ◌-◌, ◌
 use Rattle.std.specs.Int.{bit_at}
 use Rattle.life_model.specs.Rule.{Rule}
 use Rattle.life_bits.specs.declared.strand.Strand.{Strand}
-use Rattle.life_bits.specs.Bits.{IsStrandOf, neighbours, next_state}
+use Rattle.life_bits.specs.Bits.{IsStrandOf, neighbour_count, next_state}
 use Rattle.life_bits.specs.Area.{Nine, three_wide, area_row, area_cell, sum_around, next_in_area}
 
 shift_two : (x : ℕ) → x + 63 + 2 ≡ x + 65
@@ -14,7 +14,7 @@ shift_one x = omega arith
 
 counted : (rows : ℕ → ℕ) (up mid down : Strand) (x y : ℕ) → x < 64 →
     IsStrandOf up (rows (y + 63)) → IsStrandOf mid (rows (y + 64)) → IsStrandOf down (rows (y + 65)) →
-    neighbours up mid down x ≡ sum_around (λ a b. bit_at (rows b) a) (x + 63) (y + 63)
+    neighbour_count up mid down x ≡ sum_around (λ a b. bit_at (rows b) a) (x + 63) (y + 63)
 counted rows up mid down x y below u m d =
     rw (
       shift_one x,
@@ -35,9 +35,9 @@ pub row_at : (rule : Rule) (nine : Nine) (up mid down : Strand) (x y : ℕ) → 
     IsStrandOf up (area_row nine (y + 63)) →
     IsStrandOf mid (area_row nine (y + 64)) →
     IsStrandOf down (area_row nine (y + 65)) →
-    next_state rule (bit_at mid.here x) (neighbours up mid down x) ≡ next_in_area rule nine x y
+    next_state rule (bit_at mid.here x) (neighbour_count up mid down x) ≡ next_in_area rule nine x y
 row_at rule nine up mid down x y below u m d =
-    ap (λ state. next_state rule state (neighbours up mid down x)) (m.here x below)
+    ap (λ state. next_state rule state (neighbour_count up mid down x)) (m.here x below)
     ∙ ap (next_state rule (area_cell nine (x + 64) (y + 64))) (counted (area_row nine) up mid down x y below u m d)
 
 pub middle_row : (nine : Nine) (y : ℕ) → y < 63 →

@@ -4,7 +4,7 @@ use Rattle.std.specs.Int.{bit_at}
 use Rattle.std.proofs.lemmas.Nat.{shr_split}
 use Rattle.std.proofs.lemmas.Bool.{cases_lt}
 use Rattle.std.proofs.lemmas.Nat.Bits.{bit_at_or, bit_at-suc, bit_at-zero, bit_at_above, bit_at_cat_low, bit_at_cat_high}
-use Rattle.life_bits.specs.Bits.{strip}
+use Rattle.life_bits.specs.Bits.{wide_row}
 
 -- the low k bits of a number
 pub bit_at_mod : (n k i : ℕ) → i < k → bit_at (n % 2 ^ k) i ≡ bit_at n i
@@ -14,18 +14,18 @@ bit_at_mod n k i below =
 word : (n : ℕ) → n % 2 ^ 64 < 2 ^ 64
 word n = omega arith
 
-pub strip_low : (left row right i : ℕ) → i < 64 → bit_at (strip left row right) i ≡ bit_at left i
+pub strip_low : (left row right i : ℕ) → i < 64 → bit_at (wide_row left row right) i ≡ bit_at left i
 strip_low left row right i below =
     bit_at_cat_low (right % 2 ^ 64 * 2 ^ 64 + row % 2 ^ 64) 64 (left % 2 ^ 64) i below ∙ bit_at_mod left 64 i below
 
-pub strip_middle : (left row right i : ℕ) → i < 64 → bit_at (strip left row right) (i + 64) ≡ bit_at row i
+pub strip_middle : (left row right i : ℕ) → i < 64 → bit_at (wide_row left row right) (i + 64) ≡ bit_at row i
 strip_middle left row right i below =
     bit_at_cat_high (right % 2 ^ 64 * 2 ^ 64 + row % 2 ^ 64) 64 (left % 2 ^ 64) (i + 64) (word left) (omega arith)
     ∙ ap (bit_at (right % 2 ^ 64 * 2 ^ 64 + row % 2 ^ 64)) (omega arith)
     ∙ bit_at_cat_low (right % 2 ^ 64) 64 (row % 2 ^ 64) i below
     ∙ bit_at_mod row 64 i below
 
-pub strip_high : (left row right i : ℕ) → i < 64 → bit_at (strip left row right) (i + 128) ≡ bit_at right i
+pub strip_high : (left row right i : ℕ) → i < 64 → bit_at (wide_row left row right) (i + 128) ≡ bit_at right i
 strip_high left row right i below =
     bit_at_cat_high (right % 2 ^ 64 * 2 ^ 64 + row % 2 ^ 64) 64 (left % 2 ^ 64) (i + 128) (word left) (omega arith)
     ∙ ap (bit_at (right % 2 ^ 64 * 2 ^ 64 + row % 2 ^ 64)) (omega arith)
@@ -52,7 +52,7 @@ top_is_one_bit : (left : ℕ) → left < 2 ^ 64 → left / 2 ^ 63 < 2 ^ 1
 top_is_one_bit left fits = omega arith
 
 pub west_at : (left row right j : ℕ) → left < 2 ^ 64 → j < 64 →
-    bit_at (bit_or (row * 2 % 2 ^ 64) (left / 2 ^ 63)) j ≡ bit_at (strip left row right) (j + 63)
+    bit_at (bit_or (row * 2 % 2 ^ 64) (left / 2 ^ 63)) j ≡ bit_at (wide_row left row right) (j + 63)
 west_at left row right zero fits below =
     bit_at_or (row * 2 % 2 ^ 64) (left / 2 ^ 63) 0
     ∙ max_zero_left _ _ _ (even row) (top_bit left ∙ sym (strip_low left row right 63 (omega arith)))
@@ -64,7 +64,7 @@ west_at left row right (suc i) fits below =
     ∙ ap (λ n. bit_at n i) (halved row)
     ∙ bit_at_mod row 63 i (omega arith)
     ∙ sym (strip_middle left row right i (omega arith))
-    ∙ ap (bit_at (strip left row right)) (omega arith))
+    ∙ ap (bit_at (wide_row left row right)) (omega arith))
 
 low_of_shifted : (right j : ℕ) → j < 63 → bit_at (right * 2 ^ 63 % 2 ^ 64) j ≡ 0
 low_of_shifted right j below =
@@ -77,19 +77,19 @@ top_of_shifted : (right : ℕ) → bit_at (right * 2 ^ 63 % 2 ^ 64) 63 ≡ bit_a
 top_of_shifted right = omega arith
 
 east_inside : (left row right j : ℕ) → left < 2 ^ 64 → j < 63 →
-    bit_at (bit_or (row / 2) (right * 2 ^ 63 % 2 ^ 64)) j ≡ bit_at (strip left row right) (j + 65)
+    bit_at (bit_or (row / 2) (right * 2 ^ 63 % 2 ^ 64)) j ≡ bit_at (wide_row left row right) (j + 65)
 east_inside left row right j fits below =
     bit_at_or (row / 2) (right * 2 ^ 63 % 2 ^ 64) j
     ∙ max_zero_right _ _ _ (low_of_shifted right j below)
     (sym (bit_at-suc row j)
     ∙ sym (strip_middle left row right (suc j) (omega arith))
-    ∙ ap (bit_at (strip left row right)) (omega arith))
+    ∙ ap (bit_at (wide_row left row right)) (omega arith))
 
 halved_top : (row : ℕ) → row < 2 ^ 64 → row / 2 < 2 ^ 63
 halved_top row fits = omega arith
 
 east_edge : (left row right : ℕ) → left < 2 ^ 64 → row < 2 ^ 64 →
-    bit_at (bit_or (row / 2) (right * 2 ^ 63 % 2 ^ 64)) 63 ≡ bit_at (strip left row right) 128
+    bit_at (bit_or (row / 2) (right * 2 ^ 63 % 2 ^ 64)) 63 ≡ bit_at (wide_row left row right) 128
 east_edge left row right left_fits row_fits =
     bit_at_or (row / 2) (right * 2 ^ 63 % 2 ^ 64) 63
     ∙ max_zero_left _ _ _
@@ -97,12 +97,12 @@ east_edge left row right left_fits row_fits =
     (top_of_shifted right ∙ sym (strip_high left row right 0 (omega arith)))
 
 pub east_at : (left row right j : ℕ) → left < 2 ^ 64 → row < 2 ^ 64 → j < 64 →
-    bit_at (bit_or (row / 2) (right * 2 ^ 63 % 2 ^ 64)) j ≡ bit_at (strip left row right) (j + 65)
+    bit_at (bit_or (row / 2) (right * 2 ^ 63 % 2 ^ 64)) j ≡ bit_at (wide_row left row right) (j + 65)
 east_at left row right j left_fits row_fits below =
     ⊎_elim
     (λ inside. east_inside left row right j left_fits inside)
     (λ edge.
     let last : 63 ≡ j = omega arith in
-    let P : ℕ → Type 0 = λ i. bit_at (bit_or (row / 2) (right * 2 ^ 63 % 2 ^ 64)) i ≡ bit_at (strip left row right) (i + 65) in
+    let P : ℕ → Type 0 = λ i. bit_at (bit_or (row / 2) (right * 2 ^ 63 % 2 ^ 64)) i ≡ bit_at (wide_row left row right) (i + 65) in
     subst P last (east_edge left row right left_fits row_fits))
     (cases_lt j 63)

@@ -1,7 +1,7 @@
 -- A tile and the eight around it, as 192 rows of 192 cells.
 use Rattle.std.specs.Prelude.{ℕ, ◌+◌, ◌-◌, if◌then◌else◌, nat_lt, slice_index}
 use Rattle.std.specs.Int.{bit_at}
-use Rattle.life_bits.specs.Bits.{strip, next_state}
+use Rattle.life_bits.specs.Bits.{wide_row, next_state}
 use Rattle.life_model.specs.Rule.{Rule}
 use Rattle.life_bits.specs.declared.tile.Tile.{Tile}
 use Rattle.life_bits.specs.declared.tile.Around.{Around}
@@ -37,7 +37,7 @@ nine_of tile around = record {
 
 -- row y of three tiles side by side
 abbrev pub three_wide : Tile → Tile → Tile → ℕ → ℕ
-three_wide left middle right y = strip (slice_index left.rows y) (slice_index middle.rows y) (slice_index right.rows y)
+three_wide left middle right y = wide_row (slice_index left.rows y) (slice_index middle.rows y) (slice_index right.rows y)
 
 -- row y of the nine: 0 to 63 is in the northern tiles, 64 to 127 in the middle ones, 128 to 191 in the southern ones
 abbrev pub area_row : Nine → ℕ → ℕ

@@ -7,8 +7,8 @@ use Rattle.life_bits.specs.declared.answers.Answers.{Answers}
 use Rattle.life_bits.specs.declared.strand.Strand.{Strand}
 
 -- three rows of 64 bits side by side, as one row of 192 bits
-abbrev pub strip : ℕ → ℕ → ℕ → ℕ
-strip left row right = (right % 2 ^ 64 * 2 ^ 64 + row % 2 ^ 64) * 2 ^ 64 + left % 2 ^ 64
+abbrev pub wide_row : ℕ → ℕ → ℕ → ℕ
+wide_row left row right = (right % 2 ^ 64 * 2 ^ 64 + row % 2 ^ 64) * 2 ^ 64 + left % 2 ^ 64
 
 -- a strand holds the middle 64 bits of a strip, and the same moved by one both ways
 pub record IsStrandOf (strand : Strand) (bits : ℕ) : Type 0 where
@@ -17,8 +17,8 @@ pub record IsStrandOf (strand : Strand) (bits : ℕ) : Type 0 where
   pub east : (j : ℕ) → j < 64 → bit_at strand.east j ≡ bit_at bits (j + 65)
 
 -- how many of the eight bits around bit j of the middle strand are set
-abbrev pub neighbours : Strand → Strand → Strand → ℕ → ℕ
-neighbours up mid down j =
+abbrev pub neighbour_count : Strand → Strand → Strand → ℕ → ℕ
+neighbour_count up mid down j =
     bit_at up.west j + bit_at up.here j + bit_at up.east j
     + bit_at mid.west j + bit_at mid.east j
     + bit_at down.west j + bit_at down.here j + bit_at down.east j
@@ -29,8 +29,8 @@ abbrev pub next_state : Rule → ℕ → ℕ → ℕ
 next_state rule state count = if state == 1 then as_bit (stays rule count) else as_bit (born rule count)
 
 -- the number that four planes spell at bit j
-abbrev pub spelt : List ℕ → ℕ → ℕ
-spelt planes j =
+abbrev pub number_in_planes : List ℕ → ℕ → ℕ
+number_in_planes planes j =
     bit_at (slice_index planes 0) j
     + 2 * bit_at (slice_index planes 1) j
     + 4 * bit_at (slice_index planes 2) j

@@ -2,7 +2,7 @@
 use Rattle.std.specs.Prelude.{◌≡◌, ℕ, ◌+◌, ◌-◌, ◌<◌, nat_lt, if◌then◌else◌, slice_index}
 use Rattle.std.specs.Int.{bit_at}
 use Rattle.life_model.specs.Rule.{Rule}
-use Rattle.life_bits.specs.Bits.{strip, next_state}
+use Rattle.life_bits.specs.Bits.{wide_row, next_state}
 use Rattle.life_bits.specs.Area.{Nine, three_wide, area_row, sum_around}
 use Rattle.life_bits.specs.declared.window.RowTriple.{RowTriple}
 use Rattle.life_bits.specs.declared.window.Window.{Window}
@@ -11,7 +11,7 @@ use Rattle.life_bits.specs.Rows.{IsTwoOf, IsThreeOf}
 
 -- one row of three tiles side by side, as one row of 192 cells
 abbrev pub triple_strip : RowTriple → ℕ
-triple_strip row = strip row.west row.here row.east
+triple_strip row = wide_row row.west row.here row.east
 
 -- row y of a window: 0 is the row above, 1 to 8 are rows `top` to `top + 7` of the three tiles, and 9 is the row below
 abbrev pub window_row : Window → ℕ → ℕ

@@ -2,7 +2,7 @@
 ghost use Rattle.std.specs.Prelude.{◌≡◌, ℕ, ◌+◌, ◌*◌, ◌<◌, ◌≤◌, slice_index};
 ghost use Rattle.std.specs.Int.{bit_at};
 ghost use Rattle.life_bits.specs.Flags.{as_bit};
-ghost use Rattle.life_bits.specs.Bits.{neighbours, next_state, spelt, IsAnswersOf};
+ghost use Rattle.life_bits.specs.Bits.{neighbour_count, next_state, number_in_planes, IsAnswersOf};
 ghost use Rattle.life_model.specs.Rule.{Rule, born, stays};
 
 use crate::adders::choose;
@@ -41,7 +41,7 @@ pub fn word_of(answer: bool) -> u64
 
 /// At each bit the word of the table that the planes' number names.
 fn select(planes: &[u64; 4], table: &[u64; 9]) -> u64
-    ensures { (j : ℕ) → spelt planes.now j ≤ 8 → bit_at result j ≡ bit_at (slice_index table.now (spelt planes.now j)) j }
+    ensures { (j : ℕ) → number_in_planes planes.now j ≤ 8 → bit_at result j ≡ bit_at (slice_index table.now (number_in_planes planes.now j)) j }
 {
     let none = choose(planes[0], table[0], table[1]);
     let twos = choose(planes[0], table[2], table[3]);
@@ -56,7 +56,7 @@ fn select(planes: &[u64; 4], table: &[u64; 9]) -> u64
 /// The next generation of the 64 cells of `mid.here`, by the answers of a rule.
 pub fn next_row_by(up: Strand, mid: Strand, down: Strand, answers: &Answers) -> u64
     ensures { (rule : Rule) → IsAnswersOf answers.now rule → (j : ℕ) → j < 64 →
-        bit_at result j ≡ next_state rule (bit_at mid.here j) (neighbours up mid down j) }
+        bit_at result j ≡ next_state rule (bit_at mid.here j) (neighbour_count up mid down j) }
 {
     let planes = count_planes(up, mid, down);
     let dead = select(&planes, &answers.dead);
@@ -67,7 +67,7 @@ pub fn next_row_by(up: Strand, mid: Strand, down: Strand, answers: &Answers) -> 
 /// The next generation of the 64 cells of `mid.here`, where `up` and `down` are the rows above and below.
 pub fn next_row(up: Strand, mid: Strand, down: Strand, rule: &Rule) -> u64
     ensures { (j : ℕ) → j < 64 →
-        bit_at result j ≡ next_state rule.now (bit_at mid.here j) (neighbours up mid down j) }
+        bit_at result j ≡ next_state rule.now (bit_at mid.here j) (neighbour_count up mid down j) }
 {
     next_row_by(up, mid, down, &Answers::of(rule))
 }

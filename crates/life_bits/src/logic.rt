@@ -3,7 +3,7 @@ ghost use Rattle.std.specs.Prelude.{◌≡◌, ℕ, ◌+◌, ◌*◌, ◌<◌, �
 ghost use Rattle.std.specs.Int.{bit_at};
 ghost use Rattle.life_model.specs.Rule.{Rule};
 ghost use Rattle.life_bits.specs.Flags.{as_bit};
-ghost use Rattle.life_bits.specs.Bits.{spelt, next_state};
+ghost use Rattle.life_bits.specs.Bits.{number_in_planes, next_state};
 ghost use Rattle.life_bits.specs.Numbers.{number_at};
 ghost use Rattle.life_bits.specs.Logics.{IsPolynomialOf, IsLogicOf, xor_if, sum_of_four, polynomial_at, term_at};
 
@@ -30,7 +30,7 @@ impl Count {
     /// The numbers in four planes: bit `j` of plane `k` weighs `2^k`.
     #[inline(always)]
     fn planes(self) -> [u64; 4]
-        ensures { (j : ℕ) → spelt result j ≡ number_at self j }
+        ensures { (j : ℕ) → number_in_planes result j ≡ number_at self j }
     {
         let outer = half_adder(self.above, self.below);
         let inner = half_adder(self.beside, self.carried);

@@ -1,5 +1,5 @@
 //! How many cells of a row of three are live.
-ghost use Rattle.life_bits.specs.Bits.{strip};
+ghost use Rattle.life_bits.specs.Bits.{wide_row};
 ghost use Rattle.life_bits.specs.Rows.{IsRowSumsOf};
 
 use crate::adders::{Sum, full_adder};
@@ -17,7 +17,7 @@ pub struct RowSums {
 /// tiles to the west and to the east: bit 63 of `west` stands beside bit 0 of `here`, and bit 0 of `east` beside bit 63.
 #[inline(always)]
 pub fn sums(west: u64, here: u64, east: u64) -> RowSums
-    ensures { IsRowSumsOf result (strip west here east) }
+    ensures { IsRowSumsOf result (wide_row west here east) }
 {
     // The cells beyond both edges stand apart: in their columns one of the moved rows has none.
     let beyond = (west >> 63) | (east << 63);

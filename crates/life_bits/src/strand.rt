@@ -1,7 +1,7 @@
 //! Rows of 64 cells, and how many live neighbours each cell has, all 64 at once.
 ghost use Rattle.std.specs.Prelude.{◌≡◌, ℕ, ◌+◌, ◌*◌, ◌<◌, slice_index};
 ghost use Rattle.std.specs.Int.{bit_at};
-ghost use Rattle.life_bits.specs.Bits.{strip, IsStrandOf, neighbours, spelt};
+ghost use Rattle.life_bits.specs.Bits.{wide_row, IsStrandOf, neighbour_count, number_in_planes};
 
 use crate::adders::{full_adder, half_adder};
 
@@ -17,7 +17,7 @@ pub struct Strand {
 impl Strand {
     /// The strand of a row of a tile. `left` and `right` are the same row of the tiles to its left and to its right.
     pub fn of(left: u64, row: u64, right: u64) -> Strand
-        ensures { IsStrandOf result (strip left row right) }
+        ensures { IsStrandOf result (wide_row left row right) }
     {
         Strand {
             west: (row << 1) | (left >> 63),
@@ -31,7 +31,7 @@ impl Strand {
 /// `mid.west`, `mid.east`, `down.west`, `down.here` and `down.east`. Bit `j` of plane `k` weighs `2^k`, and at each column the
 /// four planes add up to the number.
 pub fn count_planes(up: Strand, mid: Strand, down: Strand) -> [u64; 4]
-    ensures { (j : ℕ) → spelt result j ≡ neighbours up mid down j }
+    ensures { (j : ℕ) → number_in_planes result j ≡ neighbour_count up mid down j }
 {
     let above = full_adder(up.west, up.here, up.east);
     let beside = half_adder(mid.west, mid.east);

@@ -6,7 +6,7 @@ use Rattle.std.proofs.lemmas.Nat.Bits.{bit_at-lt, bit_at-zero}
 use Rattle.std.proofs.lemmas.List.{get_or-replicate, get_or_past, length-replicate}
 use Rattle.life_model.specs.Rule.{Rule, born}
 use Rattle.life_bits.specs.declared.tile.Tile.{Tile}
-use Rattle.life_bits.specs.Bits.{strip, next_state}
+use Rattle.life_bits.specs.Bits.{wide_row, next_state}
 use Rattle.life_bits.specs.Area.{Nine, area_row, area_cell, sum_around, next_in_area}
 use Rattle.life_bits.specs.Rows.{IsRowSumsOf}
 use Rattle.life_bits.specs.declared.row_sums.RowSums.{RowSums}
@@ -25,21 +25,21 @@ pub empty_row : (y : ℕ) → slice_index empty_tile.rows y ≡ 0
 empty_row y = none_in 64 y 0 refl
 
 -- a row of the tile
-pub row_is : (tile : Tile) (y : ℕ) → y < 64 → area_row (alone tile) (y + 64) ≡ strip 0 (slice_index tile.rows y) 0
+pub row_is : (tile : Tile) (y : ℕ) → y < 64 → area_row (alone tile) (y + 64) ≡ wide_row 0 (slice_index tile.rows y) 0
 row_is tile y high =
     let back : y + 64 - 64 ≡ y = omega arith in
     area_second (alone tile) (y + 64) (omega arith) (omega arith)
-    ∙ (λ i. strip (empty_row (y + 64 - 64) i) (slice_index tile.rows (back i)) (empty_row (y + 64 - 64) i))
+    ∙ (λ i. wide_row (empty_row (y + 64 - 64) i) (slice_index tile.rows (back i)) (empty_row (y + 64 - 64) i))
 
 -- and the one above the first
-pub above_is : (tile : Tile) → area_row (alone tile) 63 ≡ strip 0 0 0
-above_is tile = area_first (alone tile) 63 (omega arith) ∙ (λ i. strip (empty_row 63 i) (empty_row 63 i) (empty_row 63 i))
+pub above_is : (tile : Tile) → area_row (alone tile) 63 ≡ wide_row 0 0 0
+above_is tile = area_first (alone tile) 63 (omega arith) ∙ (λ i. wide_row (empty_row 63 i) (empty_row 63 i) (empty_row 63 i))
 
 -- a row, and the one before it, where they have no live cell
-pub void_is : (tile : Tile) (y : ℕ) → y < 64 → slice_index tile.rows y ≡ 0 → area_row (alone tile) (y + 64) ≡ strip 0 0 0
-void_is tile y high void = row_is tile y high ∙ ap (λ w. strip 0 w 0) void
+pub void_is : (tile : Tile) (y : ℕ) → y < 64 → slice_index tile.rows y ≡ 0 → area_row (alone tile) (y + 64) ≡ wide_row 0 0 0
+void_is tile y high void = row_is tile y high ∙ ap (λ w. wide_row 0 w 0) void
 
-pub void_before : (tile : Tile) (y : ℕ) → y < 64 → ((k : ℕ) → k < y → slice_index tile.rows k ≡ 0) → area_row (alone tile) (y + 63) ≡ strip 0 0 0
+pub void_before : (tile : Tile) (y : ℕ) → y < 64 → ((k : ℕ) → k < y → slice_index tile.rows k ≡ 0) → area_row (alone tile) (y + 63) ≡ wide_row 0 0 0
 void_before tile y high void =
     ⊎_elim
     (λ (first : y < 1). let at : y + 63 ≡ 63 = omega arith in ap (area_row (alone tile)) at ∙ above_is tile)
@@ -92,10 +92,10 @@ unfolding born
 unborn rule = refl
 
 -- no cell is born in a row without a live cell in it, above or below
-dead_rows : (rule : Rule) (nine : Nine) (x y : ℕ) → area_row nine (y + 63) ≡ strip 0 0 0 → area_row nine (y + 64) ≡ strip 0 0 0 → area_row nine (y + 65) ≡ strip 0 0 0 →
+dead_rows : (rule : Rule) (nine : Nine) (x y : ℕ) → area_row nine (y + 63) ≡ wide_row 0 0 0 → area_row nine (y + 64) ≡ wide_row 0 0 0 → area_row nine (y + 65) ≡ wide_row 0 0 0 →
     next_in_area rule nine x y ≡ 0
 dead_rows rule nine x y above here below =
-    let none : (n : ℕ) → bit_at (strip 0 0 0) n ≡ 0 = λ n. bit_at-zero n in
+    let none : (n : ℕ) → bit_at (wide_row 0 0 0) n ≡ 0 = λ n. bit_at-zero n in
     sym
     (next_of rule nine x y 0 0
     (sym (ap (λ w. bit_at w (x + 64)) here ∙ none (x + 64)))
@@ -113,10 +113,10 @@ dead_above rule tile x y first end void before =
     (void_is tile y (omega arith) (void.above y (omega arith)))
     (ap (area_row (alone tile)) at ∙ void_is tile (y + 1) (omega arith) (void.above (y + 1) before))
 
-last_below : (tile : Tile) → area_row (alone tile) 128 ≡ strip 0 0 0
-last_below tile = area_third (alone tile) 128 (omega arith) ∙ (λ i. strip (empty_row (128 - 128) i) (empty_row (128 - 128) i) (empty_row (128 - 128) i))
+last_below : (tile : Tile) → area_row (alone tile) 128 ≡ wide_row 0 0 0
+last_below tile = area_third (alone tile) 128 (omega arith) ∙ (λ i. wide_row (empty_row (128 - 128) i) (empty_row (128 - 128) i) (empty_row (128 - 128) i))
 
-void_after : (tile : Tile) (y first end : ℕ) → IsVoidOutside tile.rows first end → end ≤ y → y < 64 → area_row (alone tile) (y + 65) ≡ strip 0 0 0
+void_after : (tile : Tile) (y first end : ℕ) → IsVoidOutside tile.rows first end → end ≤ y → y < 64 → area_row (alone tile) (y + 65) ≡ wide_row 0 0 0
 void_after tile y first end void past high =
     ⊎_elim
     (λ (inside : y < 63).

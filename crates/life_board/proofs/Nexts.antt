@@ -19,7 +19,7 @@ use Rattle.life_bits.specs.Flags.{as_bit}
 use Rattle.life_bits.proofs.Strips.{strip_low, strip_middle, strip_high}
 use Rattle.life_bits.proofs.Joining.{area_first, area_second, area_third}
 use Rattle.life_tile.specs.Slots.{empty_tile}
-use Rattle.life_tile.specs.Slabs.{state_at}
+use Rattle.life_tile.specs.TileStores.{state_at}
 use Rattle.life_tile.proofs.Members.{BlockHas}
 use Rattle.life_tile.proofs.Orders.{true_or_false}
 use Rattle.life_tile.proofs.Shown.{empty_cell}

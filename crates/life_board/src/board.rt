@@ -66,12 +66,12 @@ impl Plane for Board {
         self.kind.span()
     }
 
-    fn way_from(&self, list: &CellList) -> Result<Option<(i32, i32)>, AllocError> {
-        self.kind.way_from(list)
+    fn offset_from(&self, list: &CellList) -> Result<Option<(i32, i32)>, AllocError> {
+        self.kind.offset_from(list)
     }
 
-    fn way_from_plane(&self, other: &Self) -> Result<Option<(i32, i32)>, AllocError> {
-        self.kind.way_from_plane(&other.kind)
+    fn offset_from_plane(&self, other: &Self) -> Result<Option<(i32, i32)>, AllocError> {
+        self.kind.offset_from_plane(&other.kind)
     }
 
     fn copy(&self) -> Result<Self, AllocError> {

@@ -5,7 +5,7 @@ ghost use Rattle.life_model.specs.Generation.{size};
 ghost use Rattle.life_model.specs.Generation as generation;
 ghost use Rattle.life_cells.specs.Limits.{IsWithin};
 ghost use Rattle.life_plane.specs.Span.{set_span};
-ghost use Rattle.life_plane.specs.Ways.{AreApart, IsWay};
+ghost use Rattle.life_plane.specs.Offsets.{AreNotTranslates, IsOffset};
 ghost use Rattle.life_board.specs.Kinds.{age_of, members_of, HasRoom, IsKept};
 ghost use Rattle.life_board.specs.Squares as squares;
 
@@ -131,30 +131,30 @@ impl Kind {
     }
 
     /// How far its cells are from the listed ones, where they are those moved as a whole.
-    pub fn way_from(&self, list: &CellList) -> Result<Option<(i32, i32)>, AllocError>
+    pub fn offset_from(&self, list: &CellList) -> Result<Option<(i32, i32)>, AllocError>
         requires { IsKept self.now }
-        ensures way { IfOk result (λ way. IfSome way (λ d. IsWay list.now (members_of self.now) d)) }
-        ensures apart { IfOk result (λ way. IfNone way (AreApart list.now (members_of self.now))) }
+        ensures offset { IfOk result (λ offset. IfSome offset (λ d. IsOffset list.now (members_of self.now) d)) }
+        ensures apart { IfOk result (λ offset. IfNone offset (AreNotTranslates list.now (members_of self.now))) }
     {
         match self {
-            Kind::Small(square) => square.way_from(list),
-            Kind::Large(plane) => plane.way_from(list),
+            Kind::Small(square) => square.offset_from(list),
+            Kind::Large(plane) => plane.offset_from(list),
         }
     }
 
     /// How far its cells are from those of another board, where they are those moved as a whole.
-    pub fn way_from_plane(&self, other: &Kind) -> Result<Option<(i32, i32)>, AllocError>
+    pub fn offset_from_plane(&self, other: &Kind) -> Result<Option<(i32, i32)>, AllocError>
         requires kept { IsKept self.now }
         requires other { IsKept other.now }
-        ensures way { IfOk result (λ way. IfSome way (λ d. IsWay (members_of other.now) (members_of self.now) d)) }
-        ensures apart { IfOk result (λ way. IfNone way (AreApart (members_of other.now) (members_of self.now))) }
+        ensures offset { IfOk result (λ offset. IfSome offset (λ d. IsOffset (members_of other.now) (members_of self.now) d)) }
+        ensures apart { IfOk result (λ offset. IfNone offset (AreNotTranslates (members_of other.now) (members_of self.now))) }
     {
         if let Kind::Large(to) = self {
             if let Kind::Large(from) = other {
-                return to.way_from_plane(from);
+                return to.offset_from_plane(from);
             }
         }
-        self.way_from(&other.cells()?)
+        self.offset_from(&other.cells()?)
     }
 
     /// The same cells at the same age.

@@ -6,14 +6,14 @@ ghost use Rattle.life_model.specs.Generation.{from_list, insert, size};
 ghost use Rattle.life_bits.specs.Area.{tile_cell};
 ghost use Rattle.life_cells.specs.Limits.{IsWithin};
 ghost use Rattle.life_plane.specs.Span.{set_span};
-ghost use Rattle.life_plane.specs.Ways.{AreApart, IsWay};
+ghost use Rattle.life_plane.specs.Offsets.{AreNotTranslates, IsOffset};
 ghost use Rattle.life_tile.specs.Cells.{block_cells, row_cells};
 ghost use Rattle.life_board.specs.Squares.{members_of, HasRoom, IsInner, IsKept, IsOpen, IsReached, IsVoidOutside};
 
 use crate::rows::{advance, end_of_rows, first_row};
 use life_bits::Tile;
 use life_cells::{CellList, Rule};
-use life_plane::{span_of, way_between};
+use life_plane::{offset_between, span_of};
 use life_tile::{Rim, push_row};
 use std::alloc::{AllocError, Global};
 
@@ -242,12 +242,12 @@ impl Square {
     }
 
     /// How far its cells are from the listed ones, where they are those moved as a whole.
-    pub fn way_from(&self, list: &CellList) -> Result<Option<(i32, i32)>, AllocError>
+    pub fn offset_from(&self, list: &CellList) -> Result<Option<(i32, i32)>, AllocError>
         requires { IsKept self.now }
-        ensures way { IfOk result (λ way. IfSome way (λ d. IsWay list.now (members_of self.now) d)) }
-        ensures apart { IfOk result (λ way. IfNone way (AreApart list.now (members_of self.now))) }
+        ensures offset { IfOk result (λ offset. IfSome offset (λ d. IsOffset list.now (members_of self.now) d)) }
+        ensures apart { IfOk result (λ offset. IfNone offset (AreNotTranslates list.now (members_of self.now))) }
     {
         let cells = self.cells()?;
-        Ok(way_between(list.as_slice(), cells.as_slice()))
+        Ok(offset_between(list.as_slice(), cells.as_slice()))
     }
 }

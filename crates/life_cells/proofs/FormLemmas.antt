@@ -6,7 +6,7 @@ use Rattle.std.proofs.lemmas.List.{take-append-drop}
 use Rattle.std.proofs.lemmas.Bool.{false≢true}
 use Rattle.std.proofs.lemmas.Bool.Decides.{nat_tests}
 use Rattle.life_cells.specs.Bytes.{is_in, after_one_of, ◌>>=◌}
-use Rattle.life_cells.specs.Rules.{is_count, digits_of, after_digits, runs_with, slashed, after_slash_and, lettered, swapped, digits_by_form}
+use Rattle.life_cells.specs.Rules.{is_count, digits_of, after_digits, runs_with, digits_by_slash, after_slash_and, digits_by_letters, reversed_pair, digits_by_form}
 use Rattle.life_cells.specs.Forms.{IsDigits, IsLettered, IsSlashed, HasForm}
 use Rattle.life_cells.proofs.RuleLemmas.{front_passes}
 
@@ -77,7 +77,7 @@ runs text second one other h = by_test (list_all is_count second) refl h
         record { first_is = first_is; second_is = second_is; digits = ap (list_all is_count) (sym second_is) ∙ e }
     by_test false e h = cc
 
-lettered_form : (first second text one other : List ℕ) → lettered first second text ≡ Some (one, other) → IsLettered first second text one other
+lettered_form : (first second text one other : List ℕ) → digits_by_letters first second text ≡ Some (one, other) → IsLettered first second text one other
 lettered_form first second text one other h = by_first (after_one_of first text) refl h
   where
     by_first : (o : Option (List ℕ)) → after_one_of first text ≡ o → (o >>= λ rest. runs_with rest (after_slash_and second (after_digits rest))) ≡ Some (one, other) → IsLettered first second text one other
@@ -102,10 +102,10 @@ lettered_form first second text one other h = by_first (after_one_of first text)
               others = r.digits;
             }
 
-halves : (b s birth survival : List ℕ) → option_map swapped (Some (s, b)) ≡ Some (birth, survival) → (s ≡ survival) × (b ≡ birth)
+halves : (b s birth survival : List ℕ) → option_map reversed_pair (Some (s, b)) ≡ Some (birth, survival) → (s ≡ survival) × (b ≡ birth)
 halves b s birth survival h = (ap second_half h, ap first_half h)
 
-slashed_form : (text one other : List ℕ) → slashed text ≡ Some (one, other) → IsSlashed text one other
+slashed_form : (text one other : List ℕ) → digits_by_slash text ≡ Some (one, other) → IsSlashed text one other
 slashed_form text one other h = by_slash (after_one_of (codes "/") (after_digits text)) refl h
   where
     by_slash : (o : Option (List ℕ)) → after_one_of (codes "/") (after_digits text) ≡ o → runs_with text o ≡ Some (one, other) → IsSlashed text one other
@@ -122,31 +122,31 @@ slashed_form text one other h = by_slash (after_one_of (codes "/") (after_digits
 
 -- what the function finds is a form of the text
 pub form_found : (text birth survival : List ℕ) → digits_by_form text ≡ Some (birth, survival) → HasForm text birth survival
-form_found text birth survival h = by_birth (lettered (codes "Bb") (codes "Ss") text) refl h
+form_found text birth survival h = by_birth (digits_by_letters (codes "Bb") (codes "Ss") text) refl h
   where
     rest : Option (List ℕ × List ℕ)
-    rest = option_map swapped (option_or (lettered (codes "Ss") (codes "Bb") text) (slashed text))
+    rest = option_map reversed_pair (option_or (digits_by_letters (codes "Ss") (codes "Bb") text) (digits_by_slash text))
 
-    by_survival : (o : Option (List ℕ × List ℕ)) → lettered (codes "Ss") (codes "Bb") text ≡ o → option_map swapped (option_or o (slashed text)) ≡ Some (birth, survival) → HasForm text birth survival
+    by_survival : (o : Option (List ℕ × List ℕ)) → digits_by_letters (codes "Ss") (codes "Bb") text ≡ o → option_map reversed_pair (option_or o (digits_by_slash text)) ≡ Some (birth, survival) → HasForm text birth survival
     by_survival (Some (s, b)) e h =
         let same_s = (halves b s birth survival h).0 in
         let same_b = (halves b s birth survival h).1 in
         inr (inl (lettered_form (codes "Ss") (codes "Bb") text survival birth (e ∙ ap (λ x. Some (x, b)) same_s ∙ ap (λ x. Some (survival, x)) same_b)))
-    by_survival None e h = by_slash (slashed text) refl h
+    by_survival None e h = by_slash (digits_by_slash text) refl h
       where
-        by_slash : (p : Option (List ℕ × List ℕ)) → slashed text ≡ p → option_map swapped p ≡ Some (birth, survival) → HasForm text birth survival
+        by_slash : (p : Option (List ℕ × List ℕ)) → digits_by_slash text ≡ p → option_map reversed_pair p ≡ Some (birth, survival) → HasForm text birth survival
         by_slash None f h = cc
         by_slash (Some (s, b)) f h =
             let same_s = (halves b s birth survival h).0 in
             let same_b = (halves b s birth survival h).1 in
             inr (inr (slashed_form text survival birth (f ∙ ap (λ x. Some (x, b)) same_s ∙ ap (λ x. Some (survival, x)) same_b)))
 
-    by_birth : (o : Option (List ℕ × List ℕ)) → lettered (codes "Bb") (codes "Ss") text ≡ o → option_or o rest ≡ Some (birth, survival) → HasForm text birth survival
+    by_birth : (o : Option (List ℕ × List ℕ)) → digits_by_letters (codes "Bb") (codes "Ss") text ≡ o → option_or o rest ≡ Some (birth, survival) → HasForm text birth survival
     by_birth (Some (b, s)) e h =
         let same_b = ap first_half h in
         let same_s = ap second_half h in
         inl (lettered_form (codes "Bb") (codes "Ss") text birth survival (e ∙ ap (λ x. Some (x, s)) same_b ∙ ap (λ x. Some (birth, x)) same_s))
-    by_birth None e h = by_survival (lettered (codes "Ss") (codes "Bb") text) refl h
+    by_birth None e h = by_survival (digits_by_letters (codes "Ss") (codes "Bb") text) refl h
 
 -- # What is there the function finds
 
@@ -200,25 +200,25 @@ runs_yes : (text second one : List ℕ) → digits_of text ≡ one → IsDigits 
 runs_yes text second one e h = ap (λ b. if◌then◌else◌ {A = Option (List ℕ × List ℕ)} b (Some (digits_of text, second)) None) h ∙ ap (λ t. Some (t, second)) e
 
 lettered_found : (first second text one other : List ℕ) → ((n : ℕ) → is_in second n ≡ true → (is_count n ≡ false) × (is_in (codes "/") n ≡ false)) → IsLettered first second text one other
-    → lettered first second text ≡ Some (one, other)
+    → digits_by_letters first second text ≡ Some (one, other)
 lettered_found first second text one other apart f =
     let a = apart f.next f.second_is in
     let rest = one ++ (f.slash ++ f.next ∷ other) in
     let d = form_digits one f.slash f.next other f.digits f.slash_is a.0 in
-    ap (lettered first second) f.whole
+    ap (digits_by_letters first second) f.whole
     ∙ ap (λ o. o >>= λ r. runs_with r (after_slash_and second (after_digits r))) (one_of_yes first f.letter rest f.first_is)
     ∙ ap (λ s. runs_with rest (after_slash_and second s)) d.1
     ∙ ap (runs_with rest) (slash_and second f.slash f.next other f.slash_is f.second_is a.1)
     ∙ runs_yes rest other one d.0 f.others
 
-not_lettered : (first second : List ℕ) (c : ℕ) (rest : List ℕ) → is_in first c ≡ false → lettered first second (c ∷ rest) ≡ None
+not_lettered : (first second : List ℕ) (c : ℕ) (rest : List ℕ) → is_in first c ≡ false → digits_by_letters first second (c ∷ rest) ≡ None
 not_lettered first second c rest h = ap (λ o. o >>= λ r. runs_with r (after_slash_and second (after_digits r))) (one_of_no first c rest h)
 
-slashed_found : (text one other : List ℕ) → IsSlashed text one other → slashed text ≡ Some (one, other)
+slashed_found : (text one other : List ℕ) → IsSlashed text one other → digits_by_slash text ≡ Some (one, other)
 slashed_found text one other f =
     let whole = one ++ 47 ∷ other in
     let d = digits_end one 47 other f.digits refl in
-    ap slashed f.whole ∙ ap (λ s. runs_with whole (after_one_of (codes "/") s)) d.1 ∙ runs_yes whole other one d.0 f.others
+    ap digits_by_slash f.whole ∙ ap (λ s. runs_with whole (after_one_of (codes "/") s)) d.1 ∙ runs_yes whole other one d.0 f.others
 
 small_s : (n : ℕ) → is_in (codes "Ss") n ≡ true → (is_count n ≡ false) × (is_in (codes "/") n ≡ false)
 small_s n h = (grind (arith, nat_tests), grind (arith, nat_tests))
@@ -233,7 +233,7 @@ digit_no_letter : (n : ℕ) → is_count n ≡ true → (is_in (codes "Bb") n �
 digit_no_letter n h = (grind (arith, nat_tests), grind (arith, nat_tests))
 
 -- digits and `/` begin with no letter
-slashed_no_letter : (one other : List ℕ) → IsDigits one → (lettered (codes "Bb") (codes "Ss") (one ++ 47 ∷ other) ≡ None) × (lettered (codes "Ss") (codes "Bb") (one ++ 47 ∷ other) ≡ None)
+slashed_no_letter : (one other : List ℕ) → IsDigits one → (digits_by_letters (codes "Bb") (codes "Ss") (one ++ 47 ∷ other) ≡ None) × (digits_by_letters (codes "Ss") (codes "Bb") (one ++ 47 ∷ other) ≡ None)
 slashed_no_letter [] other h = (refl, refl)
 slashed_no_letter (d ∷ one) other h =
     let no = digit_no_letter d (and_left (is_count d) (list_all is_count one) h) in
@@ -242,15 +242,15 @@ slashed_no_letter (d ∷ one) other h =
 -- a text of a form is found so
 pub form_is : (text birth survival : List ℕ) → HasForm text birth survival → digits_by_form text ≡ Some (birth, survival)
 form_is text birth survival (inl f) =
-    ap (λ o. option_or o (option_map swapped (option_or (lettered (codes "Ss") (codes "Bb") text) (slashed text)))) (lettered_found (codes "Bb") (codes "Ss") text birth survival small_s f)
+    ap (λ o. option_or o (option_map reversed_pair (option_or (digits_by_letters (codes "Ss") (codes "Bb") text) (digits_by_slash text)))) (lettered_found (codes "Bb") (codes "Ss") text birth survival small_s f)
 form_is text birth survival (inr (inl f)) =
-    let no : lettered (codes "Bb") (codes "Ss") text ≡ None = ap (lettered (codes "Bb") (codes "Ss")) f.whole ∙ not_lettered (codes "Bb") (codes "Ss") f.letter (survival ++ (f.slash ++ f.next ∷ birth)) (s_no_b f.letter f.first_is) in
-    ap (λ o. option_or o (option_map swapped (option_or (lettered (codes "Ss") (codes "Bb") text) (slashed text)))) no
-    ∙ ap (λ o. option_map swapped (option_or o (slashed text))) (lettered_found (codes "Ss") (codes "Bb") text survival birth small_b f)
+    let no : digits_by_letters (codes "Bb") (codes "Ss") text ≡ None = ap (digits_by_letters (codes "Bb") (codes "Ss")) f.whole ∙ not_lettered (codes "Bb") (codes "Ss") f.letter (survival ++ (f.slash ++ f.next ∷ birth)) (s_no_b f.letter f.first_is) in
+    ap (λ o. option_or o (option_map reversed_pair (option_or (digits_by_letters (codes "Ss") (codes "Bb") text) (digits_by_slash text)))) no
+    ∙ ap (λ o. option_map reversed_pair (option_or o (digits_by_slash text))) (lettered_found (codes "Ss") (codes "Bb") text survival birth small_b f)
 form_is text birth survival (inr (inr f)) =
     let none = slashed_no_letter survival birth f.digits in
-    let no_b : lettered (codes "Bb") (codes "Ss") text ≡ None = ap (lettered (codes "Bb") (codes "Ss")) f.whole ∙ none.0 in
-    let no_s : lettered (codes "Ss") (codes "Bb") text ≡ None = ap (lettered (codes "Ss") (codes "Bb")) f.whole ∙ none.1 in
-    ap (λ o. option_or o (option_map swapped (option_or (lettered (codes "Ss") (codes "Bb") text) (slashed text)))) no_b
-    ∙ ap (λ o. option_map swapped (option_or o (slashed text))) no_s
-    ∙ ap (option_map swapped) (slashed_found text survival birth f)
+    let no_b : digits_by_letters (codes "Bb") (codes "Ss") text ≡ None = ap (digits_by_letters (codes "Bb") (codes "Ss")) f.whole ∙ none.0 in
+    let no_s : digits_by_letters (codes "Ss") (codes "Bb") text ≡ None = ap (digits_by_letters (codes "Ss") (codes "Bb")) f.whole ∙ none.1 in
+    ap (λ o. option_or o (option_map reversed_pair (option_or (digits_by_letters (codes "Ss") (codes "Bb") text) (digits_by_slash text)))) no_b
+    ∙ ap (λ o. option_map reversed_pair (option_or o (digits_by_slash text))) no_s
+    ∙ ap (option_map reversed_pair) (slashed_found text survival birth f)

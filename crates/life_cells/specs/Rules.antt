@@ -33,27 +33,27 @@ runs_with text None = None
 runs_with text (Some second) = if list_all is_count second then Some (digits_of text, second) else None
 
 -- after the digits `/` and no letter
-abbrev pub slashed : List ℕ → Option (List ℕ × List ℕ)
-slashed text = runs_with text (after_one_of (codes "/") (after_digits text))
+abbrev pub digits_by_slash : List ℕ → Option (List ℕ × List ℕ)
+digits_by_slash text = runs_with text (after_one_of (codes "/") (after_digits text))
 
 -- one of these letters, with `/` before it or not
 abbrev pub after_slash_and : List ℕ → List ℕ → Option (List ℕ)
 after_slash_and letters text = option_or (after_one_of (codes "/") text >>= after_one_of letters) (after_one_of letters text)
 
 -- after a first letter the digits, `/` or nothing, and a second letter
-abbrev pub lettered : List ℕ → List ℕ → List ℕ → Option (List ℕ × List ℕ)
-lettered first second text = do
+abbrev pub digits_by_letters : List ℕ → List ℕ → List ℕ → Option (List ℕ × List ℕ)
+digits_by_letters first second text = do
   rest ← after_one_of first text
   runs_with rest (after_slash_and second (after_digits rest))
 
-abbrev pub swapped : List ℕ × List ℕ → List ℕ × List ℕ
-swapped (one, other) = (other, one)
+abbrev pub reversed_pair : List ℕ × List ℕ → List ℕ × List ℕ
+reversed_pair (one, other) = (other, one)
 
 -- the birth digits and the survival digits, where the text has one of the three forms
 abbrev pub digits_by_form : List ℕ → Option (List ℕ × List ℕ)
 digits_by_form text =
-    option_or (lettered (codes "Bb") (codes "Ss") text)
-    (option_map swapped (option_or (lettered (codes "Ss") (codes "Bb") text) (slashed text)))
+    option_or (digits_by_letters (codes "Bb") (codes "Ss") text)
+    (option_map reversed_pair (option_or (digits_by_letters (codes "Ss") (codes "Bb") text) (digits_by_slash text)))
 
 -- the rule of these birth and survival digits
 abbrev pub rule_of_digits : Option (List ℕ × List ℕ) → Result Rule RuleFault

@@ -8,7 +8,7 @@ use Rattle.life_model.specs.Rule.{Rule}
 use Rattle.life_model.specs.Generation.{Generation, empty, size}
 use Rattle.life_model.specs.Evolution.{generation}
 use Rattle.life_model.specs.Recurrence.{AreOneObject, RecursBy}
-use Rattle.life_model.specs.Symmetry.{Same, normal, turned}
+use Rattle.life_model.specs.Symmetry.{Same, normal, image_under}
 use Rattle.life_model.proofs.Objects.{object_from_shapes}
 use Rattle.life_model.proofs.Recurrences.{generation-zero}
 use Rattle.life_objects.specs.Ash.{HasFallenApart, IsObject}
@@ -21,7 +21,7 @@ use Rattle.life_answer.specs.declared.finding.Finding.TheVariants.{Ash, Unresolv
 use Rattle.life_answer.proofs.Codes.{codes_tell_objects}
 use Rattle.life_answer.proofs.Tallying.{counted_permutation}
 use Rattle.life_orbit.specs.Course.{Course, IsCourse}
-use Rattle.life_ash.specs.Later.{all_later, later}
+use Rattle.life_ash.specs.Later.{courses_after, course_after}
 use Rattle.life_ash.specs.Parts.{IsOf, sets_of}
 use Rattle.life_answer.specs.Census.{census_found, census_of, part_code}
 use Rattle.life_census.specs.Courses.{course_code}
@@ -57,7 +57,7 @@ module _ (R : Rule) (b n : ℕ) (P : Generation) (p : ℕ) (d : Cell)
   one_object : AreOneObject R (generation R (generation R P n) 0) (generation R P 0)
   one_object =
       object_from_shapes R (generation R (generation R P n) 0) (generation R P 0) 0 n Same Same
-      (ap (λ G. normal (turned G Same))
+      (ap (λ G. normal (image_under G Same))
       (generation-zero R _ ∙ generation-zero R (generation R P n) ∙ ap (λ G. generation R G n) (sym (generation-zero R P))))
 
   same_code : code_of R (generation R P n) p d ≡ code_of R P p d
@@ -82,11 +82,11 @@ code_of_part R b n o of course part =
 -- ---- all of them
 
 codes_of_parts : (R : Rule) (b n : ℕ) (os : List Course) → All (IsOf R) os → All IsCourse os →
-    All (IsObject R b) (sets_of (all_later n os)) →
-    map (part_code R b) (sets_of (all_later n os)) ≡ map course_code os
+    All (IsObject R b) (sets_of (courses_after n os)) →
+    map (part_code R b) (sets_of (courses_after n os)) ≡ map course_code os
 codes_of_parts R b n [] of courses parts = refl
 codes_of_parts R b n (o ∷ os) of courses parts =
-    let rest = sets_of (all_later n os) in
+    let rest = sets_of (courses_after n os) in
     let first = generation o.rule o.set n in
     λ i.
     code_of_part R b n o (All-head (IsOf R) o os of) (All-head IsCourse o os courses)
@@ -96,10 +96,10 @@ codes_of_parts R b n (o ∷ os) of courses parts =
 
 module _ (R : Rule) (b : ℕ) (G : Generation) where
   pub census_some : (n : ℕ) (os : List Course) → All (IsOf R) os → All IsCourse os →
-      HasFallenApart R b G (sets_of (all_later n os)) → census_of R G b ≡ Ash (size G) (counted_codes (map course_code os))
+      HasFallenApart R b G (sets_of (courses_after n os)) → census_of R G b ≡ Ash (size G) (counted_codes (map course_code os))
   unfolding census_of
   census_some n os of courses fallen =
-      let sets = sets_of (all_later n os) in
+      let sets = sets_of (courses_after n os) in
       let found = parts_found R b (generation R G b) sets fallen in
       ap (census_found R b (size G)) found.1
       ∙ ap (Ash (size G))
@@ -111,8 +111,8 @@ module _ (R : Rule) (b : ℕ) (G : Generation) where
   unfolding census_of
   census_none none = ap (census_found R b (size G)) (none_if_no_ash R b (generation R G b) none)
 
-pub of_sooner : (R : Rule) (n : ℕ) (os : List Course) → All (IsOf R) (all_later n os) → All (IsOf R) os
+pub of_sooner : (R : Rule) (n : ℕ) (os : List Course) → All (IsOf R) (courses_after n os) → All (IsOf R) os
 of_sooner R n [] of = of
 of_sooner R n (o ∷ os) of =
-    All-cons (IsOf R) o os (All-head (IsOf R) (later n o) (all_later n os) of)
-    (of_sooner R n os (All-tail (IsOf R) (later n o) (all_later n os) of))
+    All-cons (IsOf R) o os (All-head (IsOf R) (course_after n o) (courses_after n os) of)
+    (of_sooner R n os (All-tail (IsOf R) (course_after n o) (courses_after n os) of))

@@ -7,7 +7,7 @@ use Rattle.life_model.specs.Cell.{Cell}
 use Rattle.life_model.specs.Generation.{empty}
 use Rattle.life_model.specs.Evolution.{generation}
 use Rattle.life_model.specs.Recurrence.{RecursBy, Settles}
-use Rattle.life_model.specs.Symmetry.{moved}
+use Rattle.life_model.specs.Symmetry.{translate_of}
 use Rattle.life_model.proofs.Recurrences.{generation-zero}
 use Rattle.life_answer.specs.Apgcode.{code_of}
 use Rattle.life_answer.specs.Parts.{counted_codes, with_code}
@@ -41,7 +41,7 @@ module _ (o : Course) (b : ℕ) (course : IsCourse o) (within : o.period ≤ b) 
       by = o.displacement;
       later = course.recurs.later;
       within = let whole : 0 + o.period ≤ b = omega arith in whole;
-      again = ap (generation o.rule o.set) (let e : 0 + o.period ≡ o.period = omega arith in e) ∙ course.recurs.again ∙ ap (λ G. moved G o.displacement) (sym start);
+      again = ap (generation o.rule o.set) (let e : 0 + o.period ≡ o.period = omega arith in e) ∙ course.recurs.again ∙ ap (λ G. translate_of G o.displacement) (sym start);
     };
     first = λ g s. omega arith;
     recurs = subst (λ G. RecursBy o.rule G o.period o.displacement) (sym start) course.recurs;

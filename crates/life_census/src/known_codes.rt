@@ -9,7 +9,7 @@ use crate::code::code_of;
 use life_answer::Code;
 use life_cells::{CellList, Rule};
 use life_orbit::Orbit;
-use life_plane::way_between;
+use life_plane::offset_between;
 use std::alloc::{AllocError, Global};
 
 /// How many codes are kept at most.
@@ -48,7 +48,7 @@ impl KnownCode {
         if !self.recurs_as(orbit) {
             return false;
         }
-        way_between(self.set.as_slice(), orbit.set().as_slice()).is_some()
+        offset_between(self.set.as_slice(), orbit.set().as_slice()).is_some()
     }
 }
 

@@ -18,15 +18,15 @@ use Rattle.life_objects.specs.Apart.{AreApartBefore}
 use Rattle.life_objects.proofs.Staying.{cell_stays}
 use Rattle.life_objects.proofs.Unions.{contains-union}
 use Rattle.life_classes.specs.declared.class.Class.{Class}
-use Rattle.life_classes.specs.Tracking.{AreTracked, alone, firsts}
+use Rattle.life_classes.specs.Tracking.{AreTracked, class_of_cell, first_sets}
 
 pub contains-one : (c q : Cell) → contains (from_list (c ∷ [])) q ≡ same_cell q c
 contains-one c q = contains-from_list (c ∷ []) q ∙ or-false (same_cell q c)
 
-all_together : (cs : List Cell) → union_of (firsts (map alone cs)) ≡ from_list cs
+all_together : (cs : List Cell) → union_of (first_sets (map class_of_cell cs)) ≡ from_list cs
 all_together [] = refl
 all_together (c ∷ cs) = same_members _ _ (λ q.
-    contains-union (from_list (c ∷ [])) (union_of (firsts (map alone cs))) q
+    contains-union (from_list (c ∷ [])) (union_of (first_sets (map class_of_cell cs))) q
     ∙ (λ i. contains-one c q i || (ap (λ H. contains H q) (all_together cs) ∙ contains-from_list cs q) i)
     ∙ sym (contains-from_list (c ∷ cs) q))
 
@@ -42,13 +42,13 @@ module _ (R : Rule) (b : ℕ) (G : Generation) where
   nothing_before : (cs : List Class) → AllPairs (λ c d. AreApartBefore R 0 c.first d.first) cs
   nothing_before cs i j d h k m l = absurd (omega arith)
 
-  pub alone_tracked : AreTracked R b 0 G (map alone (cells G))
+  pub alone_tracked : AreTracked R b 0 G (map class_of_cell (cells G))
   alone_tracked = record {
     together = all_together (cells G) ∙ from_list-cells G;
     whole =
-        All-map (λ c. StaysWhole R b G c.first) alone (cells G) (λ k d h. cell_stays R b G _ (listed G k d h));
-    before = nothing_before (map alone (cells G));
+        All-map (λ c. StaysWhole R b G c.first) class_of_cell (cells G) (λ k d h. cell_stays R b G _ (listed G k d h));
+    before = nothing_before (map class_of_cell (cells G));
     later =
-        All-map (λ c. c.last ≡ generation R c.first 0) alone (cells G)
+        All-map (λ c. c.last ≡ generation R c.first 0) class_of_cell (cells G)
         (λ k d h. sym (generation-zero R _));
   }

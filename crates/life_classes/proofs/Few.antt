@@ -17,7 +17,7 @@ use Rattle.life_objects.proofs.Lists.{AllPairs-map}
 use Rattle.life_objects.proofs.Staying.{NotBothLive, undivided_by_few}
 use Rattle.life_objects.proofs.Unions.{in_empty}
 use Rattle.life_classes.specs.declared.class.Class.{Class}
-use Rattle.life_classes.specs.Tracking.{AreApartNow, AreFew, AreTracked, HaveDied, firsts}
+use Rattle.life_classes.specs.Tracking.{AreApartNow, AreFew, AreTracked, HaveDied, first_sets}
 use Rattle.life_classes.proofs.Later.{end_apart}
 
 -- what is not said to live has died
@@ -53,10 +53,10 @@ module _ (R : Rule) (b n : ℕ) (G : Generation) (cs : List Class)
   here : AreTracked R n n G cs
   here = t n (omega arith)
 
-  whole : All (StaysWhole R n G) (firsts cs)
+  whole : All (StaysWhole R n G) (first_sets cs)
   whole = All-map (StaysWhole R n G) (λ c. c.first) cs here.whole
 
-  apart : AllPairs (AreApartFor R n) (firsts cs)
+  apart : AllPairs (AreApartFor R n) (first_sets cs)
   apart = end_apart R n n G cs here now refl
 
   few_firsts : AreFew cs → AllPairs (λ c d. NotBothLive R n c.first d.first) cs
@@ -65,7 +65,7 @@ module _ (R : Rule) (b n : ℕ) (G : Generation) (cs : List Class)
 
   undivided_now : AreFew cs → IsUndivided R n G
   undivided_now few =
-      undivided_by_few R n G (firsts cs) here.together whole apart
+      undivided_by_few R n G (first_sets cs) here.together whole apart
       (AllPairs-map (NotBothLive R n) (λ c. c.first) cs (few_firsts few))
 
   pub undivided_soon : n ≤ b → AreFew cs → IsUndivided R b G
@@ -76,8 +76,8 @@ module _ (R : Rule) (b n : ℕ) (G : Generation) (cs : List Class)
       let below : i < length cs = omega arith in
       let P = get_or-map (λ (c : Class). c.first) cs i d d.first below in
       let Q = get_or-map (λ (c : Class). c.first) cs j d d.first k in
-      let inside : j < length (firsts cs) = omega (arith, length-map cs (λ (c : Class). c.first)) in
-      few_by_undivided R n G (firsts cs) here.together apart undivided i j d.first h inside
+      let inside : j < length (first_sets cs) = omega (arith, length-map cs (λ (c : Class). c.first)) in
+      few_by_undivided R n G (first_sets cs) here.together apart undivided i j d.first h inside
       (λ gone. live (here.later i d below ∙ ap (λ H. generation R H n) (sym P) ∙ gone))
       (λ gone. other (here.later j d k ∙ ap (λ H. generation R H n) (sym Q) ∙ gone))
 

@@ -13,7 +13,7 @@ use Rattle.life_objects.specs.Apart.{AreApart}
 use Rattle.life_objects.specs.Union.{union, union_of}
 use Rattle.life_objects.proofs.Unions.{contains-union_of, union-comm, union-empty}
 use Rattle.life_classes.specs.declared.class.Class.{Class}
-use Rattle.life_classes.specs.Gathering.{HangTogether, IsLed, between, side}
+use Rattle.life_classes.specs.Gathering.{HangTogether, IsLed, classes_between, set_on_side}
 use Rattle.life_classes.specs.Tracking.{LeadTo}
 use Rattle.life_classes.proofs.Leading.{lead_joined, lead_same}
 use Rattle.life_classes.proofs.Merging.{halves_tracked, in_turn}
@@ -47,7 +47,7 @@ cells_more f cs i d h =
 
 -- the classes as one
 abbrev pub as_one : List Class → Class
-as_one cs = record { first = union_of (map (side false) cs); last = union_of (map (side true) cs) }
+as_one cs = record { first = union_of (map (set_on_side false) cs); last = union_of (map (set_on_side true) cs) }
 
 apart_from_each : (Ps : List Generation) (Q : Generation) → AreApart (union_of Ps) Q → (k : ℕ) (d : Generation) →
     k < length Ps → AreApart (get_or Ps k d) Q
@@ -63,8 +63,8 @@ one_joined cs x leads near =
     in_turn (cs ++ (x ∷ [])) (as_one cs ∷ (x ∷ [])) (as_one (cs ++ (x ∷ [])) ∷ [])
     (halves_tracked cs (x ∷ []) (as_one cs ∷ []) (x ∷ []) leads (lead_same (x ∷ [])))
     (lead_joined x (as_one cs) (as_one (cs ++ (x ∷ []))) []
-    (ap union_of (map_push (side false) cs x) ∙ union_of-push (map (side false) cs) x.first)
-    (ap union_of (map_push (side true) cs x) ∙ union_of-push (map (side true) cs) x.last) near)
+    (ap union_of (map_push (set_on_side false) cs x) ∙ union_of-push (map (set_on_side false) cs) x.first)
+    (ap union_of (map_push (set_on_side true) cs x) ∙ union_of-push (map (set_on_side true) cs) x.last) near)
 
 module _ (cs : List Class) (all : HangTogether cs) where
   near_those_before : (n : ℕ) (e : Class) → 0 < n → n < length cs →
@@ -74,14 +74,14 @@ module _ (cs : List Class) (all : HangTogether cs) where
       let k = led.by in
       let before : k < n = led.before in
       let count = length-take-le n cs (omega arith) in
-      let there : k < length (map (side true) (take n cs)) = omega (arith, length-map (take n cs) (side true)) in
-      let P = get_or (map (side true) (take n cs)) k e.last in
+      let there : k < length (map (set_on_side true) (take n cs)) = omega (arith, length-map (take n cs) (set_on_side true)) in
+      let P = get_or (map (set_on_side true) (take n cs)) k e.last in
       let is : P ≡ (get_or cs k e).last =
-      get_or-map (side true) (take n cs) k e e.last (omega arith)
+      get_or-map (set_on_side true) (take n cs) k e e.last (omega arith)
       ∙ ap (λ (c : Class). c.last) (get_or-take n cs k e before) in
       led.near e e
       (subst (λ H. AreApart H (get_or cs n e).last) is
-      (apart_from_each (map (side true) (take n cs)) (get_or cs n e).last far k e.last there))
+      (apart_from_each (map (set_on_side true) (take n cs)) (get_or cs n e).last far k e.last there))
 
   lead_upto : (n m : ℕ) (e : Class) → m ≡ n + 1 → m ≤ length cs → LeadTo (take m cs) (as_one (take m cs) ∷ [])
   lead_upto zero m e is h =
@@ -99,7 +99,7 @@ module _ (cs : List Class) (all : HangTogether cs) where
       (near_those_before k e (omega arith) within)))
 
 pub lead_group : (cs : List Class) (e : Class) → 0 < length cs → HangTogether cs →
-    e.first ≡ union_of (map (side false) cs) → e.last ≡ union_of (map (side true) cs) → LeadTo cs (e ∷ [])
+    e.first ≡ union_of (map (set_on_side false) cs) → e.last ≡ union_of (map (set_on_side true) cs) → LeadTo cs (e ∷ [])
 lead_group cs e some all first last =
     let one = lead_upto cs all (length cs - 1) (length cs) e (omega arith) (omega arith) in
     let whole = take_all (length cs) cs (omega arith) in
@@ -108,11 +108,11 @@ lead_group cs e some all first last =
 
 -- ---- a list, piece by piece
 
-pub length-between : (cs : List Class) (start end : ℕ) → end ≤ length cs → length (between start end cs) ≡ end - start
+pub length-between : (cs : List Class) (start end : ℕ) → end ≤ length cs → length (classes_between start end cs) ≡ end - start
 length-between cs start end h = length-take-le (end - start) (drop start cs) (omega (arith, length-drop start cs))
 
 at_between : (cs : List Class) (start end n : ℕ) (d : Class) → n < end - start →
-    get_or (between start end cs) n d ≡ get_or cs (start + n) d
+    get_or (classes_between start end cs) n d ≡ get_or cs (start + n) d
 at_between cs start end n d h = get_or-take (end - start) (drop start cs) n d h ∙ get_or-drop start cs n d
 
 -- each after the first is near one before it that is none of those before the first
@@ -126,7 +126,7 @@ one_more_led cs start n led all m above below = elim (cases_lt m n) [
 ]
 
 pub hang_between : (cs : List Class) (start end : ℕ) → start < end → end ≤ length cs → AreLed cs start end →
-    HangTogether (between start end cs)
+    HangTogether (classes_between start end cs)
 hang_between cs start end some h all n above below =
     let count = length-between cs start end h in
     let led = all (start + n) (omega arith) (omega arith) in
@@ -139,7 +139,7 @@ hang_between cs start end some h all n above below =
       from = omega arith;
       before = omega arith;
       near = λ d e.
-          subst (λ (c : Class). ¬ AreApart c.last (get_or (between start end cs) n e).last)
+          subst (λ (c : Class). ¬ AreApart c.last (get_or (classes_between start end cs) n e).last)
           (sym (at_between cs start end k d (omega arith) ∙ ap (λ m. get_or cs m d) there))
           (subst (λ (c : Class). ¬ AreApart (get_or cs led.by d).last c.last)
           (sym (at_between cs start end n e (omega arith))) (led.near d e));
@@ -147,10 +147,10 @@ hang_between cs start end some h all n above below =
 
 -- one piece more is replaced by a class
 pub lead_piece : (all cs done : List Class) (start end : ℕ) (e : Class) → start < end → end ≤ length cs →
-    LeadTo all (done ++ drop start cs) → LeadTo (between start end cs) (e ∷ []) →
+    LeadTo all (done ++ drop start cs) → LeadTo (classes_between start end cs) (e ∷ []) →
     LeadTo all ((done ++ (e ∷ [])) ++ drop end cs)
 lead_piece all cs done start end e some h so_far piece =
-    let mid = between start end cs in
+    let mid = classes_between start end cs in
     let rest = drop end cs in
     let parts : mid ++ rest ≡ drop start cs =
     ap (λ ds. mid ++ ds) (sym (drop-drop (end - start) start cs
@@ -170,6 +170,6 @@ lead_whole all cs done start past leads =
 
 -- a piece of a list that is told element by element
 pub piece_of : {X : Type 0} (f : X → Class) (xs : List X) (start end : ℕ) →
-    map f (take (end - start) (drop start xs)) ≡ between start end (map f xs)
+    map f (take (end - start) (drop start xs)) ≡ classes_between start end (map f xs)
 piece_of f xs start end =
     sym (ap (take (end - start)) (drop-map f start xs) ∙ take-map f (end - start) (drop start xs))

@@ -16,16 +16,16 @@ use Rattle.life_objects.proofs.Lists.{AllPairs-map, AllPairs-weaker}
 use Rattle.life_objects.proofs.Many.{generation-union_of, pairs_then}
 use Rattle.life_classes.specs.declared.class.Class.{Class}
 use Rattle.life_classes.specs.Nearness.{reaches}
-use Rattle.life_classes.specs.Tracking.{AreApartNow, AreTracked, firsts, lasts, moved_on}
+use Rattle.life_classes.specs.Tracking.{AreApartNow, AreTracked, first_sets, last_sets, moved_on}
 use Rattle.life_classes.proofs.Owners.{next_by_touch}
 
-firsts-moved_on : (H : Generation) (cs : List Class) → firsts (map (moved_on H) cs) ≡ firsts cs
+firsts-moved_on : (H : Generation) (cs : List Class) → first_sets (map (moved_on H) cs) ≡ first_sets cs
 firsts-moved_on H [] = refl
 firsts-moved_on H (c ∷ cs) = ap (λ r. c.first ∷ r) (firsts-moved_on H cs)
 
 module _ (R : Rule) (n : ℕ) where
   pub lasts_then : (cs : List Class) → All (λ c. c.last ≡ generation R c.first n) cs →
-      lasts cs ≡ generations R (firsts cs) n
+      last_sets cs ≡ generations R (first_sets cs) n
   lasts_then [] all = refl
   lasts_then (c ∷ cs) all =
       λ i. All-head (λ c. c.last ≡ generation R c.first n) c cs all i
@@ -45,25 +45,25 @@ module _ (R : Rule) (b n : ℕ) (G : Generation) (cs : List Class) (t : AreTrack
             (subst (λ H. AreApart (get_or cs i x).last H) (t.later j x k) (now i j x h k)))
       ]
 
-  all_then : generation R G n ≡ union_of (lasts cs)
+  all_then : generation R G n ≡ union_of (last_sets cs)
   all_then =
       ap (λ H. generation R H n) (sym t.together)
-      ∙ generation-union_of R n (firsts cs) (λ m h.
-      pairs_then R AreApart m (firsts cs)
+      ∙ generation-union_of R n (first_sets cs) (λ m h.
+      pairs_then R AreApart m (first_sets cs)
       (AllPairs-weaker (AreApartBefore R n) (λ P Q. AreApart (generation R P m) (generation R Q m))
-      (λ P Q far. far m h) (firsts cs) (AllPairs-map (AreApartBefore R n) (λ c. c.first) cs t.before)))
+      (λ P Q far. far m h) (first_sets cs) (AllPairs-map (AreApartBefore R n) (λ c. c.first) cs t.before)))
       ∙ ap union_of (sym (lasts_then R n cs t.later))
 
-  pub end_apart : n ≡ b → AllPairs (AreApartFor R b) (firsts cs)
+  pub end_apart : n ≡ b → AllPairs (AreApartFor R b) (first_sets cs)
   end_apart e =
       AllPairs-map (AreApartFor R b) (λ c. c.first) cs
       (AllPairs-weaker (λ c d. AreApartBefore R (n + 1) c.first d.first) (λ c d. AreApartFor R b c.first d.first)
       (λ c d far m h. far m (omega arith)) cs apart_until_now)
 
-  lasts_apart : AllPairs AreApart (lasts cs)
+  lasts_apart : AllPairs AreApart (last_sets cs)
   lasts_apart = AllPairs-map AreApart (λ c. c.last) cs now
 
-  last_listed : (k : ℕ) (d : Class) → k < length cs → Contains (lasts cs) (get_or cs k d).last
+  last_listed : (k : ℕ) (d : Class) → k < length cs → Contains (last_sets cs) (get_or cs k d).last
   last_listed k d h =
       let long = length-map cs (λ c. c.last) in
       (k, omega arith, get_or-map (λ (c : Class). c.last) cs k d (get_or cs k d).last h)
@@ -72,7 +72,7 @@ module _ (R : Rule) (b n : ℕ) (G : Generation) (cs : List Class) (t : AreTrack
       keep H (reaches 1 (get_or cs k d).last) ≡ generation R (get_or cs k d).first (n + 1)
   later_at H is k d h =
       ap (λ F. keep F (reaches 1 (get_or cs k d).last)) (is ∙ generation-next R G n ∙ ap (next R) all_then)
-      ∙ next_by_touch R (lasts cs) lasts_apart (get_or cs k d).last (last_listed k d h)
+      ∙ next_by_touch R (last_sets cs) lasts_apart (get_or cs k d).last (last_listed k d h)
       ∙ ap (next R) (t.later k d h) ∙ sym (generation-next R (get_or cs k d).first n)
 
   pub moved_on_tracked : (H : Generation) → H ≡ generation R G (n + 1) → AreTracked R b (n + 1) G (map (moved_on H) cs)

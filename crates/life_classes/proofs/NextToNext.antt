@@ -10,7 +10,7 @@ use Rattle.life_objects.specs.Apart.{AreApart}
 use Rattle.life_objects.specs.Union.{union}
 use Rattle.life_objects.proofs.Unions.{contains-union}
 use Rattle.life_classes.specs.Nearness.{IsChain, are_within}
-use Rattle.life_classes.specs.Tracking.{LeadTo, alone, at_first}
+use Rattle.life_classes.specs.Tracking.{LeadTo, class_of_cell, at_first}
 use Rattle.life_classes.proofs.Beginning.{contains-one}
 use Rattle.life_classes.proofs.Leading.{lead_joined, lead_same}
 use Rattle.life_classes.proofs.Merging.{halves_tracked, in_turn}
@@ -34,20 +34,20 @@ near_next c d ds h far =
     (record { left = w.left; right = w.right; above = w.above; below = w.below })
 
 lead_chain : (c : Cell) (cs : List Cell) → IsChain (c ∷ cs) →
-    LeadTo (map alone (c ∷ cs)) (at_first (c ∷ cs) ∷ [])
-lead_chain c [] h = lead_same (alone c ∷ [])
+    LeadTo (map class_of_cell (c ∷ cs)) (at_first (c ∷ cs) ∷ [])
+lead_chain c [] h = lead_same (class_of_cell c ∷ [])
 lead_chain c (d ∷ ds) h =
-    let rest = map alone (d ∷ ds) in
+    let rest = map class_of_cell (d ∷ ds) in
     let next = at_first (d ∷ ds) in
-    let one = alone c ∷ [] in
+    let one = class_of_cell c ∷ [] in
     let all = at_first (c ∷ (d ∷ ds)) in
-    in_turn (alone c ∷ rest) (alone c ∷ (next ∷ [])) (all ∷ [])
+    in_turn (class_of_cell c ∷ rest) (class_of_cell c ∷ (next ∷ [])) (all ∷ [])
     (halves_tracked one rest one (next ∷ []) (lead_same one)
     (lead_chain d ds (λ k j x e l. h (suc k) (suc j) x (omega arith) (omega arith))))
-    (lead_joined next (alone c) all [] (with_first c (d ∷ ds)) (with_first c (d ∷ ds))
+    (lead_joined next (class_of_cell c) all [] (with_first c (d ∷ ds)) (with_first c (d ∷ ds))
     (near_next c d ds (h 0 1 c (omega arith) (omega arith))))
 
 -- some cells
-pub lead_cells : (cs : List Cell) → 0 < length cs → IsChain cs → LeadTo (map alone cs) (at_first cs ∷ [])
+pub lead_cells : (cs : List Cell) → 0 < length cs → IsChain cs → LeadTo (map class_of_cell cs) (at_first cs ∷ [])
 lead_cells [] some chain = absurd (omega arith)
 lead_cells (c ∷ cs) some chain = lead_chain c cs chain

@@ -19,7 +19,7 @@ use Rattle.life_objects.proofs.Distances.{AreApart-swap}
 use Rattle.life_objects.proofs.Sides.{within_each_other}
 use Rattle.life_objects.proofs.Unions.{contains-union_of}
 use Rattle.life_classes.specs.declared.class.Class.{Class}
-use Rattle.life_classes.specs.Tracking.{AreTracked, LeadTo, firsts}
+use Rattle.life_classes.specs.Tracking.{AreTracked, LeadTo, first_sets}
 
 -- what stands in place m, where the elements in places i and j change places, stood in place k
 abbrev IsFrom : ℕ → ℕ → ℕ → ℕ → Type 0
@@ -114,7 +114,7 @@ module _ (R : Rule) (b n : ℕ) (G : Generation) where
   tracked_moved : (cs ds : List Class) → IsPermutation cs ds → AreTracked R b n G cs → AreTracked R b n G ds
   tracked_moved cs ds moved t = record {
     together =
-        union_moved (firsts cs) (firsts ds) (IsPermutation-map (λ c. c.first) cs ds moved) ∙ t.together;
+        union_moved (first_sets cs) (first_sets ds) (IsPermutation-map (λ c. c.first) cs ds moved) ∙ t.together;
     whole = All-permutation (λ c. StaysWhole R b G c.first) cs ds moved t.whole;
     before =
         AllPairs-permutation (λ c d. AreApartBefore R n c.first d.first) were_apart-turn cs ds moved t.before;

@@ -17,7 +17,7 @@ use Rattle.life_objects.proofs.Staying.{meeting_stays}
 use Rattle.life_objects.proofs.Times.{generation-union}
 use Rattle.life_objects.proofs.Unions.{contains-union}
 use Rattle.life_classes.specs.declared.class.Class.{Class}
-use Rattle.life_classes.specs.Tracking.{AreTracked, firsts}
+use Rattle.life_classes.specs.Tracking.{AreTracked, first_sets}
 use Rattle.life_classes.proofs.Orders.{All-to_front, All-from_front, pairs_to_front, pairs_from_front}
 
 or-swap : (a b c : Bool) → (a || (b || c)) ≡ (b || (a || c))
@@ -43,10 +43,10 @@ union-assoc P Q S = same_members _ _ (λ c.
     ∙ sym (contains-union P (union Q S) c ∙ ap (λ b. contains P c || b) (contains-union Q S c)))
 
 union-to_front : (c : Class) (cs ds : List Class) →
-    union_of (firsts (cs ++ (c ∷ ds))) ≡ union_of (firsts (c ∷ (cs ++ ds)))
+    union_of (first_sets (cs ++ (c ∷ ds))) ≡ union_of (first_sets (c ∷ (cs ++ ds)))
 union-to_front c [] ds = refl
 union-to_front c (e ∷ es) ds =
-    ap (union e.first) (union-to_front c es ds) ∙ union-swap e.first c.first (union_of (firsts (es ++ ds)))
+    ap (union e.first) (union-to_front c es ds) ∙ union-swap e.first c.first (union_of (first_sets (es ++ ds)))
 
 module _ (R : Rule) (b n : ℕ) (G : Generation) where
   -- two classes were apart in each generation before
@@ -115,16 +115,16 @@ module _ (R : Rule) (b n : ℕ) (G : Generation) where
     pub joined_tracked : n ≤ b → ¬ AreApart c.last d.last → AreTracked R b n G (e ∷ cs)
     joined_tracked h meet = record {
       together =
-          ap (λ H. union H (union_of (firsts cs))) first
-          ∙ union-assoc c.first d.first (union_of (firsts cs)) ∙ t.together;
+          ap (λ H. union H (union_of (first_sets cs))) first
+          ∙ union-assoc c.first d.first (union_of (first_sets cs)) ∙ t.together;
       whole =
           All-cons (λ c. StaysWhole R b G c.first) e cs
           (subst (StaysWhole R b G) (sym first)
-          (meeting_stays R b G (firsts (c ∷ (d ∷ cs))) t.together
+          (meeting_stays R b G (first_sets (c ∷ (d ∷ cs))) t.together
           (All-map (StaysWhole R b G) (λ c. c.first) (c ∷ (d ∷ cs)) t.whole) n h
           (AllPairs-map (AreApartBefore R n) (λ c. c.first) (c ∷ (d ∷ cs)) t.before) c.first d.first
-          (Contains-head c.first (firsts (d ∷ cs)))
-          (Contains-later c.first d.first (firsts (d ∷ cs)) (Contains-head d.first (firsts cs)))
+          (Contains-head c.first (first_sets (d ∷ cs)))
+          (Contains-later c.first d.first (first_sets (d ∷ cs)) (Contains-head d.first (first_sets cs)))
           (λ far. meet (subst (λ H. AreApart H d.last) (sym c_then)
           (subst (λ H. AreApart (generation R c.first n) H) (sym d_then) far)))))
           (All-tail (λ c. StaysWhole R b G c.first) d cs

@@ -10,9 +10,9 @@ abbrev pub classes_of : List Ranked → List Class
 classes_of rs = map (λ r. r.class) rs
 
 -- what is left of a class, or else what it was at first
-abbrev pub side : Bool → Class → Generation
-side true c = c.last
-side false c = c.first
+abbrev pub set_on_side : Bool → Class → Generation
+set_on_side true c = c.last
+set_on_side false c = c.first
 
 -- the class in place n is near one from a place on that stands before it
 pub record IsLed (cs : List Class) (start n : ℕ) : Type 0 where
@@ -26,5 +26,5 @@ abbrev pub HangTogether : List Class → Type 0
 HangTogether cs = (n : ℕ) → 0 < n → n < length cs → IsLed cs 0 n
 
 -- those from one place to another
-abbrev pub between : ℕ → ℕ → List Class → List Class
-between start end cs = take (end - start) (drop start cs)
+abbrev pub classes_between : ℕ → ℕ → List Class → List Class
+classes_between start end cs = take (end - start) (drop start cs)

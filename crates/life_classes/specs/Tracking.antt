@@ -11,19 +11,19 @@ use Rattle.life_objects.specs.Whole.{StaysWhole}
 use Rattle.life_classes.specs.declared.class.Class.{Class}
 use Rattle.life_classes.specs.Nearness.{reaches}
 
-abbrev pub firsts : List Class → List Generation
-firsts cs = map (λ c. c.first) cs
+abbrev pub first_sets : List Class → List Generation
+first_sets cs = map (λ c. c.first) cs
 
-abbrev pub lasts : List Class → List Generation
-lasts cs = map (λ c. c.last) cs
+abbrev pub last_sets : List Class → List Generation
+last_sets cs = map (λ c. c.last) cs
 
 -- the class of some cells, as they are at first
 abbrev pub at_first : List Cell → Class
 at_first cs = record { first = from_list cs; last = from_list cs }
 
 -- the class of one cell
-abbrev pub alone : Cell → Class
-alone c = record { first = from_list (c ∷ []); last = from_list (c ∷ []) }
+abbrev pub class_of_cell : Cell → Class
+class_of_cell c = record { first = from_list (c ∷ []); last = from_list (c ∷ []) }
 
 -- a class a generation later, of whose cells these are all
 abbrev pub moved_on : Generation → Class → Class
@@ -36,7 +36,7 @@ AreApartNow cs = AllPairs (λ c d. AreApart c.last d.last) cs
 -- G is these classes after n generations, in each of which but the last any two of them were apart, and none of which a
 -- split for b generations tears.
 pub record AreTracked (R : Rule) (b n : ℕ) (G : Generation) (cs : List Class) : Type 0 where
-  pub together : union_of (firsts cs) ≡ G
+  pub together : union_of (first_sets cs) ≡ G
   pub whole : All (λ c. StaysWhole R b G c.first) cs
   pub before : AllPairs (λ c d. AreApartBefore R n c.first d.first) cs
   pub later : All (λ c. c.last ≡ generation R c.first n) cs

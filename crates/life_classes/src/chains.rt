@@ -3,7 +3,7 @@ ghost use Rattle.std.specs.Prelude.{◌≡◌, ◌-◌, ◌<◌, ◌≤◌, All,
 ghost use Rattle.life_model.specs.Generation.{from_list};
 ghost use Rattle.life_cells.specs.Limits.{IsPlace};
 ghost use Rattle.life_classes.specs.Nearness.{IsChain};
-ghost use Rattle.life_classes.specs.Tracking.{LeadTo, alone, at_first};
+ghost use Rattle.life_classes.specs.Tracking.{LeadTo, class_of_cell, at_first};
 
 use crate::class::Class;
 use crate::nearness::are_within;
@@ -53,7 +53,7 @@ fn as_one(alloc: Global, cells: &[(i32, i32)]) -> Result<Class, AllocError>
 /// The cells as classes of those each of which is near the one before it.
 pub fn chains(alloc: Global, cells: &[(i32, i32)]) -> Result<Vec<Class>, AllocError>
     requires { All IsPlace cells.now }
-    ensures { IfOk result (λ classes. LeadTo (map alone cells.now) classes.items) }
+    ensures { IfOk result (λ classes. LeadTo (map class_of_cell cells.now) classes.items) }
 {
     let mut classes = Vec::new(alloc);
     let mut start = 0;

@@ -3,7 +3,7 @@ ghost use Rattle.std.specs.Prelude.{◌≡◌, ◌<◌, ◌≤◌, IfOk, false, 
 ghost use Rattle.std.specs.Bool.{OnTrue};
 ghost use Rattle.std.specs.List.Sorted.{IsPermutation};
 ghost use Rattle.life_objects.specs.Union.{union_of};
-ghost use Rattle.life_classes.specs.Gathering.{HangTogether, IsLed, between, classes_of, side};
+ghost use Rattle.life_classes.specs.Gathering.{HangTogether, IsLed, classes_between, classes_of, set_on_side};
 ghost use Rattle.life_classes.specs.Tracking.{LeadTo};
 
 use crate::class::Class;
@@ -65,7 +65,7 @@ fn end_of_group(ranked: &[Ranked], start: usize) -> usize
     requires { start < length ranked.now }
     ensures above { start < result }
     ensures within { result ≤ length ranked.now }
-    ensures together { HangTogether (between start result (classes_of ranked.now)) }
+    ensures together { HangTogether (classes_between start result (classes_of ranked.now)) }
 {
     for n in start + 1..ranked.len() {
         if !is_led(ranked, start, n) {
@@ -77,7 +77,7 @@ fn end_of_group(ranked: &[Ranked], start: usize) -> usize
 
 /// What is left of a class, or else what it was at first.
 fn side_of(class: &Class, last: bool) -> &CellList
-    ensures { result.now ≡ side last class.now }
+    ensures { result.now ≡ set_on_side last class.now }
 {
     if last {
         return &class.last;
@@ -87,7 +87,7 @@ fn side_of(class: &Class, last: bool) -> &CellList
 
 /// What is left of the classes together, or else what they were at first.
 fn all_cells(alloc: Global, group: &[Ranked], last: bool) -> Result<CellList, AllocError>
-    ensures { IfOk result (λ list. list ≡ union_of (map (side last) (classes_of group.now))) }
+    ensures { IfOk result (λ list. list ≡ union_of (map (set_on_side last) (classes_of group.now))) }
 {
     let mut items = Vec::new(alloc);
     for one in group {
@@ -99,8 +99,8 @@ fn all_cells(alloc: Global, group: &[Ranked], last: bool) -> Result<CellList, Al
 
 /// The classes as one.
 fn as_one(alloc: Global, group: &[Ranked]) -> Result<Class, AllocError>
-    ensures first { IfOk result (λ class. class.first ≡ union_of (map (side false) (classes_of group.now))) }
-    ensures last { IfOk result (λ class. class.last ≡ union_of (map (side true) (classes_of group.now))) }
+    ensures first { IfOk result (λ class. class.first ≡ union_of (map (set_on_side false) (classes_of group.now))) }
+    ensures last { IfOk result (λ class. class.last ≡ union_of (map (set_on_side true) (classes_of group.now))) }
 {
     Ok(Class {
         first: all_cells(alloc, group, false)?,

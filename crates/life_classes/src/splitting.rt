@@ -4,7 +4,7 @@ ghost use Rattle.life_cells.specs.Limits.{IsPlace};
 ghost use Rattle.life_objects.specs.Apart.{AreApartFor};
 ghost use Rattle.life_objects.specs.Union.{generations, union_of};
 ghost use Rattle.life_objects.specs.Whole.{StaysWhole};
-ghost use Rattle.life_classes.specs.Tracking.{AreApartNow, LeadTo, alone, firsts, lasts};
+ghost use Rattle.life_classes.specs.Tracking.{AreApartNow, LeadTo, class_of_cell, first_sets, last_sets};
 
 use crate::chains::chains;
 use crate::class::Class;
@@ -17,7 +17,7 @@ use std::alloc::{AllocError, Global};
 /// The cells as classes of those that are near each other.
 pub fn first_classes(alloc: Global, cells: &[(i32, i32)]) -> Result<Vec<Class>, AllocError>
     requires { All IsPlace cells.now }
-    ensures tracked { IfOk result (λ all. LeadTo (map alone cells.now) all.items) }
+    ensures tracked { IfOk result (λ all. LeadTo (map class_of_cell cells.now) all.items) }
     ensures apart { IfOk result (λ all. AreApartNow all.items) }
 {
     all_joined(alloc, chains(alloc, cells)?)
@@ -33,10 +33,10 @@ pub fn classes<P: Plane>(
     bound: u32,
 ) -> Result<Vec<Class>, AllocError>
     requires young { P.steps_made plane + bound ≤ AGE_LIMIT }
-    ensures together { IfOk result (λ all. union_of (firsts all.items) ≡ P.members plane) }
-    ensures whole { IfOk result (λ all. All (StaysWhole rule.now bound (P.members plane)) (firsts all.items)) }
-    ensures apart { IfOk result (λ all. AllPairs (AreApartFor rule.now bound) (firsts all.items)) }
-    ensures later { IfOk result (λ all. lasts all.items ≡ generations rule.now (firsts all.items) bound) }
+    ensures together { IfOk result (λ all. union_of (first_sets all.items) ≡ P.members plane) }
+    ensures whole { IfOk result (λ all. All (StaysWhole rule.now bound (P.members plane)) (first_sets all.items)) }
+    ensures apart { IfOk result (λ all. AllPairs (AreApartFor rule.now bound) (first_sets all.items)) }
+    ensures later { IfOk result (λ all. last_sets all.items ≡ generations rule.now (first_sets all.items) bound) }
 {
     let mut plane = plane;
     let mut classes = first_classes(alloc, plane.cells()?.as_slice())?;

@@ -14,7 +14,7 @@ use Rattle.std.proofs.lemmas.List.Sums.{sum_by-cons}
 use Rattle.std.proofs.Math.Nat.{mul-le-mul_right, div-lt_iff_lt-mul}
 use Rattle.life_model.specs.Cell.{Cell, cell_cmp, same_cell, plus, opposite}
 use Rattle.life_model.specs.Generation.{Generation, contains, from_list, below_all, is_rising}
-use Rattle.life_model.specs.Symmetry.{moved, normal, Orientation, FlipX, turn, turned}
+use Rattle.life_model.specs.Symmetry.{translate_of, normal, Orientation, FlipX, turn, image_under}
 use Rattle.life_model.specs.Box.{height}
 use Rattle.life_model.proofs.Cells.{same_cell-is, plus-opposite, plus-opposite_first}
 use Rattle.life_model.proofs.Generations.{contains-from_list}
@@ -27,7 +27,7 @@ use Rattle.life_shape.proofs.Boxes.{contains-normal}
 use Rattle.life_shape.proofs.Members.{all_from}
 use Rattle.life_shape.proofs.Weights.{live_value, live_value-lt}
 use Rattle.life_codes.specs.declared.frame.Frame.{Frame}
-use Rattle.life_codes.specs.Frames.{IsInFrame, frame_of, turned_frame, placed, wide_of, strips_of}
+use Rattle.life_codes.specs.Frames.{IsInFrame, frame_of, turned_frame, cell_in_frame, wide_of, strips_of}
 use Rattle.life_codes.specs.Grids.{HoldsWeights, strip_of, grid_text}
 use Rattle.life_codes.proofs.Framed.{Framed, framed_of, framed_turned, in_frame, corner_framed, width_framed, height_framed, range_ordered}
 
@@ -88,7 +88,7 @@ module _ (forth back : Cell → Cell) (undo : AreInverse forth back) where
 abbrev back_from : Orientation → Frame → Cell → Cell
 back_from m f q = turn (undone m) (plus q (opposite (opposite (f.left, f.top))))
 
-placed_inverse : (m : Orientation) (f : Frame) → AreInverse (placed m f) (back_from m f)
+placed_inverse : (m : Orientation) (f : Frame) → AreInverse (cell_in_frame m f) (back_from m f)
 placed_inverse m f =
     let k = opposite (f.left, f.top) in
     record {
@@ -97,27 +97,27 @@ placed_inverse m f =
     }
 
 module _ (cs : List Cell) (m : Orientation) (f : Frame) where
-  contains-placed : (q : Cell) → contains (moved (turned (from_list cs) m) (opposite (f.left, f.top))) q ≡ list_any (same_cell q) (map (placed m f) cs)
+  contains-placed : (q : Cell) → contains (translate_of (image_under (from_list cs) m) (opposite (f.left, f.top))) q ≡ list_any (same_cell q) (map (cell_in_frame m f) cs)
   contains-placed q =
       let G = from_list cs in
-      contains-moved (turned G m) (opposite (f.left, f.top)) q
+      contains-moved (image_under G m) (opposite (f.left, f.top)) q
       ∙ contains-turned G m (plus q (opposite (opposite (f.left, f.top))))
       ∙ contains-from_list cs (back_from m f q)
-      ∙ list_any-alike (same_cell (back_from m f q)) (λ c. same_cell q (placed m f c)) (λ c. sym (same_cell-forth (placed m f) (back_from m f) (placed_inverse m f) q c)) cs
-      ∙ sym (list_any-map (same_cell q) (placed m f) cs)
+      ∙ list_any-alike (same_cell (back_from m f q)) (λ c. same_cell q (cell_in_frame m f c)) (λ c. sym (same_cell-forth (cell_in_frame m f) (back_from m f) (placed_inverse m f) q c)) cs
+      ∙ sym (list_any-map (same_cell q) (cell_in_frame m f) cs)
 
-  contains-normal_placed : Framed (turned (from_list cs) m) f → (q : Cell) → contains (normal (turned (from_list cs) m)) q ≡ list_any (same_cell q) (map (placed m f) cs)
+  contains-normal_placed : Framed (image_under (from_list cs) m) f → (q : Cell) → contains (normal (image_under (from_list cs) m)) q ≡ list_any (same_cell q) (map (cell_in_frame m f) cs)
   unfolding normal
   contains-normal_placed h q =
-      ap (λ k. contains (moved (turned (from_list cs) m) (opposite k)) q) (corner_framed (turned (from_list cs) m) f h) ∙ contains-placed q
+      ap (λ k. contains (translate_of (image_under (from_list cs) m) (opposite k)) q) (corner_framed (image_under (from_list cs) m) f h) ∙ contains-placed q
 
-  pub column-placed : Framed (turned (from_list cs) m) f → T (is_rising cs) → (k x : ℕ) → weights k (map (placed m f) cs) x ≡ column_value (normal (turned (from_list cs) m)) k x
+  pub column-placed : Framed (image_under (from_list cs) m) f → T (is_rising cs) → (k x : ℕ) → weights k (map (cell_in_frame m f) cs) x ≡ column_value (normal (image_under (from_list cs) m)) k x
   column-placed h rising k x =
-      sym (weights_once (placed m f) (back_from m f) (placed_inverse m f) k x cs rising)
+      sym (weights_once (cell_in_frame m f) (back_from m f) (placed_inverse m f) k x cs rising)
       ∙ ap (λ (live : ℕ → Bool). live_value live) (λ i j. sym (contains-normal_placed h (pos x, pos (5 * k + j))) i)
 
-  pub placed-lt : T (is_rising cs) → (k x : ℕ) → weights k (map (placed m f) cs) x < 32
-  placed-lt rising k x = weights_once-lt (placed m f) (back_from m f) (placed_inverse m f) k x cs rising
+  pub placed-lt : T (is_rising cs) → (k x : ℕ) → weights k (map (cell_in_frame m f) cs) x < 32
+  placed-lt rising k x = weights_once-lt (cell_in_frame m f) (back_from m f) (placed_inverse m f) k x cs rising
 
 -- ---- the columns of the mirror image
 
@@ -125,16 +125,16 @@ from_other_side : (x : ℕ) (left right : ℤ) → left ≤ℤ right → x < nat
 from_other_side x left right o h = omega (arith, ints)
 
 module _ (G : Generation) (f : Frame) (h : Framed G f) where
-  contains-mirror : (x y : ℕ) → x < wide_of f → contains (normal (turned G FlipX)) (pos x, pos y) ≡ contains (normal G) (pos (wide_of f - 1 - x), pos y)
+  contains-mirror : (x y : ℕ) → x < wide_of f → contains (normal (image_under G FlipX)) (pos x, pos y) ≡ contains (normal G) (pos (wide_of f - 1 - x), pos y)
   contains-mirror x y inside =
-      contains-normal (turned G FlipX) (pos x, pos y)
-      ∙ ap (λ k. contains (turned G FlipX) (plus (pos x, pos y) k)) (corner_framed (turned G FlipX) (turned_frame FlipX f) (framed_turned G f FlipX h))
+      contains-normal (image_under G FlipX) (pos x, pos y)
+      ∙ ap (λ k. contains (image_under G FlipX) (plus (pos x, pos y) k)) (corner_framed (image_under G FlipX) (turned_frame FlipX f) (framed_turned G f FlipX h))
       ∙ contains-turned G FlipX (plus (pos x, pos y) (neg_ℤ f.right, f.top))
       ∙ ap (λ z. contains G (z, pos y +ℤ f.top)) (from_other_side x f.left f.right (range_ordered (λ c. c.0) G _ _ h.across) inside)
       ∙ ap (λ k. contains G (plus (pos (wide_of f - 1 - x), pos y) k)) (sym (corner_framed G f h))
       ∙ sym (contains-normal G (pos (wide_of f - 1 - x), pos y))
 
-  pub column-mirror : (k x : ℕ) → x < wide_of f → column_value (normal (turned G FlipX)) k x ≡ column_value (normal G) k (wide_of f - 1 - x)
+  pub column-mirror : (k x : ℕ) → x < wide_of f → column_value (normal (image_under G FlipX)) k x ≡ column_value (normal G) k (wide_of f - 1 - x)
   column-mirror k x inside = ap (λ (live : ℕ → Bool). live_value live) (λ i j. contains-mirror x (5 * k + j) inside i)
 
 -- ---- strips
@@ -190,22 +190,22 @@ module _ (values : List ℕ) (wide strips : ℕ) (room : length values ≡ strip
 pub strip_number : (G : Generation) (f : Frame) → Framed G f → strips_of f ≡ (height G + 4) / 5
 strip_number G f h = let e = height_framed G f h in let same : nat_abs (f.bottom -ℤ f.top) + 5 ≡ height G + 4 = omega arith in ap (λ n. n / 5) same
 
-module _ (cs : List Cell) (m : Orientation) (f : Frame) (h : Framed (turned (from_list cs) m) f) (rising : T (is_rising cs)) (values : List ℕ) (room : length values ≡ strips_of f * wide_of f) (held : HoldsWeights values (wide_of f) (strips_of f) (map (placed m f) cs)) where
-  columns_held : (k x : ℕ) → k < strips_of f → x < wide_of f → get_or values (k * wide_of f + x) 0 ≡ column_value (normal (turned (from_list cs) m)) k x
+module _ (cs : List Cell) (m : Orientation) (f : Frame) (h : Framed (image_under (from_list cs) m) f) (rising : T (is_rising cs)) (values : List ℕ) (room : length values ≡ strips_of f * wide_of f) (held : HoldsWeights values (wide_of f) (strips_of f) (map (cell_in_frame m f) cs)) where
+  columns_held : (k x : ℕ) → k < strips_of f → x < wide_of f → get_or values (k * wide_of f + x) 0 ≡ column_value (normal (image_under (from_list cs) m)) k x
   columns_held k x a b = held.each k x a b ∙ column-placed cs m f h rising k x
 
-  pub text_forward : grid_text values (wide_of f) (strips_of f) false ≡ body (turned (from_list cs) m)
+  pub text_forward : grid_text values (wide_of f) (strips_of f) false ≡ body (image_under (from_list cs) m)
   unfolding body
   text_forward =
-      let G = turned (from_list cs) m in
+      let G = image_under (from_list cs) m in
       same_strips _ _ (strips_of f) (λ k a. ap (columns_text 0) (strip_forward values (wide_of f) (strips_of f) room (column_value (normal G)) columns_held k a))
       ∙ (λ i. strips_text (strip_text (normal G) (sym (width_framed G f h) i)) (strip_number G f h i))
 
-  pub text_backward : grid_text values (wide_of f) (strips_of f) true ≡ body (turned (turned (from_list cs) m) FlipX)
+  pub text_backward : grid_text values (wide_of f) (strips_of f) true ≡ body (image_under (image_under (from_list cs) m) FlipX)
   unfolding body
   text_backward =
-      let G = turned (from_list cs) m in
-      let M = turned G FlipX in
+      let G = image_under (from_list cs) m in
+      let M = image_under G FlipX in
       let g = turned_frame FlipX f in
       let there = framed_turned G f FlipX h in
       let order = range_ordered (λ c. c.0) G _ _ h.across in
@@ -216,16 +216,16 @@ module _ (cs : List Cell) (m : Orientation) (f : Frame) (h : Framed (turned (fro
 
 -- ---- what is asked of cells and of grids
 
-pub cells_inside : (cs : List Cell) (m : Orientation) (f : Frame) → Framed (turned (from_list cs) m) f → All (λ c. IsInFrame f (turn m c)) cs
+pub cells_inside : (cs : List Cell) (m : Orientation) (f : Frame) → Framed (image_under (from_list cs) m) f → All (λ c. IsInFrame f (turn m c)) cs
 cells_inside cs m f h =
     All-from_recursion (λ c. IsInFrame f (turn m c)) cs
     (all_from (λ c. IsInFrame f (turn m c)) cs (λ c e.
-    in_frame (turned (from_list cs) m) f h (turn m c)
+    in_frame (image_under (from_list cs) m) f h (turn m c)
     (contains-turned (from_list cs) m (turn m c) ∙ ap (contains (from_list cs)) (turn-undone m c) ∙ contains-from_list cs c ∙ e)))
 
-pub framed_cells : (cs : List Cell) (m : Orientation) (f g : Frame) → 0 < length cs → f ≡ frame_of cs → g ≡ turned_frame m f → Framed (turned (from_list cs) m) g
+pub framed_cells : (cs : List Cell) (m : Orientation) (f g : Frame) → 0 < length cs → f ≡ frame_of cs → g ≡ turned_frame m f → Framed (image_under (from_list cs) m) g
 framed_cells cs m f g some e h =
-    subst (Framed (turned (from_list cs) m)) (sym (h ∙ ap (turned_frame m) e)) (framed_turned (from_list cs) (frame_of cs) m (framed_of cs some))
+    subst (Framed (image_under (from_list cs) m)) (sym (h ∙ ap (turned_frame m) e)) (framed_turned (from_list cs) (frame_of cs) m (framed_of cs some))
 
 pub small_values : (values : List ℕ) (wide strips : ℕ) (ds : List Cell) → 0 < wide → length values ≡ strips * wide → HoldsWeights values wide strips ds → ((k x : ℕ) → weights k ds x < 32) → All (λ v. v < 36) values
 small_values values wide strips ds some room held small n d h =

@@ -9,7 +9,7 @@ use Rattle.std.proofs.lemmas.List.Sums.{fold-append}
 use Rattle.std.proofs.lemmas.List.Elements.{recursion_from_All}
 use Rattle.life_model.specs.Cell.{Cell, same_cell, origin, plus, opposite}
 use Rattle.life_model.specs.Generation.{Generation, contains, from_list}
-use Rattle.life_model.specs.Symmetry.{corner, Orientation, Same, FlipX, FlipY, Half, Swap, SwapFlipX, SwapFlipY, SwapHalf, turn, turned}
+use Rattle.life_model.specs.Symmetry.{corner, Orientation, Same, FlipX, FlipY, Half, Swap, SwapFlipX, SwapFlipY, SwapHalf, turn, image_under}
 use Rattle.life_model.specs.Box.{width, height}
 use Rattle.life_model.proofs.Cells.{same_cell-is}
 use Rattle.life_model.proofs.Generations.{contains-from_list}
@@ -75,7 +75,7 @@ module _ (g : Cell → ℤ) where
         highest_at = high.2;
       }
 
-  pub range_turned : (G : Generation) (m : Orientation) (low high : ℤ) → Range (λ c. g (turn m c)) G low high → Range g (turned G m) low high
+  pub range_turned : (G : Generation) (m : Orientation) (low high : ℤ) → Range (λ c. g (turn m c)) G low high → Range g (image_under G m) low high
   range_turned G m low high r = record {
     above = λ c h. subst (λ d. low ≤ℤ g d) ((turn_keeps m).inverse.here c) (r.above (turn (undone m) c) (sym (contains-turned G m c) ∙ h));
     below = λ c h. subst (λ d. g d ≤ℤ high) ((turn_keeps m).inverse.here c) (r.below (turn (undone m) c) (sym (contains-turned G m c) ∙ h));
@@ -111,7 +111,7 @@ pub record Framed (G : Generation) (f : Frame) : Type 0 where
 pub framed_of : (cs : List Cell) → 0 < length cs → Framed (from_list cs) (frame_of cs)
 framed_of cs some = record { across = range_of (λ c. c.0) cs some; down = range_of (λ c. c.1) cs some }
 
-pub framed_turned : (G : Generation) (f : Frame) (m : Orientation) → Framed G f → Framed (turned G m) (turned_frame m f)
+pub framed_turned : (G : Generation) (f : Frame) (m : Orientation) → Framed G f → Framed (image_under G m) (turned_frame m f)
 framed_turned G f Same h = record {
   across = range_turned (λ c. c.0) G Same _ _ h.across;
   down = range_turned (λ c. c.1) G Same _ _ h.down;

@@ -4,12 +4,12 @@ use Rattle.std.specs.List.{fold}
 use Rattle.std.proofs.lemmas.List.{map-append, take_more}
 use Rattle.std.proofs.lemmas.List.Sums.{fold-append}
 use Rattle.life_model.specs.Generation.{Generation}
-use Rattle.life_model.specs.Symmetry.{normal, Orientation, FlipX, turned}
+use Rattle.life_model.specs.Symmetry.{normal, Orientation, FlipX, image_under}
 use Rattle.life_model.proofs.Objects.{then_turned, turned-turned, normal-turned}
 use Rattle.life_shape.specs.declared.orient.Orient.{Orient}
 use Rattle.life_shape.specs.declared.orient.Orient.TheVariants as orient
 use Rattle.life_shape.specs.Orients.{orientation}
-use Rattle.life_shape.specs.TextOrder.{lesser, least_text}
+use Rattle.life_shape.specs.TextOrder.{lesser_text, least_text}
 use Rattle.life_shape.specs.Wechsler.{body}
 use Rattle.life_shape.proofs.Boxes.{normal_normal}
 use Rattle.life_shape.proofs.TextOrders.{Among, least_text-least, least_text-among, least_text_is}
@@ -20,12 +20,12 @@ use Rattle.life_codes.specs.Least.{with_text, two_bodies}
 -- the text of a set is that of its normal form
 pub turned_bodies-normal : (G : Generation) → turned_bodies (normal G) ≡ turned_bodies G
 turned_bodies-normal G =
-    let each : (m : Orientation) → body (turned (normal G) m) ≡ body (turned G m) = λ m. body_by_shape _ _ (normal-turned (normal G) G m (normal_normal G)) in
+    let each : (m : Orientation) → body (image_under (normal G) m) ≡ body (image_under G m) = λ m. body_by_shape _ _ (normal-turned (normal G) G m (normal_normal G)) in
     λ i. map (λ m. each m i) orientations
 
 -- a set that is turned, and its mirror image
-pub fold-two_bodies : (G : Generation) (m : Orientation) (least : Option (List ℕ)) → fold with_text least (two_bodies G m) ≡ with_text (with_text least (body (turned G m))) (body (turned G (then_turned m FlipX)))
-fold-two_bodies G m least = ap (λ H. with_text (with_text least (body (turned G m))) (body H)) (turned-turned G m FlipX)
+pub fold-two_bodies : (G : Generation) (m : Orientation) (least : Option (List ℕ)) → fold with_text least (two_bodies G m) ≡ with_text (with_text least (body (image_under G m))) (body (image_under G (then_turned m FlipX)))
+fold-two_bodies G m least = ap (λ H. with_text (with_text least (body (image_under G m))) (body H)) (turned-turned G m FlipX)
 
 -- ---- texts that were taken
 
@@ -39,19 +39,19 @@ turn_last x m a b (inr (inr (inr none))) = absurd none
 pub either_first : (least : Option (List ℕ)) (a b : List ℕ) → with_text (with_text least a) b ≡ with_text (with_text least b) a
 either_first None a b =
     let all = least_text-least (b ∷ a ∷ []) in
-    let one : Among (lesser b a) (a ∷ b ∷ []) = elim (least_text-among b (a ∷ [])) [
+    let one : Among (lesser_text b a) (a ∷ b ∷ []) = elim (least_text-among b (a ∷ [])) [
       | inl e ↦ inr (inl e)
       | inr later ↦ elim later [ inl e ↦ inl e | inr none ↦ absurd none ]
     ] in
-    ap (λ (t : List ℕ). Some t) (least_text_is (lesser b a) a (b ∷ []) one (all.1.0, (all.0, tt)))
+    ap (λ (t : List ℕ). Some t) (least_text_is (lesser_text b a) a (b ∷ []) one (all.1.0, (all.0, tt)))
 either_first (Some m) a b =
     let x = least_text (m ∷ b ∷ a ∷ []) in
     let all = least_text-least (m ∷ b ∷ a ∷ []) in
     ap (λ (t : List ℕ). Some t) (least_text_is x m (a ∷ b ∷ []) (turn_last x m a b (least_text-among m (b ∷ a ∷ []))) (all.0, (all.1.1.0, (all.1.0, tt))))
 
 -- a set that is turned, and its mirror image first
-pub fold-two_turned : (G : Generation) (m : Orientation) (least : Option (List ℕ)) → fold with_text least (two_bodies G m) ≡ with_text (with_text least (body (turned G (then_turned m FlipX)))) (body (turned G m))
-fold-two_turned G m least = fold-two_bodies G m least ∙ either_first least (body (turned G m)) (body (turned G (then_turned m FlipX)))
+pub fold-two_turned : (G : Generation) (m : Orientation) (least : Option (List ℕ)) → fold with_text least (two_bodies G m) ≡ with_text (with_text least (body (image_under G (then_turned m FlipX)))) (body (image_under G m))
+fold-two_turned G m least = fold-two_bodies G m least ∙ either_first least (body (image_under G m)) (body (image_under G (then_turned m FlipX)))
 
 -- one that was taken changes nothing any more
 taken_again : (least : Option (List ℕ)) (a : List ℕ) → with_text (with_text least a) a ≡ with_text least a
@@ -60,11 +60,11 @@ taken_again None a =
     ap (λ (t : List ℕ). Some t) (least_text_is a a (a ∷ []) (inl refl) (itself.0, (itself.0, tt)))
 taken_again (Some m) a =
     let all = least_text-least (m ∷ a ∷ []) in
-    let one : Among (lesser m a) (m ∷ a ∷ a ∷ []) = elim (least_text-among m (a ∷ [])) [
+    let one : Among (lesser_text m a) (m ∷ a ∷ a ∷ []) = elim (least_text-among m (a ∷ [])) [
       | inl e ↦ inl e
       | inr later ↦ elim later [ inl e ↦ inr (inl e) | inr none ↦ absurd none ]
     ] in
-    ap (λ (t : List ℕ). Some t) (least_text_is (lesser m a) m (a ∷ a ∷ []) one (all.0, (all.1.0, (all.1.0, tt))))
+    ap (λ (t : List ℕ). Some t) (least_text_is (lesser_text m a) m (a ∷ a ∷ []) one (all.0, (all.1.0, (all.1.0, tt))))
 
 -- nor do two
 pub two_again : (least : Option (List ℕ)) (a b : List ℕ) → with_text (with_text (with_text (with_text least a) b) a) b ≡ with_text (with_text least a) b
@@ -97,13 +97,13 @@ orients =
     orient.Same ∷ orient.FlipX ∷ orient.FlipY ∷ orient.Half ∷ orient.Swap ∷ orient.SwapFlipX ∷ orient.SwapFlipY ∷ orient.SwapHalf ∷ []
 
 abbrev pub turned_body : Generation → Orient → List ℕ
-turned_body S o = body (turned S (orientation o))
+turned_body S o = body (image_under S (orientation o))
 
 module _ (S : Generation) (first : Option (List ℕ)) (os : List Orient) (d : Orient) where
-  pub turned-more : (i : ℕ) (so_far new : Option (List ℕ)) (N : Generation) (text : List ℕ) → i < length os → so_far ≡ fold with_text first (map (turned_body S) (take i os)) → N ≡ normal (turned S (orientation (get_or os i d))) → text ≡ body N → new ≡ with_text so_far text → new ≡ fold with_text first (map (turned_body S) (take (i + 1) os))
+  pub turned-more : (i : ℕ) (so_far new : Option (List ℕ)) (N : Generation) (text : List ℕ) → i < length os → so_far ≡ fold with_text first (map (turned_body S) (take i os)) → N ≡ normal (image_under S (orientation (get_or os i d))) → text ≡ body N → new ≡ with_text so_far text → new ≡ fold with_text first (map (turned_body S) (take (i + 1) os))
   turned-more i so_far new N text below e f g h =
       let o = get_or os i d in
-      let one : text ≡ turned_body S o = g ∙ ap body f ∙ body-normal (turned S (orientation o)) in
+      let one : text ≡ turned_body S o = g ∙ ap body f ∙ body-normal (image_under S (orientation o)) in
       h
       ∙ (λ i. with_text (e i) (one i))
       ∙ sym (fold-append with_text first (map (turned_body S) (take i os)) (turned_body S o ∷ []))

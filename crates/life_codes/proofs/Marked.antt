@@ -13,12 +13,12 @@ use Rattle.std.proofs.lemmas.Nat.{pow_pos}
 use Rattle.std.proofs.lemmas.Nat.Bits.{bit_at-zero, bit_at_set_same, bit_at_set_other}
 use Rattle.life_model.specs.Cell.{Cell}
 use Rattle.life_model.specs.Generation.{from_list, is_rising}
-use Rattle.life_model.specs.Symmetry.{normal, Orientation, Same, FlipX, FlipY, Half, Swap, SwapFlipX, SwapFlipY, SwapHalf, turn, turned}
+use Rattle.life_model.specs.Symmetry.{normal, Orientation, Same, FlipX, FlipY, Half, Swap, SwapFlipX, SwapFlipY, SwapHalf, turn, image_under}
 use Rattle.life_shape.specs.Dots.{weight, weights}
 use Rattle.life_shape.specs.Wechsler.{column_value, strip_text, strips_text, body}
 use Rattle.life_codes.specs.declared.frame.Frame.{Frame}
 use Rattle.life_codes.specs.declared.measure.Lengths.{Lengths}
-use Rattle.life_codes.specs.Frames.{IsInFrame, frame_of, turned_frame, placed, wide_of, strips_of}
+use Rattle.life_codes.specs.Frames.{IsInFrame, frame_of, turned_frame, cell_in_frame, wide_of, strips_of}
 use Rattle.life_codes.specs.Words.{AreLengths, AreZeroTogether, HoldsMarks, HoldsTurned, IsSmall, word_columns, words_text}
 use Rattle.life_codes.proofs.Bodies.{column-placed, column-mirror, framed_cells, strip_number}
 use Rattle.life_codes.proofs.Filled.{weight_here, other_column, other_strip}
@@ -129,17 +129,17 @@ inside_turned SwapHalf f c h =
 
 -- ---- the lengths of the two texts of a set
 
-module _ (cs : List Cell) (m : Orientation) (f : Frame) (h : Framed (turned (from_list cs) m) f) (rising : T (is_rising cs)) (words : List ℕ) (room : strips_of f ≤ length words) (some : 0 < strips_of f) (held : HoldsMarks words (wide_of f) (map (placed m f) cs)) where
-  together : (k x : ℕ) → k < strips_of f → AreZeroTogether (bit_at (get_or words k 0) x) (column_value (normal (turned (from_list cs) m)) k x)
+module _ (cs : List Cell) (m : Orientation) (f : Frame) (h : Framed (image_under (from_list cs) m) f) (rising : T (is_rising cs)) (words : List ℕ) (room : strips_of f ≤ length words) (some : 0 < strips_of f) (held : HoldsMarks words (wide_of f) (map (cell_in_frame m f) cs)) where
+  together : (k x : ℕ) → k < strips_of f → AreZeroTogether (bit_at (get_or words k 0) x) (column_value (normal (image_under (from_list cs) m)) k x)
   together k x l =
       let both = held.each k x (omega arith) in
       let is = column-placed cs m f h rising k x in
       (λ e. sym is ∙ both.0 e, λ e. both.1 (is ∙ e))
 
-  pub length_forward : length (words_text words (wide_of f) (strips_of f) false) ≡ length (body (turned (from_list cs) m))
+  pub length_forward : length (words_text words (wide_of f) (strips_of f) false) ≡ length (body (image_under (from_list cs) m))
   unfolding body
   length_forward =
-      let G = turned (from_list cs) m in
+      let G = image_under (from_list cs) m in
       let wide = wide_of f in
       same_texts_length _ _ (strips_of f) some
       (λ k a.
@@ -154,11 +154,11 @@ module _ (cs : List Cell) (m : Orientation) (f : Frame) (h : Framed (turned (fro
       (λ e. two ∙ both.0 (sym one ∙ e), λ e. one ∙ both.1 (sym two ∙ e))))
       ∙ (λ i. length (strips_text (strip_text (normal G) (sym (width_framed G f h) i)) (strip_number G f h i)))
 
-  pub length_backward : length (words_text words (wide_of f) (strips_of f) true) ≡ length (body (turned (turned (from_list cs) m) FlipX))
+  pub length_backward : length (words_text words (wide_of f) (strips_of f) true) ≡ length (body (image_under (image_under (from_list cs) m) FlipX))
   unfolding body
   length_backward =
-      let G = turned (from_list cs) m in
-      let M = turned G FlipX in
+      let G = image_under (from_list cs) m in
+      let M = image_under G FlipX in
       let g = turned_frame FlipX f in
       let there = framed_turned G f FlipX h in
       let order = range_ordered (λ c. c.0) G _ _ h.across in

@@ -12,7 +12,7 @@ use Rattle.life_model.specs.Symmetry.{normal}
 use Rattle.life_model.proofs.Moves.{normal-next}
 use Rattle.life_model.proofs.Recurrences.{generation-zero, generation-next, shape}
 use Rattle.life_cells.proofs.PrintLemmas.{range_more}
-use Rattle.life_shape.specs.TextOrder.{lesser, least_text}
+use Rattle.life_shape.specs.TextOrder.{lesser_text, least_text}
 use Rattle.life_answer.specs.Apgcode.{turned_bodies, bodies, prefix, code_of}
 use Rattle.life_answer.proofs.Sizes.{size_by_shape}
 use Rattle.life_codes.specs.Least.{with_text}
@@ -20,9 +20,9 @@ use Rattle.life_codes.proofs.Leasts.{turned_bodies-normal}
 
 -- ---- one text after another
 
-fold-Some : (t : List ℕ) (ts : List (List ℕ)) → fold with_text (Some t) ts ≡ Some (fold lesser t ts)
+fold-Some : (t : List ℕ) (ts : List (List ℕ)) → fold with_text (Some t) ts ≡ Some (fold lesser_text t ts)
 fold-Some t [] = refl
-fold-Some t (u ∷ us) = fold-Some (lesser t u) us
+fold-Some t (u ∷ us) = fold-Some (lesser_text t u) us
 
 pub least_is : (ts : List (List ℕ)) → unwrap_or (fold with_text None ts) [] ≡ least_text ts
 least_is [] = refl

@@ -4,15 +4,15 @@ use Rattle.std.specs.Prelude.{All}
 use Rattle.std.proofs.Math.Nat.{mul-le-mul_right}
 use Rattle.std.proofs.lemmas.List.{length-reverse, get_or-reverse}
 use Rattle.life_shape.specs.Wechsler.{digit, zeros, columns_text}
-use Rattle.life_codes.specs.Grids.{facing}
+use Rattle.life_codes.specs.Grids.{columns_from}
 
 -- ---- one column after another
 
-pub length-facing : (back : Bool) (xs : List ℕ) → length (facing back xs) ≡ length xs
+pub length-facing : (back : Bool) (xs : List ℕ) → length (columns_from back xs) ≡ length xs
 length-facing true xs = length-reverse xs
 length-facing false xs = refl
 
-pub small_facing : (back : Bool) (xs : List ℕ) (k : ℕ) → All (λ v. v < 36) xs → k < length xs → get_or (facing back xs) k 0 < 36
+pub small_facing : (back : Bool) (xs : List ℕ) (k : ℕ) → All (λ v. v < 36) xs → k < length xs → get_or (columns_from back xs) k 0 < 36
 small_facing true xs k all h = let e = get_or-reverse xs k 0 h in let one = all (length xs - 1 - k) 0 (omega arith) in omega arith
 small_facing false xs k all h = all k 0 h
 

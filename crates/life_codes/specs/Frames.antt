@@ -56,5 +56,5 @@ abbrev pub strips_of : Frame → ℕ
 strips_of f = (nat_abs (f.bottom -ℤ f.top) + 5) / 5
 
 -- where the map takes the cell, seen from the corner of the frame
-abbrev pub placed : Orientation → Frame → Cell → Cell
-placed m f c = plus (turn m c) (opposite (f.left, f.top))
+abbrev pub cell_in_frame : Orientation → Frame → Cell → Cell
+cell_in_frame m f c = plus (turn m c) (opposite (f.left, f.top))

@@ -9,8 +9,8 @@ pub record HoldsWeights (values : List ℕ) (wide strips : ℕ) (cells : List Ce
   pub each : (k x : ℕ) → k < strips → x < wide → slice_index values (k * wide + x) ≡ weights k cells x
 
 -- the columns, from the last where they are read backwards
-abbrev pub facing : Bool → List ℕ → List ℕ
-facing back values = if back then reverse values else values
+abbrev pub columns_from : Bool → List ℕ → List ℕ
+columns_from back values = if back then reverse values else values
 
 -- strip k of a grid
 abbrev pub strip_of : List ℕ → ℕ → ℕ → List ℕ
@@ -18,7 +18,7 @@ strip_of values wide k = take wide (drop (k * wide) values)
 
 -- the text of a grid of so many strips
 abbrev pub grid_text : List ℕ → ℕ → ℕ → Bool → List ℕ
-grid_text values wide strips back = strips_text (λ k. columns_text 0 (facing back (strip_of values wide k))) strips
+grid_text values wide strips back = strips_text (λ k. columns_text 0 (columns_from back (strip_of values wide k))) strips
 
 -- its text, read from either side
 abbrev pub both_texts : List ℕ → ℕ → ℕ → List (List ℕ)

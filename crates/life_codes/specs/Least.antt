@@ -2,23 +2,23 @@
 use Rattle.std.specs.Prelude.{◌≡◌, ℕ, ◌<◌, Bool, List, [], ◌∷◌, Option, Some, None, if◌then◌else◌}
 use Rattle.std.specs.List.{fold}
 use Rattle.life_model.specs.Generation.{Generation}
-use Rattle.life_model.specs.Symmetry.{Orientation, FlipX, turned}
-use Rattle.life_shape.specs.TextOrder.{lesser}
+use Rattle.life_model.specs.Symmetry.{Orientation, FlipX, image_under}
+use Rattle.life_shape.specs.TextOrder.{lesser_text}
 use Rattle.life_shape.specs.Wechsler.{body}
 use Rattle.life_codes.specs.Grids.{both_texts}
 
 -- the least so far, with one more text
 abbrev pub with_text : Option (List ℕ) → List ℕ → Option (List ℕ)
 with_text None text = Some text
-with_text (Some least) text = Some (lesser least text)
+with_text (Some least) text = Some (lesser_text least text)
 
 -- the text, where there is one
-abbrev pub kept : Bool → List ℕ → Option (List ℕ)
-kept some text = if some then Some text else None
+abbrev pub text_if : Bool → List ℕ → Option (List ℕ)
+text_if some text = if some then Some text else None
 
 -- the text of a set that is turned, and that of its mirror image
 abbrev pub two_bodies : Generation → Orientation → List (List ℕ)
-two_bodies G m = body (turned G m) ∷ body (turned (turned G m) FlipX) ∷ []
+two_bodies G m = body (image_under G m) ∷ body (image_under (image_under G m) FlipX) ∷ []
 
 -- A grid's texts were taken, where it has a strip.
 abbrev pub IsTaken : Option (List ℕ) → List ℕ → ℕ → ℕ → Type 0

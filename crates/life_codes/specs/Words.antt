@@ -4,13 +4,13 @@ use Rattle.std.specs.Int.{bit_at}
 use Rattle.std.specs.List.{range_with_len}
 use Rattle.life_model.specs.Cell.{Cell}
 use Rattle.life_model.specs.Generation.{Generation}
-use Rattle.life_model.specs.Symmetry.{Orientation, FlipX, turned}
+use Rattle.life_model.specs.Symmetry.{Orientation, FlipX, image_under}
 use Rattle.life_shape.specs.Dots.{weights}
 use Rattle.life_shape.specs.Wechsler.{body, columns_text, strips_text}
 use Rattle.life_codes.specs.declared.frame.Frame.{Frame}
 use Rattle.life_codes.specs.declared.measure.Lengths.{Lengths}
-use Rattle.life_codes.specs.Frames.{placed, turned_frame, wide_of}
-use Rattle.life_codes.specs.Grids.{facing}
+use Rattle.life_codes.specs.Frames.{cell_in_frame, turned_frame, wide_of}
+use Rattle.life_codes.specs.Grids.{columns_from}
 
 -- either both are 0 or neither
 abbrev pub AreZeroTogether : ℕ → ℕ → Type 0
@@ -23,7 +23,7 @@ pub record HoldsMarks (words : List ℕ) (wide : ℕ) (cells : List Cell) : Type
 
 -- the marks of the cells that the map takes cells of the frame to
 abbrev pub HoldsTurned : List ℕ → Orientation → Frame → List Cell → Type 0
-HoldsTurned words m f cells = HoldsMarks words (wide_of (turned_frame m f)) (map (placed m (turned_frame m f)) cells)
+HoldsTurned words m f cells = HoldsMarks words (wide_of (turned_frame m f)) (map (cell_in_frame m (turned_frame m f)) cells)
 
 -- its bits as so many columns
 abbrev pub word_columns : ℕ → ℕ → List ℕ
@@ -31,7 +31,7 @@ word_columns wide word = map (bit_at word) (range_with_len 0 wide)
 
 -- the text of so many strips, as it were if each column that is marked held 1
 abbrev pub words_text : List ℕ → ℕ → ℕ → Bool → List ℕ
-words_text words wide strips back = strips_text (λ k. columns_text 0 (facing back (word_columns wide (slice_index words k)))) strips
+words_text words wide strips back = strips_text (λ k. columns_text 0 (columns_from back (word_columns wide (slice_index words k)))) strips
 
 -- It is at most 64 wide and at most 64 high.
 pub record IsSmall (f : Frame) : Type 0 where
@@ -40,5 +40,5 @@ pub record IsSmall (f : Frame) : Type 0 where
 
 -- how long the text of a set that is turned is, and that of its mirror image
 pub record AreLengths (lengths : Lengths) (G : Generation) (m : Orientation) : Type 0 where
-  pub forward : lengths.forward ≡ length (body (turned G m))
-  pub backward : lengths.backward ≡ length (body (turned (turned G m) FlipX))
+  pub forward : lengths.forward ≡ length (body (image_under G m))
+  pub backward : lengths.backward ≡ length (body (image_under (image_under G m) FlipX))

@@ -17,11 +17,11 @@ pub struct Choice {
 
 impl Model for Choice {
     ghost use Rattle.std.specs.Prelude.{◌≡◌, List, Option, [], false, ℕ};
-    ghost use Rattle.life_codes.specs.Least.{kept};
+    ghost use Rattle.life_codes.specs.Least.{text_if};
 
     ghost Value = { Option (List ℕ) };
 
-    ghost view = { λ c. kept c.some c.text.items };
+    ghost view = { λ c. text_if c.some c.text.items };
 
     // no byte where there is no text
     ghost invariant = { λ c. c.some ≡ false → c.text.items ≡ [] };

@@ -4,7 +4,7 @@ ghost use Rattle.life_model.specs.Symmetry.{turn};
 ghost use Rattle.life_cells.specs.Limits.{IsPlace};
 ghost use Rattle.life_shape.specs.Dots.{weights};
 ghost use Rattle.life_shape.specs.Orients.{orientation};
-ghost use Rattle.life_codes.specs.Frames.{IsBounded, IsInFrame, placed, strips_of, wide_of};
+ghost use Rattle.life_codes.specs.Frames.{IsBounded, IsInFrame, cell_in_frame, strips_of, wide_of};
 ghost use Rattle.life_codes.specs.Grids.{HoldsWeights, both_texts};
 
 use crate::frame::Frame;
@@ -51,7 +51,7 @@ pub fn place_in(cell: (i32, i32), orient: Orient, frame: Frame) -> (usize, usize
     requires placed { IsPlace cell }
     requires bounded { IsBounded frame }
     requires inside { IsInFrame frame (turn (orientation orient) cell) }
-    ensures place { (pos result.0, pos result.1) ≡ placed (orientation orient) frame cell }
+    ensures place { (pos result.0, pos result.1) ≡ cell_in_frame (orientation orient) frame cell }
     ensures column { result.0 < wide_of frame }
     ensures strip { result.1 / 5 < strips_of frame }
 {
@@ -67,9 +67,9 @@ fn fill(values: &mut [u8], cells: &[(i32, i32)], orient: Orient, frame: Frame)
     requires bounded { IsBounded frame }
     requires placed { All IsPlace cells.now }
     requires inside { All (λ c. IsInFrame frame (turn (orientation orient) c)) cells.now }
-    requires small { (k x : ℕ) → weights k (map (placed (orientation orient) frame) cells.now) x < 32 }
+    requires small { (k x : ℕ) → weights k (map (cell_in_frame (orientation orient) frame) cells.now) x < 32 }
     ensures len { length values.new ≡ length values.old }
-    ensures weights { HoldsWeights values.new (wide_of frame) (strips_of frame) (map (placed (orientation orient) frame) cells.now) }
+    ensures weights { HoldsWeights values.new (wide_of frame) (strips_of frame) (map (cell_in_frame (orientation orient) frame) cells.now) }
 {
     let wide = frame.width();
     for cell in cells {
@@ -88,9 +88,9 @@ pub fn make_grid(
     requires bounded { IsBounded frame }
     requires placed { All IsPlace cells.now }
     requires inside { All (λ c. IsInFrame frame (turn (orientation orient) c)) cells.now }
-    requires small { (k x : ℕ) → weights k (map (placed (orientation orient) frame) cells.now) x < 32 }
+    requires small { (k x : ℕ) → weights k (map (cell_in_frame (orientation orient) frame) cells.now) x < 32 }
     ensures room { OnOk result (length values.new.items ≡ strips_of frame * wide_of frame) }
-    ensures weights { OnOk result (HoldsWeights values.new.items (wide_of frame) (strips_of frame) (map (placed (orientation orient) frame) cells.now)) }
+    ensures weights { OnOk result (HoldsWeights values.new.items (wide_of frame) (strips_of frame) (map (cell_in_frame (orientation orient) frame) cells.now)) }
 {
     values.clear();
     values.resize(frame.strips() * frame.width(), 0)?;

@@ -3,7 +3,7 @@ ghost use Rattle.std.specs.Prelude.{◌≡◌, ℕ, ◌+◌, ◌*◌, ◌<◌, �
 ghost use Rattle.std.specs.List.{prefix_len};
 ghost use Rattle.life_shape.specs.Dots.{strip_mark};
 ghost use Rattle.life_shape.specs.Wechsler.{columns_text, short_zeros, zeros};
-ghost use Rattle.life_codes.specs.Grids.{facing, grid_text};
+ghost use Rattle.life_codes.specs.Grids.{columns_from, grid_text};
 
 use crate::writing::strip_of;
 use std::simd::prelude::*;
@@ -76,8 +76,8 @@ fn zeros_from(strip: &[u8], place: usize) -> usize
 
 /// How long the text of a strip is.
 fn strip_lengths(strip: &[u8]) -> Lengths
-    ensures forward { result.forward ≡ length (columns_text 0 (facing false strip.now)) }
-    ensures backward { result.backward ≡ length (columns_text 0 (facing true strip.now)) }
+    ensures forward { result.forward ≡ length (columns_text 0 (columns_from false strip.now)) }
+    ensures backward { result.backward ≡ length (columns_text 0 (columns_from true strip.now)) }
     ensures small_forward { result.forward ≤ length strip.now }
     ensures small_backward { result.backward ≤ length strip.now }
 {

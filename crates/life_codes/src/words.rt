@@ -7,7 +7,7 @@ ghost use Rattle.life_shape.specs.Orients.{orientation};
 ghost use Rattle.life_shape.specs.Wechsler.{columns_text};
 ghost use Rattle.life_cells.specs.Limits.{IsPlace};
 ghost use Rattle.life_codes.specs.Frames.{IsBounded, frame_of, strips_of, turned_frame, wide_of};
-ghost use Rattle.life_codes.specs.Grids.{facing};
+ghost use Rattle.life_codes.specs.Grids.{columns_from};
 ghost use Rattle.life_codes.specs.Words.{AreLengths, IsSmall, word_columns, words_text};
 
 use crate::frame::Frame;
@@ -40,8 +40,8 @@ fn next_column(rest: u64) -> (usize, u64)
 fn word_lengths(word: u64, wide: usize) -> Lengths
     requires narrow { wide ≤ 64 }
     requires beyond { (i : ℕ) → wide ≤ i → bit_at word i ≡ 0 }
-    ensures forward { result.forward ≡ length (columns_text 0 (facing false (word_columns wide word))) }
-    ensures backward { result.backward ≡ length (columns_text 0 (facing true (word_columns wide word))) }
+    ensures forward { result.forward ≡ length (columns_text 0 (columns_from false (word_columns wide word))) }
+    ensures backward { result.backward ≡ length (columns_text 0 (columns_from true (word_columns wide word))) }
     ensures small_forward { result.forward ≤ wide }
     ensures small_backward { result.backward ≤ wide }
 {

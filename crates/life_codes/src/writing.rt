@@ -2,7 +2,7 @@
 ghost use Rattle.std.specs.Prelude.{◌≡◌, ◌*◌, ◌<◌, ◌++◌, ◌+◌, ◌≤◌, All, OnOk, length, slice_index};
 ghost use Rattle.life_shape.specs.Dots.{strip_mark};
 ghost use Rattle.life_shape.specs.Wechsler.{columns_text, digit, short_zeros, zeros};
-ghost use Rattle.life_codes.specs.Grids.{facing, grid_text, strip_of};
+ghost use Rattle.life_codes.specs.Grids.{columns_from, grid_text, strip_of};
 
 use std::alloc::AllocError;
 
@@ -48,7 +48,7 @@ fn push_zeros(text: &mut Vec<u8>, count: usize) -> Result<(), AllocError>
 /// The value at a place of a strip, which is read from either end.
 pub fn value_at(strip: &[u8], place: usize, back: bool) -> u8
     requires { place < length strip.now }
-    ensures { result ≡ slice_index (facing back strip.now) place }
+    ensures { result ≡ slice_index (columns_from back strip.now) place }
 {
     if back {
         strip[strip.len() - 1 - place]
@@ -60,7 +60,7 @@ pub fn value_at(strip: &[u8], place: usize, back: bool) -> u8
 /// Adds the text of a strip.
 fn push_strip(text: &mut Vec<u8>, strip: &[u8], back: bool) -> Result<(), AllocError>
     requires { All (λ v. v < 36) strip.now }
-    ensures { OnOk result (text.new.items ≡ text.old.items ++ columns_text 0 (facing back strip.now)) }
+    ensures { OnOk result (text.new.items ≡ text.old.items ++ columns_text 0 (columns_from back strip.now)) }
 {
     let mut skipped = 0;
     'columns: for place in 0..strip.len() {

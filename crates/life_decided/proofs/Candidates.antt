@@ -21,7 +21,7 @@ use Rattle.life_objects.proofs.Sides.{within_each_other}
 use Rattle.life_objects.proofs.Times.{AreApartForEver-swap}
 use Rattle.life_decided.specs.Classes.{dies_out}
 use Rattle.life_decided.specs.Parts.{part_of}
-use Rattle.life_decided.specs.Decided.{candidates}
+use Rattle.life_decided.specs.Decided.{candidate_parts}
 use Rattle.life_decided.proofs.Joining.{finest, finest_apart, finest_together, finest_whole}
 use Rattle.life_decided.proofs.Kept.{Contains-filter, Contains-map, of_filter}
 use Rattle.life_decided.proofs.Periods.{part_told, same_end}
@@ -100,8 +100,8 @@ module _ (R : Rule) (b : ℕ) (G : Generation) (parts : List Generation) (ash : 
       let P = found_now R parts c (ap (λ H. contains H c) ash.together ∙ h) in
       in_list_now R (map (part_of R b) cores) P.0 c (covers P.0 P.1) P.2)
 
-  pub candidates_are_ash : IsAsh R b G (candidates R b G)
-  unfolding candidates
+  pub candidates_are_ash : IsAsh R b G (candidate_parts R b G)
+  unfolding candidate_parts
   candidates_are_ash = record {
     together = together;
     apart = parts_apart;

@@ -15,7 +15,7 @@ use Rattle.life_objects.proofs.Lists.{AllPairs-weaker}
 use Rattle.life_decided.specs.Tests.{each_below, each_pair, same_set}
 use Rattle.life_decided.specs.Classes.{is_undivided}
 use Rattle.life_decided.specs.Parts.{period, stay_apart}
-use Rattle.life_decided.specs.Decided.{ash_of, candidates, is_ash, is_object}
+use Rattle.life_decided.specs.Decided.{ash_of, candidate_parts, is_ash, is_object}
 use Rattle.life_decided.proofs.Candidates.{candidates_are_ash}
 use Rattle.life_decided.proofs.Passing.{ever_by_test, test_by_ever}
 use Rattle.life_decided.proofs.Periods.{period_found, recurs_within}
@@ -91,43 +91,43 @@ module _ (R : Rule) (b : ℕ) where
 
   module _ (G : Generation) where
     abbrev found : Bool → Option (List Generation)
-    found t = cond t (Some (candidates R b G)) None
+    found t = cond t (Some (candidate_parts R b G)) None
 
-    pub is_found : is_ash R b G (candidates R b G) ≡ true → ash_of R b G ≡ Some (candidates R b G)
+    pub is_found : is_ash R b G (candidate_parts R b G) ≡ true → ash_of R b G ≡ Some (candidate_parts R b G)
     unfolding ash_of
     is_found h = ap found h
 
-    is_not_found : is_ash R b G (candidates R b G) ≡ false → ash_of R b G ≡ None
+    is_not_found : is_ash R b G (candidate_parts R b G) ≡ false → ash_of R b G ≡ None
     unfolding ash_of
     is_not_found h = ap found h
 
     pub ash_if_found : (parts : List Generation) → ash_of R b G ≡ Some parts → IsAsh R b G parts
     ash_if_found parts e =
-        elim (cases_Bool (is_ash R b G (candidates R b G))) [
+        elim (cases_Bool (is_ash R b G (candidate_parts R b G))) [
           | inl passes ↦
-              let s : ◌≡◌ {A = Option (List Generation)} (Some (candidates R b G)) (Some parts) =
+              let s : ◌≡◌ {A = Option (List Generation)} (Some (candidate_parts R b G)) (Some parts) =
               sym (is_found passes) ∙ e in
-              let same : candidates R b G ≡ parts = cc in
-              subst (IsAsh R b G) same (ash_by_test G (candidates R b G) passes)
+              let same : candidate_parts R b G ≡ parts = cc in
+              subst (IsAsh R b G) same (ash_by_test G (candidate_parts R b G) passes)
           | inr fails ↦
               let s : ◌≡◌ {A = Option (List Generation)} None (Some parts) = sym (is_not_found fails) ∙ e in absurd cc
         ]
 
     -- where it is ash of any parts, it is found
-    pub found_if_ash : (parts : List Generation) → IsAsh R b G parts → ash_of R b G ≡ Some (candidates R b G)
+    pub found_if_ash : (parts : List Generation) → IsAsh R b G parts → ash_of R b G ≡ Some (candidate_parts R b G)
     found_if_ash parts ash =
-        is_found (test_by_ash G (candidates R b G) (candidates_are_ash R b G parts ash))
+        is_found (test_by_ash G (candidate_parts R b G) (candidates_are_ash R b G parts ash))
 
     -- where it is ash of none, none is found
     pub none_if_no_ash : ((parts : List Generation) → IsAsh R b G parts → ⊥) → ash_of R b G ≡ None
     none_if_no_ash never =
-        elim (cases_Bool (is_ash R b G (candidates R b G))) [
-          | inl passes ↦ absurd (never (candidates R b G) (ash_by_test G (candidates R b G) passes))
+        elim (cases_Bool (is_ash R b G (candidate_parts R b G))) [
+          | inl passes ↦ absurd (never (candidate_parts R b G) (ash_by_test G (candidate_parts R b G) passes))
           | inr fails ↦ is_not_found fails
         ]
 
     pub no_ash_if_none : (parts : List Generation) → ash_of R b G ≡ None → IsAsh R b G parts → ⊥
     no_ash_if_none parts none ash =
-        let s : ◌≡◌ {A = Option (List Generation)} None (Some (candidates R b G)) =
+        let s : ◌≡◌ {A = Option (List Generation)} None (Some (candidate_parts R b G)) =
         sym none ∙ found_if_ash parts ash in
         cc

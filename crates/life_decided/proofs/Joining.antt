@@ -15,7 +15,7 @@ use Rattle.life_objects.specs.Whole.{StaysWhole}
 use Rattle.life_objects.proofs.Distances.{AreApart-swap}
 use Rattle.life_objects.proofs.Lists.{AllPairs-head, AllPairs-nil, AllPairs-tail}
 use Rattle.life_decided.specs.Tests.{meet}
-use Rattle.life_decided.specs.Classes.{all_joined, classes, joined}
+use Rattle.life_decided.specs.Classes.{classes_after_meeting, classes, classes_with}
 use Rattle.life_decided.proofs.Tests.{apart_by_test, test_by_apart}
 use Rattle.life_decided.proofs.Splitting.{IsSplitting, for_one_more, from_front, pairs_with_union, single_cells}
 use Rattle.life_decided.proofs.Splitting.{to_front}
@@ -48,17 +48,17 @@ module _ (R : Rule) (n : ℕ) where
   they_meet P Q = meet (generation R P n) (generation R Q n)
 
   joined-met : (P Q : Generation) (Qs : List Generation) → they_meet P Q ≡ true →
-      joined R n P (Q ∷ Qs) ≡ joined R n (union P Q) Qs
-  unfolding joined
-  joined-met P Q Qs e = ap (λ b. cond b (joined R n (union P Q) Qs) (Q ∷ joined R n P Qs)) e
+      classes_with R n P (Q ∷ Qs) ≡ classes_with R n (union P Q) Qs
+  unfolding classes_with
+  joined-met P Q Qs e = ap (λ b. cond b (classes_with R n (union P Q) Qs) (Q ∷ classes_with R n P Qs)) e
 
   joined-apart : (P Q : Generation) (Qs : List Generation) → they_meet P Q ≡ false →
-      joined R n P (Q ∷ Qs) ≡ Q ∷ joined R n P Qs
-  unfolding joined
-  joined-apart P Q Qs e = ap (λ b. cond b (joined R n (union P Q) Qs) (Q ∷ joined R n P Qs)) e
+      classes_with R n P (Q ∷ Qs) ≡ Q ∷ classes_with R n P Qs
+  unfolding classes_with
+  joined-apart P Q Qs e = ap (λ b. cond b (classes_with R n (union P Q) Qs) (Q ∷ classes_with R n P Qs)) e
 
-  joined-alone : (P : Generation) → joined R n P [] ≡ P ∷ []
-  unfolding joined
+  joined-alone : (P : Generation) → classes_with R n P [] ≡ P ∷ []
+  unfolding classes_with
   joined-alone P = refl
 
   apart_then : (P Q : Generation) → they_meet P Q ≡ false → AreApartThen P Q
@@ -67,7 +67,7 @@ module _ (R : Rule) (n : ℕ) where
   -- ---- what is joined is apart
 
   joined_from : (Qs : List Generation) (P S : Generation) → AllPairs (AreApartBefore R n) (P ∷ Qs) →
-      AreApartThen S P → All (AreApartThen S) Qs → All (AreApartThen S) (joined R n P Qs)
+      AreApartThen S P → All (AreApartThen S) Qs → All (AreApartThen S) (classes_with R n P Qs)
   joined_from [] P S before one rest =
       subst (All (AreApartThen S)) (sym (joined-alone P))
       (All-cons (AreApartThen S) P [] one (All-nil (AreApartThen S)))
@@ -82,12 +82,12 @@ module _ (R : Rule) (n : ℕ) where
             (union_apart_at R n n P Q S (All-head (AreApartBefore R n P) Q Qs of_p) one then) others)
         | inr apart ↦
             subst (All (AreApartThen S)) (sym (joined-apart P Q Qs apart))
-            (All-cons (AreApartThen S) Q (joined R n P Qs) then
+            (All-cons (AreApartThen S) Q (classes_with R n P Qs) then
             (joined_from Qs P S (without_second (AreApartBefore R n) P Q Qs before) one others))
       ]
 
   joined_pairs : (Qs : List Generation) (P : Generation) → AllPairs (AreApartBefore R n) (P ∷ Qs) →
-      AllPairs AreApartThen Qs → AllPairs AreApartThen (joined R n P Qs)
+      AllPairs AreApartThen Qs → AllPairs AreApartThen (classes_with R n P Qs)
   joined_pairs [] P before pairs =
       subst (AllPairs AreApartThen) (sym (joined-alone P))
       (AllPairs-cons AreApartThen P [] (All-nil (AreApartThen P)) (AllPairs-nil AreApartThen))
@@ -100,7 +100,7 @@ module _ (R : Rule) (n : ℕ) where
             (joined_pairs Qs (union P Q) (pairs_with_union R n P Q Qs before) rest)
         | inr apart ↦
             subst (AllPairs AreApartThen) (sym (joined-apart P Q Qs apart))
-            (AllPairs-cons AreApartThen Q (joined R n P Qs)
+            (AllPairs-cons AreApartThen Q (classes_with R n P Qs)
             (joined_from Qs P Q without
             (AreApart-swap (generation R P n) (generation R Q n) (apart_then P Q apart))
             (AllPairs-head AreApartThen Q Qs pairs))
@@ -110,7 +110,7 @@ module _ (R : Rule) (n : ℕ) where
 module _ (R : Rule) (b n : ℕ) (G : Generation) (h : n ≤ b) where
   -- among any other sets
   joined_splits : (Qs Cs : List Generation) (P : Generation) → IsSplitting R b n G (P ∷ (Qs ++ Cs)) →
-      IsSplitting R b n G (joined R n P Qs ++ Cs)
+      IsSplitting R b n G (classes_with R n P Qs ++ Cs)
   joined_splits [] Cs P s = subst (λ Ps. IsSplitting R b n G (Ps ++ Cs)) (sym (joined-alone R n P)) s
   joined_splits (Q ∷ Qs) Cs P s =
       elim (cases_Bool (they_meet R n P Q)) [
@@ -121,36 +121,36 @@ module _ (R : Rule) (b n : ℕ) (G : Generation) (h : n ≤ b) where
             (λ far. test_by_apart (generation R P n) (generation R Q n) far met)))
         | inr apart ↦
             subst (λ Ps. IsSplitting R b n G (Ps ++ Cs)) (sym (joined-apart R n P Q Qs apart))
-            (to_front R b n G Q (joined R n P Qs) Cs
+            (to_front R b n G Q (classes_with R n P Qs) Cs
             (joined_splits Qs (Q ∷ Cs) P
             (from_front R b n G Q (P ∷ Qs) Cs (to_front R b n G Q (P ∷ []) (Qs ++ Cs) s))))
       ]
 
   all_joined_splits : (Ps Cs : List Generation) → IsSplitting R b n G (Ps ++ Cs) →
-      IsSplitting R b n G (all_joined R n Ps ++ Cs)
-  unfolding all_joined
+      IsSplitting R b n G (classes_after_meeting R n Ps ++ Cs)
+  unfolding classes_after_meeting
   all_joined_splits [] Cs s = s
   all_joined_splits (P ∷ Ps) Cs s =
-      joined_splits (all_joined R n Ps) Cs P
-      (to_front R b n G P (all_joined R n Ps) Cs
+      joined_splits (classes_after_meeting R n Ps) Cs P
+      (to_front R b n G P (classes_after_meeting R n Ps) Cs
       (all_joined_splits Ps (P ∷ Cs) (from_front R b n G P Ps Cs s)))
 
   all_joined_pairs : (Ps Cs : List Generation) → IsSplitting R b n G (Ps ++ Cs) →
-      AllPairs (AreApartThen R n) (all_joined R n Ps)
-  unfolding all_joined
+      AllPairs (AreApartThen R n) (classes_after_meeting R n Ps)
+  unfolding classes_after_meeting
   all_joined_pairs [] Cs s = AllPairs-nil (AreApartThen R n)
   all_joined_pairs (P ∷ Ps) Cs s =
       let back = from_front R b n G P Ps Cs s in
-      let front = to_front R b n G P (all_joined R n Ps) Cs (all_joined_splits Ps (P ∷ Cs) back) in
-      joined_pairs R n (all_joined R n Ps) P
-      (pairs_left (AreApartBefore R n) (P ∷ all_joined R n Ps) Cs front.before)
+      let front = to_front R b n G P (classes_after_meeting R n Ps) Cs (all_joined_splits Ps (P ∷ Cs) back) in
+      joined_pairs R n (classes_after_meeting R n Ps) P
+      (pairs_left (AreApartBefore R n) (P ∷ classes_after_meeting R n Ps) Cs front.before)
       (all_joined_pairs Ps (P ∷ Cs) back)
 
-  next_splitting : (Ps : List Generation) → IsSplitting R b n G Ps → IsSplitting R b (suc n) G (all_joined R n Ps)
+  next_splitting : (Ps : List Generation) → IsSplitting R b n G Ps → IsSplitting R b (suc n) G (classes_after_meeting R n Ps)
   next_splitting Ps s =
       let alone = subst (IsSplitting R b n G) (sym (append-nil Ps)) s in
-      for_one_more R b n G (all_joined R n Ps)
-      (subst (IsSplitting R b n G) (append-nil (all_joined R n Ps)) (all_joined_splits Ps [] alone))
+      for_one_more R b n G (classes_after_meeting R n Ps)
+      (subst (IsSplitting R b n G) (append-nil (classes_after_meeting R n Ps)) (all_joined_splits Ps [] alone))
       (all_joined_pairs Ps [] alone)
 
 module _ (R : Rule) (b : ℕ) (G : Generation) where

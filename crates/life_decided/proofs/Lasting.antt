@@ -8,7 +8,7 @@ use Rattle.life_objects.specs.Ash.{IsAsh}
 use Rattle.life_objects.specs.Union.{generations}
 use Rattle.life_objects.proofs.Ashes.{IsAsh-bound, IsAsh-empty, IsAsh-later, IsAsh-wider, parts_of_empty}
 use Rattle.life_objects.proofs.OneList.{one_list}
-use Rattle.life_decided.specs.Decided.{ash_of, candidates}
+use Rattle.life_decided.specs.Decided.{ash_of, candidate_parts}
 use Rattle.life_decided.proofs.Deciding.{ash_if_found, found_if_ash}
 
 -- these parts are found, in some order
@@ -19,14 +19,14 @@ module _ (R : Rule) where
   pub parts_found : (b : ℕ) (G : Generation) (parts : List Generation) → IsAsh R b G parts → AreFound R b G parts
   parts_found b G parts ash =
       let here = found_if_ash R b G parts ash in
-      let found = candidates R b G in
+      let found = candidate_parts R b G in
       (found, here, one_list R b b G parts found ash (ash_if_found R b G found here))
 
   pub nothing_found : (b : ℕ) → ash_of R b empty ≡ Some []
   nothing_found b =
       let here = found_if_ash R b empty [] (IsAsh-empty R b) in
-      here ∙ ap (λ Ps. Some Ps) (parts_of_empty R b (candidates R b empty)
-      (ash_if_found R b empty (candidates R b empty) here))
+      here ∙ ap (λ Ps. Some Ps) (parts_of_empty R b (candidate_parts R b empty)
+      (ash_if_found R b empty (candidate_parts R b empty) here))
 
   pub found_later : (b c n : ℕ) (G : Generation) (parts : List Generation) → b ≤ c → ash_of R b G ≡ Some parts →
       AreFound R c (generation R G n) (generations R parts n)

@@ -8,7 +8,7 @@ use Rattle.life_model.specs.Cell.{Cell, origin, opposite, plus}
 use Rattle.life_model.specs.Rule.{Rule}
 use Rattle.life_model.specs.Generation.{Generation, contains}
 use Rattle.life_model.specs.Evolution.{generation}
-use Rattle.life_model.specs.Symmetry.{moved}
+use Rattle.life_model.specs.Symmetry.{translate_of}
 use Rattle.life_model.specs.Recurrence.{RecursBy}
 use Rattle.life_model.proofs.Cells.{pair, plus-opposite_first}
 use Rattle.life_model.proofs.Moves.{le_both}
@@ -16,13 +16,13 @@ use Rattle.life_model.proofs.Orbits.{far_enough}
 use Rattle.life_model.proofs.Recurrences.{generation-add}
 use Rattle.life_model.proofs.Symmetries.{contains-moved, generation-moved}
 use Rattle.life_objects.specs.Apart.{AreApartBefore, AreApartForEver}
-use Rattle.life_objects.specs.Drift.{times}
+use Rattle.life_objects.specs.Drift.{multiple_of}
 use Rattle.life_objects.proofs.Distances.{AreApart-swap}
 use Rattle.life_objects.proofs.Drifting.{apart_by_below, apart_by_right}
 use Rattle.life_objects.proofs.Moving.{apart_by_period, generation-times, RecursBy-times}
 use Rattle.life_objects.proofs.Times.{AreApartForEver-swap}
 use Rattle.life_decided.specs.Tests.{meet}
-use Rattle.life_decided.specs.Parts.{horizon, reach, period, stay_apart, way}
+use Rattle.life_decided.specs.Parts.{horizon, reach, period, stay_apart, corner_offset}
 use Rattle.life_decided.proofs.Reaching.{IsReached, reached_later}
 use Rattle.life_decided.proofs.Periods.{recurs}
 use Rattle.life_decided.proofs.Tests.{apart_by_test, each_below_by, each_below_tells, not_true, test_by_apart, true_not}
@@ -51,22 +51,22 @@ gap_sum : (x y c q s t : ℤ) (k a b m n : ℕ) → neg_ℤ (pos (m + a)) ≤ℤ
     (s +ℤ pos k) ≤ℤ t → a + b + 2 * n + 3 ≤ k → m < n → (q +ℤ pos 3) ≤ℤ c
 gap_sum x y c q s t k a b m n low high e f wide enough h = omega (arith, ints)
 
-unmoved : (P : Generation) (x c : Cell) → contains (moved P x) c ≡ true → contains P (plus c (opposite x)) ≡ true
+unmoved : (P : Generation) (x c : Cell) → contains (translate_of P x) c ≡ true → contains P (plus c (opposite x)) ≡ true
 unmoved P x c h = sym (contains-moved P x c) ∙ h
 
 -- so many times n generations later
 rounds_later : (R : Rule) (P : Generation) (n : ℕ) (d : Cell) → RecursBy R P n d → (k m : ℕ) →
-    generation R P (k * n + m) ≡ moved (generation R P m) (times k d)
+    generation R P (k * n + m) ≡ translate_of (generation R P m) (multiple_of k d)
 rounds_later R P n d r k m =
     sym (generation-add R P (k * n) m) ∙ ap (λ H. generation R H m) (generation-times R P n d r k)
-    ∙ generation-moved R P (times k d) m
+    ∙ generation-moved R P (multiple_of k d) m
 
 module _ (f : Cell → ℤ) (axis : IsAxis f) where
-  times_wider : (k : ℕ) (d e : Cell) → f e <ℤ f d → (f (times k e) +ℤ pos k) ≤ℤ f (times k d)
+  times_wider : (k : ℕ) (d e : Cell) → f e <ℤ f d → (f (multiple_of k e) +ℤ pos k) ≤ℤ f (multiple_of k d)
   times_wider zero d e h = none_wider (f origin) (f origin) axis.starts axis.starts
   times_wider (suc k) d e h =
-      one_wider (f (times k e)) (f (times k d)) (f e) (f d) _ _ k (times_wider k d e h) h (axis.adds (times k e) e)
-      (axis.adds (times k d) d)
+      one_wider (f (multiple_of k e)) (f (multiple_of k d)) (f e) (f d) _ _ k (times_wider k d e h) h (axis.adds (multiple_of k e) e)
+      (axis.adds (multiple_of k d) d)
 
   -- c is what stands after a move by x, and before the move it stood at b
   before_move : (c x : Cell) → f c ≡ f (plus c (opposite x)) +ℤ f x
@@ -78,16 +78,16 @@ module _ (f : Cell → ℤ) (axis : IsAxis f) where
       contains (generation R P (k * n + m)) c ≡ true → contains (generation R Q (k * n + m)) q ≡ true →
       (f q +ℤ pos 3) ≤ℤ f c
   gap_then R n k P Q d e r s enough faster m h c q in_p in_q =
-      let back_c = plus c (opposite (times k d)) in
-      let back_q = plus q (opposite (times k e)) in
-      let was_c = unmoved (generation R P m) (times k d) c
+      let back_c = plus c (opposite (multiple_of k d)) in
+      let back_q = plus q (opposite (multiple_of k e)) in
+      let was_c = unmoved (generation R P m) (multiple_of k d) c
       (ap (λ H. contains H c) (sym (rounds_later R P n d r k m)) ∙ in_p) in
-      let was_q = unmoved (generation R Q m) (times k e) q
+      let was_q = unmoved (generation R Q m) (multiple_of k e) q
       (ap (λ H. contains H q) (sym (rounds_later R Q n e s k m)) ∙ in_q) in
-      gap_sum (f back_c) (f back_q) (f c) (f q) (f (times k e)) (f (times k d)) k (reach P) (reach Q) m n
+      gap_sum (f back_c) (f back_q) (f c) (f q) (f (multiple_of k e)) (f (multiple_of k d)) k (reach P) (reach Q) m n
       (axis.low (m + reach P) back_c (reached_later R P m back_c was_c))
       (axis.high (m + reach Q) back_q (reached_later R Q m back_q was_q))
-      (before_move c (times k d)) (before_move q (times k e)) (times_wider k d e faster) enough h
+      (before_move c (multiple_of k d)) (before_move q (multiple_of k e)) (times_wider k d e faster) enough h
 
 lt_le : (a b : ℤ) → a <ℤ b → a ≤ℤ b
 lt_le a b h = omega (arith, ints)
@@ -150,10 +150,10 @@ module _ (R : Rule) (b : ℕ) (P Q : Generation) where
   unfolding horizon
   ever_by_test h k test =
       let n : ℕ = p * q in
-      apart_for_ever R n (reach P + reach Q + 2 * n + 3) P Q (times q (way R P p)) (times p (way R Q q))
-      (subst (λ m. RecursBy R P m (times q (way R P p))) (mul_comm q p)
-      (RecursBy-times R P p (way R P p) (recurs R P b h) q k))
-      (RecursBy-times R Q q (way R Q q) (recurs R Q b k) p h)
+      apart_for_ever R n (reach P + reach Q + 2 * n + 3) P Q (multiple_of q (corner_offset R P p)) (multiple_of p (corner_offset R Q q))
+      (subst (λ m. RecursBy R P m (multiple_of q (corner_offset R P p))) (mul_comm q p)
+      (RecursBy-times R P p (corner_offset R P p) (recurs R P b h) q k))
+      (RecursBy-times R Q q (corner_offset R Q q) (recurs R Q b k) p h)
       (omega arith)
       (λ m l. apart_by_test (generation R P m) (generation R Q m)
       (not_true (meet (generation R P m) (generation R Q m))

@@ -7,15 +7,15 @@ use Rattle.life_model.specs.Cell.{Cell, opposite}
 use Rattle.life_model.specs.Rule.{Rule}
 use Rattle.life_model.specs.Generation.{Generation}
 use Rattle.life_model.specs.Evolution.{generation}
-use Rattle.life_model.specs.Symmetry.{moved, normal}
+use Rattle.life_model.specs.Symmetry.{translate_of, normal}
 use Rattle.life_model.specs.Recurrence.{RecursBy}
 use Rattle.life_model.proofs.Moves.{moved_from_normal, normal-moved}
 use Rattle.life_objects.specs.Ash.{RecursWithin}
-use Rattle.life_objects.specs.Drift.{times}
+use Rattle.life_objects.specs.Drift.{multiple_of}
 use Rattle.life_objects.specs.Whole.{IsCore}
 use Rattle.life_objects.proofs.Moving.{generation-times}
 use Rattle.life_objects.proofs.Recurring.{RecursBy-later, RecursBy-sooner, moved_back, n-le}
-use Rattle.life_decided.specs.Parts.{comes_again, first_from, part_of, period, way}
+use Rattle.life_decided.specs.Parts.{comes_again, first_from, part_of, period, corner_offset}
 use Rattle.life_decided.proofs.Tests.{same_set-is}
 
 module _ (test : ℕ → Bool) where
@@ -59,7 +59,7 @@ module _ (test : ℕ → Bool) where
       ]
 
 module _ (R : Rule) (P : Generation) where
-  recurs_by_test : (n : ℕ) → 1 ≤ n → comes_again R P n ≡ true → RecursBy R P n (way R P n)
+  recurs_by_test : (n : ℕ) → 1 ≤ n → comes_again R P n ≡ true → RecursBy R P n (corner_offset R P n)
   recurs_by_test n h e = record {
     later = h;
     again = moved_from_normal P (generation R P n) (sym ((same_set-is (normal (generation R P n)) (normal P)).0 e));
@@ -73,7 +73,7 @@ module _ (R : Rule) (P : Generation) where
   period-le b = let h = first-le (comes_again R P) b 1 (omega arith) in omega arith
 
   -- what is found is a number of generations after which P comes again
-  pub recurs : (b : ℕ) → 1 ≤ period R b P → RecursBy R P (period R b P) (way R P (period R b P))
+  pub recurs : (b : ℕ) → 1 ≤ period R b P → RecursBy R P (period R b P) (corner_offset R P (period R b P))
   recurs b h = recurs_by_test (period R b P) h (first_passes (comes_again R P) b 1 h)
 
   -- where there is one within b, one is found
@@ -87,7 +87,7 @@ module _ (R : Rule) (P : Generation) where
   pub recurs_within : (b : ℕ) → 1 ≤ period R b P → RecursWithin R b P
   recurs_within b h = record {
     steps = period R b P;
-    by = way R P (period R b P);
+    by = corner_offset R P (period R b P);
     within = period-le b;
     recurs = recurs b h;
   }
@@ -111,15 +111,15 @@ module _ (R : Rule) (b : ℕ) (L P : Generation) (r : RecursWithin R b P) (core 
     recurs = subst (λ H. RecursBy R H r.steps r.by) same_end (RecursBy-later R P r.steps r.by r.recurs b);
   })
 
-  likewise : RecursBy R P n (way R last n)
+  likewise : RecursBy R P n (corner_offset R last n)
   likewise =
-      RecursBy-sooner R P r.steps r.by r.recurs b n (way R last n)
-      (subst (λ H. RecursBy R H n (way R last n)) (sym same_end) (recurs R last b found))
+      RecursBy-sooner R P r.steps r.by r.recurs b n (corner_offset R last n)
+      (subst (λ H. RecursBy R H n (corner_offset R last n)) (sym same_end) (recurs R last b found))
 
   pub part_told : part_of R b L ≡ P
   unfolding part_of
   part_told =
-      ap (λ H. moved H (opposite (times b (way R last n))))
-      (sym (core.later (b * n) (n-le R P n (way R last n) likewise b))
-      ∙ generation-times R P n (way R last n) likewise b)
-      ∙ moved_back P (times b (way R last n))
+      ap (λ H. translate_of H (opposite (multiple_of b (corner_offset R last n))))
+      (sym (core.later (b * n) (n-le R P n (corner_offset R last n) likewise b))
+      ∙ generation-times R P n (corner_offset R last n) likewise b)
+      ∙ moved_back P (multiple_of b (corner_offset R last n))

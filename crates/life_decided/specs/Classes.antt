@@ -7,20 +7,20 @@ use Rattle.life_objects.specs.Union.{union}
 use Rattle.life_decided.specs.Tests.{each_pair, meet, same_set}
 
 -- P together with each of the sets whose generation n it meets, and the other sets
-unfoldable pub joined : Rule → ℕ → Generation → List Generation → List Generation
-joined R n P [] = P ∷ []
-joined R n P (Q ∷ Qs) =
-    if meet (generation R P n) (generation R Q n) then joined R n (union P Q) Qs else (Q ∷ joined R n P Qs)
+unfoldable pub classes_with : Rule → ℕ → Generation → List Generation → List Generation
+classes_with R n P [] = P ∷ []
+classes_with R n P (Q ∷ Qs) =
+    if meet (generation R P n) (generation R Q n) then classes_with R n (union P Q) Qs else (Q ∷ classes_with R n P Qs)
 
 -- each of the sets in turn joined with those after it
-unfoldable pub all_joined : Rule → ℕ → List Generation → List Generation
-all_joined R n [] = []
-all_joined R n (P ∷ Ps) = joined R n P (all_joined R n Ps)
+unfoldable pub classes_after_meeting : Rule → ℕ → List Generation → List Generation
+classes_after_meeting R n [] = []
+classes_after_meeting R n (P ∷ Ps) = classes_with R n P (classes_after_meeting R n Ps)
 
 -- the classes of G: its single cells, joined wherever they meet in one of the first n generations
 unfoldable pub classes : Rule → Generation → ℕ → List Generation
 classes R G zero = map (λ c. from_list (c ∷ [])) (cells G)
-classes R G (suc n) = all_joined R n (classes R G n)
+classes R G (suc n) = classes_after_meeting R n (classes R G n)
 
 -- whether nothing is left after b generations
 abbrev pub dies_out : Rule → ℕ → Generation → Bool

@@ -21,9 +21,9 @@ is_ash R b G parts =
     same_set (union_of parts) G && (list_all (is_object R b) parts && each_pair (stay_apart R b) parts)
 
 -- of each class of G that lives through b, what would be its part
-unfoldable pub candidates : Rule → ℕ → Generation → List Generation
-candidates R b G = map (part_of R b) (filter (λ L. not (dies_out R b L)) (classes R G (suc b)))
+unfoldable pub candidate_parts : Rule → ℕ → Generation → List Generation
+candidate_parts R b G = map (part_of R b) (filter (λ L. not (dies_out R b L)) (classes R G (suc b)))
 
 -- The parts of which G is ash within b, each in the place of its class; None where it is no ash.
 unfoldable pub ash_of : Rule → ℕ → Generation → Option (List Generation)
-ash_of R b G = if is_ash R b G (candidates R b G) then Some (candidates R b G) else None
+ash_of R b G = if is_ash R b G (candidate_parts R b G) then Some (candidate_parts R b G) else None

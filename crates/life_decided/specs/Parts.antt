@@ -5,8 +5,8 @@ use Rattle.life_model.specs.Cell.{Cell, opposite, plus}
 use Rattle.life_model.specs.Rule.{Rule}
 use Rattle.life_model.specs.Generation.{Generation, cells}
 use Rattle.life_model.specs.Evolution.{generation}
-use Rattle.life_model.specs.Symmetry.{corner, moved, normal}
-use Rattle.life_objects.specs.Drift.{times}
+use Rattle.life_model.specs.Symmetry.{corner, translate_of, normal}
+use Rattle.life_objects.specs.Drift.{multiple_of}
 use Rattle.life_decided.specs.Tests.{each_below, meet, same_set}
 
 -- whether generation n of P is P, moved as a whole
@@ -23,15 +23,15 @@ abbrev pub period : Rule → ℕ → Generation → ℕ
 period R b P = first_from (comes_again R P) 1 b
 
 -- how far the least x and the least y of generation n are from those of P
-abbrev pub way : Rule → Generation → ℕ → Cell
-way R P n = plus (opposite (corner P)) (corner (generation R P n))
+abbrev pub corner_offset : Rule → Generation → ℕ → Cell
+corner_offset R P n = plus (opposite (corner P)) (corner (generation R P n))
 
 -- What comes again and becomes what L becomes: L after b periods of its generation b, moved back as far.
 unfoldable pub part_of : Rule → ℕ → Generation → Generation
 part_of R b L =
     let last = generation R L b in
     let n = period R b last in
-    moved (generation R L (b * n)) (opposite (times b (way R last n)))
+    translate_of (generation R L (b * n)) (opposite (multiple_of b (corner_offset R last n)))
 
 -- a number above how far any cell of P is from the origin
 abbrev pub reach : Generation → ℕ

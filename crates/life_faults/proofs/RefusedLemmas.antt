@@ -3,14 +3,14 @@ use Rattle.std.proofs.Common.{◌≡◌, ℕ, Bool, true, false, List, [], ◌�
 use Rattle.std.specs.List.{list_all}
 use Rattle.std.specs.Option.{option_or, option_map}
 use Rattle.std.proofs.lemmas.Bool.{false≢true}
-use Rattle.life_cells.specs.Bytes.{is_blank, trimmed, after_one_of, ◌>>=◌}
+use Rattle.life_cells.specs.Bytes.{is_blank, without_ends, after_one_of, ◌>>=◌}
 use Rattle.life_cells.specs.Rules.{rule_of, life}
 use Rattle.life_cells.specs.declared.rule.RuleFault.{RuleFault}
 use Rattle.life_cells.specs.declared.rule.RuleFault.TheVariants.{NotLifeLike, HasB0}
 use Rattle.life_model.specs.Rule.{Rule}
 use Rattle.life_text.specs.declared.rle.RleFault.{RleFault}
 use Rattle.life_text.specs.declared.rle.RleFault.TheVariants.{NoHeader, BadHeader, RuleNotLifeLike, RuleHasB0, ManyStates, BadChar, BadRun, TooFar, TooMany, NoEnd, Memory}
-use Rattle.life_text.specs.Rle.{Token, Meaning, after_rule_name, after_sizes, body_tokens, cells_after, fault_if, fault_of, first_fault, header_line, header_rule, is_bad_run, is_missing, is_no_tag, is_other_state, is_too_far, is_too_many, line_rule, live_cells, column, named_rule, row, rule_behind, told, token_fault, unless_fault, with_body}
+use Rattle.life_text.specs.Rle.{Token, Meaning, after_rule_name, after_sizes, body_tokens, cells_after, fault_if, fault_of, first_fault, header_line, header_rule, is_bad_run, is_missing, is_no_tag, is_other_state, is_too_far, is_too_many, line_rule, live_cells, column, named_rule, row, rule_behind, rule_or_fault, token_fault, unless_fault, with_body}
 use Rattle.life_faults.specs.Rules.{rule_in_line}
 use Rattle.life_faults.specs.Refused.{RefusedRulesAreTold}
 
@@ -65,20 +65,20 @@ by_reading : (r : Result Rule RleFault) (ts : List Token) → fault_of (with_bod
 by_reading (Err fault) ts e = ap (λ (o : Option RleFault). Err (unwrap_or o NoHeader)) e
 by_reading (Ok rule) ts e = absurd (false≢true (sym (of_meaning (first_fault [] ts) (record { rule = rule; cells = cells_after [] ts }) (of_body [] ts)) ∙ ap is_of_rule e))
 
-by_rule : (r : Result Rule RuleFault) → told r ≡ Err RuleNotLifeLike → r ≡ Err NotLifeLike
+by_rule : (r : Result Rule RuleFault) → rule_or_fault r ≡ Err RuleNotLifeLike → r ≡ Err NotLifeLike
 by_rule (Ok rule) e = absurd (false≢true (ap (λ r. is_of_rule (fault_in r)) e))
 by_rule (Err NotLifeLike) e = refl
 by_rule (Err HasB0) e = absurd (false≢true (ap (λ r. is_of_rule (fault_in r)) e))
 
-by_name : (o : Option (List ℕ)) → named_rule o ≡ Err RuleNotLifeLike → option_map rule_of (o >>= (λ text. Some (trimmed is_blank text))) ≡ Some (Err NotLifeLike)
+by_name : (o : Option (List ℕ)) → named_rule o ≡ Err RuleNotLifeLike → option_map rule_of (o >>= (λ text. Some (without_ends is_blank text))) ≡ Some (Err NotLifeLike)
 by_name None e = absurd (false≢true (ap (λ r. is_of_rule (fault_in r)) e))
-by_name (Some text) e = ap Some (by_rule (rule_of (trimmed is_blank text)) e)
+by_name (Some text) e = ap Some (by_rule (rule_of (without_ends is_blank text)) e)
 
 unless_blank : (b : Bool) (r : Result Rule RleFault) → (if b then Ok life else r) ≡ Err RuleNotLifeLike → r ≡ Err RuleNotLifeLike
 unless_blank true r e = absurd (false≢true (ap (λ r. is_of_rule (fault_in r)) e))
 unless_blank false r e = e
 
-by_sizes : (o : Option (List ℕ)) → rule_behind o ≡ Err RuleNotLifeLike → option_map rule_of (o >>= (λ behind. after_rule_name behind >>= (λ text. Some (trimmed is_blank text)))) ≡ Some (Err NotLifeLike)
+by_sizes : (o : Option (List ℕ)) → rule_behind o ≡ Err RuleNotLifeLike → option_map rule_of (o >>= (λ behind. after_rule_name behind >>= (λ text. Some (without_ends is_blank text)))) ≡ Some (Err NotLifeLike)
 by_sizes None e = absurd (false≢true (ap (λ r. is_of_rule (fault_in r)) e))
 by_sizes (Some behind) e = by_name (after_rule_name behind) (unless_blank (list_all is_blank behind) (named_rule (after_rule_name behind)) e)
 

@@ -6,7 +6,7 @@ use Rattle.life_text.specs.declared.rle.RleFault.TheVariants.{NoHeader, BadHeade
 use Rattle.life_faults.specs.declared.kinds.RuleKind.{RuleKind}
 use Rattle.life_faults.specs.declared.kinds.RuleKind.TheVariants.{Named, Bounded, Generations, LargerThanLife, NonTotalistic, Blank, Other}
 use Rattle.life_faults.specs.Rules.{rule_in_header, rule_kind}
-use Rattle.life_faults.specs.Sentences.{WordsDiffer, placeless, rule_sentence_of, sentence_of, sentence_of_rule, words_of}
+use Rattle.life_faults.specs.Sentences.{WordsDiffer, without_place, rule_sentence_of, sentence_of, sentence_of_rule, words_of}
 
 -- the fault that a sentence tells: all that tell none of the others tell of a rule
 abbrev told_by : List ℕ → RleFault
@@ -36,7 +36,7 @@ rule_tells : (rule : Option (List ℕ)) → told_by (sentence_of_rule rule) ≡ 
 rule_tells None = refl
 rule_tells (Some rule) = kind_tells (rule_kind rule)
 
-words_tell : (text : List ℕ) (fault : RleFault) → told_by (words_of text fault) ≡ placeless fault
+words_tell : (text : List ℕ) (fault : RleFault) → told_by (words_of text fault) ≡ without_place fault
 words_tell text NoHeader = refl
 words_tell text BadHeader = refl
 words_tell text RuleNotLifeLike = rule_tells (rule_in_header text)

@@ -21,9 +21,9 @@ number_of NoEnd = codes "rle fault 10"
 number_of Memory = codes "out of memory"
 
 -- words, and a number after them where there is one
-abbrev pub numbered : List ℕ → Option ℕ → List ℕ
-numbered words None = words
-numbered words (Some at) = words ++ decimal at
+abbrev pub with_number : List ℕ → Option ℕ → List ℕ
+with_number words None = words
+with_number words (Some at) = words ++ decimal at
 
 -- `LINE:COLUMN: `
 abbrev pub place_text : Place → List ℕ

@@ -17,8 +17,8 @@ abbrev pub is_within_line : ℕ → Bool
 is_within_line c = not (c == 10)
 
 -- the line is one more than the LFs before the place, and the column one more than the bytes between the last LF before the place and the place
-abbrev pub place : List ℕ → ℕ → Place
-place text at = record {
+abbrev pub line_and_column : List ℕ → ℕ → Place
+line_and_column text at = record {
   line = times_in 10 (take at text) + 1;
   column = suffix_len is_within_line (take at text) + 1;
 }
@@ -43,4 +43,4 @@ place_in text Memory = 0
 
 -- its line and column; a place after the text's end counts as the end
 abbrev pub place_of : List ℕ → RleFault → Place
-place_of text fault = place text (min (place_in text fault) (length text))
+place_of text fault = line_and_column text (min (place_in text fault) (length text))

@@ -52,22 +52,22 @@ words_of text Memory = sentence_of Memory
 -- # No two have the same
 
 -- the fault without its byte
-abbrev pub placeless : RleFault → RleFault
-placeless NoHeader = NoHeader
-placeless BadHeader = BadHeader
-placeless RuleNotLifeLike = RuleNotLifeLike
-placeless RuleHasB0 = RuleHasB0
-placeless (ManyStates at) = ManyStates 0
-placeless (BadChar at) = BadChar 0
-placeless (BadRun at) = BadRun 0
-placeless (TooFar at) = TooFar 0
-placeless (TooMany at) = TooMany 0
-placeless NoEnd = NoEnd
-placeless Memory = Memory
+abbrev pub without_place : RleFault → RleFault
+without_place NoHeader = NoHeader
+without_place BadHeader = BadHeader
+without_place RuleNotLifeLike = RuleNotLifeLike
+without_place RuleHasB0 = RuleHasB0
+without_place (ManyStates at) = ManyStates 0
+without_place (BadChar at) = BadChar 0
+without_place (BadRun at) = BadRun 0
+without_place (TooFar at) = TooFar 0
+without_place (TooMany at) = TooMany 0
+without_place NoEnd = NoEnd
+without_place Memory = Memory
 
 -- faults with one sentence differ in their byte at most
 abbrev pub SentencesDiffer : Type 0
-SentencesDiffer = (f g : RleFault) → sentence_of f ≡ sentence_of g → placeless f ≡ placeless g
+SentencesDiffer = (f g : RleFault) → sentence_of f ≡ sentence_of g → without_place f ≡ without_place g
 
 -- kinds of rules with one sentence are one
 abbrev pub RuleSentencesDiffer : Type 0
@@ -75,4 +75,4 @@ RuleSentencesDiffer = (k l : RuleKind) → rule_sentence_of k ≡ rule_sentence_
 
 -- whatever the texts: faults that are told by one sentence differ in their byte at most
 abbrev pub WordsDiffer : Type 0
-WordsDiffer = (text other : List ℕ) (f g : RleFault) → words_of text f ≡ words_of other g → placeless f ≡ placeless g
+WordsDiffer = (text other : List ℕ) (f g : RleFault) → words_of text f ≡ words_of other g → without_place f ≡ without_place g

@@ -14,7 +14,7 @@ mod told;
 pub use header::{header_place, rule_in_header};
 pub use kinds::{RuleKind, rule_kind};
 pub use life_text::RleFault;
-pub use line::{place, place_of};
+pub use line::{line_and_column, place_of};
 pub use places::Place;
 pub use sentences::{refused_rules_are_told, rule_sentence, sentence, sentences_differ, words_of};
 pub use told::{fault_line, sentence_line};

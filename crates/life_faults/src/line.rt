@@ -1,6 +1,6 @@
 //! Where the bytes of a text stand.
 ghost use Rattle.std.specs.Prelude.{◌≡◌, ◌≤◌, length};
-ghost use Rattle.life_faults.specs.Places.{place, place_in, place_of};
+ghost use Rattle.life_faults.specs.Places.{line_and_column, place_in, place_of};
 
 use crate::bytes::{count_of, last_line_len};
 use crate::header::header_place;
@@ -10,9 +10,9 @@ use life_text::RleFault;
 /// The line and the column of a byte, or of the end of the text, both counted from 1. LF ends a line, and belongs to
 /// it. CR is a byte like any other: where a line ends with CR and LF, CR is the last but one byte of its line, and CR
 /// alone ends no line.
-pub fn place(text: &[u8], at: usize) -> Place
+pub fn line_and_column(text: &[u8], at: usize) -> Place
     requires { at ≤ length text.now }
-    ensures { result ≡ place text.now at }
+    ensures { result ≡ line_and_column text.now at }
 {
     let before = &text[..at];
     Place {
@@ -46,5 +46,5 @@ fn place_in(text: &[u8], fault: RleFault) -> usize
 pub fn place_of(text: &[u8], fault: &RleFault) -> Place
     ensures { result ≡ place_of text.now fault.now }
 {
-    place(text, place_in(text, *fault).min(text.len()))
+    line_and_column(text, place_in(text, *fault).min(text.len()))
 }

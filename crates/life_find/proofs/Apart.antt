@@ -8,7 +8,7 @@ use Rattle.life_model.specs.Evolution.{generation}
 use Rattle.life_model.specs.Symmetry.{normal}
 use Rattle.life_model.specs.Recurrence.{IsPeriodAt}
 use Rattle.life_model.proofs.Moves.{normal-moved}
-use Rattle.life_plane.specs.Ways.{IsWay}
+use Rattle.life_plane.specs.Offsets.{IsOffset}
 use Rattle.life_find.specs.Search.{IsReturn}
 
 pub record IsApart (R : Rule) (G : Generation) (a : ℕ) : Type 0 where
@@ -29,15 +29,15 @@ module _ (R : Rule) (G : Generation) where
     }
 
     -- where the next one is the first again, the first comes again after so many steps and not sooner
-    pub IsReturn-found : (d : Cell) → IsWay G (generation R G (a + 1)) d → IsReturn R G (a + 1) d
-    IsReturn-found d way = record {
-      recurs = record { later = omega arith; again = way.move };
+    pub IsReturn-found : (d : Cell) → IsOffset G (generation R G (a + 1)) d → IsReturn R G (a + 1) d
+    IsReturn-found d offset = record {
+      recurs = record { later = omega arith; again = offset.move };
       least = λ n e r.
           elim (cases_lt a n) [
             | inl whole ↦ omega arith
             | inr before ↦ absurd (so_far.none n r.later before (ap normal r.again ∙ normal-moved G e))
           ];
-      unmoved = way.unmoved;
+      unmoved = offset.unmoved;
     }
 
 pub IsPeriodAt_from_return : (R : Rule) (G : Generation) (t p : ℕ) (d : Cell) → IsReturn R (generation R G t) p d → IsPeriodAt R G t p

@@ -9,24 +9,24 @@ use Rattle.life_answer.specs.declared.finding.Answer.TheVariants.{Found}
 use Rattle.life_answer.specs.declared.finding.Finding.TheVariants.{Unresolved}
 use Rattle.life_answer.specs.declared.question.Question.TheVariants.{Settles}
 use Rattle.life_answer.specs.Answers.{finding_of}
-use Rattle.life_answer.specs.Limited.{first_past, limited, unless_large}
+use Rattle.life_answer.specs.Limited.{first_past, finding_unless_large, unless_large}
 use Rattle.life_answer.specs.Questions.{answer_to, answer_to_question}
 use Rattle.life_find.specs.Soon.{is_open}
 use Rattle.life_find.proofs.Beyond.{found_beyond, past_beyond, stays}
 
 module _ (R : Rule) (G : Generation) (limit : Option ℕ) (b c : ℕ) (h : b ≤ c)
-    (resolved : limited limit R G b (finding_of R G b) ≡ Unresolved (size G) → ⊥) where
+    (resolved : finding_unless_large limit R G b (finding_of R G b) ≡ Unresolved (size G) → ⊥) where
   limited_by : (o : Option ℕ) → first_past limit R G b ≡ o
-      → limited limit R G c (finding_of R G c) ≡ limited limit R G b (finding_of R G b)
+      → finding_unless_large limit R G c (finding_of R G c) ≡ finding_unless_large limit R G b (finding_of R G b)
   limited_by (Some n) e =
       ap (unless_large (finding_of R G c) (size G)) (past_beyond R G limit b c n h e)
       ∙ sym (ap (unless_large (finding_of R G b) (size G)) e)
   limited_by None e =
-      let same : limited limit R G b (finding_of R G b) ≡ finding_of R G b = ap (unless_large (finding_of R G b) (size G)) e in
+      let same : finding_unless_large limit R G b (finding_of R G b) ≡ finding_of R G b = ap (unless_large (finding_of R G b) (size G)) e in
       found_beyond R G limit b c (stays R G limit b (λ other. ap (unless_large other (size G)) e)) (λ none. resolved (same ∙ none)) h
       ∙ sym same
 
-  limited_beyond : limited limit R G c (finding_of R G c) ≡ limited limit R G b (finding_of R G b)
+  limited_beyond : finding_unless_large limit R G c (finding_of R G c) ≡ finding_unless_large limit R G b (finding_of R G b)
   limited_beyond = limited_by (first_past limit R G b) refl
 
 answered_by : (limit : Option ℕ) (b c : ℕ) → b ≤ c → (r : Result Picture RleFault)

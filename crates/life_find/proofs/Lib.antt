@@ -1,6 +1,6 @@
-pub mod Ways
+pub mod Offsets
 pub mod Apart
-pub mod Outlines
+pub mod Fingerprints
 pub mod Quiet
 pub mod Possible
 pub mod Found

@@ -1,4 +1,4 @@
--- Which periods the outlines leave possible.
+-- Which periods the fingerprints leave possible.
 use Rattle.std.proofs.Common.{◌≡◌, ℕ, suc, ◌+◌, ◌-◌, ◌<◌, ◌≤◌, Bool, true, false, cond, ◌&&◌, Decides, List, [], ◌∷◌, ◌++◌, length, get_or, inl, inr, sym, ap, subst, ◌∙◌, arith}
 use Rattle.std.specs.List.{Contains, filter, range_with_len}
 use Rattle.std.proofs.lemmas.List.Elements.{filter-append, Contains-append_right, Contains-append_cases, Contains-push_cases}
@@ -14,12 +14,12 @@ use Rattle.life_model.specs.Recurrence.{SettlesAt}
 use Rattle.life_model.specs.Symmetry.{normal}
 use Rattle.life_model.proofs.Orbits.{along}
 use Rattle.life_model.proofs.Recurrences.{generation-add, generation-zero, shape, shape-follows, shape_from_move}
-use Rattle.life_find.specs.declared.outline.Outline.{Outline}
-use Rattle.life_find.specs.Outline.{IsOutline, agree, no_outline}
-use Rattle.life_find.specs.Search.{AreOutlines, changes_at, ends_alike, from_first}
+use Rattle.life_find.specs.declared.fingerprint.Fingerprint.{Fingerprint}
+use Rattle.life_find.specs.Fingerprint.{IsFingerprint, may_match, no_fingerprint}
+use Rattle.life_find.specs.Search.{AreFingerprints, changes_at, ends_alike, from_first}
 use Rattle.life_find.proofs.Apart.{IsApart}
 use Rattle.life_cells.proofs.PrintLemmas.{range_more}
-use Rattle.life_find.proofs.Outlines.{agree_by_shape}
+use Rattle.life_find.proofs.Fingerprints.{agree_by_shape}
 
 -- ---- the elements at which a test gives true
 
@@ -74,33 +74,33 @@ candidates-more test xs ys p h e f =
 
 -- ---- populations
 
-module _ (R : Rule) (G : Generation) (list new : List Outline) (x : Outline) (n : ℕ) (e : new ≡ list ++ x ∷ []) (count : length list ≡ n) where
+module _ (R : Rule) (G : Generation) (list new : List Fingerprint) (x : Fingerprint) (n : ℕ) (e : new ≡ list ++ x ∷ []) (count : length list ≡ n) where
   pub length-more : length new ≡ n + 1
   length-more = ap length e ∙ length-append list (x ∷ []) ∙ ap (λ m. m + 1) count
 
-  pub AreOutlines-more : AreOutlines R G list → IsOutline (generation R G n) x → AreOutlines R G new
-  AreOutlines-more are told = record {
+  pub AreFingerprints-more : AreFingerprints R G list → IsFingerprint (generation R G n) x → AreFingerprints R G new
+  AreFingerprints-more are told = record {
     each = λ k below.
         let longer : length new ≡ n + 1 = length-more in
         elim (cases_lt k (length list)) [
           | inl less ↦
-              subst (IsOutline (generation R G k)) (sym (ap (λ l. get_or l k no_outline) e ∙ get_or_append_left list (x ∷ []) no_outline k less)) (are.each k less)
+              subst (IsFingerprint (generation R G k)) (sym (ap (λ l. get_or l k no_fingerprint) e ∙ get_or_append_left list (x ∷ []) no_fingerprint k less)) (are.each k less)
           | inr last ↦
               let here : k ≡ length list = omega arith in
-              subst (IsOutline (generation R G k))
-              (sym (ap (λ l. get_or l k no_outline) e ∙ ap (λ j. get_or (list ++ x ∷ []) j no_outline) here ∙ get_or-append_seam list x [] no_outline))
-              (subst (λ j. IsOutline (generation R G j) x) (let q : n ≡ k = omega arith in q) told)
+              subst (IsFingerprint (generation R G k))
+              (sym (ap (λ l. get_or l k no_fingerprint) e ∙ ap (λ j. get_or (list ++ x ∷ []) j no_fingerprint) here ∙ get_or-append_seam list x [] no_fingerprint))
+              (subst (λ j. IsFingerprint (generation R G j) x) (let q : n ≡ k = omega arith in q) told)
         ];
   }
 
-AreOutlines-none : (R : Rule) (G : Generation) (list : List Outline) → list ≡ [] → AreOutlines R G list
-AreOutlines-none R G list e = record { each = λ k below. absurd (let none : length list ≡ 0 = ap length e in omega arith) }
+AreFingerprints-none : (R : Rule) (G : Generation) (list : List Fingerprint) → list ≡ [] → AreFingerprints R G list
+AreFingerprints-none R G list e = record { each = λ k below. absurd (let none : length list ≡ 0 = ap length e in omega arith) }
 
-pub AreOutlines-first : (R : Rule) (G : Generation) (list new : List Outline) (x : Outline) → list ≡ [] → new ≡ list ++ x ∷ [] → IsOutline G x → (length new ≡ 0 + 1) × AreOutlines R G new
-AreOutlines-first R G list new x none e told =
+pub AreFingerprints-first : (R : Rule) (G : Generation) (list new : List Fingerprint) (x : Fingerprint) → list ≡ [] → new ≡ list ++ x ∷ [] → IsFingerprint G x → (length new ≡ 0 + 1) × AreFingerprints R G new
+AreFingerprints-first R G list new x none e told =
     let count : length list ≡ 0 = ap length none in (
       length-more R G list new x 0 e count,
-      AreOutlines-more R G list new x 0 e count (AreOutlines-none R G list none) (subst (λ H. IsOutline H x) (sym (generation-zero R G)) told),
+      AreFingerprints-more R G list new x 0 e count (AreFingerprints-none R G list none) (subst (λ H. IsFingerprint H x) (sym (generation-zero R G)) told),
     )
 
 -- ---- possible periods
@@ -130,7 +130,7 @@ module _ (R : Rule) (G : Generation) (b : ℕ) where
         },
       )
 
-  ends_alike-possible : (list : List Outline) (p : ℕ) → AreOutlines R G list → b < length list → IsPossible R G b p → ends_alike list p ≡ true
+  ends_alike-possible : (list : List Fingerprint) (p : ℕ) → AreFingerprints R G list → b < length list → IsPossible R G b p → ends_alike list p ≡ true
   ends_alike-possible list p are far possible =
       let least : 1 ≤ p = possible.least in
       let most : p ≤ b = possible.most in
@@ -143,14 +143,14 @@ module _ (R : Rule) (G : Generation) (b : ℕ) where
   pub record AreLeft (periods : List ℕ) : Type 0 where
     pub each : (p : ℕ) → IsPossible R G b p → Contains periods p
 
-  pub AreLeft-start : (list : List Outline) (periods : List ℕ) → AreOutlines R G list → length list ≡ b + 1 → periods ≡ filter (ends_alike list) (range_with_len 1 b) → AreLeft periods
+  pub AreLeft-start : (list : List Fingerprint) (periods : List ℕ) → AreFingerprints R G list → length list ≡ b + 1 → periods ≡ filter (ends_alike list) (range_with_len 1 b) → AreLeft periods
   AreLeft-start list periods are count e = record {
     each = λ p possible.
         subst (λ l. Contains l p) (sym e)
         (Contains-filter (ends_alike list) (range_with_len 1 b) p (Contains-range b p possible.least possible.most) (ends_alike-possible list p are (omega arith) possible));
   }
 
-  pub AreLeft-next : (list : List Outline) (before periods : List ℕ) → AreOutlines R G list → b < length list → AreLeft before → periods ≡ from_first (ends_alike list) before → AreLeft periods
+  pub AreLeft-next : (list : List Fingerprint) (before periods : List ℕ) → AreFingerprints R G list → b < length list → AreLeft before → periods ≡ from_first (ends_alike list) before → AreLeft periods
   AreLeft-next list before periods are far left e = record {
     each = λ p possible. subst (λ l. Contains l p) (sym e) (Contains-from_first (ends_alike list) before p (left.each p possible) (ends_alike-possible list p are far possible));
   }
@@ -174,15 +174,15 @@ module _ (R : Rule) (G : Generation) (b : ℕ) where
 
 -- ---- the onset
 
-module _ (R : Rule) (G : Generation) (list : List Outline) (are : AreOutlines R G list) (p first : ℕ) (change : (i : ℕ) → first ≡ i + 1 → changes_at list p i ≡ true) where
-  -- no generation before the first that the outlines leave comes again after p steps
+module _ (R : Rule) (G : Generation) (list : List Fingerprint) (are : AreFingerprints R G list) (p first : ℕ) (change : (i : ℕ) → first ≡ i + 1 → changes_at list p i ≡ true) where
+  -- no generation before the first that the fingerprints leave comes again after p steps
   pub none_before : (h : ℕ) → h < first → shape R G (h + p) ≡ shape R G h → ⊥
   none_before h below e =
       let i : ℕ = first - 1 in
       let k : ℕ = i - h in
-      let here = get_or list i no_outline in
-      let there = get_or list (i + p) no_outline in
-      let alike : Decides (agree here there) (agree here there ≡ true) = (λ same. same, λ same. same) in
+      let here = get_or list i no_fingerprint in
+      let there = get_or list (i + p) no_fingerprint in
+      let alike : Decides (may_match here there) (may_match here there ≡ true) = (λ same. same, λ same. same) in
       let differ = (Decides-and _ _ (Decides-ltb (i + p) (length list)) (Decides-not _ alike)).0 (change i (omega arith)) in
       let inside : i + p < length list = differ.0 in
       let again : shape R G (i + p) ≡ shape R G i =

@@ -9,7 +9,7 @@ use Rattle.life_model.specs.Cell.{Cell, IsNear, origin, plus, opposite, same_cel
 use Rattle.life_model.specs.Rule.{Rule}
 use Rattle.life_model.specs.Generation.{Generation, cells, contains}
 use Rattle.life_model.specs.Evolution.{generation, next}
-use Rattle.life_model.specs.Symmetry.{moved, normal}
+use Rattle.life_model.specs.Symmetry.{translate_of, normal}
 use Rattle.life_model.proofs.Cells.{cell_cmp_total, pair, same_cell-is}
 use Rattle.life_model.proofs.Generations.{contains-cells}
 use Rattle.life_model.proofs.Moves.{normal_decides}
@@ -56,7 +56,7 @@ from_before R G (suc n) c h =
 moved_back : (c d : Cell) → plus (plus c d) (opposite d) ≡ c
 moved_back c d = pair (omega (arith, ints)) (omega (arith, ints))
 
-stands_there : (A H : Generation) (d c : Cell) → H ≡ moved A d → contains A c ≡ true → contains H (plus c d) ≡ true
+stands_there : (A H : Generation) (d c : Cell) → H ≡ translate_of A d → contains A c ≡ true → contains H (plus c d) ≡ true
 stands_there A H d c e h = ap (λ X. contains X (plus c d)) e ∙ contains-moved A d (plus c d) ∙ ap (contains A) (moved_back c d) ∙ h
 
 -- the first cell is moved next to g and the missed one next to h, so h is next to where it would be beside g
@@ -76,14 +76,14 @@ module _ (A H : Generation) (list others : List Cell) (e : list ≡ cells A) (f 
   pub quiet_while_away : (m : ℕ) (r : ℤ) → r ≡ pos (m + m) → 0 < length list → IsAway r list others → (R : Rule) (k : ℕ) → k ≤ m →
       normal A ≡ normal (generation R H k) → ⊥
   quiet_while_away m r twice some away R k small same =
-      let way = (normal_decides A (generation R H k)).0 same in
-      let d : Cell = way.0 in
+      let offset = (normal_decides A (generation R H k)).0 same in
+      let d : Cell = offset.0 in
       let first : Cell = slice_index_or list 0 origin in
-      let one = from_before R H k (plus first d) (stands_there A (generation R H k) d first way.1 (at_place 0 some)) in
+      let one = from_before R H k (plus first d) (stands_there A (generation R H k) d first offset.1 (at_place 0 some)) in
       let missed : IsMissed r list others (plus one.0 (opposite first)) =
       of_member (λ b. IsMissed r list others (plus b (opposite first))) H others f away one.0 one.1 in
       let c : Cell = slice_index_or list missed.at origin in
-      let other = from_before R H k (plus c d) (stands_there A (generation R H k) d c way.1 (at_place missed.at missed.inside)) in
+      let other = from_before R H k (plus c d) (stands_there A (generation R H k) d c offset.1 (at_place missed.at missed.inside)) in
       of_member (λ b. IsReachedBy r (plus c (plus one.0 (opposite first))) b → ⊥) H others f missed.far other.0 other.1
       (reached_there k m r first c d one.0 other.0 small twice one.2 other.2)
 

@@ -6,12 +6,12 @@ use Rattle.life_model.specs.Recurrence.{SettlesAt}
 use Rattle.life_answer.specs.declared.finding.Finding.TheVariants.{Recurs, Unresolved}
 use Rattle.life_answer.specs.Apgcode.{code_of}
 use Rattle.life_model.specs.Evolution.{generation}
-use Rattle.life_answer.specs.Answers.{finding_of, settled}
+use Rattle.life_answer.specs.Answers.{finding_of, recurrence_finding}
 use Rattle.life_answer.proofs.Findings.{finding-settled, settles_by_finding, nowhere_by_finding}
 use Rattle.life_answer.proofs.Codes.{codes_tell_objects}
 use Rattle.life_find.specs.Objects.{HasCode, TellsObject}
 
-code_found : (R : Rule) (G : Generation) (b population onset period : ℕ) (dx dy : ℤ) (code : List ℕ) → Recurs population onset period dx dy code ≡ settled R G onset period (dx, dy) → code ≡ code_of R (generation R G onset) period (dx, dy)
+code_found : (R : Rule) (G : Generation) (b population onset period : ℕ) (dx dy : ℤ) (code : List ℕ) → Recurs population onset period dx dy code ≡ recurrence_finding R G onset period (dx, dy) → code ≡ code_of R (generation R G onset) period (dx, dy)
 code_found R G b population onset period dx dy code e = cc
 
 pub HasCode_by_finding : (R : Rule) (G : Generation) (b population onset period : ℕ) (dx dy : ℤ) (code : List ℕ) → Recurs population onset period dx dy code ≡ finding_of R G b → HasCode R G b code

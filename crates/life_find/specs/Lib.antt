@@ -1,4 +1,4 @@
-pub mod Outline
+pub mod Fingerprint
 pub mod Quiet
 pub mod Search
 pub mod Objects

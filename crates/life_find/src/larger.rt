@@ -2,7 +2,7 @@
 ghost use Rattle.std.specs.Prelude.{◌≡◌, ◌<◌, All, IfNone, IfOk, IfSome};
 ghost use Rattle.life_model.specs.Generation as generations;
 ghost use Rattle.life_cells.specs.Limits.{IsWithin};
-ghost use Rattle.life_answer.specs.Limited.{first_larger, limited};
+ghost use Rattle.life_answer.specs.Limited.{first_larger, finding_unless_large};
 ghost use Rattle.life_answer.specs.declared.finding.Finding.{Finding as Found};
 
 use life_answer::Finding;
@@ -46,8 +46,8 @@ pub fn too_large<P: Plane>(
 ) -> Result<Option<Finding>, AllocError>
     requires fits { All (IsWithin 0) (generations.cells cells.now) }
     requires last { last < AGE_LIMIT }
-    ensures large { IfOk result (λ answer. IfSome answer (λ large. (found : Found) → limited limit rule.now cells.now last found ≡ large)) }
-    ensures small { IfOk result (λ answer. IfNone answer ((found : Found) → limited limit rule.now cells.now last found ≡ found)) }
+    ensures large { IfOk result (λ answer. IfSome answer (λ large. (found : Found) → finding_unless_large limit rule.now cells.now last found ≡ large)) }
+    ensures small { IfOk result (λ answer. IfNone answer ((found : Found) → finding_unless_large limit rule.now cells.now last found ≡ found)) }
 {
     let Some(most) = limit else {
         return Ok(None);

@@ -5,26 +5,26 @@
 
 mod answering;
 mod apgcode;
+mod brent;
 mod candidates;
 mod finding;
+mod fingerprint;
 mod larger;
 mod laws;
 mod limit;
 mod lookout;
 mod missing;
-mod outline;
+mod offset;
 mod recurrence;
 mod rounds;
 mod sameness;
 mod search;
-mod sighting;
 mod soon;
-mod way;
 
 pub use answering::answer;
 pub use finding::{find, find_cells, find_limited};
 pub use larger::{first_larger, too_large};
-pub use laws::outlines_follow_moves;
+pub use laws::fingerprints_follow_moves;
 pub use limit::BOUND_LIMIT;
 pub use sameness::same_object;
 pub use soon::answer_soon;

@@ -3,13 +3,13 @@ ghost use Rattle.std.specs.Prelude.{◌≡◌, ℕ, ◌<◌, ◌≤◌, IfNone, 
 ghost use Rattle.life_model.specs.Evolution.{generation, next};
 ghost use Rattle.life_model.specs.Rule.{Rule};
 ghost use Rattle.life_model.specs.Symmetry.{normal};
-ghost use Rattle.life_plane.specs.Ways.{IsWay};
-ghost use Rattle.life_find.specs.Outline.{IsOutline};
+ghost use Rattle.life_plane.specs.Offsets.{IsOffset};
+ghost use Rattle.life_find.specs.Fingerprint.{IsFingerprint};
 ghost use Rattle.life_find.specs.Quiet.{IsQuiet};
 
+use crate::fingerprint::{Fingerprint, fingerprint_on};
 use crate::missing::are_away;
-use crate::outline::{Outline, outline_on};
-use crate::way::way_to;
+use crate::offset::offset_to;
 use life_cells::CellList;
 use life_plane::Plane;
 use std::alloc::AllocError;
@@ -32,11 +32,11 @@ pub struct Lookout {
     pub alike: u32,
 }
 
-/// What was seen of a generation: its outline, and how far it is from the set that is to stand again, where it is that set.
+/// What was seen of a generation: its fingerprint, and how far it is from the set that is to stand again, where it is that set.
 #[derive(Clone, Copy)]
 pub struct Sight {
-    pub outline: Outline,
-    pub way: Option<(i32, i32)>,
+    pub fingerprint: Fingerprint,
+    pub offset: Option<(i32, i32)>,
 }
 
 /// Of so many generations that come, all or none: all if a listed cell is missed so far that it can't come sooner, wherever
@@ -96,32 +96,35 @@ impl Lookout {
     pub fn look<P: Plane>(
         &mut self,
         listed: &CellList,
-        marked: Outline,
+        marked: Fingerprint,
         plane: &P,
         taken: u32,
         spanned: bool,
     ) -> Result<Sight, AllocError>
-        requires marked { IsOutline listed.now marked }
+        requires marked { IsFingerprint listed.now marked }
         requires taken { taken ≤ 1000000 }
         requires quiet { (R : Rule) × IsQuiet R listed.now (P.members plane.now) self.old.quiet }
-        ensures outline { IfOk result (λ sight. IsOutline (P.members plane.now) sight.outline) }
-        ensures way { IfOk result (λ sight. IfSome sight.way (λ d. IsWay listed.now (P.members plane.now) d)) }
-        ensures apart { IfOk result (λ sight. IfNone sight.way (normal listed.now ≡ normal (P.members plane.now) → ⊥)) }
+        ensures fingerprint { IfOk result (λ sight. IsFingerprint (P.members plane.now) sight.fingerprint) }
+        ensures offset { IfOk result (λ sight. IfSome sight.offset (λ d. IsOffset listed.now (P.members plane.now) d)) }
+        ensures apart { IfOk result (λ sight. IfNone sight.offset (normal listed.now ≡ normal (P.members plane.now) → ⊥)) }
         ensures quiet { OnOk result ((R : Rule) → IsQuiet R listed.now (P.members plane.now) self.old.quiet →
             IsQuiet R listed.now (next R (P.members plane.now)) self.new.quiet) }
     {
         if self.quiet > 0 {
             self.quiet -= 1;
             return Ok(Sight {
-                outline: Outline::UNKNOWN,
-                way: None,
+                fingerprint: Fingerprint::UNKNOWN,
+                offset: None,
             });
         }
         let population = plane.population();
         let is_alike = marked.population == Some(population);
-        let outline = outline_on(plane, population, is_alike || spanned)?;
-        let way = way_to(listed, marked, plane, outline)?;
+        let fingerprint = fingerprint_on(plane, population, is_alike || spanned)?;
+        let offset = offset_to(listed, marked, plane, fingerprint)?;
         self.rest(listed, plane, is_alike, taken)?;
-        Ok(Sight { outline, way })
+        Ok(Sight {
+            fingerprint,
+            offset,
+        })
     }
 }

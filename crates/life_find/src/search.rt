@@ -6,11 +6,11 @@ ghost use Rattle.life_model.specs.Recurrence.{IsPeriodAt, Settles, SettlesAt};
 ghost use Rattle.life_model.specs.Symmetry.{normal};
 ghost use Rattle.life_cells.specs.Limits.{IsWithin};
 
+use crate::brent::find_return;
 use crate::candidates::first_alike;
 use crate::limit::BOUND_LIMIT;
+use crate::offset::plane_offset;
 use crate::recurrence::Recurrence;
-use crate::sighting::seen_again;
-use crate::way::way;
 use life_cells::{CellList, Rule};
 use life_plane::{AGE_LIMIT, Plane};
 use std::alloc::{AllocError, Global};
@@ -43,13 +43,13 @@ pub fn settling<P: Plane>(
     ensures none { IfOk result (λ answer. IfNone answer ((g : ℕ) → SettlesAt rule.now cells.now bound g → ⊥)) }
 {
     let mut runner = P::from_cells(alloc, cells)?;
-    let mut outlines = Vec::new(alloc);
-    let seen = match seen_again(alloc, &mut runner, cells, rule, bound, &mut outlines)? {
+    let mut fingerprints = Vec::new(alloc);
+    let seen = match find_return(alloc, &mut runner, cells, rule, bound, &mut fingerprints)? {
         Some(seen) => seen,
         None => return Ok(None),
     };
     let last = bound - seen.period;
-    let first = first_alike(&outlines, seen.period, last);
+    let first = first_alike(&fingerprints, seen.period, last);
     if first > last {
         return Ok(None);
     }
@@ -83,7 +83,7 @@ fn settling_from<P: Plane>(
     let mut later = plane.copy()?;
     advance(&mut later, rule, period)?;
     for onset in first..bound - period + 1 {
-        if let Some(displacement) = way(&plane, &later)? {
+        if let Some(displacement) = plane_offset(&plane, &later)? {
             let recurrence = Recurrence {
                 onset,
                 period,

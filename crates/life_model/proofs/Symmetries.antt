@@ -6,7 +6,7 @@ use Rattle.life_model.specs.Cell.{Cell, same_cell, plus, opposite, steps}
 use Rattle.life_model.specs.Rule.{Rule, born, stays}
 use Rattle.life_model.specs.Generation.{Generation, contains, cells}
 use Rattle.life_model.specs.Evolution.{count_at, lives, next, generation}
-use Rattle.life_model.specs.Symmetry.{image, moved, Orientation, Same, FlipX, FlipY, Half, Swap, SwapFlipX, SwapFlipY, SwapHalf, turn, turned}
+use Rattle.life_model.specs.Symmetry.{image, translate_of, Orientation, Same, FlipX, FlipY, Half, Swap, SwapFlipX, SwapFlipY, SwapHalf, turn, image_under}
 use Rattle.life_model.proofs.Cells.{pair, same_cell-is, plus-opposite, plus-opposite_first}
 use Rattle.life_model.proofs.Generations.{contains-from_list, contains-cells, same_members}
 use Rattle.life_model.proofs.Tests.{list_any-alike, list_any-map}
@@ -137,20 +137,20 @@ turn_keeps m = record {
 }
 
 -- the next generation goes along with a move, and with each of the eight maps
-pub next-moved : (R : Rule) (G : Generation) (d : Cell) → next R (moved G d) ≡ moved (next R G) d
+pub next-moved : (R : Rule) (G : Generation) (d : Cell) → next R (translate_of G d) ≡ translate_of (next R G) d
 next-moved R G d = next-image _ _ (plus_keeps d) R G
 
-pub next-turned : (R : Rule) (G : Generation) (m : Orientation) → next R (turned G m) ≡ turned (next R G) m
+pub next-turned : (R : Rule) (G : Generation) (m : Orientation) → next R (image_under G m) ≡ image_under (next R G) m
 next-turned R G m = next-image _ _ (turn_keeps m) R G
 
-pub generation-moved : (R : Rule) (G : Generation) (d : Cell) (n : ℕ) → generation R (moved G d) n ≡ moved (generation R G n) d
+pub generation-moved : (R : Rule) (G : Generation) (d : Cell) (n : ℕ) → generation R (translate_of G d) n ≡ translate_of (generation R G n) d
 generation-moved R G d n = generation-image _ _ (plus_keeps d) R G n
 
-pub generation-turned : (R : Rule) (G : Generation) (m : Orientation) (n : ℕ) → generation R (turned G m) n ≡ turned (generation R G n) m
+pub generation-turned : (R : Rule) (G : Generation) (m : Orientation) (n : ℕ) → generation R (image_under G m) n ≡ image_under (generation R G n) m
 generation-turned R G m n = generation-image _ _ (turn_keeps m) R G n
 
-pub contains-moved : (G : Generation) (d c : Cell) → contains (moved G d) c ≡ contains G (plus c (opposite d))
+pub contains-moved : (G : Generation) (d c : Cell) → contains (translate_of G d) c ≡ contains G (plus c (opposite d))
 contains-moved G d c = contains-image _ _ (plus_keeps d).inverse G c
 
-pub contains-turned : (G : Generation) (m : Orientation) (c : Cell) → contains (turned G m) c ≡ contains G (turn (undone m) c)
+pub contains-turned : (G : Generation) (m : Orientation) (c : Cell) → contains (image_under G m) c ≡ contains G (turn (undone m) c)
 contains-turned G m c = contains-image _ _ (turn_keeps m).inverse G c

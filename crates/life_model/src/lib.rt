@@ -13,7 +13,7 @@ ghost use Rattle.life_model.specs.Evolution.{count, generation, next};
 ghost use Rattle.life_model.specs.Generation.{Generation, cells, contains, empty, from_list, is_rising};
 ghost use Rattle.life_model.specs.Recurrence.{AreOneObject, RecursBy, Settles, SettlesAt};
 ghost use Rattle.life_model.specs.Rule.{Rule, born, stays};
-ghost use Rattle.life_model.specs.Symmetry.{IsCorner, Orientation, moved, normal, turned};
+ghost use Rattle.life_model.specs.Symmetry.{IsCorner, Orientation, translate_of, normal, image_under};
 
 /// Cells are in one total order, in which only equal cells tie.
 pub fn cells_are_ordered()
@@ -50,18 +50,18 @@ pub fn next_is_near()
 
 /// Evolution commutes with moves and with the eight maps.
 pub fn next_commutes()
-    ensures moved { (R : Rule) (G : Generation) (d : Cell) → next R (moved G d) ≡ moved (next R G) d }
-    ensures turned { (R : Rule) (G : Generation) (m : Orientation) → next R (turned G m) ≡ turned (next R G) m }
+    ensures moved { (R : Rule) (G : Generation) (d : Cell) → next R (translate_of G d) ≡ translate_of (next R G) d }
+    ensures turned { (R : Rule) (G : Generation) (m : Orientation) → next R (image_under G m) ≡ image_under (next R G) m }
 {}
 
 /// A set with a cell comes to one place by one move alone.
 pub fn a_move_is_unique()
-    ensures { (G : Generation) (c d e : Cell) → contains G c ≡ true → moved G d ≡ moved G e → d ≡ e }
+    ensures { (G : Generation) (c d e : Cell) → contains G c ≡ true → translate_of G d ≡ translate_of G e → d ≡ e }
 {}
 
 /// A move keeps the order of cells.
 pub fn moves_keep_order()
-    ensures { (G : Generation) (d : Cell) → cells (moved G d) ≡ map (λ c. plus c d) (cells G) }
+    ensures { (G : Generation) (d : Cell) → cells (translate_of G d) ≡ map (λ c. plus c d) (cells G) }
 {}
 
 /// The least x and the least y of a normal form are 0, and the empty set stays.
@@ -72,7 +72,7 @@ pub fn normal_form_stands_at_the_origin()
 
 /// Two sets have one normal form exactly where one is the other, moved.
 pub fn normal_forms_tell_moves()
-    ensures { (G H : Generation) → (normal G ≡ normal H) ↔ ((d : Cell) × (H ≡ moved G d)) }
+    ensures { (G H : Generation) → (normal G ≡ normal H) ↔ ((d : Cell) × (H ≡ translate_of G d)) }
 {}
 
 /// Onset, period and displacement are the same for every bound within which they exist.
@@ -95,9 +95,9 @@ pub fn settles_within()
 /// other, turned; and then each phase of the one, turned in any way, has.
 pub fn one_object()
     ensures made { (R : Rule) (G H : Generation) (k l : ℕ) (m n : Orientation) →
-        normal (turned (generation R G k) m) ≡ normal (turned (generation R H l) n) → AreOneObject R G H }
+        normal (image_under (generation R G k) m) ≡ normal (image_under (generation R H l) n) → AreOneObject R G H }
     ensures each { (R : Rule) (G H : Generation) (p q : ℕ) (d e : Cell) → RecursBy R G p d → RecursBy R H q e →
         AreOneObject R G H → (k : ℕ) (m : Orientation) →
-        (l : ℕ) × (n : Orientation) × (l < q) × (normal (turned (generation R G k) m) ≡ normal (turned (generation R H l) n)) }
+        (l : ℕ) × (n : Orientation) × (l < q) × (normal (image_under (generation R G k) m) ≡ normal (image_under (generation R H l) n)) }
     ensures swapped { (R : Rule) (G H : Generation) → AreOneObject R G H → AreOneObject R H G }
 {}

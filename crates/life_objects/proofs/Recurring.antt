@@ -5,7 +5,7 @@ use Rattle.life_model.specs.Cell.{Cell, origin, plus, opposite}
 use Rattle.life_model.specs.Rule.{Rule}
 use Rattle.life_model.specs.Generation.{Generation, empty}
 use Rattle.life_model.specs.Evolution.{generation}
-use Rattle.life_model.specs.Symmetry.{moved, corner, normal}
+use Rattle.life_model.specs.Symmetry.{translate_of, corner, normal}
 use Rattle.life_model.specs.Recurrence.{RecursBy}
 use Rattle.life_model.proofs.Cells.{pair}
 use Rattle.life_model.proofs.Moves.{moved-moved, moved-origin, moved-empty, normal-moved, moved_from_normal}
@@ -15,19 +15,19 @@ use Rattle.life_model.proofs.Symmetries.{generation-moved}
 use Rattle.life_objects.proofs.Times.{generation-empty}
 
 -- a move is undone by the opposite one
-pub moved_back : (A : Generation) (e : Cell) → moved (moved A e) (opposite e) ≡ A
+pub moved_back : (A : Generation) (e : Cell) → translate_of (translate_of A e) (opposite e) ≡ A
 moved_back A e =
     moved-moved A e (opposite e)
-    ∙ ap (moved A) (let z : plus e (opposite e) ≡ origin = pair (omega (arith, ints)) (omega (arith, ints)) in z)
+    ∙ ap (translate_of A) (let z : plus e (opposite e) ≡ origin = pair (omega (arith, ints)) (omega (arith, ints)) in z)
     ∙ moved-origin A
 
-same_unmoved : (A B : Generation) (e : Cell) → moved A e ≡ moved B e → A ≡ B
-same_unmoved A B e same = sym (moved_back A e) ∙ ap (λ H. moved H (opposite e)) same ∙ moved_back B e
+same_unmoved : (A B : Generation) (e : Cell) → translate_of A e ≡ translate_of B e → A ≡ B
+same_unmoved A B e same = sym (moved_back A e) ∙ ap (λ H. translate_of H (opposite e)) same ∙ moved_back B e
 
-moves_swap : (A : Generation) (d e : Cell) → moved (moved A d) e ≡ moved (moved A e) d
+moves_swap : (A : Generation) (d e : Cell) → translate_of (translate_of A d) e ≡ translate_of (translate_of A e) d
 moves_swap A d e =
     moved-moved A d e
-    ∙ ap (moved A) (let z : plus d e ≡ plus e d = pair (omega (arith, ints)) (omega (arith, ints)) in z)
+    ∙ ap (translate_of A) (let z : plus d e ≡ plus e d = pair (omega (arith, ints)) (omega (arith, ints)) in z)
     ∙ sym (moved-moved A e d)
 
 module _ (R : Rule) where
@@ -65,10 +65,10 @@ module _ (R : Rule) where
     }
 
   -- how a moved set comes again, the set itself does
-  pub RecursBy-unmoved : (P : Generation) (n : ℕ) (d e : Cell) → RecursBy R (moved P e) n d → RecursBy R P n d
+  pub RecursBy-unmoved : (P : Generation) (n : ℕ) (d e : Cell) → RecursBy R (translate_of P e) n d → RecursBy R P n d
   RecursBy-unmoved P n d e r = record {
     later = r.later;
-    again = same_unmoved (generation R P n) (moved P d) e (sym (generation-moved R P e n) ∙ r.again ∙ moves_swap P e d);
+    again = same_unmoved (generation R P n) (translate_of P d) e (sym (generation-moved R P e n) ∙ r.again ∙ moves_swap P e d);
   }
 
   -- how a later generation of what comes again does so, the set itself does
@@ -78,7 +78,7 @@ module _ (R : Rule) where
       let past : k ≤ k * p = n-le P p e r k in
       let rest : ℕ = k * p - k in
       let way = plus (opposite (corner P)) (corner (generation R P (k * p))) in
-      let there : generation R (generation R P k) rest ≡ moved P way =
+      let there : generation R (generation R P k) rest ≡ translate_of P way =
       generation-add R P k rest ∙ ap (generation R P) (let z : k + rest ≡ k * p = omega arith in z)
       ∙ moved_from_normal P (generation R P (k * p)) (sym (shape_again P p e r k)) in
       RecursBy-unmoved P n d way (subst (λ H. RecursBy R H n d) there (RecursBy-later (generation R P k) n d s rest))

@@ -4,7 +4,7 @@ use Rattle.life_model.specs.Cell.{Cell, origin, plus, opposite}
 use Rattle.life_model.specs.Rule.{Rule}
 use Rattle.life_model.specs.Generation.{Generation, contains, empty}
 use Rattle.life_model.specs.Evolution.{generation}
-use Rattle.life_model.specs.Symmetry.{moved, corner, normal}
+use Rattle.life_model.specs.Symmetry.{translate_of, corner, normal}
 use Rattle.life_model.proofs.Moves.{nothing_or_some, moved_from_normal, moved-origin, move_one}
 use Rattle.life_model.proofs.Orbits.{far_enough}
 use Rattle.life_model.proofs.Recurrences.{generation-zero}
@@ -41,7 +41,7 @@ module _ (R : Rule) where
         sym (shape_again R P p p_object.recurs.by p_object.recurs.recurs (n * q)) ∙ ap normal (same m far)
         ∙ ap (λ k. normal (generation R Q k)) e ∙ shape_again R Q q q_object.recurs.by q_object.recurs.recurs (n * p) in
         let d = plus (opposite (corner P)) (corner Q) in
-        let way : Q ≡ moved P d = moved_from_normal P Q shapes in
+        let way : Q ≡ translate_of P d = moved_from_normal P Q shapes in
         elim (nothing_or_some (generation R P m)) [
           | inl none ↦ absurd (object_lives R b P p_object m none)
           | inr some ↦
@@ -49,7 +49,7 @@ module _ (R : Rule) where
               move_one (generation R P m) some.0 origin d some.1
               (moved-origin (generation R P m) ∙ same m far ∙ ap (λ H. generation R H m) way
               ∙ generation-moved R P d m) in
-              sym (moved-origin P) ∙ ap (moved P) still ∙ sym way
+              sym (moved-origin P) ∙ ap (translate_of P) still ∙ sym way
         ]
 
     module _ (P_rest Q_rest : Generation) (p_far : AreApartForEver R P P_rest) (q_far : AreApartForEver R Q Q_rest)

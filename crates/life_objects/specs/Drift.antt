@@ -4,9 +4,9 @@ use Rattle.life_model.specs.Cell.{Cell, origin, plus}
 use Rattle.life_model.specs.Generation.{Generation, contains}
 
 -- n moves by d
-abbrev pub times : ℕ → Cell → Cell
-times zero d = origin
-times (suc n) d = plus (times n d) d
+abbrev pub multiple_of : ℕ → Cell → Cell
+multiple_of zero d = origin
+multiple_of (suc n) d = plus (multiple_of n d) d
 
 -- each cell of P is at least three places to the right of each cell of Q
 abbrev pub IsRightOf : Generation → Generation → Type 0

@@ -15,7 +15,7 @@ ghost use Rattle.life_model.specs.Recurrence.{RecursBy};
 ghost use Rattle.life_model.specs.Rule.{Rule};
 ghost use Rattle.life_objects.specs.Apart.{AreApart, AreApartBefore, AreApartFor, AreApartForEver, AreDisjoint};
 ghost use Rattle.life_objects.specs.Ash.{HasFallenApart, IsAsh};
-ghost use Rattle.life_objects.specs.Drift.{IsBelow, IsRightOf, times};
+ghost use Rattle.life_objects.specs.Drift.{IsBelow, IsRightOf, multiple_of};
 ghost use Rattle.life_objects.specs.Piece.{IsOnePiece, IsUndivided, LivesThrough};
 ghost use Rattle.life_objects.specs.Union.{generations, union, union_of};
 ghost use Rattle.life_objects.specs.Whole.{IsCore, StaysWhole};
@@ -104,7 +104,7 @@ pub fn the_empty_set_has_no_parts()
 /// A set that comes again after some generations comes again after each multiple of them, moved as often.
 pub fn recurrences_go_on()
     ensures { (R : Rule) (k n : ℕ) (P : Generation) (d : Cell) → 1 ≤ k → RecursBy R P n d →
-        RecursBy R P (k * n) (times k d) }
+        RecursBy R P (k * n) (multiple_of k d) }
 {}
 
 /// Two sets that come again after the same number of generations, moved by the same step, are apart for ever where they

@@ -9,12 +9,12 @@ use Rattle.life_model.specs.Evolution.{generation}
 use Rattle.life_model.specs.Generation.{Generation, cells, contains}
 use Rattle.life_model.specs.Recurrence.{RecursBy}
 use Rattle.life_model.specs.Rule.{Rule}
-use Rattle.life_model.specs.Symmetry.{moved}
+use Rattle.life_model.specs.Symmetry.{translate_of}
 use Rattle.life_model.proofs.Generations.{contains-cells}
 use Rattle.life_model.proofs.Cells.{pair, plus-opposite}
 use Rattle.life_model.proofs.Symmetries.{contains-moved}
 use Rattle.life_objects.specs.Apart.{AreApart, AreApartBefore, AreApartForEver, AreNear}
-use Rattle.life_objects.specs.Drift.{times}
+use Rattle.life_objects.specs.Drift.{multiple_of}
 use Rattle.life_objects.proofs.Moving.{generation-wrapped}
 use Rattle.life_orbit.specs.Clear.{AreClear, IsClearOf}
 use Rattle.life_orbit.specs.Course.{Course, IsCourse}
@@ -60,12 +60,12 @@ near_forth c d s t h = record {
 }
 
 -- two moved sets are apart where the one, moved as far as it is from the other, is apart from that
-apart_forth : (P Q : Generation) (s t : Cell) → AreApartBy P (plus s (opposite t)) Q → AreApart (moved P s) (moved Q t)
+apart_forth : (P Q : Generation) (s t : Cell) → AreApartBy P (plus s (opposite t)) Q → AreApart (translate_of P s) (translate_of Q t)
 apart_forth P Q s t apart c d in_P in_Q near =
     apart (plus c (opposite s)) (plus d (opposite t)) (sym (contains-moved P s c) ∙ in_P)
     (sym (contains-moved Q t d) ∙ in_Q) (near_back c d s t near)
 
-apart_back : (P Q : Generation) (s t : Cell) → AreApart (moved P s) (moved Q t) → AreApartBy P (plus s (opposite t)) Q
+apart_back : (P Q : Generation) (s t : Cell) → AreApart (translate_of P s) (translate_of Q t) → AreApartBy P (plus s (opposite t)) Q
 apart_back P Q s t apart c d in_P in_Q near =
     apart (plus c s) (plus d t) (contains-moved P s (plus c s) ∙ ap (contains P) (plus-opposite c s) ∙ in_P)
     (contains-moved Q t (plus d t) ∙ ap (contains Q) (plus-opposite d t) ∙ in_Q) (near_forth c d s t near)
@@ -78,24 +78,24 @@ module _ (R : Rule) (P Q : Generation) (p q : ℕ) (d e : Cell) (r : RecursBy R 
   abbrev second : Generation
   second = generation R Q (t % q)
 
-  abbrev way : Cell
-  way = plus (times (t / p) d) (opposite (times (t / q) e))
+  abbrev offset : Cell
+  offset = plus (multiple_of (t / p) d) (opposite (multiple_of (t / q) e))
 
-  pub apart_at : AreApartBy first way second → AreApart (generation R P t) (generation R Q t)
+  pub apart_at : AreApartBy first offset second → AreApart (generation R P t) (generation R Q t)
   apart_at apart =
       subst (λ H. AreApart H (generation R Q t)) (sym (generation-wrapped R P p d r t))
-      (subst (AreApart (moved first (times (t / p) d))) (sym (generation-wrapped R Q q e s t))
-      (apart_forth first second (times (t / p) d) (times (t / q) e) apart))
+      (subst (AreApart (translate_of first (multiple_of (t / p) d))) (sym (generation-wrapped R Q q e s t))
+      (apart_forth first second (multiple_of (t / p) d) (multiple_of (t / q) e) apart))
 
-  pub apart_then : AreApart (generation R P t) (generation R Q t) → AreApartBy first way second
+  pub apart_then : AreApart (generation R P t) (generation R Q t) → AreApartBy first offset second
   apart_then apart =
-      apart_back first second (times (t / p) d) (times (t / q) e)
-      (subst (λ H. AreApart (moved first (times (t / p) d)) H) (generation-wrapped R Q q e s t)
+      apart_back first second (multiple_of (t / p) d) (multiple_of (t / q) e)
+      (subst (λ H. AreApart (translate_of first (multiple_of (t / p) d)) H) (generation-wrapped R Q q e s t)
       (subst (λ H. AreApart H (generation R Q t)) (generation-wrapped R P p d r t) apart))
 
 -- what the phases tell of a time
 module _ (o w : Course) (rule : o.rule ≡ w.rule) (is_o : IsCourse o) (is_w : IsCourse w) (t : ℕ) (by : Cell)
-    (by_is : by ≡ plus (times (t / o.period) o.displacement) (opposite (times (t / w.period) w.displacement))) where
+    (by_is : by ≡ plus (multiple_of (t / o.period) o.displacement) (opposite (multiple_of (t / w.period) w.displacement))) where
   again : RecursBy o.rule w.set w.period w.displacement
   again = subst (λ S. RecursBy S w.set w.period w.displacement) (sym rule) is_w.recurs
 
@@ -106,7 +106,7 @@ module _ (o w : Course) (rule : o.rule ≡ w.rule) (is_o : IsCourse o) (is_w : I
   there = generation w.rule w.set (t % w.period)
 
   abbrev between : Cell
-  between = way o.rule o.set w.set o.period w.period o.displacement w.displacement is_o.recurs again t
+  between = offset o.rule o.set w.set o.period w.period o.displacement w.displacement is_o.recurs again t
 
   pub apart_by_phases : AreApartBy here by there → AreApart (generation o.rule o.set t) (generation o.rule w.set t)
   apart_by_phases apart =
@@ -129,7 +129,7 @@ module _ (o w : Course) (rule : o.rule ≡ w.rule) (is_o : IsCourse o) (is_w : I
       (in_h (t % w.period) d (mod-lt t is_w.recurs.later) in_Q) near)
 
 -- what moves nowhere is nowhere else after any number of moves
-still : (k : ℕ) (d : Cell) → d ≡ origin → times k d ≡ origin
+still : (k : ℕ) (d : Cell) → d ≡ origin → multiple_of k d ≡ origin
 still zero d rests = refl
 still (suc k) d rests = (λ i. plus (still k d rests i) (rests i)) ∙ pair (omega (arith, ints)) (omega (arith, ints))
 

@@ -9,11 +9,11 @@ use Rattle.life_model.specs.Evolution.{generation}
 use Rattle.life_model.specs.Generation.{Generation, contains}
 use Rattle.life_model.specs.Recurrence.{RecursBy}
 use Rattle.life_model.specs.Rule.{Rule}
-use Rattle.life_model.specs.Symmetry.{moved}
+use Rattle.life_model.specs.Symmetry.{translate_of}
 use Rattle.life_model.proofs.Cells.{plus-opposite_first}
 use Rattle.life_model.proofs.Recurrences.{generation-add}
 use Rattle.life_model.proofs.Symmetries.{contains-moved, generation-moved}
-use Rattle.life_objects.specs.Drift.{times}
+use Rattle.life_objects.specs.Drift.{multiple_of}
 use Rattle.life_objects.proofs.Moving.{generation-times, generation-wrapped, RecursBy-times}
 use Rattle.life_orbit.proofs.Shifts.{IsAxis, not_left, not_right, widens}
 
@@ -21,7 +21,7 @@ use Rattle.life_orbit.proofs.Shifts.{IsAxis, not_left, not_right, widens}
 before_move : (f : Cell → ℤ) → IsAxis f → (c x : Cell) → f c ≡ f (plus c (opposite x)) +ℤ f x
 before_move f axis c x = ap f (sym (plus-opposite_first c x)) ∙ axis.adds (plus c (opposite x)) x
 
-unmoved : (P : Generation) (x c : Cell) → contains (moved P x) c ≡ true → contains P (plus c (opposite x)) ≡ true
+unmoved : (P : Generation) (x c : Cell) → contains (translate_of P x) c ≡ true → contains P (plus c (opposite x)) ≡ true
 unmoved P x c h = sym (contains-moved P x c) ∙ h
 
 low_sum : (l low z y x : ℤ) → l ≤ℤ y → low ≤ℤ z → x ≡ y +ℤ z → (l +ℤ low) ≤ℤ x
@@ -39,58 +39,58 @@ early m a p one h = let less : m / p < a = (div-lt_iff_lt-mul (let z : 0 < p = o
 
 module _ (f : Cell → ℤ) (axis : IsAxis f) (R : Rule) (P : Generation) (p : ℕ) (d : Cell) (r : RecursBy R P p d) where
   in_phase : (m : ℕ) (c : Cell) → contains (generation R P m) c ≡ true →
-      contains (generation R P (m % p)) (plus c (opposite (times (m / p) d))) ≡ true
+      contains (generation R P (m % p)) (plus c (opposite (multiple_of (m / p) d))) ≡ true
   in_phase m c h =
-      unmoved (generation R P (m % p)) (times (m / p) d) c
+      unmoved (generation R P (m % p)) (multiple_of (m / p) d) c
       (ap (λ H. contains H c) (sym (generation-wrapped R P p d r m)) ∙ h)
 
   module _ (a m : ℕ) (h : m < a * p) (c : Cell) (in_it : contains (generation R P m) c ≡ true) where
     pub bound_left : (l : ℤ) → ((k : ℕ) (b : Cell) → k < p → contains (generation R P k) b ≡ true → l ≤ℤ f b) →
-        (l +ℤ int_min (pos 0) (f (times a d))) ≤ℤ f c
+        (l +ℤ int_min (pos 0) (f (multiple_of a d))) ≤ℤ f c
     bound_left l each =
-        low_sum l _ (f (times (m / p) d)) (f (plus c (opposite (times (m / p) d)))) (f c)
+        low_sum l _ (f (multiple_of (m / p) d)) (f (plus c (opposite (multiple_of (m / p) d)))) (f c)
         (each (m % p) _ (mod-lt m r.later) (in_phase m c in_it)) (not_left f axis (m / p) a d (early m a p r.later h))
-        (before_move f axis c (times (m / p) d))
+        (before_move f axis c (multiple_of (m / p) d))
 
     pub bound_right : (l : ℤ) → ((k : ℕ) (b : Cell) → k < p → contains (generation R P k) b ≡ true → f b ≤ℤ l) →
-        f c ≤ℤ (l +ℤ int_max (pos 0) (f (times a d)))
+        f c ≤ℤ (l +ℤ int_max (pos 0) (f (multiple_of a d)))
     bound_right l each =
-        high_sum l _ (f (times (m / p) d)) (f (plus c (opposite (times (m / p) d)))) (f c)
+        high_sum l _ (f (multiple_of (m / p) d)) (f (plus c (opposite (multiple_of (m / p) d)))) (f c)
         (each (m % p) _ (mod-lt m r.later) (in_phase m c in_it)) (not_right f axis (m / p) a d (early m a p r.later h))
-        (before_move f axis c (times (m / p) d))
+        (before_move f axis c (multiple_of (m / p) d))
 
 -- so many times n generations later
 pub rounds_later : (R : Rule) (P : Generation) (n : ℕ) (d : Cell) → RecursBy R P n d → (k m : ℕ) →
-    generation R P (k * n + m) ≡ moved (generation R P m) (times k d)
+    generation R P (k * n + m) ≡ translate_of (generation R P m) (multiple_of k d)
 rounds_later R P n d r k m =
     sym (generation-add R P (k * n) m) ∙ ap (λ H. generation R H m) (generation-times R P n d r k)
-    ∙ generation-moved R P (times k d) m
+    ∙ generation-moved R P (multiple_of k d) m
 
 module _ (f : Cell → ℤ) (axis : IsAxis f) (R : Rule) (P Q : Generation) (p q a b : ℕ) (d e : Cell)
     (r : RecursBy R P p d) (s : RecursBy R Q q e) (same : a * p ≡ b * q) (one_a : 1 ≤ a) (one_b : 1 ≤ b) where
-  pub whole_first : RecursBy R P (a * p) (times a d)
+  pub whole_first : RecursBy R P (a * p) (multiple_of a d)
   whole_first = RecursBy-times R P p d r a one_a
 
-  pub whole_second : RecursBy R Q (a * p) (times b e)
-  whole_second = subst (λ n. RecursBy R Q n (times b e)) (sym same) (RecursBy-times R Q q e s b one_b)
+  pub whole_second : RecursBy R Q (a * p) (multiple_of b e)
+  whole_second = subst (λ n. RecursBy R Q n (multiple_of b e)) (sym same) (RecursBy-times R Q q e s b one_b)
 
   -- after k rounds each cell of P is at least three places further along the axis than each of Q, for one round
   pub gap_from : (l h : ℤ) (k v : ℕ) →
       ((n : ℕ) (c : Cell) → n < p → contains (generation R P n) c ≡ true → l ≤ℤ f c) →
       ((n : ℕ) (c : Cell) → n < q → contains (generation R Q n) c ≡ true → f c ≤ℤ h) →
-      f (times a d) ≡ f (times b e) +ℤ pos v →
-      ((h +ℤ int_max (pos 0) (f (times b e))) +ℤ pos 3) ≤ℤ ((l +ℤ int_min (pos 0) (f (times a d))) +ℤ pos (k * v)) →
+      f (multiple_of a d) ≡ f (multiple_of b e) +ℤ pos v →
+      ((h +ℤ int_max (pos 0) (f (multiple_of b e))) +ℤ pos 3) ≤ℤ ((l +ℤ int_min (pos 0) (f (multiple_of a d))) +ℤ pos (k * v)) →
       (m : ℕ) → m < a * p → (x y : Cell) → contains (generation R P (k * (a * p) + m)) x ≡ true →
       contains (generation R Q (k * (a * p) + m)) y ≡ true → (f y +ℤ pos 3) ≤ℤ f x
   gap_from l h k v left right apart enough m within x y in_P in_Q =
       let n : ℕ = a * p in
-      let x_there = unmoved (generation R P m) (times k (times a d)) x
-      (ap (λ H. contains H x) (sym (rounds_later R P (a * p) (times a d) whole_first k m)) ∙ in_P) in
-      let y_there = unmoved (generation R Q m) (times k (times b e)) y
-      (ap (λ H. contains H y) (sym (rounds_later R Q (a * p) (times b e) whole_second k m)) ∙ in_Q) in
-      gap_sum _ _ (f (plus x (opposite (times k (times a d))))) (f (plus y (opposite (times k (times b e)))))
-      (f (times k (times a d))) (f (times k (times b e))) (f x) (f y) (k * v) enough
+      let x_there = unmoved (generation R P m) (multiple_of k (multiple_of a d)) x
+      (ap (λ H. contains H x) (sym (rounds_later R P (a * p) (multiple_of a d) whole_first k m)) ∙ in_P) in
+      let y_there = unmoved (generation R Q m) (multiple_of k (multiple_of b e)) y
+      (ap (λ H. contains H y) (sym (rounds_later R Q (a * p) (multiple_of b e) whole_second k m)) ∙ in_Q) in
+      gap_sum _ _ (f (plus x (opposite (multiple_of k (multiple_of a d))))) (f (plus y (opposite (multiple_of k (multiple_of b e)))))
+      (f (multiple_of k (multiple_of a d))) (f (multiple_of k (multiple_of b e))) (f x) (f y) (k * v) enough
       (bound_left f axis R P p d r a m within _ x_there l left)
       (bound_right f axis R Q q e s b m (subst (λ z. m < z) same within) _ y_there h right)
-      (before_move f axis x (times k (times a d))) (before_move f axis y (times k (times b e)))
-      (widens f axis k v (times a d) (times b e) apart)
+      (before_move f axis x (multiple_of k (multiple_of a d))) (before_move f axis y (multiple_of k (multiple_of b e)))
+      (widens f axis k v (multiple_of a d) (multiple_of b e) apart)

@@ -5,7 +5,7 @@ use Rattle.std.proofs.Common.{◌≡◌, ℕ, zero, suc, ℤ, neg_ℤ, pos, ◌+
 use Rattle.std.proofs.Math.IntN.{◌*ℤ◌}
 use Rattle.std.proofs.lemmas.Int.{fits_signed_mul, ints, to_z-of_z}
 use Rattle.life_model.specs.Cell.{Cell}
-use Rattle.life_objects.specs.Drift.{times}
+use Rattle.life_objects.specs.Drift.{multiple_of}
 use Rattle.life_orbit.specs.Reach.{IsReach}
 use Rattle.life_orbit.proofs.Shifts.{IsAxis}
 
@@ -27,7 +27,7 @@ low_none n = omega (arith, ints)
 high_none : (n : ℕ) → pos 0 ≤ℤ pos n
 high_none n = omega (arith, ints)
 
-pub reach_times : (m k : ℕ) (d : Cell) → IsReach m d → IsReach (k * m) (times k d)
+pub reach_times : (m k : ℕ) (d : Cell) → IsReach m d → IsReach (k * m) (multiple_of k d)
 reach_times m zero d h = record {
   left = low_none (0 * m);
   right = high_none (0 * m);

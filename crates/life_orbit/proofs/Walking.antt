@@ -8,12 +8,12 @@ use Rattle.life_model.specs.Evolution.{next, generation}
 use Rattle.life_model.specs.Generation.{Generation, cells, empty}
 use Rattle.life_model.specs.Recurrence.{RecursBy}
 use Rattle.life_model.specs.Rule.{Rule}
-use Rattle.life_model.specs.Symmetry.{moved}
+use Rattle.life_model.specs.Symmetry.{translate_of}
 use Rattle.life_model.proofs.Recurrences.{generation-next, generation-zero}
 use Rattle.life_cells.specs.Limits.{IsWithin}
 use Rattle.life_objects.specs.Ash.{RecursWithin}
-use Rattle.life_plane.specs.Ways.{AreApart, IsWay}
-use Rattle.life_orbit.specs.Kept.{ArePhases, IsKept, IsWalk}
+use Rattle.life_plane.specs.Offsets.{AreNotTranslates, IsOffset}
+use Rattle.life_orbit.specs.Kept.{ArePhases, ArePhasesOfOrbit, IsWalk}
 
 get_or-last : (xs : List Generation) (x d : Generation) (k : ℕ) → k ≡ length xs → get_or (xs ++ x ∷ []) k d ≡ x
 get_or-last [] x d zero e = refl
@@ -51,7 +51,7 @@ module _ (R : Rule) (G : Generation) where
     pub walked_to : (later : Generation) → later ≡ next R here → later ≡ generation R G (taken + 1)
     walked_to later e = e ∙ ap (next R) walk.reached ∙ sym (generation-next R G taken)
 
-    still_new : (later : Generation) → later ≡ generation R G (taken + 1) → AreApart G later →
+    still_new : (later : Generation) → later ≡ generation R G (taken + 1) → AreNotTranslates G later →
         (n : ℕ) (d : Cell) → n ≤ taken + 1 → RecursBy R G n d → ⊥
     still_new later e apart n d h r =
         elim (cases_lt taken n) [
@@ -61,7 +61,7 @@ module _ (R : Rule) (G : Generation) where
           | inr before ↦ walk.new n d before r
         ]
 
-    pub walk_more : (later : Generation) → later ≡ next R here → AreApart G later →
+    pub walk_more : (later : Generation) → later ≡ next R here → AreNotTranslates G later →
         All (IsWithin ((4000000 + taken) + 1)) (cells later) → IsWalk R G (taken + 1) (list ++ here ∷ []) later
     walk_more later e apart within = record {
       count = length-more list here ∙ ap (λ n. n + 1) walk.count;
@@ -73,8 +73,8 @@ module _ (R : Rule) (G : Generation) where
     }
 
     -- where the next generation is the first one, moved
-    walk_done : (later : Generation) (d : Cell) → later ≡ next R here → later ≡ moved G d → taken < 100000 →
-        IsKept R G (list ++ here ∷ []) d
+    walk_done : (later : Generation) (d : Cell) → later ≡ next R here → later ≡ translate_of G d → taken < 100000 →
+        ArePhasesOfOrbit R G (list ++ here ∷ []) d
     walk_done later d e same few =
         let count : length (list ++ here ∷ []) ≡ taken + 1 = length-more list here ∙ ap (λ n. n + 1) walk.count in
         record {
@@ -102,22 +102,22 @@ module _ (R : Rule) (G : Generation) where
       RecursWithin R bound G → ⊥
   never_again bound list here walk again = walk.new again.steps again.by again.within again.recurs
 
-  first_phase : (list : List Generation) (d : Cell) → IsKept R G list d → get_or list 0 empty ≡ G
+  first_phase : (list : List Generation) (d : Cell) → ArePhasesOfOrbit R G list d → get_or list 0 empty ≡ G
   first_phase list d kept = let one = kept.recurs.later in kept.phases 0 (omega arith) ∙ generation-zero R G
 
-  kept_by_phases : (list : List Generation) (d : Cell) → IsKept R G list d →
-      IsKept R (get_or list 0 empty) list d
-  kept_by_phases list d kept = subst (λ H. IsKept R H list d) (sym (first_phase list d kept)) kept
+  kept_by_phases : (list : List Generation) (d : Cell) → ArePhasesOfOrbit R G list d →
+      ArePhasesOfOrbit R (get_or list 0 empty) list d
+  kept_by_phases list d kept = subst (λ H. ArePhasesOfOrbit R H list d) (sym (first_phase list d kept)) kept
 
   module _ (taken : ℕ) (list : List Generation) (here : Generation) (walk : IsWalk R G taken list here)
-      (later : Generation) (d : Cell) (way : IsWay G later d) (whole : List Generation) where
-    kept : later ≡ next R here → taken < 100000 → whole ≡ list ++ here ∷ [] → IsKept R G whole d
+      (later : Generation) (d : Cell) (offset : IsOffset G later d) (whole : List Generation) where
+    kept : later ≡ next R here → taken < 100000 → whole ≡ list ++ here ∷ [] → ArePhasesOfOrbit R G whole d
     kept e few pushed =
-        subst (λ l. IsKept R G l d) (sym pushed) (walk_done taken list here walk later d e way.move few)
+        subst (λ l. ArePhasesOfOrbit R G l d) (sym pushed) (walk_done taken list here walk later d e offset.move few)
 
     pub kept_set : later ≡ next R here → taken < 100000 → whole ≡ list ++ here ∷ [] → get_or whole 0 empty ≡ G
     kept_set e few pushed = first_phase whole d (kept e few pushed)
 
     pub kept_whole : later ≡ next R here → taken < 100000 → whole ≡ list ++ here ∷ [] →
-        IsKept R (get_or whole 0 empty) whole d
+        ArePhasesOfOrbit R (get_or whole 0 empty) whole d
     kept_whole e few pushed = kept_by_phases whole d (kept e few pushed)

@@ -9,7 +9,7 @@ use Rattle.life_model.specs.Generation.{Generation, contains}
 use Rattle.life_model.specs.Recurrence.{RecursBy}
 use Rattle.life_model.specs.Rule.{Rule}
 use Rattle.life_objects.specs.Apart.{AreApartBefore, AreApartForEver}
-use Rattle.life_objects.specs.Drift.{times}
+use Rattle.life_objects.specs.Drift.{multiple_of}
 use Rattle.life_objects.proofs.Distances.{AreApart-swap}
 use Rattle.life_objects.proofs.Drifting.{apart_by_below, apart_by_right}
 use Rattle.life_objects.proofs.Moving.{apart_by_period}
@@ -116,10 +116,10 @@ IsPair-swap R P Q p q a b d e pair = record {
 
 module _ (R : Rule) (P Q : Generation) (p q a b : ℕ) (d e : Cell) (pair : IsPair R P Q p q a b d e) (g h : Hull)
     (in_g : Holds g R P p) (in_h : Holds h R Q q) (k : ℕ) (before : AreApartBefore R (k * (a * p)) P Q) where
-  apart_on_right : IsPassed g.left h.right k (times a d).0 (times b e).0 → AreApartForEver R P Q
+  apart_on_right : IsPassed g.left h.right k (multiple_of a d).0 (multiple_of b e).0 → AreApartForEver R P Q
   apart_on_right passed =
-      let v = further (times a d).0 (times b e).0 passed.order in
-      apart_by_right R (k * (a * p)) (a * p) P Q (times a d) (times b e)
+      let v = further (multiple_of a d).0 (multiple_of b e).0 passed.order in
+      apart_by_right R (k * (a * p)) (a * p) P Q (multiple_of a d) (multiple_of b e)
       (whole_first (λ c. c.0) x_axis R P Q p q a b d e pair.first pair.second pair.together pair.some pair.others)
       (whole_second (λ c. c.0) x_axis R P Q p q a b d e pair.first pair.second pair.together pair.some pair.others)
       before passed.order
@@ -128,10 +128,10 @@ module _ (R : Rule) (P Q : Generation) (p q a b : ℕ) (d e : Cell) (pair : IsPa
       g.left h.right k v.0 (λ n c early at. (in_g n c early at).left) (λ n c early at. (in_h n c early at).right) v.1
       (passed.passes v.0 v.1) m within i j in_P in_Q)
 
-  apart_below : IsPassed g.top h.bottom k (times a d).1 (times b e).1 → AreApartForEver R P Q
+  apart_below : IsPassed g.top h.bottom k (multiple_of a d).1 (multiple_of b e).1 → AreApartForEver R P Q
   apart_below passed =
-      let v = further (times a d).1 (times b e).1 passed.order in
-      apart_by_below R (k * (a * p)) (a * p) P Q (times a d) (times b e)
+      let v = further (multiple_of a d).1 (multiple_of b e).1 passed.order in
+      apart_by_below R (k * (a * p)) (a * p) P Q (multiple_of a d) (multiple_of b e)
       (whole_first (λ c. c.1) y_axis R P Q p q a b d e pair.first pair.second pair.together pair.some pair.others)
       (whole_second (λ c. c.1) y_axis R P Q p q a b d e pair.first pair.second pair.together pair.some pair.others)
       before passed.order
@@ -140,9 +140,9 @@ module _ (R : Rule) (P Q : Generation) (p q a b : ℕ) (d e : Cell) (pair : IsPa
       g.top h.bottom k v.0 (λ n c early at. (in_g n c early at).above) (λ n c early at. (in_h n c early at).below) v.1
       (passed.passes v.0 v.1) m within i j in_P in_Q)
 
-  apart_at_rest : (times a d ≡ times b e) × (k ≡ 1) → AreApartForEver R P Q
+  apart_at_rest : (multiple_of a d ≡ multiple_of b e) × (k ≡ 1) → AreApartForEver R P Q
   apart_at_rest same =
-      apart_by_period R (a * p) (times a d) P Q
+      apart_by_period R (a * p) (multiple_of a d) P Q
       (whole_first (λ c. c.0) x_axis R P Q p q a b d e pair.first pair.second pair.together pair.some pair.others)
       (subst (λ z. RecursBy R Q (a * p) z) (sym same.0)
       (whole_second (λ c. c.0) x_axis R P Q p q a b d e pair.first pair.second pair.together pair.some pair.others))
@@ -157,7 +157,7 @@ module _ (R : Rule) (P Q : Generation) (p q a b : ℕ) (d e : Cell) (pair : IsPa
   before_swapped m early =
       AreApart-swap (generation R P m) (generation R Q m) (before m (subst (λ n. m < k * n) (sym pair.together) early))
 
-  pub apart_by_watch : IsWatch g (times a d) h (times b e) k → AreApartForEver R P Q
+  pub apart_by_watch : IsWatch g (multiple_of a d) h (multiple_of b e) k → AreApartForEver R P Q
   apart_by_watch watch =
       elim watch [
         | inl right ↦ apart_on_right R P Q p q a b d e pair g h in_g in_h k before right

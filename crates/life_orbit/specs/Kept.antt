@@ -13,7 +13,7 @@ abbrev pub ArePhases : Rule → Generation → List Generation → Type 0
 ArePhases R G list = (k : ℕ) → k < length list → slice_index_or list k empty ≡ generation R G k
 
 -- the list is the generations of G until it comes again, moved by d
-pub record IsKept (R : Rule) (G : Generation) (list : List Generation) (d : Cell) : Type 0 where
+pub record ArePhasesOfOrbit (R : Rule) (G : Generation) (list : List Generation) (d : Cell) : Type 0 where
   pub phases : ArePhases R G list
   pub recurs : RecursBy R G (length list) d
   pub least : (n : ℕ) (e : Cell) → RecursBy R G n e → length list ≤ n

@@ -14,4 +14,4 @@ mod walk;
 
 pub use hull::{Hull, are_far, hull_of};
 pub use orbit::{BOUND_LIMIT, Orbit};
-pub use shift::{repeated, way_at};
+pub use shift::{offset_at, repeated};

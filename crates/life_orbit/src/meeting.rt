@@ -8,7 +8,7 @@ use crate::horizon::horizon;
 use crate::hull::{Hull, are_far};
 use crate::near::are_clear;
 use crate::orbit::Orbit;
-use crate::shift::way_at;
+use crate::shift::offset_at;
 use life_cells::CellList;
 
 /// The phase that a set has after so many generations.
@@ -27,7 +27,7 @@ fn is_apart_at(orbit: &Orbit, hull: Hull, other: &Orbit, other_hull: Hull, time:
     ensures { IsTrue result ↔ AreApart (generation orbit.now.rule orbit.now.set time)
         (generation orbit.now.rule other.now.set time) }
 {
-    let by = way_at(orbit, other, time);
+    let by = offset_at(orbit, other, time);
     if are_far(hull, by, other_hull) {
         return true;
     }

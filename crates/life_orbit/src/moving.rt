@@ -1,7 +1,7 @@
 //! Sets that are moved as a whole.
 ghost use Rattle.std.specs.Prelude.{◌≡◌, IfOk, IfSome, map, negsuc, pos, ◌+ℤ◌, ◌≤ℤ◌};
 ghost use Rattle.life_model.specs.Cell.{plus};
-ghost use Rattle.life_model.specs.Symmetry.{moved};
+ghost use Rattle.life_model.specs.Symmetry.{translate_of};
 ghost use Rattle.life_cells.specs.Limits.{IsPlace};
 
 use life_cells::CellList;
@@ -36,7 +36,7 @@ fn moved_cells(
     cells: &CellList,
     by: (i32, i32),
 ) -> Result<Option<CellList>, AllocError>
-    ensures { IfOk result (λ found. IfSome found (λ set. set ≡ moved cells.now by)) }
+    ensures { IfOk result (λ found. IfSome found (λ set. set ≡ translate_of cells.now by)) }
 {
     let places = cells.as_slice();
     let mut items = Vec::new(alloc);
@@ -55,7 +55,7 @@ pub fn moved_sets(
     sets: &[CellList],
     by: (i32, i32),
 ) -> Result<Option<Vec<CellList>>, AllocError>
-    ensures { IfOk result (λ found. IfSome found (λ all. all.items ≡ map (λ P. moved P by) sets.now)) }
+    ensures { IfOk result (λ found. IfSome found (λ all. all.items ≡ map (λ P. translate_of P by) sets.now)) }
 {
     let mut all = Vec::new(alloc);
     for set in sets {

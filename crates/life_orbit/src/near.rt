@@ -11,11 +11,11 @@ fn is_close(place: i32, by: i128, other: i32) -> bool
     requires high { by ≤ℤ pos (2 ^ 126) }
     ensures { IsTrue result ↔ (((other -ℤ pos 2) ≤ℤ (place +ℤ by)) × ((place +ℤ by) ≤ℤ (other +ℤ pos 2))) }
 {
-    let way = place as i128 + by - other as i128;
-    if way < -2 {
+    let offset = place as i128 + by - other as i128;
+    if offset < -2 {
         return false;
     }
-    if way > 2 {
+    if offset > 2 {
         return false;
     }
     true

@@ -9,7 +9,7 @@ ghost use Rattle.life_orbit.specs.Hulls.{IsHullOf};
 
 use crate::hull::{Hull, hull_of};
 use crate::moving::moved_sets;
-use crate::walk::{copied, next_list, way};
+use crate::walk::{copied, next_list, offset};
 use life_cells::{CellList, Rule, corner};
 use std::alloc::{AllocError, Global};
 use std::marker::Model;
@@ -31,7 +31,7 @@ impl Model for Orbit {
     ghost use Rattle.life_model.specs.Generation.{empty};
     ghost use Rattle.life_orbit.specs.Course.{Course, coded_course};
     ghost use Rattle.life_orbit.specs.Hulls.{HasAll};
-    ghost use Rattle.life_orbit.specs.Kept.{IsKept};
+    ghost use Rattle.life_orbit.specs.Kept.{ArePhasesOfOrbit};
 
     ghost Value = { Course };
 
@@ -44,7 +44,7 @@ impl Model for Orbit {
       displacement = o.displacement;
     } };
 
-    ghost invariant = { λ o. IsKept o.rule (slice_index_or o.phases.items 0 empty) o.phases.items o.displacement
+    ghost invariant = { λ o. ArePhasesOfOrbit o.rule (slice_index_or o.phases.items 0 empty) o.phases.items o.displacement
         × All (HasAll o.hull) o.phases.items };
 }
 
@@ -69,7 +69,7 @@ impl Orbit {
         for taken in 0..bound {
             let next = next_list(alloc, rule, &phase)?;
             phases.push(phase)?;
-            if let Some(displacement) = way(cells, &next) {
+            if let Some(displacement) = offset(cells, &next) {
                 let hull = hull_of(corner(cells.as_slice()), phases.as_slice());
                 return Ok(Some(Orbit {
                     rule: *rule,
@@ -90,7 +90,7 @@ impl Orbit {
         ensures period { IfOk result (λ found. IfSome found (λ orbit. orbit.period ≡ self.now.period)) }
         ensures recurs { IfOk result (λ found. IfSome found (λ orbit. IsCourse orbit)) }
     {
-        let Some(by) = way(self.set(), cells) else {
+        let Some(by) = offset(self.set(), cells) else {
             return Ok(None);
         };
         let Some(phases) = moved_sets(alloc, self.phases.as_slice(), by)? else {

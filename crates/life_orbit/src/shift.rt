@@ -1,7 +1,7 @@
 //! Moves made again and again.
 ghost use Rattle.std.specs.Prelude.{◌≡◌, ◌*◌, ◌/◌, ◌<◌, ◌^◌};
 ghost use Rattle.life_model.specs.Cell.{opposite, plus};
-ghost use Rattle.life_objects.specs.Drift.{times};
+ghost use Rattle.life_objects.specs.Drift.{multiple_of};
 ghost use Rattle.life_orbit.specs.Course.{IsCourse};
 ghost use Rattle.life_orbit.specs.Reach.{IsReach};
 
@@ -10,7 +10,7 @@ use crate::orbit::Orbit;
 /// So many moves.
 pub fn repeated(count: u128, by: (i32, i32)) -> (i128, i128)
     requires { count < 2 ^ 94 }
-    ensures value { result ≡ times count by }
+    ensures value { result ≡ multiple_of count by }
     ensures reach { IsReach (count * 2 ^ 31) result }
 {
     let count = count as i128;
@@ -20,7 +20,7 @@ pub fn repeated(count: u128, by: (i32, i32)) -> (i128, i128)
 /// How far a set has moved after so many generations, by whole periods.
 fn shift_at(orbit: &Orbit, time: u128) -> (i128, i128)
     requires { time < 2 ^ 94 }
-    ensures value { result ≡ times (time / orbit.now.period) orbit.now.displacement }
+    ensures value { result ≡ multiple_of (time / orbit.now.period) orbit.now.displacement }
     ensures reach { IsReach (2 ^ 125) result }
     ensures recurs { IsCourse orbit.now }
 {
@@ -28,10 +28,10 @@ fn shift_at(orbit: &Orbit, time: u128) -> (i128, i128)
 }
 
 /// How much further than the other one set has moved after so many generations, by whole periods of each.
-pub fn way_at(orbit: &Orbit, other: &Orbit, time: u128) -> (i128, i128)
+pub fn offset_at(orbit: &Orbit, other: &Orbit, time: u128) -> (i128, i128)
     requires { time < 2 ^ 94 }
-    ensures value { result ≡ plus (times (time / orbit.now.period) orbit.now.displacement)
-        (opposite (times (time / other.now.period) other.now.displacement)) }
+    ensures value { result ≡ plus (multiple_of (time / orbit.now.period) orbit.now.displacement)
+        (opposite (multiple_of (time / other.now.period) other.now.displacement)) }
     ensures reach { IsReach (2 ^ 126) result }
     ensures recurs { IsCourse orbit.now × IsCourse other.now }
 {

@@ -3,10 +3,10 @@ ghost use Rattle.std.specs.Prelude.{◌≡◌, ℕ, ◌+◌, All, IfNone, IfOk, 
 ghost use Rattle.life_model.specs.Evolution.{next};
 ghost use Rattle.life_model.specs.Generation as generations;
 ghost use Rattle.life_cells.specs.Limits.{IsWithin};
-ghost use Rattle.life_plane.specs.Ways.{AreApart, IsWay};
+ghost use Rattle.life_plane.specs.Offsets.{AreNotTranslates, IsOffset};
 
 use life_cells::{CellList, Rule};
-use life_plane::{next_cells, way_between};
+use life_plane::{next_cells, offset_between};
 use std::alloc::{AllocError, Global};
 
 /// The same set again.
@@ -27,9 +27,9 @@ pub fn next_list(alloc: Global, rule: &Rule, cells: &CellList) -> Result<CellLis
 }
 
 /// How far the second set is from the first, where it is the first moved as a whole. No cell is moved by nothing.
-pub fn way(from: &CellList, to: &CellList) -> Option<(i32, i32)>
-    ensures way { IfSome result (λ d. IsWay from.now to.now d) }
-    ensures apart { IfNone result (AreApart from.now to.now) }
+pub fn offset(from: &CellList, to: &CellList) -> Option<(i32, i32)>
+    ensures offset { IfSome result (λ d. IsOffset from.now to.now d) }
+    ensures apart { IfNone result (AreNotTranslates from.now to.now) }
 {
-    way_between(from.as_slice(), to.as_slice())
+    offset_between(from.as_slice(), to.as_slice())
 }

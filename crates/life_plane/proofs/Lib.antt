@@ -1,4 +1,4 @@
 pub mod Later
 pub mod Walks
 pub mod Spans
-pub mod Ways
+pub mod Offsets

@@ -6,4 +6,4 @@ pub use Rattle.life_model.specs.Cell
 pub use Rattle.life_model.specs.Generation
 pub use Rattle.life_model.specs.Rule
 pub use Rattle.life_model.specs.Evolution
-pub mod Ways
+pub mod Offsets

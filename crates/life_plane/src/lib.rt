@@ -5,12 +5,12 @@
 
 mod evolve;
 mod list_plane;
+mod offset;
 mod plane;
 mod span;
-mod way;
 
 pub use evolve::next_cells;
 pub use list_plane::ListPlane;
+pub use offset::offset_between;
 pub use plane::{AGE_LIMIT, Plane};
 pub use span::{move_between, span_of};
-pub use way::way_between;

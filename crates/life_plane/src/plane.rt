@@ -5,10 +5,10 @@ ghost use Rattle.life_model.specs.Generation.{Generation};
 ghost use Rattle.life_model.specs.Generation as generation;
 ghost use Rattle.life_cells.specs.Limits.{IsWithin};
 ghost use Rattle.life_plane.specs.Span.{set_span};
-ghost use Rattle.life_plane.specs.Ways.{AreApart, IsWay};
+ghost use Rattle.life_plane.specs.Offsets.{AreNotTranslates, IsOffset};
 
+use crate::offset::offset_between;
 use crate::span::span_of;
-use crate::way::way_between;
 use life_cells::{CellList, Rule};
 use std::alloc::{AllocError, Global};
 
@@ -71,20 +71,20 @@ pub trait Plane: Sized + Drop {
     }
 
     /// How far its cells are from the listed ones, where they are those moved as a whole. No cell is moved by nothing.
-    fn way_from(&self, list: &CellList) -> Result<Option<(i32, i32)>, AllocError>
-        ensures way { IfOk result (λ way. IfSome way (λ d. IsWay list.now (members self.now) d)) }
-        ensures apart { IfOk result (λ way. IfNone way (AreApart list.now (members self.now))) }
+    fn offset_from(&self, list: &CellList) -> Result<Option<(i32, i32)>, AllocError>
+        ensures offset { IfOk result (λ offset. IfSome offset (λ d. IsOffset list.now (members self.now) d)) }
+        ensures apart { IfOk result (λ offset. IfNone offset (AreNotTranslates list.now (members self.now))) }
     {
         let cells = self.cells()?;
-        Ok(way_between(list.as_slice(), cells.as_slice()))
+        Ok(offset_between(list.as_slice(), cells.as_slice()))
     }
 
     /// How far its cells are from those of another plane, where they are those moved as a whole.
-    fn way_from_plane(&self, other: &Self) -> Result<Option<(i32, i32)>, AllocError>
-        ensures way { IfOk result (λ way. IfSome way (λ d. IsWay (members other.now) (members self.now) d)) }
-        ensures apart { IfOk result (λ way. IfNone way (AreApart (members other.now) (members self.now))) }
+    fn offset_from_plane(&self, other: &Self) -> Result<Option<(i32, i32)>, AllocError>
+        ensures offset { IfOk result (λ offset. IfSome offset (λ d. IsOffset (members other.now) (members self.now) d)) }
+        ensures apart { IfOk result (λ offset. IfNone offset (AreNotTranslates (members other.now) (members self.now))) }
     {
-        self.way_from(&other.cells()?)
+        self.offset_from(&other.cells()?)
     }
 
     /// Another plane with the same cells and the same age.

@@ -10,7 +10,7 @@ use Rattle.std.proofs.lemmas.List.Recursion.{max_push}
 use Rattle.life_model.specs.Box.{extent, width, height}
 use Rattle.life_model.specs.Cell.{Cell, same_cell, origin, plus, opposite}
 use Rattle.life_model.specs.Generation.{Generation, contains, cells, from_list}
-use Rattle.life_model.specs.Symmetry.{IsCorner, corner, corner_of, normal, Orientation, Same, FlipX, FlipY, Half, Swap, SwapFlipX, SwapFlipY, SwapHalf, turn, turned, image}
+use Rattle.life_model.specs.Symmetry.{IsCorner, corner, corner_of, normal, Orientation, Same, FlipX, FlipY, Half, Swap, SwapFlipX, SwapFlipY, SwapHalf, turn, image_under, image}
 use Rattle.life_model.proofs.Lists.{cells-moved}
 use Rattle.life_model.proofs.Cells.{pair, same_cell-is, plus-opposite_first}
 use Rattle.life_model.proofs.Generations.{contains-cells}
@@ -218,22 +218,22 @@ reached SwapFlipX c h = record { left = omega (arith, ints); right = omega (arit
 reached SwapFlipY c h = record { left = omega (arith, ints); right = omega (arith, ints); above = omega (arith, ints); below = omega (arith, ints) }
 reached SwapHalf c h = record { left = omega (arith, ints); right = omega (arith, ints); above = omega (arith, ints); below = omega (arith, ints) }
 
-turned_reached : (N : Generation) (m : Orientation) → normal N ≡ N → All IsPlace (cells N) → (c : Cell) → contains (turned N m) c ≡ true → IsReached (reach m) c
+turned_reached : (N : Generation) (m : Orientation) → normal N ≡ N → All IsPlace (cells N) → (c : Cell) → contains (image_under N m) c ≡ true → IsReached (reach m) c
 turned_reached N m e all c h = reached m c (in_field N e all (turn (undone m) c) (sym (contains-turned N m c) ∙ h))
 
-pub from_list-turned : (N : Generation) (m : Orientation) (cs ds : List Cell) → cs ≡ cells N → ds ≡ map (turn m) cs → from_list ds ≡ turned N m
+pub from_list-turned : (N : Generation) (m : Orientation) (cs ds : List Cell) → cs ≡ cells N → ds ≡ map (turn m) cs → from_list ds ≡ image_under N m
 unfolding image
 from_list-turned N m cs ds e f = ap from_list (f ∙ ap (λ bs. map (turn m) bs) e)
 
-pub turned_width : (N : Generation) (m : Orientation) (cs : List Cell) → normal N ≡ N → cs ≡ cells N → All IsPlace cs → width (turned N m) ≤ 16777216
+pub turned_width : (N : Generation) (m : Orientation) (cs : List Cell) → normal N ≡ N → cs ≡ cells N → All IsPlace cs → width (image_under N m) ≤ 16777216
 turned_width N m cs e f all =
     let r = turned_reached N m e (subst (All IsPlace) f all) in
-    width_within (turned N m) (reach m).0 16777216 (λ c h. ((r c h).left, (r c h).right))
+    width_within (image_under N m) (reach m).0 16777216 (λ c h. ((r c h).left, (r c h).right))
 
-pub turned_height : (N : Generation) (m : Orientation) (cs : List Cell) → normal N ≡ N → cs ≡ cells N → All IsPlace cs → height (turned N m) ≤ 16777216
+pub turned_height : (N : Generation) (m : Orientation) (cs : List Cell) → normal N ≡ N → cs ≡ cells N → All IsPlace cs → height (image_under N m) ≤ 16777216
 turned_height N m cs e f all =
     let r = turned_reached N m e (subst (All IsPlace) f all) in
-    height_within (turned N m) (reach m).1 16777216 (λ c h. ((r c h).above, (r c h).below))
+    height_within (image_under N m) (reach m).1 16777216 (λ c h. ((r c h).above, (r c h).below))
 
 pub width_of_cells : (N G : Generation) (cs : List Cell) (i : ℕ) → normal N ≡ N → cs ≡ cells N → N ≡ G → length cs ≤ i → extent (map (λ c. nat_abs c.0) (take i cs)) ≡ width G
 unfolding width

@@ -11,8 +11,8 @@ use Rattle.std.proofs.lemmas.List.Sums.{sum_by-append}
 use Rattle.life_model.specs.Cell.{Cell}
 use Rattle.life_shape.specs.declared.reader.CodeFault.{CodeFault}
 use Rattle.life_shape.specs.declared.reader.CodeFault.TheVariants.{TooFar}
-use Rattle.life_shape.specs.Reading.{Mark, Column, Zeros, NextStrip, Offence, is_next_strip, columns_in, strip, column, mark_cells, mark_fault, column_cells, live_rows, is_far, place_limit, cells_after, first_fault, marks_of, placed}
-use Rattle.life_shape.specs.Drawing.{strip_behind, column_behind, cells_from, fault_from, cells_unless, drawn, rows_left, cells_left, marks_at, with_front}
+use Rattle.life_shape.specs.Reading.{Mark, Column, Zeros, NextStrip, Offence, is_next_strip, columns_in, strip_number, column, mark_cells, mark_fault, column_cells, live_rows, is_far, place_limit, cells_after, first_fault, marks_of, cell_of_pair}
+use Rattle.life_shape.specs.Drawing.{strip_behind, column_behind, cells_from, fault_from, cells_unless, cells_drawn, rows_left, cells_left, marks_at, with_front}
 
 -- ---- sums over the marks before, step by step
 
@@ -31,11 +31,11 @@ after_last-miss p xs x h =
     let same : length (xs ++ x ∷ []) - suffix_len (λ y. not (p y)) (xs ++ x ∷ []) ≡ length xs - suffix_len (λ y. not (p y)) xs = omega arith in
     ap (λ k. drop k (xs ++ x ∷ [])) same ∙ drop-append-le (length xs - suffix_len (λ y. not (p y)) xs) xs (x ∷ []) (omega arith)
 
-strip-push : (before : List Mark) (m : Mark) → strip (before ++ m ∷ []) ≡ strip_behind (strip before) m
-strip-push before (Column at v) = sum_by-append _ before (Column at v ∷ []) ∙ add-zero (strip before)
-strip-push before (Zeros n) = sum_by-append _ before (Zeros n ∷ []) ∙ add-zero (strip before)
+strip-push : (before : List Mark) (m : Mark) → strip_number (before ++ m ∷ []) ≡ strip_behind (strip_number before) m
+strip-push before (Column at v) = sum_by-append _ before (Column at v ∷ []) ∙ add-zero (strip_number before)
+strip-push before (Zeros n) = sum_by-append _ before (Zeros n ∷ []) ∙ add-zero (strip_number before)
 strip-push before NextStrip = sum_by-append _ before (NextStrip ∷ [])
-strip-push before (Offence fault) = sum_by-append _ before (Offence fault ∷ []) ∙ add-zero (strip before)
+strip-push before (Offence fault) = sum_by-append _ before (Offence fault ∷ []) ∙ add-zero (strip_number before)
 
 column-miss : (before : List Mark) (m : Mark) → is_next_strip m ≡ false → column (before ++ m ∷ []) ≡ column before + columns_in m
 column-miss before m h =
@@ -48,30 +48,30 @@ column-push before (Zeros n) = column-miss before (Zeros n) refl
 column-push before NextStrip = ap (sum_by columns_in) (after_last-hit is_next_strip before NextStrip refl)
 column-push before (Offence fault) = column-miss before (Offence fault) refl ∙ add-zero (column before)
 
-pub cells_after_is : (ms before : List Mark) → cells_after before ms ≡ cells_from (strip before) (column before) ms
+pub cells_after_is : (ms before : List Mark) → cells_after before ms ≡ cells_from (strip_number before) (column before) ms
 cells_after_is [] before = refl
 cells_after_is (m ∷ ms) before =
-    ap (λ cs. mark_cells (strip before) (column before) m ++ cs)
+    ap (λ cs. mark_cells (strip_number before) (column before) m ++ cs)
     (cells_after_is ms (before ++ m ∷ []) ∙ (λ i. cells_from (strip-push before m i) (column-push before m i) ms))
 
-pub first_fault_is : (ms before : List Mark) → first_fault before ms ≡ fault_from (strip before) (column before) ms
+pub first_fault_is : (ms before : List Mark) → first_fault before ms ≡ fault_from (strip_number before) (column before) ms
 first_fault_is [] before = refl
 first_fault_is (m ∷ ms) before =
-    ap (option_or (mark_fault (strip before) (column before) m))
+    ap (option_or (mark_fault (strip_number before) (column before) m))
     (first_fault_is ms (before ++ m ∷ []) ∙ (λ i. fault_from (strip-push before m i) (column-push before m i) ms))
 
 -- ---- one mark
 
-unless_front : (fault : Option CodeFault) (front cells : List (ℕ × ℕ)) → cells_unless fault (front ++ cells) ≡ with_front (map placed front) (cells_unless fault cells)
-unless_front None front cells = ap Ok (map-append placed front cells)
+unless_front : (fault : Option CodeFault) (front cells : List (ℕ × ℕ)) → cells_unless fault (front ++ cells) ≡ with_front (map cell_of_pair front) (cells_unless fault cells)
+unless_front None front cells = ap Ok (map-append cell_of_pair front cells)
 unless_front (Some fault) front cells = refl
 
-pub drawn_step : (k x : ℕ) (m : Mark) (ms : List Mark) → mark_fault k x m ≡ None → drawn k x (m ∷ ms) ≡ with_front (map placed (mark_cells k x m)) (drawn (strip_behind k m) (column_behind x m) ms)
+pub drawn_step : (k x : ℕ) (m : Mark) (ms : List Mark) → mark_fault k x m ≡ None → cells_drawn k x (m ∷ ms) ≡ with_front (map cell_of_pair (mark_cells k x m)) (cells_drawn (strip_behind k m) (column_behind x m) ms)
 drawn_step k x m ms h =
     ap (λ f. cells_unless (option_or f (fault_from (strip_behind k m) (column_behind x m) ms)) (mark_cells k x m ++ cells_from (strip_behind k m) (column_behind x m) ms)) h
     ∙ unless_front (fault_from (strip_behind k m) (column_behind x m) ms) (mark_cells k x m) (cells_from (strip_behind k m) (column_behind x m) ms)
 
-pub drawn_stop : (k x : ℕ) (m : Mark) (ms : List Mark) (fault : CodeFault) → mark_fault k x m ≡ Some fault → drawn k x (m ∷ ms) ≡ Err fault
+pub drawn_stop : (k x : ℕ) (m : Mark) (ms : List Mark) (fault : CodeFault) → mark_fault k x m ≡ Some fault → cells_drawn k x (m ∷ ms) ≡ Err fault
 drawn_stop k x m ms fault h =
     ap (λ f. cells_unless (option_or f (fault_from (strip_behind k m) (column_behind x m) ms)) (mark_cells k x m ++ cells_from (strip_behind k m) (column_behind x m) ms)) h
 
@@ -120,14 +120,14 @@ near_itself x = record { same = refl }
 pub near_capped : (x : ℕ) → AreNear x (min x place_limit)
 near_capped x = record { same = omega arith }
 
-pub drawn_near : (ms : List Mark) (k l x y : ℕ) → AreNear k l → AreNear x y → drawn k x ms ≡ drawn l y ms
+pub drawn_near : (ms : List Mark) (k l x y : ℕ) → AreNear k l → AreNear x y → cells_drawn k x ms ≡ cells_drawn l y ms
 drawn_near [] k l x y h g = refl
 drawn_near (Column at v ∷ ms) k l x y h g =
-    elim (list_any is_far (column_cells k x v)) as (λ b. list_any is_far (column_cells k x v) ≡ b → drawn k x (Column at v ∷ ms) ≡ drawn l y (Column at v ∷ ms)) [
+    elim (list_any is_far (column_cells k x v)) as (λ b. list_any is_far (column_cells k x v) ≡ b → cells_drawn k x (Column at v ∷ ms) ≡ cells_drawn l y (Column at v ∷ ms)) [
       | true ↦ λ e. drawn_stop k x (Column at v) ms (TooFar at) (far_fault at k x v e) ∙ sym (drawn_stop l y (Column at v) ms (TooFar at) (far_fault at l y v (sym (same_far k l x y h g (live_rows v)) ∙ e)))
       | false ↦ λ e.
           drawn_step k x (Column at v) ms (near_fault at k x v e)
-          ∙ (λ i. with_front (map placed (same_column k l x y h g (live_rows v) e i)) (drawn_near ms k l (x + 1) (y + 1) h (near_more x y 1 g) i))
+          ∙ (λ i. with_front (map cell_of_pair (same_column k l x y h g (live_rows v) e i)) (drawn_near ms k l (x + 1) (y + 1) h (near_more x y 1 g) i))
           ∙ sym (drawn_step l y (Column at v) ms (near_fault at l y v (sym (same_far k l x y h g (live_rows v)) ∙ e)))
     ] refl
 drawn_near (Zeros n ∷ ms) k l x y h g = drawn_near ms k l (x + n) (y + n) h (near_more x y n g)
@@ -178,35 +178,35 @@ pub left_near : (k x v j : ℕ) → j < 5 → (bit_at v j == 1) ≡ true → x <
 left_near k x v j h e f g =
     ap (list_any is_far) (cells_left-live k x v j h e) ∙ ap (λ b. b || list_any is_far (cells_left k x v (j + 1))) (is_near_one x (5 * k + j) f g)
 
-pub left_more : (k x v j : ℕ) (all cells new : List Cell) → j < 5 → (bit_at v j == 1) ≡ true → all ≡ cells ++ map placed (cells_left k x v j) → new ≡ cells ++ placed (x, 5 * k + j) ∷ [] → all ≡ new ++ map placed (cells_left k x v (j + 1))
+pub left_more : (k x v j : ℕ) (all cells new : List Cell) → j < 5 → (bit_at v j == 1) ≡ true → all ≡ cells ++ map cell_of_pair (cells_left k x v j) → new ≡ cells ++ cell_of_pair (x, 5 * k + j) ∷ [] → all ≡ new ++ map cell_of_pair (cells_left k x v (j + 1))
 left_more k x v j all cells new h e a n =
-    a ∙ ap (λ left. cells ++ map placed left) (cells_left-live k x v j h e)
-    ∙ sym (append_assoc cells (placed (x, 5 * k + j) ∷ []) (map placed (cells_left k x v (j + 1))))
-    ∙ ap (λ front. front ++ map placed (cells_left k x v (j + 1))) (sym n)
+    a ∙ ap (λ left. cells ++ map cell_of_pair left) (cells_left-live k x v j h e)
+    ∙ sym (append_assoc cells (cell_of_pair (x, 5 * k + j) ∷ []) (map cell_of_pair (cells_left k x v (j + 1))))
+    ∙ ap (λ front. front ++ map cell_of_pair (cells_left k x v (j + 1))) (sym n)
 
 -- ---- one sign, with strip and column capped
 
-pub drawn_capped : (k x : ℕ) (m : Mark) (ms : List Mark) (k' x' : ℕ) → mark_fault k x m ≡ None → k' ≡ min (strip_behind k m) place_limit → x' ≡ min (column_behind x m) place_limit → drawn k x (m ∷ ms) ≡ with_front (map placed (mark_cells k x m)) (drawn k' x' ms)
+pub drawn_capped : (k x : ℕ) (m : Mark) (ms : List Mark) (k' x' : ℕ) → mark_fault k x m ≡ None → k' ≡ min (strip_behind k m) place_limit → x' ≡ min (column_behind x m) place_limit → cells_drawn k x (m ∷ ms) ≡ with_front (map cell_of_pair (mark_cells k x m)) (cells_drawn k' x' ms)
 drawn_capped k x m ms k' x' h s c =
     drawn_step k x m ms h
-    ∙ ap (with_front (map placed (mark_cells k x m))) (drawn_near ms (strip_behind k m) (min (strip_behind k m) place_limit) (column_behind x m) (min (column_behind x m) place_limit) (near_capped (strip_behind k m)) (near_capped (column_behind x m)) ∙ (λ i. drawn (sym s i) (sym c i) ms))
+    ∙ ap (with_front (map cell_of_pair (mark_cells k x m))) (drawn_near ms (strip_behind k m) (min (strip_behind k m) place_limit) (column_behind x m) (min (column_behind x m) place_limit) (near_capped (strip_behind k m)) (near_capped (column_behind x m)) ∙ (λ i. cells_drawn (sym s i) (sym c i) ms))
 
 -- the reader's step: what is drawn so far, a mark, and what is drawn after it
-pub drawn_more : (all : Result (List Cell) CodeFault) (cells new : List Cell) (k x : ℕ) (m : Mark) (here ms : List Mark) (k' x' : ℕ) → all ≡ with_front cells (drawn k x here) → here ≡ m ∷ ms → mark_fault k x m ≡ None → k' ≡ min (strip_behind k m) place_limit → x' ≡ min (column_behind x m) place_limit → new ≡ cells ++ map placed (mark_cells k x m) → all ≡ with_front new (drawn k' x' ms)
+pub drawn_more : (all : Result (List Cell) CodeFault) (cells new : List Cell) (k x : ℕ) (m : Mark) (here ms : List Mark) (k' x' : ℕ) → all ≡ with_front cells (cells_drawn k x here) → here ≡ m ∷ ms → mark_fault k x m ≡ None → k' ≡ min (strip_behind k m) place_limit → x' ≡ min (column_behind x m) place_limit → new ≡ cells ++ map cell_of_pair (mark_cells k x m) → all ≡ with_front new (cells_drawn k' x' ms)
 drawn_more all cells new k x m here ms k' x' a e h s c n =
-    a ∙ ap (λ rest. with_front cells (drawn k x rest)) e ∙ ap (with_front cells) (drawn_capped k x m ms k' x' h s c)
-    ∙ with_front-twice cells (map placed (mark_cells k x m)) (drawn k' x' ms) ∙ ap (λ front. with_front front (drawn k' x' ms)) (sym n)
+    a ∙ ap (λ rest. with_front cells (cells_drawn k x rest)) e ∙ ap (with_front cells) (drawn_capped k x m ms k' x' h s c)
+    ∙ with_front-twice cells (map cell_of_pair (mark_cells k x m)) (cells_drawn k' x' ms) ∙ ap (λ front. with_front front (cells_drawn k' x' ms)) (sym n)
 
-pub drawn_refused : (all : Result (List Cell) CodeFault) (cells : List Cell) (k x : ℕ) (m : Mark) (here ms : List Mark) (fault : CodeFault) → all ≡ with_front cells (drawn k x here) → here ≡ m ∷ ms → mark_fault k x m ≡ Some fault → all ≡ Err fault
+pub drawn_refused : (all : Result (List Cell) CodeFault) (cells : List Cell) (k x : ℕ) (m : Mark) (here ms : List Mark) (fault : CodeFault) → all ≡ with_front cells (cells_drawn k x here) → here ≡ m ∷ ms → mark_fault k x m ≡ Some fault → all ≡ Err fault
 drawn_refused all cells k x m here ms fault a e h =
-    a ∙ ap (λ rest. with_front cells (drawn k x rest)) e ∙ ap (with_front cells) (drawn_stop k x m ms fault h)
+    a ∙ ap (λ rest. with_front cells (cells_drawn k x rest)) e ∙ ap (with_front cells) (drawn_stop k x m ms fault h)
 
 -- ---- what the whole text gives
 
-pub from_start : (text : List ℕ) → drawn 0 0 (marks_at text 0) ≡ cells_unless (first_fault [] (marks_of text)) (cells_after [] (marks_of text))
+pub from_start : (text : List ℕ) → cells_drawn 0 0 (marks_at text 0) ≡ cells_unless (first_fault [] (marks_of text)) (cells_after [] (marks_of text))
 from_start text = λ i. cells_unless (sym (first_fault_is (marks_of text) []) i) (sym (cells_after_is (marks_of text) []) i)
 
-pub given_cells : (fault : Option CodeFault) (cells : List (ℕ × ℕ)) (items : List Cell) → cells_unless fault cells ≡ Ok items → (fault ≡ None) × (map placed cells ≡ items)
+pub given_cells : (fault : Option CodeFault) (cells : List (ℕ × ℕ)) (items : List Cell) → cells_unless fault cells ≡ Ok items → (fault ≡ None) × (map cell_of_pair cells ≡ items)
 given_cells None cells items e = (refl, cc)
 given_cells (Some fault) cells items e = cc
 

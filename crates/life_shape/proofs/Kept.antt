@@ -10,7 +10,7 @@ use Rattle.life_model.specs.Generation.{Generation, cells, from_list}
 use Rattle.life_model.proofs.Generations.{cells-from_list}
 use Rattle.life_shape.specs.declared.reader.CodeFault.{CodeFault}
 use Rattle.life_shape.specs.declared.reader.CodeFault.TheVariants.{Memory}
-use Rattle.life_shape.specs.Reading.{Mark, Column, Zeros, NextStrip, Offence, begins_near, column_cells, is_far, is_offence, keeps_a_cell, live_rows, marks_of, mark_cells, place_limit, placed, until_offence}
+use Rattle.life_shape.specs.Reading.{Mark, Column, Zeros, NextStrip, Offence, begins_near, column_cells, is_far, is_offence, keeps_a_cell, live_rows, marks_of, mark_cells, place_limit, cell_of_pair, until_offence}
 use Rattle.life_shape.specs.Drawing.{strip_behind, column_behind, cells_left, keeps_from, marks_at}
 use Rattle.life_shape.proofs.Drawings.{AreNear, cells_after_is, far_column, far_row, cells_left-live, is_near_one, near_capped, near_itself, near_more}
 
@@ -70,9 +70,9 @@ pub keeps_column : (k x at v : ℕ) (here ms : List Mark) → here ≡ Column at
 keeps_column k x at v here ms e h = ap (keeps_from k x) e ∙ near_here (column_cells k x v) _ h
 
 -- a cell was kept before this column, or it is one of these
-pub kept_more : (b : Bool) (k x at v : ℕ) (old new : List Cell) (here ms : List Mark) → (0 < length old → b ≡ true) → (keeps_from k x here ≡ true → b ≡ true) → here ≡ Column at v ∷ ms → list_any is_far (column_cells k x v) ≡ false → new ≡ old ++ map placed (column_cells k x v) → 0 < length new → b ≡ true
+pub kept_more : (b : Bool) (k x at v : ℕ) (old new : List Cell) (here ms : List Mark) → (0 < length old → b ≡ true) → (keeps_from k x here ≡ true → b ≡ true) → here ≡ Column at v ∷ ms → list_any is_far (column_cells k x v) ≡ false → new ≡ old ++ map cell_of_pair (column_cells k x v) → 0 < length new → b ≡ true
 kept_more b k x at v [] new here ms before further e h n some =
-    let count : 0 < length (column_cells k x v) = let total = ap length n ∙ length-map (column_cells k x v) placed in omega arith in
+    let count : 0 < length (column_cells k x v) = let total = ap length n ∙ length-map (column_cells k x v) cell_of_pair in omega arith in
     further (keeps_column k x at v here ms e (near_first (column_cells k x v) h count))
 kept_more b k x at v (c ∷ old) new here ms before further e h n some = before (omega arith)
 

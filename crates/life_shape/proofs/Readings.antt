@@ -10,8 +10,8 @@ use Rattle.life_cells.specs.Limits.{IsPlace, IsWithin}
 use Rattle.std.proofs.lemmas.Int.{ints}
 use Rattle.life_shape.specs.declared.reader.CodeFault.{CodeFault}
 use Rattle.life_shape.specs.declared.reader.CodeFault.TheVariants.{Empty}
-use Rattle.life_shape.specs.Reading.{spelt, refusal, first_fault, cells_after, marks_of}
-use Rattle.life_shape.specs.Drawing.{drawn, marks_at}
+use Rattle.life_shape.specs.Reading.{cells_spelled, refusal, first_fault, cells_after, marks_of}
+use Rattle.life_shape.specs.Drawing.{cells_drawn, marks_at}
 use Rattle.life_shape.proofs.Members.{holds_in}
 use Rattle.life_shape.proofs.Boxes.{width_within, height_within}
 use Rattle.life_shape.proofs.Drawings.{from_start, given_cells, given_fault}
@@ -26,14 +26,14 @@ unfolding refusal
 refusal_first [] h = absurd (h refl)
 refusal_first (c ∷ text) h = refl
 
-pub told : (text : List ℕ) (fault : CodeFault) → length text ≢ 0 → drawn 0 0 (marks_at text 0) ≡ Err fault → refusal text ≡ Some fault
+pub told : (text : List ℕ) (fault : CodeFault) → length text ≢ 0 → cells_drawn 0 0 (marks_at text 0) ≡ Err fault → refusal text ≡ Some fault
 told text fault h e = refusal_first text h ∙ given_fault _ (cells_after [] (marks_of text)) fault (sym (from_start text) ∙ e)
 
-pub lawful : (text : List ℕ) (items : List Cell) → length text ≢ 0 → drawn 0 0 (marks_at text 0) ≡ Ok items → refusal text ≡ None
+pub lawful : (text : List ℕ) (items : List Cell) → length text ≢ 0 → cells_drawn 0 0 (marks_at text 0) ≡ Ok items → refusal text ≡ None
 lawful text items h e = refusal_first text h ∙ (given_cells _ (cells_after [] (marks_of text)) items (sym (from_start text) ∙ e)).0
 
-pub spelt_is : (text : List ℕ) (items : List Cell) → drawn 0 0 (marks_at text 0) ≡ Ok items → from_list items ≡ spelt text
-unfolding spelt
+pub spelt_is : (text : List ℕ) (items : List Cell) → cells_drawn 0 0 (marks_at text 0) ≡ Ok items → from_list items ≡ cells_spelled text
+unfolding cells_spelled
 spelt_is text items e = ap from_list (sym (given_cells _ (cells_after [] (marks_of text)) items (sym (from_start text) ∙ e)).1)
 
 -- ---- cells within the limit of places

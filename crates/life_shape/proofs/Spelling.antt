@@ -17,7 +17,7 @@ use Rattle.life_model.proofs.Generations.{contains-from_list, same_members, cell
 use Rattle.life_model.proofs.Moves.{same_cell_itself}
 use Rattle.life_shape.specs.Wechsler.{digit, column_value, short_zeros, full_runs, zeros, columns_text, strip_text, strips_text, body}
 use Rattle.life_shape.specs.declared.reader.CodeFault.TheVariants.{BadChar, CutRun}
-use Rattle.life_shape.specs.Reading.{is_far, place_limit, first_fault, refusal, Column, Zeros, NextStrip, Offence, digit_value, is_digit, mark_of, run_of, marks, marks_of, live_rows, column_cells, placed, spelt}
+use Rattle.life_shape.specs.Reading.{is_far, place_limit, first_fault, refusal, Column, Zeros, NextStrip, Offence, digit_value, is_base_36_digit, mark_of, mark_of_run, marks, marks_of, live_rows, column_cells, cell_of_pair, cells_spelled}
 use Rattle.life_shape.specs.Drawing.{cells_from, fault_from}
 use Rattle.life_shape.proofs.Members.{holds_in}
 use Rattle.life_shape.proofs.Boxes.{IsInBox, normal_in_box, normal_normal}
@@ -32,7 +32,7 @@ low_digit n h = grind (arith, nat_tests)
 high_digit : (n : ℕ) → 10 ≤ n → digit n ≡ 87 + n
 high_digit n h = grind (arith, nat_tests)
 
-is_digit-digit : (n : ℕ) → n < 36 → is_digit (digit n) ≡ true
+is_digit-digit : (n : ℕ) → n < 36 → is_base_36_digit (digit n) ≡ true
 is_digit-digit n h = grind (arith, nat_tests)
 
 digit_value-digit : (n : ℕ) → n < 36 → digit_value (digit n) ≡ n
@@ -47,7 +47,7 @@ mark_of-digit at n h =
     (λ i. if is_digit-digit n (omega arith) i then (if t.0 i then NextStrip else (if t.1.0 i then Zeros 2 else (if t.1.1.0 i then Zeros 3 else Column at (digit_value (digit n))))) else Offence (BadChar at))
     ∙ ap (Column at) (digit_value-digit n (omega arith))
 
-run_of-digit : (at n : ℕ) → n < 36 → run_of at (digit n) ≡ Zeros (4 + n)
+run_of-digit : (at n : ℕ) → n < 36 → mark_of_run at (digit n) ≡ Zeros (4 + n)
 run_of-digit at n h =
     ap (λ b. if b then Zeros (4 + digit_value (digit n)) else Offence (CutRun at)) (is_digit-digit n h)
     ∙ ap (λ m. Zeros (4 + m)) (digit_value-digit n h)
@@ -242,7 +242,7 @@ small_values N k x (suc n) = (live_value-lt (live_at N k x), small_values N k (x
 
 -- each spelt cell is one of the set
 abbrev IsLive : Generation → ℕ × ℕ → Type 0
-IsLive N d = contains N (placed d) ≡ true
+IsLive N d = contains N (cell_of_pair d) ≡ true
 
 all_both : (P : ℕ × ℕ → Type 0) (ds es : List (ℕ × ℕ)) → AllByRecursion P ds → AllByRecursion P es → AllByRecursion P (ds ++ es)
 all_both P [] es h k = k
@@ -267,7 +267,7 @@ strips_live N wide k (suc n) = all_both (IsLive N) (columns_cells k 0 (values_of
 
 -- each cell of the set is spelt
 abbrev has : ℕ × ℕ → List (ℕ × ℕ) → Type 0
-has d cs = list_any (λ e. same_cell (placed d) (placed e)) cs ≡ true
+has d cs = list_any (λ e. same_cell (cell_of_pair d) (cell_of_pair e)) cs ≡ true
 
 has_left : (d : ℕ × ℕ) (ds es : List (ℕ × ℕ)) → has d ds → has d (ds ++ es)
 has_left d ds es h = list_any-append _ ds es ∙ or_left _ _ h
@@ -282,7 +282,7 @@ row_kept N k x j a (suc n) e h l =
       | inl same ↦
           subst (λ b. has (x, 5 * k + j) (map {B = ℕ × ℕ} (λ i. (x, 5 * k + i)) (cond b (a ∷ filter (live_at N k x) (range_with_len (a + 1) n)) (filter (live_at N k x) (range_with_len (a + 1) n)))))
           (sym (ap (live_at N k x) same ∙ e))
-          (or_left _ _ (ap (λ i. same_cell (placed (x, 5 * k + j)) (placed (x, 5 * k + i))) same ∙ same_cell_itself (placed (x, 5 * k + j))))
+          (or_left _ _ (ap (λ i. same_cell (cell_of_pair (x, 5 * k + j)) (cell_of_pair (x, 5 * k + i))) same ∙ same_cell_itself (cell_of_pair (x, 5 * k + j))))
       | inr behind ↦
           elim (live_at N k x a) as (λ b. has (x, 5 * k + j) (map {B = ℕ × ℕ} (λ i. (x, 5 * k + i)) (cond b (a ∷ filter (live_at N k x) (range_with_len (a + 1) n)) (filter (live_at N k x) (range_with_len (a + 1) n))))) [
             | true ↦ or_right _ _ (row_kept N k x j (a + 1) n e behind (omega arith))
@@ -326,23 +326,23 @@ module _ (G : Generation) where
   cells_of_text zero = refl
   cells_of_text (suc n) = spelt_strips (values_of (normal G) (width G)) (λ i. small_values (normal G) i 0 (width G)) n 0 0
 
-  all_placed : (ds : List (ℕ × ℕ)) → AllByRecursion (IsLive (normal G)) ds → AllByRecursion (λ c. contains (normal G) c ≡ true) (map placed ds)
+  all_placed : (ds : List (ℕ × ℕ)) → AllByRecursion (IsLive (normal G)) ds → AllByRecursion (λ c. contains (normal G) c ≡ true) (map cell_of_pair ds)
   all_placed [] h = tt
   all_placed (d ∷ ds) h = (h.0, all_placed ds h.1)
 
-  any_placed : (d : ℕ × ℕ) (ds : List (ℕ × ℕ)) → has d ds → list_any (same_cell (placed d)) (map placed ds) ≡ true
+  any_placed : (d : ℕ × ℕ) (ds : List (ℕ × ℕ)) → has d ds → list_any (same_cell (cell_of_pair d)) (map cell_of_pair ds) ≡ true
   any_placed d [] h = h
-  any_placed d (e ∷ ds) h = elim (or_cases (same_cell (placed d) (placed e)) _ h) [
+  any_placed d (e ∷ ds) h = elim (or_cases (same_cell (cell_of_pair d) (cell_of_pair e)) _ h) [
     | inl here ↦ or_left _ _ here
     | inr there ↦ or_right _ _ (any_placed d ds there)
   ]
 
-  one_spelt : (c : Cell) → contains (normal G) c ≡ true → IsInBox G c → list_any (same_cell c) (map placed all_cells) ≡ true
+  one_spelt : (c : Cell) → contains (normal G) c ≡ true → IsInBox G c → list_any (same_cell c) (map cell_of_pair all_cells) ≡ true
   one_spelt (pos x, pos y) h b =
       let k = y / 5 in
       let j = y % 5 in
       let at : y ≡ 5 * k + j = omega arith in
-      subst (λ (r : ℕ). list_any (same_cell (pos x, pos r)) (map placed all_cells) ≡ true) (sym at)
+      subst (λ (r : ℕ). list_any (same_cell (pos x, pos r)) (map cell_of_pair all_cells) ≡ true) (sym at)
       (any_placed (x, 5 * k + j) all_cells
       (strips_has (normal G) (width G) x k j 0 ((height G + 4) / 5) (omega arith) (inside x (width G) b.right)
       (ap (λ (r : ℕ). contains (normal G) (pos x, pos r)) (sym at) ∙ h) (omega arith) (strip_within y (height G) (inside y (height G) b.below))))
@@ -355,12 +355,12 @@ module _ (G : Generation) where
   one_spelt (pos x, negsuc y) h b = absurd (let a = b.above in omega (arith, ints))
   one_spelt (negsuc x, y) h b = absurd (let a = b.left in omega (arith, ints))
 
-  pub spelt-body : spelt (body G) ≡ normal G
-  unfolding spelt body
+  pub spelt-body : cells_spelled (body G) ≡ normal G
+  unfolding cells_spelled body
   spelt-body =
-      ap (λ ds. from_list (map placed ds)) (cells_after_is (marks_of (body G)) [] ∙ cells_of_text ((height G + 4) / 5))
-      ∙ same_members _ _ (λ c. contains-from_list (map placed all_cells) c ∙ both_ways _ _
-      (holds_in (λ d. contains (normal G) d ≡ true) (map placed all_cells) (all_placed all_cells (strips_live (normal G) (width G) 0 ((height G + 4) / 5))) c)
+      ap (λ ds. from_list (map cell_of_pair ds)) (cells_after_is (marks_of (body G)) [] ∙ cells_of_text ((height G + 4) / 5))
+      ∙ same_members _ _ (λ c. contains-from_list (map cell_of_pair all_cells) c ∙ both_ways _ _
+      (holds_in (λ d. contains (normal G) d ≡ true) (map cell_of_pair all_cells) (all_placed all_cells (strips_live (normal G) (width G) 0 ((height G + 4) / 5))) c)
       (λ h. one_spelt c h (normal_in_box G c h)))
 
 unfoldable body_by : Generation → List ℕ
@@ -373,7 +373,7 @@ body_of_normal G = refl
 
 pub same_bodies : (G H : Generation) → (body G ≡ body H) ↔ (normal G ≡ normal H)
 same_bodies G H = (
-  λ e. sym (spelt-body G) ∙ ap spelt e ∙ spelt-body H,
+  λ e. sym (spelt-body G) ∙ ap cells_spelled e ∙ spelt-body H,
   λ e. body_of_normal G ∙ ap body_by e ∙ sym (body_of_normal H),
 )
 
@@ -392,8 +392,8 @@ no_fault : (G : Generation) (n : ℕ) → list_any is_far (strips_cells (values_
 no_fault G zero near = refl
 no_fault G (suc n) near = lawful_strips (values_of (normal G) (width G)) (λ i. small_values (normal G) i 0 (width G)) n 0 0 near
 
-spelt-nothing : spelt [] ≡ empty
-unfolding spelt
+spelt-nothing : cells_spelled [] ≡ empty
+unfolding cells_spelled
 spelt-nothing = refl
 
 refusal_some : (text : List ℕ) → (text ≡ [] → ⊥) → refusal text ≡ first_fault [] (marks_of text)
@@ -416,7 +416,7 @@ no_byte e = cc
 -- some byte is written, whatever the set
 body_some : (G : Generation) → body G ≡ [] → ⊥
 body_some G e =
-    let none : normal G ≡ empty = sym (spelt-body G) ∙ ap spelt e ∙ spelt-nothing in
+    let none : normal G ≡ empty = sym (spelt-body G) ∙ ap cells_spelled e ∙ spelt-nothing in
     no_byte (sym e ∙ body_of_normal G ∙ ap body_by none ∙ body_by_empty)
 
 pub lawful-body : (G : Generation) → width G ≤ 1048576 → height G ≤ 1048576 → refusal (body G) ≡ None
@@ -424,5 +424,5 @@ lawful-body G wide high =
     refusal_some (body G) (body_some G) ∙ first_fault_is (marks_of (body G)) []
     ∙ fault_of_body G ∙ no_fault G ((height G + 4) / 5) (all_near G wide high (all_cells G) (strips_live (normal G) (width G) 0 ((height G + 4) / 5)))
 
-pub normal-spelt-body : (G : Generation) → normal (spelt (body G)) ≡ normal G
+pub normal-spelt-body : (G : Generation) → normal (cells_spelled (body G)) ≡ normal G
 normal-spelt-body G = ap normal (spelt-body G) ∙ normal_normal G

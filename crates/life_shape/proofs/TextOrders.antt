@@ -7,7 +7,7 @@ use Rattle.std.specs.Cmp as cmp
 use Rattle.std.specs.Cmp.{upto}
 use Rattle.std.specs.Cmp.Lexicographic.{slice_cmp, nat_list_cmp_total}
 use Rattle.std.specs.FinMap.{nat_cmp-IsAntisymmetric, slice_cmp-IsAntisymmetric}
-use Rattle.life_shape.specs.TextOrder.{shorter_cmp, lesser, least_text}
+use Rattle.life_shape.specs.TextOrder.{shorter_cmp, lesser_text, least_text}
 
 pub shorter_total : IsTotalOrder shorter_cmp
 shorter_total = then_total (on_total length nat_cmp_total) nat_list_cmp_total
@@ -35,14 +35,14 @@ IsUpto a b = is_gt (shorter_cmp a b) ≡ false
 upto_itself : (a : List ℕ) → IsUpto a a
 upto_itself a = ap is_gt (cmp.tied_itself shorter_total a)
 
-lesser_first : (a b : List ℕ) → IsUpto (lesser a b) a
+lesser_first : (a b : List ℕ) → IsUpto (lesser_text a b) a
 lesser_first a b =
     elim (is_gt (shorter_cmp a b)) as (λ t. is_gt (shorter_cmp a b) ≡ t → IsUpto (cond t b a) a) [
       | true ↦ λ e. greater_turned (shorter_cmp a b) (shorter_cmp b a) (shorter_total.antisymm b a) e
       | false ↦ λ e. upto_itself a
     ] refl
 
-lesser_second : (a b : List ℕ) → IsUpto (lesser a b) b
+lesser_second : (a b : List ℕ) → IsUpto (lesser_text a b) b
 lesser_second a b =
     elim (is_gt (shorter_cmp a b)) as (λ t. is_gt (shorter_cmp a b) ≡ t → IsUpto (cond t b a) b) [
       | true ↦ λ e. upto_itself b
@@ -50,17 +50,17 @@ lesser_second a b =
     ] refl
 
 -- the least of a first text and others is no greater than each
-fold_upto : (t : List ℕ) (ts : List (List ℕ)) → IsUpto (fold lesser t ts) t × AllByRecursion (IsUpto (fold lesser t ts)) ts
+fold_upto : (t : List ℕ) (ts : List (List ℕ)) → IsUpto (fold lesser_text t ts) t × AllByRecursion (IsUpto (fold lesser_text t ts)) ts
 fold_upto t [] = (upto_itself t, tt)
 fold_upto t (u ∷ us) =
-    let h = fold_upto (lesser t u) us in
-    (upto shorter_total (fold lesser (lesser t u) us) (lesser t u) t h.0 (lesser_first t u), (upto shorter_total (fold lesser (lesser t u) us) (lesser t u) u h.0 (lesser_second t u), h.1))
+    let h = fold_upto (lesser_text t u) us in
+    (upto shorter_total (fold lesser_text (lesser_text t u) us) (lesser_text t u) t h.0 (lesser_first t u), (upto shorter_total (fold lesser_text (lesser_text t u) us) (lesser_text t u) u h.0 (lesser_second t u), h.1))
 
 pub least_text-least : (ts : List (List ℕ)) → AllByRecursion (IsUpto (least_text ts)) ts
 least_text-least [] = tt
 least_text-least (t ∷ ts) = fold_upto t ts
 
-lesser_one : (a b : List ℕ) → (lesser a b ≡ a) ⊎ (lesser a b ≡ b)
+lesser_one : (a b : List ℕ) → (lesser_text a b ≡ a) ⊎ (lesser_text a b ≡ b)
 lesser_one a b = elim (is_gt (shorter_cmp a b)) as (λ t. (cond t b a ≡ a) ⊎ (cond t b a ≡ b)) [ true ↦ inr refl | false ↦ inl refl ]
 
 -- the text is one of these
@@ -68,10 +68,10 @@ abbrev pub Among : List ℕ → List (List ℕ) → Type 0
 Among x [] = ⊥
 Among x (t ∷ ts) = (x ≡ t) ⊎ Among x ts
 
-fold_among : (t : List ℕ) (ts : List (List ℕ)) → Among (fold lesser t ts) (t ∷ ts)
+fold_among : (t : List ℕ) (ts : List (List ℕ)) → Among (fold lesser_text t ts) (t ∷ ts)
 fold_among t [] = inl refl
 fold_among t (u ∷ us) =
-    elim (fold_among (lesser t u) us) [
+    elim (fold_among (lesser_text t u) us) [
       | inl e ↦ elim (lesser_one t u) [ inl f ↦ inl (e ∙ f) | inr f ↦ inr (inl (e ∙ f)) ]
       | inr later ↦ inr (inr later)
     ]

@@ -8,7 +8,7 @@ use Rattle.life_shape.specs.declared.reader.CodeFault.{CodeFault}
 use Rattle.life_shape.specs.declared.reader.CodeFault.TheVariants.{Memory}
 use Rattle.life_shape.specs.declared.reader.Sign.{Sign}
 use Rattle.life_shape.specs.declared.reader.Sign.TheVariants.{Value, Skip, Down}
-use Rattle.life_shape.specs.Reading.{Mark, Column, Zeros, NextStrip, Offence, begins_near, mark_cells, mark_fault, marks, placed, until_offence}
+use Rattle.life_shape.specs.Reading.{Mark, Column, Zeros, NextStrip, Offence, begins_near, mark_cells, mark_fault, marks, cell_of_pair, until_offence}
 
 -- strip and column after a mark
 abbrev pub strip_behind : ℕ → Mark → ℕ
@@ -34,11 +34,11 @@ fault_from k x (m ∷ ms) = option_or (mark_fault k x m) (fault_from (strip_behi
 
 -- cells, or the fault where there is one
 abbrev pub cells_unless : Option CodeFault → List (ℕ × ℕ) → Result (List Cell) CodeFault
-cells_unless None cells = Ok (map placed cells)
+cells_unless None cells = Ok (map cell_of_pair cells)
 cells_unless (Some fault) cells = Err fault
 
-abbrev pub drawn : ℕ → ℕ → List Mark → Result (List Cell) CodeFault
-drawn k x ms = cells_unless (fault_from k x ms) (cells_from k x ms)
+abbrev pub cells_drawn : ℕ → ℕ → List Mark → Result (List Cell) CodeFault
+cells_drawn k x ms = cells_unless (fault_from k x ms) (cells_from k x ms)
 
 -- whether a live cell is kept of the marks from strip k and column x on
 abbrev pub keeps_from : ℕ → ℕ → List Mark → Bool
@@ -53,10 +53,10 @@ abbrev pub Begins : Mark → List Mark → Type 0
 Begins m ms = (rest : List Mark) × (ms ≡ m ∷ rest)
 
 -- what a sign at this place stands for
-abbrev pub seen : ℕ → Sign → Mark
-seen at (Value v) = Column at v
-seen at (Skip n) = Zeros n
-seen at Down = NextStrip
+abbrev pub mark_of_sign : ℕ → Sign → Mark
+mark_of_sign at (Value v) = Column at v
+mark_of_sign at (Skip n) = Zeros n
+mark_of_sign at Down = NextStrip
 
 -- the number of a sign is as small as the text's digits make it
 abbrev pub IsSmall : Sign → Type 0

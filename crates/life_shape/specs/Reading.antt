@@ -13,8 +13,8 @@ abbrev pub place_limit : ℕ
 place_limit = 1048576
 
 -- `0` to `9`, and `a` to `z`
-abbrev pub is_digit : ℕ → Bool
-is_digit c = (nat_le 48 c && nat_le c 57) || (nat_le 97 c && nat_le c 122)
+abbrev pub is_base_36_digit : ℕ → Bool
+is_base_36_digit c = (nat_le 48 c && nat_le c 57) || (nat_le 97 c && nat_le c 122)
 
 -- the number of such a byte
 abbrev pub digit_value : ℕ → ℕ
@@ -30,18 +30,18 @@ pub data Mark : Type 0 where
 -- what a byte other than `y` stands for
 abbrev pub mark_of : ℕ → ℕ → Mark
 mark_of at c =
-    if is_digit c then (if c == 122 then NextStrip else (if c == 119 then Zeros 2 else (if c == 120 then Zeros 3 else Column at (digit_value c)))) else Offence (BadChar at)
+    if is_base_36_digit c then (if c == 122 then NextStrip else (if c == 119 then Zeros 2 else (if c == 120 then Zeros 3 else Column at (digit_value c)))) else Offence (BadChar at)
 
 -- what `y` and the byte after it stand for
-abbrev pub run_of : ℕ → ℕ → Mark
-run_of at c = if is_digit c then Zeros (4 + digit_value c) else Offence (CutRun at)
+abbrev pub mark_of_run : ℕ → ℕ → Mark
+mark_of_run at c = if is_base_36_digit c then Zeros (4 + digit_value c) else Offence (CutRun at)
 
 -- The marks of a text from this place on, which a `y` stands before where there is one: its place.
 abbrev pub marks : Option ℕ → ℕ → List ℕ → List Mark
 marks None at [] = []
 marks (Some y) at [] = Offence (CutRun y) ∷ []
 marks None at (c ∷ rest) = if c == 121 then marks (Some at) (at + 1) rest else mark_of at c ∷ marks None (at + 1) rest
-marks (Some y) at (c ∷ rest) = run_of y c ∷ marks None (at + 1) rest
+marks (Some y) at (c ∷ rest) = mark_of_run y c ∷ marks None (at + 1) rest
 
 abbrev pub marks_of : List ℕ → List Mark
 marks_of text = marks None 0 text
@@ -59,8 +59,8 @@ columns_in NextStrip = 0
 columns_in (Offence fault) = 0
 
 -- the strip of a mark that these stand before
-abbrev pub strip : List Mark → ℕ
-strip before = sum_by (λ m. if is_next_strip m then 1 else 0) before
+abbrev pub strip_number : List Mark → ℕ
+strip_number before = sum_by (λ m. if is_next_strip m then 1 else 0) before
 
 -- its column
 abbrev pub column : List Mark → ℕ
@@ -84,7 +84,7 @@ mark_cells k x (Offence fault) = []
 -- the cells that marks spell which these stand before, of any size
 abbrev pub cells_after : List Mark → List Mark → List (ℕ × ℕ)
 cells_after before [] = []
-cells_after before (m ∷ ms) = mark_cells (strip before) (column before) m ++ cells_after (before ++ m ∷ []) ms
+cells_after before (m ∷ ms) = mark_cells (strip_number before) (column before) m ++ cells_after (before ++ m ∷ []) ms
 
 abbrev pub is_far : ℕ × ℕ → Bool
 is_far (x, y) = nat_le place_limit x || nat_le place_limit y
@@ -99,14 +99,14 @@ mark_fault k x (Offence fault) = Some fault
 -- the fault of the first mark that has one, of those which these stand before
 abbrev pub first_fault : List Mark → List Mark → Option CodeFault
 first_fault before [] = None
-first_fault before (m ∷ ms) = option_or (mark_fault (strip before) (column before) m) (first_fault (before ++ m ∷ []) ms)
+first_fault before (m ∷ ms) = option_or (mark_fault (strip_number before) (column before) m) (first_fault (before ++ m ∷ []) ms)
 
-abbrev pub placed : ℕ × ℕ → Cell
-placed (x, y) = (pos x, pos y)
+abbrev pub cell_of_pair : ℕ × ℕ → Cell
+cell_of_pair (x, y) = (pos x, pos y)
 
 -- the cells that the text's lawful characters spell, of any size
-unfoldable pub spelt : List ℕ → Generation
-spelt text = from_list (map placed (cells_after [] (marks_of text)))
+unfoldable pub cells_spelled : List ℕ → Generation
+cells_spelled text = from_list (map cell_of_pair (cells_after [] (marks_of text)))
 
 abbrev pub is_offence : Mark → Bool
 is_offence (Column at v) = false

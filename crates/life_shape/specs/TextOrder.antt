@@ -6,23 +6,23 @@ use Rattle.std.specs.declared.cmp.Ordering.{Ordering}
 use Rattle.std.specs.Cmp.Lexicographic.{slice_cmp}
 
 -- what stands after a place, or the whole text where there is none
-abbrev pub behind : Option ℕ → List ℕ → List ℕ
-behind None code = code
-behind (Some at) code = drop (at + 1) code
+abbrev pub text_after : Option ℕ → List ℕ → List ℕ
+text_after None code = code
+text_after (Some at) code = drop (at + 1) code
 
 -- the bytes after the first `_`, or all bytes where there is none
 abbrev pub body_of : List ℕ → List ℕ
-body_of code = behind (position (λ c. c == 95) code) code
+body_of code = text_after (position (λ c. c == 95) code) code
 
 -- by length, and then by bytes
 abbrev pub shorter_cmp : List ℕ → List ℕ → Ordering
 shorter_cmp a b = ordering_then (nat_cmp (length a) (length b)) (slice_cmp nat_cmp a b)
 
 -- the first of two texts, or the second where that is less
-abbrev pub lesser : List ℕ → List ℕ → List ℕ
-lesser a b = if is_gt (shorter_cmp a b) then b else a
+abbrev pub lesser_text : List ℕ → List ℕ → List ℕ
+lesser_text a b = if is_gt (shorter_cmp a b) then b else a
 
 -- the least of some texts, by length and then by bytes
 abbrev pub least_text : List (List ℕ) → List ℕ
 least_text [] = []
-least_text (text ∷ others) = fold lesser text others
+least_text (text ∷ others) = fold lesser_text text others

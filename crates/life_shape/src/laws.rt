@@ -3,13 +3,13 @@ ghost use Rattle.std.specs.Prelude.{◌≡◌, ◌↔◌, ◌≤◌, None};
 ghost use Rattle.life_model.specs.Box.{height, width};
 ghost use Rattle.life_model.specs.Generation.{Generation};
 ghost use Rattle.life_model.specs.Symmetry.{normal};
-ghost use Rattle.life_shape.specs.Reading.{refusal, spelt};
+ghost use Rattle.life_shape.specs.Reading.{refusal, cells_spelled};
 ghost use Rattle.life_shape.specs.Wechsler.{body};
 
 /// The text of a set, of any size, spells the set, moved so that its least x and its least y are 0.
 pub fn a_text_spells_its_set()
-    ensures spelt { (G : Generation) → spelt (body G) ≡ normal G }
-    ensures normal { (G : Generation) → normal (spelt (body G)) ≡ normal G }
+    ensures spelt { (G : Generation) → cells_spelled (body G) ≡ normal G }
+    ensures normal { (G : Generation) → normal (cells_spelled (body G)) ≡ normal G }
 {}
 
 /// Two sets, of any size, have one text exactly where they are equal up to a move.

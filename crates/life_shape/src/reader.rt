@@ -3,8 +3,8 @@ ghost use Rattle.std.specs.Prelude.{◌≡◌, ◌≢◌, ◌+◌, ◌*◌, ◌<
 ghost use Rattle.std.specs.List.{list_any};
 ghost use Rattle.life_model.specs.Symmetry.{normal};
 ghost use Rattle.life_cells.specs.Limits.{IsWithin};
-ghost use Rattle.life_shape.specs.Reading.{Offence, begins_near, column_cells, digit_value, is_digit, is_far, keeps_a_cell, placed, refusal, spelt};
-ghost use Rattle.life_shape.specs.Drawing.{Begins, Gives, IsSmall, drawn, keeps_from, marks_at, seen};
+ghost use Rattle.life_shape.specs.Reading.{Offence, begins_near, column_cells, digit_value, is_base_36_digit, is_far, keeps_a_cell, cell_of_pair, refusal, cells_spelled};
+ghost use Rattle.life_shape.specs.Drawing.{Begins, Gives, IsSmall, cells_drawn, keeps_from, marks_at, mark_of_sign};
 ghost use Rattle.life_shape.specs.declared.reader.CodeFault.TheVariants.{Memory, TooFar};
 
 use crate::shape::Shape;
@@ -58,7 +58,7 @@ enum Sign {
 
 // The number of a byte that is `0` to `9` or `a` to `z`.
 fn digit_value(byte: u8) -> Option<u8>
-    ensures { result ≡ (if is_digit byte then Some (digit_value byte) else None) }
+    ensures { result ≡ (if is_base_36_digit byte then Some (digit_value byte) else None) }
 {
     match byte {
         b'0'..=b'9' => Some(byte - b'0'),
@@ -70,7 +70,7 @@ fn digit_value(byte: u8) -> Option<u8>
 // What stands at a place, and the place after it.
 fn next_sign(text: &[u8], at: usize) -> Result<(Sign, usize), CodeFault>
     requires { at < length text.now }
-    ensures found { IfOk result (λ p. marks_at text.now at ≡ seen at p.0 ∷ marks_at text.now p.1) }
+    ensures found { IfOk result (λ p. marks_at text.now at ≡ mark_of_sign at p.0 ∷ marks_at text.now p.1) }
     ensures small { IfOk result (λ p. IsSmall p.0) }
     ensures further { IfOk result (λ p. at < p.1) }
     ensures within { IfOk result (λ p. p.1 ≤ length text.now) }
@@ -119,7 +119,7 @@ fn push_column(
 ) -> Result<(), CodeFault>
     requires strips { strip ≤ PLACE_LIMIT }
     ensures near { OnOk result (list_any is_far (column_cells strip column value) ≡ false) }
-    ensures cells { OnOk result (cells.new.items ≡ cells.old.items ++ map placed (column_cells strip column value)) }
+    ensures cells { OnOk result (cells.new.items ≡ cells.old.items ++ map cell_of_pair (column_cells strip column value)) }
     ensures within { OnOk result (All (IsWithin 0) cells.old.items → All (IsWithin 0) cells.new.items) }
     ensures told { IfErr result (λ fault. fault ≢ Memory → fault ≡ TooFar at) }
     ensures far { IfErr result (λ fault. fault ≢ Memory → list_any is_far (column_cells strip column value) ≡ true) }
@@ -139,7 +139,7 @@ fn push_column(
 
 // The cells that the text spells, in its order.
 fn read_cells(alloc: Global, text: &[u8]) -> Result<Vec<(i32, i32)>, CodeFault>
-    ensures drawn { Gives (λ cells. cells.items) result (drawn 0 0 (marks_at text.now 0)) }
+    ensures drawn { Gives (λ cells. cells.items) result (cells_drawn 0 0 (marks_at text.now 0)) }
     ensures within { IfOk result (λ cells. All (IsWithin 0) cells.items) }
     ensures kept { IfOk result (λ cells. 0 < length cells.items → keeps_from 0 0 (marks_at text.now 0) ≡ true) }
     ensures memory { IfErr result (λ fault. fault ≡ Memory → keeps_from 0 0 (marks_at text.now 0) ≡ true) }
@@ -169,7 +169,7 @@ fn read_cells(alloc: Global, text: &[u8]) -> Result<Vec<(i32, i32)>, CodeFault>
 /// The shape that a Wechsler text spells, in any spelling: zeros may stand anywhere. Memory is refused only where a live
 /// cell is kept before the first fault.
 pub fn read_wechsler(alloc: Global, text: &[u8]) -> Result<Shape, CodeFault>
-    ensures shape { IfOk result (λ shape. shape ≡ normal (spelt text.now)) }
+    ensures shape { IfOk result (λ shape. shape ≡ normal (cells_spelled text.now)) }
     ensures lawful { OnOk result (refusal text.now ≡ None) }
     ensures refused { IfErr result (λ fault. fault ≢ Memory → refusal text.now ≡ Some fault) }
     ensures memory { IfErr result (λ fault. fault ≡ Memory → keeps_a_cell text.now ≡ true) }

@@ -3,7 +3,7 @@ ghost use Rattle.std.specs.Prelude.{◌≡◌, ◌↔◌, ◌<◌, ◌≤◌, �
 ghost use Rattle.life_model.specs.Box.{height, width};
 ghost use Rattle.life_model.specs.Cell.{opposite, plus};
 ghost use Rattle.life_model.specs.Generation.{cells, is_rising};
-ghost use Rattle.life_model.specs.Symmetry.{corner, corner_of, normal, turn, turned};
+ghost use Rattle.life_model.specs.Symmetry.{corner, corner_of, normal, turn, image_under};
 ghost use Rattle.life_cells.specs.Limits.{IsPlace};
 ghost use Rattle.life_shape.specs.NormalForms.{IsAhead};
 ghost use Rattle.life_shape.specs.Orients.{orientation};
@@ -92,7 +92,7 @@ fn turned_cells(
     orient: Orient,
 ) -> Result<Vec<(i32, i32)>, AllocError>
     requires { All IsPlace cells.now }
-    ensures { IfOk result (λ turned. turned.items ≡ map (turn (orientation orient)) cells.now) }
+    ensures { IfOk result (λ mapped. mapped.items ≡ map (turn (orientation orient)) cells.now) }
 {
     let mut turned = Vec::with_capacity(alloc, cells.len())?;
     for cell in cells {
@@ -150,7 +150,7 @@ impl Shape {
 
     /// The shape of the cells that the map takes its cells to.
     pub fn turned(&self, orient: Orient) -> Result<Shape, AllocError>
-        ensures { IfOk result (λ shape. shape ≡ normal (turned self.now (orientation orient))) }
+        ensures { IfOk result (λ shape. shape ≡ normal (image_under self.now (orientation orient))) }
     {
         let mut cells = turned_cells(self.alloc, self.list.as_slice(), orient)?;
         put_in_order(&mut cells);

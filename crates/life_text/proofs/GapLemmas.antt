@@ -5,7 +5,7 @@ use Rattle.std.proofs.lemmas.Bool.Decides.{nat_tests}
 use Rattle.life_model.specs.Box.{extent}
 use Rattle.life_cells.specs.Bytes.{is_in}
 use Rattle.life_text.specs.RleText.{onto_rows, rows_of, run_onto, runs_of, run_token, row_tokens, tokens_of_rows}
-use Rattle.life_text.specs.Writer.{counted, onto_run, tokens_from}
+use Rattle.life_text.specs.Writer.{with_token, onto_run, tokens_from}
 use Rattle.life_text.proofs.PlaceLemmas.{IsBehind, BeginsAbove}
 
 -- # The runs of one row
@@ -97,7 +97,7 @@ first_row : (y : ℕ) (columns : List ℕ) (rows : List (ℕ × List ℕ)) → t
 first_row y columns [] = refl
 first_row y columns ((z, others) ∷ rows) = refl
 
-dead_token : (n : ℕ) (runs : List (ℕ × Bool)) (tokens : List (ℕ × ℕ)) → counted n 98 (map run_token runs ++ tokens) ≡ map run_token (dead n runs) ++ tokens
+dead_token : (n : ℕ) (runs : List (ℕ × Bool)) (tokens : List (ℕ × ℕ)) → with_token n 98 (map run_token runs ++ tokens) ≡ map run_token (dead n runs) ++ tokens
 dead_token zero runs tokens = refl
 dead_token (suc n) runs tokens = some n (suc n == 0) (no_zero n)
   where
@@ -126,9 +126,9 @@ in_row : (y x : ℕ) (c : ℕ × ℕ) (cs : List (ℕ × ℕ)) (f : Front c cs) 
 in_row y x c cs f e =
     let none : c.1 - y ≡ 0 = omega arith in
     let same : (c.1 == y) ≡ true = grind (arith, nat_tests) in
-    ap (λ n. counted n 36 (counted (c.0 - (if c.1 == y then x else 0)) 98 (onto_run 1 (tokens_from c.1 (c.0 + 1) cs)))) none
-    ∙ ap (λ b. counted (c.0 - (if b then x else 0)) 98 (onto_run 1 (tokens_from c.1 (c.0 + 1) cs))) same
-    ∙ ap (counted (c.0 - x) 98) f.tokens
+    ap (λ n. with_token n 36 (with_token (c.0 - (if c.1 == y then x else 0)) 98 (onto_run 1 (tokens_from c.1 (c.0 + 1) cs)))) none
+    ∙ ap (λ b. with_token (c.0 - (if b then x else 0)) 98 (onto_run 1 (tokens_from c.1 (c.0 + 1) cs))) same
+    ∙ ap (with_token (c.0 - x) 98) f.tokens
     ∙ dead_token (c.0 - x) (run_onto true (gap_runs (c.0 + 1) f.columns)) (behind_row c.1 f.others)
 
 -- the tokens from a row on below which the next cell stands
@@ -136,9 +136,9 @@ below_row : (y x : ℕ) (c : ℕ × ℕ) (cs : List (ℕ × ℕ)) (f : Front c c
 below_row y x c cs f lt =
     let some : (c.1 - y == 0) ≡ false = grind (arith, nat_tests) in
     let other : (c.1 == y) ≡ false = grind (arith, nat_tests) in
-    ap (λ b. if b then counted (c.0 - (if c.1 == y then x else 0)) 98 (onto_run 1 (tokens_from c.1 (c.0 + 1) cs)) else (c.1 - y, 36) ∷ counted (c.0 - (if c.1 == y then x else 0)) 98 (onto_run 1 (tokens_from c.1 (c.0 + 1) cs))) some
-    ∙ ap (λ b. (c.1 - y, 36) ∷ counted (c.0 - (if b then x else 0)) 98 (onto_run 1 (tokens_from c.1 (c.0 + 1) cs))) other
-    ∙ ap (λ ts. (c.1 - y, 36) ∷ counted (c.0 - 0) 98 ts) f.tokens
+    ap (λ b. if b then with_token (c.0 - (if c.1 == y then x else 0)) 98 (onto_run 1 (tokens_from c.1 (c.0 + 1) cs)) else (c.1 - y, 36) ∷ with_token (c.0 - (if c.1 == y then x else 0)) 98 (onto_run 1 (tokens_from c.1 (c.0 + 1) cs))) some
+    ∙ ap (λ b. (c.1 - y, 36) ∷ with_token (c.0 - (if b then x else 0)) 98 (onto_run 1 (tokens_from c.1 (c.0 + 1) cs))) other
+    ∙ ap (λ ts. (c.1 - y, 36) ∷ with_token (c.0 - 0) 98 ts) f.tokens
     ∙ ap (λ ts. (c.1 - y, 36) ∷ ts)
     (dead_token (c.0 - 0) (run_onto true (gap_runs (c.0 + 1) f.columns)) (behind_row c.1 f.others)
     ∙ ap (λ ts. ts ++ behind_row c.1 f.others) (sym (row_is (c.0 ∷ f.columns) (omega arith, f.rises)))

@@ -3,10 +3,10 @@ use Rattle.std.proofs.Common.{◌≡◌, ℕ, suc, ◌+◌, ◌-◌, ◌<◌, �
 use Rattle.std.specs.List.{prefix_len, before_first, after_first}
 use Rattle.std.proofs.lemmas.List.{take_more, get_or-drop, length-drop}
 use Rattle.life_cells.specs.Bytes.{is_space, without_front}
-use Rattle.life_text.specs.Rle.{blanked, from_header, body, body_place, body_tokens, lexemes, tokens}
-use Rattle.life_text.specs.Reader.{previous, plain_at, tokens_at, inside, is_line_feed}
+use Rattle.life_text.specs.Rle.{comments_as_blanks, from_header, body, body_place, body_tokens, lexemes, tokens}
+use Rattle.life_text.specs.Reader.{byte_before, plain_at, tokens_at, is_in_comment, is_line_feed}
 use Rattle.life_text.specs.Rle.{Token, with_body, header_rule, reading, first_fault, cells_after, unless_fault}
-use Rattle.life_text.specs.Reader.{drawn, cells_unless, placed_all, first_pen}
+use Rattle.life_text.specs.Reader.{cells_drawn, cells_unless, placed_all, first_pen}
 use Rattle.life_text.specs.Drawing.{drawing_of, drawing_with}
 use Rattle.life_model.specs.Rule.{Rule}
 use Rattle.life_text.specs.declared.rle.RleFault.{RleFault}
@@ -30,7 +30,7 @@ line_ends c rest h =
 
 -- after a byte that ends no line stands no comment
 pub plain_behind : (text : List ℕ) (at : ℕ) → (get_or text at 0 == 10) ≡ false → at + 1 < length text → plain_at text (at + 1) ≡ get_or text (at + 1) 0 ∷ plain_at text (at + 1 + 1)
-plain_behind text at h lt = blanked_plain false text (at + 1) lt (ap (λ n. inside false n (get_or text (at + 1) 0)) (previous_more text at) ∙ ap (λ b. if b then get_or text (at + 1) 0 == 35 else false) h)
+plain_behind text at h lt = blanked_plain false text (at + 1) lt (ap (λ n. is_in_comment false n (get_or text (at + 1) 0)) (previous_more text at) ∙ ap (λ b. if b then get_or text (at + 1) 0 == 35 else false) h)
 
 -- a part of a text, with one byte more
 pub part_more : (text : List ℕ) (from at : ℕ) → from ≤ at → at < length text → take (at + 1 - from) (drop from text) ≡ take (at - from) (drop from text) ++ get_or text at 0 ∷ []
@@ -41,12 +41,12 @@ part_more text from at le lt =
     ap (λ k. take k (drop from text)) n ∙ take_more (drop from text) (at - from) 0 few
     ∙ ap (λ b. take (at - from) (drop from text) ++ b ∷ []) (get_or-drop from text (at - from) 0 ∙ ap (λ k. get_or text k 0) place)
 
-length-blanked : (comment : Bool) (before : ℕ) (s : List ℕ) → length (blanked comment before s) ≡ length s
+length-blanked : (comment : Bool) (before : ℕ) (s : List ℕ) → length (comments_as_blanks comment before s) ≡ length s
 length-blanked comment before [] = refl
 length-blanked comment before (c ∷ s) = ap suc (length-blanked (if before == 10 then c == 35 else comment) c s)
 
 pub length-plain_at : (text : List ℕ) (at : ℕ) → length (plain_at text at) ≡ length text - at
-length-plain_at text at = length-blanked false (previous text at) (drop at text) ∙ length-drop at text
+length-plain_at text at = length-blanked false (byte_before text at) (drop at text) ∙ length-drop at text
 
 -- # The parts of a text by the places where the reader finds them
 
@@ -61,11 +61,11 @@ body_is text start from head within rest =
     let place : body_place text ≡ from = ap (λ (s : List ℕ). length text - length s) is ∙ omega arith in
     ap (λ (s : List ℕ). tokens (lexemes false (body_place text) s)) is ∙ ap (λ n. tokens (lexemes false n (plain_at text from))) place
 
-first_of_is : (ts : List Token) → drawn first_pen ts ≡ cells_unless (first_fault [] ts) (cells_after [] ts)
+first_of_is : (ts : List Token) → cells_drawn first_pen ts ≡ cells_unless (first_fault [] ts) (cells_after [] ts)
 first_of_is ts = drawn_is ts []
 
 -- the drawing that a text means, by a rule of its header and by what is drawn of its tokens
-pub drawing_is : (text : List ℕ) (r : Result Rule RleFault) (cells : Result (List (ℤ × ℤ)) RleFault) → header_rule text ≡ r → placed_all (drawn first_pen (body_tokens text)) ≡ cells → drawing_of (reading text) ≡ drawing_with r cells
+pub drawing_is : (text : List ℕ) (r : Result Rule RleFault) (cells : Result (List (ℤ × ℤ)) RleFault) → header_rule text ≡ r → placed_all (cells_drawn first_pen (body_tokens text)) ≡ cells → drawing_of (reading text) ≡ drawing_with r cells
 drawing_is text r cells rule body =
     ap (λ o. drawing_of (with_body o (body_tokens text))) rule ∙ by_rule r ∙ ap (drawing_with r) body
   where
@@ -73,6 +73,6 @@ drawing_is text r cells rule body =
     by_fault s None cs = refl
     by_fault s (Some fault) cs = refl
 
-    by_rule : (r : Result Rule RleFault) → drawing_of (with_body r (body_tokens text)) ≡ drawing_with r (placed_all (drawn first_pen (body_tokens text)))
+    by_rule : (r : Result Rule RleFault) → drawing_of (with_body r (body_tokens text)) ≡ drawing_with r (placed_all (cells_drawn first_pen (body_tokens text)))
     by_rule (Err fault) = refl
     by_rule (Ok s) = by_fault s (first_fault [] (body_tokens text)) (cells_after [] (body_tokens text)) ∙ ap (λ c. drawing_with (Ok s) (placed_all c)) (sym (first_of_is (body_tokens text)))

@@ -7,15 +7,15 @@ use Rattle.std.proofs.lemmas.List.Folds.{list_all-append}
 use Rattle.std.proofs.lemmas.List.Sums.{suffix_len_is, AllPass-from_list_all}
 use Rattle.std.proofs.lemmas.Bool.Decides.{nat_tests}
 use Rattle.life_model.specs.Rule.{Rule}
-use Rattle.life_cells.specs.Bytes.{is_blank, is_digit, is_space, without_front, trimmed, ◌>>=◌}
+use Rattle.life_cells.specs.Bytes.{is_blank, is_digit, is_space, without_front, without_ends, ◌>>=◌}
 use Rattle.life_cells.specs.Rules.{is_count, set_text, rule_text, rule_of}
 use Rattle.life_cells.proofs.FormLemmas.{and_left, and_right}
 use Rattle.life_cells.proofs.PrintLemmas.{printed_set, printed_rule}
-use Rattle.life_text.specs.Filled.{filled}
-use Rattle.life_text.specs.Rle.{blanked, from_header, header_rule, body, part, after_size, after_sizes, told, rule_behind, line_rule}
+use Rattle.life_text.specs.Filled.{filled_lines}
+use Rattle.life_text.specs.Rle.{comments_as_blanks, from_header, header_rule, body, part, after_size, after_sizes, rule_or_fault, rule_behind, line_rule}
 use Rattle.life_text.specs.Reader.{is_line_feed}
 use Rattle.life_text.specs.RleText.{token_text}
-use Rattle.life_text.specs.Writer.{counted, onto_run, tokens_from}
+use Rattle.life_text.specs.Writer.{with_token, onto_run, tokens_from}
 use Rattle.life_text.proofs.HeaderLemmas.{line_more, line_ends}
 use Rattle.life_text.proofs.LexedLemmas.{Written, written_number}
 
@@ -67,7 +67,7 @@ rule_words R =
     (all_more is_count is_word count_word (set_text R.survival) (printed_set R.survival))
 
 -- a word that begins with `B`, with a blank before it
-trimmed_word : (s : List ℕ) → list_all is_word (66 ∷ s) ≡ true → trimmed is_blank (32 ∷ 66 ∷ s) ≡ 66 ∷ s
+trimmed_word : (s : List ℕ) → list_all is_word (66 ∷ s) ≡ true → without_ends is_blank (32 ∷ 66 ∷ s) ≡ 66 ∷ s
 trimmed_word s h =
     let last : suffix_len is_blank (66 ∷ s) ≡ length (66 ∷ s) - length (66 ∷ s) =
     suffix_len_is is_blank (66 ∷ s) (length (66 ∷ s)) 0 (omega arith) (λ k lo hi. absurd (omega arith)) (λ some. word_no_blank (get_or (66 ∷ s) (length (66 ∷ s) - 1) 0) (AllPass-from_list_all is_word (66 ∷ s) h (length (66 ∷ s) - 1) 0 (omega arith))) in
@@ -139,16 +139,16 @@ sizes_found a b rest w h one two =
 line_is : (a b : List ℕ) (w h : ℕ) (R : Rule) → Written a w → Written b h → R.birth < 512 → R.survival < 512 → R.birth % 2 ≡ 0 → line_rule (line_of a b (rule_text R)) ≡ Ok R
 line_is a b w h R one two birth survival even =
     ap rule_behind (sizes_found a b (codes " rule = " ++ rule_text R) w h one two)
-    ∙ ap (λ s. told (rule_of s)) (trimmed_word (set_text R.birth ++ codes "/S" ++ set_text R.survival) (rule_words R))
-    ∙ ap told (printed_rule R birth survival even)
+    ∙ ap (λ s. rule_or_fault (rule_of s)) (trimmed_word (set_text R.birth ++ codes "/S" ++ set_text R.survival) (rule_words R))
+    ∙ ap rule_or_fault (printed_rule R birth survival even)
 
 -- # The whole text
 
-blanked_clean : (s : List ℕ) (before : ℕ) → list_all is_clean s ≡ true → blanked false before s ≡ s
+blanked_clean : (s : List ℕ) (before : ℕ) → list_all is_clean s ≡ true → comments_as_blanks false before s ≡ s
 blanked_clean [] before h = refl
 blanked_clean (c ∷ s) before h =
     let clean = and_left (is_clean c) (list_all is_clean s) h in
-    ap (λ b. (if b && not (c == 10) then 32 else c) ∷ blanked b c s) (outside (before == 10) clean)
+    ap (λ b. (if b && not (c == 10) then 32 else c) ∷ comments_as_blanks b c s) (outside (before == 10) clean)
     ∙ ap (λ t. c ∷ t) (blanked_clean s c (and_right (is_clean c) (list_all is_clean s) h))
   where
     outside : (b : Bool) → is_clean c ≡ true → (if b then c == 35 else false) ≡ false
@@ -173,7 +173,7 @@ abbrev AreClean : List (ℕ × ℕ) → Type 0
 AreClean [] = Unit {0}
 AreClean (u ∷ us) = (is_clean u.1 ≡ true) × AreClean us
 
-counted_clean : (n tag : ℕ) (us : List (ℕ × ℕ)) → is_clean tag ≡ true → AreClean us → AreClean (counted n tag us)
+counted_clean : (n tag : ℕ) (us : List (ℕ × ℕ)) → is_clean tag ≡ true → AreClean us → AreClean (with_token n tag us)
 counted_clean n tag us h k = by_count (n == 0)
   where
     by_count : (b : Bool) → AreClean (if b then us else (n, tag) ∷ us)
@@ -191,7 +191,7 @@ onto_clean ((m, tag) ∷ us) h = by_tag (tag == 111)
 tokens_clean : (ps : List (ℕ × ℕ)) (y x : ℕ) → AreClean (tokens_from y x ps)
 tokens_clean [] y x = (refl, tt)
 tokens_clean (c ∷ cs) y x =
-    counted_clean (c.1 - y) 36 (counted (c.0 - (if c.1 == y then x else 0)) 98 (onto_run 1 (tokens_from c.1 (c.0 + 1) cs))) refl
+    counted_clean (c.1 - y) 36 (with_token (c.0 - (if c.1 == y then x else 0)) 98 (onto_run 1 (tokens_from c.1 (c.0 + 1) cs))) refl
     (counted_clean (c.0 - (if c.1 == y then x else 0)) 98 (onto_run 1 (tokens_from c.1 (c.0 + 1) cs)) refl
     (onto_clean (tokens_from c.1 (c.0 + 1) cs) (tokens_clean cs c.1 (c.0 + 1))))
 
@@ -202,14 +202,14 @@ token_clean n tag h = by_count (n == 1)
     by_count true = ap (λ b. b && true) h
     by_count false = all_joined is_clean (decimal n) (tag ∷ []) (all_more is_digit is_clean digit_clean (decimal n) (decimal_digits n)) (ap (λ b. b && true) h)
 
-filled_clean : (us : List (ℕ × ℕ)) (used : ℕ) → AreClean us → list_all is_clean (filled used (map token_text us)) ≡ true
+filled_clean : (us : List (ℕ × ℕ)) (used : ℕ) → AreClean us → list_all is_clean (filled_lines used (map token_text us)) ≡ true
 filled_clean [] used h = refl
 filled_clean (u ∷ us) used h = by_room (λ now. filled_clean us now h.1) (nat_le (used + length (token_text u)) 70)
   where
-    by_room : ((now : ℕ) → list_all is_clean (filled now (map token_text us)) ≡ true) → (b : Bool)
-        → list_all is_clean (elim b [ true ↦ token_text u ++ filled (used + length (token_text u)) (map token_text us) | false ↦ codes "\n" ++ (token_text u ++ filled (length (token_text u)) (map token_text us)) ]) ≡ true
-    by_room rest true = all_joined is_clean (token_text u) (filled (used + length (token_text u)) (map token_text us)) (token_clean u.0 u.1 h.0) (rest (used + length (token_text u)))
-    by_room rest false = all_joined is_clean (token_text u) (filled (length (token_text u)) (map token_text us)) (token_clean u.0 u.1 h.0) (rest (length (token_text u)))
+    by_room : ((now : ℕ) → list_all is_clean (filled_lines now (map token_text us)) ≡ true) → (b : Bool)
+        → list_all is_clean (elim b [ true ↦ token_text u ++ filled_lines (used + length (token_text u)) (map token_text us) | false ↦ codes "\n" ++ (token_text u ++ filled_lines (length (token_text u)) (map token_text us)) ]) ≡ true
+    by_room rest true = all_joined is_clean (token_text u) (filled_lines (used + length (token_text u)) (map token_text us)) (token_clean u.0 u.1 h.0) (rest (used + length (token_text u)))
+    by_room rest false = all_joined is_clean (token_text u) (filled_lines (length (token_text u)) (map token_text us)) (token_clean u.0 u.1 h.0) (rest (length (token_text u)))
 
 -- # The parts
 
@@ -228,10 +228,10 @@ line_clean p digit word x y rule w h R =
 
 -- a header line, LF and lines that were filled
 pub parts : (w h : ℕ) (R : Rule) (ps : List (ℕ × ℕ)) → w < 2 ^ 64 → h < 2 ^ 64 → R.birth < 512 → R.survival < 512 → R.birth % 2 ≡ 0
-    → Parts (line_of (decimal w) (decimal h) (rule_text R) ++ 10 ∷ filled 0 (map token_text (tokens_from 0 0 ps))) R (filled 0 (map token_text (tokens_from 0 0 ps)))
+    → Parts (line_of (decimal w) (decimal h) (rule_text R) ++ 10 ∷ filled_lines 0 (map token_text (tokens_from 0 0 ps))) R (filled_lines 0 (map token_text (tokens_from 0 0 ps)))
 parts w h R ps wide high birth survival even =
     let line = line_of (decimal w) (decimal h) (rule_text R) in
-    let rest = filled 0 (map token_text (tokens_from 0 0 ps)) in
+    let rest = filled_lines 0 (map token_text (tokens_from 0 0 ps)) in
     let clean : list_all is_clean (line ++ 10 ∷ rest) ≡ true = all_joined is_clean line (10 ∷ rest) (line_clean is_clean digit_clean word_clean refl refl refl w h R) (filled_clean (tokens_from 0 0 ps) 0 (tokens_clean ps 0 0)) in
     let split = line_split line rest (line_clean is_inline digit_inline word_inline refl refl refl w h R) in
     let head : from_header (line ++ 10 ∷ rest) ≡ line ++ 10 ∷ rest = ap (without_front is_space) (blanked_clean (line ++ 10 ∷ rest) 10 clean) in

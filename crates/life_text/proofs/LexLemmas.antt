@@ -8,10 +8,10 @@ use Rattle.std.proofs.lemmas.Bool.Decides.{nat_tests}
 use Rattle.std.proofs.lemmas.List.{drop_all}
 use Rattle.std.proofs.Math.Bool.{true≢false, or-true}
 use Rattle.life_cells.specs.Bytes.{is_digit, is_space, is_blank, without_front}
-use Rattle.life_text.specs.Rle.{Count, Tag, blanked, lexemes}
-use Rattle.life_text.specs.Reader.{previous, plain_at, cap, inside}
+use Rattle.life_text.specs.Rle.{Count, Tag, comments_as_blanks, lexemes}
+use Rattle.life_text.specs.Reader.{byte_before, plain_at, count_cap, is_in_comment}
 
-pub previous_more : (text : List ℕ) (at : ℕ) → previous text (at + 1) ≡ get_or text at 0
+pub previous_more : (text : List ℕ) (at : ℕ) → byte_before text (at + 1) ≡ get_or text at 0
 previous_more text at = rw add-one refl
 
 -- the text from a place on begins with the byte there
@@ -20,13 +20,13 @@ from_place text at lt = rw add-one (drop-cons text at 0 lt)
 
 -- the byte at a place, and what follows it
 pub blanked_more : (comment : Bool) (text : List ℕ) (at : ℕ) → at < length text →
-    blanked comment (previous text at) (drop at text)
-    ≡ (if inside comment (previous text at) (get_or text at 0) && not (get_or text at 0 == 10) then 32 else get_or text at 0)
-    ∷ blanked (inside comment (previous text at) (get_or text at 0)) (previous text (at + 1)) (drop (at + 1) text)
+    comments_as_blanks comment (byte_before text at) (drop at text)
+    ≡ (if is_in_comment comment (byte_before text at) (get_or text at 0) && not (get_or text at 0 == 10) then 32 else get_or text at 0)
+    ∷ comments_as_blanks (is_in_comment comment (byte_before text at) (get_or text at 0)) (byte_before text (at + 1)) (drop (at + 1) text)
 blanked_more comment text at lt =
-    ap (blanked comment (previous text at)) (from_place text at lt)
-    ∙ ap (λ n. (if inside comment (previous text at) (get_or text at 0) && not (get_or text at 0 == 10) then 32 else get_or text at 0)
-    ∷ blanked (inside comment (previous text at) (get_or text at 0)) n (drop (at + 1) text)) (sym (previous_more text at))
+    ap (comments_as_blanks comment (byte_before text at)) (from_place text at lt)
+    ∙ ap (λ n. (if is_in_comment comment (byte_before text at) (get_or text at 0) && not (get_or text at 0 == 10) then 32 else get_or text at 0)
+    ∷ comments_as_blanks (is_in_comment comment (byte_before text at) (get_or text at 0)) n (drop (at + 1) text)) (sym (previous_more text at))
 
 -- a byte that is blanked or a blank or LF itself
 blank_yes : (b : Bool) (c : ℕ) → (not b && not (is_space c)) ≡ false → is_space (if b && not (c == 10) then 32 else c) ≡ true
@@ -53,23 +53,23 @@ front_none test c rest h =
     (n, ap (λ k. drop k (c ∷ rest)) n)
 
 -- a byte that is passed over
-pub pass_over : (comment : Bool) (text : List ℕ) (at : ℕ) → at < length text → (not (inside comment (previous text at) (get_or text at 0)) && not (is_space (get_or text at 0))) ≡ false →
-    (prefix_len is_space (blanked comment (previous text at) (drop at text)) ≡ 1 + prefix_len is_space (blanked (inside comment (previous text at) (get_or text at 0)) (previous text (at + 1)) (drop (at + 1) text)))
-    × (without_front is_space (blanked comment (previous text at) (drop at text)) ≡ without_front is_space (blanked (inside comment (previous text at) (get_or text at 0)) (previous text (at + 1)) (drop (at + 1) text)))
+pub pass_over : (comment : Bool) (text : List ℕ) (at : ℕ) → at < length text → (not (is_in_comment comment (byte_before text at) (get_or text at 0)) && not (is_space (get_or text at 0))) ≡ false →
+    (prefix_len is_space (comments_as_blanks comment (byte_before text at) (drop at text)) ≡ 1 + prefix_len is_space (comments_as_blanks (is_in_comment comment (byte_before text at) (get_or text at 0)) (byte_before text (at + 1)) (drop (at + 1) text)))
+    × (without_front is_space (comments_as_blanks comment (byte_before text at) (drop at text)) ≡ without_front is_space (comments_as_blanks (is_in_comment comment (byte_before text at) (get_or text at 0)) (byte_before text (at + 1)) (drop (at + 1) text)))
 pass_over comment text at lt h =
     let more = blanked_more comment text at lt in
-    let yes = blank_yes (inside comment (previous text at) (get_or text at 0)) (get_or text at 0) h in
-    let front = front_more is_space (if inside comment (previous text at) (get_or text at 0) && not (get_or text at 0 == 10) then 32 else get_or text at 0) (blanked (inside comment (previous text at) (get_or text at 0)) (previous text (at + 1)) (drop (at + 1) text)) yes in
+    let yes = blank_yes (is_in_comment comment (byte_before text at) (get_or text at 0)) (get_or text at 0) h in
+    let front = front_more is_space (if is_in_comment comment (byte_before text at) (get_or text at 0) && not (get_or text at 0 == 10) then 32 else get_or text at 0) (comments_as_blanks (is_in_comment comment (byte_before text at) (get_or text at 0)) (byte_before text (at + 1)) (drop (at + 1) text)) yes in
     (ap (prefix_len is_space) more ∙ front.0, ap (without_front is_space) more ∙ front.1)
 
 -- a byte that stands in no line of comment
-pub blanked_plain : (comment : Bool) (text : List ℕ) (at : ℕ) → at < length text → inside comment (previous text at) (get_or text at 0) ≡ false →
-    blanked comment (previous text at) (drop at text) ≡ get_or text at 0 ∷ plain_at text (at + 1)
+pub blanked_plain : (comment : Bool) (text : List ℕ) (at : ℕ) → at < length text → is_in_comment comment (byte_before text at) (get_or text at 0) ≡ false →
+    comments_as_blanks comment (byte_before text at) (drop at text) ≡ get_or text at 0 ∷ plain_at text (at + 1)
 blanked_plain comment text at lt h =
     blanked_more comment text at lt
-    ∙ ap (λ b. (if b && not (get_or text at 0 == 10) then 32 else get_or text at 0) ∷ blanked b (previous text (at + 1)) (drop (at + 1) text)) h
+    ∙ ap (λ b. (if b && not (get_or text at 0 == 10) then 32 else get_or text at 0) ∷ comments_as_blanks b (byte_before text (at + 1)) (drop (at + 1) text)) h
 
-inside_none : (comment : Bool) (before c : ℕ) → inside comment before c ≡ false → inside false before c ≡ false
+inside_none : (comment : Bool) (before c : ℕ) → is_in_comment comment before c ≡ false → is_in_comment false before c ≡ false
 inside_none comment before c h = by_line (before == 10) h
   where
     by_line : (b : Bool) → (if b then c == 35 else comment) ≡ false → (if b then c == 35 else false) ≡ false
@@ -77,18 +77,18 @@ inside_none comment before c h = by_line (before == 10) h
     by_line false h = refl
 
 -- the first byte that is not passed over
-pub stop_at : (comment : Bool) (text : List ℕ) (at : ℕ) → at < length text → inside comment (previous text at) (get_or text at 0) ≡ false → is_space (get_or text at 0) ≡ false →
-    (prefix_len is_space (blanked comment (previous text at) (drop at text)) ≡ 0) × (without_front is_space (blanked comment (previous text at) (drop at text)) ≡ plain_at text at)
+pub stop_at : (comment : Bool) (text : List ℕ) (at : ℕ) → at < length text → is_in_comment comment (byte_before text at) (get_or text at 0) ≡ false → is_space (get_or text at 0) ≡ false →
+    (prefix_len is_space (comments_as_blanks comment (byte_before text at) (drop at text)) ≡ 0) × (without_front is_space (comments_as_blanks comment (byte_before text at) (drop at text)) ≡ plain_at text at)
     × (plain_at text at ≡ get_or text at 0 ∷ plain_at text (at + 1))
 stop_at comment text at lt out h =
     let first = blanked_plain comment text at lt out in
-    let plain = blanked_plain false text at lt (inside_none comment (previous text at) (get_or text at 0) out) in
+    let plain = blanked_plain false text at lt (inside_none comment (byte_before text at) (get_or text at 0) out) in
     let none = front_none is_space (get_or text at 0) (plain_at text (at + 1)) h in
     (ap (prefix_len is_space) first ∙ none.0, ap (without_front is_space) first ∙ none.1 ∙ sym plain, plain)
 
 -- the end of the text
-pub stop_end : (comment : Bool) (before : ℕ) (text : List ℕ) (at : ℕ) → length text ≤ at → blanked comment before (drop at text) ≡ []
-stop_end comment before text at h = ap (blanked comment before) (drop_all at text h)
+pub stop_end : (comment : Bool) (before : ℕ) (text : List ℕ) (at : ℕ) → length text ≤ at → comments_as_blanks comment before (drop at text) ≡ []
+stop_end comment before text at h = ap (comments_as_blanks comment before) (drop_all at text h)
 
 -- # Lexemes
 
@@ -116,7 +116,7 @@ lexemes-spaces (c ∷ s) at = by_space (lexemes-spaces s (at + 1)) (is_space c) 
 
 -- a digit is in no line of comment, if none before it is
 pub digit_plain : (text : List ℕ) (at : ℕ) → at < length text → is_digit (get_or text at 0) ≡ true → plain_at text at ≡ get_or text at 0 ∷ plain_at text (at + 1)
-digit_plain text at lt h = blanked_plain false text at lt (by_line (previous text at == 10))
+digit_plain text at lt h = blanked_plain false text at lt (by_line (byte_before text at == 10))
   where
     no_sign : (c : ℕ) → is_digit c ≡ true → (c == 35) ≡ false
     no_sign c h = grind (arith, nat_tests)
@@ -158,8 +158,8 @@ heads_same at c rest h =
 pub behind_digits : (text : List ℕ) (at : ℕ) → at < length text → is_digit (get_or text at 0) ≡ false → (lexemes true at (plain_at text at) ≡ lexemes false at (plain_at text at)) × (take_while is_digit (plain_at text at) ≡ [])
 behind_digits text at lt h =
     let c = get_or text at 0 in
-    let b = inside false (previous text at) c in
-    let rest = blanked b (previous text (at + 1)) (drop (at + 1) text) in
+    let b = is_in_comment false (byte_before text at) c in
+    let rest = comments_as_blanks b (byte_before text (at + 1)) (drop (at + 1) text) in
     let more = blanked_more false text at lt in
     let none = no_digit b c h in
     let e = heads_same at (if b && not (c == 10) then 32 else c) rest none in (
@@ -169,7 +169,7 @@ behind_digits text at lt h =
 
 pub behind_end : (text : List ℕ) (at : ℕ) → length text ≤ at → (lexemes true at (plain_at text at) ≡ lexemes false at (plain_at text at)) × (take_while is_digit (plain_at text at) ≡ [])
 behind_end text at h =
-    let none = stop_end false (previous text at) text at h in
+    let none = stop_end false (byte_before text at) text at h in
     (ap (lexemes true at) none ∙ sym (ap (lexemes false at) none), ap (take_while is_digit) none)
 
 -- the first digit of a count
@@ -199,22 +199,22 @@ digit_value_is : (c : ℕ) → is_digit c ≡ true → digit_value c ≡ c - 48
 digit_value_is c h = grind (arith, nat_tests)
 
 -- values that agree up to the cap still do after more digits
-capped_digits : (digits : List ℕ) (m n : ℕ) → min m cap ≡ min n cap → min (digits_value_after 10 m digits) cap ≡ min (digits_value_after 10 n digits) cap
+capped_digits : (digits : List ℕ) (m n : ℕ) → min m count_cap ≡ min n count_cap → min (digits_value_after 10 m digits) count_cap ≡ min (digits_value_after 10 n digits) count_cap
 capped_digits [] m n e = e
 capped_digits (c ∷ digits) m n e = capped_digits digits (m * 10 + digit_value c) (n * 10 + digit_value c) (omega arith)
 
 -- one digit of a capped value
 pub value_more : (text : List ℕ) (at value : ℕ) → at < length text → is_digit (get_or text at 0) ≡ true →
-    min (digits_value_after 10 value (take_while is_digit (plain_at text at))) cap
-    ≡ min (digits_value_after 10 (min (value * 10 + (get_or text at 0 - 48)) cap) (take_while is_digit (plain_at text (at + 1)))) cap
+    min (digits_value_after 10 value (take_while is_digit (plain_at text at))) count_cap
+    ≡ min (digits_value_after 10 (min (value * 10 + (get_or text at 0 - 48)) count_cap) (take_while is_digit (plain_at text (at + 1)))) count_cap
 value_more text at value lt h =
     let c = get_or text at 0 in
     let rest = plain_at text (at + 1) in
     let digits = ap (take_while is_digit) (digit_plain text at lt h) ∙ take_more c rest h in
     let d = digit_value_is c h in
-    let e : min (value * 10 + digit_value c) cap ≡ min (min (value * 10 + (c - 48)) cap) cap = omega arith in
-    ap (λ s. min (digits_value_after 10 value s) cap) digits
-    ∙ capped_digits (take_while is_digit rest) (value * 10 + digit_value c) (min (value * 10 + (c - 48)) cap) e
+    let e : min (value * 10 + digit_value c) count_cap ≡ min (min (value * 10 + (c - 48)) count_cap) count_cap = omega arith in
+    ap (λ s. min (digits_value_after 10 value s) count_cap) digits
+    ∙ capped_digits (take_while is_digit rest) (value * 10 + digit_value c) (min (value * 10 + (c - 48)) count_cap) e
 
 pub neither : (a b : Bool) → (not a && not b) ≡ true → (a ≡ false) × (b ≡ false)
 neither true b h = absurd (true≢false (sym h))

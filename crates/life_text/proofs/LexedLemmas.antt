@@ -8,7 +8,7 @@ use Rattle.std.proofs.lemmas.Bool.{false≢true}
 use Rattle.std.proofs.lemmas.Bool.Decides.{nat_tests}
 use Rattle.life_cells.specs.Bytes.{is_digit, is_space}
 use Rattle.life_cells.proofs.FormLemmas.{and_left, and_right}
-use Rattle.life_text.specs.Filled.{filled}
+use Rattle.life_text.specs.Filled.{filled_lines}
 use Rattle.life_text.specs.Rle.{Lexeme, Count, Tag, Token, lexemes, tokens}
 use Rattle.life_text.specs.RleText.{token_text}
 use Rattle.life_text.proofs.LexLemmas.{digit_no_space}
@@ -114,15 +114,15 @@ lexed n tag at rest space digit small = by_count (n == 1) refl
 -- the first token of lines that were filled
 pub record First (n tag : ℕ) (text : List ℕ) (at : ℕ) (pieces : List (List ℕ)) : Type 0 where
   pub used : ℕ
-  pub first : Lexed n tag (lexemes false at text) (filled used pieces)
+  pub first : Lexed n tag (lexemes false at text) (filled_lines used pieces)
 
 -- the piece on its line, or on a new one
 abbrev placed : Bool → ℕ → List ℕ → List (List ℕ) → List ℕ
-placed b used piece pieces = elim b [ true ↦ piece ++ filled (used + length piece) pieces | false ↦ codes "\n" ++ (piece ++ filled (length piece) pieces) ]
+placed b used piece pieces = elim b [ true ↦ piece ++ filled_lines (used + length piece) pieces | false ↦ codes "\n" ++ (piece ++ filled_lines (length piece) pieces) ]
 
-pub filled_first : (n tag used at : ℕ) (pieces : List (List ℕ)) → is_space tag ≡ false → is_digit tag ≡ false → n < 2 ^ 64 → First n tag (filled used (token_text (n, tag) ∷ pieces)) at pieces
+pub filled_first : (n tag used at : ℕ) (pieces : List (List ℕ)) → is_space tag ≡ false → is_digit tag ≡ false → n < 2 ^ 64 → First n tag (filled_lines used (token_text (n, tag) ∷ pieces)) at pieces
 filled_first n tag used at pieces space digit small = by_room (nat_le (used + length (token_text (n, tag))) 70)
   where
     by_room : (b : Bool) → First n tag (placed b used (token_text (n, tag)) pieces) at pieces
-    by_room true = record { used = used + length (token_text (n, tag)); first = lexed n tag at (filled (used + length (token_text (n, tag))) pieces) space digit small }
-    by_room false = record { used = length (token_text (n, tag)); first = lexed n tag (at + 1) (filled (length (token_text (n, tag))) pieces) space digit small }
+    by_room true = record { used = used + length (token_text (n, tag)); first = lexed n tag at (filled_lines (used + length (token_text (n, tag))) pieces) space digit small }
+    by_room false = record { used = length (token_text (n, tag)); first = lexed n tag (at + 1) (filled_lines (length (token_text (n, tag))) pieces) space digit small }

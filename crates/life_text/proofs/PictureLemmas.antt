@@ -14,7 +14,7 @@ use Rattle.life_cells.proofs.Sorted.{both_hold}
 use Rattle.life_text.specs.declared.rle.RleFault.{RleFault}
 use Rattle.life_text.specs.declared.rle.Plot.{Plot}
 use Rattle.life_text.specs.Rle.{Token, Meaning, place_limit, cells_after, first_fault, header_rule, body_tokens, reading, unless_fault, with_body}
-use Rattle.life_text.specs.Reader.{placed}
+use Rattle.life_text.specs.Reader.{cell_of_pair}
 use Rattle.life_text.specs.Rising.{RisesFrom}
 use Rattle.life_text.specs.Drawing.{Drawing, drawing, drawing_of}
 use Rattle.life_text.specs.Picture.{Picture, picture_of}
@@ -26,13 +26,13 @@ less x y h = sym (int_cmp_is (pos x) (pos y) Less (omega (arith, ints)))
 same : (x y : ℕ) → x ≡ y → int_cmp (pos x) (pos y) ≡ Equal
 same x y h = sym (int_cmp_is (pos x) (pos y) Equal (ap pos h))
 
-precedes : (a b : ℕ × ℕ) → (a.1 ≡ b.1 → a.0 < b.0) → (a.1 ≡ b.1) ⊎ (a.1 < b.1) → T (is_lt (cell_cmp (placed a) (placed b)))
+precedes : (a b : ℕ × ℕ) → (a.1 ≡ b.1 → a.0 < b.0) → (a.1 ≡ b.1) ⊎ (a.1 < b.1) → T (is_lt (cell_cmp (cell_of_pair a) (cell_of_pair b)))
 precedes a b column (inl h) =
     subst (λ r. T (is_lt (ordering_then r (int_cmp (pos a.0) (pos b.0))))) (sym (same a.1 b.1 h))
     (subst (λ r. T (is_lt r)) (sym (less a.0 b.0 (column h))) tt)
 precedes a b column (inr h) = subst (λ r. T (is_lt (ordering_then r (int_cmp (pos a.0) (pos b.0))))) (sym (less a.1 b.1 h)) tt
 
-below_rises : (c : ℕ × ℕ) (y x : ℕ) (cs : List (ℕ × ℕ)) → c.1 ≤ y → (c.1 ≡ y → c.0 < x) → RisesFrom y x cs → T (below_all (placed c) (map placed cs))
+below_rises : (c : ℕ × ℕ) (y x : ℕ) (cs : List (ℕ × ℕ)) → c.1 ≤ y → (c.1 ≡ y → c.0 < x) → RisesFrom y x cs → T (below_all (cell_of_pair c) (map cell_of_pair cs))
 below_rises c y x [] row column h = tt
 below_rises c y x (d ∷ ds) row column h =
     both_hold _ _ (precedes c d (λ e. in_row e) (eq-or-lt_of_le lower)) (below_rises c d.1 (d.0 + 1) ds lower (λ e. omega (arith, in_row e)) h.4)
@@ -44,29 +44,29 @@ below_rises c y x (d ∷ ds) row column h =
     in_row e = let here : c.1 ≡ y = omega arith in let there : y ≡ d.1 = omega arith in omega (arith, column here, h.1 there)
 
 -- cells that rise by row and column are in order
-pub placed_rises : (y x : ℕ) (cs : List (ℕ × ℕ)) → RisesFrom y x cs → T (is_rising (map placed cs))
+pub placed_rises : (y x : ℕ) (cs : List (ℕ × ℕ)) → RisesFrom y x cs → T (is_rising (map cell_of_pair cs))
 placed_rises y x [] h = tt
 placed_rises y x (c ∷ cs) h = both_hold _ _ (below_rises c c.1 (c.0 + 1) cs (omega arith) (λ e. omega arith) h.4) (placed_rises c.1 (c.0 + 1) cs h.4)
 
-place_of : (c : ℕ × ℕ) → c.0 < place_limit → c.1 < place_limit → IsPlace (placed c)
+place_of : (c : ℕ × ℕ) → c.0 < place_limit → c.1 < place_limit → IsPlace (cell_of_pair c)
 place_of c x y = record { left = omega (arith, ints); right = omega (arith, ints); above = omega (arith, ints); below = omega (arith, ints) }
 
-within_of : (c : ℕ × ℕ) → c.0 < place_limit → c.1 < place_limit → IsWithin 0 (placed c)
+within_of : (c : ℕ × ℕ) → c.0 < place_limit → c.1 < place_limit → IsWithin 0 (cell_of_pair c)
 within_of c x y = record { left = omega (arith, ints); right = omega (arith, ints); above = omega (arith, ints); below = omega (arith, ints) }
 
-pub placed_places : (y x : ℕ) (cs : List (ℕ × ℕ)) → RisesFrom y x cs → All IsPlace (map placed cs)
+pub placed_places : (y x : ℕ) (cs : List (ℕ × ℕ)) → RisesFrom y x cs → All IsPlace (map cell_of_pair cs)
 placed_places y x [] h = All-nil IsPlace
-placed_places y x (c ∷ cs) h = All-cons IsPlace (placed c) (map placed cs) (place_of c h.2 h.3) (placed_places c.1 (c.0 + 1) cs h.4)
+placed_places y x (c ∷ cs) h = All-cons IsPlace (cell_of_pair c) (map cell_of_pair cs) (place_of c h.2 h.3) (placed_places c.1 (c.0 + 1) cs h.4)
 
-pub placed_within : (y x : ℕ) (cs : List (ℕ × ℕ)) → RisesFrom y x cs → All (IsWithin 0) (map placed cs)
+pub placed_within : (y x : ℕ) (cs : List (ℕ × ℕ)) → RisesFrom y x cs → All (IsWithin 0) (map cell_of_pair cs)
 placed_within y x [] h = All-nil (IsWithin 0)
-placed_within y x (c ∷ cs) h = All-cons (IsWithin 0) (placed c) (map placed cs) (within_of c h.2 h.3) (placed_within c.1 (c.0 + 1) cs h.4)
+placed_within y x (c ∷ cs) h = All-cons (IsWithin 0) (cell_of_pair c) (map cell_of_pair cs) (within_of c h.2 h.3) (placed_within c.1 (c.0 + 1) cs h.4)
 
 -- what was read of a text without a fault
 pub record Lists (p : Plot) : Type 0 where
   pub places : List (ℕ × ℕ)
   pub rises : RisesFrom 0 0 places
-  pub same : p.cells.items ≡ map placed places
+  pub same : p.cells.items ≡ map cell_of_pair places
 
 lists_of : (p : Plot) (r : Rule) (ts : List Token) (o : Option RleFault) → first_fault [] ts ≡ o
     → drawing_of (unless_fault o (record { rule = r; cells = cells_after [] ts })) ≡ Ok (drawing p) → Lists p

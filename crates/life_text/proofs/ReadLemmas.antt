@@ -2,14 +2,14 @@
 use Rattle.std.proofs.Common.{◌≡◌, ◌≢◌, ℕ, Bool, true, false, if◌then◌else◌, is_some, codes, List, Option, Some, None, Result, Ok, Err, IfOk, IfErr, OnOk, refl}
 use Rattle.std.specs.List.{list_all}
 use Rattle.life_model.specs.Rule.{Rule}
-use Rattle.life_cells.specs.Bytes.{after_one_of, is_blank, trimmed}
+use Rattle.life_cells.specs.Bytes.{after_one_of, is_blank, without_ends}
 use Rattle.life_cells.specs.Rules.{life, rule_of}
 use Rattle.life_cells.specs.declared.rule.RuleFault.{RuleFault}
 use Rattle.life_cells.specs.declared.rule.RuleFault.TheVariants.{NotLifeLike, HasB0}
 use Rattle.life_text.specs.declared.rle.RleFault.{RleFault}
 use Rattle.life_text.specs.declared.rle.RleFault.TheVariants.{BadHeader, Memory, NoHeader}
 use Rattle.life_text.specs.declared.rle.Plot.{Plot}
-use Rattle.life_text.specs.Rle.{Meaning, after_rule_name, after_sizes, fault_of, line_rule, named_rule, reading, refusal, rule_behind, told}
+use Rattle.life_text.specs.Rle.{Meaning, after_rule_name, after_sizes, fault_of, line_rule, named_rule, reading, refusal, rule_behind, rule_or_fault}
 use Rattle.life_text.specs.Reader.{Gives}
 use Rattle.life_text.specs.Drawing.{Drawing, drawing, drawing_of}
 
@@ -39,14 +39,14 @@ neither : (b : Bool) (r s : Result Rule RleFault) → r ≢ Err Memory → s ≢
 neither true r s one other = one
 neither false r s one other = other
 
-told_memory : (r : Result Rule RuleFault) → told r ≢ Err Memory
+told_memory : (r : Result Rule RuleFault) → rule_or_fault r ≢ Err Memory
 told_memory (Ok rule) = λ e. cc
 told_memory (Err NotLifeLike) = λ e. cc
 told_memory (Err HasB0) = λ e. cc
 
 named_memory : (text : Option (List ℕ)) → named_rule text ≢ Err Memory
 named_memory None = λ e. cc
-named_memory (Some text) = told_memory (rule_of (trimmed is_blank text))
+named_memory (Some text) = told_memory (rule_of (without_ends is_blank text))
 
 behind_memory : (rest : Option (List ℕ)) → rule_behind rest ≢ Err Memory
 behind_memory None = λ e. cc

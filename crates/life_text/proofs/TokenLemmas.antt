@@ -4,7 +4,7 @@ use Rattle.std.specs.List.{prefix_len, take_while}
 use Rattle.std.specs.Str.Parse.{digits_value}
 use Rattle.life_cells.specs.Bytes.{is_digit, is_space, without_front}
 use Rattle.life_text.specs.Rle.{Lexeme, Count, Tag, lexemes, tokens}
-use Rattle.life_text.specs.Reader.{plain_at, tokens_at, cap, IsPlain}
+use Rattle.life_text.specs.Reader.{plain_at, tokens_at, count_cap, IsPlain}
 use Rattle.life_text.specs.Found.{Begins}
 use Rattle.life_text.proofs.LexLemmas.{lexemes-spaces, first_digit, within_digit, tag_first, stop_end}
 
@@ -48,7 +48,7 @@ begins_tag text from at c e = record {
   behind = refl;
 }
 
-pub begins_count_end : (text : List ℕ) (from at n times : ℕ) → times ≡ min n cap → lexemes_at text from ≡ Count at n ∷ [] → Begins text from (record { at = at; counted = true; times = times; tag_at = at; tag = None })
+pub begins_count_end : (text : List ℕ) (from at n times : ℕ) → times ≡ min n count_cap → lexemes_at text from ≡ Count at n ∷ [] → Begins text from (record { at = at; counted = true; times = times; tag_at = at; tag = None })
 begins_count_end text from at n times value e = record {
   token = record { at = at; count = Some n; tag_at = at; tag = None };
   others = [];
@@ -57,7 +57,7 @@ begins_count_end text from at n times value e = record {
   behind = tt;
 }
 
-pub begins_count_count : (text : List ℕ) (from at n times next m : ℕ) (rest : List Lexeme) → times ≡ min n cap → lexemes_at text from ≡ Count at n ∷ Count next m ∷ rest
+pub begins_count_count : (text : List ℕ) (from at n times next m : ℕ) (rest : List Lexeme) → times ≡ min n count_cap → lexemes_at text from ≡ Count at n ∷ Count next m ∷ rest
     → Begins text from (record { at = at; counted = true; times = times; tag_at = at; tag = None })
 begins_count_count text from at n times next m rest value e = record {
   token = record { at = at; count = Some n; tag_at = at; tag = None };
@@ -67,7 +67,7 @@ begins_count_count text from at n times next m rest value e = record {
   behind = tt;
 }
 
-pub begins_count_tag : (text : List ℕ) (from at n times next c : ℕ) → times ≡ min n cap → lexemes_at text from ≡ Count at n ∷ Tag next c ∷ lexemes_at text (next + 1)
+pub begins_count_tag : (text : List ℕ) (from at n times next c : ℕ) → times ≡ min n count_cap → lexemes_at text from ≡ Count at n ∷ Tag next c ∷ lexemes_at text (next + 1)
     → Begins text from (record { at = at; counted = true; times = times; tag_at = next; tag = Some c })
 begins_count_tag text from at n times next c value e = record {
   token = record { at = at; count = Some n; tag_at = next; tag = Some c };

@@ -4,7 +4,7 @@ use Rattle.life_text.specs.declared.rle.RleFault.{RleFault}
 use Rattle.life_text.specs.declared.rle.Plot.{Plot}
 use Rattle.life_model.specs.Rule.{Rule}
 use Rattle.life_text.specs.Rle.{Meaning}
-use Rattle.life_text.specs.Reader.{placed}
+use Rattle.life_text.specs.Reader.{cell_of_pair}
 
 pub record Drawing : Type 0 where
   pub rule : Rule
@@ -15,7 +15,7 @@ abbrev pub drawing : Plot → Drawing
 drawing p = record { rule = p.rule; cells = p.cells.items }
 
 abbrev pub drawing_of : Result Meaning RleFault → Result Drawing RleFault
-drawing_of (Ok meaning) = Ok (record { rule = meaning.rule; cells = map placed meaning.cells })
+drawing_of (Ok meaning) = Ok (record { rule = meaning.rule; cells = map cell_of_pair meaning.cells })
 drawing_of (Err fault) = Err fault
 
 -- a rule and cells, or the first fault of the two

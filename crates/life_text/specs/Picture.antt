@@ -6,7 +6,7 @@ use Rattle.life_model.specs.Generation.{Generation, from_list}
 use Rattle.life_model.specs.Rule.{Rule}
 use Rattle.life_text.specs.declared.rle.RleFault.{RleFault}
 use Rattle.life_text.specs.Rle.{Meaning}
-use Rattle.life_text.specs.Reader.{placed}
+use Rattle.life_text.specs.Reader.{cell_of_pair}
 
 pub record Picture : Type 0 where
   pub rule : Rule
@@ -18,5 +18,5 @@ coded_picture = code_by (Rule × Generation) (coded× coded_rule coded_generatio
 
 -- the rule and the set of cells that a text means, or its fault
 abbrev pub picture_of : Result Meaning RleFault → Result Picture RleFault
-picture_of (Ok meaning) = Ok (record { rule = meaning.rule; cells = from_list (map placed meaning.cells) })
+picture_of (Ok meaning) = Ok (record { rule = meaning.rule; cells = from_list (map cell_of_pair meaning.cells) })
 picture_of (Err fault) = Err fault

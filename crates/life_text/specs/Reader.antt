@@ -5,42 +5,42 @@ use Rattle.life_cells.specs.Bytes.{is_space}
 use Rattle.life_text.specs.declared.pen.Pen.{Pen}
 use Rattle.life_text.specs.declared.rle.RleFault.{RleFault}
 use Rattle.life_text.specs.declared.rle.RleFault.TheVariants.{Memory}
-use Rattle.life_text.specs.Rle.{Token, blanked, lexemes, tokens, is_live, is_cells, is_row_end, times, row, column, live_cells, span, token_fault}
+use Rattle.life_text.specs.Rle.{Token, comments_as_blanks, lexemes, tokens, is_live, is_cells, is_row_end, run_length, row, column, live_cells, run_cells, token_fault}
 
 -- the byte before a place; LF before the first
-abbrev pub previous : List ℕ → ℕ → ℕ
-previous text zero = 10
-previous text (suc at) = slice_index text at
+abbrev pub byte_before : List ℕ → ℕ → ℕ
+byte_before text zero = 10
+byte_before text (suc at) = slice_index text at
 
 -- whether a byte stands in a line of comment
-abbrev pub inside : Bool → ℕ → ℕ → Bool
-inside comment before c = if before == 10 then c == 35 else comment
+abbrev pub is_in_comment : Bool → ℕ → ℕ → Bool
+is_in_comment comment before c = if before == 10 then c == 35 else comment
 
 -- the text from a place on with its comments blanked, where the byte before stands in no comment
 abbrev pub plain_at : List ℕ → ℕ → List ℕ
-plain_at text at = blanked false (previous text at) (drop at text)
+plain_at text at = comments_as_blanks false (byte_before text at) (drop at text)
 
 abbrev pub tokens_at : List ℕ → ℕ → List Token
 tokens_at text at = tokens (lexemes false at (plain_at text at))
 
 -- the pen after a token
-abbrev pub moved : Pen → Token → Pen
-moved pen t = record {
-  y = pen.y + (if is_row_end t then times t else 0);
-  x = if is_row_end t then 0 else pen.x + (if is_cells t then times t else 0);
-  live = pen.live + (if is_live t then times t else 0);
+abbrev pub pen_after : Pen → Token → Pen
+pen_after pen t = record {
+  y = pen.y + (if is_row_end t then run_length t else 0);
+  x = if is_row_end t then 0 else pen.x + (if is_cells t then run_length t else 0);
+  live = pen.live + (if is_live t then run_length t else 0);
 }
 
 -- the cells, or the first fault, of what follows a token
-abbrev pub joined : Option RleFault → List (ℕ × ℕ) → Result (List (ℕ × ℕ)) RleFault → Result (List (ℕ × ℕ)) RleFault
-joined (Some fault) cells rest = Err fault
-joined None cells (Ok others) = Ok (cells ++ others)
-joined None cells (Err fault) = Err fault
+abbrev pub cells_or_fault : Option RleFault → List (ℕ × ℕ) → Result (List (ℕ × ℕ)) RleFault → Result (List (ℕ × ℕ)) RleFault
+cells_or_fault (Some fault) cells rest = Err fault
+cells_or_fault None cells (Ok others) = Ok (cells ++ others)
+cells_or_fault None cells (Err fault) = Err fault
 
 -- the cells that tokens draw from a pen's place on, or their first fault
-abbrev pub drawn : Pen → List Token → Result (List (ℕ × ℕ)) RleFault
-drawn pen [] = Ok []
-drawn pen (t ∷ ts) = joined (token_fault pen.y pen.x pen.live t) (span pen.y pen.x t) (drawn (moved pen t) ts)
+abbrev pub cells_drawn : Pen → List Token → Result (List (ℕ × ℕ)) RleFault
+cells_drawn pen [] = Ok []
+cells_drawn pen (t ∷ ts) = cells_or_fault (token_fault pen.y pen.x pen.live t) (run_cells pen.y pen.x t) (cells_drawn (pen_after pen t) ts)
 
 -- the pen after these tokens
 abbrev pub pen_behind : List Token → Pen
@@ -51,27 +51,27 @@ cells_unless None cells = Ok cells
 cells_unless (Some fault) cells = Err fault
 
 -- more than any place and any number of live cells
-abbrev pub cap : ℕ
-cap = 2097152
+abbrev pub count_cap : ℕ
+count_cap = 2097152
 
 -- a token with its count capped
-abbrev pub capped : Token → Token
-capped t = record t { count = option_map (λ n. min n cap) t.count }
+abbrev pub with_capped_count : Token → Token
+with_capped_count t = record t { count = option_map (λ n. min n count_cap) t.count }
 
 -- the pen with row and column capped
 abbrev pub capped_pen : Pen → Pen
-capped_pen pen = record pen { y = min pen.y cap; x = min pen.x cap }
+capped_pen pen = record pen { y = min pen.y count_cap; x = min pen.x count_cap }
 
 -- no blank or byte of a comment stands there
 abbrev pub IsPlain : List ℕ → ℕ → Type 0
 IsPlain text at = (is_space (slice_index text at) ≡ false) × (plain_at text at ≡ slice_index text at ∷ plain_at text (at + 1))
 
 -- cells in the numbers of a list of cells
-abbrev pub placed : ℕ × ℕ → ℤ × ℤ
-placed (x, y) = (pos x, pos y)
+abbrev pub cell_of_pair : ℕ × ℕ → ℤ × ℤ
+cell_of_pair (x, y) = (pos x, pos y)
 
 abbrev pub placed_all : Result (List (ℕ × ℕ)) RleFault → Result (List (ℤ × ℤ)) RleFault
-placed_all (Ok cells) = Ok (map placed cells)
+placed_all (Ok cells) = Ok (map cell_of_pair cells)
 placed_all (Err fault) = Err fault
 
 -- cells before others

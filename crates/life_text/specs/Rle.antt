@@ -3,7 +3,7 @@ use Rattle.std.specs.Prelude.{ℕ, ◌+◌, ◌-◌, Bool, true, false, not, ◌
 use Rattle.std.specs.List.{list_all, prefix_len, take_while, before_first, after_first, after_last, range_with_len}
 use Rattle.std.specs.Option.{option_or, option_map_or}
 use Rattle.std.specs.Str.Parse.{digits_value}
-use Rattle.life_cells.specs.Bytes.{is_in, is_digit, is_letter, is_blank, is_space, without_front, trimmed, after_one_of, ◌>>=◌}
+use Rattle.life_cells.specs.Bytes.{is_in, is_digit, is_letter, is_blank, is_space, without_front, without_ends, after_one_of, ◌>>=◌}
 use Rattle.life_cells.specs.declared.rule.RuleFault.{RuleFault}
 use Rattle.life_cells.specs.declared.rule.RuleFault.TheVariants.{NotLifeLike, HasB0}
 use Rattle.life_text.specs.declared.rle.RleFault.{RleFault}
@@ -22,14 +22,14 @@ cell_limit = 1048576
 -- # Lines of comment
 
 -- the text with blanks for the bytes of each line whose first byte is `#`, so that no byte moves. `comment` says whether the byte before stands in such a line, which `previous` is
-abbrev pub blanked : Bool → ℕ → List ℕ → List ℕ
-blanked comment previous [] = []
-blanked comment previous (c ∷ rest) =
+abbrev pub comments_as_blanks : Bool → ℕ → List ℕ → List ℕ
+comments_as_blanks comment previous [] = []
+comments_as_blanks comment previous (c ∷ rest) =
     let inside = if previous == 10 then c == 35 else comment in
-    (if inside && not (c == 10) then 32 else c) ∷ blanked inside c rest
+    (if inside && not (c == 10) then 32 else c) ∷ comments_as_blanks inside c rest
 
 abbrev pub without_comments : List ℕ → List ℕ
-without_comments text = blanked false 10 text
+without_comments text = comments_as_blanks false 10 text
 
 -- # The header
 
@@ -73,14 +73,14 @@ abbrev pub rule_fault : RuleFault → RleFault
 rule_fault NotLifeLike = RuleNotLifeLike
 rule_fault HasB0 = RuleHasB0
 
-abbrev pub told : Result Rule RuleFault → Result Rule RleFault
-told (Ok r) = Ok r
-told (Err fault) = Err (rule_fault fault)
+abbrev pub rule_or_fault : Result Rule RuleFault → Result Rule RleFault
+rule_or_fault (Ok r) = Ok r
+rule_or_fault (Err fault) = Err (rule_fault fault)
 
 -- the rule of the text after `rule =`, without the blanks at its ends
 abbrev pub named_rule : Option (List ℕ) → Result Rule RleFault
 named_rule None = Err BadHeader
-named_rule (Some text) = told (rule_of (trimmed is_blank text))
+named_rule (Some text) = rule_or_fault (rule_of (without_ends is_blank text))
 
 -- the rule, by what stands after the sizes: none means Life
 abbrev pub rule_behind : Option (List ℕ) → Result Rule RleFault
@@ -145,8 +145,8 @@ abbrev pub has_tag : List ℕ → Token → Bool
 has_tag bytes t = option_map_or (is_in bytes) t.tag false
 
 -- how many cells or row ends a token stands for
-abbrev pub times : Token → ℕ
-times t = unwrap_or t.count 1
+abbrev pub run_length : Token → ℕ
+run_length t = unwrap_or t.count 1
 
 abbrev pub is_live : Token → Bool
 is_live t = has_tag (codes "oA") t
@@ -159,7 +159,7 @@ is_row_end t = has_tag (codes "$") t
 
 -- the counts of those that pass the test
 abbrev pub times_of : (Token → Bool) → List Token → ℕ
-times_of test ts = sum_by (λ t. if test t then times t else 0) ts
+times_of test ts = sum_by (λ t. if test t then run_length t else 0) ts
 
 -- the row and the column of a token that these stand before, and how many live cells these have
 abbrev pub row : List Token → ℕ
@@ -172,13 +172,13 @@ abbrev pub live_cells : List Token → ℕ
 live_cells before = times_of is_live before
 
 -- the cells of a token at this row and column: (x, y), from the column on
-abbrev pub span : ℕ → ℕ → Token → List (ℕ × ℕ)
-span y x t = if is_live t then map (λ x. (x, y)) (range_with_len x (times t)) else []
+abbrev pub run_cells : ℕ → ℕ → Token → List (ℕ × ℕ)
+run_cells y x t = if is_live t then map (λ x. (x, y)) (range_with_len x (run_length t)) else []
 
 -- the cells of tokens that these stand before
 abbrev pub cells_after : List Token → List Token → List (ℕ × ℕ)
 cells_after before [] = []
-cells_after before (t ∷ ts) = span (row before) (column before) t ++ cells_after (before ++ t ∷ []) ts
+cells_after before (t ∷ ts) = run_cells (row before) (column before) t ++ cells_after (before ++ t ∷ []) ts
 
 -- # The first fault
 
@@ -196,15 +196,15 @@ is_no_tag t = is_some t.tag && not (has_tag (codes "b.oA$!") t)
 
 -- a count of 0, or one before `!`, another count or the end of the text
 abbrev pub is_bad_run : Token → Bool
-is_bad_run t = is_some t.count && ((times t == 0) || (is_none t.tag || has_tag (codes "!") t))
+is_bad_run t = is_some t.count && ((run_length t == 0) || (is_none t.tag || has_tag (codes "!") t))
 
 -- a live cell past the limit of places
 abbrev pub is_too_far : ℕ → ℕ → Token → Bool
-is_too_far y x t = is_live t && (nat_lt place_limit (y + 1) || nat_lt place_limit (x + times t))
+is_too_far y x t = is_live t && (nat_lt place_limit (y + 1) || nat_lt place_limit (x + run_length t))
 
 -- more live cells than the limit, with this token's
 abbrev pub is_too_many : ℕ → Token → Bool
-is_too_many live t = is_live t && nat_lt cell_limit (live + times t)
+is_too_many live t = is_live t && nat_lt cell_limit (live + run_length t)
 
 -- the end of the text, where a token would begin
 abbrev pub is_missing : Token → Bool

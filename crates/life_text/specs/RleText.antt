@@ -6,7 +6,7 @@ use Rattle.life_model.specs.Generation.{Generation}
 use Rattle.life_model.specs.Rule.{Rule}
 use Rattle.life_cells.specs.Bytes.{is_in}
 use Rattle.life_cells.specs.Rules.{rule_text}
-use Rattle.life_text.specs.Filled.{filled}
+use Rattle.life_text.specs.Filled.{filled_lines}
 use Rattle.life_text.specs.Places.{places}
 
 -- `x = W, y = H, rule = R` and its LF
@@ -64,7 +64,7 @@ token_text (count, tag) = (if count == 1 then [] else decimal count) ++ tag ∷ 
 
 -- the lines of the body, of cells whose least column and row are 0
 abbrev pub body_text : List (ℕ × ℕ) → List ℕ
-body_text cells = filled 0 (map token_text (tokens_of_rows (rows_of cells)))
+body_text cells = filled_lines 0 (map token_text (tokens_of_rows (rows_of cells)))
 
 -- the text of a rule and of the normal form of a set
 unfoldable pub rle_text : Rule → Generation → List ℕ

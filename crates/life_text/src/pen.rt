@@ -1,8 +1,8 @@
 //! What tokens draw.
 ghost use Rattle.std.specs.Prelude.{◌++◌, ◌+◌, ◌<◌, ◌≡◌, ◌≤◌, OnOk, false, map, pos, true};
-ghost use Rattle.life_text.specs.Found.{seen};
-ghost use Rattle.life_text.specs.Reader.{cap, capped_pen, moved, placed};
-ghost use Rattle.life_text.specs.Rle.{cell_limit, is_live, is_too_far, is_too_many, place_limit, span};
+ghost use Rattle.life_text.specs.Found.{token_found};
+ghost use Rattle.life_text.specs.Reader.{count_cap, capped_pen, pen_after, cell_of_pair};
+ghost use Rattle.life_text.specs.Rle.{cell_limit, is_live, is_too_far, is_too_many, place_limit, run_cells};
 
 use crate::token::{CAP, Found, is_cells, is_live, is_row_end};
 use std::alloc::AllocError;
@@ -27,10 +27,10 @@ const CELL_LIMIT: u32 = 1_048_576;
 /// Whether a token that was found draws a live cell past the limit of places.
 pub fn is_too_far(found: &Found, pen: Pen) -> bool
     requires once { found.now.counted ≡ false → found.now.times ≡ 1 }
-    requires few { found.now.times ≤ cap }
-    requires row { pen.y ≤ cap }
-    requires column { pen.x ≤ cap }
-    ensures { result ≡ is_too_far pen.y pen.x (seen found.now) }
+    requires few { found.now.times ≤ count_cap }
+    requires row { pen.y ≤ count_cap }
+    requires column { pen.x ≤ count_cap }
+    ensures { result ≡ is_too_far pen.y pen.x (token_found found.now) }
 {
     is_live(found) && (pen.y + 1 > PLACE_LIMIT || pen.x + found.times > PLACE_LIMIT)
 }
@@ -38,9 +38,9 @@ pub fn is_too_far(found: &Found, pen: Pen) -> bool
 /// Whether a token that was found draws more live cells than the limit, with those before it.
 pub fn is_too_many(found: &Found, pen: Pen) -> bool
     requires once { found.now.counted ≡ false → found.now.times ≡ 1 }
-    requires few { found.now.times ≤ cap }
+    requires few { found.now.times ≤ count_cap }
     requires live { pen.live ≤ cell_limit }
-    ensures { result ≡ is_too_many pen.live (seen found.now) }
+    ensures { result ≡ is_too_many pen.live (token_found found.now) }
 {
     is_live(found) && pen.live + found.times > CELL_LIMIT
 }
@@ -48,11 +48,11 @@ pub fn is_too_many(found: &Found, pen: Pen) -> bool
 /// The pen after the token that was found.
 pub fn advanced(pen: Pen, found: &Found) -> Pen
     requires once { found.now.counted ≡ false → found.now.times ≡ 1 }
-    requires few { found.now.times ≤ cap }
-    requires row { pen.y ≤ cap }
-    requires column { pen.x ≤ cap }
+    requires few { found.now.times ≤ count_cap }
+    requires row { pen.y ≤ count_cap }
+    requires column { pen.x ≤ count_cap }
     requires live { pen.live ≤ cell_limit }
-    ensures { result ≡ capped_pen (moved pen (seen found.now)) }
+    ensures { result ≡ capped_pen (pen_after pen (token_found found.now)) }
 {
     let rows = if is_row_end(found) { found.times } else { 0 };
     let columns = if is_cells(found) { found.times } else { 0 };
@@ -95,9 +95,9 @@ pub fn push_span(
     found: &Found,
 ) -> Result<(), AllocError>
     requires once { found.now.counted ≡ false → found.now.times ≡ 1 }
-    requires row { is_live (seen found.now) ≡ true → y < place_limit }
-    requires column { is_live (seen found.now) ≡ true → x + found.now.times ≤ place_limit }
-    ensures { OnOk result (cells.new.items ≡ cells.old.items ++ map placed (span y x (seen found.now))) }
+    requires row { is_live (token_found found.now) ≡ true → y < place_limit }
+    requires column { is_live (token_found found.now) ≡ true → x + found.now.times ≤ place_limit }
+    ensures { OnOk result (cells.new.items ≡ cells.old.items ++ map cell_of_pair (run_cells y x (token_found found.now))) }
 {
     if is_live(found) {
         make_room(cells)?;

@@ -2,9 +2,9 @@
 ghost use Rattle.std.specs.Prelude.{[], ◌+◌, ◌-◌, ◌<◌, ◌≡◌, ◌≢◌, ◌≤◌, IfErr, IfOk, IsOk, List, OnOk, drop, false, length, take};
 ghost use Rattle.std.specs.List.{after_first, before_first};
 ghost use Rattle.life_text.specs.Drawing.{drawing, drawing_of};
-ghost use Rattle.life_text.specs.Found.{seen};
+ghost use Rattle.life_text.specs.Found.{token_found};
 ghost use Rattle.life_text.specs.Picture.{picture_of};
-ghost use Rattle.life_text.specs.Reader.{Gives, IsPlain, cap, drawn, first_pen, is_line_feed, placed_all, plain_at, tokens_at};
+ghost use Rattle.life_text.specs.Reader.{Gives, IsPlain, count_cap, cells_drawn, first_pen, is_line_feed, placed_all, plain_at, tokens_at};
 ghost use Rattle.life_text.specs.Rising.{RisesFrom};
 ghost use Rattle.life_text.specs.Rle.{Token, cell_limit, cells_after, first_fault, header_rule, reading, refusal, token_fault};
 ghost use Rattle.life_text.specs.declared.rle.RleFault.TheVariants.{Memory};
@@ -60,11 +60,11 @@ pub enum RleFault {
 // The fault of the token that was found, where the pen stands.
 fn found_fault(found: &Found, pen: Pen) -> Option<RleFault>
     requires once { found.now.counted ≡ false → found.now.times ≡ 1 }
-    requires few { found.now.times ≤ cap }
-    requires row { pen.y ≤ cap }
-    requires column { pen.x ≤ cap }
+    requires few { found.now.times ≤ count_cap }
+    requires row { pen.y ≤ count_cap }
+    requires column { pen.x ≤ count_cap }
     requires live { pen.live ≤ cell_limit }
-    ensures { result ≡ token_fault pen.y pen.x pen.live (seen found.now) }
+    ensures { result ≡ token_fault pen.y pen.x pen.live (token_found found.now) }
 {
     if is_other_state(found) {
         return Some(RleFault::ManyStates { at: found.tag_at });
@@ -101,7 +101,7 @@ impl From<AllocError> for RleFault {
 // The cells of the body that begins at a place, or its first fault.
 fn read_body(alloc: Global, text: &[u8], from: usize) -> Result<Vec<(i32, i32)>, RleFault>
     requires { from ≤ length text.now }
-    ensures { Gives (λ v. v.items) result (placed_all (drawn first_pen (tokens_at text.now from))) }
+    ensures { Gives (λ v. v.items) result (placed_all (cells_drawn first_pen (tokens_at text.now from))) }
 {
     let mut cells = Vec::new(alloc);
     let mut pen = Pen {

@@ -3,8 +3,8 @@ ghost use Rattle.std.specs.Prelude.{◌&&◌, ◌+◌, ◌<◌, ◌≡◌, ◌�
 ghost use Rattle.std.specs.List.{prefix_len, take_while};
 ghost use Rattle.std.specs.Str.Parse.{digits_value};
 ghost use Rattle.life_cells.specs.Bytes.{is_digit, is_space, without_front};
-ghost use Rattle.life_text.specs.Found.{Begins, seen};
-ghost use Rattle.life_text.specs.Reader.{IsPlain, cap, inside, plain_at};
+ghost use Rattle.life_text.specs.Found.{Begins, token_found};
+ghost use Rattle.life_text.specs.Reader.{IsPlain, count_cap, is_in_comment, plain_at};
 ghost use Rattle.life_text.specs.Rle.{is_bad_run, is_cells, is_live, is_missing, is_no_tag, is_other_state, is_row_end, lexemes};
 
 use crate::bytes::{is_digit, is_letter, is_space};
@@ -25,7 +25,7 @@ pub const CAP: u32 = 2_097_152;
 
 // Whether a byte stands in a line of comment, by whether the byte before does.
 fn is_inside(comment: bool, before: u8, byte: u8) -> bool
-    ensures { result ≡ inside comment before byte }
+    ensures { result ≡ is_in_comment comment before byte }
 {
     if before == b'\n' {
         byte == b'#'
@@ -69,7 +69,7 @@ fn read_count(text: &[u8], at: usize) -> (u32, usize)
     requires { at ≤ length text.now }
     ensures behind { at ≤ result.1 }
     ensures within { result.1 ≤ length text.now }
-    ensures value { result.0 ≡ min (digits_value 10 (take_while is_digit (plain_at text.now at))) cap }
+    ensures value { result.0 ≡ min (digits_value 10 (take_while is_digit (plain_at text.now at))) count_cap }
     ensures rest { lexemes true at (plain_at text.now at) ≡ lexemes false result.1 (plain_at text.now result.1) }
 {
     let mut value: u32 = 0;
@@ -87,7 +87,7 @@ pub fn next_token(text: &[u8], from: usize) -> Found
     ensures begins { Begins text.now from result }
     ensures tag_within { IfSome result.tag (λ _. (from ≤ result.tag_at) × (result.tag_at < length text.now)) }
     ensures once { result.counted ≡ false → result.times ≡ 1 }
-    ensures few { result.times ≤ cap }
+    ensures few { result.times ≤ count_cap }
 {
     let at = skip_spaces(text, from);
     if at == text.len() {
@@ -139,7 +139,7 @@ pub fn next_token(text: &[u8], from: usize) -> Found
 
 /// Whether its tag is that of live cells.
 pub fn is_live(found: &Found) -> bool
-    ensures { result ≡ is_live (seen found.now) }
+    ensures { result ≡ is_live (token_found found.now) }
 {
     match found.tag {
         Some(tag) => tag == b'o' || tag == b'A',
@@ -149,7 +149,7 @@ pub fn is_live(found: &Found) -> bool
 
 /// Whether its tag is that of cells, live or dead.
 pub fn is_cells(found: &Found) -> bool
-    ensures { result ≡ is_cells (seen found.now) }
+    ensures { result ≡ is_cells (token_found found.now) }
 {
     match found.tag {
         Some(tag) => tag == b'b' || tag == b'.' || tag == b'o' || tag == b'A',
@@ -159,7 +159,7 @@ pub fn is_cells(found: &Found) -> bool
 
 /// Whether its tag is that of row ends.
 pub fn is_row_end(found: &Found) -> bool
-    ensures { result ≡ is_row_end (seen found.now) }
+    ensures { result ≡ is_row_end (token_found found.now) }
 {
     match found.tag {
         Some(tag) => tag == b'$',
@@ -169,7 +169,7 @@ pub fn is_row_end(found: &Found) -> bool
 
 /// Whether a letter of a third state stands in the place of its tag.
 pub fn is_other_state(found: &Found) -> bool
-    ensures { result ≡ is_other_state (seen found.now) }
+    ensures { result ≡ is_other_state (token_found found.now) }
 {
     match found.tag {
         Some(tag) => is_letter(tag) && !is_cells(found),
@@ -179,7 +179,7 @@ pub fn is_other_state(found: &Found) -> bool
 
 /// Whether a byte that is no tag stands in the place of its tag.
 pub fn is_no_tag(found: &Found) -> bool
-    ensures { result ≡ is_no_tag (seen found.now) }
+    ensures { result ≡ is_no_tag (token_found found.now) }
 {
     match found.tag {
         Some(tag) => !(tag == b'b'
@@ -194,7 +194,7 @@ pub fn is_no_tag(found: &Found) -> bool
 
 /// Whether its count is 0, or stands before `!`, another count or the end of the text.
 pub fn is_bad_run(found: &Found) -> bool
-    ensures { result ≡ is_bad_run (seen found.now) }
+    ensures { result ≡ is_bad_run (token_found found.now) }
 {
     let cut = match found.tag {
         Some(tag) => tag == b'!',
@@ -205,7 +205,7 @@ pub fn is_bad_run(found: &Found) -> bool
 
 /// Whether the text ends where it would begin.
 pub fn is_missing(found: &Found) -> bool
-    ensures { result ≡ is_missing (seen found.now) }
+    ensures { result ≡ is_missing (token_found found.now) }
 {
     match found.tag {
         Some(_) => false,

@@ -6,12 +6,12 @@ ghost use Rattle.life_model.specs.Generation.{Generation, cells, from_list, is_r
 ghost use Rattle.life_model.specs.Rule as model;
 ghost use Rattle.life_model.specs.Symmetry.{corner_of, normal};
 ghost use Rattle.life_cells.specs.Limits.{IsPlace, IsWithin};
-ghost use Rattle.life_text.specs.Filled.{filled};
+ghost use Rattle.life_text.specs.Filled.{filled_lines};
 ghost use Rattle.life_text.specs.Picture.{picture_of};
 ghost use Rattle.life_text.specs.Places.{place};
 ghost use Rattle.life_text.specs.Rle.{cell_limit, reading};
 ghost use Rattle.life_text.specs.RleText.{header, rle_text, token_text};
-ghost use Rattle.life_text.specs.Writer.{places_from, tokens_from, unwritten};
+ghost use Rattle.life_text.specs.Writer.{places_from, tokens_from, rest_of_text};
 
 use crate::lines::put_token;
 use itoa::Buffer;
@@ -88,7 +88,7 @@ fn put_cell(text: &mut Vec<u8>, nib: Nib, cell: (u32, u32)) -> Result<Nib, Alloc
     requires column { cell.1 ≡ nib.y → nib.x ≤ cell.0 }
     requires small { cell.0 < 2 ^ 25 }
     ensures written { IfOk result (λ next. (cells : List (ℕ × ℕ)) →
-        text.old.items ++ unwritten nib (cell ∷ cells) ≡ text.new.items ++ unwritten next cells) }
+        text.old.items ++ rest_of_text nib (cell ∷ cells) ≡ text.new.items ++ rest_of_text next cells) }
     ensures used { IfOk result (λ next. next.used ≤ 70) }
     ensures row { IfOk result (λ next. next.y ≡ cell.1) }
     ensures column { IfOk result (λ next. next.x ≡ cell.0 + 1) }
@@ -118,7 +118,7 @@ fn put_cell(text: &mut Vec<u8>, nib: Nib, cell: (u32, u32)) -> Result<Nib, Alloc
 // Writes what is left after the last cell, and the end.
 fn put_end(text: &mut Vec<u8>, nib: Nib) -> Result<(), AllocError>
     requires { nib.used ≤ 70 }
-    ensures { OnOk result (text.new.items ≡ text.old.items ++ unwritten nib []) }
+    ensures { OnOk result (text.new.items ≡ text.old.items ++ rest_of_text nib []) }
 {
     let behind_run = put_token(text, nib.used, nib.run, b'o')?;
     put_token(text, behind_run, 1, b'!')?;
@@ -131,7 +131,7 @@ fn push_body(text: &mut Vec<u8>, cells: &[(i32, i32)], corner: (i32, i32)) -> Re
     requires placed { All IsPlace cells.now }
     requires rising { T (is_rising cells.now) }
     requires corner { corner ≡ corner_of cells.now }
-    ensures { OnOk result (text.new.items ≡ text.old.items ++ filled 0 (map token_text (tokens_from 0 0 (places_from corner cells.now)))) }
+    ensures { OnOk result (text.new.items ≡ text.old.items ++ filled_lines 0 (map token_text (tokens_from 0 0 (places_from corner cells.now)))) }
 {
     let mut nib = Nib {
         used: 0,

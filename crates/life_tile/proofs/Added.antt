@@ -14,10 +14,10 @@ use Rattle.std.specs.Cmp.{tied_itself}
 use Rattle.life_tile.proofs.Orders.{same_or_other, place_total}
 use Rattle.life_tile.specs.declared.bands.Bands.{Bands}
 use Rattle.life_tile.specs.declared.slot.Slot.{Slot}
-use Rattle.life_tile.specs.declared.slab.Slab.{Slab}
+use Rattle.life_tile.specs.declared.tile_store.TileStore.{TileStore}
 use Rattle.life_tile.specs.Slots.{Index, slot_at, neighbour_at, place_of, link_of, tile_of, empty_tile, no_slot}
 use Rattle.life_tile.specs.Work.{mark_of}
-use Rattle.life_tile.specs.Slabs.{IsIndexed, IsSlotOf, IsSlab, IsExtended, all_bands, no_bands}
+use Rattle.life_tile.specs.TileStores.{IsIndexed, IsSlotOf, IsTileStore, IsExtended, all_bands, no_bands}
 use Rattle.life_tile.proofs.Marks.{all_marked}
 use Rattle.life_tile.proofs.Places.{here_is, slot_cases, slot_of_place}
 
@@ -43,7 +43,7 @@ only_here p m small is =
     let b : m / 3 ≡ 1 = same_side p.1 (m / 3) (ap (λ (z : ℤ × ℤ). z.1) is) in
     omega arith
 
-pub record IsAdded (before after : Slab) (place : ℤ × ℤ) (links : List ℕ) : Type 0 where
+pub record IsAdded (before after : TileStore) (place : ℤ × ℤ) (links : List ℕ) : Type 0 where
   pub ordered : IsOrdered place_cmp after.index
   pub found : get place_cmp after.index place ≡ Some (length before.slots.items)
   pub others : (q : ℤ × ℤ) → is_at (place_cmp place) q ≡ false → get place_cmp after.index q ≡ get place_cmp before.index q
@@ -55,11 +55,11 @@ pub record IsAdded (before after : Slab) (place : ℤ × ℤ) (links : List ℕ)
   pub links_own : slice_index links 4 ≡ length before.slots.items
   pub age : after.age ≡ before.age
   pub rule : after.rule ≡ before.rule
-  pub fresh : after.fresh ≡ before.fresh
-  pub cur : after.cur.items ≡ before.cur.items ++ empty_tile ∷ []
-  pub alt : after.alt.items ≡ before.alt.items ++ empty_tile ∷ []
-  pub todo : after.todo.items ≡ before.todo.items ++ all_bands ∷ []
-  pub marks : after.marks.items ≡ before.marks.items ++ no_bands ∷ []
+  pub lacks_previous : after.lacks_previous ≡ before.lacks_previous
+  pub current : after.current.items ≡ before.current.items ++ empty_tile ∷ []
+  pub previous : after.previous.items ≡ before.previous.items ++ empty_tile ∷ []
+  pub active : after.active.items ≡ before.active.items ++ all_bands ∷ []
+  pub next_active : after.next_active.items ≡ before.next_active.items ++ no_bands ∷ []
 
 one_longer : {A : Type 0} (xs : List A) (x : A) → length (xs ++ x ∷ []) ≡ length xs + 1
 one_longer xs x = length-append xs (x ∷ [])
@@ -67,7 +67,7 @@ one_longer xs x = length-append xs (x ∷ [])
 at_end : {A : Type 0} (xs : List A) (x d : A) (n : ℕ) → length xs ≡ n → get_or (xs ++ x ∷ []) n d ≡ x
 at_end xs x d n is = ap (λ k. get_or (xs ++ x ∷ []) k d) (sym is) ∙ get_or-append_seam xs x [] d
 
-module _ (before after : Slab) (place : ℤ × ℤ) (links : List ℕ) (whole : IsSlab before) (absent : slot_at before.index place ≡ 0) (added : IsAdded before after place links) where
+module _ (before after : TileStore) (place : ℤ × ℤ) (links : List ℕ) (whole : IsTileStore before) (absent : slot_at before.index place ≡ 0) (added : IsAdded before after place links) where
   count_is : length after.slots.items ≡ length before.slots.items + 1
   count_is = added.count ∙ one_longer before.slots.items (record { place = place; links = links })
 
@@ -212,18 +212,18 @@ module _ (before after : Slab) (place : ℤ × ℤ) (links : List ℕ) (whole : 
   tile_new : (xs ys : List Tile) → ys ≡ xs ++ empty_tile ∷ [] → (k : ℕ) → length xs ≡ k → tile_of ys k ≡ empty_tile
   tile_new xs ys is k past = ap (λ (ts : List Tile). tile_of ts k) is ∙ at_end xs empty_tile (record { rows = [] }) k past
 
-  pub added_slab : IsSlab after
-  added_slab =
+  pub added_store : IsTileStore after
+  added_store =
       let some : 0 < length before.slots.items = whole.indexed.some in
       let count : length after.slots.items ≡ length before.slots.items + 1 = count_is in
       record {
         indexed = added_indexed;
-        cur_length = ap (λ (ts : List Tile). length ts) added.cur ∙ one_longer before.cur.items empty_tile ∙ ap (λ n. n + 1) whole.cur_length ∙ sym count_is;
-        alt_length = ap (λ (ts : List Tile). length ts) added.alt ∙ one_longer before.alt.items empty_tile ∙ ap (λ n. n + 1) whole.alt_length ∙ sym count_is;
-        todo_length = ap (λ (bs : List Bands). length bs) added.todo ∙ one_longer before.todo.items all_bands ∙ ap (λ n. n + 1) whole.todo_length ∙ sym count_is;
-        marks_length = ap (λ (bs : List Bands). length bs) added.marks ∙ one_longer before.marks.items no_bands ∙ ap (λ n. n + 1) whole.marks_length ∙ sym count_is;
-        cur_none = tile_old before.cur.items after.cur.items added.cur 0 (let h = whole.cur_length in omega arith) ∙ whole.cur_none;
-        alt_none = tile_old before.alt.items after.alt.items added.alt 0 (let h = whole.alt_length in omega arith) ∙ whole.alt_none;
+        current_length = ap (λ (ts : List Tile). length ts) added.current ∙ one_longer before.current.items empty_tile ∙ ap (λ n. n + 1) whole.current_length ∙ sym count_is;
+        previous_length = ap (λ (ts : List Tile). length ts) added.previous ∙ one_longer before.previous.items empty_tile ∙ ap (λ n. n + 1) whole.previous_length ∙ sym count_is;
+        active_length = ap (λ (bs : List Bands). length bs) added.active ∙ one_longer before.active.items all_bands ∙ ap (λ n. n + 1) whole.active_length ∙ sym count_is;
+        next_active_length = ap (λ (bs : List Bands). length bs) added.next_active ∙ one_longer before.next_active.items no_bands ∙ ap (λ n. n + 1) whole.next_active_length ∙ sym count_is;
+        current_none = tile_old before.current.items after.current.items added.current 0 (let h = whole.current_length in omega arith) ∙ whole.current_none;
+        previous_none = tile_old before.previous.items after.previous.items added.previous 0 (let h = whole.previous_length in omega arith) ∙ whole.previous_none;
       }
 
   -- what a place shows
@@ -242,13 +242,13 @@ module _ (before after : Slab) (place : ℤ × ℤ) (links : List ℕ) (whole : 
   pub added_extended : IsExtended before after
   added_extended =
       let count : length after.slots.items ≡ length before.slots.items + 1 = count_is in
-      let cur_length : length before.cur.items ≡ length before.slots.items = whole.cur_length in
-      let alt_length : length before.alt.items ≡ length before.slots.items = whole.alt_length in
-      let todo_length : length before.todo.items ≡ length before.slots.items = whole.todo_length in
+      let current_length : length before.current.items ≡ length before.slots.items = whole.current_length in
+      let previous_length : length before.previous.items ≡ length before.slots.items = whole.previous_length in
+      let active_length : length before.active.items ≡ length before.slots.items = whole.active_length in
       record {
         age = added.age;
         rule = added.rule;
-        fresh = added.fresh;
+        lacks_previous = added.lacks_previous;
         more = omega arith;
         place = old_place;
         link = λ k m later inside small none.
@@ -261,25 +261,25 @@ module _ (before after : Slab) (place : ℤ × ℤ) (links : List ℕ) (whole : 
             ∙ sym (ap (λ o. unwrap_or o 0) (added.others (neighbour_at (place_of before.slots.items k) m) other))
             ∙ sym (link_old k m later inside small) ∙ none)
             (same_or_other place (neighbour_at (place_of before.slots.items k) m));
-        cur = λ k inside. tile_old before.cur.items after.cur.items added.cur k (omega arith);
-        alt = λ k inside. tile_old before.alt.items after.alt.items added.alt k (omega arith);
-        cur_new = λ k past inside. tile_new before.cur.items after.cur.items added.cur k (omega arith);
-        alt_new = λ k past inside. tile_new before.alt.items after.alt.items added.alt k (omega arith);
-        todo = λ k band inside small clear.
+        current = λ k inside. tile_old before.current.items after.current.items added.current k (omega arith);
+        previous = λ k inside. tile_old before.previous.items after.previous.items added.previous k (omega arith);
+        current_new = λ k past inside. tile_new before.current.items after.current.items added.current k (omega arith);
+        previous_new = λ k past inside. tile_new before.previous.items after.previous.items added.previous k (omega arith);
+        active = λ k band inside small clear.
             ⊎_elim
             (λ (old : k < length before.slots.items). (
               old,
-              sym (ap (λ (bs : List Bands). mark_of bs k band) added.todo
-                  ∙ ap (λ (v : Bands). bit_at v.bits band) (get_or-append before.todo.items (all_bands ∷ []) no_bands k (omega arith))) ∙ clear,
+              sym (ap (λ (bs : List Bands). mark_of bs k band) added.active
+                  ∙ ap (λ (v : Bands). bit_at v.bits band) (get_or-append before.active.items (all_bands ∷ []) no_bands k (omega arith))) ∙ clear,
             ))
             (λ past.
             let never : 1 ≡ 0 =
-            sym (ap (λ (bs : List Bands). mark_of bs k band) added.todo ∙ ap (λ (v : Bands). bit_at v.bits band) (at_end before.todo.items all_bands no_bands k (omega arith)) ∙ all_marked band small)
+            sym (ap (λ (bs : List Bands). mark_of bs k band) added.active ∙ ap (λ (v : Bands). bit_at v.bits band) (at_end before.active.items all_bands no_bands k (omega arith)) ∙ all_marked band small)
             ∙ clear in
             absurd (omega arith))
             (cases_lt k (length before.slots.items));
-        cur_at = shown_at before.cur.items after.cur.items whole.cur_length whole.cur_none added.cur;
-        alt_at = shown_at before.alt.items after.alt.items whole.alt_length whole.alt_none added.alt;
+        current_at = shown_at before.current.items after.current.items whole.current_length whole.current_none added.current;
+        previous_at = shown_at before.previous.items after.previous.items whole.previous_length whole.previous_none added.previous;
       }
 
   pub added_slot : IsSlotOf after.slots.items place (length before.slots.items)

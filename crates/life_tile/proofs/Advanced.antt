@@ -1,4 +1,4 @@
--- What a slab keeps in a step.
+-- What a store keeps in a step.
 use Rattle.std.proofs.Common.{◌≡◌, ℕ, ℤ, pos, ◌+ℤ◌, ◌+◌, ◌<◌, false, List, length, refl, sym, subst, ap, ◌∙◌, arith}
 use Rattle.std.proofs.lemmas.Int.{ints}
 use Rattle.life_model.specs.Cell.{Cell, IsNear}
@@ -12,10 +12,10 @@ use Rattle.life_bits.specs.Area.{tile_cell}
 use Rattle.life_tile.specs.Places.{start_at}
 use Rattle.life_tile.specs.declared.bands.Bands.{Bands}
 use Rattle.life_tile.specs.declared.slot.Slot.{Slot}
-use Rattle.life_tile.specs.declared.slab.Slab.{Slab}
+use Rattle.life_tile.specs.declared.tile_store.TileStore.{TileStore}
 use Rattle.life_tile.specs.Slots.{place_of, tile_of, generation_shown, IsReached}
 use Rattle.life_tile.specs.Work.{mark_of, IsWorkedOut}
-use Rattle.life_tile.specs.Slabs.{state_at, members_of, IsClosed, IsIdle, IsKept, IsGrown, IsBegun}
+use Rattle.life_tile.specs.TileStores.{state_at, members_of, IsClosed, IsIdle, IsKept, IsGrown, IsBegun}
 use Rattle.life_tile.proofs.Marks.{clear_before}
 use Rattle.life_tile.proofs.Steps.{advanced, settled_again, closed_again, closed_idle}
 
@@ -35,44 +35,44 @@ reached_later age place reached = record {
   south = omega (arith, ints, reached.south);
 }
 
-pub worked_at : (slots slots' : List Slot) (cur cur' : List Tile) (todo todo' : List Bands) (rule rule' : Rule) (alt alt' after : List Tile) (marks marks' marked : List Bands) →
-    slots ≡ slots' → cur ≡ cur' → todo ≡ todo' → rule ≡ rule' → alt ≡ alt' → marks ≡ marks' →
-    IsWorkedOut slots cur todo rule alt after marks marked (length slots) → IsWorkedOut slots' cur' todo' rule' alt' after marks' marked (length slots')
-worked_at slots slots' cur cur' todo todo' rule rule' alt alt' after marks marks' marked p q r t s v worked =
+pub worked_at : (slots slots' : List Slot) (current cur' : List Tile) (active todo' : List Bands) (rule rule' : Rule) (previous alt' after : List Tile) (marks marks' marked : List Bands) →
+    slots ≡ slots' → current ≡ cur' → active ≡ todo' → rule ≡ rule' → previous ≡ alt' → marks ≡ marks' →
+    IsWorkedOut slots current active rule previous after marks marked (length slots) → IsWorkedOut slots' cur' todo' rule' alt' after marks' marked (length slots')
+worked_at slots slots' current cur' active todo' rule rule' previous alt' after marks marks' marked p q r t s v worked =
     subst (λ (z : List Slot). IsWorkedOut z cur' todo' rule' alt' after marks' marked (length z)) p
     (subst (λ (z : List Tile). IsWorkedOut slots z todo' rule' alt' after marks' marked (length slots)) q
-    (subst (λ (z : List Bands). IsWorkedOut slots cur z rule' alt' after marks' marked (length slots)) r
-    (subst (λ (z : Rule). IsWorkedOut slots cur todo z alt' after marks' marked (length slots)) t
-    (subst (λ (z : List Tile). IsWorkedOut slots cur todo rule z after marks' marked (length slots)) s
-    (subst (λ (z : List Bands). IsWorkedOut slots cur todo rule alt after z marked (length slots)) v worked)))))
+    (subst (λ (z : List Bands). IsWorkedOut slots current z rule' alt' after marks' marked (length slots)) r
+    (subst (λ (z : Rule). IsWorkedOut slots current active z alt' after marks' marked (length slots)) t
+    (subst (λ (z : List Tile). IsWorkedOut slots current active rule z after marks' marked (length slots)) s
+    (subst (λ (z : List Bands). IsWorkedOut slots current active rule previous after z marked (length slots)) v worked)))))
 
-module _ (s b u : Slab) (after : List Tile) (marked : List Bands) (kept : IsKept s) (grown : IsGrown s) (young : s.age < 4194304) (begun : IsBegun s b)
-    (worked : IsWorkedOut s.slots.items s.cur.items b.todo.items s.rule b.alt.items after b.marks.items marked (length s.slots.items))
-    (cur_is : u.cur.items ≡ after) (alt_is : u.alt.items ≡ s.cur.items) (todo_is : u.todo.items ≡ marked) (marks_length : length u.marks.items ≡ length s.slots.items) where
+module _ (s b u : TileStore) (after : List Tile) (marked : List Bands) (kept : IsKept s) (grown : IsGrown s) (young : s.age < 4194304) (begun : IsBegun s b)
+    (worked : IsWorkedOut s.slots.items s.current.items b.active.items s.rule b.previous.items after b.next_active.items marked (length s.slots.items))
+    (current_is : u.current.items ≡ after) (previous_is : u.previous.items ≡ s.current.items) (active_is : u.active.items ≡ marked) (next_active_length : length u.next_active.items ≡ length s.slots.items) where
   after_is : generation_shown s.index after ≡ next s.rule (members_of s)
   after_is =
-      advanced s.index s.slots.items kept.whole.indexed s.cur.items b.alt.items after b.todo.items b.marks.items marked s.rule kept.whole.cur_none begun.alt_none worked
+      advanced s.index s.slots.items kept.whole.indexed s.current.items b.previous.items after b.active.items b.next_active.items marked s.rule kept.whole.current_none begun.previous_none worked
       grown.closed begun.settled
 
-  idle_marks : (k : ℕ) → IsIdle u.todo.items k → IsIdle marked k
-  idle_marks k idle = λ band small. sym (ap (λ (bs : List Bands). mark_of bs k band) todo_is) ∙ idle band small
+  idle_marks : (k : ℕ) → IsIdle u.active.items k → IsIdle marked k
+  idle_marks k idle = λ band small. sym (ap (λ (bs : List Bands). mark_of bs k band) active_is) ∙ idle band small
 
-  pub members_next : generation_shown s.index u.cur.items ≡ next s.rule (members_of s)
-  members_next = ap (generation_shown s.index) cur_is ∙ after_is
+  pub members_next : generation_shown s.index u.current.items ≡ next s.rule (members_of s)
+  members_next = ap (generation_shown s.index) current_is ∙ after_is
 
-  earlier_is : generation_shown s.index u.alt.items ≡ members_of s
-  earlier_is = ap (generation_shown s.index) alt_is
+  earlier_is : generation_shown s.index u.previous.items ≡ members_of s
+  earlier_is = ap (generation_shown s.index) previous_is
 
-  pub kept_next : IsKept (record s { cur = u.cur; alt = u.alt; todo = u.todo; marks = u.marks; fresh = false; age = s.age + 1 })
+  pub kept_next : IsKept (record s { current = u.current; previous = u.previous; active = u.active; next_active = u.next_active; lacks_previous = false; age = s.age + 1 })
   kept_next = record {
     whole = record {
       indexed = kept.whole.indexed;
-      cur_length = ap (λ (ts : List Tile). length ts) cur_is ∙ worked.length_after ∙ begun.alt_length;
-      alt_length = ap (λ (ts : List Tile). length ts) alt_is ∙ kept.whole.cur_length;
-      todo_length = ap (λ (bs : List Bands). length bs) todo_is ∙ worked.length_marked ∙ begun.marks_length;
-      marks_length = marks_length;
-      cur_none = ap (λ (ts : List Tile). tile_of ts 0) cur_is ∙ worked.first ∙ begun.alt_none;
-      alt_none = ap (λ (ts : List Tile). tile_of ts 0) alt_is ∙ kept.whole.cur_none;
+      current_length = ap (λ (ts : List Tile). length ts) current_is ∙ worked.length_after ∙ begun.previous_length;
+      previous_length = ap (λ (ts : List Tile). length ts) previous_is ∙ kept.whole.current_length;
+      active_length = ap (λ (bs : List Bands). length bs) active_is ∙ worked.length_marked ∙ begun.next_active_length;
+      next_active_length = next_active_length;
+      current_none = ap (λ (ts : List Tile). tile_of ts 0) current_is ∙ worked.first ∙ begun.previous_none;
+      previous_none = ap (λ (ts : List Tile). tile_of ts 0) previous_is ∙ kept.whole.current_none;
     };
     young = omega arith;
     within = λ c has.
@@ -80,28 +80,28 @@ module _ (s b u : Slab) (after : List Tile) (marked : List Bands) (kept : IsKept
         within_near s.age near.0 c (kept.within near.0 near.1) near.2;
     reached = λ k later inside. reached_later s.age (place_of s.slots.items k) (kept.reached k later inside);
     earlier = λ _. members_next ∙ ap (next s.rule) (sym earlier_is);
-    earlier_closed = λ _ k later inside. subst (λ (ts : List Tile). IsClosed s.slots.items ts k) (sym alt_is) (grown.closed k later inside);
+    earlier_closed = λ _ k later inside. subst (λ (ts : List Tile). IsClosed s.slots.items ts k) (sym previous_is) (grown.closed k later inside);
     settled = λ k band later inside small clear.
-        let clear_after : mark_of marked k band ≡ 0 = sym (ap (λ (bs : List Bands). mark_of bs k band) todo_is) ∙ clear in
-        let clear_mark : mark_of b.marks.items k band ≡ 0 = clear_before b.marks.items marked k band (worked.kept k band) clear_after in
+        let clear_after : mark_of marked k band ≡ 0 = sym (ap (λ (bs : List Bands). mark_of bs k band) active_is) ∙ clear in
+        let clear_mark : mark_of b.next_active.items k band ≡ 0 = clear_before b.next_active.items marked k band (worked.kept k band) clear_after in
         record {
           known = refl;
           cell = λ x y wide high in_band.
-              ap (λ (ts : List Tile). tile_cell (tile_of ts k) x y) alt_is
-              ∙ settled_again s.index s.slots.items kept.whole.indexed s.cur.items b.alt.items after b.todo.items b.marks.items marked s.rule kept.whole.cur_none begun.alt_none worked
+              ap (λ (ts : List Tile). tile_cell (tile_of ts k) x y) previous_is
+              ∙ settled_again s.index s.slots.items kept.whole.indexed s.current.items b.previous.items after b.active.items b.next_active.items marked s.rule kept.whole.current_none begun.previous_none worked
               k x y later inside wide high (ap (mark_of marked k) in_band ∙ clear_after)
-              (begun.again k x y later inside wide high (ap (mark_of b.marks.items k) in_band ∙ clear_mark))
-              ∙ ap (λ (ts : List Tile). state_at (next s.rule (generation_shown s.index ts)) (start_at (place_of s.slots.items k).0 +ℤ pos x) (start_at (place_of s.slots.items k).1 +ℤ pos y)) (sym cur_is);
+              (begun.again k x y later inside wide high (ap (mark_of b.next_active.items k) in_band ∙ clear_mark))
+              ∙ ap (λ (ts : List Tile). state_at (next s.rule (generation_shown s.index ts)) (start_at (place_of s.slots.items k).0 +ℤ pos x) (start_at (place_of s.slots.items k).1 +ℤ pos y)) (sym current_is);
         };
     closed = λ k later inside idle.
-        subst (λ (ts : List Tile). IsClosed s.slots.items ts k) (sym cur_is)
-        (closed_idle s.index s.slots.items kept.whole.indexed s.cur.items b.alt.items after b.todo.items b.marks.items marked s.rule kept.whole.cur_none begun.alt_none worked
-        k later inside (idle_marks k idle) (begun.alt_closed k later inside));
+        subst (λ (ts : List Tile). IsClosed s.slots.items ts k) (sym current_is)
+        (closed_idle s.index s.slots.items kept.whole.indexed s.current.items b.previous.items after b.active.items b.next_active.items marked s.rule kept.whole.current_none begun.previous_none worked
+        k later inside (idle_marks k idle) (begun.previous_closed k later inside));
     calm = λ _. refl;
     grown = λ calm. record {
       closed = λ k later inside.
-          subst (λ (ts : List Tile). IsClosed s.slots.items ts k) (sym cur_is)
-          (closed_again s.index s.slots.items kept.whole.indexed s.cur.items b.alt.items after b.todo.items b.marks.items marked s.rule kept.whole.cur_none begun.alt_none worked
-          (idle_marks 0 calm) begun.alt_closed k later inside);
+          subst (λ (ts : List Tile). IsClosed s.slots.items ts k) (sym current_is)
+          (closed_again s.index s.slots.items kept.whole.indexed s.current.items b.previous.items after b.active.items b.next_active.items marked s.rule kept.whole.current_none begun.previous_none worked
+          (idle_marks 0 calm) begun.previous_closed k later inside);
     };
   }

@@ -1,4 +1,4 @@
--- A slab that is ready for a step.
+-- A store that is ready for a step.
 use Rattle.std.proofs.Common.{◌≡◌, ℕ, ℤ, pos, ◌+ℤ◌, ◌-ℤ◌, ◌+◌, ◌*◌, ◌/◌, ◌<◌, ◌≤◌, ◌≤ℤ◌, ⊎_elim, false, List, length, refl, sym, subst, ap, ◌∙◌, arith}
 use Rattle.std.proofs.lemmas.Int.{ints}
 use Rattle.life_model.specs.Generation.{Generation}
@@ -8,10 +8,10 @@ use Rattle.life_bits.specs.Area.{tile_cell}
 use Rattle.life_tile.specs.Places.{IsBeside, start_at}
 use Rattle.life_tile.specs.declared.bands.Bands.{Bands}
 use Rattle.life_tile.specs.declared.slot.Slot.{Slot}
-use Rattle.life_tile.specs.declared.slab.Slab.{Slab}
+use Rattle.life_tile.specs.declared.tile_store.TileStore.{TileStore}
 use Rattle.life_tile.specs.Slots.{Index, slot_at, place_of, tile_of, empty_tile, generation_shown}
 use Rattle.life_tile.specs.Work.{mark_of, IsMarkedNear}
-use Rattle.life_tile.specs.Slabs.{state_at, IsIndexed, IsSlotOf, IsClosed, IsBegun, IsKept, members_of}
+use Rattle.life_tile.specs.TileStores.{state_at, IsIndexed, IsSlotOf, IsClosed, IsBegun, IsKept, members_of}
 use Rattle.life_tile.proofs.Splits.{Split, split}
 use Rattle.life_tile.proofs.Shown.{empty_cell, shown_state}
 use Rattle.life_tile.proofs.Places.{slot_cases, state_absent, state_of_slot, dead_next}
@@ -33,37 +33,37 @@ module _ (index : Index) (slots : List Slot) (whole : IsIndexed index slots) (ti
       ∙ empty_cell s.remainder t.remainder)
       (slot_cases index slots whole (s.quotient, t.quotient))
 
-module _ (s b : Slab) (kept : IsKept s) (marks_length : length b.marks.items ≡ length s.slots.items) where
-  pub begun_going : s.fresh ≡ false → b ≡ record s { marks = b.marks } → IsBegun s b
+module _ (s b : TileStore) (kept : IsKept s) (next_active_length : length b.next_active.items ≡ length s.slots.items) where
+  pub begun_going : s.lacks_previous ≡ false → b ≡ record s { next_active = b.next_active } → IsBegun s b
   begun_going going is =
-      let alt_is : b.alt.items ≡ s.alt.items = λ i. (is i).alt.items in
-      let todo_is : b.todo.items ≡ s.todo.items = λ i. (is i).todo.items in
+      let previous_is : b.previous.items ≡ s.previous.items = λ i. (is i).previous.items in
+      let active_is : b.active.items ≡ s.active.items = λ i. (is i).active.items in
       record {
-        same = is ∙ (λ i. record s { alt = (sym is i).alt; todo = (sym is i).todo; marks = b.marks });
-        alt_length = ap (λ (ts : List Tile). length ts) alt_is ∙ kept.whole.alt_length;
-        todo_length = ap (λ (bs : List Bands). length bs) todo_is ∙ kept.whole.todo_length;
-        marks_length = marks_length;
-        alt_none = ap (λ (ts : List Tile). tile_of ts 0) alt_is ∙ kept.whole.alt_none;
-        alt_closed = λ k later inside. subst (λ (ts : List Tile). IsClosed s.slots.items ts k) (sym alt_is) (kept.earlier_closed going k later inside);
+        same = is ∙ (λ i. record s { previous = (sym is i).previous; active = (sym is i).active; next_active = b.next_active });
+        previous_length = ap (λ (ts : List Tile). length ts) previous_is ∙ kept.whole.previous_length;
+        active_length = ap (λ (bs : List Bands). length bs) active_is ∙ kept.whole.active_length;
+        next_active_length = next_active_length;
+        previous_none = ap (λ (ts : List Tile). tile_of ts 0) previous_is ∙ kept.whole.previous_none;
+        previous_closed = λ k later inside. subst (λ (ts : List Tile). IsClosed s.slots.items ts k) (sym previous_is) (kept.earlier_closed going k later inside);
         settled = λ k x y later inside wide high clear.
-            ap (λ (ts : List Tile). tile_cell (tile_of ts k) x y) alt_is
-            ∙ (kept.settled k (y / 8) later inside (omega arith) (sym (ap (λ (bs : List Bands). mark_of bs k (y / 8)) todo_is) ∙ clear)).cell x y wide high refl;
+            ap (λ (ts : List Tile). tile_cell (tile_of ts k) x y) previous_is
+            ∙ (kept.settled k (y / 8) later inside (omega arith) (sym (ap (λ (bs : List Bands). mark_of bs k (y / 8)) active_is) ∙ clear)).cell x y wide high refl;
         again = λ k x y later inside wide high clear.
-            sym (state_of_slot s.index s.slots.items kept.whole.indexed s.cur.items kept.whole.cur_none k later inside x y wide high)
+            sym (state_of_slot s.index s.slots.items kept.whole.indexed s.current.items kept.whole.current_none k later inside x y wide high)
             ∙ ap (λ (G : Generation). state_at G (start_at (place_of s.slots.items k).0 +ℤ pos x) (start_at (place_of s.slots.items k).1 +ℤ pos y))
-            (kept.earlier going ∙ ap (λ (ts : List Tile). next s.rule (generation_shown s.index ts)) (sym alt_is));
+            (kept.earlier going ∙ ap (λ (ts : List Tile). next s.rule (generation_shown s.index ts)) (sym previous_is));
       }
 
-  pub begun_fresh : b ≡ record s { alt = b.alt; todo = b.todo; marks = b.marks } → length b.alt.items ≡ length s.slots.items → b.todo.items ≡ b.marks.items →
-      ((k : ℕ) → k < length s.slots.items → tile_of b.alt.items k ≡ empty_tile) →
-      IsMarkedNear s.slots.items s.cur.items b.marks.items (length s.slots.items) → IsBegun s b
-  begun_fresh is alt_length todo_is empties marked =
-      let none : tile_of b.alt.items 0 ≡ empty_tile = empties 0 kept.whole.indexed.some in
-      let dead : (X Y : ℤ) → state_at (generation_shown s.index b.alt.items) X Y ≡ 0 = empty_state s.index s.slots.items kept.whole.indexed b.alt.items none empties in
-      let bare : (k band : ℕ) → 0 < k → k < length s.slots.items → band < 8 → mark_of b.marks.items k band ≡ 0 → (X Y : ℤ) → IsBeside X (place_of s.slots.items k).0 →
+  pub begun_fresh : b ≡ record s { previous = b.previous; active = b.active; next_active = b.next_active } → length b.previous.items ≡ length s.slots.items → b.active.items ≡ b.next_active.items →
+      ((k : ℕ) → k < length s.slots.items → tile_of b.previous.items k ≡ empty_tile) →
+      IsMarkedNear s.slots.items s.current.items b.next_active.items (length s.slots.items) → IsBegun s b
+  begun_fresh is previous_length active_is empties marked =
+      let none : tile_of b.previous.items 0 ≡ empty_tile = empties 0 kept.whole.indexed.some in
+      let dead : (X Y : ℤ) → state_at (generation_shown s.index b.previous.items) X Y ≡ 0 = empty_state s.index s.slots.items kept.whole.indexed b.previous.items none empties in
+      let bare : (k band : ℕ) → 0 < k → k < length s.slots.items → band < 8 → mark_of b.next_active.items k band ≡ 0 → (X Y : ℤ) → IsBeside X (place_of s.slots.items k).0 →
       ((start_at (place_of s.slots.items k).1 +ℤ pos (8 * band)) -ℤ pos 1) ≤ℤ Y → Y ≤ℤ (start_at (place_of s.slots.items k).1 +ℤ pos (8 * band + 8)) → state_at (members_of s) X Y ≡ 0 =
       λ k band later inside small clear X Y beside low high.
-      unchanged s.index s.slots.items kept.whole.indexed b.alt.items s.cur.items b.marks.items none kept.whole.cur_none
+      unchanged s.index s.slots.items kept.whole.indexed b.previous.items s.current.items b.next_active.items none kept.whole.current_none
       (λ j m n x y j_later j_inside m_small n_small wide y_high near none_there.
       marked.near j m n x y j_later j_inside m_small n_small wide y_high near none_there
       ∙ sym (ap (λ (t : Tile). tile_cell t x y) (empties j j_inside) ∙ empty_cell x y))
@@ -71,13 +71,13 @@ module _ (s b : Slab) (kept : IsKept s) (marks_length : length b.marks.items ≡
       ∙ dead X Y in
       record {
         same = is;
-        alt_length = alt_length;
-        todo_length = ap (λ (bs : List Bands). length bs) todo_is ∙ marks_length;
-        marks_length = marks_length;
-        alt_none = none;
-        alt_closed = λ k later inside. record { closed = λ m small link. empty_still (tile_of b.alt.items k) m (empties k inside) };
+        previous_length = previous_length;
+        active_length = ap (λ (bs : List Bands). length bs) active_is ∙ next_active_length;
+        next_active_length = next_active_length;
+        previous_none = none;
+        previous_closed = λ k later inside. record { closed = λ m small link. empty_still (tile_of b.previous.items k) m (empties k inside) };
         settled = λ k x y later inside wide high clear.
-            let band_clear : mark_of b.marks.items k (y / 8) ≡ 0 = sym (ap (λ (bs : List Bands). mark_of bs k (y / 8)) todo_is) ∙ clear in
+            let band_clear : mark_of b.next_active.items k (y / 8) ≡ 0 = sym (ap (λ (bs : List Bands). mark_of bs k (y / 8)) active_is) ∙ clear in
             let row : 8 * (y / 8) ≤ y = omega arith in
             let end : y < 8 * (y / 8) + 8 = omega arith in
             ap (λ (t : Tile). tile_cell t x y) (empties k inside) ∙ empty_cell x y
@@ -89,10 +89,10 @@ module _ (s b : Slab) (kept : IsKept s) (marks_length : length b.marks.items ≡
         again = λ k x y later inside wide high clear.
             let row : 8 * (y / 8) ≤ y = omega arith in
             let end : y < 8 * (y / 8) + 8 = omega arith in
-            sym (state_of_slot s.index s.slots.items kept.whole.indexed s.cur.items kept.whole.cur_none k later inside x y wide high)
+            sym (state_of_slot s.index s.slots.items kept.whole.indexed s.current.items kept.whole.current_none k later inside x y wide high)
             ∙ bare k (y / 8) later inside (omega arith) clear (start_at (place_of s.slots.items k).0 +ℤ pos x) (start_at (place_of s.slots.items k).1 +ℤ pos y)
             (record { from = omega (arith, ints); to = omega (arith, ints) }) (omega (arith, ints)) (omega (arith, ints))
             ∙ sym
-            (dead_next s.rule (generation_shown s.index b.alt.items) (start_at (place_of s.slots.items k).0 +ℤ pos x) (start_at (place_of s.slots.items k).1 +ℤ pos y)
+            (dead_next s.rule (generation_shown s.index b.previous.items) (start_at (place_of s.slots.items k).0 +ℤ pos x) (start_at (place_of s.slots.items k).1 +ℤ pos y)
             (λ p q p1 p2 q1 q2. dead p q));
       }

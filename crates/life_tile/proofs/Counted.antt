@@ -31,10 +31,10 @@ lacks cs c not =
     ⊎_elim (λ has. absurd (not (sym (contains-from_list cs c) ∙ has))) (λ none. none) (true_or_false (contains (from_list cs) c))
 
 pub size-fresh : (cs : List Cell) → IsFresh cs → size (from_list cs) ≡ length cs
-size-fresh [] fresh = size-empty
-size-fresh (c ∷ cs) fresh =
-    let more : size (insert (from_list cs) c) ≡ size (from_list cs) + 1 = size-insert (from_list cs) c (lacks cs c fresh.0) in
-    let rest : size (from_list cs) ≡ length cs = size-fresh cs fresh.1 in
+size-fresh [] lacks_previous = size-empty
+size-fresh (c ∷ cs) lacks_previous =
+    let more : size (insert (from_list cs) c) ≡ size (from_list cs) + 1 = size-insert (from_list cs) c (lacks cs c lacks_previous.0) in
+    let rest : size (from_list cs) ≡ length cs = size-fresh cs lacks_previous.1 in
     omega arith
 
 -- ---- how many bits are set

@@ -11,12 +11,12 @@ use Rattle.life_model.specs.Cell.{Cell, plus}
 use Rattle.life_model.specs.Generation.{Generation}
 use Rattle.life_cells.specs.Limits.{IsPlace}
 use Rattle.life_bits.proofs.Strips.{bit_at_mod}
-use Rattle.life_tile.specs.declared.slab.Slab.{Slab}
+use Rattle.life_tile.specs.declared.tile_store.TileStore.{TileStore}
 use Rattle.life_tile.specs.Ends.{IsMember}
 use Rattle.life_tile.specs.Places.{start_at}
 use Rattle.life_tile.specs.Reach.{corner_at, IsTileIn}
 use Rattle.life_tile.specs.Slots.{place_of, tile_of, IsReached}
-use Rattle.life_tile.specs.Slabs.{IsKept, members_of}
+use Rattle.life_tile.specs.TileStores.{IsKept, members_of}
 use Rattle.life_tile.proofs.Edges.{member_live, live_member}
 use Rattle.life_tile.proofs.Bits.{bit_at_rest, bit_cases}
 
@@ -102,9 +102,9 @@ corner_placed_below age place young reached = record {
   below = omega (arith, ints, reached.south);
 }
 
-module _ (other : Slab) (kept : IsKept other) (G : Generation) (by : Cell) where
+module _ (other : TileStore) (kept : IsKept other) (G : Generation) (by : Cell) where
   abbrev tile_covered : ℕ → Type 0
-  tile_covered k = IsTileIn G (tile_of other.cur.items k) (corner_at (place_of other.slots.items k)) by
+  tile_covered k = IsTileIn G (tile_of other.current.items k) (corner_at (place_of other.slots.items k)) by
 
   pub tile_by_members : ((c : Cell) → IsMember (members_of other) c → IsMember G (plus c by)) → (k : ℕ) → 0 < k → k < length other.slots.items → tile_covered k
   tile_by_members all k later inside = record {

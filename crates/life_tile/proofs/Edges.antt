@@ -10,9 +10,9 @@ use Rattle.life_plane.proofs.Spans.{set_span_of_cells}
 use Rattle.life_bits.specs.Flags.{as_bit}
 use Rattle.life_tile.specs.Places.{start_at}
 use Rattle.life_tile.specs.declared.ends.Ends.{Ends}
-use Rattle.life_tile.specs.declared.slab.Slab.{Slab}
+use Rattle.life_tile.specs.declared.tile_store.TileStore.{TileStore}
 use Rattle.life_tile.specs.Slots.{slot_at, place_of}
-use Rattle.life_tile.specs.Slabs.{state_at, members_of, IsKept, IsSlotOf}
+use Rattle.life_tile.specs.TileStores.{state_at, members_of, IsKept, IsSlotOf}
 use Rattle.life_tile.specs.Ends.{IsNoLater, IsMember, IsLiveAt, HasEnds, AreEnds}
 use Rattle.life_tile.proofs.Splits.{Split, split, same_flag}
 use Rattle.life_tile.proofs.Members.{Has, has_head, has_tail, has_cases, has_none}
@@ -84,11 +84,11 @@ set_span_of_none G none = set_span_of_cells G (cells G) origin refl (none_is (ce
 
 -- ---- a cell is a member exactly where it is live in the tile of a slot
 
-module _ (slab : Slab) (kept : IsKept slab) where
+module _ (store : TileStore) (kept : IsKept store) where
   abbrev members : Generation
-  members = members_of slab
+  members = members_of store
 
-  pub member_live : (c : Cell) → IsMember members c → IsLiveAt slab.slots.items slab.cur.items (length slab.slots.items) c
+  pub member_live : (c : Cell) → IsMember members c → IsLiveAt store.slots.items store.current.items (length store.slots.items) c
   member_live c is =
       let s : Split c.0 = split c.0 in
       let t : Split c.1 = split c.1 in
@@ -98,11 +98,11 @@ module _ (slab : Slab) (kept : IsKept slab) where
       ⊎_elim
       (λ absent.
       let none : state_at members (start_at s.quotient +ℤ pos s.remainder) (start_at t.quotient +ℤ pos t.remainder) ≡ 0 =
-      state_absent slab.index slab.slots.items kept.whole.indexed slab.cur.items kept.whole.cur_none (s.quotient, t.quotient) s.remainder t.remainder s.small t.small absent in
+      state_absent store.index store.slots.items kept.whole.indexed store.current.items kept.whole.current_none (s.quotient, t.quotient) s.remainder t.remainder s.small t.small absent in
       absurd (never_both _ one none))
-      (λ (there : IsSlotOf slab.slots.items (s.quotient, t.quotient) (slot_at slab.index (s.quotient, t.quotient))).
+      (λ (there : IsSlotOf store.slots.items (s.quotient, t.quotient) (slot_at store.index (s.quotient, t.quotient))).
       record {
-        k = slot_at slab.index (s.quotient, t.quotient);
+        k = slot_at store.index (s.quotient, t.quotient);
         later = there.later;
         before = there.inside;
         here = record {
@@ -110,20 +110,20 @@ module _ (slab : Slab) (kept : IsKept slab) where
           y = t.remainder;
           wide = s.small;
           high = t.small;
-          live = sym (shown_state slab.index slab.cur.items kept.whole.indexed.ordered kept.whole.cur_none s.quotient t.quotient s.remainder t.remainder s.small t.small) ∙ one;
+          live = sym (shown_state store.index store.current.items kept.whole.indexed.ordered kept.whole.current_none s.quotient t.quotient s.remainder t.remainder s.small t.small) ∙ one;
           is = at ∙ ap (λ (p : ℤ × ℤ). (start_at p.0 +ℤ pos s.remainder, start_at p.1 +ℤ pos t.remainder)) (sym there.place);
         };
       })
-      (slot_cases slab.index slab.slots.items kept.whole.indexed (s.quotient, t.quotient))
+      (slot_cases store.index store.slots.items kept.whole.indexed (s.quotient, t.quotient))
 
-  pub live_member : (c : Cell) → IsLiveAt slab.slots.items slab.cur.items (length slab.slots.items) c → IsMember members c
+  pub live_member : (c : Cell) → IsLiveAt store.slots.items store.current.items (length store.slots.items) c → IsMember members c
   live_member c live =
       let here = live.here in
-      let one : state_at members (start_at (place_of slab.slots.items live.k).0 +ℤ pos here.x) (start_at (place_of slab.slots.items live.k).1 +ℤ pos here.y) ≡ 1 =
-      state_of_slot slab.index slab.slots.items kept.whole.indexed slab.cur.items kept.whole.cur_none live.k live.later live.before here.x here.y here.wide here.high ∙ here.live in
+      let one : state_at members (start_at (place_of store.slots.items live.k).0 +ℤ pos here.x) (start_at (place_of store.slots.items live.k).1 +ℤ pos here.y) ≡ 1 =
+      state_of_slot store.index store.slots.items kept.whole.indexed store.current.items kept.whole.current_none live.k live.later live.before here.x here.y here.wide here.high ∙ here.live in
       ap (contains members) here.is ∙ same_flag _ true one
 
-  pub member_ends : (ends : Option Ends) → AreEnds (IsLiveAt slab.slots.items slab.cur.items (length slab.slots.items)) ends → AreEnds (IsMember members) ends
+  pub member_ends : (ends : Option Ends) → AreEnds (IsLiveAt store.slots.items store.current.items (length store.slots.items)) ends → AreEnds (IsMember members) ends
   member_ends None none = λ c is. none c (member_live c is)
   member_ends (Some ends) has = record {
     first = live_member ends.first has.first;

@@ -9,7 +9,7 @@ use Rattle.life_model.specs.Generation.{Generation, contains, from_list, below_a
 use Rattle.life_model.proofs.Cells.{pair}
 use Rattle.life_model.proofs.Generations.{contains-from_list}
 use Rattle.life_model.proofs.Symmetries.{contains-moved}
-use Rattle.life_plane.specs.Ways.{AreApart}
+use Rattle.life_plane.specs.Offsets.{AreNotTranslates}
 use Rattle.life_tile.specs.declared.ends.Ends.{Ends}
 use Rattle.life_tile.specs.Ends.{HasEnds, IsMember, IsNoLater}
 use Rattle.life_tile.proofs.Orders.{true_or_false}
@@ -108,7 +108,7 @@ turn_back a b = pair (omega (arith, ints)) (omega (arith, ints))
 
 -- a set of which a member is moved back to no cell of a list is not the list's, moved
 pub apart_by_stranger : (cs : List Cell) (H : Generation) → T (is_rising cs) → (ends : Ends) → HasEnds (IsMember H) ends →
-    (((c : Cell) → IsMember H c → IsMember (from_list cs) (plus c (plus (get_or cs 0 origin) (opposite ends.first)))) → ⊥) → AreApart (from_list cs) H
+    (((c : Cell) → IsMember H c → IsMember (from_list cs) (plus c (plus (get_or cs 0 origin) (opposite ends.first)))) → ⊥) → AreNotTranslates (from_list cs) H
 apart_by_stranger cs H rising ends has missing d is =
     let by : plus ends.first (opposite (get_or cs 0 origin)) ≡ d = first_moved cs H rising ends has d is in
     let back : plus (get_or cs 0 origin) (opposite ends.first) ≡ opposite d = turn_back (get_or cs 0 origin) ends.first ∙ ap opposite by in

@@ -12,9 +12,9 @@ use Rattle.life_bits.specs.Area.{tile_cell}
 use Rattle.life_tile.specs.Places.{start_at}
 use Rattle.life_tile.specs.Cells.{row_cells, block_cells, tile_count}
 use Rattle.life_tile.specs.declared.slot.Slot.{Slot}
-use Rattle.life_tile.specs.declared.slab.Slab.{Slab}
+use Rattle.life_tile.specs.declared.tile_store.TileStore.{TileStore}
 use Rattle.life_tile.specs.Slots.{Index, slot_at, place_of, tile_of, empty_tile}
-use Rattle.life_tile.specs.Slabs.{IsIndexed, IsKept, members_of}
+use Rattle.life_tile.specs.TileStores.{IsIndexed, IsKept, members_of}
 use Rattle.life_tile.specs.Ends.{IsLiveIn, IsLiveAt}
 use Rattle.life_tile.proofs.Splits.{same_quotient}
 use Rattle.life_tile.proofs.Members.{Has, has_none, has_parts, has_front, has_back, BlockHas, block_has, block_in, row_in}
@@ -124,17 +124,17 @@ module _ (slots : List Slot) (tiles : List Tile) where
           (one_slot n (omega arith))
 
 -- there are as many members as live cells in the tiles
-pub size_kept : (slab : Slab) → IsKept slab → size (members_of slab) ≡ sum_by tile_count slab.cur.items
+pub size_kept : (store : TileStore) → IsKept store → size (members_of store) ≡ sum_by tile_count store.current.items
 unfolding Has
-size_kept slab kept =
-    let n : ℕ = length slab.slots.items in
-    let cs : List Cell = slots_cells slab.slots.items slab.cur.items n in
-    let count : length slab.cur.items ≡ length slab.slots.items = kept.whole.cur_length in
+size_kept store kept =
+    let n : ℕ = length store.slots.items in
+    let cs : List Cell = slots_cells store.slots.items store.current.items n in
+    let count : length store.current.items ≡ length store.slots.items = kept.whole.current_length in
     ap size
-    (same_members (members_of slab) (from_list cs)
-    (λ q. both_ways (contains (members_of slab) q) (contains (from_list cs) q)
-    (λ is. contains-from_list cs q ∙ live_has slab.slots.items slab.cur.items n q (member_live slab kept q is))
-    (λ is. live_member slab kept q (has_live slab.slots.items slab.cur.items kept.whole.cur_none n q (sym (contains-from_list cs q) ∙ is)))))
-    ∙ size-fresh cs (fresh_slots slab.slots.items slab.cur.items kept.whole.cur_none slab.index kept.whole.indexed n (omega arith))
-    ∙ length-slots_cells slab.slots.items slab.cur.items n (omega arith)
-    ∙ ap (λ (ts : List Tile). sum_by tile_count ts) (take_all n slab.cur.items (omega arith))
+    (same_members (members_of store) (from_list cs)
+    (λ q. both_ways (contains (members_of store) q) (contains (from_list cs) q)
+    (λ is. contains-from_list cs q ∙ live_has store.slots.items store.current.items n q (member_live store kept q is))
+    (λ is. live_member store kept q (has_live store.slots.items store.current.items kept.whole.current_none n q (sym (contains-from_list cs q) ∙ is)))))
+    ∙ size-fresh cs (fresh_slots store.slots.items store.current.items kept.whole.current_none store.index kept.whole.indexed n (omega arith))
+    ∙ length-slots_cells store.slots.items store.current.items n (omega arith)
+    ∙ ap (λ (ts : List Tile). sum_by tile_count ts) (take_all n store.current.items (omega arith))

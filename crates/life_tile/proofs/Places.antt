@@ -16,7 +16,7 @@ use Rattle.life_tile.proofs.Splits.{Split, split}
 use Rattle.life_tile.specs.declared.slot.Slot.{Slot}
 use Rattle.life_tile.specs.Slots.{Index, slot_at, neighbour_at, place_of, links_of, link_of, tile_of, empty_tile, nine_linked, generation_shown}
 use Rattle.life_tile.specs.Rims.{IsEdge, IsAtEdge}
-use Rattle.life_tile.specs.Slabs.{state_at, IsIndexed, IsSlotOf, IsClosed}
+use Rattle.life_tile.specs.TileStores.{state_at, IsIndexed, IsSlotOf, IsClosed}
 use Rattle.life_tile.proofs.Shown.{empty_cell, shown_state}
 use Rattle.life_tile.proofs.Windows.{Shows, next_shown}
 

@@ -8,13 +8,13 @@ use Rattle.std.proofs.lemmas.List.Elements.{All-cons, All-head, All-tail, All-ma
 use Rattle.std.proofs.lemmas.Map.Views.{All-from_any}
 use Rattle.life_model.specs.Cell.{Cell, cell_cmp, origin, plus, opposite}
 use Rattle.life_model.specs.Generation.{Generation, contains, cells, size, from_list, below_all, is_rising}
-use Rattle.life_model.specs.Symmetry.{moved}
+use Rattle.life_model.specs.Symmetry.{translate_of}
 use Rattle.life_model.proofs.Cells.{cell_cmp_total, plus-opposite}
 use Rattle.life_model.proofs.Generations.{cells-rise, cells-from_list, from_list-cells, contains-from_list, size-cells}
 use Rattle.life_model.proofs.Lists.{cells-moved, moved-from_list}
 use Rattle.life_model.proofs.Symmetries.{contains-moved}
-use Rattle.life_plane.specs.Ways.{AreApart, IsWay}
-use Rattle.life_plane.proofs.Ways.{apart_by_length, plus_back, way_of_none}
+use Rattle.life_plane.specs.Offsets.{AreNotTranslates, IsOffset}
+use Rattle.life_plane.proofs.Offsets.{apart_by_length, plus_back, offset_of_none}
 use Rattle.life_tile.specs.declared.ends.Ends.{Ends}
 use Rattle.life_tile.specs.Ends.{IsMember, IsNoLater, HasEnds}
 use Rattle.life_tile.proofs.Members.{Has, has_head, has_cases, has_none}
@@ -119,19 +119,19 @@ some_by_ends H n ends has counted =
 
 module _ (cs : List Cell) (H : Generation) (rising : T (is_rising cs)) where
   -- how far a set that has no cell is
-  pub way_of_nothing : ((c : Cell) → IsMember H c → ⊥) → size H ≡ length cs → IsWay (from_list cs) H origin
-  way_of_nothing none same =
+  pub offset_of_nothing : ((c : Cell) → IsMember H c → ⊥) → size H ≡ length cs → IsOffset (from_list cs) H origin
+  offset_of_nothing none same =
       let empty : length (cells H) ≡ 0 = none_listed (cells H) (λ c has. none c (member_has H c has)) in
-      subst (λ X. IsWay (from_list cs) X origin) (from_list-cells H) (way_of_none cs (cells H) (sym same ∙ size-cells H ∙ empty) empty)
+      subst (λ X. IsOffset (from_list cs) X origin) (from_list-cells H) (offset_of_none cs (cells H) (sym same ∙ size-cells H ∙ empty) empty)
 
-  pub apart_by_count : size H ≢ length cs → AreApart (from_list cs) H
+  pub apart_by_count : size H ≢ length cs → AreNotTranslates (from_list cs) H
   apart_by_count differ d is = apart_by_length cs (cells H) rising (cells-rise H) (λ same. differ (size-cells H ∙ sym same)) d (from_list-cells H ∙ is)
 
-  pub way_of_all : (d : Cell) → 0 < length cs → size H ≡ length cs → All (λ c. IsMember H (plus c d)) cs → IsWay (from_list cs) H d
-  way_of_all d some same all =
+  pub offset_of_all : (d : Cell) → 0 < length cs → size H ≡ length cs → All (λ c. IsMember H (plus c d)) cs → IsOffset (from_list cs) H d
+  offset_of_all d some same all =
       let there : List Cell = map (λ c. plus c d) cs in
-      let list_is : cells (moved (from_list cs) d) ≡ there = cells-moved (from_list cs) d ∙ ap (map (λ c. plus c d)) (cells-from_list cs rising) in
-      let up : T (is_rising there) = subst (λ l. T (is_rising l)) list_is (cells-rise (moved (from_list cs) d)) in
+      let list_is : cells (translate_of (from_list cs) d) ≡ there = cells-moved (from_list cs) d ∙ ap (map (λ c. plus c d)) (cells-from_list cs rising) in
+      let up : T (is_rising there) = subst (λ l. T (is_rising l)) list_is (cells-rise (translate_of (from_list cs) d)) in
       let has : All (Has (cells H)) there =
       All-map (Has (cells H)) (λ c. plus c d) cs (All-weaker (λ c. IsMember H (plus c d)) (λ c. Has (cells H) (plus c d)) (λ c is. has_member H (plus c d) is) cs all) in
       let long : length there ≡ length (cells H) = length-map cs (λ c. plus c d) ∙ sym same ∙ size-cells H in
@@ -141,10 +141,10 @@ module _ (cs : List Cell) (H : Generation) (rising : T (is_rising cs)) where
         unmoved = λ none. absurd (let no_cell : length cs ≡ 0 = ap length (sym (cells-from_list cs rising) ∙ ap cells none ∙ cells-from_list [] tt) in omega arith);
       }
 
-  listed_moved : (d : Cell) → H ≡ moved (from_list cs) d → cells H ≡ map (λ c. plus c d) cs
+  listed_moved : (d : Cell) → H ≡ translate_of (from_list cs) d → cells H ≡ map (λ c. plus c d) cs
   listed_moved d is = (moved-from_list cs (cells H) d rising (cells-rise H)).0 (from_list-cells H ∙ is)
 
-  members_moved : (d : Cell) → H ≡ moved (from_list cs) d → All (λ c. IsMember H (plus c d)) cs
+  members_moved : (d : Cell) → H ≡ translate_of (from_list cs) d → All (λ c. IsMember H (plus c d)) cs
   members_moved d is =
       All-from_any (eq_by_cmp_equiv cell_cmp_total) (λ c. IsMember H (plus c d)) cs
       (λ q has.
@@ -152,7 +152,7 @@ module _ (cs : List Cell) (H : Generation) (rising : T (is_rising cs)) where
       ∙ contains-from_list cs q ∙ has)
 
 -- a set that is the list's, moved, has its first member where the list's first cell is moved to
-pub first_moved : (cs : List Cell) (H : Generation) → T (is_rising cs) → (ends : Ends) → HasEnds (IsMember H) ends → (d : Cell) → H ≡ moved (from_list cs) d →
+pub first_moved : (cs : List Cell) (H : Generation) → T (is_rising cs) → (ends : Ends) → HasEnds (IsMember H) ends → (d : Cell) → H ≡ translate_of (from_list cs) d →
     plus ends.first (opposite (get_or cs 0 origin)) ≡ d
 first_moved [] H rising ends has d is =
     absurd (has_none ends.first (subst (λ l. Has l ends.first) (listed_moved [] H rising d is) (has_member H ends.first has.first)))
@@ -164,7 +164,7 @@ first_moved (c ∷ cs) H rising ends has d is =
     ap (λ e. plus e (opposite c)) (sym head) ∙ plus_back c d
 
 pub apart_by_missing : (cs : List Cell) (H : Generation) → T (is_rising cs) → (ends : Ends) → HasEnds (IsMember H) ends →
-    (All (λ c. IsMember H (plus c (plus ends.first (opposite (get_or cs 0 origin))))) cs → ⊥) → AreApart (from_list cs) H
+    (All (λ c. IsMember H (plus c (plus ends.first (opposite (get_or cs 0 origin))))) cs → ⊥) → AreNotTranslates (from_list cs) H
 apart_by_missing cs H rising ends has missing d is =
     missing (subst (λ m. All (λ c. IsMember H (plus c m)) cs) (sym (first_moved cs H rising ends has d is)) (members_moved cs H rising d is))
 
@@ -189,27 +189,27 @@ module _ (G H : Generation) where
   listed_again : from_list (cells G) ≡ G
   listed_again = from_list-cells G
 
-  pub way_of_no_cell : size G ≡ 0 → size H ≡ 0 → IsWay G H origin
-  way_of_no_cell none none_too =
-      subst (λ X. IsWay X H origin) listed_again
-      (subst (λ X. IsWay (from_list (cells G)) X origin) (from_list-cells H) (way_of_none (cells G) (cells H) (sym (size-cells G) ∙ none) (sym (size-cells H) ∙ none_too)))
+  pub offset_of_no_cell : size G ≡ 0 → size H ≡ 0 → IsOffset G H origin
+  offset_of_no_cell none none_too =
+      subst (λ X. IsOffset X H origin) listed_again
+      (subst (λ X. IsOffset (from_list (cells G)) X origin) (from_list-cells H) (offset_of_none (cells G) (cells H) (sym (size-cells G) ∙ none) (sym (size-cells H) ∙ none_too)))
 
-  pub sets_apart_by_count : size H ≢ size G → AreApart G H
+  pub sets_apart_by_count : size H ≢ size G → AreNotTranslates G H
   sets_apart_by_count differ =
-      subst (λ X. AreApart X H) listed_again (apart_by_count (cells G) H (cells-rise G) (λ same. differ (same ∙ sym (size-cells G))))
+      subst (λ X. AreNotTranslates X H) listed_again (apart_by_count (cells G) H (cells-rise G) (λ same. differ (same ∙ sym (size-cells G))))
 
-  pub way_of_members : (d : Cell) → 0 < size G → size H ≡ size G → ((c : Cell) → IsMember G c → IsMember H (plus c d)) → IsWay G H d
-  way_of_members d some same each =
+  pub offset_of_members : (d : Cell) → 0 < size G → size H ≡ size G → ((c : Cell) → IsMember G c → IsMember H (plus c d)) → IsOffset G H d
+  offset_of_members d some same each =
       let more : 0 < length (cells G) = subst (λ n. 0 < n) (size-cells G) some in
-      subst (λ X. IsWay X H d) listed_again
-      (way_of_all (cells G) H (cells-rise G) d more (same ∙ size-cells G) (all_members G (λ c. IsMember H (plus c d)) each))
+      subst (λ X. IsOffset X H d) listed_again
+      (offset_of_all (cells G) H (cells-rise G) d more (same ∙ size-cells G) (all_members G (λ c. IsMember H (plus c d)) each))
 
   pub sets_apart_by_missing : (from to : Ends) → HasEnds (IsMember G) from → HasEnds (IsMember H) to →
-      (((c : Cell) → IsMember G c → IsMember H (plus c (plus to.first (opposite from.first)))) → ⊥) → AreApart G H
+      (((c : Cell) → IsMember G c → IsMember H (plus c (plus to.first (opposite from.first)))) → ⊥) → AreNotTranslates G H
   sets_apart_by_missing from to has_from has_to missing d is =
       let by : plus to.first (opposite from.first) ≡ d =
       ap (λ c. plus to.first (opposite c)) (sym (first_member G from has_from))
-      ∙ first_moved (cells G) H (cells-rise G) to has_to d (is ∙ ap (λ X. moved X d) (sym listed_again)) in
+      ∙ first_moved (cells G) H (cells-rise G) to has_to d (is ∙ ap (λ X. translate_of X d) (sym listed_again)) in
       missing
       (subst (λ m. (c : Cell) → IsMember G c → IsMember H (plus c m)) (sym by)
       (λ c in_set. ap (λ X. contains X (plus c d)) is ∙ contains-moved G d (plus c d) ∙ ap (contains G) (plus-opposite c d) ∙ in_set))

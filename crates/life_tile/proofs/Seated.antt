@@ -14,7 +14,7 @@ use Rattle.life_tile.specs.Cells.{row_cells, block_cells, tiles_cells}
 use Rattle.life_tile.specs.Places.{start_at, IsInside}
 use Rattle.life_tile.specs.Seats.{has_line, has_rows, has_tile, IsBetween}
 use Rattle.life_tile.specs.Ends.{IsVoid}
-use Rattle.life_tile.specs.Slots.{tile_of, shown}
+use Rattle.life_tile.specs.Slots.{tile_of, placed_tiles}
 use Rattle.life_tile.specs.declared.seats.Seat.{Seat}
 use Rattle.life_tile.proofs.Listed.{shown_none}
 use Rattle.life_tile.proofs.Members.{Has, BlockHas, block_has}
@@ -200,20 +200,20 @@ abbrev pub seat_of : Entry → Seat
 seat_of e = record { row = e.0.1; column = e.0.0; slot = e.1 }
 
 tiles_first : (tiles : List Tile) (q : Cell) (e : Entry) (rest : List Entry) →
-    list_any (same_cell q) (tiles_cells (shown (e ∷ rest) tiles)) ≡ (has_tile tiles q (seat_of e) || list_any (same_cell q) (tiles_cells (shown rest tiles)))
+    list_any (same_cell q) (tiles_cells (placed_tiles (e ∷ rest) tiles)) ≡ (has_tile tiles q (seat_of e) || list_any (same_cell q) (tiles_cells (placed_tiles rest tiles)))
 unfolding tiles_cells
-tiles_first tiles q e rest = list_any-append (same_cell q) (block_cells (start_at e.0.0) (start_at e.0.1) (tile_of tiles e.1).rows 64) (tiles_cells (shown rest tiles))
+tiles_first tiles q e rest = list_any-append (same_cell q) (block_cells (start_at e.0.0) (start_at e.0.1) (tile_of tiles e.1).rows 64) (tiles_cells (placed_tiles rest tiles))
 
 pub seat_taken : (tiles : List Tile) (q : Cell) (e : Entry) (all rest : List Entry) (seats new : List Seat) → all ≡ e ∷ rest → new ≡ seats ++ seat_of e ∷ [] →
-    (list_any (has_tile tiles q) new || list_any (same_cell q) (tiles_cells (shown rest tiles)))
-    ≡ (list_any (has_tile tiles q) seats || list_any (same_cell q) (tiles_cells (shown all tiles)))
+    (list_any (has_tile tiles q) new || list_any (same_cell q) (tiles_cells (placed_tiles rest tiles)))
+    ≡ (list_any (has_tile tiles q) seats || list_any (same_cell q) (tiles_cells (placed_tiles all tiles)))
 seat_taken tiles q e all rest seats new is pushed =
     let before = list_any (has_tile tiles q) seats in
-    let later = list_any (same_cell q) (tiles_cells (shown rest tiles)) in
+    let later = list_any (same_cell q) (tiles_cells (placed_tiles rest tiles)) in
     ap (λ (ss : List Seat). list_any (has_tile tiles q) ss || later) pushed
     ∙ ap (λ b. b || later) (list_any-append (has_tile tiles q) seats (seat_of e ∷ []) ∙ ap (λ b. before || b) (or_none (has_tile tiles q (seat_of e))))
     ∙ or_grouped before (has_tile tiles q (seat_of e)) later
-    ∙ ap (λ b. before || b) (sym (tiles_first tiles q e rest) ∙ ap (λ (es : List Entry). list_any (same_cell q) (tiles_cells (shown es tiles))) (sym is))
+    ∙ ap (λ b. before || b) (sym (tiles_first tiles q e rest) ∙ ap (λ (es : List Entry). list_any (same_cell q) (tiles_cells (placed_tiles es tiles))) (sym is))
 
 void_has : (tile : Tile) (left top : ℤ) (q : Cell) → IsVoid tile → list_any (same_cell q) (block_cells left top tile.rows 64) ≡ false
 unfolding Has
@@ -228,21 +228,21 @@ void_has tile left top q void =
 
 -- one whose tile has no live cell is passed over
 pub seat_void : (tiles : List Tile) (q : Cell) (e : Entry) (all rest : List Entry) (seats : List Seat) → all ≡ e ∷ rest → IsVoid (tile_of tiles e.1) →
-    (list_any (has_tile tiles q) seats || list_any (same_cell q) (tiles_cells (shown rest tiles)))
-    ≡ (list_any (has_tile tiles q) seats || list_any (same_cell q) (tiles_cells (shown all tiles)))
+    (list_any (has_tile tiles q) seats || list_any (same_cell q) (tiles_cells (placed_tiles rest tiles)))
+    ≡ (list_any (has_tile tiles q) seats || list_any (same_cell q) (tiles_cells (placed_tiles all tiles)))
 seat_void tiles q e all rest seats is void =
-    let later = list_any (same_cell q) (tiles_cells (shown rest tiles)) in
+    let later = list_any (same_cell q) (tiles_cells (placed_tiles rest tiles)) in
     ap (λ b. list_any (has_tile tiles q) seats || b)
     (sym
-    (ap (λ (es : List Entry). list_any (same_cell q) (tiles_cells (shown es tiles))) is
+    (ap (λ (es : List Entry). list_any (same_cell q) (tiles_cells (placed_tiles es tiles))) is
     ∙ tiles_first tiles q e rest
     ∙ ap (λ b. b || later) (void_has (tile_of tiles e.1) (start_at e.0.0) (start_at e.0.1) q void)))
 
 pub no_more : (tiles : List Tile) (q : Cell) (all : List Entry) (seats : List Seat) → all ≡ [] →
-    list_any (has_tile tiles q) seats ≡ (list_any (has_tile tiles q) seats || list_any (same_cell q) (tiles_cells (shown all tiles)))
+    list_any (has_tile tiles q) seats ≡ (list_any (has_tile tiles q) seats || list_any (same_cell q) (tiles_cells (placed_tiles all tiles)))
 no_more tiles q all seats is =
     sym (or_none (list_any (has_tile tiles q) seats))
-    ∙ ap (λ b. list_any (has_tile tiles q) seats || b) (sym (ap (list_any (same_cell q)) (tiles_none (shown all tiles) (shown_none tiles all is))))
+    ∙ ap (λ b. list_any (has_tile tiles q) seats || b) (sym (ap (list_any (same_cell q)) (tiles_none (placed_tiles all tiles) (shown_none tiles all is))))
 
 -- the seat that is pushed is the entry's, since its place fits into 32 bits
 pub seat_pushed : (e : Entry) (seats new : List Seat) → IsInside e.0 →

@@ -19,26 +19,26 @@ use Rattle.life_bits.proofs.OneCell.{no_cell}
 use Rattle.life_tile.proofs.Orders.{place_total, true_or_false}
 use Rattle.life_tile.proofs.Members.{Has, BlockHas, EntryHas, row_in, block_in, tiles_has, tiles_in}
 use Rattle.life_tile.proofs.Splits.{same_quotient, not_one, Split, split, same_flag}
-use Rattle.life_tile.specs.Slots.{Index, slot_at, tile_of, empty_tile, shown, generation_shown}
-use Rattle.life_tile.specs.Slabs.{state_at}
+use Rattle.life_tile.specs.Slots.{Index, slot_at, tile_of, empty_tile, placed_tiles, generation_shown}
+use Rattle.life_tile.specs.TileStores.{state_at}
 
 pub empty_cell : (x y : ℕ) → tile_cell empty_tile x y ≡ 0
 empty_cell x y = no_cell x y
 
-shown_lookup : (test : ℤ × ℤ → Bool) (es : List ((ℤ × ℤ) × ℕ)) (tiles : List Tile) → lookup test (shown es tiles) ≡ option_map (tile_of tiles) (lookup test es)
+shown_lookup : (test : ℤ × ℤ → Bool) (es : List ((ℤ × ℤ) × ℕ)) (tiles : List Tile) → lookup test (placed_tiles es tiles) ≡ option_map (tile_of tiles) (lookup test es)
 shown_lookup test [] tiles = refl
 shown_lookup test (e ∷ es) tiles =
-    elim (test e.0) as (λ b. cond b (Some (tile_of tiles e.1)) (lookup test (shown es tiles)) ≡ option_map (tile_of tiles) (cond b (Some e.1) (lookup test es))) [
+    elim (test e.0) as (λ b. cond b (Some (tile_of tiles e.1)) (lookup test (placed_tiles es tiles)) ≡ option_map (tile_of tiles) (cond b (Some e.1) (lookup test es))) [
       | true ↦ refl
       | false ↦ shown_lookup test es tiles
     ]
 
-length-shown : (es : List ((ℤ × ℤ) × ℕ)) (tiles : List Tile) → length (shown es tiles) ≡ length es
+length-shown : (es : List ((ℤ × ℤ) × ℕ)) (tiles : List Tile) → length (placed_tiles es tiles) ≡ length es
 length-shown [] tiles = refl
 length-shown (e ∷ es) tiles = ap suc (length-shown es tiles)
 
 get_or-shown : (es : List ((ℤ × ℤ) × ℕ)) (tiles : List Tile) (k : ℕ) (d : (ℤ × ℤ) × ℕ) →
-    get_or (shown es tiles) k (d.0, tile_of tiles d.1) ≡ ((get_or es k d).0, tile_of tiles (get_or es k d).1)
+    get_or (placed_tiles es tiles) k (d.0, tile_of tiles d.1) ≡ ((get_or es k d).0, tile_of tiles (get_or es k d).1)
 get_or-shown [] tiles k d = refl
 get_or-shown (e ∷ es) tiles zero d = refl
 get_or-shown (e ∷ es) tiles (suc k) d = get_or-shown es tiles k d
@@ -48,10 +48,10 @@ same_remainder a b x j p q is = omega (arith, ints)
 
 module _ (index : Index) (tiles : List Tile) (ordered : IsOrdered place_cmp index) (none : tile_of tiles 0 ≡ empty_tile) where
   set_from_has : (column row : ℤ) (x y : ℕ) → x < 64 → y < 64 →
-      Has (tiles_cells (shown index.entries tiles)) (start_at column +ℤ pos x, start_at row +ℤ pos y) → tile_cell (tile_of tiles (slot_at index (column, row))) x y ≡ 1
+      Has (tiles_cells (placed_tiles index.entries tiles)) (start_at column +ℤ pos x, start_at row +ℤ pos y) → tile_cell (tile_of tiles (slot_at index (column, row))) x y ≡ 1
   set_from_has column row x y p q has =
       let d : (ℤ × ℤ) × ℕ = ((pos 0, pos 0), 0) in
-      let entry : EntryHas (shown index.entries tiles) (start_at column +ℤ pos x, start_at row +ℤ pos y) = tiles_has _ _ has in
+      let entry : EntryHas (placed_tiles index.entries tiles) (start_at column +ℤ pos x, start_at row +ℤ pos y) = tiles_has _ _ has in
       let e : (ℤ × ℤ) × ℕ = get_or index.entries entry.k d in
       let inside : entry.k < length index.entries = subst (λ (n : ℕ). entry.k < n) (length-shown index.entries tiles) entry.inside in
       let block : BlockHas (start_at e.0.0) (start_at e.0.1) (tile_of tiles e.1).rows 64 (start_at column +ℤ pos x, start_at row +ℤ pos y) =
@@ -70,16 +70,16 @@ module _ (index : Index) (tiles : List Tile) (ordered : IsOrdered place_cmp inde
 
   has_from_set : (column row : ℤ) (x y : ℕ) (k : ℕ) → x < 64 → y < 64 →
       get place_cmp index (column, row) ≡ Some k → tile_cell (tile_of tiles k) x y ≡ 1 →
-      Has (tiles_cells (shown index.entries tiles)) (start_at column +ℤ pos x, start_at row +ℤ pos y)
+      Has (tiles_cells (placed_tiles index.entries tiles)) (start_at column +ℤ pos x, start_at row +ℤ pos y)
   has_from_set column row x y k p q found is =
-      tiles_in (shown index.entries tiles) (column, row) (tile_of tiles k) _
+      tiles_in (placed_tiles index.entries tiles) (column, row) (tile_of tiles k) _
       (shown_lookup (is_at (place_cmp (column, row))) index.entries tiles ∙ ap (λ o. option_map (tile_of tiles) o) found)
       (block_in (start_at column) (start_at row) (tile_of tiles k).rows 64 y _ q
       (row_in (start_at column) (start_at row +ℤ pos y) (slice_index (tile_of tiles k).rows y) 64 x p is))
 
-  has_test : (q : Cell) → contains (generation_shown index tiles) q ≡ list_any (same_cell q) (tiles_cells (shown index.entries tiles))
+  has_test : (q : Cell) → contains (generation_shown index tiles) q ≡ list_any (same_cell q) (tiles_cells (placed_tiles index.entries tiles))
   unfolding generation_shown
-  has_test q = contains-from_list (tiles_cells (shown index.entries tiles)) q
+  has_test q = contains-from_list (tiles_cells (placed_tiles index.entries tiles)) q
 
   option_cases : (o : Option ℕ) → (o ≡ None) ⊎ ((k : ℕ) × (o ≡ Some k))
   option_cases None = inl refl
@@ -92,9 +92,9 @@ module _ (index : Index) (tiles : List Tile) (ordered : IsOrdered place_cmp inde
   shown_state column row x y p q =
       ap as_bit (has_test (start_at column +ℤ pos x, start_at row +ℤ pos y))
       ∙ ⊎_elim
-      (λ (has : list_any (same_cell (start_at column +ℤ pos x, start_at row +ℤ pos y)) (tiles_cells (shown index.entries tiles)) ≡ true).
+      (λ (has : list_any (same_cell (start_at column +ℤ pos x, start_at row +ℤ pos y)) (tiles_cells (placed_tiles index.entries tiles)) ≡ true).
       ap as_bit has ∙ sym (set_from_has column row x y p q has))
-      (λ (lacks : list_any (same_cell (start_at column +ℤ pos x, start_at row +ℤ pos y)) (tiles_cells (shown index.entries tiles)) ≡ false).
+      (λ (lacks : list_any (same_cell (start_at column +ℤ pos x, start_at row +ℤ pos y)) (tiles_cells (placed_tiles index.entries tiles)) ≡ false).
       ap as_bit lacks
       ∙ sym (not_one (tile_cell (tile_of tiles (slot_at index (column, row))) x y) (bit_at-lt _ x)
       (λ one.
@@ -109,7 +109,7 @@ module _ (index : Index) (tiles : List Tile) (ordered : IsOrdered place_cmp inde
       let never : true ≡ false = sym has ∙ lacks in
       absurd (cc))
       (option_cases (get place_cmp index (column, row))))))
-      (true_or_false (list_any (same_cell (start_at column +ℤ pos x, start_at row +ℤ pos y)) (tiles_cells (shown index.entries tiles))))
+      (true_or_false (list_any (same_cell (start_at column +ℤ pos x, start_at row +ℤ pos y)) (tiles_cells (placed_tiles index.entries tiles))))
 
 -- generations with the same states in the cells of each place are one
 pub same_states : (G H : Generation) →

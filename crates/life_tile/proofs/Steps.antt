@@ -13,7 +13,7 @@ use Rattle.life_tile.specs.declared.slot.Slot.{Slot}
 use Rattle.life_tile.specs.Slots.{Index, slot_at, neighbour_at, place_of, link_of, tile_of, empty_tile, generation_shown}
 use Rattle.life_tile.specs.Rims.{IsAtEdge, IsNextToBand}
 use Rattle.life_tile.specs.Work.{mark_of, IsWorkedOut}
-use Rattle.life_tile.specs.Slabs.{state_at, IsIndexed, IsSlotOf, IsClosed, IsIdle, IsCalm}
+use Rattle.life_tile.specs.TileStores.{state_at, IsIndexed, IsSlotOf, IsClosed, IsIdle, IsCalm}
 use Rattle.life_tile.proofs.Bits.{bit_cases}
 use Rattle.life_tile.proofs.Shown.{shown_state, same_states}
 use Rattle.life_tile.proofs.Windows.{next_alike}
@@ -56,13 +56,13 @@ in_own x y high = record {
   to = omega arith;
 }
 
-module _ (index : Index) (slots : List Slot) (whole : IsIndexed index slots) (alt after : List Tile) (marked : List Bands) (alt_none : tile_of alt 0 ≡ empty_tile) (after_none : tile_of after 0 ≡ empty_tile)
+module _ (index : Index) (slots : List Slot) (whole : IsIndexed index slots) (previous after : List Tile) (marked : List Bands) (previous_none : tile_of previous 0 ≡ empty_tile) (after_none : tile_of after 0 ≡ empty_tile)
     (around : (k m band x y : ℕ) → 0 < k → k < length slots → m < 9 → band < 8 → x < 64 → y < 64 → IsNextToBand m band x y → mark_of marked (link_of slots k m) band ≡ 0 →
-    tile_cell (tile_of after k) x y ≡ tile_cell (tile_of alt k) x y) where
+    tile_cell (tile_of after k) x y ≡ tile_cell (tile_of previous k) x y) where
   -- in and next to a band that is not marked nothing changed
   pub unchanged : (j band : ℕ) → 0 < j → j < length slots → band < 8 → mark_of marked j band ≡ 0 → (X Y : ℤ) → IsBeside X (place_of slots j).0 →
       ((start_at (place_of slots j).1 +ℤ pos (8 * band)) -ℤ pos 1) ≤ℤ Y → Y ≤ℤ (start_at (place_of slots j).1 +ℤ pos (8 * band + 8)) →
-      state_at (generation_shown index after) X Y ≡ state_at (generation_shown index alt) X Y
+      state_at (generation_shown index after) X Y ≡ state_at (generation_shown index previous) X Y
   unchanged j band later inside b_small clear X Y beside_x low high =
       let beside_y : IsBeside Y (place_of slots j).1 = record { from = omega (arith, ints); to = omega (arith, ints) } in
       let s : Split X = split X in
@@ -71,7 +71,7 @@ module _ (index : Index) (slots : List Slot) (whole : IsIndexed index slots) (al
       ∙ ⊎_elim
       (λ absent.
       state_absent index slots whole after after_none (s.quotient, t.quotient) s.remainder t.remainder s.small t.small absent
-      ∙ sym (state_absent index slots whole alt alt_none (s.quotient, t.quotient) s.remainder t.remainder s.small t.small absent))
+      ∙ sym (state_absent index slots whole previous previous_none (s.quotient, t.quotient) s.remainder t.remainder s.small t.small absent))
       (λ (there : IsSlotOf slots (s.quotient, t.quotient) (slot_at index (s.quotient, t.quotient))).
       let k : ℕ = slot_at index (s.quotient, t.quotient) in
       let d : Direction (s.quotient, t.quotient) (place_of slots j) s.remainder t.remainder =
@@ -83,61 +83,61 @@ module _ (index : Index) (slots : List Slot) (whole : IsIndexed index slots) (al
       shown_state index after whole.ordered after_none s.quotient t.quotient s.remainder t.remainder s.small t.small
       ∙ around k d.m band s.remainder t.remainder there.later there.inside d.small b_small s.small t.small
       (record { column = d.edge.column; from = rows.0; to = rows.1 }) (ap (λ i. mark_of marked i band) link ∙ clear)
-      ∙ sym (shown_state index alt whole.ordered alt_none s.quotient t.quotient s.remainder t.remainder s.small t.small))
+      ∙ sym (shown_state index previous whole.ordered previous_none s.quotient t.quotient s.remainder t.remainder s.small t.small))
       (slot_cases index slots whole (s.quotient, t.quotient))
-      ∙ sym (λ i. state_at (generation_shown index alt) (s.is i) (t.is i))
+      ∙ sym (λ i. state_at (generation_shown index previous) (s.is i) (t.is i))
 
-module _ (index : Index) (slots : List Slot) (whole : IsIndexed index slots) (cur alt after : List Tile) (todo marks marked : List Bands) (rule : Rule)
-    (cur_none : tile_of cur 0 ≡ empty_tile) (alt_none : tile_of alt 0 ≡ empty_tile)
-    (worked : IsWorkedOut slots cur todo rule alt after marks marked (length slots)) where
+module _ (index : Index) (slots : List Slot) (whole : IsIndexed index slots) (current previous after : List Tile) (active marks marked : List Bands) (rule : Rule)
+    (current_none : tile_of current 0 ≡ empty_tile) (previous_none : tile_of previous 0 ≡ empty_tile)
+    (worked : IsWorkedOut slots current active rule previous after marks marked (length slots)) where
   pub after_none : tile_of after 0 ≡ empty_tile
-  after_none = worked.first ∙ alt_none
+  after_none = worked.first ∙ previous_none
 
   -- every tile is worked out, or was so before
   pub advanced :
-      ((k : ℕ) → 0 < k → k < length slots → IsClosed slots cur k) →
-      ((k x y : ℕ) → 0 < k → k < length slots → x < 64 → y < 64 → mark_of todo k (y / 8) ≡ 0 →
-      tile_cell (tile_of alt k) x y ≡ state_at (next rule (generation_shown index cur)) (start_at (place_of slots k).0 +ℤ pos x) (start_at (place_of slots k).1 +ℤ pos y)) →
-      generation_shown index after ≡ next rule (generation_shown index cur)
+      ((k : ℕ) → 0 < k → k < length slots → IsClosed slots current k) →
+      ((k x y : ℕ) → 0 < k → k < length slots → x < 64 → y < 64 → mark_of active k (y / 8) ≡ 0 →
+      tile_cell (tile_of previous k) x y ≡ state_at (next rule (generation_shown index current)) (start_at (place_of slots k).0 +ℤ pos x) (start_at (place_of slots k).1 +ℤ pos y)) →
+      generation_shown index after ≡ next rule (generation_shown index current)
   advanced closed settled =
-      same_states (generation_shown index after) (next rule (generation_shown index cur))
+      same_states (generation_shown index after) (next rule (generation_shown index current))
       (λ column row x y wide high.
       ⊎_elim
       (λ (absent : slot_at index (column, row) ≡ 0).
       state_absent index slots whole after after_none (column, row) x y wide high absent
       ∙ sym
-      (dead_next rule (generation_shown index cur) (start_at column +ℤ pos x) (start_at row +ℤ pos y)
+      (dead_next rule (generation_shown index current) (start_at column +ℤ pos x) (start_at row +ℤ pos y)
       (λ a b a1 a2 b1 b2.
-      quiet index slots whole cur cur_none closed (column, row) absent a b
+      quiet index slots whole current current_none closed (column, row) absent a b
       (record { from = omega (arith, ints); to = omega (arith, ints) }) (record { from = omega (arith, ints); to = omega (arith, ints) }))))
       (λ (there : IsSlotOf slots (column, row) (slot_at index (column, row))).
       let k : ℕ = slot_at index (column, row) in
       shown_state index after whole.ordered after_none column row x y wide high
       ∙ ⊎_elim
-      (λ (busy : mark_of todo (slot_at index (column, row)) (y / 8) ≡ 1).
-      worked.next k x y there.later there.inside wide high busy ∙ next_linked index slots whole cur cur_none rule k there.later there.inside x y wide high)
-      (λ (idle : mark_of todo (slot_at index (column, row)) (y / 8) ≡ 0).
+      (λ (busy : mark_of active (slot_at index (column, row)) (y / 8) ≡ 1).
+      worked.next k x y there.later there.inside wide high busy ∙ next_linked index slots whole current current_none rule k there.later there.inside x y wide high)
+      (λ (idle : mark_of active (slot_at index (column, row)) (y / 8) ≡ 0).
       worked.idle k x y wide high idle ∙ settled k x y there.later there.inside wide high idle)
       (bit_cases _ (y / 8))
-      ∙ ap (λ (p : ℤ × ℤ). state_at (next rule (generation_shown index cur)) (start_at p.0 +ℤ pos x) (start_at p.1 +ℤ pos y)) there.place)
+      ∙ ap (λ (p : ℤ × ℤ). state_at (next rule (generation_shown index current)) (start_at p.0 +ℤ pos x) (start_at p.1 +ℤ pos y)) there.place)
       (slot_cases index slots whole (column, row)))
 
   -- so it will be again what it is now, where this is what becomes of the generation before
   pub settled_again : (j x y : ℕ) → 0 < j → j < length slots → x < 64 → y < 64 → mark_of marked j (y / 8) ≡ 0 →
-      tile_cell (tile_of cur j) x y ≡ state_at (next rule (generation_shown index alt)) (start_at (place_of slots j).0 +ℤ pos x) (start_at (place_of slots j).1 +ℤ pos y) →
-      tile_cell (tile_of cur j) x y ≡ state_at (next rule (generation_shown index after)) (start_at (place_of slots j).0 +ℤ pos x) (start_at (place_of slots j).1 +ℤ pos y)
+      tile_cell (tile_of current j) x y ≡ state_at (next rule (generation_shown index previous)) (start_at (place_of slots j).0 +ℤ pos x) (start_at (place_of slots j).1 +ℤ pos y) →
+      tile_cell (tile_of current j) x y ≡ state_at (next rule (generation_shown index after)) (start_at (place_of slots j).0 +ℤ pos x) (start_at (place_of slots j).1 +ℤ pos y)
   settled_again j x y later inside wide high clear earlier =
       let row : 8 * (y / 8) ≤ y = omega arith in
       let end : y < 8 * (y / 8) + 8 = omega arith in
       earlier
       ∙ sym
-      (next_alike rule (generation_shown index after) (generation_shown index alt) (start_at (place_of slots j).0 +ℤ pos x) (start_at (place_of slots j).1 +ℤ pos y)
+      (next_alike rule (generation_shown index after) (generation_shown index previous) (start_at (place_of slots j).0 +ℤ pos x) (start_at (place_of slots j).1 +ℤ pos y)
       (λ a b a1 a2 b1 b2.
-      unchanged index slots whole alt after marked alt_none after_none worked.around j (y / 8) later inside (omega arith) clear a b
+      unchanged index slots whole previous after marked previous_none after_none worked.around j (y / 8) later inside (omega arith) clear a b
       (record { from = omega (arith, ints); to = omega (arith, ints) }) (omega (arith, ints)) (omega (arith, ints))))
 
   -- and where no band is marked that places without a slot stand for, no live cell is next to one
-  pub closed_again : IsCalm marked → ((k : ℕ) → 0 < k → k < length slots → IsClosed slots alt k) → (j : ℕ) → 0 < j → j < length slots → IsClosed slots after j
+  pub closed_again : IsCalm marked → ((k : ℕ) → 0 < k → k < length slots → IsClosed slots previous k) → (j : ℕ) → 0 < j → j < length slots → IsClosed slots after j
   closed_again calm closed j later inside = record {
     closed = λ m small link. record {
       still = λ x y wide high edge.
@@ -148,7 +148,7 @@ module _ (index : Index) (slots : List Slot) (whole : IsIndexed index slots) (cu
   }
 
   -- nor next to a slot of which no band is marked, since no cell of its tile changed
-  pub closed_idle : (j : ℕ) → 0 < j → j < length slots → IsIdle marked j → IsClosed slots alt j → IsClosed slots after j
+  pub closed_idle : (j : ℕ) → 0 < j → j < length slots → IsIdle marked j → IsClosed slots previous j → IsClosed slots after j
   closed_idle j later inside idle closed =
       let own : link_of slots j 4 ≡ j =
       whole.linked j 4 later inside (omega arith) ∙ ap (slot_at index) (here_is (place_of slots j)) ∙ slot_of_place index slots whole j later inside in

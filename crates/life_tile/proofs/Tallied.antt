@@ -1,4 +1,4 @@
--- How many tiles have a live cell, and that a slab which has no other tiles has no slot yet for a place that isn't copied.
+-- How many tiles have a live cell, and that a store which has no other tiles has no slot yet for a place that isn't copied.
 use Rattle.std.proofs.Common.{◌≡◌, ℕ, zero, suc, ℤ, pos, ◌+ℤ◌, ◌+◌, ◌-◌, ◌<◌, ◌≤◌, ◌==◌, ⊎_elim, true, false, cond, List, [], ◌∷◌, ◌++◌, length, take, drop, nat_lt, slice_index, refl, sym, subst, ap, ◌∙◌, arith, true≢false}
 use Rattle.std.specs.Int.{bit_at}
 use Rattle.std.specs.List.{fold, sum_by}
@@ -9,9 +9,9 @@ use Rattle.life_bits.specs.declared.tile.Tile.{Tile}
 use Rattle.life_bits.specs.Area.{tile_cell}
 use Rattle.life_tile.specs.Cells.{row_cells, block_cells, has_cell, tile_count}
 use Rattle.life_tile.specs.Ends.{IsVoid}
-use Rattle.life_tile.specs.declared.slab.Slab.{Slab}
+use Rattle.life_tile.specs.declared.tile_store.TileStore.{TileStore}
 use Rattle.life_tile.specs.Slots.{slot_at, place_of, tile_of, empty_tile}
-use Rattle.life_tile.specs.Slabs.{IsCompact, IsKept, IsSlotOf, members_of}
+use Rattle.life_tile.specs.TileStores.{IsCompact, IsKept, IsSlotOf, members_of}
 use Rattle.life_tile.proofs.Members.{Has, has_none, row_in, block_in}
 use Rattle.life_tile.proofs.Orders.{true_or_false}
 use Rattle.life_tile.proofs.Splits.{not_one}
@@ -72,22 +72,22 @@ sum_past_first (tile ∷ rest) none =
     ap (sum_by tile_count) (take_all (length (tile ∷ rest) - 1) rest all)
     ∙ ap (λ (n : ℕ). fold (λ a t. a + tile_count t) (0 + n) rest) (sym (void_count tile (empty_is_void tile none)))
 
-pub compact_one : (slab : Slab) → length slab.slots.items ≡ 1 → IsCompact slab
-compact_one slab one = record { live = λ k later inside. absurd (omega arith) }
+pub compact_one : (store : TileStore) → length store.slots.items ≡ 1 → IsCompact store
+compact_one store one = record { live = λ k later inside. absurd (omega arith) }
 
-pub absent_yet : (s slab : Slab) (n : ℕ) → IsKept s → IsKept slab → IsCompact slab → 0 < n → n < length s.slots.items → IsCopied s (members_of slab) n →
-    slot_at slab.index (place_of s.slots.items n) ≡ 0
-absent_yet s slab n kept_s kept compact later inside copied =
+pub absent_yet : (s store : TileStore) (n : ℕ) → IsKept s → IsKept store → IsCompact store → 0 < n → n < length s.slots.items → IsCopied s (members_of store) n →
+    slot_at store.index (place_of s.slots.items n) ≡ 0
+absent_yet s store n kept_s kept compact later inside copied =
     let p : ℤ × ℤ = place_of s.slots.items n in
     let slot_is : slot_at s.index (place_of s.slots.items n) ≡ n = slot_of_place s.index s.slots.items kept_s.whole.indexed n later inside in
     let from : n ≤ slot_at s.index (place_of s.slots.items n) = omega arith in
     ⊎_elim (λ absent. absent)
-    (λ (there : IsSlotOf slab.slots.items (place_of s.slots.items n) (slot_at slab.index (place_of s.slots.items n))).
+    (λ (there : IsSlotOf store.slots.items (place_of s.slots.items n) (slot_at store.index (place_of s.slots.items n))).
     absurd
-    (compact.live (slot_at slab.index (place_of s.slots.items n)) there.later there.inside
+    (compact.live (slot_at store.index (place_of s.slots.items n)) there.later there.inside
     (record {
       dead = λ x y wide high.
-          sym (shown_state slab.index slab.cur.items kept.whole.indexed.ordered kept.whole.cur_none (place_of s.slots.items n).0 (place_of s.slots.items n).1 x y wide high)
+          sym (shown_state store.index store.current.items kept.whole.indexed.ordered kept.whole.current_none (place_of s.slots.items n).0 (place_of s.slots.items n).1 x y wide high)
           ∙ copied.rest (place_of s.slots.items n) x y wide high from;
     })))
-    (slot_cases slab.index slab.slots.items kept.whole.indexed (place_of s.slots.items n))
+    (slot_cases store.index store.slots.items kept.whole.indexed (place_of s.slots.items n))

@@ -16,7 +16,7 @@ use Rattle.life_bits.specs.Area.{Nine, three_wide, area_row, area_cell, sum_arou
 use Rattle.life_bits.specs.Flags.{as_bit}
 use Rattle.life_bits.proofs.Strips.{strip_low, strip_middle, strip_high}
 use Rattle.life_tile.specs.Places.{start_at}
-use Rattle.life_tile.specs.Slabs.{state_at}
+use Rattle.life_tile.specs.TileStores.{state_at}
 
 -- the nine tiles at and around a place
 abbrev pub nine_around : (ℤ → ℤ → Tile) → ℤ → ℤ → Nine

@@ -16,18 +16,18 @@ use Rattle.life_tile.proofs.Marks.{clear_before}
 use Rattle.life_tile.proofs.Marking.{bit_before}
 
 -- no band yet
-pub nothing_done : (cur : List Tile) (links : List ℕ) (todo : Bands) (rule : Rule) (tile : Tile) (columns : List ℕ) → IsTileWorkedOut cur links todo rule tile tile columns 0
-nothing_done cur links todo rule tile columns = record {
+pub nothing_done : (current : List Tile) (links : List ℕ) (active : Bands) (rule : Rule) (tile : Tile) (columns : List ℕ) → IsTileWorkedOut current links active rule tile tile columns 0
+nothing_done current links active rule tile columns = record {
   next = λ x y wide high less. absurd (omega arith);
   idle = λ x y wide high clear. refl;
   later = λ x y wide high past. refl;
   around = λ m band x y small b_small wide high less. absurd (omega arith);
 }
 
-module _ (cur : List Tile) (links : List ℕ) (todo : Bands) (rule : Rule) (before tile : Tile) (columns : List ℕ) (n : ℕ)
-    (worked : IsTileWorkedOut cur links todo rule before tile columns n) where
+module _ (current : List Tile) (links : List ℕ) (active : Bands) (rule : Rule) (before tile : Tile) (columns : List ℕ) (n : ℕ)
+    (worked : IsTileWorkedOut current links active rule before tile columns n) where
   -- bands that have nothing to do
-  pub bands_idle : (later : ℕ) → n ≤ later → ((band : ℕ) → n ≤ band → band < later → bit_at todo.bits band ≡ 0) → IsTileWorkedOut cur links todo rule before tile columns later
+  pub bands_idle : (later : ℕ) → n ≤ later → ((band : ℕ) → n ≤ band → band < later → bit_at active.bits band ≡ 0) → IsTileWorkedOut current links active rule before tile columns later
   bands_idle later more idle = record {
     next = λ x y wide high less busy.
         ⊎_elim
@@ -44,8 +44,8 @@ module _ (cur : List Tile) (links : List ℕ) (todo : Bands) (rule : Rule) (befo
   }
 
   -- a band that is worked out
-  module _ (after : Tile) (more : List ℕ) (busy : bit_at todo.bits n ≡ 1)
-      (law : (x y : ℕ) → x < 64 → y < 8 → tile_cell after x (8 * n + y) ≡ next_in_area rule (nine_linked cur links) x (8 * n + y))
+  module _ (after : Tile) (more : List ℕ) (busy : bit_at active.bits n ≡ 1)
+      (law : (x y : ℕ) → x < 64 → y < 8 → tile_cell after x (8 * n + y) ≡ next_in_area rule (nine_linked current links) x (8 * n + y))
       (others : (x y : ℕ) → (y < 8 * n) ⊎ (8 * n + 8 ≤ y) → tile_cell after x y ≡ tile_cell tile x y)
       (kept : (side k : ℕ) → side < 3 → bit_at (slice_index columns side) k ≡ 1 → bit_at (slice_index more side) k ≡ 1)
       (around : IsTouchedAround more n tile after) where
@@ -55,17 +55,17 @@ module _ (cur : List Tile) (links : List ℕ) (todo : Bands) (rule : Rule) (befo
     row_is : (y : ℕ) → y / 8 ≡ n → 8 * n + (y - 8 * n) ≡ y
     row_is y same = omega arith
 
-    pub band_busy : IsTileWorkedOut cur links todo rule before after more (n + 1)
+    pub band_busy : IsTileWorkedOut current links active rule before after more (n + 1)
     band_busy = record {
       next = λ x y wide high less wanted.
           ⊎_elim
           (λ (same : y / 8 ≡ n).
-          subst (λ z. tile_cell after x z ≡ next_in_area rule (nine_linked cur links) x z) (row_is y same) (law x (y - 8 * n) wide (omega arith)))
+          subst (λ z. tile_cell after x z ≡ next_in_area rule (nine_linked current links) x z) (row_is y same) (law x (y - 8 * n) wide (omega arith)))
           (λ (apart : y / 8 ≢ n). apart_from x y apart ∙ worked.next x y wide high (omega arith) wanted)
           (cases_eq (y / 8) n);
       idle = λ x y wide high idle.
           ⊎_elim
-          (λ (same : y / 8 ≡ n). let never : 1 ≡ 0 = sym busy ∙ ap (bit_at todo.bits) (sym same) ∙ idle in absurd (omega arith))
+          (λ (same : y / 8 ≡ n). let never : 1 ≡ 0 = sym busy ∙ ap (bit_at active.bits) (sym same) ∙ idle in absurd (omega arith))
           (λ (apart : y / 8 ≢ n). apart_from x y apart ∙ worked.idle x y wide high idle)
           (cases_eq (y / 8) n);
       later = λ x y wide high past. (let apart : y / 8 ≢ n = omega arith in apart_from x y apart ∙ worked.later x y wide high (omega arith));
@@ -83,10 +83,10 @@ module _ (cur : List Tile) (links : List ℕ) (todo : Bands) (rule : Rule) (befo
     }
 
 -- slots that have nothing to do
-pub slots_idle : (slots : List Slot) (cur : List Tile) (todo : List Bands) (rule : Rule) (before after : List Tile) (marks marked : List Bands) (n : ℕ) →
-    IsWorkedOut slots cur todo rule before after marks marked n →
-    (later : ℕ) → n ≤ later → ((k band : ℕ) → n ≤ k → k < later → mark_of todo k band ≡ 0) → IsWorkedOut slots cur todo rule before after marks marked later
-slots_idle slots cur todo rule before after marks marked n worked later more idle = record {
+pub slots_idle : (slots : List Slot) (current : List Tile) (active : List Bands) (rule : Rule) (before after : List Tile) (marks marked : List Bands) (n : ℕ) →
+    IsWorkedOut slots current active rule before after marks marked n →
+    (later : ℕ) → n ≤ later → ((k band : ℕ) → n ≤ k → k < later → mark_of active k band ≡ 0) → IsWorkedOut slots current active rule before after marks marked later
+slots_idle slots current active rule before after marks marked n worked later more idle = record {
   length_after = worked.length_after;
   length_marked = worked.length_marked;
   next = λ k x y positive less wide high busy.
@@ -106,8 +106,8 @@ slots_idle slots cur todo rule before after marks marked n worked later more idl
 }
 
 -- no slot yet
-pub no_slot_done : (slots : List Slot) (cur : List Tile) (todo : List Bands) (rule : Rule) (tiles : List Tile) (marks : List Bands) → IsWorkedOut slots cur todo rule tiles tiles marks marks 1
-no_slot_done slots cur todo rule tiles marks = record {
+pub no_slot_done : (slots : List Slot) (current : List Tile) (active : List Bands) (rule : Rule) (tiles : List Tile) (marks : List Bands) → IsWorkedOut slots current active rule tiles tiles marks marks 1
+no_slot_done slots current active rule tiles marks = record {
   length_after = refl;
   length_marked = refl;
   next = λ k x y positive less. absurd (omega arith);
@@ -118,14 +118,14 @@ no_slot_done slots cur todo rule tiles marks = record {
   kept = λ k band set. set;
 }
 
-module _ (slots : List Slot) (cur : List Tile) (todo : List Bands) (rule : Rule) (before after : List Tile) (marks marked : List Bands) (n : ℕ) (later : 0 < n) (inside : n < length slots)
-    (worked : IsWorkedOut slots cur todo rule before after marks marked n) where
+module _ (slots : List Slot) (current : List Tile) (active : List Bands) (rule : Rule) (before after : List Tile) (marks marked : List Bands) (n : ℕ) (later : 0 < n) (inside : n < length slots)
+    (worked : IsWorkedOut slots current active rule before after marks marked n) where
   -- a slot of which some bands are worked out
   pub worked_busy : (tile : Tile) (columns : List ℕ) (more : List Bands) → length after ≡ length slots →
-      IsTileWorkedOut cur (links_of slots n) (bands_of todo n) rule (tile_of after n) tile columns 8 →
+      IsTileWorkedOut current (links_of slots n) (bands_of active n) rule (tile_of after n) tile columns 8 →
       length more ≡ length marked → ((k band : ℕ) → mark_of marked k band ≡ 1 → mark_of more k band ≡ 1) →
       ((m band : ℕ) → m < 9 → band < 8 → mark_of more (link_of slots n m) band ≡ 0 → touch_of columns m band ≡ 0) →
-      IsWorkedOut slots cur todo rule before (slice_set after n tile) marks more (n + 1)
+      IsWorkedOut slots current active rule before (slice_set after n tile) marks more (n + 1)
   worked_busy tile columns more count law same_length kept touched =
       let room : n < length after = omega arith in
       let there : (k : ℕ) → k ≢ n → tile_of (slice_set after n tile) k ≡ tile_of after k = λ k apart. set_there after n k tile (record { rows = [] }) apart in
@@ -140,13 +140,13 @@ module _ (slots : List Slot) (cur : List Tile) (todo : List Bands) (rule : Rule)
         next = λ k x y positive less wide high busy.
             ⊎_elim
             (λ (same : k ≡ n).
-            at k x y same ∙ law.next x y wide high (omega arith) (ap (λ j. mark_of todo j (y / 8)) (sym same) ∙ busy)
-            ∙ ap (λ j. next_in_area rule (nine_linked cur (links_of slots j)) x y) (sym same))
+            at k x y same ∙ law.next x y wide high (omega arith) (ap (λ j. mark_of active j (y / 8)) (sym same) ∙ busy)
+            ∙ ap (λ j. next_in_area rule (nine_linked current (links_of slots j)) x y) (sym same))
             (λ (apart : k ≢ n). ap (λ (t : Tile). tile_cell t x y) (there k apart) ∙ worked.next k x y positive (omega arith) wide high busy)
             (cases_eq k n);
         idle = λ k x y wide high idle.
             ⊎_elim
-            (λ (same : k ≡ n). at k x y same ∙ law.idle x y wide high (ap (λ j. mark_of todo j (y / 8)) (sym same) ∙ idle) ∙ was k x y same)
+            (λ (same : k ≡ n). at k x y same ∙ law.idle x y wide high (ap (λ j. mark_of active j (y / 8)) (sym same) ∙ idle) ∙ was k x y same)
             (λ (apart : k ≢ n). ap (λ (t : Tile). tile_cell t x y) (there k apart) ∙ worked.idle k x y wide high idle)
             (cases_eq k n);
         first = (let apart : 0 ≢ n = omega arith in there 0 apart ∙ worked.first);

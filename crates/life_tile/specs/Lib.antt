@@ -4,6 +4,6 @@ pub mod Slots
 pub mod Seats
 pub mod Rims
 pub mod Work
-pub mod Slabs
+pub mod TileStores
 pub mod Ends
 pub mod Reach

@@ -57,13 +57,13 @@ nine_linked tiles links = record {
 }
 
 -- the entries of an index, each with the tile of its slot
-abbrev pub shown : List ((ℤ × ℤ) × ℕ) → List Tile → List ((ℤ × ℤ) × Tile)
-shown [] tiles = []
-shown (e ∷ es) tiles = (e.0, tile_of tiles e.1) ∷ shown es tiles
+abbrev pub placed_tiles : List ((ℤ × ℤ) × ℕ) → List Tile → List ((ℤ × ℤ) × Tile)
+placed_tiles [] tiles = []
+placed_tiles (e ∷ es) tiles = (e.0, tile_of tiles e.1) ∷ placed_tiles es tiles
 
 -- the generation that the tiles at their places stand for
 unfoldable pub generation_shown : Index → List Tile → Generation
-generation_shown index tiles = from_list (tiles_cells (shown index.entries tiles))
+generation_shown index tiles = from_list (tiles_cells (placed_tiles index.entries tiles))
 
 -- where tiles may stand at age a: where a cell of that age may be, or next to it
 pub record IsReached (a : ℕ) (place : ℤ × ℤ) : Type 0 where

@@ -43,20 +43,20 @@ pub record IsTouchedAround (columns : List ℕ) (index : ℕ) (old new : Tile) :
 
 -- Of the tile in the middle of nine slots the bands before band n that had something to do are worked out, the others are what they
 -- were, and each band has its bit set that a cell which changed is in or next to.
-pub record IsTileWorkedOut (cur : List Tile) (links : List ℕ) (todo : Bands) (rule : Rule) (before after : Tile) (columns : List ℕ) (n : ℕ) : Type 0 where
-  pub next : (x y : ℕ) → x < 64 → y < 64 → y / 8 < n → bit_at todo.bits (y / 8) ≡ 1 → tile_cell after x y ≡ next_in_area rule (nine_linked cur links) x y
-  pub idle : (x y : ℕ) → x < 64 → y < 64 → bit_at todo.bits (y / 8) ≡ 0 → tile_cell after x y ≡ tile_cell before x y
+pub record IsTileWorkedOut (current : List Tile) (links : List ℕ) (active : Bands) (rule : Rule) (before after : Tile) (columns : List ℕ) (n : ℕ) : Type 0 where
+  pub next : (x y : ℕ) → x < 64 → y < 64 → y / 8 < n → bit_at active.bits (y / 8) ≡ 1 → tile_cell after x y ≡ next_in_area rule (nine_linked current links) x y
+  pub idle : (x y : ℕ) → x < 64 → y < 64 → bit_at active.bits (y / 8) ≡ 0 → tile_cell after x y ≡ tile_cell before x y
   pub later : (x y : ℕ) → x < 64 → y < 64 → n ≤ y / 8 → tile_cell after x y ≡ tile_cell before x y
   pub around : (m band x y : ℕ) → m < 9 → band < 8 → x < 64 → y < 64 → y / 8 < n → IsNextToBand m band x y → touch_of columns m band ≡ 0 →
       tile_cell after x y ≡ tile_cell before x y
 
 -- The bands of the slots from 1 to n that had something to do are worked out, the others are what they were, and each band is
 -- marked that a cell which changed is in or next to.
-pub record IsWorkedOut (slots : List Slot) (cur : List Tile) (todo : List Bands) (rule : Rule) (before after : List Tile) (marks marked : List Bands) (n : ℕ) : Type 0 where
+pub record IsWorkedOut (slots : List Slot) (current : List Tile) (active : List Bands) (rule : Rule) (before after : List Tile) (marks marked : List Bands) (n : ℕ) : Type 0 where
   pub length_after : length after ≡ length before
   pub length_marked : length marked ≡ length marks
-  pub next : (k x y : ℕ) → 0 < k → k < n → x < 64 → y < 64 → mark_of todo k (y / 8) ≡ 1 → tile_cell (tile_of after k) x y ≡ next_in_area rule (nine_linked cur (links_of slots k)) x y
-  pub idle : (k x y : ℕ) → x < 64 → y < 64 → mark_of todo k (y / 8) ≡ 0 → tile_cell (tile_of after k) x y ≡ tile_cell (tile_of before k) x y
+  pub next : (k x y : ℕ) → 0 < k → k < n → x < 64 → y < 64 → mark_of active k (y / 8) ≡ 1 → tile_cell (tile_of after k) x y ≡ next_in_area rule (nine_linked current (links_of slots k)) x y
+  pub idle : (k x y : ℕ) → x < 64 → y < 64 → mark_of active k (y / 8) ≡ 0 → tile_cell (tile_of after k) x y ≡ tile_cell (tile_of before k) x y
   pub first : tile_of after 0 ≡ tile_of before 0
   pub later : (k : ℕ) → n ≤ k → tile_of after k ≡ tile_of before k
   pub around : (k m band x y : ℕ) → 0 < k → k < n → m < 9 → band < 8 → x < 64 → y < 64 → IsNextToBand m band x y → mark_of marked (link_of slots k m) band ≡ 0 →

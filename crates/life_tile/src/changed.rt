@@ -1,17 +1,17 @@
-//! A quick look at whether the cells of a slab that may have changed are others, moved as a whole.
+//! A quick look at whether the cells of a store that may have changed are others, moved as a whole.
 ghost use Rattle.std.specs.Prelude.{◌≡◌, ℕ, pos, ◌+ℤ◌, false, T};
 ghost use Rattle.life_model.specs.Cell.{Cell, opposite, plus};
 ghost use Rattle.life_model.specs.Generation.{contains, from_list, is_rising};
 ghost use Rattle.life_cells.specs.Limits.{IsPlace};
 ghost use Rattle.life_tile.specs.Ends.{IsMember};
 ghost use Rattle.life_tile.specs.Reach.{IsInReach, IsRowIn, IsTileIn};
-ghost use Rattle.life_tile.specs.Slabs.{IsKept, members_of};
+ghost use Rattle.life_tile.specs.TileStores.{IsKept, members_of};
 
 use crate::covering::corner_in;
 use crate::ends::is_before;
 use crate::listing::{next_bit, tile_in};
 use crate::sameness::moved;
-use crate::slab::Slab;
+use crate::tile_store::TileStore;
 use life_bits::Tile;
 
 /// Whether a cell is in a list, which is halved until it shows.
@@ -78,17 +78,22 @@ fn lists_tile(
 
 /// Whether each live cell of the tiles that have something to do is listed, moved as one place is from another. If one is not,
 /// the live cells are none of those listed, moved so.
-pub fn lists_changed(slab: &Slab, cells: &[(i32, i32)], from: (i32, i32), to: (i32, i32)) -> bool
-    requires kept { IsKept slab.now }
+pub fn lists_changed(
+    store: &TileStore,
+    cells: &[(i32, i32)],
+    from: (i32, i32),
+    to: (i32, i32),
+) -> bool
+    requires kept { IsKept store.now }
     requires rising { T (is_rising cells.now) }
     requires from { IsPlace from }
     requires to { IsPlace to }
-    ensures { result ≡ false → ((c : Cell) → IsMember (members_of slab.now) c → IsMember (from_list cells.now) (plus c (plus to (opposite from)))) → ⊥ }
+    ensures { result ≡ false → ((c : Cell) → IsMember (members_of store.now) c → IsMember (from_list cells.now) (plus c (plus to (opposite from)))) → ⊥ }
 {
-    for slot in 1..slab.slots.len() {
-        if !slab.is_idle(slot) {
-            let tile = tile_in(&slab.cur, slot);
-            if !lists_tile(cells, tile, corner_in(slab, slot), from, to) {
+    for slot in 1..store.slots.len() {
+        if !store.is_idle(slot) {
+            let tile = tile_in(&store.current, slot);
+            if !lists_tile(cells, tile, corner_in(store, slot), from, to) {
                 return false;
             }
         }

@@ -14,10 +14,10 @@ mod plane;
 mod rim;
 mod sameness;
 mod seats;
-mod slab;
 mod slot;
 mod starting;
 mod stepping;
+mod tile_store;
 mod touched;
 
 pub use counting::count_tile;

@@ -1,10 +1,10 @@
-//! The plane of a slab.
+//! The plane of a store.
 ghost use Rattle.std.specs.Prelude.{◌≡◌, ◌<◌, IfOk};
-ghost use Rattle.life_tile.specs.Slabs.{IsKept, members_of};
+ghost use Rattle.life_tile.specs.TileStores.{IsKept, members_of};
 
 use crate::ends::is_void;
 use crate::sameness;
-use crate::slab::Slab;
+use crate::tile_store::TileStore;
 use life_cells::{CellList, Rule, put_in_order};
 use life_plane::{Plane, move_between};
 use std::alloc::{AllocError, Global};
@@ -15,8 +15,8 @@ use std::marker::Model;
 /// have none.
 #[derive(Drop)]
 pub struct TilePlane {
-    slab: Slab,
-    /// With how many slots the slab is to be made anew, without those whose tile has no live cell.
+    store: TileStore,
+    /// With how many slots the store is to be made anew, without those whose tile has no live cell.
     limit: usize,
 }
 
@@ -25,26 +25,26 @@ impl Model for TilePlane {
     ghost use Rattle.std.specs.Coded.{coded×, coded_ℕ};
     ghost use Rattle.life_model.specs.Coded.{coded_generation};
     ghost use Rattle.life_model.specs.Generation.{Generation};
-    ghost use Rattle.life_tile.specs.Slabs.{IsKept, members_of};
+    ghost use Rattle.life_tile.specs.TileStores.{IsKept, members_of};
 
     ghost Value = { Generation × ℕ };
 
     ghost coded = { coded× coded_generation coded_ℕ };
 
-    ghost view = { λ p. (members_of p.slab, p.slab.age) };
+    ghost view = { λ p. (members_of p.store, p.store.age) };
 
-    ghost invariant = { λ p. IsKept p.slab };
+    ghost invariant = { λ p. IsKept p.store };
 }
 
-/// With how many slots a slab is to be made anew that now has room for what its tiles may grow into.
-fn limit_of(slab: &Slab) -> usize {
-    slab.slots.len().saturating_mul(2).saturating_add(32)
+/// With how many slots a store is to be made anew that now has room for what its tiles may grow into.
+fn limit_of(store: &TileStore) -> usize {
+    store.slots.len().saturating_mul(2).saturating_add(32)
 }
 
-/// Whether at most half of a slab's slots have a live cell, so that it is worth while to make it anew.
-fn is_sparse(slab: &Slab) -> bool {
-    let live = slab.cur.iter().filter(|tile| !is_void(tile)).count();
-    live <= slab.slots.len() / 2
+/// Whether at most half of a store's slots have a live cell, so that it is worth while to make it anew.
+fn is_sparse(store: &TileStore) -> bool {
+    let live = store.current.iter().filter(|tile| !is_void(tile)).count();
+    live <= store.slots.len() / 2
 }
 
 impl TilePlane {
@@ -53,20 +53,20 @@ impl TilePlane {
     pub fn tiles(&self) -> usize
         ensures { 0 < result }
     {
-        self.slab.slots.len()
+        self.store.slots.len()
     }
 
-    /// Makes the slab anew where it has many slots, most of them without a live cell.
+    /// Makes the store anew where it has many slots, most of them without a live cell.
     fn compact(&mut self) -> Result<(), AllocError>
         ensures { self.new ≡ self.old }
     {
-        if self.slab.slots.len() <= self.limit {
+        if self.store.slots.len() <= self.limit {
             return Ok(());
         }
-        if is_sparse(&self.slab) {
-            self.slab = self.slab.compacted()?;
+        if is_sparse(&self.store) {
+            self.store = self.store.compacted()?;
         } else {
-            self.limit = limit_of(&self.slab);
+            self.limit = limit_of(&self.store);
         }
         Ok(())
     }
@@ -78,62 +78,62 @@ impl Plane for TilePlane {
     ghost steps_made = { λ p. p.1 };
 
     fn from_cells(alloc: Global, list: &CellList) -> Result<Self, AllocError> {
-        let slab = Slab::of(alloc, list.as_slice(), 0)?;
-        let limit = limit_of(&slab);
-        Ok(TilePlane { slab, limit })
+        let store = TileStore::of(alloc, list.as_slice(), 0)?;
+        let limit = limit_of(&store);
+        Ok(TilePlane { store, limit })
     }
 
     fn at_age(alloc: Global, list: &CellList, age: u32) -> Result<Self, AllocError> {
-        let slab = Slab::of(alloc, list.as_slice(), age)?;
-        let limit = limit_of(&slab);
-        Ok(TilePlane { slab, limit })
+        let store = TileStore::of(alloc, list.as_slice(), age)?;
+        let limit = limit_of(&store);
+        Ok(TilePlane { store, limit })
     }
 
     fn step(&mut self, rule: &Rule) -> Result<(), AllocError> {
         self.compact()?;
-        let is_new = self.slab.fresh;
-        self.slab.follow(rule);
-        self.slab.grow()?;
+        let is_new = self.store.lacks_previous;
+        self.store.use_rule(rule);
+        self.store.grow()?;
         if is_new {
-            // (a slab that was just made had no slots yet for the tiles around the live ones)
-            self.limit = limit_of(&self.slab);
+            // (a store that was just made had no slots yet for the tiles around the live ones)
+            self.limit = limit_of(&self.store);
         }
-        self.slab.advance();
+        self.store.advance();
         Ok(())
     }
 
     fn population(&self) -> u64 {
-        self.slab.population()
+        self.store.population()
     }
 
     fn age(&self) -> u32 {
-        self.slab.age
+        self.store.age
     }
 
     fn cells(&self) -> Result<CellList, AllocError> {
-        let mut cells = self.slab.cells()?;
+        let mut cells = self.store.cells()?;
         put_in_order(&mut cells);
         Ok(CellList::from_ordered(cells))
     }
 
     fn span(&self) -> Result<(i32, i32), AllocError> {
-        Ok(match self.slab.ends() {
+        Ok(match self.store.ends() {
             Some(ends) => move_between(ends.first, ends.last),
             None => (0, 0),
         })
     }
 
-    fn way_from(&self, list: &CellList) -> Result<Option<(i32, i32)>, AllocError> {
-        Ok(sameness::way_from(&self.slab, list.as_slice()))
+    fn offset_from(&self, list: &CellList) -> Result<Option<(i32, i32)>, AllocError> {
+        Ok(sameness::offset_from(&self.store, list.as_slice()))
     }
 
-    fn way_from_plane(&self, other: &Self) -> Result<Option<(i32, i32)>, AllocError> {
-        Ok(sameness::way_from_slab(&self.slab, &other.slab))
+    fn offset_from_plane(&self, other: &Self) -> Result<Option<(i32, i32)>, AllocError> {
+        Ok(sameness::offset_from_store(&self.store, &other.store))
     }
 
     fn copy(&self) -> Result<Self, AllocError> {
-        let slab = self.slab.compacted()?;
-        let limit = limit_of(&slab);
-        Ok(TilePlane { slab, limit })
+        let store = self.store.compacted()?;
+        let limit = limit_of(&store);
+        Ok(TilePlane { store, limit })
     }
 }

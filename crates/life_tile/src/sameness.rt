@@ -1,31 +1,31 @@
-//! Whether the cells of a slab are others, moved as a whole.
+//! Whether the cells of a store are others, moved as a whole.
 ghost use Rattle.std.specs.Prelude.{◌≡◌, ◌↔◌, All, IfNone, IfSome, IsTrue, T};
 ghost use Rattle.life_model.specs.Cell.{opposite, plus};
 ghost use Rattle.life_model.specs.Generation.{contains, from_list, is_rising};
 ghost use Rattle.life_cells.specs.Limits.{IsPlace};
-ghost use Rattle.life_plane.specs.Ways.{AreApart, IsWay};
+ghost use Rattle.life_plane.specs.Offsets.{AreNotTranslates, IsOffset};
 ghost use Rattle.life_tile.specs.Ends.{IsMember};
 ghost use Rattle.life_tile.specs.Reach.{IsInReach};
-ghost use Rattle.life_tile.specs.Slabs.{IsKept, members_of};
+ghost use Rattle.life_tile.specs.TileStores.{IsKept, members_of};
 
 use crate::changed::lists_changed;
-use crate::covering::has_slab;
+use crate::covering::has_store;
 use crate::grid::split;
 use crate::listing::tile_in;
-use crate::slab::Slab;
 use crate::slot::slot_or_none;
+use crate::tile_store::TileStore;
 use life_plane::move_between;
 
 /// Whether a cell is live.
-fn is_live(slab: &Slab, cell: (i32, i32)) -> bool
-    requires kept { IsKept slab.now }
+fn is_live(store: &TileStore, cell: (i32, i32)) -> bool
+    requires kept { IsKept store.now }
     requires reach { IsInReach cell }
-    ensures { result ≡ contains (members_of slab.now) cell }
+    ensures { result ≡ contains (members_of store.now) cell }
 {
     let (column, x) = split(cell.0);
     let (row, y) = split(cell.1);
-    let slot = slot_or_none(&slab.index, (column, row));
-    tile_in(&slab.cur, slot as usize).get(x, y)
+    let slot = slot_or_none(&store.index, (column, row));
+    tile_in(&store.current, slot as usize).get(x, y)
 }
 
 /// The cell, moved as one place is from another.
@@ -40,15 +40,15 @@ pub fn moved(cell: (i32, i32), from: (i32, i32), to: (i32, i32)) -> (i32, i32)
 }
 
 /// Whether each of some cells is live, moved as one place is from another.
-fn are_live(slab: &Slab, cells: &[(i32, i32)], from: (i32, i32), to: (i32, i32)) -> bool
-    requires kept { IsKept slab.now }
+fn are_live(store: &TileStore, cells: &[(i32, i32)], from: (i32, i32), to: (i32, i32)) -> bool
+    requires kept { IsKept store.now }
     requires placed { All IsPlace cells.now }
     requires from { IsPlace from }
     requires to { IsPlace to }
-    ensures { IsTrue result ↔ All (λ c. IsMember (members_of slab.now) (plus c (plus to (opposite from)))) cells.now }
+    ensures { IsTrue result ↔ All (λ c. IsMember (members_of store.now) (plus c (plus to (opposite from)))) cells.now }
 {
     for cell in cells {
-        if !is_live(slab, moved(*cell, from, to)) {
+        if !is_live(store, moved(*cell, from, to)) {
             return false;
         }
     }
@@ -57,24 +57,24 @@ fn are_live(slab: &Slab, cells: &[(i32, i32)], from: (i32, i32), to: (i32, i32))
 
 /// How far the live cells are from those of a list, where they are those moved as a whole. They are if there are as many, and
 /// each of the list is live where the first of them would be moved to. What may have changed is looked at first.
-pub fn way_from(slab: &Slab, cells: &[(i32, i32)]) -> Option<(i32, i32)>
-    requires kept { IsKept slab.now }
+pub fn offset_from(store: &TileStore, cells: &[(i32, i32)]) -> Option<(i32, i32)>
+    requires kept { IsKept store.now }
     requires rising { T (is_rising cells.now) }
     requires placed { All IsPlace cells.now }
-    ensures way { IfSome result (λ d. IsWay (from_list cells.now) (members_of slab.now) d) }
-    ensures apart { IfNone result (AreApart (from_list cells.now) (members_of slab.now)) }
+    ensures offset { IfSome result (λ d. IsOffset (from_list cells.now) (members_of store.now) d) }
+    ensures apart { IfNone result (AreNotTranslates (from_list cells.now) (members_of store.now)) }
 {
-    if slab.population() != cells.len() as u64 {
+    if store.population() != cells.len() as u64 {
         return None;
     }
-    match slab.ends() {
+    match store.ends() {
         None => Some((0, 0)),
         Some(ends) => {
             let from = cells[0];
-            if !lists_changed(slab, cells, ends.first, from) {
+            if !lists_changed(store, cells, ends.first, from) {
                 return None;
             }
-            if !are_live(slab, cells, from, ends.first) {
+            if !are_live(store, cells, from, ends.first) {
                 return None;
             }
             Some(move_between(from, ends.first))
@@ -82,23 +82,23 @@ pub fn way_from(slab: &Slab, cells: &[(i32, i32)]) -> Option<(i32, i32)>
     }
 }
 
-/// How far the live cells are from those of another slab, where they are those moved as a whole. They are if there are as many,
+/// How far the live cells are from those of another store, where they are those moved as a whole. They are if there are as many,
 /// and each of the other is live where the first of them would be moved to.
-pub fn way_from_slab(slab: &Slab, other: &Slab) -> Option<(i32, i32)>
-    requires kept { IsKept slab.now }
+pub fn offset_from_store(store: &TileStore, other: &TileStore) -> Option<(i32, i32)>
+    requires kept { IsKept store.now }
     requires other { IsKept other.now }
-    ensures way { IfSome result (λ d. IsWay (members_of other.now) (members_of slab.now) d) }
-    ensures apart { IfNone result (AreApart (members_of other.now) (members_of slab.now)) }
+    ensures offset { IfSome result (λ d. IsOffset (members_of other.now) (members_of store.now) d) }
+    ensures apart { IfNone result (AreNotTranslates (members_of other.now) (members_of store.now)) }
 {
-    if slab.population() != other.population() {
+    if store.population() != other.population() {
         return None;
     }
     match other.ends() {
         None => Some((0, 0)),
-        Some(from) => match slab.ends() {
+        Some(from) => match store.ends() {
             None => Some((0, 0)),
             Some(to) => {
-                if !has_slab(slab, other, from.first, to.first) {
+                if !has_store(store, other, from.first, to.first) {
                     return None;
                 }
                 Some(move_between(from.first, to.first))

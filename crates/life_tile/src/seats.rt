@@ -6,7 +6,7 @@ ghost use Rattle.life_model.specs.Cell.{Cell, same_cell};
 ghost use Rattle.life_tile.specs.Cells.{tiles_cells};
 ghost use Rattle.life_tile.specs.Places.{place_cmp, IsInside};
 ghost use Rattle.life_tile.specs.Seats.{has_tile, IsSeat};
-ghost use Rattle.life_tile.specs.Slots.{shown};
+ghost use Rattle.life_tile.specs.Slots.{placed_tiles};
 
 use crate::ends::is_void;
 use crate::listing::tile_in;
@@ -32,7 +32,7 @@ fn live_seats(
     requires slots { (p : ℤ × ℤ) (k : ℕ) → get place_cmp index.now p ≡ Some k → k < length tiles.now }
     ensures seats { IfOk result (λ seats. All (IsSeat (length tiles.now)) seats.items) }
     ensures cells { IfOk result (λ seats. (q : Cell) → list_any (has_tile tiles.now q) seats.items
-        ≡ list_any (same_cell q) (tiles_cells (shown index.now.entries tiles.now))) }
+        ≡ list_any (same_cell q) (tiles_cells (placed_tiles index.now.entries tiles.now))) }
 {
     let mut seats = Vec::new(alloc);
     for (place, slot) in index.iter() {
@@ -57,7 +57,7 @@ pub fn seats_by_rows(
     requires slots { (p : ℤ × ℤ) (k : ℕ) → get place_cmp index.now p ≡ Some k → k < length tiles.now }
     ensures seats { IfOk result (λ seats. All (IsSeat (length tiles.now)) seats.items) }
     ensures cells { IfOk result (λ seats. (q : Cell) → list_any (has_tile tiles.now q) seats.items
-        ≡ list_any (same_cell q) (tiles_cells (shown index.now.entries tiles.now))) }
+        ≡ list_any (same_cell q) (tiles_cells (placed_tiles index.now.entries tiles.now))) }
 {
     let mut seats = live_seats(alloc, index, tiles)?;
     seats.sort_unstable_by_key(|seat| (seat.row, seat.column));

@@ -7,7 +7,7 @@ use std::collections::BTreeMap;
 
 /// The direction from a slot to itself. The nine directions are counted row by row from 0 in the north west to 8 in the
 /// south east, so 8 less a direction is the opposite one.
-pub const HERE: usize = 4;
+pub const CENTRE: usize = 4;
 
 /// The place of a tile, and in each of the nine directions the slot of the tile there, 0 where there is none.
 #[derive(Clone, Copy)]

@@ -15,7 +15,7 @@ use Rattle.life_answer.specs.Answers.{fault_number}
 use Rattle.life_answer.specs.Apgcode.{bodies, code_of, prefix}
 use Rattle.life_answer.specs.Census.{census_found, census_of, code_found, part_code}
 use Rattle.life_answer.specs.Limited.{first_past, unless_large}
-use Rattle.life_answer.specs.Parts.{beside, counted_codes, objects_in, with_code}
+use Rattle.life_answer.specs.Parts.{with_code_by_order, counted_codes, objects_in, with_code}
 use Rattle.life_answer.specs.Questions.{IsAnswered, answer_to, answer_to_question, finding_to}
 use Rattle.life_answer.specs.declared.finding.Answer.{Answer}
 use Rattle.life_answer.specs.declared.finding.Answer.TheVariants.{Found, Refused}
@@ -36,13 +36,13 @@ use Rattle.life_model.specs.Evolution.{generation}
 use Rattle.life_model.specs.Generation.{Generation, cells, contains, from_list, size}
 use Rattle.life_model.specs.Recurrence.{SettlesAt}
 use Rattle.life_model.specs.Rule.{Rule}
-use Rattle.life_model.specs.Symmetry.{moved}
+use Rattle.life_model.specs.Symmetry.{translate_of}
 use Rattle.life_model.proofs.Generations.{cells-from_list}
 use Rattle.life_model.proofs.Recurrences.{generation-zero}
 use Rattle.life_objects.specs.Ash.{IsObject}
 use Rattle.life_shape.specs.TextOrder.{least_text, shorter_cmp}
 use Rattle.life_text.specs.Picture.{picture_of}
-use Rattle.life_text.specs.Reader.{placed}
+use Rattle.life_text.specs.Reader.{cell_of_pair}
 use Rattle.life_text.specs.Rle.{Token, body_tokens, cells_after, first_fault, header_rule, unless_fault, with_body}
 use Rattle.life_text.specs.declared.rle.RleFault.{RleFault}
 use Rattle.life_text.specs.declared.rle.RleFault.TheVariants.{NoHeader, BadHeader, RuleNotLifeLike, RuleHasB0, ManyStates, BadChar, BadRun, TooFar, TooMany, NoEnd, Memory}
@@ -77,7 +77,7 @@ module _ (R : Rule) (b : ℕ) (P : Generation) (object : IsObject R b P) where
         later = object.recurs.recurs.later;
         within = let whole : 0 + n ≤ b = omega arith in whole;
         again = ap (generation R P) (let e : 0 + n ≡ n = omega arith in e) ∙ object.recurs.recurs.again
-            ∙ ap (λ G. moved G object.recurs.by) (sym (generation-zero R P));
+            ∙ ap (λ G. translate_of G object.recurs.by) (sym (generation-zero R P));
       }
 
   part-some : IsSome (part_code R b P)
@@ -96,7 +96,7 @@ parts-some R b (P ∷ parts) h =
     (part-some R b P (All-head (IsObject R b) P parts h), parts-some R b parts (All-tail (IsObject R b) P parts h))
 
 beside-some : (order : Ordering) (code : List ℕ) (part : Part) (parts rest : List Part)
-    → IsSome code → Each HasCode (part ∷ parts) → Each HasCode rest → Each HasCode (beside order code part parts rest)
+    → IsSome code → Each HasCode (part ∷ parts) → Each HasCode rest → Each HasCode (with_code_by_order order code part parts rest)
 beside-some Less code part parts rest h k l = (h, k)
 beside-some Equal code part parts rest h k l = (k.0, k.1)
 beside-some Greater code part parts rest h k l = (k.0, l)
@@ -198,8 +198,8 @@ module _ (bound : ℕ) (limit : Option ℕ) (answered : IsAnswered (Objects boun
   body-ranged r ts None e =
       let places = cells_after [] ts in
       let rises = meaning_rises ts e in
-      finding-ranged r (from_list (map placed places)) bound answered.1
-      (subst (All (IsWithin 0)) (sym (cells-from_list (map placed places) (placed_rises 0 0 places rises)))
+      finding-ranged r (from_list (map cell_of_pair places)) bound answered.1
+      (subst (All (IsWithin 0)) (sym (cells-from_list (map cell_of_pair places) (placed_rises 0 0 places rises)))
       (placed_within 0 0 places rises))
       limit
   body-ranged r ts (Some fault) e = fault-fits fault

@@ -11,9 +11,9 @@ use Rattle.census_format.specs.Objects.{objects}
 use Rattle.life_answer.proofs.Findings.{settled_or_not}
 use Rattle.life_answer.proofs.Limits.{first_past-is}
 use Rattle.life_answer.proofs.Texts.{answer-no_ash}
-use Rattle.life_answer.specs.Answers.{fault_number, finding_of, settled}
+use Rattle.life_answer.specs.Answers.{fault_number, finding_of, recurrence_finding}
 use Rattle.life_answer.specs.Apgcode.{bodies, code_of, prefix}
-use Rattle.life_answer.specs.Limited.{first_past, limited, unless_large}
+use Rattle.life_answer.specs.Limited.{first_past, finding_unless_large, unless_large}
 use Rattle.life_answer.specs.Questions.{IsAnswered, answer_to, answer_to_question}
 use Rattle.life_answer.specs.declared.finding.Answer.{Answer}
 use Rattle.life_answer.specs.declared.finding.Answer.TheVariants.{Found, Refused}
@@ -84,7 +84,7 @@ whole-objects (Refused number ∷ found) h = let most = whole-objects found h.1 
 
 module _ (R : Rule) (G : Generation) (b : ℕ) (textual : IsTextual G) where
   settled-told : (onset period : ℕ) (d : Cell) → b ≤ 1000000 → IsSettling R G b onset period d
-      → IsTold (settled R G onset period d)
+      → IsTold (recurrence_finding R G onset period d)
   settled-told onset period d low s =
       let both = onset-period-least R G b onset period d s b onset s.settles in
       let here : Stands (onset + 0) (generation R G onset) = generation-stands R 0 G textual.stands onset in
@@ -110,7 +110,7 @@ module _ (R : Rule) (G : Generation) (last : ℕ) (few : size G < 2 ^ 64) (short
   past-told most None e = told
   past-told most (Some n) e = let first = (first_past-is R G last most n).0 e in (few, omega (arith, first.0, short))
 
-  pub limited-told : (limit : Option ℕ) → IsTold (limited limit R G last found)
+  pub limited-told : (limit : Option ℕ) → IsTold (finding_unless_large limit R G last found)
   limited-told None = told
   limited-told (Some most) = past-told most (first_past (Some most) R G last) refl
 

@@ -3,7 +3,7 @@ use Rattle.std.proofs.Common.{◌≡◌, ℕ, ◌<◌, List, [], ◌∷◌, ◌+
 use Rattle.census_bundle.specs.declared.bundle.Folder.{Folder}
 use Rattle.census_format.specs.Reports.{IsReport}
 use Rattle.census_readback.specs.Reports.{IsReport as IsReadBack}
-use Rattle.census_readback.specs.Shapes.{AreReports, AreWhole, joined}
+use Rattle.census_readback.specs.Shapes.{AreReports, AreWhole, all_rows}
 use Rattle.census_readback.specs.Texts.{AllLines, text_of}
 use Rattle.census_rows.specs.declared.row.Row.{Row}
 use Rattle.life_answer.specs.declared.question.Question.{Question}
@@ -17,9 +17,9 @@ lines-append : (xs ys : List Row) → AllLines xs → AllLines ys → AllLines (
 lines-append [] ys first second = second
 lines-append (x ∷ xs) ys first second = (first.0, lines-append xs ys first.1 second)
 
-joined-append : (xs ys : List (List Row)) → joined (xs ++ ys) ≡ joined xs ++ joined ys
+joined-append : (xs ys : List (List Row)) → all_rows (xs ++ ys) ≡ all_rows xs ++ all_rows ys
 joined-append [] ys = refl
-joined-append (x ∷ xs) ys = ap (λ z. x ++ z) (joined-append xs ys) ∙ sym (append_assoc x (joined xs) (joined ys))
+joined-append (x ∷ xs) ys = ap (λ z. x ++ z) (joined-append xs ys) ∙ sym (append_assoc x (all_rows xs) (all_rows ys))
 
 whole-append : (xs ys : List (List Row)) → AreWhole xs → AreWhole ys → AreWhole (xs ++ ys)
 whole-append [] ys first second = second
@@ -34,7 +34,7 @@ reports-append xs ys first second =
     record {
       reports = first.reports ++ second.reports;
       some = some-append first.reports second.reports first.some;
-      whole = ap (λ z. z ++ ys) first.whole ∙ ap (λ z. joined first.reports ++ z) second.whole ∙ sym (joined-append first.reports second.reports);
+      whole = ap (λ z. z ++ ys) first.whole ∙ ap (λ z. all_rows first.reports ++ z) second.whole ∙ sym (joined-append first.reports second.reports);
       each = whole-append first.reports second.reports first.each second.each;
     }
 

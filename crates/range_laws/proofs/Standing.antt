@@ -15,12 +15,12 @@ use Rattle.life_model.specs.Cell.{Cell, IsNear, origin, plus}
 use Rattle.life_model.specs.Evolution.{generation, next}
 use Rattle.life_model.specs.Generation.{Generation, cells, contains, empty, from_list, size}
 use Rattle.life_model.specs.Rule.{Rule}
-use Rattle.life_model.specs.Symmetry.{moved}
+use Rattle.life_model.specs.Symmetry.{translate_of}
 use Rattle.life_shape.proofs.Members.{member_has}
 use Rattle.life_text.proofs.PictureLemmas.{placed_rises, placed_within}
 use Rattle.life_text.proofs.RisingLemmas.{meaning_rises}
 use Rattle.life_text.specs.Picture.{Picture, picture_of}
-use Rattle.life_text.specs.Reader.{placed}
+use Rattle.life_text.specs.Reader.{cell_of_pair}
 use Rattle.life_text.specs.Rising.{RisesFrom}
 use Rattle.life_text.specs.Rle.{Token, body_tokens, cells_after, first_fault, header_rule, reading, unless_fault, with_body}
 use Rattle.life_text.specs.declared.rle.RleFault.{RleFault}
@@ -58,7 +58,7 @@ move-fits age later c d young soon here there = (
 
 -- a set that stands again has moved no further than a line can tell, where a set without cells is not said to move
 pub moved-fits : (age later : ℕ) (G : Generation) (d : Cell) → age ≤ 4000000 → later ≤ 4000000
-    → Stands age G → Stands later (moved G d) → (G ≡ empty → d ≡ origin) → FitsSigned w64 d.0 × FitsSigned w64 d.1
+    → Stands age G → Stands later (translate_of G d) → (G ≡ empty → d ≡ origin) → FitsSigned w64 d.0 × FitsSigned w64 d.1
 moved-fits age later G d young soon here there unmoved = ⊎_elim
     (λ none. let still = unmoved none in subst Fits (sym still) (omega (arith, ints), omega (arith, ints)))
     (λ some. move-fits age later some.0 d young soon (here some.0 some.1)
@@ -86,16 +86,16 @@ pub record IsTextual (G : Generation) : Type 0 where
   pub stands : Stands 0 G
   pub few : size G < 2 ^ 64
 
-textual : (ts : List Token) → first_fault [] ts ≡ None → IsTextual (from_list (map placed (cells_after [] ts)))
+textual : (ts : List Token) → first_fault [] ts ≡ None → IsTextual (from_list (map cell_of_pair (cells_after [] ts)))
 textual ts none =
     let drawn = cells_after [] ts in
-    let all = map placed drawn in
+    let all = map cell_of_pair drawn in
     let rises = meaning_rises ts none in
     let listed = cells-from_list all (placed_rises 0 0 drawn rises) in
     let places = placed_within 0 0 drawn rises in
     let within : All (IsWithin 0) (cells (from_list all)) = subst (All (IsWithin 0)) (sym listed) places in
     let most = size-from_list all in
-    let count = length-map drawn placed in
+    let count = length-map drawn cell_of_pair in
     let few = few-rising 0 0 drawn (omega arith) (omega arith) rises in
     record {
       stands = member_has (IsWithin 0) (from_list all) within;

@@ -2,7 +2,7 @@
 use Rattle.std.specs.Prelude.{ℕ, List}
 use Rattle.census_bundle.specs.declared.bundle.Folder.{Folder}
 use Rattle.census_format.specs.Reports.{IsReport}
-use Rattle.census_merge.specs.Merged.{merged}
+use Rattle.census_merge.specs.Merged.{merged_rows}
 use Rattle.census_readback.specs.Reports.{IsReport as IsReadBack}
 use Rattle.census_readback.specs.Texts.{text_of}
 use Rattle.census_rows.specs.declared.row.Row.{Row}
@@ -13,4 +13,4 @@ use Rattle.report_laws.specs.Joining.{bundles, texts}
 pub record AreMade (question : Question) (parts : List (List Folder)) (reports : List (List ℕ)) : Type 0 where
   pub rows : List Row
   pub read : IsReadBack rows (texts reports)
-  pub report : IsReport (bundles parts) question (text_of (merged rows))
+  pub report : IsReport (bundles parts) question (text_of (merged_rows rows))

@@ -6,11 +6,11 @@ use Rattle.std.specs.declared.cmp.Ordering.{Ordering}
 use Rattle.std.specs.declared.cmp.Ordering.TheVariants.{Less, Equal, Greater}
 use Rattle.census_bundle.specs.declared.bundle.Entry.{Entry}
 use Rattle.census_format.specs.Lines.{answer_to_entry, answers}
-use Rattle.census_format.specs.Objects.{Object, distinct, object, objects, part_objects, tally}
+use Rattle.census_format.specs.Objects.{Object, distinct_elements, object, objects, part_objects, tally}
 use Rattle.life_answer.specs.Answers.{finding_at, finding_from, finding_of}
 use Rattle.life_answer.specs.Census.{census_found, census_of, code_found, part_code}
 use Rattle.life_answer.specs.Limited.{unless_large}
-use Rattle.life_answer.specs.Parts.{beside, with_code}
+use Rattle.life_answer.specs.Parts.{with_code_by_order, with_code}
 use Rattle.life_answer.specs.Questions.{answer_to, answer_to_question, finding_to}
 use Rattle.life_answer.specs.declared.finding.Answer.{Answer}
 use Rattle.life_answer.specs.declared.finding.Answer.TheVariants.{Found, Refused}
@@ -60,7 +60,7 @@ found-solid (Large population generation) h = tt
 found-solid (Ash population parts) h = tt
 
 beside-solid : (order : Ordering) (code : List ℕ) (part : Part) (parts rest : List Part)
-    → IsSolid code → Each IsSolidPart (part ∷ parts) → Each IsSolidPart rest → Each IsSolidPart (beside order code part parts rest)
+    → IsSolid code → Each IsSolidPart (part ∷ parts) → Each IsSolidPart rest → Each IsSolidPart (with_code_by_order order code part parts rest)
 beside-solid Less code part parts rest h k l = (h, k)
 beside-solid Equal code part parts rest h k l = (k.0, k.1)
 beside-solid Greater code part parts rest h k l = (k.0, l)
@@ -126,9 +126,9 @@ objects-coded (Found rule (Ash population parts) ∷ found) h =
     each-append IsSolidObject (part_objects rule parts) (objects found) (parts-coded rule parts h.0) (objects-coded found h.1)
 objects-coded (Refused number ∷ found) h = objects-coded found h.1
 
-pub distinct-each : {A : Type 0} (P : A → Type 0) (same : A → A → Bool) (xs : List A) → Each P xs → Each P (distinct same xs)
+pub distinct-each : {A : Type 0} (P : A → Type 0) (same : A → A → Bool) (xs : List A) → Each P xs → Each P (distinct_elements same xs)
 distinct-each P same [] h = tt
-distinct-each P same (x ∷ xs) h = (h.0, each-filter P (λ y. not (same x y)) (distinct same xs) (distinct-each P same xs h.1))
+distinct-each P same (x ∷ xs) h = (h.0, each-filter P (λ y. not (same x y)) (distinct_elements same xs) (distinct-each P same xs h.1))
 
 pub counted-each : {A : Type 0} (P : A → Type 0) (f : A → ℕ) (xs : List A) → Each P xs → Each (λ (x : A × ℕ). P x.0) (map (λ x. (x, f x)) xs)
 counted-each P f [] h = tt
@@ -138,5 +138,5 @@ pub tally-coded : (same : Object → Object → Bool) (question : Question) (es 
     → Each (λ (counted : Object × ℕ). IsSolidObject counted.0) (tally same (objects (answers question es)))
 tally-coded same question es =
     let all = objects-coded (answers question es) (each-map IsCodedAnswer (answer_to_entry question) (entry-coded question) es) in
-    counted-each IsSolidObject (λ x. count_by (same x) (objects (answers question es))) (distinct same (objects (answers question es)))
+    counted-each IsSolidObject (λ x. count_by (same x) (objects (answers question es))) (distinct_elements same (objects (answers question es)))
     (distinct-each IsSolidObject same (objects (answers question es)) all)

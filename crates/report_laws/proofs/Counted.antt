@@ -4,7 +4,7 @@ use Rattle.std.proofs.lemmas.Bool.{cases_Bool}
 use Rattle.census_bundle.specs.declared.bundle.Folder.{Folder}
 use Rattle.census_format.specs.Lines.{pattern_count}
 use Rattle.census_readback.specs.Shapes.{AreCodes, AreLines, AreOf, is_ash, patterns_in, rows_of}
-use Rattle.census_readback.specs.Steps.{collection_of, opened}
+use Rattle.census_readback.specs.Steps.{collection_of, patterns_opened}
 use Rattle.census_rows.specs.declared.row.Row.{Row}
 use Rattle.census_rows.specs.declared.row.Row.TheVariants.{Open, Line, Part, Code, Close, End}
 
@@ -51,7 +51,7 @@ total-passed first (suc count) r rows less =
     omega (arith, here, others)
 
 total-here : (first count : ℕ) (r : Row) (rows : List Row) → first ≤ collection_of r → collection_of r < first + count
-    → total first count (r ∷ rows) ≡ opened r + total first count rows
+    → total first count (r ∷ rows) ≡ patterns_opened r + total first count rows
 total-here first zero r rows low high = absurd (omega arith)
 total-here first (suc count) r rows low high = elim (cases_Bool (eqb (collection_of r) first)) [
   | inl same ↦

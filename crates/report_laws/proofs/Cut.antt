@@ -10,9 +10,9 @@ use Rattle.census_readback.specs.Steps.{collection_of}
 use Rattle.census_readback.specs.Texts.{AllLines, HasNoFeed, text_of}
 use Rattle.census_rows.specs.declared.row.Row.{Row}
 use Rattle.census_rows.specs.declared.row.Row.TheVariants.{Open, Line, Part, Code, Close, End}
-use Rattle.census_rows.specs.Lines.{IsRow, behind, row_text}
+use Rattle.census_rows.specs.Lines.{IsRow, fields_text, row_text}
 use Rattle.report_laws.specs.Said.{Said}
-use Rattle.report_laws.specs.Telling.{AreGroups, AreOwned, Group, rows_in, saying, sayings}
+use Rattle.report_laws.specs.Telling.{AreGroups, AreOwned, Group, rows_in, statement_of_row, statements_of}
 use Rattle.report_laws.proofs.Lines.{group_line, said_line}
 use Rattle.report_laws.proofs.Parsed.{IsParsed, end-flat, end-parsed, parse, row-parsed}
 use Rattle.report_laws.proofs.Shifted.{group}
@@ -36,7 +36,7 @@ isnt-empty (c ∷ a) x e = absurd (cc)
 
 -- what is said, without its LF
 abbrev bare : ℕ → Said → List ℕ
-bare c s = s.word ++ behind (decimal c ∷ s.fields)
+bare c s = s.word ++ fields_text (decimal c ∷ s.fields)
 
 spelled : (c : ℕ) (s : Said) (more : List ℕ) → said_line c s ++ more ≡ bare c s ++ 10 ∷ more
 spelled c s more = ap (λ l. l ++ more) (sym (written s.word (decimal c ∷ s.fields))) ∙ append_assoc (bare c s) (10 ∷ []) more
@@ -52,17 +52,17 @@ small-collection (End collections patterns) h = omega arith
 -- ---- one row
 
 record Told (c : ℕ) (s : Said) (row : Row) : Type 0 where
-  says : saying row ≡ s
+  says : statement_of_row row ≡ s
   owned : collection_of row ≡ c
   lasting : sums_of row ≡ Nothing
 
 told-row : (c : ℕ) (s : Said) (row : Row) → sums_of row ≡ Nothing → IsParsed s → c < 2 ^ 64 → IsRow row → row_text row ≡ bare c s → Told c s row
 told-row c s row lasting p small h e =
-    let items : (saying row).word ∷ decimal (collection_of row) ∷ (saying row).fields ≡ s.word ∷ decimal c ∷ s.fields =
+    let items : (statement_of_row row).word ∷ decimal (collection_of row) ∷ (statement_of_row row).fields ≡ s.word ∷ decimal c ∷ s.fields =
     sym (row-parsed row lasting h) ∙ ap parse e ∙ p.parsed c in
-    let words : (saying row).word ≡ s.word = cc in
+    let words : (statement_of_row row).word ≡ s.word = cc in
     let numbers : decimal (collection_of row) ≡ decimal c = cc in
-    let fields : (saying row).fields ≡ s.fields = cc in
+    let fields : (statement_of_row row).fields ≡ s.fields = cc in
     record {
       says = λ i. record { word = words i; fields = fields i };
       owned = decimal_injective (collection_of row) c (small-collection row h) small numbers;
@@ -111,7 +111,7 @@ record GroupCut (c : ℕ) (ss : List Said) (rows : List Row) (more : List ℕ) :
   here : List Row
   rest : List Row
   whole : rows ≡ here ++ rest
-  says : map saying here ≡ ss
+  says : map statement_of_row here ≡ ss
   owned : AreOwned c here
   lines : AllLines rest
   left : text_of rest ≡ more
@@ -167,7 +167,7 @@ pub record LinesCut (all : ℕ → List (List Said)) (rows : List Row) (more : L
   pub groups : List Group
   pub rest : List Row
   pub owned : AreGroups groups
-  pub sections : (c : ℕ) → sayings c groups ≡ all c
+  pub sections : (c : ℕ) → statements_of c groups ≡ all c
   pub whole : rows ≡ rows_in groups ++ rest
   pub lines : AllLines rest
   pub left : text_of rest ≡ more
@@ -205,9 +205,9 @@ few c all group e small = ⊎_elim (λ none. absurd (cc)) (λ less. less) small
 
 -- what is said in each collection, where the first group of one is taken
 sections-cut : (o c : ℕ) (all : ℕ → List (List Said)) (first : List Said) (here : List Row) (groups : List Group)
-    → all o ≡ first ∷ rest_of (all o) → map saying here ≡ first → sayings c groups ≡ without o all c → sayings c (group o here ∷ groups) ≡ all c
+    → all o ≡ first ∷ rest_of (all o) → map statement_of_row here ≡ first → statements_of c groups ≡ without o all c → statements_of c (group o here ∷ groups) ≡ all c
 sections-cut o c all first here groups is says =
-    elim (eqb o c) as (λ v. eqb o c ≡ v → sayings c groups ≡ cond v (rest_of (all c)) (all c) → cond v (map saying here ∷ sayings c groups) (sayings c groups) ≡ all c) [
+    elim (eqb o c) as (λ v. eqb o c ≡ v → statements_of c groups ≡ cond v (rest_of (all c)) (all c) → cond v (map statement_of_row here ∷ statements_of c groups) (statements_of c groups) ≡ all c) [
       | true ↦ λ own others.
           let at : all c ≡ first ∷ rest_of (all c) = subst (λ k. all k ≡ first ∷ rest_of (all k)) (eqb-true o c own) is in
           (λ i. says i ∷ others i) ∙ sym at
@@ -256,11 +256,11 @@ pub record EndCut (collections patterns : ℕ) (rows : List Row) (more : List �
   pub lines : AllLines rest
   pub left : text_of rest ≡ more
 
-isnt-end : (row : Row) (items : List (List ℕ)) → sums_of row ≡ Nothing → bytes_eq (saying row).word (codes "end") ≡ false → IsRow row
+isnt-end : (row : Row) (items : List (List ℕ)) → sums_of row ≡ Nothing → bytes_eq (statement_of_row row).word (codes "end") ≡ false → IsRow row
     → parse (row_text row) ≡ codes "end" ∷ items → ⊥
 isnt-end row items lasting other h e =
-    let all : (saying row).word ∷ decimal (collection_of row) ∷ (saying row).fields ≡ codes "end" ∷ items = sym (row-parsed row lasting h) ∙ e in
-    let words : (saying row).word ≡ codes "end" = cc in
+    let all : (statement_of_row row).word ∷ decimal (collection_of row) ∷ (statement_of_row row).fields ≡ codes "end" ∷ items = sym (row-parsed row lasting h) ∙ e in
+    let words : (statement_of_row row).word ≡ codes "end" = cc in
     let ends : false ≡ true = sym other ∙ ap (λ w. bytes_eq w (codes "end")) words in
     absurd (cc)
 
@@ -281,7 +281,7 @@ last-row m n (End collections patterns) a b h e =
     λ i. End (one i) (two i)
 
 abbrev last : ℕ → ℕ → List ℕ
-last m n = codes "end" ++ behind (decimal m ∷ decimal n ∷ [])
+last m n = codes "end" ++ fields_text (decimal m ∷ decimal n ∷ [])
 
 end-in : (m n : ℕ) (rows : List Row) (more : List ℕ) → m < 2 ^ 64 → n < 2 ^ 64 → AllLines rows → text_of rows ≡ last m n ++ 10 ∷ more → EndCut m n rows more
 end-in m n [] more a b each e = absurd (isnt-empty (last m n) more e)

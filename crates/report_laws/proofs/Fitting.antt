@@ -3,9 +3,9 @@ use Rattle.std.proofs.Common.{◌≡◌, ℕ, ◌+◌, ◌-◌, ◌*◌, ◌<◌
 use Rattle.std.proofs.lemmas.Bool.{le-leb}
 use Rattle.census_bundle.specs.declared.bundle.Folder.{Folder}
 use Rattle.census_format.specs.Lines.{pattern_count}
-use Rattle.census_merge.specs.declared.totals.Sums.{Sums}
-use Rattle.census_merge.specs.Sums.{first_excess, none, plus, with_more}
-use Rattle.census_readback.specs.Shapes.{joined}
+use Rattle.census_merge.specs.declared.report_sums.Sums.{Sums}
+use Rattle.census_merge.specs.Sums.{first_excess, no_sums, sums_plus, with_more}
+use Rattle.census_readback.specs.Shapes.{all_rows}
 use Rattle.census_rows.specs.declared.row.Row.{Row}
 use Rattle.census_rows.specs.declared.row.Row.TheVariants.{End}
 use Rattle.life_answer.specs.declared.question.Question.{Question}
@@ -33,21 +33,21 @@ excess-groups report s (g ∷ groups) rest h =
 abbrev sums : List Folder → Sums
 sums b = record { collections = length b; patterns = pattern_count b }
 
-within : (s : Sums) (b : List Folder) → s.collections + length b ≤ 65535 → s.patterns + pattern_count b < 2 ^ 64 → with_more s (sums b) ≡ Some (plus s (sums b))
+within : (s : Sums) (b : List Folder) → s.collections + length b ≤ 65535 → s.patterns + pattern_count b < 2 ^ 64 → with_more s (sums b) ≡ Some (sums_plus s (sums b))
 within s b few small =
     let collections = le-leb (length b) (65535 - s.collections) (omega arith) in
     let patterns = le-leb (pattern_count b) (2 ^ 64 - 1 - s.patterns) (omega arith) in
-    ap (λ v. cond (v && leb (pattern_count b) (2 ^ 64 - 1 - s.patterns)) (Some (plus s (sums b))) Nothing) collections
-    ∙ ap (λ v. cond v (Some (plus s (sums b))) Nothing) patterns
+    ap (λ v. cond (v && leb (pattern_count b) (2 ^ 64 - 1 - s.patterns)) (Some (sums_plus s (sums b))) Nothing) collections
+    ∙ ap (λ v. cond v (Some (sums_plus s (sums b))) Nothing) patterns
 
 none-too-many : (question : Question) (report : ℕ) (s : Sums) (parts : List (List Folder)) (reports : List (List Row)) → EachTells question parts reports
-    → s.collections + length (bundles parts) ≤ 65535 → s.patterns + pattern_count (bundles parts) < 2 ^ 64 → first_excess report s (joined reports) ≡ Nothing
+    → s.collections + length (bundles parts) ≤ 65535 → s.patterns + pattern_count (bundles parts) < 2 ^ 64 → first_excess report s (all_rows reports) ≡ Nothing
 none-too-many question report s [] [] h few small = refl
 none-too-many question report s [] (rows ∷ reports) h few small = absurd h
 none-too-many question report s (b ∷ parts) [] h few small = absurd h
 none-too-many question report s (b ∷ parts) (rows ∷ reports) h few small =
     let t : Tells b question rows = h.0 in
-    let others = joined reports in
+    let others = all_rows reports in
     let last = End (length b) (pattern_count b) in
     let lengths = length-append b (bundles parts) in
     let counts = count-append b (bundles parts) in
@@ -55,7 +55,7 @@ none-too-many question report s (b ∷ parts) (rows ∷ reports) h few small =
     ap (λ w. w ++ others) t.whole ∙ append_assoc (rows_in t.groups) (last ∷ []) others in
     ap (first_excess report s) all ∙ excess-groups report s t.groups (last ∷ others) t.owned
     ∙ ap (going_on report s others) (within s b (omega arith) (omega arith))
-    ∙ none-too-many question (report + 1) (plus s (sums b)) parts reports h.1 (omega arith) (omega arith)
+    ∙ none-too-many question (report + 1) (sums_plus s (sums b)) parts reports h.1 (omega arith) (omega arith)
 
 few-joined : (parts : List (List Folder)) → AreBundles parts → pattern_count (bundles parts) ≤ 65535 * length (bundles parts)
 few-joined [] h = omega arith
@@ -67,7 +67,7 @@ few-joined (b ∷ parts) h =
     omega arith
 
 pub fitting : (question : Question) (parts : List (List Folder)) (reports : List (List Row)) → AreBundles parts → EachTells question parts reports
-    → length (bundles parts) ≤ 65535 → first_excess 1 none (joined reports) ≡ Nothing
+    → length (bundles parts) ≤ 65535 → first_excess 1 no_sums (all_rows reports) ≡ Nothing
 fitting question parts reports bundled h small =
     let patterns = few-joined parts bundled in
-    none-too-many question 1 none parts reports h (omega arith) (omega arith)
+    none-too-many question 1 no_sums parts reports h (omega arith) (omega arith)

@@ -6,7 +6,7 @@ use Rattle.census_bundle.specs.declared.bundle.Folder.{Folder}
 use Rattle.census_format.specs.Lines.{answer_to_entry, answers}
 use Rattle.census_format.specs.Lines as book
 use Rattle.census_format.specs.Objects.{Object}
-use Rattle.census_readback.specs.Shapes.{AreCodes, AreLines, IsSection, any, is_ash, is_refused, is_resolved, is_unresolved, joined, lines_that, patterns_in}
+use Rattle.census_readback.specs.Shapes.{AreCodes, AreLines, IsSection, any_outcome, is_ash, is_refused, is_resolved, is_unresolved, all_rows, lines_that, patterns_in}
 use Rattle.census_rows.specs.declared.row.Outcome.{Outcome}
 use Rattle.census_rows.specs.declared.row.Row.{Row}
 use Rattle.census_rows.specs.declared.row.Row.TheVariants.{Close}
@@ -18,9 +18,9 @@ use Rattle.life_answer.specs.declared.question.Question.{Question}
 use Rattle.report_laws.proofs.Counted.{codes-open-none, lines-open-none, patterns-append}
 use Rattle.report_laws.proofs.Rowed.{close_row, code_rows, counted_in, open_row, outcome_of, part_row, part_rows, pattern_rows, section_rows}
 
-joined-append : (xs ys : List (List Row)) → joined (xs ++ ys) ≡ joined xs ++ joined ys
+joined-append : (xs ys : List (List Row)) → all_rows (xs ++ ys) ≡ all_rows xs ++ all_rows ys
 joined-append [] ys = refl
-joined-append (x ∷ xs) ys = ap (λ w. x ++ w) (joined-append xs ys) ∙ sym (append_assoc x (joined xs) (joined ys))
+joined-append (x ∷ xs) ys = ap (λ w. x ++ w) (joined-append xs ys) ∙ sym (append_assoc x (all_rows xs) (all_rows ys))
 
 -- ---- `line` lines and those after them
 
@@ -35,11 +35,11 @@ after-ordered c i (Found rule (Large population generation)) rest h = h false
 after-ordered c i (Found rule (Ash population parts)) rest h = parts-ordered c i parts rest (h true)
 after-ordered c i (Refused number) rest h = h false
 
-ordered : (question : Question) (c last i : ℕ) (ash : Bool) (es : List Entry) → i ≡ last + 1 → AreLines last ash (joined (pattern_rows question c i es))
+ordered : (question : Question) (c last i : ℕ) (ash : Bool) (es : List Entry) → i ≡ last + 1 → AreLines last ash (all_rows (pattern_rows question c i es))
 ordered question c last i ash [] e = tt
 ordered question c last i ash (x ∷ es) e =
     let found = answer_to_entry question x in
-    let rest = joined (pattern_rows question c (suc i) es) in
+    let rest = all_rows (pattern_rows question c (suc i) es) in
     let next : suc i ≡ i + 1 = omega arith in (
       e,
       subst (λ k. AreLines k (is_ash (outcome_of found)) (part_rows c i found ++ rest)) e
@@ -64,15 +64,15 @@ no-lines kind c i (Found rule (Ash population parts)) = parts-none kind c i part
 no-lines kind c i (Refused number) = refl
 
 lines-counted : (kind : Outcome → Bool) (test : Answer → Bool) → ((found : Answer) → kind (outcome_of found) ≡ test found) → (question : Question) (c i : ℕ) (es : List Entry)
-    → lines_that kind (joined (pattern_rows question c i es)) ≡ count_by test (answers question es)
+    → lines_that kind (all_rows (pattern_rows question c i es)) ≡ count_by test (answers question es)
 lines-counted kind test same question c i [] = refl
 lines-counted kind test same question c i (x ∷ es) =
     let found = answer_to_entry question x in
-    let apart = lines-append kind (part_rows c i found) (joined (pattern_rows question c (suc i) es)) in
+    let apart = lines-append kind (part_rows c i found) (all_rows (pattern_rows question c (suc i) es)) in
     let none = no-lines kind c i found in
     let rest = lines-counted kind test same question c (suc i) es in
-    let after : lines_that kind (part_rows c i found ++ joined (pattern_rows question c (suc i) es)) ≡ count_by test (answers question es) = omega (arith, apart, none, rest) in
-    ap (λ v. cond v 1 0 + lines_that kind (part_rows c i found ++ joined (pattern_rows question c (suc i) es))) (same found)
+    let after : lines_that kind (part_rows c i found ++ all_rows (pattern_rows question c (suc i) es)) ≡ count_by test (answers question es) = omega (arith, apart, none, rest) in
+    ap (λ v. cond v 1 0 + lines_that kind (part_rows c i found ++ all_rows (pattern_rows question c (suc i) es))) (same found)
     ∙ ap (λ n. cond (test found) 1 0 + n) after
     ∙ sym (sum_by-cons (λ found. cond (test found) 1 0) found (answers question es))
 
@@ -106,30 +106,30 @@ all-counted question (x ∷ es) =
     let rest = all-counted question es in
     omega (arith, first, rest)
 
-codes-are : (c : ℕ) (counted : List (Object × ℕ)) → AreCodes (joined (code_rows c counted))
+codes-are : (c : ℕ) (counted : List (Object × ℕ)) → AreCodes (all_rows (code_rows c counted))
 codes-are c [] = tt
 codes-are c (x ∷ counted) = codes-are c counted
 
 module _ (question : Question) (c : ℕ) (f : Folder) where
   abbrev the_lines : List Row
-  the_lines = joined (pattern_rows question c 1 f.entries)
+  the_lines = all_rows (pattern_rows question c 1 f.entries)
 
   abbrev the_codes : List Row
-  the_codes = joined (code_rows c (counted_in question f))
+  the_codes = all_rows (code_rows c (counted_in question f))
 
   abbrev the_close : Row
   the_close = close_row c (answers question f.entries) (length f.entries)
 
-  count-any : lines_that any the_lines ≡ length f.entries
-  count-any = lines-counted any (λ found. true) (λ found. refl) question c 1 f.entries ∙ all-counted question f.entries
+  count-any : lines_that any_outcome the_lines ≡ length f.entries
+  count-any = lines-counted any_outcome (λ found. true) (λ found. refl) question c 1 f.entries ∙ all-counted question f.entries
 
-  written : joined (section_rows question c f) ≡ open_row c f ∷ (the_lines ++ (the_codes ++ the_close ∷ []))
+  written : all_rows (section_rows question c f) ≡ open_row c f ∷ (the_lines ++ (the_codes ++ the_close ∷ []))
   written =
       ap (λ w. open_row c f ∷ w)
       (joined-append (pattern_rows question c 1 f.entries) (code_rows c (counted_in question f) ++ (the_close ∷ []) ∷ [])
       ∙ ap (λ w. the_lines ++ w) (joined-append (code_rows c (counted_in question f)) ((the_close ∷ []) ∷ [])))
 
-  closed : the_close ≡ Close c (lines_that any the_lines) (lines_that is_resolved the_lines) (lines_that is_unresolved the_lines) (lines_that is_refused the_lines)
+  closed : the_close ≡ Close c (lines_that any_outcome the_lines) (lines_that is_resolved the_lines) (lines_that is_unresolved the_lines) (lines_that is_refused the_lines)
   closed =
       let all = sym count-any in
       let resolved = sym (lines-counted is_resolved book.is_resolved resolved-same question c 1 f.entries) in
@@ -140,7 +140,7 @@ module _ (question : Question) (c : ℕ) (f : Folder) where
   lines-are : AreLines 0 false the_lines
   lines-are = ordered question c 0 1 false f.entries refl
 
-  pub section-formed : length f.entries ≤ 65535 → IsSection (joined (section_rows question c f))
+  pub section-formed : length f.entries ≤ 65535 → IsSection (all_rows (section_rows question c f))
   section-formed few = record {
     first = open_row c f;
     lines = the_lines;
@@ -154,7 +154,7 @@ module _ (question : Question) (c : ℕ) (f : Folder) where
     few = (let e = count-any in omega (arith, e, few));
   }
 
-  pub section-opens : patterns_in (joined (section_rows question c f)) ≡ length f.entries
+  pub section-opens : patterns_in (all_rows (section_rows question c f)) ≡ length f.entries
   section-opens =
       let rest = patterns-append the_lines (the_codes ++ the_close ∷ []) in
       let ends = patterns-append the_codes (the_close ∷ []) in

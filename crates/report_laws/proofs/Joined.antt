@@ -2,16 +2,16 @@
 use Rattle.std.proofs.Common.{◌≡◌, ℕ, zero, suc, ◌+◌, ◌-◌, List, [], ◌∷◌, ◌++◌, ap, ◌∙◌, sym, refl, arith, length, length-append, append-nil, append_assoc, eq-zero-or-pos, ⊎_elim, slice_get}
 use Rattle.census_bundle.specs.declared.bundle.Folder.{Folder}
 use Rattle.census_format.specs.Lines.{pattern_count}
-use Rattle.census_merge.specs.declared.totals.Sums.{Sums}
-use Rattle.census_merge.specs.Sums.{none, plus, sums_in}
-use Rattle.census_merge.specs.Merged.{merged, numbered_on}
-use Rattle.census_readback.specs.Shapes.{joined}
+use Rattle.census_merge.specs.declared.report_sums.Sums.{Sums}
+use Rattle.census_merge.specs.Sums.{no_sums, sums_plus, sums_in}
+use Rattle.census_merge.specs.Merged.{merged_rows, numbered_on}
+use Rattle.census_readback.specs.Shapes.{all_rows}
 use Rattle.census_rows.specs.declared.row.Row.{Row}
 use Rattle.census_rows.specs.declared.row.Row.TheVariants.{End}
 use Rattle.life_answer.specs.declared.question.Question.{Question}
 use Rattle.report_laws.specs.Joining.{EachTells, bundles}
 use Rattle.report_laws.specs.Said.{said_by, said_of, said_section}
-use Rattle.report_laws.specs.Telling.{AreGroups, Group, Tells, rows_in, sayings}
+use Rattle.report_laws.specs.Telling.{AreGroups, Group, Tells, rows_in, statements_of}
 use Rattle.report_laws.proofs.Shifted.{groups-append, groups-owned, on-groups, rows-append, sayings-append, sayings-low, sayings-shifted, shifted, sums-groups}
 
 pub count-append : (b more : List Folder) → pattern_count (b ++ more) ≡ pattern_count b + pattern_count more
@@ -31,25 +31,25 @@ said-at (f ∷ b) more question (suc k) =
 
 said-joined : (b more : List Folder) (question : Question) (c : ℕ)
     → said_by (b ++ more) question c ≡ said_by b question c ++ said_by more question (c - length b)
-said-joined b more question zero = let none : zero - length b ≡ zero = omega arith in ap (said_by more question) (sym none)
+said-joined b more question zero = let zero_left : zero - length b ≡ zero = omega arith in ap (said_by more question) (sym zero_left)
 said-joined b more question (suc k) = said-at b more question k
 
 -- what the groups of a report say, numbered on
-said-shifted : (n c : ℕ) (b : List Folder) (question : Question) (groups : List Group) → ((k : ℕ) → sayings k groups ≡ said_by b question k)
-    → sayings c (shifted n groups) ≡ said_by b question (c - n)
+said-shifted : (n c : ℕ) (b : List Folder) (question : Question) (groups : List Group) → ((k : ℕ) → statements_of k groups ≡ said_by b question k)
+    → statements_of c (shifted n groups) ≡ said_by b question (c - n)
 said-shifted n c b question groups sections = ⊎_elim
     (λ low. sayings-low n c groups (omega arith) (sections zero) ∙ ap (said_by b question) (sym low))
     (λ high. let same : n + (c - n) ≡ c = omega arith in
-    ap (λ k. sayings k (shifted n groups)) (sym same) ∙ sayings-shifted n (c - n) groups ∙ sections (c - n))
+    ap (λ k. statements_of k (shifted n groups)) (sym same) ∙ sayings-shifted n (c - n) groups ∙ sections (c - n))
     (eq-zero-or-pos (c - n))
 
 -- What reports tell of their bundles, where so many collections come before them.
 record TellOn (n : ℕ) (question : Question) (b : List Folder) (rows : List Row) : Type 0 where
   groups : List Group
   owned : AreGroups groups
-  sections : (c : ℕ) → sayings c groups ≡ said_by b question (c - n)
+  sections : (c : ℕ) → statements_of c groups ≡ said_by b question (c - n)
   whole : numbered_on n rows ≡ rows_in groups
-  counted : (s : Sums) → sums_in s rows ≡ plus s (record { collections = length b; patterns = pattern_count b })
+  counted : (s : Sums) → sums_in s rows ≡ sums_plus s (record { collections = length b; patterns = pattern_count b })
 
 no-sections : (question : Question) (c : ℕ) → said_by [] question c ≡ []
 no-sections question zero = refl
@@ -67,7 +67,7 @@ one-more n question b more rows others t rest =
       sections = λ c.
           let apart : c - (n + length b) ≡ c - n - length b = omega arith in
           sayings-append c (shifted n t.groups) rest.groups
-          ∙ ap (λ ss. ss ++ sayings c rest.groups) (said-shifted n c b question t.groups t.sections)
+          ∙ ap (λ ss. ss ++ statements_of c rest.groups) (said-shifted n c b question t.groups t.sections)
           ∙ ap (λ ss. said_by b question (c - n) ++ ss) (rest.sections c ∙ ap (said_by more question) apart)
           ∙ sym (said-joined b more question (c - n));
       whole = ap (numbered_on n) all ∙ on-groups n t.groups (last ∷ others) t.owned
@@ -79,12 +79,12 @@ one-more n question b more rows others t rest =
           let collections : s.collections + length b + length more ≡ s.collections + length (b ++ more) = omega arith in
           let patterns : s.patterns + pattern_count b + pattern_count more ≡ s.patterns + pattern_count (b ++ more) = omega arith in
           ap (sums_in s) all ∙ sums-groups s t.groups (last ∷ others) t.owned
-          ∙ rest.counted (plus s (record { collections = length b; patterns = pattern_count b }))
+          ∙ rest.counted (sums_plus s (record { collections = length b; patterns = pattern_count b }))
           ∙ (λ i. record { collections = collections i; patterns = patterns i });
     }
 
 each-more : (n : ℕ) (question : Question) (parts : List (List Folder)) (reports : List (List Row))
-    → EachTells question parts reports → TellOn n question (bundles parts) (joined reports)
+    → EachTells question parts reports → TellOn n question (bundles parts) (all_rows reports)
 each-more n question [] [] h = record {
   groups = [];
   owned = tt;
@@ -97,18 +97,18 @@ each-more n question [] [] h = record {
 each-more n question [] (rows ∷ reports) h = absurd h
 each-more n question (b ∷ parts) [] h = absurd h
 each-more n question (b ∷ parts) (rows ∷ reports) h =
-    one-more n question b (bundles parts) rows (joined reports) h.0 (each-more (n + length b) question parts reports h.1)
+    one-more n question b (bundles parts) rows (all_rows reports) h.0 (each-more (n + length b) question parts reports h.1)
 
 pub joined-tell : (question : Question) (parts : List (List Folder)) (reports : List (List Row))
-    → EachTells question parts reports → Tells (bundles parts) question (merged (joined reports))
+    → EachTells question parts reports → Tells (bundles parts) question (merged_rows (all_rows reports))
 joined-tell question parts reports h =
     let all = each-more 0 question parts reports h in
-    let sums = all.counted none in
+    let sums = all.counted no_sums in
     record {
       groups = all.groups;
       owned = all.owned;
       sections = λ c. let same : c - 0 ≡ c = omega arith in all.sections c ∙ ap (said_by (bundles parts) question) same;
-      whole = ap (λ w. w ++ End (sums_in none (joined reports)).collections (sums_in none (joined reports)).patterns ∷ []) all.whole
+      whole = ap (λ w. w ++ End (sums_in no_sums (all_rows reports)).collections (sums_in no_sums (all_rows reports)).patterns ∷ []) all.whole
           ∙ ap (λ (s : Sums). rows_in all.groups ++ End s.collections s.patterns ∷ []) sums
           ∙ (let collections : 0 + length (bundles parts) ≡ length (bundles parts) = omega arith in
           let patterns : 0 + pattern_count (bundles parts) ≡ pattern_count (bundles parts) = omega arith in

@@ -3,7 +3,7 @@ use Rattle.std.proofs.Common.{◌≡◌, ℕ, true, false, cond, eqb, List, [], 
 use Rattle.std.specs.List.{AllByRecursion as Each}
 use Rattle.std.proofs.lemmas.Bool.{eq-eqb, eqb-true}
 use Rattle.census_format.specs.Reports.{Owned, lines_of, owned_text}
-use Rattle.census_readback.specs.Shapes.{joined, rows_of}
+use Rattle.census_readback.specs.Shapes.{all_rows, rows_of}
 use Rattle.census_readback.specs.Steps.{collection_of}
 use Rattle.census_readback.specs.Texts.{text_of}
 use Rattle.census_rows.specs.declared.row.Row.{Row}
@@ -56,7 +56,7 @@ others-of : (line : List ℕ) (lines : List (List ℕ)) (all : List (List Row)) 
 others-of line lines [] e = absurd (cc)
 others-of line lines (rows ∷ all) e = let same : lines ≡ map text_of all = cc in same
 
-none-of : (all : List (List Row)) → [] ≡ map text_of all → [] ≡ joined all
+none-of : (all : List (List Row)) → [] ≡ map text_of all → [] ≡ all_rows all
 none-of [] e = refl
 none-of (rows ∷ all) e = absurd (cc)
 
@@ -65,20 +65,20 @@ pub record Laid (P : ℕ → Row → Type 0) (all : ℕ → List (List Row)) (li
   pub body : List Row
   pub text : text_of body ≡ owned_text lines
   pub each : Each (λ row. P (collection_of row) row) body
-  pub sections : (c : ℕ) → rows_of c body ≡ joined (all c)
+  pub sections : (c : ℕ) → rows_of c body ≡ all_rows (all c)
 
 own-each : (P : ℕ → Row → Type 0) (o : ℕ) (rows : List Row) → Each (IsIn o) rows → Each (P o) rows → Each (λ row. P (collection_of row) row) rows
 own-each P o [] h k = tt
 own-each P o (row ∷ rows) h k = (subst (λ n. P n row) (sym h.0) k.0, own-each P o rows h.1 k.1)
 
 sections-laid : (o c : ℕ) (all : ℕ → List (List Row)) (first body : List Row) → all o ≡ first ∷ rest_of (all o) → Each (IsIn o) first
-    → rows_of c body ≡ joined (without o all c) → rows_of c (first ++ body) ≡ joined (all c)
+    → rows_of c body ≡ all_rows (without o all c) → rows_of c (first ++ body) ≡ all_rows (all c)
 sections-laid o c all first body is own =
-    elim (eqb o c) as (λ v. eqb o c ≡ v → rows_of c body ≡ joined (cond v (rest_of (all c)) (all c)) → rows_of c (first ++ body) ≡ joined (all c)) [
+    elim (eqb o c) as (λ v. eqb o c ≡ v → rows_of c body ≡ all_rows (cond v (rest_of (all c)) (all c)) → rows_of c (first ++ body) ≡ all_rows (all c)) [
       | true ↦ λ same others.
           let here : Each (IsIn c) first = subst (λ k. Each (IsIn k) first) (eqb-true o c same) own in
           let at : all c ≡ first ∷ rest_of (all c) = subst (λ k. all k ≡ first ∷ rest_of (all k)) (eqb-true o c same) is in
-          rows-own c first body here ∙ ap (λ w. first ++ w) others ∙ sym (ap joined at)
+          rows-own c first body here ∙ ap (λ w. first ++ w) others ∙ sym (ap all_rows at)
       | false ↦ λ apart others. rows-other o c first body apart own ∙ others
     ] refl
 

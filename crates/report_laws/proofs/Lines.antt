@@ -4,7 +4,7 @@ use Rattle.std.specs.Prelude.{codes, decimal}
 use Rattle.std.proofs.lemmas.List.{append-nil, map-append}
 use Rattle.census_bundle.specs.declared.bundle.Entry.{Entry}
 use Rattle.census_bundle.specs.declared.bundle.Folder.{Folder}
-use Rattle.census_bundle.specs.Tickets.{numbered}
+use Rattle.census_bundle.specs.Tickets.{element_at}
 use Rattle.census_format.specs.Lines.{Line, answer_fields, answer_to_entry, answers, close_line, end_line, line, open_line, part_line, part_lines, pattern_count, pattern_line, pattern_lines, pattern_text, text_of}
 use Rattle.census_format.specs.Objects.{Object, code_line, code_lines, objects, same_object, tally}
 use Rattle.census_format.specs.Reports.{closing, folder_section, section, section_of}
@@ -13,7 +13,7 @@ use Rattle.life_answer.specs.declared.finding.Answer.TheVariants.{Found, Refused
 use Rattle.life_answer.specs.declared.finding.Finding.TheVariants.{Recurs, Unresolved, Large, Ash}
 use Rattle.life_answer.specs.declared.part.Part.{Part}
 use Rattle.life_answer.specs.declared.question.Question.{Question}
-use Rattle.report_laws.specs.Said.{Said, said, said_answer, said_by, said_close, said_code, said_of, said_open, said_part, said_parts, said_patterns, said_section}
+use Rattle.report_laws.specs.Said.{Said, statement, said_answer, said_by, said_close, said_code, said_of, said_open, said_part, said_parts, said_patterns, said_section}
 
 -- what is said, under a collection's number
 abbrev pub said_line : ℕ → Said → Line
@@ -27,7 +27,7 @@ open-is : (c : ℕ) (f : Folder) → said_line c (said_open f) ≡ open_line c f
 unfolding open_line
 open-is c f = refl
 
-answer-is : (c i : ℕ) (found : Answer) (name : List ℕ) → said_line c (said (codes "line") (decimal i ∷ answer_fields found name)) ≡ pattern_line c i found name
+answer-is : (c i : ℕ) (found : Answer) (name : List ℕ) → said_line c (statement (codes "line") (decimal i ∷ answer_fields found name)) ≡ pattern_line c i found name
 unfolding pattern_line
 answer-is c i found name = refl
 
@@ -108,4 +108,4 @@ optional question c None = refl
 optional question c (Some f) = section-is question c f
 
 pub lines-said : (b : List Folder) (question : Question) (c : ℕ) → map (group_line c) (said_by b question c) ≡ section b question c
-lines-said b question c = optional question c (numbered b c)
+lines-said b question c = optional question c (element_at b c)

@@ -17,7 +17,7 @@ use Rattle.life_answer.specs.declared.part.Part.{Part}
 use Rattle.life_answer.specs.declared.question.Question.{Question}
 use Rattle.life_answer.specs.Parts.{objects_in}
 use Rattle.life_cells.specs.Rules.{rule_text}
-use Rattle.report_laws.specs.Said.{said, said_by, said_close, said_code, said_of, said_open, said_part, said_parts, said_patterns, said_section}
+use Rattle.report_laws.specs.Said.{statement, said_by, said_close, said_code, said_of, said_open, said_part, said_parts, said_patterns, said_section}
 use Rattle.report_laws.proofs.Coded.{IsCodedAnswer, IsSolidObject, IsSolidPart, entry-coded, tally-coded}
 use Rattle.report_laws.proofs.Parsed.{IsParsed, said-line, said-short, solid-flat}
 use Rattle.report_laws.proofs.Solid.{decimal-solid, each-append, rule-solid, signed-solid, solid-checked}
@@ -72,7 +72,7 @@ close-parsed found count =
     (λ some. refl) refl
 
 answer-parsed : (i : ℕ) (found : Answer) (name : List ℕ) → IsCodedAnswer found → HasNoFeed name
-    → IsParsed (said (codes "line") (decimal i ∷ answer_fields found name))
+    → IsParsed (statement (codes "line") (decimal i ∷ answer_fields found name))
 answer-parsed i (Found rule (Recurs population onset period dx dy code)) name h k =
     said-line (decimal i) (codes "ok") (rule_text rule) (decimal population ∷ decimal onset ∷ decimal period ∷ signed_decimal dx ∷ signed_decimal dy ∷ code ∷ name ∷ [])
     (decimal-solid i, (solid-checked (codes "ok") refl, (rule-solid rule, (decimal-solid population, (decimal-solid onset, (decimal-solid period, (signed-solid dx, (signed-solid dy, (h, k)))))))))

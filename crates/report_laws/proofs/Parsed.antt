@@ -10,9 +10,9 @@ use Rattle.census_rows.specs.declared.row.Outcome.{Outcome}
 use Rattle.census_rows.specs.declared.row.Outcome.TheVariants as outcomes
 use Rattle.census_rows.specs.declared.row.Row.{Row}
 use Rattle.census_rows.specs.declared.row.Row.TheVariants.{Open, Line, Part, Code, Close, End}
-use Rattle.census_rows.specs.Lines.{HasNoBlank, IsOutcome, IsRow, behind, outcome_fields, row_text}
-use Rattle.report_laws.specs.Said.{Said, said}
-use Rattle.report_laws.specs.Telling.{saying}
+use Rattle.census_rows.specs.Lines.{HasNoBlank, IsOutcome, IsRow, fields_text, outcome_fields, row_text}
+use Rattle.report_laws.specs.Said.{Said, statement}
+use Rattle.report_laws.specs.Telling.{statement_of_row}
 use Rattle.report_laws.proofs.Solid.{IsSolid, decimal-solid, signed-solid, solid-checked}
 use Rattle.report_laws.proofs.Texts.{row-said}
 
@@ -59,33 +59,33 @@ abbrev ArePlain : List ℕ → List (List ℕ) → Type 0
 ArePlain word [] = ⊤
 ArePlain word (f ∷ fields) = HasNoBlank word × ArePlain f fields
 
-cut : (word : List ℕ) (fields : List (List ℕ)) → ArePlain word fields → fields_of (length fields) (word ++ behind fields) ≡ word ∷ fields
+cut : (word : List ℕ) (fields : List (List ℕ)) → ArePlain word fields → fields_of (length fields) (word ++ fields_text fields) ≡ word ∷ fields
 cut word [] h = ap (λ w. w ∷ []) (append-nil word)
 cut word (f ∷ fields) h =
-    ap (λ w. w ∷ fields_of (length fields) (after (word ++ 32 ∷ (f ++ behind fields)))) (first-of word (f ++ behind fields) h.0)
-    ∙ ap (λ t. word ∷ fields_of (length fields) t) (after-of word (f ++ behind fields) h.0)
+    ap (λ w. w ∷ fields_of (length fields) (after (word ++ 32 ∷ (f ++ fields_text fields)))) (first-of word (f ++ fields_text fields) h.0)
+    ∙ ap (λ t. word ∷ fields_of (length fields) t) (after-of word (f ++ fields_text fields) h.0)
     ∙ ap (λ l. word ∷ l) (cut f fields h.1)
 
 parsed : (word : List ℕ) (fields : List (List ℕ)) → ArePlain word fields
-    → size (first (word ++ behind fields)) (found_in (word ++ behind fields)) ≡ length fields → parse (word ++ behind fields) ≡ word ∷ fields
-parsed word fields h e = ap (λ n. fields_of n (word ++ behind fields)) e ∙ cut word fields h
+    → size (first (word ++ fields_text fields)) (found_in (word ++ fields_text fields)) ≡ length fields → parse (word ++ fields_text fields) ≡ word ∷ fields
+parsed word fields h e = ap (λ n. fields_of n (word ++ fields_text fields)) e ∙ cut word fields h
 
 parsed-short : (word f : List ℕ) (fields : List (List ℕ)) → ArePlain word (f ∷ fields) → ((found : List ℕ) → size word found ≡ suc (length fields))
-    → parse (word ++ behind (f ∷ fields)) ≡ word ∷ f ∷ fields
+    → parse (word ++ fields_text (f ∷ fields)) ≡ word ∷ f ∷ fields
 parsed-short word f fields h sized =
-    parsed word (f ∷ fields) h (ap (λ w. size w (found_in (word ++ behind (f ∷ fields)))) (first-of word (f ++ behind fields) h.0) ∙ sized (found_in (word ++ behind (f ∷ fields))))
+    parsed word (f ∷ fields) h (ap (λ w. size w (found_in (word ++ fields_text (f ∷ fields)))) (first-of word (f ++ fields_text fields) h.0) ∙ sized (found_in (word ++ fields_text (f ∷ fields))))
 
 parsed-line : (c i found g : List ℕ) (fields : List (List ℕ)) → ArePlain (codes "line") (c ∷ i ∷ found ∷ g ∷ fields)
-    → line_size found ≡ length (c ∷ i ∷ found ∷ g ∷ fields) → parse (codes "line" ++ behind (c ∷ i ∷ found ∷ g ∷ fields)) ≡ codes "line" ∷ c ∷ i ∷ found ∷ g ∷ fields
+    → line_size found ≡ length (c ∷ i ∷ found ∷ g ∷ fields) → parse (codes "line" ++ fields_text (c ∷ i ∷ found ∷ g ∷ fields)) ≡ codes "line" ∷ c ∷ i ∷ found ∷ g ∷ fields
 parsed-line c i found g fields h sized =
-    let text = codes "line" ++ behind (c ∷ i ∷ found ∷ g ∷ fields) in
-    let one : after text ≡ c ++ behind (i ∷ found ∷ g ∷ fields) = after-of (codes "line") (c ++ behind (i ∷ found ∷ g ∷ fields)) h.0 in
-    let two : after (c ++ behind (i ∷ found ∷ g ∷ fields)) ≡ i ++ behind (found ∷ g ∷ fields) = after-of c (i ++ behind (found ∷ g ∷ fields)) h.1.0 in
-    let three : after (i ++ behind (found ∷ g ∷ fields)) ≡ found ++ behind (g ∷ fields) = after-of i (found ++ behind (g ∷ fields)) h.1.1.0 in
+    let text = codes "line" ++ fields_text (c ∷ i ∷ found ∷ g ∷ fields) in
+    let one : after text ≡ c ++ fields_text (i ∷ found ∷ g ∷ fields) = after-of (codes "line") (c ++ fields_text (i ∷ found ∷ g ∷ fields)) h.0 in
+    let two : after (c ++ fields_text (i ∷ found ∷ g ∷ fields)) ≡ i ++ fields_text (found ∷ g ∷ fields) = after-of c (i ++ fields_text (found ∷ g ∷ fields)) h.1.0 in
+    let three : after (i ++ fields_text (found ∷ g ∷ fields)) ≡ found ++ fields_text (g ∷ fields) = after-of i (found ++ fields_text (g ∷ fields)) h.1.1.0 in
     let third : found_in text ≡ found =
-    ap (λ t. first (after (after t))) one ∙ ap (λ t. first (after t)) two ∙ ap first three ∙ first-of found (g ++ behind fields) h.1.1.1.0 in
+    ap (λ t. first (after (after t))) one ∙ ap (λ t. first (after t)) two ∙ ap first three ∙ first-of found (g ++ fields_text fields) h.1.1.1.0 in
     parsed (codes "line") (c ∷ i ∷ found ∷ g ∷ fields) h
-    (ap (λ w. size w (found_in text)) (first-of (codes "line") (c ++ behind (i ∷ found ∷ g ∷ fields)) h.0) ∙ ap line_size third ∙ sized)
+    (ap (λ w. size w (found_in text)) (first-of (codes "line") (c ++ fields_text (i ∷ found ∷ g ∷ fields)) h.0) ∙ ap line_size third ∙ sized)
 
 -- ---- lines of rows
 
@@ -130,7 +130,7 @@ plain-end : HasNoBlank (codes "end")
 plain-end = solid-plain (codes "end") (solid-checked (codes "end") refl)
 
 line-parsed : (collection pattern : ℕ) (outcome : Outcome) (name : List ℕ) → IsOutcome outcome
-    → parse (codes "line" ++ behind (decimal collection ∷ decimal pattern ∷ (outcome_fields outcome ++ name ∷ [])))
+    → parse (codes "line" ++ fields_text (decimal collection ∷ decimal pattern ∷ (outcome_fields outcome ++ name ∷ [])))
     ≡ codes "line" ∷ decimal collection ∷ decimal pattern ∷ (outcome_fields outcome ++ name ∷ [])
 line-parsed c p (outcomes.Ok rule population onset period dx dy code) name h =
     let dx_plain = solid-plain (signed_decimal dx) (signed-solid dx) in
@@ -156,7 +156,7 @@ line-parsed c p (outcomes.Bad fault) name h =
     (plain-line, (number c, (number p, (plain-bad, (number fault, tt)))))
     refl
 
-pub row-parsed : (row : Row) → sums_of row ≡ Nothing → IsRow row → parse (row_text row) ≡ (saying row).word ∷ decimal (collection_of row) ∷ (saying row).fields
+pub row-parsed : (row : Row) → sums_of row ≡ Nothing → IsRow row → parse (row_text row) ≡ (statement_of_row row).word ∷ decimal (collection_of row) ∷ (statement_of_row row).fields
 row-parsed (Open collection patterns name) e h =
     parsed-short (codes "open") (decimal collection) (decimal patterns ∷ name.now ∷ [])
     (plain-open, (number collection, (number patterns, tt))) (λ found. refl)
@@ -173,7 +173,7 @@ row-parsed (Close collection patterns resolved unresolved refused) e h =
     (plain-close, (number collection, (number patterns, (number resolved, (number unresolved, tt))))) (λ found. refl)
 row-parsed (End collections patterns) e h = absurd (cc)
 
-pub end-parsed : (collections patterns : ℕ) → parse (codes "end" ++ behind (decimal collections ∷ decimal patterns ∷ [])) ≡ codes "end" ∷ decimal collections ∷ decimal patterns ∷ []
+pub end-parsed : (collections patterns : ℕ) → parse (codes "end" ++ fields_text (decimal collections ∷ decimal patterns ∷ [])) ≡ codes "end" ∷ decimal collections ∷ decimal patterns ∷ []
 end-parsed collections patterns =
     parsed-short (codes "end") (decimal collections) (decimal patterns ∷ [])
     (plain-end, (number collections, tt)) (λ found. refl)
@@ -199,36 +199,36 @@ fields-plain word [] h k = tt
 fields-plain word (f ∷ []) h k = (solid-plain word h, tt)
 fields-plain word (f ∷ g ∷ fields) h k = (solid-plain word h, fields-plain f (g ∷ fields) k.0 k.1)
 
-fields-flat : (fields : List (List ℕ)) → AreFields fields → HasNoFeed (behind fields)
+fields-flat : (fields : List (List ℕ)) → AreFields fields → HasNoFeed (fields_text fields)
 fields-flat [] k = tt
 fields-flat (f ∷ []) k = (λ e. omega arith, flat-append f [] k tt)
-fields-flat (f ∷ g ∷ fields) k = (λ e. omega arith, flat-append f (behind (g ∷ fields)) (solid-flat f k.0) (fields-flat (g ∷ fields) k.1))
+fields-flat (f ∷ g ∷ fields) k = (λ e. omega arith, flat-append f (fields_text (g ∷ fields)) (solid-flat f k.0) (fields-flat (g ∷ fields) k.1))
 
 -- What is said can be cut from its line, under whatever number.
 pub record IsParsed (s : Said) : Type 0 where
-  pub parsed : (c : ℕ) → parse (s.word ++ behind (decimal c ∷ s.fields)) ≡ s.word ∷ decimal c ∷ s.fields
+  pub parsed : (c : ℕ) → parse (s.word ++ fields_text (decimal c ∷ s.fields)) ≡ s.word ∷ decimal c ∷ s.fields
   pub lasting : bytes_eq s.word (codes "end") ≡ false
-  pub flat : (c : ℕ) → HasNoFeed (s.word ++ behind (decimal c ∷ s.fields))
+  pub flat : (c : ℕ) → HasNoFeed (s.word ++ fields_text (decimal c ∷ s.fields))
 
 pub said-short : (word f : List ℕ) (fields : List (List ℕ)) → IsSolid word → AreFields (f ∷ fields)
-    → ((found : List ℕ) → size word found ≡ suc (suc (length fields))) → bytes_eq word (codes "end") ≡ false → IsParsed (said word (f ∷ fields))
+    → ((found : List ℕ) → size word found ≡ suc (suc (length fields))) → bytes_eq word (codes "end") ≡ false → IsParsed (statement word (f ∷ fields))
 said-short word f fields h k sized lasting = record {
   parsed = λ c. parsed-short word (decimal c) (f ∷ fields) (fields-plain word (decimal c ∷ f ∷ fields) h (decimal-solid c, k)) sized;
   lasting = lasting;
-  flat = λ c. flat-append word (behind (decimal c ∷ f ∷ fields)) (solid-flat word h) (fields-flat (decimal c ∷ f ∷ fields) (decimal-solid c, k));
+  flat = λ c. flat-append word (fields_text (decimal c ∷ f ∷ fields)) (solid-flat word h) (fields-flat (decimal c ∷ f ∷ fields) (decimal-solid c, k));
 }
 
 pub said-line : (i found g : List ℕ) (fields : List (List ℕ)) → AreFields (i ∷ found ∷ g ∷ fields)
-    → line_size found ≡ suc (length (i ∷ found ∷ g ∷ fields)) → IsParsed (said (codes "line") (i ∷ found ∷ g ∷ fields))
+    → line_size found ≡ suc (length (i ∷ found ∷ g ∷ fields)) → IsParsed (statement (codes "line") (i ∷ found ∷ g ∷ fields))
 said-line i found g fields k sized =
     let h = solid-checked (codes "line") refl in
     record {
       parsed = λ c. parsed-line (decimal c) i found g fields (fields-plain (codes "line") (decimal c ∷ i ∷ found ∷ g ∷ fields) h (decimal-solid c, k)) sized;
       lasting = refl;
-      flat = λ c. flat-append (codes "line") (behind (decimal c ∷ i ∷ found ∷ g ∷ fields)) (solid-flat (codes "line") h) (fields-flat (decimal c ∷ i ∷ found ∷ g ∷ fields) (decimal-solid c, k));
+      flat = λ c. flat-append (codes "line") (fields_text (decimal c ∷ i ∷ found ∷ g ∷ fields)) (solid-flat (codes "line") h) (fields-flat (decimal c ∷ i ∷ found ∷ g ∷ fields) (decimal-solid c, k));
     }
 
-pub end-flat : (collections patterns : ℕ) → HasNoFeed (codes "end" ++ behind (decimal collections ∷ decimal patterns ∷ []))
+pub end-flat : (collections patterns : ℕ) → HasNoFeed (codes "end" ++ fields_text (decimal collections ∷ decimal patterns ∷ []))
 end-flat collections patterns =
-    flat-append (codes "end") (behind (decimal collections ∷ decimal patterns ∷ [])) (solid-flat (codes "end") (solid-checked (codes "end") refl))
+    flat-append (codes "end") (fields_text (decimal collections ∷ decimal patterns ∷ [])) (solid-flat (codes "end") (solid-checked (codes "end") refl))
     (fields-flat (decimal collections ∷ decimal patterns ∷ []) (decimal-solid collections, solid-flat (decimal patterns) (decimal-solid patterns)))

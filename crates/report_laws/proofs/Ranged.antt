@@ -8,7 +8,7 @@ use Rattle.census_bundle.specs.Sizes.{IsSmall}
 use Rattle.census_bundle.specs.declared.bundle.Entry.{Entry}
 use Rattle.census_bundle.specs.declared.bundle.Folder.{Folder}
 use Rattle.census_format.specs.Lines.{answer_to_entry, answers, is_refused, is_resolved, is_unresolved}
-use Rattle.census_format.specs.Objects.{Object, distinct, object, objects, part_objects, same_object}
+use Rattle.census_format.specs.Objects.{Object, distinct_elements, object, objects, part_objects, same_object}
 use Rattle.census_merge.specs.Sums.{sums_of}
 use Rattle.census_readback.specs.Steps.{collection_of}
 use Rattle.census_rows.specs.declared.row.Row.{Row}
@@ -113,8 +113,8 @@ section-fit question c f a few h =
     let last = (close_row c (answers question f.entries) (length f.entries) ∷ []) ∷ [] in
     let size : length f.entries < 2 ^ 64 = omega (arith, few) in
     let counted = codes-fit c (counted_in question f) a (tally-coded same_object question f.entries)
-    (counted-each HasObjectCode (λ x. count_by (same_object x) all) (distinct same_object all) (distinct-each HasObjectCode same_object all (objects-some (answers question f.entries) h.0)))
-    (counts-fit all (distinct same_object all) h.1) in
+    (counted-each HasObjectCode (λ x. count_by (same_object x) all) (distinct_elements same_object all) (distinct-each HasObjectCode same_object all (objects-some (answers question f.entries) h.0)))
+    (counts-fit all (distinct_elements same_object all) h.1) in
     let closes : Each (Each (IsFit c)) last =
     (((refl, refl, (a, size, few-that is_resolved question f.entries few, few-that is_unresolved question f.entries few, few-that is_refused question f.entries few)), tt), tt) in (
       ((refl, refl, (a, size)), tt),

@@ -3,10 +3,10 @@ use Rattle.std.proofs.Common.{◌≡◌, None as Nothing, ℕ, ◌<◌, ◌≤�
 use Rattle.census_bundle.specs.declared.bundle.Folder.{Folder}
 use Rattle.census_format.specs.Lines.{end_line, pattern_count}
 use Rattle.census_format.specs.Reports.{IsReport, owned_text}
-use Rattle.census_merge.specs.Merged.{merged}
-use Rattle.census_merge.specs.Sums.{first_excess, none}
+use Rattle.census_merge.specs.Merged.{merged_rows}
+use Rattle.census_merge.specs.Sums.{first_excess, no_sums}
 use Rattle.census_readback.specs.Reports.{IsReport as IsReadBack}
-use Rattle.census_readback.specs.Shapes.{joined}
+use Rattle.census_readback.specs.Shapes.{all_rows}
 use Rattle.census_readback.specs.Texts.{AllLines, text_of}
 use Rattle.census_rows.specs.declared.row.Row.{Row}
 use Rattle.census_rows.specs.declared.row.Row.TheVariants.{End}
@@ -73,7 +73,7 @@ read-tells b question text rows bundle report read =
 record ReportsCut (question : Question) (parts : List (List Folder)) (rows : List Row) : Type 0 where
   reports : List (List Row)
   tell : EachTells question parts reports
-  whole : rows ≡ joined reports
+  whole : rows ≡ all_rows reports
 
 cut-reports : (question : Question) (parts : List (List Folder)) (reports : List (List ℕ)) (rows : List Row)
     → AreBundles parts → EachIsReport question parts reports → AllLines rows → text_of rows ≡ texts reports → ReportsCut question parts rows
@@ -90,20 +90,20 @@ cut-reports question (b ∷ parts) (text ∷ reports) rows small h each e =
     }
 
 pub merged-report : (question : Question) (parts : List (List Folder)) (reports : List (List ℕ)) (rows : List Row)
-    → AreBundles parts → EachIsReport question parts reports → IsReadBack rows (texts reports) → IsReport (bundles parts) question (text_of (merged rows))
+    → AreBundles parts → EachIsReport question parts reports → IsReadBack rows (texts reports) → IsReport (bundles parts) question (text_of (merged_rows rows))
 merged-report question parts reports rows small h read =
     let all = cut-reports question parts reports rows small h read.lines (sym read.whole) in
-    told-report (bundles parts) question (merged rows)
+    told-report (bundles parts) question (merged_rows rows)
     (let tells = joined-tell question parts all.reports all.tell in
     record {
       groups = tells.groups;
       owned = tells.owned;
       sections = tells.sections;
-      whole = ap merged all.whole ∙ tells.whole;
+      whole = ap merged_rows all.whole ∙ tells.whole;
     })
 
 pub fitting-reports : (question : Question) (parts : List (List Folder)) (reports : List (List ℕ)) (rows : List Row)
-    → AreBundles parts → EachIsReport question parts reports → IsReadBack rows (texts reports) → length (bundles parts) ≤ 65535 → first_excess 1 none rows ≡ Nothing
+    → AreBundles parts → EachIsReport question parts reports → IsReadBack rows (texts reports) → length (bundles parts) ≤ 65535 → first_excess 1 no_sums rows ≡ Nothing
 fitting-reports question parts reports rows small h read fit =
     let all = cut-reports question parts reports rows small h read.lines (sym read.whole) in
-    ap (first_excess 1 none) all.whole ∙ fitting question parts all.reports small all.tell fit
+    ap (first_excess 1 no_sums) all.whole ∙ fitting question parts all.reports small all.tell fit

@@ -5,7 +5,7 @@ use Rattle.std.proofs.lemmas.Option.{slice_get_past}
 use Rattle.census_bundle.specs.declared.bundle.Folder.{Folder}
 use Rattle.census_format.specs.Lines.{end_line, pattern_count}
 use Rattle.census_format.specs.Reports.{IsReport}
-use Rattle.census_readback.specs.Shapes.{AreOf, IsSection, IsWhole, joined, patterns_in, rows_of}
+use Rattle.census_readback.specs.Shapes.{AreOf, IsSection, IsWhole, all_rows, patterns_in, rows_of}
 use Rattle.census_readback.specs.Steps.{collection_of}
 use Rattle.census_readback.specs.Texts.{AllLines, HasNoFeed, IsLine, text_of}
 use Rattle.census_readback.proofs.Rows.{lines-more}
@@ -15,7 +15,7 @@ use Rattle.census_rows.specs.Lines.{row_text}
 use Rattle.life_answer.specs.declared.question.Question.{Question}
 use Rattle.report_laws.specs.Joining.{IsBundle}
 use Rattle.report_laws.specs.Ranges.{InRange, Readable}
-use Rattle.report_laws.specs.Telling.{AreOwned, saying}
+use Rattle.report_laws.specs.Telling.{AreOwned, statement_of_row}
 use Rattle.report_laws.proofs.Counted.{patterns-counted, size_of}
 use Rattle.report_laws.proofs.Formed.{section-formed, section-opens}
 use Rattle.report_laws.proofs.Laid.{IsIn, Laid, laid}
@@ -42,21 +42,21 @@ in-all c (rows ∷ all) h = (in-one c rows h.0, in-all c all h.1)
 abbrev IsPlaced : ℕ → ℕ → Row → Type 0
 IsPlaced most c row = IsLine row × (0 < c) × (c ≤ most)
 
-row-flat : (c : ℕ) (row : Row) → IsFit c row → IsParsed (saying row) → HasNoFeed (row_text row)
+row-flat : (c : ℕ) (row : Row) → IsFit c row → IsParsed (statement_of_row row) → HasNoFeed (row_text row)
 row-flat c row h p = subst HasNoFeed (sym (row-said row h.1)) (p.flat (collection_of row))
 
-place-one : (most c : ℕ) (rows : List Row) → 0 < c → c ≤ most → Each (IsFit c) rows → Each IsParsed (map saying rows) → Each (IsPlaced most c) rows
+place-one : (most c : ℕ) (rows : List Row) → 0 < c → c ≤ most → Each (IsFit c) rows → Each IsParsed (map statement_of_row rows) → Each (IsPlaced most c) rows
 place-one most c [] low high h p = tt
 place-one most c (row ∷ rows) low high h p = (((h.0.2, row-flat c row h.0 p.0), low, high), place-one most c rows low high h.1 p.1)
 
-place-all : (most c : ℕ) (all : List (List Row)) → 0 < c → c ≤ most → Each (Each (IsFit c)) all → Each (Each IsParsed) (map (map saying) all) → Each (Each (IsPlaced most c)) all
+place-all : (most c : ℕ) (all : List (List Row)) → 0 < c → c ≤ most → Each (Each (IsFit c)) all → Each (Each IsParsed) (map (map statement_of_row) all) → Each (Each (IsPlaced most c)) all
 place-all most c [] low high h p = tt
 place-all most c (rows ∷ all) low high h p = (place-one most c rows low high h.0 p.0, place-all most c all low high h.1 p.1)
 
-lines-laid : (c : ℕ) (all : List (List Row)) → Each (Each (IsFit c)) all → map (group_line c) (map (map saying) all) ≡ map text_of all
+lines-laid : (c : ℕ) (all : List (List Row)) → Each (Each (IsFit c)) all → map (group_line c) (map (map statement_of_row) all) ≡ map text_of all
 lines-laid c [] h = refl
 lines-laid c (rows ∷ all) h =
-    ap (λ l. l ∷ map (group_line c) (map (map saying) all)) (sym (rows-line c rows (owned-of c rows h.0))) ∙ ap (λ ls. text_of rows ∷ ls) (lines-laid c all h.1)
+    ap (λ l. l ∷ map (group_line c) (map (map statement_of_row) all)) (sym (rows-line c rows (owned-of c rows h.0))) ∙ ap (λ ls. text_of rows ∷ ls) (lines-laid c all h.1)
 
 placed-lines : (most : ℕ) (rows : List Row) → Each (λ row. IsPlaced most (collection_of row) row) rows → AllLines rows
 placed-lines most [] h = tt
@@ -67,12 +67,12 @@ placed-of most [] h = tt
 placed-of most (row ∷ rows) h = (h.0.1, h.0.2, placed-of most rows h.1)
 
 formed-at : (question : Question) (c : ℕ) (b : List Folder) (k : ℕ) → k < length b → ((j : ℕ) (f : Folder) → slice_get b j ≡ Some f → length f.entries ≤ 65535)
-    → IsSection (joined (optional_rows question c (slice_get b k)))
+    → IsSection (all_rows (optional_rows question c (slice_get b k)))
 formed-at question c [] k less few = absurd (omega arith)
 formed-at question c (f ∷ b) zero less few = section-formed question c f (few 0 f refl)
 formed-at question c (f ∷ b) (suc k) less few = formed-at question c b k (omega arith) (λ j g. few (suc j) g)
 
-opens-at : (question : Question) (c : ℕ) (o : Option Folder) → patterns_in (joined (optional_rows question c o)) ≡ size_of o
+opens-at : (question : Question) (c : ℕ) (o : Option Folder) → patterns_in (all_rows (optional_rows question c o)) ≡ size_of o
 opens-at question c Nothing = refl
 opens-at question c (Some f) = section-opens question c f
 
@@ -98,7 +98,7 @@ module _ (b : List Folder) (question : Question) (bundle : IsBundle b) (range : 
   abbrev the_end : Row
   the_end = End (length b) (pattern_count b)
 
-  whole-of : (body : List Row) → AreOf (length b) body → ((c : ℕ) → rows_of c body ≡ joined (rows_by b question c)) → IsWhole (body ++ the_end ∷ [])
+  whole-of : (body : List Row) → AreOf (length b) body → ((c : ℕ) → rows_of c body ≡ all_rows (rows_by b question c)) → IsWhole (body ++ the_end ∷ [])
   whole-of body owned sections =
       let counted = patterns-counted body b owned (λ k. ap patterns_in (sections (suc k)) ∙ opens-at question (suc k) (slice_get b k)) in
       let all = few-patterns b bundle.0 in

@@ -4,7 +4,7 @@ use Rattle.std.specs.Prelude.{codes, decimal}
 use Rattle.std.proofs.lemmas.List.{map-append}
 use Rattle.census_bundle.specs.declared.bundle.Entry.{Entry}
 use Rattle.census_bundle.specs.declared.bundle.Folder.{Folder}
-use Rattle.census_bundle.specs.Tickets.{numbered}
+use Rattle.census_bundle.specs.Tickets.{element_at}
 use Rattle.census_format.specs.Lines.{answer_to_entry, answers, finding_fields, is_refused, is_resolved, is_unresolved}
 use Rattle.census_format.specs.Objects.{Object, objects, same_object, tally}
 use Rattle.census_rows.specs.declared.row.Outcome.{Outcome}
@@ -19,8 +19,8 @@ use Rattle.life_answer.specs.declared.part.Part as part
 use Rattle.life_answer.specs.declared.question.Question.{Question}
 use Rattle.life_answer.specs.Parts.{objects_in}
 use Rattle.life_cells.specs.Rules.{rule_text}
-use Rattle.report_laws.specs.Said.{said, said_answer, said_by, said_close, said_code, said_of, said_part, said_parts, said_patterns, said_section}
-use Rattle.report_laws.specs.Telling.{saying}
+use Rattle.report_laws.specs.Said.{statement, said_answer, said_by, said_close, said_code, said_of, said_part, said_parts, said_patterns, said_section}
+use Rattle.report_laws.specs.Telling.{statement_of_row}
 
 -- these bytes, wherever they stand
 abbrev pub lent : List ℕ → Bor (List ℕ)
@@ -78,7 +78,7 @@ optional_rows question c Nothing = []
 optional_rows question c (Some f) = section_rows question c f
 
 abbrev pub rows_by : List Folder → Question → ℕ → List (List Row)
-rows_by b question c = optional_rows question c (numbered b c)
+rows_by b question c = optional_rows question c (element_at b c)
 
 -- ---- what they say
 
@@ -89,45 +89,45 @@ says-found (Found rule (Large population generation)) = refl
 says-found (Found rule (Ash population parts)) = refl
 says-found (Refused number) = refl
 
-says-each : (c i : ℕ) (parts : List part.Part) → map saying (map (part_row c i) parts) ≡ map (said_part i) parts
+says-each : (c i : ℕ) (parts : List part.Part) → map statement_of_row (map (part_row c i) parts) ≡ map (said_part i) parts
 says-each c i [] = refl
 says-each c i (p ∷ parts) = ap (λ ss. said_part i p ∷ ss) (says-each c i parts)
 
-says-parts : (c i : ℕ) (found : Answer) → map saying (part_rows c i found) ≡ said_parts i found
+says-parts : (c i : ℕ) (found : Answer) → map statement_of_row (part_rows c i found) ≡ said_parts i found
 says-parts c i (Found rule (Recurs population onset period dx dy code)) = refl
 says-parts c i (Found rule (Unresolved population)) = refl
 says-parts c i (Found rule (Large population generation)) = refl
 says-parts c i (Found rule (Ash population parts)) = says-each c i parts
 says-parts c i (Refused number) = refl
 
-says-answer : (c i : ℕ) (found : Answer) (name : List ℕ) → map saying (answer_rows c i found name) ≡ said_answer i found name
+says-answer : (c i : ℕ) (found : Answer) (name : List ℕ) → map statement_of_row (answer_rows c i found name) ≡ said_answer i found name
 says-answer c i found name =
-    ap (λ fields. said (codes "line") (decimal i ∷ (fields ++ name ∷ [])) ∷ map saying (part_rows c i found)) (says-found found)
-    ∙ ap (λ ss. said (codes "line") (decimal i ∷ (finding_fields found ++ name ∷ [])) ∷ ss) (says-parts c i found)
+    ap (λ fields. statement (codes "line") (decimal i ∷ (fields ++ name ∷ [])) ∷ map statement_of_row (part_rows c i found)) (says-found found)
+    ∙ ap (λ ss. statement (codes "line") (decimal i ∷ (finding_fields found ++ name ∷ [])) ∷ ss) (says-parts c i found)
 
-says-patterns : (question : Question) (c i : ℕ) (es : List Entry) → map (map saying) (pattern_rows question c i es) ≡ said_patterns question i es
+says-patterns : (question : Question) (c i : ℕ) (es : List Entry) → map (map statement_of_row) (pattern_rows question c i es) ≡ said_patterns question i es
 says-patterns question c i [] = refl
 says-patterns question c i (e ∷ es) =
-    ap (λ g. g ∷ map (map saying) (pattern_rows question c (suc i) es)) (says-answer c i (answer_to_entry question e) e.name)
+    ap (λ g. g ∷ map (map statement_of_row) (pattern_rows question c (suc i) es)) (says-answer c i (answer_to_entry question e) e.name)
     ∙ ap (λ gs. said_answer i (answer_to_entry question e) e.name ∷ gs) (says-patterns question c (suc i) es)
 
-says-codes : (c : ℕ) (counted : List (Object × ℕ)) → map (map saying) (code_rows c counted) ≡ map (λ x. said_code x ∷ []) counted
+says-codes : (c : ℕ) (counted : List (Object × ℕ)) → map (map statement_of_row) (code_rows c counted) ≡ map (λ x. said_code x ∷ []) counted
 says-codes c [] = refl
 says-codes c (x ∷ counted) = ap (λ gs. (said_code x ∷ []) ∷ gs) (says-codes c counted)
 
-says-section : (question : Question) (c : ℕ) (f : Folder) → map (map saying) (section_rows question c f) ≡ said_section question f
+says-section : (question : Question) (c : ℕ) (f : Folder) → map (map statement_of_row) (section_rows question c f) ≡ said_section question f
 says-section question c f =
     let coded = code_rows c (counted_in question f) in
     let last = (close_row c (answers question f.entries) (length f.entries) ∷ []) ∷ [] in
     let closes = (said_close (answers question f.entries) (length f.entries) ∷ []) ∷ [] in
-    ap (λ gs. map saying (open_row c f ∷ []) ∷ gs)
-    (map-append (map saying) (pattern_rows question c 1 f.entries) (coded ++ last)
-    ∙ ap (λ gs. gs ++ map (map saying) (coded ++ last)) (says-patterns question c 1 f.entries)
-    ∙ ap (λ gs. said_patterns question 1 f.entries ++ gs) (map-append (map saying) coded last ∙ ap (λ gs. gs ++ closes) (says-codes c (counted_in question f))))
+    ap (λ gs. map statement_of_row (open_row c f ∷ []) ∷ gs)
+    (map-append (map statement_of_row) (pattern_rows question c 1 f.entries) (coded ++ last)
+    ∙ ap (λ gs. gs ++ map (map statement_of_row) (coded ++ last)) (says-patterns question c 1 f.entries)
+    ∙ ap (λ gs. said_patterns question 1 f.entries ++ gs) (map-append (map statement_of_row) coded last ∙ ap (λ gs. gs ++ closes) (says-codes c (counted_in question f))))
 
-says-optional : (question : Question) (c : ℕ) (f : Option Folder) → map (map saying) (optional_rows question c f) ≡ said_of question f
+says-optional : (question : Question) (c : ℕ) (f : Option Folder) → map (map statement_of_row) (optional_rows question c f) ≡ said_of question f
 says-optional question c Nothing = refl
 says-optional question c (Some f) = says-section question c f
 
-pub rows-say : (b : List Folder) (question : Question) (c : ℕ) → map (map saying) (rows_by b question c) ≡ said_by b question c
-rows-say b question c = says-optional question c (numbered b c)
+pub rows-say : (b : List Folder) (question : Question) (c : ℕ) → map (map statement_of_row) (rows_by b question c) ≡ said_by b question c
+rows-say b question c = says-optional question c (element_at b c)

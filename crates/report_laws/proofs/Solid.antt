@@ -12,9 +12,9 @@ use Rattle.life_model.specs.Cell.{Cell, origin, same_cell}
 use Rattle.life_model.specs.Evolution.{generation}
 use Rattle.life_model.specs.Generation.{Generation, size}
 use Rattle.life_model.specs.Rule.{Rule}
-use Rattle.life_model.specs.Symmetry.{normal, turned}
+use Rattle.life_model.specs.Symmetry.{normal, image_under}
 use Rattle.life_model.specs.Box.{height, width}
-use Rattle.life_shape.specs.TextOrder.{least_text, lesser, shorter_cmp}
+use Rattle.life_shape.specs.TextOrder.{least_text, lesser_text, shorter_cmp}
 use Rattle.life_shape.specs.Wechsler.{body, column_value, columns_text, digit, full_runs, short_zeros, strip_text, strips_text, zeros}
 
 pub each-append : {X : Type 0} (P : X → Type 0) (xs ys : List X) → Each P xs → Each P ys → Each P (xs ++ ys)
@@ -124,11 +124,11 @@ body-solid : (G : Generation) → IsSolid (body G)
 unfolding body
 body-solid G = strips-solid (strip_text (normal G) (width G)) (λ k. columns-solid 0 (map (column_value (normal G) k) (range_with_len 0 (width G)))) ((height G + 4) / 5)
 
-lesser-solid : (text : List ℕ) (others : List (List ℕ)) → IsSolid text → Each IsSolid others → IsSolid (fold lesser text others)
+lesser-solid : (text : List ℕ) (others : List (List ℕ)) → IsSolid text → Each IsSolid others → IsSolid (fold lesser_text text others)
 lesser-solid text [] h all = h
 lesser-solid text (other ∷ others) h all =
-    let one : IsSolid (lesser text other) = elim (is_gt (shorter_cmp text other)) as (λ v. IsSolid (cond v other text)) [ true ↦ all.0 | false ↦ h ] in
-    lesser-solid (lesser text other) others one all.1
+    let one : IsSolid (lesser_text text other) = elim (is_gt (shorter_cmp text other)) as (λ v. IsSolid (cond v other text)) [ true ↦ all.0 | false ↦ h ] in
+    lesser-solid (lesser_text text other) others one all.1
 
 least-solid : (texts : List (List ℕ)) → Each IsSolid texts → IsSolid (least_text texts)
 least-solid [] h = tt
@@ -136,7 +136,7 @@ least-solid (text ∷ others) h = lesser-solid text others h.0 h.1
 
 bodies-solid : (R : Rule) (H : Generation) (period : ℕ) → Each IsSolid (bodies R H period)
 bodies-solid R H period =
-    each-flat_map IsSolid (λ n. turned_bodies (generation R H n)) (λ n. each-map IsSolid (λ m. body (turned (generation R H n) m)) (λ m. body-solid (turned (generation R H n) m)) orientations) (range_with_len 0 period)
+    each-flat_map IsSolid (λ n. turned_bodies (generation R H n)) (λ n. each-map IsSolid (λ m. body (image_under (generation R H n) m)) (λ m. body-solid (image_under (generation R H n) m)) orientations) (range_with_len 0 period)
 
 prefix-solid : (population period : ℕ) (displacement : Cell) → IsSolid (prefix population period displacement)
 prefix-solid population period displacement =

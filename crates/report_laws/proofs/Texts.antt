@@ -12,56 +12,56 @@ use Rattle.census_readback.specs.Steps.{collection_of}
 use Rattle.census_readback.specs.Texts.{line_of, text_of}
 use Rattle.census_rows.specs.declared.row.Row.{Row}
 use Rattle.census_rows.specs.declared.row.Row.TheVariants.{Open, Line, Part, Code, Close, End}
-use Rattle.census_rows.specs.Lines.{behind, outcome_fields, row_text}
+use Rattle.census_rows.specs.Lines.{fields_text, outcome_fields, row_text}
 use Rattle.life_answer.specs.declared.question.Question.{Question}
-use Rattle.report_laws.specs.Telling.{AreGroups, AreOwned, Group, Tells, rows_in, saying, sayings}
+use Rattle.report_laws.specs.Telling.{AreGroups, AreOwned, Group, Tells, rows_in, statement_of_row, statements_of}
 use Rattle.report_laws.proofs.Lines.{end-is, group_line, lines-said, said_line}
 
-behind-same : (fields : List (List ℕ)) → behind fields ≡ book.behind fields
+behind-same : (fields : List (List ℕ)) → fields_text fields ≡ book.fields_text fields
 behind-same [] = refl
 behind-same (field ∷ fields) = ap (λ w. 32 ∷ field ++ w) (behind-same fields)
 
-behind-append : (xs ys : List (List ℕ)) → behind (xs ++ ys) ≡ behind xs ++ behind ys
+behind-append : (xs ys : List (List ℕ)) → fields_text (xs ++ ys) ≡ fields_text xs ++ fields_text ys
 behind-append [] ys = refl
-behind-append (x ∷ xs) ys = ap (λ w. 32 ∷ x ++ w) (behind-append xs ys) ∙ ap (λ w. 32 ∷ w) (sym (append_assoc x (behind xs) (behind ys)))
+behind-append (x ∷ xs) ys = ap (λ w. 32 ∷ x ++ w) (behind-append xs ys) ∙ ap (λ w. 32 ∷ w) (sym (append_assoc x (fields_text xs) (fields_text ys)))
 
-pub row-said : (row : Row) → sums_of row ≡ Nothing → row_text row ≡ (saying row).word ++ behind (decimal (collection_of row) ∷ (saying row).fields)
+pub row-said : (row : Row) → sums_of row ≡ Nothing → row_text row ≡ (statement_of_row row).word ++ fields_text (decimal (collection_of row) ∷ (statement_of_row row).fields)
 row-said (Open collection patterns name) e = refl
 row-said (Line collection pattern outcome name) e =
-    append_assoc (codes "line" ++ behind (decimal collection ∷ decimal pattern ∷ [])) (behind (outcome_fields outcome)) (behind (name.now ∷ []))
-    ∙ append_assoc (codes "line") (behind (decimal collection ∷ decimal pattern ∷ [])) (behind (outcome_fields outcome) ++ behind (name.now ∷ []))
-    ∙ ap (λ w. codes "line" ++ (behind (decimal collection ∷ decimal pattern ∷ []) ++ w)) (sym (behind-append (outcome_fields outcome) (name.now ∷ [])))
+    append_assoc (codes "line" ++ fields_text (decimal collection ∷ decimal pattern ∷ [])) (fields_text (outcome_fields outcome)) (fields_text (name.now ∷ []))
+    ∙ append_assoc (codes "line") (fields_text (decimal collection ∷ decimal pattern ∷ [])) (fields_text (outcome_fields outcome) ++ fields_text (name.now ∷ []))
+    ∙ ap (λ w. codes "line" ++ (fields_text (decimal collection ∷ decimal pattern ∷ []) ++ w)) (sym (behind-append (outcome_fields outcome) (name.now ∷ [])))
     ∙ ap (λ w. codes "line" ++ w) (sym (behind-append (decimal collection ∷ decimal pattern ∷ []) (outcome_fields outcome ++ name.now ∷ [])))
 row-said (Part collection pattern code count) e = refl
 row-said (Code collection rule code count) e = refl
 row-said (Close collection patterns resolved unresolved refused) e = refl
 row-said (End collections patterns) e = absurd (cc)
 
-pub written : (word : List ℕ) (fields : List (List ℕ)) → (word ++ behind fields) ++ 10 ∷ [] ≡ line word fields
+pub written : (word : List ℕ) (fields : List (List ℕ)) → (word ++ fields_text fields) ++ 10 ∷ [] ≡ line word fields
 written word fields = ap (λ w. (word ++ w) ++ 10 ∷ []) (behind-same fields)
 
-row-line : (c : ℕ) (row : Row) → collection_of row ≡ c → sums_of row ≡ Nothing → line_of row ≡ said_line c (saying row)
+row-line : (c : ℕ) (row : Row) → collection_of row ≡ c → sums_of row ≡ Nothing → line_of row ≡ said_line c (statement_of_row row)
 row-line c row own isnt =
     ap (λ w. w ++ 10 ∷ []) (row-said row isnt)
-    ∙ written (saying row).word (decimal (collection_of row) ∷ (saying row).fields)
-    ∙ ap (λ k. said_line k (saying row)) own
+    ∙ written (statement_of_row row).word (decimal (collection_of row) ∷ (statement_of_row row).fields)
+    ∙ ap (λ k. said_line k (statement_of_row row)) own
 
-pub rows-line : (c : ℕ) (rows : List Row) → AreOwned c rows → text_of rows ≡ group_line c (map saying rows)
+pub rows-line : (c : ℕ) (rows : List Row) → AreOwned c rows → text_of rows ≡ group_line c (map statement_of_row rows)
 rows-line c [] h = refl
 rows-line c (row ∷ rows) h =
-    ap (λ w. w ++ text_of rows) (row-line c row h.0 h.1) ∙ ap (λ w. said_line c (saying row) ++ w) (rows-line c rows h.2)
+    ap (λ w. w ++ text_of rows) (row-line c row h.0 h.1) ∙ ap (λ w. said_line c (statement_of_row row) ++ w) (rows-line c rows h.2)
 
 abbrev told : List Group → List Owned
 told [] = []
 told (group ∷ groups) = record { owner = group.owner; line = text_of group.rows } ∷ told groups
 
-told-lines : (c : ℕ) (groups : List Group) → AreGroups groups → lines_of c (told groups) ≡ map (group_line c) (sayings c groups)
+told-lines : (c : ℕ) (groups : List Group) → AreGroups groups → lines_of c (told groups) ≡ map (group_line c) (statements_of c groups)
 told-lines c [] h = refl
 told-lines c (group ∷ groups) h =
     let more = told-lines c groups h.1 in
-    elim (eqb group.owner c) as (λ b. eqb group.owner c ≡ b → cond b (text_of group.rows ∷ lines_of c (told groups)) (lines_of c (told groups)) ≡ map (group_line c) (cond b (map saying group.rows ∷ sayings c groups) (sayings c groups))) [
-      | true ↦ λ e. ap (λ l. l ∷ lines_of c (told groups)) (rows-line group.owner group.rows h.0 ∙ ap (λ k. group_line k (map saying group.rows)) (eqb-true _ _ e))
-          ∙ ap (λ ls. group_line c (map saying group.rows) ∷ ls) more
+    elim (eqb group.owner c) as (λ b. eqb group.owner c ≡ b → cond b (text_of group.rows ∷ lines_of c (told groups)) (lines_of c (told groups)) ≡ map (group_line c) (cond b (map statement_of_row group.rows ∷ statements_of c groups) (statements_of c groups))) [
+      | true ↦ λ e. ap (λ l. l ∷ lines_of c (told groups)) (rows-line group.owner group.rows h.0 ∙ ap (λ k. group_line k (map statement_of_row group.rows)) (eqb-true _ _ e))
+          ∙ ap (λ ls. group_line c (map statement_of_row group.rows) ∷ ls) more
       | false ↦ λ e. more
     ] refl
 

@@ -2,7 +2,7 @@
 use Rattle.std.specs.Prelude.{ℕ, suc, Option, Some, None, List, [], ◌∷◌, ◌++◌, map, length, codes, decimal, count_by}
 use Rattle.census_bundle.specs.declared.bundle.Entry.{Entry}
 use Rattle.census_bundle.specs.declared.bundle.Folder.{Folder}
-use Rattle.census_bundle.specs.Tickets.{numbered}
+use Rattle.census_bundle.specs.Tickets.{element_at}
 use Rattle.census_format.specs.Lines.{answer_fields, answer_to_entry, answers, is_refused, is_resolved, is_unresolved}
 use Rattle.census_format.specs.Objects.{Object, objects, same_object, tally}
 use Rattle.life_answer.specs.declared.finding.Answer.{Answer}
@@ -17,14 +17,14 @@ pub record Said : Type 0 where
   pub word : List ℕ
   pub fields : List (List ℕ)
 
-abbrev pub said : List ℕ → List (List ℕ) → Said
-said word fields = record { word = word; fields = fields }
+abbrev pub statement : List ℕ → List (List ℕ) → Said
+statement word fields = record { word = word; fields = fields }
 
 abbrev pub said_open : Folder → Said
-said_open f = said (codes "open") (decimal (length f.entries) ∷ f.name ∷ [])
+said_open f = statement (codes "open") (decimal (length f.entries) ∷ f.name ∷ [])
 
 abbrev pub said_part : ℕ → Part → Said
-said_part i part = said (codes "part") (decimal i ∷ part.code ∷ decimal part.count ∷ [])
+said_part i part = statement (codes "part") (decimal i ∷ part.code ∷ decimal part.count ∷ [])
 
 -- the `part` lines of a pattern of which this was found
 abbrev pub said_parts : ℕ → Answer → List Said
@@ -36,7 +36,7 @@ said_parts i (Refused number) = []
 
 -- the line of a pattern of which this was found, and its `part` lines
 abbrev pub said_answer : ℕ → Answer → List ℕ → List Said
-said_answer i found name = said (codes "line") (decimal i ∷ answer_fields found name) ∷ said_parts i found
+said_answer i found name = statement (codes "line") (decimal i ∷ answer_fields found name) ∷ said_parts i found
 
 -- those of these patterns, the first of which has the number i
 abbrev pub said_patterns : Question → ℕ → List Entry → List (List Said)
@@ -44,11 +44,11 @@ said_patterns question i [] = []
 said_patterns question i (e ∷ es) = said_answer i (answer_to_entry question e) e.name ∷ said_patterns question (suc i) es
 
 abbrev pub said_code : Object × ℕ → Said
-said_code counted = said (codes "code") (rule_text counted.0.rule ∷ counted.0.code ∷ decimal counted.1 ∷ [])
+said_code counted = statement (codes "code") (rule_text counted.0.rule ∷ counted.0.code ∷ decimal counted.1 ∷ [])
 
 abbrev pub said_close : List Answer → ℕ → Said
 said_close found count =
-    said (codes "close")
+    statement (codes "close")
     (decimal count ∷ decimal (count_by is_resolved found) ∷ decimal (count_by is_unresolved found) ∷ decimal (count_by is_refused found) ∷ [])
 
 -- the lines of a collection; those of one pattern stand together
@@ -65,4 +65,4 @@ said_of question (Some f) = said_section question f
 
 -- the lines of the collection of this number; none where there is no such
 abbrev pub said_by : List Folder → Question → ℕ → List (List Said)
-said_by b question c = said_of question (numbered b c)
+said_by b question c = said_of question (element_at b c)

@@ -8,17 +8,17 @@ use Rattle.census_rows.specs.declared.row.Row.{Row}
 use Rattle.census_rows.specs.declared.row.Row.TheVariants.{Open, Line, Part, Code, Close, End}
 use Rattle.census_rows.specs.Lines.{outcome_fields}
 use Rattle.life_answer.specs.declared.question.Question.{Question}
-use Rattle.report_laws.specs.Said.{Said, said, said_by}
+use Rattle.report_laws.specs.Said.{Said, statement, said_by}
 
 -- what a row says, apart from its collection's number
-abbrev pub saying : Row → Said
-saying (Open collection patterns name) = said (codes "open") (decimal patterns ∷ name.now ∷ [])
-saying (Line collection pattern outcome name) = said (codes "line") (decimal pattern ∷ outcome_fields outcome ++ name.now ∷ [])
-saying (Part collection pattern code count) = said (codes "part") (decimal pattern ∷ code.now ∷ decimal count ∷ [])
-saying (Code collection rule code count) = said (codes "code") (rule.now ∷ code.now ∷ decimal count ∷ [])
-saying (Close collection patterns resolved unresolved refused) =
-    said (codes "close") (decimal patterns ∷ decimal resolved ∷ decimal unresolved ∷ decimal refused ∷ [])
-saying (End collections patterns) = said (codes "end") (decimal patterns ∷ [])
+abbrev pub statement_of_row : Row → Said
+statement_of_row (Open collection patterns name) = statement (codes "open") (decimal patterns ∷ name.now ∷ [])
+statement_of_row (Line collection pattern outcome name) = statement (codes "line") (decimal pattern ∷ outcome_fields outcome ++ name.now ∷ [])
+statement_of_row (Part collection pattern code count) = statement (codes "part") (decimal pattern ∷ code.now ∷ decimal count ∷ [])
+statement_of_row (Code collection rule code count) = statement (codes "code") (rule.now ∷ code.now ∷ decimal count ∷ [])
+statement_of_row (Close collection patterns resolved unresolved refused) =
+    statement (codes "close") (decimal patterns ∷ decimal resolved ∷ decimal unresolved ∷ decimal refused ∷ [])
+statement_of_row (End collections patterns) = statement (codes "end") (decimal patterns ∷ [])
 
 -- rows that stand together, and the collection that they belong to
 pub record Group : Type 0 where
@@ -35,9 +35,9 @@ AreGroups [] = ⊤
 AreGroups (group ∷ groups) = AreOwned group.owner group.rows × AreGroups groups
 
 -- what the groups of the collection c say, in their order
-abbrev pub sayings : ℕ → List Group → List (List Said)
-sayings c [] = []
-sayings c (group ∷ groups) = if group.owner == c then map saying group.rows ∷ sayings c groups else sayings c groups
+abbrev pub statements_of : ℕ → List Group → List (List Said)
+statements_of c [] = []
+statements_of c (group ∷ groups) = if group.owner == c then map statement_of_row group.rows ∷ statements_of c groups else statements_of c groups
 
 abbrev pub rows_in : List Group → List Row
 rows_in [] = []
@@ -48,5 +48,5 @@ rows_in (group ∷ groups) = group.rows ++ rows_in groups
 pub record Tells (b : List Folder) (question : Question) (rows : List Row) : Type 0 where
   pub groups : List Group
   pub owned : AreGroups groups
-  pub sections : (c : ℕ) → sayings c groups ≡ said_by b question c
+  pub sections : (c : ℕ) → statements_of c groups ≡ said_by b question c
   pub whole : rows ≡ rows_in groups ++ End (length b) (pattern_count b) ∷ []

@@ -5,10 +5,10 @@
 ghost use Rattle.std.specs.Prelude.{◌≡◌, ◌≤◌, ℕ, List, None, length};
 ghost use Rattle.census_format.specs.Reports.{IsReport};
 ghost use Rattle.census_bundle.specs.declared.bundle.Folder.{Folder};
-ghost use Rattle.census_merge.specs.Merged.{merged};
-ghost use Rattle.census_merge.specs.Sums.{first_excess, none};
+ghost use Rattle.census_merge.specs.Merged.{merged_rows};
+ghost use Rattle.census_merge.specs.Sums.{first_excess, no_sums};
 ghost use Rattle.census_readback.specs.Reports.{IsReport as IsReadBack};
-ghost use Rattle.census_readback.specs.Shapes.{joined};
+ghost use Rattle.census_readback.specs.Shapes.{all_rows};
 ghost use Rattle.census_readback.specs.Texts.{text_of};
 ghost use Rattle.census_rows.specs.declared.row.Row.{Row};
 ghost use Rattle.life_answer.specs.declared.question.Question.{Question};
@@ -32,7 +32,7 @@ pub fn a_report_read_back_tells_its_bundle()
 /// another.
 pub fn merged_rows_tell_the_bundles_joined()
     ensures { (question : Question) (parts : List (List Folder)) (reports : List (List Row))
-        → EachTells question parts reports → Tells (bundles parts) question (merged (joined reports)) }
+        → EachTells question parts reports → Tells (bundles parts) question (merged_rows (all_rows reports)) }
 {}
 
 /// Where each of several texts is a lawful report of its bundle under one question, and the rows are those of all texts,
@@ -40,14 +40,14 @@ pub fn merged_rows_tell_the_bundles_joined()
 pub fn merged_reports_are_a_report()
     ensures { (question : Question) (parts : List (List Folder)) (reports : List (List ℕ)) (rows : List Row)
         → AreBundles parts → EachIsReport question parts reports → IsReadBack rows (texts reports)
-        → IsReport (bundles parts) question (text_of (merged rows)) }
+        → IsReport (bundles parts) question (text_of (merged_rows rows)) }
 {}
 
 /// Reports of bundles that fit together, at most 65,535 collections in all, are not too many to be merged.
 pub fn reports_that_fit_are_merged()
     ensures { (question : Question) (parts : List (List Folder)) (reports : List (List ℕ)) (rows : List Row)
         → AreBundles parts → EachIsReport question parts reports → IsReadBack rows (texts reports)
-        → length (bundles parts) ≤ 65535 → first_excess 1 none rows ≡ None }
+        → length (bundles parts) ≤ 65535 → first_excess 1 no_sums rows ≡ None }
 {}
 
 /// A lawful report of a bundle is read back, where the numbers that are found of its patterns are in the range of a line.

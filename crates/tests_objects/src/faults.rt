@@ -1,6 +1,8 @@
 //! Texts of every fault, and the lines that tell them.
 
-use life_faults::{RuleKind, fault_line, place, place_of, rule_kind, sentence, sentence_line};
+use life_faults::{
+    RuleKind, fault_line, line_and_column, place_of, rule_kind, sentence, sentence_line,
+};
 use life_text::{RleFault, read_rle};
 use std::alloc::Global;
 use std::process::Abort;
@@ -117,7 +119,7 @@ const PLACES: &[(usize, u64, u64)] = &[(0, 1, 1), (2, 1, 3), (4, 2, 2), (6, 3, 1
 fn lines_and_columns(rt: HostRuntime) {
     let text = b"a\r\nbc\n";
     for (at, line, column) in PLACES {
-        let found = place(text, *at);
+        let found = line_and_column(text, *at);
         assert!(rt; found.line == *line && found.column == *column);
     }
     let found = place_of(text, &RleFault::BadRun { at: 99 });

@@ -2,8 +2,8 @@
 
 use census_bundle::{AddFault, BundleFault};
 use census_faults::{
-    Fault, Spot, explained, printed, refusal_line, rule_fault, spot_of_bundle, spot_of_code,
-    spot_of_text, text_fault,
+    Fault, Spot, explanation, printable_text, refusal_line, rule_fault, spot_of_bundle,
+    spot_of_code, spot_of_text, text_fault,
 };
 use life_cells::RuleFault;
 use life_faults::{Place, RuleKind};
@@ -92,7 +92,7 @@ const CASES: &[Case] = &[
 #[test]
 fn lines_that_explain(rt: HostRuntime) -> Result<(), Fail> {
     for (fault, name, spot, word, wanted) in CASES {
-        let line = explained(rt.alloc(), *fault, *name, *spot, *word)?;
+        let line = explanation(rt.alloc(), *fault, *name, *spot, *word)?;
         assert!(rt; line.as_slice() == wanted.as_bytes());
     }
     Ok(())
@@ -123,7 +123,7 @@ fn faults_have_their_spots(rt: HostRuntime) {
 
 #[test]
 fn names_as_they_are_shown(rt: HostRuntime) -> Result<(), Fail> {
-    let shown = printed(rt.alloc(), b" a\n\x00\x1f\x7f\\~\x80\xff")?;
+    let shown = printable_text(rt.alloc(), b" a\n\x00\x1f\x7f\\~\x80\xff")?;
     let wanted = b" a\\x0a\\x00\\x1f\\x7f\\~\x80\xff";
     assert!(rt; shown.as_slice() == wanted.as_slice());
     Ok(())

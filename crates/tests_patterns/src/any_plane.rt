@@ -39,7 +39,7 @@ fn a_glider_keeps_its_span<P: Plane>(rt: &impl Abort, alloc: Global) -> Result<(
     let plane: P = after(rt, alloc, DOWN, b"B3/S23", 200)?;
     assert!(rt; plane.span()? == (1, 2));
     let start = CellList::of(alloc, DOWN)?;
-    assert!(rt; plane.way_from(&start)? == Some((50, 50)));
+    assert!(rt; plane.offset_from(&start)? == Some((50, 50)));
     Ok(())
 }
 

@@ -37,38 +37,38 @@ fn the_span_is_from_the_first_cell_to_the_last(rt: HostRuntime) -> Result<(), Fa
 }
 
 // Asserts how far the later plane is from the earlier one, which shows these cells, by both ways to ask it.
-fn is_way(
+fn is_offset(
     rt: &impl Abort,
     earlier: &[(i32, i32)],
     later: &TilePlane,
     way: Option<(i32, i32)>,
     alloc: Global,
 ) -> Result<(), Fail> {
-    assert!(rt; later.way_from(&CellList::of(alloc, earlier)?)? == way);
-    assert!(rt; later.way_from_plane(&life_after(rt, alloc, earlier, 0)?)? == way);
+    assert!(rt; later.offset_from(&CellList::of(alloc, earlier)?)? == way);
+    assert!(rt; later.offset_from_plane(&life_after(rt, alloc, earlier, 0)?)? == way);
     Ok(())
 }
 
 #[test]
 fn a_glider_is_found_across_corners(rt: HostRuntime) -> Result<(), Fail> {
     let later = life_after(&rt, rt.alloc(), CORNER, 100)?;
-    is_way(&rt, CORNER, &later, Some((25, 25)), rt.alloc())?;
+    is_offset(&rt, CORNER, &later, Some((25, 25)), rt.alloc())?;
     let list = later.cells()?;
     let start = life_after(&rt, rt.alloc(), CORNER, 0)?;
-    is_way(&rt, list.as_slice(), &start, Some((-25, -25)), rt.alloc())
+    is_offset(&rt, list.as_slice(), &start, Some((-25, -25)), rt.alloc())
 }
 
 #[test]
 fn a_glider_that_turned_is_not_found(rt: HostRuntime) -> Result<(), Fail> {
     let turned = life_after(&rt, rt.alloc(), CORNER, 102)?;
-    is_way(&rt, CORNER, &turned, None, rt.alloc())
+    is_offset(&rt, CORNER, &turned, None, rt.alloc())
 }
 
 #[test]
 fn no_cells_are_where_they_were(rt: HostRuntime) -> Result<(), Fail> {
     let none = life_after(&rt, rt.alloc(), &[], 0)?;
-    is_way(&rt, CORNER, &none, None, rt.alloc())?;
-    is_way(&rt, &[], &none, Some((0, 0)), rt.alloc())
+    is_offset(&rt, CORNER, &none, None, rt.alloc())?;
+    is_offset(&rt, &[], &none, Some((0, 0)), rt.alloc())
 }
 
 // A row of three that Life turns by each generation.

@@ -1,6 +1,6 @@
 use Rattle.std.proofs.Common.{◌≡◌, ◌-◌, ◌<◌, Some, length, sym, subst, ap, ◌∙◌, slice_set, arith}
 use Rattle.census_bundle.specs.declared.ticket.Ticket.{Ticket}
-use Rattle.census_bundle.specs.Tickets.{numbered, with_ticket}
+use Rattle.census_bundle.specs.Tickets.{element_at, with_ticket}
 use Rattle.census_book.specs.Collecting.{HasCollection}
 use Rattle.census_book.specs.Front.{IsFront}
 use Rattle.census_book.specs.Progress.{Taken}
@@ -26,7 +26,7 @@ drop_collection-requires-clause-whole c =
     let after = with_ticket c.args.results.now.taken t in
     let f = c.folder_at-folder.result.now in
     let folders : c.folders.result.now ≡ b = c.folders.ensures.value ∙ c.bundle.ensures in
-    let at : numbered b t.folder ≡ Some f = subst (λ fs. numbered fs t.folder ≡ Some f) folders (subst (λ (u : Ticket). numbered c.folders.result.now u.folder ≡ Some f) c.ticket-number.ensures c.folder_at-folder.ensures.at) in
+    let at : element_at b t.folder ≡ Some f = subst (λ fs. element_at fs t.folder ≡ Some f) folders (subst (λ (u : Ticket). element_at c.folders.result.now u.folder ≡ Some f) c.ticket-number.ensures c.folder_at-folder.ensures.at) in
     let whole : run_of after t.folder f ≡ length f.entries = sym (c.requires.release.come_to f at) ∙ c.if-release-as_slice.true ∙ ap length c.as_slice.ensures in
     let has : HasCollection b after t.folder = run_collection b after t.folder f at whole in
     subst (λ (r : Taken). HasCollection r.bundle r.taken c.ticket-number.result.folder) (sym c.in_ok-add.ensures.taken)

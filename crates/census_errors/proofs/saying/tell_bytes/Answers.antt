@@ -1,6 +1,6 @@
 use Rattle.std.proofs.Common.{List, ℕ, arith, sym, subst}
 use Rattle.std.proofs.lemmas.List.{take_all}
-use Rattle.census_faults.specs.Printed.{printed}
+use Rattle.census_faults.specs.Printed.{printable_text}
 use Rattle.census_errors.proofs.Said.{more_after, no_more, printed_more}
 use Rattle.census_errors.specs.ErrorStreams.{TellsMore}
 use Rattle.census_errors.proofs.saying.tell_bytes.Goals as goal
@@ -16,5 +16,5 @@ loop-byte-preserved g c =
 
 pub returns : goal.returns
 returns g c =
-    subst (λ (t : List ℕ). TellsMore (printed t) c.args.errors.now c.loop-byte.errors)
+    subst (λ (t : List ℕ). TellsMore (printable_text t) c.args.errors.now c.loop-byte.errors)
     (take_all c.loop-byte.byte-index c.args.name.now (omega (arith, c.loop-byte-test.false))) c.loop-byte.invariant

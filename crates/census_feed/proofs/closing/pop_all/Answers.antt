@@ -5,8 +5,8 @@ use Rattle.std.proofs.lemmas.List.Elements.{filter_passes}
 use Rattle.crossbeam_deque.specs.Handles.{worker_view}
 use Rattle.census_feed.specs.declared.item.Item.TheVariants.{Work}
 use Rattle.census_feed.specs.declared.view.View.{View}
-use Rattle.census_feed.specs.Items.{has, is_ticket, times, marks}
-use Rattle.census_feed.specs.Rule.{joined}
+use Rattle.census_feed.specs.Items.{has, is_ticket, occurrence_count, mark_count}
+use Rattle.census_feed.specs.Rule.{all_items_of}
 use Rattle.census_feed.proofs.Counts.{times_tickets, no_tickets}
 use Rattle.census_feed.proofs.Steps.{pops, finds_all_out}
 use Rattle.census_feed.proofs.closing.pop_all.Goals as goal
@@ -16,7 +16,7 @@ pop_as-requires-clause-fifo c =
     let s = c.loop-item.invariant.same in
     let h = c.requires.ending.1 in
     let e = ap (λ v. length v.ended) s in
-    let m = ap (λ v. marks v.filled) s in
+    let m = ap (λ v. mark_count v.filled) s in
     λ _. pops _ _ (ap (λ v. v.role) s ∙ c.requires.ending.0.1) (omega arith) (omega arith)
 
 pub pop_as-requires-clause-empty : goal.pop_as-requires-clause-empty
@@ -36,7 +36,7 @@ returns-clause-left c =
         λ t.
             let o = out.0 (Work t) in
             let k = times_tickets t taken in
-            let e = ap (λ (v : View). times (Work t) (joined v.ended)) same in
+            let e = ap (λ (v : View). occurrence_count (Work t) (all_items_of v.ended)) same in
             let f = ap (λ (v : View). cond {A = ℕ} (has v.filled (Work t)) 1 0) same in
             omega arith,
       ),
@@ -47,5 +47,5 @@ returns-clause-none c =
     let taken = (worker_view c.loop-item.owner).taken in
     let same = c.loop-item.invariant.same in
     let out = c.in_default.ensures.rule.1 in
-    let m = ap (λ (v : View). marks (joined v.ended)) same in
-    λ (h : 0 < marks (joined (worker_view c.args.owner.now).ended)). let n = no_tickets taken (out.1 (omega arith)) in c.loop-item.invariant.counted ∙ n
+    let m = ap (λ (v : View). mark_count (all_items_of v.ended)) same in
+    λ (h : 0 < mark_count (all_items_of (worker_view c.args.owner.now).ended)). let n = no_tickets taken (out.1 (omega arith)) in c.loop-item.invariant.counted ∙ n

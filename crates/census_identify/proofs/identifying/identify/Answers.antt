@@ -1,5 +1,5 @@
 use Rattle.std.proofs.Common.{[], inr, subst, ◌∙◌}
-use Rattle.census_identify.specs.Identifies.{Stops, asked}
+use Rattle.census_identify.specs.Identifies.{Stops, words_or_input}
 use Rattle.census_identify.specs.Streams.{TellsMore, sink, streams}
 use Rattle.census_identify.proofs.Words.{stops_told, texts}
 use Rattle.census_identify.proofs.identifying.identify.Goals as goal
@@ -13,7 +13,7 @@ returns-in-Err g c =
     inr (record {
       error = c.in-Err.error;
       status_is = c.status.ensures;
-      stops = stops_told c.in-Err.error held c.args.bound (asked (texts c.args.words.now)) before now errors
-          (subst (λ ws. Stops c.in-Err.error [] held c.args.bound ws before now) c.asked.ensures c.in-Err.ensures)
+      stops = stops_told c.in-Err.error held c.args.bound (words_or_input (texts c.args.words.now)) before now errors
+          (subst (λ ws. Stops c.in-Err.error [] held c.args.bound ws before now) c.words_or_input.ensures c.in-Err.ensures)
           (subst (λ l. TellsMore l now.errors errors) (c.as_bytes.ensures.value ∙ c.line.ensures) c.tell_line.ensures);
     })

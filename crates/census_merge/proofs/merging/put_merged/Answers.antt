@@ -12,8 +12,8 @@ returns-then-failed g c =
     stopped_put c.args.rows.now l.index l.sums (sheet contents c.args.block.now c.args.writer.now) (sheet contents l.block l.writer) l.invariant
     (sym c.failed.ensures ∙ c.if-failed.true)
 
-pub renumbered-requires-clause-small : goal.renumbered-requires-clause-small
-renumbered-requires-clause-small g c = few-at c.args.rows.now c.loop-index.index _ (few-reports c.args.rows.now c.requires.reports) c.loop-index-test.true
+pub renumbered_row-requires-clause-small : goal.renumbered_row-requires-clause-small
+renumbered_row-requires-clause-small g c = few-at c.args.rows.now c.loop-index.index _ (few-reports c.args.rows.now c.requires.reports) c.loop-index-test.true
 
 pub loop-index-preserved-in_default : goal.loop-index-preserved-in_default
 loop-index-preserved-in_default g c =
@@ -22,7 +22,7 @@ loop-index-preserved-in_default g c =
     let here = sheet contents l.block l.writer in
     let next = sheet contents c.put_line.new.block c.put_line.new.writer in
     row_put c.args.rows.now l.index l.sums _ (sheet contents c.args.block.now c.args.writer.now) here l.invariant c.loop-index-test.true next
-    (sym c.in_default.ensures) (subst (λ r. Tells (line_of r) here next) c.renumbered.ensures c.put_line.ensures)
+    (sym c.in_default.ensures) (subst (λ r. Tells (line_of r) here next) c.renumbered_row.ensures c.put_line.ensures)
 
 pub returns : goal.returns
 returns g c =

@@ -1,6 +1,6 @@
 use Rattle.std.proofs.Common.{[], ◌∷◌, ◌++◌, codes, decimal}
 use Rattle.gathered.proofs.Telling.{tells_more}
-use Rattle.census_rows.specs.Lines.{behind, outcome_fields}
+use Rattle.census_rows.specs.Lines.{fields_text, outcome_fields}
 use Rattle.census_rows.proofs.Told.{field_last, field_then}
 use Rattle.census_rows.proofs.write.put_row.Goals as goal
 
@@ -10,7 +10,7 @@ returns-in-Open g c =
     let n = decimal o.collection in
     let k = decimal o.patterns in
     rw o.is
-    (tells_more (codes "open") (behind (n ∷ k ∷ o.name.now ∷ [])) _ _ _ c.put.ensures
+    (tells_more (codes "open") (fields_text (n ∷ k ∷ o.name.now ∷ [])) _ _ _ c.put.ensures
     (field_then n (k ∷ o.name.now ∷ []) _ _ _ c.put_number.ensures
     (field_then k (o.name.now ∷ []) _ _ _ c.put_number-in-Open.ensures (field_last o.name.now _ _ c.put_field.ensures))))
 
@@ -19,12 +19,12 @@ returns-in-Line g c =
     let o = c.in-Line in
     let n = decimal o.collection in
     let i = decimal o.pattern in
-    let found = behind (outcome_fields o.outcome) in
-    let front = codes "line" ++ behind (n ∷ i ∷ []) in
+    let found = fields_text (outcome_fields o.outcome) in
+    let front = codes "line" ++ fields_text (n ∷ i ∷ []) in
     rw o.is
-    (tells_more (front ++ found) (behind (o.name.now ∷ [])) _ _ _
+    (tells_more (front ++ found) (fields_text (o.name.now ∷ [])) _ _ _
     (tells_more front found _ _ _
-    (tells_more (codes "line") (behind (n ∷ i ∷ [])) _ _ _ c.put-in-Line.ensures
+    (tells_more (codes "line") (fields_text (n ∷ i ∷ [])) _ _ _ c.put-in-Line.ensures
     (field_then n (i ∷ []) _ _ _ c.put_number-in-Line.ensures (field_last i _ _ c.put_number-in-Line-2.ensures)))
     c.put_outcome.ensures)
     (field_last o.name.now _ _ c.put_field-in-Line.ensures))
@@ -36,7 +36,7 @@ returns-in-Part g c =
     let i = decimal o.pattern in
     let k = decimal o.count in
     rw o.is
-    (tells_more (codes "part") (behind (n ∷ i ∷ o.code.now ∷ k ∷ [])) _ _ _ c.put-in-Part.ensures
+    (tells_more (codes "part") (fields_text (n ∷ i ∷ o.code.now ∷ k ∷ [])) _ _ _ c.put-in-Part.ensures
     (field_then n (i ∷ o.code.now ∷ k ∷ []) _ _ _ c.put_number-in-Part.ensures
     (field_then i (o.code.now ∷ k ∷ []) _ _ _ c.put_number-in-Part-2.ensures
     (field_then o.code.now (k ∷ []) _ _ _ c.put_field-in-Part.ensures (field_last k _ _ c.put_number-in-Part-3.ensures)))))
@@ -47,7 +47,7 @@ returns-in-Code g c =
     let n = decimal o.collection in
     let k = decimal o.count in
     rw o.is
-    (tells_more (codes "code") (behind (n ∷ o.rule.now ∷ o.code.now ∷ k ∷ [])) _ _ _ c.put-in-Code.ensures
+    (tells_more (codes "code") (fields_text (n ∷ o.rule.now ∷ o.code.now ∷ k ∷ [])) _ _ _ c.put-in-Code.ensures
     (field_then n (o.rule.now ∷ o.code.now ∷ k ∷ []) _ _ _ c.put_number-in-Code.ensures
     (field_then o.rule.now (o.code.now ∷ k ∷ []) _ _ _ c.put_field-in-Code.ensures
     (field_then o.code.now (k ∷ []) _ _ _ c.put_field-in-Code-2.ensures (field_last k _ _ c.put_number-in-Code-2.ensures)))))
@@ -61,7 +61,7 @@ returns-in-Close g c =
     let u = decimal o.unresolved in
     let f = decimal o.refused in
     rw o.is
-    (tells_more (codes "close") (behind (n ∷ k ∷ r ∷ u ∷ f ∷ [])) _ _ _ c.put-in-Close.ensures
+    (tells_more (codes "close") (fields_text (n ∷ k ∷ r ∷ u ∷ f ∷ [])) _ _ _ c.put-in-Close.ensures
     (field_then n (k ∷ r ∷ u ∷ f ∷ []) _ _ _ c.put_number-in-Close.ensures
     (field_then k (r ∷ u ∷ f ∷ []) _ _ _ c.put_number-in-Close-2.ensures
     (field_then r (u ∷ f ∷ []) _ _ _ c.put_number-in-Close-3.ensures
@@ -73,5 +73,5 @@ returns-in-End g c =
     let n = decimal o.collections in
     let k = decimal o.patterns in
     rw o.is
-    (tells_more (codes "end") (behind (n ∷ k ∷ [])) _ _ _ c.put-in-End.ensures
+    (tells_more (codes "end") (fields_text (n ∷ k ∷ [])) _ _ _ c.put-in-End.ensures
     (field_then n (k ∷ []) _ _ _ c.put_number-in-End.ensures (field_last k _ _ c.put_number-in-End-2.ensures)))

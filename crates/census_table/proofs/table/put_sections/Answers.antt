@@ -1,7 +1,7 @@
 use Rattle.std.proofs.Common.{ℕ, ◌+◌, List, ◌∙◌, ap, drop}
 use Rattle.std.proofs.lemmas.Result.{err_from_is_err_and}
 use Rattle.gathered.specs.Telling.{sheet}
-use Rattle.census_readback.specs.Grouped.{items_of, lent}
+use Rattle.census_readback.specs.Grouped.{items_of, rows_lent}
 use Rattle.census_table.specs.Entries.{all_entries, section_entries}
 use Rattle.census_table.specs.Tables.{rows_text}
 use Rattle.census_table.proofs.Texts.{sections-cut}
@@ -22,7 +22,7 @@ returns-in_err-put_section g c =
     (c.as_slice.ensures.value ∙ ap (λ v. v.items) c.index-sections-index.is) in
     rw p.1
     (up_to_front (rows_text c.args.format (all_entries 1 (items_of all))) (from l.index)
-    (rows_text c.args.format (section_entries (l.index + 1) (lent c.as_slice.result.now))) (from (l.index + 1))
+    (rows_text c.args.format (section_entries (l.index + 1) (rows_lent c.as_slice.result.now))) (from (l.index + 1))
     (sheet g.W.Write.contents c.args.block.now c.args.writer.now) (sheet g.W.Write.contents l.block l.writer)
     (sheet g.W.Write.contents c.put_section.new.block c.put_section.new.writer) l.invariant cut c.in_err-put_section.ensures)
 
@@ -34,6 +34,6 @@ loop-index-preserved g c =
     let cut = sections-cut c.args.format all l.index _ c.as_slice.result.now c.loop-index-test.true
     (c.as_slice.ensures.value ∙ ap (λ v. v.items) c.index-sections-index.is) in
     up_to_more (rows_text c.args.format (all_entries 1 (items_of all))) (from l.index)
-    (rows_text c.args.format (section_entries (l.index + 1) (lent c.as_slice.result.now))) (from (l.index + 1))
+    (rows_text c.args.format (section_entries (l.index + 1) (rows_lent c.as_slice.result.now))) (from (l.index + 1))
     (sheet g.W.Write.contents c.args.block.now c.args.writer.now) (sheet g.W.Write.contents l.block l.writer)
     (sheet g.W.Write.contents c.put_section.new.block c.put_section.new.writer) l.invariant cut c.in_ok-put_section.ensures

@@ -6,8 +6,8 @@ use Rattle.life_model.specs.Cell.{opposite}
 use Rattle.life_model.specs.Evolution.{generation}
 use Rattle.life_model.specs.Generation.{Generation, cells}
 use Rattle.life_model.specs.Recurrence.{RecursBy}
-use Rattle.life_model.specs.Symmetry.{moved}
-use Rattle.life_objects.specs.Drift.{times}
+use Rattle.life_model.specs.Symmetry.{translate_of}
+use Rattle.life_objects.specs.Drift.{multiple_of}
 use Rattle.life_cells.specs.Limits.{IsWithin}
 use Rattle.life_ash.proofs.Finding.{none_then}
 use Rattle.life_ash.proofs.Turning.{turned_back}
@@ -17,7 +17,7 @@ use Rattle.life_ash.proofs.before.set_before.Goals as goal
 turned : (c : goal.After-cells_before) (P : Generation) →
     RecursBy c.args.orbit.now.rule P c.args.orbit.now.period c.args.orbit.now.displacement →
     generation c.args.orbit.now.rule P c.args.ago ≡ c.args.orbit.now.set →
-    moved c.phase.result.now (opposite c.repeated-by.result) ≡ P
+    translate_of c.phase.result.now (opposite c.repeated-by.result) ≡ P
 turned c P r end =
     let o = c.args.orbit.now in
     let ago = c.args.ago in
@@ -25,7 +25,7 @@ turned c P r end =
     let one = c.requires in
     turned_back o P ago one.0 c.period-period.ensures.recurs.recurs.later r end c.phase.result.now c.repeated-by.result
     (c.phase.ensures ∙ ap (λ p. generation o.rule o.set ((p - 1) - (ago - 1) % p)) same)
-    (c.repeated-by.ensures.value ∙ (λ i. times ((ago - 1) / same i + 1) (c.displacement.ensures i)))
+    (c.repeated-by.ensures.value ∙ (λ i. multiple_of ((ago - 1) / same i + 1) (c.displacement.ensures i)))
 
 pub returns-clause-set : goal.returns-clause-set
 returns-clause-set c =

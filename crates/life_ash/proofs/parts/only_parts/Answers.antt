@@ -8,8 +8,8 @@ use Rattle.life_cells.specs.Limits.{IsWithin}
 use Rattle.life_objects.specs.Apart.{AreApartFor}
 use Rattle.life_objects.specs.Union.{generations}
 use Rattle.life_objects.specs.Whole.{StaysWhole}
-use Rattle.life_classes.specs.Tracking.{firsts}
-use Rattle.life_ash.specs.Living.{lives}
+use Rattle.life_classes.specs.Tracking.{first_sets}
+use Rattle.life_ash.specs.Living.{has_cells}
 use Rattle.life_ash.specs.Parts.{AreEnds}
 use Rattle.life_ash.proofs.Cores.{ash_by_ends, no_end}
 use Rattle.life_ash.proofs.Finding.{none_then}
@@ -23,13 +23,13 @@ pub parts_of-requires : goal.parts_of-requires
 parts_of-requires g c =
     let R = c.rule-rule.result in
     let b = c.bound-bound.result in
-    let Ls = firsts c.in_ok-classes.field-0.items in
+    let Ls = first_sets c.in_ok-classes.field-0.items in
     let age = c.in_ok-copy.ensures.age in
     let young = c.requires.young in
     let few = c.bound-bound.ensures.short in
     let listed : c.as_slice.result.now ≡ ends R b Ls =
     c.as_slice.ensures.value ∙ c.in_ok-lasts.ensures
-    ∙ ap (filter lives) {y = generations R Ls b} c.in_ok-classes.ensures.later in
+    ∙ ap (filter has_cells) {y = generations R Ls b} c.in_ok-classes.ensures.later in
     record {
       within = All-same (λ Q. All (IsWithin 4000000) (cells Q)) _ _ listed
           (ends_within R (g.P.Plane.steps_made c.in_ok-copy.copy) b 4000000 (g.P.Plane.members c.in_ok-copy.copy) Ls
@@ -38,17 +38,17 @@ parts_of-requires g c =
 
 -- what has become of the classes that live on
 listed : (g : Over) (c : goal.After-drop-lasts g) → c.as_slice.result.now
-    ≡ ends c.args.known.now.rule c.args.known.now.bound (firsts c.in_ok-classes.field-0.items)
+    ≡ ends c.args.known.now.rule c.args.known.now.bound (first_sets c.in_ok-classes.field-0.items)
 listed g c =
-    c.as_slice.ensures.value ∙ c.in_ok-lasts.ensures ∙ ap (filter lives) c.in_ok-classes.ensures.later
-    ∙ (λ i. ends (c.rule-rule.ensures i) (c.bound-bound.ensures.value i) (firsts c.in_ok-classes.field-0.items))
+    c.as_slice.ensures.value ∙ c.in_ok-lasts.ensures ∙ ap (filter has_cells) c.in_ok-classes.ensures.later
+    ∙ (λ i. ends (c.rule-rule.ensures i) (c.bound-bound.ensures.value i) (first_sets c.in_ok-classes.field-0.items))
 
 -- none of the classes is torn
 stay : (g : Over) (c : goal.After-drop-lasts g) →
     All (StaysWhole c.args.known.now.rule c.args.known.now.bound (g.P.Plane.members c.args.plane.now))
-    (firsts c.in_ok-classes.field-0.items)
+    (first_sets c.in_ok-classes.field-0.items)
 stay g c =
-    let Ls = firsts c.in_ok-classes.field-0.items in
+    let Ls = first_sets c.in_ok-classes.field-0.items in
     let here = g.P.Plane.members c.args.plane.now in
     subst (λ n. All (StaysWhole c.args.known.now.rule n here) Ls) c.bound-bound.ensures.value
     (subst (λ S. All (StaysWhole S c.bound-bound.result here) Ls) c.rule-rule.ensures
@@ -57,9 +57,9 @@ stay g c =
 
 -- no two of them come near each other
 apart : (g : Over) (c : goal.After-drop-lasts g) →
-    AllPairs (AreApartFor c.args.known.now.rule c.args.known.now.bound) (firsts c.in_ok-classes.field-0.items)
+    AllPairs (AreApartFor c.args.known.now.rule c.args.known.now.bound) (first_sets c.in_ok-classes.field-0.items)
 apart g c =
-    let Ls = firsts c.in_ok-classes.field-0.items in
+    let Ls = first_sets c.in_ok-classes.field-0.items in
     subst (λ n. AllPairs (AreApartFor c.args.known.now.rule n) Ls) c.bound-bound.ensures.value
     (subst (λ S. AllPairs (AreApartFor S c.bound-bound.result) Ls) c.rule-rule.ensures c.in_ok-classes.ensures.apart)
 
@@ -77,7 +77,7 @@ returns-clause-only g c =
     IfOk-weaker c.parts_of.result _ _
     (λ found h. IfSome_then found h
     (λ orbits told parts ash. ash_by_ends R b (g.P.Plane.members c.args.plane.now)
-    (firsts c.in_ok-classes.field-0.items) (c.in_ok-classes.ensures.together ∙ c.in_ok-copy.ensures.cells) (stay g c)
+    (first_sets c.in_ok-classes.field-0.items) (c.in_ok-classes.ensures.together ∙ c.in_ok-copy.ensures.cells) (stay g c)
     (apart g c) parts ash (placed g c) orbits.items
     (subst (λ Qs. AreEnds R b Qs orbits.items) (listed g c) told)))
     c.parts_of.ensures.sets
@@ -89,7 +89,7 @@ returns-clause-none g c =
     IfOk-weaker c.parts_of.result _ _
     (λ found h. none_then found h
     (λ no parts ash. no_end R b (g.P.Plane.members c.args.plane.now)
-    (firsts c.in_ok-classes.field-0.items) (c.in_ok-classes.ensures.together ∙ c.in_ok-copy.ensures.cells) (stay g c)
+    (first_sets c.in_ok-classes.field-0.items) (c.in_ok-classes.ensures.together ∙ c.in_ok-copy.ensures.cells) (stay g c)
     (apart g c) parts ash (placed g c) no.0
     (subst (λ Qs. Contains Qs no.0) (listed g c) no.1) no.2))
     c.parts_of.ensures.none

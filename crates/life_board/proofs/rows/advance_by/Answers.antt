@@ -6,7 +6,7 @@ use Rattle.std.proofs.lemmas.Nat.Bits.{bit_at-zero}
 use Rattle.life_model.specs.Rule.{Rule}
 use Rattle.life_bits.specs.Area.{area_row, next_in_area}
 use Rattle.life_bits.specs.Logics.{IsLogicOf}
-use Rattle.life_bits.specs.Bits.{strip}
+use Rattle.life_bits.specs.Bits.{wide_row}
 use Rattle.life_bits.specs.Numbers.{number_at}
 use Rattle.life_bits.specs.Rows.{IsRowSumsOf}
 use Rattle.life_bits.proofs.Strips.{strip_middle}
@@ -45,7 +45,7 @@ module _ (c : goal.After-next) where
       let high : c.loop-y.y + 1 < 64 = (let small = inside in omega arith) in
       let at : c.loop-y.y + 1 + 64 ≡ c.loop-y.y + 65 = omega arith in
       subst (IsRowSumsOf c.sums-below.result)
-      ((λ i. strip 0 (c.loop-y.invariant.rest (c.loop-y.y + 1) (omega arith) i) 0) ∙ sym (row_is c.args.tile.now (c.loop-y.y + 1) high) ∙ ap (area_row (alone c.args.tile.now)) at)
+      ((λ i. wide_row 0 (c.loop-y.invariant.rest (c.loop-y.y + 1) (omega arith) i) 0) ∙ sym (row_is c.args.tile.now (c.loop-y.y + 1) high) ∙ ap (area_row (alone c.args.tile.now)) at)
       c.sums-below.ensures
 
   around : (x : ℕ) → x < 64 →

@@ -2,7 +2,7 @@ use Rattle.std.proofs.Common.{◌++◌, drop, false, length, map, true, sym, ap,
 use Rattle.std.proofs.lemmas.List.{length-map}
 use Rattle.life_objects.specs.Union.{union_of}
 use Rattle.life_classes.specs.declared.gathering.Ranked.{Ranked}
-use Rattle.life_classes.specs.Gathering.{between, classes_of, side}
+use Rattle.life_classes.specs.Gathering.{classes_between, classes_of, set_on_side}
 use Rattle.life_classes.specs.Tracking.{LeadTo}
 use Rattle.life_classes.proofs.Groups.{lead_group, lead_piece, lead_whole, length-between, piece_of}
 use Rattle.life_classes.proofs.gathering.gathered.Goals as goal
@@ -25,9 +25,9 @@ loop-start-preserved c =
       tracked =
           subst (λ ds. LeadTo cs (ds ++ drop end cs)) (sym c.in_ok-push.ensures.items)
           (lead_piece cs cs done start end one above (omega arith) c.loop-start.invariant.tracked
-          (lead_group (between start end cs) one (omega arith) c.end_of_group-end.ensures.together
-          (c.in_ok-as_one.ensures.first ∙ ap (λ ds. union_of (map (side false) ds)) piece)
-          (c.in_ok-as_one.ensures.last ∙ ap (λ ds. union_of (map (side true) ds)) piece)));
+          (lead_group (classes_between start end cs) one (omega arith) c.end_of_group-end.ensures.together
+          (c.in_ok-as_one.ensures.first ∙ ap (λ ds. union_of (map (set_on_side false) ds)) piece)
+          (c.in_ok-as_one.ensures.last ∙ ap (λ ds. union_of (map (set_on_side true) ds)) piece)));
     }
 
 pub returns : goal.returns

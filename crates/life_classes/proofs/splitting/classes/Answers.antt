@@ -5,7 +5,7 @@ use Rattle.life_model.specs.Evolution.{generation, next}
 use Rattle.life_model.proofs.Recurrences.{generation-zero, generation-next}
 use Rattle.life_objects.specs.Union.{generations}
 use Rattle.life_objects.specs.Whole.{StaysWhole}
-use Rattle.life_classes.specs.Tracking.{AreTracked, alone, firsts, moved_on}
+use Rattle.life_classes.specs.Tracking.{AreTracked, class_of_cell, first_sets, moved_on}
 use Rattle.life_classes.proofs.Beginning.{alone_tracked}
 use Rattle.life_classes.proofs.Later.{end_apart, lasts_then, moved_on_tracked}
 use Rattle.life_classes.proofs.Merging.{led}
@@ -19,9 +19,9 @@ loop-init g c =
       members = sym (generation-zero R G);
       aged = sym (add-zero _);
       tracked =
-          led (map alone c.as_slice-2.result.now) c.in_ok-classes.classes.items c.in_ok-classes.ensures.tracked R
+          led (map class_of_cell c.as_slice-2.result.now) c.in_ok-classes.classes.items c.in_ok-classes.ensures.tracked R
           c.args.bound 0 G (omega arith)
-          (subst (λ cs. AreTracked R c.args.bound 0 G (map alone cs))
+          (subst (λ cs. AreTracked R c.args.bound 0 G (map class_of_cell cs))
           (sym (c.as_slice-2.ensures.cells ∙ ap cells c.in_ok-cells.ensures.cells)) (alone_tracked R c.args.bound G));
       apart = c.in_ok-classes.ensures.apart;
     }
@@ -64,4 +64,4 @@ returns-clause-later g c =
     let past = c.loop-test.false in
     let at_end : c.loop.counter ≡ c.args.bound = omega arith in
     lasts_then c.args.rule.now c.loop.counter c.loop.classes.items c.loop.invariant.tracked.later
-    ∙ ap (generations c.args.rule.now (firsts c.loop.classes.items)) at_end
+    ∙ ap (generations c.args.rule.now (first_sets c.loop.classes.items)) at_end

@@ -1,11 +1,11 @@
 use Rattle.std.proofs.Common.{map}
 use Rattle.std.proofs.lemmas.Result.{IfOk-weaker}
-use Rattle.life_classes.specs.Tracking.{LeadTo, alone}
+use Rattle.life_classes.specs.Tracking.{LeadTo, class_of_cell}
 use Rattle.life_classes.proofs.Merging.{in_turn}
 use Rattle.life_classes.proofs.splitting.first_classes.Goals as goal
 
 pub returns-clause-tracked : goal.returns-clause-tracked
 returns-clause-tracked c =
     let runs = c.in_ok-chains.field-0.items in
-    IfOk-weaker c.all_joined.result (λ all. LeadTo runs all.items) (λ all. LeadTo (map alone c.args.cells.now) all.items)
-    (λ all h. in_turn (map alone c.args.cells.now) runs all.items c.in_ok-chains.ensures h) c.all_joined.ensures.tracked
+    IfOk-weaker c.all_joined.result (λ all. LeadTo runs all.items) (λ all. LeadTo (map class_of_cell c.args.cells.now) all.items)
+    (λ all h. in_turn (map class_of_cell c.args.cells.now) runs all.items c.in_ok-chains.ensures h) c.all_joined.ensures.tracked

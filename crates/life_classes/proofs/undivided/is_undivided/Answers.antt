@@ -2,7 +2,7 @@ use Rattle.std.proofs.Common.{◌≡◌, ◌+◌, ◌∙◌, map, refl, sym, ap,
 use Rattle.life_model.specs.Generation.{cells}
 use Rattle.life_model.specs.Evolution.{generation, next}
 use Rattle.life_model.proofs.Recurrences.{generation-zero, generation-next}
-use Rattle.life_classes.specs.Tracking.{AreFew, AreTracked, alone, moved_on}
+use Rattle.life_classes.specs.Tracking.{AreFew, AreTracked, class_of_cell, moved_on}
 use Rattle.life_classes.proofs.Beginning.{alone_tracked}
 use Rattle.life_classes.proofs.Few.{few_decide, undivided_soon}
 use Rattle.life_classes.proofs.Later.{moved_on_tracked}
@@ -17,8 +17,8 @@ loop-init g c =
       members = sym (generation-zero R G);
       aged = sym (add-zero _);
       tracked = λ k h.
-          led (map alone c.as_slice-2.result.now) c.in_ok-classes.classes.items c.in_ok-classes.ensures.tracked R k 0 G h
-          (subst (λ cs. AreTracked R k 0 G (map alone cs))
+          led (map class_of_cell c.as_slice-2.result.now) c.in_ok-classes.classes.items c.in_ok-classes.ensures.tracked R k 0 G h
+          (subst (λ cs. AreTracked R k 0 G (map class_of_cell cs))
           (sym (c.as_slice-2.ensures.cells ∙ ap cells c.in_ok-cells.ensures.cells)) (alone_tracked R k G));
       apart = c.in_ok-classes.ensures.apart;
     }

@@ -1,6 +1,6 @@
 use Rattle.std.proofs.Common.{◌≡◌, ◌+◌, ◌*◌, ◌/◌, ◌%◌, ◌^◌, length, get_or, map, set, subst, take, sym, ap, ◌∙◌, arith}
 use Rattle.life_shape.specs.Orients.{orientation}
-use Rattle.life_codes.specs.Frames.{placed, strips_of, wide_of}
+use Rattle.life_codes.specs.Frames.{cell_in_frame, strips_of, wide_of}
 use Rattle.life_codes.specs.Grids.{HoldsWeights}
 use Rattle.life_codes.proofs.Filled.{weight_small, value_more, filled_more, weights_within}
 use Rattle.life_codes.proofs.grid.fill.Goals as goal
@@ -8,7 +8,7 @@ use Rattle.life_codes.proofs.grid.fill.Goals as goal
 pub overflow_add-values-in-loop-cell : goal.overflow_add-values-in-loop-cell
 overflow_add-values-in-loop-cell c =
     let f = c.args.frame in
-    let d = placed (orientation c.args.orient) f in
+    let d = cell_in_frame (orientation c.args.orient) f in
     let cells = c.args.cells.now in
     let i = c.loop-cell.cell-index in
     let p = c.place_in-column.result.0 in
@@ -25,7 +25,7 @@ overflow_add-values-in-loop-cell c =
 pub loop-cell-preserved : goal.loop-cell-preserved
 loop-cell-preserved c =
     let f = c.args.frame in
-    let d = placed (orientation c.args.orient) f in
+    let d = cell_in_frame (orientation c.args.orient) f in
     let cells = c.args.cells.now in
     let i = c.loop-cell.cell-index in
     let p = c.place_in-column.result.0 in

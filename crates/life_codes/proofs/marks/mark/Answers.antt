@@ -2,7 +2,7 @@ use Rattle.std.proofs.Common.{◌/◌, ◌<◌, ◌≤◌, ◌∷◌, [], length
 use Rattle.std.proofs.lemmas.List.{map-append}
 use Rattle.life_model.specs.Symmetry.{turn}
 use Rattle.life_shape.specs.Orients.{orientation}
-use Rattle.life_codes.specs.Frames.{IsInFrame, placed, strips_of, turned_frame, wide_of}
+use Rattle.life_codes.specs.Frames.{IsInFrame, cell_in_frame, strips_of, turned_frame, wide_of}
 use Rattle.life_codes.specs.Words.{HoldsMarks}
 use Rattle.life_codes.proofs.Marked.{inside_turned, marked_more, small_turned}
 use Rattle.life_codes.proofs.marks.mark.Goals as goal
@@ -27,5 +27,5 @@ returns-clause-marks c = λ cells held.
     let room = c.requires.room in
     let narrow : wide_of g ≤ 64 = omega arith in
     let within : r / 5 < length c.args.words.now = omega arith in
-    subst (HoldsMarks (set c.args.words.now (r / 5) _) (wide_of g)) (sym (map-append (placed m g) cells (c.args.cell ∷ [])))
-    (marked_more (map (placed m g) cells) (placed m g c.args.cell) c.args.words.now (wide_of g) p r (c.place_in-column.ensures.place ∙ ap (λ h. placed m h c.args.cell) same) column narrow within held)
+    subst (HoldsMarks (set c.args.words.now (r / 5) _) (wide_of g)) (sym (map-append (cell_in_frame m g) cells (c.args.cell ∷ [])))
+    (marked_more (map (cell_in_frame m g) cells) (cell_in_frame m g c.args.cell) c.args.words.now (wide_of g) p r (c.place_in-column.ensures.place ∙ ap (λ h. cell_in_frame m h c.args.cell) same) column narrow within held)

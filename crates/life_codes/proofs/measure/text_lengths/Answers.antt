@@ -1,6 +1,6 @@
 use Rattle.std.proofs.Common.{◌≡◌, ◌+◌, ◌*◌, length, true, false, ap, ◌∙◌, arith}
 use Rattle.life_shape.specs.Wechsler.{columns_text}
-use Rattle.life_codes.specs.Grids.{facing, strip_of}
+use Rattle.life_codes.specs.Grids.{columns_from, strip_of}
 use Rattle.life_codes.proofs.Bodies.{length-strip_of}
 use Rattle.life_codes.proofs.Measured.{joined_more}
 use Rattle.life_codes.proofs.measure.text_lengths.Goals as goal
@@ -15,8 +15,8 @@ strips-preserved c =
     let long = ap length strip ∙ length-strip_of values wide c.args.strips c.requires.room k c.strips-test.true in
     let one : (k + 1) * wide ≡ k * wide + wide = omega arith in
     record {
-      forward = joined_more (λ i. columns_text 0 (facing false (strip_of values wide i))) k _ _ _ c.strips.invariant.forward (lengths.forward ∙ ap (λ xs. length (columns_text 0 (facing false xs))) strip) c.mark_length-mark.ensures.length;
-      backward = joined_more (λ i. columns_text 0 (facing true (strip_of values wide i))) k _ _ _ c.strips.invariant.backward (lengths.backward ∙ ap (λ xs. length (columns_text 0 (facing true xs))) strip) c.mark_length-mark.ensures.length;
+      forward = joined_more (λ i. columns_text 0 (columns_from false (strip_of values wide i))) k _ _ _ c.strips.invariant.forward (lengths.forward ∙ ap (λ xs. length (columns_text 0 (columns_from false xs))) strip) c.mark_length-mark.ensures.length;
+      backward = joined_more (λ i. columns_text 0 (columns_from true (strip_of values wide i))) k _ _ _ c.strips.invariant.backward (lengths.backward ∙ ap (λ xs. length (columns_text 0 (columns_from true xs))) strip) c.mark_length-mark.ensures.length;
       small_forward = omega arith;
       small_backward = omega arith;
     }

@@ -1,6 +1,6 @@
 use Rattle.std.proofs.Common.{◌<◌, ◌+◌, ◌++◌, ◌∷◌, [], drop, length, subst, ◌∙◌, sym, arith}
 use Rattle.life_shape.specs.Wechsler.{columns_text}
-use Rattle.life_codes.specs.Grids.{facing}
+use Rattle.life_codes.specs.Grids.{columns_from}
 use Rattle.life_codes.proofs.Written.{length-facing, small_facing, text_skip, text_value}
 use Rattle.life_codes.proofs.writing.push_strip.Goals as goal
 use Rattle.life_codes.proofs.writing.push_strip.Goals.{then-value-eq0, else-value-eq0+in_ok-push_zeros+in_ok-push}
@@ -11,7 +11,7 @@ digit-requires c =
 
 pub columns-preserved : goal.columns-preserved
 columns-preserved c =
-    let xs = facing c.args.back c.args.strip.now in
+    let xs = columns_from c.args.back c.args.strip.now in
     let place = c.columns.place in
     let inside : place < length xs = rw (length-facing c.args.back c.args.strip.now) c.columns-test.true in
     elim c.if-value-eq0.branch [

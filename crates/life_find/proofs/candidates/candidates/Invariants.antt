@@ -5,4 +5,4 @@ use Rattle.life_find.proofs.candidates.candidates.Given as goal
 
 -- the candidates so far
 abbrev pub invariant-loop-period : goal.invariant-loop-period
-invariant-loop-period l = l.periods.items ≡ filter (ends_alike l.outlines) (range_with_len 1 (l.period - 1))
+invariant-loop-period l = l.periods.items ≡ filter (ends_alike l.fingerprints) (range_with_len 1 (l.period - 1))

@@ -14,7 +14,7 @@ places-preserved c =
           elim (cases_lt i end) [
             | inl last ↦
                 let same : i ≡ end - 1 = omega arith in
-                ap (changes_at c.args.outlines.now c.args.places) same ∙ sym c.changes.ensures ∙ c.if-changes.false
+                ap (changes_at c.args.fingerprints.now c.args.places) same ∙ sym c.changes.ensures ∙ c.if-changes.false
             | inr after ↦ c.places.invariant.rest i after small
           ];
     }

@@ -6,7 +6,7 @@ use Rattle.life_find.proofs.candidates.first_alike.Given as goal
 abbrev pub invariant-places : goal.invariant-places
 invariant-places l = record {
   end : l.end ≤ l.last + 1;
-  rest : (i : ℕ) → l.end ≤ i → i ≤ l.last → changes_at l.outlines l.places i ≡ false;
+  rest : (i : ℕ) → l.end ≤ i → i ≤ l.last → changes_at l.fingerprints l.places i ≡ false;
 }
 
 abbrev pub decreases-places : goal.decreases-places

@@ -1,6 +1,6 @@
 use Rattle.std.proofs.Common.{◌≡◌, ◌+◌, ◌≤◌, sym, ap, ◌∙◌, zero-add, below_more, arith}
 use Rattle.life_model.specs.Evolution.{next, generation}
-use Rattle.life_model.specs.Symmetry.{moved, normal}
+use Rattle.life_model.specs.Symmetry.{translate_of, normal}
 use Rattle.life_model.proofs.Recurrences.{generation-add, generation-next, settles_by_period, Settles_from_first}
 use Rattle.life_find.proofs.search.settling_from.Goals as goal
 
@@ -25,7 +25,7 @@ loop-onset-init g c =
 pub returns-in-Some-clause-found : goal.returns-in-Some-clause-found
 returns-in-Some-clause-found g c =
     let found = c.requires.period in
-    let way = rw c.in-Some.is at c.in_ok-displacement.ensures.way in
+    let offset = rw c.in-Some.is at c.in_ok-displacement.ensures.offset in
     let o = c.loop-onset.onset in
     let p = c.args.period in
     let d = c.in-Some.displacement in
@@ -33,8 +33,8 @@ returns-in-Some-clause-found g c =
     let inside = c.loop-onset-test.true in
     let range = c.requires.range in
     Settles_from_first c.args.rule.now c.args.cells.now found.0 p found.1 c.args.bound o d (omega arith)
-    (sym at.there ∙ way.move ∙ ap (λ H. moved H d) at.here)
-    (λ none. way.unmoved (at.here ∙ none)) at.none
+    (sym at.there ∙ offset.move ∙ ap (λ H. translate_of H d) at.here)
+    (λ none. offset.unmoved (at.here ∙ none)) at.none
 
 pub returns-in-Some-clause-shape : goal.returns-in-Some-clause-shape
 returns-in-Some-clause-shape g c = ap normal c.loop-onset.invariant.here

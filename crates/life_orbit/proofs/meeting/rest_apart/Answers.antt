@@ -1,7 +1,7 @@
 use Rattle.std.proofs.Common.{sym, subst, ◌∙◌}
 use Rattle.std.specs.Bool.{OnTrue}
 use Rattle.life_model.specs.Cell.{origin}
-use Rattle.life_plane.proofs.Ways.{same_by_test}
+use Rattle.life_plane.proofs.Offsets.{same_by_test}
 use Rattle.life_orbit.specs.Hulls.{AreFar}
 use Rattle.life_orbit.proofs.Clearances.{apart_at_rest}
 use Rattle.life_orbit.proofs.meeting.rest_apart.Goals as goal

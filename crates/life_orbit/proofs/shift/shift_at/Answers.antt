@@ -1,6 +1,6 @@
 use Rattle.std.proofs.Common.{◌/◌, ◌*◌, ◌^◌, ◌≤◌, ◌∙◌, arith}
 use Rattle.std.proofs.Math.Nat.{div-le_self}
-use Rattle.life_objects.specs.Drift.{times}
+use Rattle.life_objects.specs.Drift.{multiple_of}
 use Rattle.life_orbit.proofs.Reaching.{reach_wider}
 use Rattle.life_orbit.proofs.shift.shift_at.Goals as goal
 
@@ -9,7 +9,7 @@ repeated-requires c = omega (arith, div-le_self c.args.time c.period.result)
 
 pub returns-clause-value : goal.returns-clause-value
 returns-clause-value c =
-    c.repeated.ensures.value ∙ (λ i. times (c.args.time / c.period.ensures.value i) (c.displacement.ensures i))
+    c.repeated.ensures.value ∙ (λ i. multiple_of (c.args.time / c.period.ensures.value i) (c.displacement.ensures i))
 
 pub returns-clause-reach : goal.returns-clause-reach
 returns-clause-reach c =

@@ -2,7 +2,7 @@ use Rattle.std.proofs.Common.{◌≡◌, ap, ◌∙◌, ◌+◌, ◌<◌, ◌∷
 use Rattle.std.specs.Prelude.{◌==◌, false}
 use Rattle.std.proofs.lemmas.Bool.Decides.{nat_tests}
 use Rattle.life_shape.specs.Drawing.{marks_at}
-use Rattle.life_shape.specs.Reading.{run_of}
+use Rattle.life_shape.specs.Reading.{mark_of_run}
 use Rattle.life_shape.proofs.Marks.{mark_here, run_here, no_digit, run_of_other, mark_of_other}
 use Rattle.life_shape.proofs.reader.next_sign.Goals as goal
 
@@ -15,7 +15,7 @@ returns-in_default-digit_value-clause-refused c =
     let byte : c.in-Some.byte.now ≡ get_or text (at + 1) 0 = look.3.1 0 in (
       marks_at text (at + 2),
       run_here text at within c.if-text-at-eq121.true
-          ∙ ap (λ m. m ∷ marks_at text (at + 2)) (ap (λ b. run_of at b) (sym byte) ∙ run_of_other at c.in-Some.byte.now (no_digit c.in-Some.byte.now _ c.digit_value.ensures c.in_default-digit_value.is)),
+          ∙ ap (λ m. m ∷ marks_at text (at + 2)) (ap (λ b. mark_of_run at b) (sym byte) ∙ run_of_other at c.in-Some.byte.now (no_digit c.in-Some.byte.now _ c.digit_value.ensures c.in_default-digit_value.is)),
     )
 
 pub returns-in_default-digit_value-2-clause-refused : goal.returns-in_default-digit_value-2-clause-refused

@@ -3,7 +3,7 @@ use Rattle.std.specs.Prelude.{All}
 use Rattle.std.specs.List.{list_any}
 use Rattle.life_model.specs.Cell.{Cell}
 use Rattle.life_cells.specs.Limits.{IsWithin}
-use Rattle.life_shape.specs.Reading.{begins_near, is_far, placed}
+use Rattle.life_shape.specs.Reading.{begins_near, is_far, cell_of_pair}
 use Rattle.life_shape.proofs.Drawings.{cells_left-dead, cells_left-end, bit_set, bit_clear, left_far, left_near, left_more}
 use Rattle.life_shape.proofs.Kept.{if_refused, near_left}
 use Rattle.life_shape.proofs.reader.push_column.Goals.{then-column-ge-PLACE_LIMIT-via-then-column-ge-PLACE_LIMIT, then-column-ge-PLACE_LIMIT-via-else-column-ge-PLACE_LIMIT+then-y-ge-PLACE_LIMIT, then-value-row-eq1+else-column-ge-PLACE_LIMIT+else-y-ge-PLACE_LIMIT+in_ok-push_cell, else-value-row-eq1}
@@ -42,7 +42,7 @@ rows-preserved c =
           let dead = cells_left-dead k x v j (omega arith) (bit_clear v j w.if-value-row-eq1.false) in
           let e = ap (λ (cells : Vec Cell Global). cells.items) w.cells-is in
           record {
-            cells = c.rows.invariant.cells ∙ (λ i. sym e i ++ map placed (dead i));
+            cells = c.rows.invariant.cells ∙ (λ i. sym e i ++ map cell_of_pair (dead i));
             far = c.rows.invariant.far ∙ ap (list_any is_far) dead;
             first = λ near. c.rows.invariant.first (ap begins_near dead ∙ near);
             within = λ all. subst (λ cells. All (IsWithin 0) cells) (sym e) (c.rows.invariant.within all);

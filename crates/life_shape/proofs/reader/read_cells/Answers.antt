@@ -1,7 +1,7 @@
 use Rattle.std.proofs.Common.{ap, ◌∙◌, ◌∷◌, sym, refl, arith, append-nil}
 use Rattle.std.proofs.lemmas.Result.{err_from_is_err_and}
 use Rattle.life_shape.specs.Reading.{Column, Zeros, NextStrip}
-use Rattle.life_shape.specs.Drawing.{marks_at, seen}
+use Rattle.life_shape.specs.Drawing.{marks_at, mark_of_sign}
 use Rattle.life_shape.proofs.Drawings.{drawn_more, near_fault}
 use Rattle.life_shape.proofs.Kept.{keeps_column, keeps_step, kept_more}
 use Rattle.life_shape.proofs.reader.read_cells.Goals as goal
@@ -9,7 +9,7 @@ use Rattle.life_shape.proofs.reader.read_cells.Goals as goal
 pub signs-preserved-in_ok-push_column-in-Value : goal.signs-preserved-in_ok-push_column-in-Value
 signs-preserved-in_ok-push_column-in-Value c =
     let text = c.args.text.now in
-    let here = c.in_ok-sign.ensures.found ∙ ap (λ s. seen c.signs.at s ∷ marks_at text c.in_ok-sign.next) c.in-Value.is in
+    let here = c.in_ok-sign.ensures.found ∙ ap (λ s. mark_of_sign c.signs.at s ∷ marks_at text c.in_ok-sign.next) c.in-Value.is in
     record {
       within = c.in_ok-sign.ensures.within;
       strip = omega arith;
@@ -24,7 +24,7 @@ signs-preserved-in_ok-push_column-in-Value c =
 pub signs-preserved-in-Skip : goal.signs-preserved-in-Skip
 signs-preserved-in-Skip c =
     let text = c.args.text.now in
-    let here = c.in_ok-sign.ensures.found ∙ ap (λ s. seen c.signs.at s ∷ marks_at text c.in_ok-sign.next) c.in-Skip.is in
+    let here = c.in_ok-sign.ensures.found ∙ ap (λ s. mark_of_sign c.signs.at s ∷ marks_at text c.in_ok-sign.next) c.in-Skip.is in
     record {
       within = c.in_ok-sign.ensures.within;
       strip = omega arith;
@@ -38,7 +38,7 @@ signs-preserved-in-Skip c =
 pub signs-preserved : goal.signs-preserved
 signs-preserved c =
     let text = c.args.text.now in
-    let here = c.in_ok-sign.ensures.found ∙ ap (λ s. seen c.signs.at s ∷ marks_at text c.in_ok-sign.next) c.in-Down.is in
+    let here = c.in_ok-sign.ensures.found ∙ ap (λ s. mark_of_sign c.signs.at s ∷ marks_at text c.in_ok-sign.next) c.in-Down.is in
     record {
       within = c.in_ok-sign.ensures.within;
       strip = omega arith;
@@ -52,7 +52,7 @@ signs-preserved c =
 pub returns-in_err-push_column-in-Value-clause-memory : goal.returns-in_err-push_column-in-Value-clause-memory
 returns-in_err-push_column-in-Value-clause-memory c =
     let text = c.args.text.now in
-    let here = c.in_ok-sign.ensures.found ∙ ap (λ s. seen c.signs.at s ∷ marks_at text c.in_ok-sign.next) c.in-Value.is in
+    let here = c.in_ok-sign.ensures.found ∙ ap (λ s. mark_of_sign c.signs.at s ∷ marks_at text c.in_ok-sign.next) c.in-Value.is in
     let p = err_from_is_err_and c.from_residual-in_err-push_column-in-Value.result c.from_residual-in_err-push_column-in-Value.ensures.1 in
     rw (p.1, p.2) (λ refused. c.signs.invariant.more
     (keeps_column c.signs.strip c.signs.column c.signs.at c.in-Value.value _ _ here (c.in_err-push_column-in-Value.ensures.memory refused)))

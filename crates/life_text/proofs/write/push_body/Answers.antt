@@ -2,7 +2,7 @@ use Rattle.std.proofs.Common.{◌≤ℤ◌, ℕ, List, ◌++◌, map, get_or, po
 use Rattle.life_model.specs.Cell.{Cell}
 use Rattle.life_cells.specs.Limits.{IsPlace}
 use Rattle.life_text.proofs.CornerLemmas.{corner_place, corner_left, corner_above}
-use Rattle.life_text.specs.Filled.{filled}
+use Rattle.life_text.specs.Filled.{filled_lines}
 use Rattle.life_text.specs.RleText.{token_text}
 use Rattle.life_text.specs.Writer.{places_from, tokens_from}
 use Rattle.life_text.proofs.GapLemmas.{onto_none}
@@ -17,7 +17,7 @@ loop-cell-init c =
       used = omega arith;
       run = omega arith;
       behind = places_behind c.args.corner cells c.requires.corner c.requires.rising;
-      all = ap (λ (ts : List (ℕ × ℕ)). c.args.text.now.items ++ filled 0 (map token_text ts)) (sym (onto_none (tokens_from 0 0 places)));
+      all = ap (λ (ts : List (ℕ × ℕ)). c.args.text.now.items ++ filled_lines 0 (map token_text ts)) (sym (onto_none (tokens_from 0 0 places)));
     }
 
 pub place-requires-clause-corner : goal.place-requires-clause-corner

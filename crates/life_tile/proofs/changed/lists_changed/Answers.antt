@@ -10,8 +10,8 @@ use Rattle.life_tile.proofs.changed.lists_changed.Goals as goal
 pub returns-then-not-lists_tile : goal.returns-then-not-lists_tile
 returns-then-not-lists_tile c = λ _ all.
     let by : Cell = plus c.args.to (opposite c.args.from) in
-    let tile_is : c.tile_in-tile.result.now ≡ tile_of c.args.slab.now.cur.items c.loop-slot.slot =
+    let tile_is : c.tile_in-tile.result.now ≡ tile_of c.args.store.now.current.items c.loop-slot.slot =
     c.tile_in-tile.ensures ∙ ap (λ tiles. tile_of tiles c.loop-slot.slot) c.deref.ensures.value in
     c.lists_tile.ensures c.if-not-lists_tile.true
     (subst₂ (λ (t : Tile) (d : Cell). IsTileIn (from_list c.args.cells.now) t d by) (sym tile_is) (sym c.corner_in.ensures.is)
-    (tile_by_members c.args.slab.now c.requires.kept (from_list c.args.cells.now) by all c.loop-slot.slot (omega arith) (omega arith)))
+    (tile_by_members c.args.store.now c.requires.kept (from_list c.args.cells.now) by all c.loop-slot.slot (omega arith) (omega arith)))

@@ -4,7 +4,7 @@ use Rattle.life_model.specs.Cell.{Cell, opposite, plus}
 use Rattle.life_model.proofs.Cells.{pair}
 use Rattle.life_bits.specs.Area.{tile_cell}
 use Rattle.life_tile.specs.Ends.{IsMember}
-use Rattle.life_tile.specs.Slabs.{members_of}
+use Rattle.life_tile.specs.TileStores.{members_of}
 use Rattle.life_tile.proofs.covering.has_tile.Goals as goal
 
 pub returns-then-not-has_row : goal.returns-then-not-has_row
@@ -21,7 +21,7 @@ returns-then-not-has_row c = (
         each = λ j small one.
             let there : ◌≡◌ {A = Cell} (plus (c.args.corner.0 +ℤ pos j, c.args.corner.1 +ℤ pos c.loop-y.y) (plus c.args.to (opposite c.args.from))) (c.moved-start.result.0 +ℤ pos j, c.moved-start.result.1) =
             pair (omega (arith, ints, across)) (omega (arith, ints, down)) in
-            subst (IsMember (members_of c.args.slab.now)) there (inside.each j c.loop-y.y small c.loop-y-test.true one);
+            subst (IsMember (members_of c.args.store.now)) there (inside.each j c.loop-y.y small c.loop-y-test.true one);
       }))
       ∙ c.if-not-has_row.true)),
 )
@@ -30,14 +30,14 @@ pub loop-y-preserved : goal.loop-y-preserved
 loop-y-preserved c =
     let by : Cell = plus c.args.to (opposite c.args.from) in
     below_more
-    (λ v. (x : ℕ) → x < 64 → tile_cell c.args.tile.now x v ≡ 1 → IsMember (members_of c.args.slab.now) (plus (c.args.corner.0 +ℤ pos x, c.args.corner.1 +ℤ pos v) by))
+    (λ v. (x : ℕ) → x < 64 → tile_cell c.args.tile.now x v ≡ 1 → IsMember (members_of c.args.store.now) (plus (c.args.corner.0 +ℤ pos x, c.args.corner.1 +ℤ pos v) by))
     c.loop-y.y c.loop-y.invariant
     (λ x wide live.
     let across = ap (λ (d : Cell). d.0) c.moved-start.ensures.is in
     let down = ap (λ (d : Cell). d.1) c.moved-start.ensures.is in
     let there : ◌≡◌ {A = Cell} (c.moved-start.result.0 +ℤ pos x, c.moved-start.result.1) (plus (c.args.corner.0 +ℤ pos x, c.args.corner.1 +ℤ pos c.loop-y.y) (plus c.args.to (opposite c.args.from))) =
     pair (omega (arith, ints, across)) (omega (arith, ints, down)) in
-    subst (IsMember (members_of c.args.slab.now)) there ((c.has_row.ensures.0 c.if-not-has_row.false).each x wide live))
+    subst (IsMember (members_of c.args.store.now)) there ((c.has_row.ensures.0 c.if-not-has_row.false).each x wide live))
 
 pub returns : goal.returns
 returns c = (

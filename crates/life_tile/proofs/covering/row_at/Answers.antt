@@ -13,5 +13,5 @@ returns c = λ x inside.
     let row_is : to_z w32 (of_z w32 c.args.row) ≡ c.args.row = omega (arith, ints) in
     ap (λ (t : Tile). tile_cell t x c.args.y)
     (c.tile_in.ensures ∙ ap (λ tiles. tile_of tiles c.slot_or_none.result) c.deref.ensures.value
-    ∙ ap (tile_of c.args.slab.now.cur.items) (c.slot_or_none.ensures ∙ (λ i. slot_at c.args.slab.now.index (column_is i, row_is i))))
-    ∙ sym (shown_state c.args.slab.now.index c.args.slab.now.cur.items whole.indexed.ordered whole.cur_none c.args.column c.args.row x c.args.y inside c.requires.y)
+    ∙ ap (tile_of c.args.store.now.current.items) (c.slot_or_none.ensures ∙ (λ i. slot_at c.args.store.now.index (column_is i, row_is i))))
+    ∙ sym (shown_state c.args.store.now.index c.args.store.now.current.items whole.indexed.ordered whole.current_none c.args.column c.args.row x c.args.y inside c.requires.y)

@@ -2,7 +2,7 @@ use Rattle.std.proofs.Common.{◌≡◌, pos, ◌+ℤ◌, ◌+◌, ◌-◌, ◌<
 use Rattle.std.proofs.lemmas.Bool.{cases_lt}
 use Rattle.std.proofs.lemmas.Int.{ints}
 use Rattle.life_tile.specs.Places.{start_at}
-use Rattle.life_tile.specs.Slabs.{members_of, state_at}
+use Rattle.life_tile.specs.TileStores.{members_of, state_at}
 use Rattle.life_tile.proofs.covering.row_from.Goals as goal
 
 pub returns : goal.returns
@@ -17,13 +17,13 @@ returns c = λ j inside.
     (λ (near : c.split-column.result.1 + j < 64).
     let at : (start_at c.split-column.result.0 +ℤ pos (c.split-column.result.1 + j)) ≡ (c.args.cell.0 +ℤ pos j) = omega (arith, ints, c.split-column.ensures.is, reach.west, reach.east) in
     c.joined.ensures.near j near ∙ c.row_at-west.ensures (c.split-column.result.1 + j) near
-    ∙ (λ i. state_at (members_of c.args.slab.now) (start_at (column_is i) +ℤ pos (c.split-column.result.1 + j)) (start_at (row_is i) +ℤ pos c.split-row.result.1))
-    ∙ (λ i. state_at (members_of c.args.slab.now) (at i) (down i)))
+    ∙ (λ i. state_at (members_of c.args.store.now) (start_at (column_is i) +ℤ pos (c.split-column.result.1 + j)) (start_at (row_is i) +ℤ pos c.split-row.result.1))
+    ∙ (λ i. state_at (members_of c.args.store.now) (at i) (down i)))
     (λ (far : 64 ≤ c.split-column.result.1 + j).
     let small : c.split-column.result.1 + j - 64 < 64 = omega (arith, c.split-column.ensures.small) in
     let at : (start_at (to_z w32 (of_z w32 (to_z w32 (of_z w32 c.split-column.result.0) +ℤ pos 1))) +ℤ pos (c.split-column.result.1 + j - 64)) ≡ (c.args.cell.0 +ℤ pos j) =
     omega (arith, ints, c.split-column.ensures.is, reach.west, reach.east) in
     c.joined.ensures.far j inside far ∙ c.row_at-east.ensures (c.split-column.result.1 + j - 64) small
-    ∙ (λ i. state_at (members_of c.args.slab.now) (at i) (start_at (row_is i) +ℤ pos c.split-row.result.1))
-    ∙ ap (state_at (members_of c.args.slab.now) (c.args.cell.0 +ℤ pos j)) down)
+    ∙ (λ i. state_at (members_of c.args.store.now) (at i) (start_at (row_is i) +ℤ pos c.split-row.result.1))
+    ∙ ap (state_at (members_of c.args.store.now) (c.args.cell.0 +ℤ pos j)) down)
     (cases_lt (c.split-column.result.1 + j) 64)

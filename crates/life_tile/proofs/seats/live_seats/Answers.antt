@@ -7,7 +7,7 @@ use Rattle.life_tile.specs.Cells.{tiles_cells}
 use Rattle.life_tile.specs.Ends.{IsVoid}
 use Rattle.life_tile.specs.Places.{IsInside}
 use Rattle.life_tile.specs.Seats.{has_tile, IsSeat}
-use Rattle.life_tile.specs.Slots.{shown, tile_of}
+use Rattle.life_tile.specs.Slots.{placed_tiles, tile_of}
 use Rattle.life_tile.specs.declared.seats.Seat.{Seat}
 use Rattle.life_tile.proofs.Listed.{all_first, all_rest}
 use Rattle.life_tile.proofs.Seated.{Entry, all_pushed, no_more, seat_of, seat_pushed, seat_taken, seat_void}
@@ -21,7 +21,7 @@ loop-place-init c =
       inside = subst (λ (xs : List Entry). All (λ e. IsInside e.0) xs) (sym gives) (λ k d below. c.requires.inside _ _ (c.iter-place-items.ensures.found k d below));
       slots = subst (λ (xs : List Entry). All (λ e. e.1 < length c.args.tiles.now) xs) (sym gives) (λ k d below. c.requires.slots _ _ (c.iter-place-items.ensures.found k d below));
       seats = subst (λ (xs : List Seat). All (IsSeat (length c.args.tiles.now)) xs) (sym c.new-seats.ensures.items) (All-nil (IsSeat (length c.args.tiles.now)));
-      cells = λ q. (λ i. list_any (has_tile c.args.tiles.now q) (c.new-seats.ensures.items i) || list_any (same_cell q) (tiles_cells (shown (gives i) c.args.tiles.now)));
+      cells = λ q. (λ i. list_any (has_tile c.args.tiles.now q) (c.new-seats.ensures.items i) || list_any (same_cell q) (tiles_cells (placed_tiles (gives i) c.args.tiles.now)));
     }
 
 pub tile_in-requires : goal.tile_in-requires

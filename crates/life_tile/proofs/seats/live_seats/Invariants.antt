@@ -4,7 +4,7 @@ use Rattle.life_model.specs.Cell.{Cell, same_cell}
 use Rattle.life_tile.specs.Cells.{tiles_cells}
 use Rattle.life_tile.specs.Places.{IsInside}
 use Rattle.life_tile.specs.Seats.{has_tile, IsSeat}
-use Rattle.life_tile.specs.Slots.{shown}
+use Rattle.life_tile.specs.Slots.{placed_tiles}
 use Rattle.life_tile.proofs.seats.live_seats.Given as goal
 
 abbrev pub invariant-loop-place : goal.invariant-loop-place
@@ -13,6 +13,6 @@ invariant-loop-place l = record {
   inside : All (λ e. IsInside e.0) l.place-iterator;
   slots : All (λ e. e.1 < length l.tiles) l.place-iterator;
   seats : All (IsSeat (length l.tiles)) l.seats.items;
-  cells : (q : Cell) → (list_any (has_tile l.tiles q) l.seats.items || list_any (same_cell q) (tiles_cells (shown l.place-iterator l.tiles)))
-      ≡ list_any (same_cell q) (tiles_cells (shown l.index.entries l.tiles));
+  cells : (q : Cell) → (list_any (has_tile l.tiles q) l.seats.items || list_any (same_cell q) (tiles_cells (placed_tiles l.place-iterator l.tiles)))
+      ≡ list_any (same_cell q) (tiles_cells (placed_tiles l.index.entries l.tiles));
 }

@@ -7,7 +7,7 @@ use Rattle.life_tile.proofs.stepping.next_tiles_by.Given as goal
 abbrev pub invariant-loop-slot : goal.invariant-loop-slot
 invariant-loop-slot l = record {
   later : 1 ≤ l.slot;
-  worked : (rule : Rule) → IsLogicOf l.logic rule → IsWorkedOut l.slots l.cur l.todo rule l.initial.alt l.alt l.initial.marks l.marks l.slot;
+  worked : (rule : Rule) → IsLogicOf l.logic rule → IsWorkedOut l.slots l.current l.active rule l.initial.previous l.previous l.initial.marks l.marks l.slot;
 }
 
 abbrev pub decreases-loop-slot : goal.decreases-loop-slot

@@ -8,8 +8,8 @@ use Rattle.life_tile.proofs.stepping.work_out.Given as goal
 abbrev pub invariant-loop-index : goal.invariant-loop-index
 invariant-loop-index l = record {
   small : l.index ≤ 8;
-  marked : l.index < 8 → bit_at l.todo.bits l.index ≡ 1;
-  worked : (rule : Rule) → IsLogicOf l.logic rule → IsTileWorkedOut l.cur l.links l.todo rule l.initial.tile l.tile l.touched.columns l.index;
+  marked : l.index < 8 → bit_at l.active.bits l.index ≡ 1;
+  worked : (rule : Rule) → IsLogicOf l.logic rule → IsTileWorkedOut l.current l.links l.active rule l.initial.tile l.tile l.touched.columns l.index;
 }
 
 abbrev pub decreases-loop-index : goal.decreases-loop-index

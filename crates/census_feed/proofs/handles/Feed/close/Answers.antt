@@ -1,8 +1,8 @@
 use Rattle.std.proofs.Common.{◌≡◌, ℕ, cond, ap, true, arith}
 use Rattle.census_feed.specs.declared.item.Item.TheVariants.{Work}
 use Rattle.census_feed.specs.declared.view.View.{View}
-use Rattle.census_feed.specs.Items.{has, times, marks}
-use Rattle.census_feed.specs.Rule.{joined}
+use Rattle.census_feed.specs.Items.{has, occurrence_count, mark_count}
+use Rattle.census_feed.specs.Rule.{all_items_of}
 use Rattle.census_feed.specs.Feeds.{some_finished}
 use Rattle.census_feed.proofs.Closes.{joined_lists, marks_finished}
 use Rattle.census_feed.proofs.handles.Feed.close.Goals as goal
@@ -17,8 +17,8 @@ returns-clause-left c =
         r.2.0,
         λ t.
             let o = r.2.1 t in
-            let j = ap (times (Work t)) (joined_lists c.args.hands.items) in
-            let a = ap (λ (v : View). times (Work t) (joined v.ended)) e in
+            let j = ap (occurrence_count (Work t)) (joined_lists c.args.hands.items) in
+            let a = ap (λ (v : View). occurrence_count (Work t) (all_items_of v.ended)) e in
             let f = ap (λ (v : View). cond {A = ℕ} (has v.filled (Work t)) 1 0) e in
             omega arith,
       ),
@@ -26,6 +26,6 @@ returns-clause-left c =
 
 pub returns-clause-none : goal.returns-clause-none
 returns-clause-none c =
-    let e = ap (λ (v : View). marks (joined v.ended)) c.end_all.ensures.ended in
-    let j = ap marks (joined_lists c.args.hands.items) in
+    let e = ap (λ (v : View). mark_count (all_items_of v.ended)) c.end_all.ensures.ended in
+    let j = ap mark_count (joined_lists c.args.hands.items) in
     λ (s : some_finished c.args.hands.items ≡ true). let m = marks_finished c.args.hands.items s in c.pop_all.ensures.none (omega arith)

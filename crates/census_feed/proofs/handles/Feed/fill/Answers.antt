@@ -2,7 +2,7 @@ use Rattle.std.proofs.Common.{◌≡◌, true, ℕ, ◌<◌, ◌^◌, List, ◌+
 use Rattle.crossbeam_deque.specs.Handles.{worker_view}
 use Rattle.census_feed.specs.declared.item.Item.{Item}
 use Rattle.census_feed.specs.declared.item.Item.TheVariants.{Work}
-use Rattle.census_feed.specs.Items.{end_marks, items, has, marks, Rises}
+use Rattle.census_feed.specs.Items.{end_marks, items, has, mark_count, Rises}
 use Rattle.census_feed.specs.Fillings.{CanFollow}
 use Rattle.census_feed.proofs.Orders.{items_rise}
 use Rattle.census_feed.proofs.Places.{is_ticket_of, ticket_is_there}
@@ -22,7 +22,7 @@ invariant_of-result c =
     let bundle = c.args.bundle.now in let n = c.args.workers in
     let all : (worker_view c.deal.new.owner).filled ≡ items bundle n =
     c.in_ok-hands.ensures.same.0 ∙ c.in_ok-push_marks.ensures.pushed ∙ ap (λ l. l ++ end_marks n) c.in_ok-push_tickets.ensures.pushed in
-    let m : marks (worker_view c.deal.new.owner).filled ≡ n = ap marks all ∙ marks_items bundle n in
+    let m : mark_count (worker_view c.deal.new.owner).filled ≡ n = ap mark_count all ∙ marks_items bundle n in
     let f = c.in_ok-hands.ensures.filling in
     let l : length (worker_view c.deal.new.owner).filled < 2 ^ 62 =
     subst (λ (x : ℕ). x < 2 ^ 62) (sym (ap length all)) (few_items bundle n c.in_ok-push_tickets.ensures.small c.requires.workers.1) in

@@ -3,7 +3,7 @@ use Rattle.std.specs.Fmt.{signed_decimal}
 use Rattle.std.proofs.lemmas.Int.{to_z-of_z}
 use Rattle.census_rows.specs.declared.row.Outcome.{Outcome}
 use Rattle.census_rows.specs.declared.row.Outcome.TheVariants.{Ok, Ash, None, Large, Bad}
-use Rattle.census_rows.specs.Lines.{behind, outcome_fields, HasNoBlank, EndsField, IsOutcome, SameOutcome}
+use Rattle.census_rows.specs.Lines.{fields_text, outcome_fields, HasNoBlank, EndsField, IsOutcome, SameOutcome}
 use Rattle.census_rows.proofs.Behind.{more-fields, first-field}
 use Rattle.census_rows.proofs.FirstWords.{first-word}
 use Rattle.census_rows.proofs.read.Fields.outcome_of.Goals as goal
@@ -40,7 +40,7 @@ returns-then-are_same-clause-sound c = λ whole.
 -- an outcome that begins with `ok` is read field by field
 read-ok : (c : goal.After-word-then-are_same) (o : Outcome) (after : List ℕ) → c.args.self.now.whole ≡ true → IsOutcome o → EndsField after
     → HasNoBlank c.args.found.now → EndsField c.args.self.now.rest.now
-    → c.args.found.now ++ c.args.self.now.rest.now ≡ drop 1 (behind (outcome_fields o)) ++ after
+    → c.args.found.now ++ c.args.self.now.rest.now ≡ drop 1 (fields_text (outcome_fields o)) ++ after
     → (c.word-then-are_same.new.self.whole ≡ true)
     × SameOutcome (Ok c.word.result c.number.result c.number-then-are_same.result c.number-then-are_same-2.result (to_z w64 (of_z w64 c.signed.result)) (to_z w64 (of_z w64 c.signed-then-are_same.result)) c.word-then-are_same.result) o
     × (c.word-then-are_same.new.self.rest.now ≡ after)
@@ -53,12 +53,12 @@ read-ok c (Ok rule population onset period dx dy code) after whole is ends plain
     let f3 = decimal onset ∷ f4 in
     let f2 = decimal population ∷ f3 in
     let begins = (first-word o c.args.found.now c.args.self.now.rest.now after plain ends0 ends e).1 in
-    let s1 = c.word.ensures.all rule.now (behind f2 ++ after) whole is.0 refl (first-field rule.now f2 _ after begins) in
-    let s2 = c.number.ensures.all population (behind f3 ++ after) s1.0 is.1 refl (first-field (decimal population) f3 _ after s1.2) in
-    let s3 = c.number-then-are_same.ensures.all onset (behind f4 ++ after) s2.0 is.2 refl (first-field (decimal onset) f4 _ after s2.2) in
-    let s4 = c.number-then-are_same-2.ensures.all period (behind f5 ++ after) s3.0 is.3 refl (first-field (decimal period) f5 _ after s3.2) in
-    let s5 = c.signed.ensures.all dx (behind f6 ++ after) s4.0 is.4 refl (first-field (signed_decimal dx) f6 _ after s4.2) in
-    let s6 = c.signed-then-are_same.ensures.all dy (behind f7 ++ after) s5.0 is.5 refl (first-field (signed_decimal dy) f7 _ after s5.2) in
+    let s1 = c.word.ensures.all rule.now (fields_text f2 ++ after) whole is.0 refl (first-field rule.now f2 _ after begins) in
+    let s2 = c.number.ensures.all population (fields_text f3 ++ after) s1.0 is.1 refl (first-field (decimal population) f3 _ after s1.2) in
+    let s3 = c.number-then-are_same.ensures.all onset (fields_text f4 ++ after) s2.0 is.2 refl (first-field (decimal onset) f4 _ after s2.2) in
+    let s4 = c.number-then-are_same-2.ensures.all period (fields_text f5 ++ after) s3.0 is.3 refl (first-field (decimal period) f5 _ after s3.2) in
+    let s5 = c.signed.ensures.all dx (fields_text f6 ++ after) s4.0 is.4 refl (first-field (signed_decimal dx) f6 _ after s4.2) in
+    let s6 = c.signed-then-are_same.ensures.all dy (fields_text f7 ++ after) s5.0 is.5 refl (first-field (signed_decimal dy) f7 _ after s5.2) in
     let s7 = c.word-then-are_same.ensures.all code.now after s6.0 is.6 ends (first-field code.now [] _ after s6.2) in
     let x : to_z w64 (of_z w64 c.signed.result) ≡ dx = rw s5.1 (to_z-of_z w64 dx is.4) in
     let y : to_z w64 (of_z w64 c.signed-then-are_same.result) ≡ dy = rw s6.1 (to_z-of_z w64 dy is.5) in
@@ -81,7 +81,7 @@ returns-then-are_same-clause-all c = λ outcome after whole is ends plain ends0 
 
 -- each outcome begins with one of five words
 kinds : (o : Outcome) (found rest after : List ℕ) → HasNoBlank found → EndsField rest → EndsField after
-    → found ++ rest ≡ drop 1 (behind (outcome_fields o)) ++ after
+    → found ++ rest ≡ drop 1 (fields_text (outcome_fields o)) ++ after
     → (found ≡ codes "ok" → ⊥) → (found ≡ codes "ash" → ⊥) → (found ≡ codes "none" → ⊥) → (found ≡ codes "large" → ⊥)
     → (found ≡ codes "bad" → ⊥) → ⊥
 kinds (Ok rule population onset period dx dy code) found rest after plain ends ended e ok ash none large bad =

@@ -2,7 +2,7 @@ use Rattle.std.proofs.Common.{◌≡◌, Option, Some, None, is_some, IfSome, Is
 use Rattle.std.proofs.lemmas.Bool.{false≢true}
 use Rattle.life_model.specs.Cell.{Cell}
 use Rattle.life_model.specs.Generation.{from_list}
-use Rattle.life_model.specs.Symmetry.{moved}
+use Rattle.life_model.specs.Symmetry.{translate_of}
 use Rattle.life_model.proofs.Generations.{from_list-cells}
 use Rattle.life_answer.specs.Apgcode.{code_of}
 use Rattle.life_census.proofs.MovedCodes.{code-moved}
@@ -20,9 +20,9 @@ returns c some =
     ap from_list c.as_slice.ensures.cells ∙ from_list-cells known.set in
     let to : from_list c.as_slice-2.result.now ≡ orbit.set =
     ap from_list c.as_slice-2.ensures.cells ∙ from_list-cells c.set.result.now ∙ c.set.ensures in
-    let way = found c.way_between.result _ c.way_between.ensures.way (sym c.is_some.ensures ∙ some) in
+    let way = found c.offset_between.result _ c.offset_between.ensures.way (sym c.is_some.ensures ∙ some) in
     let same = c.if-not-recurs_as.ensures in
     known.right
     ∙ code-moved known.rule known.set orbit.set known.period known.displacement way.0
-    (sym to ∙ way.1.move ∙ ap (λ G. moved G way.0) from)
+    (sym to ∙ way.1.move ∙ ap (λ G. translate_of G way.0) from)
     ∙ (λ i. code_of (same.rule refl i) orbit.set (same.period refl i) (same.displacement refl i))

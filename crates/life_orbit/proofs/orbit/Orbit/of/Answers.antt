@@ -22,7 +22,7 @@ next_list-requires c =
 pub invariant_of-result : goal.invariant_of-result
 invariant_of-result c = (
   kept_whole c.args.rule.now c.args.cells.now c.loop-taken.taken c.loop-taken.phases.items c.loop-taken.phase
-      c.loop-taken.invariant c.in_ok-next.next c.in-Some.displacement c.in-Some.ensures.way c.push.new.self.items
+      c.loop-taken.invariant c.in_ok-next.next c.in-Some.displacement c.in-Some.ensures.offset c.push.new.self.items
       c.in_ok-next.ensures.next (omega arith) c.in_ok-push.ensures.items,
   All-same (HasAll c.hull_of-hull.result) c.push.new.self.items c.as_slice-in-Some.result.now
       (sym c.as_slice-in-Some.ensures.value) c.hull_of-hull.ensures,
@@ -31,14 +31,14 @@ invariant_of-result c = (
 pub returns-in-Some-clause-set : goal.returns-in-Some-clause-set
 returns-in-Some-clause-set c =
     kept_set c.args.rule.now c.args.cells.now c.loop-taken.taken c.loop-taken.phases.items c.loop-taken.phase
-    c.loop-taken.invariant c.in_ok-next.next c.in-Some.displacement c.in-Some.ensures.way c.push.new.self.items
+    c.loop-taken.invariant c.in_ok-next.next c.in-Some.displacement c.in-Some.ensures.offset c.push.new.self.items
     c.in_ok-next.ensures.next (omega arith) c.in_ok-push.ensures.items
 
 pub returns-in-Some-clause-recurs : goal.returns-in-Some-clause-recurs
 returns-in-Some-clause-recurs c =
     let held =
     kept_whole c.args.rule.now c.args.cells.now c.loop-taken.taken c.loop-taken.phases.items c.loop-taken.phase
-    c.loop-taken.invariant c.in_ok-next.next c.in-Some.displacement c.in-Some.ensures.way c.push.new.self.items
+    c.loop-taken.invariant c.in_ok-next.next c.in-Some.displacement c.in-Some.ensures.offset c.push.new.self.items
     c.in_ok-next.ensures.next (omega arith) c.in_ok-push.ensures.items in
     record { recurs = held.recurs; least = held.least }
 

@@ -1,6 +1,6 @@
 use Rattle.std.proofs.Common.{◌≤◌, sym, ap, subst, ◌∙◌}
 use Rattle.life_model.specs.Box.{width, height}
-use Rattle.life_model.specs.Symmetry.{normal, turned}
+use Rattle.life_model.specs.Symmetry.{normal, image_under}
 use Rattle.life_shape.specs.Orients.{orientation}
 use Rattle.life_shape.proofs.Boxes.{all_in_field, all_turned, from_list-turned, turned_width, turned_height}
 use Rattle.life_shape.proofs.shape.Shape.turned.Goals as goal
@@ -30,4 +30,4 @@ returns c =
     let e = c.as_slice.ensures in
     let m = orientation c.args.orient in
     let same = c.from_ordered.ensures ∙ c.put_in_order.ensures.same ∙ from_list-turned c.self.inside.list m _ _ e.cells c.in_ok-cells.ensures in
-    c.in_ok-shape.ensures.shape ∙ ap normal (same ∙ ap (λ G. turned G m) c.self.view_is)
+    c.in_ok-shape.ensures.shape ∙ ap normal (same ∙ ap (λ G. image_under G m) c.self.view_is)

@@ -3,4 +3,4 @@ use Rattle.life_tile.proofs.plane.TilePlanePlane.cells.Goals as goal
 
 pub from_ordered-requires-clause-placed : goal.from_ordered-requires-clause-placed
 from_ordered-requires-clause-placed c =
-    c.put_in_order.ensures.placed (λ k d below. place_from_within c.self.inside.slab.age _ c.self.invariant.young (c.in_ok-cells.ensures.within k d below))
+    c.put_in_order.ensures.placed (λ k d below. place_from_within c.self.inside.store.age _ c.self.invariant.young (c.in_ok-cells.ensures.within k d below))

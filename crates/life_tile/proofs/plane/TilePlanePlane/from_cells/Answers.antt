@@ -5,7 +5,7 @@ use Rattle.life_tile.proofs.Fits.{fits}
 use Rattle.life_tile.proofs.plane.TilePlanePlane.from_cells.Goals as goal
 
 pub returns-clause-cells : goal.returns-clause-cells
-returns-clause-cells c = c.in_ok-slab.ensures.members ∙ ap from_list c.as_slice.ensures.cells ∙ from_list-cells c.args.list.now
+returns-clause-cells c = c.in_ok-store.ensures.members ∙ ap from_list c.as_slice.ensures.cells ∙ from_list-cells c.args.list.now
 
 pub returns-clause-within : goal.returns-clause-within
-returns-clause-within c = fits c.in_ok-slab.slab c.in_ok-slab.ensures.kept
+returns-clause-within c = fits c.in_ok-store.store c.in_ok-store.ensures.kept

@@ -1,0 +1,59 @@
+//! How many collections and patterns reports have.
+ghost use Rattle.std.specs.Prelude.{◌≡◌, ◌≤◌};
+ghost use Rattle.census_merge.specs.Sums.{no_sums, sums_of, with_more};
+
+use census_rows::Row;
+
+// As many collections as a report can have.
+const MOST: u64 = 65_535;
+
+#[derive(Clone, Copy)]
+pub struct Sums {
+    pub collections: u64,
+    pub patterns: u64,
+}
+
+impl Sums {
+    // Those of no report.
+    pub fn none() -> Self
+        ensures { result ≡ no_sums }
+    {
+        Sums {
+            collections: 0,
+            patterns: 0,
+        }
+    }
+
+    // With those of one more report, where there aren't too many.
+    pub fn with(self, more: Sums) -> Option<Sums>
+        requires { self.collections ≤ 65535 }
+        ensures { result ≡ with_more self more }
+    {
+        if more.collections <= MOST - self.collections
+            && more.patterns <= u64::MAX - self.patterns
+        {
+            Some(Sums {
+                collections: self.collections + more.collections,
+                patterns: self.patterns + more.patterns,
+            })
+        } else {
+            None
+        }
+    }
+}
+
+// Those of the report that this row ends.
+pub fn sums_at_end(row: &Row) -> Option<Sums>
+    ensures { result ≡ sums_of row.now }
+{
+    match row {
+        Row::End {
+            collections,
+            patterns,
+        } => Some(Sums {
+            collections: *collections,
+            patterns: *patterns,
+        }),
+        _ => None,
+    }
+}

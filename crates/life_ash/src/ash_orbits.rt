@@ -1,0 +1,125 @@
+//! What ash a set of cells is, if it is ash at all.
+ghost use Rattle.std.specs.Prelude.{◌≡◌, ℕ, ◌≤◌, ◌↔◌, All, IfNone, IfOk, IfSome, IsTrue, List};
+ghost use Rattle.life_model.specs.Generation.{Generation};
+ghost use Rattle.life_objects.specs.Ash.{IsAsh};
+ghost use Rattle.life_ash.specs.Later.{courses_after};
+ghost use Rattle.life_orbit.specs.Course.{IsCourse};
+ghost use Rattle.life_ash.specs.Parts.{IsFit, IsOf, IsPlaced, sets_of};
+
+use crate::checks::{are_apart, are_together};
+use crate::known::Known;
+use crate::parts::only_parts;
+use crate::whole::are_objects;
+use life_cells::Rule;
+use life_orbit::{BOUND_LIMIT, Orbit};
+use life_plane::Plane;
+use std::alloc::{AllocError, Global};
+use std::marker::Model;
+
+/// The parts of ash: each is what the set of an orbit has become after a number of generations, the same for all.
+#[derive(Drop)]
+pub struct Ash {
+    orbits: Vec<Orbit>,
+    age: u32,
+}
+
+impl Model for Ash {
+    ghost use Rattle.std.specs.Prelude.{All, List};
+    ghost use Rattle.std.specs.Coded.{coded_list};
+    ghost use Rattle.life_ash.specs.Later.{courses_after};
+    ghost use Rattle.life_ash.specs.Parts.{IsPlaced};
+    ghost use Rattle.life_orbit.specs.Course.{Course, IsCourse, coded_course};
+
+    ghost Value = { List Course };
+
+    ghost coded = { coded_list coded_course };
+
+    ghost view = { λ a. courses_after a.age a.orbits.items };
+
+    ghost invariant = { λ a. All IsPlaced a.orbits.items × All IsCourse a.orbits.items };
+}
+
+impl Ash {
+    /// What the sets of these orbits become after so many generations.
+    pub fn of(orbits: Vec<Orbit>, age: u32) -> Ash
+        requires placed { All IsPlaced orbits.items }
+        requires courses { All IsCourse orbits.items }
+        ensures { result ≡ courses_after age orbits.items }
+    {
+        Ash { orbits, age }
+    }
+
+    /// The orbits of which the parts are later generations.
+    pub fn orbits(&self) -> &[Orbit]
+        ensures later { (age : ℕ) × (self.now ≡ courses_after age result.now) }
+        ensures placed { All IsPlaced result.now }
+        ensures courses { All IsCourse result.now }
+    {
+        self.orbits.as_slice()
+    }
+}
+
+/// Whether a plane's cells are ash of these parts.
+pub fn is_ash<P: Plane>(
+    alloc: Global,
+    plane: &P,
+    parts: &[Orbit],
+    rule: &Rule,
+    bound: u32,
+) -> Result<bool, AllocError>
+    requires bound { bound ≤ BOUND_LIMIT }
+    requires fit { All (IsFit rule.now bound) parts.now }
+    ensures { IfOk result (λ is. IsTrue is ↔ IsAsh rule.now bound (P.members plane.now) (sets_of parts.now)) }
+{
+    let cells = plane.cells()?;
+    if !are_together(alloc, parts, &cells)? {
+        return Ok(false);
+    }
+    if !are_apart(alloc, parts) {
+        return Ok(false);
+    }
+    are_objects::<P>(alloc, parts, rule, bound)
+}
+
+/// The ash that a plane's cells are within the bound of what is known, where they are ash at all.
+pub fn ash_by<P: Plane>(
+    alloc: Global,
+    plane: &P,
+    known: &mut Known,
+) -> Result<Option<Ash>, AllocError>
+    requires young { P.steps_made plane.now ≤ 400000 }
+    ensures some { IfOk result (λ found. IfSome found (λ ash.
+        IsAsh known.old.rule known.old.bound (P.members plane.now) (sets_of ash))) }
+    ensures rule { IfOk result (λ found. IfSome found (λ ash. All (IsOf known.old.rule) ash)) }
+    ensures none { IfOk result (λ found. IfNone found ((parts : List Generation) →
+        IsAsh known.old.rule known.old.bound (P.members plane.now) parts → ⊥)) }
+{
+    let rule = known.rule();
+    let bound = known.bound();
+    let Some(parts) = only_parts(alloc, plane, known)? else {
+        return Ok(None);
+    };
+    if !is_ash(alloc, plane, parts.as_slice(), &rule, bound)? {
+        return Ok(None);
+    }
+    Ok(Some(Ash::of(parts, 0)))
+}
+
+/// The ash that a plane's cells are within the bound, where they are ash at all.
+pub fn ash_of<P: Plane>(
+    alloc: Global,
+    plane: &P,
+    rule: &Rule,
+    bound: u32,
+) -> Result<Option<Ash>, AllocError>
+    requires bound { 1 ≤ bound × bound ≤ BOUND_LIMIT }
+    requires young { P.steps_made plane.now ≤ 400000 }
+    ensures some { IfOk result (λ found. IfSome found (λ ash.
+        IsAsh rule.now bound (P.members plane.now) (sets_of ash))) }
+    ensures rule { IfOk result (λ found. IfSome found (λ ash. All (IsOf rule.now) ash)) }
+    ensures none { IfOk result (λ found. IfNone found ((parts : List Generation) →
+        IsAsh rule.now bound (P.members plane.now) parts → ⊥)) }
+{
+    let mut known = Known::new(alloc, rule, bound);
+    ash_by(alloc, plane, &mut known)
+}

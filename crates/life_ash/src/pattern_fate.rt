@@ -1,0 +1,16 @@
+//! What may become of a pattern.
+use crate::ash_orbits::Ash;
+
+/// What becomes of a pattern within a bound, if no generation may have more cells than some number.
+#[derive(Drop)]
+pub enum Fate {
+    /// It falls apart into these parts.
+    Ash(Ash),
+    /// It has not fallen apart by the bound.
+    Unresolved,
+    /// Some generation from 0 to three times the bound has more cells than it may have.
+    Large {
+        /// The first such generation.
+        generation: u32,
+    },
+}

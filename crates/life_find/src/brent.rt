@@ -1,0 +1,161 @@
+//! Brent's cycle finding: the walk along the generations of a pattern, until one of them comes again. Each generation is
+//! compared with an anchor, which is moved on at the powers of two (R. P. Brent, An improved Monte Carlo factorization
+//! algorithm, 1980).
+ghost use Rattle.std.specs.Prelude.{◌≡◌, ℕ, ◌+◌, ◌*◌, ◌<◌, ◌≤◌, IfNone, IfOk, IfSome, OnOk, [], length};
+ghost use Rattle.life_model.specs.Evolution.{generation};
+ghost use Rattle.life_model.specs.Generation.{Generation};
+ghost use Rattle.life_model.specs.Recurrence.{SettlesAt};
+ghost use Rattle.life_find.specs.Search.{AreFingerprints, IsReturn};
+
+use crate::candidates::{candidates, strike_periods};
+use crate::fingerprint::{Fingerprint, fingerprint_of};
+use crate::limit::BOUND_LIMIT;
+use crate::lookout::Lookout;
+use crate::recurrence::Recurrence;
+use life_cells::{CellList, Rule};
+use life_plane::{AGE_LIMIT, Plane};
+use std::alloc::{AllocError, Global};
+
+/// How many generations are compared with the first one: most known oscillators and spaceships have no longer period.
+const FIRST_LEAD: u32 = 64;
+
+/// Once in so many generations the span is looked at whatever the population is.
+const SPAN_STEP: u32 = 16;
+
+/// Steps on, at most so many times, until the cells stand again that the plane began with, which are listed: after how many
+/// steps, and how far away. Notes the fingerprint of each generation.
+fn run_to_return<P: Plane>(
+    runner: &mut P,
+    listed: &CellList,
+    rule: &Rule,
+    steps: u32,
+    fingerprints: &mut Vec<Fingerprint>,
+) -> Result<Option<(u32, (i32, i32))>, AllocError>
+    requires listed { listed.now ≡ P.members runner.old }
+    requires steps { steps ≤ BOUND_LIMIT }
+    requires young { P.steps_made runner.old + steps ≤ AGE_LIMIT }
+    ensures found { IfOk result (λ answer. IfSome answer (λ r. IsReturn rule.now (P.members runner.old) r.0 r.1)) }
+    ensures within { IfOk result (λ answer. IfSome answer (λ r. r.0 ≤ steps)) }
+    ensures seen { IfOk result (λ answer. IfSome answer (λ r. P.members runner.new ≡ generation rule.now (P.members runner.old) r.0)) }
+    ensures seen_age { IfOk result (λ answer. IfSome answer (λ r. P.steps_made runner.new ≡ P.steps_made runner.old + r.0)) }
+    ensures there { IfOk result (λ answer. IfNone answer (P.members runner.new ≡ generation rule.now (P.members runner.old) steps)) }
+    ensures age { IfOk result (λ answer. IfNone answer (P.steps_made runner.new ≡ P.steps_made runner.old + steps)) }
+    ensures count { IfOk result (λ answer. IfNone answer (length fingerprints.new.items ≡ length fingerprints.old.items + steps)) }
+    ensures fingerprints { OnOk result ((first : Generation) (age : ℕ) → P.members runner.old ≡ generation rule.now first age →
+        length fingerprints.old.items ≡ age + 1 → AreFingerprints rule.now first fingerprints.old.items →
+        AreFingerprints rule.now first fingerprints.new.items) }
+{
+    let marked = fingerprint_of(listed);
+    let mut lookout = Lookout::new();
+    for taken in 0..steps {
+        runner.step(rule)?;
+        let spanned = taken % SPAN_STEP == SPAN_STEP - 1;
+        let sight = lookout.look(listed, marked, runner, taken, spanned)?;
+        fingerprints.push(sight.fingerprint)?;
+        if let Some(displacement) = sight.offset {
+            return Ok(Some((taken + 1, displacement)));
+        }
+    }
+    Ok(None)
+}
+
+/// A generation that comes again so soon that this shows up to the bound. Each generation stands beside the one that is the
+/// greatest power of two before it, and the first few beside the first.
+fn find_return_within<P: Plane>(
+    runner: &mut P,
+    cells: &CellList,
+    rule: &Rule,
+    bound: u32,
+    fingerprints: &mut Vec<Fingerprint>,
+) -> Result<Option<Recurrence>, AllocError>
+    requires bound { 1 ≤ bound × bound ≤ BOUND_LIMIT }
+    requires cells { cells.now ≡ P.members runner.old }
+    requires new { P.steps_made runner.old ≡ 0 }
+    requires none { fingerprints.old.items ≡ [] }
+    ensures found { IfOk result (λ answer. IfSome answer (λ r. IsReturn rule.now (generation rule.now cells.now r.onset) r.period r.displacement)) }
+    ensures within { IfOk result (λ answer. IfSome answer (λ r. r.onset + r.period ≤ bound)) }
+    ensures seen { IfOk result (λ answer. IfSome answer (λ r. P.members runner.new ≡ generation rule.now cells.now (r.onset + r.period))) }
+    ensures seen_age { IfOk result (λ answer. IfSome answer (λ r. P.steps_made runner.new ≡ r.onset + r.period)) }
+    ensures there { IfOk result (λ answer. IfNone answer (P.members runner.new ≡ generation rule.now cells.now bound)) }
+    ensures age { IfOk result (λ answer. IfNone answer (P.steps_made runner.new ≡ bound)) }
+    ensures count { IfOk result (λ answer. IfNone answer (length fingerprints.new.items ≡ bound + 1)) }
+    ensures fingerprints { OnOk result (AreFingerprints rule.now cells.now fingerprints.new.items) }
+{
+    fingerprints.push(fingerprint_of(cells))?;
+    let mut onset = FIRST_LEAD.min(bound);
+    if let Some((period, displacement)) = run_to_return(runner, cells, rule, onset, fingerprints)? {
+        return Ok(Some(Recurrence {
+            onset: 0,
+            period,
+            displacement,
+        }));
+    }
+    'anchors: while onset < bound {
+        let anchor = runner.cells()?;
+        let steps = onset.min(bound - onset);
+        if let Some((period, displacement)) = run_to_return(
+            runner,
+            &anchor,
+            rule,
+            steps,
+            fingerprints,
+        )? {
+            return Ok(Some(Recurrence {
+                onset,
+                period,
+                displacement,
+            }));
+        }
+        onset += steps;
+    }
+    Ok(None)
+}
+
+/// A generation that comes again, where one does within the bound at all. It may be found where none does. Goes past the
+/// bound only while the fingerprints leave a period possible, and notes the fingerprint of each generation.
+pub fn find_return<P: Plane>(
+    alloc: Global,
+    runner: &mut P,
+    cells: &CellList,
+    rule: &Rule,
+    bound: u32,
+    fingerprints: &mut Vec<Fingerprint>,
+) -> Result<Option<Recurrence>, AllocError>
+    requires bound { 1 ≤ bound × bound ≤ BOUND_LIMIT }
+    requires cells { cells.now ≡ P.members runner.old }
+    requires new { P.steps_made runner.old ≡ 0 }
+    requires none { fingerprints.old.items ≡ [] }
+    ensures found { IfOk result (λ answer. IfSome answer (λ r. IsReturn rule.now (generation rule.now cells.now r.onset) r.period r.displacement)) }
+    ensures onset { IfOk result (λ answer. IfSome answer (λ r. r.onset ≤ bound)) }
+    ensures period { IfOk result (λ answer. IfSome answer (λ r. r.period ≤ bound)) }
+    ensures seen { IfOk result (λ answer. IfSome answer (λ r. P.members runner.new ≡ generation rule.now cells.now (r.onset + r.period))) }
+    ensures seen_age { IfOk result (λ answer. IfSome answer (λ r. P.steps_made runner.new ≡ r.onset + r.period)) }
+    ensures fingerprints { OnOk result (AreFingerprints rule.now cells.now fingerprints.new.items) }
+    ensures none { IfOk result (λ answer. IfNone answer ((g : ℕ) → SettlesAt rule.now cells.now bound g → ⊥)) }
+{
+    if let Some(seen) = find_return_within(runner, cells, rule, bound, fingerprints)? {
+        return Ok(Some(seen));
+    }
+    let anchor = runner.cells()?;
+    let marked = fingerprint_of(&anchor);
+    let candidates = candidates(alloc, fingerprints, bound)?;
+    let mut periods = candidates.as_slice();
+    let mut lookout = Lookout::new();
+    for lead in 0..bound {
+        if periods.is_empty() {
+            return Ok(None);
+        }
+        runner.step(rule)?;
+        let sight = lookout.look(&anchor, marked, runner, lead, true)?;
+        fingerprints.push(sight.fingerprint)?;
+        if let Some(displacement) = sight.offset {
+            return Ok(Some(Recurrence {
+                onset: bound,
+                period: lead + 1,
+                displacement,
+            }));
+        }
+        periods = strike_periods(periods, fingerprints);
+    }
+    Ok(None)
+}

@@ -1,0 +1,31 @@
+//! How far one set of cells is from another that is the same, moved as a whole.
+ghost use Rattle.std.specs.Prelude.{All, IfNone, IfSome, T};
+ghost use Rattle.life_model.specs.Generation.{from_list, is_rising};
+ghost use Rattle.life_cells.specs.Limits.{IsPlace};
+ghost use Rattle.life_plane.specs.Offsets.{AreNotTranslates, IsOffset};
+
+use crate::span::move_between;
+
+/// How far the second list is from the first, where it is the first list moved as a whole. No cell is moved by nothing.
+pub fn offset_between(from: &[(i32, i32)], to: &[(i32, i32)]) -> Option<(i32, i32)>
+    requires from_rising { T (is_rising from.now) }
+    requires to_rising { T (is_rising to.now) }
+    requires from_placed { All IsPlace from.now }
+    requires to_placed { All IsPlace to.now }
+    ensures offset { IfSome result (λ d. IsOffset (from_list from.now) (from_list to.now) d) }
+    ensures apart { IfNone result (AreNotTranslates (from_list from.now) (from_list to.now)) }
+{
+    if from.len() != to.len() {
+        return None;
+    }
+    if from.is_empty() {
+        return Some((0, 0));
+    }
+    let offset = move_between(from[0], to[0]);
+    for i in 0..from.len() {
+        if move_between(from[i], to[i]) != offset {
+            return None;
+        }
+    }
+    Some(offset)
+}
