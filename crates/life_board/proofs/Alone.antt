@@ -11,7 +11,7 @@ use Rattle.life_bits.specs.Area.{Nine, area_row, area_cell, sum_around, next_in_
 use Rattle.life_bits.specs.Rows.{IsRowSumsOf}
 use Rattle.life_bits.specs.declared.row_sums.RowSums.{RowSums}
 use Rattle.life_bits.proofs.Joining.{area_first, area_second, area_third}
-use Rattle.life_tile.specs.Slots.{empty_tile}
+use Rattle.life_slots.specs.Slots.{empty_tile}
 use Rattle.life_board.specs.Squares.{alone, around_in, IsVoidOutside}
 
 none_in : (n y a : ℕ) → a ≡ 0 → get_or (replicate n a) y 0 ≡ 0

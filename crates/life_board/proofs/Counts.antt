@@ -5,11 +5,11 @@ use Rattle.life_model.specs.Generation.{cells, size}
 use Rattle.life_model.proofs.Generations.{contains-cells}
 use Rattle.life_cells.specs.Limits.{IsWithin}
 use Rattle.life_bits.specs.declared.tile.Tile.{Tile}
-use Rattle.life_tile.specs.Cells.{block_cells, row_cells, IsCountFrom}
-use Rattle.life_tile.proofs.Pushed.{block_empty, block_short}
-use Rattle.life_tile.proofs.Counted.{counted_from, counted_from_none, size-fresh}
-use Rattle.life_tile.proofs.Inserted.{all_listed}
-use Rattle.life_tile.proofs.Sizes.{fresh_block}
+use Rattle.life_slots.specs.Cells.{block_cells, row_cells, IsCountFrom}
+use Rattle.life_slots.proofs.Pushed.{block_empty, block_short}
+use Rattle.life_slots.proofs.Counted.{counted_from, counted_from_none, size-fresh}
+use Rattle.life_slots.proofs.Inserted.{all_listed}
+use Rattle.life_slots.proofs.Sizes.{fresh_block}
 use Rattle.life_board.specs.Squares as squares
 use Rattle.life_board.specs.Squares.{shown}
 use Rattle.life_board.specs.Kinds.{age_of, members_of, IsKept}

@@ -3,7 +3,7 @@ use Rattle.std.proofs.Common.{◌≡◌, ℕ, ◌<◌, Bool, true, false, ◌||�
 use Rattle.std.specs.Int.{bit_at}
 use Rattle.life_bits.specs.Area.{tile_cell}
 use Rattle.life_bits.specs.declared.tile.Tile.{Tile}
-use Rattle.life_tile.specs.Rims.{IsEdge, IsRimOf, IsStill}
+use Rattle.life_slots.specs.Rims.{IsEdge, IsRimOf, IsStill}
 use Rattle.life_board.specs.Squares.{IsInner}
 
 pub neither : (a b : Bool) → (a || b) ≡ false → (a ≡ false) × (b ≡ false)

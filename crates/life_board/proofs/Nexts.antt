@@ -1,62 +1,29 @@
 -- The next generation of a square whose edge has no live cell.
-use Rattle.std.proofs.Common.{◌≡◌, ℕ, ℤ, pos, neg_ℤ, Bool, true, false, cond, List, [], ◌∷◌, count_by, refl, ◌+ℤ◌, ◌-ℤ◌, ◌≤ℤ◌, ◌+◌, ◌-◌, ◌<◌, ◌≤◌, ⊎_elim, slice_index, sym, ap, ◌∙◌, arith}
+use Rattle.std.proofs.Common.{◌≡◌, ℕ, ℤ, pos, neg_ℤ, true, false, refl, ◌+ℤ◌, ◌-ℤ◌, ◌≤ℤ◌, ◌+◌, ◌-◌, ◌<◌, ◌≤◌, ⊎_elim, slice_index, sym, ap, ◌∙◌, arith}
 use Rattle.std.specs.Int.{bit_at}
 use Rattle.std.proofs.lemmas.Int.{ints, by_lt_z}
 use Rattle.std.proofs.lemmas.Bool.{cases_lt, cases_eq}
-use Rattle.std.proofs.lemmas.List.Sums.{sum_by-cons}
-use Rattle.life_model.specs.Rule.{Rule, born, stays}
+use Rattle.life_model.specs.Rule.{Rule}
 use Rattle.life_model.specs.Cell.{Cell, around, IsNear}
 use Rattle.life_model.specs.Generation.{Generation, contains}
-use Rattle.life_model.specs.Evolution.{count_at, lives, next}
-use Rattle.life_model.proofs.Evolution.{contains-next}
+use Rattle.life_model.specs.Evolution.{next}
 use Rattle.life_model.proofs.Generations.{same_members}
 use Rattle.life_model.proofs.Near.{next_near}
 use Rattle.life_bits.specs.declared.tile.Tile.{Tile}
 use Rattle.life_cells.specs.Limits.{IsWithin}
 use Rattle.life_bits.specs.Bits.{next_state}
 use Rattle.life_bits.specs.Area.{three_wide, area_cell, sum_around, tile_cell, next_in_area}
-use Rattle.life_bits.specs.Flags.{as_bit}
 use Rattle.life_bits.proofs.Strips.{strip_low, strip_middle, strip_high}
 use Rattle.life_bits.proofs.Joining.{area_first, area_second, area_third}
-use Rattle.life_tile.specs.Slots.{empty_tile}
-use Rattle.life_tile.specs.TileStores.{state_at}
-use Rattle.life_tile.proofs.Members.{BlockHas}
-use Rattle.life_tile.proofs.Orders.{true_or_false}
-use Rattle.life_tile.proofs.Shown.{empty_cell}
-use Rattle.life_tile.proofs.Splits.{same_flag}
+use Rattle.life_slots.specs.Slots.{empty_tile}
+use Rattle.life_slots.specs.Cells.{state_at}
+use Rattle.life_slots.proofs.Members.{BlockHas}
+use Rattle.life_slots.proofs.Orders.{true_or_false}
+use Rattle.life_slots.proofs.Shown.{empty_cell}
+use Rattle.life_slots.proofs.Splits.{same_flag}
+use Rattle.life_slots.proofs.Windows.{bits_of, regrouped, state_next}
 use Rattle.life_board.specs.Squares.{alone, shown, IsInner}
 use Rattle.life_board.proofs.States.{live_at, state_inside, state_outside}
-
-bit_is : (b : Bool) → (cond b 1 0) ≡ as_bit b
-bit_is true = refl
-bit_is false = refl
-
-abbrev bits_of : (Cell → Bool) → List Cell → ℕ
-bits_of live [] = 0
-bits_of live (c ∷ cs) = as_bit (live c) + bits_of live cs
-
-counted : (live : Cell → Bool) (cs : List Cell) → count_by live cs ≡ bits_of live cs
-counted live [] = refl
-counted live (c ∷ cs) = sum_by-cons (λ (d : Cell). cond (live d) 1 0) c cs ∙ (λ i. bit_is (live c) i + counted live cs i)
-
-regrouped : (a b c d e f g h a' b' c' d' e' f' g' h' : ℕ) → a ≡ a' → b ≡ b' → c ≡ c' → d ≡ d' → e ≡ e' → f ≡ f' → g ≡ g' → h ≡ h' →
-    a + (b + (c + (d + (e + (f + (g + (h + 0))))))) ≡ a' + b' + c' + d' + e' + f' + g' + h'
-regrouped a b c d e f g h a' b' c' d' e' f' g' h' p1 p2 p3 p4 p5 p6 p7 p8 = omega arith
-
-lives_bit : (rule : Rule) (live : Cell → Bool) (c : Cell) → as_bit (lives rule live c) ≡ next_state rule (as_bit (live c)) (count_at live c)
-unfolding lives
-lives_bit rule live c =
-    elim (live c) as (λ b. as_bit (cond b (stays rule (count_at live c)) (born rule (count_at live c))) ≡ next_state rule (as_bit b) (count_at live c)) [
-      | true ↦ refl
-      | false ↦ refl
-    ]
-
--- the state in the next generation, by the states of the cell and of those around it
-state_next : (rule : Rule) (G : Generation) (c : Cell) → state_at (next rule G) c.0 c.1 ≡ next_state rule (state_at G c.0 c.1) (bits_of (contains G) (around c))
-state_next rule G c =
-    ap as_bit (contains-next rule G c)
-    ∙ lives_bit rule (contains G) c
-    ∙ ap (next_state rule (as_bit (contains G c))) (counted (contains G) (around c))
 
 -- a row without a live cell
 row_none : (a y : ℕ) → a < 192 → bit_at (three_wide empty_tile empty_tile empty_tile y) a ≡ 0

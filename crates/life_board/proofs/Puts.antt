@@ -7,12 +7,12 @@ use Rattle.life_model.proofs.Generations.{same_members, contains-insert, contain
 use Rattle.life_model.proofs.Cells.{same_cell-is}
 use Rattle.life_bits.specs.declared.tile.Tile.{Tile}
 use Rattle.life_bits.specs.Area.{tile_cell}
-use Rattle.life_tile.specs.Slots.{empty_tile}
-use Rattle.life_tile.proofs.EndCells.{never_both}
-use Rattle.life_tile.proofs.Inserted.{inserted_cases}
-use Rattle.life_tile.proofs.Members.{BlockHas}
-use Rattle.life_tile.proofs.Orders.{true_or_false}
-use Rattle.life_tile.proofs.Shown.{empty_cell}
+use Rattle.life_slots.specs.Slots.{empty_tile}
+use Rattle.life_slots.proofs.EndCells.{never_both}
+use Rattle.life_slots.proofs.Inserted.{inserted_cases}
+use Rattle.life_slots.proofs.Members.{BlockHas}
+use Rattle.life_slots.proofs.Orders.{true_or_false}
+use Rattle.life_slots.proofs.Shown.{empty_cell}
 use Rattle.life_cells.specs.Limits.{IsWithin}
 use Rattle.life_board.specs.Squares.{shown, IsVoidOutside}
 use Rattle.life_board.proofs.Alone.{empty_row}

@@ -11,13 +11,13 @@ use Rattle.life_model.proofs.Generations.{contains-from_list, same_members}
 use Rattle.life_model.proofs.Tests.{list_any-reverse}
 use Rattle.life_cells.specs.Limits.{IsPlace, IsWithin}
 use Rattle.life_cells.proofs.Sorted.{both_hold}
-use Rattle.life_tile.proofs.Inserted.{all_listed, place_from_within}
+use Rattle.life_slots.proofs.Inserted.{all_listed, place_from_within}
 use Rattle.life_bits.specs.declared.tile.Tile.{Tile}
-use Rattle.life_tile.specs.Cells.{row_cells, block_cells}
-use Rattle.life_tile.proofs.Members.{Has, has_head, has_tail, has_cases, has_none, has_parts, RowHas, row_has, BlockHas, block_has}
-use Rattle.life_tile.proofs.Pushed.{block_empty, block_short}
-use Rattle.life_tile.proofs.Sizes as sizes
-use Rattle.life_tile.proofs.Sizes.{below_has}
+use Rattle.life_slots.specs.Cells.{row_cells, block_cells}
+use Rattle.life_slots.proofs.Members.{Has, has_head, has_tail, has_cases, has_none, has_parts, RowHas, row_has, BlockHas, block_has}
+use Rattle.life_slots.proofs.Pushed.{block_empty, block_short}
+use Rattle.life_slots.proofs.Sizes as sizes
+use Rattle.life_slots.proofs.Sizes.{below_has}
 use Rattle.life_board.specs.Squares.{shown, IsVoidOutside}
 
 less_below : (a b : Cell) → a.1 <ℤ b.1 → cell_cmp a b ≡ Less

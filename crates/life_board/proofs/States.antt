@@ -7,11 +7,10 @@ use Rattle.life_model.proofs.Generations.{contains-from_list}
 use Rattle.life_bits.specs.declared.tile.Tile.{Tile}
 use Rattle.life_bits.specs.Area.{tile_cell}
 use Rattle.life_bits.specs.Flags.{as_bit}
-use Rattle.life_tile.specs.Cells.{block_cells}
-use Rattle.life_tile.specs.TileStores.{state_at}
-use Rattle.life_tile.proofs.Bits.{bit_cases}
-use Rattle.life_tile.proofs.Orders.{true_or_false}
-use Rattle.life_tile.proofs.Members.{Has, BlockHas, block_has, block_in, row_in}
+use Rattle.life_slots.specs.Cells.{block_cells, state_at}
+use Rattle.life_slots.proofs.Bits.{bit_cases}
+use Rattle.life_slots.proofs.Orders.{true_or_false}
+use Rattle.life_slots.proofs.Members.{Has, BlockHas, block_has, block_in, row_in}
 use Rattle.life_board.specs.Squares.{shown}
 
 module _ (left top : ℤ) (tile : Tile) where

@@ -6,8 +6,8 @@ use Rattle.life_model.specs.Generation.{Generation, contains, from_list}
 use Rattle.life_cells.specs.Limits.{IsWithin}
 use Rattle.life_bits.specs.declared.tile.Tile.{Tile}
 use Rattle.life_bits.specs.Area.{Nine, tile_cell}
-use Rattle.life_tile.specs.Cells.{block_cells}
-use Rattle.life_tile.specs.Slots.{empty_tile}
+use Rattle.life_slots.specs.Cells.{block_cells}
+use Rattle.life_slots.specs.Slots.{empty_tile}
 use Rattle.life_board.specs.declared.small.Square.{Square}
 
 -- the cells of the 64 rows of a tile whose first cell is at (left, top)

@@ -7,14 +7,14 @@ ghost use Rattle.life_bits.specs.Area.{tile_cell};
 ghost use Rattle.life_cells.specs.Limits.{IsWithin};
 ghost use Rattle.life_plane.specs.Span.{set_span};
 ghost use Rattle.life_plane.specs.Offsets.{AreNotTranslates, IsOffset};
-ghost use Rattle.life_tile.specs.Cells.{block_cells, row_cells};
+ghost use Rattle.life_slots.specs.Cells.{block_cells, row_cells};
 ghost use Rattle.life_board.specs.Squares.{members_of, HasRoom, IsInner, IsKept, IsOpen, IsReached, IsVoidOutside};
 
 use crate::rows::{advance, end_of_rows, first_row};
 use life_bits::Tile;
 use life_cells::{CellList, Rule};
 use life_plane::{offset_between, span_of};
-use life_tile::{Rim, push_row};
+use life_slots::{Rim, push_row};
 use std::alloc::{AllocError, Global};
 
 /// A list of so few cells is made without growing.

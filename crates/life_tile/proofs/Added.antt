@@ -8,18 +8,19 @@ use Rattle.std.proofs.Math.Seq.{get_or-append_seam}
 use Rattle.std.proofs.lemmas.Bool.{cases_eq, cases_lt}
 use Rattle.std.proofs.lemmas.Int.{ints}
 use Rattle.life_bits.specs.declared.tile.Tile.{Tile}
-use Rattle.life_tile.specs.Places.{place_cmp}
+use Rattle.life_slots.specs.Places.{place_cmp}
 use Rattle.std.specs.Ordering.{is_eq}
 use Rattle.std.specs.Cmp.{tied_itself}
-use Rattle.life_tile.proofs.Orders.{same_or_other, place_total}
-use Rattle.life_tile.specs.declared.bands.Bands.{Bands}
-use Rattle.life_tile.specs.declared.slot.Slot.{Slot}
+use Rattle.life_slots.proofs.Orders.{same_or_other, place_total}
+use Rattle.life_slots.specs.declared.bands.Bands.{Bands}
+use Rattle.life_slots.specs.declared.slot.Slot.{Slot}
+use Rattle.life_slots.specs.Slots.{Index, slot_at, neighbour_at, place_of, link_of, tile_of, empty_tile, no_slot}
+use Rattle.life_slots.specs.Work.{mark_of}
+use Rattle.life_slots.specs.Indexes.{IsIndexed, IsSlotOf}
+use Rattle.life_slots.proofs.Marks.{all_marked}
+use Rattle.life_slots.proofs.Places.{here_is, slot_cases, slot_of_place}
 use Rattle.life_tile.specs.declared.tile_store.TileStore.{TileStore}
-use Rattle.life_tile.specs.Slots.{Index, slot_at, neighbour_at, place_of, link_of, tile_of, empty_tile, no_slot}
-use Rattle.life_tile.specs.Work.{mark_of}
-use Rattle.life_tile.specs.TileStores.{IsIndexed, IsSlotOf, IsTileStore, IsExtended, all_bands, no_bands}
-use Rattle.life_tile.proofs.Marks.{all_marked}
-use Rattle.life_tile.proofs.Places.{here_is, slot_cases, slot_of_place}
+use Rattle.life_tile.specs.TileStores.{IsTileStore, IsExtended, all_bands, no_bands}
 
 opposite_side : (a b : ℤ) (d : ℕ) → d < 3 → ((a +ℤ pos d) -ℤ pos 1) ≡ b → ((b +ℤ pos (2 - d)) -ℤ pos 1) ≡ a
 opposite_side a b d small is = omega (arith, ints)

@@ -6,18 +6,20 @@ use Rattle.life_model.specs.Rule.{Rule}
 use Rattle.life_model.specs.Generation.{Generation, contains}
 use Rattle.life_model.specs.Evolution.{next}
 use Rattle.life_model.proofs.Near.{next_near}
-use Rattle.life_cells.specs.Limits.{IsWithin}
+use Rattle.life_cells.specs.Limits.{IsWithin, age_limit}
 use Rattle.life_bits.specs.declared.tile.Tile.{Tile}
 use Rattle.life_bits.specs.Area.{tile_cell}
-use Rattle.life_tile.specs.Places.{start_at}
-use Rattle.life_tile.specs.declared.bands.Bands.{Bands}
-use Rattle.life_tile.specs.declared.slot.Slot.{Slot}
+use Rattle.life_slots.specs.Places.{start_at}
+use Rattle.life_slots.specs.declared.bands.Bands.{Bands}
+use Rattle.life_slots.specs.declared.slot.Slot.{Slot}
+use Rattle.life_slots.specs.Slots.{place_of, tile_of, generation_shown, IsReached}
+use Rattle.life_slots.specs.Work.{mark_of, IsWorkedOut, IsIdle}
+use Rattle.life_slots.specs.Cells.{state_at}
+use Rattle.life_slots.specs.Indexes.{IsClosed}
+use Rattle.life_slots.proofs.Marks.{clear_before}
+use Rattle.life_slots.proofs.Steps.{advanced, settled_again, closed_again, closed_idle}
 use Rattle.life_tile.specs.declared.tile_store.TileStore.{TileStore}
-use Rattle.life_tile.specs.Slots.{place_of, tile_of, generation_shown, IsReached}
-use Rattle.life_tile.specs.Work.{mark_of, IsWorkedOut}
-use Rattle.life_tile.specs.TileStores.{state_at, members_of, IsClosed, IsIdle, IsKept, IsGrown, IsBegun}
-use Rattle.life_tile.proofs.Marks.{clear_before}
-use Rattle.life_tile.proofs.Steps.{advanced, settled_again, closed_again, closed_idle}
+use Rattle.life_tile.specs.TileStores.{members_of, IsKept, IsGrown, IsBegun}
 
 within_near : (age : ℕ) (g c : Cell) → IsWithin age g → IsNear c g → IsWithin (age + 1) c
 within_near age g c within near = record {
@@ -46,7 +48,7 @@ worked_at slots slots' current cur' active todo' rule rule' previous alt' after 
     (subst (λ (z : List Tile). IsWorkedOut slots current active rule z after marks' marked (length slots)) s
     (subst (λ (z : List Bands). IsWorkedOut slots current active rule previous after z marked (length slots)) v worked)))))
 
-module _ (s b u : TileStore) (after : List Tile) (marked : List Bands) (kept : IsKept s) (grown : IsGrown s) (young : s.age < 4194304) (begun : IsBegun s b)
+module _ (s b u : TileStore) (after : List Tile) (marked : List Bands) (kept : IsKept s) (grown : IsGrown s) (young : s.age < age_limit) (begun : IsBegun s b)
     (worked : IsWorkedOut s.slots.items s.current.items b.active.items s.rule b.previous.items after b.next_active.items marked (length s.slots.items))
     (current_is : u.current.items ≡ after) (previous_is : u.previous.items ≡ s.current.items) (active_is : u.active.items ≡ marked) (next_active_length : length u.next_active.items ≡ length s.slots.items) where
   after_is : generation_shown s.index after ≡ next s.rule (members_of s)

@@ -5,18 +5,20 @@ use Rattle.life_model.specs.Generation.{Generation}
 use Rattle.life_model.specs.Evolution.{next}
 use Rattle.life_bits.specs.declared.tile.Tile.{Tile}
 use Rattle.life_bits.specs.Area.{tile_cell}
-use Rattle.life_tile.specs.Places.{IsBeside, start_at}
-use Rattle.life_tile.specs.declared.bands.Bands.{Bands}
-use Rattle.life_tile.specs.declared.slot.Slot.{Slot}
+use Rattle.life_slots.specs.Places.{IsBeside, start_at}
+use Rattle.life_slots.specs.declared.bands.Bands.{Bands}
+use Rattle.life_slots.specs.declared.slot.Slot.{Slot}
+use Rattle.life_slots.specs.Slots.{Index, slot_at, place_of, tile_of, empty_tile, generation_shown}
+use Rattle.life_slots.specs.Work.{mark_of, IsMarkedNear}
+use Rattle.life_slots.specs.Cells.{state_at}
+use Rattle.life_slots.specs.Indexes.{IsIndexed, IsSlotOf, IsClosed}
+use Rattle.life_slots.proofs.Splits.{Split, split}
+use Rattle.life_slots.proofs.Shown.{empty_cell, shown_state}
+use Rattle.life_slots.proofs.Places.{slot_cases, state_absent, state_of_slot, dead_next}
+use Rattle.life_slots.proofs.Steps.{unchanged}
 use Rattle.life_tile.specs.declared.tile_store.TileStore.{TileStore}
-use Rattle.life_tile.specs.Slots.{Index, slot_at, place_of, tile_of, empty_tile, generation_shown}
-use Rattle.life_tile.specs.Work.{mark_of, IsMarkedNear}
-use Rattle.life_tile.specs.TileStores.{state_at, IsIndexed, IsSlotOf, IsClosed, IsBegun, IsKept, members_of}
-use Rattle.life_tile.proofs.Splits.{Split, split}
-use Rattle.life_tile.proofs.Shown.{empty_cell, shown_state}
-use Rattle.life_tile.proofs.Places.{slot_cases, state_absent, state_of_slot, dead_next}
+use Rattle.life_tile.specs.TileStores.{IsBegun, IsKept, members_of}
 use Rattle.life_tile.proofs.Kept.{empty_still}
-use Rattle.life_tile.proofs.Steps.{unchanged}
 
 module _ (index : Index) (slots : List Slot) (whole : IsIndexed index slots) (tiles : List Tile) (none : tile_of tiles 0 ≡ empty_tile) where
   -- no cell is live where all tiles are empty

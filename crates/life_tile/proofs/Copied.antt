@@ -8,14 +8,16 @@ use Rattle.life_cells.specs.Limits.{IsWithin}
 use Rattle.life_bits.specs.declared.tile.Tile.{Tile}
 use Rattle.life_bits.specs.Flags.{as_bit}
 use Rattle.life_bits.specs.Area.{tile_cell}
-use Rattle.life_tile.specs.Ends.{IsVoid}
+use Rattle.life_slots.specs.Ends.{IsVoid}
+use Rattle.life_slots.specs.Slots.{slot_at, place_of, tile_of, empty_tile, generation_shown}
+use Rattle.life_slots.specs.Cells.{state_at}
+use Rattle.life_slots.specs.Indexes.{IsSlotOf}
+use Rattle.life_slots.proofs.Shown.{empty_cell, shown_state, same_states}
+use Rattle.life_slots.proofs.Splits.{Split, split}
+use Rattle.life_slots.proofs.Places.{slot_cases, slot_of_place}
 use Rattle.life_tile.specs.declared.tile_store.TileStore.{TileStore}
-use Rattle.life_tile.specs.Slots.{slot_at, place_of, tile_of, empty_tile, generation_shown}
-use Rattle.life_tile.specs.TileStores.{state_at, IsSlotOf, IsKept, IsTileAt, IsSameBut, cell_of, members_of}
+use Rattle.life_tile.specs.TileStores.{IsKept, IsTileAt, IsSameBut, cell_of, members_of}
 use Rattle.life_tile.proofs.Put.{kept_fresh, busy_fresh, stirred_fresh}
-use Rattle.life_tile.proofs.Shown.{empty_cell, shown_state, same_states}
-use Rattle.life_tile.proofs.Splits.{Split, split}
-use Rattle.life_tile.proofs.Places.{slot_cases, slot_of_place}
 use Rattle.life_tile.proofs.Kept.{flag_from_bit}
 
 module _ (s u : TileStore) (k : ℕ) (tile : Tile) (place : ℤ × ℤ) (kept : IsKept s) (lacks_previous : s.lacks_previous ≡ true) (slot : IsSlotOf s.slots.items place k)

@@ -9,16 +9,16 @@ use Rattle.std.proofs.lemmas.Nat.{pow_pos}
 use Rattle.std.proofs.lemmas.Nat.Bits.{bit_at_and, bit_at_or, bit_at_not, bit_at-lt, bit_at-zero, bit_at_above, bit_at_cat_low, bit_at_cat_high, same_from_bits}
 use Rattle.life_model.specs.Cell.{Cell, plus}
 use Rattle.life_model.specs.Generation.{Generation}
-use Rattle.life_cells.specs.Limits.{IsPlace}
+use Rattle.life_cells.specs.Limits.{IsPlace, age_limit}
 use Rattle.life_bits.proofs.Strips.{bit_at_mod}
+use Rattle.life_slots.specs.Ends.{IsMember}
+use Rattle.life_slots.specs.Places.{start_at}
+use Rattle.life_slots.specs.Slots.{place_of, tile_of, IsReached}
+use Rattle.life_slots.proofs.Bits.{bit_at_rest, bit_cases}
 use Rattle.life_tile.specs.declared.tile_store.TileStore.{TileStore}
-use Rattle.life_tile.specs.Ends.{IsMember}
-use Rattle.life_tile.specs.Places.{start_at}
 use Rattle.life_tile.specs.Reach.{corner_at, IsTileIn}
-use Rattle.life_tile.specs.Slots.{place_of, tile_of, IsReached}
 use Rattle.life_tile.specs.TileStores.{IsKept, members_of}
 use Rattle.life_tile.proofs.Edges.{member_live, live_member}
-use Rattle.life_tile.proofs.Bits.{bit_at_rest, bit_cases}
 
 first_alone : (a b c : ℕ) → a ≡ c → b ≡ 0 → max a b ≡ c
 first_alone a b c p q = omega arith
@@ -86,7 +86,7 @@ pub none_is : (n : ℕ) → n ≡ 0 → IsTrue (nat_eq n 0)
 none_is n is = ap (λ m. nat_eq m 0) is
 
 -- where the first cell of a tile is, and the one under its last row
-pub corner_placed : (age : ℕ) (place : ℤ × ℤ) → age ≤ 4194304 → IsReached age place → IsPlace (corner_at place)
+pub corner_placed : (age : ℕ) (place : ℤ × ℤ) → age ≤ age_limit → IsReached age place → IsPlace (corner_at place)
 corner_placed age place young reached = record {
   left = omega (arith, ints, reached.west);
   right = omega (arith, ints, reached.east);
@@ -94,7 +94,7 @@ corner_placed age place young reached = record {
   below = omega (arith, ints, reached.south);
 }
 
-pub corner_placed_below : (age : ℕ) (place : ℤ × ℤ) → age ≤ 4194304 → IsReached age place → IsPlace (start_at place.0, start_at place.1 +ℤ pos 63)
+pub corner_placed_below : (age : ℕ) (place : ℤ × ℤ) → age ≤ age_limit → IsReached age place → IsPlace (start_at place.0, start_at place.1 +ℤ pos 63)
 corner_placed_below age place young reached = record {
   left = omega (arith, ints, reached.west);
   right = omega (arith, ints, reached.east);

@@ -8,18 +8,20 @@ use Rattle.life_model.proofs.Generations.{contains-cells, cells-rise}
 use Rattle.life_plane.specs.Span.{list_span, set_span}
 use Rattle.life_plane.proofs.Spans.{set_span_of_cells}
 use Rattle.life_bits.specs.Flags.{as_bit}
-use Rattle.life_tile.specs.Places.{start_at}
-use Rattle.life_tile.specs.declared.ends.Ends.{Ends}
+use Rattle.life_slots.specs.Places.{start_at}
+use Rattle.life_slots.specs.declared.ends.Ends.{Ends}
+use Rattle.life_slots.specs.Slots.{slot_at, place_of}
+use Rattle.life_slots.specs.Cells.{state_at}
+use Rattle.life_slots.specs.Indexes.{IsSlotOf}
+use Rattle.life_slots.specs.Ends.{IsNoLater, IsMember, IsLiveAt, HasEnds, AreEnds}
+use Rattle.life_slots.proofs.Splits.{Split, split, same_flag}
+use Rattle.life_slots.proofs.Members.{Has, has_head, has_tail, has_cases, has_none}
+use Rattle.life_slots.proofs.Shown.{shown_state}
+use Rattle.life_slots.proofs.EndCells.{never_both}
+use Rattle.life_slots.proofs.Places.{slot_cases, state_absent, state_of_slot}
+use Rattle.life_slots.proofs.Sizes.{below_has, both_hold, lesser, int_less, int_same, member_has}
 use Rattle.life_tile.specs.declared.tile_store.TileStore.{TileStore}
-use Rattle.life_tile.specs.Slots.{slot_at, place_of}
-use Rattle.life_tile.specs.TileStores.{state_at, members_of, IsKept, IsSlotOf}
-use Rattle.life_tile.specs.Ends.{IsNoLater, IsMember, IsLiveAt, HasEnds, AreEnds}
-use Rattle.life_tile.proofs.Splits.{Split, split, same_flag}
-use Rattle.life_tile.proofs.Members.{Has, has_head, has_tail, has_cases, has_none}
-use Rattle.life_tile.proofs.Shown.{shown_state}
-use Rattle.life_tile.proofs.EndCells.{never_both}
-use Rattle.life_tile.proofs.Places.{slot_cases, state_absent, state_of_slot}
-use Rattle.life_tile.proofs.Sizes.{below_has, both_hold, lesser, int_less, int_same, member_has}
+use Rattle.life_tile.specs.TileStores.{members_of, IsKept}
 
 -- a cell that comes before another does not come after it
 not_behind : (a b : Cell) → cell_cmp a b ≡ Less → IsNoLater b a → ⊥

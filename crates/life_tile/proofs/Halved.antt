@@ -10,11 +10,11 @@ use Rattle.life_model.proofs.Cells.{pair}
 use Rattle.life_model.proofs.Generations.{contains-from_list}
 use Rattle.life_model.proofs.Symmetries.{contains-moved}
 use Rattle.life_plane.specs.Offsets.{AreNotTranslates}
-use Rattle.life_tile.specs.declared.ends.Ends.{Ends}
-use Rattle.life_tile.specs.Ends.{HasEnds, IsMember, IsNoLater}
-use Rattle.life_tile.proofs.Orders.{true_or_false}
-use Rattle.life_tile.proofs.Members.{Has, has_head, has_tail, has_cases, has_none}
-use Rattle.life_tile.proofs.Sizes.{below_has, both_hold, lesser, int_less, int_same}
+use Rattle.life_slots.specs.declared.ends.Ends.{Ends}
+use Rattle.life_slots.specs.Ends.{HasEnds, IsMember, IsNoLater}
+use Rattle.life_slots.proofs.Orders.{true_or_false}
+use Rattle.life_slots.proofs.Members.{Has, has_head, has_tail, has_cases, has_none}
+use Rattle.life_slots.proofs.Sizes.{below_has, both_hold, lesser, int_less, int_same}
 use Rattle.life_tile.proofs.SameCells.{first_moved}
 
 -- a cell before another does not come after it

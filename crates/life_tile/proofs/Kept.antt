@@ -10,27 +10,29 @@ use Rattle.std.proofs.lemmas.Nat.Bits.{bit_at-lt}
 use Rattle.std.proofs.lemmas.List.{take_at}
 use Rattle.life_model.specs.Generation.{Generation, contains}
 use Rattle.life_model.specs.Evolution.{next}
-use Rattle.life_cells.specs.Limits.{IsWithin}
+use Rattle.life_cells.specs.Limits.{IsWithin, age_limit, place_limit}
 use Rattle.life_bits.specs.declared.tile.Tile.{Tile}
 use Rattle.life_bits.specs.Flags.{as_bit}
 use Rattle.life_bits.specs.Area.{tile_cell}
-use Rattle.life_tile.specs.Places.{place_cmp, IsInside, start_at}
-use Rattle.life_tile.proofs.Splits.{not_one}
-use Rattle.life_tile.specs.declared.bands.Bands.{Bands}
-use Rattle.life_tile.specs.declared.slot.Slot.{Slot}
+use Rattle.life_slots.specs.Places.{place_cmp, IsInside, start_at}
+use Rattle.life_slots.proofs.Splits.{not_one}
+use Rattle.life_slots.specs.declared.bands.Bands.{Bands}
+use Rattle.life_slots.specs.declared.slot.Slot.{Slot}
+use Rattle.life_slots.specs.Slots.{slot_at, neighbour_at, place_of, link_of, tile_of, empty_tile, IsReached}
+use Rattle.life_slots.specs.Rims.{IsEdge, IsAtEdge, IsStill}
+use Rattle.life_slots.specs.Work.{mark_of, IsCalm}
+use Rattle.life_slots.specs.Cells.{state_at}
+use Rattle.life_slots.specs.Indexes.{IsClosed}
+use Rattle.life_slots.proofs.Shown.{empty_cell, shown_state, same_states}
+use Rattle.life_slots.proofs.Places.{state_of_slot}
 use Rattle.life_tile.specs.declared.tile_store.TileStore.{TileStore}
-use Rattle.life_tile.specs.Slots.{slot_at, neighbour_at, place_of, link_of, tile_of, empty_tile, IsReached}
-use Rattle.life_tile.specs.Rims.{IsEdge, IsAtEdge, IsStill}
-use Rattle.life_tile.specs.Work.{mark_of}
-use Rattle.life_tile.specs.TileStores.{state_at, IsTileStore, members_of, earlier_of, IsClosed, IsSettled, IsCalm, IsKept, IsAlike, IsExtended}
-use Rattle.life_tile.proofs.Shown.{empty_cell, shown_state, same_states}
-use Rattle.life_tile.proofs.Places.{state_of_slot}
+use Rattle.life_tile.specs.TileStores.{IsTileStore, members_of, earlier_of, IsSettled, IsKept, IsAlike, IsExtended}
 
 -- what is written back through a borrow of all elements
 pub written_back : {A : Type 0} (n : ℕ) (new old : List A) → length new ≡ n → take n (new ++ drop (length new) old) ≡ new
 written_back n new old count = take_at new (drop (length new) old) n count
 
-pub inside_from_reached : (age : ℕ) (place : ℤ × ℤ) → age ≤ 4194304 → IsReached age place → IsInside place
+pub inside_from_reached : (age : ℕ) (place : ℤ × ℤ) → age ≤ age_limit → IsReached age place → IsInside place
 inside_from_reached age place young reached = record {
   west = omega (arith, ints, reached.west);
   east = omega (arith, ints, reached.east);
@@ -173,7 +175,7 @@ module _ (before after : TileStore) (whole_before : IsTileStore before) (whole_a
   pub kept_extended : IsKept before → ((k : ℕ) → length before.slots.items ≤ k → k < length after.slots.items → IsReached before.age (place_of after.slots.items k)) → IsKept after
   kept_extended kept new =
       let age_is : after.age ≡ before.age = extended.age in
-      let young : before.age ≤ 4194304 = kept.young in
+      let young : before.age ≤ age_limit = kept.young in
       record {
         whole = whole_after;
         young = omega arith;
@@ -221,7 +223,7 @@ low_side age side x s wide small edge low =
     (λ (some : side ≢ 0). omega (arith, ints))
     (cases_eq side 0)
 
-high_side : (age side x : ℕ) (s : ℤ) → x < 64 → side < 3 → IsEdge side x → (start_at s +ℤ pos x) ≤ℤ pos (1048575 + age) → (start_at ((s +ℤ pos side) -ℤ pos 1)) ≤ℤ pos (1048576 + age)
+high_side : (age side x : ℕ) (s : ℤ) → x < 64 → side < 3 → IsEdge side x → (start_at s +ℤ pos x) ≤ℤ pos (1048575 + age) → (start_at ((s +ℤ pos side) -ℤ pos 1)) ≤ℤ pos (place_limit + age)
 high_side age side x s wide small edge high =
     ⊎_elim
     (λ (two : side ≡ 2). let x_is : x ≡ 63 = edge.last two in omega (arith, ints))

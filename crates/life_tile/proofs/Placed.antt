@@ -9,20 +9,21 @@ use Rattle.life_model.specs.Generation.{contains, from_list, size}
 use Rattle.life_model.proofs.Generations.{contains-from_list, same_members}
 use Rattle.life_bits.specs.declared.tile.Tile.{Tile}
 use Rattle.life_bits.specs.Area.{tile_cell}
-use Rattle.life_tile.specs.Places.{start_at}
-use Rattle.life_tile.specs.Cells.{row_cells, block_cells, tile_count}
-use Rattle.life_tile.specs.declared.slot.Slot.{Slot}
+use Rattle.life_slots.specs.Places.{start_at}
+use Rattle.life_slots.specs.Cells.{row_cells, block_cells, tile_count}
+use Rattle.life_slots.specs.declared.slot.Slot.{Slot}
+use Rattle.life_slots.specs.Slots.{Index, slot_at, place_of, tile_of, empty_tile}
+use Rattle.life_slots.specs.Indexes.{IsIndexed}
+use Rattle.life_slots.specs.Ends.{IsLiveIn, IsLiveAt}
+use Rattle.life_slots.proofs.Splits.{same_quotient}
+use Rattle.life_slots.proofs.Members.{Has, has_none, has_parts, has_front, has_back, BlockHas, block_has, block_in, row_in}
+use Rattle.life_slots.proofs.Counted.{IsFresh, size-fresh, length-block}
+use Rattle.life_slots.proofs.Shown.{empty_cell}
+use Rattle.life_slots.proofs.Places.{slot_of_place}
+use Rattle.life_slots.proofs.Sizes.{fresh-append, fresh_block}
+use Rattle.life_slots.proofs.EndCells.{never_both}
 use Rattle.life_tile.specs.declared.tile_store.TileStore.{TileStore}
-use Rattle.life_tile.specs.Slots.{Index, slot_at, place_of, tile_of, empty_tile}
-use Rattle.life_tile.specs.TileStores.{IsIndexed, IsKept, members_of}
-use Rattle.life_tile.specs.Ends.{IsLiveIn, IsLiveAt}
-use Rattle.life_tile.proofs.Splits.{same_quotient}
-use Rattle.life_tile.proofs.Members.{Has, has_none, has_parts, has_front, has_back, BlockHas, block_has, block_in, row_in}
-use Rattle.life_tile.proofs.Counted.{IsFresh, size-fresh, length-block}
-use Rattle.life_tile.proofs.Shown.{empty_cell}
-use Rattle.life_tile.proofs.Places.{slot_of_place}
-use Rattle.life_tile.proofs.Sizes.{fresh-append, fresh_block}
-use Rattle.life_tile.proofs.EndCells.{never_both}
+use Rattle.life_tile.specs.TileStores.{IsKept, members_of}
 use Rattle.life_tile.proofs.Edges.{member_live, live_member}
 
 both_ways : (a b : Bool) → (a ≡ true → b ≡ true) → (b ≡ true → a ≡ true) → a ≡ b

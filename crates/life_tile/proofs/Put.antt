@@ -7,26 +7,27 @@ use Rattle.life_model.specs.Cell.{Cell, same_cell}
 use Rattle.life_model.specs.Generation.{Generation, contains, insert, empty, from_list}
 use Rattle.life_model.proofs.Cells.{same_cell-is}
 use Rattle.life_model.proofs.Generations.{contains-insert, contains-empty}
-use Rattle.life_cells.specs.Limits.{IsWithin}
+use Rattle.life_cells.specs.Limits.{IsWithin, age_limit}
 use Rattle.life_bits.specs.declared.tile.Tile.{Tile}
 use Rattle.life_bits.specs.Flags.{as_bit}
 use Rattle.life_bits.specs.Area.{tile_cell}
-use Rattle.life_tile.specs.Cells.{tiles_cells}
-use Rattle.life_tile.specs.Places.{place_cmp, start_at}
-use Rattle.life_tile.proofs.Orders.{true_or_false}
-use Rattle.life_tile.proofs.Inserted.{inserted_cases}
-use Rattle.life_tile.specs.declared.bands.Bands.{Bands}
-use Rattle.life_tile.specs.declared.slot.Slot.{Slot}
+use Rattle.life_slots.specs.Cells.{tiles_cells, state_at}
+use Rattle.life_slots.specs.Places.{place_cmp, start_at}
+use Rattle.life_slots.proofs.Orders.{true_or_false}
+use Rattle.life_slots.proofs.Inserted.{inserted_cases}
+use Rattle.life_slots.specs.declared.bands.Bands.{Bands}
+use Rattle.life_slots.specs.declared.slot.Slot.{Slot}
+use Rattle.life_slots.specs.Slots.{slot_at, place_of, tile_of, empty_tile, placed_tiles, generation_shown, IsReached}
+use Rattle.life_slots.specs.Work.{mark_of, IsCalm}
+use Rattle.life_slots.specs.Indexes.{IsSlotOf}
+use Rattle.life_slots.proofs.Bits.{bit_cases}
+use Rattle.life_slots.proofs.Shown.{shown_state, same_states}
+use Rattle.life_slots.proofs.Places.{slot_cases, slot_of_place}
 use Rattle.life_tile.specs.declared.tile_store.TileStore.{TileStore}
-use Rattle.life_tile.specs.Slots.{slot_at, place_of, tile_of, empty_tile, placed_tiles, generation_shown, IsReached}
-use Rattle.life_tile.specs.Work.{mark_of}
-use Rattle.life_tile.specs.TileStores.{state_at, IsSlotOf, IsTileStore, members_of, IsCalm, IsKept, all_bands, no_bands}
-use Rattle.life_tile.proofs.Bits.{bit_cases}
-use Rattle.life_tile.proofs.Shown.{shown_state, same_states}
-use Rattle.life_tile.proofs.Places.{slot_cases, slot_of_place}
+use Rattle.life_tile.specs.TileStores.{IsTileStore, members_of, IsKept, all_bands, no_bands}
 
 -- a fresh store keeps little
-pub kept_fresh : (s : TileStore) → IsTileStore s → s.age ≤ 4194304 → ((c : Cell) → contains (members_of s) c ≡ true → IsWithin s.age c) →
+pub kept_fresh : (s : TileStore) → IsTileStore s → s.age ≤ age_limit → ((c : Cell) → contains (members_of s) c ≡ true → IsWithin s.age c) →
     ((k : ℕ) → 0 < k → k < length s.slots.items → IsReached s.age (place_of s.slots.items k)) → s.lacks_previous ≡ true →
     ((k band : ℕ) → 0 < k → k < length s.slots.items → band < 8 → mark_of s.active.items k band ≡ 1) → (IsCalm s.active.items → ⊥) → IsKept s
 kept_fresh s whole young within reached lacks_previous busy stirred = record {
@@ -131,7 +132,7 @@ module _ (s u : TileStore) (k x y : ℕ) (place : ℤ × ℤ) (cell : Cell) (kep
 -- the store with slot 0 alone
 module _ (s : TileStore) (slot : Slot) (none : s.index.entries ≡ []) (ordered : IsOrdered place_cmp s.index) (slots : s.slots.items ≡ slot ∷ [])
     (current : s.current.items ≡ empty_tile ∷ []) (previous : s.previous.items ≡ empty_tile ∷ []) (active : s.active.items ≡ all_bands ∷ []) (marks : s.next_active.items ≡ no_bands ∷ [])
-    (young : s.age ≤ 4194304) (lacks_previous : s.lacks_previous ≡ true) where
+    (young : s.age ≤ age_limit) (lacks_previous : s.lacks_previous ≡ true) where
   not_found : (p : ℤ × ℤ) (k : ℕ) → get place_cmp s.index p ≡ Some k → ⊥
   not_found p k is =
       let gone : get place_cmp s.index p ≡ None = ap (lookup (is_at (place_cmp p))) none in

@@ -15,10 +15,10 @@ use Rattle.life_model.proofs.Lists.{cells-moved, moved-from_list}
 use Rattle.life_model.proofs.Symmetries.{contains-moved}
 use Rattle.life_plane.specs.Offsets.{AreNotTranslates, IsOffset}
 use Rattle.life_plane.proofs.Offsets.{apart_by_length, plus_back, offset_of_none}
-use Rattle.life_tile.specs.declared.ends.Ends.{Ends}
-use Rattle.life_tile.specs.Ends.{IsMember, IsNoLater, HasEnds}
-use Rattle.life_tile.proofs.Members.{Has, has_head, has_cases, has_none}
-use Rattle.life_tile.proofs.Sizes.{below_has, both_hold, lesser, int_less, int_same, member_has}
+use Rattle.life_slots.specs.declared.ends.Ends.{Ends}
+use Rattle.life_slots.specs.Ends.{IsMember, IsNoLater, HasEnds}
+use Rattle.life_slots.proofs.Members.{Has, has_head, has_cases, has_none}
+use Rattle.life_slots.proofs.Sizes.{below_has, both_hold, lesser, int_less, int_same, member_has}
 use Rattle.life_tile.proofs.Edges.{head_is, has_member}
 
 -- of two cells one does not come both before and after the other

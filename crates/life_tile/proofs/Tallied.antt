@@ -7,16 +7,17 @@ use Rattle.std.proofs.lemmas.Nat.Bits.{bit_at-lt}
 use Rattle.life_model.specs.Cell.{Cell}
 use Rattle.life_bits.specs.declared.tile.Tile.{Tile}
 use Rattle.life_bits.specs.Area.{tile_cell}
-use Rattle.life_tile.specs.Cells.{row_cells, block_cells, has_cell, tile_count}
-use Rattle.life_tile.specs.Ends.{IsVoid}
+use Rattle.life_slots.specs.Cells.{row_cells, block_cells, has_cell, tile_count}
+use Rattle.life_slots.specs.Ends.{IsVoid}
+use Rattle.life_slots.specs.Slots.{slot_at, place_of, tile_of, empty_tile}
+use Rattle.life_slots.specs.Indexes.{IsSlotOf}
+use Rattle.life_slots.proofs.Members.{Has, has_none, row_in, block_in}
+use Rattle.life_slots.proofs.Orders.{true_or_false}
+use Rattle.life_slots.proofs.Splits.{not_one}
+use Rattle.life_slots.proofs.Shown.{empty_cell, shown_state}
+use Rattle.life_slots.proofs.Places.{slot_cases, slot_of_place}
 use Rattle.life_tile.specs.declared.tile_store.TileStore.{TileStore}
-use Rattle.life_tile.specs.Slots.{slot_at, place_of, tile_of, empty_tile}
-use Rattle.life_tile.specs.TileStores.{IsCompact, IsKept, IsSlotOf, members_of}
-use Rattle.life_tile.proofs.Members.{Has, has_none, row_in, block_in}
-use Rattle.life_tile.proofs.Orders.{true_or_false}
-use Rattle.life_tile.proofs.Splits.{not_one}
-use Rattle.life_tile.proofs.Shown.{empty_cell, shown_state}
-use Rattle.life_tile.proofs.Places.{slot_cases, slot_of_place}
+use Rattle.life_tile.specs.TileStores.{IsCompact, IsKept, members_of}
 use Rattle.life_tile.proofs.Copied.{IsCopied}
 
 row_dead : (left y : ℤ) (word n : ℕ) → ((x : ℕ) → x < n → bit_at word x ≡ 0) → row_cells left y word n ≡ []

@@ -1,9 +1,2 @@
-pub mod Places
-pub mod Cells
-pub mod Slots
-pub mod Seats
-pub mod Rims
-pub mod Work
 pub mod TileStores
-pub mod Ends
 pub mod Reach

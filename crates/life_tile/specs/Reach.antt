@@ -5,8 +5,8 @@ use Rattle.life_model.specs.Cell.{Cell, plus}
 use Rattle.life_model.specs.Generation.{Generation}
 use Rattle.life_bits.specs.declared.tile.Tile.{Tile}
 use Rattle.life_bits.specs.Area.{tile_cell}
-use Rattle.life_tile.specs.Ends.{IsMember}
-use Rattle.life_tile.specs.Places.{start_at}
+use Rattle.life_slots.specs.Ends.{IsMember}
+use Rattle.life_slots.specs.Places.{start_at}
 
 -- both places are numbers of 32 bits, by far
 pub record IsInReach (c : Cell) : Type 0 where

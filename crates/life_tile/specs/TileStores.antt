@@ -1,42 +1,21 @@
 -- What a store of tiles keeps.
-use Rattle.std.specs.Prelude.{◌≡◌, ◌≢◌, ◌⊎◌, ℕ, ℤ, pos, ◌+ℤ◌, ◌/◌, ◌<◌, ◌≤◌, true, false, List, [], ◌∷◌, ◌++◌, Some, length, vec_len}
+use Rattle.std.specs.Prelude.{◌≡◌, ◌≢◌, ◌⊎◌, ℕ, ℤ, pos, ◌+ℤ◌, ◌/◌, ◌<◌, ◌≤◌, true, false, List, [], ◌∷◌, ◌++◌, length, vec_len}
 use Rattle.std.specs.Vec.{vec_capacity}
-use Rattle.std.specs.BTreeMap.{IsOrdered, get}
 use Rattle.life_model.specs.Cell.{Cell}
 use Rattle.life_model.specs.Generation.{Generation, contains}
 use Rattle.life_model.specs.Evolution.{next}
-use Rattle.life_cells.specs.Limits.{IsWithin}
+use Rattle.life_cells.specs.Limits.{IsWithin, age_limit}
 use Rattle.life_bits.specs.declared.tile.Tile.{Tile}
-use Rattle.life_bits.specs.Flags.{as_bit}
 use Rattle.life_bits.specs.Area.{tile_cell}
-use Rattle.life_tile.specs.Places.{place_cmp, start_at}
-use Rattle.life_tile.specs.declared.slot.Slot.{Slot}
+use Rattle.life_slots.specs.Places.{start_at}
+use Rattle.life_slots.specs.Cells.{state_at}
+use Rattle.life_slots.specs.declared.slot.Slot.{Slot}
+use Rattle.life_slots.specs.Slots.{slot_at, place_of, link_of, tile_of, empty_tile, generation_shown, IsReached}
+use Rattle.life_slots.specs.Ends.{IsVoid}
+use Rattle.life_slots.specs.Indexes.{IsIndexed, IsClosed}
+use Rattle.life_slots.specs.Work.{mark_of, IsIdle, IsCalm}
+use Rattle.life_slots.specs.declared.bands.Bands.{Bands}
 use Rattle.life_tile.specs.declared.tile_store.TileStore.{TileStore}
-use Rattle.life_tile.specs.Slots.{Index, slot_at, neighbour_at, place_of, link_of, tile_of, empty_tile, generation_shown, IsReached}
-use Rattle.life_tile.specs.Ends.{IsVoid}
-use Rattle.life_tile.specs.Rims.{IsStill}
-use Rattle.life_tile.specs.Work.{mark_of}
-use Rattle.life_tile.specs.declared.bands.Bands.{Bands}
-
--- 1 for a live cell, 0 for a dead one
-abbrev pub state_at : Generation → ℤ → ℤ → ℕ
-state_at G x y = as_bit (contains G (x, y))
-
--- The index has each slot but the first at its place and no other, and each slot's links are the slots around its place.
-pub record IsIndexed (index : Index) (slots : List Slot) : Type 0 where
-  pub ordered : IsOrdered place_cmp index
-  pub some : 0 < length slots
-  pub indexed : (k : ℕ) → 0 < k → k < length slots → get place_cmp index (place_of slots k) ≡ Some k
-  pub later : (place : ℤ × ℤ) (k : ℕ) → get place_cmp index place ≡ Some k → 0 < k
-  pub inside : (place : ℤ × ℤ) (k : ℕ) → get place_cmp index place ≡ Some k → k < length slots
-  pub placed : (place : ℤ × ℤ) (k : ℕ) → get place_cmp index place ≡ Some k → place_of slots k ≡ place
-  pub linked : (k m : ℕ) → 0 < k → k < length slots → m < 9 → link_of slots k m ≡ slot_at index (neighbour_at (place_of slots k) m)
-
--- a place has this slot
-pub record IsSlotOf (slots : List Slot) (p : ℤ × ℤ) (k : ℕ) : Type 0 where
-  pub later : 0 < k
-  pub inside : k < length slots
-  pub place : place_of slots k ≡ p
 
 -- a store without regard to what its tiles hold: slot 0 has the empty tile
 pub record IsTileStore (store : TileStore) : Type 0 where
@@ -56,10 +35,6 @@ members_of store = generation_shown store.index store.current.items
 abbrev pub earlier_of : TileStore → Generation
 earlier_of store = generation_shown store.index store.previous.items
 
--- where a slot has no neighbour, its tile has no live cell at that edge
-pub record IsClosed (slots : List Slot) (tiles : List Tile) (k : ℕ) : Type 0 where
-  pub closed : (m : ℕ) → m < 9 → link_of slots k m ≡ 0 → IsStill (tile_of tiles k) m
-
 -- the band of a slot is in the next generation what it was in the one before this
 pub record IsSettled (store : TileStore) (k band : ℕ) : Type 0 where
   pub known : store.lacks_previous ≡ false
@@ -71,18 +46,10 @@ pub record IsSettled (store : TileStore) (k band : ℕ) : Type 0 where
 pub record IsGrown (store : TileStore) : Type 0 where
   pub closed : (k : ℕ) → 0 < k → k < length store.slots.items → IsClosed store.slots.items store.current.items k
 
--- no band of a slot is marked
-abbrev pub IsIdle : List Bands → ℕ → Type 0
-IsIdle marks k = (band : ℕ) → band < 8 → mark_of marks k band ≡ 0
-
--- no band of slot 0 is marked, which stands for every place without a slot
-abbrev pub IsCalm : List Bands → Type 0
-IsCalm marks = IsIdle marks 0
-
 -- what a store keeps between steps
 pub record IsKept (store : TileStore) : Type 0 where
   pub whole : IsTileStore store
-  pub young : store.age ≤ 4194304
+  pub young : store.age ≤ age_limit
   pub within : (c : Cell) → contains (members_of store) c ≡ true → IsWithin store.age c
   pub reached : (k : ℕ) → 0 < k → k < length store.slots.items → IsReached store.age (place_of store.slots.items k)
   pub earlier : store.lacks_previous ≡ false → members_of store ≡ next store.rule (earlier_of store)

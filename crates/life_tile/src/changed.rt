@@ -3,16 +3,15 @@ ghost use Rattle.std.specs.Prelude.{◌≡◌, ℕ, pos, ◌+ℤ◌, false, T};
 ghost use Rattle.life_model.specs.Cell.{Cell, opposite, plus};
 ghost use Rattle.life_model.specs.Generation.{contains, from_list, is_rising};
 ghost use Rattle.life_cells.specs.Limits.{IsPlace};
-ghost use Rattle.life_tile.specs.Ends.{IsMember};
+ghost use Rattle.life_slots.specs.Ends.{IsMember};
 ghost use Rattle.life_tile.specs.Reach.{IsInReach, IsRowIn, IsTileIn};
 ghost use Rattle.life_tile.specs.TileStores.{IsKept, members_of};
 
 use crate::covering::corner_in;
-use crate::ends::is_before;
-use crate::listing::{next_bit, tile_in};
 use crate::sameness::moved;
 use crate::tile_store::TileStore;
 use life_bits::Tile;
+use life_slots::{is_before, next_bit, tile_in};
 
 /// Whether a cell is in a list, which is halved until it shows.
 fn is_listed(cells: &[(i32, i32)], cell: (i32, i32)) -> bool

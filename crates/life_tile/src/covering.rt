@@ -3,18 +3,17 @@ ghost use Rattle.std.specs.Prelude.{◌≡◌, ◌↔◌, ◌+◌, ◌-◌, ◌+
 ghost use Rattle.std.specs.Int.{bit_at};
 ghost use Rattle.life_model.specs.Cell.{Cell, opposite, plus};
 ghost use Rattle.life_cells.specs.Limits.{IsPlace};
-ghost use Rattle.life_tile.specs.Ends.{IsMember};
-ghost use Rattle.life_tile.specs.Places.{start_at};
+ghost use Rattle.life_slots.specs.Ends.{IsMember};
+ghost use Rattle.life_slots.specs.Places.{start_at};
+ghost use Rattle.life_slots.specs.Slots.{place_of};
+ghost use Rattle.life_slots.specs.Cells.{state_at};
 ghost use Rattle.life_tile.specs.Reach.{corner_at, IsInReach, IsRowIn, IsTileIn};
-ghost use Rattle.life_tile.specs.Slots.{place_of};
-ghost use Rattle.life_tile.specs.TileStores.{IsKept, members_of, state_at};
+ghost use Rattle.life_tile.specs.TileStores.{IsKept, members_of};
 
-use crate::grid::{corner_of, split};
-use crate::listing::tile_in;
 use crate::sameness::moved;
-use crate::slot::{Slot, slot_or_none};
 use crate::tile_store::TileStore;
 use life_bits::Tile;
+use life_slots::{Slot, corner_of, slot_or_none, split, tile_in};
 
 /// The 64 bits of two words side by side from bit `shift` of the first on.
 fn joined(west: u64, east: u64, shift: usize) -> u64

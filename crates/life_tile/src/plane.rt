@@ -2,11 +2,11 @@
 ghost use Rattle.std.specs.Prelude.{◌≡◌, ◌<◌, IfOk};
 ghost use Rattle.life_tile.specs.TileStores.{IsKept, members_of};
 
-use crate::ends::is_void;
 use crate::sameness;
 use crate::tile_store::TileStore;
 use life_cells::{CellList, Rule, put_in_order};
 use life_plane::{Plane, move_between};
+use life_slots::is_void;
 use std::alloc::{AllocError, Global};
 use std::marker::Model;
 

@@ -4,17 +4,15 @@ ghost use Rattle.life_model.specs.Cell.{opposite, plus};
 ghost use Rattle.life_model.specs.Generation.{contains, from_list, is_rising};
 ghost use Rattle.life_cells.specs.Limits.{IsPlace};
 ghost use Rattle.life_plane.specs.Offsets.{AreNotTranslates, IsOffset};
-ghost use Rattle.life_tile.specs.Ends.{IsMember};
+ghost use Rattle.life_slots.specs.Ends.{IsMember};
 ghost use Rattle.life_tile.specs.Reach.{IsInReach};
 ghost use Rattle.life_tile.specs.TileStores.{IsKept, members_of};
 
 use crate::changed::lists_changed;
 use crate::covering::has_store;
-use crate::grid::split;
-use crate::listing::tile_in;
-use crate::slot::slot_or_none;
 use crate::tile_store::TileStore;
 use life_plane::move_between;
+use life_slots::{slot_or_none, split, tile_in};
 
 /// Whether a cell is live.
 fn is_live(store: &TileStore, cell: (i32, i32)) -> bool

@@ -3,24 +3,19 @@ ghost use Rattle.std.specs.Prelude.{◌≡◌, ◌≢◌, ℕ, ◌+◌, ◌<◌,
 ghost use Rattle.life_bits.specs.Area.{tile_cell};
 ghost use Rattle.life_model.specs.Evolution.{next};
 ghost use Rattle.life_model.specs.Generation.{empty, from_list, insert, size};
-ghost use Rattle.life_cells.specs.Limits.{IsWithin};
-ghost use Rattle.life_tile.specs.Cells.{live_tiles};
-ghost use Rattle.life_tile.specs.Ends.{AreEnds, IsMember};
-ghost use Rattle.life_tile.specs.Slots.{slot_at, place_of, link_of, tile_of, IsReached};
-ghost use Rattle.life_tile.specs.Rims.{IsRimOf, IsStill};
+ghost use Rattle.life_cells.specs.Limits.{IsWithin, age_limit};
+ghost use Rattle.life_slots.specs.Cells.{live_tiles};
+ghost use Rattle.life_slots.specs.Ends.{AreEnds, IsMember};
+ghost use Rattle.life_slots.specs.Slots.{slot_at, place_of, link_of, tile_of, IsReached};
+ghost use Rattle.life_slots.specs.Rims.{IsRimOf, IsStill};
 
-use crate::bands::Bands;
-use crate::counting::count_cells;
-use crate::ends::{Ends, ends_of, is_void};
-use crate::grid::split;
-use crate::listing::{push_seats, tile_in};
-use crate::rim::Rim;
-use crate::seats::seats_by_rows;
-use crate::slot::{CENTRE, Slot, connect, links_around, neighbour, slot_or_none, with_link};
-use crate::starting::{clear_all, mark_near};
-use crate::stepping::{mark_all, next_tiles};
 use life_bits::Tile;
 use life_cells::Rule;
+use life_slots::{
+    Bands, CENTRE, Ends, Rim, Slot, clear_all, connect, count_cells, ends_of, is_void,
+    links_around, mark_all, mark_near, neighbour, next_tiles, push_seats, seats_by_rows,
+    slot_or_none, split, tile_in, with_link,
+};
 use std::alloc::{AllocError, Global};
 use std::collections::BTreeMap;
 use std::mem::swap;
@@ -60,11 +55,13 @@ pub struct TileStore {
 }
 
 impl TileStore {
-    ghost use Rattle.life_tile.specs.TileStores.{HasRoom, HasTilesOf, IsAlike, IsCalm, IsCompact, IsAppended, IsBegun, IsClosed, IsExtended, IsGrown, IsIdle, IsKept, IsSameBut, IsSet, IsShowing, IsSlotOf, IsTileAt, cell_of, members_of};
+    ghost use Rattle.life_slots.specs.Work.{IsCalm, IsIdle};
+    ghost use Rattle.life_slots.specs.Indexes.{IsClosed, IsSlotOf};
+    ghost use Rattle.life_tile.specs.TileStores.{HasRoom, HasTilesOf, IsAlike, IsCompact, IsAppended, IsBegun, IsExtended, IsGrown, IsKept, IsSameBut, IsSet, IsShowing, IsTileAt, cell_of, members_of};
 
     /// The store without a live cell.
     pub fn new(alloc: Global, age: u32) -> Result<TileStore, AllocError>
-        requires { age ≤ 4194304 }
+        requires { age ≤ age_limit }
         ensures kept { IfOk result IsKept }
         ensures members { IfOk result (λ store. members_of store ≡ empty) }
         ensures age { IfOk result (λ store. store.age ≡ age) }
@@ -290,7 +287,7 @@ impl TileStore {
     pub fn advance(&mut self)
         requires kept { IsKept self.old }
         requires grown { IsGrown self.old }
-        requires young { self.old.age < 4194304 }
+        requires young { self.old.age < age_limit }
         ensures kept { IsKept self.new }
         ensures members { members_of self.new ≡ next self.old.rule (members_of self.old) }
         ensures age { self.new.age ≡ self.old.age + 1 }
@@ -387,7 +384,7 @@ impl TileStore {
     /// The store of these cells, which may come in any order and with repeats. It has no slot for a tile without a live cell, but
     /// the first.
     pub fn of(alloc: Global, cells: &[(i32, i32)], age: u32) -> Result<TileStore, AllocError>
-        requires young { age ≤ 4194304 }
+        requires young { age ≤ age_limit }
         requires within { All (IsWithin age) cells.now }
         ensures kept { IfOk result IsKept }
         ensures members { IfOk result (λ store. members_of store ≡ from_list cells.now) }

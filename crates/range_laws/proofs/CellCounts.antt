@@ -17,9 +17,9 @@ use Rattle.life_objects.specs.Union.{union_of}
 use Rattle.life_objects.proofs.Distances.{apart_from_union_of, disjoint_from_apart}
 use Rattle.life_objects.proofs.Lists.{AllPairs-head, AllPairs-tail, AllPairs-weaker}
 use Rattle.life_objects.proofs.Unions.{in_first, in_second}
-use Rattle.life_tile.proofs.Counted.{IsFresh, size-fresh}
-use Rattle.life_tile.proofs.Members.{Has, has_cases, has_head, has_none, has_tail}
-use Rattle.life_tile.proofs.Sizes.{below_has, both_hold, int_less, int_same, lesser, member_has}
+use Rattle.life_slots.proofs.Counted.{IsFresh, size-fresh}
+use Rattle.life_slots.proofs.Members.{Has, has_cases, has_head, has_none, has_tail}
+use Rattle.life_slots.proofs.Sizes.{below_has, both_hold, int_less, int_same, lesser, member_has}
 
 -- ---- the cells of a field
 

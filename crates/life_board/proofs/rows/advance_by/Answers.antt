@@ -10,7 +10,7 @@ use Rattle.life_bits.specs.Bits.{wide_row}
 use Rattle.life_bits.specs.Numbers.{number_at}
 use Rattle.life_bits.specs.Rows.{IsRowSumsOf}
 use Rattle.life_bits.proofs.Strips.{strip_middle}
-use Rattle.life_tile.proofs.Lists.{set_here, set_there}
+use Rattle.life_slots.proofs.Lists.{set_here, set_there}
 use Rattle.life_board.specs.Squares.{alone, around_in}
 use Rattle.life_board.proofs.Alone.{dead_above, dead_below, eight_around, next_of, row_is, void_before, void_is}
 use Rattle.life_board.proofs.rows.advance_by.Goals as goal

@@ -1,6 +1,6 @@
 use Rattle.std.proofs.Common.{◌<◌, ◌^◌, ◌∙◌, arith}
 use lib.Count.{ones-le}
-use Rattle.life_tile.proofs.Counted.{length-whole_row}
+use Rattle.life_slots.proofs.Counted.{length-whole_row}
 use Rattle.life_board.proofs.small.count_row.Goals as goal
 
 pub returns-clause-few : goal.returns-clause-few

@@ -1,5 +1,5 @@
 use Rattle.std.proofs.Common.{◌≡◌, ℤ, ◌*◌, ◌≤◌, length}
-use Rattle.life_tile.specs.Cells.{block_cells}
+use Rattle.life_slots.specs.Cells.{block_cells}
 use Rattle.life_board.proofs.small.count_rows.Given as goal
 
 abbrev pub invariant-loop-y : goal.invariant-loop-y

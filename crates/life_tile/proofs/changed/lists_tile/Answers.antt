@@ -3,7 +3,7 @@ use Rattle.std.proofs.lemmas.Int.{ints}
 use Rattle.life_model.specs.Cell.{Cell, opposite, plus}
 use Rattle.life_model.specs.Generation.{from_list}
 use Rattle.life_model.proofs.Cells.{pair}
-use Rattle.life_tile.specs.Ends.{IsMember}
+use Rattle.life_slots.specs.Ends.{IsMember}
 use Rattle.life_tile.proofs.changed.lists_tile.Goals as goal
 
 pub returns-then-not-lists_row : goal.returns-then-not-lists_row

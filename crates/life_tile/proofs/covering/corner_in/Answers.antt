@@ -1,9 +1,9 @@
 use Rattle.std.proofs.Common.{◌≡◌, sym, subst, ap, pos, ◌+ℤ◌, ◌∙◌}
 use Rattle.life_model.specs.Cell.{Cell}
 use Rattle.life_cells.specs.Limits.{IsPlace}
-use Rattle.life_tile.specs.Places.{IsInside}
+use Rattle.life_slots.specs.Places.{IsInside}
+use Rattle.life_slots.specs.Slots.{place_of}
 use Rattle.life_tile.specs.Reach.{corner_at}
-use Rattle.life_tile.specs.Slots.{place_of}
 use Rattle.life_tile.proofs.Kept.{inside_from_reached}
 use Rattle.life_tile.proofs.Covered.{corner_placed, corner_placed_below}
 use Rattle.life_tile.proofs.covering.corner_in.Goals as goal

@@ -1,7 +1,7 @@
 use Rattle.std.proofs.Common.{ℕ, ◌<◌}
 use Rattle.life_model.specs.Cell.{plus, opposite}
+use Rattle.life_slots.specs.Slots.{place_of, tile_of}
 use Rattle.life_tile.specs.Reach.{corner_at, IsTileIn}
-use Rattle.life_tile.specs.Slots.{place_of, tile_of}
 use Rattle.life_tile.specs.TileStores.{members_of}
 use Rattle.life_tile.proofs.covering.has_store.Given as goal
 

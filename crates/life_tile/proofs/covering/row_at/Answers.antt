@@ -2,8 +2,8 @@ use Rattle.std.proofs.Common.{◌≡◌, w32, to_z, of_z, sym, ap, ◌∙◌, ar
 use Rattle.std.proofs.lemmas.Int.{ints}
 use Rattle.life_bits.specs.declared.tile.Tile.{Tile}
 use Rattle.life_bits.specs.Area.{tile_cell}
-use Rattle.life_tile.specs.Slots.{slot_at, tile_of}
-use Rattle.life_tile.proofs.Shown.{shown_state}
+use Rattle.life_slots.specs.Slots.{slot_at, tile_of}
+use Rattle.life_slots.proofs.Shown.{shown_state}
 use Rattle.life_tile.proofs.covering.row_at.Goals as goal
 
 pub returns : goal.returns

@@ -1,8 +1,9 @@
 use Rattle.std.proofs.Common.{◌≡◌, pos, ◌+ℤ◌, ◌+◌, ◌-◌, ◌<◌, ◌≤◌, ⊎_elim, w32, to_z, of_z, ap, ◌∙◌, arith}
 use Rattle.std.proofs.lemmas.Bool.{cases_lt}
 use Rattle.std.proofs.lemmas.Int.{ints}
-use Rattle.life_tile.specs.Places.{start_at}
-use Rattle.life_tile.specs.TileStores.{members_of, state_at}
+use Rattle.life_slots.specs.Places.{start_at}
+use Rattle.life_slots.specs.Cells.{state_at}
+use Rattle.life_tile.specs.TileStores.{members_of}
 use Rattle.life_tile.proofs.covering.row_from.Goals as goal
 
 pub returns : goal.returns

@@ -2,7 +2,7 @@ use Rattle.std.proofs.Common.{pos, slice_index_or, true≢false, sym, ap, ◌∙
 use Rattle.std.proofs.lemmas.List.{get_or_default}
 use Rattle.life_model.specs.Cell.{Cell, opposite, plus}
 use Rattle.life_model.specs.Generation.{contains}
-use Rattle.life_tile.specs.Ends.{IsMember}
+use Rattle.life_slots.specs.Ends.{IsMember}
 use Rattle.life_tile.specs.TileStores.{members_of}
 use Rattle.life_tile.proofs.sameness.are_live.Goals as goal
 

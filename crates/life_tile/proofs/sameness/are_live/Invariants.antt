@@ -1,6 +1,6 @@
 use Rattle.std.proofs.Common.{ℕ, ◌<◌, slice_index_or}
 use Rattle.life_model.specs.Cell.{Cell, opposite, plus}
-use Rattle.life_tile.specs.Ends.{IsMember}
+use Rattle.life_slots.specs.Ends.{IsMember}
 use Rattle.life_tile.specs.TileStores.{members_of}
 use Rattle.life_tile.proofs.sameness.are_live.Given as goal
 

@@ -4,11 +4,11 @@ use Rattle.life_model.specs.Generation.{contains}
 use Rattle.life_bits.specs.declared.tile.Tile.{Tile}
 use Rattle.life_bits.specs.Flags.{as_bit}
 use Rattle.life_bits.specs.Area.{tile_cell}
-use Rattle.life_tile.specs.Places.{start_at}
-use Rattle.life_tile.specs.Slots.{slot_at, tile_of}
+use Rattle.life_slots.specs.Places.{start_at}
+use Rattle.life_slots.specs.Slots.{slot_at, tile_of}
+use Rattle.life_slots.proofs.Shown.{shown_state}
+use Rattle.life_slots.proofs.Splits.{same_flag}
 use Rattle.life_tile.specs.TileStores.{members_of}
-use Rattle.life_tile.proofs.Shown.{shown_state}
-use Rattle.life_tile.proofs.Splits.{same_flag}
 use Rattle.life_tile.proofs.sameness.is_live.Goals as goal
 
 pub returns : goal.returns

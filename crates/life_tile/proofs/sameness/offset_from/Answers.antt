@@ -2,7 +2,7 @@ use Rattle.std.proofs.Common.{◌≡◌, true≢false, length, get_or, sym, subs
 use Rattle.life_model.specs.Cell.{origin, plus, opposite}
 use Rattle.life_model.specs.Generation.{size, from_list}
 use Rattle.life_plane.specs.Offsets.{IsOffset}
-use Rattle.life_tile.specs.Ends.{AreEnds, IsMember}
+use Rattle.life_slots.specs.Ends.{AreEnds, IsMember}
 use Rattle.life_tile.specs.TileStores.{members_of}
 use Rattle.life_tile.proofs.SameCells.{some_by_ends, offset_of_nothing, apart_by_count, offset_of_all, apart_by_missing}
 use Rattle.life_tile.proofs.Halved.{apart_by_stranger}

@@ -3,7 +3,7 @@ use Rattle.std.proofs.lemmas.Int.{ints, to_z-of_z}
 use Rattle.life_model.specs.Cell.{Cell}
 use Rattle.life_model.specs.Generation.{from_list, is_rising}
 use Rattle.life_cells.specs.Limits.{IsPlace}
-use Rattle.life_tile.specs.Cells.{block_cells}
+use Rattle.life_slots.specs.Cells.{block_cells}
 use Rattle.life_board.proofs.Rises.{all_rows, from_turned, none_listed, places, rise_block, row_listed}
 use Rattle.life_board.proofs.small.Square.cells.Goals as goal
 

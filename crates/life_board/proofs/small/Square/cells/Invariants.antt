@@ -1,5 +1,5 @@
 use Rattle.std.proofs.Common.{◌≡◌, ◌≤◌, reverse}
-use Rattle.life_tile.specs.Cells.{block_cells}
+use Rattle.life_slots.specs.Cells.{block_cells}
 use Rattle.life_board.proofs.small.Square.cells.Given as goal
 
 abbrev pub invariant-loop-y : goal.invariant-loop-y

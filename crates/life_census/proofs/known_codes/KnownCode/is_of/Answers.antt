@@ -8,7 +8,7 @@ use Rattle.life_answer.specs.Apgcode.{code_of}
 use Rattle.life_census.proofs.MovedCodes.{code-moved}
 use Rattle.life_census.proofs.known_codes.KnownCode.is_of.Goals as goal
 
-found : (way : Option Cell) (P : Cell → Type 0) → IfSome way P → IsTrue (is_some way) → (d : Cell) × P d
+found : (offset : Option Cell) (P : Cell → Type 0) → IfSome offset P → IsTrue (is_some offset) → (d : Cell) × P d
 found (Some d) P holds some = (d, holds)
 found None P holds some = absurd (false≢true some)
 
@@ -20,9 +20,9 @@ returns c some =
     ap from_list c.as_slice.ensures.cells ∙ from_list-cells known.set in
     let to : from_list c.as_slice-2.result.now ≡ orbit.set =
     ap from_list c.as_slice-2.ensures.cells ∙ from_list-cells c.set.result.now ∙ c.set.ensures in
-    let way = found c.offset_between.result _ c.offset_between.ensures.way (sym c.is_some.ensures ∙ some) in
+    let offset = found c.offset_between.result _ c.offset_between.ensures.offset (sym c.is_some.ensures ∙ some) in
     let same = c.if-not-recurs_as.ensures in
     known.right
-    ∙ code-moved known.rule known.set orbit.set known.period known.displacement way.0
-    (sym to ∙ way.1.move ∙ ap (λ G. translate_of G way.0) from)
+    ∙ code-moved known.rule known.set orbit.set known.period known.displacement offset.0
+    (sym to ∙ offset.1.move ∙ ap (λ G. translate_of G offset.0) from)
     ∙ (λ i. code_of (same.rule refl i) orbit.set (same.period refl i) (same.displacement refl i))

@@ -2,7 +2,7 @@ use Rattle.std.proofs.Common.{ℕ, All, subst}
 use Rattle.life_model.specs.Generation.{Generation, cells}
 use Rattle.life_model.proofs.Generations.{contains-cells}
 use Rattle.life_cells.specs.Limits.{IsWithin}
-use Rattle.life_tile.proofs.Inserted.{all_listed}
+use Rattle.life_slots.proofs.Inserted.{all_listed}
 use Rattle.life_tile.specs.TileStores.{members_of}
 use Rattle.life_tile.proofs.plane.TilePlanePlane.age.Goals as goal
 

@@ -1,7 +1,7 @@
 use Rattle.std.proofs.Common.{ℕ, subst, ap, ◌∙◌}
 use Rattle.life_model.specs.Generation.{Generation}
 use Rattle.life_plane.specs.Span.{set_span}
-use Rattle.life_tile.specs.Ends.{AreEnds, IsMember}
+use Rattle.life_slots.specs.Ends.{AreEnds, IsMember}
 use Rattle.life_tile.specs.TileStores.{members_of}
 use Rattle.life_tile.proofs.Edges.{set_span_of_ends, set_span_of_none}
 use Rattle.life_tile.proofs.plane.TilePlanePlane.span.Goals as goal

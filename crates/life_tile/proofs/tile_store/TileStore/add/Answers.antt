@@ -2,10 +2,10 @@ use Rattle.std.proofs.Common.{◌≡◌, ◌+◌, ◌<◌, List, [], ◌∷◌, 
 use Rattle.std.specs.Vec.{with_items}
 use Rattle.std.specs.BTreeMap.{IsOrdered, get}
 use Rattle.life_bits.specs.declared.tile.Tile.{Tile}
-use Rattle.life_tile.specs.Places.{place_cmp}
-use Rattle.life_tile.specs.declared.bands.Bands.{Bands}
-use Rattle.life_tile.specs.declared.slot.Slot.{Slot}
-use Rattle.life_tile.specs.Slots.{Index, place_of, link_of, empty_tile, IsReached}
+use Rattle.life_slots.specs.Places.{place_cmp}
+use Rattle.life_slots.specs.declared.bands.Bands.{Bands}
+use Rattle.life_slots.specs.declared.slot.Slot.{Slot}
+use Rattle.life_slots.specs.Slots.{Index, place_of, link_of, empty_tile, IsReached}
 use Rattle.life_tile.specs.TileStores.{IsAlike, all_bands, no_bands}
 use Rattle.life_tile.proofs.Kept.{written_back, store_alike, extended_alike, kept_extended}
 use Rattle.life_tile.proofs.Added.{IsAdded, links_small, added_store, added_extended, added_slot}

@@ -1,7 +1,7 @@
 use Rattle.std.proofs.Common.{◌≡◌, ◌+◌, false, length, sym, subst, ◌∙◌}
+use Rattle.life_slots.specs.Slots.{generation_shown}
+use Rattle.life_slots.specs.Work.{IsWorkedOut}
 use Rattle.life_tile.specs.declared.tile_store.TileStore.{TileStore}
-use Rattle.life_tile.specs.Slots.{generation_shown}
-use Rattle.life_tile.specs.Work.{IsWorkedOut}
 use Rattle.life_tile.specs.TileStores.{IsKept}
 use Rattle.life_tile.proofs.Kept.{written_back}
 use Rattle.life_tile.proofs.Advanced.{worked_at, kept_next, members_next}

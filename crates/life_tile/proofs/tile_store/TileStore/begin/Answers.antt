@@ -1,10 +1,10 @@
 use Rattle.std.proofs.Common.{◌≡◌, List, length, refl, sym, subst, ap, ◌∙◌, arith}
 use Rattle.std.specs.Vec.{with_items}
 use Rattle.life_bits.specs.declared.tile.Tile.{Tile}
-use Rattle.life_tile.specs.declared.bands.Bands.{Bands}
-use Rattle.life_tile.specs.declared.slot.Slot.{Slot}
-use Rattle.life_tile.specs.Slots.{tile_of}
-use Rattle.life_tile.specs.Work.{IsMarkedNear}
+use Rattle.life_slots.specs.declared.bands.Bands.{Bands}
+use Rattle.life_slots.specs.declared.slot.Slot.{Slot}
+use Rattle.life_slots.specs.Slots.{tile_of}
+use Rattle.life_slots.specs.Work.{IsMarkedNear}
 use Rattle.life_tile.proofs.Begun.{begun_fresh, begun_going}
 use Rattle.life_tile.proofs.Kept.{written_back}
 use Rattle.life_tile.proofs.tile_store.TileStore.begin.Goals as goal

@@ -5,10 +5,10 @@ use Rattle.life_model.specs.Generation.{Generation, contains, from_list}
 use Rattle.life_model.proofs.Generations.{contains-from_list, same_members}
 use Rattle.life_cells.specs.Limits.{IsWithin}
 use Rattle.life_bits.specs.declared.tile.Tile.{Tile}
-use Rattle.life_tile.specs.Cells.{tiles_cells}
-use Rattle.life_tile.specs.Seats.{has_tile}
-use Rattle.life_tile.proofs.Inserted.{all_listed}
-use Rattle.life_tile.specs.Slots.{placed_tiles, generation_shown, IsReached}
+use Rattle.life_slots.specs.Cells.{tiles_cells}
+use Rattle.life_slots.specs.Seats.{has_tile}
+use Rattle.life_slots.proofs.Inserted.{all_listed}
+use Rattle.life_slots.specs.Slots.{placed_tiles, generation_shown, IsReached}
 use Rattle.life_tile.specs.TileStores.{members_of}
 use Rattle.life_tile.proofs.Kept.{inside_from_reached}
 use Rattle.life_tile.proofs.tile_store.TileStore.cells.Goals as goal

@@ -4,10 +4,10 @@ use Rattle.std.proofs.lemmas.List.Sums.{count_by_more_no, count_by_more_yes}
 use Rattle.life_bits.specs.declared.tile.Tile.{Tile}
 use Rattle.life_bits.specs.Area.{tile_cell}
 use Rattle.life_cells.specs.Limits.{IsWithin}
+use Rattle.life_slots.specs.Ends.{IsVoid}
+use Rattle.life_slots.specs.Cells.{has_cell, live_tiles}
+use Rattle.life_slots.specs.Slots.{place_of, slot_at, tile_of}
 use Rattle.life_tile.specs.declared.tile_store.TileStore.{TileStore}
-use Rattle.life_tile.specs.Ends.{IsVoid}
-use Rattle.life_tile.specs.Cells.{has_cell, live_tiles}
-use Rattle.life_tile.specs.Slots.{place_of, slot_at, tile_of}
 use Rattle.life_tile.specs.TileStores.{IsCompact, IsTileAt, IsSameBut, cell_of, members_of}
 use Rattle.life_tile.proofs.Copied.{IsCopying, copied_none, copied_void, copied_more, copied_all, within_slot}
 use Rattle.life_tile.proofs.Tallied.{absent_yet, compact_one, empty_is_void, live_tile, void_tile}

@@ -1,5 +1,5 @@
 use Rattle.std.proofs.Common.{◌≡◌, ◌+◌, length, take}
-use Rattle.life_tile.specs.Cells.{live_tiles}
+use Rattle.life_slots.specs.Cells.{live_tiles}
 use Rattle.life_tile.specs.TileStores.{IsCompact}
 use Rattle.life_tile.proofs.Copied.{IsCopying}
 use Rattle.life_tile.proofs.tile_store.TileStore.compacted.Given as goal

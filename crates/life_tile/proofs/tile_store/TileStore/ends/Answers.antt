@@ -1,7 +1,7 @@
 use Rattle.std.proofs.Common.{List, length, subst₂}
 use Rattle.life_bits.specs.declared.tile.Tile.{Tile}
-use Rattle.life_tile.specs.declared.slot.Slot.{Slot}
-use Rattle.life_tile.specs.Ends.{AreEnds, IsLiveAt}
+use Rattle.life_slots.specs.declared.slot.Slot.{Slot}
+use Rattle.life_slots.specs.Ends.{AreEnds, IsLiveAt}
 use Rattle.life_tile.proofs.Edges.{member_ends}
 use Rattle.life_tile.proofs.tile_store.TileStore.ends.Goals as goal
 

@@ -1,6 +1,6 @@
 use Rattle.std.proofs.Common.{◌≡◌, ◌<◌, ◌≤◌, ⊎_elim, length, sym, subst, ◌∙◌, arith}
 use Rattle.std.proofs.lemmas.Bool.{cases_eq, cases_lt}
-use Rattle.life_tile.specs.TileStores.{IsClosed}
+use Rattle.life_slots.specs.Indexes.{IsClosed}
 use Rattle.life_tile.proofs.Kept.{extended_itself, extended_more, closed_extended, closed_new, members_extended}
 use Rattle.life_tile.proofs.tile_store.TileStore.grow.Goals as goal
 

@@ -1,5 +1,6 @@
 use Rattle.std.proofs.Common.{ℕ, ◌<◌}
-use Rattle.life_tile.specs.TileStores.{IsClosed, IsExtended, IsKept}
+use Rattle.life_slots.specs.Indexes.{IsClosed}
+use Rattle.life_tile.specs.TileStores.{IsExtended, IsKept}
 use Rattle.life_tile.proofs.tile_store.TileStore.grow.Given as goal
 
 abbrev pub invariant-loop-slot : goal.invariant-loop-slot

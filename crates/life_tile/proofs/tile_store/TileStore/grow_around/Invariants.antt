@@ -1,6 +1,6 @@
 use Rattle.std.proofs.Common.{◌≡◌, ℕ, ◌<◌}
-use Rattle.life_tile.specs.Slots.{link_of, tile_of}
-use Rattle.life_tile.specs.Rims.{IsStill}
+use Rattle.life_slots.specs.Slots.{link_of, tile_of}
+use Rattle.life_slots.specs.Rims.{IsStill}
 use Rattle.life_tile.specs.TileStores.{IsExtended, IsKept}
 use Rattle.life_tile.proofs.tile_store.TileStore.grow_around.Given as goal
 

@@ -1,6 +1,6 @@
 use Rattle.std.proofs.Common.{sym, subst, ap, ◌∙◌}
-use Rattle.life_tile.specs.Places.{IsInside}
-use Rattle.life_tile.specs.Slots.{neighbour_at, place_of, tile_of, IsReached}
+use Rattle.life_slots.specs.Places.{IsInside}
+use Rattle.life_slots.specs.Slots.{neighbour_at, place_of, tile_of, IsReached}
 use Rattle.life_tile.proofs.Kept.{inside_from_reached, reached_beyond}
 use Rattle.life_tile.proofs.tile_store.TileStore.grow_towards.Goals as goal
 

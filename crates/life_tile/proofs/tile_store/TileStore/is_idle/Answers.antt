@@ -1,7 +1,7 @@
 use Rattle.std.proofs.Common.{ap, sym, ◌∙◌}
 use Rattle.std.proofs.lemmas.List.{get_or_default}
 use Rattle.std.specs.Int.{bit_at}
-use Rattle.life_tile.specs.declared.bands.Bands.{Bands}
+use Rattle.life_slots.specs.declared.bands.Bands.{Bands}
 use Rattle.life_tile.proofs.tile_store.TileStore.is_idle.Goals as goal
 
 pub returns : goal.returns

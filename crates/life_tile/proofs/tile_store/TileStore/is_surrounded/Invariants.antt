@@ -1,5 +1,5 @@
 use Rattle.std.proofs.Common.{◌≢◌, ℕ, ◌<◌}
-use Rattle.life_tile.specs.Slots.{link_of}
+use Rattle.life_slots.specs.Slots.{link_of}
 use Rattle.life_tile.proofs.tile_store.TileStore.is_surrounded.Given as goal
 
 abbrev pub invariant-loop-direction : goal.invariant-loop-direction

@@ -1,10 +1,11 @@
 use Rattle.std.proofs.Common.{◌≡◌, ℕ, ◌≤◌, pos, true, List, [], ◌∷◌, ◌++◌, length, sym, subst, ap, ◌∙◌}
 use Rattle.std.specs.BTreeMap.{IsOrdered}
+use Rattle.life_cells.specs.Limits.{age_limit}
 use Rattle.life_bits.specs.declared.tile.Tile.{Tile}
-use Rattle.life_tile.specs.Places.{place_cmp}
-use Rattle.life_tile.specs.declared.bands.Bands.{Bands}
-use Rattle.life_tile.specs.declared.slot.Slot.{Slot}
-use Rattle.life_tile.specs.Slots.{Index, empty_tile}
+use Rattle.life_slots.specs.Places.{place_cmp}
+use Rattle.life_slots.specs.declared.bands.Bands.{Bands}
+use Rattle.life_slots.specs.declared.slot.Slot.{Slot}
+use Rattle.life_slots.specs.Slots.{Index, empty_tile}
 use Rattle.life_tile.specs.TileStores.{all_bands, no_bands}
 use Rattle.life_tile.proofs.Put.{kept_new, members_new}
 use Rattle.life_tile.proofs.tile_store.TileStore.new.Goals as goal
@@ -37,8 +38,8 @@ module _ (c : goal.After-append) where
   next_active : c.append.new.self.next_active.items ≡ no_bands ∷ []
   next_active = c.append.ensures.next_active ∙ ap (λ (bs : List Bands). bs ++ no_bands ∷ []) (c.reserve_one.ensures.alike.next_active ∙ c.new-4.ensures.items)
 
-  young : c.append.new.self.age ≤ 4194304
-  young = subst (λ (n : ℕ). n ≤ 4194304) (sym (c.append.ensures.age ∙ c.reserve_one.ensures.alike.age)) c.requires
+  young : c.append.new.self.age ≤ age_limit
+  young = subst (λ (n : ℕ). n ≤ age_limit) (sym (c.append.ensures.age ∙ c.reserve_one.ensures.alike.age)) c.requires
 
   lacks_previous : c.append.new.self.lacks_previous ≡ true
   lacks_previous = c.append.ensures.lacks_previous ∙ c.reserve_one.ensures.alike.lacks_previous

@@ -2,7 +2,7 @@ use Rattle.std.proofs.Common.{ℕ, pos, ◌<◌, ◌≤◌, length, get_or, refl
 use Rattle.std.proofs.lemmas.List.{take_all}
 use Rattle.life_model.specs.Generation.{from_list}
 use Rattle.life_cells.specs.Limits.{IsWithin}
-use Rattle.life_tile.proofs.Inserted.{list_more}
+use Rattle.life_slots.proofs.Inserted.{list_more}
 use Rattle.life_tile.specs.TileStores.{members_of}
 use Rattle.life_tile.proofs.Tallied.{compact_one}
 use Rattle.life_tile.proofs.tile_store.TileStore.of.Goals as goal

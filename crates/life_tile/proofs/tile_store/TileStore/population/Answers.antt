@@ -1,11 +1,11 @@
 use Rattle.std.proofs.Common.{◌≡◌, ℕ, ◌<◌, ◌-◌, ◌^◌, List, length, take, drop, sym, subst, ap, ◌∙◌}
 use Rattle.std.specs.List.{sum_by}
 use Rattle.life_bits.specs.declared.tile.Tile.{Tile}
-use Rattle.life_tile.specs.Cells.{tile_count}
+use Rattle.life_slots.specs.Cells.{tile_count}
 use Rattle.life_tile.specs.TileStores.{IsKept, members_of}
 use Rattle.life_tile.specs.declared.tile_store.TileStore.{TileStore}
 use Rattle.life_model.specs.Generation.{size}
-use Rattle.life_tile.proofs.Sizes.{size_fits}
+use Rattle.life_slots.proofs.Sizes.{size_fits}
 use Rattle.life_tile.proofs.Placed.{size_kept}
 use Rattle.life_tile.proofs.Tallied.{sum_past_first}
 use Rattle.life_tile.proofs.tile_store.TileStore.population.Goals as goal

@@ -4,11 +4,12 @@ use Rattle.std.proofs.lemmas.Bool.{cases_eq, cases_lt}
 use Rattle.life_bits.specs.Area.{tile_cell}
 use Rattle.life_model.specs.Generation.{Generation, insert}
 use Rattle.life_cells.specs.Limits.{IsWithin}
+use Rattle.life_slots.specs.Ends.{IsVoid}
+use Rattle.life_slots.specs.Places.{start_at}
+use Rattle.life_slots.specs.Slots.{tile_of, empty_tile}
+use Rattle.life_slots.specs.Indexes.{IsSlotOf}
 use Rattle.life_tile.specs.declared.tile_store.TileStore.{TileStore}
-use Rattle.life_tile.specs.Ends.{IsVoid}
-use Rattle.life_tile.specs.Places.{start_at}
-use Rattle.life_tile.specs.Slots.{tile_of, empty_tile}
-use Rattle.life_tile.specs.TileStores.{IsKept, IsSlotOf, members_of}
+use Rattle.life_tile.specs.TileStores.{IsKept, members_of}
 use Rattle.life_tile.proofs.Kept.{members_extended}
 use Rattle.life_tile.proofs.Put.{members_put, kept_put}
 use Rattle.life_tile.proofs.tile_store.TileStore.put.Goals as goal

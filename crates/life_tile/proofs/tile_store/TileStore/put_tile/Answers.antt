@@ -3,8 +3,8 @@ use Rattle.std.proofs.lemmas.Bool.{cases_eq, cases_lt}
 use Rattle.life_bits.specs.Area.{tile_cell}
 use Rattle.life_model.specs.Generation.{Generation}
 use Rattle.life_cells.specs.Limits.{IsWithin}
+use Rattle.life_slots.specs.Slots.{tile_of}
 use Rattle.life_tile.specs.declared.tile_store.TileStore.{TileStore}
-use Rattle.life_tile.specs.Slots.{tile_of}
 use Rattle.life_tile.specs.TileStores.{IsKept, IsSameBut, IsTileAt, cell_of, members_of}
 use Rattle.life_tile.proofs.Kept.{members_extended}
 use Rattle.life_tile.proofs.Copied.{kept_shown, tile_at, same_but}

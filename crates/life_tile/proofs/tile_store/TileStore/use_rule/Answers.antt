@@ -1,9 +1,8 @@
 use Rattle.std.proofs.Common.{◌≡◌, ℕ, ◌<◌, List, length, refl, ap, ◌∙◌, arith}
 use Rattle.std.specs.Vec.{with_items}
-use Rattle.life_tile.specs.declared.bands.Bands.{Bands}
-use Rattle.life_tile.specs.Work.{mark_of}
-use Rattle.life_tile.specs.TileStores.{IsCalm}
-use Rattle.life_tile.proofs.Marks.{all_marked}
+use Rattle.life_slots.specs.declared.bands.Bands.{Bands}
+use Rattle.life_slots.specs.Work.{mark_of, IsCalm}
+use Rattle.life_slots.proofs.Marks.{all_marked}
 use Rattle.life_tile.proofs.Kept.{written_back}
 use Rattle.life_tile.proofs.Put.{kept_fresh}
 use Rattle.life_tile.proofs.tile_store.TileStore.use_rule.Goals as goal

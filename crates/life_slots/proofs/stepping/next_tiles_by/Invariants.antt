@@ -1,0 +1,14 @@
+use Rattle.std.proofs.Common.{◌-◌, ◌≤◌, length}
+use Rattle.life_model.specs.Rule.{Rule}
+use Rattle.life_bits.specs.Logics.{IsLogicOf}
+use Rattle.life_slots.specs.Work.{IsWorkedOut}
+use Rattle.life_slots.proofs.stepping.next_tiles_by.Given as goal
+
+abbrev pub invariant-loop-slot : goal.invariant-loop-slot
+invariant-loop-slot l = record {
+  later : 1 ≤ l.slot;
+  worked : (rule : Rule) → IsLogicOf l.logic rule → IsWorkedOut l.slots l.current l.active rule l.initial.previous l.previous l.initial.marks l.marks l.slot;
+}
+
+abbrev pub decreases-loop-slot : goal.decreases-loop-slot
+decreases-loop-slot l = length l.slots - l.slot

@@ -1,0 +1,16 @@
+use Rattle.std.proofs.Common.{◌≡◌, ◌-◌, ◌<◌, ◌≤◌}
+use Rattle.std.specs.Int.{bit_at}
+use Rattle.life_model.specs.Rule.{Rule}
+use Rattle.life_bits.specs.Logics.{IsLogicOf}
+use Rattle.life_slots.specs.Work.{IsTileWorkedOut}
+use Rattle.life_slots.proofs.stepping.work_out.Given as goal
+
+abbrev pub invariant-loop-index : goal.invariant-loop-index
+invariant-loop-index l = record {
+  small : l.index ≤ 8;
+  marked : l.index < 8 → bit_at l.active.bits l.index ≡ 1;
+  worked : (rule : Rule) → IsLogicOf l.logic rule → IsTileWorkedOut l.current l.links l.active rule l.initial.tile l.tile l.touched.columns l.index;
+}
+
+abbrev pub decreases-loop-index : goal.decreases-loop-index
+decreases-loop-index l = 8 - l.index

@@ -1,0 +1,37 @@
+-- The cells of a tile that are next to another tile.
+use Rattle.std.specs.Prelude.{◌≡◌, ℕ, ◌+◌, ◌*◌, ◌%◌, ◌/◌, ◌<◌, ◌≤◌, ◌↔◌}
+use Rattle.std.specs.Int.{bit_at}
+use Rattle.life_bits.specs.declared.tile.Tile.{Tile}
+use Rattle.life_bits.specs.Area.{tile_cell}
+use Rattle.life_slots.specs.declared.rim.Rim.{Rim}
+
+-- of 64 columns or rows those that are next to the 64 before them (0), to themselves (1), or to the 64 after them (2)
+pub record IsEdge (side z : ℕ) : Type 0 where
+  pub first : side ≡ 0 → z ≡ 0
+  pub last : side ≡ 2 → z ≡ 63
+
+-- none of those of 64 bits is set that are next to the 64 before them, to themselves, or to the 64 after them
+abbrev pub IsSideClear : ℕ → ℕ → Type 0
+IsSideClear side bits = (x : ℕ) → x < 64 → IsEdge side x → bit_at bits x ≡ 0
+
+-- column x and row y of a tile are at its edge in a direction
+pub record IsAtEdge (m x y : ℕ) : Type 0 where
+  pub column : IsEdge (m % 3) x
+  pub row : IsEdge (m / 3) y
+
+-- Column x and row y of a tile are in or next to a band of the tile in a direction. Of three tiles one above the other, of which
+-- this is the middle one, that band is the one with number 8 * (m / 3) + band.
+pub record IsNextToBand (m band x y : ℕ) : Type 0 where
+  pub column : IsEdge (m % 3) x
+  pub from : 8 * (8 * (m / 3) + band) ≤ y + 65
+  pub to : y + 56 ≤ 8 * (8 * (m / 3) + band)
+
+-- no cell of a tile at its edge in a direction is live
+pub record IsStill (tile : Tile) (m : ℕ) : Type 0 where
+  pub still : (x y : ℕ) → x < 64 → y < 64 → IsAtEdge m x y → tile_cell tile x y ≡ 0
+
+-- a tile's first row, its last row, and in which columns it has a live cell
+pub record IsRimOf (rim : Rim) (tile : Tile) : Type 0 where
+  pub first : (x : ℕ) → x < 64 → bit_at rim.first x ≡ tile_cell tile x 0
+  pub last : (x : ℕ) → x < 64 → bit_at rim.last x ≡ tile_cell tile x 63
+  pub columns : (x : ℕ) → x < 64 → (bit_at rim.columns x ≡ 0) ↔ ((y : ℕ) → y < 64 → tile_cell tile x y ≡ 0)

@@ -1,9 +1,0 @@
-use Rattle.std.proofs.Common.{◌*◌, ◌≤◌}
-use Rattle.life_tile.specs.Cells.{IsCountFrom}
-use Rattle.life_tile.proofs.counting.count_rows.Given as goal
-
-abbrev pub invariant-loop-y : goal.invariant-loop-y
-invariant-loop-y l = record {
-  few : l.count ≤ 64 * l.y;
-  counted : IsCountFrom l.tile.rows l.top l.y l.count;
-}

@@ -1,9 +1,0 @@
-use Rattle.std.proofs.Common.{◌≡◌, ℕ, ◌*◌, ◌<◌}
-use Rattle.life_bits.specs.Area.{tile_cell}
-use Rattle.life_tile.specs.Rims.{IsNextToBand}
-use Rattle.life_tile.specs.Work.{touch_of}
-use Rattle.life_tile.proofs.starting.bands_near.Given as goal
-
-abbrev pub invariant-loop-index : goal.invariant-loop-index
-invariant-loop-index l = (m band x y : ℕ) → m < 9 → band < 8 → x < 64 → y < 8 * l.index → IsNextToBand m band x y → touch_of l.touched.columns m band ≡ 0 →
-    tile_cell l.tile x y ≡ 0
