@@ -5,9 +5,10 @@ ghost use Rattle.life_text.specs.Rle.{reading};
 ghost use Rattle.life_text.specs.declared.rle.RleFault.TheVariants.{Memory};
 ghost use Rattle.census_blocks.specs.Blocks.{block_of, pattern_block};
 
-use crate::known::{BOUND_LIMIT, known_of};
+use crate::known::known_of;
 use crate::lines::{push_head, push_known};
 use crate::size::size;
+use life_orbit::BOUND_LIMIT;
 use life_text::{Pattern, RleFault, read_rle};
 use std::alloc::{AllocError, Global};
 use std::marker::Model;

@@ -7,11 +7,9 @@ ghost use Rattle.life_answer.specs.Census.{census_of};
 ghost use Rattle.census_blocks.specs.Known.{known_parts, known_of, known_recurrence};
 
 use life_answer::{Answer, Code, Finding, Parts};
+use life_orbit::BOUND_LIMIT;
 use life_text::Pattern;
 use std::alloc::{AllocError, Global};
-
-/// The greatest bound within which is answered.
-pub const BOUND_LIMIT: u32 = 100_000;
 
 /// What is known of a pattern within a bound.
 #[derive(Drop)]

@@ -9,4 +9,4 @@ mod lines;
 mod size;
 
 pub use block_text::{BlockText, block};
-pub use known::{BOUND_LIMIT, Known, known_of};
+pub use known::{Known, known_of};

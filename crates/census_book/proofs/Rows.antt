@@ -1,5 +1,6 @@
 -- Slots in which results are kept.
 use Rattle.std.proofs.Common.{◌≡◌, ℕ, zero, suc, ◌+◌, ◌-◌, ◌<◌, ◌≤◌, Bool, true, false, cond, eqb, ◌||◌, List, [], ◌∷◌, ◌++◌, length, get_or, map, set, replicate, Option, None, Some, is_some, refl, sym, ap, subst, ◌∙◌, arith, slice_get, ◌⊎◌, inl, inr}
+use Rattle.std.proofs.Math.Bool.{or-false}
 use Rattle.std.proofs.lemmas.Bool.Decides.{nat_tests}
 use Rattle.std.proofs.lemmas.List.{length-map, length-set, length-replicate}
 use Rattle.std.proofs.lemmas.Bool.{or_right}
@@ -18,7 +19,7 @@ use Rattle.census_book.specs.Slots.{Row, Taking, HasSlot, IsFull, KeepsResults, 
 use Rattle.census_book.specs.Work.{Work}
 use Rattle.census_book.proofs.Kept.{result_at_own}
 use Rattle.census_book.proofs.Padding.{held_dropped, held_map, none_in}
-use Rattle.census_book.proofs.TicketSets.{apart, eq_symm, has_list, one_ticket, or_none, some_or, ticket_cmp_same, ticket_cmp_total}
+use Rattle.census_book.proofs.TicketSets.{apart, eq_symm, has_list, one_ticket, some_or, ticket_cmp_same, ticket_cmp_total}
 use Rattle.life_answer.specs.declared.question.Question.{Question}
 
 get_set_same : {X : Type 0} (xs : List X) (i : ℕ) (y : X) → i < length xs → slice_get (set xs i y) i ≡ Some y
@@ -76,7 +77,7 @@ rows_from d n c zero (row ∷ rows) e =
     let here : d ≡ c = omega (arith, e) in
     list_any-append (eq_by_cmp ticket_cmp (ticket d n)) (row_tickets c 1 row) (rows_tickets (suc c) rows)
     ∙ ap (λ b. list_any (eq_by_cmp ticket_cmp (ticket d n)) (row_tickets c 1 row) || b) (rows_other (ticket d n) (suc c) rows (omega (arith, here)))
-    ∙ or_none _
+    ∙ or-false _
     ∙ subst (λ x. list_any (eq_by_cmp ticket_cmp (ticket d n)) (row_tickets x 1 row) ≡ is_some (work_at row n)) here (row_at d n row)
 rows_from d n c (suc j) (row ∷ rows) e =
     list_any-append (eq_by_cmp ticket_cmp (ticket d n)) (row_tickets c 1 row) (rows_tickets (suc c) rows)

@@ -1,21 +1,18 @@
 -- Sets of tickets.
 use Rattle.std.proofs.Common.{◌≡◌, Bool, true, false, ◌||◌, refl, sym, ap, ◌∙◌, Ordering, cond, Option, Some, is_some, List}
+use Rattle.std.proofs.Math.Bool.{or-false}
 use Rattle.std.proofs.lemmas.Bool.{or_right}
 use Rattle.std.specs.declared.cmp.Ordering.TheVariants.{Less, Equal, Greater}
-use Rattle.std.specs.Ordering.{nat_cmp, ordering_then, ordering_reverse, is_eq, eq_by_cmp}
+use Rattle.std.specs.Ordering.{nat_cmp, ordering_reverse, is_eq, eq_by_cmp}
 use Rattle.std.specs.Cmp.{IsTotalOrder, nat_cmp_total, then_total, on_total, tied_itself}
 use Rattle.std.specs.FinSet.{IsAntisymmetric, nat_cmp-IsAntisymmetric, contains-insert, contains-from_list}
 use Rattle.std.specs.List.{list_any}
+use Rattle.life_model.proofs.Cells.{both_equal}
 use Rattle.census_bundle.specs.declared.ticket.Ticket.{Ticket}
 use Rattle.census_bundle.specs.Tickets.{Tickets, ticket_cmp, folder_of, number_of, has_ticket, with_ticket, tickets_of}
 
 pub ticket_cmp_total : IsTotalOrder ticket_cmp
 ticket_cmp_total = then_total (on_total folder_of nat_cmp_total) (on_total number_of nat_cmp_total)
-
-both_equal : (r s : Ordering) → ordering_then r s ≡ Equal → (r ≡ Equal) × (s ≡ Equal)
-both_equal Less s e = absurd (cc)
-both_equal Equal s e = (refl, e)
-both_equal Greater s e = absurd (cc)
 
 pub ticket_cmp_same : IsAntisymmetric ticket_cmp
 ticket_cmp_same x y e =
@@ -37,10 +34,6 @@ has_other taken t q ne = contains-insert ticket_cmp_total taken t q ∙ ap (λ b
 
 pub has_same : (taken : Tickets) (t : Ticket) → has_ticket (with_ticket taken t) t ≡ true
 has_same taken t = contains-insert ticket_cmp_total taken t t ∙ ap (λ r. is_eq r || has_ticket taken t) (tied_itself ticket_cmp_total t)
-
-pub or_none : (b : Bool) → (b || false) ≡ b
-or_none true = refl
-or_none false = refl
 
 pub has_kept : (taken : Tickets) (t q : Ticket) → has_ticket taken q ≡ true → has_ticket (with_ticket taken t) q ≡ true
 has_kept taken t q has = contains-insert ticket_cmp_total taken t q ∙ ap (λ b. eq_by_cmp ticket_cmp q t || b) has ∙ or_right (eq_by_cmp ticket_cmp q t) true refl
@@ -77,4 +70,4 @@ one_ticket t q e =
 -- a ticket that one more makes taken is that one
 pub new_ticket : (taken : Tickets) (t q : Ticket) → has_ticket taken q ≡ false → has_ticket (with_ticket taken t) q ≡ true → q ≡ t
 new_ticket taken t q not has =
-    one_ticket q t (sym (or_none (eq_by_cmp ticket_cmp q t)) ∙ ap (λ b. eq_by_cmp ticket_cmp q t || b) (sym not) ∙ sym (contains-insert ticket_cmp_total taken t q) ∙ has)
+    one_ticket q t (sym (or-false (eq_by_cmp ticket_cmp q t)) ∙ ap (λ b. eq_by_cmp ticket_cmp q t || b) (sym not) ∙ sym (contains-insert ticket_cmp_total taken t q) ∙ has)

@@ -1,6 +1,6 @@
 //! What a result releases.
 ghost use Rattle.std.specs.Prelude.{◌≡◌, ◌≤◌, ◌<◌, ◌++◌, ◌-◌, ◌+◌, ℕ, true, false, [], ◌∷◌, length, take, drop, map, OnOk, IfOk, Some};
-ghost use Rattle.census_bundle.specs.Sizes.{IsSmall};
+ghost use Rattle.census_bundle.specs.Sizes.{IsSmall, count_limit};
 ghost use Rattle.census_bundle.specs.Tickets.{has_ticket, element_at, ticket};
 ghost use Rattle.census_format.specs.Lines.{answers, end_line, pattern_lines, pattern_count, text_of};
 ghost use Rattle.census_book.specs.Collecting.{Belongs};
@@ -18,7 +18,7 @@ use std::alloc::{AllocError, Global};
 
 // How many patterns of the collection have arrived before the first that has not, where these have.
 fn run_count(arrival: &Arrival, c: u32, folder: &Folder, from: usize) -> usize
-    requires small { length folder.now.entries ≤ 65535 }
+    requires small { length folder.now.entries ≤ count_limit }
     requires within { from ≤ length folder.now.entries }
     requires before { (j : ℕ) → j < from → has_ticket arrival.now.taken (ticket c (1 + j)) ≡ true }
     ensures run { result ≡ run_of arrival.now.taken c folder.now }
@@ -46,7 +46,7 @@ fn push_patterns(
     k: usize,
     m: usize,
 ) -> Result<(), AllocError>
-    requires small { length folder.now.entries ≤ 65535 }
+    requires small { length folder.now.entries ≤ count_limit }
     requires at { element_at arrival.now.bundle c ≡ Some folder.now }
     requires own { c ≡ arrival.now.folder }
     requires run { m ≡ run_of arrival.now.taken c folder.now }
@@ -71,7 +71,7 @@ fn folder_answers<'r>(
     c: u32,
     folder: &Folder,
 ) -> Result<Vec<&'r Answer>, AllocError>
-    requires small { length folder.now.entries ≤ 65535 }
+    requires small { length folder.now.entries ≤ count_limit }
     requires at { element_at arrival.now.bundle c ≡ Some folder.now }
     requires own { c ≡ arrival.now.folder }
     requires whole { length folder.now.entries ≡ run_of arrival.now.taken c folder.now }
@@ -126,7 +126,7 @@ fn push_folder(
     k: usize,
     m: usize,
 ) -> Result<(), AllocError>
-    requires small { length folder.now.entries ≤ 65535 }
+    requires small { length folder.now.entries ≤ count_limit }
     requires at { element_at arrival.now.bundle c ≡ Some folder.now }
     requires own { c ≡ arrival.now.folder }
     requires run { m ≡ run_of arrival.now.taken c folder.now }
@@ -154,7 +154,7 @@ pub fn folder_at(folders: &[Folder], c: u32) -> &Folder
     requires small { IsSmall folders.now }
     requires number { (0 < c) × (c ≤ length folders.now) }
     ensures at { element_at folders.now c ≡ Some result.now }
-    ensures small { length result.now.entries ≤ 65535 }
+    ensures small { length result.now.entries ≤ count_limit }
 {
     &folders[c as usize - 1]
 }

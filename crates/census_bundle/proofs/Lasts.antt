@@ -74,7 +74,7 @@ with_text-with_entry b name t u =
 
 -- # The entries of the last folder
 
-last_entries_of-push : (f : Folder) (fs : List Folder) (g : Folder) → last_entries_of f (fs ++ g ∷ []) ≡ g.entries
+pub last_entries_of-push : (f : Folder) (fs : List Folder) (g : Folder) → last_entries_of f (fs ++ g ∷ []) ≡ g.entries
 last_entries_of-push f [] g = refl
 last_entries_of-push f (h ∷ hs) g = last_entries_of-push h hs g
 

@@ -1,4 +1,4 @@
--- How large a bundle may be.
+-- How large a bundle may be, and a text that is read.
 use Rattle.std.specs.Prelude.{◌≡◌, ℕ, ◌≤◌, List, length, slice_get, Some}
 use Rattle.census_bundle.specs.declared.bundle.Folder.{Folder}
 
@@ -6,7 +6,11 @@ use Rattle.census_bundle.specs.declared.bundle.Folder.{Folder}
 abbrev pub count_limit : ℕ
 count_limit = 65535
 
+-- the most bytes of a text that is read, of a file or of standard input
+abbrev pub input_limit : ℕ
+input_limit = 67108864
+
 -- at most 65,535 folders, each with at most 65,535 entries
 pub record IsSmall (b : List Folder) : Type 0 where
-  pub folders : length b ≤ 65535
-  pub entries : (k : ℕ) (f : Folder) → slice_get b k ≡ Some f → length f.entries ≤ 65535
+  pub folders : length b ≤ count_limit
+  pub entries : (k : ℕ) (f : Folder) → slice_get b k ≡ Some f → length f.entries ≤ count_limit

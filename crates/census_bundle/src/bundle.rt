@@ -3,15 +3,13 @@ ghost use Rattle.std.specs.Prelude.{◌≡◌, ◌≤◌, ℕ, List, [], IfOk, I
 
 use crate::bytes::Bytes;
 use crate::last::{last_len, push_to_last};
+use crate::limits::COUNT_LIMIT;
 use crate::names::is_lawful;
 use crate::ticket::Ticket;
 use smallvec::SmallVec;
 use std::alloc::{AllocError, AllocFailed, Global};
 use std::marker::Model;
 use thiserror::Error;
-
-/// The most folders of a bundle, and the most entries of a folder.
-const COUNT_LIMIT: usize = 65_535;
 
 /// So many bytes of a text need no memory of their own, which are enough for most lines.
 const SHORT_LEN: usize = 48;

@@ -23,6 +23,7 @@ use Rattle.census_cli.proofs.Rows.{HasFirst, Reads, reads_of, reads_or_none, row
 use Rattle.census_cli.proofs.Uses.{RuleHolds}
 use Rattle.census_cli.proofs.Walks.{StopHolds, is_help}
 use Rattle.census_cli.proofs.Levels.{HasDefault, LevelHolds, checks_pass, defaults-there, given-there, level-Holds}
+use Rattle.census_cli.specs.Limits.{generation_limit, objects_bound_limit, settles_bound_limit}
 
 accepted : (ignore_case : Bool) (p : ValueParser) (v : Text) → value_kinds ignore_case p v ≡ [] → Accepts ignore_case p v
 accepted ignore_case p v e = go (accepts ignore_case p v) refl e
@@ -67,16 +68,16 @@ CensusText most id v =
     × (bytes_eq id (codes "input") ≡ true → IsUnsignedIn 1 9223372036854775807 v)
 
 abbrev RunText : Text → Text → Type 0
-RunText = CensusText 1000000
+RunText = CensusText settles_bound_limit
 
 abbrev ObjectsText : Text → Text → Type 0
-ObjectsText = CensusText 100000
+ObjectsText = CensusText objects_bound_limit
 
 abbrev IdentifyText : Text → Text → Type 0
-IdentifyText id v = (bytes_eq id (codes "bound") ≡ true → IsUnsignedIn 1 100000 v) × ExplainText id v
+IdentifyText id v = (bytes_eq id (codes "bound") ≡ true → IsUnsignedIn 1 objects_bound_limit v) × ExplainText id v
 
 abbrev AdvanceText : Text → Text → Type 0
-AdvanceText id v = (bytes_eq id (codes "generations") ≡ true → IsUnsignedIn 0 4194304 v) × ExplainText id v
+AdvanceText id v = (bytes_eq id (codes "generations") ≡ true → IsUnsignedIn 0 generation_limit v) × ExplainText id v
 
 abbrev TableText : Text → Text → Type 0
 TableText id v = (bytes_eq id (codes "csv") ≡ true → IsFlagText v) × (bytes_eq id (codes "json") ≡ true → IsFlagText v) × ExplainText id v
@@ -150,31 +151,31 @@ later_rules most = (
 
 run_rules : Each (RuleHolds RunText) built_run.rules
 run_rules = (
-  record { own = λ v e. (λ _. unsigned_in 1 1000000 v e, absent, absent, absent, absent, absent, absent, absent); usual = inr (refl, inl refl); plain = λ t. refl },
+  record { own = λ v e. (λ _. unsigned_in 1 settles_bound_limit v e, absent, absent, absent, absent, absent, absent, absent); usual = inr (refl, inl refl); plain = λ t. refl },
   (
     record { own = λ v e. (absent, λ _. unsigned_in 1 16 v e, absent, absent, absent, absent, absent, absent); usual = inr (refl, inl refl); plain = λ t. refl },
     (
       record { own = λ v e. (absent, absent, λ _. unsigned_in 1 4294967295 v e, absent, absent, absent, absent, absent); usual = inr (refl, inl refl); plain = λ t. refl },
-      later_rules 1000000,
+      later_rules settles_bound_limit,
     ),
   ),
 )
 
 objects_rules : Each (RuleHolds ObjectsText) built_objects.rules
 objects_rules = (
-  record { own = λ v e. (λ _. unsigned_in 1 100000 v e, absent, absent, absent, absent, absent, absent, absent); usual = inr (refl, inl refl); plain = λ t. refl },
+  record { own = λ v e. (λ _. unsigned_in 1 objects_bound_limit v e, absent, absent, absent, absent, absent, absent, absent); usual = inr (refl, inl refl); plain = λ t. refl },
   (
     record { own = λ v e. (absent, λ _. unsigned_in 1 16 v e, absent, absent, absent, absent, absent, absent); usual = inr (refl, inl refl); plain = λ t. refl },
     (
       record { own = λ v e. (absent, absent, λ _. unsigned_in 1 4294967295 v e, absent, absent, absent, absent, absent); usual = inr (refl, inl refl); plain = λ t. refl },
-      later_rules 100000,
+      later_rules objects_bound_limit,
     ),
   ),
 )
 
 identify_rules : Each (RuleHolds IdentifyText) built_identify.rules
 identify_rules = (
-  record { own = λ v e. (λ _. unsigned_in 1 100000 v e, absent); usual = inr (refl, inl refl); plain = λ t. refl },
+  record { own = λ v e. (λ _. unsigned_in 1 objects_bound_limit v e, absent); usual = inr (refl, inl refl); plain = λ t. refl },
   (
     record { own = λ v e. (absent, λ _. flag_text v e); usual = inr (refl, inr true_given); plain = λ t. refl },
     (
@@ -186,7 +187,7 @@ identify_rules = (
 
 advance_rules : Each (RuleHolds AdvanceText) built_advance.rules
 advance_rules = (
-  record { own = λ v e. (λ _. unsigned_in 0 4194304 v e, absent); usual = inr (refl, inl refl); plain = λ t. refl },
+  record { own = λ v e. (λ _. unsigned_in 0 generation_limit v e, absent); usual = inr (refl, inl refl); plain = λ t. refl },
   (
     record { own = λ v e. (absent, λ _. flag_text v e); usual = inr (refl, inr true_given); plain = λ t. refl },
     (
@@ -287,7 +288,7 @@ Passes s words = level_fault s [] nothing_held words false [] ≡ []
 
 run_has : (words : List Text) → Passes built_run words → HasRun (rows_after built_run.rules [] words)
 run_has words e = record {
-  bound = number_in RunText 1 1000000 (codes "bound") _
+  bound = number_in RunText 1 settles_bound_limit (codes "bound") _
       (read_by_default RunText built_run run_rules words e (codes "bound") (inl (refl, record { first = codes "1000"; rest = []; is = refl }))) (λ v q. q.0 refl);
   workers = number_in RunText 1 16 (codes "workers") _
       (read_by_default RunText built_run run_rules words e (codes "workers") (inr (inl (refl, record { first = codes "4"; rest = []; is = refl })))) (λ v q. q.1 refl);
@@ -305,7 +306,7 @@ run_has words e = record {
 
 objects_has : (words : List Text) → Passes built_objects words → HasObjects (rows_after built_objects.rules [] words)
 objects_has words e = record {
-  bound = number_in ObjectsText 1 100000 (codes "bound") _
+  bound = number_in ObjectsText 1 objects_bound_limit (codes "bound") _
       (read_by_default ObjectsText built_objects objects_rules words e (codes "bound") (inl (refl, record { first = codes "10000"; rest = []; is = refl }))) (λ v q. q.0 refl);
   workers = number_in ObjectsText 1 16 (codes "workers") _
       (read_by_default ObjectsText built_objects objects_rules words e (codes "workers") (inr (inl (refl, record { first = codes "4"; rest = []; is = refl })))) (λ v q. q.1 refl);
@@ -324,7 +325,7 @@ objects_has words e = record {
 
 identify_has : (words : List Text) → Passes built_identify words → HasIdentify (rows_after built_identify.rules [] words)
 identify_has words e = record {
-  bound = number_in IdentifyText 1 100000 (codes "bound") _
+  bound = number_in IdentifyText 1 objects_bound_limit (codes "bound") _
       (read_by_default IdentifyText built_identify identify_rules words e (codes "bound") (inl (refl, record { first = codes "10000"; rest = []; is = refl }))) (λ v q. q.0 refl);
   explain = flag_in IdentifyText (codes "explain") _
       (read_by_default IdentifyText built_identify identify_rules words e (codes "explain") (inr (inl (refl, false_by_default)))) (λ v q. q.1 refl);
@@ -336,7 +337,7 @@ advance_has words e =
     let checks = checks_pass built_advance rows false (read_checks AdvanceText built_advance advance_rules words e) in
     let given = is_true (is_given (codes "generations") rows) (neither_true (not (is_given (codes "generations") rows)) false checks.1).0 in
     record {
-      generations = number_in AdvanceText 0 4194304 (codes "generations") _
+      generations = number_in AdvanceText 0 generation_limit (codes "generations") _
           (read_as_given AdvanceText built_advance advance_rules words e (codes "generations") given) (λ v q. q.0 refl);
       explain = flag_in AdvanceText (codes "explain") _
           (read_by_default AdvanceText built_advance advance_rules words e (codes "explain") (inr (inl (refl, false_by_default)))) (λ v q. q.1 refl);

@@ -12,6 +12,7 @@ use Rattle.census_cli.specs.declared.request.Request.{Request}
 use Rattle.census_cli.specs.declared.request.Request.TheVariants.{Run, Objects, Identify, Advance, Draw, Merge, Table, Page}
 use Rattle.census_cli.specs.declared.request.TableFormat.{TableFormat}
 use Rattle.census_cli.specs.declared.request.TableFormat.TheVariants.{Csv, Json}
+use Rattle.census_cli.specs.Limits.{generation_limit, objects_bound_limit, settles_bound_limit}
 
 -- ---- what the matches of a command say
 
@@ -44,7 +45,7 @@ pub record GivesRun (command : Option (List ℕ × List Row)) (bound workers : �
   pub rows : List Row
   pub named : command ≡ Some (codes "run", rows)
   pub bound_is : number_of (codes "bound") rows ≡ Some bound
-  pub bound_in : (1 ≤ bound) × (bound ≤ 1000000)
+  pub bound_in : (1 ≤ bound) × (bound ≤ settles_bound_limit)
   pub workers_are : number_of (codes "workers") rows ≡ Some workers
   pub workers_in : (1 ≤ workers) × (workers ≤ 16)
   pub cells_are : number_of (codes "cells") rows ≡ cells
@@ -61,7 +62,7 @@ pub record GivesObjects (command : Option (List ℕ × List Row)) (bound workers
   pub rows : List Row
   pub named : command ≡ Some (codes "objects", rows)
   pub bound_is : number_of (codes "bound") rows ≡ Some bound
-  pub bound_in : (1 ≤ bound) × (bound ≤ 100000)
+  pub bound_in : (1 ≤ bound) × (bound ≤ objects_bound_limit)
   pub workers_are : number_of (codes "workers") rows ≡ Some workers
   pub workers_in : (1 ≤ workers) × (workers ≤ 16)
   pub cells_are : number_of (codes "cells") rows ≡ Some cells
@@ -78,7 +79,7 @@ pub record GivesIdentify (command : Option (List ℕ × List Row)) (bound : ℕ)
   pub rows : List Row
   pub named : command ≡ Some (codes "identify", rows)
   pub bound_is : number_of (codes "bound") rows ≡ Some bound
-  pub bound_in : (1 ≤ bound) × (bound ≤ 100000)
+  pub bound_in : (1 ≤ bound) × (bound ≤ objects_bound_limit)
   pub files_are : values_of (codes "file") rows ≡ files
 
 -- those of so many generations of this file, or, where there is none, of standard input
@@ -87,7 +88,7 @@ pub record GivesAdvance (command : Option (List ℕ × List Row)) (generations :
   pub rows : List Row
   pub named : command ≡ Some (codes "advance", rows)
   pub generations_are : number_of (codes "generations") rows ≡ Some generations
-  pub generations_in : generations ≤ 4194304
+  pub generations_in : generations ≤ generation_limit
   pub file_is : first_of (codes "file") rows ≡ file
 
 -- those of the drawing of a code under a rule

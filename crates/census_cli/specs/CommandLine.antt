@@ -5,6 +5,7 @@ use Rattle.clap.specs.Walk.{Rule}
 use Rattle.clap.specs.Simple.{App, Shape, new_rule, new_shape}
 use Rattle.clap.specs.declared.builder.action.ArgAction.TheVariants.{SetTrue}
 use Rattle.clap.specs.declared.builder.value_parser.ValueParser.TheVariants.{Unsigned}
+use Rattle.census_cli.specs.Limits.{generation_limit, objects_bound_limit, settles_bound_limit}
 
 -- `--bound N`
 abbrev pub bound_rule : Rule
@@ -13,7 +14,7 @@ bound_rule = record (new_rule (codes "bound")) {
   long = Some (codes "bound");
   value_names = 1;
   defaults = codes "1000" ∷ [];
-  parser = Some (Unsigned 1 1000000);
+  parser = Some (Unsigned 1 settles_bound_limit);
 }
 
 -- `--workers N`
@@ -33,7 +34,7 @@ search_rule = record (new_rule (codes "bound")) {
   long = Some (codes "bound");
   value_names = 1;
   defaults = codes "10000" ∷ [];
-  parser = Some (Unsigned 1 100000);
+  parser = Some (Unsigned 1 objects_bound_limit);
 }
 
 -- the `--cells N` of `run`, which has no default
@@ -105,7 +106,7 @@ abbrev pub generations_rule : Rule
 generations_rule = record (new_rule (codes "generations")) {
   value_names = 1;
   required = true;
-  parser = Some (Unsigned 0 4194304);
+  parser = Some (Unsigned 0 generation_limit);
 }
 
 -- the FILE of `advance N [FILE]`

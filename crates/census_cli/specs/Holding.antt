@@ -3,6 +3,7 @@ use Rattle.std.specs.Prelude.{◌≡◌, ◌⊎◌, ℕ, List, Bool, Option, Som
 use Rattle.clap.specs.Values.{IsUnsignedIn}
 use Rattle.clap.specs.Walk.{Row, first_of, one_of}
 use Rattle.census_cli.specs.Asking.{IsFlag}
+use Rattle.census_cli.specs.Limits.{generation_limit, objects_bound_limit, settles_bound_limit}
 
 -- a number of this range
 abbrev pub HasNumberIn : ℕ → ℕ → List ℕ → List Row → Type 0
@@ -26,7 +27,7 @@ HasText id rows = (text : List ℕ) × (first_of id rows ≡ Some text)
 
 -- the matches of `run` have their numbers and flags
 pub record HasRun (rows : List Row) : Type 0 where
-  pub bound : HasNumberIn 1 1000000 (codes "bound") rows
+  pub bound : HasNumberIn 1 settles_bound_limit (codes "bound") rows
   pub workers : HasNumberIn 1 16 (codes "workers") rows
   pub cells : HasLimit 4294967295 (codes "cells") rows
   pub input : HasLimit 9223372036854775807 (codes "input") rows
@@ -37,7 +38,7 @@ pub record HasRun (rows : List Row) : Type 0 where
 
 -- those of `objects` have theirs
 pub record HasObjects (rows : List Row) : Type 0 where
-  pub bound : HasNumberIn 1 100000 (codes "bound") rows
+  pub bound : HasNumberIn 1 objects_bound_limit (codes "bound") rows
   pub workers : HasNumberIn 1 16 (codes "workers") rows
   pub cells : HasNumberIn 1 4294967295 (codes "cells") rows
   pub input : HasLimit 9223372036854775807 (codes "input") rows
@@ -48,12 +49,12 @@ pub record HasObjects (rows : List Row) : Type 0 where
 
 -- those of `identify` have theirs
 pub record HasIdentify (rows : List Row) : Type 0 where
-  pub bound : HasNumberIn 1 100000 (codes "bound") rows
+  pub bound : HasNumberIn 1 objects_bound_limit (codes "bound") rows
   pub explain : HasFlag (codes "explain") rows
 
 -- those of `advance` have theirs
 pub record HasAdvance (rows : List Row) : Type 0 where
-  pub generations : HasNumberIn 0 4194304 (codes "generations") rows
+  pub generations : HasNumberIn 0 generation_limit (codes "generations") rows
   pub explain : HasFlag (codes "explain") rows
 
 -- those of `draw` have their texts

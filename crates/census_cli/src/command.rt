@@ -14,6 +14,15 @@ use clap::error::ErrorKind;
 use clap::{Arg, ArgAction, Command, value_parser};
 use std::alloc::{AllocError, Global};
 
+// The greatest bound of `run`.
+const SETTLES_BOUND_LIMIT: i64 = 1_000_000;
+
+// The greatest bound of `objects` and of `identify`.
+const OBJECTS_BOUND_LIMIT: i64 = 100_000;
+
+// The greatest N of `advance`.
+const GENERATION_LIMIT: i64 = 4_194_304;
+
 fn bound<'a>(alloc: Global) -> Arg<'a>
     ensures { (rule_of result ≡ bound_rule) × (result.global ≡ false) }
 {
@@ -21,7 +30,7 @@ fn bound<'a>(alloc: Global) -> Arg<'a>
         .short('b')
         .long("bound")
         .value_name("N")
-        .value_parser(value_parser!(u64).range(1..=1_000_000))
+        .value_parser(value_parser!(u64).range(1..=SETTLES_BOUND_LIMIT))
         .default_value("1000")
         .help("Generations that are searched, 1 to 1000000")
 }
@@ -33,7 +42,7 @@ fn search<'a>(alloc: Global) -> Arg<'a>
         .short('b')
         .long("bound")
         .value_name("N")
-        .value_parser(value_parser!(u64).range(1..=100_000))
+        .value_parser(value_parser!(u64).range(1..=OBJECTS_BOUND_LIMIT))
         .default_value("10000")
         .help("Generations that are searched, 1 to 100000")
 }
@@ -145,7 +154,7 @@ fn generations<'a>(alloc: Global) -> Arg<'a>
     Arg::new(alloc, "generations")
         .value_name("N")
         .required(true)
-        .value_parser(value_parser!(u64).range(0..=4_194_304))
+        .value_parser(value_parser!(u64).range(0..=GENERATION_LIMIT))
         .help("Generations, 0 to 4194304")
 }
 

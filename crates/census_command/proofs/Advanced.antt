@@ -10,9 +10,10 @@ use Rattle.life_model.specs.Rule.{Rule}
 use Rattle.life_text.specs.Picture.{Picture, picture_of}
 use Rattle.life_text.specs.Rle.{reading}
 use Rattle.life_text.specs.RleText.{rle_text}
-use Rattle.census_crew.specs.Bytes.{ReadsText, input_limit}
+use Rattle.census_crew.specs.Bytes.{ReadsText}
 use Rattle.census_folders.specs.Told.{GivesTold}
 use Rattle.census_errors.specs.Shelves.{Tellings}
+use Rattle.census_bundle.specs.Sizes.{input_limit}
 use Rattle.census_command.specs.Streams.{State}
 use Rattle.census_command.specs.Advances.{Advances, AdvancesFile, AdvancesFileInPart, AdvancesInPart, IsAdvanced}
 

@@ -11,7 +11,8 @@ use Rattle.life_shape.specs.declared.reader.CodeFault.{CodeFault}
 use Rattle.life_text.specs.declared.rle.RleFault.{RleFault}
 use Rattle.census_bundle.specs.declared.bundle.AddFault.{AddFault}
 use Rattle.census_bundle.specs.declared.fault.BundleFault.{BundleFault}
-use Rattle.census_crew.specs.Bytes.{ReadsFault, input_limit}
+use Rattle.census_bundle.specs.Sizes.{input_limit}
+use Rattle.census_crew.specs.Bytes.{ReadsFault}
 use Rattle.census_folders.specs.declared.fault.FoldersFault.TheVariants as folder_fault
 use Rattle.census_cli.specs.Asking.{Asks, AsksToExplain, IsMatched}
 use Rattle.census_cli.specs.Refusing.{AsksHelp, AsksText, IsRefused}

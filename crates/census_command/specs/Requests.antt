@@ -2,6 +2,7 @@
 use Rattle.std.specs.Prelude.{◌≡◌, ℕ, ◌≤◌, Bool, List, [], Some, map, option_map}
 use Rattle.census_cli.specs.declared.request.Request.{Request}
 use Rattle.census_cli.specs.declared.request.Request.TheVariants.{Run, Objects, Identify, Advance, Draw, Merge, Table, Page}
+use Rattle.census_cli.specs.Limits.{generation_limit, objects_bound_limit, settles_bound_limit}
 use Rattle.life_answer.specs.declared.question.Question.TheVariants as question
 use Rattle.census_command.specs.Advances.{AdvanceFromFails, AdvancesFrom, AdvancesFromInPart}
 use Rattle.census_errors.specs.Files.{file_of}
@@ -15,10 +16,10 @@ use Rattle.census_errors.specs.declared.error.CommandError.TheVariants as error
 
 -- its numbers are in their ranges
 abbrev pub IsLawful : Request → Type 0
-IsLawful (Run bound workers cells input recursive keep_going folders) = ((1 ≤ bound) × (bound ≤ 1000000)) × ((1 ≤ workers) × (workers ≤ 16))
-IsLawful (Objects bound workers cells input recursive keep_going folders) = ((1 ≤ bound) × (bound ≤ 100000)) × ((1 ≤ workers) × (workers ≤ 16))
-IsLawful (Identify bound files) = (1 ≤ bound) × (bound ≤ 100000)
-IsLawful (Advance generations file) = generations ≤ 4194304
+IsLawful (Run bound workers cells input recursive keep_going folders) = ((1 ≤ bound) × (bound ≤ settles_bound_limit)) × ((1 ≤ workers) × (workers ≤ 16))
+IsLawful (Objects bound workers cells input recursive keep_going folders) = ((1 ≤ bound) × (bound ≤ objects_bound_limit)) × ((1 ≤ workers) × (workers ≤ 16))
+IsLawful (Identify bound files) = (1 ≤ bound) × (bound ≤ objects_bound_limit)
+IsLawful (Advance generations file) = generations ≤ generation_limit
 IsLawful (Draw code rule) = Unit {0}
 IsLawful (Merge reports) = Unit {0}
 IsLawful (Table format reports) = Unit {0}

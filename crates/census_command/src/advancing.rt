@@ -9,6 +9,7 @@ ghost use Rattle.census_command.specs.Streams.{IsSound};
 
 use crate::evolving::evolved;
 use crate::streams::Streams;
+use census_bundle::INPUT_LIMIT;
 use census_errors::{AdvanceError, file_of};
 use census_faults::{spot_of_text, text_fault};
 use census_folders::Shelf;
@@ -19,9 +20,6 @@ use life_text::{RleFault, read_rle, write_rle};
 use std::alloc::Global;
 use std::io::{Read, Write};
 use watched::{put_all, read_all};
-
-/// The most bytes of one text.
-pub const INPUT_LIMIT: usize = 67_108_864;
 
 // The error that the fault of a text is, with what is said of it.
 fn refused(text: &[u8], fault: RleFault) -> AdvanceError

@@ -15,7 +15,7 @@ mod reporting;
 mod running;
 mod streams;
 
-pub use advancing::{INPUT_LIMIT, advance};
+pub use advancing::advance;
 pub use dispatching::{answer, dispatch, stop};
 pub use drawing::draw;
 pub use entry_point::program;

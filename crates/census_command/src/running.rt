@@ -10,10 +10,9 @@ ghost use Rattle.census_errors.specs.Shelves.{tellings};
 ghost use Rattle.census_errors.specs.Sources.{source_of};
 ghost use Rattle.census_command.specs.Streams.{IsSound};
 
-use crate::advancing::INPUT_LIMIT;
 use crate::reporting::report;
 use crate::streams::Streams;
-use census_bundle::{Bundle, BundleFault, read_bundle};
+use census_bundle::{Bundle, BundleFault, INPUT_LIMIT, read_bundle};
 use census_crew::{BytesFault, Gate};
 use census_errors::{RunError, borrowed_words};
 use census_folders::{Shelf, folders_below_each, read_folders};

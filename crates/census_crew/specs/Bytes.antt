@@ -6,16 +6,13 @@ use Rattle.census_bundle.specs.declared.bundle.Folder.{Folder}
 use Rattle.census_bundle.specs.declared.fault.BundleFault.{BundleFault}
 use Rattle.census_bundle.specs.declared.fault.BundleFault.TheVariants as bundle_faults
 use Rattle.census_bundle.specs.Reading.{fault_of, folders_of}
+use Rattle.census_bundle.specs.Sizes.{input_limit}
 use Rattle.census_crew.specs.declared.bytes.BytesFault.{BytesFault}
 use Rattle.census_crew.specs.declared.bytes.BytesFault.TheVariants.{Read, TooLong, Bundle, Memory, Write}
 use Rattle.census_crew.specs.declared.tally.Tally.{Tally}
 use Rattle.census_crew.specs.Tallying.{TalliesPatterns}
 use Rattle.census_crew.specs.Writing.{WritesFront, WritesReport}
 use Rattle.life_answer.specs.declared.question.Question.{Question}
-
--- the most bytes of a bundle text
-abbrev pub input_limit : ℕ
-input_limit = 67108864
 
 -- the text is all that the reader had left, up to its end, and within the limit
 pub record ReadsText (old new : Option (List ℕ)) (text : List ℕ) : Type 0 where

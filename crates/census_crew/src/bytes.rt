@@ -9,7 +9,7 @@ use crate::fault::RunFault;
 use crate::gate::Gate;
 use crate::running::run;
 use crate::tally::Tally;
-use census_bundle::{Bundle, BundleFault, read_bundle};
+use census_bundle::{Bundle, BundleFault, INPUT_LIMIT, read_bundle};
 use life_answer::Question;
 use std::alloc::Global;
 use std::io::{Read, Write};
@@ -37,9 +37,6 @@ pub enum BytesFault {
     #[error("write failed")]
     Write,
 }
-
-/// The most bytes of a bundle text.
-const INPUT_LIMIT: usize = 67_108_864;
 
 // Reads a bundle up to the reader's end.
 fn read_input<R: Read>(alloc: Global, reader: &mut Watched<R>) -> Result<Bundle, BytesFault>

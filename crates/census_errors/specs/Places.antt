@@ -4,7 +4,6 @@ use Rattle.std.specs.List.{FoldsTo}
 use Rattle.std.specs.Option.{option_copied, option_or}
 use Rattle.census_faults.specs.declared.fault.Fault.{Fault}
 use Rattle.census_faults.specs.declared.fault.Fault.TheVariants.{FileForFolder}
-use Rattle.census_folders.specs.Folders.{file_limit}
 use Rattle.census_folders.specs.Losses.{KeepsFolder, kept_at_start}
 use Rattle.census_folders.specs.Told.{Told, MayExceed, MayFail}
 use Rattle.census_folders.specs.Trees.{HoldsTrees, KeepsTrees}
@@ -14,6 +13,7 @@ use Rattle.census_reports.specs.declared.error.ReportsError.{ReportsError}
 use Rattle.census_reports.specs.declared.error.ReportsError.TheVariants as reports
 use Rattle.census_cli.specs.declared.request.Request.{Request}
 use Rattle.census_cli.specs.declared.request.Request.TheVariants.{Run, Objects, Advance}
+use Rattle.census_bundle.specs.Sizes.{input_limit}
 use Rattle.census_errors.specs.Shelves.{Tellings}
 use Rattle.census_errors.specs.Sources as source
 use Rattle.census_errors.specs.Sources.{Source, source_of}
@@ -111,7 +111,7 @@ MayBeUnread held (Some path) = MayFail (held path)
 -- a file that has too many bytes, if it is known
 abbrev pub MayBeTooLong : (List ℕ → Told) → Option (List ℕ) → Type 0
 MayBeTooLong held None = Unit {0}
-MayBeTooLong held (Some path) = MayExceed file_limit (held path)
+MayBeTooLong held (Some path) = MayExceed input_limit (held path)
 
 -- of what is made of the reports of files
 abbrev pub IsReportsPlace : (List ℕ → Told) → ReportsError → Place → Type 0

@@ -11,10 +11,10 @@ use crate::error::CommandError;
 use crate::files::file_of;
 use crate::place::Place;
 use crate::run_error::RunError;
-use census_bundle::Text;
+use census_bundle::{INPUT_LIMIT, Text};
 use census_cli::Request;
 use census_folders::{Loss, Shelf, folders_below_each, folders_below_each_on, read_folders_on};
-use census_identify::{TEXT_LIMIT, is_input, read_file};
+use census_identify::{is_input, read_file};
 use census_reports::ReportsError;
 use std::alloc::Global;
 use watched::ReadFault;
@@ -240,7 +240,7 @@ fn first_unread<S: Shelf>(
     files: &[&str],
     fault: ReadFault,
 ) -> Option<Text>
-    ensures { IfSome result (λ path. RefusesFile TEXT_LIMIT (S.held shelf.now [] path) fault) }
+    ensures { IfSome result (λ path. RefusesFile INPUT_LIMIT (S.held shelf.now [] path) fault) }
 {
     for file in files {
         if is_input(file) {

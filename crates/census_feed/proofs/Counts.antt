@@ -7,7 +7,7 @@ use Rattle.std.proofs.lemmas.List.Concat.{flat_map-append}
 use Rattle.census_bundle.specs.declared.ticket.Ticket.{Ticket}
 use Rattle.census_bundle.specs.declared.bundle.Folder.{Folder}
 use Rattle.census_bundle.specs.Tickets.{ticket}
-use Rattle.census_bundle.specs.Sizes.{IsSmall}
+use Rattle.census_bundle.specs.Sizes.{IsSmall, count_limit}
 use Rattle.census_feed.specs.declared.item.Item.{Item}
 use Rattle.census_feed.specs.declared.item.Item.TheVariants.{Work, Mark}
 use Rattle.census_feed.specs.Items.{folder_tickets, tickets_from, end_marks, items, Before, Rises, same_item, has, is_mark, is_ticket, occurrence_count, mark_count, ends_with_mark}
@@ -149,7 +149,7 @@ length_folder : (c n : ℕ) → length (folder_tickets c n) ≡ n
 length_folder c zero = refl
 length_folder c (suc n) = let h = length_folder c n in omega (arith, length-append (folder_tickets c n) (Work (ticket c (suc n)) ∷ []))
 
-few_tickets : (c : ℕ) (fs : List Folder) → ((k : ℕ) (f : Folder) → slice_get fs k ≡ Some f → length f.entries ≤ 65535) → length (tickets_from c fs) ≤ 65535 * length fs
+few_tickets : (c : ℕ) (fs : List Folder) → ((k : ℕ) (f : Folder) → slice_get fs k ≡ Some f → length f.entries ≤ count_limit) → length (tickets_from c fs) ≤ count_limit * length fs
 few_tickets c [] small = omega arith
 few_tickets c (f ∷ fs) small =
     let h = few_tickets (suc c) fs (λ k. small (suc k)) in let s = small 0 f refl in let n = length_folder c (length f.entries) in

@@ -1,5 +1,6 @@
 -- Each event keeps the state of a feed sound, and what it tells.
-use Rattle.std.proofs.Common.{◌≡◌, ℕ, ◌+◌, ◌<◌, ◌≤◌, ◌||◌, Bool, true, false, cond, List, [], ◌∷◌, ◌++◌, length, sym, refl, ap, ◌∙◌, subst, ⊎_elim, append_assoc, arith, length-append}
+use Rattle.std.proofs.Common.{◌≡◌, ℕ, ◌+◌, ◌<◌, ◌≤◌, ◌||◌, true, false, cond, List, [], ◌∷◌, ◌++◌, length, sym, refl, ap, ◌∙◌, subst, ⊎_elim, append_assoc, arith, length-append}
+use Rattle.std.proofs.Math.Bool.{or-false}
 use Rattle.std.specs.List.{AllByRecursion}
 use Rattle.std.proofs.lemmas.Bool.{or_left, or_right, cases_Bool, cases_lt, cond-true, cond-false}
 use Rattle.std.proofs.lemmas.List.{append-nil, nil_from_length}
@@ -51,10 +52,6 @@ after_mark k (Mark j) h = refl
 
 behind_mark : (k : ℕ) (xs : List Item) → AllByRecursion (Before (Mark k)) xs → AllMarks xs
 behind_mark k xs h = all_weaker (Before (Mark k)) (λ x. is_mark x ≡ true) (after_mark k) xs h
-
-or_none : (b : Bool) → (b || false) ≡ b
-or_none true = refl
-or_none false = refl
 
 mark_weighs : (y : Item) → cond {A = ℕ} (is_mark y) 1 0 ≤ 1
 mark_weighs (Work t) = omega arith
@@ -172,7 +169,7 @@ module _ (bundle : List Folder) (workers : ℕ) (pushed popped : List Item) (y :
       (λ (e : same_item x y ≡ false).
       let c = cond-false {A = ℕ} (same_item x y) 1 0 e in
       let g : cond {A = ℕ} (has (s.front ++ y ∷ []) x) 1 0 ≡ cond {A = ℕ} (has s.front x) 1 0 =
-      ap (λ v. cond {A = ℕ} v 1 0) (j ∙ ap (λ v. has s.front x || (v || false)) e ∙ or_none (has s.front x)) in
+      ap (λ v. cond {A = ℕ} v 1 0) (j ∙ ap (λ v. has s.front x || (v || false)) e ∙ or-false (has s.front x)) in
       omega arith)
       (cases_Bool (same_item x y))
 

@@ -8,9 +8,10 @@ use Rattle.std.proofs.lemmas.List.Sums.{sum_by_push}
 use Rattle.std.proofs.lemmas.Option.{slice_get-get_or}
 use Rattle.census_bundle.specs.declared.bundle.Folder.{Folder}
 use Rattle.census_bundle.specs.declared.bundle.Entry.{Entry}
-use Rattle.census_bundle.specs.Growing.{on_last_of, on_last, with_folder, with_one_more, last_entries_of, last_entries}
+use Rattle.census_bundle.specs.Growing.{on_last, with_folder, with_one_more, last_entries}
 use Rattle.census_bundle.specs.Names.{is_name}
 use Rattle.census_bundle.specs.Sizes.{count_limit}
+use Rattle.census_bundle.proofs.Lasts.{last_entries_of-push, on_last-push}
 use Rattle.census_folders.specs.declared.fault.FoldersFault.{FoldersFault}
 use Rattle.census_folders.specs.Folders.{IsPatternFile, names_of}
 use Rattle.census_folders.specs.Shelves.{AddsFileOf, AddsFolderOf, IsChosen, StopsAtFile, StopsFile, StopsFolderOf, StopsList}
@@ -18,18 +19,6 @@ use Rattle.census_folders.specs.Sums.{Fits, bytes_in, limit_after}
 use Rattle.census_folders.specs.Told.{Told, GivesTold}
 use Rattle.census_folders.proofs.Listings.{bytes_of}
 use Rattle.census_folders.proofs.Totals.{fits_more, fits_nothing, less_more, less_nothing}
-
-on_last_of-push : {A : Type 0} (f : A → A) (x : A) (xs : List A) (y : A) → on_last_of f x (xs ++ y ∷ []) ≡ x ∷ (xs ++ f y ∷ [])
-on_last_of-push f x [] y = refl
-on_last_of-push f x (z ∷ zs) y = ap (λ ws. x ∷ ws) (on_last_of-push f z zs y)
-
-on_last-push : {A : Type 0} (f : A → A) (xs : List A) (y : A) → on_last f (xs ++ y ∷ []) ≡ xs ++ f y ∷ []
-on_last-push f [] y = refl
-on_last-push f (x ∷ xs) y = on_last_of-push f x xs y
-
-last_entries_of-push : (g : Folder) (fs : List Folder) (f : Folder) → last_entries_of g (fs ++ f ∷ []) ≡ f.entries
-last_entries_of-push g [] f = refl
-last_entries_of-push g (h ∷ fs) f = last_entries_of-push h fs f
 
 last_entries-push : (fs : List Folder) (f : Folder) → last_entries (fs ++ f ∷ []) ≡ f.entries
 last_entries-push [] f = refl

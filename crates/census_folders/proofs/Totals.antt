@@ -1,7 +1,7 @@
 -- Bytes that are counted one text after another.
 use Rattle.std.proofs.Common.{◌≡◌, ℕ, ◌+◌, ◌≤◌, Option, Some, None, refl, sym, ap, ◌∙◌, subst, arith}
 use Rattle.std.proofs.Math.Nat.{min-le_left, min-le_right}
-use Rattle.census_folders.specs.Folders.{file_limit}
+use Rattle.census_bundle.specs.Sizes.{input_limit}
 use Rattle.census_folders.specs.Sums.{Fits, limit_after, most_of}
 
 pub fits_nothing : (left : Option ℕ) → Fits left 0
@@ -30,8 +30,8 @@ less_more before mid after a b sum is rest first second = second ∙ ap (λ l. l
 -- what is no longer than the next file may be
 pub fits_next : (left : Option ℕ) (count : ℕ) → count ≤ most_of left → Fits left count
 fits_next None count within = tt
-fits_next (Some left) count within = omega (arith, within, min-le_left left file_limit)
+fits_next (Some left) count within = omega (arith, within, min-le_left left input_limit)
 
-pub within_next : (left : Option ℕ) (count : ℕ) → count ≤ most_of left → count ≤ file_limit
+pub within_next : (left : Option ℕ) (count : ℕ) → count ≤ most_of left → count ≤ input_limit
 within_next None count within = within
-within_next (Some left) count within = omega (arith, within, min-le_right left file_limit)
+within_next (Some left) count within = omega (arith, within, min-le_right left input_limit)

@@ -7,11 +7,7 @@ use Rattle.std.specs.Ordering.{nat_cmp}
 use Rattle.census_bundle.specs.declared.bundle.Entry.{Entry}
 use Rattle.census_bundle.specs.declared.bundle.Folder.{Folder}
 use Rattle.census_bundle.specs.Names.{is_name}
-use Rattle.census_bundle.specs.Sizes.{count_limit}
-
--- the most bytes of a file
-abbrev pub file_limit : ℕ
-file_limit = 67108864
+use Rattle.census_bundle.specs.Sizes.{count_limit, input_limit}
 
 -- the name ends in `.rle`
 abbrev pub is_pattern_name : List ℕ → Bool
@@ -22,7 +18,7 @@ pub record IsPatternFile (e : Entry) : Type 0 where
   pub lawful : is_name e.name ≡ true
   pub kind : is_pattern_name e.name ≡ true
   pub kept : e.is_lost ≡ false
-  pub within : length e.text ≤ file_limit
+  pub within : length e.text ≤ input_limit
 
 -- each byte by byte not below the one before it
 abbrev pub AreInOrder : List (List ℕ) → Type 0

@@ -7,12 +7,11 @@ use Rattle.census_bundle.specs.declared.ticket.Ticket.{Ticket}
 use Rattle.census_bundle.specs.Entries.{entry_of, lost_entry}
 use Rattle.census_bundle.specs.Growing.{last_entries, with_entry, with_folder}
 use Rattle.census_bundle.specs.Names.{is_name}
-use Rattle.census_bundle.specs.Sizes.{count_limit}
+use Rattle.census_bundle.specs.Sizes.{count_limit, input_limit}
 use Rattle.census_folders.specs.declared.fault.FoldersFault.{FoldersFault}
 use Rattle.census_folders.specs.declared.fault.FoldersFault.TheVariants.{Add, Memory}
 use Rattle.census_folders.specs.declared.keeping.Kept.{Kept}
 use Rattle.census_folders.specs.declared.loss.Loss.{Loss}
-use Rattle.census_folders.specs.Folders.{file_limit}
 use Rattle.census_folders.specs.Shelves.{IsChosen}
 use Rattle.census_folders.specs.Sums.{Fits, limit_after, most_of}
 use Rattle.census_folders.specs.Told.{Told, GivesTold, MayExceed, MayFail}
@@ -32,7 +31,7 @@ with_loss lost path entry = lost ++ record { path = path; entry = entry } ∷ []
 
 -- the text of a file, which is lost where it can't be read or has more bytes than may still be read
 abbrev pub GivesText : Told → Option ℕ → Option (List ℕ) → Type 0
-GivesText told left (Some text) = GivesTold told text × Fits left (length text) × (length text ≤ file_limit)
+GivesText told left (Some text) = GivesTold told text × Fits left (length text) × (length text ≤ input_limit)
 GivesText told left None = MayFail told ⊎ MayExceed (most_of left) told
 
 -- an entry of this text, or a lost one, which is told

@@ -7,10 +7,10 @@ use Rattle.census_bundle.specs.declared.bundle.Entry.{Entry}
 use Rattle.census_bundle.specs.declared.bundle.Folder.{Folder}
 use Rattle.census_bundle.specs.Growing.{last_entries, with_entry}
 use Rattle.census_bundle.specs.Names.{is_name}
-use Rattle.census_bundle.specs.Sizes.{count_limit}
+use Rattle.census_bundle.specs.Sizes.{count_limit, input_limit}
 use Rattle.census_folders.specs.declared.fault.FoldersFault.{FoldersFault}
 use Rattle.census_folders.specs.declared.fault.FoldersFault.TheVariants.{Add, Read, TooLong, Memory}
-use Rattle.census_folders.specs.Folders.{AreInOrder, HoldsFolders, IsPatternFile, IsPatternFolder, file_limit, is_pattern_name, names_of}
+use Rattle.census_folders.specs.Folders.{AreInOrder, HoldsFolders, IsPatternFile, IsPatternFolder, is_pattern_name, names_of}
 use Rattle.census_folders.specs.Sums.{Fits, bytes_in, bytes_of_all, limit_after, most_of}
 use Rattle.census_folders.specs.Told.{Told, GivesTold, MayExceed, MayFail}
 
@@ -48,7 +48,7 @@ pub record HoldsShelf (listed : List ℕ → Told) (held : List ℕ → List ℕ
 
 -- the file may be short enough, and readable
 abbrev pub CanRead : Told → Option ℕ → Type 0
-CanRead told left = (bytes : List ℕ) × GivesTold told bytes × Fits left (length bytes) × (length bytes ≤ file_limit)
+CanRead told left = (bytes : List ℕ) × GivesTold told bytes × Fits left (length bytes) × (length bytes ≤ input_limit)
 
 -- why a file is not added after so many others of its folder, where so many bytes may still be read
 abbrev pub StopsFile : Told → Option ℕ → ℕ → List ℕ → FoldersFault → Type 0

@@ -3,7 +3,7 @@ use Rattle.std.specs.Prelude.{ℕ, ◌-◌, ◌≤◌, List, length, Option, Som
 use Rattle.std.specs.List.{sum_by}
 use Rattle.census_bundle.specs.declared.bundle.Entry.{Entry}
 use Rattle.census_bundle.specs.declared.bundle.Folder.{Folder}
-use Rattle.census_folders.specs.Folders.{file_limit}
+use Rattle.census_bundle.specs.Sizes.{input_limit}
 
 -- the bytes of the texts of these entries
 abbrev pub bytes_in : List Entry → ℕ
@@ -25,5 +25,5 @@ limit_after (Some left) count = Some (left - count)
 
 -- the most bytes of the next file
 abbrev pub most_of : Option ℕ → ℕ
-most_of None = file_limit
-most_of (Some left) = min left file_limit
+most_of None = input_limit
+most_of (Some left) = min left input_limit

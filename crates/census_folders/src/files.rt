@@ -1,7 +1,8 @@
 //! Pattern files.
 ghost use Rattle.std.specs.Prelude.{◌≡◌, ◌<◌, ◌≤◌, true, length, vec_len, IfErr, IfOk, OnOk, MatchResult};
 ghost use Rattle.census_bundle.specs.Growing.{last_entries};
-ghost use Rattle.census_folders.specs.Folders.{file_limit, is_pattern_name};
+ghost use Rattle.census_bundle.specs.Sizes.{input_limit};
+ghost use Rattle.census_folders.specs.Folders.{is_pattern_name};
 ghost use Rattle.census_folders.specs.Shelves.{AddsFileOf, StopsFile};
 ghost use Rattle.census_folders.specs.Sums.{Fits, most_of};
 ghost use Rattle.census_folders.specs.Told.{GivesTold, RefusesFile};
@@ -21,7 +22,7 @@ pub fn read_file<S: Shelf>(
     name: &[u8],
     left: Option<u64>,
 ) -> Result<Vec<u8>, ReadFault>
-    ensures within { IfOk result (λ bytes. vec_len bytes ≤ file_limit) }
+    ensures within { IfOk result (λ bytes. vec_len bytes ≤ input_limit) }
     ensures fits { IfOk result (λ bytes. Fits left (vec_len bytes)) }
     ensures told { IfOk result (λ bytes. GivesTold (S.held shelf.now folder.now name.now) bytes.items) }
     ensures fault { IfErr result (RefusesFile (most_of left) (S.held shelf.now folder.now name.now)) }

@@ -2,16 +2,15 @@
 ghost use Rattle.std.specs.Prelude.{◌≡◌};
 ghost use Rattle.census_folders.specs.Sums.{Fits, limit_after, most_of};
 
-/// The most bytes of a file.
-const FILE_LIMIT: usize = 67_108_864;
+use census_bundle::INPUT_LIMIT;
 
 // The most bytes of the next file, where so many may still be read in all.
 pub fn most_of(left: Option<u64>) -> usize
     ensures { result ≡ most_of left }
 {
     match left {
-        Some(left) => left.min(FILE_LIMIT as u64) as usize,
-        None => FILE_LIMIT,
+        Some(left) => left.min(INPUT_LIMIT as u64) as usize,
+        None => INPUT_LIMIT,
     }
 }
 

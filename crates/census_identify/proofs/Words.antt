@@ -3,9 +3,10 @@ use Rattle.std.proofs.Common.{◌≡◌, ℕ, suc, ◌+◌, ◌<◌, false, List
 use Rattle.std.proofs.lemmas.List.{map-append, map_more, take-append-drop}
 use Rattle.watched.specs.Watching.{ConsumesAtMost}
 use Rattle.census_folders.specs.Told.{Told as ToldOf}
+use Rattle.census_bundle.specs.Sizes.{input_limit}
 use Rattle.census_identify.specs.Courses.{with_told}
 use Rattle.census_identify.specs.Errors.{error_line}
-use Rattle.census_identify.specs.Hearing.{Hearing, Hears, HearsEach, text_limit, words_of}
+use Rattle.census_identify.specs.Hearing.{Hearing, Hears, HearsEach, words_of}
 use Rattle.census_identify.specs.Identifies.{LacksMemory, LosesOutput, Stops, TellsAll}
 use Rattle.census_identify.specs.Streams.{Sink, Source, Streams, Tells, TellsMore, Writes, WritesBetween, WritesFront}
 use Rattle.census_identify.specs.Telling.{blocks_in, blocks_text, line_of, lines_text, output_of, status_of, told_of, tellings}
@@ -110,7 +111,7 @@ module _ (held : List ℕ → ToldOf) (bound : ℕ) (words : List (List ℕ)) (c
 
 module _ (held : List ℕ → ToldOf) (bound : ℕ) (words : List (List ℕ)) (course : Course) (before now : Streams) (w : IsUnderWay held bound words course before now) where
   pub memory_lacks : (all : List (List ℕ)) (word : List ℕ) (left : List (List ℕ)) → all ≡ words ++ word ∷ left → (input : Source)
-      → ConsumesAtMost (text_limit + 1) now.input.unread input.unread → LacksMemory [] held bound all before (record { input = input; output = now.output; errors = now.errors })
+      → ConsumesAtMost (input_limit + 1) now.input.unread input.unread → LacksMemory [] held bound all before (record { input = input; output = now.output; errors = now.errors })
   memory_lacks all word left is input taken = record {
     heard = w.heard;
     word = word;
@@ -147,7 +148,7 @@ word_between words i d within =
 
 module _ (held : List ℕ → ToldOf) (bound : ℕ) (words : List (Bor (List ℕ))) (i : ℕ) (d : Bor (List ℕ)) (course : Course) (before now : Streams)
     (within : i < length words) (w : IsUnderWay held bound (texts (take i words)) course before now) where
-  pub lacks_memory : (input : Source) → ConsumesAtMost (text_limit + 1) now.input.unread input.unread
+  pub lacks_memory : (input : Source) → ConsumesAtMost (input_limit + 1) now.input.unread input.unread
       → LacksMemory [] held bound (texts words) before (record { input = input; output = now.output; errors = now.errors })
   lacks_memory input taken = memory_lacks held bound (texts (take i words)) course before now w (texts words) (get_or words i d).now (texts (drop (suc i) words)) (word_between words i d within) input taken
 

@@ -8,13 +8,10 @@ use Rattle.watched.specs.Watching.{ConsumesMoreThan}
 use Rattle.watched.specs.declared.reading.ReadFault.{ReadFault}
 use Rattle.watched.specs.declared.reading.ReadFault.TheVariants as reads
 use Rattle.census_folders.specs.Told.{Told, GivesTold, MayExceed, MayFail}
+use Rattle.census_bundle.specs.Sizes.{input_limit}
 use Rattle.census_identify.specs.Streams.{Source}
 use Rattle.census_identify.specs.declared.heard.Heard.{Heard}
 use Rattle.census_identify.specs.declared.heard.Heard.TheVariants.{Text, TooLong, Unread}
-
--- the most bytes of one text
-abbrev pub text_limit : ℕ
-text_limit = 67108864
 
 -- the word stands for standard input
 abbrev pub is_input : List ℕ → Bool
@@ -31,13 +28,13 @@ heard_of (Err reads.Memory) = Err alloc_error
 
 -- what may be got of a file of which this is told
 abbrev pub HearsFile : Told → Heard → Type 0
-HearsFile told (Text bytes) = GivesTold told bytes × (length bytes ≤ text_limit)
-HearsFile told TooLong = MayExceed text_limit told
+HearsFile told (Text bytes) = GivesTold told bytes × (length bytes ≤ input_limit)
+HearsFile told TooLong = MayExceed input_limit told
 HearsFile told Unread = MayFail told
 
 -- the text is all that the reader had left, up to its end, and within the limit
 pub record ReadsText (text : List ℕ) (before after : Source) : Type 0 where
-  pub within : length text ≤ text_limit
+  pub within : length text ≤ input_limit
   pub consumed : Consumes before.unread after.unread text
   pub end : IsAtEnd after.unread
   pub whole : IfSome before.unread (λ all. text ≡ all)
@@ -45,7 +42,7 @@ pub record ReadsText (text : List ℕ) (before after : Source) : Type 0 where
 
 -- more was read than one text may have
 pub record ReadsTooMuch (before after : Source) : Type 0 where
-  pub consumed : ConsumesMoreThan text_limit before.unread after.unread
+  pub consumed : ConsumesMoreThan input_limit before.unread after.unread
   pub sound : after.failed ≡ false
 
 -- what is got of standard input: it is unread where it has failed

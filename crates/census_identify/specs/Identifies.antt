@@ -2,8 +2,9 @@
 use Rattle.std.specs.Prelude.{◌≡◌, ◌⊎◌, ℕ, ◌+◌, List, [], ◌∷◌, ◌++◌, codes}
 use Rattle.watched.specs.Watching.{ConsumesAtMost}
 use Rattle.census_folders.specs.Told.{Told}
+use Rattle.census_bundle.specs.Sizes.{input_limit}
 use Rattle.census_identify.specs.Errors.{error_line, error_status}
-use Rattle.census_identify.specs.Hearing.{Hearing, HearsEach, text_limit, words_of}
+use Rattle.census_identify.specs.Hearing.{Hearing, HearsEach, words_of}
 use Rattle.census_identify.specs.Streams.{Source, Streams, Tells, Writes, WritesBetween}
 use Rattle.census_identify.specs.Telling.{blocks_text, lines_text, status_of, tellings}
 use Rattle.census_identify.specs.declared.error.IdentifyError.{IdentifyError}
@@ -33,7 +34,7 @@ pub record LacksMemory (last : List ℕ) (held : List ℕ → Told) (bound : ℕ
   -- standard input as the words before it left it
   pub reached : Source
   pub hears : HearsEach held heard before.input reached
-  pub taken : ConsumesAtMost (text_limit + 1) reached.unread after.input.unread
+  pub taken : ConsumesAtMost (input_limit + 1) reached.unread after.input.unread
   pub blocks : Writes (blocks_text (tellings bound heard)) before.output after.output
   pub lines : Tells (lines_text (tellings bound heard) ++ last) before.errors after.errors
 

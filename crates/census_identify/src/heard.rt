@@ -6,13 +6,11 @@ ghost use Rattle.census_identify.specs.Hearing.{Hears, HearsFile, HearsInput, he
 ghost use Rattle.census_identify.specs.Streams.{source};
 
 use crate::bytes::Bytes;
+use census_bundle::INPUT_LIMIT;
 use census_folders::Shelf;
 use std::alloc::{AllocError, Global};
 use std::io::Read;
 use watched::{ReadFault, Watched, read_all};
-
-/// The most bytes of one text.
-pub const TEXT_LIMIT: usize = 67_108_864;
 
 /// What is got of a file, or of standard input.
 #[derive(Drop)]
@@ -40,14 +38,14 @@ fn heard_of(read: Result<Vec<u8>, ReadFault>) -> Result<Heard, AllocError>
 /// The bytes of the file of this path, of which there may be at most 67,108,864. It is not opened where it is no regular
 /// file.
 pub fn read_file<S: Shelf>(shelf: &S, alloc: Global, path: &[u8]) -> Result<Vec<u8>, ReadFault>
-    ensures within { IfOk result (λ bytes. vec_len bytes ≤ TEXT_LIMIT) }
+    ensures within { IfOk result (λ bytes. vec_len bytes ≤ INPUT_LIMIT) }
     ensures told { IfOk result (λ bytes. GivesTold (S.held shelf.now [] path.now) bytes.items) }
-    ensures fault { IfErr result (RefusesFile TEXT_LIMIT (S.held shelf.now [] path.now)) }
+    ensures fault { IfErr result (RefusesFile INPUT_LIMIT (S.held shelf.now [] path.now)) }
 {
     if !shelf.is_file(alloc, "", path)? {
         return Err(ReadFault::Read);
     }
-    shelf.read(alloc, "", path, TEXT_LIMIT)
+    shelf.read(alloc, "", path, INPUT_LIMIT)
 }
 
 fn hear_file<S: Shelf>(shelf: &S, alloc: Global, path: &[u8]) -> Result<Heard, AllocError>
@@ -59,10 +57,10 @@ fn hear_file<S: Shelf>(shelf: &S, alloc: Global, path: &[u8]) -> Result<Heard, A
 fn hear_input<I: Read>(alloc: Global, input: &mut Watched<I>) -> Result<Heard, AllocError>
     ensures heard { IfOk result
         (λ heard. HearsInput heard (source I.remaining input.old) (source I.remaining input.new)) }
-    ensures taken { ConsumesAtMost (TEXT_LIMIT + 1)
+    ensures taken { ConsumesAtMost (INPUT_LIMIT + 1)
         (I.remaining (inner_of input.old)) (I.remaining (inner_of input.new)) }
 {
-    heard_of(read_all(alloc, input, TEXT_LIMIT))
+    heard_of(read_all(alloc, input, INPUT_LIMIT))
 }
 
 /// Whether a word stands for standard input: `-` does. Every other word is the path of a file.
@@ -85,7 +83,7 @@ pub fn hear<S: Shelf, I: Read>(
 ) -> Result<Heard, AllocError>
     ensures heard { IfOk result (λ heard. Hears (S.held shelf.now []) word.now heard
         (source I.remaining input.old) (source I.remaining input.new)) }
-    ensures taken { ConsumesAtMost (TEXT_LIMIT + 1)
+    ensures taken { ConsumesAtMost (INPUT_LIMIT + 1)
         (I.remaining (inner_of input.old)) (I.remaining (inner_of input.new)) }
 {
     if is_input(word) {

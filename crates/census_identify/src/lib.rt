@@ -13,6 +13,6 @@ mod told;
 
 pub use bytes::Bytes;
 pub use error::IdentifyError;
-pub use heard::{Heard, TEXT_LIMIT, hear, is_input, read_file};
+pub use heard::{Heard, hear, is_input, read_file};
 pub use identifying::identify;
 pub use told::{Told, told_of};

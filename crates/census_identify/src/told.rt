@@ -5,8 +5,9 @@ ghost use Rattle.census_identify.specs.Telling.{block_with_head, message_line, t
 
 use crate::bytes::Bytes;
 use crate::heard::{Heard, is_input};
-use census_blocks::{BOUND_LIMIT, block};
+use census_blocks::block;
 use life_faults::fault_line;
+use life_orbit::BOUND_LIMIT;
 use std::alloc::{AllocError, Global};
 
 /// What is told of one text.

@@ -4,17 +4,18 @@ use Rattle.census_rows.specs.declared.row.Row.{Row}
 use Rattle.census_rows.specs.declared.row.Row.TheVariants.{End}
 use Rattle.census_readback.specs.Steps.{collection_of}
 use Rattle.census_readback.specs.Shapes.{AreOf, AreReports, AreWhole, all_rows, patterns_in}
+use Rattle.census_readback.specs.Limits.{count_limit}
 
 -- each row's number is at most 65,535
 abbrev pub AreFew : List Row → Type 0
 AreFew [] = Unit {0}
-AreFew (row ∷ rows) = (collection_of row ≤ 65535) × AreFew rows
+AreFew (row ∷ rows) = (collection_of row ≤ count_limit) × AreFew rows
 
 few-append : (xs ys : List Row) → AreFew xs → AreFew ys → AreFew (xs ++ ys)
 few-append [] ys h k = k
 few-append (x ∷ xs) ys h k = (h.0, few-append xs ys h.1 k)
 
-few-body : (n : ℕ) (xs : List Row) → n ≤ 65535 → AreOf n xs → AreFew xs
+few-body : (n : ℕ) (xs : List Row) → n ≤ count_limit → AreOf n xs → AreFew xs
 few-body n [] less h = tt
 few-body n (x ∷ xs) less h = (omega (arith, less, h.1), few-body n xs less h.2)
 
@@ -29,7 +30,7 @@ few-joined (rows ∷ reports) h =
 pub few-reports : (rows : List Row) → AreReports rows → AreFew rows
 few-reports rows is = subst (λ w. AreFew w) (sym is.whole) (few-joined is.reports is.each)
 
-pub few-at : (rows : List Row) (i : ℕ) (d : Row) → AreFew rows → i < length rows → collection_of (get_or rows i d) ≤ 65535
+pub few-at : (rows : List Row) (i : ℕ) (d : Row) → AreFew rows → i < length rows → collection_of (get_or rows i d) ≤ count_limit
 few-at [] i d h less = absurd (omega arith)
 few-at (x ∷ rows) zero d h less = h.0
 few-at (x ∷ rows) (suc i) d h less = few-at rows i d h.1 (omega arith)

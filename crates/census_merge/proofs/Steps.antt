@@ -7,13 +7,14 @@ use Rattle.census_rows.specs.declared.row.Row.{Row}
 use Rattle.census_rows.specs.declared.row.Row.TheVariants.{End}
 use Rattle.census_readback.specs.Texts.{line_of, text_of}
 use Rattle.census_readback.proofs.Rows.{text-append}
+use Rattle.census_readback.specs.Limits.{count_limit}
 use Rattle.census_merge.specs.declared.report_sums.Sums.{Sums}
 use Rattle.census_merge.specs.Sums.{first_excess, no_sums, sums_plus, sums_in, sums_of, with_more}
 use Rattle.census_merge.specs.Merged.{merged_rows, numbered_on, renumbered_row}
 
 -- what is known where the rows up to i are counted: the sums of the reports before, and the number of this one
 pub record Counting (rows : List Row) (i report : ℕ) (s : Sums) : Type 0 where
-  pub few : s.collections ≤ 65535
+  pub few : s.collections ≤ count_limit
   pub number : report ≤ i + 1
   pub sums : sums_in s (drop i rows) ≡ sums_in no_sums rows
   pub excess : first_excess report s (drop i rows) ≡ first_excess 1 no_sums rows
@@ -21,7 +22,7 @@ pub record Counting (rows : List Row) (i report : ℕ) (s : Sums) : Type 0 where
 -- What is known where the rows up to i are told: the sums of the reports before, that none of those behind is too much, and
 -- that whoever tells the others has told all.
 pub record Putting (rows : List Row) (i : ℕ) (s : Sums) (a b : Sheet) : Type 0 where
-  pub few : s.collections ≤ 65535
+  pub few : s.collections ≤ count_limit
   pub report : ℕ
   pub sums : sums_in s (drop i rows) ≡ sums_in no_sums rows
   pub excess : first_excess report s (drop i rows) ≡ Nothing
@@ -36,14 +37,14 @@ putting_start rows s a e fits = subst (λ s. Putting rows 0 s a a) (sym e) (reco
   told = λ c h. h;
 })
 
-sum_more : (s more all : Sums) → with_more s more ≡ Some all → s.collections ≤ 65535 → (all ≡ sums_plus s more) × (s.collections + more.collections ≤ 65535)
-sum_more s more all is few = by_case (nat_le more.collections (65535 - s.collections) && nat_le more.patterns (2 ^ 64 - 1 - s.patterns)) refl
+sum_more : (s more all : Sums) → with_more s more ≡ Some all → s.collections ≤ count_limit → (all ≡ sums_plus s more) × (s.collections + more.collections ≤ count_limit)
+sum_more s more all is few = by_case (nat_le more.collections (count_limit - s.collections) && nat_le more.patterns (2 ^ 64 - 1 - s.patterns)) refl
   where
-    by_case : (b : Bool) → (nat_le more.collections (65535 - s.collections) && nat_le more.patterns (2 ^ 64 - 1 - s.patterns)) ≡ b
-        → (all ≡ sums_plus s more) × (s.collections + more.collections ≤ 65535)
+    by_case : (b : Bool) → (nat_le more.collections (count_limit - s.collections) && nat_le more.patterns (2 ^ 64 - 1 - s.patterns)) ≡ b
+        → (all ≡ sums_plus s more) × (s.collections + more.collections ≤ count_limit)
     by_case true e = (
       (let f : Some (sums_plus s more) ≡ Some all = sym (ap (λ (b : Bool). if b then Some (sums_plus s more) else Nothing) e) ∙ is in cc),
-      (let f : nat_le more.collections (65535 - s.collections) ≡ true = grind arith in grind arith),
+      (let f : nat_le more.collections (count_limit - s.collections) ≡ true = grind arith in grind arith),
     )
     by_case false e = absurd (let f : Nothing ≡ Some all = sym (ap (λ (b : Bool). if b then Some (sums_plus s more) else Nothing) e) ∙ is in cc)
 

@@ -2,6 +2,7 @@
 use Rattle.std.specs.Prelude.{ℕ, ◌+◌, ◌-◌, ◌^◌, ◌&&◌, nat_le, if◌then◌else◌, Option, Some, None as Nothing, List, [], ◌∷◌}
 use Rattle.census_rows.specs.declared.row.Row.{Row}
 use Rattle.census_rows.specs.declared.row.Row.TheVariants.{Open, Line, Part, Code, Close, End}
+use Rattle.census_readback.specs.Limits.{count_limit}
 use Rattle.census_merge.specs.declared.report_sums.Sums.{Sums}
 
 -- those of no report
@@ -23,7 +24,7 @@ sums_plus s more = record { collections = s.collections + more.collections; patt
 -- with those of one more report: 65,535 collections at most, and as many patterns as 64 bits can count
 abbrev pub with_more : Sums → Sums → Option Sums
 with_more s more =
-    if nat_le more.collections (65535 - s.collections) && nat_le more.patterns (2 ^ 64 - 1 - s.patterns) then Some (sums_plus s more) else Nothing
+    if nat_le more.collections (count_limit - s.collections) && nat_le more.patterns (2 ^ 64 - 1 - s.patterns) then Some (sums_plus s more) else Nothing
 
 -- those of all reports, where these are those before the rows
 abbrev pub sums_in : Sums → List Row → Sums

@@ -2,13 +2,14 @@
 ghost use Rattle.std.specs.Prelude.{◌≡◌, ◌≤◌};
 ghost use Rattle.census_merge.specs.Merged.{renumbered_row};
 ghost use Rattle.census_readback.specs.Steps.{collection_of};
+ghost use Rattle.census_readback.specs.Limits.{count_limit};
 
 use census_rows::Row;
 
 // A row, where so many collections come before those of its report.
 pub fn renumbered_row<'a>(before: u64, row: Row<'a>) -> Row<'a>
-    requires few { before ≤ 65535 }
-    requires small { collection_of row ≤ 65535 }
+    requires few { before ≤ count_limit }
+    requires small { collection_of row ≤ count_limit }
     ensures { result ≡ renumbered_row before row.entry }
 {
     match row {

@@ -1,11 +1,10 @@
 //! How many collections and patterns reports have.
 ghost use Rattle.std.specs.Prelude.{◌≡◌, ◌≤◌};
+ghost use Rattle.census_readback.specs.Limits.{count_limit};
 ghost use Rattle.census_merge.specs.Sums.{no_sums, sums_of, with_more};
 
+use census_readback::COUNT_LIMIT;
 use census_rows::Row;
-
-// As many collections as a report can have.
-const MOST: u64 = 65_535;
 
 #[derive(Clone, Copy)]
 pub struct Sums {
@@ -26,10 +25,10 @@ impl Sums {
 
     // With those of one more report, where there aren't too many.
     pub fn with(self, more: Sums) -> Option<Sums>
-        requires { self.collections ≤ 65535 }
+        requires { self.collections ≤ count_limit }
         ensures { result ≡ with_more self more }
     {
-        if more.collections <= MOST - self.collections
+        if more.collections <= COUNT_LIMIT - self.collections
             && more.patterns <= u64::MAX - self.patterns
         {
             Some(Sums {

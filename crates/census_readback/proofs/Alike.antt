@@ -12,6 +12,7 @@ use Rattle.census_readback.specs.declared.place.Tally.{Tally}
 use Rattle.census_readback.specs.Sections.{with_line, next_within, first_place, place_after}
 use Rattle.census_readback.specs.Steps.{Reading, collection_of, patterns_opened, place_at, gone_on, section_step, end_step, step, first_stray}
 use Rattle.census_readback.specs.Texts.{SameRows}
+use Rattle.census_readback.specs.Limits.{count_limit}
 
 line-same : (t : Tally) (o p : Outcome) → SameOutcome o p → with_line t o ≡ with_line t p
 line-same t (Ok rule population onset period dx dy code) (Ok rule2 population2 onset2 period2 dx2 dy2 code2) h = refl
@@ -69,9 +70,9 @@ opened-same r q h = absurd h
 section-same : (s : Reading) (r q : Row) → SameRow r q → section_step s r ≡ section_step s q
 section-same s r q h =
     let c = collection_of q in
-    ap (λ k. if nat_lt 0 k && nat_le k 65535 then gone_on s (k - 1) (patterns_opened r) (place_after (place_at s.places (k - 1)) r) else Nothing) (collection-same r q h)
-    ∙ ap (λ n. if nat_lt 0 c && nat_le c 65535 then gone_on s (c - 1) n (place_after (place_at s.places (c - 1)) r) else Nothing) (opened-same r q h)
-    ∙ ap (λ p. if nat_lt 0 c && nat_le c 65535 then gone_on s (c - 1) (patterns_opened q) p else Nothing) (next-same (place_at s.places (c - 1)) r q h)
+    ap (λ k. if nat_lt 0 k && nat_le k count_limit then gone_on s (k - 1) (patterns_opened r) (place_after (place_at s.places (k - 1)) r) else Nothing) (collection-same r q h)
+    ∙ ap (λ n. if nat_lt 0 c && nat_le c count_limit then gone_on s (c - 1) n (place_after (place_at s.places (c - 1)) r) else Nothing) (opened-same r q h)
+    ∙ ap (λ p. if nat_lt 0 c && nat_le c count_limit then gone_on s (c - 1) (patterns_opened q) p else Nothing) (next-same (place_at s.places (c - 1)) r q h)
 
 step-same : (s : Reading) (r q : Row) → SameRow r q → step s r ≡ step s q
 step-same s (Open c n name) (Open c2 n2 name2) h = section-same s (Open c n name) (Open c2 n2 name2) h

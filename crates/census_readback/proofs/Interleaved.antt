@@ -14,6 +14,7 @@ use Rattle.census_readback.specs.Steps.{Reading, collection_of, patterns_opened,
 use Rattle.census_readback.specs.Shapes.{rows_of, AreOf, patterns_in, IsWhole, AreWhole, all_rows, AreReports}
 use Rattle.census_readback.proofs.Shaped.{and-both, both-and, section-sound, section-complete}
 use Rattle.census_readback.proofs.Kept.{Kept, kept-none, kept-step, run-split, rows-here, patterns-append}
+use Rattle.census_readback.specs.Limits.{count_limit}
 
 -- # Steps
 
@@ -25,7 +26,7 @@ if-some false x t h = absurd (cc)
 record Taken (s t : Reading) (r : Row) : Type 0 where
   place : Place
   low : 0 < collection_of r
-  high : collection_of r ≤ 65535
+  high : collection_of r ≤ count_limit
   goes : place_after (place_at s.places (collection_of r - 1)) r ≡ Some place
   fits : s.patterns + patterns_opened r < 2 ^ 64
   is : t ≡ record { places = with_place s.places (collection_of r - 1) place; patterns = s.patterns + patterns_opened r; ended = false }
@@ -43,8 +44,8 @@ taken : (s t : Reading) (r : Row) → section_step s r ≡ Some t → Taken s t 
 taken s t r h =
     let i = collection_of r - 1 in
     let o = place_after (place_at s.places i) r in
-    let k = if-some (ltb 0 (collection_of r) && leb (collection_of r) 65535) (gone_on s i (patterns_opened r) o) t h in
-    let b = and-both (ltb 0 (collection_of r)) (leb (collection_of r) 65535) k.0 in
+    let k = if-some (ltb 0 (collection_of r) && leb (collection_of r) count_limit) (gone_on s i (patterns_opened r) o) t h in
+    let b = and-both (ltb 0 (collection_of r)) (leb (collection_of r) count_limit) k.0 in
     let g = gone-some s t i (patterns_opened r) o k.1 in
     record {
       place = g.0;
@@ -56,14 +57,14 @@ taken s t r h =
     }
 
 -- a row of a collection that may stand is taken
-taking : (s : Reading) (r : Row) (p : Place) → 0 < collection_of r → collection_of r ≤ 65535
+taking : (s : Reading) (r : Row) (p : Place) → 0 < collection_of r → collection_of r ≤ count_limit
     → place_after (place_at s.places (collection_of r - 1)) r ≡ Some p → s.patterns + patterns_opened r < 2 ^ 64
     → section_step s r ≡ Some (record { places = with_place s.places (collection_of r - 1) p; patterns = s.patterns + patterns_opened r; ended = false })
 taking s r p low high goes fits =
     let i = collection_of r - 1 in
     let o = place_after (place_at s.places i) r in
     let u : Reading = record { places = with_place s.places i p; patterns = s.patterns + patterns_opened r; ended = false } in
-    let pass : (ltb 0 (collection_of r) && leb (collection_of r) 65535) ≡ true = both-and _ _ (lt-ltb _ _ low) (le-leb _ _ high) in
+    let pass : (ltb 0 (collection_of r) && leb (collection_of r) count_limit) ≡ true = both-and _ _ (lt-ltb _ _ low) (le-leb _ _ high) in
     let small : ltb (s.patterns + patterns_opened r) (2 ^ 64) ≡ true = lt-ltb _ _ fits in
     ap (λ v. if v then gone_on s i (patterns_opened r) o else None) pass
     ∙ ap (λ (w : Option Place). gone_on s i (patterns_opened r) w) goes
@@ -195,7 +196,7 @@ reports-sound rows h =
 -- # From reports to steps
 
 -- rows of a body are taken
-body : (s : Reading) (n : ℕ) (seen rows rest : List Row) (most : ℕ) → Kept s seen → AreOf most rows → most ≤ 65535
+body : (s : Reading) (n : ℕ) (seen rows rest : List Row) (most : ℕ) → Kept s seen → AreOf most rows → most ≤ count_limit
     → ((c : ℕ) → 0 < c → c ≤ most → (z : Place) × (run Before (rows_of c (seen ++ rows)) ≡ Some z)) → patterns_in (seen ++ rows) < 2 ^ 64
     → (t : Reading) × (m : ℕ) × Kept t (seen ++ rows) × (first_stray s n (rows ++ rest) ≡ first_stray t m rest)
 body s n seen [] rest most kept owned few runs fits = (s, n, rw append-nil kept, refl)
@@ -208,7 +209,7 @@ body s n seen (r ∷ rows) rest most kept owned few runs fits =
     let goes = run-split Before (place_at s.places (c - 1)) whole.0 (rows_of c seen) r (rows_of c rows) before (sym (ap (run Before) here) ∙ whole.1) in
     let sum : patterns_in (seen ++ r ∷ rows) ≡ patterns_in seen + (patterns_opened r + patterns_in rows) = patterns-append seen (r ∷ rows) in
     let small : s.patterns + patterns_opened r < 2 ^ 64 = omega (arith, kept.sum, sum) in
-    let high : c ≤ 65535 = omega (arith, owned.1) in
+    let high : c ≤ count_limit = omega (arith, owned.1) in
     let t : Reading = record { places = with_place s.places (c - 1) goes.0; patterns = s.patterns + patterns_opened r; ended = false } in
     let is : step s r ≡ Some t = section-is-step s r owned.0 ∙ taking s r goes.0 owned.0 high goes.1 small in
     let assoc : (seen ++ r ∷ []) ++ rows ≡ seen ++ r ∷ rows = append_assoc seen (r ∷ []) rows in

@@ -10,6 +10,7 @@ use Rattle.census_readback.specs.Sections.{place_after}
 use Rattle.census_readback.specs.Runs.{run}
 use Rattle.census_readback.specs.Steps.{Reading, collection_of, patterns_opened, place_at, padded_places, with_place}
 use Rattle.census_readback.specs.Shapes.{rows_of, AreOf, patterns_in}
+use Rattle.census_readback.specs.Limits.{count_limit}
 
 -- # Places
 
@@ -121,7 +122,7 @@ pub record Kept (s : Reading) (seen : List Row) : Type 0 where
   pub places : (k : ℕ) → run Before (rows_of (k + 1) seen) ≡ Some (place_at s.places k)
   pub owned : AreOf (length s.places) seen
   pub under : (n : ℕ) → AreOf n seen → length s.places ≤ n
-  pub few : length s.places ≤ 65535
+  pub few : length s.places ≤ count_limit
   pub sum : s.patterns ≡ patterns_in seen
   pub fits : s.patterns < 2 ^ 64
 
@@ -135,7 +136,7 @@ kept-none s none zero_patterns = record {
   fits = omega arith;
 }
 
-pub kept-step : (s : Reading) (seen : List Row) (r : Row) (p : Place) → Kept s seen → 0 < collection_of r → collection_of r ≤ 65535
+pub kept-step : (s : Reading) (seen : List Row) (r : Row) (p : Place) → Kept s seen → 0 < collection_of r → collection_of r ≤ count_limit
     → place_after (place_at s.places (collection_of r - 1)) r ≡ Some p → s.patterns + patterns_opened r < 2 ^ 64
     → Kept (record { places = with_place s.places (collection_of r - 1) p; patterns = s.patterns + patterns_opened r; ended = false }) (seen ++ r ∷ [])
 kept-step s seen r p kept low high goes fits =

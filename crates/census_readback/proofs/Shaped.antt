@@ -13,6 +13,7 @@ use Rattle.census_readback.specs.Sections.{with_line, closes}
 use Rattle.census_readback.specs.Runs.{run}
 use Rattle.census_readback.specs.Steps.{patterns_opened}
 use Rattle.census_readback.specs.Shapes.{is_ash, is_resolved, is_unresolved, is_refused, lines_that, any_outcome, AreLines, AreCodes, IsOpen, IsSection}
+use Rattle.census_readback.specs.Limits.{count_limit}
 
 abbrev one : Bool → ℕ
 one b = if b then 1 else 0
@@ -25,7 +26,7 @@ and-both false b h = absurd (cc)
 pub record Good (t : Tally) : Type 0 where
   pub sum : t.resolved + t.unresolved + t.refused ≡ t.read
   pub within : t.read ≤ t.patterns
-  pub few : t.patterns ≤ 65535
+  pub few : t.patterns ≤ count_limit
 
 -- a tally with one more line
 record Grown (t u : Tally) (o : Outcome) : Type 0 where
@@ -230,8 +231,8 @@ pub section-sound : (rows : List Row) → run Before rows ≡ Some Behind → Is
 section-sound [] h = absurd (cc)
 section-sound (Open c n name ∷ rows) h =
     let t : Tally = record { patterns = n; read = 0; resolved = 0; unresolved = 0; refused = 0; ash = false } in
-    let k = passed (leb n 65535) (Within t) rows h in
-    let few : n ≤ 65535 = leb-true _ _ k.0 in
+    let k = passed (leb n count_limit) (Within t) rows h in
+    let few : n ≤ count_limit = leb-true _ _ k.0 in
     let good : Good t = record { sum = refl; within = omega arith; few = few } in
     let r = within-sound t rows good k.1 in
     let all : n ≡ lines_that any_outcome r.lines = omega (arith, r.all) in
@@ -307,14 +308,14 @@ within-complete t (Close c2 n2 a2 b2 d2 ∷ lines) codes c n a b d g are counts 
 within-complete t (End n2 k ∷ lines) codes c n a b d g are counts e1 e2 e3 e4 e5 = absurd are
 
 opens-complete : (first : Row) (lines codes : List Row) (c : ℕ) → IsOpen first → patterns_opened first ≡ lines_that any_outcome lines → AreLines 0 false lines → AreCodes codes
-    → lines_that any_outcome lines ≤ 65535
+    → lines_that any_outcome lines ≤ count_limit
     → run Before (first ∷ (lines ++ (codes ++ Close c (lines_that any_outcome lines) (lines_that is_resolved lines) (lines_that is_unresolved lines) (lines_that is_refused lines) ∷ []))) ≡ Some Behind
 opens-complete (Open c2 n name) lines codes c is all ordered counts few =
     let t : Tally = record { patterns = n; read = 0; resolved = 0; unresolved = 0; refused = 0; ash = false } in
     let m = lines_that any_outcome lines in
-    let small : n ≤ 65535 = omega arith in
+    let small : n ≤ count_limit = omega arith in
     let good : Good t = record { sum = refl; within = omega arith; few = small } in
-    pass (leb n 65535) (Within t) (lines ++ (codes ++ Close c m (lines_that is_resolved lines) (lines_that is_unresolved lines) (lines_that is_refused lines) ∷ []))
+    pass (leb n count_limit) (Within t) (lines ++ (codes ++ Close c m (lines_that is_resolved lines) (lines_that is_unresolved lines) (lines_that is_refused lines) ∷ []))
     (le-leb _ _ small)
     ∙ within-complete t lines codes c m (lines_that is_resolved lines) (lines_that is_unresolved lines) (lines_that is_refused lines) good ordered counts
     (omega arith) (sym all) (omega arith) (omega arith) (omega arith)

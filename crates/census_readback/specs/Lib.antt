@@ -5,3 +5,4 @@ pub mod Reports
 pub mod Shapes
 pub mod Runs
 pub mod Grouped
+pub mod Limits

@@ -7,6 +7,7 @@ use Rattle.census_rows.specs.declared.row.Row.TheVariants.{Open, Line, Part, Cod
 use Rattle.census_readback.specs.declared.place.Place.{Place}
 use Rattle.census_readback.specs.declared.place.Place.TheVariants.{Before, Within, Behind}
 use Rattle.census_readback.specs.declared.place.Tally.{Tally}
+use Rattle.census_readback.specs.Limits.{count_limit}
 
 -- one more, as far as 64 bits go
 abbrev pub more : ℕ → ℕ
@@ -39,7 +40,7 @@ next_within t (End collections patterns) = Nothing
 -- before all others `open`
 abbrev pub first_place : Row → Option Place
 first_place (Open collection patterns name) =
-    if nat_le patterns 65535 then Some (Within (record { patterns = patterns; read = 0; resolved = 0; unresolved = 0; refused = 0; ash = false })) else Nothing
+    if nat_le patterns count_limit then Some (Within (record { patterns = patterns; read = 0; resolved = 0; unresolved = 0; refused = 0; ash = false })) else Nothing
 first_place (Line collection pattern outcome name) = Nothing
 first_place (Part collection pattern code count) = Nothing
 first_place (Code collection rule code count) = Nothing

@@ -5,6 +5,7 @@ use Rattle.census_rows.specs.declared.row.Outcome.TheVariants.{Ok, Ash, None, La
 use Rattle.census_rows.specs.declared.row.Row.{Row}
 use Rattle.census_rows.specs.declared.row.Row.TheVariants.{Open, Line, Part, Code, Close, End}
 use Rattle.census_readback.specs.Steps.{collection_of, patterns_opened}
+use Rattle.census_readback.specs.Limits.{count_limit}
 
 abbrev pub is_ash : Outcome → Bool
 is_ash (Ok rule population onset period dx dy code) = false
@@ -91,7 +92,7 @@ pub record IsSection (rows : List Row) : Type 0 where
   pub all : patterns_opened first ≡ lines_that any_outcome lines
   pub ordered : AreLines 0 false lines
   pub counts : AreCodes codes
-  pub few : lines_that any_outcome lines ≤ 65535
+  pub few : lines_that any_outcome lines ≤ count_limit
 
 -- the rows of this collection, in their order
 abbrev pub rows_of : ℕ → List Row → List Row
@@ -116,7 +117,7 @@ pub record IsWhole (rows : List Row) : Type 0 where
   pub whole : rows ≡ body ++ End collections (patterns_in body) ∷ []
   pub owned : AreOf collections body
   pub sections : (c : ℕ) → 0 < c → c ≤ collections → IsSection (rows_of c body)
-  pub few : collections ≤ 65535
+  pub few : collections ≤ count_limit
   pub fits : patterns_in body < 2 ^ 64
 
 abbrev pub AreWhole : List (List Row) → Type 0

@@ -7,6 +7,7 @@ use Rattle.census_readback.specs.declared.place.Place.{Place}
 use Rattle.census_readback.specs.declared.place.Place.TheVariants.{Before, Within, Behind}
 use Rattle.census_readback.specs.declared.progress.Progress.{Progress}
 use Rattle.census_readback.specs.Sections.{place_after}
+use Rattle.census_readback.specs.Limits.{count_limit}
 
 -- the collection that a row belongs to
 abbrev pub collection_of : Row → ℕ
@@ -71,7 +72,7 @@ gone_on s index patterns (Some place) =
 abbrev pub section_step : Reading → Row → Option Reading
 section_step s row =
     let index = collection_of row - 1 in
-    if nat_lt 0 (collection_of row) && nat_le (collection_of row) 65535 then gone_on s index (patterns_opened row) (place_after (place_at s.places index) row) else Nothing
+    if nat_lt 0 (collection_of row) && nat_le (collection_of row) count_limit then gone_on s index (patterns_opened row) (place_after (place_at s.places index) row) else Nothing
 
 -- after a row, where it may stand here
 abbrev pub step : Reading → Row → Option Reading

@@ -3,11 +3,13 @@
 //! Tested in `tests_reports`.
 #![tactic(auto)]
 
+mod limits;
 mod lines;
 mod place;
 mod progress;
 mod reading;
 mod sectioning;
 
+pub use limits::COUNT_LIMIT;
 pub use reading::read_report;
 pub use sectioning::{collections, sections};

@@ -2,10 +2,8 @@
 ghost use Rattle.std.specs.Prelude.{◌≡◌, ◌<◌};
 ghost use Rattle.census_readback.specs.Sections.{closes, place_after, next_within, with_line};
 
+use crate::limits::COUNT_LIMIT;
 use census_rows::{Outcome, Row};
-
-// As many patterns as a collection can have.
-pub const MOST: u64 = 65_535;
 
 // What was read between the `open` and the `close` line.
 #[derive(Clone, Copy)]
@@ -130,7 +128,7 @@ pub fn next(place: Place, row: &Row) -> Option<Place>
     match place {
         Place::Before => match row {
             Row::Open { patterns, .. } => {
-                if *patterns <= MOST {
+                if *patterns <= COUNT_LIMIT {
                     Some(Place::Within(Tally {
                         patterns: *patterns,
                         read: 0,

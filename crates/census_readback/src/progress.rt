@@ -2,8 +2,10 @@
 ghost use Rattle.std.specs.Prelude.{◌≡◌, ◌<◌, ◌≤◌, ◌-◌, IfOk, OnOk, true, false, None, Some, IsTrue, IsFalse};
 ghost use Rattle.std.specs.List.{list_all};
 ghost use Rattle.census_readback.specs.Steps.{collection_of, end_step, is_behind, patterns_opened, padded_places, place_at, with_place, reading_of, section_step, initial_reading, step};
+ghost use Rattle.census_readback.specs.Limits.{count_limit};
 
-use crate::place::{MOST, Place, next};
+use crate::limits::COUNT_LIMIT;
+use crate::place::{Place, next};
 use census_rows::Row;
 use std::alloc::{AllocError, Global};
 
@@ -80,7 +82,7 @@ fn pad(places: &mut Vec<Place>, count: usize) -> Result<(), AllocError>
 
 // Writes the place of the collection at this index.
 fn put(places: &mut Vec<Place>, index: usize, place: Place) -> Result<(), AllocError>
-    requires { index < 65535 }
+    requires { index < count_limit }
     ensures { OnOk result (places.new.items ≡ with_place places.old.items index place) }
 {
     pad(places, index + 1)?;
@@ -125,7 +127,7 @@ impl Progress {
             → section_step (reading_of self.old) row.now ≡ None) }
     {
         let collection = collection_of(row);
-        if collection == 0 || MOST < collection {
+        if collection == 0 || COUNT_LIMIT < collection {
             return Ok(false);
         }
         let index = collection as usize - 1;

@@ -2,9 +2,10 @@
 use Rattle.std.specs.Prelude.{◌≡◌, ℕ, ◌+◌, false, List, [], ◌∷◌, ◌++◌}
 use Rattle.watched.specs.Watching.{ConsumesAtMost}
 use Rattle.census_folders.specs.Told.{Told}
-use Rattle.census_identify.specs.Hearing.{Hears, text_limit}
+use Rattle.census_identify.specs.Hearing.{Hears}
 use Rattle.census_identify.specs.Streams.{Source}
 use Rattle.census_identify.specs.declared.heard.Heard.TheVariants as heard
+use Rattle.census_bundle.specs.Sizes.{input_limit}
 use Rattle.census_reports.specs.declared.error.ReportsError.{ReportsError}
 use Rattle.census_reports.specs.declared.error.ReportsError.TheVariants.{TooLong, Memory, Read}
 
@@ -18,7 +19,7 @@ ReadsEach held (word ∷ words) (text ∷ texts) before after =
 
 -- standard input may have lost what one text has and a byte more, and has not failed
 pub record LosesAtMost (before after : Source) : Type 0 where
-  pub taken : ConsumesAtMost (text_limit + 1) before.unread after.unread
+  pub taken : ConsumesAtMost (input_limit + 1) before.unread after.unread
   pub sound : after.failed ≡ false
 
 -- why the text of a word was not read

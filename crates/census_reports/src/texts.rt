@@ -8,8 +8,9 @@ ghost use Rattle.census_identify.specs.declared.heard.Heard.TheVariants.{Text};
 ghost use Rattle.census_reports.specs.Texts.{ReadsEach, RefusesWord, StopsReading};
 
 use crate::error::ReportsError;
+use census_bundle::INPUT_LIMIT;
 use census_folders::Shelf;
-use census_identify::{Bytes, TEXT_LIMIT, is_input, read_file};
+use census_identify::{Bytes, is_input, read_file};
 use std::alloc::Global;
 use std::io::Read;
 use watched::{Watched, read_all};
@@ -32,13 +33,13 @@ fn read_text<S: Shelf, I: Read>(
     ensures read { IfOk result (λ bytes. Hears (S.held shelf.now []) word.now (Text bytes.items)
         (source I.remaining input.old) (source I.remaining input.new)) }
     ensures sound { OnOk result (has_failed input.new ≡ false) }
-    ensures taken { ConsumesAtMost (TEXT_LIMIT + 1)
+    ensures taken { ConsumesAtMost (INPUT_LIMIT + 1)
         (I.remaining (inner_of input.old)) (I.remaining (inner_of input.new)) }
     ensures fault { IfErr result (λ error. RefusesWord error (S.held shelf.now []) word.now
         (source I.remaining input.old) (source I.remaining input.new)) }
 {
     if is_input(word) {
-        Ok(read_all(alloc, input, TEXT_LIMIT)?)
+        Ok(read_all(alloc, input, INPUT_LIMIT)?)
     } else {
         Ok(read_file(shelf, alloc, word.as_bytes())?)
     }

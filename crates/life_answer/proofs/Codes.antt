@@ -31,7 +31,7 @@ body-normal G = body_by_shape (normal G) G (normal_normal G)
 
 -- ---- the texts of all phases in all orientations
 
-in_turned : (G : Generation) (m : Orientation) → Member (body (image_under G m)) (turned_bodies G)
+pub in_turned : (G : Generation) (m : Orientation) → Member (body (image_under G m)) (turned_bodies G)
 in_turned G Same = inl refl
 in_turned G FlipX = inr (inl refl)
 in_turned G FlipY = inr (inr (inl refl))

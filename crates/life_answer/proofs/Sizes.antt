@@ -12,7 +12,8 @@ use Rattle.life_model.proofs.Generations.{contains-empty, same_members, size-cel
 use Rattle.life_model.proofs.Lists.{cells-moved}
 use Rattle.life_model.proofs.Moves.{normal_decides}
 use Rattle.life_model.proofs.Near.{next_near}
-use Rattle.life_model.proofs.Symmetries.{undone, turn_keeps, contains-turned}
+use Rattle.life_model.proofs.Objects.{turned-undone}
+use Rattle.life_model.proofs.Symmetries.{undone}
 
 at_most : (b : Bool) (n : ℕ) → cond b n (n + 1) ≤ n + 1
 at_most true n = omega arith
@@ -41,16 +42,11 @@ size-turned_le G m =
     let k = size-cells G in
     omega arith
 
-turned_back : (G : Generation) (m : Orientation) → image_under (image_under G m) (undone m) ≡ G
-turned_back G m = same_members _ _ (λ c.
-    contains-turned (image_under G m) (undone m) c ∙ contains-turned G m (turn (undone (undone m)) c)
-    ∙ ap (contains G) ((turn_keeps (undone m)).inverse.here c))
-
 pub size-turned : (G : Generation) (m : Orientation) → size (image_under G m) ≡ size G
 size-turned G m =
     let h = size-turned_le G m in
     let k = size-turned_le (image_under G m) (undone m) in
-    let e = ap size (turned_back G m) in
+    let e = ap size (turned-undone G m) in
     omega arith
 
 -- a set that is moved keeps its number of cells

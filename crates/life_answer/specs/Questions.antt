@@ -6,6 +6,7 @@ use Rattle.life_model.specs.Generation.{Generation}
 use Rattle.life_text.specs.declared.rle.RleFault.{RleFault}
 use Rattle.life_text.specs.Rle.{reading}
 use Rattle.life_text.specs.Picture.{Picture, picture_of}
+use Rattle.life_objects.specs.Limits.{objects_bound_limit}
 use Rattle.life_answer.specs.contracts.question.Question as question_row
 use Rattle.life_answer.specs.declared.finding.Answer.{Answer}
 use Rattle.life_answer.specs.declared.finding.Answer.TheVariants.{Found, Refused}
@@ -21,10 +22,14 @@ abbrev pub bound_of : Question → ℕ
 bound_of (Settles bound cells) = bound
 bound_of (Objects bound cells) = bound
 
+-- the greatest bound within which it is answered as what a pattern settles
+abbrev pub settles_bound_limit : ℕ
+settles_bound_limit = 1000000
+
 -- the greatest bound within which such a question is answered
 abbrev pub greatest_bound : Question → ℕ
-greatest_bound (Settles bound cells) = 1000000
-greatest_bound (Objects bound cells) = 100000
+greatest_bound (Settles bound cells) = settles_bound_limit
+greatest_bound (Objects bound cells) = objects_bound_limit
 
 -- the bound is one within which is answered
 abbrev pub IsAnswered : Question → Type 0

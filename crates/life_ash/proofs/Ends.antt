@@ -18,7 +18,7 @@ use Rattle.life_objects.proofs.Members.{found_now, in_list_now}
 use Rattle.life_objects.proofs.Sides.{within_each_other}
 use Rattle.life_objects.proofs.Times.{AreApartForEver-swap}
 use Rattle.life_orbit.specs.Course.{Course}
-use Rattle.life_ash.specs.Parts.{AreEnds, IsEnd, sets_of}
+use Rattle.life_ash.specs.Parts.{AreEnds, IsEnd, ash_age_limit, sets_of}
 use Rattle.life_ash.proofs.Lists.{Contains-map}
 use Rattle.life_ash.proofs.Places.{subset_within}
 
@@ -45,10 +45,10 @@ module _ (R : Rule) (b : ℕ) (G : Generation) (parts : List Generation) (ash : 
   abbrev pub IsPartOfEnd : Generation → Type 0
   IsPartOfEnd Q = (P : Generation) × Contains parts P × (generation R P b ≡ Q)
 
-  module _ (placed : All (IsWithin 400000) (cells G)) where
+  module _ (placed : All (IsWithin ash_age_limit) (cells G)) where
     pub part_is_end : (P Q : Generation) → Contains parts P → generation R P b ≡ Q → IsEnd R b Q P
     part_is_end P Q one e = record {
-      within = subset_within 400000 400000 (omega arith) P G
+      within = subset_within ash_age_limit ash_age_limit (omega arith) P G
           (λ c h. ap (λ H. contains H c) (sym ash.together) ∙ in_list_now R parts P c one h) placed;
       recurs = (object_of R b G parts ash P one).recurs;
       end = e;

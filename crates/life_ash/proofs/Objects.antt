@@ -10,8 +10,9 @@ use Rattle.life_cells.specs.Limits.{IsWithin}
 use Rattle.life_objects.specs.Ash.{IsObject}
 use Rattle.life_objects.specs.Piece.{IsOnePiece, IsUndivided}
 use Rattle.life_objects.proofs.Moving.{one_piece_by_period}
+use Rattle.life_objects.specs.Limits.{objects_bound_limit}
 use Rattle.life_orbit.specs.Course.{Course}
-use Rattle.life_ash.specs.Parts.{IsFit}
+use Rattle.life_ash.specs.Parts.{IsFit, ash_age_limit}
 use Rattle.life_ash.proofs.Places.{generation_within, itself_within}
 
 module _ (R : Rule) (b : ℕ) (o : Course) (fit : IsFit R b o) where
@@ -28,12 +29,12 @@ module _ (R : Rule) (b : ℕ) (o : Course) (fit : IsFit R b o) where
     whole = whole;
   }
 
-  pub phase_within : b ≤ 100000 → (n : ℕ) → n < o.period →
+  pub phase_within : b ≤ objects_bound_limit → (n : ℕ) → n < o.period →
       All (IsWithin 500000) (cells (generation o.rule o.set n))
   phase_within le n h =
       let period : o.period ≤ b = fit.period in
-      itself_within (400000 + n) 500000 (omega arith) (generation o.rule o.set n)
-      (generation_within o.rule 400000 o.set fit.within n)
+      itself_within (ash_age_limit + n) 500000 (omega arith) (generation o.rule o.set n)
+      (generation_within o.rule ash_age_limit o.set fit.within n)
 
   -- one phase more that is undivided
   pub one_more_phase : (n : ℕ) (phase : Generation) → phase ≡ generation o.rule o.set n →

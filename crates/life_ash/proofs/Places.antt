@@ -12,6 +12,7 @@ use Rattle.life_cells.specs.Limits.{IsWithin}
 use Rattle.life_objects.specs.Union.{IsSubsetOf}
 use Rattle.life_orbit.proofs.Lists.{of_member, of_all_members}
 use Rattle.life_plane.proofs.Later.{within_later}
+use Rattle.life_ash.specs.Parts.{ash_age_limit}
 
 near_within : (a : ℕ) (c g : Cell) → IsNear c g → IsWithin a g → IsWithin (a + 1) c
 near_within a c g near h = record {
@@ -50,6 +51,6 @@ pub itself_within : (a b : ℕ) → a ≤ b → (G : Generation) → All (IsWith
 itself_within a b le G all = subset_within a b le G G (λ c h. h) all
 
 -- where the cells of an equal set of that age stand
-pub placed_at : (a : ℕ) (H G : Generation) → H ≡ G → a ≤ 400000 → All (IsWithin a) (cells H) →
-    All (IsWithin 400000) (cells G)
-placed_at a H G same le all = subst (λ S. All (IsWithin 400000) (cells S)) same (itself_within a 400000 le H all)
+pub placed_at : (a : ℕ) (H G : Generation) → H ≡ G → a ≤ ash_age_limit → All (IsWithin a) (cells H) →
+    All (IsWithin ash_age_limit) (cells G)
+placed_at a H G same le all = subst (λ S. All (IsWithin ash_age_limit) (cells S)) same (itself_within a ash_age_limit le H all)

@@ -5,6 +5,7 @@ use Rattle.std.specs.List.{All}
 use Rattle.life_model.specs.Coded.{coded_rule}
 use Rattle.life_model.specs.Rule.{Rule}
 use Rattle.life_orbit.specs.Course.{Course, IsCourse}
+use Rattle.life_objects.specs.Limits.{objects_bound_limit}
 
 -- the rule by which sets recur, and within how many generations
 pub record Terms : Type 0 where
@@ -20,7 +21,7 @@ coded_terms =
 -- the terms are those of a search
 pub record AreTerms (t : Terms) : Type 0 where
   pub some : 1 ≤ t.bound
-  pub short : t.bound ≤ 100000
+  pub short : t.bound ≤ objects_bound_limit
 
 -- the set recurs so, by this rule and within this bound
 pub record IsMet (t : Terms) (o : Course) : Type 0 where

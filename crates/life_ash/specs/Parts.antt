@@ -8,6 +8,10 @@ use Rattle.life_cells.specs.Limits.{IsWithin}
 use Rattle.life_objects.specs.Ash.{RecursWithin}
 use Rattle.life_orbit.specs.Course.{Course, IsCourse}
 
+-- the greatest age of a plane whose cells are told as ash
+abbrev pub ash_age_limit : ℕ
+ash_age_limit = 400000
+
 -- the sets that recur so
 abbrev pub sets_of : List Course → List Generation
 sets_of courses = map (λ o. o.set) courses
@@ -18,7 +22,7 @@ IsOf R o = o.rule ≡ R
 
 -- it stands in the field at age 400,000
 abbrev pub IsPlaced : Course → Type 0
-IsPlaced o = All (IsWithin 400000) (cells o.set)
+IsPlaced o = All (IsWithin ash_age_limit) (cells o.set)
 
 -- it recurs by this rule within the bound, and stands in the field at age 400,000
 pub record IsFit (R : Rule) (b : ℕ) (o : Course) : Type 0 where
@@ -29,7 +33,7 @@ pub record IsFit (R : Rule) (b : ℕ) (o : Course) : Type 0 where
 
 -- P is in the field at age 400,000, recurs within the bound, and becomes the set last after as many generations
 pub record IsEnd (R : Rule) (b : ℕ) (last P : Generation) : Type 0 where
-  pub within : All (IsWithin 400000) (cells P)
+  pub within : All (IsWithin ash_age_limit) (cells P)
   pub recurs : RecursWithin R b P
   pub end : generation R P b ≡ last
 

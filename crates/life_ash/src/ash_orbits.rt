@@ -4,7 +4,7 @@ ghost use Rattle.life_model.specs.Generation.{Generation};
 ghost use Rattle.life_objects.specs.Ash.{IsAsh};
 ghost use Rattle.life_ash.specs.Later.{courses_after};
 ghost use Rattle.life_orbit.specs.Course.{IsCourse};
-ghost use Rattle.life_ash.specs.Parts.{IsFit, IsOf, IsPlaced, sets_of};
+ghost use Rattle.life_ash.specs.Parts.{IsFit, IsOf, IsPlaced, ash_age_limit, sets_of};
 
 use crate::checks::{are_apart, are_together};
 use crate::known::Known;
@@ -87,7 +87,7 @@ pub fn ash_by<P: Plane>(
     plane: &P,
     known: &mut Known,
 ) -> Result<Option<Ash>, AllocError>
-    requires young { P.steps_made plane.now ≤ 400000 }
+    requires young { P.steps_made plane.now ≤ ash_age_limit }
     ensures some { IfOk result (λ found. IfSome found (λ ash.
         IsAsh known.old.rule known.old.bound (P.members plane.now) (sets_of ash))) }
     ensures rule { IfOk result (λ found. IfSome found (λ ash. All (IsOf known.old.rule) ash)) }
@@ -113,7 +113,7 @@ pub fn ash_of<P: Plane>(
     bound: u32,
 ) -> Result<Option<Ash>, AllocError>
     requires bound { 1 ≤ bound × bound ≤ BOUND_LIMIT }
-    requires young { P.steps_made plane.now ≤ 400000 }
+    requires young { P.steps_made plane.now ≤ ash_age_limit }
     ensures some { IfOk result (λ found. IfSome found (λ ash.
         IsAsh rule.now bound (P.members plane.now) (sets_of ash))) }
     ensures rule { IfOk result (λ found. IfSome found (λ ash. All (IsOf rule.now) ash)) }

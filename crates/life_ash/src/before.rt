@@ -8,21 +8,27 @@ ghost use Rattle.life_model.specs.Recurrence.{RecursBy};
 ghost use Rattle.life_model.specs.Symmetry.{translate_of};
 ghost use Rattle.life_cells.specs.Limits.{IsWithin};
 ghost use Rattle.life_orbit.specs.Reach.{IsReach};
+ghost use Rattle.life_ash.specs.Parts.{ash_age_limit};
 
-use life_cells::CellList;
+use life_cells::{CellList, PLACE_LIMIT};
 use life_orbit::{BOUND_LIMIT, Orbit, repeated};
 use std::alloc::{AllocError, Global};
+
+/// The greatest age of a plane whose cells are told as ash.
+const ASH_AGE_LIMIT: i128 = 400_000;
 
 /// The cell, moved back, where it then is in the field at age 400,000.
 fn cell_before(cell: (i32, i32), by: (i128, i128)) -> Option<(i32, i32)>
     requires { IsReach (2 ^ 126) by }
     ensures moved { IfSome result (λ place. place ≡ plus cell (opposite by)) }
-    ensures within { IfSome result (λ place. IsWithin 400000 place) }
-    ensures outside { IfNone result (IsWithin 400000 (plus cell (opposite by)) → ⊥) }
+    ensures within { IfSome result (λ place. IsWithin ash_age_limit place) }
+    ensures outside { IfNone result (IsWithin ash_age_limit (plus cell (opposite by)) → ⊥) }
 {
     let x = cell.0 as i128 - by.0;
     let y = cell.1 as i128 - by.1;
-    if -400_000 <= x && x <= 1_448_575 && -400_000 <= y && y <= 1_448_575 {
+    let least = -ASH_AGE_LIMIT;
+    let end = PLACE_LIMIT as i128 + ASH_AGE_LIMIT;
+    if least <= x && x < end && least <= y && y < end {
         return Some((x as i32, y as i32));
     }
     None
@@ -36,9 +42,9 @@ fn cells_before(
 ) -> Result<Option<CellList>, AllocError>
     requires { IsReach (2 ^ 126) by }
     ensures moved { IfOk result (λ found. IfSome found (λ set. set ≡ translate_of cells.now (opposite by))) }
-    ensures within { IfOk result (λ found. IfSome found (λ set. All (IsWithin 400000) (generations.cells set))) }
+    ensures within { IfOk result (λ found. IfSome found (λ set. All (IsWithin ash_age_limit) (generations.cells set))) }
     ensures outside { IfOk result (λ found. IfNone found
-        (All (IsWithin 400000) (generations.cells (translate_of cells.now (opposite by))) → ⊥)) }
+        (All (IsWithin ash_age_limit) (generations.cells (translate_of cells.now (opposite by))) → ⊥)) }
 {
     let places = cells.as_slice();
     let mut items = Vec::new(alloc);
@@ -54,13 +60,13 @@ fn cells_before(
 /// What a set was so many generations ago that comes again as this orbit does, where it was in the field at age 400,000.
 pub fn set_before(alloc: Global, orbit: &Orbit, ago: u32) -> Result<Option<CellList>, AllocError>
     requires { 1 ≤ ago × ago ≤ BOUND_LIMIT }
-    ensures within { IfOk result (λ found. IfSome found (λ set. All (IsWithin 400000) (generations.cells set))) }
+    ensures within { IfOk result (λ found. IfSome found (λ set. All (IsWithin ash_age_limit) (generations.cells set))) }
     ensures set { IfOk result (λ found. IfSome found (λ set. (P : Generation) →
         RecursBy orbit.now.rule P orbit.now.period orbit.now.displacement →
         generation orbit.now.rule P ago ≡ orbit.now.set → set ≡ P)) }
     ensures outside { IfOk result (λ found. IfNone found ((P : Generation) →
         RecursBy orbit.now.rule P orbit.now.period orbit.now.displacement →
-        generation orbit.now.rule P ago ≡ orbit.now.set → All (IsWithin 400000) (generations.cells P) → ⊥)) }
+        generation orbit.now.rule P ago ≡ orbit.now.set → All (IsWithin ash_age_limit) (generations.cells P) → ⊥)) }
 {
     let period = orbit.period();
     let rounds = (ago - 1) / period + 1;

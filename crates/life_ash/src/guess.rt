@@ -4,7 +4,7 @@ ghost use Rattle.life_model.specs.Generation as generations;
 ghost use Rattle.life_cells.specs.Limits.{IsWithin};
 ghost use Rattle.life_objects.specs.Ash.{IsAsh};
 ghost use Rattle.life_orbit.specs.Course.{IsCourse};
-ghost use Rattle.life_ash.specs.Parts.{IsFit, IsOf, IsPlaced, sets_of};
+ghost use Rattle.life_ash.specs.Parts.{IsFit, IsOf, IsPlaced, ash_age_limit, sets_of};
 
 use crate::ash_orbits::is_ash;
 use crate::known::Known;
@@ -52,7 +52,7 @@ fn orbits_of(
 ) -> Result<Option<Vec<Orbit>>, AllocError>
     requires some { 1 ≤ tried }
     requires most { tried ≤ known.now.bound }
-    requires within { All (λ c. All (IsWithin 400000) (generations.cells c.first)) classes.now }
+    requires within { All (λ c. All (IsWithin ash_age_limit) (generations.cells c.first)) classes.now }
     ensures same { known.new ≡ known.old }
     ensures fit { IfOk result (λ found. IfSome found (λ orbits. All (IsFit known.old.rule known.old.bound) orbits.items)) }
 {
@@ -73,7 +73,7 @@ fn parts_by_effort<P: Plane>(
     known: &mut Known,
     effort: Effort,
 ) -> Result<Option<Vec<Orbit>>, AllocError>
-    requires young { P.steps_made plane.now ≤ 400000 }
+    requires young { P.steps_made plane.now ≤ ash_age_limit }
     ensures same { known.new ≡ known.old }
     ensures ash { IfOk result (λ found. IfSome found (λ parts.
         IsAsh known.old.rule known.old.bound (P.members plane.now) (sets_of parts.items))) }
@@ -106,7 +106,7 @@ pub fn guessed_parts<P: Plane>(
     known: &mut Known,
     most: usize,
 ) -> Result<Option<Vec<Orbit>>, AllocError>
-    requires young { P.steps_made plane.now ≤ 400000 }
+    requires young { P.steps_made plane.now ≤ ash_age_limit }
     ensures same { known.new ≡ known.old }
     ensures ash { IfOk result (λ found. IfSome found (λ parts.
         IsAsh known.old.rule known.old.bound (P.members plane.now) (sets_of parts.items))) }

@@ -4,6 +4,7 @@ ghost use Rattle.life_model.specs.Generation as generations;
 ghost use Rattle.life_cells.specs.Limits.{IsWithin};
 ghost use Rattle.life_objects.specs.Ash.{RecursWithin};
 ghost use Rattle.life_orbit.specs.Course.{IsCourse};
+ghost use Rattle.life_orbit.specs.Kept.{orbit_age_limit};
 ghost use Rattle.life_ash.specs.Met.{IsMet, Terms};
 
 use life_cells::{CellList, Rule};
@@ -109,7 +110,7 @@ impl Known {
     ) -> Result<Option<Orbit>, AllocError>
         requires some { 1 ≤ tried }
         requires most { tried ≤ self.now.bound }
-        requires within { All (IsWithin 4000000) (generations.cells cells.now) }
+        requires within { All (IsWithin orbit_age_limit) (generations.cells cells.now) }
         ensures same { self.new ≡ self.old }
         ensures set { IfOk result (λ found. IfSome found (λ orbit. orbit.set ≡ cells.now)) }
         ensures met { IfOk result (λ found. IfSome found (IsMet self.old)) }

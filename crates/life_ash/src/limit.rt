@@ -11,7 +11,7 @@ ghost use Rattle.life_ash.specs.Parts.{IsOf, sets_of};
 use crate::pace::{Pace, STRIDE};
 use crate::sizes::are_few;
 use life_cells::Rule;
-use life_orbit::Orbit;
+use life_orbit::{BOUND_LIMIT, Orbit};
 use life_plane::{AGE_LIMIT, Plane};
 use std::alloc::AllocError;
 
@@ -54,7 +54,7 @@ pub fn few_until<P: Plane>(
     known: u32,
     pace: &mut Pace,
 ) -> Option<u32>
-    requires { age ≤ 100000 }
+    requires { age ≤ BOUND_LIMIT }
     ensures few { IfSome result (λ until. (R : ModelRule) (G : Generation) → P.members plane.now ≡ generation R G age →
         AreAllowedBefore R G limit age → AreAllowedBefore R G limit known → AreAllowedBefore R G limit until) }
     ensures later { IfSome result (λ until. age < until) }

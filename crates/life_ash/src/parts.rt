@@ -5,7 +5,8 @@ ghost use Rattle.life_model.specs.Generation as generations;
 ghost use Rattle.std.specs.List.{Contains};
 ghost use Rattle.life_cells.specs.Limits.{IsWithin};
 ghost use Rattle.life_objects.specs.Ash.{IsAsh};
-ghost use Rattle.life_ash.specs.Parts.{AreEnds, IsEnd, IsFit, sets_of};
+ghost use Rattle.life_orbit.specs.Kept.{orbit_age_limit};
+ghost use Rattle.life_ash.specs.Parts.{AreEnds, IsEnd, IsFit, ash_age_limit, sets_of};
 
 use crate::before::set_before;
 use crate::known::Known;
@@ -18,7 +19,7 @@ use std::alloc::{AllocError, Global};
 
 /// The only set that may have become this one after so many generations as is the bound, and that comes again within it.
 fn part_of(alloc: Global, known: &mut Known, last: &CellList) -> Result<Option<Orbit>, AllocError>
-    requires within { All (IsWithin 4000000) (generations.cells last.now) }
+    requires within { All (IsWithin orbit_age_limit) (generations.cells last.now) }
     ensures same { known.new ≡ known.old }
     ensures fit { IfOk result (λ found. IfSome found (λ orbit. IsFit known.old.rule known.old.bound orbit)) }
     ensures set { IfOk result (λ found. IfSome found (λ orbit. (P : Generation) →
@@ -42,7 +43,7 @@ fn parts_of(
     known: &mut Known,
     lasts: &[CellList],
 ) -> Result<Option<Vec<Orbit>>, AllocError>
-    requires within { All (λ G. All (IsWithin 4000000) (generations.cells G)) lasts.now }
+    requires within { All (λ G. All (IsWithin orbit_age_limit) (generations.cells G)) lasts.now }
     ensures same { known.new ≡ known.old }
     ensures fit { IfOk result (λ found. IfSome found (λ orbits. All (IsFit known.old.rule known.old.bound) orbits.items)) }
     ensures sets { IfOk result (λ found. IfSome found (λ orbits.
@@ -66,7 +67,7 @@ pub fn only_parts<P: Plane>(
     plane: &P,
     known: &mut Known,
 ) -> Result<Option<Vec<Orbit>>, AllocError>
-    requires young { P.steps_made plane.now ≤ 400000 }
+    requires young { P.steps_made plane.now ≤ ash_age_limit }
     ensures same { known.new ≡ known.old }
     ensures fit { IfOk result (λ found. IfSome found (λ orbits. All (IsFit known.old.rule known.old.bound) orbits.items)) }
     ensures only { IfOk result (λ found. IfSome found (λ orbits. (parts : List Generation) →

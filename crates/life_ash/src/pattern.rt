@@ -6,7 +6,7 @@ ghost use Rattle.life_cells.specs.Limits.{IsWithin};
 ghost use Rattle.life_objects.specs.Ash.{HasFallenApart, IsAsh};
 ghost use Rattle.life_orbit.specs.Course.{IsCourse};
 ghost use Rattle.life_ash.specs.Fates.{IsFate};
-ghost use Rattle.life_ash.specs.Parts.{IsOf, IsPlaced, sets_of};
+ghost use Rattle.life_ash.specs.Parts.{IsOf, IsPlaced, ash_age_limit, sets_of};
 
 use crate::ash_orbits::{Ash, ash_by};
 use crate::guess::guessed_parts;
@@ -27,7 +27,7 @@ fn parts_if_due<P: Plane>(
     pace: &mut Pace,
     age: u32,
 ) -> Result<Option<Vec<Orbit>>, AllocError>
-    requires young { P.steps_made plane.now ≤ 400000 }
+    requires young { P.steps_made plane.now ≤ ash_age_limit }
     ensures same { met.new ≡ met.old }
     ensures ash { IfOk result (λ found. IfSome found (λ parts.
         IsAsh met.old.rule met.old.bound (P.members plane.now) (sets_of parts.items))) }

@@ -9,9 +9,10 @@ use Rattle.life_model.specs.Cell.{Cell, cell_cmp, same_cell}
 use Rattle.life_model.specs.Generation.{Generation, contains, from_list, is_rising, below_all}
 use Rattle.life_model.proofs.Generations.{contains-from_list, same_members}
 use Rattle.life_model.proofs.Tests.{list_any-reverse}
-use Rattle.life_cells.specs.Limits.{IsPlace, IsWithin}
+use Rattle.life_cells.specs.Limits.{IsPlace, IsWithin, age_limit}
 use Rattle.life_cells.proofs.Sorted.{both_hold}
-use Rattle.life_slots.proofs.Inserted.{all_listed, place_from_within}
+use Rattle.life_plane.proofs.Later.{place_from_within}
+use Rattle.life_slots.proofs.Inserted.{all_listed}
 use Rattle.life_bits.specs.declared.tile.Tile.{Tile}
 use Rattle.life_slots.specs.Cells.{row_cells, block_cells}
 use Rattle.life_slots.proofs.Members.{Has, has_head, has_tail, has_cases, has_none, has_parts, RowHas, row_has, BlockHas, block_has}
@@ -111,7 +112,7 @@ row_listed left top rows n items new before after =
 pub none_listed : (left top : ℤ) (rows : List ℕ) (first : ℕ) → ((k : ℕ) → k < first → slice_index rows k ≡ 0) → [] ≡ reverse (block_cells left top rows first)
 none_listed left top rows first void = sym (ap (λ (cs : List Cell). reverse cs) (block_empty left top rows first void))
 
-pub places : (left top : ℤ) (tile : Tile) (age : ℕ) → age ≤ 4194304 → ((q : Cell) → contains (shown left top tile) q ≡ true → IsWithin age q) →
+pub places : (left top : ℤ) (tile : Tile) (age : ℕ) → age ≤ age_limit → ((q : Cell) → contains (shown left top tile) q ≡ true → IsWithin age q) →
     All IsPlace (reverse (block_cells left top tile.rows 64))
 places left top tile age young within =
     all_listed IsPlace (shown left top tile) (reverse (block_cells left top tile.rows 64))

@@ -3,7 +3,7 @@ use Rattle.std.specs.Prelude.{◌≡◌, ℕ, ℤ, pos, negsuc, true, ◌≤ℤ�
 use Rattle.std.specs.Int.{bit_at}
 use Rattle.life_model.specs.Cell.{Cell}
 use Rattle.life_model.specs.Generation.{Generation, contains, from_list}
-use Rattle.life_cells.specs.Limits.{IsWithin}
+use Rattle.life_cells.specs.Limits.{IsWithin, age_limit}
 use Rattle.life_bits.specs.declared.tile.Tile.{Tile}
 use Rattle.life_bits.specs.Area.{Nine, tile_cell}
 use Rattle.life_slots.specs.Cells.{block_cells}
@@ -34,7 +34,7 @@ pub record IsVoidOutside (rows : List ℕ) (first end : ℕ) : Type 0 where
 -- what a square keeps
 pub record IsKept (square : Square) : Type 0 where
   pub place : IsReached square.left square.top
-  pub young : square.age ≤ 4194304
+  pub young : square.age ≤ age_limit
   pub void : IsVoidOutside square.tile.rows square.first square.end
   pub within : (c : Cell) → contains (members_of square) c ≡ true → IsWithin square.age c
 

@@ -3,7 +3,7 @@ ghost use Rattle.std.specs.Prelude.{◌≡◌, ◌+◌, ◌<◌, ◌≤◌, All,
 ghost use Rattle.life_model.specs.Evolution.{next};
 ghost use Rattle.life_model.specs.Generation.{size};
 ghost use Rattle.life_model.specs.Generation as generation;
-ghost use Rattle.life_cells.specs.Limits.{IsWithin};
+ghost use Rattle.life_cells.specs.Limits.{IsWithin, age_limit};
 ghost use Rattle.life_plane.specs.Span.{set_span};
 ghost use Rattle.life_plane.specs.Offsets.{AreNotTranslates, IsOffset};
 ghost use Rattle.life_board.specs.Kinds.{age_of, members_of, HasRoom, IsKept};
@@ -36,7 +36,7 @@ fn as_tiles(square: &Square) -> Result<TilePlane, AllocError>
 impl Kind {
     /// The cells of a list at some age.
     pub fn of(alloc: Global, list: &CellList, age: u32) -> Result<Kind, AllocError>
-        requires age { age ≤ 4194304 }
+        requires age { age ≤ age_limit }
         requires within { All (IsWithin age) (generation.cells list.now) }
         ensures kept { IfOk result IsKept }
         ensures cells { IfOk result (λ kind. members_of kind ≡ list.now) }
@@ -68,7 +68,7 @@ impl Kind {
     /// Makes the next generation. After an `Err` the cells and the age are what they were.
     pub fn step(&mut self, rule: &Rule) -> Result<(), AllocError>
         requires kept { IsKept self.old }
-        requires young { age_of self.old < 4194304 }
+        requires young { age_of self.old < age_limit }
         ensures kept { IsKept self.new }
         ensures cells { OnOk result (members_of self.new ≡ next rule.now (members_of self.old)) }
         ensures age { OnOk result (age_of self.new ≡ age_of self.old + 1) }

@@ -4,7 +4,7 @@ ghost use Rattle.std.specs.Int.{bit_at};
 ghost use Rattle.life_model.specs.Evolution.{next};
 ghost use Rattle.life_model.specs.Generation.{from_list, insert, size};
 ghost use Rattle.life_bits.specs.Area.{tile_cell};
-ghost use Rattle.life_cells.specs.Limits.{IsWithin};
+ghost use Rattle.life_cells.specs.Limits.{IsWithin, age_limit};
 ghost use Rattle.life_plane.specs.Span.{set_span};
 ghost use Rattle.life_plane.specs.Offsets.{AreNotTranslates, IsOffset};
 ghost use Rattle.life_slots.specs.Cells.{block_cells, row_cells};
@@ -121,7 +121,7 @@ impl Square {
     /// The square without a live cell.
     fn empty(alloc: Global, left: i32, top: i32, age: u32) -> Square
         requires place { IsReached left top }
-        requires young { age ≤ 4194304 }
+        requires young { age ≤ age_limit }
         ensures kept { IsKept result }
         ensures free { IsOpen result }
         ensures members { members_of result ≡ from_list [] }
@@ -158,7 +158,7 @@ impl Square {
     /// The square of these cells, whose corner is this, where none of them is too near to its edge.
     pub fn of(alloc: Global, cells: &[(i32, i32)], corner: (i32, i32), age: u32) -> Option<Square>
         requires place { IsReached corner.0 corner.1 }
-        requires young { age ≤ 4194304 }
+        requires young { age ≤ age_limit }
         requires within { All (IsWithin age) cells.now }
         ensures kept { IfSome result IsKept }
         ensures members { IfSome result (λ square. members_of square ≡ from_list cells.now) }
@@ -195,7 +195,7 @@ impl Square {
     pub fn advance(&mut self, rule: &Rule)
         requires kept { IsKept self.old }
         requires room { HasRoom self.old }
-        requires young { self.old.age < 4194304 }
+        requires young { self.old.age < age_limit }
         ensures kept { IsKept self.new }
         ensures members { members_of self.new ≡ next rule.now (members_of self.old) }
         ensures age { self.new.age ≡ self.old.age + 1 }

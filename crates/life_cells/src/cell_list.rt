@@ -5,6 +5,7 @@ ghost use Rattle.life_model.specs.Generation as generation;
 ghost use Rattle.life_cells.specs.Limits.{IsPlace, IsWithin};
 ghost use Rattle.life_cells.specs.declared.cell_list.CellFault.TheVariants.{OutOfField};
 
+use crate::limits::{COORDINATE_LIMIT, PLACE_LIMIT};
 use crate::order::put_in_order;
 use std::alloc::{AllocError, Global};
 use std::marker::Model;
@@ -58,14 +59,18 @@ impl Model for CellList {
 fn is_place(cell: (i32, i32)) -> bool
     ensures { IsTrue result ↔ IsPlace cell }
 {
-    -16_777_216 <= cell.0 && cell.0 <= 16_777_215 && -16_777_216 <= cell.1 && cell.1 <= 16_777_215
+    -COORDINATE_LIMIT <= cell.0
+        && cell.0 < COORDINATE_LIMIT
+        && -COORDINATE_LIMIT <= cell.1
+        && cell.1 < COORDINATE_LIMIT
 }
 
 /// Whether both places of a cell are from 0 to 1,048,575.
 fn is_in_field(cell: (i32, i32)) -> bool
     ensures { IsTrue result ↔ IsWithin 0 cell }
 {
-    0 <= cell.0 && cell.0 <= 1_048_575 && 0 <= cell.1 && cell.1 <= 1_048_575
+    let limit = PLACE_LIMIT as i32;
+    0 <= cell.0 && cell.0 < limit && 0 <= cell.1 && cell.1 < limit
 }
 
 /// Whether all cells have places of a list of cells.

@@ -3,6 +3,7 @@ ghost use Rattle.std.specs.Prelude.{◌≡◌, All, IfOk, IfSome, IsTrue};
 ghost use Rattle.life_model.specs.Generation.{cells};
 ghost use Rattle.life_cells.specs.Limits.{IsWithin};
 ghost use Rattle.life_answer.specs.Apgcode.{code_of};
+ghost use Rattle.life_ash.specs.Parts.{ash_age_limit};
 ghost use Rattle.life_census.specs.Courses.{course_code};
 
 use crate::code::code_of;
@@ -94,7 +95,7 @@ impl KnownCodes {
     /// The code of a set that recurs, whose cells are places at age 400,000. It is made where none is kept of this set,
     /// moved as a whole.
     pub fn code_of(&mut self, alloc: Global, orbit: &Orbit) -> Result<Code, AllocError>
-        requires within { All (IsWithin 400000) (cells orbit.now.set) }
+        requires within { All (IsWithin ash_age_limit) (cells orbit.now.set) }
         ensures { IfOk result (λ code. code ≡ course_code orbit.now) }
     {
         if let Some(code) = kept_code(alloc, &self.codes, orbit)? {

@@ -15,7 +15,7 @@ use Rattle.life_model.proofs.Cells.{same_cell-is}
 use Rattle.life_model.proofs.Generations.{contains-from_list}
 use Rattle.life_model.proofs.Symmetries.{undone, turn-undone, turn_keeps, contains-turned}
 use Rattle.life_model.proofs.Moves.{corner-is, corner_one}
-use Rattle.life_cells.specs.Limits.{IsPlace}
+use Rattle.life_cells.specs.Limits.{IsPlace, coordinate_limit}
 use Rattle.life_shape.proofs.Boxes.{normal_in_box, contains-normal_back, width_within, height_within}
 use Rattle.life_shape.proofs.Members.{holds_in}
 use Rattle.life_codes.specs.declared.frame.Frame.{Frame}
@@ -215,7 +215,7 @@ bounded_by G f h each =
       bottom = below_place _ (subst (λ z. z ≤ℤ pos 16777215) d2 b.below);
     }
   where
-    below_place : (z : ℤ) → z ≤ℤ pos 16777215 → z ≤ℤ pos 16777216
+    below_place : (z : ℤ) → z ≤ℤ pos 16777215 → z ≤ℤ pos coordinate_limit
     below_place z h = omega (arith, ints)
 
 pub frame_bounded : (cs : List Cell) → 0 < length cs → All IsPlace cs → IsBounded (frame_of cs)

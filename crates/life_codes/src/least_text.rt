@@ -3,7 +3,7 @@ ghost use Rattle.std.specs.Prelude.{◌≡◌, ◌*◌, ◌<◌, ◌≤◌, All,
 ghost use Rattle.std.specs.List.{fold};
 ghost use Rattle.life_model.specs.Box.{height, width};
 ghost use Rattle.life_model.specs.Generation.{from_list, is_rising};
-ghost use Rattle.life_cells.specs.Limits.{IsPlace};
+ghost use Rattle.life_cells.specs.Limits.{IsPlace, extent_limit};
 ghost use Rattle.life_shape.specs.Orients.{orientation};
 ghost use Rattle.life_answer.specs.Apgcode.{turned_bodies};
 ghost use Rattle.life_codes.specs.Frames.{IsBounded, frame_of};
@@ -277,8 +277,8 @@ fn add_list(
     room: &mut Room,
     list: &CellList,
 ) -> Result<(), AllocError>
-    requires wide { width list.now ≤ 16_777_216 }
-    requires high { height list.now ≤ 16_777_216 }
+    requires wide { width list.now ≤ extent_limit }
+    requires high { height list.now ≤ extent_limit }
     ensures { OnOk result (least.new ≡ fold with_text least.old (turned_bodies list.now)) }
 {
     let cells = list.as_slice();
@@ -313,8 +313,8 @@ impl LeastText {
     ///
     /// Their box is at most 16,777,216 wide and high.
     pub fn add(&mut self, list: &CellList) -> Result<(), AllocError>
-        requires wide { width list.now ≤ 16_777_216 }
-        requires high { height list.now ≤ 16_777_216 }
+        requires wide { width list.now ≤ extent_limit }
+        requires high { height list.now ≤ extent_limit }
         ensures ok { OnOk result (self.new ≡ fold with_text self.old (turned_bodies list.now)) }
         ensures err { OnErr result (self.new ≡ self.old) }
     {

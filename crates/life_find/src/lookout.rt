@@ -8,6 +8,7 @@ ghost use Rattle.life_find.specs.Fingerprint.{IsFingerprint};
 ghost use Rattle.life_find.specs.Quiet.{IsQuiet};
 
 use crate::fingerprint::{Fingerprint, fingerprint_on};
+use crate::limit::BOUND_LIMIT;
 use crate::missing::are_away;
 use crate::offset::offset_to;
 use life_cells::CellList;
@@ -42,7 +43,7 @@ pub struct Sight {
 /// Of so many generations that come, all or none: all if a listed cell is missed so far that it can't come sooner, wherever
 /// the listed ones are moved to.
 fn quiet_for<P: Plane>(listed: &CellList, plane: &P, wanted: u32) -> Result<u32, AllocError>
-    requires { wanted ≤ 1000000 }
+    requires { wanted ≤ BOUND_LIMIT }
     ensures { IfOk result (λ quiet. (R : Rule) (k : ℕ) → 0 < k → k ≤ quiet →
         normal listed.now ≡ normal (generation R (P.members plane.now) k) → ⊥) }
 {
@@ -73,7 +74,7 @@ impl Lookout {
         is_alike: bool,
         taken: u32,
     ) -> Result<(), AllocError>
-        requires { taken ≤ 1000000 }
+        requires { taken ≤ BOUND_LIMIT }
         ensures { OnOk result ((R : Rule) (k : ℕ) → 0 < k → k ≤ self.new.quiet →
             normal listed.now ≡ normal (generation R (P.members plane.now) k) → ⊥) }
     {
@@ -102,7 +103,7 @@ impl Lookout {
         spanned: bool,
     ) -> Result<Sight, AllocError>
         requires marked { IsFingerprint listed.now marked }
-        requires taken { taken ≤ 1000000 }
+        requires taken { taken ≤ BOUND_LIMIT }
         requires quiet { (R : Rule) × IsQuiet R listed.now (P.members plane.now) self.old.quiet }
         ensures fingerprint { IfOk result (λ sight. IsFingerprint (P.members plane.now) sight.fingerprint) }
         ensures offset { IfOk result (λ sight. IfSome sight.offset (λ d. IsOffset listed.now (P.members plane.now) d)) }

@@ -1,7 +1,7 @@
 //! Whether cells are missed where others are to stand, and how far the next ones are.
 ghost use Rattle.std.specs.Prelude.{◌<◌, ◌≤◌, IsTrue, All, length, pos};
 ghost use Rattle.life_model.specs.Cell.{opposite, plus};
-ghost use Rattle.life_cells.specs.Limits.{IsPlace};
+ghost use Rattle.life_cells.specs.Limits.{IsPlace, extent_limit};
 ghost use Rattle.life_find.specs.Quiet.{IsAway, IsFar, IsMissed, IsReachedBy};
 
 /// Whether a cell, moved as one place is from another, is more than so far from a cell, counted in columns.
@@ -16,7 +16,7 @@ fn is_far_across(
     requires from { IsPlace from }
     requires to { IsPlace to }
     requires other { IsPlace other }
-    requires most { reach ≤ 16777216 }
+    requires most { reach ≤ extent_limit }
     ensures { IsTrue result → IsReachedBy (pos reach) (plus cell (plus to (opposite from))) other → ⊥ }
 {
     let x = cell.0 - from.0 + to.0;
@@ -42,7 +42,7 @@ fn is_far_down(
     requires from { IsPlace from }
     requires to { IsPlace to }
     requires other { IsPlace other }
-    requires most { reach ≤ 16777216 }
+    requires most { reach ≤ extent_limit }
     ensures { IsTrue result → IsReachedBy (pos reach) (plus cell (plus to (opposite from))) other → ⊥ }
 {
     let y = cell.1 - from.1 + to.1;
@@ -62,7 +62,7 @@ fn is_far(cell: (i32, i32), from: (i32, i32), to: (i32, i32), other: (i32, i32),
     requires from { IsPlace from }
     requires to { IsPlace to }
     requires other { IsPlace other }
-    requires most { reach ≤ 16777216 }
+    requires most { reach ≤ extent_limit }
     ensures { IsTrue result → IsReachedBy (pos reach) (plus cell (plus to (opposite from))) other → ⊥ }
 {
     if is_far_across(cell, from, to, other, reach) {
@@ -83,7 +83,7 @@ fn is_far_from_all(
     requires from { IsPlace from }
     requires to { IsPlace to }
     requires placed { All IsPlace cells.now }
-    requires most { reach ≤ 16777216 }
+    requires most { reach ≤ extent_limit }
     ensures { IsTrue result → IsFar (pos reach) (plus cell (plus to (opposite from))) cells.now }
 {
     for other in cells {
@@ -106,7 +106,7 @@ fn one_is_missed(
     requires from { IsPlace from }
     requires to { IsPlace to }
     requires placed { All IsPlace cells.now }
-    requires most { reach ≤ 16777216 }
+    requires most { reach ≤ extent_limit }
     ensures { IsTrue result → IsMissed (pos reach) listed.now cells.now (plus to (opposite from)) }
 {
     for cell in listed {
@@ -123,7 +123,7 @@ pub fn are_away(listed: &[(i32, i32)], cells: &[(i32, i32)], reach: u32) -> bool
     requires some { 0 < length listed.now }
     requires listed { All IsPlace listed.now }
     requires placed { All IsPlace cells.now }
-    requires most { reach ≤ 16777216 }
+    requires most { reach ≤ extent_limit }
     ensures { IsTrue result → IsAway (pos reach) listed.now cells.now }
 {
     for to in cells {

@@ -4,3 +4,4 @@ pub mod Piece
 pub mod Ash
 pub mod Whole
 pub mod Drift
+pub mod Limits

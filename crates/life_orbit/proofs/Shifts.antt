@@ -4,6 +4,7 @@ use Rattle.std.proofs.Math.IntN.{◌*ℤ◌, zero-*ℤ, suc_ℤ-*ℤ}
 use Rattle.std.specs.Int.{int_max, int_min}
 use Rattle.std.proofs.lemmas.Int.{ints, clamps, by_lt_z}
 use Rattle.life_model.specs.Cell.{Cell, origin, plus}
+use Rattle.life_model.proofs.Moves.{same_le}
 use Rattle.life_objects.specs.Drift.{multiple_of}
 
 -- a coordinate of cells
@@ -22,9 +23,6 @@ max_high z t w h = omega (arith, ints, clamps)
 
 max_first : (z t w : ℤ) → t ≤ℤ z → t ≤ℤ int_max z w
 max_first z t w h = omega (arith, ints, clamps)
-
-same_le : (a b : ℤ) → a ≡ b → a ≤ℤ b
-same_le a b e = omega (arith, ints)
 
 add_up : (a b s t : ℤ) → a ≤ℤ b → pos 0 ≤ℤ t → s ≡ b +ℤ t → a ≤ℤ s
 add_up a b s t h k e = omega (arith, ints)

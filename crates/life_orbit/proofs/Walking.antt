@@ -12,8 +12,9 @@ use Rattle.life_model.specs.Symmetry.{translate_of}
 use Rattle.life_model.proofs.Recurrences.{generation-next, generation-zero}
 use Rattle.life_cells.specs.Limits.{IsWithin}
 use Rattle.life_objects.specs.Ash.{RecursWithin}
+use Rattle.life_objects.specs.Limits.{objects_bound_limit}
 use Rattle.life_plane.specs.Offsets.{AreNotTranslates, IsOffset}
-use Rattle.life_orbit.specs.Kept.{ArePhases, ArePhasesOfOrbit, IsWalk}
+use Rattle.life_orbit.specs.Kept.{ArePhases, ArePhasesOfOrbit, IsWalk, orbit_age_limit}
 
 get_or-last : (xs : List Generation) (x d : Generation) (k : ℕ) → k ≡ length xs → get_or (xs ++ x ∷ []) k d ≡ x
 get_or-last [] x d zero e = refl
@@ -62,18 +63,18 @@ module _ (R : Rule) (G : Generation) where
         ]
 
     pub walk_more : (later : Generation) → later ≡ next R here → AreNotTranslates G later →
-        All (IsWithin ((4000000 + taken) + 1)) (cells later) → IsWalk R G (taken + 1) (list ++ here ∷ []) later
+        All (IsWithin ((orbit_age_limit + taken) + 1)) (cells later) → IsWalk R G (taken + 1) (list ++ here ∷ []) later
     walk_more later e apart within = record {
       count = length-more list here ∙ ap (λ n. n + 1) walk.count;
       phases = walked_phases;
       reached = walked_to later e;
       within = subst (λ a. All (IsWithin a) (cells later))
-          (let z : (4000000 + taken) + 1 ≡ 4000000 + (taken + 1) = omega arith in z) within;
+          (let z : (orbit_age_limit + taken) + 1 ≡ orbit_age_limit + (taken + 1) = omega arith in z) within;
       new = still_new later (walked_to later e) apart;
     }
 
     -- where the next generation is the first one, moved
-    walk_done : (later : Generation) (d : Cell) → later ≡ next R here → later ≡ translate_of G d → taken < 100000 →
+    walk_done : (later : Generation) (d : Cell) → later ≡ next R here → later ≡ translate_of G d → taken < objects_bound_limit →
         ArePhasesOfOrbit R G (list ++ here ∷ []) d
     walk_done later d e same few =
         let count : length (list ++ here ∷ []) ≡ taken + 1 = length-more list here ∙ ap (λ n. n + 1) walk.count in
@@ -89,12 +90,12 @@ module _ (R : Rule) (G : Generation) where
           short = omega arith;
         }
 
-  pub walk_start : (here : Generation) → here ≡ G → All (IsWithin 4000000) (cells G) → IsWalk R G 0 [] here
+  pub walk_start : (here : Generation) → here ≡ G → All (IsWithin orbit_age_limit) (cells G) → IsWalk R G 0 [] here
   walk_start here e within = record {
     count = refl;
     phases = λ k h. absurd (omega arith);
     reached = e ∙ sym (generation-zero R G);
-    within = subst (λ H. All (IsWithin 4000000) (cells H)) (sym e) within;
+    within = subst (λ H. All (IsWithin orbit_age_limit) (cells H)) (sym e) within;
     new = λ n d h r. let one = r.later in absurd (omega arith);
   }
 
@@ -111,13 +112,13 @@ module _ (R : Rule) (G : Generation) where
 
   module _ (taken : ℕ) (list : List Generation) (here : Generation) (walk : IsWalk R G taken list here)
       (later : Generation) (d : Cell) (offset : IsOffset G later d) (whole : List Generation) where
-    kept : later ≡ next R here → taken < 100000 → whole ≡ list ++ here ∷ [] → ArePhasesOfOrbit R G whole d
+    kept : later ≡ next R here → taken < objects_bound_limit → whole ≡ list ++ here ∷ [] → ArePhasesOfOrbit R G whole d
     kept e few pushed =
         subst (λ l. ArePhasesOfOrbit R G l d) (sym pushed) (walk_done taken list here walk later d e offset.move few)
 
-    pub kept_set : later ≡ next R here → taken < 100000 → whole ≡ list ++ here ∷ [] → get_or whole 0 empty ≡ G
+    pub kept_set : later ≡ next R here → taken < objects_bound_limit → whole ≡ list ++ here ∷ [] → get_or whole 0 empty ≡ G
     kept_set e few pushed = first_phase whole d (kept e few pushed)
 
-    pub kept_whole : later ≡ next R here → taken < 100000 → whole ≡ list ++ here ∷ [] →
+    pub kept_whole : later ≡ next R here → taken < objects_bound_limit → whole ≡ list ++ here ∷ [] →
         ArePhasesOfOrbit R (get_or whole 0 empty) whole d
     kept_whole e few pushed = kept_by_phases whole d (kept e few pushed)

@@ -7,6 +7,11 @@ use Rattle.life_model.specs.Generation.{Generation, cells, empty}
 use Rattle.life_model.specs.Recurrence.{RecursBy}
 use Rattle.life_model.specs.Rule.{Rule}
 use Rattle.life_cells.specs.Limits.{IsWithin}
+use Rattle.life_objects.specs.Limits.{objects_bound_limit}
+
+-- the greatest age at whose places a set may stand whose orbit is made
+abbrev pub orbit_age_limit : ℕ
+orbit_age_limit = 4000000
 
 -- the sets of the list are the first generations of G
 abbrev pub ArePhases : Rule → Generation → List Generation → Type 0
@@ -17,12 +22,12 @@ pub record ArePhasesOfOrbit (R : Rule) (G : Generation) (list : List Generation)
   pub phases : ArePhases R G list
   pub recurs : RecursBy R G (length list) d
   pub least : (n : ℕ) (e : Cell) → RecursBy R G n e → length list ≤ n
-  pub short : length list ≤ 100000
+  pub short : length list ≤ objects_bound_limit
 
 -- the list is the generations of G before this one, and G has not come again so far
 pub record IsWalk (R : Rule) (G : Generation) (taken : ℕ) (list : List Generation) (here : Generation) : Type 0 where
   pub count : length list ≡ taken
   pub phases : ArePhases R G list
   pub reached : here ≡ generation R G taken
-  pub within : All (IsWithin (4000000 + taken)) (cells here)
+  pub within : All (IsWithin (orbit_age_limit + taken)) (cells here)
   pub new : (n : ℕ) (d : Cell) → n ≤ taken → RecursBy R G n d → ⊥

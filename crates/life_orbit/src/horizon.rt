@@ -8,16 +8,16 @@ ghost use Rattle.life_orbit.specs.Passing.{IsPassed, IsWatch};
 ghost use Rattle.life_orbit.specs.Reach.{IsReach};
 
 use crate::hull::Hull;
-use crate::orbit::Orbit;
+use crate::orbit::{BOUND_LIMIT, Orbit};
 use crate::shift::repeated;
 
 /// After how many periods of each of two sets both stand as they began, for the first time.
 fn rounds_together(first: u32, second: u32) -> (u32, u32)
-    requires first { 1 ≤ first × first ≤ 100000 }
-    requires second { 1 ≤ second × second ≤ 100000 }
+    requires first { 1 ≤ first × first ≤ BOUND_LIMIT }
+    requires second { 1 ≤ second × second ≤ BOUND_LIMIT }
     ensures together { result.0 * first ≡ result.1 * second }
-    ensures first { 1 ≤ result.0 × result.0 ≤ 100000 }
-    ensures second { 1 ≤ result.1 × result.1 ≤ 100000 }
+    ensures first { 1 ≤ result.0 × result.0 ≤ BOUND_LIMIT }
+    ensures second { 1 ≤ result.1 × result.1 ≤ BOUND_LIMIT }
 {
     for rounds in 1..second {
         let steps = rounds as u64 * first as u64;

@@ -4,7 +4,7 @@ ghost use Rattle.life_model.specs.Cell.{plus};
 ghost use Rattle.life_model.specs.Symmetry.{translate_of};
 ghost use Rattle.life_cells.specs.Limits.{IsPlace};
 
-use life_cells::CellList;
+use life_cells::{COORDINATE_LIMIT, CellList};
 use std::alloc::{AllocError, Global};
 
 /// The number, moved, where it is one of a place of a list of cells then.
@@ -14,7 +14,8 @@ fn moved_number(number: i32, by: i32) -> Option<i32>
     ensures high { IfSome result (λ n. n ≤ℤ pos 16777215) }
 {
     let n = number as i64 + by as i64;
-    if -16_777_216 <= n && n <= 16_777_215 {
+    let limit = COORDINATE_LIMIT as i64;
+    if -limit <= n && n < limit {
         return Some(n as i32);
     }
     None

@@ -6,6 +6,7 @@ ghost use Rattle.life_cells.specs.Limits.{IsWithin};
 ghost use Rattle.life_objects.specs.Ash.{RecursWithin};
 ghost use Rattle.life_orbit.specs.Course.{IsCourse};
 ghost use Rattle.life_orbit.specs.Hulls.{IsHullOf};
+ghost use Rattle.life_orbit.specs.Kept.{orbit_age_limit};
 
 use crate::hull::{Hull, hull_of};
 use crate::moving::moved_sets;
@@ -57,7 +58,7 @@ impl Orbit {
         bound: u32,
     ) -> Result<Option<Orbit>, AllocError>
         requires bound { 1 ≤ bound × bound ≤ BOUND_LIMIT }
-        requires within { All (IsWithin 4000000) (generations.cells cells.now) }
+        requires within { All (IsWithin orbit_age_limit) (generations.cells cells.now) }
         ensures rule { IfOk result (λ found. IfSome found (λ orbit. orbit.rule ≡ rule.now)) }
         ensures set { IfOk result (λ found. IfSome found (λ orbit. orbit.set ≡ cells.now)) }
         ensures period { IfOk result (λ found. IfSome found (λ orbit. orbit.period ≤ bound)) }

@@ -1,8 +1,8 @@
 //! Steps from one list of cells to the next.
-ghost use Rattle.std.specs.Prelude.{◌≡◌, ℕ, ◌+◌, All, IfNone, IfOk, IfSome};
+ghost use Rattle.std.specs.Prelude.{◌≡◌, ℕ, ◌+◌, ◌-◌, All, IfNone, IfOk, IfSome};
 ghost use Rattle.life_model.specs.Evolution.{next};
 ghost use Rattle.life_model.specs.Generation as generations;
-ghost use Rattle.life_cells.specs.Limits.{IsWithin};
+ghost use Rattle.life_cells.specs.Limits.{IsWithin, age_limit};
 ghost use Rattle.life_plane.specs.Offsets.{AreNotTranslates, IsOffset};
 
 use life_cells::{CellList, Rule};
@@ -18,7 +18,7 @@ pub fn copied(alloc: Global, cells: &CellList) -> Result<CellList, AllocError>
 
 /// The next generation.
 pub fn next_list(alloc: Global, rule: &Rule, cells: &CellList) -> Result<CellList, AllocError>
-    requires { All (IsWithin 4194303) (generations.cells cells.now) }
+    requires { All (IsWithin (age_limit - 1)) (generations.cells cells.now) }
     ensures next { IfOk result (λ later. later ≡ next rule.now cells.now) }
     ensures within { IfOk result (λ later. (a : ℕ) → All (IsWithin a) (generations.cells cells.now) →
         All (IsWithin (a + 1)) (generations.cells later)) }

@@ -11,7 +11,7 @@ use Rattle.life_model.specs.Generation.{contains, from_list, is_rising}
 use Rattle.life_model.specs.Evolution.{lives, next, candidates}
 use Rattle.life_model.proofs.Cells.{same_cell-is}
 use Rattle.life_model.proofs.Generations.{contains-from_list, contains-keep, cells-from_list, same_members}
-use Rattle.life_cells.specs.Limits.{IsPlace, IsWithin}
+use Rattle.life_cells.specs.Limits.{IsPlace, IsWithin, age_limit}
 use Rattle.life_plane.specs.Field.{IsStep, has, candidates_of}
 use Rattle.life_cells.proofs.Sorted.{rising_from_sorted, sorted_from_rising}
 
@@ -90,5 +90,5 @@ pub has_from_set : (cs ds : List Cell) → from_list cs ≡ from_list ds → (c 
 has_from_set cs ds e c = sym (contains-from_list cs c) ∙ ap (λ G. contains G c) e ∙ contains-from_list ds c
 
 -- every place of a plane is one of a list of cells
-pub place_from_within : (a : ℕ) (c : Cell) → a ≤ 4194304 → IsWithin a c → IsPlace c
+pub place_from_within : (a : ℕ) (c : Cell) → a ≤ age_limit → IsWithin a c → IsPlace c
 place_from_within a c k h = record { left = omega (arith, ints); right = omega (arith, ints); above = omega (arith, ints); below = omega (arith, ints) }

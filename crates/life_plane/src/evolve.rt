@@ -4,7 +4,7 @@ ghost use Rattle.std.specs.Ordering.{is_lt};
 ghost use Rattle.life_model.specs.Cell.{Cell, around, cell_cmp, plus};
 ghost use Rattle.life_model.specs.Evolution.{count_at, lives, next};
 ghost use Rattle.life_model.specs.Generation.{from_list, is_rising};
-ghost use Rattle.life_cells.specs.Limits.{IsWithin};
+ghost use Rattle.life_cells.specs.Limits.{IsWithin, age_limit};
 ghost use Rattle.life_plane.specs.Field.{HasReached, IsBehind, IsStep, candidates_of, has};
 
 use life_cells::{Rule, put_in_order};
@@ -81,7 +81,7 @@ fn is_live(cells: &[(i32, i32)], cursor: &mut usize, place: (i32, i32)) -> bool
 
 /// The cell one step away.
 fn beside(cell: (i32, i32), step: (i32, i32)) -> (i32, i32)
-    requires within { IsWithin 4194305 cell }
+    requires within { IsWithin (age_limit + 1) cell }
     requires step { IsStep step }
     ensures { result ≡ plus cell step }
 {
@@ -91,7 +91,7 @@ fn beside(cell: (i32, i32), step: (i32, i32)) -> (i32, i32)
 /// 1 where the cell one step away is live, and else 0.
 fn live_at(cells: &[(i32, i32)], cursor: &mut usize, cell: (i32, i32), step: (i32, i32)) -> u32
     requires rising { T (is_rising cells.now) }
-    requires within { IsWithin 4194305 cell }
+    requires within { IsWithin (age_limit + 1) cell }
     requires step { IsStep step }
     ensures value { result ≡ cond (has cells.now (plus cell step)) 1 0 }
     ensures few { result ≤ 1 }
@@ -102,7 +102,7 @@ fn live_at(cells: &[(i32, i32)], cursor: &mut usize, cell: (i32, i32), step: (i3
 /// How many of the eight cells around a cell are live.
 fn count(cells: &[(i32, i32)], cursors: &mut Cursors, cell: (i32, i32)) -> u32
     requires rising { T (is_rising cells.now) }
-    requires within { IsWithin 4194305 cell }
+    requires within { IsWithin (age_limit + 1) cell }
     ensures value { result ≡ count_at (has cells.now) cell }
     ensures few { result ≤ 8 }
 {
@@ -120,7 +120,7 @@ fn count(cells: &[(i32, i32)], cursors: &mut Cursors, cell: (i32, i32)) -> u32
 /// Whether a cell is live in the next generation.
 fn lives_next(rule: &Rule, cells: &[(i32, i32)], cursors: &mut Cursors, cell: (i32, i32)) -> bool
     requires rising { T (is_rising cells.now) }
-    requires within { IsWithin 4194305 cell }
+    requires within { IsWithin (age_limit + 1) cell }
     ensures { result ≡ lives rule.now (has cells.now) cell }
 {
     let neighbours = count(cells, cursors, cell);
@@ -133,7 +133,7 @@ fn lives_next(rule: &Rule, cells: &[(i32, i32)], cursors: &mut Cursors, cell: (i
 
 /// The cells that may be live next: those that are, and those around them.
 fn candidates(alloc: Global, cells: &[(i32, i32)]) -> Result<Vec<(i32, i32)>, AllocError>
-    requires { All (IsWithin 4194304) cells.now }
+    requires { All (IsWithin age_limit) cells.now }
     ensures { IfOk result (λ all. all.items ≡ candidates_of cells.now) }
 {
     let mut all = cells.to_vec(alloc)?;
@@ -159,7 +159,7 @@ pub fn next_cells(
     cells: &[(i32, i32)],
 ) -> Result<Vec<(i32, i32)>, AllocError>
     requires rising { T (is_rising cells.now) }
-    requires within { All (IsWithin 4194304) cells.now }
+    requires within { All (IsWithin age_limit) cells.now }
     ensures rising { IfOk result (λ next. T (is_rising next.items)) }
     ensures next { IfOk result (λ later. from_list later.items ≡ next rule.now (from_list cells.now)) }
     ensures within { IfOk result (λ next. (a : ℕ) → All (IsWithin a) cells.now → All (IsWithin (a + 1)) next.items) }

@@ -20,7 +20,7 @@ pub struct ListPlane {
 impl Model for ListPlane {
     ghost use Rattle.std.specs.Prelude.{ℕ, ◌≤◌, T, All};
     ghost use Rattle.life_model.specs.Generation.{Generation, from_list, is_rising};
-    ghost use Rattle.life_cells.specs.Limits.{IsWithin};
+    ghost use Rattle.life_cells.specs.Limits.{IsWithin, age_limit};
     ghost use Rattle.life_plane.specs.Kept.{coded_plane};
 
     ghost Value = { Generation × ℕ };
@@ -29,7 +29,7 @@ impl Model for ListPlane {
 
     ghost view = { λ p. (from_list p.items.items, p.age) };
 
-    ghost invariant = { λ p. T (is_rising p.items.items) × All (IsWithin p.age) p.items.items × (p.age ≤ 4194304) };
+    ghost invariant = { λ p. T (is_rising p.items.items) × All (IsWithin p.age) p.items.items × (p.age ≤ age_limit) };
 }
 
 impl Plane for ListPlane {

@@ -16,7 +16,7 @@ use Rattle.life_model.proofs.Cells.{pair, same_cell-is, plus-opposite_first}
 use Rattle.life_model.proofs.Generations.{contains-cells}
 use Rattle.life_model.proofs.Symmetries.{contains-moved, contains-turned, undone}
 use Rattle.life_model.proofs.Moves.{corner-is, normal-corner, normal-moved}
-use Rattle.life_cells.specs.Limits.{IsPlace, IsWithin}
+use Rattle.life_cells.specs.Limits.{IsPlace, IsWithin, extent_limit, place_limit}
 use Rattle.life_shape.specs.Dots.{IsInField}
 use Rattle.life_shape.specs.NormalForms.{IsAhead}
 use Rattle.life_shape.proofs.Members.{member_has, all_members}
@@ -116,23 +116,23 @@ height_within G low n h =
     size_below c.1 (corner G).1 k.topmost.1 low n (normal_in_box G c e).above k.topmost_at (h k.topmost k.topmost_in).0 (h (plus c (corner G)) there).1))
 
 -- the box of cells on a plane of this age
-within_age : (z : ℤ) (a : ℕ) → z ≤ℤ pos (1048575 + a) → z <ℤ (neg_ℤ (pos a) +ℤ pos (1048576 + (a + a)))
+within_age : (z : ℤ) (a : ℕ) → z ≤ℤ pos (1048575 + a) → z <ℤ (neg_ℤ (pos a) +ℤ pos (place_limit + (a + a)))
 within_age z a h = omega (arith, ints)
 
-pub width_at_age : (G : Generation) (a : ℕ) → All (IsWithin a) (cells G) → width G ≤ 1048576 + (a + a)
+pub width_at_age : (G : Generation) (a : ℕ) → All (IsWithin a) (cells G) → width G ≤ place_limit + (a + a)
 width_at_age G a all =
     width_within G (neg_ℤ (pos a)) _ (λ c e. let w = member_has (IsWithin a) G all c e in (w.left, within_age c.0 a w.right))
 
-pub height_at_age : (G : Generation) (a : ℕ) → All (IsWithin a) (cells G) → height G ≤ 1048576 + (a + a)
+pub height_at_age : (G : Generation) (a : ℕ) → All (IsWithin a) (cells G) → height G ≤ place_limit + (a + a)
 height_at_age G a all =
     height_within G (neg_ℤ (pos a)) _ (λ c e. let w = member_has (IsWithin a) G all c e in (w.above, within_age c.1 a w.below))
 
 -- ---- boxes at most 16,777,216 wide and high
 
-ahead : (z k : ℤ) (n : ℕ) → pos 0 ≤ℤ (z +ℤ neg_ℤ k) → (z +ℤ neg_ℤ k) <ℤ pos n → n ≤ 16777216 → (k ≤ℤ z) × (z ≤ℤ (k +ℤ pos 16777215))
+ahead : (z k : ℤ) (n : ℕ) → pos 0 ≤ℤ (z +ℤ neg_ℤ k) → (z +ℤ neg_ℤ k) <ℤ pos n → n ≤ extent_limit → (k ≤ℤ z) × (z ≤ℤ (k +ℤ pos 16777215))
 ahead z k n h l b = (omega (arith, ints), omega (arith, ints))
 
-pub cells_ahead : (G : Generation) → width G ≤ 16777216 → height G ≤ 16777216 → All (IsAhead (corner G)) (cells G)
+pub cells_ahead : (G : Generation) → width G ≤ extent_limit → height G ≤ extent_limit → All (IsAhead (corner G)) (cells G)
 cells_ahead G wide high =
     All-from_recursion (IsAhead (corner G)) (cells G)
     (all_members (IsAhead (corner G)) G (λ c e.
@@ -141,10 +141,10 @@ cells_ahead G wide high =
     let y = ahead c.1 (corner G).1 (height G) b.above b.below high in
     record { left = x.0; right = x.1; above = y.0; below = y.1 }))
 
-placed : (z : ℤ) (n : ℕ) → pos 0 ≤ℤ z → z <ℤ pos n → n ≤ 16777216 → (negsuc 16777215 ≤ℤ z) × (z ≤ℤ pos 16777215)
+placed : (z : ℤ) (n : ℕ) → pos 0 ≤ℤ z → z <ℤ pos n → n ≤ extent_limit → (negsuc 16777215 ≤ℤ z) × (z ≤ℤ pos 16777215)
 placed z n h l b = (omega (arith, ints), omega (arith, ints))
 
-pub normal_placed : (G : Generation) → width G ≤ 16777216 → height G ≤ 16777216 → All IsPlace (cells (normal G))
+pub normal_placed : (G : Generation) → width G ≤ extent_limit → height G ≤ extent_limit → All IsPlace (cells (normal G))
 normal_placed G wide high =
     All-from_recursion IsPlace (cells (normal G))
     (all_members IsPlace (normal G) (λ c e.
@@ -204,9 +204,9 @@ reach SwapHalf = (negsuc 16777214, negsuc 16777214)
 
 record IsReached (low c : Cell) : Type 0 where
   left : low.0 ≤ℤ c.0
-  right : c.0 <ℤ (low.0 +ℤ pos 16777216)
+  right : c.0 <ℤ (low.0 +ℤ pos extent_limit)
   above : low.1 ≤ℤ c.1
-  below : c.1 <ℤ (low.1 +ℤ pos 16777216)
+  below : c.1 <ℤ (low.1 +ℤ pos extent_limit)
 
 reached : (m : Orientation) (c : Cell) → IsInField (turn (undone m) c) → IsReached (reach m) c
 reached Same c h = record { left = omega (arith, ints); right = omega (arith, ints); above = omega (arith, ints); below = omega (arith, ints) }
@@ -225,15 +225,15 @@ pub from_list-turned : (N : Generation) (m : Orientation) (cs ds : List Cell) �
 unfolding image
 from_list-turned N m cs ds e f = ap from_list (f ∙ ap (λ bs. map (turn m) bs) e)
 
-pub turned_width : (N : Generation) (m : Orientation) (cs : List Cell) → normal N ≡ N → cs ≡ cells N → All IsPlace cs → width (image_under N m) ≤ 16777216
+pub turned_width : (N : Generation) (m : Orientation) (cs : List Cell) → normal N ≡ N → cs ≡ cells N → All IsPlace cs → width (image_under N m) ≤ extent_limit
 turned_width N m cs e f all =
     let r = turned_reached N m e (subst (All IsPlace) f all) in
-    width_within (image_under N m) (reach m).0 16777216 (λ c h. ((r c h).left, (r c h).right))
+    width_within (image_under N m) (reach m).0 extent_limit (λ c h. ((r c h).left, (r c h).right))
 
-pub turned_height : (N : Generation) (m : Orientation) (cs : List Cell) → normal N ≡ N → cs ≡ cells N → All IsPlace cs → height (image_under N m) ≤ 16777216
+pub turned_height : (N : Generation) (m : Orientation) (cs : List Cell) → normal N ≡ N → cs ≡ cells N → All IsPlace cs → height (image_under N m) ≤ extent_limit
 turned_height N m cs e f all =
     let r = turned_reached N m e (subst (All IsPlace) f all) in
-    height_within (image_under N m) (reach m).1 16777216 (λ c h. ((r c h).above, (r c h).below))
+    height_within (image_under N m) (reach m).1 extent_limit (λ c h. ((r c h).above, (r c h).below))
 
 pub width_of_cells : (N G : Generation) (cs : List Cell) (i : ℕ) → normal N ≡ N → cs ≡ cells N → N ≡ G → length cs ≤ i → extent (map (λ c. nat_abs c.0) (take i cs)) ≡ width G
 unfolding width

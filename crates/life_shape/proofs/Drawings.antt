@@ -9,9 +9,10 @@ use Rattle.std.proofs.lemmas.Bool.Decides.{nat_tests}
 use Rattle.std.proofs.lemmas.List.{reverse-append, drop-append-le, length-append, drop_all, map-append}
 use Rattle.std.proofs.lemmas.List.Sums.{sum_by-append}
 use Rattle.life_model.specs.Cell.{Cell}
+use Rattle.life_cells.specs.Limits.{place_limit}
 use Rattle.life_shape.specs.declared.reader.CodeFault.{CodeFault}
 use Rattle.life_shape.specs.declared.reader.CodeFault.TheVariants.{TooFar}
-use Rattle.life_shape.specs.Reading.{Mark, Column, Zeros, NextStrip, Offence, is_next_strip, columns_in, strip_number, column, mark_cells, mark_fault, column_cells, live_rows, is_far, place_limit, cells_after, first_fault, marks_of, cell_of_pair}
+use Rattle.life_shape.specs.Reading.{Mark, Column, Zeros, NextStrip, Offence, is_next_strip, columns_in, strip_number, column, mark_cells, mark_fault, column_cells, live_rows, is_far, cells_after, first_fault, marks_of, cell_of_pair}
 use Rattle.life_shape.specs.Drawing.{strip_behind, column_behind, cells_from, fault_from, cells_unless, cells_drawn, rows_left, cells_left, marks_at, with_front}
 
 -- ---- sums over the marks before, step by step

@@ -6,7 +6,7 @@ use Rattle.life_model.specs.Box.{width, height}
 use Rattle.life_model.specs.Cell.{Cell}
 use Rattle.life_model.specs.Generation.{Generation, contains, from_list}
 use Rattle.life_model.proofs.Generations.{contains-from_list}
-use Rattle.life_cells.specs.Limits.{IsPlace, IsWithin}
+use Rattle.life_cells.specs.Limits.{IsPlace, IsWithin, extent_limit}
 use Rattle.std.proofs.lemmas.Int.{ints}
 use Rattle.life_shape.specs.declared.reader.CodeFault.{CodeFault}
 use Rattle.life_shape.specs.declared.reader.CodeFault.TheVariants.{Empty}
@@ -44,17 +44,17 @@ is_place c h = record { left = omega (arith, ints); right = omega (arith, ints);
 pub all_placed : (cs : List Cell) → All (IsWithin 0) cs → All IsPlace cs
 all_placed cs all = All-weaker (IsWithin 0) IsPlace is_place cs all
 
-between : (z : ℤ) → neg_ℤ (pos 0) ≤ℤ z → z ≤ℤ pos (1048575 + 0) → (pos 0 ≤ℤ z) × (z <ℤ (pos 0 +ℤ pos 16777216))
+between : (z : ℤ) → neg_ℤ (pos 0) ≤ℤ z → z ≤ℤ pos (1048575 + 0) → (pos 0 ≤ℤ z) × (z <ℤ (pos 0 +ℤ pos extent_limit))
 between z h k = (omega (arith, ints), omega (arith, ints))
 
-pub width_of_list : (cs : List Cell) (G : Generation) → G ≡ from_list cs → All (IsWithin 0) cs → width G ≤ 16777216
+pub width_of_list : (cs : List Cell) (G : Generation) → G ≡ from_list cs → All (IsWithin 0) cs → width G ≤ extent_limit
 width_of_list cs G e all =
-    width_within G (pos 0) 16777216 (λ c h.
+    width_within G (pos 0) extent_limit (λ c h.
     let w = holds_in (IsWithin 0) cs (recursion_from_All (IsWithin 0) cs all) c (sym (contains-from_list cs c) ∙ ap (λ H. contains H c) (sym e) ∙ h) in
     between c.0 w.left w.right)
 
-pub height_of_list : (cs : List Cell) (G : Generation) → G ≡ from_list cs → All (IsWithin 0) cs → height G ≤ 16777216
+pub height_of_list : (cs : List Cell) (G : Generation) → G ≡ from_list cs → All (IsWithin 0) cs → height G ≤ extent_limit
 height_of_list cs G e all =
-    height_within G (pos 0) 16777216 (λ c h.
+    height_within G (pos 0) extent_limit (λ c h.
     let w = holds_in (IsWithin 0) cs (recursion_from_All (IsWithin 0) cs all) c (sym (contains-from_list cs c) ∙ ap (λ H. contains H c) (sym e) ∙ h) in
     between c.1 w.above w.below)

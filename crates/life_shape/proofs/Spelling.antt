@@ -15,9 +15,10 @@ use Rattle.life_model.specs.Generation.{Generation, contains, cells, empty, from
 use Rattle.life_model.specs.Symmetry.{normal}
 use Rattle.life_model.proofs.Generations.{contains-from_list, same_members, cells-from_list}
 use Rattle.life_model.proofs.Moves.{same_cell_itself}
+use Rattle.life_cells.specs.Limits.{place_limit}
 use Rattle.life_shape.specs.Wechsler.{digit, column_value, short_zeros, full_runs, zeros, columns_text, strip_text, strips_text, body}
 use Rattle.life_shape.specs.declared.reader.CodeFault.TheVariants.{BadChar, CutRun}
-use Rattle.life_shape.specs.Reading.{is_far, place_limit, first_fault, refusal, Column, Zeros, NextStrip, Offence, digit_value, is_base_36_digit, mark_of, mark_of_run, marks, marks_of, live_rows, column_cells, cell_of_pair, cells_spelled}
+use Rattle.life_shape.specs.Reading.{is_far, first_fault, refusal, Column, Zeros, NextStrip, Offence, digit_value, is_base_36_digit, mark_of, mark_of_run, marks, marks_of, live_rows, column_cells, cell_of_pair, cells_spelled}
 use Rattle.life_shape.specs.Drawing.{cells_from, fault_from}
 use Rattle.life_shape.proofs.Members.{holds_in}
 use Rattle.life_shape.proofs.Boxes.{IsInBox, normal_in_box, normal_normal}
@@ -419,7 +420,7 @@ body_some G e =
     let none : normal G ≡ empty = sym (spelt-body G) ∙ ap cells_spelled e ∙ spelt-nothing in
     no_byte (sym e ∙ body_of_normal G ∙ ap body_by none ∙ body_by_empty)
 
-pub lawful-body : (G : Generation) → width G ≤ 1048576 → height G ≤ 1048576 → refusal (body G) ≡ None
+pub lawful-body : (G : Generation) → width G ≤ place_limit → height G ≤ place_limit → refusal (body G) ≡ None
 lawful-body G wide high =
     refusal_some (body G) (body_some G) ∙ first_fault_is (marks_of (body G)) []
     ∙ fault_of_body G ∙ no_fault G ((height G + 4) / 5) (all_near G wide high (all_cells G) (strips_live (normal G) (width G) 0 ((height G + 4) / 5)))

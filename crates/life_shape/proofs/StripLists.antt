@@ -18,10 +18,11 @@ use Rattle.life_model.specs.Cell.{Cell, cell_cmp}
 use Rattle.life_model.specs.Generation.{Generation, cells, contains, below_all, is_rising}
 use Rattle.life_model.specs.Symmetry.{normal}
 use Rattle.life_cells.proofs.Sorted.{first_holds, second_holds}
+use Rattle.life_cells.specs.Limits.{extent_limit}
 use Rattle.life_shape.specs.Wechsler.{column_value, strips_text, body}
 use Rattle.life_shape.proofs.Members.{member_has, all_members}
 use Rattle.life_shape.proofs.Boxes.{height_within, normal_in_box}
-use Rattle.life_shape.specs.Dots.{weight, weights, dot, dots_value, IsInStrip, IsInField, IsLeftOf, values_text}
+use Rattle.life_shape.specs.Dots.{weight, weights, dot, dots_value, IsInStrip, IsInField, IsLeftOf, values_text, strip_limit}
 use Rattle.life_shape.proofs.Weights.{weight_above, weight_below, weights_nothing, weights_of_dots, column_value_is}
 
 -- ---- lists in order
@@ -87,7 +88,7 @@ value_of_dots k cs ds es all e p x =
 dot_live : (k : ℕ) (c : Cell) → IsInStrip k c → 0 < (dot k c).1
 dot_live k c h = pow_pos (nat_abs c.1 - 5 * k)
 
-dot_placed : (k : ℕ) (c : Cell) → IsInStrip k c → (dot k c).0 < 16777216
+dot_placed : (k : ℕ) (c : Cell) → IsInStrip k c → (dot k c).0 < extent_limit
 dot_placed k c h = omega (arith, ints)
 
 dot_left : (k wide : ℕ) (c : Cell) → IsInStrip k c → IsLeftOf wide c → (dot k c).0 < wide
@@ -97,8 +98,8 @@ module _ (k : ℕ) (cs : List Cell) (ds es : List (ℕ × ℕ)) (all : All (IsIn
   pub dots_live : All (λ d. 0 < d.1) es
   dots_live = All-permutation (λ d. 0 < d.1) ds es p (subst (All (λ d. 0 < d.1)) (sym e) (All-map (λ d. 0 < d.1) (dot k) cs (All-weaker (IsInStrip k) (λ c. 0 < (dot k c).1) (dot_live k) cs all)))
 
-  pub dots_placed : All (λ d. d.0 < 16777216) es
-  dots_placed = All-permutation (λ d. d.0 < 16777216) ds es p (subst (All (λ d. d.0 < 16777216)) (sym e) (All-map (λ d. d.0 < 16777216) (dot k) cs (All-weaker (IsInStrip k) (λ c. (dot k c).0 < 16777216) (dot_placed k) cs all)))
+  pub dots_placed : All (λ d. d.0 < extent_limit) es
+  dots_placed = All-permutation (λ d. d.0 < extent_limit) ds es p (subst (All (λ d. d.0 < extent_limit)) (sym e) (All-map (λ d. d.0 < extent_limit) (dot k) cs (All-weaker (IsInStrip k) (λ c. (dot k c).0 < extent_limit) (dot_placed k) cs all)))
 
   pub dots_left : (wide : ℕ) → All (IsLeftOf wide) cs → All (λ d. d.0 < wide) es
   dots_left wide left = All-permutation (λ d. d.0 < wide) ds es p (subst (All (λ d. d.0 < wide)) (sym e) (All-map (λ d. d.0 < wide) (dot k) cs (λ i d l. dot_left k wide (get_or cs i d) (all i d l) (left i d l))))
@@ -122,18 +123,18 @@ text_of_part s wide n all cs part e behind same =
 
 -- ---- the shape's text
 
-pub strips_fit : (high : ℕ) → high ≤ 16777216 → high / 5 + min 1 (high % 5) ≤ 3355444
+pub strips_fit : (high : ℕ) → high ≤ extent_limit → high / 5 + min 1 (high % 5) ≤ strip_limit
 strips_fit high h = omega arith
 
 pub strip_count : (high : ℕ) → high / 5 + min 1 (high % 5) ≡ (high + 4) / 5
 strip_count high = omega arith
 
-field_range : (z : ℤ) → pos 0 ≤ℤ z → z ≤ℤ pos 16777215 → (pos 0 ≤ℤ z) × (z <ℤ (pos 0 +ℤ pos 16777216))
+field_range : (z : ℤ) → pos 0 ≤ℤ z → z ≤ℤ pos 16777215 → (pos 0 ≤ℤ z) × (z <ℤ (pos 0 +ℤ pos extent_limit))
 field_range z h k = (h, omega (arith, ints))
 
-pub height_of_field : (N : Generation) (cs : List Cell) → cs ≡ cells N → All IsInField cs → height N ≤ 16777216
+pub height_of_field : (N : Generation) (cs : List Cell) → cs ≡ cells N → All IsInField cs → height N ≤ extent_limit
 height_of_field N cs e all =
-    height_within N (pos 0) 16777216 (λ c h. let f = member_has IsInField N (subst (All IsInField) e all) c h in field_range c.1 f.above f.below)
+    height_within N (pos 0) extent_limit (λ c h. let f = member_has IsInField N (subst (All IsInField) e all) c h in field_range c.1 f.above f.below)
 
 pub left_of_width : (N G : Generation) (cs : List Cell) → normal N ≡ N → N ≡ G → cs ≡ cells N → All (IsLeftOf (width G)) cs
 left_of_width N G cs e g f =

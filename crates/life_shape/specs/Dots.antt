@@ -4,6 +4,10 @@ use Rattle.std.specs.List.{range_with_len, sum_by}
 use Rattle.life_model.specs.Cell.{Cell, same_cell}
 use Rattle.life_shape.specs.Wechsler.{columns_text}
 
+-- as many strips of five rows as the most rows have
+abbrev pub strip_limit : ℕ
+strip_limit = 3355444
+
 -- what a cell weighs in column x of strip k
 abbrev pub weight : ℕ → ℕ → Cell → ℕ
 weight k x c = sum_by (λ j. if same_cell (pos x, pos (5 * k + j)) c then 2 ^ j else 0) (range_with_len 0 5)

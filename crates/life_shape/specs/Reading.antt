@@ -5,12 +5,9 @@ use Rattle.std.specs.Option.{option_or}
 use Rattle.std.specs.Int.{bit_at}
 use Rattle.life_model.specs.Cell.{Cell}
 use Rattle.life_model.specs.Generation.{Generation, from_list}
+use Rattle.life_cells.specs.Limits.{place_limit}
 use Rattle.life_shape.specs.declared.reader.CodeFault.{CodeFault}
 use Rattle.life_shape.specs.declared.reader.CodeFault.TheVariants.{Empty, BadChar, CutRun, TooFar}
-
--- the first place that is too far
-abbrev pub place_limit : ℕ
-place_limit = 1048576
 
 -- `0` to `9`, and `a` to `z`
 abbrev pub is_base_36_digit : ℕ → Bool

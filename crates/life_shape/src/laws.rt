@@ -3,6 +3,7 @@ ghost use Rattle.std.specs.Prelude.{◌≡◌, ◌↔◌, ◌≤◌, None};
 ghost use Rattle.life_model.specs.Box.{height, width};
 ghost use Rattle.life_model.specs.Generation.{Generation};
 ghost use Rattle.life_model.specs.Symmetry.{normal};
+ghost use Rattle.life_cells.specs.Limits.{place_limit};
 ghost use Rattle.life_shape.specs.Reading.{refusal, cells_spelled};
 ghost use Rattle.life_shape.specs.Wechsler.{body};
 
@@ -19,5 +20,5 @@ pub fn texts_tell_sets()
 
 /// The text of a set that stands within the limit of places is read without a fault.
 pub fn a_text_is_lawful()
-    ensures { (G : Generation) → width G ≤ 1_048_576 → height G ≤ 1_048_576 → refusal (body G) ≡ None }
+    ensures { (G : Generation) → width G ≤ place_limit → height G ≤ place_limit → refusal (body G) ≡ None }
 {}

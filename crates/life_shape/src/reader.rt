@@ -8,7 +8,7 @@ ghost use Rattle.life_shape.specs.Drawing.{Begins, Gives, IsSmall, cells_drawn, 
 ghost use Rattle.life_shape.specs.declared.reader.CodeFault.TheVariants.{Memory, TooFar};
 
 use crate::shape::Shape;
-use life_cells::{CellList, put_in_order};
+use life_cells::{CellList, PLACE_LIMIT, put_in_order};
 use std::alloc::{AllocError, Global};
 use thiserror::Error;
 
@@ -41,9 +41,6 @@ impl From<AllocError> for CodeFault {
         CodeFault::Memory
     }
 }
-
-// More than any place.
-const PLACE_LIMIT: u32 = 1_048_576;
 
 // What a byte, or `y` and the byte after it, stands for.
 #[derive(Clone, Copy, Drop)]

@@ -4,7 +4,7 @@ ghost use Rattle.life_model.specs.Box.{height, width};
 ghost use Rattle.life_model.specs.Cell.{opposite, plus};
 ghost use Rattle.life_model.specs.Generation.{cells, is_rising};
 ghost use Rattle.life_model.specs.Symmetry.{corner, corner_of, normal, turn, image_under};
-ghost use Rattle.life_cells.specs.Limits.{IsPlace};
+ghost use Rattle.life_cells.specs.Limits.{IsPlace, extent_limit};
 ghost use Rattle.life_shape.specs.NormalForms.{IsAhead};
 ghost use Rattle.life_shape.specs.Orients.{orientation};
 ghost use Rattle.life_shape.specs.Wechsler.{body};
@@ -105,8 +105,8 @@ impl Shape {
     /// The shape of the cells, and their least x and least y, which are (0, 0) where there is no cell. Their box is at
     /// most 16,777,216 wide and high.
     pub fn of(alloc: Global, list: &CellList) -> Result<(Shape, (i32, i32)), AllocError>
-        requires wide { width list.now ≤ 16_777_216 }
-        requires high { height list.now ≤ 16_777_216 }
+        requires wide { width list.now ≤ extent_limit }
+        requires high { height list.now ≤ extent_limit }
         ensures shape { IfOk result (λ r. r.0 ≡ normal list.now) }
         ensures corner { IfOk result (λ r. r.1 ≡ corner list.now) }
         // Memory is never refused to no cell.

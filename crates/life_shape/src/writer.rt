@@ -2,7 +2,8 @@
 ghost use Rattle.std.specs.Prelude.{◌≡◌, ◌+◌, ◌-◌, ◌*◌, ◌<◌, ◌≤◌, ◌∷◌, ◌++◌, ℕ, [], All, IfOk, OnOk, T, drop, length, map, pos, slice_index_or, take, ◌≤ℤ◌, ◌<ℤ◌, ◌↔◌, IsTrue};
 ghost use Rattle.std.specs.List.Sorted.{IsNonDecreasingBy};
 ghost use Rattle.life_model.specs.Generation.{is_rising};
-ghost use Rattle.life_shape.specs.Dots.{IsInField, IsInStrip, IsLeftOf, dot, dots_value, strip_mark, values_text, weights};
+ghost use Rattle.life_cells.specs.Limits.{extent_limit};
+ghost use Rattle.life_shape.specs.Dots.{IsInField, IsInStrip, IsLeftOf, dot, dots_value, strip_limit, strip_mark, values_text, weights};
 ghost use Rattle.life_shape.specs.Wechsler.{digit, short_zeros, strips_text, zeros};
 
 use std::alloc::{AllocError, Global};
@@ -73,7 +74,7 @@ fn push_columns(text: &mut Vec<u8>, dots: &[(u32, u8)]) -> Result<(), AllocError
     requires sorted { IsNonDecreasingBy (λ d. d.0) dots.now }
     requires live { All (λ d. 0 < d.1) dots.now }
     requires small { (x : ℕ) → dots_value dots.now x < 36 }
-    requires placed { All (λ d. d.0 < 16_777_216) dots.now }
+    requires placed { All (λ d. d.0 < extent_limit) dots.now }
     ensures { OnOk result ((wide : ℕ) → All (λ d. d.0 < wide) dots.now → text.new.items ≡ text.old.items ++ values_text (dots_value dots.now) wide) }
 {
     let mut written = 0;
@@ -92,7 +93,7 @@ fn push_columns(text: &mut Vec<u8>, dots: &[(u32, u8)]) -> Result<(), AllocError
 
 // The dots of cells of a strip.
 fn dots_of(alloc: Global, cells: &[(i32, i32)], strip: u32) -> Result<Vec<(u32, u8)>, AllocError>
-    requires strips { strip ≤ 3_355_444 }
+    requires strips { strip ≤ strip_limit }
     requires placed { All (IsInStrip strip) cells.now }
     ensures { IfOk result (λ dots. dots.items ≡ map (dot strip) cells.now) }
 {
@@ -105,7 +106,7 @@ fn dots_of(alloc: Global, cells: &[(i32, i32)], strip: u32) -> Result<Vec<(u32, 
 
 // The dot of a cell of a strip.
 fn dot_of(cell: (i32, i32), strip: u32) -> (u32, u8)
-    requires strips { strip ≤ 3_355_444 }
+    requires strips { strip ≤ strip_limit }
     requires placed { IsInStrip strip cell }
     ensures { result ≡ dot strip cell }
 {
@@ -119,7 +120,7 @@ fn push_strip(
     cells: &[(i32, i32)],
     strip: u32,
 ) -> Result<(), AllocError>
-    requires strips { strip ≤ 3_355_444 }
+    requires strips { strip ≤ strip_limit }
     requires placed { All (IsInStrip strip) cells.now }
     requires small { (x : ℕ) → weights strip cells.now x < 36 }
     ensures { OnOk result ((wide : ℕ) → All (IsLeftOf wide) cells.now → text.new.items ≡ text.old.items ++ values_text (weights strip cells.now) wide) }
@@ -132,7 +133,7 @@ fn push_strip(
 
 // Whether a cell stands below a strip.
 fn is_below(cell: (i32, i32), strip: u32) -> bool
-    requires { strip ≤ 3_355_444 }
+    requires { strip ≤ strip_limit }
     ensures { IsTrue result ↔ (pos (5 * strip + 5) ≤ℤ cell.1) }
 {
     cell.1 >= 5 * strip as i32 + 5
@@ -141,7 +142,7 @@ fn is_below(cell: (i32, i32), strip: u32) -> bool
 // How many cells at the start don't stand below a strip.
 fn count_within(cells: &[(i32, i32)], strip: u32) -> usize
     requires rising { T (is_rising cells.now) }
-    requires strips { strip ≤ 3_355_444 }
+    requires strips { strip ≤ strip_limit }
     ensures within { result ≤ length cells.now }
     ensures above { All (λ c. c.1 <ℤ pos (5 * strip + 5)) (take result cells.now) }
     ensures below { All (λ c. pos (5 * strip + 5) ≤ℤ c.1) (drop result cells.now) }
@@ -168,7 +169,7 @@ fn begin_strip(text: &mut Vec<u8>, strip: u32) -> Result<(), AllocError>
 pub fn text_of(alloc: Global, cells: &[(i32, i32)], strips: u32) -> Result<Vec<u8>, AllocError>
     requires rising { T (is_rising cells.now) }
     requires placed { All IsInField cells.now }
-    requires strips { strips ≤ 3_355_444 }
+    requires strips { strips ≤ strip_limit }
     ensures { IfOk result (λ text. (wide : ℕ) → All (IsLeftOf wide) cells.now → text.items ≡ strips_text (λ k. values_text (weights k cells.now) wide) strips) }
 {
     let mut text = Vec::new(alloc);

@@ -1,15 +1,13 @@
 -- Cells put into a set one after another.
-use Rattle.std.proofs.Common.{◌≡◌, ℕ, ◌+◌, ◌<◌, ◌≤◌, ◌⊎◌, inl, inr, ⊎_elim, Bool, true, false, ◌||◌, All, List, [], ◌∷◌, ◌++◌, take, get_or, length, refl, sym, ap, ◌∙◌, arith}
+use Rattle.std.proofs.Common.{◌≡◌, ℕ, ◌+◌, ◌<◌, ◌⊎◌, inl, inr, ⊎_elim, Bool, true, false, ◌||◌, All, List, [], ◌∷◌, ◌++◌, take, get_or, length, refl, sym, ap, ◌∙◌}
 use Rattle.std.specs.List.{list_any}
 use Rattle.std.proofs.lemmas.Cmp.{eq_by_cmp_equiv}
-use Rattle.std.proofs.lemmas.Int.{ints}
 use Rattle.std.proofs.lemmas.List.{take_more}
 use Rattle.std.proofs.lemmas.Map.Views.{All-from_any}
 use Rattle.life_model.specs.Cell.{Cell, same_cell}
 use Rattle.life_model.specs.Generation.{Generation, contains, from_list, insert}
 use Rattle.life_model.proofs.Cells.{cell_cmp_total, same_cell-is}
 use Rattle.life_model.proofs.Generations.{same_members, contains-insert, contains-from_list}
-use Rattle.life_cells.specs.Limits.{IsPlace, IsWithin, age_limit}
 use Rattle.life_slots.proofs.Orders.{either_true}
 
 -- a member after one cell more is that cell or was one
@@ -45,11 +43,3 @@ list_more cs i d c before after inside before_is after_is cell_is =
 pub all_listed : (P : Cell → Type 0) (G : Generation) (cs : List Cell) → ((q : Cell) → contains G q ≡ list_any (same_cell q) cs) →
     ((q : Cell) → contains G q ≡ true → P q) → All P cs
 all_listed P G cs listed each = All-from_any (eq_by_cmp_equiv cell_cmp_total) P cs (λ q has. each q (listed q ∙ has))
-
-pub place_from_within : (age : ℕ) (c : Cell) → age ≤ age_limit → IsWithin age c → IsPlace c
-place_from_within age c young within = record {
-  left = omega (arith, ints, within.left);
-  right = omega (arith, ints, within.right);
-  above = omega (arith, ints, within.above);
-  below = omega (arith, ints, within.below);
-}

@@ -5,10 +5,8 @@ use Rattle.std.proofs.lemmas.Int.{ints, clamps}
 use Rattle.std.proofs.lemmas.List.Elements.{All-head, All-tail}
 use Rattle.life_model.specs.Cell.{Cell}
 use Rattle.life_model.specs.Symmetry.{least_by, corner_of}
+use Rattle.life_model.proofs.Moves.{min_left}
 use Rattle.life_cells.specs.Limits.{IsPlace}
-
-min_left : (a b : ℤ) → int_min a b ≤ℤ a
-min_left a b = omega (arith, ints, clamps)
 
 min_right : (a b c : ℤ) → b ≤ℤ c → int_min a b ≤ℤ c
 min_right a b c h = omega (arith, ints, clamps)

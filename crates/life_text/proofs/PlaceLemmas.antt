@@ -15,6 +15,7 @@ use Rattle.life_model.specs.Generation.{Generation, cells, from_list, below_all,
 use Rattle.life_model.specs.Symmetry.{corner, corner_of, least_by, normal}
 use Rattle.life_model.proofs.Generations.{cells-from_list}
 use Rattle.life_model.proofs.Lists.{cells-moved}
+use Rattle.life_model.proofs.Moves.{same_le}
 use Rattle.life_cells.proofs.Sorted.{first_holds, second_holds}
 use Rattle.life_text.specs.Places.{place, places}
 use Rattle.life_text.specs.Writer.{places_from}
@@ -52,9 +53,6 @@ row_apart a b k h l e = omega (arith, ints)
 
 lt_le : (a b : ℤ) → a <ℤ b → a ≤ℤ b
 lt_le a b h = omega (arith, ints)
-
-same_le : (a b : ℤ) → a ≡ b → a ≤ℤ b
-same_le a b h = omega (arith, ints)
 
 -- # All cells
 

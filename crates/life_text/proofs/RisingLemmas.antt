@@ -7,7 +7,8 @@ use Rattle.std.proofs.lemmas.Bool.Decides.{nat_tests}
 use Rattle.life_text.specs.declared.pen.Pen.{Pen}
 use Rattle.life_text.specs.declared.rle.RleFault.{RleFault}
 use Rattle.life_cells.specs.Bytes.{is_in}
-use Rattle.life_text.specs.Rle.{Token, is_live, is_cells, is_row_end, run_length, run_cells, token_fault, place_limit, first_fault, cells_after, has_tag}
+use Rattle.life_cells.specs.Limits.{place_limit}
+use Rattle.life_text.specs.Rle.{Token, is_live, is_cells, is_row_end, run_length, run_cells, token_fault, first_fault, cells_after, has_tag}
 use Rattle.life_text.specs.Reader.{cells_drawn, cells_or_fault, pen_after, pen_behind, cells_unless}
 use Rattle.life_text.specs.Rising.{RisesFrom}
 use Rattle.life_text.proofs.CappedLemmas.{good, live_within}

@@ -10,10 +10,7 @@ use Rattle.life_text.specs.declared.rle.RleFault.{RleFault}
 use Rattle.life_text.specs.declared.rle.RleFault.TheVariants.{NoHeader, BadHeader, RuleNotLifeLike, RuleHasB0, ManyStates, BadChar, BadRun, TooFar, TooMany, NoEnd}
 use Rattle.life_model.specs.Rule.{Rule}
 use Rattle.life_cells.specs.Rules.{rule_of, life}
-
--- one more than the greatest place of a live cell
-abbrev pub place_limit : ℕ
-place_limit = 1048576
+use Rattle.life_cells.specs.Limits.{place_limit}
 
 -- the most live cells
 abbrev pub cell_limit : ℕ

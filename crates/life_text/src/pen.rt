@@ -1,10 +1,12 @@
 //! What tokens draw.
 ghost use Rattle.std.specs.Prelude.{◌++◌, ◌+◌, ◌<◌, ◌≡◌, ◌≤◌, OnOk, false, map, pos, true};
+ghost use Rattle.life_cells.specs.Limits.{place_limit};
 ghost use Rattle.life_text.specs.Found.{token_found};
 ghost use Rattle.life_text.specs.Reader.{count_cap, capped_pen, pen_after, cell_of_pair};
-ghost use Rattle.life_text.specs.Rle.{cell_limit, is_live, is_too_far, is_too_many, place_limit, run_cells};
+ghost use Rattle.life_text.specs.Rle.{cell_limit, is_live, is_too_far, is_too_many, run_cells};
 
 use crate::token::{CAP, Found, is_cells, is_live, is_row_end};
+use life_cells::PLACE_LIMIT;
 use std::alloc::AllocError;
 
 /// The row and the column of the next token, both capped, and how many cells are live.
@@ -14,9 +16,6 @@ pub struct Pen {
     pub x: u32,
     pub live: u32,
 }
-
-// One more than the greatest place of a live cell.
-const PLACE_LIMIT: u32 = 1_048_576;
 
 // There is room for so many live cells from the first one on.
 const FIRST_CELLS: usize = 16;

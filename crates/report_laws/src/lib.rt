@@ -5,6 +5,7 @@
 ghost use Rattle.std.specs.Prelude.{◌≡◌, ◌≤◌, ℕ, List, None, length};
 ghost use Rattle.census_format.specs.Reports.{IsReport};
 ghost use Rattle.census_bundle.specs.declared.bundle.Folder.{Folder};
+ghost use Rattle.census_bundle.specs.Sizes.{count_limit};
 ghost use Rattle.census_merge.specs.Merged.{merged_rows};
 ghost use Rattle.census_merge.specs.Sums.{first_excess, no_sums};
 ghost use Rattle.census_readback.specs.Reports.{IsReport as IsReadBack};
@@ -47,7 +48,7 @@ pub fn merged_reports_are_a_report()
 pub fn reports_that_fit_are_merged()
     ensures { (question : Question) (parts : List (List Folder)) (reports : List (List ℕ)) (rows : List Row)
         → AreBundles parts → EachIsReport question parts reports → IsReadBack rows (texts reports)
-        → length (bundles parts) ≤ 65535 → first_excess 1 no_sums rows ≡ None }
+        → length (bundles parts) ≤ count_limit → first_excess 1 no_sums rows ≡ None }
 {}
 
 /// A lawful report of a bundle is read back, where the numbers that are found of its patterns are in the range of a line.

@@ -1,6 +1,7 @@
 //! Texts and their blocks.
 
-use census_blocks::{BOUND_LIMIT, block};
+use census_blocks::block;
+use life_orbit::BOUND_LIMIT;
 use life_text::RleFault;
 use std::test::Fail;
 

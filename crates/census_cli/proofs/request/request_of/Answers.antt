@@ -5,6 +5,7 @@ use Rattle.census_cli.specs.Holding.{IsCommand}
 use Rattle.census_cli.proofs.Commands.{advance_command, objects_command, run_command}
 use Rattle.census_cli.proofs.Getters.{entered_as, number_within}
 use Rattle.census_cli.proofs.request.request_of.Goals as goal
+use Rattle.census_cli.specs.Limits.{generation_limit}
 
 pub returns-in-Some-subcommand_matches-3 : goal.returns-in-Some-subcommand_matches-3
 returns-in-Some-subcommand_matches-3 c =
@@ -16,7 +17,7 @@ returns-in-Some-subcommand_matches-3 c =
       rows = rows;
       named = named;
       generations_are = c.number-in-Some-subcommand_matches-3.ensures;
-      generations_in = (number_within 0 4194304 (codes "generations") rows _ has.generations c.number-in-Some-subcommand_matches-3.ensures).1;
+      generations_in = (number_within 0 generation_limit (codes "generations") rows _ has.generations c.number-in-Some-subcommand_matches-3.ensures).1;
       file_is = c.text_if_used.ensures;
     }
 

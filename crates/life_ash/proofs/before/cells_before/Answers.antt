@@ -6,12 +6,13 @@ use Rattle.life_model.proofs.Generations.{cells-from_list}
 use Rattle.life_cells.specs.Limits.{IsWithin}
 use Rattle.life_orbit.proofs.MovedCells.{items_rise, place_then, set_then}
 use Rattle.life_ash.proofs.before.cells_before.Goals as goal
+use Rattle.life_ash.specs.Parts.{ash_age_limit}
 
 pub returns-in-None-clause-outside : goal.returns-in-None-clause-outside
 returns-in-None-clause-outside c all =
     c.in-None.ensures.outside
     (place_then c.args.cells.now c.as_slice-places.result.now c.as_slice-places.ensures.cells (opposite c.args.by)
-    (IsWithin 400000) all c.loop-cell.cell-index _ c.loop-cell-test.true)
+    (IsWithin ash_age_limit) all c.loop-cell.cell-index _ c.loop-cell-test.true)
 
 pub from_ordered-requires-clause-rising : goal.from_ordered-requires-clause-rising
 from_ordered-requires-clause-rising c =
@@ -32,7 +33,7 @@ pub returns-clause-within : goal.returns-clause-within
 returns-clause-within c =
     let past = c.loop-cell-test.false in
     let all : length c.as_slice-places.result.now ≤ c.loop-cell.cell-index = omega arith in
-    All-same (IsWithin 400000) _ _
+    All-same (IsWithin ash_age_limit) _ _
     (ap cells c.from_ordered.ensures
     ∙ cells-from_list c.loop-cell.items.items
     (items_rise c.args.cells.now c.as_slice-places.result.now c.as_slice-places.ensures.cells (opposite c.args.by)

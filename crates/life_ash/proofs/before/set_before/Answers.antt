@@ -12,6 +12,7 @@ use Rattle.life_cells.specs.Limits.{IsWithin}
 use Rattle.life_ash.proofs.Finding.{none_then}
 use Rattle.life_ash.proofs.Turning.{turned_back}
 use Rattle.life_ash.proofs.before.set_before.Goals as goal
+use Rattle.life_ash.specs.Parts.{ash_age_limit}
 
 -- the phase, moved back, is whatever recurs as the orbit does and becomes its set
 turned : (c : goal.After-cells_before) (P : Generation) →
@@ -36,5 +37,5 @@ pub returns-clause-outside : goal.returns-clause-outside
 returns-clause-outside c =
     IfOk-weaker c.cells_before.result _ _
     (λ found h. none_then found h
-    (λ no P r end all. no (subst (λ H. All (IsWithin 400000) (cells H)) (sym (turned c P r end)) all)))
+    (λ no P r end all. no (subst (λ H. All (IsWithin ash_age_limit) (cells H)) (sym (turned c P r end)) all)))
     c.cells_before.ensures.outside

@@ -5,10 +5,11 @@ use Rattle.life_model.specs.Generation.{cells}
 use Rattle.life_cells.specs.Limits.{IsWithin}
 use Rattle.life_ash.proofs.Firsts.{firsts_within}
 use Rattle.life_ash.proofs.guess.parts_by_effort.Goals as goal
+use Rattle.life_ash.specs.Parts.{ash_age_limit}
 
 pub orbits_of-requires-clause-within : goal.orbits_of-requires-clause-within
 orbits_of-requires-clause-within g c =
-    All-same (λ x. All (IsWithin 400000) (cells x.first)) _ _ c.as_slice.ensures.value
-    (firsts_within c.rule-rule.result (g.P.Plane.steps_made c.in_ok-copy.copy) 400000
+    All-same (λ x. All (IsWithin ash_age_limit) (cells x.first)) _ _ c.as_slice.ensures.value
+    (firsts_within c.rule-rule.result (g.P.Plane.steps_made c.in_ok-copy.copy) ash_age_limit
     (g.P.Plane.members c.in_ok-copy.copy) c.in_ok-all.all.items c.in_ok-all.ensures.together
     (omega (arith, c.in_ok-copy.ensures.age)) c.age-age.ensures.within)

@@ -9,8 +9,9 @@ use Rattle.life_objects.specs.Apart.{AreApartFor}
 use Rattle.life_objects.specs.Union.{generations}
 use Rattle.life_objects.specs.Whole.{StaysWhole}
 use Rattle.life_classes.specs.Tracking.{first_sets}
+use Rattle.life_orbit.specs.Kept.{orbit_age_limit}
 use Rattle.life_ash.specs.Living.{has_cells}
-use Rattle.life_ash.specs.Parts.{AreEnds}
+use Rattle.life_ash.specs.Parts.{AreEnds, ash_age_limit}
 use Rattle.life_ash.proofs.Cores.{ash_by_ends, no_end}
 use Rattle.life_ash.proofs.Finding.{none_then}
 use Rattle.life_ash.proofs.Following.{ends_within}
@@ -31,8 +32,8 @@ parts_of-requires g c =
     c.as_slice.ensures.value ∙ c.in_ok-lasts.ensures
     ∙ ap (filter has_cells) {y = generations R Ls b} c.in_ok-classes.ensures.later in
     record {
-      within = All-same (λ Q. All (IsWithin 4000000) (cells Q)) _ _ listed
-          (ends_within R (g.P.Plane.steps_made c.in_ok-copy.copy) b 4000000 (g.P.Plane.members c.in_ok-copy.copy) Ls
+      within = All-same (λ Q. All (IsWithin orbit_age_limit) (cells Q)) _ _ listed
+          (ends_within R (g.P.Plane.steps_made c.in_ok-copy.copy) b orbit_age_limit (g.P.Plane.members c.in_ok-copy.copy) Ls
           c.in_ok-classes.ensures.together (omega arith) c.age-age.ensures.within);
     }
 
@@ -63,7 +64,7 @@ apart g c =
     subst (λ n. AllPairs (AreApartFor c.args.known.now.rule n) Ls) c.bound-bound.ensures.value
     (subst (λ S. AllPairs (AreApartFor S c.bound-bound.result) Ls) c.rule-rule.ensures c.in_ok-classes.ensures.apart)
 
-placed : (g : Over) (c : goal.After-drop-lasts g) → All (IsWithin 400000) (cells (g.P.Plane.members c.args.plane.now))
+placed : (g : Over) (c : goal.After-drop-lasts g) → All (IsWithin ash_age_limit) (cells (g.P.Plane.members c.args.plane.now))
 placed g c =
     let young = c.requires.young in
     let age = c.in_ok-copy.ensures.age in

@@ -9,7 +9,7 @@ use Rattle.life_cells.specs.Limits.{IsWithin}
 use Rattle.life_objects.specs.Ash.{RecursWithin}
 use Rattle.life_orbit.specs.Course.{Course}
 use Rattle.life_ash.specs.Met.{IsMet, Terms}
-use Rattle.life_ash.specs.Parts.{IsEnd, IsFit}
+use Rattle.life_ash.specs.Parts.{IsEnd, IsFit, ash_age_limit}
 use Rattle.life_ash.proofs.Finding.{both_then, none_then, of_none, of_some}
 use Rattle.life_ash.proofs.Turning.{end_goes_round, end_reached, end_recurs}
 use Rattle.life_ash.proofs.parts.part_of.Goals as goal
@@ -25,13 +25,13 @@ module _ (t : Terms) (last : Generation) (o : Course) (met : IsMet t o) (set : o
         (end_reached t.rule t.bound last P end o met.rule set met.recurs)
 
 -- what recurs so and stood in the field is fit
-fit_then : (t s : Terms) → s ≡ t → (S : Generation) → All (IsWithin 400000) (cells S) → (part : Course) → IsMet s part →
+fit_then : (t s : Terms) → s ≡ t → (S : Generation) → All (IsWithin ash_age_limit) (cells S) → (part : Course) → IsMet s part →
     part.set ≡ S → IsFit t.rule t.bound part
 fit_then t s same S within part met set = record {
   rule = met.rule ∙ ap (λ (u : Terms). u.rule) same;
   recurs = met.recurs;
   period = subst (λ (u : Terms). part.period ≤ u.bound) same met.period;
-  within = subst (λ (G : Generation). All (IsWithin 400000) (cells G)) (sym set) within;
+  within = subst (λ (G : Generation). All (IsWithin ash_age_limit) (cells G)) (sym set) within;
 }
 
 pub returns-in_default-clause-none : goal.returns-in_default-clause-none
@@ -56,7 +56,7 @@ pub returns-clause-fit : goal.returns-clause-fit
 returns-clause-fit c =
     both_then c.orbit_of-2.result c.orbit_of-2.ensures.met c.orbit_of-2.ensures.set
     (λ part met set. fit_then c.args.known.now c.orbit_of.new.self c.orbit_of.ensures.same c.in-Some-2.set
-    (of_some (λ (S : Generation). All (IsWithin 400000) (cells S)) c.in-Some-2.is c.in_ok-set.ensures.within) part met set)
+    (of_some (λ (S : Generation). All (IsWithin ash_age_limit) (cells S)) c.in-Some-2.is c.in_ok-set.ensures.within) part met set)
 
 -- what was before is whatever becomes the last set and recurs
 was_before : (c : goal.After-drop-orbit-inside-2) (P : Generation) →

@@ -3,13 +3,14 @@ use Rattle.std.specs.Prelude.{nat_abs}
 use lib.Signed.{non_neg}
 use Rattle.std.proofs.lemmas.Int.{ints, to_z-of_z}
 use Rattle.life_model.proofs.Cells.{pair}
+use Rattle.life_cells.specs.Limits.{coordinate_limit}
 use Rattle.life_codes.proofs.grid.place_in.Goals as goal
 
 casts : (z : ℤ) → pos 0 ≤ℤ z → z ≤ℤ pos 33554432 → T (non_neg z) × Fits w64 (nat_abs z)
 casts (pos n) h k = (tt, omega (arith, ints))
 casts (negsuc n) h k = absurd (omega (arith, ints))
 
-module _ (x low high : ℤ) (a : negsuc 16777215 ≤ℤ low) (b : high ≤ℤ pos 16777216) (l : low ≤ℤ x) (r : x ≤ℤ high) where
+module _ (x low high : ℤ) (a : negsuc 16777215 ≤ℤ low) (b : high ≤ℤ pos coordinate_limit) (l : low ≤ℤ x) (r : x ≤ℤ high) where
   kept_low : to_z w32 (of_z w32 low) ≡ low
   kept_low = to_z-of_z w32 low (omega (arith, ints))
 

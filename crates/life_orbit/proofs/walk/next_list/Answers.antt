@@ -1,17 +1,17 @@
-use Rattle.std.proofs.Common.{◌+◌, ◌∙◌, ap, arith}
+use Rattle.std.proofs.Common.{◌+◌, ◌-◌, ◌∙◌, ap, arith}
 use Rattle.std.proofs.lemmas.List.Elements.{All-same, All-weaker}
 use Rattle.life_model.specs.Evolution.{next}
 use Rattle.life_model.specs.Generation.{cells, from_list}
 use Rattle.life_model.proofs.Generations.{cells-from_list, from_list-cells}
-use Rattle.life_cells.specs.Limits.{IsPlace, IsWithin}
+use Rattle.life_cells.specs.Limits.{IsPlace, IsWithin, age_limit}
 use Rattle.life_plane.proofs.Later.{place_from_within}
 use Rattle.life_orbit.proofs.walk.next_list.Goals as goal
 
 pub from_ordered-requires-clause-placed : goal.from_ordered-requires-clause-placed
 from_ordered-requires-clause-placed c =
-    let listed = All-same (IsWithin 4194303) _ _ c.as_slice.ensures.cells c.requires in
-    All-weaker (IsWithin 4194304) IsPlace (λ b h. place_from_within 4194304 b (omega arith) h)
-    c.in_ok-next_cells.field-0.items (c.in_ok-next_cells.ensures.within 4194303 listed)
+    let listed = All-same (IsWithin (age_limit - 1)) _ _ c.as_slice.ensures.cells c.requires in
+    All-weaker (IsWithin age_limit) IsPlace (λ b h. place_from_within age_limit b (omega arith) h)
+    c.in_ok-next_cells.field-0.items (c.in_ok-next_cells.ensures.within (age_limit - 1) listed)
 
 pub returns-clause-next : goal.returns-clause-next
 returns-clause-next c =

@@ -3,7 +3,7 @@ use Rattle.std.proofs.lemmas.List.{take_all}
 use Rattle.std.proofs.lemmas.List.Elements.{All-filter, All-same}
 use Rattle.life_model.specs.Generation.{from_list, is_rising}
 use Rattle.life_model.specs.Evolution.{lives}
-use Rattle.life_cells.specs.Limits.{IsWithin}
+use Rattle.life_cells.specs.Limits.{IsWithin, age_limit}
 use Rattle.life_plane.specs.Field.{has}
 use Rattle.life_plane.proofs.Later.{within_candidates, rising-filter, next_by_filter, has_from_set}
 use Rattle.life_plane.proofs.evolve.next_cells.Goals as goal
@@ -11,8 +11,8 @@ use Rattle.life_plane.proofs.evolve.next_cells.Goals.{After-drop-all-2}
 
 pub lives_next-requires-clause-within : goal.lives_next-requires-clause-within
 lives_next-requires-clause-within c =
-    let in_all = c.put_in_order.ensures.within 4194305 (All-same (IsWithin 4194305) _ _ c.in_ok-all.ensures (within_candidates 4194304 c.args.cells.now c.requires.within)) in
-    (All-same (IsWithin 4194305) _ _ c.deref-cell-items.ensures.value in_all) c.loop-cell.cell-index _ c.loop-cell-test.true
+    let in_all = c.put_in_order.ensures.within (age_limit + 1) (All-same (IsWithin (age_limit + 1)) _ _ c.in_ok-all.ensures (within_candidates age_limit c.args.cells.now c.requires.within)) in
+    (All-same (IsWithin (age_limit + 1)) _ _ c.deref-cell-items.ensures.value in_all) c.loop-cell.cell-index _ c.loop-cell-test.true
 
 all_of : (c : After-drop-all-2) → c.loop-cell.next.items ≡ filter (lives c.args.rule.now (has c.args.cells.now)) c.put_in_order.new.items.items
 all_of c =

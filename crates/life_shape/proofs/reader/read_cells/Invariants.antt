@@ -1,7 +1,6 @@
 use Rattle.std.proofs.Common.{◌≡◌, ◌-◌, ◌<◌, ◌≤◌, true, length}
 use Rattle.std.specs.Prelude.{All}
-use Rattle.life_cells.specs.Limits.{IsWithin}
-use Rattle.life_shape.specs.Reading.{place_limit}
+use Rattle.life_cells.specs.Limits.{IsWithin, place_limit}
 use Rattle.life_shape.specs.Drawing.{cells_drawn, keeps_from, marks_at, with_front}
 use Rattle.life_shape.proofs.reader.read_cells.Given as goal
 

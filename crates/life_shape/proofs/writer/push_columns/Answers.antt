@@ -3,6 +3,7 @@ use Rattle.std.specs.Prelude.{All}
 use Rattle.std.specs.List.Sorted.{IsNonDecreasingBy}
 use Rattle.std.proofs.lemmas.Bool.Decides.{nat_tests}
 use Rattle.std.proofs.lemmas.List.Elements.{All-drop, All-weaker}
+use Rattle.life_cells.specs.Limits.{extent_limit}
 use Rattle.life_shape.specs.Dots.{dots_value}
 use Rattle.life_shape.proofs.Columns.{columns_turn, columns_none}
 use Rattle.life_shape.proofs.DotLists.{sorted_drop, from_first, none_left, no_dots, value_some, value_drop}
@@ -23,7 +24,7 @@ columns-preserved c =
       sorted = subst (IsNonDecreasingBy (λ d. d.0)) (sym e) (sorted_drop n rest inv.sorted);
       live = subst (All (λ d. 0 < d.1)) (sym e) (All-drop (λ d. 0 < d.1) n rest inv.live);
       small = λ x. let h = inv.small x in let l = value_drop x n rest in rw e (omega arith);
-      placed = subst (All (λ d. d.0 < 16777216)) (sym e) (All-drop (λ d. d.0 < 16777216) n rest inv.placed);
+      placed = subst (All (λ d. d.0 < extent_limit)) (sym e) (All-drop (λ d. d.0 < extent_limit) n rest inv.placed);
       ahead = subst (All (λ d. p + 1 ≤ d.0)) (sym e) (All-weaker (λ d. p < d.0) (λ d. p + 1 ≤ d.0) (λ d h. omega arith) (drop n rest) one.behind);
       values = λ x h. inv.values x (omega arith) ∙ sym (one.others x (omega arith)) ∙ ap (λ ds. dots_value ds x) (sym e);
       columns = λ wide all. subst (All (λ d. d.0 < wide)) (sym e) (All-drop (λ d. d.0 < wide) n rest (inv.columns wide all));

@@ -2,6 +2,7 @@ use Rattle.std.proofs.Common.{◌≡◌, ℕ, ◌-◌, ◌<◌, ◌≤◌, ◌++
 use Rattle.std.specs.Prelude.{All}
 use Rattle.std.specs.List.{range_with_len}
 use Rattle.std.specs.List.Sorted.{IsNonDecreasingBy}
+use Rattle.life_cells.specs.Limits.{extent_limit}
 use Rattle.life_shape.specs.Wechsler.{columns_text}
 use Rattle.life_shape.specs.Dots.{dots_value, values_text}
 use Rattle.life_shape.proofs.writer.push_columns.Given as goal
@@ -12,7 +13,7 @@ invariant-columns l = record {
   sorted : IsNonDecreasingBy (λ d. d.0) l.rest;
   live : All (λ d. 0 < d.1) l.rest;
   small : (x : ℕ) → dots_value l.rest x < 36;
-  placed : All (λ d. d.0 < 16777216) l.rest;
+  placed : All (λ d. d.0 < extent_limit) l.rest;
   ahead : All (λ d. l.written ≤ d.0) l.rest;
   values : (x : ℕ) → l.written ≤ x → dots_value l.dots x ≡ dots_value l.rest x;
   columns : (wide : ℕ) → All (λ d. d.0 < wide) l.dots → All (λ d. d.0 < wide) l.rest;

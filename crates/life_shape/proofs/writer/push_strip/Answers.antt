@@ -2,6 +2,7 @@ use Rattle.std.proofs.Common.{◌<◌, ◌++◌, ap, subst, ◌∙◌, sym, rule
 use Rattle.std.specs.Prelude.{All}
 use Rattle.std.specs.List.Sorted.{IsNonDecreasingBy}
 use Rattle.std.proofs.lemmas.List.Sorted.{IsNonDecreasingBy-from_sort_by_key}
+use Rattle.life_cells.specs.Limits.{extent_limit}
 use Rattle.life_shape.specs.Dots.{dots_value, values_text}
 use Rattle.life_shape.proofs.StripLists.{value_of_dots, dots_live, dots_placed, dots_left, dots_text}
 use Rattle.life_shape.proofs.writer.push_strip.Goals as goal
@@ -20,7 +21,7 @@ push_columns-requires-clause-small c = λ x.
 
 pub push_columns-requires-clause-placed : goal.push_columns-requires-clause-placed
 push_columns-requires-clause-placed c =
-    subst (All (λ d. d.0 < 16777216)) (sym c.deref.ensures.value) (dots_placed c.args.strip _ _ _ c.requires.placed c.in_ok-dots.ensures c.sort_unstable_by_key.ensures.permutation)
+    subst (All (λ d. d.0 < extent_limit)) (sym c.deref.ensures.value) (dots_placed c.args.strip _ _ _ c.requires.placed c.in_ok-dots.ensures c.sort_unstable_by_key.ensures.permutation)
 
 pub returns : goal.returns
 returns c = λ wide all.

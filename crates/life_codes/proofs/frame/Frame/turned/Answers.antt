@@ -2,15 +2,16 @@ use Rattle.std.proofs.Common.{◌≡◌, ℤ, pos, negsuc, neg_ℤ, ◌-ℤ◌, 
 use Rattle.std.proofs.lemmas.Int.{ints, to_z-of_z}
 use Rattle.life_model.specs.Symmetry.{Orientation, Same, FlipX, FlipY, Half, Swap, SwapFlipX, SwapFlipY, SwapHalf}
 use Rattle.life_shape.specs.Orients.{orientation}
+use Rattle.life_cells.specs.Limits.{coordinate_limit}
 use Rattle.life_codes.specs.declared.frame.Frame.{Frame}
 use Rattle.life_codes.specs.Frames.{IsBounded, turned_frame}
 use Rattle.life_codes.proofs.frame.Frame.turned.Goals as goal
 
 -- a place as the code keeps it
-back : (z : ℤ) → negsuc 16777215 ≤ℤ z → z ≤ℤ pos 16777216 → to_z w32 (of_z w32 z) ≡ z
+back : (z : ℤ) → negsuc 16777215 ≤ℤ z → z ≤ℤ pos coordinate_limit → to_z w32 (of_z w32 z) ≡ z
 back z h k = to_z-of_z w32 _ (omega (arith, ints))
 
-negated : (z : ℤ) → negsuc 16777215 ≤ℤ z → z ≤ℤ pos 16777216 → to_z w32 (of_z w32 (pos 0 -ℤ to_z w32 (of_z w32 z))) ≡ neg_ℤ z
+negated : (z : ℤ) → negsuc 16777215 ≤ℤ z → z ≤ℤ pos coordinate_limit → to_z w32 (of_z w32 (pos 0 -ℤ to_z w32 (of_z w32 z))) ≡ neg_ℤ z
 negated z h k =
     let e = back z h k in
     let there : pos 0 -ℤ to_z w32 (of_z w32 z) ≡ neg_ℤ z = omega (arith, ints) in
@@ -33,9 +34,9 @@ record Kept (f : Frame) : Type 0 where
 kept : (f : Frame) → IsBounded f → Kept f
 kept f h =
     let low_right : negsuc 16777215 ≤ℤ f.right = omega (arith, ints) in
-    let high_left : f.left ≤ℤ pos 16777216 = omega (arith, ints) in
+    let high_left : f.left ≤ℤ pos coordinate_limit = omega (arith, ints) in
     let low_bottom : negsuc 16777215 ≤ℤ f.bottom = omega (arith, ints) in
-    let high_top : f.top ≤ℤ pos 16777216 = omega (arith, ints) in
+    let high_top : f.top ≤ℤ pos coordinate_limit = omega (arith, ints) in
     record {
       left = back f.left h.left high_left;
       top = back f.top h.top high_top;

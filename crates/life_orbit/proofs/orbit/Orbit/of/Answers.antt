@@ -1,10 +1,10 @@
-use Rattle.std.proofs.Common.{◌+◌, sym, subst, arith}
+use Rattle.std.proofs.Common.{◌+◌, ◌-◌, sym, subst, arith}
 use Rattle.std.proofs.lemmas.List.Elements.{All-same, All-weaker}
 use Rattle.life_model.specs.Generation.{cells}
-use Rattle.life_cells.specs.Limits.{IsWithin}
+use Rattle.life_cells.specs.Limits.{IsWithin, age_limit}
 use Rattle.life_plane.proofs.Later.{within_later}
 use Rattle.life_orbit.specs.Hulls.{HasAll}
-use Rattle.life_orbit.specs.Kept.{IsWalk}
+use Rattle.life_orbit.specs.Kept.{IsWalk, orbit_age_limit}
 use Rattle.life_orbit.proofs.Walking.{kept_set, kept_whole, walk_more, walk_start}
 use Rattle.life_orbit.proofs.orbit.Orbit.of.Goals as goal
 
@@ -15,8 +15,8 @@ loop-taken-init c =
 
 pub next_list-requires : goal.next_list-requires
 next_list-requires c =
-    All-weaker (IsWithin (4000000 + c.loop-taken.taken)) (IsWithin 4194303)
-    (λ b h. within_later (4000000 + c.loop-taken.taken) 4194303 b (omega arith) h) (cells c.loop-taken.phase)
+    All-weaker (IsWithin (orbit_age_limit + c.loop-taken.taken)) (IsWithin (age_limit - 1))
+    (λ b h. within_later (orbit_age_limit + c.loop-taken.taken) (age_limit - 1) b (omega arith) h) (cells c.loop-taken.phase)
     c.loop-taken.invariant.within
 
 pub invariant_of-result : goal.invariant_of-result
@@ -48,4 +48,4 @@ loop-taken-preserved c =
     (sym c.in_ok-push.ensures.items)
     (walk_more c.args.rule.now c.args.cells.now c.loop-taken.taken c.loop-taken.phases.items c.loop-taken.phase
     c.loop-taken.invariant c.in_ok-next.next c.in_ok-next.ensures.next c.in_default.ensures.apart
-    (c.in_ok-next.ensures.within (4000000 + c.loop-taken.taken) c.loop-taken.invariant.within))
+    (c.in_ok-next.ensures.within (orbit_age_limit + c.loop-taken.taken) c.loop-taken.invariant.within))

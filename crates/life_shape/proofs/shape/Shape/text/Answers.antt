@@ -2,7 +2,8 @@ use Rattle.std.proofs.Common.{◌≡◌, ◌≤◌, ◌+◌, ◌/◌, ℕ, List,
 use Rattle.std.specs.Prelude.{All}
 use Rattle.life_model.specs.Cell.{Cell}
 use Rattle.life_model.specs.Box.{width, height}
-use Rattle.life_shape.specs.Dots.{IsLeftOf, values_text, weights}
+use Rattle.life_cells.specs.Limits.{extent_limit}
+use Rattle.life_shape.specs.Dots.{IsLeftOf, strip_limit, values_text, weights}
 use Rattle.life_shape.specs.Wechsler.{body, strips_text}
 use Rattle.life_shape.proofs.Boxes.{all_in_field}
 use Rattle.life_shape.proofs.StripLists.{strips_fit, strip_count, height_of_field, left_of_width, body_is}
@@ -21,8 +22,8 @@ pub text_of-requires-clause-strips : goal.text_of-requires-clause-strips
 text_of-requires-clause-strips c =
     let e = c.as_slice.ensures in
     let field = all_in_field c.self.inside.list _ c.self.invariant e.cells e.placed in
-    let high = subst (λ G. height G ≤ 16777216) c.self.view_is (height_of_field c.self.inside.list _ e.cells field) in
-    subst (λ n. n ≤ 3355444) (sym c.div_ceil-strips.ensures) (strips_fit c.height.result (subst (λ n. n ≤ 16777216) (sym c.height.ensures) high))
+    let high = subst (λ G. height G ≤ extent_limit) c.self.view_is (height_of_field c.self.inside.list _ e.cells field) in
+    subst (λ n. n ≤ strip_limit) (sym c.div_ceil-strips.ensures) (strips_fit c.height.result (subst (λ n. n ≤ extent_limit) (sym c.height.ensures) high))
 
 pub returns : goal.returns
 returns c =

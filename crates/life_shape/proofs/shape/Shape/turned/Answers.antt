@@ -1,6 +1,7 @@
 use Rattle.std.proofs.Common.{◌≤◌, sym, ap, subst, ◌∙◌}
 use Rattle.life_model.specs.Box.{width, height}
 use Rattle.life_model.specs.Symmetry.{normal, image_under}
+use Rattle.life_cells.specs.Limits.{extent_limit}
 use Rattle.life_shape.specs.Orients.{orientation}
 use Rattle.life_shape.proofs.Boxes.{all_in_field, all_turned, from_list-turned, turned_width, turned_height}
 use Rattle.life_shape.proofs.shape.Shape.turned.Goals as goal
@@ -16,14 +17,14 @@ of-requires-clause-wide c =
     let e = c.as_slice.ensures in
     let m = orientation c.args.orient in
     let same = c.from_ordered.ensures ∙ c.put_in_order.ensures.same ∙ from_list-turned c.self.inside.list m _ _ e.cells c.in_ok-cells.ensures in
-    subst (λ G. width G ≤ 16777216) (sym same) (turned_width c.self.inside.list m _ c.self.invariant e.cells e.placed)
+    subst (λ G. width G ≤ extent_limit) (sym same) (turned_width c.self.inside.list m _ c.self.invariant e.cells e.placed)
 
 pub of-requires-clause-high : goal.of-requires-clause-high
 of-requires-clause-high c =
     let e = c.as_slice.ensures in
     let m = orientation c.args.orient in
     let same = c.from_ordered.ensures ∙ c.put_in_order.ensures.same ∙ from_list-turned c.self.inside.list m _ _ e.cells c.in_ok-cells.ensures in
-    subst (λ G. height G ≤ 16777216) (sym same) (turned_height c.self.inside.list m _ c.self.invariant e.cells e.placed)
+    subst (λ G. height G ≤ extent_limit) (sym same) (turned_height c.self.inside.list m _ c.self.invariant e.cells e.placed)
 
 pub returns : goal.returns
 returns c =

@@ -1,4 +1,4 @@
-use Rattle.life_slots.proofs.Inserted.{place_from_within}
+use Rattle.life_plane.proofs.Later.{place_from_within}
 use Rattle.life_tile.proofs.plane.TilePlanePlane.cells.Goals as goal
 
 pub from_ordered-requires-clause-placed : goal.from_ordered-requires-clause-placed

@@ -1,0 +1,14 @@
+-- The greatest numbers that are taken.
+use Rattle.std.specs.Prelude.{ℕ}
+
+-- the bound of `run`
+abbrev pub settles_bound_limit : ℕ
+settles_bound_limit = 1000000
+
+-- the bound of `objects` and of `identify`
+abbrev pub objects_bound_limit : ℕ
+objects_bound_limit = 100000
+
+-- the N of `advance`
+abbrev pub generation_limit : ℕ
+generation_limit = 4194304

@@ -1,0 +1,6 @@
+-- How large a report may be.
+use Rattle.std.specs.Prelude.{ℕ}
+
+-- the most collections of a report, and the most patterns of a collection
+abbrev pub count_limit : ℕ
+count_limit = 65535

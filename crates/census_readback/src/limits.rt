@@ -1,0 +1,4 @@
+//! How large a report may be.
+
+/// The most collections of a report, and the most patterns of a collection.
+pub const COUNT_LIMIT: u64 = 65_535;

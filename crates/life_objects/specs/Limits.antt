@@ -1,0 +1,6 @@
+-- Within how many generations objects are looked for.
+use Rattle.std.specs.Prelude.{ℕ}
+
+-- the greatest bound within which a set is taken apart into objects
+abbrev pub objects_bound_limit : ℕ
+objects_bound_limit = 100000
