@@ -14,7 +14,7 @@ use Rattle.census_format.specs.Reports.{run_of, has_all, end_if, folder_out, tex
 use Rattle.census_book.proofs.TicketSets.{has_other, has_kept}
 use Rattle.census_book.proofs.Runs.{run_same, run_before, run_within}
 use Rattle.census_book.proofs.Missing.{least_missing}
-use Rattle.census_bundle.specs.Sizes.{IsSmall}
+use Rattle.census_bundle.specs.Sizes.{IsSmall, count_limit}
 use Rattle.census_book.proofs.Releases.{all_each, all_not, run_none, folder_at, not_whole}
 use Rattle.census_book.proofs.Texts.{ticket_in}
 use Rattle.census_format.proofs.Owning.{eqb_same, eqb_apart}
@@ -185,7 +185,7 @@ folder_here (f ∷ fs) (suc k) lt = folder_here fs k (omega arith)
 
 -- the first open collection's run is followed by the least ticket that is missing
 pub first_missing : (b : List Folder) (taken : Tickets) (runs : List ℕ) (first k : ℕ) → IsFront b taken runs first → IsSmall b → (first ≡ length b → ⊥) → k ≡ get_or runs first k
-    → IsLeastMissing b taken (ticket (first + 1) (k + 1)) × (k ≤ 65535)
+    → IsLeastMissing b taken (ticket (first + 1) (k + 1)) × (k ≤ count_limit)
 first_missing b taken runs first k front small apart is =
     let lt : first < length b = let w = front.within in omega (arith, apart) in
     let f = folder_here b first lt in
@@ -195,7 +195,7 @@ first_missing b taken runs first k front small apart is =
     let within : run_of taken (suc first) f.0 ≤ length f.0.entries = run_within (λ i. has_ticket taken (ticket (suc first) i)) 1 f.0.entries in
     let part : run_of taken (suc first) f.0 ≡ length f.0.entries → ⊥ = λ e. front.part f.0 f.1 (ap (λ n. run_of taken n f.0) one ∙ e) in
     let less : k < length f.0.entries = omega (arith, part) in
-    let few : length f.0.entries ≤ 65535 = small.entries first f.0 f.1 in
+    let few : length f.0.entries ≤ count_limit = small.entries first f.0 f.1 in
     let m : suc first ≡ first + 1 = omega arith in
     let n : suc k ≡ k + 1 = omega arith in
     (subst (λ x. IsLeastMissing b taken (ticket x (k + 1))) m (subst (λ y. IsLeastMissing b taken (ticket (suc first) y)) n (least_missing b taken first k f.0 front.whole f.1 run less)), omega arith)

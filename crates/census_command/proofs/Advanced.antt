@@ -7,13 +7,13 @@ use Rattle.watched.specs.Watching.{AppendsFront}
 use Rattle.life_model.specs.Evolution.{generation}
 use Rattle.life_model.specs.Generation.{Generation}
 use Rattle.life_model.specs.Rule.{Rule}
+use Rattle.census_bundle.specs.Sizes.{input_limit}
 use Rattle.life_text.specs.Picture.{Picture, picture_of}
 use Rattle.life_text.specs.Rle.{reading}
 use Rattle.life_text.specs.RleText.{rle_text}
 use Rattle.census_crew.specs.Bytes.{ReadsText}
 use Rattle.census_folders.specs.Told.{GivesTold}
 use Rattle.census_errors.specs.Shelves.{Tellings}
-use Rattle.census_bundle.specs.Sizes.{input_limit}
 use Rattle.census_command.specs.Streams.{State}
 use Rattle.census_command.specs.Advances.{Advances, AdvancesFile, AdvancesFileInPart, AdvancesInPart, IsAdvanced}
 

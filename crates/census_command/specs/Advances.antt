@@ -2,6 +2,7 @@
 use Rattle.std.specs.Prelude.{◌≡◌, ℕ, ◌≤◌, List, length, Ok, Option, None, Some, []}
 use Rattle.std.specs.Io.KnownBytes.{Appends}
 use Rattle.watched.specs.Watching.{AppendsFront, ConsumesMoreThan}
+use Rattle.census_bundle.specs.Sizes.{input_limit}
 use Rattle.census_crew.specs.Bytes.{ReadsText}
 use Rattle.life_model.specs.Evolution.{generation}
 use Rattle.life_text.specs.Picture.{Picture, picture_of}
@@ -14,7 +15,6 @@ use Rattle.census_faults.specs.Spots.{spot_of_text}
 use Rattle.census_faults.specs.declared.fault.Fault.{Fault}
 use Rattle.census_faults.specs.declared.spot.Spot.{Spot}
 use Rattle.census_errors.specs.Shelves.{Tellings}
-use Rattle.census_bundle.specs.Sizes.{input_limit}
 use Rattle.census_command.specs.Streams.{IsUntouched, ReadFails, State, WriteFails, WritesNothing}
 use Rattle.census_errors.specs.declared.advance_error.AdvanceError.{AdvanceError}
 use Rattle.census_errors.specs.declared.advance_error.AdvanceError.TheVariants.{Text, TooLong, Memory, Read, Write}

@@ -3,7 +3,7 @@ use Rattle.std.proofs.Common.{◌≡◌, ℕ, suc, ◌+◌, ◌*◌, ◌^◌, �
 use Rattle.census_bundle.specs.declared.bundle.Entry.{Entry}
 use Rattle.census_bundle.specs.declared.bundle.Folder.{Folder}
 use Rattle.census_bundle.specs.declared.ticket.Ticket.{Ticket}
-use Rattle.census_bundle.specs.Sizes.{IsSmall}
+use Rattle.census_bundle.specs.Sizes.{IsSmall, count_limit}
 use Rattle.std.specs.FinSet.{contains-empty}
 use Rattle.census_bundle.specs.Tickets.{Tickets, ticket_cmp, ticket, no_tickets, element_at, entry_in, has_ticket, with_ticket, HasAll}
 use Rattle.life_answer.specs.declared.finding.Answer.{Answer}
@@ -43,16 +43,16 @@ taken_small : (has b : Bool) → cond has (one_if b) 0 ≤ 1
 taken_small true b = one_small b
 taken_small false b = omega arith
 
-times_small : (n : ℕ) → n ≤ 65535 → n * 1 ≤ 65535
+times_small : (n : ℕ) → n ≤ count_limit → n * 1 ≤ count_limit
 times_small n le = omega (arith, le)
 
-square_small : (n s : ℕ) → n ≤ 65535 → s ≤ n * 65535 → s < 2 ^ 62
+square_small : (n s : ℕ) → n ≤ count_limit → s ≤ n * count_limit → s < 2 ^ 62
 square_small n s le more = omega (arith, le, more)
 
 pub count_small : (kind : Answer → Bool) (b : List Folder) (question : Question) (taken : Tickets) → IsSmall b → taken_count kind b question taken < 2 ^ 62
 count_small kind b question taken small =
     square_small (length b) _ small.folders
-    (sum_small (λ c (f : Folder). numbered_sum (λ i (e : Entry). cond (has_ticket taken (ticket c i)) (one_if (kind (answer_to_entry question e))) 0) 1 f.entries) 65535 1 b
+    (sum_small (λ c (f : Folder). numbered_sum (λ i (e : Entry). cond (has_ticket taken (ticket c i)) (one_if (kind (answer_to_entry question e))) 0) 1 f.entries) count_limit 1 b
     (λ c k f is.
     let inner = sum_small (λ i (e : Entry). cond (has_ticket taken (ticket c i)) (one_if (kind (answer_to_entry question e))) 0) 1 1 f.entries
     (λ i j e at. taken_small (has_ticket taken (ticket c i)) (kind (answer_to_entry question e))) in

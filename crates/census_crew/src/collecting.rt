@@ -73,6 +73,11 @@ impl<'c, 'a, W: Write> Task for CollectTask<'c, 'a, W> {
 /// As many bytes are written although more results stand in the channel.
 const BLOCK_LEN: usize = 65_536;
 
+/// As many batches stand in the channel at most. A worker that has one more waits until the caller takes one, so that what
+/// was found takes no more memory where workers are faster than their caller. The caller waits for none of them while one
+/// stands there, and one that takes no more drops its end, by which each send fails at once.
+const CHANNEL_LEN: usize = 1_024;
+
 // Ties a reference that came back to the one that was lent.
 fn take_back<T>(lent: &mut T)
     ensures { lent.new ≡ lent.old }
@@ -97,7 +102,7 @@ impl<'a> RunState<'a> {
         ensures sent { IfOk result (λ s. s.collector.unsent ≡ []) }
         ensures told { IfErr result TellsNoTicket }
     {
-        let (to, from) = crossbeam_channel::unbounded(alloc)?;
+        let (to, from) = crossbeam_channel::bounded(alloc, CHANNEL_LEN)?;
         let bundle = self.bundle;
         let question = self.question;
         let task = CollectTask {

@@ -6,7 +6,7 @@ use crate::gate::{Gate, Passed, pass};
 use census_book::Done;
 use census_bundle::Bundle;
 use census_feed::Hand;
-use crossbeam_channel::{SendError, Sender};
+use crossbeam_channel::Sender;
 use life_answer::{Answer, Finding, Question};
 use std::alloc::Global;
 use std::hint::spin_loop;
@@ -74,8 +74,8 @@ fn first_batch<'a>(alloc: Global, beginning: &Mutex<()>) -> Batch<'a> {
     new_batch(alloc)
 }
 
-// Sends a batch and empties it, and says whether anybody is there to take it. Where there is no memory to send it, its
-// tickets are left to the caller.
+// Sends a batch and empties it, and says whether anybody is there to take it. Where as many stand in the channel as may, it
+// waits until one is taken.
 fn send_batch<'a, R: Wait>(
     rt: &R,
     alloc: Global,
@@ -83,7 +83,7 @@ fn send_batch<'a, R: Wait>(
     results: &Sender<Batch<'a>, Global>,
 ) -> bool {
     let full = mem::replace(batch, new_batch(alloc));
-    !matches!(results.send(rt, full), Err(SendError::Disconnected(_)))
+    results.send(rt, full).is_ok()
 }
 
 // What is found of a pattern whose worker passed the gate, where its first generations tell it and results wait: where none

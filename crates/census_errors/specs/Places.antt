@@ -2,6 +2,7 @@
 use Rattle.std.specs.Prelude.{◌≡◌, ◌⊎◌, ℕ, false, List, Option, None, Some, map, slice_get, if◌then◌else◌}
 use Rattle.std.specs.List.{FoldsTo}
 use Rattle.std.specs.Option.{option_copied, option_or}
+use Rattle.census_bundle.specs.Sizes.{input_limit}
 use Rattle.census_faults.specs.declared.fault.Fault.{Fault}
 use Rattle.census_faults.specs.declared.fault.Fault.TheVariants.{FileForFolder}
 use Rattle.census_folders.specs.Losses.{KeepsFolder, kept_at_start}
@@ -13,7 +14,6 @@ use Rattle.census_reports.specs.declared.error.ReportsError.{ReportsError}
 use Rattle.census_reports.specs.declared.error.ReportsError.TheVariants as reports
 use Rattle.census_cli.specs.declared.request.Request.{Request}
 use Rattle.census_cli.specs.declared.request.Request.TheVariants.{Run, Objects, Advance}
-use Rattle.census_bundle.specs.Sizes.{input_limit}
 use Rattle.census_errors.specs.Shelves.{Tellings}
 use Rattle.census_errors.specs.Sources as source
 use Rattle.census_errors.specs.Sources.{Source, source_of}

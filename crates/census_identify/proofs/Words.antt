@@ -2,8 +2,8 @@
 use Rattle.std.proofs.Common.{◌≡◌, ℕ, suc, ◌+◌, ◌<◌, false, List, [], ◌∷◌, ◌++◌, Bor, map, length, take, drop, get_or, refl, sym, ap, subst, ◌∙◌, append-nil, drop-cons, arith}
 use Rattle.std.proofs.lemmas.List.{map-append, map_more, take-append-drop}
 use Rattle.watched.specs.Watching.{ConsumesAtMost}
-use Rattle.census_folders.specs.Told.{Told as ToldOf}
 use Rattle.census_bundle.specs.Sizes.{input_limit}
+use Rattle.census_folders.specs.Told.{Told as ToldOf}
 use Rattle.census_identify.specs.Courses.{with_told}
 use Rattle.census_identify.specs.Errors.{error_line}
 use Rattle.census_identify.specs.Hearing.{Hearing, Hears, HearsEach, words_of}

@@ -7,8 +7,8 @@ use Rattle.std.specs.Io.KnownBytes.{Consumes, IsAtEnd}
 use Rattle.watched.specs.Watching.{ConsumesMoreThan}
 use Rattle.watched.specs.declared.reading.ReadFault.{ReadFault}
 use Rattle.watched.specs.declared.reading.ReadFault.TheVariants as reads
-use Rattle.census_folders.specs.Told.{Told, GivesTold, MayExceed, MayFail}
 use Rattle.census_bundle.specs.Sizes.{input_limit}
+use Rattle.census_folders.specs.Told.{Told, GivesTold, MayExceed, MayFail}
 use Rattle.census_identify.specs.Streams.{Source}
 use Rattle.census_identify.specs.declared.heard.Heard.{Heard}
 use Rattle.census_identify.specs.declared.heard.Heard.TheVariants.{Text, TooLong, Unread}

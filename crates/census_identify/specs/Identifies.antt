@@ -1,8 +1,8 @@
 -- What is read and written where words are identified, one after another.
 use Rattle.std.specs.Prelude.{◌≡◌, ◌⊎◌, ℕ, ◌+◌, List, [], ◌∷◌, ◌++◌, codes}
 use Rattle.watched.specs.Watching.{ConsumesAtMost}
-use Rattle.census_folders.specs.Told.{Told}
 use Rattle.census_bundle.specs.Sizes.{input_limit}
+use Rattle.census_folders.specs.Told.{Told}
 use Rattle.census_identify.specs.Errors.{error_line, error_status}
 use Rattle.census_identify.specs.Hearing.{Hearing, HearsEach, words_of}
 use Rattle.census_identify.specs.Streams.{Source, Streams, Tells, Writes, WritesBetween}

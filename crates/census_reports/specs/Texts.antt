@@ -1,11 +1,11 @@
 -- The texts of words, one after another.
 use Rattle.std.specs.Prelude.{◌≡◌, ℕ, ◌+◌, false, List, [], ◌∷◌, ◌++◌}
 use Rattle.watched.specs.Watching.{ConsumesAtMost}
+use Rattle.census_bundle.specs.Sizes.{input_limit}
 use Rattle.census_folders.specs.Told.{Told}
 use Rattle.census_identify.specs.Hearing.{Hears}
 use Rattle.census_identify.specs.Streams.{Source}
 use Rattle.census_identify.specs.declared.heard.Heard.TheVariants as heard
-use Rattle.census_bundle.specs.Sizes.{input_limit}
 use Rattle.census_reports.specs.declared.error.ReportsError.{ReportsError}
 use Rattle.census_reports.specs.declared.error.ReportsError.TheVariants.{TooLong, Memory, Read}
 

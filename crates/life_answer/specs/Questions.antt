@@ -3,10 +3,10 @@ use Rattle.std.specs.Prelude.{◌≤◌, ℕ, ◌*◌, List, Result, Ok, Err}
 use Rattle.std.specs.Coded.{Coded}
 use Rattle.life_model.specs.Rule.{Rule}
 use Rattle.life_model.specs.Generation.{Generation}
+use Rattle.life_objects.specs.Limits.{objects_bound_limit}
 use Rattle.life_text.specs.declared.rle.RleFault.{RleFault}
 use Rattle.life_text.specs.Rle.{reading}
 use Rattle.life_text.specs.Picture.{Picture, picture_of}
-use Rattle.life_objects.specs.Limits.{objects_bound_limit}
 use Rattle.life_answer.specs.contracts.question.Question as question_row
 use Rattle.life_answer.specs.declared.finding.Answer.{Answer}
 use Rattle.life_answer.specs.declared.finding.Answer.TheVariants.{Found, Refused}

@@ -2,8 +2,8 @@
 ghost use Rattle.std.specs.Prelude.{◌≡◌, All, IfOk, IfSome, IsTrue};
 ghost use Rattle.life_model.specs.Generation.{cells};
 ghost use Rattle.life_cells.specs.Limits.{IsWithin};
-ghost use Rattle.life_answer.specs.Apgcode.{code_of};
 ghost use Rattle.life_ash.specs.Parts.{ash_age_limit};
+ghost use Rattle.life_answer.specs.Apgcode.{code_of};
 ghost use Rattle.life_census.specs.Courses.{course_code};
 
 use crate::code::code_of;

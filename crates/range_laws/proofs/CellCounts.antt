@@ -4,7 +4,7 @@ use Rattle.std.specs.List.{All, AllPairs}
 use Rattle.std.specs.Ordering.{int_cmp}
 use Rattle.std.proofs.lemmas.Int.{ints}
 use Rattle.std.proofs.lemmas.List.Elements.{All-head, All-tail, All-weaker}
-use Rattle.life_cells.specs.Limits.{IsWithin}
+use Rattle.life_cells.specs.Limits.{IsWithin, age_limit}
 use Rattle.life_model.specs.Cell.{Cell, cell_cmp}
 use Rattle.life_model.specs.Evolution.{generation}
 use Rattle.life_model.specs.Generation.{Generation, below_all, cells, contains, empty, from_list, is_rising, size}
@@ -27,7 +27,7 @@ use Rattle.life_slots.proofs.Sizes.{below_has, both_hold, int_less, int_same, le
 abbrev rank : Cell → ℤ
 rank c = c.1 *ℤ pos 16777216 +ℤ c.0
 
-rank_rises : (age : ℕ) (a b : Cell) → age ≤ 4194304 → IsWithin age a → IsWithin age b → cell_cmp a b ≡ Less
+rank_rises : (age : ℕ) (a b : Cell) → age ≤ age_limit → IsWithin age a → IsWithin age b → cell_cmp a b ≡ Less
     → (rank a +ℤ pos 1) ≤ℤ rank b
 rank_rises age a b young in_a in_b less =
     ⊎_elim
@@ -45,7 +45,7 @@ one_more : (low here : ℤ) (n : ℕ) → low ≤ℤ here → ((here +ℤ pos 1)
 one_more low here n first rest = omega (arith, ints)
 
 -- no more cells than there are places from the least one on
-few_from : (age : ℕ) → age ≤ 4194304 → (cs : List Cell) → T (is_rising cs) → ((q : Cell) → Has cs q → IsWithin age q)
+few_from : (age : ℕ) → age ≤ age_limit → (cs : List Cell) → T (is_rising cs) → ((q : Cell) → Has cs q → IsWithin age q)
     → (low : ℤ) → low ≤ℤ pos 90000000000000 → ((q : Cell) → Has cs q → low ≤ℤ rank q)
     → (low +ℤ pos (length cs)) ≤ℤ pos 90000000000000
 few_from age young [] rising within low below least = omega (arith, ints)
@@ -59,13 +59,13 @@ few_from age young (c ∷ cs) rising within low below least =
     (λ q has. rank_rises age c q young here (within q (has_tail c q cs has)) (below_has c cs parts.0 q has)) in
     one_more low (rank c) (length cs) first rest
 
-lowest : (age : ℕ) (q : Cell) → age ≤ 4194304 → IsWithin age q → negsuc 80000000000000 ≤ℤ rank q
+lowest : (age : ℕ) (q : Cell) → age ≤ age_limit → IsWithin age q → negsuc 80000000000000 ≤ℤ rank q
 lowest age q young within = omega (arith, ints, within.left, within.above)
 
 count_small : (n : ℕ) → (negsuc 80000000000000 +ℤ pos n) ≤ℤ pos 90000000000000 → n ≤ 2 ^ 48
 count_small n few = omega (arith, ints)
 
-pub few_cells : (G : Generation) (age : ℕ) → age ≤ 4194304 → ((q : Cell) → contains G q ≡ true → IsWithin age q)
+pub few_cells : (G : Generation) (age : ℕ) → age ≤ age_limit → ((q : Cell) → contains G q ≡ true → IsWithin age q)
     → size G ≤ 2 ^ 48
 few_cells G age young each =
     let within : (q : Cell) → Has (cells G) q → IsWithin age q = λ q has. each q (member_has G q has) in
@@ -112,7 +112,7 @@ apart_now R parts apart = AllPairs-weaker (AreApartForEver R) AreApart (λ P Q f
 
 -- no part is without a cell, and no cell is in two parts
 pub few_parts : (R : Rule) (b : ℕ) (G : Generation) (parts : List Generation) → IsAsh R b G parts
-    → (age : ℕ) → age ≤ 4194304 → ((q : Cell) → contains G q ≡ true → IsWithin age q) → length parts ≤ 2 ^ 48
+    → (age : ℕ) → age ≤ age_limit → ((q : Cell) → contains G q ≡ true → IsWithin age q) → length parts ≤ 2 ^ 48
 few_parts R b G parts ash age young each =
     let some = All-weaker (IsObject R b) (λ P. P ≢ empty) (λ P object. object.nonempty) parts ash.objects in
     let of = chosen parts some (apart_now R parts ash.apart) in

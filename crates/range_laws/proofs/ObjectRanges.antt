@@ -5,7 +5,7 @@ use Rattle.std.specs.declared.cmp.Ordering.{Ordering}
 use Rattle.std.specs.declared.cmp.Ordering.TheVariants.{Less, Equal, Greater}
 use Rattle.std.proofs.lemmas.List.{length-append, length-map}
 use Rattle.std.proofs.lemmas.List.Elements.{All-head, All-tail}
-use Rattle.census_bundle.specs.Sizes.{IsSmall}
+use Rattle.census_bundle.specs.Sizes.{IsSmall, count_limit}
 use Rattle.census_bundle.specs.declared.bundle.Entry.{Entry}
 use Rattle.census_bundle.specs.declared.bundle.Folder.{Folder}
 use Rattle.census_format.specs.Lines.{answer_to_entry, answers}
@@ -40,6 +40,7 @@ use Rattle.life_model.specs.Symmetry.{translate_of}
 use Rattle.life_model.proofs.Generations.{cells-from_list}
 use Rattle.life_model.proofs.Recurrences.{generation-zero}
 use Rattle.life_objects.specs.Ash.{IsObject}
+use Rattle.life_objects.specs.Limits.{objects_bound_limit}
 use Rattle.life_shape.specs.TextOrder.{least_text, shorter_cmp}
 use Rattle.life_text.specs.Picture.{picture_of}
 use Rattle.life_text.specs.Reader.{cell_of_pair}
@@ -135,7 +136,7 @@ unless-ranged : (found : Finding) (population : ℕ) (large : Option ℕ) → Is
 unless-ranged found population None h few early = h
 unless-ranged found population (Some n) h few early = (few, early n refl)
 
-module _ (R : Rule) (G : Generation) (b : ℕ) (few : b ≤ 100000) (within : All (IsWithin 0) (cells G)) where
+module _ (R : Rule) (G : Generation) (b : ℕ) (few : b ≤ objects_bound_limit) (within : All (IsWithin 0) (cells G)) where
   abbrev last : Generation
   last = generation R G b
 
@@ -250,7 +251,7 @@ all-told [] h = tt
 all-told (a ∷ found) h = (answer-told a h.0, all-told found h.1)
 
 module _ (bound : ℕ) (limit : Option ℕ) (answered : IsAnswered (Objects bound limit)) where
-  folder-told : (f : Folder) → length f.entries ≤ 65535 → IsToldFolder (Objects bound limit) f
+  folder-told : (f : Folder) → length f.entries ≤ count_limit → IsToldFolder (Objects bound limit) f
   folder-told f small =
       let found = answers (Objects bound limit) f.entries in
       let each = each-map IsRangedAnswer (answer_to_entry (Objects bound limit)) (entry-ranged bound limit answered) f.entries in
@@ -259,7 +260,7 @@ module _ (bound : ℕ) (limit : Option ℕ) (answered : IsAnswered (Objects boun
       let fits : length (objects found) < 2 ^ 64 = omega arith in
       (all-told found each, fits)
 
-  folders-told : (b : List Folder) → ((j : ℕ) (f : Folder) → slice_get b j ≡ Some f → length f.entries ≤ 65535)
+  folders-told : (b : List Folder) → ((j : ℕ) (f : Folder) → slice_get b j ≡ Some f → length f.entries ≤ count_limit)
       → InRange b (Objects bound limit)
   folders-told [] small = tt
   folders-told (f ∷ b) small = (folder-told f (small 0 f refl), folders-told b (λ j g. small (suc j) g))

@@ -3,7 +3,7 @@ use Rattle.std.proofs.Common.{◌≡◌, ℕ, suc, ◌+◌, ◌<◌, ◌≤◌, 
 use Rattle.std.specs.Prelude.{⊤}
 use Rattle.std.specs.List.{AllByRecursion as Each}
 use Rattle.std.proofs.lemmas.List.{length-map}
-use Rattle.census_bundle.specs.Sizes.{IsSmall}
+use Rattle.census_bundle.specs.Sizes.{IsSmall, count_limit}
 use Rattle.census_bundle.specs.declared.bundle.Entry.{Entry}
 use Rattle.census_bundle.specs.declared.bundle.Folder.{Folder}
 use Rattle.census_format.specs.Lines.{answer_to_entry, answers}
@@ -14,7 +14,7 @@ use Rattle.life_answer.proofs.Texts.{answer-no_ash}
 use Rattle.life_answer.specs.Answers.{fault_number, finding_of, recurrence_finding}
 use Rattle.life_answer.specs.Apgcode.{bodies, code_of, prefix}
 use Rattle.life_answer.specs.Limited.{first_past, finding_unless_large, unless_large}
-use Rattle.life_answer.specs.Questions.{IsAnswered, answer_to, answer_to_question}
+use Rattle.life_answer.specs.Questions.{IsAnswered, answer_to, answer_to_question, settles_bound_limit}
 use Rattle.life_answer.specs.declared.finding.Answer.{Answer}
 use Rattle.life_answer.specs.declared.finding.Answer.TheVariants.{Found, Refused}
 use Rattle.life_answer.specs.declared.finding.Finding.{Finding}
@@ -83,7 +83,7 @@ whole-objects (Refused number ∷ found) h = let most = whole-objects found h.1 
 -- ---- what is found of a set
 
 module _ (R : Rule) (G : Generation) (b : ℕ) (textual : IsTextual G) where
-  settled-told : (onset period : ℕ) (d : Cell) → b ≤ 1000000 → IsSettling R G b onset period d
+  settled-told : (onset period : ℕ) (d : Cell) → b ≤ settles_bound_limit → IsSettling R G b onset period d
       → IsTold (recurrence_finding R G onset period d)
   settled-told onset period d low s =
       let both = onset-period-least R G b onset period d s b onset s.settles in
@@ -96,7 +96,7 @@ module _ (R : Rule) (G : Generation) (b : ℕ) (textual : IsTextual G) where
       let code = code-some R (generation R G onset) period d in
       (textual.few, omega (arith, both, low), omega (arith, both, low), fits.0, fits.1, code)
 
-  pub found-told : b ≤ 1000000 → IsTold (finding_of R G b)
+  pub found-told : b ≤ settles_bound_limit → IsTold (finding_of R G b)
   found-told low = ⊎_elim
       (λ some. subst IsTold (sym some.found) (settled-told some.onset some.period some.by low some.settles))
       (λ none. subst IsTold (sym none.found) textual.few)
@@ -154,14 +154,14 @@ module _ (bound : ℕ) (cells : Option ℕ) (answered : IsAnswered (Settles boun
         | false ↦ answer-whole e.text (answer_to_question (Settles bound cells) e.text) refl
       ]
 
-  folder-is-told : (f : Folder) → length f.entries ≤ 65535 → IsToldFolder (Settles bound cells) f
+  folder-is-told : (f : Folder) → length f.entries ≤ count_limit → IsToldFolder (Settles bound cells) f
   folder-is-told f few =
       let found = answers (Settles bound cells) f.entries in
       let most = whole-objects found (each-map IsWholeAnswer (answer_to_entry (Settles bound cells)) entry-whole f.entries) in
       let count = length-map f.entries (answer_to_entry (Settles bound cells)) in
       (each-map IsToldAnswer (answer_to_entry (Settles bound cells)) entry-is-told f.entries, omega (arith, most, count, few))
 
-  folders-are-told : (b : List Folder) → ((k : ℕ) (f : Folder) → slice_get b k ≡ Some f → length f.entries ≤ 65535)
+  folders-are-told : (b : List Folder) → ((k : ℕ) (f : Folder) → slice_get b k ≡ Some f → length f.entries ≤ count_limit)
       → Each (IsToldFolder (Settles bound cells)) b
   folders-are-told [] few = tt
   folders-are-told (f ∷ b) few = (folder-is-told f (few 0 f refl), folders-are-told b (λ k g. few (suc k) g))

@@ -5,7 +5,7 @@ use Rattle.std.proofs.Math.Nat.{eq-or-lt_of_le}
 use Rattle.std.proofs.lemmas.Int.{ints}
 use Rattle.std.proofs.lemmas.List.{length-map}
 use Rattle.life_answer.proofs.Sizes.{size-from_list}
-use Rattle.life_cells.specs.Limits.{IsWithin}
+use Rattle.life_cells.specs.Limits.{IsWithin, place_limit}
 use Rattle.life_model.proofs.Cells.{plus-opposite}
 use Rattle.life_model.proofs.Generations.{cells-from_list}
 use Rattle.life_model.proofs.Moves.{nothing_or_some}
@@ -68,13 +68,13 @@ moved-fits age later G d young soon here there unmoved = ⊎_elim
 -- ---- the cells of a text
 
 -- cells that rise from a place on are no more than the places from there on, row by row
-few-rising : (y x : ℕ) (cs : List (ℕ × ℕ)) → y < 1048576 → x ≤ 1048576 → RisesFrom y x cs
-    → 1048576 * y + x + length cs ≤ 1099511627776
+few-rising : (y x : ℕ) (cs : List (ℕ × ℕ)) → y < place_limit → x ≤ place_limit → RisesFrom y x cs
+    → place_limit * y + x + length cs ≤ 1099511627776
 few-rising y x [] high wide h = omega arith
 few-rising y x (c ∷ cs) high wide h =
     let low : y ≤ c.1 = h.0 in
-    let right : c.0 < 1048576 = h.2 in
-    let down : c.1 < 1048576 = h.3 in
+    let right : c.0 < place_limit = h.2 in
+    let down : c.1 < place_limit = h.3 in
     let others = few-rising c.1 (c.0 + 1) cs down (omega (arith, right)) h.4 in
     ⊎_elim
     (λ same. let beside : x ≤ c.0 = h.1 same in omega (arith, same, beside, others))

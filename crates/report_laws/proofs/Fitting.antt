@@ -2,6 +2,7 @@
 use Rattle.std.proofs.Common.{◌≡◌, ℕ, ◌+◌, ◌-◌, ◌*◌, ◌<◌, ◌≤◌, ◌^◌, ◌&&◌, cond, leb, Option, Some, None as Nothing, List, [], ◌∷◌, ◌++◌, ap, ◌∙◌, refl, arith, length, length-append, append_assoc}
 use Rattle.std.proofs.lemmas.Bool.{le-leb}
 use Rattle.census_bundle.specs.declared.bundle.Folder.{Folder}
+use Rattle.census_bundle.specs.Sizes.{count_limit}
 use Rattle.census_format.specs.Lines.{pattern_count}
 use Rattle.census_merge.specs.declared.report_sums.Sums.{Sums}
 use Rattle.census_merge.specs.Sums.{first_excess, no_sums, sums_plus, with_more}
@@ -33,15 +34,15 @@ excess-groups report s (g ∷ groups) rest h =
 abbrev sums : List Folder → Sums
 sums b = record { collections = length b; patterns = pattern_count b }
 
-within : (s : Sums) (b : List Folder) → s.collections + length b ≤ 65535 → s.patterns + pattern_count b < 2 ^ 64 → with_more s (sums b) ≡ Some (sums_plus s (sums b))
+within : (s : Sums) (b : List Folder) → s.collections + length b ≤ count_limit → s.patterns + pattern_count b < 2 ^ 64 → with_more s (sums b) ≡ Some (sums_plus s (sums b))
 within s b few small =
-    let collections = le-leb (length b) (65535 - s.collections) (omega arith) in
+    let collections = le-leb (length b) (count_limit - s.collections) (omega arith) in
     let patterns = le-leb (pattern_count b) (2 ^ 64 - 1 - s.patterns) (omega arith) in
     ap (λ v. cond (v && leb (pattern_count b) (2 ^ 64 - 1 - s.patterns)) (Some (sums_plus s (sums b))) Nothing) collections
     ∙ ap (λ v. cond v (Some (sums_plus s (sums b))) Nothing) patterns
 
 none-too-many : (question : Question) (report : ℕ) (s : Sums) (parts : List (List Folder)) (reports : List (List Row)) → EachTells question parts reports
-    → s.collections + length (bundles parts) ≤ 65535 → s.patterns + pattern_count (bundles parts) < 2 ^ 64 → first_excess report s (all_rows reports) ≡ Nothing
+    → s.collections + length (bundles parts) ≤ count_limit → s.patterns + pattern_count (bundles parts) < 2 ^ 64 → first_excess report s (all_rows reports) ≡ Nothing
 none-too-many question report s [] [] h few small = refl
 none-too-many question report s [] (rows ∷ reports) h few small = absurd h
 none-too-many question report s (b ∷ parts) [] h few small = absurd h
@@ -57,7 +58,7 @@ none-too-many question report s (b ∷ parts) (rows ∷ reports) h few small =
     ∙ ap (going_on report s others) (within s b (omega arith) (omega arith))
     ∙ none-too-many question (report + 1) (sums_plus s (sums b)) parts reports h.1 (omega arith) (omega arith)
 
-few-joined : (parts : List (List Folder)) → AreBundles parts → pattern_count (bundles parts) ≤ 65535 * length (bundles parts)
+few-joined : (parts : List (List Folder)) → AreBundles parts → pattern_count (bundles parts) ≤ count_limit * length (bundles parts)
 few-joined [] h = omega arith
 few-joined (b ∷ parts) h =
     let here = few-in b h.0.0.entries in
@@ -67,7 +68,7 @@ few-joined (b ∷ parts) h =
     omega arith
 
 pub fitting : (question : Question) (parts : List (List Folder)) (reports : List (List Row)) → AreBundles parts → EachTells question parts reports
-    → length (bundles parts) ≤ 65535 → first_excess 1 no_sums (all_rows reports) ≡ Nothing
+    → length (bundles parts) ≤ count_limit → first_excess 1 no_sums (all_rows reports) ≡ Nothing
 fitting question parts reports bundled h small =
     let patterns = few-joined parts bundled in
     none-too-many question 1 no_sums parts reports h (omega arith) (omega arith)

@@ -3,6 +3,7 @@ use Rattle.std.proofs.Common.{◌≡◌, ℕ, suc, ◌+◌, ◌≤◌, Bool, tru
 use Rattle.std.proofs.lemmas.List.Sums.{sum_by-cons}
 use Rattle.census_bundle.specs.declared.bundle.Entry.{Entry}
 use Rattle.census_bundle.specs.declared.bundle.Folder.{Folder}
+use Rattle.census_bundle.specs.Sizes.{count_limit}
 use Rattle.census_format.specs.Lines.{answer_to_entry, answers}
 use Rattle.census_format.specs.Lines as book
 use Rattle.census_format.specs.Objects.{Object}
@@ -140,7 +141,7 @@ module _ (question : Question) (c : ℕ) (f : Folder) where
   lines-are : AreLines 0 false the_lines
   lines-are = ordered question c 0 1 false f.entries refl
 
-  pub section-formed : length f.entries ≤ 65535 → IsSection (all_rows (section_rows question c f))
+  pub section-formed : length f.entries ≤ count_limit → IsSection (all_rows (section_rows question c f))
   section-formed few = record {
     first = open_row c f;
     lines = the_lines;

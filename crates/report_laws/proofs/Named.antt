@@ -6,7 +6,7 @@ use Rattle.std.proofs.lemmas.Option.{slice_get_past}
 use Rattle.census_bundle.specs.declared.bundle.Entry.{Entry}
 use Rattle.census_bundle.specs.declared.bundle.Folder.{Folder}
 use Rattle.census_bundle.specs.Names.{HasLawfulNames, IsNamedEntry, IsNamedFolder, is_name, is_name_byte}
-use Rattle.census_bundle.specs.Sizes.{IsSmall}
+use Rattle.census_bundle.specs.Sizes.{IsSmall, count_limit}
 use Rattle.census_format.specs.Lines.{answer_fields, answer_to_entry, answers, is_refused, is_resolved, is_unresolved, pattern_count}
 use Rattle.census_format.specs.Objects.{Object, objects, same_object, tally}
 use Rattle.census_readback.specs.Texts.{HasNoFeed}
@@ -134,7 +134,7 @@ few-collections question b h (suc k) = ⊎_elim
     (λ some. inr (omega (arith, h.folders)))
     (eq-zero-or-pos (length b - k))
 
-pub few-in : (b : List Folder) → ((k : ℕ) (f : Folder) → slice_get b k ≡ Some f → length f.entries ≤ 65535) → pattern_count b ≤ 65535 * length b
+pub few-in : (b : List Folder) → ((k : ℕ) (f : Folder) → slice_get b k ≡ Some f → length f.entries ≤ count_limit) → pattern_count b ≤ count_limit * length b
 few-in [] h = omega arith
 few-in (f ∷ b) h =
     let here = h 0 f refl in

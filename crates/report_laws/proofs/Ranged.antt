@@ -4,7 +4,7 @@ use Rattle.std.specs.List.{AllByRecursion as Each}
 use Rattle.std.proofs.lemmas.List.{length-map}
 use Rattle.std.proofs.lemmas.List.Sums.{count_by-le-length}
 use Rattle.std.proofs.lemmas.Option.{slice_get_past}
-use Rattle.census_bundle.specs.Sizes.{IsSmall}
+use Rattle.census_bundle.specs.Sizes.{IsSmall, count_limit}
 use Rattle.census_bundle.specs.declared.bundle.Entry.{Entry}
 use Rattle.census_bundle.specs.declared.bundle.Folder.{Folder}
 use Rattle.census_format.specs.Lines.{answer_to_entry, answers, is_refused, is_resolved, is_unresolved}
@@ -99,13 +99,13 @@ codes-fit c [] a h k few = tt
 codes-fit c (x ∷ ones) a h k few =
     (((refl, refl, (a, rule-word x.0.rule, word x.0.code k.0 h.0, few.0)), tt), codes-fit c ones a h.1 k.1 few.1)
 
-few-that : (test : Answer → Bool) (question : Question) (es : List Entry) → length es ≤ 65535 → count_by test (answers question es) < 2 ^ 64
+few-that : (test : Answer → Bool) (question : Question) (es : List Entry) → length es ≤ count_limit → count_by test (answers question es) < 2 ^ 64
 few-that test question es few =
     let most = count_by-le-length test (answers question es) in
     let all = length-map es (answer_to_entry question) in
     omega (arith, most, all, few)
 
-section-fit : (question : Question) (c : ℕ) (f : Folder) → c < 2 ^ 64 → length f.entries ≤ 65535 → IsToldFolder question f
+section-fit : (question : Question) (c : ℕ) (f : Folder) → c < 2 ^ 64 → length f.entries ≤ count_limit → IsToldFolder question f
     → Each (Each (IsFit c)) (section_rows question c f)
 section-fit question c f a few h =
     let all = objects (answers question f.entries) in
@@ -122,7 +122,7 @@ section-fit question c f a few h =
           (each-append (Each (IsFit c)) coded last counted closes),
     )
 
-at-fit : (question : Question) (c : ℕ) (b : List Folder) (k : ℕ) → c < 2 ^ 64 → ((j : ℕ) (f : Folder) → slice_get b j ≡ Some f → length f.entries ≤ 65535)
+at-fit : (question : Question) (c : ℕ) (b : List Folder) (k : ℕ) → c < 2 ^ 64 → ((j : ℕ) (f : Folder) → slice_get b j ≡ Some f → length f.entries ≤ count_limit)
     → Each (IsToldFolder question) b → Each (Each (IsFit c)) (optional_rows question c (slice_get b k))
 at-fit question c [] k a few h = tt
 at-fit question c (f ∷ b) zero a few h = section-fit question c f a (few 0 f refl) h.0

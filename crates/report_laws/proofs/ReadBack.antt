@@ -1,6 +1,7 @@
 -- Reports that are read back tell their bundles.
 use Rattle.std.proofs.Common.{◌≡◌, None as Nothing, ℕ, ◌<◌, ◌≤◌, ◌^◌, List, [], ◌∷◌, ◌++◌, length, ap, ◌∙◌, sym, refl, arith, append-nil, append_assoc}
 use Rattle.census_bundle.specs.declared.bundle.Folder.{Folder}
+use Rattle.census_bundle.specs.Sizes.{count_limit}
 use Rattle.census_format.specs.Lines.{end_line, pattern_count}
 use Rattle.census_format.specs.Reports.{IsReport, owned_text}
 use Rattle.census_merge.specs.Merged.{merged_rows}
@@ -103,7 +104,7 @@ merged-report question parts reports rows small h read =
     })
 
 pub fitting-reports : (question : Question) (parts : List (List Folder)) (reports : List (List ℕ)) (rows : List Row)
-    → AreBundles parts → EachIsReport question parts reports → IsReadBack rows (texts reports) → length (bundles parts) ≤ 65535 → first_excess 1 no_sums rows ≡ Nothing
+    → AreBundles parts → EachIsReport question parts reports → IsReadBack rows (texts reports) → length (bundles parts) ≤ count_limit → first_excess 1 no_sums rows ≡ Nothing
 fitting-reports question parts reports rows small h read fit =
     let all = cut-reports question parts reports rows small h read.lines (sym read.whole) in
     ap (first_excess 1 no_sums) all.whole ∙ fitting question parts all.reports small all.tell fit

@@ -3,6 +3,7 @@ use Rattle.std.proofs.Common.{◌≡◌, ℕ, zero, suc, ◌-◌, ◌<◌, ◌�
 use Rattle.std.specs.List.{AllByRecursion as Each}
 use Rattle.std.proofs.lemmas.Option.{slice_get_past}
 use Rattle.census_bundle.specs.declared.bundle.Folder.{Folder}
+use Rattle.census_bundle.specs.Sizes.{count_limit}
 use Rattle.census_format.specs.Lines.{end_line, pattern_count}
 use Rattle.census_format.specs.Reports.{IsReport}
 use Rattle.census_readback.specs.Shapes.{AreOf, IsSection, IsWhole, all_rows, patterns_in, rows_of}
@@ -66,7 +67,7 @@ placed-of : (most : ℕ) (rows : List Row) → Each (λ row. IsPlaced most (coll
 placed-of most [] h = tt
 placed-of most (row ∷ rows) h = (h.0.1, h.0.2, placed-of most rows h.1)
 
-formed-at : (question : Question) (c : ℕ) (b : List Folder) (k : ℕ) → k < length b → ((j : ℕ) (f : Folder) → slice_get b j ≡ Some f → length f.entries ≤ 65535)
+formed-at : (question : Question) (c : ℕ) (b : List Folder) (k : ℕ) → k < length b → ((j : ℕ) (f : Folder) → slice_get b j ≡ Some f → length f.entries ≤ count_limit)
     → IsSection (all_rows (optional_rows question c (slice_get b k)))
 formed-at question c [] k less few = absurd (omega arith)
 formed-at question c (f ∷ b) zero less few = section-formed question c f (few 0 f refl)

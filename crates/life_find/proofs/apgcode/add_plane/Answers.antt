@@ -1,7 +1,7 @@
 use Rattle.std.proofs.Common.{◌≤◌, ◌+◌, sym, subst, arith}
 use Rattle.life_model.specs.Box.{width, height}
-use Rattle.life_shape.proofs.Boxes.{width_at_age, height_at_age}
 use Rattle.life_cells.specs.Limits.{extent_limit, place_limit}
+use Rattle.life_shape.proofs.Boxes.{width_at_age, height_at_age}
 use Rattle.life_find.proofs.apgcode.add_plane.Goals as goal
 
 pub add-requires-clause-wide : goal.add-requires-clause-wide
