@@ -106,7 +106,7 @@ module _ (cs : List Cell) (m : Orientation) (f : Frame) where
       ∙ list_any-alike (same_cell (back_from m f q)) (λ c. same_cell q (cell_in_frame m f c)) (λ c. sym (same_cell-forth (cell_in_frame m f) (back_from m f) (placed_inverse m f) q c)) cs
       ∙ sym (list_any-map (same_cell q) (cell_in_frame m f) cs)
 
-  contains-normal_placed : Framed (image_under (from_list cs) m) f → (q : Cell) → contains (normal (image_under (from_list cs) m)) q ≡ list_any (same_cell q) (map (cell_in_frame m f) cs)
+  pub contains-normal_placed : Framed (image_under (from_list cs) m) f → (q : Cell) → contains (normal (image_under (from_list cs) m)) q ≡ list_any (same_cell q) (map (cell_in_frame m f) cs)
   unfolding normal
   contains-normal_placed h q =
       ap (λ k. contains (translate_of (image_under (from_list cs) m) (opposite k)) q) (corner_framed (image_under (from_list cs) m) f h) ∙ contains-placed q

@@ -84,7 +84,7 @@ column_within k strips x wide h l = let more = mul-le-mul_right wide h in omega 
 later_strip : (k q x p wide : ℕ) → k < q → x < wide → k * wide + x < q * wide + p
 later_strip k q x p wide h l = let more = mul-le-mul_right wide h in omega arith
 
-apart : (k q x p wide : ℕ) → x < wide → p < wide → k ≢ q → k * wide + x ≢ q * wide + p
+pub apart : (k q x p wide : ℕ) → x < wide → p < wide → k ≢ q → k * wide + x ≢ q * wide + p
 apart k q x p wide h l differ =
     elim (eqb_tells (k - q) 0) [
       | inl e ↦
@@ -100,7 +100,7 @@ apart k q x p wide h l differ =
 -- ---- one cell after another
 
 module _ (d : Cell → Cell) (cells : List Cell) (i : ℕ) where
-  weights_more : (k x : ℕ) → i < length cells → weights k (map d (take (i + 1) cells)) x ≡ weights k (map d (take i cells)) x + weight k x (d (get_or cells i origin))
+  pub weights_more : (k x : ℕ) → i < length cells → weights k (map d (take (i + 1) cells)) x ≡ weights k (map d (take i cells)) x + weight k x (d (get_or cells i origin))
   weights_more k x h =
       let one = d (get_or cells i origin) in
       let last = sum_by-cons (weight k x) one [] in

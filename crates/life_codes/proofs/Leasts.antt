@@ -73,15 +73,6 @@ two_again least a b =
     ap (λ l. with_text l b) (either_first one b a ∙ ap (λ l. with_text l b) (taken_again least a))
     ∙ taken_again one b
 
--- nor after two more
-pub two_later : (least : Option (List ℕ)) (a b c d : List ℕ) → with_text (with_text least a) b ≡ least → with_text (with_text (with_text (with_text least c) d) a) b ≡ with_text (with_text least c) d
-two_later least a b c d e =
-    ap (λ l. with_text l b) (either_first (with_text least c) d a)
-    ∙ either_first (with_text (with_text least c) a) d b
-    ∙ ap (λ l. with_text (with_text l b) d) (either_first least c a)
-    ∙ ap (λ l. with_text l d) (either_first (with_text least a) c b)
-    ∙ ap (λ l. with_text (with_text l c) d) e
-
 -- it is all one which two are taken first
 pub either_two : (least : Option (List ℕ)) (a b c d : List ℕ) → with_text (with_text (with_text (with_text least a) b) c) d ≡ with_text (with_text (with_text (with_text least c) d) a) b
 either_two least a b c d =

@@ -8,3 +8,7 @@ pub mod Phases
 pub mod Firsts
 pub mod Worded
 pub mod Marked
+pub mod Rows
+pub mod Counts
+pub mod WideWorded
+pub mod WideMarked

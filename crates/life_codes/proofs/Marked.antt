@@ -1,97 +1,26 @@
--- Columns as they are marked one after another, and what the marks tell of the texts of the cells.
-use Rattle.std.proofs.Common.{◌≡◌, ℕ, ◌+◌, ◌-◌, ◌*◌, ◌/◌, ◌%◌, ◌^◌, ◌<◌, ◌≤◌, ◌≤ℤ◌, ℤ, neg_ℤ, pos, List, [], ◌∷◌, ◌++◌, map, length, get_or, set, reverse, true, false, inl, inr, w64, sym, refl, ap, ◌∙◌, arith, T}
-use Rattle.std.specs.Prelude.{All}
+-- What the marks of columns tell of the texts of the cells.
+use Rattle.std.proofs.Common.{◌≡◌, ℕ, ◌+◌, ◌-◌, ◌*◌, ◌<◌, ◌≤ℤ◌, ◌+ℤ◌, ◌-ℤ◌, ℤ, neg_ℤ, pos, Bool, List, map, length, get_or, reverse, true, false, subst, sym, refl, ap, ◌∙◌, arith}
+use Rattle.std.specs.Prelude.{nat_abs}
 use Rattle.std.specs.Int.{bit_at}
-use Rattle.std.specs.Int.Bits.{bit_or}
 use Rattle.std.specs.List.{range_with_len}
-use Rattle.std.proofs.lemmas.Bool.Decides.{eqb_tells}
 use Rattle.std.proofs.lemmas.Int.{ints}
-use Rattle.std.proofs.lemmas.List.{get_or-set_other, get_or-set_same, length-set, get_or-reverse, length-reverse}
-use Rattle.std.proofs.lemmas.List.Sums.{sum_by-append, sum_by-cons}
+use Rattle.std.proofs.lemmas.List.{get_or-reverse, length-reverse}
 use Rattle.std.proofs.lemmas.List.FromFn.{get_or-map-range_with_len, length-map-range_with_len}
-use Rattle.std.proofs.lemmas.Nat.{pow_pos}
-use Rattle.std.proofs.lemmas.Nat.Bits.{bit_at-zero, bit_at_set_same, bit_at_set_other}
-use Rattle.life_model.specs.Cell.{Cell}
-use Rattle.life_model.specs.Generation.{from_list, is_rising}
+use Rattle.std.proofs.lemmas.Simd.{map-map}
+use Rattle.life_model.specs.Cell.{Cell, opposite, plus}
+use Rattle.life_model.specs.Generation.{Generation, from_list}
 use Rattle.life_model.specs.Symmetry.{normal, Orientation, Same, FlipX, FlipY, Half, Swap, SwapFlipX, SwapFlipY, SwapHalf, turn, image_under}
-use Rattle.life_shape.specs.Dots.{weight, weights}
+use Rattle.life_model.proofs.Cells.{pair}
+use Rattle.life_model.proofs.Objects.{then_turned, turn-then_turned, turned-turned}
 use Rattle.life_shape.specs.Wechsler.{column_value, strip_text, strips_text, body}
+use Rattle.life_shape.proofs.Weights.{live_value}
 use Rattle.life_codes.specs.declared.frame.Frame.{Frame}
 use Rattle.life_codes.specs.declared.measure.Lengths.{Lengths}
 use Rattle.life_codes.specs.Frames.{IsInFrame, frame_of, turned_frame, cell_in_frame, wide_of, strips_of}
-use Rattle.life_codes.specs.Words.{AreLengths, AreZeroTogether, HoldsMarks, HoldsTurned, IsSmall, word_columns, words_text}
-use Rattle.life_codes.proofs.Bodies.{column-placed, column-mirror, framed_cells, strip_number}
-use Rattle.life_codes.proofs.Filled.{weight_here, other_column, other_strip}
+use Rattle.life_codes.specs.Words.{AreLengths, AreZeroTogether, HoldsMarks, IsFrameOf, IsSmall, upside_down, word_columns, words_text}
+use Rattle.life_codes.proofs.Bodies.{column-mirror, contains-normal_placed, framed_cells, strip_number}
 use Rattle.life_codes.proofs.Framed.{Framed, framed_turned, width_framed, range_ordered}
 use Rattle.life_codes.proofs.Worded.{same_lengths, same_texts_length, length-word_columns, column_at}
-
--- ---- one cell after another
-
-pub nothing_marked : (words : List ℕ) (wide : ℕ) → All (λ w. w ≡ 0) words → HoldsMarks words wide []
-nothing_marked words wide none =
-    let dark : (k x : ℕ) → k < length words → bit_at (get_or words k 0) x ≡ 0 = λ k x h. ap (λ w. bit_at w x) (none k 0 h) ∙ bit_at-zero x in
-    record {
-      each = λ k x h. (λ e. refl, λ e. dark k x h);
-      beyond = λ k x h l. dark k x h;
-    }
-
-module _ (ds : List Cell) (one : Cell) (words : List ℕ) (wide p r : ℕ) (at : ◌≡◌ {A = Cell} (pos p, pos r) one) (column : p < wide) (narrow : wide ≤ 64) (strip : r / 5 < length words) (held : HoldsMarks words wide ds) where
-  abbrev marked : ℕ
-  marked = bit_or (get_or words (r / 5) 0) (1 * 2 ^ p % 2 ^ 64)
-
-  more : (k x : ℕ) → weights k (ds ++ one ∷ []) x ≡ weights k ds x + weight k x (pos p, pos r)
-  more k x =
-      let last = sum_by-cons (weight k x) one [] in
-      let both = sum_by-append (weight k x) ds (one ∷ []) in
-      let here = ap (weight k x) at in
-      omega arith
-
-  untouched : (k x : ℕ) → weight k x (pos p, pos r) ≡ 0 → weights k ds x ≡ weights k (ds ++ one ∷ []) x
-  untouched k x none = let all = more k x in omega arith
-
-  pub marked_more : HoldsMarks (set words (r / 5) marked) wide (ds ++ one ∷ [])
-  marked_more = record { each = each; beyond = beyond }
-    where
-      long : length (set words (r / 5) marked) ≡ length words
-      long = length-set words (r / 5) marked
-
-      bit_here : (k x : ℕ) → k ≡ r / 5 → bit_at (get_or (set words (r / 5) marked) k 0) x ≡ bit_at marked x
-      bit_here k x e = ap (λ n. bit_at (get_or (set words (r / 5) marked) n 0) x) e ∙ ap (λ w. bit_at w x) (get_or-set_same words (r / 5) marked 0 strip)
-
-      each : (k x : ℕ) → k < length (set words (r / 5) marked) → AreZeroTogether (bit_at (get_or (set words (r / 5) marked) k 0) x) (weights k (ds ++ one ∷ []) x)
-      each k x hk =
-          let known : k < length words = omega (arith, long) in
-          elim (eqb_tells k (r / 5)) [
-            | inl e ↦
-                let same_word = bit_here k x e.1 in
-                elim (eqb_tells x p) [
-                  | inl f ↦
-                      let one = same_word ∙ ap (bit_at marked) f.1 ∙ bit_at_set_same w64 (get_or words (r / 5) 0) p (omega arith) in
-                      let here = more k x ∙ (λ t. weights k ds x + weight (e.1 t) (f.1 t) (pos p, pos r)) ∙ ap (λ n. weights k ds x + n) (weight_here p r) in
-                      let live = pow_pos (r % 5) in
-                      (λ none. absurd (omega arith), λ none. absurd (omega arith))
-                  | inr f ↦
-                      let old = same_word ∙ bit_at_set_other w64 (get_or words (r / 5) 0) p (omega arith) x f.1 ∙ ap (λ n. bit_at (get_or words n 0) x) (sym e.1) in
-                      let same = untouched k x (ap (λ n. weight n x (pos p, pos r)) e.1 ∙ other_column x p r (λ l. f.1 (sym l))) in
-                      let before = held.each k x known in
-                      (λ none. sym same ∙ before.0 (sym old ∙ none), λ none. old ∙ before.1 (same ∙ none))
-                ]
-            | inr e ↦
-                let old = ap (λ w. bit_at w x) (get_or-set_other words (r / 5) k marked 0 e.1) in
-                let same = untouched k x (other_strip k x p r e.1) in
-                let before = held.each k x known in
-                (λ none. sym same ∙ before.0 (sym old ∙ none), λ none. old ∙ before.1 (same ∙ none))
-          ]
-
-      beyond : (k x : ℕ) → k < length (set words (r / 5) marked) → wide ≤ x → bit_at (get_or (set words (r / 5) marked) k 0) x ≡ 0
-      beyond k x hk hx =
-          let known : k < length words = omega (arith, long) in
-          elim (eqb_tells k (r / 5)) [
-            | inl e ↦
-                bit_here k x e.1 ∙ bit_at_set_other w64 (get_or words (r / 5) 0) p (omega arith) x (λ l. omega arith) ∙ held.beyond (r / 5) x strip hx
-            | inr e ↦
-                ap (λ w. bit_at w x) (get_or-set_other words (r / 5) k marked 0 e.1) ∙ held.beyond k x known hx
-          ]
 
 -- ---- a small frame is small however it is turned
 
@@ -129,12 +58,12 @@ inside_turned SwapHalf f c h =
 
 -- ---- the lengths of the two texts of a set
 
-module _ (cs : List Cell) (m : Orientation) (f : Frame) (h : Framed (image_under (from_list cs) m) f) (rising : T (is_rising cs)) (words : List ℕ) (room : strips_of f ≤ length words) (some : 0 < strips_of f) (held : HoldsMarks words (wide_of f) (map (cell_in_frame m f) cs)) where
-  together : (k x : ℕ) → k < strips_of f → AreZeroTogether (bit_at (get_or words k 0) x) (column_value (normal (image_under (from_list cs) m)) k x)
+module _ (cs : List Cell) (m : Orientation) (f : Frame) (h : Framed (image_under (from_list cs) m) f) (words : ℕ → ℕ) (some : 0 < strips_of f) (held : HoldsMarks words (strips_of f) (map (cell_in_frame m f) cs)) where
+  together : (k x : ℕ) → k < strips_of f → AreZeroTogether (bit_at (words k) x) (column_value (normal (image_under (from_list cs) m)) k x)
   together k x l =
-      let both = held.each k x (omega arith) in
-      let is = column-placed cs m f h rising k x in
-      (λ e. sym is ∙ both.0 e, λ e. both.1 (is ∙ e))
+      let both = held k x l in
+      let is = ap (λ (live : ℕ → Bool). live_value live) (λ i j. contains-normal_placed cs m f h (pos x, pos (5 * k + j)) i) in
+      (λ e. is ∙ both.0 e, λ e. both.1 (sym is ∙ e))
 
   pub length_forward : length (words_text words (wide_of f) (strips_of f) false) ≡ length (body (image_under (from_list cs) m))
   unfolding body
@@ -143,12 +72,12 @@ module _ (cs : List Cell) (m : Orientation) (f : Frame) (h : Framed (image_under
       let wide = wide_of f in
       same_texts_length _ _ (strips_of f) some
       (λ k a.
-      let long = length-word_columns wide (get_or words k 0) in
+      let long = length-word_columns wide (words k) in
       let other = length-map-range_with_len (column_value (normal G) k) 0 wide in
-      same_lengths (word_columns wide (get_or words k 0)) (map (column_value (normal G) k) (range_with_len 0 wide)) 0 (omega arith)
+      same_lengths (word_columns wide (words k)) (map (column_value (normal G) k) (range_with_len 0 wide)) 0 (omega arith)
       (λ x l.
       let inside : x < wide = omega arith in
-      let one = column_at wide (get_or words k 0) x inside in
+      let one = column_at wide (words k) x inside in
       let two = get_or-map-range_with_len (column_value (normal G) k) 0 wide x x 0 inside (omega arith) in
       let both = together k x a in
       (λ e. two ∙ both.0 (sym one ∙ e), λ e. one ∙ both.1 (sym two ∙ e))))
@@ -166,30 +95,70 @@ module _ (cs : List Cell) (m : Orientation) (f : Frame) (h : Framed (image_under
       let same : wide_of f ≡ wide_of g = omega (arith, ints) in
       same_texts_length _ _ (strips_of f) some
       (λ k a.
-      let row = word_columns wide (get_or words k 0) in
-      let long = length-word_columns wide (get_or words k 0) in
+      let row = word_columns wide (words k) in
+      let long = length-word_columns wide (words k) in
       let turned_long = length-reverse row in
       let other = length-map-range_with_len (column_value (normal M) k) 0 wide in
       same_lengths (reverse row) (map (column_value (normal M) k) (range_with_len 0 wide)) 0 (omega arith)
       (λ x l.
       let inside : x < wide = omega arith in
       let there : length row - 1 - x ≡ wide - 1 - x = omega arith in
-      let one = get_or-reverse row x 0 (omega arith) ∙ ap (λ n. get_or row n 0) there ∙ column_at wide (get_or words k 0) (wide - 1 - x) (omega arith) in
+      let one = get_or-reverse row x 0 (omega arith) ∙ ap (λ n. get_or row n 0) there ∙ column_at wide (words k) (wide - 1 - x) (omega arith) in
       let two = get_or-map-range_with_len (column_value (normal M) k) 0 wide x x 0 inside (omega arith) ∙ column-mirror G f h k x inside in
       let both = together k (wide - 1 - x) a in
       (λ e. two ∙ both.0 (sym one ∙ e), λ e. one ∙ both.1 (sym two ∙ e))))
       ∙ (λ i. length (strips_text (strip_text (normal M) ((same ∙ sym (width_framed M g there)) i)) (strip_number M g there i)))
 
-pub two_lengths : (cs : List Cell) (m : Orientation) (f : Frame) (lengths : Lengths) (words : List ℕ) → 0 < length cs → T (is_rising cs) → f ≡ frame_of cs → f.left ≤ℤ f.right → f.top ≤ℤ f.bottom → IsSmall f → length words ≡ 13 → HoldsTurned words m f cs →
-    lengths.forward ≡ length (words_text words (wide_of (turned_frame m f)) (strips_of (turned_frame m f)) false) → lengths.backward ≡ length (words_text words (wide_of (turned_frame m f)) (strips_of (turned_frame m f)) true) →
+pub lengths_of_marks : (cs : List Cell) (m : Orientation) (f : Frame) (lengths : Lengths) (words : ℕ → ℕ) → Framed (image_under (from_list cs) m) f → HoldsMarks words (strips_of f) (map (cell_in_frame m f) cs) →
+    lengths.forward ≡ length (words_text words (wide_of f) (strips_of f) false) → lengths.backward ≡ length (words_text words (wide_of f) (strips_of f) true) →
     AreLengths lengths (from_list cs) m
-two_lengths cs m f lengths words some rising e across down small room held forward backward =
-    let g = turned_frame m f in
-    let framed = framed_cells cs m f g some e refl in
-    let tall = (small_turned m f across down small).down in
-    let few : strips_of g ≤ length words = omega arith in
-    let any : 0 < strips_of g = omega arith in
+lengths_of_marks cs m f lengths words framed held forward backward =
+    let any : 0 < strips_of f = omega arith in
     record {
-      forward = forward ∙ length_forward cs m g framed rising words few any held;
-      backward = backward ∙ length_backward cs m g framed rising words few any held;
+      forward = forward ∙ length_forward cs m f framed words any held;
+      backward = backward ∙ length_backward cs m f framed words any held;
+    }
+
+pub framed_from : (cs : List Cell) (m : Orientation) (f : Frame) → IsFrameOf f m cs → Framed (image_under (from_list cs) m) f
+framed_from cs m f h = framed_cells cs m (frame_of cs) f h.some refl h.frame
+
+-- ---- and of what it is upside down
+
+down_from : (z top bottom : ℤ) (high : ℕ) → top ≤ℤ bottom → high ≡ nat_abs (bottom -ℤ top) + 1 → pos high -ℤ pos 1 -ℤ (z +ℤ neg_ℤ top) ≡ neg_ℤ z +ℤ neg_ℤ (neg_ℤ bottom)
+down_from z top bottom high order is = omega (arith, ints)
+
+module _ (cs : List Cell) (m : Orientation) (f : Frame) (high : ℕ) (order : f.top ≤ℤ f.bottom) (is : high ≡ nat_abs (f.bottom -ℤ f.top) + 1) where
+  down_cell : (c : Cell) → upside_down high (cell_in_frame m f c) ≡ cell_in_frame (then_turned m FlipY) (turned_frame FlipY f) c
+  down_cell c =
+      pair refl (down_from (turn m c).1 f.top f.bottom high order is)
+      ∙ ap (λ d. plus d (opposite (f.left, neg_ℤ f.bottom))) (sym (turn-then_turned m FlipY c))
+
+  down_cells : map (upside_down high) (map (cell_in_frame m f) cs) ≡ map (cell_in_frame (then_turned m FlipY) (turned_frame FlipY f)) cs
+  down_cells = map-map (upside_down high) (cell_in_frame m f) cs ∙ ap (λ (d : Cell → Cell). map d cs) (λ i c. down_cell c i)
+
+  pub lengths_of_marks_up : (lengths : Lengths) (words : ℕ → ℕ) → Framed (image_under (from_list cs) m) f → HoldsMarks words (strips_of f) (map (upside_down high) (map (cell_in_frame m f) cs)) →
+      lengths.forward ≡ length (words_text words (wide_of f) (strips_of f) false) → lengths.backward ≡ length (words_text words (wide_of f) (strips_of f) true) →
+      AreLengths lengths (image_under (from_list cs) m) FlipY
+  lengths_of_marks_up lengths words framed held forward backward =
+      let G = from_list cs in
+      let n = then_turned m FlipY in
+      let g = turned_frame FlipY f in
+      let turned = turned-turned G m FlipY in
+      let there : Framed (image_under G n) g = subst (λ H. Framed H g) turned (framed_turned (image_under G m) f FlipY framed) in
+      let same : strips_of f ≡ strips_of g = omega (arith, ints) in
+      let marks : HoldsMarks words (strips_of g) (map (cell_in_frame n g) cs) = subst (λ s. HoldsMarks words s (map (cell_in_frame n g) cs)) same (subst (HoldsMarks words (strips_of f)) down_cells held) in
+      let wide : wide_of f ≡ wide_of g = refl in
+      let all = lengths_of_marks cs n g lengths words there marks (forward ∙ (λ i. length (words_text words (wide i) (same i) false))) (backward ∙ (λ i. length (words_text words (wide i) (same i) true))) in
+      record {
+        forward = all.forward ∙ ap (λ H. length (body H)) (sym turned);
+        backward = all.backward ∙ ap (λ H. length (body (image_under H FlipX))) (sym turned);
+      }
+
+-- the lengths of a set upside down are those of its half turn, mirrored
+pub mirrored_lengths : (G : Generation) (m n : Orientation) (l r : Lengths) → r.forward ≡ l.backward → r.backward ≡ l.forward → n ≡ then_turned (then_turned m FlipY) FlipX → then_turned n FlipX ≡ then_turned m FlipY → AreLengths l (image_under G m) FlipY → AreLengths r G n
+mirrored_lengths G m n l r f b there back h =
+    let down = turned-turned G m FlipY in
+    record {
+      forward = f ∙ h.backward ∙ ap (λ H. length (body (image_under H FlipX))) down ∙ ap (λ H. length (body H)) (turned-turned G (then_turned m FlipY) FlipX) ∙ ap (λ o. length (body (image_under G o))) (sym there);
+      backward = b ∙ h.forward ∙ ap (λ H. length (body H)) down ∙ ap (λ o. length (body (image_under G o))) (sym back) ∙ ap (λ H. length (body H)) (sym (turned-turned G n FlipX));
     }

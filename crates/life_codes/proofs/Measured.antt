@@ -1,15 +1,11 @@
 -- The lengths of texts, as loops count them from either side.
-use Rattle.std.proofs.Common.{◌≡◌, ℕ, zero, suc, ◌+◌, ◌-◌, ◌*◌, ◌/◌, ◌%◌, ◌<◌, ◌≤◌, List, [], ◌∷◌, ◌++◌, length, get_or, take, drop, reverse, Bool, true, false, not, eqb, inl, inr, ⊎_elim, subst, sym, refl, ap, ◌∙◌, arith, true≢false, length-append}
-use Rattle.std.specs.List.{prefix_len}
-use Rattle.std.proofs.lemmas.Bool.{cases_lt, ne_eqb}
+use Rattle.std.proofs.Common.{◌≡◌, ℕ, zero, suc, ◌+◌, ◌*◌, ◌/◌, ◌%◌, ◌<◌, ◌≤◌, List, [], ◌∷◌, ◌++◌, length, get_or, take, drop, reverse, inl, inr, subst, sym, refl, ap, ◌∙◌, arith, length-append}
+use Rattle.std.proofs.lemmas.Bool.{cases_lt}
 use Rattle.std.proofs.lemmas.List.{take_more, reverse-append}
-use Rattle.std.proofs.lemmas.List.Sums.{prefix_len-le-length, prefix_len_passes}
-use Rattle.std.proofs.lemmas.Simd.{length-chunk, get_or-chunk}
 use Rattle.life_shape.specs.Dots.{strip_mark}
 use Rattle.life_shape.specs.Wechsler.{digit, full_runs, short_zeros, zeros, columns_text}
 use Rattle.life_shape.proofs.Columns.{joined, joined_turn}
 use Rattle.life_codes.proofs.Written.{rest_from, one_more}
-use lib.Lanes.{chunk}
 
 -- ---- runs of zeros
 
@@ -22,37 +18,6 @@ length-zeros n short e =
     let runs = length-full_runs (n / 39) in
     let both = length-append (full_runs (n / 39)) (short_zeros (n % 39)) in
     omega arith
-
--- ---- sixteen columns at once
-
-not_not : (b : Bool) → not (not b) ≡ b
-not_not true = refl
-not_not false = refl
-
--- those that don't differ from 0 are 0
-pub none_differ : (xs : List ℕ) → prefix_len (λ v. not (not (eqb v 0))) xs ≡ prefix_len (λ v. eqb v 0) xs
-none_differ xs i = prefix_len (λ v. not_not (eqb v 0) i) xs
-
-pub sixteen_few : (xs : List ℕ) (place count : ℕ) → place + 16 ≤ length xs → count ≡ prefix_len (λ v. eqb v 0) (chunk place 16 xs) → count ≤ 16
-sixteen_few xs place count room is = omega (arith, is, length-chunk place 16 xs room, prefix_len-le-length (λ v. eqb v 0) (chunk place 16 xs))
-
-is_zero : (x : ℕ) → eqb x 0 ≡ true → x ≡ 0
-is_zero zero e = refl
-is_zero (suc x) e = absurd (true≢false (sym e ∙ ne_eqb (suc x) 0 (λ h. omega arith)))
-
--- those that are 0, and those after them
-pub zeros_on : (xs : List ℕ) (place known count : ℕ) → place + known + 16 ≤ length xs →
-    ((i : ℕ) → i < known → get_or xs (place + i) 0 ≡ 0) → count ≡ prefix_len (λ v. eqb v 0) (chunk (place + known) 16 xs) →
-    (i : ℕ) → i < known + count → get_or xs (place + i) 0 ≡ 0
-zeros_on xs place known count room before is i h =
-    ⊎_elim
-    (λ (early : i < known). before i early)
-    (λ (late : known ≤ i).
-    let few = sixteen_few xs (place + known) count room is in
-    let at : place + known + (i - known) ≡ place + i = omega arith in
-    let same = get_or-chunk (place + known) 16 xs (i - known) 0 (omega arith) ∙ ap (λ n. get_or xs n 0) at in
-    is_zero (get_or xs (place + i) 0) (ap (λ n. eqb n 0) (sym same) ∙ prefix_len_passes (λ v. eqb v 0) (chunk (place + known) 16 xs) (i - known) 0 (omega (arith, is))))
-    (cases_lt i known)
 
 -- ---- one column after another, from the first
 

@@ -1,7 +1,7 @@
 -- The lengths of the texts of words, as loops count them from gap to gap, and that they are those of the cells' texts.
-use Rattle.std.proofs.Common.{◌≡◌, ℕ, zero, suc, ◌+◌, ◌-◌, ◌/◌, ◌%◌, ◌^◌, ◌<◌, ◌≤◌, List, [], ◌∷◌, length, get_or, take, drop, reverse, inl, inr, subst, sym, refl, ap, ◌∙◌, arith, length-append}
+use Rattle.std.proofs.Common.{◌≡◌, ℕ, zero, suc, ◌+◌, ◌-◌, ◌/◌, ◌%◌, ◌^◌, ◌<◌, ◌≤◌, List, [], ◌∷◌, length, get_or, take, drop, reverse, if◌then◌else◌, inl, inr, subst, sym, refl, ap, ◌∙◌, arith, length-append}
 use Rattle.std.specs.Int.{bit_at}
-use Rattle.std.proofs.lemmas.Bool.{cases_lt}
+use Rattle.std.proofs.lemmas.Bool.{cases_lt, ne_eqb}
 use Rattle.std.proofs.lemmas.List.{drop_all, take_all, get_or-reverse, length-reverse}
 use Rattle.std.proofs.lemmas.List.FromFn.{get_or-map-range_with_len, length-map-range_with_len}
 use Rattle.std.proofs.lemmas.Nat.{shr-shr}
@@ -37,6 +37,20 @@ same_joined f g (suc n) each =
     let at : n + 1 ≡ suc n = omega arith in
     let f_more = one ∙ ap (λ k. length (joined f k)) at in
     let g_more = two ∙ ap (λ k. length (joined g k)) at in
+    omega arith
+
+-- the marks between strips, but for the last
+mark_more : (k : ℕ) → length (strip_mark k) + (k - 1) ≡ k
+mark_more zero = refl
+mark_more (suc k) =
+    let some : length (strip_mark (suc k)) ≡ 1 = ap (λ b. length {A = ℕ} (if b then [] else 122 ∷ [])) (ne_eqb (suc k) 0 (λ h. omega arith)) in
+    omega arith
+
+-- one strip more, with the marks between strips told apart
+pub joined_marks : (text : ℕ → List ℕ) (strip last : ℕ) → last ≡ length (text strip) → length (joined text strip) + last + strip ≡ length (joined text (strip + 1)) + (strip - 1)
+joined_marks text strip last e =
+    let all = joined_more text strip _ _ (length (strip_mark strip)) refl e refl in
+    let mark = mark_more strip in
     omega arith
 
 pub same_texts_length : (f g : ℕ → List ℕ) (n : ℕ) → 0 < n → ((k : ℕ) → k < n → length (f k) ≡ length (g k)) → length (strips_text f n) ≡ length (strips_text g n)

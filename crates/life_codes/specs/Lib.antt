@@ -2,3 +2,4 @@ pub mod Frames
 pub mod Grids
 pub mod Least
 pub mod Words
+pub mod WideWords

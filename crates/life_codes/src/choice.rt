@@ -1,5 +1,5 @@
 //! The least of some texts.
-ghost use Rattle.std.specs.Prelude.{◌≡◌, ◌<◌, ◌∷◌, IsSomeAnd, IsTrue, List, None, OnOk, [], length, unwrap_or, ℕ};
+ghost use Rattle.std.specs.Prelude.{◌≡◌, ◌++◌, ◌<◌, ◌∷◌, IsSomeAnd, IsTrue, List, None, OnOk, [], length, unwrap_or, ℕ};
 ghost use Rattle.life_codes.specs.Least.{with_text};
 
 use life_shape::shorter;
@@ -63,6 +63,16 @@ impl Choice {
             return false;
         }
         self.text[0] < first
+    }
+
+    /// Whether there is a text that is less than each of so many bytes that begins so.
+    pub fn is_begun_before(&self, bytes: usize, start: &[u8]) -> bool
+        ensures { IsTrue result → (rest : List ℕ) → length (start.now ++ rest) ≡ bytes → with_text self.now (start.now ++ rest) ≡ self.now }
+    {
+        if !self.some || self.text.len() != bytes || start.len() > bytes {
+            return false;
+        }
+        self.text[..start.len()].cmp(start).is_lt()
     }
 
     /// Takes one more text. The text that is not the least is left in its place.

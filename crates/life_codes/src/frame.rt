@@ -84,7 +84,7 @@ impl Frame {
     }
 
     /// How high it is.
-    fn height(self) -> usize
+    pub fn height(self) -> usize
         requires { IsBounded self }
         ensures { result ≡ nat_abs (self.bottom -ℤ self.top) + 1 }
     {

@@ -56,7 +56,8 @@ pub fn place_in(cell: (i32, i32), orient: Orient, frame: Frame) -> (usize, usize
     ensures strip { result.1 / 5 < strips_of frame }
 {
     let (x, y) = orient.turn(cell);
-    ((x - frame.left) as usize, (y - frame.top) as usize)
+    let (column, row) = ((x - frame.left) as u32, (y - frame.top) as u32);
+    (column as usize, row as usize)
 }
 
 /// Adds to each column what the cells weigh there that the map takes these cells to. They stand in the frame, which has

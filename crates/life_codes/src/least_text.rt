@@ -14,9 +14,11 @@ ghost use Rattle.life_codes.specs.Words.{AreLengths, IsSmall};
 use crate::choice::Choice;
 use crate::frame::{Frame, frame_of};
 use crate::grid::{Grid, make_grid};
-use crate::measure::{Lengths, text_lengths};
+use crate::measure::Lengths;
+use crate::wide_marks::WideMarks;
+use crate::wide_words::wide_lengths;
 use crate::words::four_lengths;
-use crate::writing::{digit, strip_of, value_at, write_text};
+use crate::writing::{begin_text, digit, end_text, strip_of, value_at};
 use life_cells::CellList;
 use life_shape::{Orient, Shape};
 use std::alloc::{AllocError, Global};
@@ -40,12 +42,22 @@ impl Model for LeastText {
     ghost view = { λ l. l.least };
 }
 
-/// Room for two grids and for a text.
+/// Room for two grids, for marks and for a text.
 #[derive(Drop)]
 struct Room {
     first: Grid,
     second: Grid,
+    marks: WideMarks,
     text: Vec<u8>,
+}
+
+impl Room {
+    /// The first grid has no strip from now on.
+    fn forget(&mut self)
+        ensures { self.new.first.strips ≡ 0 }
+    {
+        self.first.forget();
+    }
 }
 
 /// Whether the least text is less than that of a grid, which has so many bytes, by its length or by its first byte alone.
@@ -71,7 +83,7 @@ fn is_beyond(
     first != 0 && least.is_before(bytes, digit(first))
 }
 
-/// Takes the text of a grid, which has so many bytes. It is written only where the least text may not be less.
+/// Takes the text of a grid, which has so many bytes. It is written only as far as the least text may not be less.
 fn add_text(
     least: &mut Choice,
     text: &mut Vec<u8>,
@@ -86,42 +98,15 @@ fn add_text(
     requires bytes { bytes ≡ length (grid_text grid.now.values.items grid.now.wide grid.now.strips back) }
     ensures { OnOk result (least.new ≡ with_text least.old (grid_text grid.now.values.items grid.now.wide grid.now.strips back)) }
 {
-    if !is_beyond(least, &grid.values, grid.wide, grid.strips, back, bytes) {
-        write_text(text, &grid.values, grid.wide, grid.strips, back)?;
-        least.offer(text);
+    if is_beyond(least, &grid.values, grid.wide, grid.strips, back, bytes) {
+        return Ok(());
     }
-    Ok(())
-}
-
-/// Takes the texts of a grid, which is read from either side.
-fn add_grid(least: &mut Choice, text: &mut Vec<u8>, grid: &Grid) -> Result<(), AllocError>
-    requires some { 0 < grid.now.strips }
-    requires wide { 0 < grid.now.wide }
-    requires room { length grid.now.values.items ≡ grid.now.strips * grid.now.wide }
-    requires small { All (λ v. v < 36) grid.now.values.items }
-    ensures { OnOk result (least.new ≡ fold with_text least.old (both_texts grid.now.values.items grid.now.wide grid.now.strips)) }
-{
-    let lengths = text_lengths(&grid.values, grid.wide, grid.strips);
-    add_text(least, text, grid, false, lengths.forward)?;
-    add_text(least, text, grid, true, lengths.backward)
-}
-
-/// Takes the texts of a grid, unless it is another, whose texts were taken.
-fn add_unseen(
-    least: &mut Choice,
-    text: &mut Vec<u8>,
-    grid: &Grid,
-    seen: &Grid,
-) -> Result<(), AllocError>
-    requires some { 0 < grid.now.strips }
-    requires wide { 0 < grid.now.wide }
-    requires room { length grid.now.values.items ≡ grid.now.strips * grid.now.wide }
-    requires small { All (λ v. v < 36) grid.now.values.items }
-    requires taken { fold with_text least.old (both_texts seen.now.values.items seen.now.wide seen.now.strips) ≡ least.old }
-    ensures { OnOk result (least.new ≡ fold with_text least.old (both_texts grid.now.values.items grid.now.wide grid.now.strips)) }
-{
-    if !grid.is_same(seen) {
-        add_grid(least, text, grid)?;
+    text.clear();
+    text.reserve(bytes)?;
+    begin_text(text, &grid.values, grid.wide, back)?;
+    if !least.is_begun_before(bytes, text) {
+        end_text(text, &grid.values, grid.wide, grid.strips, back)?;
+        least.offer(text);
     }
     Ok(())
 }
@@ -151,32 +136,6 @@ fn make_turned(
     grid.wide = turned.width();
     grid.strips = turned.strips();
     Ok(())
-}
-
-/// Takes the texts of cells, turned by each of the eight maps. What looks the same after half a turn, or after its x and y
-/// are swapped, is looked at once.
-fn add_cells(
-    least: &mut Choice,
-    room: &mut Room,
-    cells: &[(i32, i32)],
-    frame: Frame,
-) -> Result<(), AllocError>
-    requires some { 0 < length cells.now }
-    requires rising { T (is_rising cells.now) }
-    requires placed { All IsPlace cells.now }
-    requires frame { frame ≡ frame_of cells.now }
-    requires bounded { IsBounded frame }
-    ensures { OnOk result (least.new ≡ fold with_text least.old (turned_bodies (from_list cells.now))) }
-{
-    let text = &mut room.text;
-    make_turned(&mut room.first, cells, frame, Orient::Same)?;
-    add_grid(least, text, &room.first)?;
-    make_turned(&mut room.second, cells, frame, Orient::Half)?;
-    add_unseen(least, text, &room.second, &room.first)?;
-    make_turned(&mut room.second, cells, frame, Orient::Swap)?;
-    add_unseen(least, text, &room.second, &room.first)?;
-    make_turned(&mut room.first, cells, frame, Orient::SwapHalf)?;
-    add_unseen(least, text, &room.first, &room.second)
 }
 
 /// Takes the texts of the second grid, unless it is the first, whose texts were taken. It becomes the first.
@@ -258,6 +217,28 @@ fn add_small(
     add_turned(least, room, cells, frame, Orient::Swap, lengths.swap)
 }
 
+/// Takes the texts of cells of any frame, turned by each of the eight maps.
+fn add_wide(
+    least: &mut Choice,
+    room: &mut Room,
+    cells: &[(i32, i32)],
+    frame: Frame,
+) -> Result<(), AllocError>
+    requires some { 0 < length cells.now }
+    requires rising { T (is_rising cells.now) }
+    requires placed { All IsPlace cells.now }
+    requires frame { frame ≡ frame_of cells.now }
+    requires bounded { IsBounded frame }
+    ensures { OnOk result (least.new ≡ fold with_text least.old (turned_bodies (from_list cells.now))) }
+{
+    let found = wide_lengths(&mut room.marks, cells, frame)?;
+    room.forget();
+    add_turned(least, room, cells, frame, Orient::Same, found.same)?;
+    add_turned(least, room, cells, frame, Orient::Half, found.half)?;
+    add_turned(least, room, cells, frame, Orient::SwapHalf, found.swap_half)?;
+    add_turned(least, room, cells, frame, Orient::Swap, found.swap)
+}
+
 /// Takes the texts of a shape, turned by each of the eight maps.
 fn add_shape(least: &mut Choice, shape: &Shape) -> Result<(), AllocError>
     ensures { OnOk result (least.new ≡ fold with_text least.old (turned_bodies shape.now)) }
@@ -269,8 +250,8 @@ fn add_shape(least: &mut Choice, shape: &Shape) -> Result<(), AllocError>
     Ok(())
 }
 
-/// Takes the texts of a set, turned by each of the eight maps: from words and grids where their
-/// frame is small, from grids, unless those were mostly empty, and else from shapes.
+/// Takes the texts of a set, turned by each of the eight maps: from words and grids, unless those
+/// were mostly empty, and else from shapes.
 fn add_list(
     alloc: Global,
     least: &mut Choice,
@@ -284,7 +265,7 @@ fn add_list(
     let cells = list.as_slice();
     match frame_of(cells) {
         Some(frame) if frame.is_small() => add_small(least, room, cells, frame),
-        Some(frame) if frame.is_dense(cells.len()) => add_cells(least, room, cells, frame),
+        Some(frame) if frame.is_dense(cells.len()) => add_wide(least, room, cells, frame),
         _ => {
             let (shape, _) = Shape::of(alloc, list)?;
             add_shape(least, &shape)
@@ -303,6 +284,7 @@ impl LeastText {
             room: Room {
                 first: Grid::new(alloc),
                 second: Grid::new(alloc),
+                marks: WideMarks::new(alloc),
                 text: Vec::new(alloc),
             },
             alloc,

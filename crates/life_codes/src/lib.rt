@@ -9,7 +9,10 @@ mod grid;
 mod least_text;
 mod marks;
 mod measure;
+mod narrow;
 mod prefixes;
+mod wide_marks;
+mod wide_words;
 mod words;
 mod writing;
 

@@ -1,71 +1,63 @@
-//! Which columns of strips have a cell, in the four maps whose texts, read from either side, are those of all eight.
-ghost use Rattle.std.specs.Prelude.{◌≡◌, ◌++◌, ◌<◌, ◌∷◌, All, List, [], length};
+//! The cells of a small frame as words, by rows and by columns.
+ghost use Rattle.std.specs.Prelude.{◌≡◌, ◌++◌, ◌*◌, ◌+◌, ◌<◌, ◌≤◌, ◌∷◌, ℕ, All, List, [], length, map, pos};
 ghost use Rattle.life_model.specs.Cell.{Cell};
-ghost use Rattle.life_model.specs.Symmetry.{Half, Same, Swap, SwapHalf};
+ghost use Rattle.life_model.specs.Symmetry.{Same, Swap, turn};
 ghost use Rattle.life_cells.specs.Limits.{IsPlace};
-ghost use Rattle.life_shape.specs.Orients.{orientation};
-ghost use Rattle.life_codes.specs.Frames.{IsBounded, IsInFrame};
-ghost use Rattle.life_codes.specs.Words.{HoldsTurned, IsSmall};
+ghost use Rattle.life_codes.specs.Frames.{IsBounded, IsInFrame, cell_in_frame, turned_frame, wide_of};
+ghost use Rattle.life_codes.specs.Words.{HoldsMarks, HoldsRows, IsSmall, IsWithin, five_rows, upside_down};
 
 use crate::frame::Frame;
 use crate::grid::place_in;
 use life_shape::Orient;
 
-// How many strips of five rows 64 rows take.
-const STRIPS: usize = 13;
+/// How many rows without a cell stand above the first, for the last strip from the bottom, which may begin above it.
+pub const ABOVE: usize = 4;
+/// How many words those and the rows of thirteen strips take.
+pub const ROWS: usize = 69;
 
-/// The strips of cells, turned by each of four maps, as words: bit x of word k is set where column x of strip k has a cell.
-#[derive(Drop)]
-pub struct Marks {
-    pub same: [u64; STRIPS],
-    pub half: [u64; STRIPS],
-    pub swap: [u64; STRIPS],
-    pub swap_half: [u64; STRIPS],
-}
-
-/// Marks the column that the map takes a cell of the frame to. It is compiled once for each map that it is called with, so
-/// that a cell's turn costs no branch.
+/// Marks a cell in its row.
 #[inline(always)]
-fn mark(words: &mut [u64], cell: (i32, i32), orient: Orient, frame: Frame)
-    requires room { length words.old ≡ 13 }
-    requires bounded { IsBounded frame }
-    requires small { IsSmall frame }
-    requires placed { IsPlace cell }
-    requires inside { IsInFrame frame cell }
-    ensures len { length words.new ≡ length words.old }
-    ensures marks { (cells : List Cell) → HoldsTurned words.old (orientation orient) frame cells → HoldsTurned words.new (orientation orient) frame (cells ++ cell ∷ []) }
+fn mark(rows: &mut [u64], column: usize, row: usize)
+    requires room { length rows.old ≡ 69 }
+    requires column { column < 64 }
+    requires row { row < 64 }
+    ensures len { length rows.new ≡ length rows.old }
+    ensures marks { (cells : List Cell) → HoldsRows rows.old cells → HoldsRows rows.new (cells ++ (pos column, pos row) ∷ []) }
+    ensures within { (wide : ℕ) → column < wide → IsWithin rows.old wide → IsWithin rows.new wide }
 {
-    let turned = frame.turned(orient);
-    let (column, row) = place_in(cell, orient, turned);
-    words[row / 5] |= 1 << column;
+    rows[row + ABOVE] |= 1 << column;
 }
 
-/// Marks the columns of cells of the frame, turned by each of the four maps.
-pub fn marks_of(cells: &[(i32, i32)], frame: Frame) -> Marks
+/// Marks cells of the frame in their rows and, with x and y swapped, in their columns.
+pub fn mark_cells(rows: &mut [u64], columns: &mut [u64], cells: &[(i32, i32)], frame: Frame)
+    requires room { length rows.old ≡ 69 }
+    requires columns_room { length columns.old ≡ 69 }
+    requires empty { All (λ w. w ≡ 0) rows.old }
+    requires columns_empty { All (λ w. w ≡ 0) columns.old }
     requires bounded { IsBounded frame }
     requires small { IsSmall frame }
     requires placed { All IsPlace cells.now }
     requires inside { All (IsInFrame frame) cells.now }
-    ensures room { (length result.same ≡ 13) × (length result.half ≡ 13) × (length result.swap ≡ 13) × (length result.swap_half ≡ 13) }
-    ensures same { HoldsTurned result.same Same frame cells.now }
-    ensures half { HoldsTurned result.half Half frame cells.now }
-    ensures swap { HoldsTurned result.swap Swap frame cells.now }
-    ensures swap_half { HoldsTurned result.swap_half SwapHalf frame cells.now }
+    ensures room { length rows.new ≡ 69 }
+    ensures columns_room { length columns.new ≡ 69 }
+    ensures rows { HoldsRows rows.new (map (cell_in_frame Same frame) cells.now) }
+    ensures columns { HoldsRows columns.new (map (cell_in_frame Swap (turned_frame Swap frame)) cells.now) }
+    ensures within { IsWithin rows.new (wide_of frame) }
+    ensures columns_within { IsWithin columns.new (wide_of (turned_frame Swap frame)) }
 {
-    let mut same = [0; STRIPS];
-    let mut half = [0; STRIPS];
-    let mut swap = [0; STRIPS];
-    let mut swap_half = [0; STRIPS];
     for cell in cells {
-        mark(&mut same, *cell, Orient::Same, frame);
-        mark(&mut half, *cell, Orient::Half, frame);
-        mark(&mut swap, *cell, Orient::Swap, frame);
-        mark(&mut swap_half, *cell, Orient::SwapHalf, frame);
+        let (x, y) = place_in(*cell, Orient::Same, frame);
+        mark(rows, x, y);
+        mark(columns, y, x);
     }
-    Marks {
-        same,
-        half,
-        swap,
-        swap_half,
-    }
+}
+
+/// The columns that have a cell in one of five rows.
+#[inline(always)]
+pub fn columns_of(rows: &[u64], first: usize) -> u64
+    requires { first + 5 ≤ length rows.now }
+    ensures { result ≡ five_rows rows.now first }
+{
+    let upper = rows[first] | rows[first + 1];
+    upper | rows[first + 2] | rows[first + 3] | rows[first + 4]
 }

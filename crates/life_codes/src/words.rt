@@ -1,18 +1,19 @@
 //! How long the texts of strips are, told by words that have a bit for each column with a cell.
-ghost use Rattle.std.specs.Prelude.{◌≡◌, ℕ, ◌/◌, ◌^◌, ◌+◌, ◌<◌, ◌≤◌, All, T, false, length, slice_index, true};
+ghost use Rattle.std.specs.Prelude.{◌≡◌, ℕ, ◌/◌, ◌^◌, ◌+◌, ◌<◌, ◌≤◌, All, List, T, false, length, map, slice_index, true};
 ghost use Rattle.std.specs.Int.{bit_at};
+ghost use Rattle.life_model.specs.Cell.{Cell};
 ghost use Rattle.life_model.specs.Generation.{from_list, is_rising};
-ghost use Rattle.life_model.specs.Symmetry.{Half, Same, Swap, SwapHalf};
-ghost use Rattle.life_shape.specs.Orients.{orientation};
+ghost use Rattle.life_model.specs.Symmetry.{FlipY, Half, Orientation, Same, Swap, SwapHalf, image_under};
 ghost use Rattle.life_shape.specs.Wechsler.{columns_text};
 ghost use Rattle.life_cells.specs.Limits.{IsPlace};
-ghost use Rattle.life_codes.specs.Frames.{IsBounded, frame_of, strips_of, turned_frame, wide_of};
+ghost use Rattle.life_codes.specs.Frames.{IsBounded, cell_in_frame, frame_of, wide_of};
 ghost use Rattle.life_codes.specs.Grids.{columns_from};
-ghost use Rattle.life_codes.specs.Words.{AreLengths, IsSmall, word_columns, words_text};
+ghost use Rattle.life_codes.specs.Words.{AreLengths, HoldsRows, IsFrameOf, IsSmall, IsWithin, word_columns};
 
 use crate::frame::Frame;
-use crate::marks::marks_of;
-use crate::measure::{Lengths, mark_length, zeros_length};
+use crate::marks::{ABOVE, ROWS, columns_of, mark_cells};
+use crate::measure::{Lengths, zeros_length};
+use crate::narrow::{NARROW, narrow_lengths};
 use life_shape::Orient;
 
 /// How long the texts of cells and of their mirror image are, turned by each of four maps.
@@ -25,7 +26,7 @@ pub struct FourLengths {
 }
 
 /// How many bits are not set before the lowest that is, and the bits after that one.
-fn next_column(rest: u64) -> (usize, u64)
+pub fn next_column(rest: u64) -> (usize, u64)
     requires { 0 < rest }
     ensures small { result.0 < 64 }
     ensures live { bit_at rest result.0 ≡ 1 }
@@ -36,8 +37,9 @@ fn next_column(rest: u64) -> (usize, u64)
     (zeros as usize, rest >> zeros >> 1)
 }
 
-/// How long the text of a strip is, whose columns that are not 0 are marked.
-fn word_lengths(word: u64, wide: usize) -> Lengths
+/// How long the text of a strip is, whose columns that are not 0 are marked, told from one marked column to the next.
+#[inline(never)]
+fn long_lengths(word: u64, wide: usize) -> Lengths
     requires narrow { wide ≤ 64 }
     requires beyond { (i : ℕ) → wide ≤ i → bit_at word i ≡ 0 }
     ensures forward { result.forward ≡ length (columns_text 0 (columns_from false (word_columns wide word))) }
@@ -68,38 +70,76 @@ fn word_lengths(word: u64, wide: usize) -> Lengths
     }
 }
 
-/// How long the text of some strips is.
-fn words_lengths(words: &[u64], wide: usize, strips: usize) -> Lengths
-    requires some { 0 < strips }
-    requires strips { strips ≤ length words.now }
-    requires few { strips ≤ 64 }
+/// How long the text of a strip is, whose columns that are not 0 are marked.
+fn word_lengths(word: u64, wide: usize) -> Lengths
     requires narrow { wide ≤ 64 }
-    requires beyond { (k i : ℕ) → k < length words.now → wide ≤ i → bit_at (slice_index words.now k) i ≡ 0 }
-    ensures forward { result.forward ≡ length (words_text words.now wide strips false) }
-    ensures backward { result.backward ≡ length (words_text words.now wide strips true) }
+    requires beyond { (i : ℕ) → wide ≤ i → bit_at word i ≡ 0 }
+    ensures forward { result.forward ≡ length (columns_text 0 (columns_from false (word_columns wide word))) }
+    ensures backward { result.backward ≡ length (columns_text 0 (columns_from true (word_columns wide word))) }
+    ensures small_forward { result.forward ≤ wide }
+    ensures small_backward { result.backward ≤ wide }
 {
-    let mut forward = 0;
-    let mut backward = 0;
+    if wide <= NARROW {
+        narrow_lengths(word, wide)
+    } else {
+        long_lengths(word, wide)
+    }
+}
+
+/// How long the texts of cells of a frame and of their mirror image are, which stand in these rows.
+#[inline(always)]
+fn lengths_down(rows: &[u64], frame: Frame) -> Lengths
+    requires room { length rows.now ≡ 69 }
+    requires bounded { IsBounded frame }
+    requires small { IsSmall frame }
+    requires within { IsWithin rows.now (wide_of frame) }
+    ensures lengths { (m : Orientation) (cells : List Cell) → IsFrameOf frame m cells → HoldsRows rows.now (map (cell_in_frame m frame) cells) → AreLengths result (from_list cells) m }
+{
+    let wide = frame.width();
+    let strips = frame.strips();
+    let mut forward = strips - 1;
+    let mut backward = strips - 1;
     'strips: for strip in 0..strips {
-        let lengths = word_lengths(words[strip], wide);
-        let mark = mark_length(strip);
-        forward += lengths.forward + mark;
-        backward += lengths.backward + mark;
+        let word = columns_of(rows, ABOVE + 5 * strip);
+        let lengths = word_lengths(word, wide);
+        forward += lengths.forward;
+        backward += lengths.backward;
     }
     Lengths { forward, backward }
 }
 
-/// How long the text of the strips is that a frame takes when it is turned.
-fn turned_lengths(words: &[u64], frame: Frame, orient: Orient) -> Lengths
-    requires room { length words.now ≡ 13 }
+/// How long they are where the cells are turned upside down: the strips are read from the bottom.
+#[inline(always)]
+fn lengths_up(rows: &[u64], frame: Frame) -> Lengths
+    requires room { length rows.now ≡ 69 }
     requires bounded { IsBounded frame }
     requires small { IsSmall frame }
-    requires beyond { (k i : ℕ) → k < length words.now → wide_of (turned_frame (orientation orient) frame) ≤ i → bit_at (slice_index words.now k) i ≡ 0 }
-    ensures forward { result.forward ≡ length (words_text words.now (wide_of (turned_frame (orientation orient) frame)) (strips_of (turned_frame (orientation orient) frame)) false) }
-    ensures backward { result.backward ≡ length (words_text words.now (wide_of (turned_frame (orientation orient) frame)) (strips_of (turned_frame (orientation orient) frame)) true) }
+    requires within { IsWithin rows.now (wide_of frame) }
+    ensures lengths { (m : Orientation) (cells : List Cell) → IsFrameOf frame m cells → HoldsRows rows.now (map (cell_in_frame m frame) cells) → AreLengths result (image_under (from_list cells) m) FlipY }
 {
-    let turned = frame.turned(orient);
-    words_lengths(words, turned.width(), turned.strips())
+    let wide = frame.width();
+    let strips = frame.strips();
+    let high = frame.height();
+    let mut forward = strips - 1;
+    let mut backward = strips - 1;
+    'strips: for strip in 0..strips {
+        let word = columns_of(rows, high - 1 - 5 * strip);
+        let lengths = word_lengths(word, wide);
+        forward += lengths.forward;
+        backward += lengths.backward;
+    }
+    Lengths { forward, backward }
+}
+
+/// Those of the mirror image.
+fn mirrored(lengths: Lengths) -> Lengths
+    ensures forward { result.forward ≡ lengths.backward }
+    ensures backward { result.backward ≡ lengths.forward }
+{
+    Lengths {
+        forward: lengths.backward,
+        backward: lengths.forward,
+    }
 }
 
 /// How long the texts of cells and of their mirror image are, turned by each of four maps.
@@ -115,11 +155,14 @@ pub fn four_lengths(cells: &[(i32, i32)], frame: Frame) -> FourLengths
     ensures swap { AreLengths result.swap (from_list cells.now) Swap }
     ensures swap_half { AreLengths result.swap_half (from_list cells.now) SwapHalf }
 {
-    let marks = marks_of(cells, frame);
+    let mut rows = [0; ROWS];
+    let mut columns = [0; ROWS];
+    mark_cells(&mut rows, &mut columns, cells, frame);
+    let swapped = frame.turned(Orient::Swap);
     FourLengths {
-        same: turned_lengths(&marks.same, frame, Orient::Same),
-        half: turned_lengths(&marks.half, frame, Orient::Half),
-        swap: turned_lengths(&marks.swap, frame, Orient::Swap),
-        swap_half: turned_lengths(&marks.swap_half, frame, Orient::SwapHalf),
+        same: lengths_down(&rows, frame),
+        half: mirrored(lengths_up(&rows, frame)),
+        swap: lengths_down(&columns, swapped),
+        swap_half: mirrored(lengths_up(&columns, swapped)),
     }
 }

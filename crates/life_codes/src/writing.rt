@@ -1,5 +1,5 @@
 //! Writing the texts of grids.
-ghost use Rattle.std.specs.Prelude.{◌≡◌, ◌*◌, ◌<◌, ◌++◌, ◌+◌, ◌≤◌, All, OnOk, length, slice_index};
+ghost use Rattle.std.specs.Prelude.{◌≡◌, ◌*◌, ◌<◌, ◌++◌, ◌+◌, ◌≤◌, All, OnOk, [], length, slice_index};
 ghost use Rattle.life_shape.specs.Dots.{strip_mark};
 ghost use Rattle.life_shape.specs.Wechsler.{columns_text, digit, short_zeros, zeros};
 ghost use Rattle.life_codes.specs.Grids.{columns_from, grid_text, strip_of};
@@ -32,8 +32,8 @@ fn push_short(text: &mut Vec<u8>, count: usize) -> Result<(), AllocError>
     Ok(())
 }
 
-/// Adds a run of so many zeros.
-fn push_zeros(text: &mut Vec<u8>, count: usize) -> Result<(), AllocError>
+/// Adds a run of so many zeros, however many.
+fn push_run(text: &mut Vec<u8>, count: usize) -> Result<(), AllocError>
     ensures { OnOk result (text.new.items ≡ text.old.items ++ zeros count) }
 {
     let mut left = count;
@@ -43,6 +43,17 @@ fn push_zeros(text: &mut Vec<u8>, count: usize) -> Result<(), AllocError>
         left -= 39;
     }
     push_short(text, left)
+}
+
+/// Adds a run of so many zeros. Most columns have none before them.
+#[inline(always)]
+fn push_zeros(text: &mut Vec<u8>, count: usize) -> Result<(), AllocError>
+    ensures { OnOk result (text.new.items ≡ text.old.items ++ zeros count) }
+{
+    if count > 0 {
+        push_run(text, count)?;
+    }
+    Ok(())
 }
 
 /// The value at a place of a strip, which is read from either end.
@@ -58,6 +69,7 @@ pub fn value_at(strip: &[u8], place: usize, back: bool) -> u8
 }
 
 /// Adds the text of a strip.
+#[inline(always)]
 fn push_strip(text: &mut Vec<u8>, strip: &[u8], back: bool) -> Result<(), AllocError>
     requires { All (λ v. v < 36) strip.now }
     ensures { OnOk result (text.new.items ≡ text.old.items ++ columns_text 0 (columns_from back strip.now)) }
@@ -94,8 +106,23 @@ fn begin_strip(text: &mut Vec<u8>, strip: usize) -> Result<(), AllocError>
     Ok(())
 }
 
-/// Writes the text of a grid in place of another.
-pub fn write_text(
+/// Adds the text of the first strip of a grid.
+pub fn begin_text(
+    text: &mut Vec<u8>,
+    values: &[u8],
+    wide: usize,
+    back: bool,
+) -> Result<(), AllocError>
+    requires room { wide ≤ length values.now }
+    requires small { All (λ v. v < 36) values.now }
+    requires empty { text.old.items ≡ [] }
+    ensures { OnOk result (text.new.items ≡ columns_text 0 (columns_from back (strip_of values.now wide 0))) }
+{
+    push_strip(text, strip_of(values, wide, 0), back)
+}
+
+/// Adds the strips of a grid after the first.
+pub fn end_text(
     text: &mut Vec<u8>,
     values: &[u8],
     wide: usize,
@@ -105,10 +132,10 @@ pub fn write_text(
     requires some { 0 < strips }
     requires room { length values.now ≡ strips * wide }
     requires small { All (λ v. v < 36) values.now }
+    requires begun { text.old.items ≡ columns_text 0 (columns_from back (strip_of values.now wide 0)) }
     ensures { OnOk result (text.new.items ≡ grid_text values.now wide strips back) }
 {
-    text.clear();
-    'strips: for strip in 0..strips {
+    'strips: for strip in 1..strips {
         begin_strip(text, strip)?;
         push_strip(text, strip_of(values, wide, strip), back)?;
     }

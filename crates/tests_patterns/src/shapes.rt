@@ -7,8 +7,8 @@ use std::alloc::Global;
 use std::cmp::Ordering;
 use std::test::Fail;
 
-// The shape of cells of the field, and its corner.
-fn shape_of(alloc: Global, cells: &[(i32, i32)]) -> Result<(Shape, (i32, i32)), CellFault> {
+/// The shape of cells of the field, and its corner.
+pub fn shape_of(alloc: Global, cells: &[(i32, i32)]) -> Result<(Shape, (i32, i32)), CellFault> {
     let list = CellList::of(alloc, cells)?;
     if !list.fits() {
         return Err(CellFault::OutOfField);

@@ -1,4 +1,4 @@
-use Rattle.std.proofs.Common.{◌≡◌, ◌+◌, ◌/◌, ◌<◌, ℤ, pos, negsuc, ◌-ℤ◌, ◌≤ℤ◌, T, Fits, w32, w64, FitsSigned, to_z, of_z, ap, subst, ◌∙◌, sym, arith}
+use Rattle.std.proofs.Common.{◌≡◌, ◌+◌, ◌/◌, ◌<◌, ℤ, pos, negsuc, ◌-ℤ◌, ◌≤ℤ◌, T, Fits, w32, FitsSigned, to_z, of_z, ap, subst, ◌∙◌, sym, arith}
 use Rattle.std.specs.Prelude.{nat_abs}
 use lib.Signed.{non_neg}
 use Rattle.std.proofs.lemmas.Int.{ints, to_z-of_z}
@@ -6,7 +6,7 @@ use Rattle.life_model.proofs.Cells.{pair}
 use Rattle.life_cells.specs.Limits.{coordinate_limit}
 use Rattle.life_codes.proofs.grid.place_in.Goals as goal
 
-casts : (z : ℤ) → pos 0 ≤ℤ z → z ≤ℤ pos 33554432 → T (non_neg z) × Fits w64 (nat_abs z)
+casts : (z : ℤ) → pos 0 ≤ℤ z → z ≤ℤ pos 33554432 → T (non_neg z) × Fits w32 (nat_abs z)
 casts (pos n) h k = (tt, omega (arith, ints))
 casts (negsuc n) h k = absurd (omega (arith, ints))
 
@@ -39,8 +39,8 @@ module _ (x low high : ℤ) (a : negsuc 16777215 ≤ℤ low) (b : high ≤ℤ po
   strip_within : (z : ℤ) → z ≡ x -ℤ low → nat_abs z / 5 < (nat_abs (high -ℤ low) + 5) / 5
   strip_within z e = let h = far_within z e in omega arith
 
-pub overflow_cast-result : goal.overflow_cast-result
-overflow_cast-result c =
+pub overflow_cast-column : goal.overflow_cast-column
+overflow_cast-column c =
     let f = c.args.frame in
     let is = ap (λ p. p.0) c.turn-x.ensures in
     let l = subst (λ z. f.left ≤ℤ z) (sym is) c.requires.inside.left in
@@ -48,8 +48,8 @@ overflow_cast-result c =
     let e = far c.turn-x.result.0 f.left f.right c.requires.bounded.left c.requires.bounded.right l r in
     casts _ (far_low c.turn-x.result.0 f.left f.right c.requires.bounded.left c.requires.bounded.right l r _ e) (far_high c.turn-x.result.0 f.left f.right c.requires.bounded.left c.requires.bounded.right l r _ e)
 
-pub overflow_sub-result-2 : goal.overflow_sub-result-2
-overflow_sub-result-2 c =
+pub overflow_sub-row : goal.overflow_sub-row
+overflow_sub-row c =
     let f = c.args.frame in
     let is = ap (λ p. p.1) c.turn-x.ensures in
     let l = subst (λ z. f.top ≤ℤ z) (sym is) c.requires.inside.above in
@@ -57,8 +57,8 @@ overflow_sub-result-2 c =
     let e = far c.turn-x.result.1 f.top f.bottom c.requires.bounded.top c.requires.bounded.bottom l r in
     fits c.turn-x.result.1 f.top f.bottom c.requires.bounded.top c.requires.bounded.bottom l r
 
-pub overflow_cast-result-2 : goal.overflow_cast-result-2
-overflow_cast-result-2 c =
+pub overflow_cast-row : goal.overflow_cast-row
+overflow_cast-row c =
     let f = c.args.frame in
     let is = ap (λ p. p.1) c.turn-x.ensures in
     let l = subst (λ z. f.top ≤ℤ z) (sym is) c.requires.inside.above in

@@ -16,9 +16,9 @@ returns-in-Some c =
 
 pub returns-in-Some-2 : goal.returns-in-Some-2
 returns-in-Some-2 c =
-    on_ok_weaker c.add_cells.result
+    on_ok_weaker c.add_wide.result
     (λ new. new ∙ ap (λ G. fold with_text c.args.least.now (turned_bodies G)) (ap from_list c.as_slice-cells.ensures.cells ∙ from_list-cells c.args.list.now))
-    c.add_cells.ensures
+    c.add_wide.ensures
 
 pub returns-in_ok-shape-in_default : goal.returns-in_ok-shape-in_default
 returns-in_ok-shape-in_default c =

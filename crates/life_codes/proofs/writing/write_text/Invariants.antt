@@ -1,9 +1,0 @@
-use Rattle.std.proofs.Common.{◌≡◌}
-use Rattle.life_shape.specs.Wechsler.{columns_text}
-use Rattle.life_shape.proofs.Columns.{joined}
-use Rattle.life_codes.specs.Grids.{columns_from, strip_of}
-use Rattle.life_codes.proofs.writing.write_text.Given as goal
-
--- the strips so far are written
-abbrev pub invariant-strips : goal.invariant-strips
-invariant-strips l = l.text.items ≡ joined (λ k. columns_text 0 (columns_from l.back (strip_of l.values l.wide k))) l.strip
