@@ -85,6 +85,13 @@ impl Choice {
         }
     }
 
+    /// The text; no byte where there is none.
+    pub fn text(&self) -> &[u8]
+        ensures { result.now ≡ unwrap_or self.now [] }
+    {
+        &self.text
+    }
+
     /// The text itself; no byte where there is none.
     pub fn into_text(self) -> Vec<u8>
         ensures { result.items ≡ unwrap_or self [] }

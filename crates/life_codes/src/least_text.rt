@@ -306,6 +306,13 @@ impl LeastText {
         Ok(())
     }
 
+    /// The text so far; no byte where no set was added.
+    pub fn text(&self) -> &[u8]
+        ensures { result.now ≡ unwrap_or self.now [] }
+    {
+        self.least.text()
+    }
+
     /// The text itself; no byte where no set was added.
     pub fn into_text(self) -> Vec<u8>
         ensures { result.items ≡ unwrap_or self [] }

@@ -8,3 +8,4 @@ pub mod FirstLarger
 pub mod Beyond
 pub mod SameObjects
 pub mod LaterAnswers
+pub mod Halves

@@ -1,5 +1,5 @@
 //! Codes of objects.
-ghost use Rattle.std.specs.Prelude.{◌≡◌, ◌+◌, ◌≤◌, IfOk, OnOk};
+ghost use Rattle.std.specs.Prelude.{◌≡◌, ◌+◌, ◌≤◌, IfOk, IsTrue, OnOk};
 ghost use Rattle.std.specs.List.{fold};
 ghost use Rattle.life_shape.specs.TextOrder.{least_text};
 ghost use Rattle.life_answer.specs.Apgcode.{bodies, code_of, turned_bodies};
@@ -21,7 +21,19 @@ fn add_plane<P: Plane>(least: &mut LeastText, plane: &P) -> Result<(), AllocErro
     least.add(&plane.cells()?)
 }
 
-/// The least text of all phases of one period, in all eight orientations.
+/// Whether this is the least text of what a plane holds, in all eight orientations.
+fn has_text<P: Plane>(alloc: Global, plane: &P, text: &[u8]) -> Result<bool, AllocError>
+    requires { P.steps_made plane.now ≤ AGE_LIMIT }
+    ensures { IfOk result
+        (λ same. IsTrue same → least_text (turned_bodies (P.members plane.now)) ≡ text.now) }
+{
+    let mut own = LeastText::new(alloc);
+    add_plane(&mut own, plane)?;
+    Ok(own.text() == text)
+}
+
+/// The least text of all phases of one period, in all eight orientations. Where the phase after half the period is the
+/// first one, turned and moved, the second half of the phases has no other texts than the first.
 fn least_body<P: Plane>(
     alloc: Global,
     plane: P,
@@ -35,8 +47,13 @@ fn least_body<P: Plane>(
     let mut plane = plane;
     let mut least = LeastText::new(alloc);
     add_plane(&mut least, &plane)?;
-    for _ in 1..period {
+    let mut first = Vec::new(alloc);
+    first.extend_from_slice(least.text())?;
+    for n in 1..period {
         plane.step(rule)?;
+        if n > 1 && n + n == period && has_text(alloc, &plane, &first)? {
+            return Ok(least.into_text());
+        }
         add_plane(&mut least, &plane)?;
     }
     Ok(least.into_text())
