@@ -5,3 +5,6 @@ pub mod Counts
 pub mod Rises
 pub mod Edges
 pub mod Alone
+pub mod EndCells
+pub mod Lowest
+pub mod Shifts

@@ -8,6 +8,7 @@ use Rattle.life_bits.specs.declared.tile.Tile.{Tile}
 use Rattle.life_bits.specs.Area.{Nine, tile_cell}
 use Rattle.life_slots.specs.Cells.{block_cells}
 use Rattle.life_slots.specs.Slots.{empty_tile}
+use Rattle.life_slots.specs.Ends.{HasEnds, IsMember}
 use Rattle.life_board.specs.declared.small.Square.{Square}
 
 -- the cells of the 64 rows of a tile whose first cell is at (left, top)
@@ -84,3 +85,11 @@ pub record HasRoom (square : Square) : Type 0 where
 pub record IsOpen (square : Square) : Type 0 where
   pub first : square.first ≡ 8
   pub end : square.end ≡ 56
+
+-- no cell is in a set
+abbrev pub HasNoMember : Generation → Type 0
+HasNoMember G = (c : Cell) → IsMember G c → ⊥
+
+-- the first and the last of the cells of a set
+abbrev pub AreEnds : Generation → Cell × Cell → Type 0
+AreEnds G ends = HasEnds (IsMember G) (record { first = ends.0; last = ends.1 })

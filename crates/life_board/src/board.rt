@@ -9,7 +9,7 @@ use std::alloc::{AllocError, Global};
 use std::marker::Model;
 
 /// A plane that keeps its live cells in one square of 64 by 64 cells, as rows of bits, for as long as they stay in it, and then in
-/// tiles. In the square a step takes no memory.
+/// tiles. In the square a step, the span and a comparison with a list or with another square take no memory.
 #[derive(Drop)]
 pub struct Board {
     kind: Kind,

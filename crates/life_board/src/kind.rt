@@ -9,6 +9,7 @@ ghost use Rattle.life_plane.specs.Offsets.{AreNotTranslates, IsOffset};
 ghost use Rattle.life_board.specs.Kinds.{age_of, members_of, HasRoom, IsKept};
 ghost use Rattle.life_board.specs.Squares as squares;
 
+use crate::offset::{offset_from, offset_from_square};
 use crate::placing::corner_around;
 use crate::small::Square;
 use life_cells::{CellList, Rule};
@@ -33,6 +34,20 @@ fn as_tiles(square: &Square) -> Result<TilePlane, AllocError>
     TilePlane::at_age(square.alloc, &square.cells()?, square.age)
 }
 
+/// The cells of a list at some age as tiles.
+///
+/// It stands apart in the program too: within `Kind::of` each square would first make room for tiles.
+#[inline(never)]
+fn tiles_of(alloc: Global, list: &CellList, age: u32) -> Result<Kind, AllocError>
+    requires age { age ≤ age_limit }
+    requires within { All (IsWithin age) (generation.cells list.now) }
+    ensures kept { IfOk result IsKept }
+    ensures cells { IfOk result (λ kind. members_of kind ≡ list.now) }
+    ensures age { IfOk result (λ kind. age_of kind ≡ age) }
+{
+    Ok(Kind::Large(TilePlane::at_age(alloc, list, age)?))
+}
+
 impl Kind {
     /// The cells of a list at some age.
     pub fn of(alloc: Global, list: &CellList, age: u32) -> Result<Kind, AllocError>
@@ -45,8 +60,25 @@ impl Kind {
         let cells = list.as_slice();
         match Square::of(alloc, cells, corner_around(cells), age) {
             Some(square) => Ok(Kind::Small(square)),
-            None => Ok(Kind::Large(TilePlane::at_age(alloc, list, age)?)),
+            None => tiles_of(alloc, list, age),
         }
+    }
+
+    /// Keeps the cells in tiles from now on.
+    ///
+    /// It stands apart in the program too: within `step` each step of a square would first make room for tiles.
+    #[inline(never)]
+    fn leave_square(&mut self) -> Result<(), AllocError>
+        requires { IsKept self.old }
+        ensures kept { IsKept self.new }
+        ensures cells { members_of self.new ≡ members_of self.old }
+        ensures age { age_of self.new ≡ age_of self.old }
+        ensures room { OnOk result (HasRoom self.new) }
+    {
+        if let Kind::Small(square) = self {
+            *self = Kind::Large(as_tiles(square)?);
+        }
+        Ok(())
     }
 
     /// Makes room for a next generation that may have a cell outside a square.
@@ -59,7 +91,7 @@ impl Kind {
     {
         if let Kind::Small(square) = self {
             if square.is_full() {
-                *self = Kind::Large(as_tiles(square)?);
+                return self.leave_square();
             }
         }
         Ok(())
@@ -137,7 +169,7 @@ impl Kind {
         ensures apart { IfOk result (λ offset. IfNone offset (AreNotTranslates list.now (members_of self.now))) }
     {
         match self {
-            Kind::Small(square) => square.offset_from(list),
+            Kind::Small(square) => Ok(offset_from(square, list.as_slice())),
             Kind::Large(plane) => plane.offset_from(list),
         }
     }
@@ -149,9 +181,16 @@ impl Kind {
         ensures offset { IfOk result (λ offset. IfSome offset (λ d. IsOffset (members_of other.now) (members_of self.now) d)) }
         ensures apart { IfOk result (λ offset. IfNone offset (AreNotTranslates (members_of other.now) (members_of self.now))) }
     {
-        if let Kind::Large(to) = self {
-            if let Kind::Large(from) = other {
-                return to.offset_from_plane(from);
+        match self {
+            Kind::Small(to) => {
+                if let Kind::Small(from) = other {
+                    return Ok(offset_from_square(to, from));
+                }
+            }
+            Kind::Large(to) => {
+                if let Kind::Large(from) = other {
+                    return to.offset_from_plane(from);
+                }
             }
         }
         self.offset_from(&other.cells()?)

@@ -4,7 +4,11 @@
 #![tactic(auto)]
 
 mod board;
+mod covering;
+mod ends;
 mod kind;
+mod listing;
+mod offset;
 mod placing;
 mod rows;
 mod small;

@@ -46,6 +46,20 @@ fn advance_by(tile: &mut Tile, first: usize, end: usize, logic: &Logic)
     }
 }
 
+/// Makes a tile its next generation by any rule, as `advance` says.
+///
+/// It stands apart in the program too: within `advance` a step by Conway's rule would first make room for the logic of any rule.
+#[inline(never)]
+fn advance_by_rule(tile: &mut Tile, first: usize, end: usize, rule: &Rule)
+    requires first { 0 < first }
+    requires end { end ≤ 62 }
+    requires void { IsVoidOutside tile.old.rows first end }
+    ensures next { (x y : ℕ) → x < 64 → y < 64 → tile_cell tile.new x y ≡ next_in_area rule.now (alone tile.old) x y }
+    ensures void { IsVoidOutside tile.new.rows (first - 1) (end + 1) }
+{
+    advance_by(tile, first, end, &Logic::of(rule));
+}
+
 /// Makes a tile its next generation, where all cells around it are dead and no row outside a range has a live cell.
 pub fn advance(tile: &mut Tile, first: usize, end: usize, rule: &Rule)
     requires first { 0 < first }
@@ -54,10 +68,10 @@ pub fn advance(tile: &mut Tile, first: usize, end: usize, rule: &Rule)
     ensures next { (x y : ℕ) → x < 64 → y < 64 → tile_cell tile.new x y ≡ next_in_area rule.now (alone tile.old) x y }
     ensures void { IsVoidOutside tile.new.rows (first - 1) (end + 1) }
 {
-    // Which logic it is, is found out here once for all rows.
-    match Logic::of(rule) {
-        Logic::Life => advance_by(tile, first, end, &Logic::Life),
-        logic => advance_by(tile, first, end, &logic),
+    if *rule == Rule::life() {
+        advance_by(tile, first, end, &Logic::Life);
+    } else {
+        advance_by_rule(tile, first, end, rule);
     }
 }
 

@@ -1,20 +1,21 @@
 //! A pattern in one square of cells.
-ghost use Rattle.std.specs.Prelude.{◌≡◌, ◌≢◌, ◌⊎◌, ◌↔◌, ℕ, ℤ, pos, negsuc, ◌+◌, ◌+ℤ◌, ◌<◌, ◌≤◌, ◌≤ℤ◌, All, IfNone, IfOk, IfSome, [], false, length, slice_index};
+ghost use Rattle.std.specs.Prelude.{◌≡◌, ◌≢◌, ◌⊎◌, ◌↔◌, ℕ, ℤ, pos, negsuc, ◌+◌, ◌+ℤ◌, ◌<◌, ◌≤◌, ◌≤ℤ◌, All, IfOk, IfSome, MatchOption, [], false, length, slice_index};
 ghost use Rattle.std.specs.Int.{bit_at};
 ghost use Rattle.life_model.specs.Evolution.{next};
 ghost use Rattle.life_model.specs.Generation.{from_list, insert, size};
 ghost use Rattle.life_bits.specs.Area.{tile_cell};
 ghost use Rattle.life_cells.specs.Limits.{IsWithin, age_limit};
 ghost use Rattle.life_plane.specs.Span.{set_span};
-ghost use Rattle.life_plane.specs.Offsets.{AreNotTranslates, IsOffset};
 ghost use Rattle.life_slots.specs.Cells.{block_cells, row_cells};
-ghost use Rattle.life_board.specs.Squares.{members_of, HasRoom, IsInner, IsKept, IsOpen, IsReached, IsVoidOutside};
+ghost use Rattle.life_board.specs.Squares.{members_of, AreEnds, HasNoMember, HasRoom, IsInner, IsKept, IsOpen, IsReached, IsVoidOutside};
 
+use crate::ends::{first_in, last_in};
+use crate::listing::push_row;
 use crate::rows::{advance, end_of_rows, first_row};
 use life_bits::Tile;
 use life_cells::{CellList, Rule};
-use life_plane::{offset_between, span_of};
-use life_slots::{Rim, push_row};
+use life_plane::move_between;
+use life_slots::Rim;
 use std::alloc::{AllocError, Global};
 
 /// A list of so few cells is made without growing.
@@ -127,10 +128,9 @@ impl Square {
         ensures members { members_of result ≡ from_list [] }
         ensures age { result.age ≡ age }
     {
-        let tile = Tile::EMPTY;
         Square {
             alloc,
-            tile,
+            tile: Tile::EMPTY,
             left,
             top,
             first: MARGIN as usize,
@@ -232,22 +232,34 @@ impl Square {
         Ok(CellList::from_ordered(cells))
     }
 
+    /// The cell in a column and a row.
+    fn cell_at(&self, x: usize, y: usize) -> (i32, i32)
+        requires kept { IsKept self.now }
+        requires column { x < 64 }
+        requires row { y < 64 }
+        ensures { result ≡ (self.now.left +ℤ pos x, self.now.top +ℤ pos y) }
+    {
+        (self.left + x as i32, self.top + y as i32)
+    }
+
+    /// The first and the last of the live cells, by y and then by x.
+    pub fn ends(&self) -> Option<((i32, i32), (i32, i32))>
+        requires { IsKept self.now }
+        ensures { MatchOption result (HasNoMember (members_of self.now)) (AreEnds (members_of self.now)) }
+    {
+        let (left, top) = first_in(&self.tile, self.first, self.end)?;
+        let (right, bottom) = last_in(&self.tile, self.first, self.end)?;
+        Some((self.cell_at(left, top), self.cell_at(right, bottom)))
+    }
+
     /// How far the last of its cells, by y and then by x, is from the first, or (0, 0) where there is none.
     pub fn span(&self) -> Result<(i32, i32), AllocError>
         requires { IsKept self.now }
         ensures { IfOk result (λ span. span ≡ set_span (members_of self.now)) }
     {
-        let cells = self.cells()?;
-        Ok(span_of(cells.as_slice()))
-    }
-
-    /// How far its cells are from the listed ones, where they are those moved as a whole.
-    pub fn offset_from(&self, list: &CellList) -> Result<Option<(i32, i32)>, AllocError>
-        requires { IsKept self.now }
-        ensures offset { IfOk result (λ offset. IfSome offset (λ d. IsOffset list.now (members_of self.now) d)) }
-        ensures apart { IfOk result (λ offset. IfNone offset (AreNotTranslates list.now (members_of self.now))) }
-    {
-        let cells = self.cells()?;
-        Ok(offset_between(list.as_slice(), cells.as_slice()))
+        Ok(match self.ends() {
+            Some(ends) => move_between(ends.0, ends.1),
+            None => (0, 0),
+        })
     }
 }

@@ -1,0 +1,16 @@
+use Rattle.std.proofs.Common.{true, sym, ap, ◌∙◌}
+use Rattle.life_bits.specs.Flags.{as_bit}
+use Rattle.life_slots.proofs.Splits.{same_flag}
+use Rattle.life_tile.proofs.Covered.{is_none, none_is, bits_left, no_bits_left}
+use Rattle.life_board.proofs.covering.has_row.Goals as goal
+
+pub returns : goal.returns
+returns c = (
+  λ clear. record {
+    each = λ j inside one.
+        same_flag _ true (sym (c.row_from.ensures j inside) ∙ bits_left c.args.word c.row_from.result j c.row_from.type_inv inside (is_none _ clear) one);
+  },
+  λ row. none_is _
+      (no_bits_left c.args.word c.row_from.result c.ranges.word.fits c.row_from.type_inv
+      (λ j inside one. c.row_from.ensures j inside ∙ ap as_bit (row.each j inside one))),
+)
