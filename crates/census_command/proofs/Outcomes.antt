@@ -77,8 +77,8 @@ module _ (shelf : Tellings) (before after : State) where
   folders_say (run.Bundle fault) limit fs question h = absurd h
   folders_say (run.Folder fault) limit fs question h = inl (refl, inl (fault, h.0), record { written = h.1.written; sound = h.1.sound })
   folders_say run.TooLong limit fs question h = inl (refl, inr h.0, record { written = h.1.written; sound = h.1.sound })
-  folders_say run.Memory limit fs question (inl h) = inr (inl (refl, inl h.1.written, h.1.sound))
-  folders_say run.Memory limit fs question (inr h) = inr (inl (refl, inr h.0, h.1))
+  folders_say (run.Memory ticket) limit fs question (inl h) = inr (inl (refl, inl h.1.written, h.1.sound))
+  folders_say (run.Memory ticket) limit fs question (inr h) = inr (inl (refl, inr h.0, h.1))
   folders_say run.Read limit fs question h = inr (inr (refl, inr h.0, inl h.1.written, λ up. h.1.written))
   folders_say run.Write limit fs question h = inr (inr (refl, inl (inr h.1.write), inr h.0, unread_flag h.1.read))
 
@@ -114,7 +114,7 @@ module _ (shelf : Tellings) (before after : State) where
   run_says (run.Bundle fault) Input question h = inl (refl, inl (fault, h.0), h.1)
   run_says (run.Folder fault) Input question h = absurd h
   run_says run.TooLong Input question h = inl (refl, inr h.0, h.1)
-  run_says run.Memory Input question h = inr (inl (refl, h.0, h.1))
+  run_says (run.Memory ticket) Input question h = inr (inl (refl, h.0, h.1))
   run_says run.Read Input question h = inr (inr (refl, inl (inl h.read), inl h.written, λ up. h.written))
   run_says run.Write Input question h = inr (inr (refl, inl (inr h.1.write), inr h.0, unread_flag h.1.read))
   run_says e (Folders limit fs) question h = folders_say e limit fs question h

@@ -1,5 +1,5 @@
 -- A census that goes on past what can't be read: what was lost, and what it says.
-use Rattle.std.specs.Prelude.{◌≡◌, ◌⊎◌, ℕ, Bool, true, false, List, [], ◌∷◌, ◌++◌, Option, codes}
+use Rattle.std.specs.Prelude.{◌≡◌, ◌⊎◌, ℕ, Bool, true, false, List, [], ◌∷◌, ◌++◌, Option, None, codes}
 use Rattle.std.specs.List.{FoldsTo, flat_map}
 use Rattle.life_answer.specs.declared.question.Question.{Question}
 use Rattle.census_bundle.specs.declared.bundle.Folder.{Folder}
@@ -13,7 +13,8 @@ use Rattle.census_folders.specs.declared.keeping.Kept.{Kept}
 use Rattle.census_folders.specs.declared.loss.Loss.{Loss}
 use Rattle.census_errors.specs.Errors.{run_error_of_folders, run_status}
 use Rattle.census_errors.specs.Messages.{error_line}
-use Rattle.census_errors.specs.Sayings.{run_line, said_if}
+use Rattle.census_errors.specs.Places.{kept_place}
+use Rattle.census_errors.specs.Sayings.{explained_at, run_fault, run_line, run_spot, said_if}
 use Rattle.census_command.specs.BesideReports.{SaysOfReport}
 use Rattle.census_errors.specs.Shelves.{Tellings}
 use Rattle.census_errors.specs.ErrorStreams.{Errors, Tells}
@@ -67,6 +68,11 @@ pub record HasTooMany (shelf : Tellings) (limit : Option ℕ) (recursive : Bool)
 abbrev pub error_lines : Bool → RunError → List ℕ
 error_lines explain error = error_line (command.Run error) ++ said_if explain (run_line error)
 
+-- the same of an error that cut a report short, with the pattern where memory ran out, if it is known
+abbrev pub cut_lines : Bool → RunError → List ℕ
+cut_lines explain error =
+    error_line (command.Run error) ++ said_if explain (explained_at (run_fault error) None (run_spot error) (kept_place error))
+
 -- These folders were read after this was lost on the way to them, and the lines tell what was lost.
 pub record KeepsInto (listed : List ℕ → Told) (held : List ℕ → List ℕ → Told) (limit : Option ℕ) (folders : List (List ℕ)) (way : List Loss)
     (gathered : Gathered) : Type 0 where
@@ -78,11 +84,11 @@ pub record KeepsInto (listed : List ℕ → Told) (held : List ℕ → List ℕ 
 -- why these folders were not read: out of memory, a folder too many, or a file
 abbrev pub StopsKeepingIn : (List ℕ → Told) → (List ℕ → List ℕ → Told) → Option ℕ → List (List ℕ) → RunError → Type 0
 StopsKeepingIn listed held limit folders error =
-    (error ≡ Memory) ⊎ ((fault : FoldersFault) × (error ≡ run_error_of_folders fault) × StopsKeepingAt listed held limit folders fault)
+    (error ≡ Memory None) ⊎ ((fault : FoldersFault) × (error ≡ run_error_of_folders fault) × StopsKeepingAt listed held limit folders fault)
 
 -- why there is no bundle
 abbrev pub StopsKeeping : Tellings → Option ℕ → Bool → List (List ℕ) → RunError → Type 0
-StopsKeeping shelf limit recursive words error = (error ≡ Memory) ⊎ HasTooMany shelf limit recursive words error
+StopsKeeping shelf limit recursive words error = (error ≡ Memory None) ⊎ HasTooMany shelf limit recursive words error
 
 -- # What is written and told
 
@@ -103,7 +109,7 @@ pub record KeepsWhole (shelf : Tellings) (limit : Option ℕ) (recursive : Bool)
 
 -- out of memory, or standard output has failed
 abbrev pub IsCut : RunError → State → Type 0
-IsCut Memory after = IsSound after
+IsCut (Memory ticket) after = IsSound after
 IsCut Write after = WriteFails after
 IsCut error after = ⊥
 
@@ -117,7 +123,7 @@ pub record KeepsPart (shelf : Tellings) (limit : Option ℕ) (recursive : Bool) 
   pub unread : after.unread ≡ before.unread
   pub error : RunError
   pub cut : IsCut error after
-  pub told : Tells (lost_lines lost ++ error_lines explain error) old new
+  pub told : Tells (lost_lines lost ++ cut_lines explain error) old new
   pub status_is : status ≡ run_status error
 
 -- Nothing was read or written, and the error was told.

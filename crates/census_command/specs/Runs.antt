@@ -41,7 +41,7 @@ abbrev pub InputFails : RunError → Question → State → State → Type 0
 InputFails (Bundle fault) question before after = ReadsFault before.unread after.unread fault × WritesNothing before after
 InputFails (FolderFault fault) question before after = ⊥
 InputFails TooLong question before after = ReadsTooMuch before after × WritesNothing before after
-InputFails Memory question before after =
+InputFails (Memory ticket) question before after =
     ((after.written ≡ before.written) ⊎ ReportsInputInPart question before after) × IsSound after
 InputFails Read question before after = ReadFails before after
 InputFails Write question before after = ReportsInputInPart question before after × WriteFails after
@@ -79,7 +79,7 @@ abbrev pub FoldersFail : RunError → Tellings → Option ℕ → List (List ℕ
 FoldersFail (Bundle fault) shelf limit words question before after = ⊥
 FoldersFail (FolderFault fault) shelf limit words question before after = StopsReading shelf limit words (folder_fault.Add fault) × IsUntouched before after
 FoldersFail TooLong shelf limit words question before after = StopsReading shelf limit words folder_fault.TooLong × IsUntouched before after
-FoldersFail Memory shelf limit words question before after =
+FoldersFail (Memory ticket) shelf limit words question before after =
     (StopsReading shelf limit words folder_fault.Memory × IsUntouched before after) ⊎ (ReportsFoldersInPart shelf limit words question before after × IsSound after)
 FoldersFail Read shelf limit words question before after = StopsReading shelf limit words folder_fault.Read × IsUntouched before after
 FoldersFail Write shelf limit words question before after = ReportsFoldersInPart shelf limit words question before after × WriteFails after

@@ -4,8 +4,10 @@ ghost use Rattle.std.specs.List.{FoldsTo};
 ghost use Rattle.life_answer.specs.Questions.{IsAnswered};
 ghost use Rattle.census_folders.specs.Losses.{KeepsFolder, StopsKeepingAt};
 ghost use Rattle.census_folders.specs.declared.loss.Loss.{Loss};
-ghost use Rattle.census_errors.specs.Errors.{run_error_of_folders};
-ghost use Rattle.census_command.specs.Keeps.{IsKept, Keeps, KeepsInto, StopsKeeping, StopsKeepingIn, lost_line, lost_lines};
+ghost use Rattle.census_errors.specs.Errors.{run_error_of_folders, run_status};
+ghost use Rattle.census_command.specs.Keeps.{IsKept, Keeps, KeepsInto, StopsKeeping, StopsKeepingIn};
+ghost use Rattle.census_command.specs.Keeps.{cut_lines, lost_line, lost_lines};
+ghost use Rattle.census_errors.specs.ErrorStreams.{TellsMore};
 ghost use Rattle.census_errors.specs.Shelves.{tellings};
 ghost use Rattle.census_command.specs.Streams.{IsSound};
 ghost use Rattle.census_errors.specs.declared.run_error.RunError.TheVariants.{Memory};
@@ -15,7 +17,8 @@ use crate::streams::Streams;
 use census_bundle::Bundle;
 use census_crew::Gate;
 use census_errors::{
-    CommandError, ErrorStream, RunError, borrowed_words, run_saying, say_if, stop_saying,
+    CommandError, ErrorStream, RunError, borrowed_words, kept_place, run_saying, say_if,
+    stop_saying,
 };
 use census_faults::printable_text;
 use census_folders::{Loss, Shelf, folders_below_each_on, read_folders_on};
@@ -113,6 +116,24 @@ fn status_of_kept(lines: &[u8]) -> u8
     if lines.is_empty() { 0 } else { 4 }
 }
 
+// Tells the error of a report that was not written whole, after what was told before, and gives its exit status.
+fn tell_cut<E: Write>(
+    alloc: Global,
+    error: RunError,
+    explain: bool,
+    errors: &mut ErrorStream<E>,
+) -> u8
+    ensures status { result ≡ run_status error }
+    ensures told { TellsMore (cut_lines explain error) errors.old errors.new }
+{
+    let place = kept_place(alloc, error);
+    let saying = run_saying(error).at(&place);
+    let error = CommandError::Run(error);
+    errors.tell_more(error.line().as_str().as_bytes());
+    say_if(explain, saying, errors);
+    error.status()
+}
+
 /// Writes the report of the folders of these words, or where it is recursive of those at and below them, of each of whose
 /// patterns this question is asked, by 1 to 16 workers, and gives the exit status. Each worker passes the gate with a
 /// ticket before it works. Nothing is read from standard input.
@@ -129,8 +150,9 @@ fn status_of_kept(lines: &[u8]) -> u8
 /// - 4: the report was written, and something was lost; or standard output has failed, and a prefix of it was written.
 ///
 /// After status 1, and after a prefix or nothing at 3 and 4, the error's line was told too, and one more where faults are
-/// explained. After a whole report those are the lines that explain what it tells as `bad`, and the hints at what may have
-/// been overlooked in the folders.
+/// explained: after a prefix with the number of the pattern at which memory ran out and that of its collection, if they are
+/// known. After a whole report those are the lines that explain what it tells as `bad`, and the hints at what may have been
+/// overlooked in the folders.
 pub fn keep_going<S: Shelf, I: Read, O: Write, E: Write, G: Gate, R: Threads + Wait + Sync>(
     rt: &R,
     shelf: &S,
@@ -178,12 +200,6 @@ pub fn keep_going<S: Shelf, I: Read, O: Write, E: Write, G: Gate, R: Threads + W
             errors.tell_more(lines.as_slice());
             status_of_kept(gathered.lines.as_slice())
         }
-        Err(fault) => {
-            let fault = RunError::from(fault);
-            let error = CommandError::Run(fault);
-            errors.tell_more(error.line().as_str().as_bytes());
-            say_if(explain, run_saying(fault), errors);
-            error.status()
-        }
+        Err(fault) => tell_cut(alloc, RunError::from(fault), explain, errors),
     }
 }

@@ -1,5 +1,5 @@
 -- Where something stands that can't be read or is refused.
-use Rattle.std.proofs.Common.{ℕ, List, refl}
+use Rattle.std.proofs.Common.{ℕ, List, None, Some, refl}
 use Rattle.census_folders.specs.Told.{Told}
 use Rattle.census_reports.specs.declared.error.ReportsError.{ReportsError}
 use Rattle.census_reports.specs.declared.error.ReportsError.TheVariants as reports
@@ -20,7 +20,8 @@ module _ (shelf : Tellings) where
   census_nowhere from (run.Bundle fault) = refl
   census_nowhere from (run.Folder fault) = (tt, refl, refl)
   census_nowhere from run.TooLong = (tt, refl, refl)
-  census_nowhere from run.Memory = refl
+  census_nowhere from (run.Memory None) = refl
+  census_nowhere from (run.Memory (Some ticket)) = (tt, refl, refl)
   census_nowhere from run.Read = tt
   census_nowhere from run.Write = refl
 

@@ -1,5 +1,5 @@
 -- The error that the fault of a part is, and the exit status of each.
-use Rattle.std.specs.Prelude.{◌≡◌, ◌≢◌, ◌⊎◌, ℕ, List}
+use Rattle.std.specs.Prelude.{◌≡◌, ◌≢◌, ◌⊎◌, ℕ, List, None}
 use Rattle.std.specs.declared.io.ErrorKind.{ErrorKind}
 use Rattle.std.specs.declared.io.ErrorKind.TheVariants.{OutOfMemory}
 use Rattle.life_text.specs.declared.rle.RleFault.{RleFault}
@@ -50,17 +50,17 @@ abbrev pub run_error_of_bytes : BytesFault → RunError
 run_error_of_bytes bytes.Read = run.Read
 run_error_of_bytes bytes.TooLong = run.TooLong
 run_error_of_bytes (bytes.Bundle fault) = run.Bundle fault
-run_error_of_bytes bytes.Memory = run.Memory
+run_error_of_bytes bytes.Memory = run.Memory None
 run_error_of_bytes bytes.Write = run.Write
 
 abbrev pub run_error_of_folders : FoldersFault → RunError
 run_error_of_folders (folders.Add fault) = run.Folder fault
 run_error_of_folders folders.Read = run.Read
 run_error_of_folders folders.TooLong = run.TooLong
-run_error_of_folders folders.Memory = run.Memory
+run_error_of_folders folders.Memory = run.Memory None
 
 abbrev pub run_error_of_run : RunFault → RunError
-run_error_of_run (runs.Memory ticket) = run.Memory
+run_error_of_run (runs.Memory ticket) = run.Memory ticket
 run_error_of_run runs.Write = run.Write
 
 -- # Of reading the arguments
@@ -88,7 +88,7 @@ abbrev pub run_status : RunError → ℕ
 run_status (run.Bundle fault) = 1
 run_status (run.Folder fault) = 1
 run_status run.TooLong = 1
-run_status run.Memory = 3
+run_status (run.Memory ticket) = 3
 run_status run.Read = 4
 run_status run.Write = 4
 

@@ -97,7 +97,7 @@ abbrev pub run_message : RunError → Message
 run_message (run.Bundle fault) = bundle_message fault
 run_message (run.Folder fault) = folder_message fault
 run_message run.TooLong = message (codes "input too long")
-run_message run.Memory = message (codes "out of memory")
+run_message (run.Memory ticket) = message (codes "out of memory")
 run_message run.Read = message (codes "read failed")
 run_message run.Write = message (codes "write failed")
 

@@ -1,11 +1,18 @@
 -- Where something stands that can't be read or is refused, as far as that is known.
-use Rattle.std.specs.Prelude.{◌≡◌, ◌⊎◌, ℕ, false, List, Option, None, Some, map, slice_get, if◌then◌else◌}
+use Rattle.std.specs.Prelude.{◌≡◌, ◌⊎◌, ℕ, false, List, ◌++◌, Option, None, Some, codes, decimal, map, slice_get, if◌then◌else◌}
 use Rattle.std.specs.List.{FoldsTo}
 use Rattle.std.specs.Option.{option_copied, option_or}
 use Rattle.census_bundle.specs.Sizes.{input_limit}
+use Rattle.census_bundle.specs.Tickets.{element_at, entry_at}
+use Rattle.census_bundle.specs.declared.bundle.Entry.{Entry}
+use Rattle.census_bundle.specs.declared.bundle.Folder.{Folder}
+use Rattle.census_bundle.specs.declared.ticket.Ticket.{Ticket}
 use Rattle.census_faults.specs.declared.fault.Fault.{Fault}
 use Rattle.census_faults.specs.declared.fault.Fault.TheVariants.{FileForFolder}
+use Rattle.census_folders.specs.Folders.{HoldsFolders}
 use Rattle.census_folders.specs.Losses.{KeepsFolder, kept_at_start}
+use Rattle.census_folders.specs.Shelves.{HoldsShelf}
+use Rattle.census_folders.specs.Sums.{Fits, bytes_of_all}
 use Rattle.census_folders.specs.Told.{Told, MayExceed, MayFail}
 use Rattle.census_folders.specs.Trees.{HoldsTrees, KeepsTrees}
 use Rattle.census_folders.specs.declared.keeping.Kept.{Kept}
@@ -81,6 +88,42 @@ MayLose shelf (source.Folders limit words) (Some path) = LosesFirst shelf limit 
 MayLose shelf (source.Trees limit words) (Some path) = LosesInTrees shelf limit words path ⊎ IsUnwalked shelf words path
 MayLose shelf (source.Kept limit recursive words) (Some path) = ⊥
 
+-- # The pattern where memory ran out
+
+-- the name of its collection, `/` and its own
+pub record IsPathOf (bundle : List Folder) (ticket : Ticket) (path : List ℕ) : Type 0 where
+  pub collection : Folder
+  pub pattern : Entry
+  pub collection_at : element_at bundle ticket.folder ≡ Some collection
+  pub pattern_at : entry_at bundle ticket ≡ Some pattern
+  pub path_is : path ≡ collection.name ++ codes "/" ++ pattern.name
+
+-- of the pattern of a ticket in the collections that are these folders, as the shelf tells
+pub record IsPathInFolders (shelf : Tellings) (limit : Option ℕ) (folders : List (List ℕ)) (ticket : Ticket) (path : List ℕ) : Type 0 where
+  pub bundle : List Folder
+  pub holds : HoldsFolders folders bundle
+  pub told : HoldsShelf shelf.listed shelf.held folders bundle
+  pub within : Fits limit (bytes_of_all bundle)
+  pub path_is : IsPathOf bundle ticket path
+
+-- of the pattern of a ticket in the folders at and below those of these words
+pub record IsPathInTrees (shelf : Tellings) (limit : Option ℕ) (words : List (List ℕ)) (ticket : Ticket) (path : List ℕ) : Type 0 where
+  pub folders : List (List ℕ)
+  pub trees : HoldsTrees shelf.listed shelf.inner words folders
+  pub path_is : IsPathInFolders shelf limit folders ticket path
+
+-- its number and that of its collection, from 1, as the lines of a report have them
+abbrev pub numbers_of : Ticket → List ℕ
+numbers_of ticket = codes "pattern " ++ decimal ticket.number ++ codes " of collection " ++ decimal ticket.folder
+
+-- what is told of the pattern of a ticket, if anything is: its path in the folders that a census reads, and else its numbers
+abbrev pub MayTellPattern : Tellings → Source → Ticket → Option (List ℕ) → Type 0
+MayTellPattern shelf from ticket None = Unit {0}
+MayTellPattern shelf source.Input ticket (Some told) = told ≡ numbers_of ticket
+MayTellPattern shelf (source.Folders limit words) ticket (Some told) = IsPathInFolders shelf limit words ticket told
+MayTellPattern shelf (source.Trees limit words) ticket (Some told) = IsPathInTrees shelf limit words ticket told
+MayTellPattern shelf (source.Kept limit recursive words) ticket (Some told) = told ≡ numbers_of ticket
+
 -- # The place of an error
 
 -- of what is refused there is no word of the system
@@ -92,7 +135,14 @@ abbrev pub IsCensusPlace : Tellings → Source → RunError → Place → Type 0
 IsCensusPlace shelf from run.Read place = MayLose shelf from place.path
 IsCensusPlace shelf from (run.Folder fault) place = IsRefusedPlace shelf from place
 IsCensusPlace shelf from run.TooLong place = IsRefusedPlace shelf from place
+IsCensusPlace shelf from (run.Memory (Some ticket)) place =
+    MayTellPattern shelf from ticket place.path × (place.word ≡ None) × (place.is_file ≡ false)
 IsCensusPlace shelf from error place = place ≡ nowhere
+
+-- of a census that goes on past what can't be read: the numbers of the pattern where memory ran out, if it is known
+abbrev pub kept_place : RunError → Place
+kept_place (run.Memory (Some ticket)) = record { path = Some (numbers_of ticket); word = None; is_file = false }
+kept_place error = nowhere
 
 -- of what is asked for
 abbrev pub IsPlaceOf : Tellings → Request → CommandError → Place → Type 0

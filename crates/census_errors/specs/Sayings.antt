@@ -52,7 +52,7 @@ abbrev pub run_fault : RunError → Fault
 run_fault (run.Bundle f) = fault.Bundle f
 run_fault (run.Folder f) = fault.Folder f
 run_fault run.TooLong = fault.TooLong
-run_fault run.Memory = fault.Memory
+run_fault (run.Memory ticket) = fault.Memory
 run_fault run.Read = fault.Read
 run_fault run.Write = fault.Write
 

@@ -108,7 +108,7 @@ fn run_status(error: RunError) -> u8
 {
     match error {
         RunError::Bundle(_) | RunError::Folder(_) | RunError::TooLong => 1,
-        RunError::Memory => 3,
+        RunError::Memory { .. } => 3,
         RunError::Read | RunError::Write => 4,
     }
 }

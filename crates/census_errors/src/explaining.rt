@@ -42,7 +42,7 @@ pub fn run_saying<'a>(error: RunError) -> Saying<'a>
         },
         RunError::Folder(fault) => nowhere(Fault::Folder(fault)),
         RunError::TooLong => nowhere(Fault::TooLong),
-        RunError::Memory => nowhere(Fault::Memory),
+        RunError::Memory { .. } => nowhere(Fault::Memory),
         RunError::Read => nowhere(Fault::Read),
         RunError::Write => nowhere(Fault::Write),
     }

@@ -25,6 +25,6 @@ pub use error_stream::ErrorStream;
 pub use explaining::{reports_saying, run_saying, saying_of};
 pub use files::file_of;
 pub use place::Place;
-pub use placing::{place_if, reports_place_if};
+pub use placing::{kept_place, place_if, reports_place_if};
 pub use run_error::RunError;
 pub use saying::{Saying, say, say_if, stop_saying};

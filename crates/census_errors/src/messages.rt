@@ -112,7 +112,7 @@ fn run_message(fault: RunError) -> (&'static str, Option<usize>)
 {
     match fault {
         RunError::TooLong => ("input too long", None),
-        RunError::Memory => ("out of memory", None),
+        RunError::Memory { .. } => ("out of memory", None),
         RunError::Read => ("read failed", None),
         RunError::Write => ("write failed", None),
         RunError::Bundle(fault) => bundle_message(fault),

@@ -7,7 +7,7 @@ use census_bundle::Text;
 /// What is known of where something stands that can't be read, or is refused.
 #[derive(Drop)]
 pub struct Place {
-    /// The path of the file or of the folder.
+    /// The path of the file, of the folder or of the pattern; or the numbers of a pattern that has none.
     pub path: Option<Text>,
     /// What the system says of it.
     pub word: Option<Text>,

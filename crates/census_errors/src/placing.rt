@@ -1,7 +1,9 @@
 //! Where something stands that can't be read or is refused: what a second look finds.
-ghost use Rattle.std.specs.Prelude.{◌≡◌, [], None, false, map, IfSome};
+ghost use Rattle.std.specs.Prelude.{◌≡◌, [], ◌++◌, None, Some, codes, false, map, IfOk, IfSome};
 ghost use Rattle.census_folders.specs.Told.{MayFail, RefusesFile};
-ghost use Rattle.census_errors.specs.Places.{IsCensusPlace, IsFirst, IsPlaceOf, IsReportsPlace, IsUnwalked, LosesFirst, MayLose};
+ghost use Rattle.census_errors.specs.Places.{IsCensusPlace, IsFirst, IsPathInFolders, IsPathInTrees, IsPathOf, IsPlaceOf};
+ghost use Rattle.census_errors.specs.Places.{IsReportsPlace, IsUnwalked, LosesFirst, MayLose, MayTellPattern};
+ghost use Rattle.census_errors.specs.Places.{kept_place, numbers_of};
 ghost use Rattle.census_errors.specs.Shelves.{tellings};
 ghost use Rattle.census_errors.specs.Sources.{Trees, source_of};
 
@@ -11,13 +13,20 @@ use crate::error::CommandError;
 use crate::files::file_of;
 use crate::place::Place;
 use crate::run_error::RunError;
-use census_bundle::{INPUT_LIMIT, Text};
+use arrayvec::ArrayString;
+use census_bundle::{Bundle, INPUT_LIMIT, Text, Ticket};
 use census_cli::Request;
-use census_folders::{Loss, Shelf, folders_below_each, folders_below_each_on, read_folders_on};
+use census_folders::{
+    Loss, Shelf, folders_below_each, folders_below_each_on, read_folders, read_folders_on,
+};
 use census_identify::{is_input, read_file};
 use census_reports::ReportsError;
-use std::alloc::Global;
+use itoa::Buffer;
+use std::alloc::{AllocError, Global};
 use watched::ReadFault;
+
+/// The most bytes of the numbers of a pattern and of its collection.
+const NUMBERS_LIMIT: usize = 48;
 
 // The path of the first loss, if anything was lost.
 fn first_path(alloc: Global, lost: &[Loss]) -> Option<Text>
@@ -110,6 +119,98 @@ fn lost_path<S: Shelf>(
     }
 }
 
+// The name of a collection, `/` and that of its pattern.
+fn joined(alloc: Global, collection: &[u8], pattern: &[u8]) -> Result<Text, AllocError>
+    ensures { IfOk result (λ path. path ≡ collection.now ++ codes "/" ++ pattern.now) }
+{
+    let mut path = collection.to_vec(alloc)?;
+    path.extend_from_slice(b"/")?;
+    path.extend_from_slice(pattern)?;
+    Text::of(alloc, path.as_slice())
+}
+
+// The path of the pattern of a ticket.
+fn path_of(alloc: Global, bundle: &Bundle, ticket: Ticket) -> Option<Text>
+    ensures { IfSome result (IsPathOf bundle.now ticket) }
+{
+    let pattern = bundle.entry(ticket)?;
+    let collection = bundle.folders().get(ticket.folder as usize - 1)?;
+    joined(alloc, collection.name.as_slice(), pattern.name.as_slice()).ok()
+}
+
+// The path of the pattern of a ticket in these folders.
+fn path_in_folders<S: Shelf>(
+    shelf: &S,
+    alloc: Global,
+    folders: &[&str],
+    limit: Option<u64>,
+    ticket: Ticket,
+) -> Option<Text>
+    ensures { IfSome result
+        (IsPathInFolders (tellings (S.listed shelf.now) (S.inner shelf.now) (S.held shelf.now))
+        limit (map (λ s. s.now) folders.now) ticket) }
+{
+    let Ok(bundle) = read_folders(shelf, alloc, folders, limit) else {
+        return None;
+    };
+    path_of(alloc, &bundle, ticket)
+}
+
+// The path of the pattern of a ticket in the folders at and below those of these words.
+fn path_in_trees<S: Shelf>(
+    shelf: &S,
+    alloc: Global,
+    words: &[&str],
+    limit: Option<u64>,
+    ticket: Ticket,
+) -> Option<Text>
+    ensures { IfSome result
+        (IsPathInTrees (tellings (S.listed shelf.now) (S.inner shelf.now) (S.held shelf.now))
+        limit (map (λ s. s.now) words.now) ticket) }
+{
+    let Ok(own) = folders_below_each(shelf, alloc, words) else {
+        return None;
+    };
+    let Ok(folders) = borrowed_words(alloc, own.as_slice()) else {
+        return None;
+    };
+    path_in_folders(shelf, alloc, folders.as_slice(), limit, ticket)
+}
+
+// The number of the pattern of a ticket and that of its collection. It takes no memory.
+fn numbers_of(alloc: Global, ticket: Ticket) -> Option<Text>
+    ensures { result ≡ Some (numbers_of ticket) }
+{
+    let mut numbers = ArrayString::<NUMBERS_LIMIT>::new();
+    let mut buffer = Buffer::new();
+    numbers.push_str("pattern ");
+    numbers.push_str(buffer.format(ticket.number));
+    numbers.push_str(" of collection ");
+    numbers.push_str(buffer.format(ticket.folder));
+    Text::of(alloc, numbers.as_str().as_bytes()).ok()
+}
+
+// The path of the pattern of a ticket in what a census of these folders reads, or its numbers where there are none.
+fn pattern_path<S: Shelf>(
+    shelf: &S,
+    alloc: Global,
+    folders: &[&str],
+    limit: Option<u64>,
+    recursive: bool,
+    ticket: Ticket,
+) -> Option<Text>
+    ensures { MayTellPattern (tellings (S.listed shelf.now) (S.inner shelf.now) (S.held shelf.now))
+        (source_of limit recursive false (map (λ s. s.now) folders.now)) ticket result }
+{
+    if folders.is_empty() {
+        numbers_of(alloc, ticket)
+    } else if recursive {
+        path_in_trees(shelf, alloc, folders, limit, ticket)
+    } else {
+        path_in_folders(shelf, alloc, folders, limit, ticket)
+    }
+}
+
 // What the system says of this path.
 fn word_of<S: Shelf>(shelf: &S, alloc: Global, path: &[u8]) -> Option<Text> {
     let word = shelf.word(alloc, path)?;
@@ -163,6 +264,13 @@ fn census_place<S: Shelf>(
         }
         RunError::Folder(_) | RunError::TooLong => Place {
             path: lost_path(shelf, alloc, folders, limit, recursive),
+            word: None,
+            is_file: false,
+        },
+        RunError::Memory {
+            ticket: Some(ticket),
+        } => Place {
+            path: pattern_path(shelf, alloc, folders, limit, recursive, ticket),
             word: None,
             is_file: false,
         },
@@ -230,6 +338,23 @@ pub fn place_if<S: Shelf>(
         place_of(shelf, alloc, request, error)
     } else {
         Place::nowhere()
+    }
+}
+
+/// The place of an error of a census that goes on past what can't be read: the number of the pattern at which memory ran out
+/// and that of its collection, where they are known, and else nowhere. It takes no memory.
+pub fn kept_place(alloc: Global, error: RunError) -> Place
+    ensures { result ≡ kept_place error }
+{
+    match error {
+        RunError::Memory {
+            ticket: Some(ticket),
+        } => Place {
+            path: numbers_of(alloc, ticket),
+            word: None,
+            is_file: false,
+        },
+        _ => Place::nowhere(),
     }
 }
 

@@ -1,6 +1,6 @@
 //! Why `run` or `objects` writes no whole report.
 
-use census_bundle::{AddFault, BundleFault};
+use census_bundle::{AddFault, BundleFault, Ticket};
 use census_crew::{BytesFault, RunFault};
 use census_folders::FoldersFault;
 use std::alloc::AllocError;
@@ -18,8 +18,9 @@ pub enum RunError {
     /// Standard input, or a file, has more bytes than one text may have.
     #[error("input too long")]
     TooLong,
+    /// Memory was refused. Where a run worked a pattern itself then, this is the ticket of that pattern.
     #[error("out of memory")]
-    Memory,
+    Memory { ticket: Option<Ticket> },
     /// Standard input has failed, or a folder can't be listed, or a file can't be read.
     #[error("read failed")]
     Read,
@@ -29,13 +30,13 @@ pub enum RunError {
 }
 
 impl From<AllocError> for RunError {
-    ghost use Rattle.std.specs.Prelude.{◌≡◌};
+    ghost use Rattle.std.specs.Prelude.{◌≡◌, None};
     ghost use Rattle.census_errors.specs.declared.run_error.RunError.TheVariants.{Memory};
 
-    ghost from_gives = { λ _ error. error ≡ Memory };
+    ghost from_gives = { λ _ error. error ≡ Memory None };
 
     fn from(_: AllocError) -> RunError {
-        RunError::Memory
+        RunError::Memory { ticket: None }
     }
 }
 
@@ -50,7 +51,7 @@ impl From<BytesFault> for RunError {
             BytesFault::Read => RunError::Read,
             BytesFault::TooLong => RunError::TooLong,
             BytesFault::Bundle(fault) => RunError::Bundle(fault),
-            BytesFault::Memory => RunError::Memory,
+            BytesFault::Memory => RunError::Memory { ticket: None },
             BytesFault::Write => RunError::Write,
         }
     }
@@ -67,7 +68,7 @@ impl From<FoldersFault> for RunError {
             FoldersFault::Add(fault) => RunError::Folder(fault),
             FoldersFault::Read => RunError::Read,
             FoldersFault::TooLong => RunError::TooLong,
-            FoldersFault::Memory => RunError::Memory,
+            FoldersFault::Memory => RunError::Memory { ticket: None },
         }
     }
 }
@@ -80,7 +81,7 @@ impl From<RunFault> for RunError {
 
     fn from(fault: RunFault) -> RunError {
         match fault {
-            RunFault::Memory { .. } => RunError::Memory,
+            RunFault::Memory { ticket } => RunError::Memory { ticket },
             RunFault::Write => RunError::Write,
         }
     }

@@ -1,7 +1,9 @@
 //! The lines on standard error.
 
-use census_bundle::{AddFault, BundleFault};
-use census_errors::{AdvanceError, CommandError, DrawError, RunError};
+use census_bundle::{AddFault, BundleFault, Ticket};
+use census_errors::{
+    AdvanceError, CommandError, DrawError, ErrorStream, RunError, kept_place, run_saying, say,
+};
 use std::test::Fail;
 
 #[test]
@@ -35,4 +37,21 @@ fn lines_on_standard_error_are_the_texts_of_errors(rt: HostRuntime) -> Result<()
         assert!(rt; error.line().as_str() == *line && text.as_str() == *line);
     }
     Ok(())
+}
+
+#[test]
+fn a_pattern_without_a_path_is_told_by_its_numbers(rt: HostRuntime) {
+    const LINE: &[u8] =
+        b"  pattern 5 of collection 2: memory ran out: what was given may be right, but more memory is needed\n";
+    let ticket = Ticket {
+        folder: 2,
+        number: 5,
+    };
+    let error = RunError::Memory {
+        ticket: Some(ticket),
+    };
+    let place = kept_place(rt.alloc(), error);
+    let mut errors = ErrorStream::new(Vec::new(rt.alloc()), false);
+    say(run_saying(error).at(&place), &mut errors);
+    assert!(rt; errors.into_inner().as_slice() == LINE);
 }

@@ -1,13 +1,9 @@
 use Rattle.std.proofs.Common.{List, ℕ, inl, inr, refl, ap, subst, ◌∙◌, ◌≡◌}
-use Rattle.census_command.specs.Keeps.{error_lines, lost_lines}
-use Rattle.census_errors.specs.Messages.{error_line}
-use Rattle.census_errors.specs.Sayings.{run_line, said_if}
+use Rattle.census_command.specs.Keeps.{cut_lines, lost_lines}
 use Rattle.census_errors.specs.ErrorStreams.{Tells, TellsMore}
-use Rattle.census_errors.specs.declared.error.CommandError.TheVariants as command
 use Rattle.census_errors.proofs.Said.{told_after}
 use Rattle.census_command.proofs.Kept.{status_kept}
 use Rattle.census_command.proofs.Reports.{is_cut}
-use Rattle.census_errors.proofs.Said.{more_after, says_line}
 use Rattle.census_command.proofs.keeping.keep_going.Goals as goal
 
 pub returns-in-Ok-report : goal.returns-in-Ok-report
@@ -36,17 +32,9 @@ returns-in-Ok-report g c =
 pub returns : goal.returns
 returns g c =
     let lost = c.in-Ok.ensures.0 in
-    let error = c.from-fault.result in
+    let error = c.from.result in
     let lines : c.as_slice.result.now ≡ lost_lines lost = c.as_slice.ensures.value ∙ c.in-Ok.ensures.2 in
     let first : Tells (lost_lines lost) c.args.errors.now c.tell.new.self = subst (λ (l : List ℕ). Tells l c.args.errors.now c.tell.new.self) lines c.tell.ensures in
-    let second : TellsMore (error_line (command.Run error)) c.tell.new.self c.tell_more-in-Err-report.new.self =
-    subst (λ (l : List ℕ). TellsMore l c.tell.new.self c.tell_more-in-Err-report.new.self) (c.as_bytes.ensures.value ∙ c.as_str.ensures.value ∙ c.line.ensures)
-    c.tell_more-in-Err-report.ensures in
-    let third : TellsMore (said_if c.args.explain (run_line error)) c.tell_more-in-Err-report.new.self c.say_if.new.errors =
-    subst (λ (l : List ℕ). TellsMore (said_if c.args.explain l) c.tell_more-in-Err-report.new.self c.say_if.new.errors)
-    (says_line _ _ _ c.run_saying.result c.run_saying.ensures) c.say_if.ensures in
-    let last : TellsMore (error_lines c.args.explain error) c.tell.new.self c.say_if.new.errors =
-    more_after (error_line (command.Run error)) (said_if c.args.explain (run_line error)) c.tell.new.self c.tell_more-in-Err-report.new.self c.say_if.new.errors second third in
     rw (← c.streams.view_is) (inr (inl (record {
       bundle = c.in-Ok.gathered.bundle;
       lost = lost;
@@ -54,7 +42,7 @@ returns g c =
       part = c.in-Err-report.ensures.report;
       unread = refl;
       error = error;
-      cut = rw c.from-fault.ensures (is_cut c.in-Err-report.fault _ (ap (λ s. s.read_failed) c.streams.view_is ∙ c.requires.sound.read) c.in-Err-report.ensures.failed);
-      told = told_after (lost_lines lost) (error_lines c.args.explain error) c.args.errors.now c.tell.new.self c.say_if.new.errors first last;
-      status_is = c.status.ensures;
+      cut = rw c.from.ensures (is_cut c.in-Err-report.fault _ (ap (λ s. s.read_failed) c.streams.view_is ∙ c.requires.sound.read) c.in-Err-report.ensures.failed);
+      told = told_after (lost_lines lost) (cut_lines c.args.explain error) c.args.errors.now c.tell.new.self c.tell_cut.new.errors first c.tell_cut.ensures.told;
+      status_is = c.tell_cut.ensures.status;
     })))
