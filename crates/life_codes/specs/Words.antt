@@ -36,7 +36,7 @@ HoldsRows rows cells = (y x : ℕ) → y < length rows → bit_at (slice_index r
 abbrev pub IsWithin : List ℕ → ℕ → Type 0
 IsWithin words wide = (k x : ℕ) → k < length words → wide ≤ x → bit_at (slice_index words k) x ≡ 0
 
--- the bits of five rows together, from one on
+-- the bits of five rows, from one on, taken together
 abbrev pub five_rows : List ℕ → ℕ → ℕ
 five_rows rows first = bit_or (bit_or (bit_or (bit_or (slice_index rows first) (slice_index rows (first + 1))) (slice_index rows (first + 2))) (slice_index rows (first + 3))) (slice_index rows (first + 4))
 
@@ -48,7 +48,7 @@ HoldsMarks words strips cells = (k x : ℕ) → k < strips → AreZeroTogether (
 abbrev pub upside_down : ℕ → Cell → Cell
 upside_down high c = (c.0, pos high -ℤ pos 1 -ℤ c.1)
 
--- its bits as so many columns
+-- the bits of a word as so many columns
 abbrev pub word_columns : ℕ → ℕ → List ℕ
 word_columns wide word = map (bit_at word) (range_with_len 0 wide)
 

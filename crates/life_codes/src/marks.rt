@@ -1,10 +1,10 @@
 //! The cells of a small frame as words, by rows and by columns.
 ghost use Rattle.std.specs.Prelude.{◌≡◌, ◌++◌, ◌*◌, ◌+◌, ◌<◌, ◌≤◌, ◌∷◌, ℕ, All, List, [], length, map, pos};
 ghost use Rattle.life_model.specs.Cell.{Cell};
-ghost use Rattle.life_model.specs.Symmetry.{Same, Swap, turn};
+ghost use Rattle.life_model.specs.Symmetry.{Same, Swap};
 ghost use Rattle.life_cells.specs.Limits.{IsPlace};
 ghost use Rattle.life_codes.specs.Frames.{IsBounded, IsInFrame, cell_in_frame, turned_frame, wide_of};
-ghost use Rattle.life_codes.specs.Words.{HoldsMarks, HoldsRows, IsSmall, IsWithin, five_rows, upside_down};
+ghost use Rattle.life_codes.specs.Words.{HoldsRows, IsSmall, IsWithin, five_rows};
 
 use crate::frame::Frame;
 use crate::grid::place_in;

@@ -1,5 +1,5 @@
 //! How long the texts of strips are, told by words that have a bit for each column with a cell.
-ghost use Rattle.std.specs.Prelude.{◌≡◌, ℕ, ◌/◌, ◌^◌, ◌+◌, ◌<◌, ◌≤◌, All, List, T, false, length, map, slice_index, true};
+ghost use Rattle.std.specs.Prelude.{◌≡◌, ℕ, ◌/◌, ◌^◌, ◌+◌, ◌<◌, ◌≤◌, All, List, T, false, length, map, true};
 ghost use Rattle.std.specs.Int.{bit_at};
 ghost use Rattle.life_model.specs.Cell.{Cell};
 ghost use Rattle.life_model.specs.Generation.{from_list, is_rising};

@@ -78,7 +78,16 @@ const ROWS: &[(i32, &[i32])] = &[
 
 #[test]
 fn wide_sets(rt: HostRuntime) -> Result<(), Fail> {
-    for (wide, high) in [(65, 64), (64, 65), (65, 65), (66, 13), (13, 66), (128, 128), (129, 70), (200, 130)] {
+    for (wide, high) in [
+        (65, 64),
+        (64, 65),
+        (65, 65),
+        (66, 13),
+        (13, 66),
+        (128, 128),
+        (129, 70),
+        (200, 130),
+    ] {
         let mut cells = Vec::new(rt.alloc());
         for (row, columns) in ROWS {
             for column in *columns {
