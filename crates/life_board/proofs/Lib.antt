@@ -8,3 +8,4 @@ pub mod Alone
 pub mod EndCells
 pub mod Lowest
 pub mod Shifts
+pub mod Columns

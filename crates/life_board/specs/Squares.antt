@@ -1,5 +1,5 @@
 -- The cells of a square at its place.
-use Rattle.std.specs.Prelude.{◌≡◌, ℕ, ℤ, pos, negsuc, true, ◌≤ℤ◌, ◌<◌, ◌≤◌, ◌+◌, List, slice_index}
+use Rattle.std.specs.Prelude.{◌≡◌, ◌↔◌, ℕ, ℤ, pos, negsuc, true, ◌≤ℤ◌, ◌<◌, ◌≤◌, ◌+◌, List, slice_index}
 use Rattle.std.specs.Int.{bit_at}
 use Rattle.life_model.specs.Cell.{Cell}
 use Rattle.life_model.specs.Generation.{Generation, contains, from_list}
@@ -32,11 +32,16 @@ pub record IsVoidOutside (rows : List ℕ) (first end : ℕ) : Type 0 where
   pub above : (k : ℕ) → k < first → slice_index rows k ≡ 0
   pub below : (k : ℕ) → end ≤ k → k < 64 → slice_index rows k ≡ 0
 
+-- at each column a bit is set exactly where one of its cells is live
+abbrev pub AreColumnsOf : ℕ → Tile → Type 0
+AreColumnsOf columns tile = (x : ℕ) → x < 64 → (bit_at columns x ≡ 0) ↔ ((y : ℕ) → y < 64 → tile_cell tile x y ≡ 0)
+
 -- what a square keeps
 pub record IsKept (square : Square) : Type 0 where
   pub place : IsReached square.left square.top
   pub young : square.age ≤ age_limit
   pub void : IsVoidOutside square.tile.rows square.first square.end
+  pub columns : AreColumnsOf square.columns square.tile
   pub within : (c : Cell) → contains (members_of square) c ≡ true → IsWithin square.age c
 
 -- a tile with empty ones around it

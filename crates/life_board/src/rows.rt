@@ -5,7 +5,7 @@ ghost use Rattle.life_bits.specs.Area.{next_in_area, tile_cell};
 ghost use Rattle.life_bits.specs.Logics.{IsLogicOf};
 ghost use Rattle.life_bits.specs.Numbers.{number_at};
 ghost use Rattle.life_bits.specs.Rows.{IsRowSumsOf};
-ghost use Rattle.life_board.specs.Squares.{alone, around_in, IsVoidOutside};
+ghost use Rattle.life_board.specs.Squares.{alone, around_in, AreColumnsOf, IsVoidOutside};
 
 use life_bits::{Count, Logic, RowSums, Tile, full_adder, sums};
 use life_cells::Rule;
@@ -28,50 +28,57 @@ fn count(above: RowSums, beside: RowSums, below: RowSums) -> Count
 
 /// Makes a tile its next generation by a logic, as `advance` says.
 #[inline(always)]
-fn advance_by(tile: &mut Tile, first: usize, end: usize, logic: &Logic)
+fn advance_by(tile: &mut Tile, first: usize, end: usize, logic: &Logic) -> u64
     requires first { 0 < first }
     requires end { end ≤ 62 }
     requires void { IsVoidOutside tile.old.rows first end }
     ensures next { (rule : Rule) → IsLogicOf logic.now rule → (x y : ℕ) → x < 64 → y < 64 →
         tile_cell tile.new x y ≡ next_in_area rule (alone tile.old) x y }
     ensures void { IsVoidOutside tile.new.rows (first - 1) (end + 1) }
+    ensures columns { AreColumnsOf result tile.new }
 {
     let mut above = sums(0, 0, 0);
     let mut beside = sums(0, 0, 0);
+    let mut columns = 0;
     for y in first - 1..end + 1 {
         let below = sums(0, tile.rows[y + 1], 0);
         tile.rows[y] = logic.next(tile.rows[y], count(above, beside, below));
+        columns |= tile.rows[y];
         above = beside;
         beside = below;
     }
+    columns
 }
 
 /// Makes a tile its next generation by any rule, as `advance` says.
 ///
 /// It stands apart in the program too: within `advance` a step by Conway's rule would first make room for the logic of any rule.
 #[inline(never)]
-fn advance_by_rule(tile: &mut Tile, first: usize, end: usize, rule: &Rule)
+fn advance_by_rule(tile: &mut Tile, first: usize, end: usize, rule: &Rule) -> u64
     requires first { 0 < first }
     requires end { end ≤ 62 }
     requires void { IsVoidOutside tile.old.rows first end }
     ensures next { (x y : ℕ) → x < 64 → y < 64 → tile_cell tile.new x y ≡ next_in_area rule.now (alone tile.old) x y }
     ensures void { IsVoidOutside tile.new.rows (first - 1) (end + 1) }
+    ensures columns { AreColumnsOf result tile.new }
 {
-    advance_by(tile, first, end, &Logic::of(rule));
+    advance_by(tile, first, end, &Logic::of(rule))
 }
 
-/// Makes a tile its next generation, where all cells around it are dead and no row outside a range has a live cell.
-pub fn advance(tile: &mut Tile, first: usize, end: usize, rule: &Rule)
+/// Makes a tile its next generation, where all cells around it are dead and no row outside a range has a live cell. Gives at each
+/// column whether one of its cells is live then.
+pub fn advance(tile: &mut Tile, first: usize, end: usize, rule: &Rule) -> u64
     requires first { 0 < first }
     requires end { end ≤ 62 }
     requires void { IsVoidOutside tile.old.rows first end }
     ensures next { (x y : ℕ) → x < 64 → y < 64 → tile_cell tile.new x y ≡ next_in_area rule.now (alone tile.old) x y }
     ensures void { IsVoidOutside tile.new.rows (first - 1) (end + 1) }
+    ensures columns { AreColumnsOf result tile.new }
 {
     if *rule == Rule::life() {
-        advance_by(tile, first, end, &Logic::Life);
+        advance_by(tile, first, end, &Logic::Life)
     } else {
-        advance_by_rule(tile, first, end, rule);
+        advance_by_rule(tile, first, end, rule)
     }
 }
 

@@ -1,13 +1,12 @@
 //! A pattern in one square of cells.
 ghost use Rattle.std.specs.Prelude.{◌≡◌, ◌≢◌, ◌⊎◌, ◌↔◌, ℕ, ℤ, pos, negsuc, ◌+◌, ◌+ℤ◌, ◌<◌, ◌≤◌, ◌≤ℤ◌, All, IfOk, IfSome, MatchOption, [], false, length, slice_index};
-ghost use Rattle.std.specs.Int.{bit_at};
 ghost use Rattle.life_model.specs.Evolution.{next};
 ghost use Rattle.life_model.specs.Generation.{from_list, insert, size};
 ghost use Rattle.life_bits.specs.Area.{tile_cell};
 ghost use Rattle.life_cells.specs.Limits.{IsWithin, age_limit};
 ghost use Rattle.life_plane.specs.Span.{set_span};
 ghost use Rattle.life_slots.specs.Cells.{block_cells, row_cells};
-ghost use Rattle.life_board.specs.Squares.{members_of, AreEnds, HasNoMember, HasRoom, IsInner, IsKept, IsOpen, IsReached, IsVoidOutside};
+ghost use Rattle.life_board.specs.Squares.{members_of, AreColumnsOf, AreEnds, HasNoMember, HasRoom, IsInner, IsKept, IsOpen, IsReached, IsVoidOutside};
 
 use crate::ends::{first_in, last_in};
 use crate::listing::push_row;
@@ -37,30 +36,20 @@ pub struct Square {
     pub first: usize,
     /// No row from this one on has a live cell.
     pub end: usize,
+    /// At each column whether one of its cells is live.
+    pub columns: u64,
     pub age: u32,
 }
 
-/// At each column whether one of its cells is live.
-fn columns_of(tile: &Tile, first: usize, end: usize) -> u64
-    requires { IsVoidOutside tile.now.rows first end }
-    ensures { (x : ℕ) → x < 64 → (bit_at result x ≡ 0) ↔ ((y : ℕ) → y < 64 → tile_cell tile.now x y ≡ 0) }
-{
-    let mut columns = 0;
-    for y in first..end {
-        columns |= tile.rows[y];
-    }
-    columns
-}
-
 /// Whether a live cell of a tile is at its edge.
-fn is_at_edge(tile: &Tile, first: usize, end: usize) -> bool
-    requires { IsVoidOutside tile.now.rows first end }
+fn is_at_edge(tile: &Tile, columns: u64) -> bool
+    requires { AreColumnsOf columns tile.now }
     ensures { result ≡ false → IsInner tile.now }
 {
     let rim = Rim {
         first: tile.rows[0],
         last: tile.rows[63],
-        columns: columns_of(tile, first, end),
+        columns,
     };
     let north = rim.reaches(1);
     let west = rim.reaches(3);
@@ -135,6 +124,7 @@ impl Square {
             top,
             first: MARGIN as usize,
             end: 64 - MARGIN as usize,
+            columns: 0,
             age,
         }
     }
@@ -151,6 +141,7 @@ impl Square {
     {
         let x = column_of(cell.0, self.left)?;
         let y = column_of(cell.1, self.top)?;
+        self.columns |= 1 << x;
         make_live(&mut self.tile, x, y);
         Some(())
     }
@@ -188,7 +179,7 @@ impl Square {
         requires { IsKept self.now }
         ensures { result ≡ false → HasRoom self.now }
     {
-        self.first == 0 || self.end > 62 || is_at_edge(&self.tile, self.first, self.end)
+        self.first == 0 || self.end > 62 || is_at_edge(&self.tile, self.columns)
     }
 
     /// Makes the next generation.
@@ -200,7 +191,7 @@ impl Square {
         ensures members { members_of self.new ≡ next rule.now (members_of self.old) }
         ensures age { self.new.age ≡ self.old.age + 1 }
     {
-        advance(&mut self.tile, self.first, self.end, rule);
+        self.columns = advance(&mut self.tile, self.first, self.end, rule);
         self.first -= 1;
         self.end += 1;
         self.age += 1;

@@ -13,6 +13,7 @@ use Rattle.life_bits.proofs.Strips.{strip_middle}
 use Rattle.life_slots.proofs.Lists.{set_here, set_there}
 use Rattle.life_board.specs.Squares.{alone, around_in}
 use Rattle.life_board.proofs.Alone.{dead_above, dead_below, eight_around, next_of, row_is, void_before, void_is}
+use Rattle.life_board.proofs.Columns.{columns_all, columns_more, columns_none}
 use Rattle.life_board.proofs.rows.advance_by.Goals as goal
 
 pub loop-y-init : goal.loop-y-init
@@ -29,11 +30,12 @@ loop-y-init c =
       beside = subst (IsRowSumsOf c.sums-beside.result) (sym (void_is tile (c.args.first - 1) (omega arith) (void.above (c.args.first - 1) (omega arith)))) c.sums-beside.ensures;
       rest = λ k from. refl;
       void = λ k less. void.above k (omega arith);
+      columns = columns_none tile.rows (c.args.first - 1) (λ k less. void.above k (omega arith));
       done = λ k less rule of x wide.
           ap (λ w. bit_at w x) (void.above k (omega arith)) ∙ bit_at-zero x ∙ sym (dead_above rule tile x k c.args.first c.args.end void (omega arith));
     }
 
-module _ (c : goal.After-next) where
+module _ (c : goal.After-columns-1) where
   inside : c.loop-y.y < 63
   inside = (let test = c.loop-y-test.true in let small = c.requires.end in omega arith)
 
@@ -82,6 +84,7 @@ loop-y-preserved c =
       beside = subst (λ n. IsRowSumsOf c.sums-below.result (area_row (alone c.args.tile.now) n)) two_on (below c);
       rest = λ k past. (let apart : k ≢ c.loop-y.y = omega arith in set_there rows c.loop-y.y k c.next.result 0 apart ∙ c.loop-y.invariant.rest k (omega arith));
       void = λ k less. (let apart : k ≢ c.loop-y.y = omega arith in set_there rows c.loop-y.y k c.next.result 0 apart ∙ c.loop-y.invariant.void k less);
+      columns = columns_more rows c.loop-y.columns c.loop-y.y c.next.result c.loop-y.invariant.columns;
       done = λ k less rule of x wide.
           ⊎_elim
           (λ (same : k ≡ c.loop-y.y).
@@ -104,3 +107,11 @@ returns-clause-next c = λ rule of x y wide high.
     ∙ bit_at-zero x
     ∙ sym (dead_below rule c.args.tile.now x y c.args.first c.args.end c.requires.void (omega arith) high))
     (cases_lt y c.loop-y.y)
+
+pub returns-clause-columns : goal.returns-clause-columns
+returns-clause-columns c =
+    let over : c.args.end + 1 ≤ c.loop-y.y = (let test = c.loop-y-test.false in omega arith) in
+    let small : c.args.end ≤ 62 = c.requires.end in
+    let from : c.args.first ≤ c.args.end = c.requires.void.order in
+    columns_all c.loop-y.tile c.loop-y.columns c.loop-y.y (omega arith) c.loop-y.invariant.columns
+    (λ k past high. c.loop-y.invariant.rest k past ∙ c.requires.void.below k (omega arith) high)

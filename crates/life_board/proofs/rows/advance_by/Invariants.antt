@@ -4,6 +4,7 @@ use Rattle.life_bits.specs.Area.{area_row, next_in_area, tile_cell}
 use Rattle.life_bits.specs.Logics.{IsLogicOf}
 use Rattle.life_bits.specs.Rows.{IsRowSumsOf}
 use Rattle.life_board.specs.Squares.{alone}
+use Rattle.life_board.proofs.Columns.{AreColumnsTo}
 use Rattle.life_board.proofs.rows.advance_by.Given as goal
 
 abbrev pub invariant-loop-y : goal.invariant-loop-y
@@ -14,5 +15,6 @@ invariant-loop-y l = record {
   beside : IsRowSumsOf l.beside (area_row (alone l.initial.tile) (l.y + 64));
   rest : (k : ℕ) → l.y ≤ k → slice_index l.tile.rows k ≡ slice_index l.initial.tile.rows k;
   void : (k : ℕ) → k + 1 < l.first → slice_index l.tile.rows k ≡ 0;
+  columns : AreColumnsTo l.columns l.tile.rows l.y;
   done : (k : ℕ) → k < l.y → (rule : Rule) → IsLogicOf l.logic rule → (x : ℕ) → x < 64 → tile_cell l.tile x k ≡ next_in_area rule (alone l.initial.tile) x k;
 }

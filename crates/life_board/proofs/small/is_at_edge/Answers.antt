@@ -8,7 +8,7 @@ returns c = λ none.
     let two = neither (c.reaches-north.result || c.reaches-west.result) c.reaches-east.result three.0 in
     let one = neither c.reaches-north.result c.reaches-west.result two.0 in
     inner c.args.tile.now
-    (c.reaches-north.ensures.still c.args.tile.now (rim_of c.args.tile.now c.columns_of.result c.columns_of.ensures) one.0)
-    (c.reaches-west.ensures.still c.args.tile.now (rim_of c.args.tile.now c.columns_of.result c.columns_of.ensures) one.1)
-    (c.reaches-east.ensures.still c.args.tile.now (rim_of c.args.tile.now c.columns_of.result c.columns_of.ensures) two.1)
-    (c.reaches-south.ensures.still c.args.tile.now (rim_of c.args.tile.now c.columns_of.result c.columns_of.ensures) three.1)
+    (c.reaches-north.ensures.still c.args.tile.now (rim_of c.args.tile.now c.args.columns c.requires) one.0)
+    (c.reaches-west.ensures.still c.args.tile.now (rim_of c.args.tile.now c.args.columns c.requires) one.1)
+    (c.reaches-east.ensures.still c.args.tile.now (rim_of c.args.tile.now c.args.columns c.requires) two.1)
+    (c.reaches-south.ensures.still c.args.tile.now (rim_of c.args.tile.now c.args.columns c.requires) three.1)

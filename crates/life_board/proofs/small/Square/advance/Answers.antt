@@ -7,14 +7,15 @@ pub shrink-requires : goal.shrink-requires
 shrink-requires c = record {
   place = c.requires.kept.place;
   young = omega arith;
-  void = c.advance.ensures.void;
+  void = c.advance-self.ensures.void;
+  columns = c.advance-self.ensures.columns;
   within =
-      within_next c.args.rule.now (members_of c.args.self.now) (shown c.args.self.now.left c.args.self.now.top c.advance.new.tile) c.args.self.now.age
-      (next_shown c.args.self.now.left c.args.self.now.top c.args.self.now.tile c.requires.room.inner c.args.rule.now c.advance.new.tile c.advance.ensures.next)
+      within_next c.args.rule.now (members_of c.args.self.now) (shown c.args.self.now.left c.args.self.now.top c.advance-self.new.tile) c.args.self.now.age
+      (next_shown c.args.self.now.left c.args.self.now.top c.args.self.now.tile c.requires.room.inner c.args.rule.now c.advance-self.new.tile c.advance-self.ensures.next)
       c.requires.kept.within;
 }
 
 pub returns-clause-members : goal.returns-clause-members
 returns-clause-members c =
     c.shrink.ensures.members
-    ∙ next_shown c.args.self.now.left c.args.self.now.top c.args.self.now.tile c.requires.room.inner c.args.rule.now c.advance.new.tile c.advance.ensures.next
+    ∙ next_shown c.args.self.now.left c.args.self.now.top c.args.self.now.tile c.requires.room.inner c.args.rule.now c.advance-self.new.tile c.advance-self.ensures.next
