@@ -146,6 +146,20 @@ impl<'a> Collector<'a> {
         Ok(Offer::Taken)
     }
 
+    /// The bundle.
+    pub fn bundle(&self) -> &'a Bundle
+        ensures { result.now ≡ self.now.bundle }
+    {
+        self.results.bundle()
+    }
+
+    /// What was asked.
+    pub fn question(&self) -> Question
+        ensures { result ≡ self.now.question }
+    {
+        self.results.question()
+    }
+
     /// The text that was released and not yet sent.
     pub fn unsent(&self) -> &[u8]
         ensures { result.now ≡ self.now.unsent }

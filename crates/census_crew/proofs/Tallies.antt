@@ -13,7 +13,7 @@ use Rattle.census_format.specs.Lines.{answer_to_entry, is_refused, is_resolved, 
 use Rattle.census_book.proofs.Counting.{count_more}
 use Rattle.census_format.proofs.Lost.{same_answer}
 use Rattle.census_crew.specs.declared.tally.Tally.{Tally}
-use Rattle.census_crew.specs.Tallying.{tallied, no_tally, TalliesTaken, TalliesPatterns}
+use Rattle.census_crew.specs.Tallying.{tally_with, no_tally, TalliesTaken, TalliesPatterns}
 use Rattle.life_answer.specs.declared.question.Question.{Question}
 
 -- sums of the same weights, at each place that there is
@@ -80,7 +80,7 @@ none_taken b question = record {
 }
 
 pub one_taken : (b : List Folder) (question asked : Question) (taken : Tickets) (t : Ticket) (worked : Entry) (tally : Tally) → Belongs b question t worked asked → has_ticket taken t ≡ false → TalliesTaken tally b question taken
-    → TalliesTaken (tallied tally (answer_to_entry asked worked)) b question (with_ticket taken t)
+    → TalliesTaken (tally_with tally (answer_to_entry asked worked)) b question (with_ticket taken t)
 one_taken b question asked taken t worked tally belongs not counted =
     let same : answer_to_entry question belongs.entry ≡ answer_to_entry asked worked = same_answer question belongs.entry worked belongs.same_text belongs.same_loss ∙ ap (λ q. answer_to_entry q worked) belongs.same_question in
     let more : (kind : Answer → Bool) (m : ℕ) → m ≡ taken_count kind b question taken → m + one_if (kind (answer_to_entry asked worked)) ≡ taken_count kind b question (with_ticket taken t)

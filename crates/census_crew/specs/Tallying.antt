@@ -13,8 +13,8 @@ abbrev pub no_tally : Tally
 no_tally = record { patterns = 0; resolved = 0; unresolved = 0; refused = 0; doubles = 0; strangers = 0; caught_up = 0 }
 
 -- one more pattern was counted, of which this was found
-abbrev pub tallied : Tally → Answer → Tally
-tallied t a = record {
+abbrev pub tally_with : Tally → Answer → Tally
+tally_with t a = record {
   patterns = t.patterns + 1;
   resolved = t.resolved + one_if (is_resolved a);
   unresolved = t.unresolved + one_if (is_unresolved a);

@@ -103,8 +103,8 @@ impl<'a> RunState<'a> {
         ensures told { IfErr result TellsNoTicket }
     {
         let (to, from) = crossbeam_channel::bounded(alloc, CHANNEL_LEN)?;
-        let bundle = self.bundle;
-        let question = self.question;
+        let bundle = self.collector.bundle();
+        let question = self.collector.question();
         let task = CollectTask {
             state: self,
             results: from,

@@ -22,15 +22,12 @@ use std::alloc::{AllocError, Global};
 use std::io::Write;
 use watched::{Failed, Watched};
 
-/// The state of a run: which of its results were taken, the text that they release, and what was counted. The collector
-/// has the bundle and the question too, but doesn't give them.
+/// The state of a run: which of its results were taken, the text that they release, and what was counted.
 #[derive(Drop)]
 pub(crate) struct RunState<'a> {
-    pub(crate) bundle: &'a Bundle,
-    pub(crate) question: Question,
     pub(crate) collector: Collector<'a>,
     pub(crate) tally: Tally,
-    ghost sound: { IsRunState bundle.now question collector tally },
+    ghost sound: { IsRunState collector tally },
 }
 
 // A bundle is small.
@@ -54,8 +51,6 @@ impl<'a> RunState<'a> {
         is_small(bundle);
         let collector = Collector::new(alloc, bundle, question)?;
         Ok(RunState {
-            bundle,
-            question,
             collector,
             tally: Tally::new(),
         })
@@ -165,10 +160,10 @@ impl<'a> RunState<'a> {
         ensures taken { OnOk result (self.new.collector.taken ≡ with_ticket self.old.collector.taken ticket) }
         ensures strangers { OnOk result (self.new.tally.strangers ≡ self.old.tally.strangers) }
     {
-        let Some(entry) = self.bundle.entry(ticket) else {
+        let Some(entry) = self.collector.bundle().entry(ticket) else {
             unreachable!();
         };
-        let Ok(done) = Done::work(alloc, ticket, entry, self.question) else {
+        let Ok(done) = Done::work(alloc, ticket, entry, self.collector.question()) else {
             return Err(RunFault::memory_at(ticket));
         };
         match self.arrive(done, out)? {

@@ -1,6 +1,6 @@
 //! What a run counts.
 ghost use Rattle.std.specs.Prelude.{◌≡◌, ◌<◌, ◌^◌};
-ghost use Rattle.census_crew.specs.Tallying.{tallied, no_tally};
+ghost use Rattle.census_crew.specs.Tallying.{tally_with, no_tally};
 
 use life_answer::{Answer, Finding};
 
@@ -45,7 +45,7 @@ impl Tally {
         requires resolved { self.resolved < 2 ^ 63 }
         requires unresolved { self.unresolved < 2 ^ 63 }
         requires refused { self.refused < 2 ^ 63 }
-        ensures { result ≡ tallied self answer.now }
+        ensures { result ≡ tally_with self answer.now }
     {
         let mut counted = self;
         counted.patterns += 1;

@@ -48,7 +48,9 @@ fn least_body<P: Plane>(
     let mut least = LeastText::new(alloc);
     add_plane(&mut least, &plane)?;
     let mut first = Vec::new(alloc);
-    first.extend_from_slice(least.text())?;
+    if period > 2 {
+        first.extend_from_slice(least.text())?;
+    }
     for n in 1..period {
         plane.step(rule)?;
         if n > 1 && n + n == period && has_text(alloc, &plane, &first)? {

@@ -3,7 +3,7 @@ use Rattle.life_model.specs.Cell.{Cell, plus, opposite}
 use Rattle.life_model.specs.Generation.{size}
 use Rattle.life_plane.specs.Offsets.{IsOffset}
 use Rattle.life_slots.specs.declared.ends.Ends.{Ends}
-use Rattle.life_slots.proofs.Inserted.{place_from_within}
+use Rattle.life_plane.proofs.Later.{place_from_within}
 use Rattle.life_tile.proofs.SameCells.{some_by_ends, size_of_none, offset_of_no_cell, sets_apart_by_count, offset_of_members, sets_apart_by_missing}
 use Rattle.life_board.specs.Squares.{members_of, AreEnds, HasNoMember}
 use Rattle.life_board.proofs.offset.offset_from_square.Goals as goal

@@ -8,6 +8,7 @@ use Rattle.life_answer.specs.Apgcode.{bodies, turned_bodies}
 use Rattle.life_codes.specs.Least.{with_text}
 use Rattle.life_codes.proofs.Phases.{least-more, least_is}
 use Rattle.life_find.proofs.Halves.{half_is_enough}
+use Rattle.life_find.proofs.apgcode.least_body.Goals.{then-period-gt2+in_ok-extend_from_slice, else-period-gt2}
 use Rattle.life_find.proofs.apgcode.least_body.Goals as goal
 
 pub loop-n-init : goal.loop-n-init
@@ -20,7 +21,13 @@ loop-n-init g c =
       cells = sym (generation-zero R H);
       age = refl;
       least = alone ∙ least-more R H H 0 (sym (generation-zero R H));
-      first = c.in_ok-extend_from_slice.ensures.items ∙ ap (λ xs. xs ++ c.text.result.now) c.new-first.ensures.items ∙ c.text.ensures ∙ ap (λ o. unwrap_or o []) alone ∙ least_is (turned_bodies H);
+      first = λ long.
+          elim c.if-period-gt2.branch [
+            | then-period-gt2+in_ok-extend_from_slice w ↦
+                ap (λ v. v.items) w.first-is ∙ w.in_ok-extend_from_slice.ensures.items ∙ ap (λ xs. xs ++ w.text.result.now) c.new-first.ensures.items
+                ∙ w.text.ensures ∙ ap (λ o. unwrap_or o []) alone ∙ least_is (turned_bodies H)
+            | else-period-gt2 w ↦ let short = w.if-period-gt2.false in absurd (omega arith)
+          ];
     }
 
 pub returns-then-branch : goal.returns-then-branch
@@ -34,7 +41,7 @@ returns-then-branch g c =
     c.in_ok-step.ensures.cells ∙ ap (next R) c.loop-n.invariant.cells ∙ sym (generation-next R H (n - 1))
     ∙ ap (generation R H) (let e : n - 1 + 1 ≡ n = omega arith in e) in
     let same : least_text (turned_bodies (generation R H n)) ≡ least_text (turned_bodies H) =
-    ap (λ G. least_text (turned_bodies G)) (sym there) ∙ c.in_ok-has_text.ensures c.if-branch.true ∙ c.deref.ensures.value ∙ c.loop-n.invariant.first in
+    ap (λ G. least_text (turned_bodies G)) (sym there) ∙ c.in_ok-has_text.ensures c.if-branch.true ∙ c.deref.ensures.value ∙ c.loop-n.invariant.first (omega arith) in
     c.into_text.ensures
     ∙ ap (λ o. unwrap_or o []) c.loop-n.invariant.least
     ∙ least_is (bodies R H n)

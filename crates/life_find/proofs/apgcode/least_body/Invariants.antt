@@ -1,4 +1,4 @@
-use Rattle.std.proofs.Common.{◌≡◌, ◌+◌, ◌-◌, None}
+use Rattle.std.proofs.Common.{◌≡◌, ◌+◌, ◌-◌, ◌<◌, None}
 use Rattle.std.specs.List.{fold}
 use Rattle.life_model.specs.Evolution.{generation}
 use Rattle.life_shape.specs.TextOrder.{least_text}
@@ -14,5 +14,5 @@ invariant-loop-n g l =
       cells : g.P.Plane.members l.plane ≡ generation l.rule first (l.n - 1);
       age : g.P.Plane.steps_made l.plane + 1 ≡ g.P.Plane.steps_made l.fn.plane + l.n;
       least : l.least ≡ fold with_text None (bodies l.rule first l.n);
-      first : l.first.items ≡ least_text (turned_bodies first);
+      first : 2 < l.period → l.first.items ≡ least_text (turned_bodies first);
     }
