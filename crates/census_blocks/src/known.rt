@@ -78,7 +78,8 @@ fn settling(
 ) -> Result<Option<Known>, AllocError>
     requires bound { 1 ≤ bound × bound ≤ BOUND_LIMIT }
     requires meant { picture_of (reading text.now) ≡ Ok pattern.now }
-    ensures { IfOk result (λ known. known ≡ known_recurrence (finding_of pattern.now.rule pattern.now.cells bound)) }
+    ensures { IfOk result
+        (λ known. known ≡ known_recurrence (finding_of pattern.now.rule pattern.now.cells bound)) }
 {
     match life_find::answer(alloc, text, bound, None)? {
         Answer::Found { rule: _, finding } => Ok(known_recurrence(finding)),
@@ -95,7 +96,8 @@ fn falling_apart(
 ) -> Result<Known, AllocError>
     requires bound { 1 ≤ bound × bound ≤ BOUND_LIMIT }
     requires meant { picture_of (reading text.now) ≡ Ok pattern.now }
-    ensures { IfOk result (λ known. known ≡ known_parts (census_of pattern.now.rule pattern.now.cells bound)) }
+    ensures { IfOk result
+        (λ known. known ≡ known_parts (census_of pattern.now.rule pattern.now.cells bound)) }
 {
     match life_census::answer(alloc, text, bound, None)? {
         Answer::Found { rule: _, finding } => Ok(known_parts(finding)),

@@ -41,7 +41,9 @@ fn push_one<I: Integer>(text: &mut Vec<u8>, name: &[u8], number: I) -> Result<()
 // The line of how wide and how high a box is.
 #[tactic(auto, unfolding(crate::specs::Lines::line))]
 fn push_box(text: &mut Vec<u8>, width: u32, height: u32) -> Result<(), AllocError>
-    ensures { OnOk result (text.new.items ≡ text.old.items ++ line (codes "box") (decimal width ∷ decimal height ∷ [])) }
+    ensures { OnOk result
+        (text.new.items ≡
+        text.old.items ++ line (codes "box") (decimal width ∷ decimal height ∷ [])) }
 {
     text.extend_from_slice(b"box")?;
     push_number(text, width)?;
@@ -64,7 +66,8 @@ fn push_bytes(text: &mut Vec<u8>, name: &[u8], bytes: &[u8]) -> Result<(), Alloc
 // The line of a rule.
 #[tactic(auto, unfolding(crate::specs::Lines::line))]
 fn push_rule(text: &mut Vec<u8>, rule: &Rule) -> Result<(), AllocError>
-    ensures { OnOk result (text.new.items ≡ text.old.items ++ line (codes "rule") (rule_text rule.now ∷ [])) }
+    ensures { OnOk result
+        (text.new.items ≡ text.old.items ++ line (codes "rule") (rule_text rule.now ∷ [])) }
 {
     text.extend_from_slice(b"rule ")?;
     rule.text_into(text)?;
@@ -79,7 +82,9 @@ pub fn push_head(
     population: usize,
     size: (u32, u32),
 ) -> Result<(), AllocError>
-    ensures { OnOk result (text.new.items ≡ text.old.items ++ text_of (head_lines rule.now population size.0 size.1)) }
+    ensures { OnOk result
+        (text.new.items ≡
+        text.old.items ++ text_of (head_lines rule.now population size.0 size.1)) }
 {
     let (width, height) = size;
     push_rule(text, rule)?;
@@ -89,7 +94,9 @@ pub fn push_head(
 
 // How far a pattern has moved: a blank and a number, twice.
 fn push_moves(text: &mut Vec<u8>, dx: &i32, dy: &i32) -> Result<(), AllocError>
-    ensures { OnOk result (text.new.items ≡ text.old.items ++ fields_text (signed_decimal dx.now ∷ signed_decimal dy.now ∷ [])) }
+    ensures { OnOk result
+        (text.new.items ≡
+        text.old.items ++ fields_text (signed_decimal dx.now ∷ signed_decimal dy.now ∷ [])) }
 {
     push_number(text, *dx)?;
     push_number(text, *dy)
@@ -116,7 +123,9 @@ fn push_settled(
     dy: &i32,
     code: &[u8],
 ) -> Result<(), AllocError>
-    ensures { OnOk result (text.new.items ≡ text.old.items ++ text_of (settled_lines onset period dx.now dy.now code.now)) }
+    ensures { OnOk result
+        (text.new.items ≡
+        text.old.items ++ text_of (settled_lines onset period dx.now dy.now code.now)) }
 {
     push_one(text, b"onset", onset)?;
     push_one(text, b"period", period)?;
@@ -156,7 +165,8 @@ fn push_objects(text: &mut Vec<u8>, parts: &Parts) -> Result<(), AllocError>
 
 /// Appends the lines of what is known of a pattern within the bound.
 pub fn push_known(text: &mut Vec<u8>, known: &Known, bound: u32) -> Result<(), AllocError>
-    ensures { OnOk result (text.new.items ≡ text.old.items ++ text_of (known_lines bound known.now)) }
+    ensures { OnOk result
+        (text.new.items ≡ text.old.items ++ text_of (known_lines bound known.now)) }
 {
     match known {
         Known::Settles {

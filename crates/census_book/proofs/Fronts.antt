@@ -14,7 +14,7 @@ use Rattle.census_format.specs.Reports.{run_of, has_all, end_if, folder_out, tex
 use Rattle.census_book.proofs.TicketSets.{has_other, has_kept}
 use Rattle.census_book.proofs.Runs.{run_same, run_before, run_within}
 use Rattle.census_book.proofs.Missing.{least_missing}
-use Rattle.census_bundle.specs.Sizes.{IsSmall, count_limit}
+use Rattle.census_bundle.specs.Sizes.{IsWithinCounts, count_limit}
 use Rattle.census_book.proofs.Releases.{all_each, all_not, run_none, folder_at, not_whole}
 use Rattle.census_book.proofs.Texts.{ticket_in}
 use Rattle.census_format.proofs.Owning.{eqb_same, eqb_apart}
@@ -184,7 +184,7 @@ folder_here (f ∷ fs) zero lt = (f, refl)
 folder_here (f ∷ fs) (suc k) lt = folder_here fs k (omega arith)
 
 -- the first open collection's run is followed by the least ticket that is missing
-pub first_missing : (b : List Folder) (taken : Tickets) (runs : List ℕ) (first k : ℕ) → IsFront b taken runs first → IsSmall b → (first ≡ length b → ⊥) → k ≡ get_or runs first k
+pub first_missing : (b : List Folder) (taken : Tickets) (runs : List ℕ) (first k : ℕ) → IsFront b taken runs first → IsWithinCounts b → (first ≡ length b → ⊥) → k ≡ get_or runs first k
     → IsLeastMissing b taken (ticket (first + 1) (k + 1)) × (k ≤ count_limit)
 first_missing b taken runs first k front small apart is =
     let lt : first < length b = let w = front.within in omega (arith, apart) in

@@ -7,7 +7,7 @@ use Rattle.std.specs.Ordering.{nat_cmp, ordering_then}
 use Rattle.std.specs.FinSet.{nat_cmp-IsAntisymmetric}
 use Rattle.census_bundle.specs.declared.bundle.Folder.{Folder}
 use Rattle.census_bundle.specs.declared.ticket.Ticket.{Ticket}
-use Rattle.census_bundle.specs.Tickets.{Tickets, ticket, has_ticket, element_at, entry_in, IsTicketOf, HasAll}
+use Rattle.census_bundle.specs.Tickets.{Tickets, ticket, has_ticket, element_at, entry_in, IsTicketOf, HasAllTickets}
 use Rattle.census_format.specs.Reports.{run_of, run_from}
 use Rattle.census_book.specs.Collecting.{HasCollection, IsLeastMissing}
 use Rattle.census_book.proofs.Runs.{run_end, run_before}
@@ -31,7 +31,7 @@ taken_before b taken i before u of le =
     ] refl
 
 -- where each collection has arrived whole, each ticket is taken
-pub all_taken : (b : List Folder) (taken : Tickets) (i : ℕ) → WholeBefore b taken i → length b ≤ i → HasAll b taken
+pub all_taken : (b : List Folder) (taken : Tickets) (i : ℕ) → WholeBefore b taken i → length b ≤ i → HasAllTickets b taken
 all_taken b taken i before le t of = let w = ticket_in b t of.0 of.1 in taken_before b taken i before t of (omega (arith, w))
 
 -- a collection whose run is all of it has arrived whole

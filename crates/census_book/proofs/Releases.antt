@@ -9,7 +9,7 @@ use Rattle.std.specs.FinSet.{contains-empty}
 use Rattle.census_bundle.specs.declared.bundle.Entry.{Entry}
 use Rattle.census_bundle.specs.declared.bundle.Folder.{Folder}
 use Rattle.census_bundle.specs.declared.ticket.Ticket.{Ticket}
-use Rattle.census_bundle.specs.Tickets.{Tickets, ticket, ticket_cmp, no_tickets, with_ticket, has_ticket, element_at, entry_in, IsTicketOf, HasAll}
+use Rattle.census_bundle.specs.Tickets.{Tickets, ticket, ticket_cmp, no_tickets, with_ticket, has_ticket, element_at, entry_in, IsTicketOf, HasAllTickets}
 use Rattle.census_format.specs.Lines.{Line, text_of, open_line, end_line, pattern_lines, pattern_count}
 use Rattle.census_format.specs.Reports.{IsReport, IsReportFront, text_at_start, text_released, folder_text_released, folder_out, lines_of, owned_text, closing, closing_if, end_if, opening, run_of, run_from, all_from, has_all, section_of, folder_section}
 use Rattle.census_book.specs.Released.{IsReleased, lines_released, shown_of, shown_lines}
@@ -228,10 +228,10 @@ completed question d taken None = refl
 completed question d taken (Some f) = shown_and_hidden question d f (run_of taken d f)
 
 -- where each ticket is taken, each collection has arrived whole
-pub has_all-each : (b : List Folder) (taken : Tickets) → HasAll b taken → has_all b taken ≡ true
+pub has_all-each : (b : List Folder) (taken : Tickets) → HasAllTickets b taken → has_all b taken ≡ true
 has_all-each b taken all = all_each taken 1 b (λ j f at. run_all (λ i. has_ticket taken (ticket (1 + j) i)) 1 f.entries (λ k lt. each b taken all j f at k lt))
   where
-    each : (b : List Folder) (taken : Tickets) → HasAll b taken → (j : ℕ) (f : Folder) → slice_get b j ≡ Some f → (k : ℕ) → k < length f.entries → has_ticket taken (ticket (1 + j) (1 + k)) ≡ true
+    each : (b : List Folder) (taken : Tickets) → HasAllTickets b taken → (j : ℕ) (f : Folder) → slice_get b j ≡ Some f → (k : ℕ) → k < length f.entries → has_ticket taken (ticket (1 + j) (1 + k)) ≡ true
     each b taken all j f at k lt =
         let one : suc j ≡ 1 + j = omega arith in
         let two : suc k ≡ 1 + k = omega arith in
@@ -264,5 +264,5 @@ released_front b question taken text rest released =
           }
     ] refl
 
-pub released_whole : (b : List Folder) (question : Question) (taken : Tickets) (text : List ℕ) → IsReleased b question taken text → HasAll b taken → IsReport b question text
+pub released_whole : (b : List Folder) (question : Question) (taken : Tickets) (text : List ℕ) → IsReleased b question taken text → HasAllTickets b taken → IsReport b question text
 released_whole b question taken text released all = report_when b question taken text released (has_all-each b taken all)

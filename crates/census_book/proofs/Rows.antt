@@ -13,7 +13,7 @@ use Rattle.std.specs.Ordering.{eq_by_cmp, is_eq}
 use Rattle.census_bundle.specs.declared.bundle.Entry.{Entry}
 use Rattle.census_bundle.specs.declared.bundle.Folder.{Folder}
 use Rattle.census_bundle.specs.declared.ticket.Ticket.{Ticket}
-use Rattle.census_bundle.specs.Tickets.{IsTicketOf, entry_at, entry_in, folder_of, has_ticket, no_tickets, number_of, element_at, ticket, ticket_cmp, tickets_of, with_ticket}
+use Rattle.census_bundle.specs.Tickets.{IsTicketOf, entry_at, entry_in, folder_of, has_ticket, no_tickets, number_in_folder, element_at, ticket, ticket_cmp, tickets_of, with_ticket}
 use Rattle.census_book.specs.Collecting.{Belongs, HasCollection, IsResult}
 use Rattle.census_book.specs.Slots.{Row, Taking, HasSlot, IsFull, KeepsResults, dropped, empty_slots, work_in, result_at, row_tickets, rows_tickets, work_at, slot_in, taken_in, taking_at, with_result, without_results}
 use Rattle.census_book.specs.Work.{Work}
@@ -51,17 +51,17 @@ row_other test c i (Some w ∷ row) none =
 row_from : (q : Ticket) (c i j : ℕ) (row : Row) → q.folder ≡ c → q.number ≡ i + j → list_any (eq_by_cmp ticket_cmp q) (row_tickets c i row) ≡ is_some (work_in (slice_get row j))
 row_from q c i j [] p n = refl
 row_from q c i zero (None ∷ row) p n =
-    row_other (eq_by_cmp ticket_cmp q) c (suc i) row (λ k le. apart q (ticket c k) (λ e. let same : q.number ≡ k = ap number_of e in absurd (omega arith)))
+    row_other (eq_by_cmp ticket_cmp q) c (suc i) row (λ k le. apart q (ticket c k) (λ e. let same : q.number ≡ k = ap number_in_folder e in absurd (omega arith)))
 row_from q c i zero (Some w ∷ row) p n =
     let here : q.number ≡ i = omega (arith, n) in
     ap (λ b. b || list_any (eq_by_cmp ticket_cmp q) (row_tickets c (suc i) row)) (tied q (ticket c i) p here)
 row_from q c i (suc j) (None ∷ row) p n = row_from q c (suc i) j row p (omega (arith, n))
 row_from q c i (suc j) (Some w ∷ row) p n =
-    ap (λ b. b || list_any (eq_by_cmp ticket_cmp q) (row_tickets c (suc i) row)) (apart q (ticket c i) (λ e. let same : q.number ≡ i = ap number_of e in absurd (omega arith)))
+    ap (λ b. b || list_any (eq_by_cmp ticket_cmp q) (row_tickets c (suc i) row)) (apart q (ticket c i) (λ e. let same : q.number ≡ i = ap number_in_folder e in absurd (omega arith)))
     ∙ row_from q c (suc i) j row p (omega (arith, n))
 
 row_at : (c n : ℕ) (row : Row) → list_any (eq_by_cmp ticket_cmp (ticket c n)) (row_tickets c 1 row) ≡ is_some (work_at row n)
-row_at c zero row = row_other (eq_by_cmp ticket_cmp (ticket c 0)) c 1 row (λ k le. apart (ticket c 0) (ticket c k) (λ e. let same : 0 ≡ k = ap number_of e in absurd (omega arith)))
+row_at c zero row = row_other (eq_by_cmp ticket_cmp (ticket c 0)) c 1 row (λ k le. apart (ticket c 0) (ticket c k) (λ e. let same : 0 ≡ k = ap number_in_folder e in absurd (omega arith)))
 row_at c (suc j) row = row_from (ticket c (suc j)) c 1 j row refl (omega arith)
 
 rows_other : (q : Ticket) (c : ℕ) (rows : List Row) → q.folder < c → list_any (eq_by_cmp ticket_cmp q) (rows_tickets c rows) ≡ false
@@ -107,7 +107,7 @@ cond_yes : {A : Type 0} (b : Bool) (x y z : A) → b ≡ true → z ≡ x → z 
 cond_yes b x y z is e = e ∙ ap (λ c. cond c x y) (sym is)
 
 slot_put : (row : Row) (c m n : ℕ) (w : Taking) → m < length row → work_at (set row m (Some w)) n ≡ cond (eq_by_cmp ticket_cmp (ticket c (suc m)) (ticket c n)) (Some w) (work_at row n)
-slot_put row c m zero w lt = cond_no _ _ _ _ (apart (ticket c (suc m)) (ticket c 0) (λ e. let same : suc m ≡ 0 = ap number_of e in absurd (omega arith))) refl
+slot_put row c m zero w lt = cond_no _ _ _ _ (apart (ticket c (suc m)) (ticket c 0) (λ e. let same : suc m ≡ 0 = ap number_in_folder e in absurd (omega arith))) refl
 slot_put row c m (suc i) w lt = at (same_or_not i m)
   where
     at : (i ≡ m) ⊎ (i ≡ m → ⊥) → work_in (slice_get (set row m (Some w)) i) ≡ cond (eq_by_cmp ticket_cmp (ticket c (suc m)) (ticket c (suc i))) (Some w) (work_in (slice_get row i))
@@ -115,7 +115,7 @@ slot_put row c m (suc i) w lt = at (same_or_not i m)
         cond_yes _ _ _ _ (tied (ticket c (suc m)) (ticket c (suc i)) refl (ap suc (sym is)))
         (ap (λ j. work_in (slice_get (set row m (Some w)) j)) is ∙ ap work_in (get_set_same row m (Some w) lt))
     at (inr not) =
-        cond_no _ _ _ _ (apart (ticket c (suc m)) (ticket c (suc i)) (λ e. let same : suc m ≡ suc i = ap number_of e in not (omega arith)))
+        cond_no _ _ _ _ (apart (ticket c (suc m)) (ticket c (suc i)) (λ e. let same : suc m ≡ suc i = ap number_in_folder e in not (omega arith)))
         (ap work_in (get_set_other row m i (Some w) not))
 
 row_put : (rows : List Row) (k m d n : ℕ) (row : Row) (w : Taking) → slice_get rows k ≡ Some row → m < length row

@@ -9,10 +9,10 @@ use Rattle.std.specs.FinSet.{IsAntisymmetric, nat_cmp-IsAntisymmetric, contains-
 use Rattle.std.specs.List.{list_any}
 use Rattle.life_model.proofs.Cells.{both_equal}
 use Rattle.census_bundle.specs.declared.ticket.Ticket.{Ticket}
-use Rattle.census_bundle.specs.Tickets.{Tickets, ticket_cmp, folder_of, number_of, has_ticket, with_ticket, tickets_of}
+use Rattle.census_bundle.specs.Tickets.{Tickets, ticket_cmp, folder_of, number_in_folder, has_ticket, with_ticket, tickets_of}
 
 pub ticket_cmp_total : IsTotalOrder ticket_cmp
-ticket_cmp_total = then_total (on_total folder_of nat_cmp_total) (on_total number_of nat_cmp_total)
+ticket_cmp_total = then_total (on_total folder_of nat_cmp_total) (on_total number_in_folder nat_cmp_total)
 
 pub ticket_cmp_same : IsAntisymmetric ticket_cmp
 ticket_cmp_same x y e =

@@ -2,7 +2,7 @@
 use Rattle.std.specs.Prelude.{◌≡◌, ℕ, false, List, [], ◌∷◌, ◌++◌}
 use Rattle.census_bundle.specs.declared.bundle.Folder.{Folder}
 use Rattle.census_bundle.specs.declared.ticket.Ticket.{Ticket}
-use Rattle.census_bundle.specs.Tickets.{Tickets, no_tickets, with_ticket, has_ticket, IsTicketOf, HasAll}
+use Rattle.census_bundle.specs.Tickets.{Tickets, no_tickets, with_ticket, has_ticket, IsTicketOf, HasAllTickets}
 use Rattle.census_book.specs.declared.offer.Offer.{Offer}
 use Rattle.census_book.specs.Collecting.{Offered}
 use Rattle.census_book.specs.Progress.{Progress, initial_progress}
@@ -30,7 +30,7 @@ abbrev pub OrdersAreLawful : Type 0
 OrdersAreLawful =
     (b : List Folder) (question : Question) (ts : List Ticket) → AreNew b no_tickets ts
     → IsReportFront b question (text_at_start b question ++ texts_released b question no_tickets ts)
-    × (HasAll b (with_all no_tickets ts) → IsReport b question (text_at_start b question ++ texts_released b question no_tickets ts))
+    × (HasAllTickets b (with_all no_tickets ts) → IsReport b question (text_at_start b question ++ texts_released b question no_tickets ts))
 
 -- the second is what becomes of the first, to which these results were offered in turn
 abbrev pub OfferedAll : Progress → List Work → Progress → Type 0
@@ -42,4 +42,4 @@ OfferedAll p (w ∷ ws) r = (q : Progress) × (o : Offer) × Offered p w.ticket 
 abbrev pub ArrivalsAreLawful : Type 0
 ArrivalsAreLawful =
     (b : List Folder) (question : Question) (ws : List Work) (p : Progress) → OfferedAll (initial_progress b question) ws p
-    → IsReportFront b question p.unsent × (HasAll b p.taken → IsReport b question p.unsent)
+    → IsReportFront b question p.unsent × (HasAllTickets b p.taken → IsReport b question p.unsent)

@@ -36,7 +36,8 @@ impl<'r, 'a> Model for Arrival<'r, 'a> {
 impl<'r, 'a> Arrival<'r, 'a> {
     /// A result that belongs to the bundle and the question, and is new.
     pub fn new(results: &'r Results<'a>, done: &'r Done<'a>) -> Arrival<'r, 'a>
-        requires belongs { Belongs results.now.bundle results.now.question done.now.ticket done.now.entry done.now.question }
+        requires belongs { Belongs results.now.bundle results.now.question done.now.ticket
+            done.now.entry done.now.question }
         requires new { has_ticket results.now.taken done.now.ticket ≡ false }
         ensures { result ≡ arrived_of results.now done.now.ticket }
     {

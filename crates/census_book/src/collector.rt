@@ -1,6 +1,6 @@
 //! The collector of results, which releases the lines of the report.
 ghost use Rattle.std.specs.Prelude.{◌≡◌, ◌≤◌, ◌++◌, true, false, length, IfOk, IfErr, OnOk, OnErr, MatchOption};
-ghost use Rattle.census_bundle.specs.Tickets.{HasAll, has_ticket, with_ticket};
+ghost use Rattle.census_bundle.specs.Tickets.{HasAllTickets, has_ticket, with_ticket};
 ghost use Rattle.life_answer.specs.Questions.{IsAnswered};
 ghost use Rattle.census_book.specs.Collecting.{Belongs, IsLeastMissing, Judged, Offered};
 ghost use Rattle.census_book.specs.declared.offer.Offer.TheVariants.{Taken};
@@ -56,13 +56,24 @@ fn accept<'a>(
     text: &[u8],
     release: Release,
 ) -> Result<(), NoRoom<'a>>
-    requires belongs { Belongs results.old.bundle results.old.question done.ticket done.entry done.question }
+    requires belongs { Belongs results.old.bundle results.old.question done.ticket done.entry
+        done.question }
     requires new { has_ticket results.old.taken done.ticket ≡ false }
-    requires front { IsFront results.old.bundle results.old.taken front.old.runs.items front.old.first_open }
-    requires release { IsRelease results.old.bundle results.old.question results.old.taken front.old.runs.items front.old.first_open done.ticket text.now release.run release.first_open }
-    ensures taken { OnOk result (results.new ≡ taken_of results.old.bundle results.old.question (with_ticket results.old.taken done.entry.ticket)) }
-    ensures released { OnOk result (unsent.new.items ≡ unsent.old.items ++ text_released results.old.bundle results.old.question results.old.taken done.entry.ticket) }
-    ensures front { IsFront results.new.bundle results.new.taken front.new.runs.items front.new.first_open }
+    requires front { IsFront results.old.bundle results.old.taken front.old.runs.items
+        front.old.first_open }
+    requires release { IsRelease results.old.bundle results.old.question results.old.taken
+        front.old.runs.items front.old.first_open done.ticket text.now release.run
+        release.first_open }
+    ensures taken { OnOk result
+        (results.new ≡
+        taken_of results.old.bundle results.old.question
+        (with_ticket results.old.taken done.entry.ticket)) }
+    ensures released { OnOk result
+        (unsent.new.items ≡
+        unsent.old.items ++
+        text_released results.old.bundle results.old.question results.old.taken done.entry.ticket) }
+    ensures front { IsFront results.new.bundle results.new.taken front.new.runs.items
+        front.new.first_open }
     ensures back { IfErr result (λ e. e.done ≡ done.entry) }
     ensures results { OnErr result (results.new ≡ results.old) }
     ensures unsent { OnErr result (unsent.new.items ≡ unsent.old.items) }
@@ -115,9 +126,13 @@ impl<'a> Collector<'a> {
     /// `code` lines and its closing line, and where nothing is missing any more the last line. `NoRoom` is out of memory: it
     /// hands back a result that would have been `Taken`, and changes nothing.
     pub fn offer(&mut self, done: Done<'a>) -> Result<Offer, NoRoom<'a>>
-        ensures ok { IfOk result (λ o. Offered self.old done.entry.ticket done.entry.entry done.entry.question self.new o) }
+        ensures ok { IfOk result
+            (λ o. Offered self.old done.entry.ticket done.entry.entry done.entry.question self.new
+            o) }
         ensures no_room { IfErr result (λ e. e.done ≡ done.entry) }
-        ensures fits { OnErr result (Judged self.old.bundle self.old.question self.old.taken done.entry.ticket done.entry.entry done.entry.question Taken) }
+        ensures fits { OnErr result
+            (Judged self.old.bundle self.old.question self.old.taken done.entry.ticket
+            done.entry.entry done.entry.question Taken) }
         ensures unchanged { OnErr result (self.new ≡ self.old) }
     {
         match self.results.judge(&done) {
@@ -177,7 +192,8 @@ impl<'a> Collector<'a> {
 
     /// The least ticket that was not taken.
     pub fn missing(&self) -> Option<Ticket>
-        ensures { MatchOption result (HasAll self.now.bundle self.now.taken) (IsLeastMissing self.now.bundle self.now.taken) }
+        ensures { MatchOption result (HasAllTickets self.now.bundle self.now.taken)
+            (IsLeastMissing self.now.bundle self.now.taken) }
     {
         let first = self.front.first_open;
         if first == self.results.bundle().folders().len() {
@@ -191,8 +207,8 @@ impl<'a> Collector<'a> {
 
     /// Whether no ticket is missing.
     pub fn is_whole(&self) -> bool
-        ensures whole { result ≡ true → HasAll self.now.bundle self.now.taken }
-        ensures missing { HasAll self.now.bundle self.now.taken → result ≡ true }
+        ensures whole { result ≡ true → HasAllTickets self.now.bundle self.now.taken }
+        ensures missing { HasAllTickets self.now.bundle self.now.taken → result ≡ true }
     {
         self.missing().is_none()
     }

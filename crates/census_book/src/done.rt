@@ -68,7 +68,8 @@ fn find(alloc: Global, entry: &Entry, question: Question) -> Result<Answer, Allo
 #[tactic(auto, unfolding(census_format::specs::Lines::answer_to_entry))]
 fn find_soon(alloc: Global, entry: &Entry, question: Question) -> Result<Option<Answer>, AllocError>
     requires { IsAnswered question }
-    ensures known { IfOk result (λ soon. IfSome soon (λ found. found ≡ answer_to_entry question entry.now)) }
+    ensures known { IfOk result
+        (λ soon. IfSome soon (λ found. found ≡ answer_to_entry question entry.now)) }
     ensures long { IfOk result (λ soon. IfNone soon (IsLongWork question entry.now)) }
     ensures memory { OnErr result (entry.now.is_lost ≡ false) }
 {
@@ -83,7 +84,8 @@ fn find_soon(alloc: Global, entry: &Entry, question: Question) -> Result<Option<
 
 // The line of a pattern of which this was found, as far as its name; none where it is refused.
 fn head_of(alloc: Global, ticket: Ticket, answer: &Answer) -> Result<Option<Text>, AllocError>
-    ensures head { IfOk result (λ made. IfSome made (λ head. head ≡ line_head ticket.folder ticket.number answer.now)) }
+    ensures head { IfOk result
+        (λ made. IfSome made (λ head. head ≡ line_head ticket.folder ticket.number answer.now)) }
     ensures memory { OnErr result ((number : ℕ) → answer.now ≡ Refused number → ⊥) }
 {
     match answer {
@@ -99,7 +101,8 @@ fn head_of(alloc: Global, ticket: Ticket, answer: &Answer) -> Result<Option<Text
 // The `part` lines of a pattern of which this was found.
 #[tactic(auto, unfolding(census_format::specs::Heads::line_tail))]
 fn tail_of(alloc: Global, ticket: Ticket, answer: &Answer) -> Result<Vec<u8>, AllocError>
-    ensures tail { IfOk result (λ tail. tail.items ≡ line_tail ticket.folder ticket.number answer.now) }
+    ensures tail { IfOk result
+        (λ tail. tail.items ≡ line_tail ticket.folder ticket.number answer.now) }
     ensures memory { OnErr result ((number : ℕ) → answer.now ≡ Refused number → ⊥) }
 {
     let mut tail = Vec::new(alloc);
@@ -209,8 +212,10 @@ impl<'a> Done<'a> {
     // Appends the lines of the pattern, under the name of this entry.
     pub(crate) fn push_lines(&self, text: &mut Vec<u8>, entry: &Entry) -> Result<(), AllocError>
         ensures { OnOk result (text.new.items ≡ text.old.items ++ line_with_head
-            (line_head self.now.ticket.folder self.now.ticket.number (answer_to_entry self.now.question self.now.entry))
-            (line_tail self.now.ticket.folder self.now.ticket.number (answer_to_entry self.now.question self.now.entry)) entry.now) }
+            (line_head self.now.ticket.folder self.now.ticket.number
+            (answer_to_entry self.now.question self.now.entry))
+            (line_tail self.now.ticket.folder self.now.ticket.number
+            (answer_to_entry self.now.question self.now.entry)) entry.now) }
     {
         match self.head.as_ref() {
             Some(head) => push_pattern(text, head.as_slice(), self.tail.as_slice(), entry),

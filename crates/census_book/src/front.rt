@@ -1,6 +1,6 @@
 //! How far each collection has come.
 ghost use Rattle.std.specs.Prelude.{◌≡◌, ◌≤◌, ◌<◌, length, IfOk};
-ghost use Rattle.census_bundle.specs.Sizes.{IsSmall};
+ghost use Rattle.census_bundle.specs.Sizes.{IsWithinCounts};
 ghost use Rattle.census_bundle.specs.Tickets.{no_tickets};
 ghost use Rattle.census_book.specs.Front.{IsFront, IsNextOpen};
 
@@ -19,7 +19,7 @@ pub struct Front {
 pub fn next_open(runs: &[u32], folders: &[Folder], c: u32, m: u32, from: usize) -> usize
     requires each { length runs.now ≡ length folders.now }
     requires within { from ≤ length folders.now }
-    requires small { IsSmall folders.now }
+    requires small { IsWithinCounts folders.now }
     ensures { IsNextOpen folders.now runs.now c m from result }
 {
     for k in from..folders.len() {
@@ -34,7 +34,7 @@ pub fn next_open(runs: &[u32], folders: &[Folder], c: u32, m: u32, from: usize) 
 impl Front {
     /// Nothing has arrived.
     pub fn new(alloc: Global, folders: &[Folder]) -> Result<Front, AllocError>
-        requires { IsSmall folders.now }
+        requires { IsWithinCounts folders.now }
         ensures { IfOk result (λ f. IsFront folders.now no_tickets f.runs.items f.first_open) }
     {
         let runs = vec![in alloc; 0; folders.len()]?;

@@ -1,6 +1,6 @@
 //! What a result releases.
 ghost use Rattle.std.specs.Prelude.{◌≡◌, ◌≤◌, ◌<◌, ◌++◌, ◌-◌, ◌+◌, ℕ, true, false, [], ◌∷◌, length, take, drop, map, OnOk, IfOk, Some};
-ghost use Rattle.census_bundle.specs.Sizes.{IsSmall, count_limit};
+ghost use Rattle.census_bundle.specs.Sizes.{IsWithinCounts, count_limit};
 ghost use Rattle.census_bundle.specs.Tickets.{has_ticket, element_at, ticket};
 ghost use Rattle.census_format.specs.Lines.{answers, end_line, pattern_lines, pattern_count, text_of};
 ghost use Rattle.census_book.specs.Collecting.{Belongs};
@@ -51,7 +51,11 @@ fn push_patterns(
     requires own { c ≡ arrival.now.folder }
     requires run { m ≡ run_of arrival.now.taken c folder.now }
     requires within { m ≤ length folder.now.entries }
-    ensures { OnOk result (text.new.items ≡ text.old.items ++ text_of (take (m - k) (drop k (pattern_lines arrival.now.question c 1 folder.now.entries)))) }
+    ensures { OnOk result
+        (text.new.items ≡
+        text.old.items ++
+        text_of (take (m - k)
+        (drop k (pattern_lines arrival.now.question c 1 folder.now.entries)))) }
 {
     let entries = folder.entries.as_slice();
     for i in k..m {
@@ -75,7 +79,8 @@ fn folder_answers<'r>(
     requires at { element_at arrival.now.bundle c ≡ Some folder.now }
     requires own { c ≡ arrival.now.folder }
     requires whole { length folder.now.entries ≡ run_of arrival.now.taken c folder.now }
-    ensures { IfOk result (λ v. map (λ a. a.now) v.items ≡ answers arrival.now.question folder.now.entries) }
+    ensures { IfOk result
+        (λ v. map (λ a. a.now) v.items ≡ answers arrival.now.question folder.now.entries) }
 {
     let len = folder.entries.as_slice().len();
     let mut found = Vec::with_capacity(alloc, len)?;
@@ -96,7 +101,7 @@ pub fn push_start(
     folders: &[Folder],
     question: Question,
 ) -> Result<(), AllocError>
-    requires { IsSmall folders.now }
+    requires { IsWithinCounts folders.now }
     ensures { OnOk result (text.new.items ≡ text.old.items ++ text_at_start folders.now question) }
 {
     let mut is_empty = true;
@@ -131,7 +136,9 @@ fn push_folder(
     requires own { c ≡ arrival.now.folder }
     requires run { m ≡ run_of arrival.now.taken c folder.now }
     requires within { m ≤ length folder.now.entries }
-    ensures { OnOk result (text.new.items ≡ text.old.items ++ text_of (folder_out arrival.now.question c folder.now k m)) }
+    ensures { OnOk result
+        (text.new.items ≡
+        text.old.items ++ text_of (folder_out arrival.now.question c folder.now k m)) }
 {
     push_patterns(text, arrival, c, folder, k, m)?;
     if m == folder.entries.as_slice().len() {
@@ -151,7 +158,7 @@ pub struct Release {
 
 /// The collection of this number.
 pub fn folder_at(folders: &[Folder], c: u32) -> &Folder
-    requires small { IsSmall folders.now }
+    requires small { IsWithinCounts folders.now }
     requires number { (0 < c) × (c ≤ length folders.now) }
     ensures at { element_at folders.now c ≡ Some result.now }
     ensures small { length result.now.entries ≤ count_limit }
@@ -167,10 +174,15 @@ pub fn released<'a>(
     front: &Front,
     text: &mut Vec<u8>,
 ) -> Result<Release, AllocError>
-    requires belongs { Belongs results.now.bundle results.now.question done.now.ticket done.now.entry done.now.question }
+    requires belongs { Belongs results.now.bundle results.now.question done.now.ticket
+        done.now.entry done.now.question }
     requires new { has_ticket results.now.taken done.now.ticket ≡ false }
-    requires front { IsFront results.now.bundle results.now.taken front.now.runs.items front.now.first_open }
-    ensures { IfOk result (λ r. IsRelease results.now.bundle results.now.question results.now.taken front.now.runs.items front.now.first_open done.now.ticket text.new.items r.run r.first_open) }
+    requires front { IsFront results.now.bundle results.now.taken front.now.runs.items
+        front.now.first_open }
+    ensures { IfOk result
+        (λ r. IsRelease results.now.bundle results.now.question results.now.taken
+        front.now.runs.items front.now.first_open done.now.ticket text.new.items r.run
+        r.first_open) }
 {
     let arrival = Arrival::new(results, done);
     let folders = results.bundle().folders();

@@ -83,15 +83,19 @@ impl<'a> Results<'a> {
 
     /// The result of this ticket, where it was taken and another of its collection was not.
     pub fn get(&self, ticket: Ticket) -> Option<&Done<'a>>
-        ensures found { IfSome result (λ d. IsResult self.now.bundle self.now.question ticket d.now) }
-        ensures missing { IfNone result (has_ticket self.now.taken ticket ≡ true → HasCollection self.now.bundle self.now.taken ticket.folder) }
+        ensures found { IfSome result
+            (λ d. IsResult self.now.bundle self.now.question ticket d.now) }
+        ensures missing { IfNone result
+            (has_ticket self.now.taken ticket ≡ true →
+            HasCollection self.now.bundle self.now.taken ticket.folder) }
     {
         self.slots.get(ticket)
     }
 
     /// What becomes of a result that is offered.
     pub fn judge(&self, done: &Done) -> Offer
-        ensures { Judged self.now.bundle self.now.question self.now.taken done.now.ticket done.now.entry done.now.question result }
+        ensures { Judged self.now.bundle self.now.question self.now.taken done.now.ticket
+            done.now.entry done.now.question result }
     {
         let ticket = done.ticket();
         let Some(entry) = self.bundle.entry(ticket) else {
@@ -115,9 +119,13 @@ impl<'a> Results<'a> {
 
     /// Takes a result. It comes back where there is no memory.
     pub fn add(&mut self, done: Done<'a>) -> Result<(), NoRoom<'a>>
-        requires belongs { Belongs self.old.bundle self.old.question done.ticket done.entry done.question }
+        requires belongs { Belongs self.old.bundle self.old.question done.ticket done.entry
+            done.question }
         requires new { has_ticket self.old.taken done.ticket ≡ false }
-        ensures taken { OnOk result (self.new ≡ taken_of self.old.bundle self.old.question (with_ticket self.old.taken done.entry.ticket)) }
+        ensures taken { OnOk result
+            (self.new ≡
+            taken_of self.old.bundle self.old.question
+            (with_ticket self.old.taken done.entry.ticket)) }
         ensures back { IfErr result (λ e. e.done ≡ done.entry) }
         ensures unchanged { OnErr result (self.new ≡ self.old) }
     {

@@ -91,7 +91,8 @@ impl<'a> Row<'a> {
     pub fn put(&mut self, number: u32, done: Done<'a>) -> Result<(), NoRoom<'a>>
         requires within { (0 < number) × (number ≤ length self.old) }
         requires empty { work_at self.old number ≡ None }
-        ensures put { OnOk result (self.new ≡ slice_set self.old (number - 1) (Some (Some done.entry))) }
+        ensures put { OnOk result
+            (self.new ≡ slice_set self.old (number - 1) (Some (Some done.entry))) }
         ensures back { IfErr result (λ e. e.done ≡ done.entry) }
         ensures unchanged { OnErr result (self.new ≡ self.old) }
     {

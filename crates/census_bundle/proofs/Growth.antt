@@ -6,20 +6,20 @@ use Rattle.std.proofs.lemmas.List.Elements.{All-push, All-set, All-nil}
 use Rattle.std.proofs.lemmas.Option.{slice_get-get_or, get_or_from_slice_get, slice_get_within}
 use Rattle.census_bundle.specs.declared.bundle.Folder.{Folder}
 use Rattle.census_bundle.specs.declared.bundle.Entry.{Entry}
-use Rattle.census_bundle.specs.Sizes.{IsSmall, count_limit}
+use Rattle.census_bundle.specs.Sizes.{IsWithinCounts, count_limit}
 use Rattle.census_bundle.specs.Names.{IsNamedEntry, IsNamedFolder, HasLawfulNames, is_name}
 use Rattle.census_bundle.specs.Growing.{on_last_of, on_last, with_folder, with_one_more, with_entry, last_entries_of, last_entries}
 
 abbrev IsSmallFolder : Folder → Type 0
 IsSmallFolder f = length f.entries ≤ count_limit
 
-all_small : (b : List Folder) → IsSmall b → All IsSmallFolder b
+all_small : (b : List Folder) → IsWithinCounts b → All IsSmallFolder b
 all_small b small k d l = small.entries k (get_or b k d) (slice_get-get_or b k d l)
 
 small_all : (b : List Folder) → All IsSmallFolder b → (k : ℕ) (f : Folder) → slice_get b k ≡ Some f → length f.entries ≤ count_limit
 small_all b all k f e = subst IsSmallFolder (get_or_from_slice_get b k f f e) (all k f (slice_get_within b k f e))
 
-pub small-with_folder : (b : List Folder) (name : List ℕ) → IsSmall b → length b < count_limit → IsSmall (with_folder b name)
+pub small-with_folder : (b : List Folder) (name : List ℕ) → IsWithinCounts b → length b < count_limit → IsWithinCounts (with_folder b name)
 small-with_folder b name small room =
     let one : Folder = record { name = name; entries = [] } in record {
       folders = omega (arith, small.folders, length-append b (one ∷ []));
@@ -65,7 +65,7 @@ pub length-on_last : {A : Type 0} (f : A → A) (xs : List A) → length (on_las
 length-on_last f [] = refl
 length-on_last f (x ∷ xs) = omega (arith, length-on_last_of f x xs)
 
-pub small-with_entry : (b : List Folder) (e : Entry) → IsSmall b → length (last_entries b) < count_limit → IsSmall (with_entry b e)
+pub small-with_entry : (b : List Folder) (e : Entry) → IsWithinCounts b → length (last_entries b) < count_limit → IsWithinCounts (with_entry b e)
 small-with_entry [] e small room = small
 small-with_entry (x ∷ xs) e small room = record {
   folders = omega (arith, small.folders, length-on_last (with_one_more e) (x ∷ xs));
@@ -79,20 +79,20 @@ pub names-with_entry : (b : List Folder) (e : Entry) → HasLawfulNames b → is
 names-with_entry [] e names lawful = names
 names-with_entry (x ∷ xs) e names lawful = record { folders = all-on_last IsNamedFolder (with_one_more e) x xs (λ y is was. named-with_one_more e y lawful was) names.folders }
 
-pub last_entries-small : (b : List Folder) → IsSmall b → length (last_entries b) ≤ count_limit
+pub last_entries-small : (b : List Folder) → IsWithinCounts b → length (last_entries b) ≤ count_limit
 last_entries-small [] small = omega arith
 last_entries-small (f ∷ fs) small =
     let here : length fs + 1 ≡ length (f ∷ fs) = omega arith in
     omega (arith, ap length (last_entries-get_or (f ∷ fs) (length fs) f here), all_small (f ∷ fs) small (length fs) f (omega arith))
 
-pub lawful-pushed : (b : List Folder) (f : Folder) (name : List ℕ) → f ≡ record { name = name; entries = [] } → length b < count_limit → is_name name ≡ true → IsSmall b × HasLawfulNames b → IsSmall (b ++ f ∷ []) × HasLawfulNames (b ++ f ∷ [])
+pub lawful-pushed : (b : List Folder) (f : Folder) (name : List ℕ) → f ≡ record { name = name; entries = [] } → length b < count_limit → is_name name ≡ true → IsWithinCounts b × HasLawfulNames b → IsWithinCounts (b ++ f ∷ []) × HasLawfulNames (b ++ f ∷ [])
 lawful-pushed b f name is room lawful all =
-    let P : Folder → Type 0 = λ g. IsSmall (b ++ g ∷ []) × HasLawfulNames (b ++ g ∷ []) in
+    let P : Folder → Type 0 = λ g. IsWithinCounts (b ++ g ∷ []) × HasLawfulNames (b ++ g ∷ []) in
     subst P (sym is) (small-with_folder b name all.0 room, names-with_folder b name all.1 lawful)
 
-pub lawful-entered : (b new : List Folder) (e : Entry) (name text : List ℕ) (is_lost : Bool) → e ≡ record { name = name; text = text; is_lost = is_lost } → new ≡ with_entry b e → length (last_entries b) < count_limit → is_name name ≡ true → IsSmall b × HasLawfulNames b → IsSmall new × HasLawfulNames new
+pub lawful-entered : (b new : List Folder) (e : Entry) (name text : List ℕ) (is_lost : Bool) → e ≡ record { name = name; text = text; is_lost = is_lost } → new ≡ with_entry b e → length (last_entries b) < count_limit → is_name name ≡ true → IsWithinCounts b × HasLawfulNames b → IsWithinCounts new × HasLawfulNames new
 lawful-entered b new e name text is_lost is now room lawful all =
-    let P : List Folder → Type 0 = λ c. IsSmall c × HasLawfulNames c in
+    let P : List Folder → Type 0 = λ c. IsWithinCounts c × HasLawfulNames c in
     let named : is_name e.name ≡ true = ap (λ (f : Entry). is_name f.name) is ∙ lawful in
     subst P (sym now) (small-with_entry b e all.0 room, names-with_entry b e all.1 named)
 

@@ -6,7 +6,7 @@ use Rattle.census_bundle.specs.Entries.{entry_of}
 use Rattle.census_bundle.specs.Growing.{on_last, with_folder, with_one_more, with_entry}
 use Rattle.census_bundle.specs.Lines.{is_folder_line, is_file_line, line_name}
 use Rattle.census_bundle.specs.Reading.{LinesContent, content_with_line}
-use Rattle.census_bundle.specs.Scan.{entry_with_text, folder_with_text, with_text, after_line}
+use Rattle.census_bundle.specs.Scan.{entry_with_text, folder_with_text, with_entry_text, after_line}
 use Rattle.census_bundle.proofs.Lasts.{on_last-push, on_last-on_last, on_last_alike, on_last-kept, folder_same, with_text-nil, with_text-with_text}
 
 abbrev folder_with_entries : List Entry → Folder → Folder
@@ -18,7 +18,7 @@ with_entries b es = on_last (folder_with_entries es) b
 
 -- the folders with what further lines hold
 abbrev pub joined : List Folder → LinesContent → List Folder
-joined b h = with_entries (with_text b h.text) h.entries ++ h.folders
+joined b h = with_entries (with_entry_text b h.text) h.entries ++ h.folders
 
 with_entries-nil : (b : List Folder) → with_entries b [] ≡ b
 with_entries-nil b = on_last-kept (folder_with_entries []) b (λ f. folder_same f.name _ _ (append-nil f.entries))
@@ -49,7 +49,7 @@ joined-entry b name h =
     ∙ ap (λ c. c ++ h.folders) (on_last_alike _ (folder_with_entries (g ∷ h.entries)) b (λ f. folder_same f.name _ _ (entries_joined name h.text f.entries h.entries)))
     ∙ ap (λ c. with_entries c (g ∷ h.entries) ++ h.folders) (sym (with_text-nil b))
 
-joined-text : (b : List Folder) (line : List ℕ) (h : LinesContent) → joined (with_text b line) h ≡ joined b (record { text = line ++ h.text; entries = h.entries; folders = h.folders })
+joined-text : (b : List Folder) (line : List ℕ) (h : LinesContent) → joined (with_entry_text b line) h ≡ joined b (record { text = line ++ h.text; entries = h.entries; folders = h.folders })
 joined-text b line h = ap (λ c. with_entries c h.entries ++ h.folders) (with_text-with_text b line h.text)
 
 -- one more line read before
@@ -60,9 +60,9 @@ joined-after_line b line h =
     let a : LinesContent = record { text = []; entries = []; folders = record { name = name; entries = h.entries } ∷ h.folders } in
     let f : LinesContent = record { text = []; entries = entry_of name h.text ∷ h.entries; folders = h.folders } in
     let t : LinesContent = record { text = line ++ h.text; entries = h.entries; folders = h.folders } in
-    elim (is_folder_line line) as (λ v. joined (if v then with_folder b name else (if is_file_line line then with_entry b e else with_text b line)) h ≡ joined b (if v then a else (if is_file_line line then f else t))) [
+    elim (is_folder_line line) as (λ v. joined (if v then with_folder b name else (if is_file_line line then with_entry b e else with_entry_text b line)) h ≡ joined b (if v then a else (if is_file_line line then f else t))) [
       | true ↦ joined-folder b name h
-      | false ↦ elim (is_file_line line) as (λ v. joined (if v then with_entry b e else with_text b line) h ≡ joined b (if v then f else t)) [
+      | false ↦ elim (is_file_line line) as (λ v. joined (if v then with_entry b e else with_entry_text b line) h ≡ joined b (if v then f else t)) [
         | true ↦ joined-entry b name h
         | false ↦ joined-text b line h
       ]

@@ -4,7 +4,7 @@ use Rattle.census_bundle.specs.declared.bundle.Folder.{Folder}
 use Rattle.census_bundle.specs.declared.bundle.Entry.{Entry}
 use Rattle.census_bundle.specs.Entries.{entry_of}
 use Rattle.census_bundle.specs.Growing.{on_last_of, on_last, with_folder, with_one_more, with_entry, last_entries_of, last_entries}
-use Rattle.census_bundle.specs.Scan.{entry_with_text, folder_with_text, with_text}
+use Rattle.census_bundle.specs.Scan.{entry_with_text, folder_with_text, with_entry_text}
 
 on_last_of-push : {A : Type 0} (f : A → A) (y : A) (ys : List A) (x : A) → on_last_of f y (ys ++ x ∷ []) ≡ y ∷ (ys ++ f x ∷ [])
 on_last_of-push f y [] x = refl
@@ -51,7 +51,7 @@ entry_no_text e = entry_same e _ _ (append-nil e.text)
 folder_no_text : (f : Folder) → folder_with_text [] f ≡ f
 folder_no_text f = folder_same f.name _ _ (on_last-kept (entry_with_text []) f.entries entry_no_text)
 
-pub with_text-nil : (b : List Folder) → with_text b [] ≡ b
+pub with_text-nil : (b : List Folder) → with_entry_text b [] ≡ b
 with_text-nil b = on_last-kept (folder_with_text []) b folder_no_text
 
 entry_texts : (t u : List ℕ) (e : Entry) → entry_with_text u (entry_with_text t e) ≡ entry_with_text (t ++ u) e
@@ -61,12 +61,12 @@ folder_texts : (t u : List ℕ) (f : Folder) → folder_with_text u (folder_with
 folder_texts t u f =
     folder_same f.name _ _ (on_last-on_last (entry_with_text u) (entry_with_text t) f.entries ∙ on_last_alike _ (entry_with_text (t ++ u)) f.entries (entry_texts t u))
 
-pub with_text-with_text : (b : List Folder) (t u : List ℕ) → with_text (with_text b t) u ≡ with_text b (t ++ u)
+pub with_text-with_text : (b : List Folder) (t u : List ℕ) → with_entry_text (with_entry_text b t) u ≡ with_entry_text b (t ++ u)
 with_text-with_text b t u =
     on_last-on_last (folder_with_text u) (folder_with_text t) b ∙ on_last_alike _ (folder_with_text (t ++ u)) b (folder_texts t u)
 
 -- text goes to the entry that was added last
-pub with_text-with_entry : (b : List Folder) (name t u : List ℕ) → with_text (with_entry b (entry_of name t)) u ≡ with_entry b (entry_of name (t ++ u))
+pub with_text-with_entry : (b : List Folder) (name t u : List ℕ) → with_entry_text (with_entry b (entry_of name t)) u ≡ with_entry b (entry_of name (t ++ u))
 with_text-with_entry b name t u =
     let e : Entry = entry_of name t in
     let g : Entry = entry_of name (t ++ u) in

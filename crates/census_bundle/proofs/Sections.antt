@@ -12,7 +12,7 @@ use Rattle.census_bundle.specs.Growing.{on_last, with_entry, last_entries, with_
 use Rattle.census_bundle.specs.Kinds.{IsFolderLine, IsFileLine, IsPlainLine}
 use Rattle.census_bundle.specs.Lines.{whole_lines, is_at_line, is_file_line, is_space, line_name}
 use Rattle.census_bundle.specs.Reading.{folders_of, fault_of, is_outside}
-use Rattle.census_bundle.specs.Scan.{entry_with_text, with_text, after_line, unless, read_on, begins_section, IsClosed, IsTextOf, ReadsOn}
+use Rattle.census_bundle.specs.Scan.{entry_with_text, with_entry_text, after_line, unless, read_on, begins_section, IsClosedText, IsTextOf, ReadsOn}
 use Rattle.std.specs.List.{list_all}
 use Rattle.census_bundle.proofs.Lasts.{last_entries-with_folder}
 use Rattle.census_bundle.proofs.ReadOn.{read_on-text}
@@ -32,7 +32,7 @@ pub folder_section : (b new : List Folder) (n : ℕ) (text line rest name : List
 folder_section b new n text line rest name lines whole some kind now bad many =
     let none = folder_fine b n line kind.is (lawful_name line name kind.named bad) (below name (length b) bad many) in
     let e : Entry = entry_of (line_name line) [] in
-    let split : after_line b line ≡ with_folder b (line_name line) = λ i. if kind.is i then with_folder b (line_name line) else (if is_file_line line then with_entry b e else with_text b line) in
+    let split : after_line b line ≡ with_folder b (line_name line) = λ i. if kind.is i then with_folder b (line_name line) else (if is_file_line line then with_entry b e else with_entry_text b line) in
     let after : after_line b line ≡ new = split ∙ ap (with_folder b) (sym kind.named) ∙ sym now in
     let empty : eqb (length (last_entries new)) 0 ≡ true = ap (λ es. eqb (length es) 0) (ap last_entries now ∙ last_entries-with_folder b name) in
     let long = is_shorter text line rest whole in record {
@@ -46,7 +46,7 @@ pub file_section : (b new : List Folder) (n count : ℕ) (text line behind name 
 file_section b new n count text line behind name body rest lines whole some kind here is_text ends few now bad many =
     let none = file_fine b n line kind.other kind.is here (lawful_name line name kind.named bad) (below name (length (last_entries b)) bad many) in
     let e : List ℕ → Entry = λ m. entry_of m [] in
-    let split : after_line b line ≡ with_entry b (e (line_name line)) = λ i. if kind.other i then with_folder b (line_name line) else (if kind.is i then with_entry b (e (line_name line)) else with_text b line) in
+    let split : after_line b line ≡ with_entry b (e (line_name line)) = λ i. if kind.other i then with_folder b (line_name line) else (if kind.is i then with_entry b (e (line_name line)) else with_entry_text b line) in
     let after : after_line b line ≡ with_entry b (e name) = split ∙ ap (λ m. with_entry b (e m)) (sym kind.named) in
     let long = is_shorter text line behind whole in record {
       same = ap (read_on b n) lines ∙ read_step b n line (whole_lines behind) _ none after ∙ is_text.reads b name [] (n + 1) here ∙ ap (λ c. read_on c (n + 1 + count) (whole_lines rest)) (sym now);
@@ -55,7 +55,7 @@ file_section b new n count text line behind name body rest lines whole some kind
       fits = omega arith;
     }
 
-is_outside_of : (b : List Folder) (text line rest : List ℕ) → text ≡ line ++ rest → 0 < length line → is_at_line line ≡ false → IsClosed b text → is_outside (length b) (length (last_entries b)) ≡ true
+is_outside_of : (b : List Folder) (text line rest : List ℕ) → text ≡ line ++ rest → 0 < length line → is_at_line line ≡ false → IsClosedText b text → is_outside (length b) (length (last_entries b)) ≡ true
 is_outside_of b text line rest whole some plain closed =
     let long = is_shorter text line rest whole in
     let first : is_at_line text ≡ false = ap is_at_line whole ∙ at_first line rest some ∙ plain in
@@ -71,15 +71,15 @@ some_elements : (fs : List Folder) → eqb (suc (length fs)) 0 ≡ true → ⊥
 some_elements fs e = let z = eqb-true (suc (length fs)) 0 e in omega arith
 
 -- where no entry has begun, text goes nowhere
-no_text_of : (f : Folder) (fs : List Folder) (t : List ℕ) → length (last_entries (f ∷ fs)) ≡ 0 → with_text (f ∷ fs) t ≡ f ∷ fs
+no_text_of : (f : Folder) (fs : List Folder) (t : List ℕ) → length (last_entries (f ∷ fs)) ≡ 0 → with_entry_text (f ∷ fs) t ≡ f ∷ fs
 no_text_of f [] t none = λ i. record { name = f.name; entries = no_entry f.entries t none i } ∷ []
 no_text_of f (g ∷ gs) t none = ap (λ hs. f ∷ hs) (no_text_of g gs t none)
 
-no_text : (b : List Folder) (t : List ℕ) → is_outside (length b) (length (last_entries b)) ≡ true → with_text b t ≡ b
+no_text : (b : List Folder) (t : List ℕ) → is_outside (length b) (length (last_entries b)) ≡ true → with_entry_text b t ≡ b
 no_text [] t outside = refl
 no_text (f ∷ fs) t outside = elim (or_cases (eqb (length (f ∷ fs)) 0) (eqb (length (last_entries (f ∷ fs))) 0) outside) [ inl e ↦ absurd (some_elements fs e) | inr e ↦ no_text_of f fs t (eqb-true _ 0 e) ]
 
-pub blank_section : (b : List Folder) (n : ℕ) (text line rest : List ℕ) → whole_lines text ≡ line ∷ whole_lines rest → text ≡ line ++ rest → 0 < length line → IsPlainLine line → IsClosed b text → list_all is_space line ≡ true → ReadsOn b b n (n + 1) text rest
+pub blank_section : (b : List Folder) (n : ℕ) (text line rest : List ℕ) → whole_lines text ≡ line ∷ whole_lines rest → text ≡ line ++ rest → 0 < length line → IsPlainLine line → IsClosedText b text → list_all is_space line ≡ true → ReadsOn b b n (n + 1) text rest
 blank_section b n text line rest lines whole some kind closed blank =
     let outside = is_outside_of b text line rest whole some kind.is closed in
     let none = blank_outside b n line kind.is outside blank in

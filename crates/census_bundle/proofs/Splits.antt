@@ -8,7 +8,7 @@ use Rattle.census_bundle.specs.declared.bundle.Entry.{Entry}
 use Rattle.census_bundle.specs.Entries.{entry_of}
 use Rattle.census_bundle.specs.Growing.{with_entry, with_one_more, last_entries, with_folder}
 use Rattle.census_bundle.specs.Lines.{whole_lines, is_at_line, line_name}
-use Rattle.census_bundle.specs.Scan.{line_len, with_text, after_line, fault_behind, unless, read_on, IsTextOf}
+use Rattle.census_bundle.specs.Scan.{line_len, with_entry_text, after_line, fault_behind, unless, read_on, IsTextOf}
 use Rattle.census_bundle.proofs.Growth.{length-on_last}
 use Rattle.census_bundle.proofs.Lasts.{with_text-with_entry}
 use Rattle.census_bundle.proofs.Tallies.{length-with_entry}
@@ -36,11 +36,11 @@ line_len_some (c ∷ rest) some = elim (eqb c 10) as (λ v. 0 < (if v then 1 els
 pub read_step : (b : List Folder) (n : ℕ) (line : List ℕ) (rest : List (List ℕ)) (next : List Folder) → fault_behind b n line ≡ None → after_line b line ≡ next → read_on b n (line ∷ rest) ≡ read_on next (n + 1) rest
 read_step b n line rest next none is = ap (λ o. unless o (read_on (after_line b line) (n + 1) rest)) none ∙ ap (λ c. read_on c (n + 1) rest) is
 
-pub after_plain : (b : List Folder) (line : List ℕ) → is_at_line line ≡ false → after_line b line ≡ with_text b line
+pub after_plain : (b : List Folder) (line : List ℕ) → is_at_line line ≡ false → after_line b line ≡ with_entry_text b line
 after_plain b line plain =
     let folder = plain_no_folder line plain in
     let file = plain_no_file line plain in
-    λ i. if folder i then with_folder b (line_name line) else (if file i then with_entry b (entry_of (line_name line) []) else with_text b line)
+    λ i. if folder i then with_folder b (line_name line) else (if file i then with_entry b (entry_of (line_name line) []) else with_entry_text b line)
 
 -- one more line of an entry's text
 plain_read : (b : List Folder) (name t : List ℕ) (n : ℕ) (line : List ℕ) (rest : List (List ℕ)) → 0 < length b → is_at_line line ≡ false → read_on (with_entry b (entry_of name t)) n (line ∷ rest) ≡ read_on (with_entry b (entry_of name (t ++ line))) (n + 1) rest

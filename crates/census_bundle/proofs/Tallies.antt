@@ -9,7 +9,7 @@ use Rattle.census_bundle.specs.Entries.{entry_of}
 use Rattle.census_bundle.specs.Growing.{on_last, with_folder, with_one_more, with_entry, last_entries}
 use Rattle.census_bundle.specs.Lines.{is_folder_line, is_file_line, line_name}
 use Rattle.census_bundle.specs.Reading.{folder_count, entry_count}
-use Rattle.census_bundle.specs.Scan.{entry_with_text, folder_with_text, with_text, after_line}
+use Rattle.census_bundle.specs.Scan.{entry_with_text, folder_with_text, with_entry_text, after_line}
 use Rattle.census_bundle.proofs.Growth.{length-on_last}
 use Rattle.census_bundle.proofs.Lasts.{last_entries-with_folder, last_entries-on_last}
 
@@ -57,7 +57,7 @@ length-with_entry (f ∷ fs) e some =
     let es = last_entries (f ∷ fs) in
     ap length (last_entries-on_last (with_one_more e) (λ xs. xs ++ e ∷ []) f fs (λ g. refl)) ∙ length-append es (e ∷ [])
 
-length-with_text : (b : List Folder) (t : List ℕ) → length (last_entries (with_text b t)) ≡ length (last_entries b)
+length-with_text : (b : List Folder) (t : List ℕ) → length (last_entries (with_entry_text b t)) ≡ length (last_entries b)
 length-with_text [] t = refl
 length-with_text (f ∷ fs) t =
     ap length (last_entries-on_last (folder_with_text t) (on_last (entry_with_text t)) f fs (λ g. refl)) ∙ length-on_last (entry_with_text t) (last_entries (f ∷ fs))
@@ -68,7 +68,7 @@ follows-file before b line e isnt holds some was = record {
   entries = entry_count-push before line isnt ∙ ap (λ v. entry_count before + cond v 1 0) holds ∙ ap (λ n. n + 1) was.entries ∙ sym (length-with_entry b e some);
 }
 
-follows-text : (before : List (List ℕ)) (b : List Folder) (line : List ℕ) → is_folder_line line ≡ false → is_file_line line ≡ false → Follows before b → Follows (before ++ line ∷ []) (with_text b line)
+follows-text : (before : List (List ℕ)) (b : List Folder) (line : List ℕ) → is_folder_line line ≡ false → is_file_line line ≡ false → Follows before b → Follows (before ++ line ∷ []) (with_entry_text b line)
 follows-text before b line isnt none was = record {
   folders = folder_count-push before line isnt ∙ was.folders ∙ sym (length-on_last (folder_with_text line) b);
   entries = entry_count-push before line isnt ∙ ap (λ v. entry_count before + cond v 1 0) none ∙ omega (arith, was.entries, length-with_text b line);
@@ -79,9 +79,9 @@ pub follows-after_line : (before : List (List ℕ)) (b : List Folder) (line : Li
 follows-after_line before b line some was =
     let name = line_name line in
     let e : Entry = entry_of name [] in
-    elim (is_folder_line line) as (λ v. is_folder_line line ≡ v → Follows (before ++ line ∷ []) (if v then with_folder b name else (if is_file_line line then with_entry b e else with_text b line))) [
+    elim (is_folder_line line) as (λ v. is_folder_line line ≡ v → Follows (before ++ line ∷ []) (if v then with_folder b name else (if is_file_line line then with_entry b e else with_entry_text b line))) [
       | true ↦ λ holds. follows-folder before b line holds was
-      | false ↦ λ isnt. elim (is_file_line line) as (λ v. is_file_line line ≡ v → Follows (before ++ line ∷ []) (if v then with_entry b e else with_text b line)) [
+      | false ↦ λ isnt. elim (is_file_line line) as (λ v. is_file_line line ≡ v → Follows (before ++ line ∷ []) (if v then with_entry b e else with_entry_text b line)) [
         | true ↦ λ holds. follows-file before b line e isnt holds (some holds) was
         | false ↦ λ none. follows-text before b line isnt none was
       ] refl

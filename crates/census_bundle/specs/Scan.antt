@@ -19,14 +19,14 @@ abbrev pub folder_with_text : List ℕ → Folder → Folder
 folder_with_text t f = record { name = f.name; entries = on_last (entry_with_text t) f.entries }
 
 -- more text in the last entry of the last folder
-abbrev pub with_text : List Folder → List ℕ → List Folder
-with_text b t = on_last (folder_with_text t) b
+abbrev pub with_entry_text : List Folder → List ℕ → List Folder
+with_entry_text b t = on_last (folder_with_text t) b
 
 -- the folders with those of one more line
 abbrev pub after_line : List Folder → List ℕ → List Folder
 after_line b line =
     if is_folder_line line then with_folder b (line_name line) else
-    (if is_file_line line then with_entry b (entry_of (line_name line) []) else with_text b line)
+    (if is_file_line line then with_entry b (entry_of (line_name line) []) else with_entry_text b line)
 
 -- the fault of a line after these folders
 abbrev pub fault_behind : List Folder → ℕ → List ℕ → Option BundleFault
@@ -53,8 +53,8 @@ abbrev pub begins_section : List ℕ → Bool
 begins_section rest = (length rest == 0) || is_at_line rest
 
 -- text that belongs to an entry does not stand first
-abbrev pub IsClosed : List Folder → List ℕ → Type 0
-IsClosed b rest = (is_outside (length b) (length (last_entries b)) || begins_section rest) ≡ true
+abbrev pub IsClosedText : List Folder → List ℕ → Type 0
+IsClosedText b rest = (is_outside (length b) (length (last_entries b)) || begins_section rest) ≡ true
 
 -- after an entry's line the whole reads as so many lines of its text and then the rest
 pub record IsTextOf (whole text : List ℕ) (lines : ℕ) (rest : List ℕ) : Type 0 where
@@ -63,7 +63,7 @@ pub record IsTextOf (whole text : List ℕ) (lines : ℕ) (rest : List ℕ) : Ty
 -- the folders with those of some lines of the text, and what is then left to read
 pub record ReadsOn (old new : List Folder) (number next : ℕ) (text rest : List ℕ) : Type 0 where
   pub same : read_on old number (whole_lines text) ≡ read_on new next (whole_lines rest)
-  pub closed : IsClosed new rest
+  pub closed : IsClosedText new rest
   pub shorter : length rest < length text
   pub fits : next + length rest ≤ number + length text
 

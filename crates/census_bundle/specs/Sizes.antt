@@ -11,6 +11,6 @@ abbrev pub input_limit : ℕ
 input_limit = 67108864
 
 -- at most 65,535 folders, each with at most 65,535 entries
-pub record IsSmall (b : List Folder) : Type 0 where
+pub record IsWithinCounts (b : List Folder) : Type 0 where
   pub folders : length b ≤ count_limit
   pub entries : (k : ℕ) (f : Folder) → slice_get b k ≡ Some f → length f.entries ≤ count_limit

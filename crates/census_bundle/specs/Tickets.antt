@@ -13,12 +13,12 @@ ticket c i = record { folder = c; number = i }
 abbrev pub folder_of : Ticket → ℕ
 folder_of t = t.folder
 
-abbrev pub number_of : Ticket → ℕ
-number_of t = t.number
+abbrev pub number_in_folder : Ticket → ℕ
+number_in_folder t = t.number
 
 -- by folder, and then by number
 abbrev pub ticket_cmp : Ticket → Ticket → Ordering
-ticket_cmp = then_cmp (on folder_of nat_cmp) (on number_of nat_cmp)
+ticket_cmp = then_cmp (on folder_of nat_cmp) (on number_in_folder nat_cmp)
 
 -- a set of tickets
 abbrev pub Tickets : Type 0
@@ -51,8 +51,8 @@ abbrev pub IsTicketOf : List Folder → Ticket → Type 0
 IsTicketOf b t = (e : Entry) × (entry_at b t ≡ Some e)
 
 -- each ticket of the bundle is taken
-abbrev pub HasAll : List Folder → Tickets → Type 0
-HasAll b taken = (t : Ticket) → IsTicketOf b t → has_ticket taken t ≡ true
+abbrev pub HasAllTickets : List Folder → Tickets → Type 0
+HasAllTickets b taken = (t : Ticket) → IsTicketOf b t → has_ticket taken t ≡ true
 
 -- the set of the tickets in a list
 abbrev pub tickets_of : List Ticket → Tickets

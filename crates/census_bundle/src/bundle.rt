@@ -107,7 +107,8 @@ pub struct Folder {
 
 // The entry of this name and text, which may be lost.
 fn entry_of(alloc: Global, name: &[u8], text: &[u8], is_lost: bool) -> Result<Entry, AllocError>
-    ensures { IfOk result (λ e. e ≡ record { name = name.now; text = text.now; is_lost = is_lost }) }
+    ensures { IfOk result
+        (λ e. e ≡ record { name = name.now; text = text.now; is_lost = is_lost }) }
 {
     let name = Bytes::of(alloc, name)?;
     let text = Bytes::of(alloc, text)?;
@@ -176,20 +177,20 @@ pub struct Bundle {
 impl Model for Bundle {
     ghost use Rattle.std.specs.Prelude.{List};
     ghost use Rattle.census_bundle.specs.declared.bundle.Folder.{Folder};
-    ghost use Rattle.census_bundle.specs.Sizes.{IsSmall};
+    ghost use Rattle.census_bundle.specs.Sizes.{IsWithinCounts};
     ghost use Rattle.census_bundle.specs.Names.{HasLawfulNames};
 
     ghost Value = { List Folder };
 
     ghost view = { λ b. b.folders.items };
 
-    ghost invariant = { λ b. IsSmall b.folders.items × HasLawfulNames b.folders.items };
+    ghost invariant = { λ b. IsWithinCounts b.folders.items × HasLawfulNames b.folders.items };
 }
 
 impl Bundle {
     ghost use Rattle.std.specs.Prelude.{◌≡◌, ◌↔◌, ◌≤◌, true, false, [], length, IfSome, IfNone, OnOk, OnErr, Some, None, Err};
     ghost use Rattle.census_bundle.specs.declared.bundle.AddFault.TheVariants.{BadName, NoFolder, TooMany};
-    ghost use Rattle.census_bundle.specs.Sizes.{IsSmall, count_limit};
+    ghost use Rattle.census_bundle.specs.Sizes.{IsWithinCounts, count_limit};
     ghost use Rattle.census_bundle.specs.Names.{HasLawfulNames, is_name};
     ghost use Rattle.census_bundle.specs.Tickets.{entry_at};
     ghost use Rattle.census_bundle.specs.Entries.{entry_of, lost_entry};
@@ -207,7 +208,7 @@ impl Bundle {
     /// The folders in order. It takes no memory.
     pub fn folders(&self) -> &[Folder]
         ensures value { result.now ≡ self.now }
-        ensures small { IsSmall self.now }
+        ensures small { IsWithinCounts self.now }
         ensures names { HasLawfulNames self.now }
     {
         self.folders.as_slice()
@@ -232,7 +233,8 @@ impl Bundle {
         ensures unchanged { OnErr result (self.new ≡ self.old) }
         ensures bad_name { (result ≡ Err BadName) ↔ (is_name name.now ≡ false) }
         ensures no_folder { result ≡ Err NoFolder → ⊥ }
-        ensures too_many { (result ≡ Err TooMany) ↔ ((is_name name.now ≡ true) × (count_limit ≤ length self.old)) }
+        ensures too_many { (result ≡ Err TooMany) ↔
+            ((is_name name.now ≡ true) × (count_limit ≤ length self.old)) }
     {
         if !is_lawful(name) {
             return Err(AddFault::BadName);
@@ -247,11 +249,15 @@ impl Bundle {
 
     // Adds an entry of this name and text, which may be lost, at the end of the last folder.
     fn add(&mut self, name: &[u8], text: &[u8], is_lost: bool) -> Result<(), AddFault>
-        ensures added { OnOk result (self.new ≡ with_entry self.old (record { name = name.now; text = text.now; is_lost = is_lost })) }
+        ensures added { OnOk result
+            (self.new ≡
+            with_entry self.old (record { name = name.now; text = text.now; is_lost = is_lost })) }
         ensures unchanged { OnErr result (self.new ≡ self.old) }
         ensures bad_name { (result ≡ Err BadName) ↔ (is_name name.now ≡ false) }
-        ensures no_folder { (result ≡ Err NoFolder) ↔ ((is_name name.now ≡ true) × (self.old ≡ [])) }
-        ensures too_many { (result ≡ Err TooMany) ↔ ((is_name name.now ≡ true) × (count_limit ≤ length (last_entries self.old))) }
+        ensures no_folder { (result ≡ Err NoFolder) ↔
+            ((is_name name.now ≡ true) × (self.old ≡ [])) }
+        ensures too_many { (result ≡ Err TooMany) ↔
+            ((is_name name.now ≡ true) × (count_limit ≤ length (last_entries self.old))) }
     {
         if !is_lawful(name) {
             return Err(AddFault::BadName);
@@ -273,8 +279,10 @@ impl Bundle {
         ensures added { OnOk result (self.new ≡ with_entry self.old (entry_of name.now text.now)) }
         ensures unchanged { OnErr result (self.new ≡ self.old) }
         ensures bad_name { (result ≡ Err BadName) ↔ (is_name name.now ≡ false) }
-        ensures no_folder { (result ≡ Err NoFolder) ↔ ((is_name name.now ≡ true) × (self.old ≡ [])) }
-        ensures too_many { (result ≡ Err TooMany) ↔ ((is_name name.now ≡ true) × (count_limit ≤ length (last_entries self.old))) }
+        ensures no_folder { (result ≡ Err NoFolder) ↔
+            ((is_name name.now ≡ true) × (self.old ≡ [])) }
+        ensures too_many { (result ≡ Err TooMany) ↔
+            ((is_name name.now ≡ true) × (count_limit ≤ length (last_entries self.old))) }
     {
         self.add(name, text, false)
     }
@@ -285,8 +293,10 @@ impl Bundle {
         ensures added { OnOk result (self.new ≡ with_entry self.old (lost_entry name.now)) }
         ensures unchanged { OnErr result (self.new ≡ self.old) }
         ensures bad_name { (result ≡ Err BadName) ↔ (is_name name.now ≡ false) }
-        ensures no_folder { (result ≡ Err NoFolder) ↔ ((is_name name.now ≡ true) × (self.old ≡ [])) }
-        ensures too_many { (result ≡ Err TooMany) ↔ ((is_name name.now ≡ true) × (count_limit ≤ length (last_entries self.old))) }
+        ensures no_folder { (result ≡ Err NoFolder) ↔
+            ((is_name name.now ≡ true) × (self.old ≡ [])) }
+        ensures too_many { (result ≡ Err TooMany) ↔
+            ((is_name name.now ≡ true) × (count_limit ≤ length (last_entries self.old))) }
     {
         self.add(name, b"", true)
     }

@@ -12,7 +12,8 @@ fn is_printed(name: &[u8]) -> bool
 
 // Whether a blank stands first or last.
 fn has_blank_end(name: &[u8]) -> bool
-    ensures { result ≡ (starts_with nat_eq name.now (codes " ") || ends_with nat_eq name.now (codes " ")) }
+    ensures { result ≡
+        (starts_with nat_eq name.now (codes " ") || ends_with nat_eq name.now (codes " ")) }
 {
     name.starts_with(b" ") || name.ends_with(b" ")
 }

@@ -9,7 +9,7 @@ ghost use Rattle.census_bundle.specs.declared.fault.BundleFault.TheVariants.{Mem
 ghost use Rattle.census_bundle.specs.Lines.{whole_lines};
 ghost use Rattle.census_bundle.specs.Kinds.{IsFileLine};
 ghost use Rattle.census_bundle.specs.Reading.{folders_of, fault_of};
-ghost use Rattle.census_bundle.specs.Scan.{read_on, fault_at, IsClosed, ReadsOn};
+ghost use Rattle.census_bundle.specs.Scan.{read_on, fault_at, IsClosedText, ReadsOn};
 
 use crate::bundle::{AddFault, Bundle};
 use crate::fault::BundleFault;
@@ -43,9 +43,11 @@ fn read_section<'a>(
 ) -> Result<Place<'a>, BundleFault>
     requires some { 0 < length text.now }
     requires fits { number + length text.now < 2 ^ 64 }
-    requires closed { IsClosed bundle.old text.now }
-    ensures read { IfOk result (λ p. ReadsOn bundle.old bundle.new number p.number text.now p.rest.now) }
-    ensures refused { IfErr result (λ f. f ≢ Memory → read_on bundle.old number (whole_lines text.now) ≡ Err f) }
+    requires closed { IsClosedText bundle.old text.now }
+    ensures read { IfOk result
+        (λ p. ReadsOn bundle.old bundle.new number p.number text.now p.rest.now) }
+    ensures refused { IfErr result
+        (λ f. f ≢ Memory → read_on bundle.old number (whole_lines text.now) ≡ Err f) }
 {
     let (line, rest) = split_line(text);
     match line_of(line) {

@@ -12,7 +12,7 @@ use Rattle.clap.specs.declared.parser.matches.ArgMatches.{ArgMatches}
 use Rattle.clap.specs.declared.parser.matches.ArgMatches.TheViews.{out-ArgMatches, out-SubCommand}
 use Rattle.clap.specs.declared.parser.matches.SubCommand.{SubCommand}
 use Rattle.clap.proofs.WalkLemmas.{one_text-rows}
-use Rattle.census_cli.specs.Asking.{IsFlag, IsLimit, number_of}
+use Rattle.census_cli.specs.Asking.{IsFlag, IsLimit, argument_number}
 use Rattle.census_cli.specs.Holding.{HasFlag, HasLimit, HasNumber, HasNumberIn}
 
 -- what `u64` reads of a text
@@ -30,11 +30,11 @@ number_read m id r read low high h = in_range h.0 r (read h.0 (one_text-rows (fo
 
 -- the number of an argument is the one number that its text reads as
 pub number_is : (low high : ℕ) (id : List ℕ) (rows : List Row) (h : HasNumberIn low high id rows)
-    → number_of id rows ≡ Some (digits_value 10 (without_leading_plus h.0))
+    → argument_number id rows ≡ Some (digits_value 10 (without_leading_plus h.0))
 number_is low high id rows h = ap (λ (o : Option (List ℕ)). option_map (λ text. digits_value 10 (without_leading_plus text)) o) h.1
 
 -- and is in its range
-pub number_within : (low high : ℕ) (id : List ℕ) (rows : List Row) (n : ℕ) → HasNumberIn low high id rows → number_of id rows ≡ Some n → (low ≤ n) × (n ≤ high)
+pub number_within : (low high : ℕ) (id : List ℕ) (rows : List Row) (n : ℕ) → HasNumberIn low high id rows → argument_number id rows ≡ Some n → (low ≤ n) × (n ≤ high)
 number_within low high id rows n h is =
     let same : digits_value 10 (without_leading_plus h.0) ≡ n = let e : Some (digits_value 10 (without_leading_plus h.0)) ≡ Some n = sym (number_is low high id rows h) ∙ is in cc in
     (rw (← same) h.2.2, rw (← same) h.2.3)
@@ -42,16 +42,16 @@ number_within low high id rows n h is =
 -- a limit reads as its number, which is at most the most
 pub limit_read : (m : ArgMatches) (most : ℕ) (id : List ℕ) (r : Option ℕ) (n : ℕ) → (one_text (found_of m) id ≡ None → r ≡ None)
     → ((t : List ℕ) → one_text (found_of m) id ≡ Some t → ReadsOne ReadsU64 t r) → HasLimit most id (rows_of (found_of m)) → r ≡ Some n
-    → (number_of id (rows_of (found_of m)) ≡ Some n) × (n ≤ most)
+    → (argument_number id (rows_of (found_of m)) ≡ Some n) × (n ≤ most)
 limit_read m most id r n none read (inl unused) is = let off : r ≡ None = none (one_text-rows (found_of m) id ∙ unused) in cc
 limit_read m most id r n none read (inr h) is =
     let known = number_read m id r read 1 most h in
-    let number : number_of id (rows_of (found_of m)) ≡ Some n = number_is 1 most id _ h ∙ sym known ∙ is in
+    let number : argument_number id (rows_of (found_of m)) ≡ Some n = number_is 1 most id _ h ∙ sym known ∙ is in
     (number, (number_within 1 most id _ n h number).1)
 
 -- where nothing is read there is no limit
 pub no_limit_read : (m : ArgMatches) (most : ℕ) (id : List ℕ) (r : Option ℕ) → ((t : List ℕ) → one_text (found_of m) id ≡ Some t → ReadsOne ReadsU64 t r)
-    → HasLimit most id (rows_of (found_of m)) → r ≡ None → number_of id (rows_of (found_of m)) ≡ None
+    → HasLimit most id (rows_of (found_of m)) → r ≡ None → argument_number id (rows_of (found_of m)) ≡ None
 no_limit_read m most id r read (inl unused) is =
     ap (λ (o : Option (List ℕ)). option_map (λ text. digits_value 10 (without_leading_plus text)) o) unused
 no_limit_read m most id r read (inr h) is = number_is 1 most id _ h ∙ sym (number_read m id r read 1 most h) ∙ is
@@ -59,17 +59,17 @@ no_limit_read m most id r read (inr h) is = number_is 1 most id _ h ∙ sym (num
 -- a limit reads as it is
 pub limit_is : (m : ArgMatches) (most : ℕ) (id : List ℕ) (r : Option ℕ) → (one_text (found_of m) id ≡ None → r ≡ None)
     → ((t : List ℕ) → one_text (found_of m) id ≡ Some t → ReadsOne ReadsU64 t r) → HasLimit most id (rows_of (found_of m))
-    → number_of id (rows_of (found_of m)) ≡ r
+    → argument_number id (rows_of (found_of m)) ≡ r
 limit_is m most id r none read (inl unused) =
     ap (λ (o : Option (List ℕ)). option_map (λ text. digits_value 10 (without_leading_plus text)) o) unused
     ∙ sym (none (one_text-rows (found_of m) id ∙ unused))
 limit_is m most id r none read (inr h) = number_is 1 most id _ h ∙ sym (number_read m id r read 1 most h)
 
 -- the number of a limit is none or in its range
-pub limit_within : (most : ℕ) (id : List ℕ) (rows : List Row) (n : Option ℕ) → HasLimit most id rows → number_of id rows ≡ n → IsLimit most n
+pub limit_within : (most : ℕ) (id : List ℕ) (rows : List Row) (n : Option ℕ) → HasLimit most id rows → argument_number id rows ≡ n → IsLimit most n
 limit_within most id rows None h is = tt
 limit_within most id rows (Some n) (inl unused) is =
-    let none : number_of id rows ≡ None = ap (λ (o : Option (List ℕ)). option_map (λ text. digits_value 10 (without_leading_plus text)) o) unused in
+    let none : argument_number id rows ≡ None = ap (λ (o : Option (List ℕ)). option_map (λ text. digits_value 10 (without_leading_plus text)) o) unused in
     cc
 limit_within most id rows (Some n) (inr h) is = number_within 1 most id rows n h is
 

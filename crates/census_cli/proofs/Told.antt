@@ -9,12 +9,12 @@ use Rattle.clap.specs.declared.error.kind.ErrorKind.{ErrorKind}
 use Rattle.clap.specs.declared.error.kind.ErrorKind.TheVariants.{OutOfMemory}
 use Rattle.census_cli.specs.Asking.{IsMatched}
 use Rattle.census_cli.specs.CommandLine.{census_app}
-use Rattle.census_cli.specs.Refusing.{Refuses, RefusesCommand, TellsKind}
+use Rattle.census_cli.specs.Refusing.{RefusesCommand, RefusesWords, TellsKind}
 use Rattle.census_cli.specs.declared.fault.WordsFault.{WordsFault}
 use Rattle.census_cli.specs.declared.fault.WordsFault.TheVariants.{Help, Refused, Memory}
 
 told : (words : List (List ℕ)) (kind : ErrorKind) (fault : WordsFault) → TellsKind kind fault
-    → (kind ≡ OutOfMemory) ⊎ IsAmong kind (fault_of census_app words) → Refuses words fault
+    → (kind ≡ OutOfMemory) ⊎ IsAmong kind (fault_of census_app words) → RefusesWords words fault
 told words kind (Help text) (inl help) (inl memory) = cc
 told words kind (Help text) (inr (version, same)) (inl memory) = cc
 told words kind (Help text) (inl help) (inr among) = inl (subst (λ (k : ErrorKind). IsAmong k (fault_of census_app words)) help among)
@@ -24,12 +24,12 @@ told words kind (Refused text) tells (inr among) = inl (record { kind = kind; am
 told words kind Memory tells h = tt
 
 pub refuses : (app : App) (words : List (List ℕ)) (error : Error) (fault : WordsFault) → app ≡ census_app → TellsKind (kind_of error) fault
-    → HasKind (fault_of app words) error → Refuses words fault
+    → HasKind (fault_of app words) error → RefusesWords words fault
 refuses app words error fault same tells h =
     told words (kind_of error) fault tells (subst (λ (a : App). HasKind (fault_of a words) error) same h)
 
 -- words that clap takes are refused as the command that they name is
-pub refuses_matched : (words : List (List ℕ)) (fault : WordsFault) → IsMatched words → RefusesCommand (subcommand_of census_app words) fault → Refuses words fault
+pub refuses_matched : (words : List (List ℕ)) (fault : WordsFault) → IsMatched words → RefusesCommand (subcommand_of census_app words) fault → RefusesWords words fault
 refuses_matched words (Help text) matched h = absurd h
 refuses_matched words (Refused text) matched h = inr (matched, h)
 refuses_matched words Memory matched h = tt

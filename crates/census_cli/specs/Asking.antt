@@ -17,8 +17,8 @@ use Rattle.census_cli.specs.Limits.{generation_limit, objects_bound_limit, settl
 -- ---- what the matches of a command say
 
 -- the number of an argument
-abbrev pub number_of : List ℕ → List Row → Option ℕ
-number_of id rows = option_map (λ text. digits_value 10 (without_leading_plus text)) (one_of id rows)
+abbrev pub argument_number : List ℕ → List Row → Option ℕ
+argument_number id rows = option_map (λ text. digits_value 10 (without_leading_plus text)) (one_of id rows)
 
 -- the values of an argument, none where it was not used
 abbrev pub values_of : List ℕ → List Row → List (List ℕ)
@@ -44,13 +44,13 @@ pub record GivesRun (command : Option (List ℕ × List Row)) (bound workers : �
     (recursive keep_going : Bool) (folders : List (List ℕ)) : Type 0 where
   pub rows : List Row
   pub named : command ≡ Some (codes "run", rows)
-  pub bound_is : number_of (codes "bound") rows ≡ Some bound
+  pub bound_is : argument_number (codes "bound") rows ≡ Some bound
   pub bound_in : (1 ≤ bound) × (bound ≤ settles_bound_limit)
-  pub workers_are : number_of (codes "workers") rows ≡ Some workers
+  pub workers_are : argument_number (codes "workers") rows ≡ Some workers
   pub workers_in : (1 ≤ workers) × (workers ≤ 16)
-  pub cells_are : number_of (codes "cells") rows ≡ cells
+  pub cells_are : argument_number (codes "cells") rows ≡ cells
   pub cells_in : IsLimit 4294967295 cells
-  pub input_is : number_of (codes "input") rows ≡ input
+  pub input_is : argument_number (codes "input") rows ≡ input
   pub input_in : IsLimit 9223372036854775807 input
   pub recursive_is : IsFlag (codes "recursive") rows recursive
   pub keep_going_is : IsFlag (codes "keep-going") rows keep_going
@@ -61,13 +61,13 @@ pub record GivesObjects (command : Option (List ℕ × List Row)) (bound workers
     (recursive keep_going : Bool) (folders : List (List ℕ)) : Type 0 where
   pub rows : List Row
   pub named : command ≡ Some (codes "objects", rows)
-  pub bound_is : number_of (codes "bound") rows ≡ Some bound
+  pub bound_is : argument_number (codes "bound") rows ≡ Some bound
   pub bound_in : (1 ≤ bound) × (bound ≤ objects_bound_limit)
-  pub workers_are : number_of (codes "workers") rows ≡ Some workers
+  pub workers_are : argument_number (codes "workers") rows ≡ Some workers
   pub workers_in : (1 ≤ workers) × (workers ≤ 16)
-  pub cells_are : number_of (codes "cells") rows ≡ Some cells
+  pub cells_are : argument_number (codes "cells") rows ≡ Some cells
   pub cells_in : (1 ≤ cells) × (cells ≤ 4294967295)
-  pub input_is : number_of (codes "input") rows ≡ input
+  pub input_is : argument_number (codes "input") rows ≡ input
   pub input_in : IsLimit 9223372036854775807 input
   pub recursive_is : IsFlag (codes "recursive") rows recursive
   pub keep_going_is : IsFlag (codes "keep-going") rows keep_going
@@ -78,7 +78,7 @@ pub record GivesIdentify (command : Option (List ℕ × List Row)) (bound : ℕ)
     (files : List (List ℕ)) : Type 0 where
   pub rows : List Row
   pub named : command ≡ Some (codes "identify", rows)
-  pub bound_is : number_of (codes "bound") rows ≡ Some bound
+  pub bound_is : argument_number (codes "bound") rows ≡ Some bound
   pub bound_in : (1 ≤ bound) × (bound ≤ objects_bound_limit)
   pub files_are : values_of (codes "file") rows ≡ files
 
@@ -87,7 +87,7 @@ pub record GivesAdvance (command : Option (List ℕ × List Row)) (generations :
     (file : Option (List ℕ)) : Type 0 where
   pub rows : List Row
   pub named : command ≡ Some (codes "advance", rows)
-  pub generations_are : number_of (codes "generations") rows ≡ Some generations
+  pub generations_are : argument_number (codes "generations") rows ≡ Some generations
   pub generations_in : generations ≤ generation_limit
   pub file_is : first_of (codes "file") rows ≡ file
 
@@ -118,17 +118,17 @@ pub record GivesPage (command : Option (List ℕ × List Row)) (reports : List (
   pub named : command ≡ Some (codes "page", rows)
   pub reports_are : values_of (codes "report") rows ≡ reports
 
-abbrev pub Gives : Option (List ℕ × List Row) → Request → Type 0
-Gives command (Run bound workers cells input recursive keep_going folders) =
+abbrev pub GivesRequest : Option (List ℕ × List Row) → Request → Type 0
+GivesRequest command (Run bound workers cells input recursive keep_going folders) =
     GivesRun command bound workers cells input recursive keep_going (map (λ s. s.now) folders.items)
-Gives command (Objects bound workers cells input recursive keep_going folders) =
+GivesRequest command (Objects bound workers cells input recursive keep_going folders) =
     GivesObjects command bound workers cells input recursive keep_going (map (λ s. s.now) folders.items)
-Gives command (Identify bound files) = GivesIdentify command bound (map (λ s. s.now) files.items)
-Gives command (Advance generations file) = GivesAdvance command generations (option_map (λ s. s.now) file)
-Gives command (Draw code rule) = GivesDraw command code.now rule.now
-Gives command (Merge reports) = GivesMerge command (map (λ s. s.now) reports.items)
-Gives command (Table format reports) = GivesTable command format (map (λ s. s.now) reports.items)
-Gives command (Page reports) = GivesPage command (map (λ s. s.now) reports.items)
+GivesRequest command (Identify bound files) = GivesIdentify command bound (map (λ s. s.now) files.items)
+GivesRequest command (Advance generations file) = GivesAdvance command generations (option_map (λ s. s.now) file)
+GivesRequest command (Draw code rule) = GivesDraw command code.now rule.now
+GivesRequest command (Merge reports) = GivesMerge command (map (λ s. s.now) reports.items)
+GivesRequest command (Table format reports) = GivesTable command format (map (λ s. s.now) reports.items)
+GivesRequest command (Page reports) = GivesPage command (map (λ s. s.now) reports.items)
 
 -- whether the flag `--explain` of the command was used
 abbrev pub Explains : Option (List ℕ × List Row) → Bool → Type 0
@@ -137,7 +137,7 @@ Explains (Some (name, rows)) used = IsFlag (codes "explain") rows used
 
 -- The command and its matches are those of what is asked for, and say whether its faults are to be explained.
 abbrev pub GivesAsked : Option (List ℕ × List Row) → Asked → Type 0
-GivesAsked command asked = Gives command asked.request × Explains command asked.explain
+GivesAsked command asked = GivesRequest command asked.request × Explains command asked.explain
 
 -- ---- what the words ask for
 
@@ -181,7 +181,7 @@ AsksPage words reports = IsMatched words × GivesPage (subcommand_of census_app 
 
 -- for this
 abbrev pub Asks : List (List ℕ) → Request → Type 0
-Asks words request = IsMatched words × Gives (subcommand_of census_app words) request
+Asks words request = IsMatched words × GivesRequest (subcommand_of census_app words) request
 
 -- whether the words ask that faults be explained
 abbrev pub AsksToExplain : List (List ℕ) → Bool → Type 0

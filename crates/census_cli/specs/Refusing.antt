@@ -62,11 +62,11 @@ abbrev pub AsksTwoFormats : List (List ℕ) → Type 0
 AsksTwoFormats words = IsMatched words × HasTwoFormats (subcommand_of census_app words)
 
 -- the words are refused
-abbrev pub IsRefused : List (List ℕ) → Type 0
-IsRefused words = IsUnmatched words ⊎ AsksTwoFormats words
+abbrev pub AreRefusedWords : List (List ℕ) → Type 0
+AreRefusedWords words = IsUnmatched words ⊎ AsksTwoFormats words
 
 -- why the words are no request
-abbrev pub Refuses : List (List ℕ) → WordsFault → Type 0
-Refuses words (Help text) = AsksText words (string_bytes text)
-Refuses words (Refused text) = IsRefused words
-Refuses words Memory = Unit {0}
+abbrev pub RefusesWords : List (List ℕ) → WordsFault → Type 0
+RefusesWords words (Help text) = AsksText words (string_bytes text)
+RefusesWords words (Refused text) = AreRefusedWords words
+RefusesWords words Memory = Unit {0}

@@ -228,7 +228,8 @@ fn run<'a>(alloc: Global) -> Result<Command<'a>, AllocError>
 }
 
 fn objects<'a>(alloc: Global) -> Result<Command<'a>, AllocError>
-    ensures { IfOk result (λ c. (shape_of c ≡ objects_shape) × ((out-Command c).has_globals ≡ false)) }
+    ensures { IfOk result
+        (λ c. (shape_of c ≡ objects_shape) × ((out-Command c).has_globals ≡ false)) }
 {
     Command::new(alloc, "objects")
         .about("Report the objects in what the patterns of collections become")
@@ -245,7 +246,8 @@ fn objects<'a>(alloc: Global) -> Result<Command<'a>, AllocError>
 }
 
 fn identify<'a>(alloc: Global) -> Result<Command<'a>, AllocError>
-    ensures { IfOk result (λ c. (shape_of c ≡ identify_shape) × ((out-Command c).has_globals ≡ false)) }
+    ensures { IfOk result
+        (λ c. (shape_of c ≡ identify_shape) × ((out-Command c).has_globals ≡ false)) }
 {
     Command::new(alloc, "identify")
         .about("Read RLE texts and tell of each what its pattern is")
@@ -256,7 +258,8 @@ fn identify<'a>(alloc: Global) -> Result<Command<'a>, AllocError>
 }
 
 fn advance<'a>(alloc: Global) -> Result<Command<'a>, AllocError>
-    ensures { IfOk result (λ c. (shape_of c ≡ advance_shape) × ((out-Command c).has_globals ≡ false)) }
+    ensures { IfOk result
+        (λ c. (shape_of c ≡ advance_shape) × ((out-Command c).has_globals ≡ false)) }
 {
     Command::new(alloc, "advance")
         .about("Read an RLE text and write that of its generation N")
@@ -278,7 +281,8 @@ fn draw<'a>(alloc: Global) -> Result<Command<'a>, AllocError>
 }
 
 fn merge<'a>(alloc: Global) -> Result<Command<'a>, AllocError>
-    ensures { IfOk result (λ c. (shape_of c ≡ merge_shape) × ((out-Command c).has_globals ≡ false)) }
+    ensures { IfOk result
+        (λ c. (shape_of c ≡ merge_shape) × ((out-Command c).has_globals ≡ false)) }
 {
     Command::new(alloc, "merge")
         .about("Make one report of several: all their collections, numbered on")
@@ -288,7 +292,8 @@ fn merge<'a>(alloc: Global) -> Result<Command<'a>, AllocError>
 }
 
 fn table<'a>(alloc: Global) -> Result<Command<'a>, AllocError>
-    ensures { IfOk result (λ c. (shape_of c ≡ table_shape) × ((out-Command c).has_globals ≡ false)) }
+    ensures { IfOk result
+        (λ c. (shape_of c ≡ table_shape) × ((out-Command c).has_globals ≡ false)) }
 {
     Command::new(alloc, "table")
         .about("Write a row for each pattern of reports")

@@ -1,10 +1,10 @@
 //! What words ask for.
 ghost use Rattle.std.specs.Prelude.{◌≡◌, IfOk, MatchResult, Some, codes, map, option_map};
 ghost use Rattle.clap.specs.Words.{first_of, found_of, rows_of, subcommand_rows_of};
-ghost use Rattle.census_cli.specs.Asking.{AsksFor, Explains, Gives, GivesAsked, IsFlag, number_of, values_of};
+ghost use Rattle.census_cli.specs.Asking.{AsksFor, Explains, GivesAsked, GivesRequest, IsFlag, argument_number, values_of};
 ghost use Rattle.census_cli.specs.Holding.{HasFlag, HasLimit, HasNumber, HasObjects, HasRun, HasTable, HasText};
 ghost use Rattle.census_cli.specs.Holding.{IsCommand};
-ghost use Rattle.census_cli.specs.Refusing.{NamesFormat, Refuses, RefusesCommand};
+ghost use Rattle.census_cli.specs.Refusing.{NamesFormat, RefusesCommand, RefusesWords};
 
 use crate::command;
 use crate::fault::{WordsFault, fault_of};
@@ -109,7 +109,7 @@ pub struct Asked<'a> {
 // The number of an argument that has one.
 fn number(matches: &ArgMatches<'_>, id: &str) -> u32
     requires { HasNumber id.now (rows_of (found_of matches.now)) }
-    ensures { number_of id.now (rows_of (found_of matches.now)) ≡ Some result }
+    ensures { argument_number id.now (rows_of (found_of matches.now)) ≡ Some result }
 {
     matches.get_one::<u64>(id).unwrap() as u32
 }
@@ -117,7 +117,7 @@ fn number(matches: &ArgMatches<'_>, id: &str) -> u32
 // The number of an argument, where it has one.
 fn limit(matches: &ArgMatches<'_>, id: &str) -> Option<u32>
     requires { HasLimit 4294967295 id.now (rows_of (found_of matches.now)) }
-    ensures { number_of id.now (rows_of (found_of matches.now)) ≡ result }
+    ensures { argument_number id.now (rows_of (found_of matches.now)) ≡ result }
 {
     match matches.get_one::<u64>(id) {
         Some(number) => Some(number as u32),
@@ -128,7 +128,7 @@ fn limit(matches: &ArgMatches<'_>, id: &str) -> Option<u32>
 // The number of an argument that may be greater, where it has one.
 fn long_limit(matches: &ArgMatches<'_>, id: &str) -> Option<u64>
     requires { HasLimit 9223372036854775807 id.now (rows_of (found_of matches.now)) }
-    ensures { number_of id.now (rows_of (found_of matches.now)) ≡ result }
+    ensures { argument_number id.now (rows_of (found_of matches.now)) ≡ result }
 {
     matches.get_one::<u64>(id)
 }
@@ -158,7 +158,9 @@ fn text_if_used<'a>(matches: &ArgMatches<'a>, id: &str) -> Option<&'a str>
 
 // All texts of an argument.
 fn texts<'a>(alloc: Global, matches: &ArgMatches<'a>, id: &str) -> Result<Vec<&'a str>, AllocError>
-    ensures { IfOk result (λ texts. values_of id.now (rows_of (found_of matches.now)) ≡ map (λ s. s.now) texts.items) }
+    ensures { IfOk result
+        (λ texts. values_of id.now (rows_of (found_of matches.now)) ≡
+        map (λ s. s.now) texts.items) }
 {
     match matches.get_strs(id) {
         Some(texts) => texts.to_vec(alloc),
@@ -169,7 +171,7 @@ fn texts<'a>(alloc: Global, matches: &ArgMatches<'a>, id: &str) -> Result<Vec<&'
 // What the matches of `run` ask for.
 fn run_of<'a>(alloc: Global, run: &ArgMatches<'a>) -> Result<Request<'a>, AllocError>
     requires { HasRun (rows_of (found_of run.now)) }
-    ensures { IfOk result (Gives (Some (codes "run", rows_of (found_of run.now)))) }
+    ensures { IfOk result (GivesRequest (Some (codes "run", rows_of (found_of run.now)))) }
 {
     Ok(Request::Run {
         bound: number(run, "bound"),
@@ -185,7 +187,7 @@ fn run_of<'a>(alloc: Global, run: &ArgMatches<'a>) -> Result<Request<'a>, AllocE
 // What the matches of `objects` ask for.
 fn objects_of<'a>(alloc: Global, objects: &ArgMatches<'a>) -> Result<Request<'a>, AllocError>
     requires { HasObjects (rows_of (found_of objects.now)) }
-    ensures { IfOk result (Gives (Some (codes "objects", rows_of (found_of objects.now)))) }
+    ensures { IfOk result (GivesRequest (Some (codes "objects", rows_of (found_of objects.now)))) }
 {
     Ok(Request::Objects {
         bound: number(objects, "bound"),
@@ -213,7 +215,7 @@ fn format(table: &ArgMatches<'_>) -> Option<TableFormat>
 // What the matches of `table` ask for.
 fn table_of<'a>(alloc: Global, table: &ArgMatches<'a>) -> Result<Request<'a>, WordsFault>
     requires { HasTable (rows_of (found_of table.now)) }
-    ensures { MatchResult result (Gives (Some (codes "table", rows_of (found_of table.now))))
+    ensures { MatchResult result (GivesRequest (Some (codes "table", rows_of (found_of table.now))))
         (RefusesCommand (Some (codes "table", rows_of (found_of table.now)))) }
 {
     let Some(format) = format(table) else {
@@ -228,7 +230,8 @@ fn table_of<'a>(alloc: Global, table: &ArgMatches<'a>) -> Result<Request<'a>, Wo
 // What the matches ask for.
 fn request_of<'a>(alloc: Global, matches: &ArgMatches<'a>) -> Result<Request<'a>, WordsFault>
     requires { IsCommand (subcommand_rows_of matches.now) }
-    ensures { MatchResult result (Gives (subcommand_rows_of matches.now)) (RefusesCommand (subcommand_rows_of matches.now)) }
+    ensures { MatchResult result (GivesRequest (subcommand_rows_of matches.now))
+        (RefusesCommand (subcommand_rows_of matches.now)) }
 {
     if let Some(run) = matches.subcommand_matches("run") {
         return Ok(run_of(alloc, run)?);
@@ -297,7 +300,8 @@ fn is_quiet(matches: &ArgMatches<'_>) -> bool
 // What the matches ask for, and how its faults are to be told.
 fn asked_of<'a>(alloc: Global, matches: &ArgMatches<'a>) -> Result<Asked<'a>, WordsFault>
     requires { IsCommand (subcommand_rows_of matches.now) }
-    ensures { MatchResult result (GivesAsked (subcommand_rows_of matches.now)) (RefusesCommand (subcommand_rows_of matches.now)) }
+    ensures { MatchResult result (GivesAsked (subcommand_rows_of matches.now))
+        (RefusesCommand (subcommand_rows_of matches.now)) }
 {
     Ok(Asked {
         explain: explains(matches),
@@ -315,7 +319,8 @@ fn asked_of<'a>(alloc: Global, matches: &ArgMatches<'a>) -> Result<Asked<'a>, Wo
 /// or with the version, `Refused` where it refuses them. Words that name both formats of `table` alone are `Refused`
 /// though clap has matches for them.
 pub fn read_words<'a>(alloc: Global, words: &'a [&'a str]) -> Result<Asked<'a>, WordsFault>
-    ensures { MatchResult result (AsksFor (map (λ s. s.now) words.entry.now)) (Refuses (map (λ s. s.now) words.entry.now)) }
+    ensures { MatchResult result (AsksFor (map (λ s. s.now) words.entry.now))
+        (RefusesWords (map (λ s. s.now) words.entry.now)) }
 {
     let command = command::census(alloc)?;
     match command.try_get_matches_from(words) {

@@ -2,11 +2,11 @@
 use Rattle.std.proofs.Common.{◌≡◌, ◌≢◌, ◌⊎◌, ℕ, ◌+◌, ◌<◌, Bool, true, false, List, [], ◌∷◌, ◌++◌, Option, length, get_or, drop, Result, Ok, Err, MatchResult, inl, inr, refl, sym, ap, ◌∙◌}
 use Rattle.std.proofs.lemmas.List.{append_assoc, drop_more}
 use Rattle.census_folders.specs.declared.loss.Loss.{Loss}
-use Rattle.census_command.specs.Keeps.{IsKept, KeepsInto, StopsKeeping, StopsKeepingIn, kept_status, lost_line, lost_lines}
+use Rattle.census_command.specs.Keeps.{IsKeptBundle, KeepsInto, StopsKeeping, StopsKeepingIn, kept_status, lost_line, lost_lines}
 use Rattle.census_errors.specs.Shelves.{Tellings}
 use Rattle.census_command.specs.declared.keeping.Gathered.{Gathered}
 use Rattle.census_errors.specs.declared.run_error.RunError.{RunError}
-use Rattle.census_errors.specs.Sources.{IsWhole, Kept, source_of}
+use Rattle.census_errors.specs.Sources.{Kept, StopsAtFirstLoss, source_of}
 
 -- # The lines
 
@@ -22,7 +22,7 @@ next_line lost i loss lines more whole within at is before =
 
 pub gathered_plain : (shelf : Tellings) (limit : Option ℕ) (recursive : Bool) (words : List (List ℕ)) (r : Result Gathered RunError) → recursive ≡ false
     → MatchResult r (KeepsInto shelf.listed shelf.held limit words []) (StopsKeepingIn shelf.listed shelf.held limit words)
-    → MatchResult r (λ gathered. (lost : List Loss) × IsKept shelf limit recursive words gathered.bundle lost × (gathered.lines.items ≡ lost_lines lost))
+    → MatchResult r (λ gathered. (lost : List Loss) × IsKeptBundle shelf limit recursive words gathered.bundle lost × (gathered.lines.items ≡ lost_lines lost))
     (StopsKeeping shelf limit recursive words)
 gathered_plain shelf limit recursive words (Ok gathered) off kept = (
   kept.kept.lost,
@@ -44,7 +44,7 @@ status_kept (loss ∷ lost) lines status is none some = some (λ e. let both : l
 -- # Where collections come from
 
 -- nothing goes on where it isn't asked for, or without a word
-pub stops_at_first : (limit : Option ℕ) (recursive keep_going : Bool) (words : List (List ℕ)) → (keep_going ≡ false) ⊎ (words ≡ []) → IsWhole (source_of limit recursive keep_going words)
+pub stops_at_first : (limit : Option ℕ) (recursive keep_going : Bool) (words : List (List ℕ)) → (keep_going ≡ false) ⊎ (words ≡ []) → StopsAtFirstLoss (source_of limit recursive keep_going words)
 stops_at_first limit recursive keep_going [] why = tt
 stops_at_first limit true false (word ∷ words) why = tt
 stops_at_first limit false false (word ∷ words) why = tt
@@ -57,7 +57,7 @@ goes_on limit recursive true (word ∷ words) asked any = refl
 goes_on limit recursive false (word ∷ words) asked any = absurd cc
 
 -- where the first thing that can't be read ends it, it is as if nothing else were asked for
-pub ends_at_first : (limit : Option ℕ) (recursive keep_going : Bool) (words : List (List ℕ)) → IsWhole (source_of limit recursive keep_going words)
+pub ends_at_first : (limit : Option ℕ) (recursive keep_going : Bool) (words : List (List ℕ)) → StopsAtFirstLoss (source_of limit recursive keep_going words)
     → source_of limit recursive false words ≡ source_of limit recursive keep_going words
 ends_at_first limit recursive keep_going [] whole = refl
 ends_at_first limit recursive false (word ∷ words) whole = refl

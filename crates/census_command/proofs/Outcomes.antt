@@ -6,7 +6,7 @@ use Rattle.census_folders.specs.Trees.{HoldsTrees, StopsTrees}
 use Rattle.census_folders.specs.Walks.{StopsWalk}
 use Rattle.census_bundle.specs.declared.bundle.AddFault.{AddFault}
 use Rattle.census_cli.specs.Asking.{Asks, AsksToExplain}
-use Rattle.census_cli.specs.Refusing.{AsksHelp, AsksText, IsRefused, Refuses}
+use Rattle.census_cli.specs.Refusing.{AreRefusedWords, AsksHelp, AsksText, RefusesWords}
 use Rattle.census_cli.specs.declared.fault.WordsFault.{WordsFault}
 use Rattle.census_cli.specs.declared.fault.WordsFault.TheVariants as words_fault
 use Rattle.census_cli.specs.declared.request.Request.{Request}
@@ -23,12 +23,12 @@ use Rattle.census_command.specs.Outcomes.{MissesSource, RefusesCollections, Refu
 use Rattle.census_command.specs.Outcomes.{StopsAtFolder, TellsError, TellsRefusal}
 use Rattle.census_errors.specs.Places.{IsPlaceOf}
 use Rattle.census_command.specs.Requests.{Does, DoesInPart, Fails}
-use Rattle.census_command.specs.Runs.{FoldersFail, ReportsFoldersInPart, RunFails, RunsInPart, StopsReading}
+use Rattle.census_command.specs.Runs.{FoldersFail, ReportsFoldersInPart, RunFails, RunsInPart, StopsReadingFolders}
 use Rattle.census_errors.specs.Sayings.{line_said, said_if}
 use Rattle.census_errors.specs.Shelves.{Tellings}
 use Rattle.census_errors.specs.Sources.{Source, Input, Folders, Trees, Kept, source_of}
-use Rattle.census_errors.specs.ErrorStreams.{Errors, Tells, TellsIf}
-use Rattle.census_command.specs.Streams.{HasFailed, IsSound, IsUntouched, State, WritesNothing}
+use Rattle.census_errors.specs.ErrorStreams.{Errors, TellsIf, TellsText}
+use Rattle.census_command.specs.Streams.{HasFailed, HasSoundStreams, IsUntouched, State, WritesNothing}
 use Rattle.census_errors.specs.declared.advance_error.AdvanceError.{AdvanceError}
 use Rattle.census_errors.specs.declared.advance_error.AdvanceError.TheVariants as advance
 use Rattle.census_errors.specs.declared.draw_error.DrawError.TheVariants as draw
@@ -40,7 +40,7 @@ use Rattle.census_errors.specs.declared.error.CommandError.TheVariants as comman
 
 -- ---- streams that have not failed
 
-neither : {A : Type 0} (s : State) → IsSound s → HasFailed s → A
+neither : {A : Type 0} (s : State) → HasSoundStreams s → HasFailed s → A
 neither s sound failed =
     absurd (⊎_elim (λ (t : s.read_failed ≡ true). true≢false (sym t ∙ sound.read)) (λ (t : s.write_failed ≡ true). true≢false (sym t ∙ sound.write)) failed)
 
@@ -51,7 +51,7 @@ neither s sound failed =
 abbrev Says : State → State → ℕ → Type 0 → Type 0 → Type 0 → Type 0 → Type 0
 Says before after status Refused Report Part Missed =
     ((status ≡ 1) × Refused × WritesNothing before after)
-    ⊎ (((status ≡ 3) × ((after.written ≡ before.written) ⊎ Report) × IsSound after)
+    ⊎ (((status ≡ 3) × ((after.written ≡ before.written) ⊎ Report) × HasSoundStreams after)
     ⊎ ((status ≡ 4) × (HasFailed after ⊎ Missed) × ((after.written ≡ before.written) ⊎ Part) × (after.read_failed ≡ true → after.written ≡ before.written)))
 
 module _ (shelf : Tellings) (before after : State) where
@@ -73,7 +73,7 @@ module _ (shelf : Tellings) (before after : State) where
 
   folders_say : (e : RunError) (limit : Option ℕ) (fs : List (List ℕ)) (question : Question) → FoldersFail e shelf limit fs question before after
       → Says before after (run_status e) (RefusesFolders shelf limit fs) (ReportsFoldersInPart shelf limit fs question before after)
-      (ReportsFoldersInPart shelf limit fs question before after) (StopsReading shelf limit fs folder_fault.Read)
+      (ReportsFoldersInPart shelf limit fs question before after) (StopsReadingFolders shelf limit fs folder_fault.Read)
   folders_say (run.Bundle fault) limit fs question h = absurd h
   folders_say (run.Folder fault) limit fs question h = inl (refl, inl (fault, h.0), record { written = h.1.written; sound = h.1.sound })
   folders_say run.TooLong limit fs question h = inl (refl, inr h.0, record { written = h.1.written; sound = h.1.sound })
@@ -123,7 +123,7 @@ module _ (shelf : Tellings) (before after : State) where
     where
       in_trees : (folders : List (List ℕ)) → HoldsTrees shelf.listed shelf.inner fs folders
           → Says before after (run_status e) (RefusesFolders shelf limit folders) (ReportsFoldersInPart shelf limit folders question before after)
-          (ReportsFoldersInPart shelf limit folders question before after) (StopsReading shelf limit folders folder_fault.Read)
+          (ReportsFoldersInPart shelf limit folders question before after) (StopsReadingFolders shelf limit folders folder_fault.Read)
           → Says before after (run_status e) (RefusesCollections shelf (Trees limit fs) before after) (RunsInPart shelf (Trees limit fs) question before after)
           (RunsInPart shelf (Trees limit fs) question before after) (MissesSource shelf (Trees limit fs))
       in_trees folders trees (inl h) = inl (h.0, (folders, trees, h.1), h.2)
@@ -210,7 +210,7 @@ are_explained words errors asked explain h e = record { asked = asked; is_asked 
 module _ (shelf : Tellings) (words : List (List ℕ)) (before after : State) (old new : Errors) where
   -- what was asked for was done
   pub ends_done : (request : Request) (explain : Bool) (lines : List ℕ) → Asks words request → AreExplained words old explain
-      → Does shelf request explain lines before after → IsSound after → TellsIf explain lines old new → Ends shelf words 0 before after old new
+      → Does shelf request explain lines before after → HasSoundStreams after → TellsIf explain lines old new → Ends shelf words 0 before after old new
   ends_done request explain lines asked explained done sound told = record {
     known = omega arith;
     done = λ h. inl (record { request = request; explain = explain; asked = asked; explained = explained; lines = lines; done = done; told = told });
@@ -232,7 +232,7 @@ module _ (shelf : Tellings) (words : List (List ℕ)) (before after : State) (ol
 
   module _ (request : Request) (explain : Bool) (asked : Asks words request) (explained : AreExplained words old explain) (error : CommandError)
       (fails : Fails error shelf request before after) (place : Place) (at : IsPlaceOf shelf request error place)
-      (lines : Tells (error_line error ++ said_if explain (line_said request error place)) old new) where
+      (lines : TellsText (error_line error ++ said_if explain (line_said request error place)) old new) where
     tells : TellsError shelf words (status_of error) before after old new
     tells = record {
       error = error;
@@ -332,7 +332,7 @@ module _ (shelf : Tellings) (words : List (List ℕ)) (before after : State) (ol
         }
 
     -- the words are refused
-    ends_refused : (text : List ℕ) → IsRefused words → status ≡ 2 → IsUntouched before after → Tells text old new → Ends shelf words status before after old new
+    ends_refused : (text : List ℕ) → AreRefusedWords words → status ≡ 2 → IsUntouched before after → TellsText text old new → Ends shelf words status before after old new
     ends_refused text refused is untouched told =
         let tells : TellsRefusal words before after old new = record { refused = refused; untouched = untouched; text = text; told = told } in
         record {
@@ -351,7 +351,7 @@ module _ (shelf : Tellings) (words : List (List ℕ)) (before after : State) (ol
         }
 
     -- memory was refused while the words were read
-    pub ends_unread : status ≡ 3 → IsUntouched before after → Tells (error_line command.Memory) old new → Ends shelf words status before after old new
+    pub ends_unread : status ≡ 3 → IsUntouched before after → TellsText (error_line command.Memory) old new → Ends shelf words status before after old new
     ends_unread is untouched told = record {
       known = omega arith;
       done = λ h. absurd (omega arith);
@@ -368,7 +368,7 @@ module _ (shelf : Tellings) (words : List (List ℕ)) (before after : State) (ol
     }
 
     -- the words ask for nothing that can be done
-    pub ends_answered : (fault : WordsFault) → Refuses words fault → Answers fault status before after old new → Ends shelf words status before after old new
+    pub ends_answered : (fault : WordsFault) → RefusesWords words fault → Answers fault status before after old new → Ends shelf words status before after old new
     ends_answered (words_fault.Help text) help (inl h) = ends_helped (string_bytes text) help h.0 h.1
     ends_answered (words_fault.Help text) help (inr h) = ends_cut (string_bytes text) help h.0 h.1
     ends_answered (words_fault.Refused text) refused h = ends_refused (string_bytes text) refused h.0 h.1 h.2

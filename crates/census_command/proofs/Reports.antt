@@ -3,7 +3,7 @@ use Rattle.std.proofs.Common.{◌≡◌, ◌↔◌, ℕ, List, [], Option, Resul
 use Rattle.std.proofs.lemmas.List.{append-nil}
 use Rattle.census_bundle.specs.declared.bundle.Folder.{Folder}
 use Rattle.census_crew.specs.Bytes.{ReadsBundle, ReadsFolders}
-use Rattle.census_crew.specs.Writing.{WritesFront, WritesReport}
+use Rattle.census_crew.specs.Writing.{WritesPrefix, WritesReport}
 use Rattle.census_crew.specs.declared.bytes.BytesFault.{BytesFault}
 use Rattle.census_crew.specs.declared.bytes.BytesFault.TheVariants.{Read, TooLong, Bundle, Memory, Write}
 use Rattle.census_crew.specs.Faults.{FitsFault}
@@ -18,11 +18,11 @@ use Rattle.census_folders.specs.declared.fault.FoldersFault.{FoldersFault}
 use Rattle.census_folders.specs.declared.fault.FoldersFault.TheVariants as folder_fault
 use Rattle.life_answer.specs.declared.question.Question.{Question}
 use Rattle.census_errors.specs.Errors.{run_error_of_bytes, run_error_of_folders, run_error_of_run}
-use Rattle.census_command.specs.Runs.{FoldersFail, InputFails, ReportsFolders, ReportsFoldersInPart, ReportsTrees, StopsReading, TreesFail}
+use Rattle.census_command.specs.Runs.{FoldersFail, InputFails, ReportsFolders, ReportsFoldersInPart, ReportsTrees, StopsReadingFolders, TreesFail}
 use Rattle.census_errors.specs.declared.run_error.RunError.{RunError}
 use Rattle.census_command.specs.Keeps.{IsCut}
 use Rattle.census_errors.specs.Shelves.{Tellings}
-use Rattle.census_command.specs.Streams.{IsSound, State}
+use Rattle.census_command.specs.Streams.{HasSoundStreams, State}
 
 is_down : (failed : Bool) → (failed ≡ true → ⊥) → failed ≡ false
 is_down true raised = absurd (raised refl)
@@ -47,13 +47,13 @@ module _ (question : Question) (before after : State) where
 
   -- why there is no whole report of it
   pub input_fails : (bundle : List Folder) (fault : RunFault) → FitsFault {A = Tally} (Err fault) after.write_failed
-      → ReadsFolders before.unread after.unread bundle → WritesFront before.written after.written bundle question → after.read_failed ≡ false
+      → ReadsFolders before.unread after.unread bundle → WritesPrefix before.written after.written bundle question → after.read_failed ≡ false
       → InputFails (run_error_of_run fault) question before after
   input_fails bundle (runs.Memory ticket) fits read front down = (inr (record { bundle = bundle; read = read; front = front }), record { read = down; write = fits })
   input_fails bundle runs.Write fits read front down = (record { bundle = bundle; read = read; front = front }, record { read = down; write = fits })
 
 module _ (shelf : Tellings) (limit : Option ℕ) (words : List (List ℕ)) (question : Question) where
-  pub folders_stop : (fault : FoldersFault) (state : State) → IsSound state → StopsReading shelf limit words fault
+  pub folders_stop : (fault : FoldersFault) (state : State) → HasSoundStreams state → StopsReadingFolders shelf limit words fault
       → FoldersFail (run_error_of_folders fault) shelf limit words question state state
   folders_stop (folder_fault.Add fault) state sound stops = (stops, record { unread = refl; written = refl; sound = sound })
   folders_stop folder_fault.Read state sound stops = (stops, record { unread = refl; written = refl; sound = sound })
@@ -62,7 +62,7 @@ module _ (shelf : Tellings) (limit : Option ℕ) (words : List (List ℕ)) (ques
 
   module _ (before after : State) (bundle : List Folder) (holds : HoldsFolders words bundle)
       (told : HoldsShelf shelf.listed shelf.held words bundle) (within : Fits limit (bytes_of_all bundle)) (unread : after.unread ≡ before.unread)
-      (down : after.read_failed ≡ false) (written : WritesFront before.written after.written bundle question) where
+      (down : after.read_failed ≡ false) (written : WritesPrefix before.written after.written bundle question) where
     folders_front : ReportsFoldersInPart shelf limit words question before after
     folders_front = record { bundle = bundle; holds = holds; told = told; within = within; front = written; unread = unread }
 
@@ -93,7 +93,7 @@ is_cut (runs.Memory ticket) after down fits = record { read = down; write = fits
 is_cut runs.Write after down fits = record { read = down; write = fits }
 
 -- a whole report is a prefix of one
-pub whole_front : (old new : Option (List ℕ)) (bundle : List Folder) (question : Question) → WritesReport old new bundle question → WritesFront old new bundle question
+pub whole_front : (old new : Option (List ℕ)) (bundle : List Folder) (question : Question) → WritesReport old new bundle question → WritesPrefix old new bundle question
 whole_front old new bundle question h = record {
   text = h.text;
   front = record { rest = []; report = rw (append-nil h.text) h.report };

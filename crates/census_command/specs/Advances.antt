@@ -30,14 +30,14 @@ pub record IsAdvanced (text : List ℕ) (n : ℕ) (written : List ℕ) : Type 0 
   pub is : written ≡ advanced_text pattern n
 
 -- the text has this fault, and this is said of it
-pub record IsRefused (text : List ℕ) (fault : RleFault) (told : Fault) (spot : Spot) : Type 0 where
+pub record IsRefusedText (text : List ℕ) (fault : RleFault) (told : Fault) (spot : Spot) : Type 0 where
   pub refused : refusal text ≡ Some fault
   pub told_is : told ≡ text_fault text fault
   pub spot_is : spot ≡ spot_of_text text fault
 
 -- why there is none
 abbrev pub RefusesText : AdvanceError → List ℕ → Type 0
-RefusesText (Text fault told spot) text = IsRefused text fault told spot
+RefusesText (Text fault told spot) text = IsRefusedText text fault told spot
 RefusesText Memory text = Unit {0}
 RefusesText error text = ⊥
 
@@ -60,10 +60,10 @@ pub record AdvancesInPart (n : ℕ) (before after : State) : Type 0 where
   pub written : AppendsFront before.written after.written (advanced_text pattern n)
 
 -- standard input, read to its end, has this fault, and this is said of it
-pub record HasFault (fault : RleFault) (told : Fault) (spot : Spot) (before after : State) : Type 0 where
+pub record HasRleFault (fault : RleFault) (told : Fault) (spot : Spot) (before after : State) : Type 0 where
   pub text : List ℕ
   pub read : ReadsText before.unread after.unread text
-  pub refused : IsRefused text fault told spot
+  pub refused : IsRefusedText text fault told spot
 
 -- more was read than one text may have
 abbrev pub ReadsTooMuch : State → State → Type 0
@@ -71,7 +71,7 @@ ReadsTooMuch before after = ConsumesMoreThan input_limit before.unread after.unr
 
 -- Why generation n was not written. Where the writer didn't fail, nothing was.
 abbrev pub AdvanceFails : AdvanceError → ℕ → State → State → Type 0
-AdvanceFails (Text fault told spot) n before after = HasFault fault told spot before after × WritesNothing before after
+AdvanceFails (Text fault told spot) n before after = HasRleFault fault told spot before after × WritesNothing before after
 AdvanceFails TooLong n before after = ReadsTooMuch before after × WritesNothing before after
 AdvanceFails Memory n before after = WritesNothing before after
 AdvanceFails Read n before after = ReadFails before after
@@ -104,7 +104,7 @@ pub record AdvancesFileInPart (shelf : Tellings) (path : List ℕ) (n : ℕ) (be
 pub record HasFileFault (fault : RleFault) (told : Fault) (spot : Spot) (shelf : Tellings) (path : List ℕ) : Type 0 where
   pub text : List ℕ
   pub gives : GivesTold (shelf.held [] path) text
-  pub refused : IsRefused text fault told spot
+  pub refused : IsRefusedText text fault told spot
 
 -- Why generation n was not written. Where the writer didn't fail, nothing was.
 abbrev pub AdvanceFileFails : AdvanceError → Tellings → List ℕ → ℕ → State → State → Type 0

@@ -3,7 +3,7 @@ use Rattle.std.specs.Prelude.{◌≡◌, ◌⊎◌, ℕ, Bool, true, false, List
 use Rattle.std.specs.List.{FoldsTo, flat_map}
 use Rattle.life_answer.specs.declared.question.Question.{Question}
 use Rattle.census_bundle.specs.declared.bundle.Folder.{Folder}
-use Rattle.census_crew.specs.Writing.{WritesFront, WritesReport}
+use Rattle.census_crew.specs.Writing.{WritesPrefix, WritesReport}
 use Rattle.census_faults.specs.Printed.{printable_text}
 use Rattle.census_folders.specs.Losses.{KeepsFolder, StopsKeepingAt, kept_at_start}
 use Rattle.census_folders.specs.Told.{Told}
@@ -17,8 +17,8 @@ use Rattle.census_errors.specs.Places.{kept_place}
 use Rattle.census_errors.specs.Sayings.{explained_at, run_fault, run_line, run_spot, said_if}
 use Rattle.census_command.specs.BesideReports.{SaysOfReport}
 use Rattle.census_errors.specs.Shelves.{Tellings}
-use Rattle.census_errors.specs.ErrorStreams.{Errors, Tells}
-use Rattle.census_command.specs.Streams.{IsSound, IsUntouched, State, WriteFails}
+use Rattle.census_errors.specs.ErrorStreams.{Errors, TellsText}
+use Rattle.census_command.specs.Streams.{HasSoundStreams, IsUntouched, State, WriteFails}
 use Rattle.census_command.specs.declared.keeping.Gathered.{Gathered}
 use Rattle.census_errors.specs.declared.error.CommandError.TheVariants as command
 use Rattle.census_errors.specs.declared.run_error.RunError.{RunError}
@@ -46,7 +46,7 @@ KeepsPlaces shelf true words folders lost = KeepsTrees shelf.listed shelf.inner 
 KeepsPlaces shelf false words folders lost = (folders ≡ words) × (lost ≡ [])
 
 -- This is the bundle of the folders, and this was lost, as the shelf tells: first on the way to folders, then in them.
-pub record IsKept (shelf : Tellings) (limit : Option ℕ) (recursive : Bool) (words : List (List ℕ)) (bundle : List Folder) (lost : List Loss) : Type 0 where
+pub record IsKeptBundle (shelf : Tellings) (limit : Option ℕ) (recursive : Bool) (words : List (List ℕ)) (bundle : List Folder) (lost : List Loss) : Type 0 where
   pub folders : List (List ℕ)
   pub way : List Loss
   pub places : KeepsPlaces shelf recursive words folders way
@@ -98,18 +98,18 @@ pub record KeepsWhole (shelf : Tellings) (limit : Option ℕ) (recursive : Bool)
     (before after : State) (old new : Errors) : Type 0 where
   pub bundle : List Folder
   pub lost : List Loss
-  pub kept : IsKept shelf limit recursive words bundle lost
+  pub kept : IsKeptBundle shelf limit recursive words bundle lost
   pub report : WritesReport before.written after.written bundle question
   pub unread : after.unread ≡ before.unread
-  pub sound : IsSound after
+  pub sound : HasSoundStreams after
   pub lines : List ℕ
   pub said : SaysOfReport shelf.listed true explain bundle lines
-  pub told : Tells (lost_lines lost ++ lines) old new
+  pub told : TellsText (lost_lines lost ++ lines) old new
   pub status_is : status ≡ kept_status lost
 
 -- out of memory, or standard output has failed
 abbrev pub IsCut : RunError → State → Type 0
-IsCut (Memory ticket) after = IsSound after
+IsCut (Memory ticket) after = HasSoundStreams after
 IsCut Write after = WriteFails after
 IsCut error after = ⊥
 
@@ -118,12 +118,12 @@ pub record KeepsPart (shelf : Tellings) (limit : Option ℕ) (recursive : Bool) 
     (before after : State) (old new : Errors) : Type 0 where
   pub bundle : List Folder
   pub lost : List Loss
-  pub kept : IsKept shelf limit recursive words bundle lost
-  pub part : WritesFront before.written after.written bundle question
+  pub kept : IsKeptBundle shelf limit recursive words bundle lost
+  pub part : WritesPrefix before.written after.written bundle question
   pub unread : after.unread ≡ before.unread
   pub error : RunError
   pub cut : IsCut error after
-  pub told : Tells (lost_lines lost ++ cut_lines explain error) old new
+  pub told : TellsText (lost_lines lost ++ cut_lines explain error) old new
   pub status_is : status ≡ run_status error
 
 -- Nothing was read or written, and the error was told.
@@ -132,7 +132,7 @@ pub record KeepsNothing (shelf : Tellings) (limit : Option ℕ) (recursive : Boo
   pub error : RunError
   pub why : StopsKeeping shelf limit recursive words error
   pub untouched : IsUntouched before after
-  pub told : Tells (error_lines explain error) old new
+  pub told : TellsText (error_lines explain error) old new
   pub status_is : status ≡ run_status error
 
 abbrev pub Keeps : Tellings → Option ℕ → Bool → List (List ℕ) → Question → Bool → ℕ → State → State → Errors → Errors → Type 0

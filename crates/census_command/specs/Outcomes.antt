@@ -15,7 +15,7 @@ use Rattle.census_bundle.specs.Sizes.{input_limit}
 use Rattle.census_crew.specs.Bytes.{ReadsFault}
 use Rattle.census_folders.specs.declared.fault.FoldersFault.TheVariants as folder_fault
 use Rattle.census_cli.specs.Asking.{Asks, AsksToExplain, IsMatched}
-use Rattle.census_cli.specs.Refusing.{AsksHelp, AsksText, IsRefused}
+use Rattle.census_cli.specs.Refusing.{AreRefusedWords, AsksHelp, AsksText}
 use Rattle.census_cli.specs.declared.fault.WordsFault.{WordsFault}
 use Rattle.census_cli.specs.declared.fault.WordsFault.TheVariants.{Help, Refused, Memory}
 use Rattle.census_cli.specs.declared.request.Request.{Request}
@@ -27,7 +27,7 @@ use Rattle.census_faults.specs.declared.spot.Spot.{Spot}
 use Rattle.census_folders.specs.Told.{MayExceed, MayFail}
 use Rattle.census_folders.specs.Trees.{HoldsTrees, StopsTrees}
 use Rattle.census_identify.specs.Identifies.{Identifies}
-use Rattle.census_command.specs.Advances.{HasFault, HasFileFault, ReadsTooMuch}
+use Rattle.census_command.specs.Advances.{HasFileFault, HasRleFault, ReadsTooMuch}
 use Rattle.census_errors.specs.Errors.{IsArgumentsError, status_of}
 use Rattle.census_errors.specs.Files.{file_of}
 use Rattle.census_command.specs.Keeps.{Keeps}
@@ -37,12 +37,12 @@ use Rattle.census_command.specs.Remakes.{Remakes, form_of}
 use Rattle.census_command.specs.Requests.{Does, DoesInPart, Fails}
 use Rattle.census_reports.specs.declared.form.Form.{Form}
 use Rattle.census_reports.specs.declared.form.Form.TheVariants as form
-use Rattle.census_command.specs.Runs.{RunsInPart, StopsReading}
+use Rattle.census_command.specs.Runs.{RunsInPart, StopsReadingFolders}
 use Rattle.census_errors.specs.Sayings.{line_said, said_if}
 use Rattle.census_errors.specs.Shelves.{Tellings}
 use Rattle.census_errors.specs.Sources.{Source, Input, Folders, Trees, Kept, source_of}
-use Rattle.census_errors.specs.ErrorStreams.{Errors, Tells, TellsIf}
-use Rattle.census_command.specs.Streams.{all_streams, HasFailed, IsSound, IsUntouched, State, WriteFails, WritesNothing}
+use Rattle.census_errors.specs.ErrorStreams.{Errors, TellsIf, TellsText}
+use Rattle.census_command.specs.Streams.{all_streams, HasFailed, HasSoundStreams, IsUntouched, State, WriteFails, WritesNothing}
 use Rattle.census_errors.specs.declared.error.CommandError.{CommandError}
 use Rattle.census_errors.specs.declared.place.Place.{Place}
 use Rattle.census_errors.specs.declared.error.CommandError.TheVariants as command
@@ -79,7 +79,7 @@ pub record Helps (words : List (List ℕ)) (before after : State) : Type 0 where
 
 -- one of these folders or a file of it has a fault or is too long
 abbrev pub RefusesFolders : Tellings → Option ℕ → List (List ℕ) → Type 0
-RefusesFolders shelf limit folders = ((fault : AddFault) × StopsReading shelf limit folders (folder_fault.Add fault)) ⊎ StopsReading shelf limit folders folder_fault.TooLong
+RefusesFolders shelf limit folders = ((fault : AddFault) × StopsReadingFolders shelf limit folders (folder_fault.Add fault)) ⊎ StopsReadingFolders shelf limit folders folder_fault.TooLong
 
 -- The bundle on standard input has a fault or is too long, or one of the folders.
 abbrev pub RefusesCollections : Tellings → Source → State → State → Type 0
@@ -93,7 +93,7 @@ RefusesCollections shelf (Kept limit recursive words) before after = ⊥
 -- a file, or without one standard input, has a fault or is too long
 abbrev pub RefusesText : Tellings → Option (List ℕ) → State → State → Type 0
 RefusesText shelf None before after =
-    ((fault : RleFault) × (told : Fault) × (spot : Spot) × HasFault fault told spot before after) ⊎ ReadsTooMuch before after
+    ((fault : RleFault) × (told : Fault) × (spot : Spot) × HasRleFault fault told spot before after) ⊎ ReadsTooMuch before after
 RefusesText shelf (Some path) before after =
     ((fault : RleFault) × (told : Fault) × (spot : Spot) × HasFileFault fault told spot shelf path) ⊎ MayExceed input_limit (shelf.held [] path)
 
@@ -150,10 +150,10 @@ MissesFile shelf (Some path) = MayFail (shelf.held [] path)
 -- one of the folders could not be listed or has a file that could not be read
 abbrev pub MissesSource : Tellings → Source → Type 0
 MissesSource shelf Input = ⊥
-MissesSource shelf (Folders limit words) = StopsReading shelf limit words folder_fault.Read
+MissesSource shelf (Folders limit words) = StopsReadingFolders shelf limit words folder_fault.Read
 MissesSource shelf (Trees limit words) =
     StopsTrees shelf.listed shelf.inner words folder_fault.Read
-    ⊎ ((folders : List (List ℕ)) × HoldsTrees shelf.listed shelf.inner words folders × StopsReading shelf limit folders folder_fault.Read)
+    ⊎ ((folders : List (List ℕ)) × HoldsTrees shelf.listed shelf.inner words folders × StopsReadingFolders shelf limit folders folder_fault.Read)
 MissesSource shelf (Kept limit recursive words) = ⊥
 
 abbrev pub StopsAtFolder : Tellings → Request → Type 0
@@ -185,7 +185,7 @@ pub record FailsAsked (error : CommandError) (shelf : Tellings) (words : List (L
   pub fails : Fails error shelf request before after
   pub place : Place
   pub at : IsPlaceOf shelf request error place
-  pub lines : Tells (error_line error ++ said_if explain (line_said request error place)) old new
+  pub lines : TellsText (error_line error ++ said_if explain (line_said request error place)) old new
 
 -- The words ask for nothing that can be done: memory was refused while they were read, or help could not be written.
 abbrev pub FailsReading : CommandError → List (List ℕ) → State → State → Type 0
@@ -198,14 +198,14 @@ pub record TellsError (shelf : Tellings) (words : List (List ℕ)) (status : ℕ
   pub error : CommandError
   pub status_is : status ≡ status_of error
   pub fails : FailsAsked error shelf words before after old new
-      ⊎ (FailsReading error words before after × Tells (error_line error) old new)
+      ⊎ (FailsReading error words before after × TellsText (error_line error) old new)
 
 -- Clap refuses the words, and some text was told; nothing was read or written.
 pub record TellsRefusal (words : List (List ℕ)) (before after : State) (old new : Errors) : Type 0 where
-  pub refused : IsRefused words
+  pub refused : AreRefusedWords words
   pub untouched : IsUntouched before after
   pub text : List ℕ
-  pub told : Tells text old new
+  pub told : TellsText text old new
 
 -- # What patterns are
 
@@ -274,7 +274,7 @@ pub record Ends (shelf : Tellings) (words : List (List ℕ)) (status : ℕ) (bef
   pub faulty : status ≡ 1 → IsFaulty shelf words before after × WritesNothing before after
   pub refused : status ≡ 2 → TellsRefusal words before after old new
   pub unmatched : (IsMatched words → ⊥) → (status ≡ 2) ⊎ ((status ≡ 3) ⊎ AsksHelp words)
-  pub memory : status ≡ 3 → ((after.written ≡ before.written) ⊎ ReportsAskedInPart shelf words before after) × IsSound after
+  pub memory : status ≡ 3 → ((after.written ≡ before.written) ⊎ ReportsAskedInPart shelf words before after) × HasSoundStreams after
   pub failed : status ≡ 4 → HasFailed after ⊎ MissesFolder shelf words
   pub cut : status ≡ 4 → (after.written ≡ before.written)
       ⊎ (DoesAskedInPart shelf words before after ⊎ HelpsInPart words before after)
@@ -303,7 +303,7 @@ pub record StopsUnread (kind : ErrorKind) (status : ℕ) (before after : State) 
   pub is : IsArgumentsError kind error
   pub status_is : status ≡ status_of error
   pub untouched : IsUntouched before after
-  pub line : Tells (error_line error) old new
+  pub line : TellsText (error_line error) old new
 
 -- # Words that ask for nothing that can be done
 
@@ -311,7 +311,7 @@ pub record StopsUnread (kind : ErrorKind) (status : ℕ) (before after : State) 
 pub record Shows (text : List ℕ) (before after : State) (old new : Errors) : Type 0 where
   pub written : Appends before.written after.written text
   pub unread : after.unread ≡ before.unread
-  pub sound : IsSound after
+  pub sound : HasSoundStreams after
   pub quiet : new ≡ old
 
 -- as far as the writer took it, and this was told
@@ -319,7 +319,7 @@ pub record ShowsInPart (text : List ℕ) (before after : State) (old new : Error
   pub written : AppendsFront before.written after.written text
   pub unread : after.unread ≡ before.unread
   pub fails : WriteFails after
-  pub line : Tells (error_line command.Write) old new
+  pub line : TellsText (error_line command.Write) old new
 
 -- Help goes to standard output, and a refusal to standard error, each by its own text.
 abbrev pub Answers : WordsFault → ℕ → State → State → Errors → Errors → Type 0
@@ -327,6 +327,6 @@ Answers (Help text) status before after old new =
     ((status ≡ 0) × Shows (string_bytes text) before after old new)
     ⊎ ((status ≡ 4) × ShowsInPart (string_bytes text) before after old new)
 Answers (Refused text) status before after old new =
-    (status ≡ 2) × IsUntouched before after × Tells (string_bytes text) old new
+    (status ≡ 2) × IsUntouched before after × TellsText (string_bytes text) old new
 Answers Memory status before after old new =
-    (status ≡ 3) × IsUntouched before after × Tells (error_line command.Memory) old new
+    (status ≡ 3) × IsUntouched before after × TellsText (error_line command.Memory) old new

@@ -13,7 +13,7 @@ use Rattle.census_cli.specs.declared.request.TableFormat.TheVariants.{Csv, Json}
 use Rattle.census_errors.specs.Messages.{error_line}
 use Rattle.census_errors.specs.Places.{IsReportsPlace}
 use Rattle.census_errors.specs.Sayings.{reports_line, said_if}
-use Rattle.census_errors.specs.ErrorStreams.{Errors, Tells}
+use Rattle.census_errors.specs.ErrorStreams.{Errors, TellsText}
 use Rattle.census_command.specs.Streams.{State}
 use Rattle.census_errors.specs.declared.error.CommandError.TheVariants as command
 use Rattle.census_errors.specs.declared.place.Place.{Place}
@@ -53,7 +53,7 @@ pub record RemakesNot (held : List ℕ → Told) (form : Form) (files : List (Li
   pub fails : ReportsFail error form held files (both_streams before) (both_streams after)
   pub place : Place
   pub at : IsReportsPlace held error place
-  pub lines : Tells (error_line (command.Reports error) ++ said_if explain (reports_line files error place)) old new
+  pub lines : TellsText (error_line (command.Reports error) ++ said_if explain (reports_line files error place)) old new
 
 abbrev pub Remakes : (List ℕ → Told) → Form → List (List ℕ) → Bool → ℕ → State → State → Errors → Errors → Type 0
 Remakes held form files explain status before after old new =

@@ -9,7 +9,7 @@ use Rattle.census_errors.specs.Files.{file_of}
 use Rattle.census_command.specs.Draws.{DrawFails, Draws, DrawsInPart}
 use Rattle.census_command.specs.Runs.{RunFails, Runs, RunsInPart}
 use Rattle.census_errors.specs.Shelves.{Tellings}
-use Rattle.census_errors.specs.Sources.{IsWhole, source_of}
+use Rattle.census_errors.specs.Sources.{StopsAtFirstLoss, source_of}
 use Rattle.census_command.specs.Streams.{State}
 use Rattle.census_errors.specs.declared.error.CommandError.{CommandError}
 use Rattle.census_errors.specs.declared.error.CommandError.TheVariants as error
@@ -27,8 +27,8 @@ IsLawful (Page reports) = Unit {0}
 
 -- the first thing that can't be read ends it
 abbrev pub EndsAtFirst : Request → Type 0
-EndsAtFirst (Run bound workers cells input recursive keep_going folders) = IsWhole (source_of input recursive keep_going (map (λ s. s.now) folders.items))
-EndsAtFirst (Objects bound workers cells input recursive keep_going folders) = IsWhole (source_of input recursive keep_going (map (λ s. s.now) folders.items))
+EndsAtFirst (Run bound workers cells input recursive keep_going folders) = StopsAtFirstLoss (source_of input recursive keep_going (map (λ s. s.now) folders.items))
+EndsAtFirst (Objects bound workers cells input recursive keep_going folders) = StopsAtFirstLoss (source_of input recursive keep_going (map (λ s. s.now) folders.items))
 EndsAtFirst request = Unit {0}
 
 -- neither what patterns are is asked for, nor what is made of reports, nor to go on past what can't be read, which have

@@ -2,7 +2,7 @@
 use Rattle.std.specs.Prelude.{◌≡◌, ◌⊎◌, ℕ, Bool, true, false, List, Option}
 use Rattle.census_bundle.specs.declared.bundle.Folder.{Folder}
 use Rattle.census_crew.specs.Bytes.{ReadsFault, ReadsFolders}
-use Rattle.census_crew.specs.Writing.{WritesFront, WritesReport}
+use Rattle.census_crew.specs.Writing.{WritesPrefix, WritesReport}
 use Rattle.census_folders.specs.Faults.{StopsAtWord}
 use Rattle.census_folders.specs.Folders.{HoldsFolders}
 use Rattle.census_folders.specs.Shelves.{HoldsShelf, StopsAtShelf}
@@ -16,7 +16,7 @@ use Rattle.census_errors.specs.Errors.{run_error_of_folders}
 use Rattle.census_command.specs.BesideReports.{SaysOfReport}
 use Rattle.census_errors.specs.Shelves.{Tellings}
 use Rattle.census_errors.specs.Sources.{Source, Input, Folders, Trees, Kept}
-use Rattle.census_command.specs.Streams.{IsSound, IsUntouched, ReadFails, State, WriteFails, WritesNothing}
+use Rattle.census_command.specs.Streams.{HasSoundStreams, IsUntouched, ReadFails, State, WriteFails, WritesNothing}
 use Rattle.census_errors.specs.declared.run_error.RunError.{RunError}
 use Rattle.census_errors.specs.declared.run_error.RunError.TheVariants.{Bundle, Folder as FolderFault, TooLong, Memory, Read, Write}
 
@@ -34,7 +34,7 @@ pub record ReportsInput (shelf : Tellings) (question : Question) (explain : Bool
 pub record ReportsInputInPart (question : Question) (before after : State) : Type 0 where
   pub bundle : List Folder
   pub read : ReadsFolders before.unread after.unread bundle
-  pub front : WritesFront before.written after.written bundle question
+  pub front : WritesPrefix before.written after.written bundle question
 
 -- why no whole report of standard input was written
 abbrev pub InputFails : RunError → Question → State → State → Type 0
@@ -42,7 +42,7 @@ InputFails (Bundle fault) question before after = ReadsFault before.unread after
 InputFails (FolderFault fault) question before after = ⊥
 InputFails TooLong question before after = ReadsTooMuch before after × WritesNothing before after
 InputFails (Memory ticket) question before after =
-    ((after.written ≡ before.written) ⊎ ReportsInputInPart question before after) × IsSound after
+    ((after.written ≡ before.written) ⊎ ReportsInputInPart question before after) × HasSoundStreams after
 InputFails Read question before after = ReadFails before after
 InputFails Write question before after = ReportsInputInPart question before after × WriteFails after
 
@@ -67,21 +67,21 @@ pub record ReportsFoldersInPart (shelf : Tellings) (limit : Option ℕ) (words :
   pub holds : HoldsFolders words bundle
   pub told : HoldsShelf shelf.listed shelf.held words bundle
   pub within : Fits limit (bytes_of_all bundle)
-  pub front : WritesFront before.written after.written bundle question
+  pub front : WritesPrefix before.written after.written bundle question
   pub unread : after.unread ≡ before.unread
 
 -- The folders of the words before some place were read, as the shelf tells; that of the word at this place was not.
-abbrev pub StopsReading : Tellings → Option ℕ → List (List ℕ) → FoldersFault → Type 0
-StopsReading shelf limit words fault = StopsAtWord words fault × StopsAtShelf shelf.listed shelf.held limit words fault
+abbrev pub StopsReadingFolders : Tellings → Option ℕ → List (List ℕ) → FoldersFault → Type 0
+StopsReadingFolders shelf limit words fault = StopsAtWord words fault × StopsAtShelf shelf.listed shelf.held limit words fault
 
 -- why no whole report of the folders was written
 abbrev pub FoldersFail : RunError → Tellings → Option ℕ → List (List ℕ) → Question → State → State → Type 0
 FoldersFail (Bundle fault) shelf limit words question before after = ⊥
-FoldersFail (FolderFault fault) shelf limit words question before after = StopsReading shelf limit words (folder_fault.Add fault) × IsUntouched before after
-FoldersFail TooLong shelf limit words question before after = StopsReading shelf limit words folder_fault.TooLong × IsUntouched before after
+FoldersFail (FolderFault fault) shelf limit words question before after = StopsReadingFolders shelf limit words (folder_fault.Add fault) × IsUntouched before after
+FoldersFail TooLong shelf limit words question before after = StopsReadingFolders shelf limit words folder_fault.TooLong × IsUntouched before after
 FoldersFail (Memory ticket) shelf limit words question before after =
-    (StopsReading shelf limit words folder_fault.Memory × IsUntouched before after) ⊎ (ReportsFoldersInPart shelf limit words question before after × IsSound after)
-FoldersFail Read shelf limit words question before after = StopsReading shelf limit words folder_fault.Read × IsUntouched before after
+    (StopsReadingFolders shelf limit words folder_fault.Memory × IsUntouched before after) ⊎ (ReportsFoldersInPart shelf limit words question before after × HasSoundStreams after)
+FoldersFail Read shelf limit words question before after = StopsReadingFolders shelf limit words folder_fault.Read × IsUntouched before after
 FoldersFail Write shelf limit words question before after = ReportsFoldersInPart shelf limit words question before after × WriteFails after
 
 -- # Trees of folders

@@ -13,7 +13,7 @@ pub record State : Type 0 where
   pub write_failed : Bool
 
 -- neither stream has failed
-pub record IsSound (s : State) : Type 0 where
+pub record HasSoundStreams (s : State) : Type 0 where
   pub read : s.read_failed ≡ false
   pub write : s.write_failed ≡ false
 
@@ -21,12 +21,12 @@ pub record IsSound (s : State) : Type 0 where
 pub record IsUntouched (before after : State) : Type 0 where
   pub unread : after.unread ≡ before.unread
   pub written : after.written ≡ before.written
-  pub sound : IsSound after
+  pub sound : HasSoundStreams after
 
 -- nothing was written, and neither stream has failed
 pub record WritesNothing (before after : State) : Type 0 where
   pub written : after.written ≡ before.written
-  pub sound : IsSound after
+  pub sound : HasSoundStreams after
 
 -- standard input has failed, and nothing was written
 pub record ReadFails (before after : State) : Type 0 where

@@ -5,7 +5,7 @@ ghost use Rattle.census_command.specs.Advances.{Advances, AdvancesFile, Advances
 ghost use Rattle.census_errors.specs.Errors.{advance_error_of_text};
 ghost use Rattle.census_errors.specs.Files.{file_of};
 ghost use Rattle.census_errors.specs.Shelves.{tellings};
-ghost use Rattle.census_command.specs.Streams.{IsSound};
+ghost use Rattle.census_command.specs.Streams.{HasSoundStreams};
 
 use crate::evolving::evolved;
 use crate::streams::Streams;
@@ -59,9 +59,9 @@ fn advance_input<I: Read, O: Write>(
     streams: &mut Streams<I, O>,
 ) -> Result<(), AdvanceError>
     requires generations { generations ≤ AGE_LIMIT }
-    requires sound { IsSound streams.old }
+    requires sound { HasSoundStreams streams.old }
     ensures done { OnOk result (Advances generations streams.old streams.new) }
-    ensures sound { OnOk result (IsSound streams.new) }
+    ensures sound { OnOk result (HasSoundStreams streams.new) }
     ensures fails { IfErr result (λ e. AdvanceFails e generations streams.old streams.new) }
 {
     let text = read_all(alloc, &mut streams.input, INPUT_LIMIT)?;
@@ -79,10 +79,11 @@ fn advance_file<S: Shelf, I: Read, O: Write>(
     streams: &mut Streams<I, O>,
 ) -> Result<(), AdvanceError>
     requires generations { generations ≤ AGE_LIMIT }
-    requires sound { IsSound streams.old }
-    ensures done { OnOk result (AdvancesFile (tellings (S.listed shelf.now) (S.inner shelf.now) (S.held shelf.now))
+    requires sound { HasSoundStreams streams.old }
+    ensures done { OnOk result
+        (AdvancesFile (tellings (S.listed shelf.now) (S.inner shelf.now) (S.held shelf.now))
         path.now generations streams.old streams.new) }
-    ensures sound { OnOk result (IsSound streams.new) }
+    ensures sound { OnOk result (HasSoundStreams streams.new) }
     ensures fails { IfErr result (λ e. AdvanceFileFails e
         (tellings (S.listed shelf.now) (S.inner shelf.now) (S.held shelf.now))
         path.now generations streams.old streams.new) }
@@ -106,10 +107,11 @@ pub fn advance<S: Shelf, I: Read, O: Write>(
     streams: &mut Streams<I, O>,
 ) -> Result<(), AdvanceError>
     requires generations { generations ≤ AGE_LIMIT }
-    requires sound { IsSound streams.old }
-    ensures done { OnOk result (AdvancesFrom (tellings (S.listed shelf.now) (S.inner shelf.now) (S.held shelf.now))
+    requires sound { HasSoundStreams streams.old }
+    ensures done { OnOk result
+        (AdvancesFrom (tellings (S.listed shelf.now) (S.inner shelf.now) (S.held shelf.now))
         (file_of (option_map (λ s. s.now) file.entry)) generations streams.old streams.new) }
-    ensures sound { OnOk result (IsSound streams.new) }
+    ensures sound { OnOk result (HasSoundStreams streams.new) }
     ensures fails { IfErr result (λ e. AdvanceFromFails e
         (tellings (S.listed shelf.now) (S.inner shelf.now) (S.held shelf.now))
         (file_of (option_map (λ s. s.now) file.entry)) generations streams.old streams.new) }

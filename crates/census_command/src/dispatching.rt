@@ -6,9 +6,9 @@ ghost use Rattle.census_errors.specs.Messages.{error_line};
 ghost use Rattle.census_command.specs.Outcomes.{Answers, IsKeeping, Outcome};
 ghost use Rattle.census_command.specs.Requests.{Does, EndsAtFirst, Fails, IsDone, IsLawful};
 ghost use Rattle.census_errors.specs.Shelves.{tellings};
-ghost use Rattle.census_errors.specs.Sources.{IsWhole, Kept, source_of};
-ghost use Rattle.census_errors.specs.ErrorStreams.{Tells, TellsIf};
-ghost use Rattle.census_command.specs.Streams.{IsSound};
+ghost use Rattle.census_errors.specs.Sources.{Kept, StopsAtFirstLoss, source_of};
+ghost use Rattle.census_errors.specs.ErrorStreams.{TellsIf, TellsText};
+ghost use Rattle.census_command.specs.Streams.{HasSoundStreams};
 
 use crate::advancing::advance;
 use crate::drawing::draw;
@@ -49,10 +49,12 @@ fn kept_census<'r, 'a>(
     recursive: bool,
     folders: &'r [&'a str],
 ) -> Option<KeptCensus<'r, 'a>>
-    ensures some { IfSome result (λ census. (census.question ≡ question) × (census.workers ≡ workers)
+    ensures some { IfSome result
+        (λ census. (census.question ≡ question) × (census.workers ≡ workers)
         × (source_of limit recursive keep_going (map (λ s. s.now) folders.now)
         ≡ Kept census.limit census.recursive (map (λ s. s.now) census.folders.now))) }
-    ensures none { IfNone result (IsWhole (source_of limit recursive keep_going (map (λ s. s.now) folders.now))) }
+    ensures none { IfNone result
+        (StopsAtFirstLoss (source_of limit recursive keep_going (map (λ s. s.now) folders.now))) }
 {
     if !keep_going || folders.is_empty() {
         return None;
@@ -70,7 +72,8 @@ fn kept_census<'r, 'a>(
 fn kept_of<'r, 'a>(request: &'r Request<'a>) -> Option<KeptCensus<'r, 'a>>
     requires { IsLawful request.now }
     ensures some { IfSome result (λ census.
-        IsKeeping request.now census.limit census.recursive (map (λ s. s.now) census.folders.now) census.question) }
+        IsKeeping request.now census.limit census.recursive (map (λ s. s.now) census.folders.now)
+        census.question) }
     ensures question { IfSome result (λ census. IsAnswered census.question) }
     ensures workers { IfSome result (λ census. (1 ≤ census.workers) × (census.workers ≤ 16)) }
     ensures none { IfNone result (EndsAtFirst request.now) }
@@ -125,11 +128,13 @@ fn execute<S: Shelf, I: Read, O: Write, G: Gate, R: Threads + Wait + Sync>(
 ) -> Result<Vec<u8>, CommandError>
     requires lawful { IsLawful request.now }
     requires more { IsDone request.now }
-    requires sound { IsSound streams.old }
-    ensures done { IfOk result (λ lines. Does (tellings (S.listed shelf.now) (S.inner shelf.now) (S.held shelf.now))
+    requires sound { HasSoundStreams streams.old }
+    ensures done { IfOk result
+        (λ lines. Does (tellings (S.listed shelf.now) (S.inner shelf.now) (S.held shelf.now))
         request.now explain lines.items streams.old streams.new) }
-    ensures sound { OnOk result (IsSound streams.new) }
-    ensures fails { IfErr result (λ e. Fails e (tellings (S.listed shelf.now) (S.inner shelf.now) (S.held shelf.now))
+    ensures sound { OnOk result (HasSoundStreams streams.new) }
+    ensures fails { IfErr result
+        (λ e. Fails e (tellings (S.listed shelf.now) (S.inner shelf.now) (S.held shelf.now))
         request.now streams.old streams.new) }
 {
     match request {
@@ -217,7 +222,7 @@ fn tell_if<E: Write>(asked: bool, lines: &[u8], errors: &mut ErrorStream<E>)
 pub fn stop<E: Write>(error: CommandError, errors: &mut ErrorStream<E>) -> u8
     requires { errors.old.failed ≡ false }
     ensures status { result ≡ status_of error }
-    ensures line { Tells (error_line error) errors.old errors.new }
+    ensures line { TellsText (error_line error) errors.old errors.new }
 {
     errors.tell(error.line().as_str().as_bytes());
     error.status()
@@ -230,7 +235,7 @@ pub fn answer<I: Read, O: Write, E: Write>(
     streams: &mut Streams<I, O>,
     errors: &mut ErrorStream<E>,
 ) -> u8
-    requires streams { IsSound streams.old }
+    requires streams { HasSoundStreams streams.old }
     requires errors { errors.old.failed ≡ false }
     ensures { Answers fault.now result streams.old streams.new errors.old errors.new }
 {
@@ -282,7 +287,7 @@ pub fn dispatch<S: Shelf, I: Read, O: Write, E: Write, G: Gate, R: Threads + Wai
     streams: &mut Streams<I, O>,
     errors: &mut ErrorStream<E>,
 ) -> u8
-    requires streams { IsSound streams.old }
+    requires streams { HasSoundStreams streams.old }
     requires errors { errors.old.failed ≡ false }
     ensures { Outcome (tellings (S.listed shelf.now) (S.inner shelf.now) (S.held shelf.now))
         (map (λ s. s.now) words.now) result streams.old streams.new errors.old errors.new }

@@ -1,7 +1,7 @@
 //! `census draw CODE`: the pattern whose apgcode has this body.
 ghost use Rattle.std.specs.Prelude.{◌≡◌, IfErr, MatchResult, OnOk};
 ghost use Rattle.census_command.specs.Draws.{DrawFails, Draws, IsDrawn, RefusesCode};
-ghost use Rattle.census_command.specs.Streams.{IsSound};
+ghost use Rattle.census_command.specs.Streams.{HasSoundStreams};
 
 use crate::streams::Streams;
 use census_errors::DrawError;
@@ -35,9 +35,9 @@ pub fn draw<I: Read, O: Write>(
     rule: &[u8],
     streams: &mut Streams<I, O>,
 ) -> Result<(), DrawError>
-    requires { IsSound streams.old }
+    requires { HasSoundStreams streams.old }
     ensures done { OnOk result (Draws code.now rule.now streams.old streams.new) }
-    ensures sound { OnOk result (IsSound streams.new) }
+    ensures sound { OnOk result (HasSoundStreams streams.new) }
     ensures fails { IfErr result (λ e. DrawFails e code.now rule.now streams.old streams.new) }
 {
     let written = drawn_text(alloc, code, rule)?;

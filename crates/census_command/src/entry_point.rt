@@ -5,7 +5,7 @@ ghost use Rattle.std.specs.Process.{exit_status};
 ghost use Rattle.std.specs.Vec.Iter.{into_iter_items};
 ghost use Rattle.census_command.specs.Outcomes.{Outcome, StopsUnread};
 ghost use Rattle.census_errors.specs.Shelves.{tellings};
-ghost use Rattle.census_command.specs.Streams.{IsSound};
+ghost use Rattle.census_command.specs.Streams.{HasSoundStreams};
 
 use crate::dispatching::{dispatch, stop};
 use crate::streams::Streams;
@@ -43,7 +43,7 @@ fn dispatch_arguments<S: Shelf, I: Read, O: Write, E: Write, G: Gate, R: Threads
     streams: &mut Streams<I, O>,
     errors: &mut ErrorStream<E>,
 ) -> u8
-    requires streams { IsSound streams.old }
+    requires streams { HasSoundStreams streams.old }
     requires errors { errors.old.failed ≡ false }
     ensures { Outcome (tellings (S.listed shelf.now) (S.inner shelf.now) (S.held shelf.now))
         (map (λ word. string_bytes word) (drop 1 (into_iter_items args))) result
@@ -72,7 +72,7 @@ pub fn program<S: Shelf, I: Read, O: Write, E: Write, G: Gate, R: Threads + Wait
     streams: &mut Streams<I, O>,
     errors: &mut ErrorStream<E>,
 ) -> ExitCode
-    requires streams { IsSound streams.old }
+    requires streams { HasSoundStreams streams.old }
     requires errors { errors.old.failed ≡ false }
     ensures { MatchResult args
         (λ args. Outcome (tellings (S.listed shelf.now) (S.inner shelf.now) (S.held shelf.now))

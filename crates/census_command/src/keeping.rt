@@ -5,11 +5,11 @@ ghost use Rattle.life_answer.specs.Questions.{IsAnswered};
 ghost use Rattle.census_folders.specs.Losses.{KeepsFolder, StopsKeepingAt};
 ghost use Rattle.census_folders.specs.declared.loss.Loss.{Loss};
 ghost use Rattle.census_errors.specs.Errors.{run_error_of_folders, run_status};
-ghost use Rattle.census_command.specs.Keeps.{IsKept, Keeps, KeepsInto, StopsKeeping, StopsKeepingIn};
+ghost use Rattle.census_command.specs.Keeps.{IsKeptBundle, Keeps, KeepsInto, StopsKeeping, StopsKeepingIn};
 ghost use Rattle.census_command.specs.Keeps.{cut_lines, lost_line, lost_lines};
-ghost use Rattle.census_errors.specs.ErrorStreams.{TellsMore};
+ghost use Rattle.census_errors.specs.ErrorStreams.{TellsMoreText};
 ghost use Rattle.census_errors.specs.Shelves.{tellings};
-ghost use Rattle.census_command.specs.Streams.{IsSound};
+ghost use Rattle.census_command.specs.Streams.{HasSoundStreams};
 ghost use Rattle.census_errors.specs.declared.run_error.RunError.TheVariants.{Memory};
 
 use crate::reporting::report;
@@ -65,8 +65,10 @@ fn gather_folders<S: Shelf>(
     way: &[Loss],
 ) -> Result<Gathered, RunError>
     ensures { MatchResult result
-        (KeepsInto (S.listed shelf.now) (S.held shelf.now) limit (map (λ s. s.now) folders.now) way.now)
-        (StopsKeepingIn (S.listed shelf.now) (S.held shelf.now) limit (map (λ s. s.now) folders.now)) }
+        (KeepsInto (S.listed shelf.now) (S.held shelf.now) limit (map (λ s. s.now) folders.now)
+        way.now)
+        (StopsKeepingIn (S.listed shelf.now) (S.held shelf.now) limit
+        (map (λ s. s.now) folders.now)) }
 {
     let kept = read_folders_on(shelf, alloc, folders, limit)?;
     let mut lines = Vec::new(alloc);
@@ -88,7 +90,7 @@ fn gather<S: Shelf>(
 ) -> Result<Gathered, RunError>
     ensures { MatchResult result
         (λ gathered. (lost : List Loss)
-        × IsKept (tellings (S.listed shelf.now) (S.inner shelf.now) (S.held shelf.now))
+        × IsKeptBundle (tellings (S.listed shelf.now) (S.inner shelf.now) (S.held shelf.now))
         limit recursive (map (λ s. s.now) words.now) gathered.bundle lost
         × (gathered.lines.items ≡ lost_lines lost))
         (StopsKeeping (tellings (S.listed shelf.now) (S.inner shelf.now) (S.held shelf.now))
@@ -124,7 +126,7 @@ fn tell_cut<E: Write>(
     errors: &mut ErrorStream<E>,
 ) -> u8
     ensures status { result ≡ run_status error }
-    ensures told { TellsMore (cut_lines explain error) errors.old errors.new }
+    ensures told { TellsMoreText (cut_lines explain error) errors.old errors.new }
 {
     let place = kept_place(alloc, error);
     let saying = run_saying(error).at(&place);
@@ -169,7 +171,7 @@ pub fn keep_going<S: Shelf, I: Read, O: Write, E: Write, G: Gate, R: Threads + W
 ) -> u8
     requires question { IsAnswered question }
     requires workers { (1 ≤ workers) × (workers ≤ 16) }
-    requires sound { IsSound streams.old }
+    requires sound { HasSoundStreams streams.old }
     requires errors { errors.old.failed ≡ false }
     ensures { Keeps (tellings (S.listed shelf.now) (S.inner shelf.now) (S.held shelf.now))
         limit recursive (map (λ s. s.now) words.now) question explain result

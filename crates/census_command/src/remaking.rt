@@ -2,7 +2,7 @@
 ghost use Rattle.std.specs.Prelude.{◌≡◌, [], false, map, IfErr, OnOk};
 ghost use Rattle.census_reports.specs.Outcomes.{ReportsFail, WritesReports};
 ghost use Rattle.census_command.specs.Remakes.{KeepsLaw, Remakes, both_streams, form_of};
-ghost use Rattle.census_command.specs.Streams.{IsSound};
+ghost use Rattle.census_command.specs.Streams.{HasSoundStreams};
 
 use crate::streams::Streams;
 use census_cli::TableFormat;
@@ -32,12 +32,15 @@ fn write<S: Shelf, I: Read, O: Write>(
     files: &[&str],
     streams: &mut Streams<I, O>,
 ) -> Result<(), ReportsError>
-    requires sound { IsSound streams.old }
-    ensures done { OnOk result (WritesReports form (S.held shelf.now []) (map (λ s. s.now) files.now)
+    requires sound { HasSoundStreams streams.old }
+    ensures done { OnOk result
+        (WritesReports form (S.held shelf.now []) (map (λ s. s.now) files.now)
         (both_streams streams.old) (both_streams streams.new)) }
-    ensures fails { IfErr result (λ error. ReportsFail error form (S.held shelf.now []) (map (λ s. s.now) files.now)
+    ensures fails { IfErr result
+        (λ error. ReportsFail error form (S.held shelf.now []) (map (λ s. s.now) files.now)
         (both_streams streams.old) (both_streams streams.new)) }
-    ensures lawful { OnOk result (KeepsLaw form (S.held shelf.now []) (map (λ s. s.now) files.now) streams.old streams.new) }
+    ensures lawful { OnOk result
+        (KeepsLaw form (S.held shelf.now []) (map (λ s. s.now) files.now) streams.old streams.new) }
 {
     let Streams { input, output } = streams;
     match form {
@@ -67,7 +70,7 @@ pub fn remake<S: Shelf, I: Read, O: Write, E: Write>(
     streams: &mut Streams<I, O>,
     errors: &mut ErrorStream<E>,
 ) -> u8
-    requires sound { IsSound streams.old }
+    requires sound { HasSoundStreams streams.old }
     requires errors { errors.old.failed ≡ false }
     ensures { Remakes (S.held shelf.now []) form (map (λ s. s.now) files.now) explain result
         streams.old streams.new errors.old errors.new }

@@ -3,7 +3,7 @@ ghost use Rattle.std.specs.Prelude.{◌≡◌, ◌≤◌, false, IfOk, MatchResu
 ghost use Rattle.life_answer.specs.Questions.{IsAnswered};
 ghost use Rattle.watched.specs.Watching.{has_failed, inner_of};
 ghost use Rattle.census_crew.specs.Faults.{FitsFault};
-ghost use Rattle.census_crew.specs.Writing.{WritesFront, WritesReport};
+ghost use Rattle.census_crew.specs.Writing.{WritesPrefix, WritesReport};
 ghost use Rattle.census_command.specs.BesideReports.{SaysBesideReport, SaysOfReport};
 
 use census_bundle::Bundle;
@@ -26,7 +26,8 @@ fn lines_beside<S: Shelf>(
     bundle: &Bundle,
     from_folders: bool,
 ) -> Result<Vec<u8>, AllocError>
-    ensures { IfOk result (λ lines. SaysBesideReport (S.listed shelf.now) from_folders bundle.now lines.items) }
+    ensures { IfOk result
+        (λ lines. SaysBesideReport (S.listed shelf.now) from_folders bundle.now lines.items) }
 {
     let mut lines = refusal_lines(alloc, bundle)?;
     let hints = hint_lines(shelf, alloc, bundle, from_folders)?;
@@ -42,7 +43,8 @@ fn lines_of<S: Shelf>(
     from_folders: bool,
     explain: bool,
 ) -> Result<Vec<u8>, AllocError>
-    ensures { IfOk result (λ lines. SaysOfReport (S.listed shelf.now) from_folders explain bundle.now lines.items) }
+    ensures { IfOk result
+        (λ lines. SaysOfReport (S.listed shelf.now) from_folders explain bundle.now lines.items) }
 {
     if explain {
         lines_beside(shelf, alloc, bundle, from_folders)
@@ -72,9 +74,12 @@ pub fn report<S: Shelf, G: Gate, W: Write, R: Threads + Wait + Sync>(
     requires sound { has_failed out.old ≡ false }
     ensures failed { FitsFault result (has_failed out.new) }
     ensures report { MatchResult result
-        (λ _. WritesReport (W.contents (inner_of out.old)) (W.contents (inner_of out.new)) bundle.now question)
-        (λ _. WritesFront (W.contents (inner_of out.old)) (W.contents (inner_of out.new)) bundle.now question) }
-    ensures lines { IfOk result (λ lines. SaysOfReport (S.listed shelf.now) from_folders explain bundle.now lines.items) }
+        (λ _. WritesReport (W.contents (inner_of out.old)) (W.contents (inner_of out.new))
+        bundle.now question)
+        (λ _. WritesPrefix (W.contents (inner_of out.old)) (W.contents (inner_of out.new))
+        bundle.now question) }
+    ensures lines { IfOk result
+        (λ lines. SaysOfReport (S.listed shelf.now) from_folders explain bundle.now lines.items) }
 {
     run(rt, alloc, bundle, question, workers, gate, out)?;
     match lines_of(shelf, alloc, bundle, from_folders, explain) {

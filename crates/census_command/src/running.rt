@@ -8,7 +8,7 @@ ghost use Rattle.census_command.specs.Runs.{FoldersFail, InputFails, ReportsFold
 ghost use Rattle.census_command.specs.Runs.{ReportsTrees, RunFails, Runs, TreesFail};
 ghost use Rattle.census_errors.specs.Shelves.{tellings};
 ghost use Rattle.census_errors.specs.Sources.{source_of};
-ghost use Rattle.census_command.specs.Streams.{IsSound};
+ghost use Rattle.census_command.specs.Streams.{HasSoundStreams};
 
 use crate::reporting::report;
 use crate::streams::Streams;
@@ -26,7 +26,8 @@ use watched::{ReadFault, Watched, read_all};
 // Reads a bundle up to the reader's end.
 fn read_input<I: Read>(alloc: Global, input: &mut Watched<I>) -> Result<Bundle, BytesFault>
     ensures failed { (result ≡ Err BytesFault.Read) ↔ (has_failed input.new ≡ true) }
-    ensures read { ReadsBundle (I.remaining (inner_of input.old)) (I.remaining (inner_of input.new)) result }
+    ensures read { ReadsBundle (I.remaining (inner_of input.old)) (I.remaining (inner_of input.new))
+        result }
 {
     let text = match read_all(alloc, input, INPUT_LIMIT) {
         Ok(text) => text,
@@ -54,11 +55,12 @@ fn run_input<S: Shelf, I: Read, O: Write, G: Gate, R: Threads + Wait + Sync>(
 ) -> Result<Vec<u8>, RunError>
     requires question { IsAnswered question }
     requires workers { (1 ≤ workers) × (workers ≤ 16) }
-    requires sound { IsSound streams.old }
+    requires sound { HasSoundStreams streams.old }
     ensures done { IfOk result
-        (λ lines. ReportsInput (tellings (S.listed shelf.now) (S.inner shelf.now) (S.held shelf.now))
+        (λ lines. ReportsInput
+        (tellings (S.listed shelf.now) (S.inner shelf.now) (S.held shelf.now))
         question explain lines.items streams.old streams.new) }
-    ensures sound { OnOk result (IsSound streams.new) }
+    ensures sound { OnOk result (HasSoundStreams streams.new) }
     ensures fails { IfErr result (λ e. InputFails e question streams.old streams.new) }
 {
     let Streams { input, output } = streams;
@@ -85,11 +87,12 @@ fn run_folders<S: Shelf, I: Read, O: Write, G: Gate, R: Threads + Wait + Sync>(
 ) -> Result<Vec<u8>, RunError>
     requires question { IsAnswered question }
     requires workers { (1 ≤ workers) × (workers ≤ 16) }
-    requires sound { IsSound streams.old }
+    requires sound { HasSoundStreams streams.old }
     ensures done { IfOk result
-        (λ lines. ReportsFolders (tellings (S.listed shelf.now) (S.inner shelf.now) (S.held shelf.now))
+        (λ lines. ReportsFolders
+        (tellings (S.listed shelf.now) (S.inner shelf.now) (S.held shelf.now))
         limit (map (λ s. s.now) folders.now) question explain lines.items streams.old streams.new) }
-    ensures sound { OnOk result (IsSound streams.new) }
+    ensures sound { OnOk result (HasSoundStreams streams.new) }
     ensures fails { IfErr result
         (λ e. FoldersFail e (tellings (S.listed shelf.now) (S.inner shelf.now) (S.held shelf.now))
         limit (map (λ s. s.now) folders.now) question streams.old streams.new) }
@@ -126,11 +129,12 @@ fn run_trees<S: Shelf, I: Read, O: Write, G: Gate, R: Threads + Wait + Sync>(
 ) -> Result<Vec<u8>, RunError>
     requires question { IsAnswered question }
     requires workers { (1 ≤ workers) × (workers ≤ 16) }
-    requires sound { IsSound streams.old }
+    requires sound { HasSoundStreams streams.old }
     ensures done { IfOk result
-        (λ lines. ReportsTrees (tellings (S.listed shelf.now) (S.inner shelf.now) (S.held shelf.now))
+        (λ lines. ReportsTrees
+        (tellings (S.listed shelf.now) (S.inner shelf.now) (S.held shelf.now))
         limit (map (λ s. s.now) words.now) question explain lines.items streams.old streams.new) }
-    ensures sound { OnOk result (IsSound streams.new) }
+    ensures sound { OnOk result (HasSoundStreams streams.new) }
     ensures fails { IfErr result
         (λ e. TreesFail e (tellings (S.listed shelf.now) (S.inner shelf.now) (S.held shelf.now))
         limit (map (λ s. s.now) words.now) question streams.old streams.new) }
@@ -178,15 +182,17 @@ pub fn run_command<S: Shelf, I: Read, O: Write, G: Gate, R: Threads + Wait + Syn
 ) -> Result<Vec<u8>, RunError>
     requires question { IsAnswered question }
     requires workers { (1 ≤ workers) × (workers ≤ 16) }
-    requires sound { IsSound streams.old }
+    requires sound { HasSoundStreams streams.old }
     ensures done { IfOk result
         (λ lines. Runs (tellings (S.listed shelf.now) (S.inner shelf.now) (S.held shelf.now))
-        (source_of limit recursive false (map (λ s. s.now) folders.now)) question explain lines.items
+        (source_of limit recursive false (map (λ s. s.now) folders.now)) question explain
+        lines.items
         streams.old streams.new) }
-    ensures sound { OnOk result (IsSound streams.new) }
+    ensures sound { OnOk result (HasSoundStreams streams.new) }
     ensures fails { IfErr result
         (λ e. RunFails e (tellings (S.listed shelf.now) (S.inner shelf.now) (S.held shelf.now))
-        (source_of limit recursive false (map (λ s. s.now) folders.now)) question streams.old streams.new) }
+        (source_of limit recursive false (map (λ s. s.now) folders.now)) question streams.old
+        streams.new) }
 {
     if folders.is_empty() {
         run_input(rt, shelf, alloc, question, workers, explain, gate, streams)

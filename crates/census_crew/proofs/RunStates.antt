@@ -3,8 +3,8 @@ use Rattle.std.proofs.Common.{◌≡◌, ℕ, ◌^◌, ◌<◌, ◌≤◌, List,
 use Rattle.census_bundle.specs.declared.bundle.Entry.{Entry}
 use Rattle.census_bundle.specs.declared.bundle.Folder.{Folder}
 use Rattle.census_bundle.specs.declared.ticket.Ticket.{Ticket}
-use Rattle.census_bundle.specs.Sizes.{IsSmall}
-use Rattle.census_bundle.specs.Tickets.{Tickets, HasAll}
+use Rattle.census_bundle.specs.Sizes.{IsWithinCounts}
+use Rattle.census_bundle.specs.Tickets.{Tickets, HasAllTickets}
 use Rattle.census_book.specs.Collecting.{Offered}
 use Rattle.census_book.specs.declared.offer.Offer.TheVariants.{Double, Stranger, Taken}
 use Rattle.census_book.specs.declared.offer.Offer.{Offer}
@@ -19,7 +19,7 @@ use Rattle.census_crew.proofs.Tallies.{all_counted, count_small, none_taken, one
 use Rattle.life_answer.specs.Questions.{IsAnswered}
 use Rattle.life_answer.specs.declared.question.Question.{Question}
 
-pub state_start : (b : List Folder) (question : Question) (p : Progress) (t : Tally) → IsSmall b → IsAnswered question → p ≡ initial_progress b question → t ≡ no_tally → IsRunState p t
+pub state_start : (b : List Folder) (question : Question) (p : Progress) (t : Tally) → IsWithinCounts b → IsAnswered question → p ≡ initial_progress b question → t ≡ no_tally → IsRunState p t
 state_start b question p t small lawful is none =
     subst (λ q. IsRunState q t) (sym is) (record {
       small = small;
@@ -29,7 +29,7 @@ state_start b question p t small lawful is none =
 
 pub state_sent : (p q : Progress) (t : Tally) → IsRunState p t → q.bundle ≡ p.bundle → q.question ≡ p.question → q.taken ≡ p.taken → IsRunState q t
 state_sent p q t g bundle question taken = record {
-  small = subst IsSmall (sym bundle) g.small;
+  small = subst IsWithinCounts (sym bundle) g.small;
   lawful = subst IsAnswered (sym question) g.lawful;
   counted = subst (λ fs. TalliesTaken t fs q.question q.taken) (sym bundle)
       (subst (λ n. TalliesTaken t p.bundle n q.taken) (sym question)
@@ -82,7 +82,7 @@ pub state_stranger : (asked : Question) (p q : Progress) (t u : Tally) (k : Tick
 state_stranger asked p q t u k worked o g stranger h = state_kept p q t u g (subst (λ x. Offered p k worked asked q x) stranger h).1
 
 -- where nothing is missing, all patterns were counted
-pub state_whole : (k m : Option (List ℕ)) (p q : Progress) (t : Tally) → IsRunState q t → StaysInStep k p m q → HasAll q.bundle q.taken → TalliesPatterns p.bundle p.question t
+pub state_whole : (k m : Option (List ℕ)) (p q : Progress) (t : Tally) → IsRunState q t → StaysInStep k p m q → HasAllTickets q.bundle q.taken → TalliesPatterns p.bundle p.question t
 state_whole k m p q t g stays all =
     subst (λ fs. TalliesPatterns fs p.question t) stays.same_bundle
     (subst (λ n. TalliesPatterns q.bundle n t) stays.same_question

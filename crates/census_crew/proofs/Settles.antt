@@ -5,7 +5,7 @@ use Rattle.census_book.specs.Progress.{Progress, initial_progress}
 use Rattle.census_book.specs.Work.{Work}
 use Rattle.census_crew.specs.declared.tally.Tally.{Tally}
 use Rattle.census_crew.specs.Strangers.{HasStrangers, NotesStranger}
-use Rattle.census_crew.specs.Writing.{EndsInStep, StaysInStep, StopsInStep, WritesFront, WritesReport}
+use Rattle.census_crew.specs.Writing.{EndsInStep, StaysInStep, StopsInStep, WritesPrefix, WritesReport}
 use Rattle.census_crew.proofs.Steps.{front_from_start, report_at_end, stops_after}
 use Rattle.life_answer.specs.declared.question.Question.{Question}
 
@@ -46,6 +46,6 @@ counted_last b question ws all [] n is none before =
     (subst (HasStrangers b question all) (let e : n + 0 ≡ n = omega arith in e) (before.with_rest 0 refl))
 counted_last b question ws all (x ∷ rest) n is none before = absurd (omega (arith, none))
 
-pub ends_report : {E : Type 0} (r : Result Tally E) (k l m : Option (List ℕ)) (p q : Progress) (b : List Folder) (question : Question) → p ≡ initial_progress b question → StaysInStep k p l q → MatchResult r (λ _. EndsInStep l q m) (λ _. StopsInStep l q m) → MatchResult r (λ _. WritesReport k m b question) (λ _. WritesFront k m b question)
+pub ends_report : {E : Type 0} (r : Result Tally E) (k l m : Option (List ℕ)) (p q : Progress) (b : List Folder) (question : Question) → p ≡ initial_progress b question → StaysInStep k p l q → MatchResult r (λ _. EndsInStep l q m) (λ _. StopsInStep l q m) → MatchResult r (λ _. WritesReport k m b question) (λ _. WritesPrefix k m b question)
 ends_report (Ok t) k l m p q b question is stays ends = report_at_end k l m p q b question is stays ends
 ends_report (Err e) k l m p q b question is stays stops = front_from_start k m p b question is (stops_after k l m p q stays stops)

@@ -7,11 +7,11 @@ use Rattle.watched.specs.Watching.{AppendsFront}
 use Rattle.census_bundle.specs.declared.bundle.Entry.{Entry}
 use Rattle.census_bundle.specs.declared.ticket.Ticket.{Ticket}
 use Rattle.census_bundle.specs.declared.bundle.Folder.{Folder}
-use Rattle.census_bundle.specs.Tickets.{IsTicketOf, HasAll, has_ticket}
+use Rattle.census_bundle.specs.Tickets.{IsTicketOf, HasAllTickets, has_ticket}
 use Rattle.census_format.specs.Reports.{text_released}
 use Rattle.census_book.specs.Released.{IsReleased}
 use Rattle.census_book.specs.Progress.{Progress, initial_progress, with_taken, sent_of}
-use Rattle.census_crew.specs.Writing.{EndsInStep, WritesReport, WritesFront, IsInStep, StaysInStep, StopsInStep}
+use Rattle.census_crew.specs.Writing.{EndsInStep, WritesReport, WritesPrefix, IsInStep, StaysInStep, StopsInStep}
 use Rattle.census_book.specs.declared.offer.Offer.{Offer}
 use Rattle.census_book.specs.declared.offer.Offer.TheVariants.{Stranger, Double, Taken}
 use Rattle.census_book.specs.Collecting.{Offered}
@@ -42,17 +42,17 @@ in_step_sent old mid new p n s sent all = record {
   written = Appends-trans old mid new s.text p.unsent s.written sent;
 }
 
-pub front_of_step : (old new : Option (List ℕ)) (p : Progress) → IsInStep old new p → WritesFront old new p.bundle p.question
+pub front_of_step : (old new : Option (List ℕ)) (p : Progress) → IsInStep old new p → WritesPrefix old new p.bundle p.question
 front_of_step old new p s = record { text = s.text; front = released_front p.bundle p.question p.taken s.text p.unsent s.released; written = s.written }
 
-pub front_of_cut : (old mid new : Option (List ℕ)) (p : Progress) → IsInStep old mid p → AppendsFront mid new p.unsent → WritesFront old new p.bundle p.question
+pub front_of_cut : (old mid new : Option (List ℕ)) (p : Progress) → IsInStep old mid p → AppendsFront mid new p.unsent → WritesPrefix old new p.bundle p.question
 front_of_cut old mid new p s (n, within, cut) = record {
   text = s.text ++ take n p.unsent;
   front = released_front p.bundle p.question p.taken (s.text ++ take n p.unsent) (drop n p.unsent) (subst (IsReleased p.bundle p.question p.taken) (sym (append_assoc s.text (take n p.unsent) (drop n p.unsent) ∙ ap (λ r. s.text ++ r) (take-append-drop n p.unsent))) s.released);
   written = Appends-trans old mid new s.text (take n p.unsent) s.written cut;
 }
 
-pub report_of_step : (old new : Option (List ℕ)) (p : Progress) → IsInStep old new p → HasAll p.bundle p.taken → p.unsent ≡ [] → WritesReport old new p.bundle p.question
+pub report_of_step : (old new : Option (List ℕ)) (p : Progress) → IsInStep old new p → HasAllTickets p.bundle p.taken → p.unsent ≡ [] → WritesReport old new p.bundle p.question
 report_of_step old new p s all none = record {
   text = s.text;
   report = released_whole p.bundle p.question p.taken s.text (subst (IsReleased p.bundle p.question p.taken) (ap (λ r. s.text ++ r) none ∙ append-nil s.text) s.released) all;
@@ -85,8 +85,8 @@ stops_cut old new p cut = record { front = λ base s. front_of_cut base old new 
 -- what was in step with p is in step with q, and then it stops
 pub stops_after : (k l m : Option (List ℕ)) (p q : Progress) → StaysInStep k p l q → StopsInStep l q m → StopsInStep k p m
 stops_after k l m p q stays stops =
-    let P : List Folder → Type 0 = λ b. (base : Option (List ℕ)) → IsInStep base k p → WritesFront base m b p.question in
-    let Q : Question → Type 0 = λ n. (base : Option (List ℕ)) → IsInStep base k p → WritesFront base m q.bundle n in
+    let P : List Folder → Type 0 = λ b. (base : Option (List ℕ)) → IsInStep base k p → WritesPrefix base m b p.question in
+    let Q : Question → Type 0 = λ n. (base : Option (List ℕ)) → IsInStep base k p → WritesPrefix base m q.bundle n in
     record { front = subst P stays.same_bundle (subst Q stays.same_question (λ base s. stops.front base (stays.in_step base s))) }
 
 pub stops_here : (k : Option (List ℕ)) (p : Progress) → StopsInStep k p k
@@ -98,16 +98,16 @@ stays_offered k p q t worked question Double h = subst (StaysInStep k p k) (sym 
 stays_offered k p q t worked question Taken h =
     subst (StaysInStep k p k) (sym h.1) (stays_more k p t (h.0.0.entry, h.0.0.at) h.0.1)
 
-pub front_at_start : (k : Option (List ℕ)) (b : List Folder) (question : Question) → WritesFront k k b question
+pub front_at_start : (k : Option (List ℕ)) (b : List Folder) (question : Question) → WritesPrefix k k b question
 front_at_start k b question = front_of_step k k (initial_progress b question) (in_step_start k b question)
 
-pub front_from_start : (k m : Option (List ℕ)) (p : Progress) (b : List Folder) (question : Question) → p ≡ initial_progress b question → StopsInStep k p m → WritesFront k m b question
+pub front_from_start : (k m : Option (List ℕ)) (p : Progress) (b : List Folder) (question : Question) → p ≡ initial_progress b question → StopsInStep k p m → WritesPrefix k m b question
 front_from_start k m p b question is stops =
     let s : StopsInStep k (initial_progress b question) m = subst (λ q. StopsInStep k q m) is stops in
     s.front k (in_step_start k b question)
 
 -- what stays in step with a collector that has all and has sent all ends with a report
-pub ends_whole : (k m : Option (List ℕ)) (p q : Progress) → StaysInStep k p m q → q.unsent ≡ [] → HasAll q.bundle q.taken → EndsInStep k p m
+pub ends_whole : (k m : Option (List ℕ)) (p q : Progress) → StaysInStep k p m q → q.unsent ≡ [] → HasAllTickets q.bundle q.taken → EndsInStep k p m
 ends_whole k m p q stays none all =
     let P : List Folder → Type 0 = λ b. (base : Option (List ℕ)) → IsInStep base k p → WritesReport base m b p.question in
     let Q : Question → Type 0 = λ n. (base : Option (List ℕ)) → IsInStep base k p → WritesReport base m q.bundle n in

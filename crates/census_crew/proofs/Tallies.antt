@@ -3,9 +3,9 @@ use Rattle.std.proofs.Common.{◌≡◌, ℕ, suc, ◌+◌, ◌*◌, ◌^◌, �
 use Rattle.census_bundle.specs.declared.bundle.Entry.{Entry}
 use Rattle.census_bundle.specs.declared.bundle.Folder.{Folder}
 use Rattle.census_bundle.specs.declared.ticket.Ticket.{Ticket}
-use Rattle.census_bundle.specs.Sizes.{IsSmall, count_limit}
+use Rattle.census_bundle.specs.Sizes.{IsWithinCounts, count_limit}
 use Rattle.std.specs.FinSet.{contains-empty}
-use Rattle.census_bundle.specs.Tickets.{Tickets, ticket_cmp, ticket, no_tickets, element_at, entry_in, has_ticket, with_ticket, HasAll}
+use Rattle.census_bundle.specs.Tickets.{Tickets, ticket_cmp, ticket, no_tickets, element_at, entry_in, has_ticket, with_ticket, HasAllTickets}
 use Rattle.life_answer.specs.declared.finding.Answer.{Answer}
 use Rattle.census_book.specs.Collecting.{Belongs}
 use Rattle.census_book.specs.Counts.{numbered_sum, one_if, count_of, taken_count}
@@ -49,7 +49,7 @@ times_small n le = omega (arith, le)
 square_small : (n s : ℕ) → n ≤ count_limit → s ≤ n * count_limit → s < 2 ^ 62
 square_small n s le more = omega (arith, le, more)
 
-pub count_small : (kind : Answer → Bool) (b : List Folder) (question : Question) (taken : Tickets) → IsSmall b → taken_count kind b question taken < 2 ^ 62
+pub count_small : (kind : Answer → Bool) (b : List Folder) (question : Question) (taken : Tickets) → IsWithinCounts b → taken_count kind b question taken < 2 ^ 62
 count_small kind b question taken small =
     square_small (length b) _ small.folders
     (sum_small (λ c (f : Folder). numbered_sum (λ i (e : Entry). cond (has_ticket taken (ticket c i)) (one_if (kind (answer_to_entry question e))) 0) 1 f.entries) count_limit 1 b
@@ -93,7 +93,7 @@ one_taken b question asked taken t worked tally belongs not counted =
     }
 
 -- where each ticket is taken, all patterns of a kind were counted
-count_all : (kind : Answer → Bool) (b : List Folder) (question : Question) (taken : Tickets) → HasAll b taken → taken_count kind b question taken ≡ count_of kind b question
+count_all : (kind : Answer → Bool) (b : List Folder) (question : Question) (taken : Tickets) → HasAllTickets b taken → taken_count kind b question taken ≡ count_of kind b question
 count_all kind b question taken all =
     sum_same (λ c (f : Folder). numbered_sum (λ i (e : Entry). one_if (kind (answer_to_entry question e))) 1 f.entries) (λ c (f : Folder). numbered_sum (λ i (e : Entry). cond (has_ticket taken (ticket c i)) (one_if (kind (answer_to_entry question e))) 0) 1 f.entries) 1 b
     (λ c k f is_c is. sum_same (λ i (e : Entry). one_if (kind (answer_to_entry question e))) (λ i (e : Entry). cond (has_ticket taken (ticket c i)) (one_if (kind (answer_to_entry question e))) 0) 1 f.entries
@@ -107,7 +107,7 @@ count_each : (question : Question) (i : ℕ) (b : List Folder) → numbered_sum 
 count_each question i [] = refl
 count_each question i (f ∷ fs) = let here = ones 1 f.entries in let rest = count_each question (suc i) fs in omega arith
 
-pub all_counted : (b : List Folder) (question : Question) (taken : Tickets) (tally : Tally) → HasAll b taken → TalliesTaken tally b question taken → TalliesPatterns b question tally
+pub all_counted : (b : List Folder) (question : Question) (taken : Tickets) (tally : Tally) → HasAllTickets b taken → TalliesTaken tally b question taken → TalliesPatterns b question tally
 all_counted b question taken tally all counted = record {
   patterns = counted.patterns ∙ count_all (λ a. true) b question taken all ∙ count_each question 1 b;
   resolved = counted.resolved ∙ count_all is_resolved b question taken all;

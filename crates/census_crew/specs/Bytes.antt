@@ -11,7 +11,7 @@ use Rattle.census_crew.specs.declared.bytes.BytesFault.{BytesFault}
 use Rattle.census_crew.specs.declared.bytes.BytesFault.TheVariants.{Read, TooLong, Bundle, Memory, Write}
 use Rattle.census_crew.specs.declared.tally.Tally.{Tally}
 use Rattle.census_crew.specs.Tallying.{TalliesPatterns}
-use Rattle.census_crew.specs.Writing.{WritesFront, WritesReport}
+use Rattle.census_crew.specs.Writing.{WritesPrefix, WritesReport}
 use Rattle.life_answer.specs.declared.question.Question.{Question}
 
 -- the text is all that the reader had left, up to its end, and within the limit
@@ -55,7 +55,7 @@ pub record RunsAll (question : Question) (source source' out out' : Option (List
 pub record RunsFront (question : Question) (source source' out out' : Option (List ℕ)) : Type 0 where
   pub bundle : List Folder
   pub read : ReadsFolders source source' bundle
-  pub front : WritesFront out out' bundle question
+  pub front : WritesPrefix out out' bundle question
 
 -- what was read and written, by what is answered
 abbrev pub RunsBytes : Question → Option (List ℕ) → Option (List ℕ) → Option (List ℕ) → Option (List ℕ) → Result Tally BytesFault → Type 0

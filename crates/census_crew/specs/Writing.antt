@@ -14,7 +14,7 @@ pub record WritesReport (old new : Option (List ℕ)) (b : List Folder) (questio
   pub written : Appends old new text
 
 -- a prefix of a report of the bundle was written
-pub record WritesFront (old new : Option (List ℕ)) (b : List Folder) (question : Question) : Type 0 where
+pub record WritesPrefix (old new : Option (List ℕ)) (b : List Folder) (question : Question) : Type 0 where
   pub text : List ℕ
   pub front : IsReportFront b question text
   pub written : Appends old new text
@@ -33,7 +33,7 @@ pub record StaysInStep (old : Option (List ℕ)) (p : Progress) (new : Option (L
 
 -- whatever was in step before, a prefix of the report stands there afterwards
 pub record StopsInStep (old : Option (List ℕ)) (p : Progress) (new : Option (List ℕ)) : Type 0 where
-  pub front : (base : Option (List ℕ)) → IsInStep base old p → WritesFront base new p.bundle p.question
+  pub front : (base : Option (List ℕ)) → IsInStep base old p → WritesPrefix base new p.bundle p.question
 
 -- whatever was in step before, a report stands there afterwards
 pub record EndsInStep (old : Option (List ℕ)) (p : Progress) (new : Option (List ℕ)) : Type 0 where

@@ -41,7 +41,8 @@ pub enum BytesFault {
 // Reads a bundle up to the reader's end.
 fn read_input<R: Read>(alloc: Global, reader: &mut Watched<R>) -> Result<Bundle, BytesFault>
     ensures failed { (result ≡ Err BytesFault.Read) ↔ (has_failed reader.new ≡ true) }
-    ensures read { ReadsBundle (R.remaining (inner_of reader.old)) (R.remaining (inner_of reader.new)) result }
+    ensures read { ReadsBundle (R.remaining (inner_of reader.old))
+        (R.remaining (inner_of reader.new)) result }
 {
     let text = match read_all(alloc, reader, INPUT_LIMIT) {
         Ok(text) => text,
@@ -76,7 +77,9 @@ pub fn run_bytes<R: Read, G: Gate, W: Write, T: Threads + Wait + Sync>(
     requires sound { has_failed out.old ≡ false }
     ensures read { (result ≡ Err BytesFault.Read) ↔ (has_failed reader.new ≡ true) }
     ensures failed { FitsBytesFault result (has_failed out.new) }
-    ensures report { RunsBytes question (R.remaining (inner_of reader.old)) (R.remaining (inner_of reader.new)) (W.contents (inner_of out.old)) (W.contents (inner_of out.new)) result }
+    ensures report { RunsBytes question (R.remaining (inner_of reader.old))
+        (R.remaining (inner_of reader.new)) (W.contents (inner_of out.old))
+        (W.contents (inner_of out.new)) result }
 {
     let bundle = read_input(alloc, reader)?;
     match run(rt, alloc, &bundle, question, workers, gate, out) {

@@ -97,8 +97,10 @@ impl<'a> RunState<'a> {
         requires sent { self.collector.unsent ≡ [] }
         ensures failed { FitsFault result (has_failed out.new) }
         ensures step { MatchResult result
-            (λ s. StaysInStep (W.contents (inner_of out.old)) self.entry.collector (W.contents (inner_of out.new)) s.collector)
-            (λ _. StopsInStep (W.contents (inner_of out.old)) self.entry.collector (W.contents (inner_of out.new))) }
+            (λ s. StaysInStep (W.contents (inner_of out.old)) self.entry.collector
+            (W.contents (inner_of out.new)) s.collector)
+            (λ _. StopsInStep (W.contents (inner_of out.old)) self.entry.collector
+            (W.contents (inner_of out.new))) }
         ensures sent { IfOk result (λ s. s.collector.unsent ≡ []) }
         ensures told { IfErr result TellsNoTicket }
     {
@@ -128,10 +130,13 @@ impl<'a> RunState<'a> {
         out: &mut Watched<W>,
     ) -> Result<Option<Batch<'a>>, Failed>
         requires sound { has_failed out.old ≡ false }
-        ensures failed { MatchResult result (λ _. has_failed out.new ≡ false) (λ _. has_failed out.new ≡ true) }
+        ensures failed { MatchResult result (λ _. has_failed out.new ≡ false)
+            (λ _. has_failed out.new ≡ true) }
         ensures step { MatchResult result
-            (λ _. StaysInStep (W.contents (inner_of out.old)) self.old.collector (W.contents (inner_of out.new)) self.new.collector)
-            (λ _. StopsInStep (W.contents (inner_of out.old)) self.old.collector (W.contents (inner_of out.new))) }
+            (λ _. StaysInStep (W.contents (inner_of out.old)) self.old.collector
+            (W.contents (inner_of out.new)) self.new.collector)
+            (λ _. StopsInStep (W.contents (inner_of out.old)) self.old.collector
+            (W.contents (inner_of out.new))) }
         ensures sent { IfOk result (λ next. IfNone next (self.new.collector.unsent ≡ [])) }
     {
         if let Ok(batch) = results.try_recv(rt) {
@@ -143,7 +148,8 @@ impl<'a> RunState<'a> {
 
     // Takes the results of a batch.
     fn take_batch(&mut self, batch: Batch<'a>)
-        ensures { (written : Option (List ℕ)) → StaysInStep written self.old.collector written self.new.collector }
+        ensures { (written : Option (List ℕ)) →
+            StaysInStep written self.old.collector written self.new.collector }
     {
         for done in batch {
             self.take(done);
@@ -159,10 +165,13 @@ impl<'a> RunState<'a> {
         out: &mut Watched<W>,
     ) -> Result<(), Failed>
         requires sound { has_failed out.old ≡ false }
-        ensures failed { MatchResult result (λ _. has_failed out.new ≡ false) (λ _. has_failed out.new ≡ true) }
+        ensures failed { MatchResult result (λ _. has_failed out.new ≡ false)
+            (λ _. has_failed out.new ≡ true) }
         ensures step { MatchResult result
-            (λ _. StaysInStep (W.contents (inner_of out.old)) self.old.collector (W.contents (inner_of out.new)) self.new.collector)
-            (λ _. StopsInStep (W.contents (inner_of out.old)) self.old.collector (W.contents (inner_of out.new))) }
+            (λ _. StaysInStep (W.contents (inner_of out.old)) self.old.collector
+            (W.contents (inner_of out.new)) self.new.collector)
+            (λ _. StopsInStep (W.contents (inner_of out.old)) self.old.collector
+            (W.contents (inner_of out.new))) }
         ensures sent { OnOk result (self.new.collector.unsent ≡ []) }
     {
         for _ in rt.forever() {

@@ -2,8 +2,8 @@
 ghost use Rattle.std.specs.Prelude.{◌≡◌, ◌≢◌, ◌<◌, ◌≤◌, ◌^◌, ℕ, List, [], Option, true, false, MatchBool, MatchResult, OnOk, IfErr, IfOk, IfSome, IfNone};
 ghost use Rattle.watched.specs.Watching.{inner_of, has_failed};
 ghost use Rattle.life_answer.specs.Questions.{IsAnswered};
-ghost use Rattle.census_bundle.specs.Sizes.{IsSmall};
-ghost use Rattle.census_bundle.specs.Tickets.{has_ticket, with_ticket, HasAll, IsTicketOf};
+ghost use Rattle.census_bundle.specs.Sizes.{IsWithinCounts};
+ghost use Rattle.census_bundle.specs.Tickets.{has_ticket, with_ticket, HasAllTickets, IsTicketOf};
 ghost use Rattle.census_book.specs.Collecting.{after_offer, Judged, Offered};
 ghost use Rattle.census_book.specs.Progress.{initial_progress};
 ghost use Rattle.census_crew.specs.Faults.{FitsFault, TellsTicket, TellsTicketOf};
@@ -32,7 +32,7 @@ pub(crate) struct RunState<'a> {
 
 // A bundle is small.
 fn is_small(bundle: &Bundle)
-    ensures { IsSmall bundle.now }
+    ensures { IsWithinCounts bundle.now }
 {
     bundle.folders();
 }
@@ -45,7 +45,8 @@ impl<'a> RunState<'a> {
         question: Question,
     ) -> Result<RunState<'a>, AllocError>
         requires { IsAnswered question }
-        ensures collector { IfOk result (λ state. state.collector ≡ initial_progress bundle.now question) }
+        ensures collector { IfOk result
+            (λ state. state.collector ≡ initial_progress bundle.now question) }
         ensures strangers { IfOk result (λ state. state.tally.strangers ≡ 0) }
     {
         is_small(bundle);
@@ -58,10 +59,14 @@ impl<'a> RunState<'a> {
 
     /// Takes a result. `None` says that there was no memory to take it, though it is of this bundle and question.
     pub(crate) fn take(&mut self, done: Done<'a>) -> Option<Offer>
-        ensures offered { IfSome result (λ o. Offered self.old.collector done.entry.ticket done.entry.entry done.entry.question self.new.collector o) }
+        ensures offered { IfSome result
+            (λ o. Offered self.old.collector done.entry.ticket done.entry.entry done.entry.question
+            self.new.collector o) }
         ensures no_room { IfNone result (self.new.collector ≡ self.old.collector) }
-        ensures step { (written : Option (List ℕ)) → StaysInStep written self.old.collector written self.new.collector }
-        ensures strangers { NotesStranger self.old.collector.bundle self.old.collector.question done.entry self.old.tally.strangers self.new.tally.strangers }
+        ensures step { (written : Option (List ℕ)) →
+            StaysInStep written self.old.collector written self.new.collector }
+        ensures strangers { NotesStranger self.old.collector.bundle self.old.collector.question
+            done.entry self.old.tally.strangers self.new.tally.strangers }
     {
         let counted = self.tally.with(done.answer());
         match self.collector.offer(done) {
@@ -83,12 +88,15 @@ impl<'a> RunState<'a> {
 
     /// Writes what is unsent.
     pub(crate) fn send<W: Write>(&mut self, out: &mut Watched<W>) -> Result<(), Failed>
-        ensures failed { MatchResult result (λ _. has_failed out.new ≡ false) (λ _. has_failed out.new ≡ true) }
+        ensures failed { MatchResult result (λ _. has_failed out.new ≡ false)
+            (λ _. has_failed out.new ≡ true) }
         ensures tally { self.new.tally ≡ self.old.tally }
         ensures taken { self.new.collector.taken ≡ self.old.collector.taken }
         ensures step { MatchResult result
-            (λ _. StaysInStep (W.contents (inner_of out.old)) self.old.collector (W.contents (inner_of out.new)) self.new.collector)
-            (λ _. StopsInStep (W.contents (inner_of out.old)) self.old.collector (W.contents (inner_of out.new))) }
+            (λ _. StaysInStep (W.contents (inner_of out.old)) self.old.collector
+            (W.contents (inner_of out.new)) self.new.collector)
+            (λ _. StopsInStep (W.contents (inner_of out.old)) self.old.collector
+            (W.contents (inner_of out.new))) }
         ensures sent { OnOk result (self.new.collector.unsent ≡ []) }
     {
         flush(&mut self.collector, out)
@@ -101,15 +109,22 @@ impl<'a> RunState<'a> {
         out: &mut Watched<W>,
     ) -> Result<Option<Offer>, Failed>
         requires sound { has_failed out.old ≡ false }
-        ensures failed { MatchResult result (λ _. has_failed out.new ≡ false) (λ _. has_failed out.new ≡ true) }
+        ensures failed { MatchResult result (λ _. has_failed out.new ≡ false)
+            (λ _. has_failed out.new ≡ true) }
         ensures step { MatchResult result
-            (λ _. StaysInStep (W.contents (inner_of out.old)) self.old.collector (W.contents (inner_of out.new)) self.new.collector)
-            (λ _. StopsInStep (W.contents (inner_of out.old)) self.old.collector (W.contents (inner_of out.new))) }
-        ensures sent { OnOk result (self.old.collector.unsent ≡ [] → self.new.collector.unsent ≡ []) }
+            (λ _. StaysInStep (W.contents (inner_of out.old)) self.old.collector
+            (W.contents (inner_of out.new)) self.new.collector)
+            (λ _. StopsInStep (W.contents (inner_of out.old)) self.old.collector
+            (W.contents (inner_of out.new))) }
+        ensures sent { OnOk result
+            (self.old.collector.unsent ≡ [] → self.new.collector.unsent ≡ []) }
         ensures offered { IfOk result (λ o. IfSome o (λ offer.
-            Judged self.old.collector.bundle self.old.collector.question self.old.collector.taken done.entry.ticket done.entry.entry done.entry.question offer
-            × (self.new.collector.taken ≡ (after_offer self.old.collector done.entry.ticket offer).taken))) }
-        ensures strangers { NotesStranger self.old.collector.bundle self.old.collector.question done.entry self.old.tally.strangers self.new.tally.strangers }
+            Judged self.old.collector.bundle self.old.collector.question self.old.collector.taken
+            done.entry.ticket done.entry.entry done.entry.question offer
+            × (self.new.collector.taken ≡
+            (after_offer self.old.collector done.entry.ticket offer).taken))) }
+        ensures strangers { NotesStranger self.old.collector.bundle self.old.collector.question
+            done.entry self.old.tally.strangers self.new.tally.strangers }
     {
         let Some(offer) = self.take(done) else {
             return Ok(None);
@@ -127,12 +142,17 @@ impl<'a> RunState<'a> {
         requires sound { has_failed out.old ≡ false }
         requires sent { self.old.collector.unsent ≡ [] }
         requires none { self.old.tally.strangers ≡ 0 }
-        ensures failed { MatchResult result (λ _. has_failed out.new ≡ false) (λ _. has_failed out.new ≡ true) }
+        ensures failed { MatchResult result (λ _. has_failed out.new ≡ false)
+            (λ _. has_failed out.new ≡ true) }
         ensures step { MatchResult result
-            (λ _. StaysInStep (W.contents (inner_of out.old)) self.old.collector (W.contents (inner_of out.new)) self.new.collector)
-            (λ _. StopsInStep (W.contents (inner_of out.old)) self.old.collector (W.contents (inner_of out.new))) }
+            (λ _. StaysInStep (W.contents (inner_of out.old)) self.old.collector
+            (W.contents (inner_of out.new)) self.new.collector)
+            (λ _. StopsInStep (W.contents (inner_of out.old)) self.old.collector
+            (W.contents (inner_of out.new))) }
         ensures sent { OnOk result (self.new.collector.unsent ≡ []) }
-        ensures strangers { OnOk result (HasStrangers self.old.collector.bundle self.old.collector.question arrivals.entry.items self.new.tally.strangers) }
+        ensures strangers { OnOk result
+            (HasStrangers self.old.collector.bundle self.old.collector.question arrivals.entry.items
+            self.new.tally.strangers) }
     {
         for done in arrivals {
             self.arrive(done, out)?;
@@ -153,11 +173,14 @@ impl<'a> RunState<'a> {
         requires sent { self.old.collector.unsent ≡ [] }
         ensures failed { FitsFault result (has_failed out.new) }
         ensures step { MatchResult result
-            (λ _. StaysInStep (W.contents (inner_of out.old)) self.old.collector (W.contents (inner_of out.new)) self.new.collector)
-            (λ _. StopsInStep (W.contents (inner_of out.old)) self.old.collector (W.contents (inner_of out.new))) }
+            (λ _. StaysInStep (W.contents (inner_of out.old)) self.old.collector
+            (W.contents (inner_of out.new)) self.new.collector)
+            (λ _. StopsInStep (W.contents (inner_of out.old)) self.old.collector
+            (W.contents (inner_of out.new))) }
         ensures sent { OnOk result (self.new.collector.unsent ≡ []) }
         ensures told { IfErr result (TellsTicket ticket) }
-        ensures taken { OnOk result (self.new.collector.taken ≡ with_ticket self.old.collector.taken ticket) }
+        ensures taken { OnOk result
+            (self.new.collector.taken ≡ with_ticket self.old.collector.taken ticket) }
         ensures strangers { OnOk result (self.new.tally.strangers ≡ self.old.tally.strangers) }
     {
         let Some(entry) = self.collector.bundle().entry(ticket) else {
@@ -182,10 +205,14 @@ impl<'a> RunState<'a> {
         requires sent { self.old.collector.unsent ≡ [] }
         ensures failed { FitsFault result (has_failed out.new) }
         ensures step { MatchResult result
-            (λ _. StaysInStep (W.contents (inner_of out.old)) self.old.collector (W.contents (inner_of out.new)) self.new.collector)
-            (λ _. StopsInStep (W.contents (inner_of out.old)) self.old.collector (W.contents (inner_of out.new))) }
+            (λ _. StaysInStep (W.contents (inner_of out.old)) self.old.collector
+            (W.contents (inner_of out.new)) self.new.collector)
+            (λ _. StopsInStep (W.contents (inner_of out.old)) self.old.collector
+            (W.contents (inner_of out.new))) }
         ensures told { IfErr result (TellsTicketOf self.old.collector.bundle) }
-        ensures whole { OnOk result ((self.new.collector.unsent ≡ []) × HasAll self.new.collector.bundle self.new.collector.taken) }
+        ensures whole { OnOk result
+            ((self.new.collector.unsent ≡ []) ×
+            HasAllTickets self.new.collector.bundle self.new.collector.taken) }
         ensures strangers { OnOk result (self.new.tally.strangers ≡ self.old.tally.strangers) }
     {
         while let Some(ticket) = self.collector.missing() {
@@ -204,10 +231,13 @@ impl<'a> RunState<'a> {
         requires sent { self.collector.unsent ≡ [] }
         ensures failed { FitsFault result (has_failed out.new) }
         ensures ends { MatchResult result
-            (λ _. EndsInStep (W.contents (inner_of out.old)) self.entry.collector (W.contents (inner_of out.new)))
-            (λ _. StopsInStep (W.contents (inner_of out.old)) self.entry.collector (W.contents (inner_of out.new))) }
+            (λ _. EndsInStep (W.contents (inner_of out.old)) self.entry.collector
+            (W.contents (inner_of out.new)))
+            (λ _. StopsInStep (W.contents (inner_of out.old)) self.entry.collector
+            (W.contents (inner_of out.new))) }
         ensures told { IfErr result (TellsTicketOf self.entry.collector.bundle) }
-        ensures tally { IfOk result (TalliesPatterns self.entry.collector.bundle self.entry.collector.question) }
+        ensures tally { IfOk result
+            (TalliesPatterns self.entry.collector.bundle self.entry.collector.question) }
         ensures strangers { IfOk result (λ t. t.strangers ≡ self.entry.tally.strangers) }
     {
         self.catch_up(alloc, out)?;

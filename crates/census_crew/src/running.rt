@@ -5,7 +5,7 @@ ghost use Rattle.watched.specs.Watching.{inner_of, has_failed};
 ghost use Rattle.census_crew.specs.Faults.{FitsFault, MayTellTicket};
 ghost use Rattle.census_crew.specs.Strangers.{HasStrangers};
 ghost use Rattle.census_crew.specs.Tallying.{TalliesPatterns};
-ghost use Rattle.census_crew.specs.Writing.{WritesFront, WritesReport};
+ghost use Rattle.census_crew.specs.Writing.{WritesPrefix, WritesReport};
 
 use crate::fault::RunFault;
 use crate::gate::Gate;
@@ -50,8 +50,10 @@ pub fn run<G: Gate, W: Write, R: Threads + Wait + Sync>(
     requires sound { has_failed out.old ≡ false }
     ensures failed { FitsFault result (has_failed out.new) }
     ensures report { MatchResult result
-        (λ _. WritesReport (W.contents (inner_of out.old)) (W.contents (inner_of out.new)) bundle.now question)
-        (λ _. WritesFront (W.contents (inner_of out.old)) (W.contents (inner_of out.new)) bundle.now question) }
+        (λ _. WritesReport (W.contents (inner_of out.old)) (W.contents (inner_of out.new))
+        bundle.now question)
+        (λ _. WritesPrefix (W.contents (inner_of out.old)) (W.contents (inner_of out.new))
+        bundle.now question) }
     ensures tally { IfOk result (TalliesPatterns bundle.now question) }
     ensures told { IfErr result (MayTellTicket bundle.now) }
 {
@@ -78,8 +80,10 @@ pub fn run_on<G: Gate, W: Write, R: Threads + Wait + Sync>(
     requires sound { has_failed out.old ≡ false }
     ensures failed { FitsFault result (has_failed out.new) }
     ensures report { MatchResult result
-        (λ _. WritesReport (W.contents (inner_of out.old)) (W.contents (inner_of out.new)) bundle.now question)
-        (λ _. WritesFront (W.contents (inner_of out.old)) (W.contents (inner_of out.new)) bundle.now question) }
+        (λ _. WritesReport (W.contents (inner_of out.old)) (W.contents (inner_of out.new))
+        bundle.now question)
+        (λ _. WritesPrefix (W.contents (inner_of out.old)) (W.contents (inner_of out.new))
+        bundle.now question) }
     ensures tally { IfOk result (TalliesPatterns bundle.now question) }
     ensures told { IfErr result (MayTellTicket bundle.now) }
 {
@@ -106,11 +110,14 @@ pub fn settle<'a, W: Write>(
     requires sound { has_failed out.old ≡ false }
     ensures failed { FitsFault result (has_failed out.new) }
     ensures report { MatchResult result
-        (λ _. WritesReport (W.contents (inner_of out.old)) (W.contents (inner_of out.new)) bundle.now question)
-        (λ _. WritesFront (W.contents (inner_of out.old)) (W.contents (inner_of out.new)) bundle.now question) }
+        (λ _. WritesReport (W.contents (inner_of out.old)) (W.contents (inner_of out.new))
+        bundle.now question)
+        (λ _. WritesPrefix (W.contents (inner_of out.old)) (W.contents (inner_of out.new))
+        bundle.now question) }
     ensures tally { IfOk result (TalliesPatterns bundle.now question) }
     ensures told { IfErr result (MayTellTicket bundle.now) }
-    ensures strangers { IfOk result (λ t. HasStrangers bundle.now question arrivals.entry.items t.strangers) }
+    ensures strangers { IfOk result
+        (λ t. HasStrangers bundle.now question arrivals.entry.items t.strangers) }
 {
     let mut state = RunState::new(alloc, bundle, question)?;
     state.send(out)?;

@@ -15,9 +15,9 @@ use Rattle.census_faults.specs.Printed.{printable_text, printed_byte}
 use Rattle.census_faults.specs.declared.fault.Fault.{Fault}
 use Rattle.census_faults.specs.declared.spot.Spot.{Spot}
 use Rattle.census_faults.specs.declared.spot.Spot.TheVariants.{Nowhere, Line, At}
-use Rattle.census_errors.specs.Places.{IsSaidAt, fault_at}
+use Rattle.census_errors.specs.Places.{IsSaidAt, fault_at_place}
 use Rattle.census_errors.specs.Sayings.{Says, explained_at, said}
-use Rattle.census_errors.specs.ErrorStreams.{Errors, Tells, TellsMore}
+use Rattle.census_errors.specs.ErrorStreams.{Errors, TellsMoreText, TellsText}
 use Rattle.census_errors.specs.declared.place.Place.{Place}
 use Rattle.census_errors.specs.declared.saying.Saying.{Saying}
 
@@ -25,15 +25,15 @@ abbrev sink_of : Errors → Sink
 sink_of e = record { written = e.told; failed = e.failed }
 
 -- one text was told after another
-pub told_after : (xs ys : List ℕ) (a b c : Errors) → Tells xs a b → TellsMore ys b c → Tells (xs ++ ys) a c
+pub told_after : (xs ys : List ℕ) (a b c : Errors) → TellsText xs a b → TellsMoreText ys b c → TellsText (xs ++ ys) a c
 told_after xs ys a b c first more = tells_more xs ys (sink_of a) (sink_of b) (sink_of c) first (as_sinks b.failed more)
   where
-    as_sinks : (f : Bool) → MatchBool f (c ≡ b) (Tells ys b c) → MatchBool f (sink_of c ≡ sink_of b) (Tells ys b c)
+    as_sinks : (f : Bool) → MatchBool f (c ≡ b) (TellsText ys b c) → MatchBool f (sink_of c ≡ sink_of b) (TellsText ys b c)
     as_sinks true same = ap sink_of same
     as_sinks false told = told
 
 -- nothing was told
-pub no_more : (s : Errors) → TellsMore [] s s
+pub no_more : (s : Errors) → TellsMoreText [] s s
 no_more s = at s.failed
   where
     at : (f : Bool) → MatchBool f (s ≡ s) (MatchBool f (AppendsFront s.told s.told []) (Appends s.told s.told []))
@@ -41,13 +41,13 @@ no_more s = at s.failed
     at false = Appends-nil s.told
 
 -- one text was told after another, where either may be lost
-pub more_after : (xs ys : List ℕ) (a b c : Errors) → TellsMore xs a b → TellsMore ys b c → TellsMore (xs ++ ys) a c
+pub more_after : (xs ys : List ℕ) (a b c : Errors) → TellsMoreText xs a b → TellsMoreText ys b c → TellsMoreText (xs ++ ys) a c
 more_after xs ys a b c first more = at a.failed refl first
   where
-    at : (f : Bool) → a.failed ≡ f → MatchBool f (b ≡ a) (Tells xs a b) → MatchBool f (c ≡ a) (Tells (xs ++ ys) a c)
+    at : (f : Bool) → a.failed ≡ f → MatchBool f (b ≡ a) (TellsText xs a b) → MatchBool f (c ≡ a) (TellsText (xs ++ ys) a c)
     at true failed same =
         let still : b.failed ≡ true = ap (λ (e : Errors). e.failed) same ∙ failed in
-        let lost : c ≡ b = subst (λ (f : Bool). MatchBool f (c ≡ b) (Tells ys b c)) still more in
+        let lost : c ≡ b = subst (λ (f : Bool). MatchBool f (c ≡ b) (TellsText ys b c)) still more in
         lost ∙ same
     at false sound told = told_after xs ys a b c told more
 
@@ -82,4 +82,4 @@ pub says_at : (f : Fault) (name : Option (List ℕ)) (spot : Spot) (saying : Say
     → IsSaidAt saying place at → said at ≡ explained_at f name spot place
 says_at f name spot saying place at h s =
     (λ i. explanation (s.fault_is i) (s.name_is i) (s.spot_is i) (s.word_is i))
-    ∙ (λ i. explanation (fault_at (h.fault_is i) place) (option_or place.path (h.name_is i)) (h.spot_is i) (option_or place.word (h.word_is i)))
+    ∙ (λ i. explanation (fault_at_place (h.fault_is i) place) (option_or place.path (h.name_is i)) (h.spot_is i) (option_or place.word (h.word_is i)))

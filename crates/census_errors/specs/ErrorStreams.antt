@@ -10,14 +10,14 @@ pub record Errors : Type 0 where
   pub is_terminal : Bool
 
 -- this text was told, whole where the stream has not failed, else a prefix of it, and nothing else
-abbrev pub Tells : List ℕ → Errors → Errors → Type 0
-Tells text before after =
+abbrev pub TellsText : List ℕ → Errors → Errors → Type 0
+TellsText text before after =
     MatchBool after.failed (AppendsFront before.told after.told text) (Appends before.told after.told text)
 
 -- a stream that has failed stays as it is; on any other this text was told
-abbrev pub TellsMore : List ℕ → Errors → Errors → Type 0
-TellsMore text before after = MatchBool before.failed (after ≡ before) (Tells text before after)
+abbrev pub TellsMoreText : List ℕ → Errors → Errors → Type 0
+TellsMoreText text before after = MatchBool before.failed (after ≡ before) (TellsText text before after)
 
 -- this text was told, where it is asked for, and else nothing
 abbrev pub TellsIf : Bool → List ℕ → Errors → Errors → Type 0
-TellsIf asked text before after = MatchBool asked (Tells text before after) (after ≡ before)
+TellsIf asked text before after = MatchBool asked (TellsText text before after) (after ≡ before)

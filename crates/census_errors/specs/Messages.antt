@@ -120,13 +120,13 @@ error_message Write = message (codes "write failed")
 
 -- # The line
 
-abbrev pub place_text : Option ℕ → List ℕ
-place_text None = []
-place_text (Some place) = decimal place
+abbrev pub offset_text : Option ℕ → List ℕ
+offset_text None = []
+offset_text (Some place) = decimal place
 
 -- `census: `, the message, and a line feed
 abbrev pub message_line : Message → List ℕ
-message_line m = codes "census: " ++ m.words ++ place_text m.place ++ 10 ∷ []
+message_line m = codes "census: " ++ m.words ++ offset_text m.place ++ 10 ∷ []
 
 -- the line on standard error
 abbrev pub error_line : CommandError → List ℕ

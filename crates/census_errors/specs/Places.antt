@@ -39,12 +39,12 @@ nowhere = record { path = None; word = None; is_file = false }
 -- # What is said at a place
 
 -- a file that stands where a folder is wanted is told as that
-abbrev pub fault_at : Fault → Place → Fault
-fault_at fault place = if place.is_file then FileForFolder else fault
+abbrev pub fault_at_place : Fault → Place → Fault
+fault_at_place fault place = if place.is_file then FileForFolder else fault
 
 -- the same is said as before, but of what stands at the place, as far as that is known
 pub record IsSaidAt (saying : Saying) (place : Place) (at : Saying) : Type 0 where
-  pub fault_is : at.fault ≡ fault_at saying.fault place
+  pub fault_is : at.fault ≡ fault_at_place saying.fault place
   pub name_is : option_copied at.name ≡ option_or place.path (option_copied saying.name)
   pub spot_is : at.spot ≡ saying.spot
   pub word_is : option_copied at.word ≡ option_or place.word (option_copied saying.word)

@@ -14,7 +14,7 @@ use Rattle.census_reports.specs.declared.error.ReportsError.TheVariants as repor
 use Rattle.census_cli.specs.declared.request.Request.{Request}
 use Rattle.census_cli.specs.declared.request.Request.TheVariants.{Advance, Draw}
 use Rattle.census_errors.specs.Files.{file_of}
-use Rattle.census_errors.specs.Places.{fault_at}
+use Rattle.census_errors.specs.Places.{fault_at_place}
 use Rattle.census_errors.specs.declared.advance_error.AdvanceError.{AdvanceError}
 use Rattle.census_errors.specs.declared.advance_error.AdvanceError.TheVariants as advance
 use Rattle.census_errors.specs.declared.draw_error.DrawError.{DrawError}
@@ -44,7 +44,7 @@ pub record Says (f : Fault) (name : Option (List ℕ)) (spot : Spot) (saying : S
 
 -- the line for a fault, with what is known of its place
 abbrev pub explained_at : Fault → Option (List ℕ) → Spot → Place → List ℕ
-explained_at f name spot place = explanation (fault_at f place) (option_or place.path name) spot (option_or place.word None)
+explained_at f name spot place = explanation (fault_at_place f place) (option_or place.path name) spot (option_or place.word None)
 
 -- # Of `run` and of `objects`
 

@@ -19,6 +19,6 @@ source_of limit true false (word ∷ words) = Trees limit (word ∷ words)
 source_of limit false false (word ∷ words) = Folders limit (word ∷ words)
 
 -- the first thing that can't be read ends the census
-abbrev pub IsWhole : Source → Type 0
-IsWhole (Kept limit recursive words) = ⊥
-IsWhole source = Unit {0}
+abbrev pub StopsAtFirstLoss : Source → Type 0
+StopsAtFirstLoss (Kept limit recursive words) = ⊥
+StopsAtFirstLoss source = Unit {0}

@@ -1,7 +1,7 @@
 //! Standard error of a command, which remembers that it failed.
 ghost use Rattle.std.specs.Prelude.{◌≡◌, false};
 ghost use Rattle.watched.specs.Watching.{has_failed, inner_of};
-ghost use Rattle.census_errors.specs.ErrorStreams.{Errors, Tells, TellsMore};
+ghost use Rattle.census_errors.specs.ErrorStreams.{Errors, TellsMoreText, TellsText};
 
 use std::io::Write;
 use std::marker::Model;
@@ -56,14 +56,14 @@ impl<E: Write> ErrorStream<E> {
     /// Writes a text, and asks for no memory. Where the stream fails, a prefix of the text went out.
     pub fn tell(&mut self, text: &[u8])
         requires { self.old.failed ≡ false }
-        ensures { Tells text.now self.old self.new }
+        ensures { TellsText text.now self.old self.new }
     {
         let _ = put_all(&mut self.inner, text);
     }
 
     /// The same after another text. Where the stream has failed before, the text is lost.
     pub fn tell_more(&mut self, text: &[u8])
-        ensures { TellsMore text.now self.old self.new }
+        ensures { TellsMoreText text.now self.old self.new }
     {
         let _ = put_all(&mut self.inner, text);
     }

@@ -159,7 +159,8 @@ fn rule_in<'r>(request: &'r Request<'_>) -> &'r [u8]
 
 /// What is said of an error of what is asked for.
 pub fn saying_of<'r>(request: &'r Request<'_>, error: CommandError) -> Saying<'r>
-    ensures { Says (fault_said request.now error) (name_said request.now error) (spot_said request.now error) result }
+    ensures { Says (fault_said request.now error) (name_said request.now error)
+        (spot_said request.now error) result }
 {
     match error {
         CommandError::Run(error) => run_saying(error),

@@ -7,7 +7,7 @@ ghost use Rattle.census_errors.specs.Errors.{status_of};
 ghost use Rattle.census_errors.specs.Messages.{error_line};
 ghost use Rattle.census_errors.specs.Sayings.{said, said_if};
 ghost use Rattle.census_errors.specs.Places.{IsSaidAt};
-ghost use Rattle.census_errors.specs.ErrorStreams.{Tells, TellsMore};
+ghost use Rattle.census_errors.specs.ErrorStreams.{TellsMoreText, TellsText};
 
 use crate::error::CommandError;
 use crate::error_stream::ErrorStream;
@@ -58,7 +58,7 @@ impl<'a> Saying<'a> {
 
 // Tells a byte of a name as it is shown.
 fn tell_byte<E: Write>(byte: u8, errors: &mut ErrorStream<E>)
-    ensures { TellsMore (printed_byte byte) errors.old errors.new }
+    ensures { TellsMoreText (printed_byte byte) errors.old errors.new }
 {
     if is_name_byte(byte) {
         errors.tell_more(&[byte]);
@@ -72,7 +72,7 @@ fn tell_byte<E: Write>(byte: u8, errors: &mut ErrorStream<E>)
 
 // Tells a name as it is shown.
 fn tell_bytes<E: Write>(name: &[u8], errors: &mut ErrorStream<E>)
-    ensures { TellsMore (printable_text name.now) errors.old errors.new }
+    ensures { TellsMoreText (printable_text name.now) errors.old errors.new }
 {
     for byte in name {
         tell_byte(*byte, errors);
@@ -81,7 +81,7 @@ fn tell_bytes<E: Write>(name: &[u8], errors: &mut ErrorStream<E>)
 
 // Tells a number and `:`.
 fn tell_number<E: Write>(number: u64, errors: &mut ErrorStream<E>)
-    ensures { TellsMore (decimal number ++ codes ":") errors.old errors.new }
+    ensures { TellsMoreText (decimal number ++ codes ":") errors.old errors.new }
 {
     let mut buffer = Buffer::new();
     errors.tell_more(buffer.format(number).as_bytes());
@@ -90,7 +90,7 @@ fn tell_number<E: Write>(number: u64, errors: &mut ErrorStream<E>)
 
 // Tells `LINE:` or `LINE:COLUMN:`, as far as they are known.
 fn tell_spot<E: Write>(spot: Spot, errors: &mut ErrorStream<E>)
-    ensures { TellsMore (spot_text spot) errors.old errors.new }
+    ensures { TellsMoreText (spot_text spot) errors.old errors.new }
 {
     match spot {
         Spot::Nowhere => errors.tell_more(b""),
@@ -104,7 +104,7 @@ fn tell_spot<E: Write>(spot: Spot, errors: &mut ErrorStream<E>)
 
 // Tells the place of a fault that no file is known of, and a blank where anything is known.
 fn tell_place<E: Write>(spot: Spot, errors: &mut ErrorStream<E>)
-    ensures { TellsMore (heading None spot) errors.old errors.new }
+    ensures { TellsMoreText (heading None spot) errors.old errors.new }
 {
     match spot {
         Spot::Nowhere => errors.tell_more(b""),
@@ -117,7 +117,7 @@ fn tell_place<E: Write>(spot: Spot, errors: &mut ErrorStream<E>)
 
 // Tells the file of a fault, its place there as far as it is known, and a blank.
 fn tell_named<E: Write>(name: &[u8], spot: Spot, errors: &mut ErrorStream<E>)
-    ensures { TellsMore (heading (Some name.now) spot) errors.old errors.new }
+    ensures { TellsMoreText (heading (Some name.now) spot) errors.old errors.new }
 {
     tell_bytes(name, errors);
     errors.tell_more(b":");
@@ -127,7 +127,7 @@ fn tell_named<E: Write>(name: &[u8], spot: Spot, errors: &mut ErrorStream<E>)
 
 // Tells what is known of where a fault stands, and a blank where anything is.
 fn tell_heading<E: Write>(name: Option<&[u8]>, spot: Spot, errors: &mut ErrorStream<E>)
-    ensures { TellsMore (heading (option_copied name.entry) spot) errors.old errors.new }
+    ensures { TellsMoreText (heading (option_copied name.entry) spot) errors.old errors.new }
 {
     match name {
         Some(name) => tell_named(name, spot, errors),
@@ -137,7 +137,7 @@ fn tell_heading<E: Write>(name: Option<&[u8]>, spot: Spot, errors: &mut ErrorStr
 
 // Tells ` (WORD)`.
 fn tell_in_brackets<E: Write>(word: &[u8], errors: &mut ErrorStream<E>)
-    ensures { TellsMore (word_text (Some word.now)) errors.old errors.new }
+    ensures { TellsMoreText (word_text (Some word.now)) errors.old errors.new }
 {
     errors.tell_more(b" (");
     tell_bytes(word, errors);
@@ -146,7 +146,7 @@ fn tell_in_brackets<E: Write>(word: &[u8], errors: &mut ErrorStream<E>)
 
 // Tells ` (WORD)`, where there is a word.
 fn tell_word<E: Write>(word: Option<&[u8]>, errors: &mut ErrorStream<E>)
-    ensures { TellsMore (word_text (option_copied word.entry)) errors.old errors.new }
+    ensures { TellsMoreText (word_text (option_copied word.entry)) errors.old errors.new }
 {
     match word {
         Some(word) => tell_in_brackets(word, errors),
@@ -157,7 +157,7 @@ fn tell_word<E: Write>(word: Option<&[u8]>, errors: &mut ErrorStream<E>)
 /// Tells what is said of an error, in a line that begins with two blanks, and asks for no memory. Where the stream has
 /// failed before, the line is lost.
 pub fn say<E: Write>(saying: Saying<'_>, errors: &mut ErrorStream<E>)
-    ensures { TellsMore (said saying.entry) errors.old errors.new }
+    ensures { TellsMoreText (said saying.entry) errors.old errors.new }
 {
     errors.tell_more(b"  ");
     tell_heading(saying.name, saying.spot, errors);
@@ -168,7 +168,7 @@ pub fn say<E: Write>(saying: Saying<'_>, errors: &mut ErrorStream<E>)
 
 /// The same where faults are explained, and else nothing.
 pub fn say_if<E: Write>(explain: bool, saying: Saying<'_>, errors: &mut ErrorStream<E>)
-    ensures { TellsMore (said_if explain (said saying.entry)) errors.old errors.new }
+    ensures { TellsMoreText (said_if explain (said saying.entry)) errors.old errors.new }
 {
     if explain {
         say(saying, errors);
@@ -187,7 +187,8 @@ pub fn stop_saying<E: Write>(
 ) -> u8
     requires { errors.old.failed ≡ false }
     ensures status { result ≡ status_of error }
-    ensures lines { Tells (error_line error ++ said_if explain (said saying.entry)) errors.old errors.new }
+    ensures lines { TellsText (error_line error ++ said_if explain (said saying.entry)) errors.old
+        errors.new }
 {
     errors.tell(error.line().as_str().as_bytes());
     say_if(explain, saying, errors);

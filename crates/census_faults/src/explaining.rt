@@ -22,7 +22,8 @@ fn push_number(line: &mut Vec<u8>, number: u64) -> Result<(), AllocError>
 
 // Appends `NAME:`, where there is a name.
 fn push_name(line: &mut Vec<u8>, name: Option<&[u8]>) -> Result<(), AllocError>
-    ensures { OnOk result (line.new.items ≡ line.old.items ++ name_text (option_copied name.entry)) }
+    ensures { OnOk result
+        (line.new.items ≡ line.old.items ++ name_text (option_copied name.entry)) }
 {
     if let Some(name) = name {
         push_printed(line, name)?;
@@ -48,7 +49,8 @@ fn push_spot(line: &mut Vec<u8>, spot: Spot) -> Result<(), AllocError>
 
 // Appends what is known of where the fault stands, and a blank where anything is.
 fn push_heading(line: &mut Vec<u8>, name: Option<&[u8]>, spot: Spot) -> Result<(), AllocError>
-    ensures { OnOk result (line.new.items ≡ line.old.items ++ heading (option_copied name.entry) spot) }
+    ensures { OnOk result
+        (line.new.items ≡ line.old.items ++ heading (option_copied name.entry) spot) }
 {
     if name.is_none() && spot == Spot::Nowhere {
         return Ok(());
@@ -61,7 +63,8 @@ fn push_heading(line: &mut Vec<u8>, name: Option<&[u8]>, spot: Spot) -> Result<(
 
 // Appends ` (WORD)`, where there is a word.
 fn push_word(line: &mut Vec<u8>, word: Option<&[u8]>) -> Result<(), AllocError>
-    ensures { OnOk result (line.new.items ≡ line.old.items ++ word_text (option_copied word.entry)) }
+    ensures { OnOk result
+        (line.new.items ≡ line.old.items ++ word_text (option_copied word.entry)) }
 {
     if let Some(word) = word {
         line.extend_from_slice(b" (")?;

@@ -32,7 +32,8 @@ fn push_entry(
     collection: &[u8],
     entry: &Entry,
 ) -> Result<(), AllocError>
-    ensures { OnOk result (lines.new.items ≡ lines.old.items ++ entry_lines collection.now entry.now) }
+    ensures { OnOk result
+        (lines.new.items ≡ lines.old.items ++ entry_lines collection.now entry.now) }
 {
     let name = entry.name.as_slice();
     if entry.is_lost {

@@ -7,10 +7,10 @@ use Rattle.std.proofs.lemmas.List.Concat.{flat_map-append}
 use Rattle.census_bundle.specs.declared.ticket.Ticket.{Ticket}
 use Rattle.census_bundle.specs.declared.bundle.Folder.{Folder}
 use Rattle.census_bundle.specs.Tickets.{ticket}
-use Rattle.census_bundle.specs.Sizes.{IsSmall, count_limit}
+use Rattle.census_bundle.specs.Sizes.{IsWithinCounts, count_limit}
 use Rattle.census_feed.specs.declared.item.Item.{Item}
 use Rattle.census_feed.specs.declared.item.Item.TheVariants.{Work, Mark}
-use Rattle.census_feed.specs.Items.{folder_tickets, tickets_from, end_marks, items, Before, Rises, same_item, has, is_mark, is_ticket, occurrence_count, mark_count, ends_with_mark}
+use Rattle.census_feed.specs.Items.{folder_tickets, tickets_from, end_marks, items, Before, Rises, same_item, has_item, is_mark, is_ticket, occurrence_count, mark_count, ends_with_mark}
 use Rattle.census_feed.specs.Rule.{all_items_of, AllMarks}
 use Rattle.census_feed.proofs.Orders.{same_is, same_itself, before_itself, all_at}
 
@@ -29,39 +29,39 @@ marks_join xs ys = sum_by-append (λ z. cond (is_mark z) 1 0) xs ys
 one_itself : (x : Item) → cond {A = ℕ} (same_item x x) 1 0 ≡ 1
 one_itself x = cond-true (same_item x x) 1 0 (same_itself x)
 
-pub times_has : (x : Item) (xs : List Item) → has xs x ≡ true → 0 < occurrence_count x xs
+pub times_has : (x : Item) (xs : List Item) → has_item xs x ≡ true → 0 < occurrence_count x xs
 times_has x [] e = absurd (false≢true e)
-times_has x (y ∷ ys) e = ⊎_elim (λ s. let c = cond-true {A = ℕ} (same_item x y) 1 0 s in omega (arith, times_cons x y ys)) (λ s. let h = times_has x ys s in omega (arith, times_cons x y ys)) (or_cases (same_item x y) (has ys x) e)
+times_has x (y ∷ ys) e = ⊎_elim (λ s. let c = cond-true {A = ℕ} (same_item x y) 1 0 s in omega (arith, times_cons x y ys)) (λ s. let h = times_has x ys s in omega (arith, times_cons x y ys)) (or_cases (same_item x y) (has_item ys x) e)
 
-pub has_times : (x : Item) (xs : List Item) → 0 < occurrence_count x xs → has xs x ≡ true
+pub has_times : (x : Item) (xs : List Item) → 0 < occurrence_count x xs → has_item xs x ≡ true
 has_times x [] h = absurd (omega arith)
-has_times x (y ∷ ys) h = ⊎_elim (λ s. or_left (same_item x y) (has ys x) s) (λ s. or_right (same_item x y) (has ys x) (let c = cond-false {A = ℕ} (same_item x y) 1 0 s in has_times x ys (omega (arith, times_cons x y ys)))) (cases_Bool (same_item x y))
+has_times x (y ∷ ys) h = ⊎_elim (λ s. or_left (same_item x y) (has_item ys x) s) (λ s. or_right (same_item x y) (has_item ys x) (let c = cond-false {A = ℕ} (same_item x y) 1 0 s in has_times x ys (omega (arith, times_cons x y ys)))) (cases_Bool (same_item x y))
 
-pub has_join : (x : Item) (xs ys : List Item) → has (xs ++ ys) x ≡ (has xs x || has ys x)
+pub has_join : (x : Item) (xs ys : List Item) → has_item (xs ++ ys) x ≡ (has_item xs x || has_item ys x)
 has_join x [] ys = refl
-has_join x (y ∷ xs) ys = elim (same_item x y) as (λ b. (b || has (xs ++ ys) x) ≡ ((b || has xs x) || has ys x)) [ true ↦ refl | false ↦ has_join x xs ys ]
+has_join x (y ∷ xs) ys = elim (same_item x y) as (λ b. (b || has_item (xs ++ ys) x) ≡ ((b || has_item xs x) || has_item ys x)) [ true ↦ refl | false ↦ has_join x xs ys ]
 
-pub has_last : (xs : List Item) (x : Item) → has (xs ++ x ∷ []) x ≡ true
-has_last xs x = has_join x xs (x ∷ []) ∙ or_right (has xs x) (has (x ∷ []) x) (or_left (same_item x x) false (same_itself x))
+pub has_last : (xs : List Item) (x : Item) → has_item (xs ++ x ∷ []) x ≡ true
+has_last xs x = has_join x xs (x ∷ []) ∙ or_right (has_item xs x) (has_item (x ∷ []) x) (or_left (same_item x x) false (same_itself x))
 
 -- in a list that rises each item stands at most once
-pub times_rises : (x : Item) (xs : List Item) → Rises xs → occurrence_count x xs ≡ cond (has xs x) 1 0
+pub times_rises : (x : Item) (xs : List Item) → Rises xs → occurrence_count x xs ≡ cond (has_item xs x) 1 0
 times_rises x [] r = refl
 times_rises x (y ∷ ys) r =
     ⊎_elim
     (λ s.
-    let c = cond-true {A = ℕ} (same_item x y) 1 0 s in let d = cond-true {A = ℕ} (has (y ∷ ys) x) 1 0 (or_left (same_item x y) (has ys x) s) in
-    let f : has ys x ≡ true → ⊥ = λ i. before_itself x (subst (λ z. Before z x) (sym (same_is x y s)) (all_at (Before y) ys x r.0 i)) in
-    let z : occurrence_count x ys ≡ 0 = ⊎_elim (λ i. absurd (f i)) (λ i. times_rises x ys r.1 ∙ cond-false {A = ℕ} (has ys x) 1 0 i) (cases_Bool (has ys x)) in
+    let c = cond-true {A = ℕ} (same_item x y) 1 0 s in let d = cond-true {A = ℕ} (has_item (y ∷ ys) x) 1 0 (or_left (same_item x y) (has_item ys x) s) in
+    let f : has_item ys x ≡ true → ⊥ = λ i. before_itself x (subst (λ z. Before z x) (sym (same_is x y s)) (all_at (Before y) ys x r.0 i)) in
+    let z : occurrence_count x ys ≡ 0 = ⊎_elim (λ i. absurd (f i)) (λ i. times_rises x ys r.1 ∙ cond-false {A = ℕ} (has_item ys x) 1 0 i) (cases_Bool (has_item ys x)) in
     omega (arith, times_cons x y ys))
     (λ s. let c = cond-false {A = ℕ} (same_item x y) 1 0 s in let h = times_rises x ys r.1 in
-    let d : cond {A = ℕ} (has (y ∷ ys) x) 1 0 ≡ cond {A = ℕ} (has ys x) 1 0 = ap (λ b. cond {A = ℕ} (b || has ys x) 1 0) s in omega (arith, times_cons x y ys))
+    let d : cond {A = ℕ} (has_item (y ∷ ys) x) 1 0 ≡ cond {A = ℕ} (has_item ys x) 1 0 = ap (λ b. cond {A = ℕ} (b || has_item ys x) 1 0) s in omega (arith, times_cons x y ys))
     (cases_Bool (same_item x y))
 
 -- a list is what stands before one of its items, the item, and what stands after it
-find : (x : Item) (ys : List Item) → has ys x ≡ true → (front : List Item) × (behind : List Item) × (ys ≡ front ++ x ∷ behind)
+find : (x : Item) (ys : List Item) → has_item ys x ≡ true → (front : List Item) × (behind : List Item) × (ys ≡ front ++ x ∷ behind)
 find x [] e = absurd (false≢true e)
-find x (y ∷ ys) e = ⊎_elim (λ s. ([], ys, ap (λ z. z ∷ ys) (sym (same_is x y s)))) (λ s. let r = find x ys s in (y ∷ r.0, r.1, ap (λ l. y ∷ l) r.2)) (or_cases (same_item x y) (has ys x) e)
+find x (y ∷ ys) e = ⊎_elim (λ s. ([], ys, ap (λ z. z ∷ ys) (sym (same_is x y s)))) (λ s. let r = find x ys s in (y ∷ r.0, r.1, ap (λ l. y ∷ l) r.2)) (or_cases (same_item x y) (has_item ys x) e)
 
 -- lists in which each item stands as often weigh the same
 pub same_weight : (h : Item → ℕ) (xs ys : List Item) → ((x : Item) → occurrence_count x xs ≡ occurrence_count x ys) → sum_by h xs ≡ sum_by h ys
@@ -79,10 +79,10 @@ pub same_marks : (xs ys : List Item) → ((x : Item) → occurrence_count x xs �
 same_marks xs ys e = same_weight (λ z. cond (is_mark z) 1 0) xs ys e
 
 -- a list with a mark has one
-pub mark_in : (xs : List Item) → 0 < mark_count xs → (k : ℕ) × (has xs (Mark k) ≡ true)
+pub mark_in : (xs : List Item) → 0 < mark_count xs → (k : ℕ) × (has_item xs (Mark k) ≡ true)
 mark_in [] h = absurd (omega arith)
 mark_in (Work t ∷ xs) h = let r = mark_in xs (omega (arith, marks_cons (Work t) xs)) in (r.0, r.1)
-mark_in (Mark k ∷ xs) h = (k, or_left (same_item (Mark k) (Mark k)) (has xs (Mark k)) (same_itself (Mark k)))
+mark_in (Mark k ∷ xs) h = (k, or_left (same_item (Mark k) (Mark k)) (has_item xs (Mark k)) (same_itself (Mark k)))
 
 -- how many marks a feed has
 marks_folder : (c n : ℕ) → mark_count (folder_tickets c n) ≡ 0
@@ -159,7 +159,7 @@ length_ends : (n : ℕ) → length (end_marks n) ≡ n
 length_ends zero = refl
 length_ends (suc n) = let h = length_ends n in omega (arith, length-append (end_marks n) (Mark (suc n) ∷ []))
 
-pub few_items : (bundle : List Folder) (workers : ℕ) → IsSmall bundle → workers ≤ 16 → length (items bundle workers) < 2 ^ 62
+pub few_items : (bundle : List Folder) (workers : ℕ) → IsWithinCounts bundle → workers ≤ 16 → length (items bundle workers) < 2 ^ 62
 few_items bundle workers small some =
     let t = few_tickets 1 bundle small.entries in let e = length_ends workers in let few = small.folders in
     omega (arith, length-append (tickets_from 1 bundle) (end_marks workers))

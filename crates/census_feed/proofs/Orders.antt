@@ -8,10 +8,10 @@ use Rattle.std.specs.List.{AllByRecursion}
 use Rattle.std.proofs.lemmas.Bool.{false≢true, and_parts, and_from, or_cases, or_left, or_right, eqb-true, eq-eqb}
 use Rattle.census_bundle.specs.declared.bundle.Folder.{Folder}
 use Rattle.census_bundle.specs.declared.ticket.Ticket.{Ticket}
-use Rattle.census_bundle.specs.Tickets.{ticket, folder_of, number_of, ticket_cmp}
+use Rattle.census_bundle.specs.Tickets.{ticket, folder_of, number_in_folder, ticket_cmp}
 use Rattle.census_feed.specs.declared.item.Item.{Item}
 use Rattle.census_feed.specs.declared.item.Item.TheVariants.{Work, Mark}
-use Rattle.census_feed.specs.Items.{folder_tickets, tickets_from, end_marks, items, Before, Rises, same_item, has}
+use Rattle.census_feed.specs.Items.{folder_tickets, tickets_from, end_marks, items, Before, Rises, same_item, has_item}
 
 pub same_is : (x y : Item) → same_item x y ≡ true → x ≡ y
 same_is (Work s) (Work t) e = let h = and_parts (s.folder == t.folder) (s.number == t.number) e in let p = eqb-true s.folder t.folder h.0 in let q = eqb-true s.number t.number h.1 in λ i. Work (record { folder = p i; number = q i })
@@ -24,7 +24,7 @@ same_itself (Work t) = and_from _ _ (eq-eqb t.folder t.folder refl) (eq-eqb t.nu
 same_itself (Mark k) = eq-eqb k k refl
 
 ticket_total : IsTotalOrder ticket_cmp
-ticket_total = then_total (on_total folder_of nat_cmp_total) (on_total number_of nat_cmp_total)
+ticket_total = then_total (on_total folder_of nat_cmp_total) (on_total number_in_folder nat_cmp_total)
 
 by_folder : (s t : Ticket) → s.folder < t.folder → ticket_cmp s t ≡ Less
 by_folder s t h = ap (λ o. ordering_then o (nat_cmp s.number t.number)) (sym (nat_cmp_is s.folder t.folder Less h))
@@ -50,13 +50,13 @@ module _ {X : Type 0} (P : X → Type 0) where
   all_weaker Q f [] h = tt
   all_weaker Q f (x ∷ xs) h = (f x h.0, all_weaker Q f xs h.1)
 
-pub all_at : (P : Item → Type 0) (xs : List Item) (x : Item) → AllByRecursion P xs → has xs x ≡ true → P x
+pub all_at : (P : Item → Type 0) (xs : List Item) (x : Item) → AllByRecursion P xs → has_item xs x ≡ true → P x
 all_at P [] x a e = absurd (false≢true e)
-all_at P (y ∷ ys) x a e = ⊎_elim (λ s. subst P (sym (same_is x y s)) a.0) (λ s. all_at P ys x a.1 s) (or_cases (same_item x y) (has ys x) e)
+all_at P (y ∷ ys) x a e = ⊎_elim (λ s. subst P (sym (same_is x y s)) a.0) (λ s. all_at P ys x a.1 s) (or_cases (same_item x y) (has_item ys x) e)
 
-pub all_from : (P : Item → Type 0) (xs : List Item) → ((x : Item) → has xs x ≡ true → P x) → AllByRecursion P xs
+pub all_from : (P : Item → Type 0) (xs : List Item) → ((x : Item) → has_item xs x ≡ true → P x) → AllByRecursion P xs
 all_from P [] f = tt
-all_from P (y ∷ ys) f = (f y (or_left (same_item y y) (has ys y) (same_itself y)), all_from P ys (λ x e. f x (or_right (same_item x y) (has ys x) e)))
+all_from P (y ∷ ys) f = (f y (or_left (same_item y y) (has_item ys y) (same_itself y)), all_from P ys (λ x e. f x (or_right (same_item x y) (has_item ys x) e)))
 
 abbrev pub Precedes : List Item → List Item → Type 0
 Precedes xs ys = AllByRecursion (λ x. AllByRecursion (Before x) ys) xs

@@ -9,7 +9,7 @@ use Rattle.census_bundle.specs.declared.ticket.Ticket.{Ticket}
 use Rattle.census_bundle.specs.Tickets.{ticket, entry_in, IsTicketOf}
 use Rattle.census_feed.specs.declared.item.Item.{Item}
 use Rattle.census_feed.specs.declared.item.Item.TheVariants.{Work, Mark}
-use Rattle.census_feed.specs.Items.{folder_tickets, tickets_from, tickets, end_marks, items, has}
+use Rattle.census_feed.specs.Items.{folder_tickets, tickets_from, tickets, end_marks, items, has_item}
 use Rattle.census_feed.proofs.Orders.{all_at, all_join, all_weaker, up_to, MarkUpTo}
 use Rattle.census_feed.proofs.Counts.{has_join, has_last}
 
@@ -32,29 +32,29 @@ all_numbered c (suc n) = all_join (Numbered c (suc n)) (folder_tickets c n) (Wor
 below : (k n : ℕ) → k ≤ suc n → (k ≡ suc n → ⊥) → k ≤ n
 below k n h e = omega arith
 
-in_folder : (c n k : ℕ) → 1 ≤ k → k ≤ n → has (folder_tickets c n) (Work (ticket c k)) ≡ true
+in_folder : (c n k : ℕ) → 1 ≤ k → k ≤ n → has_item (folder_tickets c n) (Work (ticket c k)) ≡ true
 in_folder c zero k l h = absurd (omega arith)
 in_folder c (suc n) k l h =
-    ⊎_elim (λ (e : k ≡ suc n). subst (λ (m : ℕ). has (folder_tickets c (suc n)) (Work (ticket c m)) ≡ true) (sym e) (has_last (folder_tickets c n) (Work (ticket c (suc n)))))
-    (λ (e : k ≡ suc n → ⊥). has_join (Work (ticket c k)) (folder_tickets c n) (Work (ticket c (suc n)) ∷ []) ∙ or_left (has (folder_tickets c n) (Work (ticket c k))) (has (Work (ticket c (suc n)) ∷ []) (Work (ticket c k))) (in_folder c n k l (below k n h e)))
+    ⊎_elim (λ (e : k ≡ suc n). subst (λ (m : ℕ). has_item (folder_tickets c (suc n)) (Work (ticket c m)) ≡ true) (sym e) (has_last (folder_tickets c n) (Work (ticket c (suc n)))))
+    (λ (e : k ≡ suc n → ⊥). has_join (Work (ticket c k)) (folder_tickets c n) (Work (ticket c (suc n)) ∷ []) ∙ or_left (has_item (folder_tickets c n) (Work (ticket c k))) (has_item (Work (ticket c (suc n)) ∷ []) (Work (ticket c k))) (in_folder c n k l (below k n h e)))
     (cases_eq k (suc n))
 
-within : (c : ℕ) (fs : List Folder) (f k : ℕ) → has (tickets_from c fs) (Work (ticket f k)) ≡ true → Within c fs f k
+within : (c : ℕ) (fs : List Folder) (f k : ℕ) → has_item (tickets_from c fs) (Work (ticket f k)) ≡ true → Within c fs f k
 within c [] f k e = absurd (false≢true e)
 within c (x ∷ fs) f k e =
     let n = length x.entries in
     ⊎_elim
-    (λ (s : has (folder_tickets c n) (Work (ticket f k)) ≡ true).
+    (λ (s : has_item (folder_tickets c n) (Work (ticket f k)) ≡ true).
     let h = all_at (Numbered c n) (folder_tickets c n) (Work (ticket f k)) (all_numbered c n) s in
     let z : f - c ≡ 0 = omega arith in
     (omega arith, x, ap (slice_get (x ∷ fs)) z, h.1, h.2))
-    (λ (s : has (tickets_from (suc c) fs) (Work (ticket f k)) ≡ true).
+    (λ (s : has_item (tickets_from (suc c) fs) (Work (ticket f k)) ≡ true).
     let h = within (suc c) fs f k s in
     let z : f - c ≡ suc (f - suc c) = omega arith in
     (omega arith, h.1, ap (slice_get (x ∷ fs)) z ∙ h.2, h.3, h.4))
-    (or_cases (has (folder_tickets c n) (Work (ticket f k))) (has (tickets_from (suc c) fs) (Work (ticket f k))) (sym (has_join (Work (ticket f k)) (folder_tickets c n) (tickets_from (suc c) fs)) ∙ e))
+    (or_cases (has_item (folder_tickets c n) (Work (ticket f k))) (has_item (tickets_from (suc c) fs) (Work (ticket f k))) (sym (has_join (Work (ticket f k)) (folder_tickets c n) (tickets_from (suc c) fs)) ∙ e))
 
-there : (c : ℕ) (fs : List Folder) (f k : ℕ) → Within c fs f k → has (tickets_from c fs) (Work (ticket f k)) ≡ true
+there : (c : ℕ) (fs : List Folder) (f k : ℕ) → Within c fs f k → has_item (tickets_from c fs) (Work (ticket f k)) ≡ true
 there c [] f k h = absurd (none-some h.1 h.2)
 there c (x ∷ fs) f k h =
     let n = length x.entries in
@@ -64,12 +64,12 @@ there c (x ∷ fs) f k h =
     let z : f - c ≡ 0 = omega arith in
     let same : x ≡ h.1 = same_Some x h.1 (sym (ap (slice_get (x ∷ fs)) z) ∙ h.2) in
     let l : k ≤ n = subst (λ (y : Folder). k ≤ length y.entries) (sym same) h.4 in
-    or_left (has (folder_tickets c n) (Work (ticket f k))) (has (tickets_from (suc c) fs) (Work (ticket f k))) (subst (λ (m : ℕ). has (folder_tickets c n) (Work (ticket m k)) ≡ true) (sym e) (in_folder c n k h.3 l)))
+    or_left (has_item (folder_tickets c n) (Work (ticket f k))) (has_item (tickets_from (suc c) fs) (Work (ticket f k))) (subst (λ (m : ℕ). has_item (folder_tickets c n) (Work (ticket m k)) ≡ true) (sym e) (in_folder c n k h.3 l)))
     (λ (e : f ≡ c → ⊥).
     let z : f - c ≡ suc (f - suc c) = omega arith in
     let more : suc c ≤ f = omega arith in
     let at : slice_get fs (f - suc c) ≡ Some h.1 = sym (ap (slice_get (x ∷ fs)) z) ∙ h.2 in
-    or_right (has (folder_tickets c n) (Work (ticket f k))) (has (tickets_from (suc c) fs) (Work (ticket f k))) (there (suc c) fs f k (more, h.1, at, h.3, h.4)))
+    or_right (has_item (folder_tickets c n) (Work (ticket f k))) (has_item (tickets_from (suc c) fs) (Work (ticket f k))) (there (suc c) fs f k (more, h.1, at, h.3, h.4)))
     (cases_eq f c)
 
 element_at : {X : Type 0} (xs : List X) (i : ℕ) → i < length xs → (x : X) × (slice_get xs i ≡ Some x)
@@ -100,21 +100,21 @@ place_of_ticket bundle (suc f) k h =
     let z : suc f - 1 ≡ f = omega arith in
     (omega arith, r.0, ap (slice_get bundle) z ∙ r.1, r.2, r.3)
 
-not_a_mark : (n : ℕ) (t : Ticket) → has (end_marks n) (Work t) ≡ true → ⊥
+not_a_mark : (n : ℕ) (t : Ticket) → has_item (end_marks n) (Work t) ≡ true → ⊥
 not_a_mark n t e = all_at (MarkUpTo n) (end_marks n) (Work t) (up_to n) e
 
 -- the tickets among the items are those of the bundle
-pub is_ticket_of : (bundle : List Folder) (workers : ℕ) (t : Ticket) → has (items bundle workers) (Work t) ≡ true → IsTicketOf bundle t
+pub is_ticket_of : (bundle : List Folder) (workers : ℕ) (t : Ticket) → has_item (items bundle workers) (Work t) ≡ true → IsTicketOf bundle t
 is_ticket_of bundle workers t e =
-    ⊎_elim (λ (s : has (tickets bundle) (Work t) ≡ true). is_ticket_at bundle t.folder t.number (within 1 bundle t.folder t.number s))
-    (λ (s : has (end_marks workers) (Work t) ≡ true). absurd (not_a_mark workers t s))
-    (or_cases (has (tickets bundle) (Work t)) (has (end_marks workers) (Work t)) (sym (has_join (Work t) (tickets bundle) (end_marks workers)) ∙ e))
+    ⊎_elim (λ (s : has_item (tickets bundle) (Work t) ≡ true). is_ticket_at bundle t.folder t.number (within 1 bundle t.folder t.number s))
+    (λ (s : has_item (end_marks workers) (Work t) ≡ true). absurd (not_a_mark workers t s))
+    (or_cases (has_item (tickets bundle) (Work t)) (has_item (end_marks workers) (Work t)) (sym (has_join (Work t) (tickets bundle) (end_marks workers)) ∙ e))
 
-pub ticket_is_there : (bundle : List Folder) (workers : ℕ) (t : Ticket) → IsTicketOf bundle t → has (items bundle workers) (Work t) ≡ true
+pub ticket_is_there : (bundle : List Folder) (workers : ℕ) (t : Ticket) → IsTicketOf bundle t → has_item (items bundle workers) (Work t) ≡ true
 ticket_is_there bundle workers t h =
     has_join (Work t) (tickets bundle) (end_marks workers)
-    ∙ or_left (has (tickets bundle) (Work t)) (has (end_marks workers) (Work t)) (there 1 bundle t.folder t.number (place_of_ticket bundle t.folder t.number h))
+    ∙ or_left (has_item (tickets bundle) (Work t)) (has_item (end_marks workers) (Work t)) (there 1 bundle t.folder t.number (place_of_ticket bundle t.folder t.number h))
 
 -- the same of what a hand's feed was filled with
-pub is_ticket_for : (filled : List Item) (t : Ticket) → has filled (Work t) ≡ true → (bundle : List Folder) → (workers : ℕ) × (filled ≡ items bundle workers) → IsTicketOf bundle t
-is_ticket_for filled t h bundle f = is_ticket_of bundle f.0 t (subst (λ (l : List Item). has l (Work t) ≡ true) f.1 h)
+pub is_ticket_for : (filled : List Item) (t : Ticket) → has_item filled (Work t) ≡ true → (bundle : List Folder) → (workers : ℕ) × (filled ≡ items bundle workers) → IsTicketOf bundle t
+is_ticket_for filled t h bundle f = is_ticket_of bundle f.0 t (subst (λ (l : List Item). has_item l (Work t) ≡ true) f.1 h)

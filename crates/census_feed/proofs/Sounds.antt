@@ -7,8 +7,8 @@ use Rattle.std.proofs.lemmas.List.{append-nil, nil_from_length}
 use Rattle.census_bundle.specs.declared.bundle.Folder.{Folder}
 use Rattle.census_feed.specs.declared.item.Item.{Item}
 use Rattle.census_feed.specs.declared.item.Item.TheVariants.{Work, Mark}
-use Rattle.census_feed.specs.Items.{items, Before, Rises, same_item, has, is_mark, occurrence_count, mark_count}
-use Rattle.census_feed.specs.Rule.{all_items_of, IsSound, AllMarks}
+use Rattle.census_feed.specs.Items.{items, Before, Rises, same_item, has_item, is_mark, occurrence_count, mark_count}
+use Rattle.census_feed.specs.Rule.{all_items_of, IsSoundFeed, AllMarks}
 use Rattle.census_feed.proofs.Orders.{same_is, same_itself, before_itself, all_join, all_parts, all_weaker, all_at, all_from, Precedes, rises_join, rises_parts, items_rise}
 use Rattle.census_feed.proofs.Counts.{times_cons, times_join, times_has, has_join, times_rises, same_marks, mark_in, marks_join, marks_cons, marks_items, times_joined, marks_joined, few_marks}
 
@@ -19,7 +19,7 @@ none_times : (x : Item) (ls : List (List Item)) → length ls ≡ 0 → occurren
 none_times x [] e = refl
 none_times x (l ∷ ls) e = absurd (omega arith)
 
-module _ (bundle : List Folder) (workers : ℕ) (pushed popped rest : List Item) (hands : List (List Item)) (ended : ℕ) (s : IsSound bundle workers pushed popped rest hands ended) where
+module _ (bundle : List Folder) (workers : ℕ) (pushed popped rest : List Item) (hands : List (List Item)) (ended : ℕ) (s : IsSoundFeed bundle workers pushed popped rest hands ended) where
   -- what was pushed rises
   pub pushed_rises : Rises pushed
   pushed_rises = (rises_parts pushed s.behind (subst Rises s.in_order (items_rise bundle workers))).0
@@ -34,8 +34,8 @@ module _ (bundle : List Folder) (workers : ℕ) (pushed popped rest : List Item)
   front_first = (rises_parts s.front (popped ++ rest) parts_rise).2
 
   -- what stands in a hand's list has left the deque
-  pub in_front : (x : Item) → 0 < occurrence_count x (all_items_of hands) → has s.front x ≡ true
-  in_front x h = ⊎_elim (λ e. e) (λ e. let c = cond-false {A = ℕ} (has s.front x) 1 0 e in absurd (let o = s.once x in omega arith)) (cases_Bool (has s.front x))
+  pub in_front : (x : Item) → 0 < occurrence_count x (all_items_of hands) → has_item s.front x ≡ true
+  in_front x h = ⊎_elim (λ e. e) (λ e. let c = cond-false {A = ℕ} (has_item s.front x) 1 0 e in absurd (let o = s.once x in omega arith)) (cases_Bool (has_item s.front x))
 
   pub as_often : (x : Item) → occurrence_count x (all_items_of hands) ≡ occurrence_count x s.front
   as_often x = s.once x ∙ sym (times_rises x s.front front_rises)
@@ -61,8 +61,8 @@ at_most_one : (l : List Item) (y : Item) → mark_count l ≡ 0 → mark_count (
 at_most_one l y e = let w = mark_weighs y in omega (arith, marks_join l (y ∷ []), marks_cons y [])
 
 -- a push, before any hand has begun
-pub push_sound : (bundle : List Folder) (workers : ℕ) (pushed popped rest : List Item) (hands : List (List Item)) (ended : ℕ) → IsSound bundle workers pushed popped rest hands ended → length hands ≡ 0 → length popped ≡ 0
-    → (x : Item) (bundle' : List Folder) (workers' : ℕ) (behind : List Item) → items bundle' workers' ≡ (pushed ++ x ∷ []) ++ behind → IsSound bundle' workers' (pushed ++ x ∷ []) popped (rest ++ x ∷ []) hands ended
+pub push_sound : (bundle : List Folder) (workers : ℕ) (pushed popped rest : List Item) (hands : List (List Item)) (ended : ℕ) → IsSoundFeed bundle workers pushed popped rest hands ended → length hands ≡ 0 → length popped ≡ 0
+    → (x : Item) (bundle' : List Folder) (workers' : ℕ) (behind : List Item) → items bundle' workers' ≡ (pushed ++ x ∷ []) ++ behind → IsSoundFeed bundle' workers' (pushed ++ x ∷ []) popped (rest ++ x ∷ []) hands ended
 push_sound bundle workers pushed popped rest hands ended s none nothing x bundle' workers' behind next = record {
   front = s.front;
   behind = behind;
@@ -76,8 +76,8 @@ push_sound bundle workers pushed popped rest hands ended s none nothing x bundle
 }
 
 -- a hand begins, with an empty list
-pub begin_sound : (bundle : List Folder) (workers : ℕ) (pushed popped rest : List Item) (hands : List (List Item)) (ended : ℕ) → IsSound bundle workers pushed popped rest hands ended → (bundle' : List Folder) (workers' : ℕ) → items bundle' workers' ≡ pushed → length hands < workers'
-    → IsSound bundle' workers' pushed popped rest (hands ++ [] ∷ []) ended
+pub begin_sound : (bundle : List Folder) (workers : ℕ) (pushed popped rest : List Item) (hands : List (List Item)) (ended : ℕ) → IsSoundFeed bundle workers pushed popped rest hands ended → (bundle' : List Folder) (workers' : ℕ) → items bundle' workers' ≡ pushed → length hands < workers'
+    → IsSoundFeed bundle' workers' pushed popped rest (hands ++ [] ∷ []) ended
 begin_sound bundle workers pushed popped rest hands ended s bundle' workers' all room =
     let n = length-append hands ([] ∷ []) in
     let m : workers' ≤ workers = let a = ap mark_count all in omega (arith, marks_items bundle' workers', marks_pushed bundle workers pushed popped rest hands ended s) in
@@ -94,11 +94,11 @@ begin_sound bundle workers pushed popped rest hands ended s bundle' workers' all
     }
 
 -- of a hand that is under way, whose list is l
-module _ (bundle : List Folder) (workers : ℕ) (pushed popped rest : List Item) (a : List (List Item)) (l : List Item) (b : List (List Item)) (ended : ℕ) (s : IsSound bundle workers pushed popped rest (a ++ l ∷ b) ended) where
+module _ (bundle : List Folder) (workers : ℕ) (pushed popped rest : List Item) (a : List (List Item)) (l : List Item) (b : List (List Item)) (ended : ℕ) (s : IsSoundFeed bundle workers pushed popped rest (a ++ l ∷ b) ended) where
   pub its_own : Rises l × (mark_count l ≤ 1)
   its_own = (all_parts (λ m. Rises m × (mark_count m ≤ 1)) a (l ∷ b) s.each).1.0
 
-  pub its_items : (x : Item) → has l x ≡ true → has s.front x ≡ true
+  pub its_items : (x : Item) → has_item l x ≡ true → has_item s.front x ≡ true
   its_items x i = in_front bundle workers pushed popped rest (a ++ l ∷ b) ended s x (let h = times_has x l i in omega (arith, times_joined x a l b))
 
   -- while it is under way nothing was popped
@@ -109,7 +109,7 @@ module _ (bundle : List Folder) (workers : ℕ) (pushed popped rest : List Item)
       (⊎_elim (λ (h : 0 < length popped). let w = s.late h in absurd (omega (arith, length-append a (l ∷ b)))) (λ (h : length popped ≤ 0). omega arith) (cases_lt 0 (length popped)))
 
   -- what it took stands before all that is left
-  pub later_left : (x : Item) → has l x ≡ true → AllByRecursion (Before x) (popped ++ rest)
+  pub later_left : (x : Item) → has_item l x ≡ true → AllByRecursion (Before x) (popped ++ rest)
   later_left x i =
       all_at (λ z. AllByRecursion (Before z) (popped ++ rest)) s.front x (front_first bundle workers pushed popped rest (a ++ l ∷ b) ended s) (its_items x i)
 
@@ -132,7 +132,7 @@ module _ (bundle : List Folder) (workers : ℕ) (pushed popped rest : List Item)
       omega (arith, marks_joined a l b)
 
 -- a hand takes the first of the rest
-module _ (bundle : List Folder) (workers : ℕ) (pushed popped : List Item) (y : Item) (rest : List Item) (a : List (List Item)) (l : List Item) (b : List (List Item)) (ended : ℕ) (s : IsSound bundle workers pushed popped (y ∷ rest) (a ++ l ∷ b) ended) where
+module _ (bundle : List Folder) (workers : ℕ) (pushed popped : List Item) (y : Item) (rest : List Item) (a : List (List Item)) (l : List Item) (b : List (List Item)) (ended : ℕ) (s : IsSoundFeed bundle workers pushed popped (y ∷ rest) (a ++ l ∷ b) ended) where
   pub taken_rises : Rises (l ++ y ∷ [])
   taken_rises =
       let p = front_first bundle workers pushed popped (y ∷ rest) (a ++ l ∷ b) ended s in
@@ -142,17 +142,17 @@ module _ (bundle : List Folder) (workers : ℕ) (pushed popped : List Item) (y :
       let q = all_at (λ z. AllByRecursion (Before z) (popped ++ y ∷ rest)) s.front x p (its_items bundle workers pushed popped (y ∷ rest) a l b ended s x i) in
       ((all_parts (Before x) popped (y ∷ rest) q).1.0, tt)))
 
-  pub taken_pushed : has pushed y ≡ true
-  taken_pushed = subst (λ m. has m y ≡ true) (sym s.parts) (has_join y s.front (popped ++ y ∷ rest) ∙ or_right (has s.front y) (has (popped ++ y ∷ rest) y) (has_join y popped (y ∷ rest) ∙ or_right (has popped y) (has (y ∷ rest) y) (or_left (same_item y y) (has rest y) (same_itself y))))
+  pub taken_pushed : has_item pushed y ≡ true
+  taken_pushed = subst (λ m. has_item m y ≡ true) (sym s.parts) (has_join y s.front (popped ++ y ∷ rest) ∙ or_right (has_item s.front y) (has_item (popped ++ y ∷ rest) y) (has_join y popped (y ∷ rest) ∙ or_right (has_item popped y) (has_item (y ∷ rest) y) (or_left (same_item y y) (has_item rest y) (same_itself y))))
 
   -- it was in no hand's list
-  not_in_front : has s.front y ≡ true → ⊥
+  not_in_front : has_item s.front y ≡ true → ⊥
   not_in_front i =
       let p = front_first bundle workers pushed popped (y ∷ rest) (a ++ l ∷ b) ended s in
       let q = all_at (λ z. AllByRecursion (Before z) (popped ++ y ∷ rest)) s.front y p i in
       before_itself y (all_parts (Before y) popped (y ∷ rest) q).1.0
 
-  once_more : (x : Item) → occurrence_count x (all_items_of (a ++ (l ++ y ∷ []) ∷ b)) ≡ cond (has (s.front ++ y ∷ []) x) 1 0
+  once_more : (x : Item) → occurrence_count x (all_items_of (a ++ (l ++ y ∷ []) ∷ b)) ≡ cond (has_item (s.front ++ y ∷ []) x) 1 0
   once_more x =
       let o = s.once x in
       let j = has_join x s.front (y ∷ []) in
@@ -161,19 +161,19 @@ module _ (bundle : List Folder) (workers : ℕ) (pushed popped : List Item) (y :
       ⊎_elim
       (λ (e : same_item x y ≡ true).
       let c = cond-true {A = ℕ} (same_item x y) 1 0 e in
-      let f : has s.front x ≡ true → ⊥ = λ i. not_in_front (subst (λ z. has s.front z ≡ true) (same_is x y e) i) in
-      let d : cond {A = ℕ} (has s.front x) 1 0 ≡ 0 = ⊎_elim (λ i. absurd (f i)) (λ i. cond-false {A = ℕ} (has s.front x) 1 0 i) (cases_Bool (has s.front x)) in
-      let g : cond {A = ℕ} (has (s.front ++ y ∷ []) x) 1 0 ≡ 1 =
-      cond-true {A = ℕ} (has (s.front ++ y ∷ []) x) 1 0 (j ∙ or_right (has s.front x) (has (y ∷ []) x) (or_left (same_item x y) false e)) in
+      let f : has_item s.front x ≡ true → ⊥ = λ i. not_in_front (subst (λ z. has_item s.front z ≡ true) (same_is x y e) i) in
+      let d : cond {A = ℕ} (has_item s.front x) 1 0 ≡ 0 = ⊎_elim (λ i. absurd (f i)) (λ i. cond-false {A = ℕ} (has_item s.front x) 1 0 i) (cases_Bool (has_item s.front x)) in
+      let g : cond {A = ℕ} (has_item (s.front ++ y ∷ []) x) 1 0 ≡ 1 =
+      cond-true {A = ℕ} (has_item (s.front ++ y ∷ []) x) 1 0 (j ∙ or_right (has_item s.front x) (has_item (y ∷ []) x) (or_left (same_item x y) false e)) in
       omega arith)
       (λ (e : same_item x y ≡ false).
       let c = cond-false {A = ℕ} (same_item x y) 1 0 e in
-      let g : cond {A = ℕ} (has (s.front ++ y ∷ []) x) 1 0 ≡ cond {A = ℕ} (has s.front x) 1 0 =
-      ap (λ v. cond {A = ℕ} v 1 0) (j ∙ ap (λ v. has s.front x || (v || false)) e ∙ or-false (has s.front x)) in
+      let g : cond {A = ℕ} (has_item (s.front ++ y ∷ []) x) 1 0 ≡ cond {A = ℕ} (has_item s.front x) 1 0 =
+      ap (λ v. cond {A = ℕ} v 1 0) (j ∙ ap (λ v. has_item s.front x || (v || false)) e ∙ or-false (has_item s.front x)) in
       omega arith)
       (cases_Bool (same_item x y))
 
-  pub take_sound : ended ≤ length a + length b → mark_count l ≡ 0 → IsSound bundle workers pushed popped rest (a ++ (l ++ y ∷ []) ∷ b) ended
+  pub take_sound : ended ≤ length a + length b → mark_count l ≡ 0 → IsSoundFeed bundle workers pushed popped rest (a ++ (l ++ y ∷ []) ∷ b) ended
   take_sound e none =
       let n = length-append a (l ∷ b) in let n' = length-append a ((l ++ y ∷ []) ∷ b) in
       let each = all_parts (λ m. Rises m × (mark_count m ≤ 1)) a (l ∷ b) s.each in
@@ -192,8 +192,8 @@ module _ (bundle : List Folder) (workers : ℕ) (pushed popped : List Item) (y :
       }
 
 -- the lists of the hands in another order, of which more have ended
-pub reorder_sound : (bundle : List Folder) (workers : ℕ) (pushed popped rest : List Item) (hands : List (List Item)) (ended : ℕ) → IsSound bundle workers pushed popped rest hands ended
-    → (hands' : List (List Item)) (ended' : ℕ) → length hands' ≡ length hands → ((x : Item) → occurrence_count x (all_items_of hands') ≡ occurrence_count x (all_items_of hands)) → Each hands' → ended ≤ ended' → IsSound bundle workers pushed popped rest hands' ended'
+pub reorder_sound : (bundle : List Folder) (workers : ℕ) (pushed popped rest : List Item) (hands : List (List Item)) (ended : ℕ) → IsSoundFeed bundle workers pushed popped rest hands ended
+    → (hands' : List (List Item)) (ended' : ℕ) → length hands' ≡ length hands → ((x : Item) → occurrence_count x (all_items_of hands') ≡ occurrence_count x (all_items_of hands)) → Each hands' → ended ≤ ended' → IsSoundFeed bundle workers pushed popped rest hands' ended'
 reorder_sound bundle workers pushed popped rest hands ended s hands' ended' n t each e = record {
   front = s.front;
   behind = s.behind;
@@ -207,8 +207,8 @@ reorder_sound bundle workers pushed popped rest hands ended s hands' ended' n t 
 }
 
 -- the filler pops the first of the rest, once all hands have ended
-pub pop_sound : (bundle : List Folder) (workers : ℕ) (pushed popped : List Item) (y : Item) (rest : List Item) (hands : List (List Item)) (ended : ℕ) → IsSound bundle workers pushed popped (y ∷ rest) hands ended → 0 < length hands → mark_count pushed ≤ ended
-    → IsSound bundle workers pushed (popped ++ y ∷ []) rest hands ended
+pub pop_sound : (bundle : List Folder) (workers : ℕ) (pushed popped : List Item) (y : Item) (rest : List Item) (hands : List (List Item)) (ended : ℕ) → IsSoundFeed bundle workers pushed popped (y ∷ rest) hands ended → 0 < length hands → mark_count pushed ≤ ended
+    → IsSoundFeed bundle workers pushed (popped ++ y ∷ []) rest hands ended
 pop_sound bundle workers pushed popped y rest hands ended s some done =
     let m = all_marks_pushed bundle workers pushed popped (y ∷ rest) hands ended s some in
     record {
@@ -223,18 +223,18 @@ pop_sound bundle workers pushed popped y rest hands ended s some done =
       late = λ h. omega arith;
     }
 
-pub popped_within : (bundle : List Folder) (workers : ℕ) (pushed popped rest : List Item) (hands : List (List Item)) (ended : ℕ) → IsSound bundle workers pushed popped rest hands ended → length popped + length rest ≤ length pushed
+pub popped_within : (bundle : List Folder) (workers : ℕ) (pushed popped rest : List Item) (hands : List (List Item)) (ended : ℕ) → IsSoundFeed bundle workers pushed popped rest hands ended → length popped + length rest ≤ length pushed
 popped_within bundle workers pushed popped rest hands ended s = let e = ap length s.parts in omega (arith, length-append s.front (popped ++ rest), length-append popped rest)
 
 -- what was pushed is in the hands' lists, popped or left
-pub all_there : (bundle : List Folder) (workers : ℕ) (pushed popped rest : List Item) (hands : List (List Item)) (ended : ℕ) → IsSound bundle workers pushed popped rest hands ended
+pub all_there : (bundle : List Folder) (workers : ℕ) (pushed popped rest : List Item) (hands : List (List Item)) (ended : ℕ) → IsSoundFeed bundle workers pushed popped rest hands ended
     → (x : Item) → occurrence_count x (all_items_of hands) + (occurrence_count x popped + occurrence_count x rest) ≡ occurrence_count x pushed
 all_there bundle workers pushed popped rest hands ended s x =
     let e = ap (occurrence_count x) s.parts in let o = as_often bundle workers pushed popped rest hands ended s x in
     omega (arith, times_join x s.front (popped ++ rest), times_join x popped rest)
 
 -- where a hand has a mark, no ticket was popped or is left
-pub all_marks : (bundle : List Folder) (workers : ℕ) (pushed popped rest : List Item) (hands : List (List Item)) (ended : ℕ) → IsSound bundle workers pushed popped rest hands ended
+pub all_marks : (bundle : List Folder) (workers : ℕ) (pushed popped rest : List Item) (hands : List (List Item)) (ended : ℕ) → IsSoundFeed bundle workers pushed popped rest hands ended
     → 0 < mark_count (all_items_of hands) → AllMarks (popped ++ rest)
 all_marks bundle workers pushed popped rest hands ended s h =
     let m = mark_in (all_items_of hands) h in

@@ -12,8 +12,8 @@ use Rattle.census_feed.specs.declared.item.Item.{Item}
 use Rattle.census_feed.specs.declared.view.Role.{Role}
 use Rattle.census_feed.specs.declared.view.Role.TheVariants.{Filler, Holder, Spent}
 use Rattle.census_feed.specs.declared.view.View.{View}
-use Rattle.census_feed.specs.Items.{items, Before, Rises, has, is_mark, occurrence_count, mark_count}
-use Rattle.census_feed.specs.Rule.{view_of_filler, spent_view, by_role, lists_of, lists, all_items_of, fillers_of, views_of_filler, KnowsFilled, IsSound, Fed, view_after_push, view_after_take, begins_one, new_hand, ends_one, Stole, Popped, AllMarks, AllOut}
+use Rattle.census_feed.specs.Items.{items, Before, Rises, has_item, is_mark, occurrence_count, mark_count}
+use Rattle.census_feed.specs.Rule.{view_of_filler, spent_view, by_role, lists_of, lists, all_items_of, fillers_of, views_of_filler, KnowsFilled, IsSoundFeed, Fed, view_after_push, view_after_take, begins_one, new_hand, ends_one, Stole, Popped, AllMarks, AllOut}
 use Rattle.census_feed.proofs.Orders.{all_join, all_parts}
 use Rattle.census_feed.proofs.Counts.{times_rises, times_joins, times_joined}
 use Rattle.census_feed.proofs.Sounds.{pushed_rises, push_sound, begin_sound, its_own, later_left, marks_left, never_empty, taken_rises, taken_pushed, take_sound, reorder_sound, pop_sound, popped_within, all_there, all_marks}
@@ -62,7 +62,7 @@ record AroundFiller (rest : List Item) (a b : List View) (v : View) : Type 0 whe
   counted : v.begun ≡ length (lists a ++ (v.ended ++ lists b))
   known_before : AllByRecursion (KnowsFilled v.filled) a
   known_behind : AllByRecursion (KnowsFilled v.filled) b
-  sound : IsSound bundle workers v.filled v.taken rest (lists a ++ (v.ended ++ lists b)) (length v.ended)
+  sound : IsSoundFeed bundle workers v.filled v.taken rest (lists a ++ (v.ended ++ lists b)) (length v.ended)
 
 open_filler : (rest : List Item) (a b : List View) (v : View) → Fed rest (a ++ filler_view v ∷ b) → AroundFiller rest a b v
 open_filler rest a b v h =
@@ -77,8 +77,8 @@ open_filler rest a b v h =
       counted = ap (λ (f : View). f.begun) o.1 ∙ h.counted ∙ ap length l;
       known_before = k.0;
       known_behind = k.1.1;
-      sound = subst (λ (ls : List (List Item)). IsSound h.bundle h.workers v.filled v.taken rest ls (length v.ended)) l
-          (subst (λ (f : View). IsSound h.bundle h.workers f.filled f.taken rest (lists (a ++ filler_view v ∷ b)) (length f.ended)) (sym o.1) h.sound);
+      sound = subst (λ (ls : List (List Item)). IsSoundFeed h.bundle h.workers v.filled v.taken rest ls (length v.ended)) l
+          (subst (λ (f : View). IsSoundFeed h.bundle h.workers f.filled f.taken rest (lists (a ++ filler_view v ∷ b)) (length f.ended)) (sym o.1) h.sound);
     }
 
 close_filler : (rest : List Item) (a b : List View) (v : View) → AroundFiller rest a b v → Fed rest (a ++ filler_view v ∷ b)
@@ -92,7 +92,7 @@ close_filler rest a b v r =
       one = flat_map-append fillers_of a (filler_view v ∷ b) ∙ ap (λ m. m ++ filler_view v ∷ views_of_filler b) r.none_before ∙ ap (λ m. filler_view v ∷ m) r.none_behind;
       counted = r.counted ∙ sym (ap length l);
       known = all_join (KnowsFilled v.filled) a (filler_view v ∷ b) r.known_before (not_holder, r.known_behind);
-      sound = subst (λ (ls : List (List Item)). IsSound r.bundle r.workers v.filled v.taken rest ls (length v.ended)) (sym l) r.sound;
+      sound = subst (λ (ls : List (List Item)). IsSoundFeed r.bundle r.workers v.filled v.taken rest ls (length v.ended)) (sym l) r.sound;
     }
 
 -- the rule around a hand's view
@@ -105,7 +105,7 @@ record AroundHand (rest : List Item) (a b : List View) (v : View) : Type 0 where
   known_before : AllByRecursion (KnowsFilled filler.filled) a
   known_here : v.filled ≡ filler.filled
   known_behind : AllByRecursion (KnowsFilled filler.filled) b
-  sound : IsSound bundle workers filler.filled filler.taken rest (lists a ++ v.taken ∷ lists b) (length filler.ended)
+  sound : IsSoundFeed bundle workers filler.filled filler.taken rest (lists a ++ v.taken ∷ lists b) (length filler.ended)
 
 open_hand : (rest : List Item) (a b : List View) (v : View) → Fed rest (a ++ hand_view v ∷ b) → AroundHand rest a b v
 open_hand rest a b v h =
@@ -120,7 +120,7 @@ open_hand rest a b v h =
       known_before = k.0;
       known_here = k.1.0 refl;
       known_behind = k.1.1;
-      sound = subst (λ (ls : List (List Item)). IsSound h.bundle h.workers h.filler.filled h.filler.taken rest ls (length h.filler.ended)) l h.sound;
+      sound = subst (λ (ls : List (List Item)). IsSoundFeed h.bundle h.workers h.filler.filled h.filler.taken rest ls (length h.filler.ended)) l h.sound;
     }
 
 close_hand : (rest : List Item) (a b : List View) (v : View) → AroundHand rest a b v → Fed rest (a ++ hand_view v ∷ b)
@@ -133,7 +133,7 @@ close_hand rest a b v r =
       one = flat_map-append fillers_of a (hand_view v ∷ b) ∙ r.one;
       counted = r.counted ∙ sym (ap length l);
       known = all_join (KnowsFilled r.filler.filled) a (hand_view v ∷ b) r.known_before ((λ _. r.known_here), r.known_behind);
-      sound = subst (λ (ls : List (List Item)). IsSound r.bundle r.workers r.filler.filled r.filler.taken rest ls (length r.filler.ended)) (sym l) r.sound;
+      sound = subst (λ (ls : List (List Item)). IsSoundFeed r.bundle r.workers r.filler.filled r.filler.taken rest ls (length r.filler.ended)) (sym l) r.sound;
     }
 
 -- the lists that the filler has are among all of them
@@ -228,7 +228,7 @@ begin_fed bundle workers rest v all room a b h =
       counted = let n = length-append hands ([] ∷ []) in let m = ap length more in omega arith;
       known_before = r.known_before;
       known_behind = all_join (KnowsFilled v.filled) b (new ∷ []) r.known_behind ((λ _. refl), tt);
-      sound = subst (λ (ls : List (List Item)). IsSound bundle workers v.filled v.taken rest ls (length v.ended)) (sym more)
+      sound = subst (λ (ls : List (List Item)). IsSoundFeed bundle workers v.filled v.taken rest ls (length v.ended)) (sym more)
           (begin_sound r.bundle r.workers v.filled v.taken rest hands (length v.ended) r.sound bundle workers all (omega arith));
     })
 
@@ -259,7 +259,7 @@ steal_fed y rest v none a b h =
       (
         refl,
         taken_rises r.bundle r.workers r.filler.filled r.filler.taken y rest (lists a) v.taken (lists b) (length r.filler.ended) r.sound,
-        (subst (λ (l : List Item). has l y ≡ true) (sym r.known_here) (taken_pushed r.bundle r.workers r.filler.filled r.filler.taken y rest (lists a) v.taken (lists b) (length r.filler.ended) r.sound), tt),
+        (subst (λ (l : List Item). has_item l y ≡ true) (sym r.known_here) (taken_pushed r.bundle r.workers r.filler.filled r.filler.taken y rest (lists a) v.taken (lists b) (length r.filler.ended) r.sound), tt),
       ),
     )
 
@@ -303,12 +303,12 @@ none_left port v ish marked =
     (λ rest views h e. of_view (Fed rest) (AllMarks rest) port (hand_view v) (marked_fed rest v marked) views h e)
 
 -- what a hand took stands before all that is left
-later_fed : (rest : List Item) (v : View) (x : Item) → has v.taken x ≡ true → (a b : List View) → Fed rest (a ++ hand_view v ∷ b) → AllByRecursion (Before x) rest
+later_fed : (rest : List Item) (v : View) (x : Item) → has_item v.taken x ≡ true → (a b : List View) → Fed rest (a ++ hand_view v ∷ b) → AllByRecursion (Before x) rest
 later_fed rest v x i a b h =
     let r = open_hand rest a b v h in
     (all_parts (Before x) r.filler.taken rest (later_left r.bundle r.workers r.filler.filled r.filler.taken rest (lists a) v.taken (lists b) (length r.filler.ended) r.sound x i)).1
 
-pub only_later_left : (port : ℕ) (v : View) (x : Item) → v.role ≡ Holder → has v.taken x ≡ true → Learns Fed port v (λ rest. AllByRecursion (Before x) rest)
+pub only_later_left : (port : ℕ) (v : View) (x : Item) → v.role ≡ Holder → has_item v.taken x ≡ true → Learns Fed port v (λ rest. AllByRecursion (Before x) rest)
 only_later_left port v x ish i =
     subst (λ (u : View). Learns Fed port u (λ rest. AllByRecursion (Before x) rest)) (sym (as_holder v ish))
     (λ rest views h e. of_view (Fed rest) (AllByRecursion (Before x) rest) port (hand_view v) (later_fed rest v x i) views h e)
@@ -357,7 +357,7 @@ out_fed v all_ended a b h =
     let before : lists a ≡ [] = nil_from_length (lists a) (omega arith) in
     let behind : lists b ≡ [] = nil_from_length (lists b) (omega arith) in
     let hands : lists a ++ (v.ended ++ lists b) ≡ v.ended = ap (λ l. l ++ (v.ended ++ lists b)) before ∙ ap (λ l. v.ended ++ l) behind ∙ append-nil v.ended in
-    let s = subst (λ (ls : List (List Item)). IsSound r.bundle r.workers v.filled v.taken [] ls (length v.ended)) hands r.sound in (
+    let s = subst (λ (ls : List (List Item)). IsSoundFeed r.bundle r.workers v.filled v.taken [] ls (length v.ended)) hands r.sound in (
       (λ x. let t = all_there r.bundle r.workers v.filled v.taken [] v.ended (length v.ended) s x in let o = times_rises x v.filled (pushed_rises r.bundle r.workers v.filled v.taken [] v.ended (length v.ended) s) in omega arith),
       (λ marked. (all_parts (λ x. is_mark x ≡ true) v.taken [] (all_marks r.bundle r.workers v.filled v.taken [] v.ended (length v.ended) s marked)).0),
     )
@@ -414,7 +414,7 @@ merge_fed rest v w a b c d same own h =
       one = flat_map-append fillers_of c (spent_view ∷ d) ∙ sym (flat_map-append fillers_of c (hand_view w ∷ d)) ∙ sym (ap views_of_filler same) ∙ flat_map-append fillers_of a (filler_view both ∷ b) ∙ ap (λ m. m ++ filler_view both ∷ views_of_filler b) r.none_before ∙ ap (λ m. filler_view both ∷ m) r.none_behind;
       counted = r.counted ∙ sym (ap length l ∙ as_many);
       known = all_join K c (spent_view ∷ d) known2.0 (known3, known2.1.1);
-      sound = subst (λ (ls : List (List Item)). IsSound r.bundle r.workers v.filled v.taken rest ls (length both.ended)) (sym l)
+      sound = subst (λ (ls : List (List Item)). IsSoundFeed r.bundle r.workers v.filled v.taken rest ls (length both.ended)) (sym l)
           (reorder_sound r.bundle r.workers v.filled v.taken rest hands (length v.ended) s hands' (length both.ended) as_many as_often (all_join P (lists c) (lists d) each3.0 each3.1.1) (omega arith));
     }
 

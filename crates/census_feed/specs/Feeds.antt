@@ -13,7 +13,7 @@ use Rattle.census_feed.specs.declared.item.Item.{Item}
 use Rattle.census_feed.specs.declared.item.Item.TheVariants.{Work, Mark}
 use Rattle.census_feed.specs.declared.handles.Hand.{Hand}
 use Rattle.census_feed.specs.declared.handles.Feed.{Feed}
-use Rattle.census_feed.specs.Items.{items, Before, has, is_ticket, occurrence_count, ends_with_mark}
+use Rattle.census_feed.specs.Items.{items, Before, has_item, is_ticket, occurrence_count, ends_with_mark}
 use Rattle.census_feed.specs.Rule.{Fed, AllMarks}
 
 -- the tickets that a hand took, with its end mark last once it took one
@@ -37,16 +37,16 @@ abbrev pub IsFeedOf : Feed → List Folder → Type 0
 IsFeedOf f bundle = items_of f ≡ items bundle (workers_of f)
 
 -- a hand of this deque
-abbrev pub IsOf : {P : Type 0} → Worker Item Global View P → Hand → Type 0
-IsOf owner h = (stealer_deque h.stealer ≡ worker_deque owner) × (source_of h ≡ (worker_view owner).filled)
+abbrev pub IsHandOfDeque : {P : Type 0} → Worker Item Global View P → Hand → Type 0
+IsHandOfDeque owner h = (stealer_deque h.stealer ≡ worker_deque owner) × (source_of h ≡ (worker_view owner).filled)
 
 -- the same, which has taken nothing
 abbrev pub IsNew : {P : Type 0} → Worker Item Global View P → Hand → Type 0
-IsNew owner h = IsOf owner h × (list_of h ≡ [])
+IsNew owner h = IsHandOfDeque owner h × (list_of h ≡ [])
 
 -- it is a hand of this feed
 abbrev pub IsHandOf : Feed → Hand → Type 0
-IsHandOf f h = IsOf f.owner h
+IsHandOf f h = IsHandOfDeque f.owner h
 
 -- these are all hands of this feed
 abbrev pub AreHandsOf : Feed → List Hand → Type 0
@@ -82,7 +82,7 @@ all_lists hands = flat_map list_of hands
 
 -- the tickets that were taken and these are the tickets of the feed, each once
 abbrev pub AreLeft : List Item → List Item → List Item → Type 0
-AreLeft filled taken left = All (λ x. is_ticket x ≡ true) left × ((t : Ticket) → occurrence_count (Work t) taken + occurrence_count (Work t) left ≡ cond (has filled (Work t)) 1 0)
+AreLeft filled taken left = All (λ x. is_ticket x ≡ true) left × ((t : Ticket) → occurrence_count (Work t) taken + occurrence_count (Work t) left ≡ cond (has_item filled (Work t)) 1 0)
 
 -- a hand's list ends with an end mark
 abbrev pub some_finished : List Hand → Bool

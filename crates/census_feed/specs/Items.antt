@@ -61,8 +61,8 @@ abbrev pub occurrence_count : Item → List Item → ℕ
 occurrence_count x xs = count_by (same_item x) xs
 
 -- x stands in the list
-abbrev pub has : List Item → Item → Bool
-has xs x = list_any (same_item x) xs
+abbrev pub has_item : List Item → Item → Bool
+has_item xs x = list_any (same_item x) xs
 
 -- how many end marks stand in the list
 abbrev pub mark_count : List Item → ℕ

@@ -6,7 +6,7 @@ use Rattle.census_feed.specs.declared.item.Item.{Item}
 use Rattle.census_feed.specs.declared.view.Role.{Role}
 use Rattle.census_feed.specs.declared.view.Role.TheVariants.{Filler, Holder, Spent}
 use Rattle.census_feed.specs.declared.view.View.{View}
-use Rattle.census_feed.specs.Items.{items, Rises, has, is_mark, occurrence_count, mark_count}
+use Rattle.census_feed.specs.Items.{items, Rises, has_item, is_mark, occurrence_count, mark_count}
 
 -- what the filler knows: what it pushed and popped, how many hands have begun, and the lists of those that have ended
 abbrev pub view_of_filler : List Item → List Item → ℕ → List (List Item) → View
@@ -52,13 +52,13 @@ KnowsFilled pushed v = v.role ≡ Holder → v.filled ≡ pushed
 -- took, then what was popped, then the rest. Each item, of this bundle or not, stands in the hands' lists together once
 -- where it is in the front, and else not at all. Each hand's list rises and has at most one end mark. At most `workers`
 -- hands have begun, and nothing is popped until as many have ended.
-pub record IsSound (bundle : List Folder) (workers : ℕ) (pushed popped rest : List Item) (hands : List (List Item)) (ended : ℕ) : Type 0 where
+pub record IsSoundFeed (bundle : List Folder) (workers : ℕ) (pushed popped rest : List Item) (hands : List (List Item)) (ended : ℕ) : Type 0 where
   pub front : List Item
   pub behind : List Item
   pub in_order : items bundle workers ≡ pushed ++ behind
   pub all_pushed : 0 < length hands → behind ≡ []
   pub parts : pushed ≡ front ++ (popped ++ rest)
-  pub once : (x : Item) → occurrence_count x (all_items_of hands) ≡ cond (has front x) 1 0
+  pub once : (x : Item) → occurrence_count x (all_items_of hands) ≡ cond (has_item front x) 1 0
   pub each : AllByRecursion (λ l. Rises l × (mark_count l ≤ 1)) hands
   pub few : length hands ≤ workers
   pub late : 0 < length popped → workers ≤ ended
@@ -72,7 +72,7 @@ pub record Fed (rest : List Item) (views : List View) : Type 0 where
   pub one : views_of_filler views ≡ filler ∷ []
   pub counted : filler.begun ≡ length (lists views)
   pub known : AllByRecursion (KnowsFilled filler.filled) views
-  pub sound : IsSound bundle workers filler.filled filler.taken rest (lists views) (length filler.ended)
+  pub sound : IsSoundFeed bundle workers filler.filled filler.taken rest (lists views) (length filler.ended)
 
 -- how a step changes the view of the pass that makes it
 abbrev pub view_after_push : View → List Item → View
@@ -92,7 +92,7 @@ ends_one v w = record v { ended = v.ended ++ w.taken ∷ [] }
 
 -- what a steal tells a hand: its list still rises, and it took an item of the feed
 abbrev pub Stole : View → List Item → View → Type 0
-Stole v xs w = (w ≡ view_after_take v xs) × Rises w.taken × AllByRecursion (λ x. has v.filled x ≡ true) xs
+Stole v xs w = (w ≡ view_after_take v xs) × Rises w.taken × AllByRecursion (λ x. has_item v.filled x ≡ true) xs
 
 -- what a pop tells the filler
 abbrev pub Popped : View → List Item → View → Type 0
@@ -104,5 +104,5 @@ AllMarks xs = AllByRecursion (λ x. is_mark x ≡ true) xs
 -- what the filler knows once all hands have ended and the deque is empty: each item is in one list, once
 abbrev pub AllOut : View → Type 0
 AllOut v =
-    ((x : Item) → occurrence_count x (all_items_of v.ended) + occurrence_count x v.taken ≡ cond (has v.filled x) 1 0)
+    ((x : Item) → occurrence_count x (all_items_of v.ended) + occurrence_count x v.taken ≡ cond (has_item v.filled x) 1 0)
     × (0 < mark_count (all_items_of v.ended) → AllMarks v.taken)

@@ -16,7 +16,9 @@ fn end(owner: &mut Owner, hand: Hand)
     requires ending { IsEnding owner.old }
     requires its { stealer_deque hand.stealer ≡ worker_deque owner.old }
     ensures ending { IsEnding owner.new × (worker_deque owner.new ≡ worker_deque owner.old) }
-    ensures ended { worker_view owner.new ≡ record (worker_view owner.old) { ended = (worker_view owner.old).ended ++ list_of hand ∷ [] } }
+    ensures ended { worker_view owner.new ≡
+        record (worker_view owner.old)
+        { ended = (worker_view owner.old).ended ++ list_of hand ∷ [] } }
 {
     let Hand {
         stealer,
@@ -32,7 +34,8 @@ pub(crate) fn end_all(owner: &mut Owner, hands: Vec<Hand>)
     requires ending { IsEnding owner.old × ((worker_view owner.old).ended ≡ []) }
     requires its { All (λ h. stealer_deque h.stealer ≡ worker_deque owner.old) hands.items }
     ensures ending { IsEnding owner.new }
-    ensures ended { worker_view owner.new ≡ record (worker_view owner.old) { ended = map list_of hands.items } }
+    ensures ended { worker_view owner.new ≡
+        record (worker_view owner.old) { ended = map list_of hands.items } }
 {
     for hand in hands {
         end(owner, hand);
@@ -43,7 +46,8 @@ pub(crate) fn end_all(owner: &mut Owner, hands: Vec<Hand>)
 pub(crate) fn pop_all(owner: &mut Owner) -> usize
     requires ending { IsEnding owner.old × HasEnded (worker_view owner.old) }
     requires small { length (worker_view owner.old).filled < 2 ^ 62 }
-    ensures left { (left : List Item) × (length left ≡ result) × AreLeft (worker_view owner.old).filled (all_items_of (worker_view owner.old).ended) left }
+    ensures left { (left : List Item) × (length left ≡ result) ×
+        AreLeft (worker_view owner.old).filled (all_items_of (worker_view owner.old).ended) left }
     ensures none { 0 < mark_count (all_items_of (worker_view owner.old).ended) → result ≡ 0 }
 {
     let mut left = 0;

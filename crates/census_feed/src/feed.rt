@@ -4,7 +4,7 @@ ghost use Rattle.census_bundle.specs.declared.ticket.Ticket.{Ticket};
 ghost use Rattle.census_bundle.specs.Tickets.{IsTicketOf};
 ghost use Rattle.census_feed.specs.declared.item.Item.{Item};
 ghost use Rattle.census_feed.specs.declared.item.Item.TheVariants.{Work};
-ghost use Rattle.census_feed.specs.Items.{Rises, has};
+ghost use Rattle.census_feed.specs.Items.{Rises, has_item};
 ghost use Rattle.census_feed.specs.Feeds.{list_of, items_of, workers_of, IsFeedOf, AreHandsOf, all_lists, some_finished, AreLeft};
 
 use crate::closing::{end_all, pop_all};
@@ -26,7 +26,9 @@ impl Feed {
         requires workers { (1 ≤ workers) × (workers ≤ 16) }
         ensures feed { IfOk result (λ r. IsFeedOf r.0 bundle.now × (workers_of r.0 ≡ workers)) }
         ensures rising { IfOk result (λ r. Rises (items_of r.0)) }
-        ensures tickets { IfOk result (λ r. (t : Ticket) → (has (items_of r.0) (Work t) ≡ true) ↔ IsTicketOf bundle.now t) }
+        ensures tickets { IfOk result
+            (λ r. (t : Ticket) →
+            (has_item (items_of r.0) (Work t) ≡ true) ↔ IsTicketOf bundle.now t) }
         ensures hands { IfOk result (λ r. AreHandsOf r.0 r.1.items) }
         ensures new { IfOk result (λ r. All (λ h. list_of h ≡ []) r.1.items) }
     {
@@ -41,7 +43,8 @@ impl Feed {
     /// them was told that no ticket is left, it is 0. It takes no memory.
     pub fn close(self, hands: Vec<Hand>) -> usize
         requires { AreHandsOf self hands.items }
-        ensures left { (left : List Item) × (length left ≡ result) × AreLeft (items_of self) (all_lists hands.items) left }
+        ensures left { (left : List Item) × (length left ≡ result) ×
+            AreLeft (items_of self) (all_lists hands.items) left }
         ensures none { some_finished hands.items ≡ true → result ≡ 0 }
     {
         let Feed { mut owner } = self;

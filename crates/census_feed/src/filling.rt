@@ -2,7 +2,7 @@
 ghost use Rattle.std.specs.Prelude.{◌≡◌, ℕ, ◌+◌, ◌<◌, List, [], ◌∷◌, ◌++◌, length, All, IfOk, OnOk};
 ghost use Rattle.crossbeam_deque.specs.Handles.{worker_deque, worker_view};
 ghost use Rattle.census_bundle.specs.declared.bundle.Folder.{Folder};
-ghost use Rattle.census_bundle.specs.Sizes.{IsSmall};
+ghost use Rattle.census_bundle.specs.Sizes.{IsWithinCounts};
 ghost use Rattle.census_feed.specs.Items.{folder_tickets, tickets, end_marks, items};
 ghost use Rattle.census_feed.specs.Fillings.{IsFilling, CanFollow};
 ghost use Rattle.census_feed.specs.Feeds.{IsNew};
@@ -18,7 +18,8 @@ fn push(owner: &mut Owner, item: Item) -> Result<(), AllocError>
     requires filling { IsFilling owner.old 0 }
     requires next { CanFollow (worker_view owner.old).filled (item ∷ []) }
     ensures filling { OnOk result (IsFilling owner.new 0) }
-    ensures pushed { OnOk result ((worker_view owner.new).filled ≡ (worker_view owner.old).filled ++ item ∷ []) }
+    ensures pushed { OnOk result
+        ((worker_view owner.new).filled ≡ (worker_view owner.old).filled ++ item ∷ []) }
 {
     owner.push_as::<Pushes>(item).map_err(|_| AllocError)
 }
@@ -28,7 +29,9 @@ fn push_folder(owner: &mut Owner, folder: u32, count: u32) -> Result<(), AllocEr
     requires filling { IsFilling owner.old 0 }
     requires next { CanFollow (worker_view owner.old).filled (folder_tickets folder count) }
     ensures filling { OnOk result (IsFilling owner.new 0) }
-    ensures pushed { OnOk result ((worker_view owner.new).filled ≡ (worker_view owner.old).filled ++ folder_tickets folder count) }
+    ensures pushed { OnOk result
+        ((worker_view owner.new).filled ≡
+        (worker_view owner.old).filled ++ folder_tickets folder count) }
 {
     for before in 0..count {
         let number = before + 1;
@@ -43,7 +46,7 @@ pub(crate) fn push_tickets(owner: &mut Owner, bundle: &Bundle) -> Result<(), All
     requires first { (worker_view owner.old).filled ≡ [] }
     ensures filling { OnOk result (IsFilling owner.new 0) }
     ensures pushed { OnOk result ((worker_view owner.new).filled ≡ tickets bundle.now) }
-    ensures small { IsSmall bundle.now }
+    ensures small { IsWithinCounts bundle.now }
 {
     let folders = bundle.folders();
     let mut number = 1;
@@ -59,7 +62,8 @@ pub(crate) fn push_marks(owner: &mut Owner, workers: u32) -> Result<(), AllocErr
     requires filling { IsFilling owner.old 0 }
     requires next { CanFollow (worker_view owner.old).filled (end_marks workers) }
     ensures filling { OnOk result (IsFilling owner.new 0) }
-    ensures pushed { OnOk result ((worker_view owner.new).filled ≡ (worker_view owner.old).filled ++ end_marks workers) }
+    ensures pushed { OnOk result
+        ((worker_view owner.new).filled ≡ (worker_view owner.old).filled ++ end_marks workers) }
 {
     for before in 0..workers {
         push(owner, Item::Mark(before + 1))?;
@@ -70,9 +74,13 @@ pub(crate) fn push_marks(owner: &mut Owner, workers: u32) -> Result<(), AllocErr
 // A new hand, with a part of the filler's view.
 fn begin(owner: &mut Owner) -> Result<Hand, AllocError>
     requires filling { IsFilling owner.old (worker_view owner.old).begun }
-    requires room { (bundle : List Folder) × (workers : ℕ) × (items bundle workers ≡ (worker_view owner.old).filled) × ((worker_view owner.old).begun < workers) }
+    requires room { (bundle : List Folder) × (workers : ℕ) ×
+        (items bundle workers ≡ (worker_view owner.old).filled) ×
+        ((worker_view owner.old).begun < workers) }
     ensures filling { OnOk result (IsFilling owner.new ((worker_view owner.old).begun + 1)) }
-    ensures same { OnOk result (((worker_view owner.new).filled ≡ (worker_view owner.old).filled) × (worker_deque owner.new ≡ worker_deque owner.old)) }
+    ensures same { OnOk result
+        (((worker_view owner.new).filled ≡ (worker_view owner.old).filled) ×
+        (worker_deque owner.new ≡ worker_deque owner.old)) }
     ensures hand { IfOk result (λ h. IsNew owner.new h) }
 {
     let stealer = owner.stealer()?;
@@ -87,10 +95,14 @@ fn begin(owner: &mut Owner) -> Result<Hand, AllocError>
 // A hand for each worker.
 pub(crate) fn deal(owner: &mut Owner, alloc: Global, workers: u32) -> Result<Vec<Hand>, AllocError>
     requires filling { IsFilling owner.old 0 }
-    requires filled { (bundle : List Folder) × (items bundle workers ≡ (worker_view owner.old).filled) }
+    requires filled { (bundle : List Folder) ×
+        (items bundle workers ≡ (worker_view owner.old).filled) }
     ensures filling { OnOk result (IsFilling owner.new workers) }
-    ensures same { OnOk result (((worker_view owner.new).filled ≡ (worker_view owner.old).filled) × (worker_deque owner.new ≡ worker_deque owner.old)) }
-    ensures hands { IfOk result (λ hands. (length hands.items ≡ workers) × All (IsNew owner.new) hands.items) }
+    ensures same { OnOk result
+        (((worker_view owner.new).filled ≡ (worker_view owner.old).filled) ×
+        (worker_deque owner.new ≡ worker_deque owner.old)) }
+    ensures hands { IfOk result
+        (λ hands. (length hands.items ≡ workers) × All (IsNew owner.new) hands.items) }
 {
     let mut hands = Vec::new(alloc);
     for _begun in 0..workers {

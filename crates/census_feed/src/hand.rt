@@ -3,7 +3,7 @@ ghost use Rattle.std.specs.Prelude.{◌≡◌, true, [], ◌∷◌, ◌++◌, No
 ghost use Rattle.crossbeam_deque.specs.Handles.{view, IsPassOf, SamePass, stealer_deque, stealer_flavor};
 ghost use Rattle.census_feed.specs.declared.item.Item.TheVariants.{Work};
 ghost use Rattle.census_feed.specs.declared.view.Role.TheVariants.{Holder};
-ghost use Rattle.census_feed.specs.Items.{mark_count, Rises, has, ends_with_mark};
+ghost use Rattle.census_feed.specs.Items.{mark_count, Rises, has_item, ends_with_mark};
 ghost use Rattle.census_feed.specs.Rule.{Stole};
 ghost use Rattle.census_feed.specs.Feeds.{list_of, source_of, SameHand, IsTicketFor, TookMark, OnlyLaterLeft, NoTicketLeft};
 
@@ -20,12 +20,16 @@ impl Hand {
     /// its way, and takes no memory.
     pub fn take<R: Wait>(&mut self, rt: &R) -> Option<Ticket>
         ensures same { SameHand self.old self.new }
-        ensures ticket { IfSome result (λ t. (list_of self.new ≡ list_of self.old ++ Work t ∷ []) × Rises (list_of self.new) × (has (source_of self.old) (Work t) ≡ true)) }
+        ensures ticket { IfSome result
+            (λ t. (list_of self.new ≡ list_of self.old ++ Work t ∷ []) × Rises (list_of self.new) ×
+            (has_item (source_of self.old) (Work t) ≡ true)) }
         ensures bundle { IfSome result (IsTicketFor self.old) }
         ensures least { IfSome result (λ t. OnlyLaterLeft self.new (Work t)) }
         ensures mark { IfNone result (TookMark self.old self.new) }
-        ensures none { IfNone result ((ends_with_mark (list_of self.new) ≡ true) × NoTicketLeft self.new) }
-        ensures over { ends_with_mark (list_of self.old) ≡ true → (result ≡ None) × (self.new ≡ self.old) }
+        ensures none { IfNone result
+            ((ends_with_mark (list_of self.new) ≡ true) × NoTicketLeft self.new) }
+        ensures over { ends_with_mark (list_of self.old) ≡ true → (result ≡ None) ×
+            (self.new ≡ self.old) }
     {
         if self.finished {
             return None;
@@ -42,7 +46,8 @@ impl Hand {
 
 // Steals until an item comes.
 fn steal<R: Wait>(rt: &R, stealer: &Thief, pass: &mut HandPass) -> Item
-    requires seated { IsPassOf (stealer_deque stealer.now) pass.old × (stealer_flavor stealer.now ≡ 0) }
+    requires seated { IsPassOf (stealer_deque stealer.now) pass.old ×
+        (stealer_flavor stealer.now ≡ 0) }
     requires holder { (view pass.old).role ≡ Holder }
     requires unmarked { mark_count (view pass.old).taken ≡ 0 }
     ensures same { SamePass pass.old pass.new }

@@ -11,7 +11,7 @@ use Rattle.census_bundle.specs.Growing.{on_last_of, with_entry, with_one_more}
 use Rattle.census_bundle.specs.Names.{is_name}
 use Rattle.census_folders.specs.declared.fault.FoldersFault.{FoldersFault}
 use Rattle.census_folders.specs.declared.keeping.Kept.{Kept}
-use Rattle.census_folders.specs.Losses.{AddsEntry, KeepsFile, KeepsFiles, KeepsFolder, StopsInFolder, StopsKeepingAt, StopsKeepingFile, StopsKeepingFolder, left_out, kept_at_start, with_empty, with_text}
+use Rattle.census_folders.specs.Losses.{AddsEntry, KeepsFile, KeepsFiles, KeepsFolder, StopsInFolder, StopsKeepingAt, StopsKeepingFile, StopsKeepingFolder, left_out, kept_at_start, with_empty, with_file_text}
 use Rattle.census_folders.specs.Shelves.{IsChosen}
 use Rattle.census_folders.specs.Told.{Told, GivesTold}
 use Rattle.census_folders.specs.Walks.{path_of}
@@ -28,7 +28,7 @@ open_with : (b : List Folder) (e : Entry) → 0 < length b → 0 < length (with_
 open_with [] e some = absurd (omega arith)
 open_with (f ∷ fs) e some = open_of (with_one_more e) f fs
 
-open_added : (told : Told) (folder name : List ℕ) (old new : Kept) (text : Option (List ℕ)) → new ≡ with_text folder name text old → 0 < length old.bundle → 0 < length new.bundle
+open_added : (told : Told) (folder name : List ℕ) (old new : Kept) (text : Option (List ℕ)) → new ≡ with_file_text folder name text old → 0 < length old.bundle → 0 < length new.bundle
 open_added told folder name old new (Some text) is some = rw is (open_with old.bundle (entry_of name text) some)
 open_added told folder name old new None is some = rw is (open_with old.bundle (lost_entry name) some)
 

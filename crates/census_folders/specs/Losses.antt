@@ -35,10 +35,10 @@ GivesText told left (Some text) = GivesTold told text × Fits left (length text)
 GivesText told left None = MayFail told ⊎ MayExceed (most_of left) told
 
 -- an entry of this text, or a lost one, which is told
-abbrev pub with_text : List ℕ → List ℕ → Option (List ℕ) → Kept → Kept
-with_text folder name (Some text) old =
+abbrev pub with_file_text : List ℕ → List ℕ → Option (List ℕ) → Kept → Kept
+with_file_text folder name (Some text) old =
     record { bundle = with_entry old.bundle (entry_of name text); lost = old.lost; left = limit_after old.left (length text) }
-with_text folder name None old =
+with_file_text folder name None old =
     record {
       bundle = with_entry old.bundle (lost_entry name);
       lost = with_loss old.lost (path_of folder name) (Some (last_place (with_entry old.bundle (lost_entry name))));
@@ -50,7 +50,7 @@ pub record AddsEntry (told : Told) (folder name : List ℕ) (old new : Kept) : T
   pub text : Option (List ℕ)
   pub gives : GivesText told old.left text
   pub room : length (last_entries old.bundle) < count_limit
-  pub added : new ≡ with_text folder name text old
+  pub added : new ≡ with_file_text folder name text old
 
 -- a name that isn't lawful was left out
 abbrev pub left_out : List ℕ → Kept → Kept

@@ -48,7 +48,7 @@ pub record IsVisit (listed inner : List ℕ → Told) (v : Visit) : Type 0 where
   pub holds : GivesTold (inner v.path) v.inner
 
 -- These are the first of the folder of the word and of the folders in those that were walked, in this order.
-pub record IsWalk (listed inner : List ℕ → Told) (word : List ℕ) (visits : List Visit) : Type 0 where
+pub record IsFolderWalk (listed inner : List ℕ → Told) (word : List ℕ) (visits : List Visit) : Type 0 where
   pub told : All (IsVisit listed inner) visits
   pub order : paths visits ≡ take (length visits) (word ∷ paths_below visits)
 
@@ -77,7 +77,7 @@ StopsVisit listed inner Memory = Unit {0}
 -- the folders before this one were walked; this one was not
 pub record StopsAtVisit (listed inner : List ℕ → Told) (word : List ℕ) (fault : FoldersFault) : Type 0 where
   pub visits : List Visit
-  pub walk : IsWalk listed inner word visits
+  pub walk : IsFolderWalk listed inner word visits
   pub path : List ℕ
   pub is : slice_get (word ∷ paths_below visits) (length visits) ≡ Some path
   pub why : StopsVisit (listed path) (inner path) fault

@@ -32,8 +32,11 @@ fn read_opened<F: Read + Drop>(
     limit: usize,
 ) -> Result<Vec<u8>, ReadFault>
     ensures within { IfOk result (λ bytes. vec_len bytes ≤ limit) }
-    ensures whole { IfOk opened (λ file. IfOk result (λ bytes. IfSome (F.remaining file) (λ all. bytes.items ≡ all))) }
-    ensures too_long { IfOk opened (λ file. result ≡ Err ReadFault.TooLong → IfSome (F.remaining file) (λ all. limit < length all)) }
+    ensures whole { IfOk opened
+        (λ file. IfOk result (λ bytes. IfSome (F.remaining file) (λ all. bytes.items ≡ all))) }
+    ensures too_long { IfOk opened
+        (λ file. result ≡ Err ReadFault.TooLong →
+        IfSome (F.remaining file) (λ all. limit < length all)) }
     ensures unopened { OnErr opened (IfErr result (RefusesList Unreadable) × IsErr result) }
 {
     match opened {
@@ -44,7 +47,8 @@ fn read_opened<F: Read + Drop>(
 
 // All the bytes of what was opened. It is read by 8192 bytes and more, since what lists a folder asks for room for a name.
 fn list_opened<F: Read + Drop>(alloc: Global, opened: io::Result<F>) -> io::Result<Vec<u8>>
-    ensures whole { IfOk opened (λ file. IfOk result (λ bytes. IfSome (F.remaining file) (λ all. bytes.items ≡ all))) }
+    ensures whole { IfOk opened
+        (λ file. IfOk result (λ bytes. IfSome (F.remaining file) (λ all. bytes.items ≡ all))) }
     ensures unopened { OnErr opened (IsErr result) }
 {
     let mut folder = BufReader::new(alloc, opened?)?;
@@ -55,7 +59,9 @@ fn list_opened<F: Read + Drop>(alloc: Global, opened: io::Result<F>) -> io::Resu
 
 // Whether what was found is a regular file.
 fn is_regular(found: io::Result<Metadata>) -> Result<bool, ReadFault>
-    ensures found { IfOk found (λ metadata. MatchResult result (λ yes. IsTrue yes ↔ IsFile (file_type metadata)) (λ _. ⊥)) }
+    ensures found { IfOk found
+        (λ metadata. MatchResult result (λ yes. IsTrue yes ↔ IsFile (file_type metadata))
+        (λ _. ⊥)) }
     ensures missing { OnErr found (IsErr result) }
     ensures fault { IfErr result (RefusesList Untold) }
 {

@@ -24,8 +24,10 @@ pub fn read_file<S: Shelf>(
 ) -> Result<Vec<u8>, ReadFault>
     ensures within { IfOk result (λ bytes. vec_len bytes ≤ input_limit) }
     ensures fits { IfOk result (λ bytes. Fits left (vec_len bytes)) }
-    ensures told { IfOk result (λ bytes. GivesTold (S.held shelf.now folder.now name.now) bytes.items) }
-    ensures fault { IfErr result (RefusesFile (most_of left) (S.held shelf.now folder.now name.now)) }
+    ensures told { IfOk result
+        (λ bytes. GivesTold (S.held shelf.now folder.now name.now) bytes.items) }
+    ensures fault { IfErr result
+        (RefusesFile (most_of left) (S.held shelf.now folder.now name.now)) }
 {
     if !shelf.is_file(alloc, folder, name)? {
         return Err(ReadFault::Read);
@@ -44,8 +46,12 @@ pub fn add_file<S: Shelf>(
 ) -> Result<(), FoldersFault>
     requires kind { is_pattern_name name.now ≡ true }
     requires open { 0 < length bundle.old }
-    ensures added { OnOk result (AddsFileOf (S.held shelf.now folder.now name.now) name.now left.old left.new bundle.old bundle.new) }
-    ensures fault { IfErr result (StopsFile (S.held shelf.now folder.now name.now) left.old (length (last_entries bundle.old)) name.now) }
+    ensures added { OnOk result
+        (AddsFileOf (S.held shelf.now folder.now name.now) name.now left.old left.new bundle.old
+        bundle.new) }
+    ensures fault { IfErr result
+        (StopsFile (S.held shelf.now folder.now name.now) left.old
+        (length (last_entries bundle.old)) name.now) }
 {
     let bytes = read_file(shelf, alloc, folder, name, *left)?;
     bundle.add_entry(name, bytes.as_slice())?;

@@ -32,7 +32,8 @@ fn read_text<S: Shelf>(
     left: Option<u64>,
 ) -> Result<Option<Vec<u8>>, FoldersFault>
     ensures { MatchResult result
-        (λ text. GivesText (S.held shelf.now folder.now name.now) left (option_map (λ bytes. bytes.items) text))
+        (λ text. GivesText (S.held shelf.now folder.now name.now) left
+        (option_map (λ bytes. bytes.items) text))
         (λ fault. fault ≡ Memory) }
 {
     match read_file(shelf, alloc, folder, name, left) {
@@ -53,7 +54,8 @@ fn keep_file<S: Shelf>(
 ) -> Result<(), FoldersFault>
     requires { 0 < length kept.old.bundle }
     ensures { MatchResult result
-        (λ _. KeepsFile (S.held shelf.now folder.now name.now) folder.now name.now kept.old kept.new)
+        (λ _. KeepsFile (S.held shelf.now folder.now name.now) folder.now name.now kept.old
+        kept.new)
         (StopsKeepingFile name.now kept.old) }
 {
     let text = read_text(shelf, alloc, folder, name, kept.left)?;
@@ -135,8 +137,10 @@ pub fn read_folders_on<S: Shelf>(
     limit: Option<u64>,
 ) -> Result<Kept, FoldersFault>
     ensures { MatchResult result
-        (FoldsTo (KeepsFolder (S.listed shelf.now) (S.held shelf.now)) (kept_at_start limit) (map (λ s. s.now) folders.now))
-        (StopsKeepingAt (S.listed shelf.now) (S.held shelf.now) limit (map (λ s. s.now) folders.now)) }
+        (FoldsTo (KeepsFolder (S.listed shelf.now) (S.held shelf.now)) (kept_at_start limit)
+        (map (λ s. s.now) folders.now))
+        (StopsKeepingAt (S.listed shelf.now) (S.held shelf.now) limit
+        (map (λ s. s.now) folders.now)) }
 {
     let mut kept = Kept {
         bundle: Bundle::empty(alloc),

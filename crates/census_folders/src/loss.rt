@@ -51,7 +51,8 @@ impl Losses {
         path: &[u8],
         entry: Option<Ticket>,
     ) -> Result<(), AllocError>
-        ensures { OnOk result (self.new ≡ self.old ++ record { path = path.now; entry = entry } ∷ []) }
+        ensures { OnOk result
+            (self.new ≡ self.old ++ record { path = path.now; entry = entry } ∷ []) }
     {
         let path = Text::of(alloc, path)?;
         self.items.push(Loss { path, entry })?;

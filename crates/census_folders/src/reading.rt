@@ -21,8 +21,10 @@ fn add_folder<S: Shelf>(
     word: &str,
 ) -> Result<(), FoldersFault>
     ensures { MatchResult result
-        (λ _. AddsFolderOf (S.listed shelf.now) (S.held shelf.now) word.now left.old left.new bundle.old bundle.new)
-        (StopsFolderOf (S.listed shelf.now) (S.held shelf.now) left.old (length bundle.old) word.now) }
+        (λ _. AddsFolderOf (S.listed shelf.now) (S.held shelf.now) word.now left.old left.new
+        bundle.old bundle.new)
+        (StopsFolderOf (S.listed shelf.now) (S.held shelf.now) left.old (length bundle.old)
+        word.now) }
 {
     bundle.add_folder(word.as_bytes())?;
     let listing = shelf.list(alloc, word)?;
@@ -53,10 +55,12 @@ pub fn read_folders<S: Shelf>(
     folders: &[&str],
     limit: Option<u64>,
 ) -> Result<Bundle, FoldersFault>
-    ensures folders { MatchResult result (HoldsFolders (map (λ s. s.now) folders.now)) (StopsAtWord (map (λ s. s.now) folders.now)) }
+    ensures folders { MatchResult result (HoldsFolders (map (λ s. s.now) folders.now))
+        (StopsAtWord (map (λ s. s.now) folders.now)) }
     ensures told { MatchResult result
         (HoldsShelf (S.listed shelf.now) (S.held shelf.now) (map (λ s. s.now) folders.now))
-        (StopsAtShelf (S.listed shelf.now) (S.held shelf.now) limit (map (λ s. s.now) folders.now)) }
+        (StopsAtShelf (S.listed shelf.now) (S.held shelf.now) limit
+        (map (λ s. s.now) folders.now)) }
     ensures within { IfOk result (λ bundle. Fits limit (bytes_of_all bundle)) }
 {
     let mut bundle = Bundle::empty(alloc);

@@ -46,7 +46,8 @@ pub trait Shelf {
     ) -> Result<Vec<u8>, ReadFault>
         requires { may_open self.now folder.now name.now ≡ true }
         ensures within { IfOk result (λ bytes. vec_len bytes ≤ limit) }
-        ensures told { IfOk result (λ bytes. GivesTold (held self.now folder.now name.now) bytes.items) }
+        ensures told { IfOk result
+            (λ bytes. GivesTold (held self.now folder.now name.now) bytes.items) }
         ensures fault { IfErr result (RefusesFile limit (held self.now folder.now name.now)) };
 
     /// What the system says of why the folder or the file of this path can't be read, where it says anything. Nothing is

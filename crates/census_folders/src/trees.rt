@@ -28,7 +28,8 @@ pub fn folders_below_each<S: Shelf>(
     words: &[&str],
 ) -> Result<Vec<String>, FoldersFault>
     ensures { MatchResult result
-        (λ folders. HoldsTrees (S.listed shelf.now) (S.inner shelf.now) (map (λ s. s.now) words.now) (map string_bytes folders.items))
+        (λ folders. HoldsTrees (S.listed shelf.now) (S.inner shelf.now) (map (λ s. s.now) words.now)
+        (map string_bytes folders.items))
         (StopsTrees (S.listed shelf.now) (S.inner shelf.now) (map (λ s. s.now) words.now)) }
 {
     let mut found = Vec::new(alloc);
@@ -58,7 +59,8 @@ pub fn folders_below_each_on<S: Shelf>(
     words: &[&str],
 ) -> Result<Trees, FoldersFault>
     ensures { MatchResult result
-        (λ trees. KeepsTrees (S.listed shelf.now) (S.inner shelf.now) (map (λ s. s.now) words.now) (map string_bytes trees.folders.items) trees.lost)
+        (λ trees. KeepsTrees (S.listed shelf.now) (S.inner shelf.now) (map (λ s. s.now) words.now)
+        (map string_bytes trees.folders.items) trees.lost)
         (λ fault. fault ≡ Memory) }
 {
     let mut folders = Vec::new(alloc);

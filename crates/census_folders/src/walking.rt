@@ -45,7 +45,9 @@ fn add_inner(
     folder: &str,
     folders: &[u8],
 ) -> Result<(), FoldersFault>
-    ensures added { OnOk result (map string_bytes found.new.items ≡ map string_bytes found.old.items ++ paths_in folder.now folders.now) }
+    ensures added { OnOk result
+        (map string_bytes found.new.items ≡
+        map string_bytes found.old.items ++ paths_in folder.now folders.now) }
     ensures fault { IfErr result (StopsNames (names_in folders.now)) }
 {
     let mut left = Some(folders);
@@ -67,7 +69,8 @@ fn visit<S: Shelf>(
     folder: &str,
 ) -> Result<bool, FoldersFault>
     ensures { MatchResult result
-        (AddsVisit (S.listed shelf.now) (S.inner shelf.now) folder.now (map string_bytes found.old.items) (map string_bytes found.new.items))
+        (AddsVisit (S.listed shelf.now) (S.inner shelf.now) folder.now
+        (map string_bytes found.old.items) (map string_bytes found.new.items))
         (StopsVisit (S.listed shelf.now folder.now) (S.inner shelf.now folder.now)) }
 {
     let listing = shelf.list(alloc, folder)?;
@@ -90,7 +93,8 @@ pub fn folders_below<S: Shelf>(
     word: &str,
 ) -> Result<Vec<String>, FoldersFault>
     ensures { MatchResult result
-        (λ folders. HoldsTree (S.listed shelf.now) (S.inner shelf.now) word.now (map string_bytes folders.items))
+        (λ folders. HoldsTree (S.listed shelf.now) (S.inner shelf.now) word.now
+        (map string_bytes folders.items))
         (StopsWalk (S.listed shelf.now) (S.inner shelf.now) word.now) }
 {
     let mut found = Vec::new(alloc);

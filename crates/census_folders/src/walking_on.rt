@@ -20,7 +20,8 @@ fn list_on<S: Shelf>(
     folder: &str,
 ) -> Result<Option<Vec<u8>>, FoldersFault>
     ensures { MatchResult result
-        (λ listing. KeepsListing (S.listed shelf.now folder.now) (option_map (λ bytes. bytes.items) listing))
+        (λ listing. KeepsListing (S.listed shelf.now folder.now)
+        (option_map (λ bytes. bytes.items) listing))
         (λ fault. fault ≡ Memory) }
 {
     match shelf.list(alloc, folder) {
@@ -37,7 +38,8 @@ fn list_folders_on<S: Shelf>(
     folder: &str,
 ) -> Result<Option<Vec<u8>>, FoldersFault>
     ensures { MatchResult result
-        (λ folders. KeepsListing (S.inner shelf.now folder.now) (option_map (λ bytes. bytes.items) folders))
+        (λ folders. KeepsListing (S.inner shelf.now folder.now)
+        (option_map (λ bytes. bytes.items) folders))
         (λ fault. fault ≡ Memory) }
 {
     match shelf.list_folders(alloc, folder) {
@@ -49,7 +51,8 @@ fn list_folders_on<S: Shelf>(
 
 // Whether a folder is taken that lists this: it can't be listed, or lists a name that ends in `.rle`.
 fn is_taken(alloc: Global, listing: &Option<Vec<u8>>) -> Result<bool, AllocError>
-    ensures { IfOk result (λ taken. taken ≡ is_taken (option_map (λ bytes. bytes.items) listing.now)) }
+    ensures { IfOk result
+        (λ taken. taken ≡ is_taken (option_map (λ bytes. bytes.items) listing.now)) }
 {
     match listing {
         Some(listing) => {
@@ -68,8 +71,12 @@ fn add_name_on(
     folder: &str,
     name: &[u8],
 ) -> Result<(), AllocError>
-    ensures added { OnOk result (map string_bytes found.new.items ≡ map string_bytes found.old.items ++ map (path_of folder.now) (filter is_utf8 (name.now ∷ []))) }
-    ensures told { OnOk result (lost.new ≡ lost.old ++ lost_names folder.now (filter is_foreign (name.now ∷ []))) }
+    ensures added { OnOk result
+        (map string_bytes found.new.items ≡
+        map string_bytes found.old.items ++
+        map (path_of folder.now) (filter is_utf8 (name.now ∷ []))) }
+    ensures told { OnOk result
+        (lost.new ≡ lost.old ++ lost_names folder.now (filter is_foreign (name.now ∷ []))) }
 {
     match str::from_utf8(name) {
         Ok(name) => found.push(path_in(alloc, folder, name)?)?,
@@ -89,8 +96,11 @@ fn add_inner_on(
     folder: &str,
     folders: &[u8],
 ) -> Result<(), AllocError>
-    ensures added { OnOk result (map string_bytes found.new.items ≡ map string_bytes found.old.items ++ kept_paths folder.now (Some folders.now)) }
-    ensures told { OnOk result (lost.new ≡ lost.old ++ lost_names folder.now (filter is_foreign (names_in folders.now))) }
+    ensures added { OnOk result
+        (map string_bytes found.new.items ≡
+        map string_bytes found.old.items ++ kept_paths folder.now (Some folders.now)) }
+    ensures told { OnOk result
+        (lost.new ≡ lost.old ++ lost_names folder.now (filter is_foreign (names_in folders.now))) }
 {
     let mut left = Some(folders);
     while let Some(rest) = left {
@@ -113,8 +123,15 @@ fn add_folders_on(
     listing: &Option<Vec<u8>>,
     folders: &Option<Vec<u8>>,
 ) -> Result<(), AllocError>
-    ensures added { OnOk result (map string_bytes found.new.items ≡ map string_bytes found.old.items ++ kept_paths folder.now (option_map (λ bytes. bytes.items) folders.now)) }
-    ensures told { OnOk result (lost.new ≡ lost.old ++ lost_in (option_map (λ bytes. bytes.items) listing.now) folder.now (option_map (λ bytes. bytes.items) folders.now)) }
+    ensures added { OnOk result
+        (map string_bytes found.new.items ≡
+        map string_bytes found.old.items ++
+        kept_paths folder.now (option_map (λ bytes. bytes.items) folders.now)) }
+    ensures told { OnOk result
+        (lost.new ≡
+        lost.old ++
+        lost_in (option_map (λ bytes. bytes.items) listing.now) folder.now
+        (option_map (λ bytes. bytes.items) folders.now)) }
 {
     match (listing, folders) {
         (_, Some(folders)) => add_inner_on(alloc, found, lost, folder, folders.as_slice()),
@@ -132,7 +149,8 @@ fn visit_on<S: Shelf>(
     folder: &str,
 ) -> Result<bool, FoldersFault>
     ensures { MatchResult result
-        (AddsKeptVisit (S.listed shelf.now) (S.inner shelf.now) folder.now (map string_bytes found.old.items) (map string_bytes found.new.items) lost.old lost.new)
+        (AddsKeptVisit (S.listed shelf.now) (S.inner shelf.now) folder.now
+        (map string_bytes found.old.items) (map string_bytes found.new.items) lost.old lost.new)
         (λ fault. fault ≡ Memory) }
 {
     let listing = list_on(shelf, alloc, folder)?;
@@ -150,7 +168,8 @@ pub(crate) fn folders_below_on<S: Shelf>(
     word: &str,
 ) -> Result<Vec<String>, FoldersFault>
     ensures { MatchResult result
-        (λ folders. LosesTree (S.listed shelf.now) (S.inner shelf.now) word.now (map string_bytes folders.items) lost.old lost.new)
+        (λ folders. LosesTree (S.listed shelf.now) (S.inner shelf.now) word.now
+        (map string_bytes folders.items) lost.old lost.new)
         (λ fault. fault ≡ Memory) }
 {
     let mut found = Vec::new(alloc);

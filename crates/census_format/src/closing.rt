@@ -105,7 +105,8 @@ fn count_parts<'a>(
     requires tally { HasTally counts.old.entries (2 ^ 62) }
     requires few { objects_in parts.now < 2 ^ 32 }
     ensures { (ks : List codes.Object) → counts.old.entries ≡ tally same_object ks →
-        OnOk result (counts.new.entries ≡ tally same_object (ks ++ part_objects rule.now parts.now)) }
+        OnOk result
+        (counts.new.entries ≡ tally same_object (ks ++ part_objects rule.now parts.now)) }
 {
     for part in parts {
         count_object(counts, Object::of(*rule, part.code.as_slice()), part.count)?;
@@ -119,7 +120,8 @@ fn count_answer<'a>(
     answer: &'a Answer,
 ) -> Result<(), AllocError>
     requires { HasTally counts.old.entries (2 ^ 62) }
-    ensures counts { (before : List found.Answer) → counts.old.entries ≡ tally same_object (objects before) →
+    ensures counts { (before : List found.Answer) →
+        counts.old.entries ≡ tally same_object (objects before) →
         OnOk result (counts.new.entries ≡ tally same_object (objects (before ++ answer.now ∷ []))) }
     ensures few { OnOk result (length (objects (answer.now ∷ [])) < 2 ^ 32) }
 {
@@ -147,7 +149,8 @@ fn tally_of<'a>(
     answers: &[&'a Answer],
 ) -> Result<IndexMap<Object<'a>, u64>, AllocError>
     requires { length answers.now < 2 ^ 30 }
-    ensures { IfOk result (λ m. m.entries ≡ tally same_object (objects (map (λ a. a.now) answers.now))) }
+    ensures { IfOk result
+        (λ m. m.entries ≡ tally same_object (objects (map (λ a. a.now) answers.now))) }
 {
     let mut counts = IndexMap::new(alloc);
     for answer in answers {
@@ -171,7 +174,9 @@ fn push_code(text: &mut Vec<u8>, c: u32, object: &Object, count: u64) -> Result<
 
 // The lines of the objects that were found.
 fn push_codes(text: &mut Vec<u8>, c: u32, counts: &IndexMap<Object, u64>) -> Result<(), AllocError>
-    ensures { OnOk result (text.new.items ≡ text.old.items ++ text_of (map (λ e. code_line c e.0 e.1) counts.now.entries)) }
+    ensures { OnOk result
+        (text.new.items ≡
+        text.old.items ++ text_of (map (λ e. code_line c e.0 e.1) counts.now.entries)) }
 {
     for (object, count) in counts.iter() {
         push_code(text, c, object, *count)?;
@@ -273,7 +278,11 @@ fn push_objects(
     found: &[&Answer],
 ) -> Result<(), AllocError>
     requires { length found.now < 2 ^ 30 }
-    ensures { OnOk result (text.new.items ≡ text.old.items ++ text_of (map (λ e. code_line c e.0 e.1) (tally same_object (objects (map (λ a. a.now) found.now))))) }
+    ensures { OnOk result
+        (text.new.items ≡
+        text.old.items ++
+        text_of (map (λ e. code_line c e.0 e.1)
+        (tally same_object (objects (map (λ a. a.now) found.now))))) }
 {
     let counts = tally_of(alloc, found)?;
     push_codes(text, c, &counts)
@@ -290,7 +299,8 @@ pub fn push_closing(
 ) -> Result<(), AllocError>
     requires few { length found.now < 2 ^ 30 }
     requires found { map (λ a. a.now) found.now ≡ answers question folder.now.entries }
-    ensures { OnOk result (text.new.items ≡ text.old.items ++ text_of (closing question c folder.now)) }
+    ensures { OnOk result
+        (text.new.items ≡ text.old.items ++ text_of (closing question c folder.now)) }
 {
     push_objects(alloc, text, c, found)?;
     push_close(text, question, c, folder, found)?;

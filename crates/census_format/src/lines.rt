@@ -2,7 +2,7 @@
 ghost use Rattle.std.specs.Prelude.{◌≡◌, ◌≤◌, ◌++◌, ℕ, [], ◌∷◌, List, length, OnOk, decimal};
 ghost use Rattle.std.specs.Fmt.{signed_decimal};
 ghost use Rattle.life_cells.specs.Rules.{rule_text};
-ghost use Rattle.census_bundle.specs.Sizes.{IsSmall};
+ghost use Rattle.census_bundle.specs.Sizes.{IsWithinCounts};
 ghost use Rattle.census_format.specs.Heads.{line_with_head, line_head};
 ghost use Rattle.census_format.specs.Lines.{fields_text, end_line, finding_fields, open_line, pattern_count};
 
@@ -58,7 +58,9 @@ fn push_population(
     rule: &Rule,
     population: u64,
 ) -> Result<(), AllocError>
-    ensures { OnOk result (text.new.items ≡ text.old.items ++ fields_text (word.now ∷ rule_text rule.now ∷ decimal population ∷ [])) }
+    ensures { OnOk result
+        (text.new.items ≡
+        text.old.items ++ fields_text (word.now ∷ rule_text rule.now ∷ decimal population ∷ [])) }
 {
     push_field(text, word)?;
     push_rule(text, rule)?;
@@ -73,7 +75,11 @@ fn push_recurrence(
     dx: &i32,
     dy: &i32,
 ) -> Result<(), AllocError>
-    ensures { OnOk result (text.new.items ≡ text.old.items ++ fields_text (decimal onset ∷ decimal period ∷ signed_decimal dx.now ∷ signed_decimal dy.now ∷ [])) }
+    ensures { OnOk result
+        (text.new.items ≡
+        text.old.items ++
+        fields_text
+        (decimal onset ∷ decimal period ∷ signed_decimal dx.now ∷ signed_decimal dy.now ∷ [])) }
 {
     push_number(text, onset)?;
     push_number(text, period)?;
@@ -83,7 +89,8 @@ fn push_recurrence(
 
 // What was found of a pattern.
 fn push_finding(text: &mut Vec<u8>, answer: &Answer) -> Result<(), AllocError>
-    ensures { OnOk result (text.new.items ≡ text.old.items ++ fields_text (finding_fields answer.now)) }
+    ensures { OnOk result
+        (text.new.items ≡ text.old.items ++ fields_text (finding_fields answer.now)) }
 {
     match answer {
         Answer::Found { rule, finding } => match finding {
@@ -124,7 +131,8 @@ fn push_finding(text: &mut Vec<u8>, answer: &Answer) -> Result<(), AllocError>
 /// The line of a pattern of which this was found, as far as its name.
 #[tactic(auto, unfolding(crate::specs::Heads::line_head))]
 pub fn push_head(text: &mut Vec<u8>, ticket: Ticket, answer: &Answer) -> Result<(), AllocError>
-    ensures { OnOk result (text.new.items ≡ text.old.items ++ line_head ticket.folder ticket.number answer.now) }
+    ensures { OnOk result
+        (text.new.items ≡ text.old.items ++ line_head ticket.folder ticket.number answer.now) }
 {
     text.extend_from_slice(b"line")?;
     push_number(text, ticket.folder)?;
@@ -139,7 +147,8 @@ pub fn push_pattern(
     tail: &[u8],
     entry: &Entry,
 ) -> Result<(), AllocError>
-    ensures { OnOk result (text.new.items ≡ text.old.items ++ line_with_head head.now tail.now entry.now) }
+    ensures { OnOk result
+        (text.new.items ≡ text.old.items ++ line_with_head head.now tail.now entry.now) }
 {
     text.extend_from_slice(head)?;
     push_field(text, entry.name.as_slice())?;
@@ -150,7 +159,7 @@ pub fn push_pattern(
 
 // How many patterns there are.
 fn count_patterns(folders: &[Folder]) -> u64
-    requires { IsSmall folders.now }
+    requires { IsWithinCounts folders.now }
     ensures { result ≡ pattern_count folders.now }
 {
     let mut count = 0u64;
@@ -163,7 +172,7 @@ fn count_patterns(folders: &[Folder]) -> u64
 /// The last line of a report.
 #[tactic(auto, unfolding(crate::specs::Lines::end_line))]
 pub fn push_end(text: &mut Vec<u8>, folders: &[Folder]) -> Result<(), AllocError>
-    requires { IsSmall folders.now }
+    requires { IsWithinCounts folders.now }
     ensures { OnOk result (text.new.items ≡ text.old.items ++ end_line folders.now) }
 {
     text.extend_from_slice(b"end")?;

@@ -24,7 +24,8 @@ pub fn count_objects(parts: &[Part]) -> u64
 // The line of those parts that are one object.
 #[tactic(auto, unfolding(crate::specs::Lines::part_line))]
 fn push_part(text: &mut Vec<u8>, ticket: Ticket, part: &Part) -> Result<(), AllocError>
-    ensures { OnOk result (text.new.items ≡ text.old.items ++ part_line ticket.folder ticket.number part.now) }
+    ensures { OnOk result
+        (text.new.items ≡ text.old.items ++ part_line ticket.folder ticket.number part.now) }
 {
     text.extend_from_slice(b"part")?;
     push_number(text, ticket.folder)?;
@@ -37,7 +38,9 @@ fn push_part(text: &mut Vec<u8>, ticket: Ticket, part: &Part) -> Result<(), Allo
 
 // The lines of all parts.
 fn push_parts(text: &mut Vec<u8>, ticket: Ticket, parts: &[Part]) -> Result<(), AllocError>
-    ensures { OnOk result (text.new.items ≡ text.old.items ++ text_of (map (part_line ticket.folder ticket.number) parts.now)) }
+    ensures { OnOk result
+        (text.new.items ≡
+        text.old.items ++ text_of (map (part_line ticket.folder ticket.number) parts.now)) }
 {
     for part in parts {
         push_part(text, ticket, part)?;
@@ -48,7 +51,8 @@ fn push_parts(text: &mut Vec<u8>, ticket: Ticket, parts: &[Part]) -> Result<(), 
 /// The `part` lines of a pattern of which this was found.
 #[tactic(auto, unfolding(crate::specs::Heads::line_tail))]
 pub fn push_tail(text: &mut Vec<u8>, ticket: Ticket, answer: &Answer) -> Result<(), AllocError>
-    ensures { OnOk result (text.new.items ≡ text.old.items ++ line_tail ticket.folder ticket.number answer.now) }
+    ensures { OnOk result
+        (text.new.items ≡ text.old.items ++ line_tail ticket.folder ticket.number answer.now) }
 {
     match answer {
         Answer::Found { rule: _, finding } => match finding {

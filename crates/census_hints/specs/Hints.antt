@@ -23,8 +23,8 @@ abbrev pub has_line : List ℕ → Bool
 has_line text = stands_in (codes "@file ") text || stands_in (codes "@folder ") text
 
 -- such a line may stand after the first `!` of the pattern's text
-abbrev pub is_stray : Entry → Bool
-is_stray entry = not entry.is_lost && has_line (after_first is_exclamation_mark entry.text)
+abbrev pub may_follow_the_end : Entry → Bool
+may_follow_the_end entry = not entry.is_lost && has_line (after_first is_exclamation_mark entry.text)
 
 -- two blanks and `COLLECTION/NAME: `. The names of a bundle are lawful and are shown as they are.
 abbrev pub stray_place : List ℕ → List ℕ → List ℕ
@@ -38,7 +38,7 @@ abbrev pub stray_line : List ℕ → List ℕ → List ℕ
 stray_line collection name = stray_place collection name ++ stray_sentence ++ codes "\n"
 
 abbrev pub entry_lines : List ℕ → Entry → List ℕ
-entry_lines collection entry = if is_stray entry then stray_line collection entry.name else []
+entry_lines collection entry = if may_follow_the_end entry then stray_line collection entry.name else []
 
 abbrev pub folder_lines : Folder → List ℕ
 folder_lines folder = flat_map (λ entry. entry_lines folder.name entry) folder.entries

@@ -41,7 +41,8 @@ fn push_passed(lines: &mut Vec<u8>, passed: u128) -> Result<(), AllocError>
 
 // Appends the same of a bundle that was read from folders, and else nothing.
 fn push_passed_if(lines: &mut Vec<u8>, from_folders: bool, passed: u128) -> Result<(), AllocError>
-    ensures { OnOk result (lines.new.items ≡ lines.old.items ++ passed_text_if from_folders passed) }
+    ensures { OnOk result
+        (lines.new.items ≡ lines.old.items ++ passed_text_if from_folders passed) }
 {
     if from_folders {
         push_passed(lines, passed)?;
@@ -83,7 +84,8 @@ pub fn hint_lines<S: Shelf>(
     bundle: &Bundle,
     from_folders: bool,
 ) -> Result<Vec<u8>, AllocError>
-    ensures { IfOk result (λ lines. Hints (S.listed shelf.now) from_folders bundle.now lines.items) }
+    ensures { IfOk result
+        (λ lines. Hints (S.listed shelf.now) from_folders bundle.now lines.items) }
 {
     let mut lines = stray_lines(alloc, bundle)?;
     let passed = if from_folders {

@@ -32,7 +32,9 @@ fn count_alike(listing: &[u8]) -> usize
 
 // What the folder of this name lists, or nothing where it can't be listed.
 fn list<S: Shelf>(shelf: &S, alloc: Global, name: &[u8]) -> Result<Option<Vec<u8>>, AllocError>
-    ensures { IfOk result (λ listing. Lists (S.listed shelf.now name.now) name.now (option_map (λ bytes. bytes.items) listing)) }
+    ensures { IfOk result
+        (λ listing. Lists (S.listed shelf.now name.now) name.now
+        (option_map (λ bytes. bytes.items) listing)) }
 {
     let Ok(name) = str::from_utf8(name) else {
         return Ok(None);
@@ -46,7 +48,9 @@ fn list<S: Shelf>(shelf: &S, alloc: Global, name: &[u8]) -> Result<Option<Vec<u8
 
 // How many such names the folder of a collection lists.
 fn passed_in<S: Shelf>(shelf: &S, alloc: Global, folder: &Folder) -> Result<usize, AllocError>
-    ensures { IfOk result (λ count. (before : ℕ) → PassesFolder (S.listed shelf.now) before folder.now (before + count)) }
+    ensures { IfOk result
+        (λ count. (before : ℕ) →
+        PassesFolder (S.listed shelf.now) before folder.now (before + count)) }
 {
     match list(shelf, alloc, folder.name.as_slice())? {
         Some(listing) => Ok(count_alike(listing.as_slice())),

@@ -1,7 +1,7 @@
 //! Texts that the next pattern may be lost in.
 ghost use Rattle.std.specs.Prelude.{◌≡◌, ◌++◌, ◌<◌, length, IfOk, OnOk};
 ghost use Rattle.std.specs.List.{after_first};
-ghost use Rattle.census_hints.specs.Hints.{entry_lines, folder_lines, has_line, is_exclamation_mark, is_stray, stands_in, stray_line, stray_lines, stray_place, stray_sentence};
+ghost use Rattle.census_hints.specs.Hints.{entry_lines, folder_lines, has_line, is_exclamation_mark, may_follow_the_end, stands_in, stray_line, stray_lines, stray_place, stray_sentence};
 
 use census_bundle::{Bundle, Entry, Folder};
 use memchr::{memchr, memmem};
@@ -33,8 +33,8 @@ fn has_line(text: &[u8]) -> bool
 }
 
 // Whether such a line may stand after the `!` of a pattern.
-fn is_stray(entry: &Entry) -> bool
-    ensures { result ≡ is_stray entry.now }
+fn may_follow_the_end(entry: &Entry) -> bool
+    ensures { result ≡ may_follow_the_end entry.now }
 {
     !entry.is_lost && has_line(after_mark(entry.text.as_slice()))
 }
@@ -48,7 +48,8 @@ fn sentence() -> &'static str
 
 // Appends where a pattern stands.
 fn push_place(lines: &mut Vec<u8>, collection: &[u8], name: &[u8]) -> Result<(), AllocError>
-    ensures { OnOk result (lines.new.items ≡ lines.old.items ++ stray_place collection.now name.now) }
+    ensures { OnOk result
+        (lines.new.items ≡ lines.old.items ++ stray_place collection.now name.now) }
 {
     lines.extend_from_slice(b"  ")?;
     lines.extend_from_slice(collection)?;
@@ -60,7 +61,8 @@ fn push_place(lines: &mut Vec<u8>, collection: &[u8], name: &[u8]) -> Result<(),
 
 // Appends the line of a pattern of these names.
 fn push_stray(lines: &mut Vec<u8>, collection: &[u8], name: &[u8]) -> Result<(), AllocError>
-    ensures { OnOk result (lines.new.items ≡ lines.old.items ++ stray_line collection.now name.now) }
+    ensures { OnOk result
+        (lines.new.items ≡ lines.old.items ++ stray_line collection.now name.now) }
 {
     push_place(lines, collection, name)?;
     lines.extend_from_slice(sentence().as_bytes())?;
@@ -70,9 +72,10 @@ fn push_stray(lines: &mut Vec<u8>, collection: &[u8], name: &[u8]) -> Result<(),
 
 // Appends the line of a pattern, where there is one.
 fn push_entry(lines: &mut Vec<u8>, collection: &[u8], entry: &Entry) -> Result<(), AllocError>
-    ensures { OnOk result (lines.new.items ≡ lines.old.items ++ entry_lines collection.now entry.now) }
+    ensures { OnOk result
+        (lines.new.items ≡ lines.old.items ++ entry_lines collection.now entry.now) }
 {
-    if is_stray(entry) {
+    if may_follow_the_end(entry) {
         push_stray(lines, collection, entry.name.as_slice())?;
     }
     Ok(())

@@ -3,7 +3,7 @@ use Rattle.std.proofs.Common.{◌≡◌, ℕ, Bool, true, false, List, [], ◌�
 use Rattle.std.specs.List.{join_with_byte}
 use Rattle.std.proofs.lemmas.List.{map-append}
 use Rattle.census_identify.specs.Hearing.{Hearing}
-use Rattle.census_identify.specs.Telling.{block_after, blocks_in, blocks_text, line_of, lines_text, output_of, status_of, told_of, tellings}
+use Rattle.census_identify.specs.Telling.{block_after, blocks_in, blocks_text, line_told, lines_text, output_of, status_of, told_of, tellings}
 use Rattle.census_identify.specs.declared.told.Told.{Told}
 use Rattle.census_identify.specs.declared.told.Told.TheVariants.{Block, Line}
 
@@ -32,11 +32,11 @@ pub blocks_more : (told : List Told) (t : Told) → blocks_text (told ++ t ∷ [
 blocks_more told (Block block) = ap (join_with_byte 10) (block_more told block) ∙ join_more (blocks_in told) block
 blocks_more told (Line line status) = ap (join_with_byte 10) (no_block_more told line status) ∙ sym (append-nil (blocks_text told))
 
-pub lines_more : (told : List Told) (t : Told) → lines_text (told ++ t ∷ []) ≡ lines_text told ++ line_of t
+pub lines_more : (told : List Told) (t : Told) → lines_text (told ++ t ∷ []) ≡ lines_text told ++ line_told t
 lines_more [] (Block block) = refl
 lines_more [] (Line line status) = append-nil line
 lines_more (Block b ∷ told) t = lines_more told t
-lines_more (Line l s ∷ told) t = ap (λ ls. l ++ ls) (lines_more told t) ∙ sym (append_assoc l (lines_text told) (line_of t))
+lines_more (Line l s ∷ told) t = ap (λ ls. l ++ ls) (lines_more told t) ∙ sym (append_assoc l (lines_text told) (line_told t))
 
 pub status_more : (told : List Told) (line : List ℕ) (status : ℕ) → status_of (told ++ Line line status ∷ []) ≡ max (status_of told) status
 status_more [] line status = omega arith

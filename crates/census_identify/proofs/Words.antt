@@ -8,8 +8,8 @@ use Rattle.census_identify.specs.Courses.{with_told}
 use Rattle.census_identify.specs.Errors.{error_line}
 use Rattle.census_identify.specs.Hearing.{Hearing, Hears, HearsEach, words_of}
 use Rattle.census_identify.specs.Identifies.{LacksMemory, LosesOutput, Stops, TellsAll}
-use Rattle.census_identify.specs.Streams.{Sink, Source, Streams, Tells, TellsMore, Writes, WritesBetween, WritesFront}
-use Rattle.census_identify.specs.Telling.{blocks_in, blocks_text, line_of, lines_text, output_of, status_of, told_of, tellings}
+use Rattle.census_identify.specs.Streams.{PutsBytes, PutsMoreBytes, PutsPrefix, Sink, Source, Streams, Writes, WritesBetween}
+use Rattle.census_identify.specs.Telling.{blocks_in, blocks_text, line_told, lines_text, output_of, status_of, told_of, tellings}
 use Rattle.census_identify.specs.declared.course.Course.{Course}
 use Rattle.census_identify.specs.declared.error.IdentifyError.{IdentifyError}
 use Rattle.census_identify.specs.declared.error.IdentifyError.TheVariants.{Memory, Write}
@@ -46,7 +46,7 @@ pub record IsUnderWay (held : List ℕ → ToldOf) (bound : ℕ) (words : List (
   pub words_are : words ≡ words_of heard
   pub hears : HearsEach held heard before.input now.input
   pub blocks : Writes (blocks_text (tellings bound heard)) before.output now.output
-  pub lines : Tells (lines_text (tellings bound heard)) before.errors now.errors
+  pub lines : PutsBytes (lines_text (tellings bound heard)) before.errors now.errors
   pub counts : Counts course (tellings bound heard)
 
 pub at_first : (held : List ℕ → ToldOf) (bound : ℕ) (course : Course) (streams : Streams) → course.has_block ≡ false → course.status ≡ 0
@@ -78,12 +78,12 @@ module _ (held : List ℕ → ToldOf) (bound : ℕ) (words : List (List ℕ)) (c
   all_blocks : blocks_text (tellings bound (w.heard ++ next ∷ [])) ≡ blocks_text told ++ output_of course.has_block more
   all_blocks = ap blocks_text all_told ∙ blocks_more told more ∙ ap (λ b. blocks_text told ++ output_of b more) (sym w.counts.has_block)
 
-  all_lines : lines_text (tellings bound (w.heard ++ next ∷ [])) ≡ lines_text told ++ line_of more
+  all_lines : lines_text (tellings bound (w.heard ++ next ∷ [])) ≡ lines_text told ++ line_told more
   all_lines = ap lines_text all_told ∙ lines_more told more
 
-  module _ (course' : Course) (output errors : Sink) (told_more : TellsMore (line_of more) now.errors errors) where
-    lines_so : Tells (lines_text (tellings bound (w.heard ++ next ∷ []))) before.errors errors
-    lines_so = subst (λ l. Tells l before.errors errors) (sym all_lines) (tells_more (lines_text told) (line_of more) before.errors now.errors errors w.lines told_more)
+  module _ (course' : Course) (output errors : Sink) (told_more : PutsMoreBytes (line_told more) now.errors errors) where
+    lines_so : PutsBytes (lines_text (tellings bound (w.heard ++ next ∷ []))) before.errors errors
+    lines_so = subst (λ l. PutsBytes l before.errors errors) (sym all_lines) (tells_more (lines_text told) (line_told more) before.errors now.errors errors w.lines told_more)
 
     pub one_more_word : Writes (output_of course.has_block more) now.output output → course' ≡ with_told course more
         → IsUnderWay held bound (words ++ word ∷ []) course' before (record { input = input; output = output; errors = errors })
@@ -96,7 +96,7 @@ module _ (held : List ℕ → ToldOf) (bound : ℕ) (words : List (List ℕ)) (c
       counts = subst (Counts course') (sym all_told) (counts_more course course' told more w.counts is);
     }
 
-    pub output_lost : (all left : List (List ℕ)) → all ≡ words ++ word ∷ left → WritesFront (output_of course.has_block more) now.output output
+    pub output_lost : (all left : List (List ℕ)) → all ≡ words ++ word ∷ left → PutsPrefix (output_of course.has_block more) now.output output
         → LosesOutput [] held bound all before (record { input = input; output = output; errors = errors })
     output_lost all left is front = record {
       heard = w.heard;
@@ -106,7 +106,7 @@ module _ (held : List ℕ → ToldOf) (bound : ℕ) (words : List (List ℕ)) (c
       hears = hears_more held w.heard next before.input now.input input w.hears hears;
       blocks = subst (λ l. WritesBetween (blocks_text told) l before.output output) (sym all_blocks)
           (writes_between (blocks_text told) (output_of course.has_block more) before.output now.output output w.blocks front);
-      lines = subst (λ l. Tells l before.errors errors) (sym (append-nil (lines_text (tellings bound (w.heard ++ next ∷ []))))) lines_so;
+      lines = subst (λ l. PutsBytes l before.errors errors) (sym (append-nil (lines_text (tellings bound (w.heard ++ next ∷ []))))) lines_so;
     }
 
 module _ (held : List ℕ → ToldOf) (bound : ℕ) (words : List (List ℕ)) (course : Course) (before now : Streams) (w : IsUnderWay held bound words course before now) where
@@ -121,7 +121,7 @@ module _ (held : List ℕ → ToldOf) (bound : ℕ) (words : List (List ℕ)) (c
     hears = w.hears;
     taken = taken;
     blocks = w.blocks;
-    lines = subst (λ l. Tells l before.errors now.errors) (sym (append-nil (lines_text (tellings bound w.heard)))) w.lines;
+    lines = subst (λ l. PutsBytes l before.errors now.errors) (sym (append-nil (lines_text (tellings bound w.heard)))) w.lines;
   }
 
   pub all_told_of : (all : List (List ℕ)) → all ≡ words → TellsAll held bound all course.status before now
@@ -153,9 +153,9 @@ module _ (held : List ℕ → ToldOf) (bound : ℕ) (words : List (Bor (List ℕ
   lacks_memory input taken = memory_lacks held bound (texts (take i words)) course before now w (texts words) (get_or words i d).now (texts (drop (suc i) words)) (word_between words i d within) input taken
 
   module _ (heard : Heard) (told : Told) (input : Source) (output errors : Sink) (hears : Hears held (get_or words i d).now heard now.input input)
-      (is : told ≡ told_of bound (get_or words i d).now heard) (told_more : TellsMore (line_of told) now.errors errors) where
-    line_so : TellsMore (line_of (told_of bound (get_or words i d).now heard)) now.errors errors
-    line_so = subst (λ t. TellsMore (line_of t) now.errors errors) is told_more
+      (is : told ≡ told_of bound (get_or words i d).now heard) (told_more : PutsMoreBytes (line_told told) now.errors errors) where
+    line_so : PutsMoreBytes (line_told (told_of bound (get_or words i d).now heard)) now.errors errors
+    line_so = subst (λ t. PutsMoreBytes (line_told t) now.errors errors) is told_more
 
     pub next_told : (course' : Course) → Writes (output_of course.has_block told) now.output output → course' ≡ with_told course told
         → IsUnderWay held bound (texts (take (i + 1) words)) course' before (record { input = input; output = output; errors = errors })
@@ -165,19 +165,19 @@ module _ (held : List ℕ → ToldOf) (bound : ℕ) (words : List (Bor (List ℕ
         one_more_word held bound (texts (take i words)) course before now w (get_or words i d).now heard input hears course' output errors line_so written_so (same ∙ ap (with_told course) is) in
         subst (λ ws. IsUnderWay held bound ws course' before (record { input = input; output = output; errors = errors })) (sym (map_more (λ s. s.now) words i d within)) more
 
-    pub loses_output : WritesFront (output_of course.has_block told) now.output output
+    pub loses_output : PutsPrefix (output_of course.has_block told) now.output output
         → LosesOutput [] held bound (texts words) before (record { input = input; output = output; errors = errors })
     loses_output front =
         output_lost held bound (texts (take i words)) course before now w (get_or words i d).now heard input hears course output errors line_so (texts words) (texts (drop (suc i) words)) (word_between words i d within)
-        (subst (λ t. WritesFront (output_of course.has_block t) now.output output) is front)
+        (subst (λ t. PutsPrefix (output_of course.has_block t) now.output output) is front)
 
 -- # The line of the error
 
-told_last : (xs ys : List ℕ) (a b c : Sink) → Tells (xs ++ []) a b → TellsMore ys b c → Tells (xs ++ ys) a c
-told_last xs ys a b c first more = tells_more xs ys a b c (subst (λ l. Tells l a b) (append-nil xs) first) more
+told_last : (xs ys : List ℕ) (a b c : Sink) → PutsBytes (xs ++ []) a b → PutsMoreBytes ys b c → PutsBytes (xs ++ ys) a c
+told_last xs ys a b c first more = tells_more xs ys a b c (subst (λ l. PutsBytes l a b) (append-nil xs) first) more
 
 pub stops_told : (error : IdentifyError) (held : List ℕ → ToldOf) (bound : ℕ) (words : List (List ℕ)) (before now : Streams) (errors : Sink) → Stops error [] held bound words before now
-    → TellsMore (error_line error) now.errors errors → Stops error (error_line error) held bound words before (record now { errors = errors })
+    → PutsMoreBytes (error_line error) now.errors errors → Stops error (error_line error) held bound words before (record now { errors = errors })
 stops_told Memory held bound words before now errors stops more = record {
   heard = stops.heard;
   word = stops.word;

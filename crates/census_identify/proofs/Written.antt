@@ -5,7 +5,7 @@ use Rattle.std.proofs.Math.Seq.{take-append-add}
 use Rattle.std.proofs.lemmas.List.{take-append-le}
 use Rattle.std.specs.Io.KnownBytes.{Appends}
 use Rattle.watched.specs.Watching.{AppendsFront}
-use Rattle.census_identify.specs.Streams.{Sink, Tells, TellsMore, Writes, WritesBetween, WritesFront}
+use Rattle.census_identify.specs.Streams.{PutsBytes, PutsMoreBytes, PutsPrefix, Sink, Writes, WritesBetween}
 
 -- a prefix of the second text stands after the whole first one
 behind_whole : (a b c : Option (List ℕ)) (xs ys : List ℕ) (n : ℕ) → Appends a b xs → Appends b c (take n ys) → Appends a c (take (length xs + n) (xs ++ ys))
@@ -28,7 +28,7 @@ writes_none s sound = record { written = Appends-nil s.written; sound = sound }
 pub writes_more : (xs ys : List ℕ) (a b c : Sink) → Writes xs a b → Writes ys b c → Writes (xs ++ ys) a c
 writes_more xs ys a b c p q = record { written = Appends-trans a.written b.written c.written xs ys p.written q.written; sound = q.sound }
 
-pub writes_between : (xs ys : List ℕ) (a b c : Sink) → Writes xs a b → WritesFront ys b c → WritesBetween xs (xs ++ ys) a c
+pub writes_between : (xs ys : List ℕ) (a b c : Sink) → Writes xs a b → PutsPrefix ys b c → WritesBetween xs (xs ++ ys) a c
 writes_between xs ys a b c p q = record {
   count = length xs + q.written.0;
   least = omega arith;
@@ -41,16 +41,16 @@ writes_between xs ys a b c p q = record {
 pub writes_rest : {A B : Type 0} (r : Result A B) (xs ys : List ℕ) (a b c : Sink) → Appends a.written b.written xs
     → MatchResult r (λ _. c.failed ≡ false) (λ _. c.failed ≡ true)
     → MatchResult r (λ _. Appends b.written c.written ys) (λ _. AppendsFront b.written c.written ys)
-    → MatchResult r (λ _. Writes (xs ++ ys) a c) (λ _. WritesFront (xs ++ ys) a c)
+    → MatchResult r (λ _. Writes (xs ++ ys) a c) (λ _. PutsPrefix (xs ++ ys) a c)
 writes_rest (Ok x) xs ys a b c p failed bytes = record { written = Appends-trans a.written b.written c.written xs ys p bytes; sound = failed }
 writes_rest (Err e) xs ys a b c p failed bytes = record { written = front_behind a.written b.written c.written xs ys p bytes; failed = failed }
 
 -- # Standard error
 
-pub tells_none : (s : Sink) → s.failed ≡ false → Tells [] s s
+pub tells_none : (s : Sink) → s.failed ≡ false → PutsBytes [] s s
 tells_none s sound = subst (λ f. MatchBool f (AppendsFront s.written s.written []) (Appends s.written s.written [])) (sym sound) (Appends-nil s.written)
 
-pub tells_no_more : (s : Sink) → TellsMore [] s s
+pub tells_no_more : (s : Sink) → PutsMoreBytes [] s s
 tells_no_more s = at s.failed
   where
     at : (f : Bool) → MatchBool f (s ≡ s) (MatchBool f (AppendsFront s.written s.written []) (Appends s.written s.written []))
@@ -64,13 +64,13 @@ module _ (xs ys : List ℕ) (a b c : Sink) where
   joined false p q = Appends-trans a.written b.written c.written xs ys p q
 
   at_flag : (f : Bool) → b.failed ≡ f → MatchBool f (AppendsFront a.written b.written xs) (Appends a.written b.written xs)
-      → MatchBool f (c ≡ b) (Tells ys b c) → Tells (xs ++ ys) a c
+      → MatchBool f (c ≡ b) (PutsBytes ys b c) → PutsBytes (xs ++ ys) a c
   at_flag true failed front same =
-      let here : Tells (xs ++ ys) a b =
+      let here : PutsBytes (xs ++ ys) a b =
       subst (λ f. MatchBool f (AppendsFront a.written b.written (xs ++ ys)) (Appends a.written b.written (xs ++ ys))) (sym failed)
       (front_before a.written b.written xs ys front) in
-      subst (Tells (xs ++ ys) a) (sym same) here
+      subst (PutsBytes (xs ++ ys) a) (sym same) here
   at_flag false sound whole more = joined c.failed whole more
 
-  pub tells_more : Tells xs a b → TellsMore ys b c → Tells (xs ++ ys) a c
+  pub tells_more : PutsBytes xs a b → PutsMoreBytes ys b c → PutsBytes (xs ++ ys) a c
   tells_more first more = at_flag b.failed refl first more

@@ -5,7 +5,7 @@ use Rattle.census_bundle.specs.Sizes.{input_limit}
 use Rattle.census_folders.specs.Told.{Told}
 use Rattle.census_identify.specs.Errors.{error_line, error_status}
 use Rattle.census_identify.specs.Hearing.{Hearing, HearsEach, words_of}
-use Rattle.census_identify.specs.Streams.{Source, Streams, Tells, Writes, WritesBetween}
+use Rattle.census_identify.specs.Streams.{PutsBytes, Source, Streams, Writes, WritesBetween}
 use Rattle.census_identify.specs.Telling.{blocks_text, lines_text, status_of, tellings}
 use Rattle.census_identify.specs.declared.error.IdentifyError.{IdentifyError}
 use Rattle.census_identify.specs.declared.error.IdentifyError.TheVariants.{Memory, Write}
@@ -22,7 +22,7 @@ pub record TellsAll (held : List ℕ → Told) (bound : ℕ) (words : List (List
   pub words_are : words ≡ words_of heard
   pub hears : HearsEach held heard before.input after.input
   pub blocks : Writes (blocks_text (tellings bound heard)) before.output after.output
-  pub lines : Tells (lines_text (tellings bound heard)) before.errors after.errors
+  pub lines : PutsBytes (lines_text (tellings bound heard)) before.errors after.errors
   pub status_is : status ≡ status_of (tellings bound heard)
 
 -- Memory was refused for a word. What was got of the words before it was told, and then this last line.
@@ -36,7 +36,7 @@ pub record LacksMemory (last : List ℕ) (held : List ℕ → Told) (bound : ℕ
   pub hears : HearsEach held heard before.input reached
   pub taken : ConsumesAtMost (input_limit + 1) reached.unread after.input.unread
   pub blocks : Writes (blocks_text (tellings bound heard)) before.output after.output
-  pub lines : Tells (lines_text (tellings bound heard) ++ last) before.errors after.errors
+  pub lines : PutsBytes (lines_text (tellings bound heard) ++ last) before.errors after.errors
 
 -- Standard output failed at the block of a word: what was written is a prefix of the blocks up to that one, and the
 -- blocks before it are whole. The lines up to that word were told, and then this last line.
@@ -47,7 +47,7 @@ pub record LosesOutput (last : List ℕ) (held : List ℕ → Told) (bound : ℕ
   pub words_are : words ≡ words_of heard ++ next.word ∷ left
   pub hears : HearsEach held (heard ++ next ∷ []) before.input after.input
   pub blocks : WritesBetween (blocks_text (tellings bound heard)) (blocks_text (tellings bound (heard ++ next ∷ []))) before.output after.output
-  pub lines : Tells (lines_text (tellings bound (heard ++ next ∷ [])) ++ last) before.errors after.errors
+  pub lines : PutsBytes (lines_text (tellings bound (heard ++ next ∷ [])) ++ last) before.errors after.errors
 
 -- what was done before this error ended it, with this line told last
 abbrev pub Stops : IdentifyError → List ℕ → (List ℕ → Told) → ℕ → List (List ℕ) → Streams → Streams → Type 0
@@ -55,7 +55,7 @@ Stops Memory last held bound words before after = LacksMemory last held bound wo
 Stops Write last held bound words before after = LosesOutput last held bound words before after
 
 -- this error ended it, and its line was told
-pub record Fails (held : List ℕ → Told) (bound : ℕ) (words : List (List ℕ)) (status : ℕ) (before after : Streams) : Type 0 where
+pub record FailsToIdentify (held : List ℕ → Told) (bound : ℕ) (words : List (List ℕ)) (status : ℕ) (before after : Streams) : Type 0 where
   pub error : IdentifyError
   pub status_is : status ≡ error_status error
   pub stops : Stops error (error_line error) held bound words before after
@@ -63,4 +63,4 @@ pub record Fails (held : List ℕ → Told) (bound : ℕ) (words : List (List �
 -- Each word was told, or an error ended it. Without a word standard input is told.
 abbrev pub Identifies : (List ℕ → Told) → ℕ → List (List ℕ) → ℕ → Streams → Streams → Type 0
 Identifies held bound words status before after =
-    TellsAll held bound (words_or_input words) status before after ⊎ Fails held bound (words_or_input words) status before after
+    TellsAll held bound (words_or_input words) status before after ⊎ FailsToIdentify held bound (words_or_input words) status before after

@@ -40,7 +40,7 @@ pub record Writes (bytes : List ℕ) (before after : Sink) : Type 0 where
   pub sound : after.failed ≡ false
 
 -- the writer failed, and a prefix of these bytes was written
-pub record WritesFront (bytes : List ℕ) (before after : Sink) : Type 0 where
+pub record PutsPrefix (bytes : List ℕ) (before after : Sink) : Type 0 where
   pub written : AppendsFront before.written after.written bytes
   pub failed : after.failed ≡ true
 
@@ -53,10 +53,10 @@ pub record WritesBetween (first all : List ℕ) (before after : Sink) : Type 0 w
   pub failed : after.failed ≡ true
 
 -- these bytes were written, whole where the writer has not failed, else a prefix of them, and nothing else
-abbrev pub Tells : List ℕ → Sink → Sink → Type 0
-Tells bytes before after =
+abbrev pub PutsBytes : List ℕ → Sink → Sink → Type 0
+PutsBytes bytes before after =
     MatchBool after.failed (AppendsFront before.written after.written bytes) (Appends before.written after.written bytes)
 
 -- a writer that has failed stays as it is; to any other these bytes were told
-abbrev pub TellsMore : List ℕ → Sink → Sink → Type 0
-TellsMore bytes before after = MatchBool before.failed (after ≡ before) (Tells bytes before after)
+abbrev pub PutsMoreBytes : List ℕ → Sink → Sink → Type 0
+PutsMoreBytes bytes before after = MatchBool before.failed (after ≡ before) (PutsBytes bytes before after)

@@ -70,6 +70,6 @@ output_of has_block (Block block) = block_after has_block block
 output_of has_block (Line line status) = []
 
 -- what goes to standard error
-abbrev pub line_of : Told → List ℕ
-line_of (Block block) = []
-line_of (Line line status) = line
+abbrev pub line_told : Told → List ℕ
+line_told (Block block) = []
+line_told (Line line status) = line

@@ -1,8 +1,8 @@
 //! What was told of the words so far.
 ghost use Rattle.std.specs.Prelude.{◌≡◌, true, false, MatchResult, OnOk};
 ghost use Rattle.watched.specs.Watching.{has_failed};
-ghost use Rattle.census_identify.specs.Streams.{TellsMore, Writes, WritesFront, sink};
-ghost use Rattle.census_identify.specs.Telling.{block_after, line_of, output_of};
+ghost use Rattle.census_identify.specs.Streams.{PutsMoreBytes, PutsPrefix, Writes, sink};
+ghost use Rattle.census_identify.specs.Telling.{block_after, line_told, output_of};
 ghost use Rattle.census_identify.specs.Courses.{with_told};
 
 use crate::told::Told;
@@ -25,7 +25,7 @@ fn write_block<O: Write>(
     ensures { MatchResult result
         (λ _. Writes (block_after has_block block.now)
         (sink O.contents output.old) (sink O.contents output.new))
-        (λ _. WritesFront (block_after has_block block.now)
+        (λ _. PutsPrefix (block_after has_block block.now)
         (sink O.contents output.old) (sink O.contents output.new)) }
 {
     if has_block {
@@ -37,7 +37,7 @@ fn write_block<O: Write>(
 /// Tells a line, and asks for no memory. Where the writer fails, a prefix of the line went out; where it has failed
 /// before, the line is lost.
 pub fn tell_line<E: Write>(line: &[u8], errors: &mut Watched<E>)
-    ensures { TellsMore line.now (sink E.contents errors.old) (sink E.contents errors.new) }
+    ensures { PutsMoreBytes line.now (sink E.contents errors.old) (sink E.contents errors.new) }
 {
     let _ = put_all(errors, line);
 }
@@ -53,9 +53,9 @@ pub fn tell<O: Write, E: Write>(
     ensures output { MatchResult result
         (λ _. Writes (output_of course.old.has_block told.now)
         (sink O.contents output.old) (sink O.contents output.new))
-        (λ _. WritesFront (output_of course.old.has_block told.now)
+        (λ _. PutsPrefix (output_of course.old.has_block told.now)
         (sink O.contents output.old) (sink O.contents output.new)) }
-    ensures errors { TellsMore (line_of told.now)
+    ensures errors { PutsMoreBytes (line_told told.now)
         (sink E.contents errors.old) (sink E.contents errors.new) }
     ensures course { OnOk result (course.new ≡ with_told course.old told.now) }
 {

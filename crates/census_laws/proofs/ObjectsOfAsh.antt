@@ -18,7 +18,7 @@ use Rattle.census_format.specs.ObjectLaws.{one_object, same_itself}
 use Rattle.census_format.specs.PartCounts.{fallen_as, CountsParts}
 use Rattle.census_format.proofs.PartCounts.{codes_count_parts}
 use Rattle.census_laws.specs.Fallen.{FallsApart, AreCounted, CountsIn}
-use Rattle.census_laws.specs.ObjectsOfAsh.{IsCoded, CountsObject, code_counts, PartsHaveOneLine, CodesCountObjectsOfAsh}
+use Rattle.census_laws.specs.ObjectsOfAsh.{IsCoded, CountsPartsOfObject, code_counts, PartsHaveOneLine, CodesCountObjectsOfAsh}
 use Rattle.census_laws.proofs.CodeCounts.{adding, as_counted, count-map, passing, some_count, some_sum}
 use Rattle.census_laws.proofs.Fallen.{answer_in, said, to_say}
 use Rattle.census_laws.proofs.PartCodes.{object_recurs, part_code-is, part_codes_tell}
@@ -117,7 +117,7 @@ module _ (bound : ℕ) (most : Option ℕ) where
   -- ---- the lines
 
   line_counts : (es : List Entry) (line : Object × ℕ) → CountsParts bound most es line
-      → CountsObject bound most es line
+      → CountsPartsOfObject bound most es line
   line_counts es line c =
       let all = c.count in
       let some = c.some in
@@ -138,7 +138,7 @@ module _ (bound : ℕ) (most : Option ℕ) where
         sum = all;
       }
 
-  each_line : (es : List Entry) → All (CountsObject bound most es) (code_counts bound most es)
+  each_line : (es : List Entry) → All (CountsPartsOfObject bound most es) (code_counts bound most es)
   each_line es i d lt =
       line_counts es (get_or (code_counts bound most es) i d) ((codes_count_parts bound most es).0 i d lt)
 

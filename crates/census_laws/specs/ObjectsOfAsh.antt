@@ -21,7 +21,7 @@ pub record IsCoded (bound : ℕ) (R : Rule) (P : Generation) (k : Object) : Type
 
 -- The line has the rule and the code of a part of one of these patterns, and its number is how many parts, of all of
 -- them, are one object with that part under that rule.
-pub record CountsObject (bound : ℕ) (most : Option ℕ) (es : List Entry) (line : Object × ℕ) : Type 0 where
+pub record CountsPartsOfObject (bound : ℕ) (most : Option ℕ) (es : List Entry) (line : Object × ℕ) : Type 0 where
   pub pattern : Entry
   pub among : Contains es pattern
   pub fallen : FallsApart bound most pattern
@@ -52,4 +52,4 @@ PartsHaveOneLine bound most es =
 abbrev pub CodesCountObjectsOfAsh : Type 0
 CodesCountObjectsOfAsh =
     (bound : ℕ) (most : Option ℕ) (es : List Entry)
-    → All (CountsObject bound most es) (code_counts bound most es) × PartsHaveOneLine bound most es
+    → All (CountsPartsOfObject bound most es) (code_counts bound most es) × PartsHaveOneLine bound most es

@@ -3,7 +3,7 @@ use Rattle.std.proofs.Common.{ℕ, ◌<◌, ◌≤◌, List, [], ◌∷◌, ◌+
 use Rattle.census_rows.specs.declared.row.Row.{Row}
 use Rattle.census_rows.specs.declared.row.Row.TheVariants.{End}
 use Rattle.census_readback.specs.Steps.{collection_of}
-use Rattle.census_readback.specs.Shapes.{AreOf, AreReports, AreWhole, all_rows, patterns_in}
+use Rattle.census_readback.specs.Shapes.{AreOfCollections, AreReports, AreWhole, all_rows, patterns_in}
 use Rattle.census_readback.specs.Limits.{count_limit}
 
 -- each row's number is at most 65,535
@@ -15,7 +15,7 @@ few-append : (xs ys : List Row) → AreFew xs → AreFew ys → AreFew (xs ++ ys
 few-append [] ys h k = k
 few-append (x ∷ xs) ys h k = (h.0, few-append xs ys h.1 k)
 
-few-body : (n : ℕ) (xs : List Row) → n ≤ count_limit → AreOf n xs → AreFew xs
+few-body : (n : ℕ) (xs : List Row) → n ≤ count_limit → AreOfCollections n xs → AreFew xs
 few-body n [] less h = tt
 few-body n (x ∷ xs) less h = (omega (arith, less, h.1), few-body n xs less h.2)
 

@@ -1,7 +1,7 @@
 -- What is known of rows that are merged one by one.
 use Rattle.std.proofs.Common.{◌≡◌, ℕ, suc, ◌+◌, ◌-◌, ◌^◌, ◌<◌, ◌≤◌, Bool, true, false, ◌&&◌, nat_le, if◌then◌else◌, List, [], ◌∷◌, ◌++◌, drop, get_or, ap, subst, sym, refl, ◌∙◌, append-nil, drop-cons, length, arith, Some, None as Nothing, Option}
 use Rattle.std.proofs.lemmas.List.{drop_all}
-use Rattle.gathered.specs.Telling.{Sheet, Tells}
+use Rattle.gathered.specs.Telling.{Sheet, TellsAfter}
 use Rattle.gathered.proofs.Telling.{tells_failed, tells_more, tells_none}
 use Rattle.census_rows.specs.declared.row.Row.{Row}
 use Rattle.census_rows.specs.declared.row.Row.TheVariants.{End}
@@ -26,7 +26,7 @@ pub record Putting (rows : List Row) (i : ℕ) (s : Sums) (a b : Sheet) : Type 0
   pub report : ℕ
   pub sums : sums_in s (drop i rows) ≡ sums_in no_sums rows
   pub excess : first_excess report s (drop i rows) ≡ Nothing
-  pub told : (c : Sheet) → Tells (text_of (numbered_on s.collections (drop i rows))) b c → Tells (text_of (numbered_on 0 rows)) a c
+  pub told : (c : Sheet) → TellsAfter (text_of (numbered_on s.collections (drop i rows))) b c → TellsAfter (text_of (numbered_on 0 rows)) a c
 
 pub putting_start : (rows : List Row) (s : Sums) (a : Sheet) → s ≡ no_sums → first_excess 1 no_sums rows ≡ Nothing → Putting rows 0 s a a
 putting_start rows s a e fits = subst (λ s. Putting rows 0 s a a) (sym e) (record {
@@ -60,7 +60,7 @@ module _ (rows : List Row) (i : ℕ) (s : Sums) (d : Row) (a b : Sheet) (p : Put
   next : drop i rows ≡ row ∷ back
   next = drop-cons rows i d less ∙ ap (λ k. row ∷ drop k rows) (let e : suc i ≡ i + 1 = omega arith in e)
 
-  pub row_put : (c : Sheet) → sums_of row ≡ Nothing → Tells (line_of (renumbered_row s.collections row)) b c → Putting rows (i + 1) s a c
+  pub row_put : (c : Sheet) → sums_of row ≡ Nothing → TellsAfter (line_of (renumbered_row s.collections row)) b c → Putting rows (i + 1) s a c
   row_put c is tells =
       let r = renumbered_row s.collections row in
       let on : numbered_on s.collections (drop i rows) ≡ r ∷ numbered_on s.collections back =
@@ -73,7 +73,7 @@ module _ (rows : List Row) (i : ℕ) (s : Sums) (d : Row) (a b : Sheet) (p : Put
         excess = sym (ap (λ w. first_excess p.report s w) next
             ∙ ap (λ (o : Option Sums). elim o as (λ _. Option ℕ) [ Nothing ↦ first_excess p.report s back | Some more ↦ elim (with_more s more) as (λ _. Option ℕ) [ Nothing ↦ Some p.report | Some all ↦ first_excess (p.report + 1) all back ] ]) is)
             ∙ p.excess;
-        told = λ last h. p.told last (subst (λ w. Tells (text_of w) b last) (sym on) (tells_more (line_of r) (text_of (numbered_on s.collections back)) b c last tells h));
+        told = λ last h. p.told last (subst (λ w. TellsAfter (text_of w) b last) (sym on) (tells_more (line_of r) (text_of (numbered_on s.collections back)) b c last tells h));
       }
 
   module _ (more : Sums) (is : sums_of row ≡ Some more) where
@@ -90,7 +90,7 @@ module _ (rows : List Row) (i : ℕ) (s : Sums) (d : Row) (a b : Sheet) (p : Put
           sums = sym (ap (λ w. sums_in s w) next ∙ ap (λ (o : Option Sums). elim o as (λ _. Sums) [ Nothing ↦ sums_in s back | Some more ↦ sums_in (sums_plus s more) back ]) is) ∙ p.sums;
           excess = subst (λ (s : Sums). first_excess (p.report + 1) s back ≡ Nothing) sum.0
               (sym (excess_of ∙ ap (λ (o : Option Sums). elim o as (λ _. Option ℕ) [ Nothing ↦ Some p.report | Some all ↦ first_excess (p.report + 1) all back ]) with) ∙ p.excess);
-          told = λ last h. p.told last (subst (λ w. Tells (text_of w) b last) (sym
+          told = λ last h. p.told last (subst (λ w. TellsAfter (text_of w) b last) (sym
               (ap (λ w. numbered_on s.collections w) next
               ∙ ap (λ (o : Option Sums). elim o as (λ _. List Row) [ Nothing ↦ renumbered_row s.collections row ∷ numbered_on s.collections back | Some more ↦ numbered_on (s.collections + more.collections) back ]) is)) h);
         })
@@ -103,21 +103,21 @@ module _ (rows : List Row) (i : ℕ) (s : Sums) (d : Row) (a b : Sheet) (p : Put
 -- # The last row
 
 pub all_put : (rows : List Row) (i : ℕ) (s : Sums) (end : Row) (a b c : Sheet) → Putting rows i s a b → length rows ≤ i → end ≡ End s.collections s.patterns
-    → Tells (line_of end) b c → Tells (text_of (merged_rows rows)) a c
+    → TellsAfter (line_of end) b c → TellsAfter (text_of (merged_rows rows)) a c
 all_put rows i s end a b c p over e tells =
     let none_left : drop i rows ≡ [] = drop_all i rows over in
     let sum : s ≡ sums_in no_sums rows = sym (ap (λ w. sums_in s w) none_left) ∙ p.sums in
-    let before : Tells (text_of (numbered_on 0 rows)) a b =
-    p.told b (subst (λ w. Tells (text_of (numbered_on s.collections w)) b b) (sym none_left) (tells_none b)) in
+    let before : TellsAfter (text_of (numbered_on 0 rows)) a b =
+    p.told b (subst (λ w. TellsAfter (text_of (numbered_on s.collections w)) b b) (sym none_left) (tells_none b)) in
     let last : end ≡ End (sums_in no_sums rows).collections (sums_in no_sums rows).patterns = e ∙ ap (λ (s : Sums). End s.collections s.patterns) sum in
-    subst (λ r. Tells (text_of (numbered_on 0 rows ++ r ∷ [])) a c) last
-    (subst (λ t. Tells t a c) (sym (text-append (numbered_on 0 rows) (end ∷ []) ∙ ap (λ w. text_of (numbered_on 0 rows) ++ w) (append-nil (line_of end))))
+    subst (λ r. TellsAfter (text_of (numbered_on 0 rows ++ r ∷ [])) a c) last
+    (subst (λ t. TellsAfter t a c) (sym (text-append (numbered_on 0 rows) (end ∷ []) ∙ ap (λ w. text_of (numbered_on 0 rows) ++ w) (append-nil (line_of end))))
     (tells_more (text_of (numbered_on 0 rows)) (line_of end) a b c before tells))
 
 -- to a writer that has failed all was told that is to be told yet
-pub stopped_put : (rows : List Row) (i : ℕ) (s : Sums) (a b : Sheet) → Putting rows i s a b → b.failed ≡ true → Tells (text_of (merged_rows rows)) a b
+pub stopped_put : (rows : List Row) (i : ℕ) (s : Sums) (a b : Sheet) → Putting rows i s a b → b.failed ≡ true → TellsAfter (text_of (merged_rows rows)) a b
 stopped_put rows i s a b p failed =
     let end = End (sums_in no_sums rows).collections (sums_in no_sums rows).patterns in
-    let before : Tells (text_of (numbered_on 0 rows)) a b = p.told b (tells_failed (text_of (numbered_on s.collections (drop i rows))) b failed) in
-    subst (λ t. Tells t a b) (sym (text-append (numbered_on 0 rows) (end ∷ [])))
+    let before : TellsAfter (text_of (numbered_on 0 rows)) a b = p.told b (tells_failed (text_of (numbered_on s.collections (drop i rows))) b failed) in
+    subst (λ t. TellsAfter t a b) (sym (text-append (numbered_on 0 rows) (end ∷ [])))
     (tells_more (text_of (numbered_on 0 rows)) (text_of (end ∷ [])) a b b before (tells_failed (text_of (end ∷ [])) b failed))

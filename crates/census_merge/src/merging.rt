@@ -5,7 +5,7 @@
 //! changes, nor their order; of the `end` rows one is left, which has the sums. Since a `code` row
 //! counts what is in one collection, none of these are added up.
 ghost use Rattle.std.specs.Prelude.{◌≡◌, MatchResult, Some, None};
-ghost use Rattle.gathered.specs.Telling.{Tells, sheet};
+ghost use Rattle.gathered.specs.Telling.{TellsAfter, sheet};
 ghost use Rattle.census_readback.specs.Shapes.{AreReports};
 ghost use Rattle.census_readback.specs.Texts.{line_of, text_of};
 ghost use Rattle.census_merge.specs.Merged.{merged_rows};
@@ -49,7 +49,8 @@ pub fn sums(rows: &[Row]) -> Result<Sums, TooMany>
 
 // Tells a row's line.
 fn put_line<W: Write>(row: &Row, block: &mut Block, writer: &mut Watched<W>)
-    ensures { Tells (line_of row.now) (sheet W.contents block.old writer.old) (sheet W.contents block.new writer.new) }
+    ensures { TellsAfter (line_of row.now) (sheet W.contents block.old writer.old)
+        (sheet W.contents block.new writer.new) }
 {
     put_row(row, block, writer);
     put(b"\n", block, writer);
@@ -60,7 +61,7 @@ fn put_line<W: Write>(row: &Row, block: &mut Block, writer: &mut Watched<W>)
 pub fn put_merged<W: Write>(rows: &[Row], block: &mut Block, writer: &mut Watched<W>)
     requires reports { AreReports rows.now }
     requires fits { first_excess 1 no_sums rows.now ≡ None }
-    ensures { Tells (text_of (merged_rows rows.now))
+    ensures { TellsAfter (text_of (merged_rows rows.now))
         (sheet W.contents block.old writer.old) (sheet W.contents block.new writer.new) }
 {
     let mut sums = Sums::none();

@@ -5,7 +5,7 @@ use Rattle.std.proofs.lemmas.List.{append-nil}
 use Rattle.census_rows.specs.declared.row.Row.{Row}
 use Rattle.census_rows.specs.declared.row.Row.TheVariants.{Open, Line, Part, Code, Close, End}
 use Rattle.census_readback.specs.Steps.{collection_of}
-use Rattle.census_readback.specs.Shapes.{AreOf, AreReports, AreWhole, all_rows, patterns_in, rows_of}
+use Rattle.census_readback.specs.Shapes.{AreOfCollections, AreReports, AreWhole, all_rows, patterns_in, rows_of}
 use Rattle.census_readback.specs.Grouped.{collections_of, end_of, sections_of}
 use Rattle.census_page.specs.Pages.{codes_in, sections_codes}
 
@@ -60,7 +60,7 @@ total-here first (suc count) r rows low high = elim (cases_Bool (eqb (collection
       omega (arith, here, others)
 ]
 
-total-all : (n : ℕ) (rows : List Row) → AreOf n rows → total 1 n rows ≡ codes_in rows
+total-all : (n : ℕ) (rows : List Row) → AreOfCollections n rows → total 1 n rows ≡ codes_in rows
 total-all n [] h = total-nil 1 n
 total-all n (r ∷ rows) h =
     let here = total-here 1 n r rows (omega (arith, h.0)) (omega (arith, h.1)) in
@@ -75,7 +75,7 @@ no-end (Code c rule code k) h = refl
 no-end (Close c n a b d) h = refl
 no-end (End n k) h = absurd (omega arith)
 
-collections-body : (here body : List Row) (n k m : ℕ) (rest : List Row) → AreOf m body
+collections-body : (here body : List Row) (n k m : ℕ) (rest : List Row) → AreOfCollections m body
     → collections_of here (body ++ End n k ∷ rest) ≡ sections_of 1 n (here ++ body) ++ collections_of [] rest
 collections-body here [] n k m rest h = ap (λ (w : List Row). sections_of 1 n w ++ collections_of [] rest) (sym (append-nil here))
 collections-body here (r ∷ body) n k m rest h =

@@ -28,9 +28,9 @@ naming_after naming (Close collection patterns resolved unresolved refused) = na
 naming_after naming (End collections patterns) = naming
 
 -- a pattern that has this code among those of its parts
-abbrev pub part_of : Option Naming → Bor (List ℕ) → Option Holder
-part_of Nothing code = Nothing
-part_of (Some naming) code = Some (record { rule = naming.rule; code = code; name = naming.name })
+abbrev pub holder_by_part : Option Naming → Bor (List ℕ) → Option Holder
+holder_by_part Nothing code = Nothing
+holder_by_part (Some naming) code = Some (record { rule = naming.rule; code = code; name = naming.name })
 
 -- what a row says of the code of a pattern
 abbrev pub holder_in : Outcome → Bor (List ℕ) → Option Holder
@@ -43,7 +43,7 @@ holder_in (Bad fault) name = Nothing
 abbrev pub holder_of : Option Naming → Row → Option Holder
 holder_of naming (Open collection patterns name) = Nothing
 holder_of naming (Line collection pattern outcome name) = holder_in outcome name
-holder_of naming (Part collection pattern code count) = part_of naming code
+holder_of naming (Part collection pattern code count) = holder_by_part naming code
 holder_of naming (Code collection rule code count) = Nothing
 holder_of naming (Close collection patterns resolved unresolved refused) = Nothing
 holder_of naming (End collections patterns) = Nothing

@@ -12,8 +12,8 @@ use Rattle.census_page.specs.Holders.{holder_items, holders_from}
 use Rattle.census_page.specs.Pictures.{picture}
 
 -- the name of a collection
-abbrev pub name_text : List ℕ → List ℕ
-name_text name = codes "<h2>" ++ name_element name ++ codes "</h2>\n"
+abbrev pub collection_name : List ℕ → List ℕ
+collection_name name = codes "<h2>" ++ name_element name ++ codes "</h2>\n"
 
 -- how many patterns are resolved and how many are not
 abbrev pub counts_text : ℕ → ℕ → ℕ → ℕ → List ℕ
@@ -22,7 +22,7 @@ counts_text patterns resolved unresolved refused =
 
 -- what a row says of its collection as a whole
 abbrev pub heading : Row → List ℕ
-heading (Open collection patterns name) = name_text name.now
+heading (Open collection patterns name) = collection_name name.now
 heading (Line collection pattern outcome name) = []
 heading (Part collection pattern code count) = []
 heading (Code collection rule code count) = []
@@ -73,16 +73,16 @@ reason (Large rule population generation) = codes "unresolved, too many cells in
 reason (Bad fault) = fault_reason fault
 
 -- whether a pattern is unresolved or refused
-abbrev pub is_stray : Outcome → Bool
-is_stray (Ok rule population onset period dx dy code) = false
-is_stray (Ash rule population objects) = false
-is_stray (None rule population) = true
-is_stray (Large rule population generation) = true
-is_stray (Bad fault) = true
+abbrev pub is_unresolved_or_refused : Outcome → Bool
+is_unresolved_or_refused (Ok rule population onset period dx dy code) = false
+is_unresolved_or_refused (Ash rule population objects) = false
+is_unresolved_or_refused (None rule population) = true
+is_unresolved_or_refused (Large rule population generation) = true
+is_unresolved_or_refused (Bad fault) = true
 
 -- an item for such a pattern
 abbrev pub stray_item : List ℕ → Outcome → List ℕ
-stray_item name outcome = if is_stray outcome then codes "<li>" ++ name_element name ++ codes ": " ++ reason outcome ++ codes "</li>\n" else []
+stray_item name outcome = if is_unresolved_or_refused outcome then codes "<li>" ++ name_element name ++ codes ": " ++ reason outcome ++ codes "</li>\n" else []
 
 abbrev pub stray_row : Row → List ℕ
 stray_row (Open collection patterns name) = []

@@ -80,7 +80,8 @@ pub fn push_code_rows(
     holders: &[Holder],
     rows: &[&Row],
 ) -> Result<(), AllocError>
-    ensures { OnOk result (text.new.items ≡ text.old.items ++ code_rows holders.now (rows_lent rows.now)) }
+    ensures { OnOk result
+        (text.new.items ≡ text.old.items ++ code_rows holders.now (rows_lent rows.now)) }
 {
     for row in rows {
         push_code_row(alloc, text, holders, *row)?;

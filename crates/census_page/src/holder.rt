@@ -1,7 +1,7 @@
 //! Which patterns have a code.
 ghost use Rattle.std.specs.Prelude.{◌≡◌, ◌++◌, IfOk, None, OnOk};
 ghost use Rattle.census_readback.specs.Grouped.{rows_lent};
-ghost use Rattle.census_page.specs.Holders.{has_code, holder_item, holder_items, holder_of, holders_from, naming_after, part_of};
+ghost use Rattle.census_page.specs.Holders.{has_code, holder_by_part, holder_item, holder_items, holder_of, holders_from, naming_after};
 
 use crate::escape::push_told;
 use census_rows::{Outcome, Row};
@@ -39,8 +39,8 @@ fn naming_after<'a>(naming: &Option<Naming<'a>>, row: &Row<'a>) -> Option<Naming
 }
 
 // A pattern that has this code among those of its parts.
-fn part_of<'a>(naming: &Option<Naming<'a>>, code: &'a [u8]) -> Option<Holder<'a>>
-    ensures { result ≡ part_of naming.now code.entry }
+fn holder_by_part<'a>(naming: &Option<Naming<'a>>, code: &'a [u8]) -> Option<Holder<'a>>
+    ensures { result ≡ holder_by_part naming.now code.entry }
 {
     match naming {
         Some(naming) => Some(Holder {
@@ -65,7 +65,7 @@ fn holder_of<'a>(naming: &Option<Naming<'a>>, row: &Row<'a>) -> Option<Holder<'a
             }),
             _ => None,
         },
-        Row::Part { code, .. } => part_of(naming, *code),
+        Row::Part { code, .. } => holder_by_part(naming, *code),
         _ => None,
     }
 }

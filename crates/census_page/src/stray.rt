@@ -1,6 +1,6 @@
 //! Patterns that are unresolved or refused.
 ghost use Rattle.std.specs.Prelude.{◌≡◌, ◌++◌, OnOk, decimal};
-ghost use Rattle.census_page.specs.Pages.{fault_reason, is_stray, reason, stray_item, unresolved_reason};
+ghost use Rattle.census_page.specs.Pages.{fault_reason, is_unresolved_or_refused, reason, stray_item, unresolved_reason};
 
 use crate::escape::{push_number, push_told};
 use census_rows::Outcome;
@@ -56,8 +56,8 @@ fn push_reason(text: &mut Vec<u8>, outcome: &Outcome) -> Result<(), AllocError>
 }
 
 // Whether a pattern is unresolved or refused.
-fn is_stray(outcome: &Outcome) -> bool
-    ensures { result ≡ is_stray outcome.now }
+fn is_unresolved_or_refused(outcome: &Outcome) -> bool
+    ensures { result ≡ is_unresolved_or_refused outcome.now }
 {
     match outcome {
         Outcome::Ok { .. } => false,
@@ -77,7 +77,7 @@ pub fn push_stray(
     ensures { OnOk result (text.new.items
         ≡ text.old.items ++ stray_item name.now outcome.now) }
 {
-    if !is_stray(outcome) {
+    if !is_unresolved_or_refused(outcome) {
         return Ok(());
     }
     text.extend_from_slice(b"<li>")?;

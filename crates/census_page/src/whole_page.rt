@@ -1,9 +1,9 @@
 //! The page.
 ghost use Rattle.std.specs.Prelude.{◌≡◌, ◌++◌, [], IfOk, List, OnOk};
 ghost use Rattle.census_rows.specs.declared.row.Row.{Row};
-ghost use Rattle.census_readback.specs.Grouped.{collections_of, items_of, rows_lent};
+ghost use Rattle.census_readback.specs.Grouped.{collections_of, rows_in, rows_lent};
 ghost use Rattle.census_readback.specs.Shapes.{AreReports};
-ghost use Rattle.census_page.specs.Pages.{code_table, codes_in, counts_text, framed_text, heading, headings, name_text, page_of, section_text, sections_codes, sections_text, stray_list, stray_row, stray_rows};
+ghost use Rattle.census_page.specs.Pages.{code_table, codes_in, collection_name, counts_text, framed_text, heading, headings, page_of, section_text, sections_codes, sections_text, stray_list, stray_row, stray_rows};
 
 use crate::code_row::push_code_rows;
 use crate::escape::{push_number, push_told};
@@ -16,7 +16,7 @@ use std::alloc::{AllocError, Global};
 
 // Adds the name of a collection.
 fn push_name(alloc: Global, text: &mut Vec<u8>, name: &[u8]) -> Result<(), AllocError>
-    ensures { OnOk result (text.new.items ≡ text.old.items ++ name_text name.now) }
+    ensures { OnOk result (text.new.items ≡ text.old.items ++ collection_name name.now) }
 {
     text.extend_from_slice(b"<h2>")?;
     push_told(alloc, text, name)?;
@@ -151,7 +151,7 @@ fn push_sections(
     sections: &[Vec<&Row>],
 ) -> Result<(), AllocError>
     ensures { OnOk result (text.new.items
-        ≡ text.old.items ++ sections_text (items_of sections.now)) }
+        ≡ text.old.items ++ sections_text (rows_in sections.now)) }
 {
     for index in 0..sections.len() {
         push_section(alloc, text, sections[index].as_slice())?;

@@ -5,13 +5,13 @@ use Rattle.std.proofs.lemmas.List.{append-nil, take_more, get_or-drop}
 use Rattle.census_rows.specs.declared.row.Row.{Row}
 use Rattle.census_rows.specs.declared.row.Row.TheVariants.{Open, Line, Part, Code, Close, End}
 use Rattle.census_readback.specs.Steps.{collection_of}
-use Rattle.census_readback.specs.Shapes.{AreOf, AreWhole, AreReports, all_rows, patterns_in}
+use Rattle.census_readback.specs.Shapes.{AreOfCollections, AreWhole, AreReports, all_rows, patterns_in}
 use Rattle.census_readback.specs.Grouped.{sections_of, collections_of, end_of}
 
 -- each report's rows are of its collections, where these of the first report were passed
 abbrev pub Ended : List Row → List Row → Type 0
 Ended here [] = Unit {0}
-Ended here (row ∷ rows) = elim (end_of row) [ Nothing ↦ Ended (here ++ row ∷ []) rows | Some count ↦ AreOf count here × Ended [] rows ]
+Ended here (row ∷ rows) = elim (end_of row) [ Nothing ↦ Ended (here ++ row ∷ []) rows | Some count ↦ AreOfCollections count here × Ended [] rows ]
 
 no-end : (r : Row) → 0 < collection_of r → end_of r ≡ Nothing
 no-end (Open c n name) h = refl
@@ -21,15 +21,15 @@ no-end (Code c rule code k) h = refl
 no-end (Close c n a b d) h = refl
 no-end (End n k) h = absurd (omega arith)
 
-of-one : (n : ℕ) (xs : List Row) (r : Row) → AreOf n xs → 0 < collection_of r → collection_of r ≤ n → AreOf n (xs ++ r ∷ [])
+of-one : (n : ℕ) (xs : List Row) (r : Row) → AreOfCollections n xs → 0 < collection_of r → collection_of r ≤ n → AreOfCollections n (xs ++ r ∷ [])
 of-one n [] r h low high = (low, high, tt)
 of-one n (x ∷ xs) r h low high = (h.0, h.1, of-one n xs r h.2 low high)
 
-ended-body : (here body : List Row) (n k : ℕ) (rest : List Row) → AreOf n here → AreOf n body → Ended [] rest → Ended here (body ++ End n k ∷ rest)
+ended-body : (here body : List Row) (n k : ℕ) (rest : List Row) → AreOfCollections n here → AreOfCollections n body → Ended [] rest → Ended here (body ++ End n k ∷ rest)
 ended-body here [] n k rest before are h = (before, h)
 ended-body here (r ∷ body) n k rest before are h =
     let inner = ended-body (here ++ r ∷ []) body n k rest (of-one n here r before are.0 are.1) are.2 h in
-    subst (λ (o : Option ℕ). let family : Option ℕ → Type 0 = λ (x : Option ℕ). elim x as (λ _. Type 0) [ Nothing ↦ Ended (here ++ r ∷ []) (body ++ End n k ∷ rest) | Some count ↦ AreOf count here × Ended [] (body ++ End n k ∷ rest) ] in family o)
+    subst (λ (o : Option ℕ). let family : Option ℕ → Type 0 = λ (x : Option ℕ). elim x as (λ _. Type 0) [ Nothing ↦ Ended (here ++ r ∷ []) (body ++ End n k ∷ rest) | Some count ↦ AreOfCollections count here × Ended [] (body ++ End n k ∷ rest) ] in family o)
     (sym (no-end r are.0)) inner
 
 ended-all : (reports : List (List Row)) → AreWhole reports → Ended [] (all_rows reports)
@@ -74,7 +74,7 @@ cut-none rows b i lists d cut less none =
     ap (λ (o : Option ℕ). elim o as (λ _. List (List Row)) [ Nothing ↦ collections_of (here ++ r ∷ []) back | Some count ↦ sections_of 1 count here ++ collections_of [] back ]) none in
     let was : Ended here (r ∷ back) = subst (λ w. Ended here w) (drop-one rows i d less) cut.ended in
     let now : Ended (here ++ r ∷ []) back =
-    subst (λ (o : Option ℕ). let family : Option ℕ → Type 0 = λ (x : Option ℕ). elim x as (λ _. Type 0) [ Nothing ↦ Ended (here ++ r ∷ []) back | Some count ↦ AreOf count here × Ended [] back ] in family o) none was in
+    subst (λ (o : Option ℕ). let family : Option ℕ → Type 0 = λ (x : Option ℕ). elim x as (λ _. Type 0) [ Nothing ↦ Ended (here ++ r ∷ []) back | Some count ↦ AreOfCollections count here × Ended [] back ] in family o) none was in
     record {
       begins = omega (arith, cut.begins);
       rest = cut.rest ∙ ap (λ w. lists ++ collections_of here w) (drop-one rows i d less) ∙ ap (λ w. lists ++ w) step
@@ -83,7 +83,7 @@ cut-none rows b i lists d cut less none =
     }
 
 pub cut-some : (rows : List Row) (b i n : ℕ) (lists : List (List Row)) (d : Row) → Cut rows b i lists → i < length rows → end_of (get_or rows i d) ≡ Some n
-    → AreOf n (take (i - b) (drop b rows)) × Cut rows (i + 1) (i + 1) (lists ++ sections_of 1 n (take (i - b) (drop b rows)))
+    → AreOfCollections n (take (i - b) (drop b rows)) × Cut rows (i + 1) (i + 1) (lists ++ sections_of 1 n (take (i - b) (drop b rows)))
 cut-some rows b i n lists d cut less some =
     let here = take (i - b) (drop b rows) in
     let r = get_or rows i d in
@@ -93,8 +93,8 @@ cut-some rows b i n lists d cut less some =
     let step : collections_of here (r ∷ back) ≡ sections_of 1 n here ++ collections_of [] back =
     ap (λ (o : Option ℕ). elim o as (λ _. List (List Row)) [ Nothing ↦ collections_of (here ++ r ∷ []) back | Some count ↦ sections_of 1 count here ++ collections_of [] back ]) some in
     let was : Ended here (r ∷ back) = subst (λ w. Ended here w) (drop-one rows i d less) cut.ended in
-    let now : AreOf n here × Ended [] back =
-    subst (λ (o : Option ℕ). let family : Option ℕ → Type 0 = λ (x : Option ℕ). elim x as (λ _. Type 0) [ Nothing ↦ Ended (here ++ r ∷ []) back | Some count ↦ AreOf count here × Ended [] back ] in family o) some was in (
+    let now : AreOfCollections n here × Ended [] back =
+    subst (λ (o : Option ℕ). let family : Option ℕ → Type 0 = λ (x : Option ℕ). elim x as (λ _. Type 0) [ Nothing ↦ Ended (here ++ r ∷ []) back | Some count ↦ AreOfCollections count here × Ended [] back ] in family o) some was in (
       now.0,
       record {
         begins = omega arith;

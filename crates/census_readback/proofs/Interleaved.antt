@@ -11,7 +11,7 @@ use Rattle.census_readback.specs.declared.place.Place.TheVariants.{Before, Withi
 use Rattle.census_readback.specs.Sections.{place_after}
 use Rattle.census_readback.specs.Runs.{run}
 use Rattle.census_readback.specs.Steps.{Reading, collection_of, patterns_opened, is_behind, place_at, with_place, initial_reading, gone_on, section_step, end_step, step, first_stray}
-use Rattle.census_readback.specs.Shapes.{rows_of, AreOf, patterns_in, IsWhole, AreWhole, all_rows, AreReports}
+use Rattle.census_readback.specs.Shapes.{rows_of, AreOfCollections, patterns_in, IsWholeReport, AreWhole, all_rows, AreReports}
 use Rattle.census_readback.proofs.Shaped.{and-both, both-and, section-sound, section-complete}
 use Rattle.census_readback.proofs.Kept.{Kept, kept-none, kept-step, run-split, rows-here, patterns-append}
 use Rattle.census_readback.specs.Limits.{count_limit}
@@ -106,12 +106,12 @@ behind-at (Behind ∷ xs) zero h less = refl
 behind-at (Behind ∷ xs) (suc k) h less = behind-at xs k h (omega arith)
 
 whole-report : (s : Reading) (seen : List Row) (n k : ℕ) → Kept s seen → list_all is_behind s.places ≡ true → length s.places ≡ n → s.patterns ≡ k
-    → IsWhole (seen ++ End n k ∷ [])
+    → IsWholeReport (seen ++ End n k ∷ [])
 whole-report s seen n k kept all size total = record {
   body = seen;
   collections = n;
   whole = ap (λ m. seen ++ End n m ∷ []) (sym total ∙ kept.sum);
-  owned = subst (λ m. AreOf m seen) size kept.owned;
+  owned = subst (λ m. AreOfCollections m seen) size kept.owned;
   sections = λ c low high.
       (let number : (c - 1) + 1 ≡ c = omega arith in
       let inside : c - 1 < length s.places = omega arith in
@@ -196,7 +196,7 @@ reports-sound rows h =
 -- # From reports to steps
 
 -- rows of a body are taken
-body : (s : Reading) (n : ℕ) (seen rows rest : List Row) (most : ℕ) → Kept s seen → AreOf most rows → most ≤ count_limit
+body : (s : Reading) (n : ℕ) (seen rows rest : List Row) (most : ℕ) → Kept s seen → AreOfCollections most rows → most ≤ count_limit
     → ((c : ℕ) → 0 < c → c ≤ most → (z : Place) × (run Before (rows_of c (seen ++ rows)) ≡ Some z)) → patterns_in (seen ++ rows) < 2 ^ 64
     → (t : Reading) × (m : ℕ) × Kept t (seen ++ rows) × (first_stray s n (rows ++ rest) ≡ first_stray t m rest)
 body s n seen [] rest most kept owned few runs fits = (s, n, rw append-nil kept, refl)
@@ -235,7 +235,7 @@ enough (x ∷ xs) zero h = omega arith
 enough (x ∷ xs) (suc n) h = (let rest : n ≤ length xs = enough xs n (λ j less. h (suc j) (omega arith)) in omega arith)
 
 -- a report is taken, and what follows begins anew
-report : (s : Reading) (n : ℕ) (rows rest : List Row) → Kept s [] → IsWhole rows
+report : (s : Reading) (n : ℕ) (rows rest : List Row) → Kept s [] → IsWholeReport rows
     → (m : ℕ) × (first_stray s n (rows ++ rest) ≡ first_stray (record { places = []; patterns = 0; ended = true }) m rest)
 report s n rows rest kept is =
     let u : Reading = record { places = []; patterns = 0; ended = true } in

@@ -9,7 +9,7 @@ use Rattle.census_readback.specs.declared.place.Place.TheVariants.{Before}
 use Rattle.census_readback.specs.Sections.{place_after}
 use Rattle.census_readback.specs.Runs.{run}
 use Rattle.census_readback.specs.Steps.{Reading, collection_of, patterns_opened, place_at, padded_places, with_place}
-use Rattle.census_readback.specs.Shapes.{rows_of, AreOf, patterns_in}
+use Rattle.census_readback.specs.Shapes.{rows_of, AreOfCollections, patterns_in}
 use Rattle.census_readback.specs.Limits.{count_limit}
 
 -- # Places
@@ -62,19 +62,19 @@ pub patterns-append : (xs ys : List Row) → patterns_in (xs ++ ys) ≡ patterns
 patterns-append [] ys = omega arith
 patterns-append (x ∷ xs) ys = omega (arith, patterns-append xs ys)
 
-pub of-append : (n : ℕ) (xs ys : List Row) → AreOf n xs → AreOf n ys → AreOf n (xs ++ ys)
+pub of-append : (n : ℕ) (xs ys : List Row) → AreOfCollections n xs → AreOfCollections n ys → AreOfCollections n (xs ++ ys)
 of-append n [] ys h k = k
 of-append n (x ∷ xs) ys h k = (h.0, h.1, of-append n xs ys h.2 k)
 
-pub of-front : (n : ℕ) (xs ys : List Row) → AreOf n (xs ++ ys) → AreOf n xs
+pub of-front : (n : ℕ) (xs ys : List Row) → AreOfCollections n (xs ++ ys) → AreOfCollections n xs
 of-front n [] ys h = tt
 of-front n (x ∷ xs) ys h = (h.0, h.1, of-front n xs ys h.2)
 
-pub of-back : (n : ℕ) (xs ys : List Row) → AreOf n (xs ++ ys) → AreOf n ys
+pub of-back : (n : ℕ) (xs ys : List Row) → AreOfCollections n (xs ++ ys) → AreOfCollections n ys
 of-back n [] ys h = h
 of-back n (x ∷ xs) ys h = of-back n xs ys h.2
 
-of-more : (n m : ℕ) (xs : List Row) → n ≤ m → AreOf n xs → AreOf m xs
+of-more : (n m : ℕ) (xs : List Row) → n ≤ m → AreOfCollections n xs → AreOfCollections m xs
 of-more n m [] less h = tt
 of-more n m (x ∷ xs) less h = (h.0, (omega (arith, h.1)), of-more n m xs less h.2)
 
@@ -120,8 +120,8 @@ run-split p q z (y ∷ xs) x ys h k =
 
 pub record Kept (s : Reading) (seen : List Row) : Type 0 where
   pub places : (k : ℕ) → run Before (rows_of (k + 1) seen) ≡ Some (place_at s.places k)
-  pub owned : AreOf (length s.places) seen
-  pub under : (n : ℕ) → AreOf n seen → length s.places ≤ n
+  pub owned : AreOfCollections (length s.places) seen
+  pub under : (n : ℕ) → AreOfCollections n seen → length s.places ≤ n
   pub few : length s.places ≤ count_limit
   pub sum : s.patterns ≡ patterns_in seen
   pub fits : s.patterns < 2 ^ 64

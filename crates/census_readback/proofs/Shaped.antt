@@ -12,7 +12,7 @@ use Rattle.census_readback.specs.declared.place.Tally.{Tally}
 use Rattle.census_readback.specs.Sections.{with_line, closes}
 use Rattle.census_readback.specs.Runs.{run}
 use Rattle.census_readback.specs.Steps.{patterns_opened}
-use Rattle.census_readback.specs.Shapes.{is_ash, is_resolved, is_unresolved, is_refused, lines_that, any_outcome, AreLines, AreCodes, IsOpen, IsSection}
+use Rattle.census_readback.specs.Shapes.{is_ash, is_resolved, is_unresolved, is_refused, lines_that, any_outcome, AreLines, AreCodes, IsOpenRow, IsSection}
 use Rattle.census_readback.specs.Limits.{count_limit}
 
 abbrev one : Bool → ℕ
@@ -307,7 +307,7 @@ within-complete t (Code c2 rule code k ∷ lines) codes c n a b d g are counts e
 within-complete t (Close c2 n2 a2 b2 d2 ∷ lines) codes c n a b d g are counts e1 e2 e3 e4 e5 = absurd are
 within-complete t (End n2 k ∷ lines) codes c n a b d g are counts e1 e2 e3 e4 e5 = absurd are
 
-opens-complete : (first : Row) (lines codes : List Row) (c : ℕ) → IsOpen first → patterns_opened first ≡ lines_that any_outcome lines → AreLines 0 false lines → AreCodes codes
+opens-complete : (first : Row) (lines codes : List Row) (c : ℕ) → IsOpenRow first → patterns_opened first ≡ lines_that any_outcome lines → AreLines 0 false lines → AreCodes codes
     → lines_that any_outcome lines ≤ count_limit
     → run Before (first ∷ (lines ++ (codes ++ Close c (lines_that any_outcome lines) (lines_that is_resolved lines) (lines_that is_unresolved lines) (lines_that is_refused lines) ∷ []))) ≡ Some Behind
 opens-complete (Open c2 n name) lines codes c is all ordered counts few =

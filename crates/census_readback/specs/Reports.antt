@@ -6,7 +6,7 @@ use Rattle.census_readback.specs.Steps.{initial_reading, first_stray}
 use Rattle.census_readback.specs.Texts.{AllLines, IsStuck, text_of}
 
 -- the text is a report of these rows, or several
-pub record IsReport (rows : List Row) (text : List ℕ) : Type 0 where
+pub record ReadsAsReports (rows : List Row) (text : List ℕ) : Type 0 where
   pub lines : AllLines rows
   pub whole : text ≡ text_of rows
   pub shape : AreReports rows

@@ -63,13 +63,13 @@ AreLines last ash (Code collection rule code count ∷ rows) = ⊥
 AreLines last ash (Close collection patterns resolved unresolved refused ∷ rows) = ⊥
 AreLines last ash (End collections patterns ∷ rows) = ⊥
 
-abbrev pub IsOpen : Row → Type 0
-IsOpen (Open collection patterns name) = ⊤
-IsOpen (Line collection pattern outcome name) = ⊥
-IsOpen (Part collection pattern code count) = ⊥
-IsOpen (Code collection rule code count) = ⊥
-IsOpen (Close collection patterns resolved unresolved refused) = ⊥
-IsOpen (End collections patterns) = ⊥
+abbrev pub IsOpenRow : Row → Type 0
+IsOpenRow (Open collection patterns name) = ⊤
+IsOpenRow (Line collection pattern outcome name) = ⊥
+IsOpenRow (Part collection pattern code count) = ⊥
+IsOpenRow (Code collection rule code count) = ⊥
+IsOpenRow (Close collection patterns resolved unresolved refused) = ⊥
+IsOpenRow (End collections patterns) = ⊥
 
 abbrev pub AreCodes : List Row → Type 0
 AreCodes [] = ⊤
@@ -88,7 +88,7 @@ pub record IsSection (rows : List Row) : Type 0 where
   pub codes : List Row
   pub collection : ℕ
   pub whole : rows ≡ first ∷ (lines ++ (codes ++ Close collection (lines_that any_outcome lines) (lines_that is_resolved lines) (lines_that is_unresolved lines) (lines_that is_refused lines) ∷ []))
-  pub opens : IsOpen first
+  pub opens : IsOpenRow first
   pub all : patterns_opened first ≡ lines_that any_outcome lines
   pub ordered : AreLines 0 false lines
   pub counts : AreCodes codes
@@ -100,9 +100,9 @@ rows_of collection [] = []
 rows_of collection (row ∷ rows) = if collection_of row == collection then row ∷ rows_of collection rows else rows_of collection rows
 
 -- each row is of a collection, from 1 to this one
-abbrev pub AreOf : ℕ → List Row → Type 0
-AreOf collections [] = ⊤
-AreOf collections (row ∷ rows) = (0 < collection_of row) × (collection_of row ≤ collections) × AreOf collections rows
+abbrev pub AreOfCollections : ℕ → List Row → Type 0
+AreOfCollections collections [] = ⊤
+AreOfCollections collections (row ∷ rows) = (0 < collection_of row) × (collection_of row ≤ collections) × AreOfCollections collections rows
 
 -- how many patterns the collections have
 abbrev pub patterns_in : List Row → ℕ
@@ -111,18 +111,18 @@ patterns_in (row ∷ rows) = patterns_opened row + patterns_in rows
 
 -- The rows of a report: those of its collections' sections, interleaved in any way that keeps each section's order, and
 -- then `end`.
-pub record IsWhole (rows : List Row) : Type 0 where
+pub record IsWholeReport (rows : List Row) : Type 0 where
   pub body : List Row
   pub collections : ℕ
   pub whole : rows ≡ body ++ End collections (patterns_in body) ∷ []
-  pub owned : AreOf collections body
+  pub owned : AreOfCollections collections body
   pub sections : (c : ℕ) → 0 < c → c ≤ collections → IsSection (rows_of c body)
   pub few : collections ≤ count_limit
   pub fits : patterns_in body < 2 ^ 64
 
 abbrev pub AreWhole : List (List Row) → Type 0
 AreWhole [] = ⊤
-AreWhole (rows ∷ others) = IsWhole rows × AreWhole others
+AreWhole (rows ∷ others) = IsWholeReport rows × AreWhole others
 
 abbrev pub all_rows : List (List Row) → List Row
 all_rows [] = []

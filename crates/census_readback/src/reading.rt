@@ -8,7 +8,7 @@
 //! counts of `part` and `code` lines add up, is not looked at.
 ghost use Rattle.std.specs.Prelude.{◌≡◌, ◌+◌, ◌<◌, ◌^◌, ℕ, List, length, IfOk, MatchResult};
 ghost use Rattle.census_rows.specs.declared.row.Row.{Row};
-ghost use Rattle.census_readback.specs.Reports.{IsFault, IsReport};
+ghost use Rattle.census_readback.specs.Reports.{IsFault, ReadsAsReports};
 ghost use Rattle.census_readback.specs.Steps.{initial_reading, first_stray};
 ghost use Rattle.census_readback.specs.Texts.{SameRows};
 
@@ -40,8 +40,8 @@ fn first_stray(alloc: Global, rows: &[Row]) -> Result<Option<usize>, AllocError>
 /// does, or the line that is missing after the last.
 pub fn read_report(alloc: Global, text: &[u8]) -> Result<Result<Vec<Row>, usize>, AllocError>
     ensures sound { IfOk result (λ read. MatchResult read
-        (λ rows. IsReport rows.items text.now) (λ line. IsFault text.now line)) }
-    ensures all { (rows : List Row) → IsReport rows text.now
+        (λ rows. ReadsAsReports rows.items text.now) (λ line. IsFault text.now line)) }
+    ensures all { (rows : List Row) → ReadsAsReports rows text.now
         → IfOk result (λ read. MatchResult read (λ found. SameRows found.items rows) (λ line. ⊥)) }
 {
     let front = read_rows(alloc, text)?;

@@ -8,7 +8,7 @@ use Rattle.census_reports.specs.Forms.{IsMadeOf}
 use Rattle.census_reports.specs.Outcomes.{Makes, ReadsTexts, ReportsFail}
 use Rattle.census_reports.specs.Rows.{AreRowsOf, LackRows}
 use Rattle.census_reports.specs.Streams.{Streams}
-use Rattle.census_reports.specs.Texts.{StopsReading}
+use Rattle.census_reports.specs.Texts.{StopsReadingTexts}
 use Rattle.census_reports.specs.Written.{FailsRows, FailsTexts}
 use Rattle.census_reports.specs.declared.error.ReportsError.{ReportsError}
 use Rattle.census_reports.specs.declared.error.ReportsError.TheVariants.{Fault, TooMany, TooLong, Memory, Read, Write}
@@ -35,7 +35,7 @@ failing Write form rows texts a b are part =
     record { made = part.made; is = record { rows = rows; reports = are; is = part.is }; front = part.front }
 
 module _ (form : Form) (held : List ℕ → Told) (words : List (List ℕ)) (a b : Streams) where
-  pub stopping : (error : ReportsError) → StopsReading error held (words_or_input words) a.input b.input → b.output ≡ a.output → ReportsFail error form held words a b
+  pub stopping : (error : ReportsError) → StopsReadingTexts error held (words_or_input words) a.input b.input → b.output ≡ a.output → ReportsFail error form held words a b
   stopping (Fault number line) stops same = absurd stops.why
   stopping (TooMany report) stops same = absurd stops.why
   stopping TooLong stops same = (stops, same)

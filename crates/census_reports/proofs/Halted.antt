@@ -3,9 +3,9 @@ use Rattle.std.proofs.Common.{◌≡◌, ◌∙◌, ℕ, ◌+◌, ◌≤◌, Boo
 use Rattle.std.proofs.lemmas.List.{take-append-le, take_all}
 use Rattle.std.specs.Io.KnownBytes.{Appends}
 use Rattle.watched.specs.Watching.{AppendsFront}
-use Rattle.gathered.specs.Telling.{Sheet, Tells}
+use Rattle.gathered.specs.Telling.{Sheet, TellsAfter}
 use Rattle.gathered.proofs.Telling.{all_told, tells_more}
-use Rattle.census_identify.specs.Streams.{Sink, Writes, WritesFront}
+use Rattle.census_identify.specs.Streams.{PutsPrefix, Sink, Writes}
 use Rattle.census_rows.specs.declared.row.Row.{Row}
 use Rattle.census_table.specs.Entries.{entries_of}
 use Rattle.census_table.specs.Tables.{table_text}
@@ -37,21 +37,21 @@ any_front : (failed : Bool) (a b : Option (List ℕ)) (xs : List ℕ) → MatchB
 any_front true a b xs h = h
 any_front false a b xs h = (length xs, omega arith, subst (Appends a b) (sym (take_all (length xs) xs (omega arith))) h)
 
-front_of : {A B : Type 0} (r : Result A B) (text : List ℕ) (a b : Sheet) → MatchResult r (λ _. Tells text a b) (λ _. TellsFront text a b) → TellsFront text a b
+front_of : {A B : Type 0} (r : Result A B) (text : List ℕ) (a b : Sheet) → MatchResult r (λ _. TellsAfter text a b) (λ _. TellsFront text a b) → TellsFront text a b
 front_of (Ok x) text a b h = record { front = text; rest = []; whole = sym (append-nil text); tells = h }
 front_of (Err e) text a b h = h
 
-module _ (format : Format) (rows : List Row) (a b c : Sheet) (empty : a.pending ≡ []) (sent : Tells [] b c) (clear : c.pending ≡ []) where
+module _ (format : Format) (rows : List Row) (a b c : Sheet) (empty : a.pending ≡ []) (sent : TellsAfter [] b c) (clear : c.pending ≡ []) where
   abbrev text : List ℕ
   text = table_text format (entries_of rows)
 
-  told : (bytes : List ℕ) → Tells bytes a b → MatchBool c.failed (AppendsFront a.written c.written bytes) (Appends a.written c.written bytes)
-  told bytes h = all_told bytes a c empty clear (subst (λ t. Tells t a c) (append-nil bytes) (tells_more bytes [] a b c h sent))
+  told : (bytes : List ℕ) → TellsAfter bytes a b → MatchBool c.failed (AppendsFront a.written c.written bytes) (Appends a.written c.written bytes)
+  told bytes h = all_told bytes a c empty clear (subst (λ t. TellsAfter t a c) (append-nil bytes) (tells_more bytes [] a b c h sent))
 
   in_front : TellsFront text a b → AppendsFront a.written c.written text
   in_front h = front_longer a.written c.written text h.front h.rest h.whole (any_front c.failed a.written c.written h.front (told h.front h.tells))
 
-  pub table_written : Tells text a b → c.failed ≡ false → WritesRows (table_in format) rows (sink_of a) (sink_of c)
+  pub table_written : TellsAfter text a b → c.failed ≡ false → WritesRows (table_in format) rows (sink_of a) (sink_of c)
   table_written h sound = record {
     made = text;
     is = is_made format rows;
@@ -66,7 +66,7 @@ module _ (format : Format) (rows : List Row) (a b c : Sheet) (empty : a.pending 
     front = record { written = in_front h; sound = sound };
   }
 
-  pub table_lost : {A B : Type 0} (r : Result A B) → MatchResult r (λ _. Tells text a b) (λ _. TellsFront text a b) → c.failed ≡ true
+  pub table_lost : {A B : Type 0} (r : Result A B) → MatchResult r (λ _. TellsAfter text a b) (λ _. TellsFront text a b) → c.failed ≡ true
       → WritesRowsInPart (table_in format) rows (sink_of a) (sink_of c)
   table_lost r h failed = record {
     made = text;

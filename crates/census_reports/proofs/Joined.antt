@@ -5,10 +5,10 @@ use Rattle.std.specs.declared.alloc.Global.{Global}
 use Rattle.std.specs.declared.vec.Vec.{Vec}
 use Rattle.std.proofs.lemmas.List.{length-take, length-take-le, take-append-drop, take_more}
 use Rattle.census_rows.specs.declared.row.Row.{Row}
-use Rattle.census_readback.specs.Reports.{IsFault, IsReport}
+use Rattle.census_readback.specs.Reports.{IsFault, ReadsAsReports}
 use Rattle.census_readback.specs.Shapes.{AreReports, AreWhole, all_rows}
 use Rattle.census_readback.specs.Texts.{SameRows}
-use Rattle.census_reports.specs.Rows.{AreRowsOf, HasFault}
+use Rattle.census_reports.specs.Rows.{AreRowsOf, HasReportFault}
 
 pub rows_none : AreRowsOf [] []
 rows_none = record { parts = []; whole = refl; each = tt }
@@ -17,14 +17,14 @@ joined-append : (xs ys : List (List Row)) → all_rows (xs ++ ys) ≡ all_rows x
 joined-append [] ys = refl
 joined-append (x ∷ xs) ys = ap (λ l. x ++ l) (joined-append xs ys) ∙ sym (append_assoc x (all_rows xs) (all_rows ys))
 
-zip_more : (parts : List (List Row)) (texts : List (List ℕ)) (own : List Row) (text : List ℕ) → AllZip IsReport parts texts → IsReport own text
-    → AllZip IsReport (parts ++ own ∷ []) (texts ++ text ∷ [])
+zip_more : (parts : List (List Row)) (texts : List (List ℕ)) (own : List Row) (text : List ℕ) → AllZip ReadsAsReports parts texts → ReadsAsReports own text
+    → AllZip ReadsAsReports (parts ++ own ∷ []) (texts ++ text ∷ [])
 zip_more [] [] own text each is = (is, tt)
 zip_more [] (t ∷ texts) own text each is = absurd each
 zip_more (p ∷ parts) [] own text each is = absurd each
 zip_more (p ∷ parts) (t ∷ texts) own text each is = (each.0, zip_more parts texts own text each.1 is)
 
-rows_more : (rows own all : List Row) (texts : List (List ℕ)) (text : List ℕ) → AreRowsOf rows texts → IsReport own text → all ≡ rows ++ own
+rows_more : (rows own all : List Row) (texts : List (List ℕ)) (text : List ℕ) → AreRowsOf rows texts → ReadsAsReports own text → all ≡ rows ++ own
     → AreRowsOf all (texts ++ text ∷ [])
 rows_more rows own all texts text before is e = record {
   parts = before.parts ++ own ∷ [];
@@ -46,7 +46,7 @@ reports_append xs ys p q = record {
   each = whole_append p.reports q.reports p.each q.each;
 }
 
-reports_joined : (parts : List (List Row)) (texts : List (List ℕ)) → AllZip IsReport parts texts → 0 < length texts → AreReports (all_rows parts)
+reports_joined : (parts : List (List Row)) (texts : List (List ℕ)) → AllZip ReadsAsReports parts texts → 0 < length texts → AreReports (all_rows parts)
 reports_joined [] [] each some = absurd (omega arith)
 reports_joined [] (t ∷ texts) each some = absurd each
 reports_joined (p ∷ parts) [] each some = absurd each
@@ -62,10 +62,10 @@ are_reports rows texts is some = subst AreReports (sym is.whole) (reports_joined
 -- # The texts of a list
 
 module _ (texts : List (List ℕ)) (i : ℕ) (d : List ℕ) (within : i < length texts) (rows : List Row) (before : AreRowsOf rows (take i texts)) where
-  next_rows : (own all : List Row) → IsReport own (get_or texts i d) → all ≡ rows ++ own → AreRowsOf all (take (i + 1) texts)
+  next_rows : (own all : List Row) → ReadsAsReports own (get_or texts i d) → all ≡ rows ++ own → AreRowsOf all (take (i + 1) texts)
   next_rows own all is e = subst (AreRowsOf all) (sym (take_more texts i d within)) (rows_more rows own all (take i texts) (get_or texts i d) before is e)
 
-  has_fault : (line : ℕ) → ((own : List Row) → IsReport own (get_or texts i d) → ⊥) → IsFault (get_or texts i d) line → HasFault (i + 1) line texts
+  has_fault : (line : ℕ) → ((own : List Row) → ReadsAsReports own (get_or texts i d) → ⊥) → IsFault (get_or texts i d) line → HasReportFault (i + 1) line texts
   has_fault line none first = record {
     done = take i texts;
     text = get_or texts i d;
@@ -80,17 +80,17 @@ module _ (texts : List (List ℕ)) (i : ℕ) (d : List ℕ) (within : i < length
 
   module _ (bytes : List ℕ) (e : bytes ≡ get_or texts i d) where
     pub report_read : (read : Result (Vec Row Global) ℕ) (own : Vec Row Global) (all : List Row) → read ≡ Ok own
-        → MatchResult read (λ own. IsReport own.items bytes) (λ line. IsFault bytes line) → all ≡ rows ++ own.items → AreRowsOf all (take (i + 1) texts)
+        → MatchResult read (λ own. ReadsAsReports own.items bytes) (λ line. IsFault bytes line) → all ≡ rows ++ own.items → AreRowsOf all (take (i + 1) texts)
     report_read read own all is sound more =
-        let report : IsReport own.items bytes = subst (λ r. MatchResult r (λ own. IsReport own.items bytes) (λ line. IsFault bytes line)) is sound in
-        next_rows own.items all (subst (IsReport own.items) e report) more
+        let report : ReadsAsReports own.items bytes = subst (λ r. MatchResult r (λ own. ReadsAsReports own.items bytes) (λ line. IsFault bytes line)) is sound in
+        next_rows own.items all (subst (ReadsAsReports own.items) e report) more
 
-    pub fault_read : (read : Result (Vec Row Global) ℕ) (line : ℕ) → read ≡ Err line → MatchResult read (λ own. IsReport own.items bytes) (λ line. IsFault bytes line)
-        → ((own : List Row) → IsReport own bytes → MatchResult read (λ found. SameRows found.items own) (λ line. ⊥)) → HasFault (i + 1) line texts
+    pub fault_read : (read : Result (Vec Row Global) ℕ) (line : ℕ) → read ≡ Err line → MatchResult read (λ own. ReadsAsReports own.items bytes) (λ line. IsFault bytes line)
+        → ((own : List Row) → ReadsAsReports own bytes → MatchResult read (λ found. SameRows found.items own) (λ line. ⊥)) → HasReportFault (i + 1) line texts
     fault_read read line is sound all =
-        let fault : IsFault bytes line = subst (λ r. MatchResult r (λ own. IsReport own.items bytes) (λ line. IsFault bytes line)) is sound in
+        let fault : IsFault bytes line = subst (λ r. MatchResult r (λ own. ReadsAsReports own.items bytes) (λ line. IsFault bytes line)) is sound in
         has_fault line
-        (λ own report. subst (λ r. MatchResult r (λ found. SameRows found.items own) (λ line. ⊥)) is (all own (subst (IsReport own) (sym e) report)))
+        (λ own report. subst (λ r. MatchResult r (λ found. SameRows found.items own) (λ line. ⊥)) is (all own (subst (ReadsAsReports own) (sym e) report)))
         (subst (λ t. IsFault t line) e fault)
 
 pub at_end : (rows : List Row) (texts : List (List ℕ)) (i : ℕ) → AreRowsOf rows (take i texts) → length texts ≤ i → 0 < length texts → AreReports rows

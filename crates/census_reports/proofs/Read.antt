@@ -6,7 +6,7 @@ use Rattle.census_identify.specs.Hearing.{Hears}
 use Rattle.census_identify.specs.Identifies.{words_or_input}
 use Rattle.census_identify.specs.Streams.{Source}
 use Rattle.census_identify.specs.declared.heard.Heard.TheVariants.{Text}
-use Rattle.census_reports.specs.Texts.{ReadsEach, RefusesWord, StopsReading}
+use Rattle.census_reports.specs.Texts.{ReadsEach, RefusesWord, StopsReadingTexts}
 use Rattle.census_reports.specs.declared.error.ReportsError.{ReportsError}
 
 abbrev pub words_of : List (Bor (List ℕ)) → List (List ℕ)
@@ -35,7 +35,7 @@ module _ (held : List ℕ → Told) (words : List (Bor (List ℕ))) (i : ℕ) (d
       (subst (λ ws. ReadsEach held ws (texts ++ text ∷ []) a c) (sym (map_more (λ s. s.now) words i d within))
       (reads_more held (words_of (take i words)) texts (get_or words i d).now text a b c read hears))
 
-  pub stops_reading : (error : ReportsError) (c : Source) → RefusesWord error held (get_or words i d).now b c → StopsReading error held (words_of words) a c
+  pub stops_reading : (error : ReportsError) (c : Source) → RefusesWord error held (get_or words i d).now b c → StopsReadingTexts error held (words_of words) a c
   stops_reading error c why = record {
     texts = texts;
     done = words_of (take i words);

@@ -7,16 +7,16 @@ use Rattle.census_merge.specs.declared.report_sums.Sums.{Sums}
 use Rattle.census_merge.specs.Sums.{no_sums, sums_plus, sums_in, sums_of}
 use Rattle.census_merge.specs.Merged.{merged_rows, numbered_on, renumbered_row}
 use Rattle.census_readback.specs.Steps.{collection_of}
-use Rattle.census_readback.specs.Shapes.{AreOf, AreReports, AreWhole, IsWhole, all_rows, patterns_in, rows_of}
+use Rattle.census_readback.specs.Shapes.{AreOfCollections, AreReports, AreWhole, IsWholeReport, all_rows, patterns_in, rows_of}
 use Rattle.census_readback.specs.Grouped.{collections_of, sections_of}
 use Rattle.census_readback.proofs.Kept.{of-append, rows-append}
 use Rattle.census_readback.proofs.Sorted.{sections-size}
-use Rattle.census_table.specs.Entries.{all_entries, entries_of, entry_before, entry_in, lines_under, section_entries}
+use Rattle.census_table.specs.Entries.{all_entries, entries_of, entry_before, entry_of_row, lines_under, section_entries}
 use Rattle.census_table.proofs.Counts.{all-append, collections-body, rows-one}
 
 -- # Rows under another number of their collection
 
-entry-same : (k b : ℕ) (h r : Row) → entry_in k (renumbered_row b h) (renumbered_row b r) ≡ entry_in k h r
+entry-same : (k b : ℕ) (h r : Row) → entry_of_row k (renumbered_row b h) (renumbered_row b r) ≡ entry_of_row k h r
 entry-same k b h (Open c n t) = refl
 entry-same k b (Open c n t) (Line d i o name) = refl
 entry-same k b (Line c j p t) (Line d i o name) = refl
@@ -33,7 +33,7 @@ under-same : (k b : ℕ) (h : Row) (rows : List Row) → lines_under k (renumber
 under-same k b h [] = refl
 under-same k b h (r ∷ rows) =
     ap (λ e. entry_before e (lines_under k (renumbered_row b h) (map (renumbered_row b) rows))) (entry-same k b h r)
-    ∙ ap (λ es. entry_before (entry_in k h r) es) (under-same k b h rows)
+    ∙ ap (λ es. entry_before (entry_of_row k h r) es) (under-same k b h rows)
 
 section-same : (k b : ℕ) (rows : List Row) → section_entries k (map (renumbered_row b) rows) ≡ section_entries k rows
 section-same k b [] = refl
@@ -56,7 +56,7 @@ no-sums (Close c n x y z) h = refl
 no-sums (End c n) h = absurd (omega arith)
 
 -- the rows of a collection
-shifted-rows : (b n c : ℕ) (body : List Row) → AreOf n body → rows_of (b + c) (map (renumbered_row b) body) ≡ map (renumbered_row b) (rows_of c body)
+shifted-rows : (b n c : ℕ) (body : List Row) → AreOfCollections n body → rows_of (b + c) (map (renumbered_row b) body) ≡ map (renumbered_row b) (rows_of c body)
 shifted-rows b n c [] h = refl
 shifted-rows b n c (r ∷ body) h =
     let number = number-of b r h.0 in
@@ -74,7 +74,7 @@ shifted-rows b n c (r ∷ body) h =
     ]
 
 -- no row has a number that is too small or too great
-outside-none : (b n c : ℕ) (body : List Row) → AreOf n body → ((m : ℕ) → 0 < m → m ≤ n → eqb (b + m) c ≡ false) → rows_of c (map (renumbered_row b) body) ≡ []
+outside-none : (b n c : ℕ) (body : List Row) → AreOfCollections n body → ((m : ℕ) → 0 < m → m ≤ n → eqb (b + m) c ≡ false) → rows_of c (map (renumbered_row b) body) ≡ []
 outside-none b n c [] h out = refl
 outside-none b n c (r ∷ body) h out =
     rows-one c (renumbered_row b r) (map (renumbered_row b) body) false (ap (λ m. eqb m c) (number-of b r h.0) ∙ out (collection_of r) h.0 h.1)
@@ -82,14 +82,14 @@ outside-none b n c (r ∷ body) h out =
 
 -- # Reports that are numbered on
 
-body-on : (b m n p : ℕ) (body rest : List Row) → AreOf m body → numbered_on b (body ++ End n p ∷ rest) ≡ map (renumbered_row b) body ++ numbered_on (b + n) rest
+body-on : (b m n p : ℕ) (body rest : List Row) → AreOfCollections m body → numbered_on b (body ++ End n p ∷ rest) ≡ map (renumbered_row b) body ++ numbered_on (b + n) rest
 body-on b m n p [] rest h = refl
 body-on b m n p (r ∷ body) rest h =
     let back = body ++ End n p ∷ rest in
     ap (λ (o : Option Sums). elim o as (λ _. List Row) [ Nothing ↦ renumbered_row b r ∷ numbered_on b back | Some more ↦ numbered_on (b + more.collections) back ]) (no-sums r h.0)
     ∙ ap (λ w. renumbered_row b r ∷ w) (body-on b m n p body rest h.2)
 
-body-sums : (s : Sums) (m n p : ℕ) (body rest : List Row) → AreOf m body
+body-sums : (s : Sums) (m n p : ℕ) (body rest : List Row) → AreOfCollections m body
     → sums_in s (body ++ End n p ∷ rest) ≡ sums_in (sums_plus s (record { collections = n; patterns = p })) rest
 body-sums s m n p [] rest h = refl
 body-sums s m n p (r ∷ body) rest h =
@@ -97,7 +97,7 @@ body-sums s m n p (r ∷ body) rest h =
     ap (λ (o : Option Sums). elim o as (λ _. Sums) [ Nothing ↦ sums_in s back | Some more ↦ sums_in (sums_plus s more) back ]) (no-sums r h.0)
     ∙ body-sums s m n p body rest h.2
 
-module _ (rows : List Row) (is : IsWhole rows) (rest : List Row) where
+module _ (rows : List Row) (is : IsWholeReport rows) (rest : List Row) where
   rows-are : rows ++ rest ≡ is.body ++ End is.collections (patterns_in is.body) ∷ rest
   rows-are = ap (λ w. w ++ rest) is.whole ∙ append_assoc is.body (End is.collections (patterns_in is.body) ∷ []) rest
 
@@ -123,22 +123,22 @@ sums-count s (rows ∷ reports) h =
     let e = ap (λ (t : Sums). t.collections) (whole-sums rows h.0 (all_rows reports) s) in
     omega (arith, inner, e)
 
-of-shift : (b n m : ℕ) (body : List Row) → AreOf n body → b + n ≤ m → AreOf m (map (renumbered_row b) body)
+of-shift : (b n m : ℕ) (body : List Row) → AreOfCollections n body → b + n ≤ m → AreOfCollections m (map (renumbered_row b) body)
 of-shift b n m [] h less = tt
 of-shift b n m (r ∷ body) h less =
     let number = number-of b r h.0 in
     (omega (arith, number, h.0), omega (arith, number, h.1), of-shift b n m body h.2 less)
 
-on-of : (b : ℕ) (reports : List (List Row)) (h : AreWhole reports) → AreOf (b + count reports h) (numbered_on b (all_rows reports))
+on-of : (b : ℕ) (reports : List (List Row)) (h : AreWhole reports) → AreOfCollections (b + count reports h) (numbered_on b (all_rows reports))
 on-of b [] h = tt
 on-of b (rows ∷ reports) h =
     let is = h.0 in
     let most = b + (is.collections + count reports h.1) in
     let same : b + is.collections + count reports h.1 ≡ most = omega arith in
-    subst (AreOf most) (sym (whole-on rows is (all_rows reports) b))
+    subst (AreOfCollections most) (sym (whole-on rows is (all_rows reports) b))
     (of-append most (map (renumbered_row b) is.body) (numbered_on (b + is.collections) (all_rows reports))
     (of-shift b is.collections most is.body is.owned (omega arith))
-    (subst (λ m. AreOf m (numbered_on (b + is.collections) (all_rows reports))) same (on-of (b + is.collections) reports h.1)))
+    (subst (λ m. AreOfCollections m (numbered_on (b + is.collections) (all_rows reports))) same (on-of (b + is.collections) reports h.1)))
 
 -- the numbers of these reports are greater
 low-none : (c b : ℕ) (reports : List (List Row)) → AreWhole reports → c ≤ b → rows_of c (numbered_on b (all_rows reports)) ≡ []
@@ -174,7 +174,7 @@ first-same k b first (suc n) all body each =
     ∙ first-same (k + 1) b (suc first) n all body (λ c low high. each c (omega arith) (omega arith)))
 
 -- one report, and those behind it, where the rows of the reports before it stand in front
-module _ (k b : ℕ) (front : List Row) (rows : List Row) (is : IsWhole rows) (reports : List (List Row)) (h : AreWhole reports)
+module _ (k b : ℕ) (front : List Row) (rows : List Row) (is : IsWholeReport rows) (reports : List (List Row)) (h : AreWhole reports)
     (none_above : (c : ℕ) → b < c → rows_of c front ≡ []) where
   abbrev n : ℕ
   n = is.collections
@@ -237,7 +237,7 @@ same-table rows is =
     let all = numbered_on 0 (all_rows reports) in
     let sums = sums_in no_sums (all_rows reports) in
     let size : sums.collections ≡ count reports is.each = (let e = sums-count no_sums reports is.each in omega (arith, e)) in
-    let own : AreOf (0 + count reports is.each) all = on-of 0 reports is.each in
+    let own : AreOfCollections (0 + count reports is.each) all = on-of 0 reports is.each in
     let joined_same : entries_of (merged_rows (all_rows reports)) ≡ entries_of (all_rows reports) =
     ap (all_entries 1) (collections-body [] all sums.collections sums.patterns (0 + count reports is.each) [] own)
     ∙ ap (λ (w : List (List Row)). all_entries 1 w) (append-nil (sections_of 1 sums.collections all))

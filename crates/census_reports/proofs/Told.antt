@@ -2,9 +2,9 @@
 use Rattle.std.proofs.Common.{◌≡◌, ℕ, true, false, List, [], Result, Ok, Err, MatchBool, MatchResult, subst, sym, append-nil}
 use Rattle.std.specs.Io.KnownBytes.{Appends}
 use Rattle.watched.specs.Watching.{AppendsFront}
-use Rattle.gathered.specs.Telling.{Sheet, Tells}
+use Rattle.gathered.specs.Telling.{Sheet, TellsAfter}
 use Rattle.gathered.proofs.Telling.{all_told, tells_more}
-use Rattle.census_identify.specs.Streams.{Sink, Writes, WritesFront}
+use Rattle.census_identify.specs.Streams.{PutsPrefix, Sink, Writes}
 use Rattle.census_rows.specs.declared.row.Row.{Row}
 use Rattle.census_page.specs.Pages.{page_of}
 use Rattle.census_reports.specs.Written.{FailsRows, WritesRows}
@@ -16,18 +16,18 @@ use Rattle.census_reports.specs.declared.form.Form.TheVariants.{Page}
 abbrev pub sink_of : Sheet → Sink
 sink_of s = record { written = s.written; failed = s.failed }
 
-pub told_whole : {A B : Type 0} (r : Result A B) (text : List ℕ) (a b c : Sheet) → a.pending ≡ [] → Tells text a b → Tells [] b c → c.pending ≡ []
+pub told_whole : {A B : Type 0} (r : Result A B) (text : List ℕ) (a b c : Sheet) → a.pending ≡ [] → TellsAfter text a b → TellsAfter [] b c → c.pending ≡ []
     → MatchResult r (λ _. c.failed ≡ false) (λ _. c.failed ≡ true)
-    → MatchResult r (λ _. Writes text (sink_of a) (sink_of c)) (λ _. WritesFront text (sink_of a) (sink_of c))
+    → MatchResult r (λ _. Writes text (sink_of a) (sink_of c)) (λ _. PutsPrefix text (sink_of a) (sink_of c))
 told_whole (Ok x) text a b c empty p q sent failed =
-    let all = all_told text a c empty sent (subst (λ t. Tells t a c) (append-nil text) (tells_more text [] a b c p q)) in
+    let all = all_told text a c empty sent (subst (λ t. TellsAfter t a c) (append-nil text) (tells_more text [] a b c p q)) in
     record { written = subst (λ f. MatchBool f (AppendsFront a.written c.written text) (Appends a.written c.written text)) failed all; sound = failed }
 told_whole (Err e) text a b c empty p q sent failed =
-    let all = all_told text a c empty sent (subst (λ t. Tells t a c) (append-nil text) (tells_more text [] a b c p q)) in
+    let all = all_told text a c empty sent (subst (λ t. TellsAfter t a c) (append-nil text) (tells_more text [] a b c p q)) in
     record { written = subst (λ f. MatchBool f (AppendsFront a.written c.written text) (Appends a.written c.written text)) failed all; failed = failed }
 
 pub page_written : {A : Type 0} (r : Result A ReportsError) (rows : List Row) (text : List ℕ) (a b : Sink) → text ≡ page_of rows
-    → MatchResult r (λ _. Writes text a b) (λ why. (why ≡ Write) × WritesFront text a b)
+    → MatchResult r (λ _. Writes text a b) (λ why. (why ≡ Write) × PutsPrefix text a b)
     → MatchResult r (λ _. WritesRows Page rows a b) (λ why. FailsRows why Page rows a b)
 page_written (Ok x) rows text a b e h = record { made = text; is = e; written = h }
 page_written (Err why) rows text a b e h = subst (λ w. FailsRows w Page rows a b) (sym h.0) (record { made = text; is = e; front = h.1 })

@@ -9,7 +9,7 @@ use Rattle.census_table.specs.Entries.{entries_of}
 use Rattle.census_table.specs.Tables.{csv_text, json_text}
 use Rattle.census_table.specs.declared.table.Format.{Format}
 use Rattle.census_table.specs.declared.table.Format.TheVariants as format
-use Rattle.census_reports.specs.Rows.{AreRowsOf, HasFault}
+use Rattle.census_reports.specs.Rows.{AreRowsOf, HasReportFault}
 use Rattle.census_reports.specs.declared.error.ReportsError.{ReportsError}
 use Rattle.census_reports.specs.declared.error.ReportsError.TheVariants.{Fault, TooMany, Memory}
 use Rattle.census_reports.specs.declared.form.Form.{Form}
@@ -63,7 +63,7 @@ pub record ExceedsIn (form : Form) (texts : List (List ℕ)) (report : ℕ) : Ty
 
 -- why nothing is written of texts, or only a prefix of a table
 abbrev pub RefusesTexts : ReportsError → Form → List (List ℕ) → Type 0
-RefusesTexts (Fault number line) form texts = HasFault number line texts
+RefusesTexts (Fault number line) form texts = HasReportFault number line texts
 RefusesTexts (TooMany report) form texts = ExceedsIn form texts report
 RefusesTexts Memory form texts = Unit {0}
 RefusesTexts error form texts = ⊥

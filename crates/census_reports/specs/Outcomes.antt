@@ -2,10 +2,10 @@
 use Rattle.std.specs.Prelude.{◌≡◌, ◌⊎◌, ℕ, false, List}
 use Rattle.census_folders.specs.Told.{Told}
 use Rattle.census_identify.specs.Identifies.{words_or_input}
-use Rattle.census_identify.specs.Streams.{Writes, WritesFront}
+use Rattle.census_identify.specs.Streams.{PutsPrefix, Writes}
 use Rattle.census_reports.specs.Forms.{IsMadeOf, IsTable, RefusesTexts}
 use Rattle.census_reports.specs.Streams.{Streams}
-use Rattle.census_reports.specs.Texts.{ReadsEach, StopsReading}
+use Rattle.census_reports.specs.Texts.{ReadsEach, StopsReadingTexts}
 use Rattle.census_reports.specs.Written.{WritesSome}
 use Rattle.census_reports.specs.declared.error.ReportsError.{ReportsError}
 use Rattle.census_reports.specs.declared.error.ReportsError.TheVariants.{Fault, TooMany, TooLong, Memory, Read, Write}
@@ -36,7 +36,7 @@ pub record WritesReports (form : Form) (held : List ℕ → Told) (words : List 
 pub record WritesReportsInPart (form : Form) (held : List ℕ → Told) (words : List (List ℕ)) (before after : Streams) : Type 0 where
   pub made : List ℕ
   pub makes : Makes form held words made before after
-  pub front : WritesFront made before.output after.output
+  pub front : PutsPrefix made before.output after.output
 
 -- a prefix of a table was written, and the writer has not failed
 pub record HaltsReports (form : Form) (held : List ℕ → Told) (words : List (List ℕ)) (before after : Streams) : Type 0 where
@@ -46,18 +46,18 @@ pub record HaltsReports (form : Form) (held : List ℕ → Told) (words : List (
   pub front : WritesSome made before.output after.output
 
 -- the texts of the words were read, and nothing is written of them, for this error
-pub record Refuses (error : ReportsError) (form : Form) (held : List ℕ → Told) (words : List (List ℕ)) (before after : Streams) : Type 0 where
+pub record RefusesReports (error : ReportsError) (form : Form) (held : List ℕ → Told) (words : List (List ℕ)) (before after : Streams) : Type 0 where
   pub texts : List (List ℕ)
   pub read : ReadsTexts held words texts before after
   pub why : RefusesTexts error form texts
 
 -- Why not all was written. Where the writer didn't fail, nothing was, or out of memory a prefix of a table.
 abbrev pub ReportsFail : ReportsError → Form → (List ℕ → Told) → List (List ℕ) → Streams → Streams → Type 0
-ReportsFail (Fault number line) form held words before after = Refuses (Fault number line) form held words before after × WritesNothing before after
-ReportsFail (TooMany report) form held words before after = Refuses (TooMany report) form held words before after × WritesNothing before after
+ReportsFail (Fault number line) form held words before after = RefusesReports (Fault number line) form held words before after × WritesNothing before after
+ReportsFail (TooMany report) form held words before after = RefusesReports (TooMany report) form held words before after × WritesNothing before after
 ReportsFail TooLong form held words before after =
-    StopsReading TooLong held (words_or_input words) before.input after.input × WritesNothing before after
+    StopsReadingTexts TooLong held (words_or_input words) before.input after.input × WritesNothing before after
 ReportsFail Memory form held words before after =
     (after.input.failed ≡ false) × (WritesNothing before after ⊎ HaltsReports form held words before after)
-ReportsFail Read form held words before after = StopsReading Read held (words_or_input words) before.input after.input × WritesNothing before after
+ReportsFail Read form held words before after = StopsReadingTexts Read held (words_or_input words) before.input after.input × WritesNothing before after
 ReportsFail Write form held words before after = WritesReportsInPart form held words before after

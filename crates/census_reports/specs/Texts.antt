@@ -30,7 +30,7 @@ RefusesWord Memory held word before after = LosesAtMost before after
 RefusesWord error held word before after = ⊥
 
 -- The texts of the words before some place were read. That of the word at this place was not, for this error.
-pub record StopsReading (error : ReportsError) (held : List ℕ → Told) (words : List (List ℕ)) (before after : Source) : Type 0 where
+pub record StopsReadingTexts (error : ReportsError) (held : List ℕ → Told) (words : List (List ℕ)) (before after : Source) : Type 0 where
   pub texts : List (List ℕ)
   pub done : List (List ℕ)
   pub word : List ℕ

@@ -1,7 +1,7 @@
 -- What is made of reports, written.
 use Rattle.std.specs.Prelude.{◌≡◌, ◌⊎◌, ℕ, false, List}
 use Rattle.watched.specs.Watching.{AppendsFront}
-use Rattle.census_identify.specs.Streams.{Sink, Writes, WritesFront}
+use Rattle.census_identify.specs.Streams.{PutsPrefix, Sink, Writes}
 use Rattle.census_rows.specs.declared.row.Row.{Row}
 use Rattle.census_reports.specs.Forms.{IsMade, IsMadeOf, IsTable, RefusesRows, RefusesTexts}
 use Rattle.census_reports.specs.declared.error.ReportsError.{ReportsError}
@@ -23,7 +23,7 @@ pub record WritesRows (form : Form) (rows : List Row) (before after : Sink) : Ty
 pub record WritesRowsInPart (form : Form) (rows : List Row) (before after : Sink) : Type 0 where
   pub made : List ℕ
   pub is : IsMade form rows made
-  pub front : WritesFront made before after
+  pub front : PutsPrefix made before after
 
 -- a prefix of a table was written
 pub record HaltsRows (form : Form) (rows : List Row) (before after : Sink) : Type 0 where
@@ -48,7 +48,7 @@ pub record WritesTexts (form : Form) (texts : List (List ℕ)) (before after : S
 pub record WritesTextsInPart (form : Form) (texts : List (List ℕ)) (before after : Sink) : Type 0 where
   pub made : List ℕ
   pub is : IsMadeOf form texts made
-  pub front : WritesFront made before after
+  pub front : PutsPrefix made before after
 
 -- a prefix of a table was written
 pub record HaltsTexts (form : Form) (texts : List (List ℕ)) (before after : Sink) : Type 0 where

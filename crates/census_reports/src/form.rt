@@ -1,7 +1,7 @@
 //! What is made of the rows of reports, written.
 ghost use Rattle.std.specs.Prelude.{◌≡◌, List, MatchResult, None};
 ghost use Rattle.census_rows.specs.declared.row.Row.{Row};
-ghost use Rattle.census_identify.specs.Streams.{Writes, WritesFront, sink};
+ghost use Rattle.census_identify.specs.Streams.{PutsPrefix, Writes, sink};
 ghost use Rattle.census_readback.specs.Shapes.{AreReports};
 ghost use Rattle.census_readback.specs.Texts.{text_of};
 ghost use Rattle.census_merge.specs.Merged.{merged_rows};
@@ -42,8 +42,10 @@ fn write_report<O: Write>(
     requires reports { AreReports rows.now }
     requires fits { first_excess 1 no_sums rows.now ≡ None }
     ensures { MatchResult result
-        (λ _. Writes (text_of (merged_rows rows.now)) (sink O.contents output.old) (sink O.contents output.new))
-        (λ _. WritesFront (text_of (merged_rows rows.now)) (sink O.contents output.old) (sink O.contents output.new)) }
+        (λ _. Writes (text_of (merged_rows rows.now)) (sink O.contents output.old)
+        (sink O.contents output.new))
+        (λ _. PutsPrefix (text_of (merged_rows rows.now)) (sink O.contents output.old)
+        (sink O.contents output.new)) }
 {
     let mut block = Block::new(alloc);
     put_merged(rows, &mut block, output);
@@ -58,8 +60,10 @@ fn write_merged<O: Write>(
 ) -> Result<(), ReportsError>
     requires { AreReports rows.now }
     ensures { MatchResult result
-        (λ _. WritesRows Form.Merged rows.now (sink O.contents output.old) (sink O.contents output.new))
-        (λ error. FailsRows error Form.Merged rows.now (sink O.contents output.old) (sink O.contents output.new)) }
+        (λ _. WritesRows Form.Merged rows.now (sink O.contents output.old)
+        (sink O.contents output.new))
+        (λ error. FailsRows error Form.Merged rows.now (sink O.contents output.old)
+        (sink O.contents output.new)) }
 {
     match sums(rows) {
         Ok(_) => match write_report(alloc, rows, output) {
@@ -81,7 +85,8 @@ fn write_table<O: Write>(
 ) -> Result<(), ReportsError>
     requires { AreReports rows.now }
     ensures { MatchResult result
-        (λ _. WritesRows (table_in format) rows.now (sink O.contents output.old) (sink O.contents output.new))
+        (λ _. WritesRows (table_in format) rows.now (sink O.contents output.old)
+        (sink O.contents output.new))
         (λ error. FailsRows error (table_in format) rows.now
         (sink O.contents output.old) (sink O.contents output.new)) }
 {
@@ -98,7 +103,7 @@ fn write_whole<O: Write>(text: &[u8], output: &mut Watched<O>) -> Result<(), Rep
     ensures { MatchResult result
         (λ _. Writes text.now (sink O.contents output.old) (sink O.contents output.new))
         (λ error. (error ≡ ReportsError.Write)
-        × WritesFront text.now (sink O.contents output.old) (sink O.contents output.new)) }
+        × PutsPrefix text.now (sink O.contents output.old) (sink O.contents output.new)) }
 {
     match put_all(output, text) {
         Ok(()) => Ok(()),
@@ -114,8 +119,10 @@ fn write_page<O: Write>(
 ) -> Result<(), ReportsError>
     requires { AreReports rows.now }
     ensures { MatchResult result
-        (λ _. WritesRows Form.Page rows.now (sink O.contents output.old) (sink O.contents output.new))
-        (λ error. FailsRows error Form.Page rows.now (sink O.contents output.old) (sink O.contents output.new)) }
+        (λ _. WritesRows Form.Page rows.now (sink O.contents output.old)
+        (sink O.contents output.new))
+        (λ error. FailsRows error Form.Page rows.now (sink O.contents output.old)
+        (sink O.contents output.new)) }
 {
     let text = page(alloc, rows)?;
     write_whole(text.as_slice(), output)
@@ -131,7 +138,8 @@ pub fn write_made<O: Write>(
     requires { AreReports rows.now }
     ensures { MatchResult result
         (λ _. WritesRows form rows.now (sink O.contents output.old) (sink O.contents output.new))
-        (λ error. FailsRows error form rows.now (sink O.contents output.old) (sink O.contents output.new)) }
+        (λ error. FailsRows error form rows.now (sink O.contents output.old)
+        (sink O.contents output.new)) }
 {
     match form {
         Form::Merged => write_merged(alloc, rows, output),
@@ -143,5 +151,6 @@ pub fn write_made<O: Write>(
 
 /// A table of reports is that of the one report that they are merged to: each collection has the same number in both.
 pub fn merging_changes_no_table()
-    ensures { (rows : List Row) → AreReports rows → entries_of (merged_rows rows) ≡ entries_of rows }
+    ensures { (rows : List Row) → AreReports rows →
+        entries_of (merged_rows rows) ≡ entries_of rows }
 {}

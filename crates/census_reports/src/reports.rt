@@ -26,7 +26,8 @@ fn write_of<O: Write>(
     requires { 0 < length texts.now }
     ensures { MatchResult result
         (λ _. WritesTexts form texts.now (sink O.contents output.old) (sink O.contents output.new))
-        (λ error. FailsTexts error form texts.now (sink O.contents output.old) (sink O.contents output.new)) }
+        (λ error. FailsTexts error form texts.now (sink O.contents output.old)
+        (sink O.contents output.new)) }
 {
     let rows = rows_of(alloc, texts)?;
     write_made(alloc, form, rows.as_slice(), output)
@@ -55,10 +56,14 @@ pub fn write_reports<S: Shelf, I: Read, O: Write>(
     output: &mut Watched<O>,
 ) -> Result<(), ReportsError>
     requires { has_failed input.old ≡ false }
-    ensures done { OnOk result (WritesReports form (S.held shelf.now []) (map (λ s. s.now) words.now)
-        (streams I.remaining O.contents input.old output.old) (streams I.remaining O.contents input.new output.new)) }
-    ensures fails { IfErr result (λ error. ReportsFail error form (S.held shelf.now []) (map (λ s. s.now) words.now)
-        (streams I.remaining O.contents input.old output.old) (streams I.remaining O.contents input.new output.new)) }
+    ensures done { OnOk result
+        (WritesReports form (S.held shelf.now []) (map (λ s. s.now) words.now)
+        (streams I.remaining O.contents input.old output.old)
+        (streams I.remaining O.contents input.new output.new)) }
+    ensures fails { IfErr result
+        (λ error. ReportsFail error form (S.held shelf.now []) (map (λ s. s.now) words.now)
+        (streams I.remaining O.contents input.old output.old)
+        (streams I.remaining O.contents input.new output.new)) }
 {
     let texts = read_texts(shelf, alloc, words_or_input(words), input)?;
     write_of(alloc, form, texts.as_slice(), output)

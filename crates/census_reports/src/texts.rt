@@ -5,7 +5,7 @@ ghost use Rattle.census_identify.specs.Hearing.{Hears};
 ghost use Rattle.census_identify.specs.Identifies.{words_or_input};
 ghost use Rattle.census_identify.specs.Streams.{source};
 ghost use Rattle.census_identify.specs.declared.heard.Heard.TheVariants.{Text};
-ghost use Rattle.census_reports.specs.Texts.{ReadsEach, RefusesWord, StopsReading};
+ghost use Rattle.census_reports.specs.Texts.{ReadsEach, RefusesWord, StopsReadingTexts};
 
 use crate::error::ReportsError;
 use census_bundle::INPUT_LIMIT;
@@ -53,10 +53,12 @@ pub fn read_texts<S: Shelf, I: Read>(
     input: &mut Watched<I>,
 ) -> Result<Vec<Bytes>, ReportsError>
     requires { has_failed input.old ≡ false }
-    ensures read { IfOk result (λ texts. ReadsEach (S.held shelf.now []) (map (λ s. s.now) words.now) texts.items
+    ensures read { IfOk result
+        (λ texts. ReadsEach (S.held shelf.now []) (map (λ s. s.now) words.now) texts.items
         (source I.remaining input.old) (source I.remaining input.new)) }
     ensures sound { OnOk result (has_failed input.new ≡ false) }
-    ensures fault { IfErr result (λ error. StopsReading error (S.held shelf.now []) (map (λ s. s.now) words.now)
+    ensures fault { IfErr result
+        (λ error. StopsReadingTexts error (S.held shelf.now []) (map (λ s. s.now) words.now)
         (source I.remaining input.old) (source I.remaining input.new)) }
 {
     let mut texts = Vec::new(alloc);

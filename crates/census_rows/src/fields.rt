@@ -1,6 +1,6 @@
 //! Fields, each after a blank.
 ghost use Rattle.std.specs.Prelude.{◌∷◌};
-ghost use Rattle.gathered.specs.Telling.{Tells, sheet};
+ghost use Rattle.gathered.specs.Telling.{TellsAfter, sheet};
 
 use gathered::{Block, put, put_number as put_digits};
 use itoa::Integer;
@@ -9,7 +9,8 @@ use watched::Watched;
 
 /// Tells a blank and these bytes.
 pub fn put_field<W: Write>(field: &[u8], block: &mut Block, writer: &mut Watched<W>)
-    ensures { Tells (32 ∷ field.now) (sheet W.contents block.old writer.old) (sheet W.contents block.new writer.new) }
+    ensures { TellsAfter (32 ∷ field.now) (sheet W.contents block.old writer.old)
+        (sheet W.contents block.new writer.new) }
 {
     put(b" ", block, writer);
     put(field, block, writer);
@@ -17,7 +18,8 @@ pub fn put_field<W: Write>(field: &[u8], block: &mut Block, writer: &mut Watched
 
 /// Tells a blank and a number.
 pub fn put_number<I: Integer, W: Write>(number: I, block: &mut Block, writer: &mut Watched<W>)
-    ensures { Tells (32 ∷ I.text number) (sheet W.contents block.old writer.old) (sheet W.contents block.new writer.new) }
+    ensures { TellsAfter (32 ∷ I.text number) (sheet W.contents block.old writer.old)
+        (sheet W.contents block.new writer.new) }
 {
     put(b" ", block, writer);
     put_digits(number, block, writer);

@@ -99,7 +99,8 @@ impl<'a> Fields<'a> {
             × (self.old.rest.now ≡ 32 ∷ signed_decimal result ++ self.new.rest.now)
             × EndsField self.new.rest.now }
         ensures all { (number : ℤ) (after : List ℕ) → self.old.whole ≡ true
-            → FitsSigned w64 number → EndsField after → self.old.rest.now ≡ 32 ∷ signed_decimal number ++ after
+            → FitsSigned w64 number → EndsField after →
+            self.old.rest.now ≡ 32 ∷ signed_decimal number ++ after
             → (self.new.whole ≡ true) × (result ≡ number) × (self.new.rest.now ≡ after) }
     {
         match signed_of(self.field()) {
@@ -152,7 +153,8 @@ impl<'a> Fields<'a> {
         ensures all { (outcome : Outcome) (after : List ℕ) → self.old.whole ≡ true
             → IsOutcome outcome → EndsField after
             → HasNoBlank found.now → EndsField self.old.rest.now
-            → found.now ++ self.old.rest.now ≡ drop 1 (fields_text (outcome_fields outcome)) ++ after
+            → found.now ++ self.old.rest.now ≡
+            drop 1 (fields_text (outcome_fields outcome)) ++ after
             → (self.new.whole ≡ true) × SameOutcome result outcome × (self.new.rest.now ≡ after) }
     {
         if are_same(found, b"ok") {

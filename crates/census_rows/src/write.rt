@@ -1,7 +1,7 @@
 //! Lines written.
 ghost use Rattle.std.specs.Prelude.{◌≡◌, ◌∷◌, [], decimal};
 ghost use Rattle.std.specs.Fmt.{signed_decimal};
-ghost use Rattle.gathered.specs.Telling.{Tells, sheet};
+ghost use Rattle.gathered.specs.Telling.{TellsAfter, sheet};
 ghost use Rattle.census_rows.specs.Lines.{fields_text, outcome_fields, row_text};
 
 use crate::fields::{put_field, put_number};
@@ -18,7 +18,7 @@ fn put_found<W: Write>(
     block: &mut Block,
     writer: &mut Watched<W>,
 )
-    ensures { Tells (fields_text (found.now ∷ rule.now ∷ decimal population ∷ []))
+    ensures { TellsAfter (fields_text (found.now ∷ rule.now ∷ decimal population ∷ []))
         (sheet W.contents block.old writer.old) (sheet W.contents block.new writer.new) }
 {
     put_field(found, block, writer);
@@ -28,7 +28,7 @@ fn put_found<W: Write>(
 
 // A signed number.
 fn put_signed<W: Write>(number: &i64, block: &mut Block, writer: &mut Watched<W>)
-    ensures { Tells (32 ∷ signed_decimal number.now)
+    ensures { TellsAfter (32 ∷ signed_decimal number.now)
         (sheet W.contents block.old writer.old) (sheet W.contents block.new writer.new) }
 {
     put_number(*number, block, writer);
@@ -43,7 +43,9 @@ fn put_cycle<W: Write>(
     block: &mut Block,
     writer: &mut Watched<W>,
 )
-    ensures { Tells (fields_text (decimal onset ∷ decimal period ∷ signed_decimal dx.now ∷ signed_decimal dy.now ∷ []))
+    ensures { TellsAfter
+        (fields_text
+        (decimal onset ∷ decimal period ∷ signed_decimal dx.now ∷ signed_decimal dy.now ∷ []))
         (sheet W.contents block.old writer.old) (sheet W.contents block.new writer.new) }
 {
     put_number(onset, block, writer);
@@ -54,7 +56,7 @@ fn put_cycle<W: Write>(
 
 // What was found of a pattern.
 fn put_outcome<W: Write>(outcome: &Outcome, block: &mut Block, writer: &mut Watched<W>)
-    ensures { Tells (fields_text (outcome_fields outcome.now))
+    ensures { TellsAfter (fields_text (outcome_fields outcome.now))
         (sheet W.contents block.old writer.old) (sheet W.contents block.new writer.new) }
 {
     match outcome {
@@ -97,7 +99,7 @@ fn put_outcome<W: Write>(outcome: &Outcome, block: &mut Block, writer: &mut Watc
 
 /// Tells a line, without its LF, and asks for no memory but the block's.
 pub fn put_row<W: Write>(row: &Row, block: &mut Block, writer: &mut Watched<W>)
-    ensures { Tells (row_text row.now)
+    ensures { TellsAfter (row_text row.now)
         (sheet W.contents block.old writer.old) (sheet W.contents block.new writer.new) }
 {
     match row {

@@ -6,7 +6,7 @@ use Rattle.std.proofs.lemmas.List.{append-nil, length-append}
 use Rattle.census_rows.specs.declared.row.Row.{Row}
 use Rattle.census_rows.specs.declared.row.Row.TheVariants.{Open, Line, Part, Code, Close, End}
 use Rattle.census_readback.specs.Steps.{collection_of}
-use Rattle.census_readback.specs.Shapes.{AreOf, AreReports, AreWhole, IsOpen, IsSection, any_outcome, all_rows, lines_that, patterns_in, rows_of}
+use Rattle.census_readback.specs.Shapes.{AreOfCollections, AreReports, AreWhole, IsOpenRow, IsSection, any_outcome, all_rows, lines_that, patterns_in, rows_of}
 use Rattle.census_readback.specs.Grouped.{collections_of, end_of, sections_of}
 use Rattle.census_table.specs.Entries.{all_entries, entries_of, lines_under, section_entries}
 
@@ -29,7 +29,7 @@ under-size m n k title (Code c rule code p ∷ rows) = under-size m n k title ro
 under-size m n k title (Close c p a b d ∷ rows) = under-size m n k title rows ∙ zero-plus (lines_that any_outcome rows)
 under-size m n k title (End c p ∷ rows) = under-size m n k title rows ∙ zero-plus (lines_that any_outcome rows)
 
-opened-size : (m : ℕ) (first : Row) (rows : List Row) → IsOpen first → length (section_entries m (first ∷ rows)) ≡ lines_that any_outcome (first ∷ rows)
+opened-size : (m : ℕ) (first : Row) (rows : List Row) → IsOpenRow first → length (section_entries m (first ∷ rows)) ≡ lines_that any_outcome (first ∷ rows)
 opened-size m (Open c n name) rows h = under-size m c n name rows ∙ zero-plus (lines_that any_outcome rows)
 opened-size m (Line c i o name) rows h = absurd h
 opened-size m (Part c i code k) rows h = absurd h
@@ -92,7 +92,7 @@ total-here first (suc count) r rows low high = elim (cases_Bool (eqb (collection
       omega (arith, here, others)
 ]
 
-total-all : (n : ℕ) (rows : List Row) → AreOf n rows → total 1 n rows ≡ lines_that any_outcome rows
+total-all : (n : ℕ) (rows : List Row) → AreOfCollections n rows → total 1 n rows ≡ lines_that any_outcome rows
 total-all n [] h = total-nil 1 n
 total-all n (r ∷ rows) h =
     let here = total-here 1 n r rows (omega (arith, h.0)) (omega (arith, h.1)) in
@@ -107,7 +107,7 @@ no-end (Code c rule code k) h = refl
 no-end (Close c n a b d) h = refl
 no-end (End n k) h = absurd (omega arith)
 
-pub collections-body : (here body : List Row) (n k m : ℕ) (rest : List Row) → AreOf m body
+pub collections-body : (here body : List Row) (n k m : ℕ) (rest : List Row) → AreOfCollections m body
     → collections_of here (body ++ End n k ∷ rest) ≡ sections_of 1 n (here ++ body) ++ collections_of [] rest
 collections-body here [] n k m rest h = ap (λ (w : List Row). sections_of 1 n w ++ collections_of [] rest) (sym (append-nil here))
 collections-body here (r ∷ body) n k m rest h =

@@ -7,7 +7,7 @@ use Rattle.std.specs.declared.cmp.Ordering.TheVariants.{Less, Equal, Greater}
 use Rattle.serde_json.specs.Data.{Data, Members, member, no_members, number, object, put}
 use Rattle.serde_json.specs.Find.{of_integer}
 use Rattle.serde_json.specs.Written.{has_float, members_have_float}
-use Rattle.census_table.specs.Columns.{cell_of, columns, name_of}
+use Rattle.census_table.specs.Columns.{columns, content_in_column, name_of}
 use Rattle.census_table.specs.Contents.{Content, content_data, count, data_or_null, hex, hex_of, nothing, shift, text}
 use Rattle.census_table.specs.Tables.{entry_members, with_columns}
 use Rattle.census_table.specs.declared.column.Column.{Column}
@@ -54,7 +54,7 @@ content-floatless (hex bytes) = option-floatless (hex_of bytes)
 with-floatless : (entry : Entry) (cs : List Column) (ms : Members) → members_have_float ms ≡ false → members_have_float (with_columns entry cs ms) ≡ false
 with-floatless entry [] ms h = h
 with-floatless entry (c ∷ cs) ms h =
-    with-floatless entry cs (put (name_of c) (content_data (cell_of c entry)) ms) (put-floatless (name_of c) (content_data (cell_of c entry)) ms (content-floatless (cell_of c entry)) h)
+    with-floatless entry cs (put (name_of c) (content_data (content_in_column c entry)) ms) (put-floatless (name_of c) (content_data (content_in_column c entry)) ms (content-floatless (content_in_column c entry)) h)
 
 pub entry-floatless : (entry : Entry) → has_float (object (entry_members entry)) ≡ false
 entry-floatless entry = with-floatless entry columns no_members refl

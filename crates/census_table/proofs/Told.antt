@@ -1,6 +1,6 @@
 -- Bytes of which a prefix is told.
 use Rattle.std.proofs.Common.{◌≡◌, ℕ, List, [], ◌++◌, Result, Ok, Err, MatchResult, refl, sym, ap, ◌∙◌, subst, append_assoc, append-nil}
-use Rattle.gathered.specs.Telling.{Sheet, Tells}
+use Rattle.gathered.specs.Telling.{Sheet, TellsAfter}
 use Rattle.gathered.proofs.Telling.{tells_more, tells_none}
 use Rattle.census_table.specs.Told.{TellsFront}
 
@@ -8,7 +8,7 @@ use Rattle.census_table.specs.Told.{TellsFront}
 pub record TellsUpTo (whole left : List ℕ) (a b : Sheet) : Type 0 where
   pub done : List ℕ
   pub whole_is : whole ≡ done ++ left
-  pub told : Tells done a b
+  pub told : TellsAfter done a b
 
 pub up_to_start : (whole : List ℕ) (a : Sheet) → TellsUpTo whole whole a a
 up_to_start whole a = record { done = []; whole_is = refl; told = tells_none a }
@@ -16,16 +16,16 @@ up_to_start whole a = record { done = []; whole_is = refl; told = tells_none a }
 pub up_to_stop : (whole left : List ℕ) (a b : Sheet) → TellsUpTo whole left a b → TellsFront whole a b
 up_to_stop whole left a b p = record { front = p.done; rest = left; whole = p.whole_is; tells = p.told }
 
-pub up_to_end : (whole left : List ℕ) (a b : Sheet) → TellsUpTo whole left a b → left ≡ [] → Tells whole a b
+pub up_to_end : (whole left : List ℕ) (a b : Sheet) → TellsUpTo whole left a b → left ≡ [] → TellsAfter whole a b
 up_to_end whole left a b p none =
-    subst (λ t. Tells t a b) (sym (p.whole_is ∙ ap (λ t. p.done ++ t) none ∙ append-nil p.done)) p.told
+    subst (λ t. TellsAfter t a b) (sym (p.whole_is ∙ ap (λ t. p.done ++ t) none ∙ append-nil p.done)) p.told
 
 -- nothing is told
 pub front_none : (whole : List ℕ) (a : Sheet) → TellsFront whole a a
 front_none whole a = up_to_stop whole whole a a (up_to_start whole a)
 
 module _ (whole left text others : List ℕ) (a b c : Sheet) (p : TellsUpTo whole left a b) (cut : left ≡ text ++ others) where
-  pub up_to_more : Tells text b c → TellsUpTo whole others a c
+  pub up_to_more : TellsAfter text b c → TellsUpTo whole others a c
   up_to_more told = record {
     done = p.done ++ text;
     whole_is = p.whole_is ∙ ap (λ t. p.done ++ t) cut ∙ sym (append_assoc p.done text others);
@@ -47,8 +47,8 @@ pub front_first : (whole first second : List ℕ) (a b : Sheet) → whole ≡ fi
 front_first whole first second a b e front = up_to_front whole whole first second a a b (up_to_start whole a) e front
 
 -- two texts, of which the second is told after the first
-pub told_both : {A B : Type 0} (r : Result A B) (whole first second : List ℕ) (a b c : Sheet) → whole ≡ first ++ second → Tells first a b
-    → MatchResult r (λ _. Tells second b c) (λ _. TellsFront second b c) → MatchResult r (λ _. Tells whole a c) (λ _. TellsFront whole a c)
-told_both (Ok x) whole first second a b c e p q = subst (λ t. Tells t a c) (sym e) (tells_more first second a b c p q)
+pub told_both : {A B : Type 0} (r : Result A B) (whole first second : List ℕ) (a b c : Sheet) → whole ≡ first ++ second → TellsAfter first a b
+    → MatchResult r (λ _. TellsAfter second b c) (λ _. TellsFront second b c) → MatchResult r (λ _. TellsAfter whole a c) (λ _. TellsFront whole a c)
+told_both (Ok x) whole first second a b c e p q = subst (λ t. TellsAfter t a c) (sym e) (tells_more first second a b c p q)
 told_both (Err x) whole first second a b c e p q =
     up_to_front whole second second [] a b c (record { done = first; whole_is = e; told = p }) (sym (append-nil second)) q

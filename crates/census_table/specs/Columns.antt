@@ -93,19 +93,19 @@ fault_cell (Large rule population generation) = nothing
 fault_cell (Bad fault) = count fault
 
 -- what the row of a pattern has in a column
-abbrev pub cell_of : Column → Entry → Content
-cell_of column.Collection entry = count entry.collection
-cell_of column.CollectionName entry = text entry.collection_name.now
-cell_of column.Pattern entry = count entry.pattern
-cell_of column.Name entry = text entry.name.now
-cell_of column.Status entry = status_cell entry.outcome
-cell_of column.Rule entry = rule_cell entry.outcome
-cell_of column.Population entry = population_cell entry.outcome
-cell_of column.Onset entry = onset_cell entry.outcome
-cell_of column.Period entry = period_cell entry.outcome
-cell_of column.Dx entry = dx_cell entry.outcome
-cell_of column.Dy entry = dy_cell entry.outcome
-cell_of column.Code entry = code_cell entry.outcome
-cell_of column.Fault entry = fault_cell entry.outcome
-cell_of column.CollectionNameHex entry = hex entry.collection_name.now
-cell_of column.NameHex entry = hex entry.name.now
+abbrev pub content_in_column : Column → Entry → Content
+content_in_column column.Collection entry = count entry.collection
+content_in_column column.CollectionName entry = text entry.collection_name.now
+content_in_column column.Pattern entry = count entry.pattern
+content_in_column column.Name entry = text entry.name.now
+content_in_column column.Status entry = status_cell entry.outcome
+content_in_column column.Rule entry = rule_cell entry.outcome
+content_in_column column.Population entry = population_cell entry.outcome
+content_in_column column.Onset entry = onset_cell entry.outcome
+content_in_column column.Period entry = period_cell entry.outcome
+content_in_column column.Dx entry = dx_cell entry.outcome
+content_in_column column.Dy entry = dy_cell entry.outcome
+content_in_column column.Code entry = code_cell entry.outcome
+content_in_column column.Fault entry = fault_cell entry.outcome
+content_in_column column.CollectionNameHex entry = hex entry.collection_name.now
+content_in_column column.NameHex entry = hex entry.name.now

@@ -18,13 +18,13 @@ entry_for number (Close collection patterns resolved unresolved refused) pattern
 entry_for number (End collections patterns) pattern outcome name = None
 
 -- what a row says of a pattern, in the collection that another row opens and that has this number
-abbrev pub entry_in : ℕ → Row → Row → Option Entry
-entry_in number heading (Open collection patterns name) = None
-entry_in number heading (Line collection pattern outcome name) = entry_for number heading pattern outcome name
-entry_in number heading (Part collection pattern code count) = None
-entry_in number heading (Code collection rule code count) = None
-entry_in number heading (Close collection patterns resolved unresolved refused) = None
-entry_in number heading (End collections patterns) = None
+abbrev pub entry_of_row : ℕ → Row → Row → Option Entry
+entry_of_row number heading (Open collection patterns name) = None
+entry_of_row number heading (Line collection pattern outcome name) = entry_for number heading pattern outcome name
+entry_of_row number heading (Part collection pattern code count) = None
+entry_of_row number heading (Code collection rule code count) = None
+entry_of_row number heading (Close collection patterns resolved unresolved refused) = None
+entry_of_row number heading (End collections patterns) = None
 
 abbrev pub entry_before : Option Entry → List Entry → List Entry
 entry_before None entries = entries
@@ -33,7 +33,7 @@ entry_before (Some entry) entries = entry ∷ entries
 -- the patterns of these rows, in the collection that a row opens and that has this number
 abbrev pub lines_under : ℕ → Row → List Row → List Entry
 lines_under number heading [] = []
-lines_under number heading (row ∷ rows) = entry_before (entry_in number heading row) (lines_under number heading rows)
+lines_under number heading (row ∷ rows) = entry_before (entry_of_row number heading row) (lines_under number heading rows)
 
 -- the patterns of a collection's rows, of which the first opens it
 abbrev pub section_entries : ℕ → List Row → List Entry

@@ -3,7 +3,7 @@ use Rattle.std.specs.Prelude.{ℕ, List, [], ◌∷◌, ◌++◌, map}
 use Rattle.csv.specs.Writing.{default_writer, row_text}
 use Rattle.serde_json.specs.Data.{Members, no_members, object, put}
 use Rattle.serde_json.specs.Written.{compact_text}
-use Rattle.census_table.specs.Columns.{cell_of, columns, name_of}
+use Rattle.census_table.specs.Columns.{columns, content_in_column, name_of}
 use Rattle.census_table.specs.Contents.{content_bytes, content_data}
 use Rattle.census_table.specs.declared.column.Column.{Column}
 use Rattle.census_table.specs.declared.entry.Entry.{Entry}
@@ -15,7 +15,7 @@ abbrev pub header : List (List ℕ)
 header = map name_of columns
 
 abbrev pub entry_fields : Entry → List (List ℕ)
-entry_fields entry = map (λ column. content_bytes (cell_of column entry)) columns
+entry_fields entry = map (λ column. content_bytes (content_in_column column entry)) columns
 
 -- a record for each pattern, as the crate `csv` writes it by default
 abbrev pub csv_records : List Entry → List ℕ
@@ -29,7 +29,7 @@ csv_text entries = row_text default_writer header ++ csv_records entries
 -- the members, with those of these columns
 abbrev pub with_columns : Entry → List Column → Members → Members
 with_columns entry [] members = members
-with_columns entry (column ∷ others) members = with_columns entry others (put (name_of column) (content_data (cell_of column entry)) members)
+with_columns entry (column ∷ others) members = with_columns entry others (put (name_of column) (content_data (content_in_column column entry)) members)
 
 -- what an object has of a pattern: a member for each column
 abbrev pub entry_members : Entry → Members

@@ -10,7 +10,7 @@ abbrev pub text_written : Writer (Vec ℕ Global) → List ℕ
 text_written writer = (writer_under writer).items ++ writer_pending writer
 
 -- by default, and no record is begun
-pub record IsBetween (writer : Writer (Vec ℕ Global)) : Type 0 where
+pub record IsBetweenRecords (writer : Writer (Vec ℕ Global)) : Type 0 where
   pub fields : fields_written writer ≡ 0
   pub wrote : has_written writer ≡ false
   pub setup : writer_setup writer ≡ default_writer

@@ -1,6 +1,6 @@
 //! The columns of a table.
 ghost use Rattle.std.specs.Prelude.{◌≡◌};
-ghost use Rattle.census_table.specs.Columns.{cell_of, code_cell, dx_cell, dy_cell, fault_cell, name_of, onset_cell, period_cell, population_cell, rule_cell, status_cell};
+ghost use Rattle.census_table.specs.Columns.{code_cell, content_in_column, dx_cell, dy_cell, fault_cell, name_of, onset_cell, period_cell, population_cell, rule_cell, status_cell};
 ghost use Rattle.census_table.specs.Contents.{content_of};
 
 use crate::cell::Cell;
@@ -177,7 +177,7 @@ impl Column {
 
     /// What the row of a pattern has in the column.
     pub fn cell<'a>(self, entry: &Entry<'a>) -> Cell<'a>
-        ensures { content_of result ≡ cell_of self entry.now }
+        ensures { content_of result ≡ content_in_column self entry.now }
     {
         match self {
             Column::Collection => Cell::Count(entry.collection),

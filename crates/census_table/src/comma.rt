@@ -2,10 +2,10 @@
 ghost use Rattle.std.specs.Prelude.{◌≡◌, ◌++◌, map, IfOk, OnOk};
 ghost use Rattle.csv.specs.Records.{fields_of};
 ghost use Rattle.csv.specs.Writing.{default_writer, row_text};
-ghost use Rattle.census_table.specs.Columns.{cell_of, name_of};
+ghost use Rattle.census_table.specs.Columns.{content_in_column, name_of};
 ghost use Rattle.census_table.specs.Contents.{content_bytes};
 ghost use Rattle.census_table.specs.Tables.{csv_records, entry_fields, header};
-ghost use Rattle.census_table.specs.Written.{IsBetween, text_written};
+ghost use Rattle.census_table.specs.Written.{IsBetweenRecords, text_written};
 
 use crate::column::Column;
 use crate::entry::Entry;
@@ -26,7 +26,7 @@ fn names(alloc: Global, columns: &[Column]) -> Result<ByteRecord, AllocError>
 // The fields of a pattern in these columns.
 fn fields(alloc: Global, entry: &Entry, columns: &[Column]) -> Result<ByteRecord, AllocError>
     ensures { IfOk result (λ fields. fields_of fields
-        ≡ map (λ column. content_bytes (cell_of column entry.now)) columns.now) }
+        ≡ map (λ column. content_bytes (content_in_column column entry.now)) columns.now) }
 {
     let mut fields = ByteRecord::new(alloc);
     for column in columns {
@@ -38,8 +38,8 @@ fn fields(alloc: Global, entry: &Entry, columns: &[Column]) -> Result<ByteRecord
 
 // Writes a record.
 fn write(writer: &mut Writer<Vec<u8>>, fields: &ByteRecord) -> Result<(), AllocError>
-    requires { IsBetween writer.old }
-    ensures between { OnOk result (IsBetween writer.new) }
+    requires { IsBetweenRecords writer.old }
+    ensures between { OnOk result (IsBetweenRecords writer.new) }
     ensures text { OnOk result (text_written writer.new
         ≡ text_written writer.old ++ row_text default_writer (fields_of fields.now)) }
 {
@@ -51,8 +51,8 @@ fn write(writer: &mut Writer<Vec<u8>>, fields: &ByteRecord) -> Result<(), AllocE
 
 // Writes the record of a pattern.
 fn push_entry(alloc: Global, writer: &mut Writer<Vec<u8>>, entry: &Entry) -> Result<(), AllocError>
-    requires { IsBetween writer.old }
-    ensures between { OnOk result (IsBetween writer.new) }
+    requires { IsBetweenRecords writer.old }
+    ensures between { OnOk result (IsBetweenRecords writer.new) }
     ensures text { OnOk result (text_written writer.new
         ≡ text_written writer.old ++ row_text default_writer (entry_fields entry.now)) }
 {
@@ -66,8 +66,9 @@ fn push_entries(
     writer: &mut Writer<Vec<u8>>,
     entries: &[Entry],
 ) -> Result<(), AllocError>
-    requires { IsBetween writer.old }
-    ensures { OnOk result (text_written writer.new ≡ text_written writer.old ++ csv_records entries.now) }
+    requires { IsBetweenRecords writer.old }
+    ensures { OnOk result
+        (text_written writer.new ≡ text_written writer.old ++ csv_records entries.now) }
 {
     for entry in entries {
         push_entry(alloc, writer, entry)?;

@@ -1,7 +1,7 @@
 //! The patterns of a report.
 ghost use Rattle.std.specs.Prelude.{◌≡◌, IfOk};
 ghost use Rattle.census_readback.specs.Grouped.{rows_lent};
-ghost use Rattle.census_table.specs.Entries.{entry_in, lines_under};
+ghost use Rattle.census_table.specs.Entries.{entry_of_row, lines_under};
 
 use census_rows::{Outcome, Row};
 use std::alloc::{AllocError, Global};
@@ -17,8 +17,8 @@ pub struct Entry<'a> {
 }
 
 // What a row says of a pattern, in the collection that another row opens and that has this number.
-fn entry_in<'a>(number: u64, heading: &Row<'a>, row: &Row<'a>) -> Option<Entry<'a>>
-    ensures { result ≡ entry_in number heading.now row.now }
+fn entry_of_row<'a>(number: u64, heading: &Row<'a>, row: &Row<'a>) -> Option<Entry<'a>>
+    ensures { result ≡ entry_of_row number heading.now row.now }
 {
     match row {
         Row::Line {
@@ -56,7 +56,7 @@ pub fn entries_under<'a>(
 {
     let mut entries = Vec::new(alloc);
     for row in rows {
-        if let Some(entry) = entry_in(number, heading, *row) {
+        if let Some(entry) = entry_of_row(number, heading, *row) {
             entries.push(entry)?;
         }
     }

@@ -1,8 +1,8 @@
 //! Tables, told some rows at a time.
 ghost use Rattle.std.specs.Prelude.{◌≡◌, List, length, IfOk, MatchResult};
-ghost use Rattle.gathered.specs.Telling.{Tells, sheet};
+ghost use Rattle.gathered.specs.Telling.{TellsAfter, sheet};
 ghost use Rattle.census_rows.specs.declared.row.Row.{Row};
-ghost use Rattle.census_readback.specs.Grouped.{items_of, rows_lent};
+ghost use Rattle.census_readback.specs.Grouped.{rows_in, rows_lent};
 ghost use Rattle.census_readback.specs.Shapes.{AreReports, any_outcome, lines_that};
 ghost use Rattle.census_table.specs.Entries.{all_entries, entries_of, lines_under, section_entries};
 ghost use Rattle.census_table.specs.Tables.{head_text, rows_text, table_text};
@@ -50,7 +50,7 @@ fn put_head<W: Write>(
     writer: &mut Watched<W>,
 ) -> Result<(), AllocError>
     ensures { MatchResult result
-        (λ _. Tells (head_text format)
+        (λ _. TellsAfter (head_text format)
         (sheet W.contents block.old writer.old) (sheet W.contents block.new writer.new))
         (λ _. TellsFront (head_text format)
         (sheet W.contents block.old writer.old) (sheet W.contents block.new writer.new)) }
@@ -71,7 +71,7 @@ fn put_entries<W: Write>(
     writer: &mut Watched<W>,
 ) -> Result<(), AllocError>
     ensures { MatchResult result
-        (λ _. Tells (rows_text format entries.now)
+        (λ _. TellsAfter (rows_text format entries.now)
         (sheet W.contents block.old writer.old) (sheet W.contents block.new writer.new))
         (λ _. TellsFront (rows_text format entries.now)
         (sheet W.contents block.old writer.old) (sheet W.contents block.new writer.new)) }
@@ -95,7 +95,7 @@ fn put_lines<'a, W: Write>(
     writer: &mut Watched<W>,
 ) -> Result<(), AllocError>
     ensures { MatchResult result
-        (λ _. Tells (rows_text format (lines_under number heading.now (rows_lent rows.now)))
+        (λ _. TellsAfter (rows_text format (lines_under number heading.now (rows_lent rows.now)))
         (sheet W.contents block.old writer.old) (sheet W.contents block.new writer.new))
         (λ _. TellsFront (rows_text format (lines_under number heading.now (rows_lent rows.now)))
         (sheet W.contents block.old writer.old) (sheet W.contents block.new writer.new)) }
@@ -120,7 +120,7 @@ fn put_section<'a, W: Write>(
     writer: &mut Watched<W>,
 ) -> Result<(), AllocError>
     ensures { MatchResult result
-        (λ _. Tells (rows_text format (section_entries number (rows_lent rows.now)))
+        (λ _. TellsAfter (rows_text format (section_entries number (rows_lent rows.now)))
         (sheet W.contents block.old writer.old) (sheet W.contents block.new writer.new))
         (λ _. TellsFront (rows_text format (section_entries number (rows_lent rows.now)))
         (sheet W.contents block.old writer.old) (sheet W.contents block.new writer.new)) }
@@ -140,9 +140,9 @@ fn put_sections<W: Write>(
     writer: &mut Watched<W>,
 ) -> Result<(), AllocError>
     ensures { MatchResult result
-        (λ _. Tells (rows_text format (all_entries 1 (items_of sections.now)))
+        (λ _. TellsAfter (rows_text format (all_entries 1 (rows_in sections.now)))
         (sheet W.contents block.old writer.old) (sheet W.contents block.new writer.new))
-        (λ _. TellsFront (rows_text format (all_entries 1 (items_of sections.now)))
+        (λ _. TellsFront (rows_text format (all_entries 1 (rows_in sections.now)))
         (sheet W.contents block.old writer.old) (sheet W.contents block.new writer.new)) }
 {
     for index in 0..sections.len() {
@@ -174,7 +174,7 @@ pub fn put_table<W: Write>(
 ) -> Result<(), AllocError>
     requires { AreReports rows.now }
     ensures { MatchResult result
-        (λ _. Tells (table_text format (entries_of rows.now))
+        (λ _. TellsAfter (table_text format (entries_of rows.now))
         (sheet W.contents block.old writer.old) (sheet W.contents block.new writer.new))
         (λ _. TellsFront (table_text format (entries_of rows.now))
         (sheet W.contents block.old writer.old) (sheet W.contents block.new writer.new)) }

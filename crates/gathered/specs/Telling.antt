@@ -22,12 +22,12 @@ sheet contents block writer =
 
 -- Where the bytes that were written are told after the first ones: all but those of the block, and a prefix of them where
 -- the writer has failed.
-abbrev pub IsTold : Option (List ℕ) → List ℕ → Sheet → Type 0
-IsTold first bytes s =
+abbrev pub IsToldAfter : Option (List ℕ) → List ℕ → Sheet → Type 0
+IsToldAfter first bytes s =
     MatchBool s.failed (AppendsFront first s.written bytes)
     ((front : List ℕ) × (bytes ≡ front ++ s.pending) × Appends first s.written front)
 
 -- these bytes are told after whatever was told before
-unfoldable pub Tells : List ℕ → Sheet → Sheet → Type 0
-Tells bytes before after =
-    (first : Option (List ℕ)) (told : List ℕ) → IsTold first told before → IsTold first (told ++ bytes) after
+unfoldable pub TellsAfter : List ℕ → Sheet → Sheet → Type 0
+TellsAfter bytes before after =
+    (first : Option (List ℕ)) (told : List ℕ) → IsToldAfter first told before → IsToldAfter first (told ++ bytes) after

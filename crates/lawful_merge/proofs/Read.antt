@@ -5,7 +5,7 @@ use Rattle.std.specs.List.{AllZip}
 use Rattle.census_format.specs.Reports.{IsReport}
 use Rattle.census_folders.specs.Told.{Told}
 use Rattle.census_rows.specs.declared.row.Row.{Row}
-use Rattle.census_readback.specs.Reports.{IsReport as IsReadBack}
+use Rattle.census_readback.specs.Reports.{ReadsAsReports}
 use Rattle.census_readback.specs.Shapes.{all_rows}
 use Rattle.census_readback.specs.Texts.{AllLines, text_of}
 use Rattle.census_readback.proofs.Rows.{text-append}
@@ -24,7 +24,7 @@ lines_append : (xs ys : List Row) → AllLines xs → AllLines ys → AllLines (
 lines_append [] ys h k = k
 lines_append (x ∷ xs) ys h k = (h.0, lines_append xs ys h.1 k)
 
-read_joined : (parts : List (List Row)) (read : List (List ℕ)) → AllZip IsReadBack parts read → AllLines (all_rows parts) × (texts read ≡ text_of (all_rows parts))
+read_joined : (parts : List (List Row)) (read : List (List ℕ)) → AllZip ReadsAsReports parts read → AllLines (all_rows parts) × (texts read ≡ text_of (all_rows parts))
 read_joined [] [] each = (tt, refl)
 read_joined [] (t ∷ read) each = absurd each
 read_joined (p ∷ parts) [] each = absurd each
@@ -35,7 +35,7 @@ read_joined (p ∷ parts) (t ∷ read) each =
     )
 
 -- the rows of texts are those of the one text that they are, one after another
-rows_read : (rows : List Row) (read : List (List ℕ)) → AreRowsOf rows read → 0 < length read → IsReadBack rows (texts read)
+rows_read : (rows : List Row) (read : List (List ℕ)) → AreRowsOf rows read → 0 < length read → ReadsAsReports rows (texts read)
 rows_read rows read is some =
     let all = read_joined is.parts read is.each in
     record {
@@ -57,5 +57,5 @@ merges_lawfully held words before after w =
       lawful = λ question parts reports bundled lawful same.
           let back = rows_read is.rows read is.reports (some_text held words read before.input after.input w.makes.read.read) in
           subst (λ text. IsReport (bundles parts) question text) (sym is.is.1)
-          (merged-report question parts reports is.rows bundled lawful (subst (IsReadBack is.rows) (sym same) back));
+          (merged-report question parts reports is.rows bundled lawful (subst (ReadsAsReports is.rows) (sym same) back));
     }

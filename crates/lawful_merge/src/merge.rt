@@ -21,12 +21,17 @@ pub fn merge_reports<S: Shelf, I: Read, O: Write>(
     output: &mut Watched<O>,
 ) -> Result<(), ReportsError>
     requires { has_failed input.old ≡ false }
-    ensures done { OnOk result (WritesReports Form.Merged (S.held shelf.now []) (map (λ s. s.now) words.now)
-        (streams I.remaining O.contents input.old output.old) (streams I.remaining O.contents input.new output.new)) }
-    ensures fails { IfErr result (λ error. ReportsFail error Form.Merged (S.held shelf.now []) (map (λ s. s.now) words.now)
-        (streams I.remaining O.contents input.old output.old) (streams I.remaining O.contents input.new output.new)) }
+    ensures done { OnOk result
+        (WritesReports Form.Merged (S.held shelf.now []) (map (λ s. s.now) words.now)
+        (streams I.remaining O.contents input.old output.old)
+        (streams I.remaining O.contents input.new output.new)) }
+    ensures fails { IfErr result
+        (λ error. ReportsFail error Form.Merged (S.held shelf.now []) (map (λ s. s.now) words.now)
+        (streams I.remaining O.contents input.old output.old)
+        (streams I.remaining O.contents input.new output.new)) }
     ensures lawful { OnOk result (MergesLawfully (S.held shelf.now []) (map (λ s. s.now) words.now)
-        (streams I.remaining O.contents input.old output.old) (streams I.remaining O.contents input.new output.new)) }
+        (streams I.remaining O.contents input.old output.old)
+        (streams I.remaining O.contents input.new output.new)) }
 {
     write_reports(shelf, alloc, Form::Merged, words, input, output)
 }

@@ -23,55 +23,71 @@ ghost use Rattle.std.specs.List.Sorted.{IsPermutation};
 /// What is found of a set that settles within the bound: the population of the set itself, its onset, period and
 /// displacement, and the code of the generation at the onset. And only of such a set is it found.
 pub fn a_settled_set_recurs()
-    ensures found { (R : Rule) (G : Generation) (b onset period : ℕ) (d : Cell) → Settles R G b onset period d →
-        finding_of R G b ≡ Recurs (size G) onset period d.0 d.1 (code_of R (generation R G onset) period d) }
-    ensures only { (R : Rule) (G : Generation) (b population onset period : ℕ) (dx dy : ℤ) (code : List ℕ) →
-        finding_of R G b ≡ Recurs population onset period dx dy code → Settles R G b onset period (dx, dy) }
+    ensures found { (R : Rule) (G : Generation) (b onset period : ℕ) (d : Cell) →
+        Settles R G b onset period d →
+        finding_of R G b ≡
+        Recurs (size G) onset period d.0 d.1 (code_of R (generation R G onset) period d) }
+    ensures only { (R : Rule) (G : Generation) (b population onset period : ℕ) (dx dy : ℤ)
+        (code : List ℕ) →
+        finding_of R G b ≡ Recurs population onset period dx dy code →
+        Settles R G b onset period (dx, dy) }
 {}
 
 /// A set is unresolved exactly where none of its generations comes again within the bound.
 pub fn an_unresolved_set_settles_nowhere()
-    ensures found { (R : Rule) (G : Generation) (b : ℕ) → ((g : ℕ) → SettlesAt R G b g → ⊥) → finding_of R G b ≡ Unresolved (size G) }
-    ensures only { (R : Rule) (G : Generation) (b population g : ℕ) → finding_of R G b ≡ Unresolved population → SettlesAt R G b g → ⊥ }
+    ensures found { (R : Rule) (G : Generation) (b : ℕ) → ((g : ℕ) → SettlesAt R G b g → ⊥) →
+        finding_of R G b ≡ Unresolved (size G) }
+    ensures only { (R : Rule) (G : Generation) (b population g : ℕ) →
+        finding_of R G b ≡ Unresolved population → SettlesAt R G b g → ⊥ }
 {}
 
 /// A set that settles within a bound has the same finding within every bound that its onset and its period together
 /// don't pass, and within no other.
 pub fn one_finding()
-    ensures more { (R : Rule) (G : Generation) (b c onset period : ℕ) (d : Cell) → Settles R G b onset period d →
+    ensures more { (R : Rule) (G : Generation) (b c onset period : ℕ) (d : Cell) →
+        Settles R G b onset period d →
         onset + period ≤ c → finding_of R G c ≡ finding_of R G b }
-    ensures less { (R : Rule) (G : Generation) (b c onset period : ℕ) (d : Cell) → Settles R G b onset period d →
+    ensures less { (R : Rule) (G : Generation) (b c onset period : ℕ) (d : Cell) →
+        Settles R G b onset period d →
         c < onset + period → finding_of R G c ≡ Unresolved (size G) }
 {}
 
 /// The answer to a text is the finding of the pattern that it means, or the number of its fault, which is 1 to 10.
 pub fn a_text_is_found_or_refused()
-    ensures found { (question : Question) (text : List ℕ) (pattern : Picture) → picture_of (reading text) ≡ Ok pattern →
-        answer_to_question question text ≡ Found pattern.rule (finding_to question pattern.rule pattern.cells) }
-    ensures refused { (question : Question) (text : List ℕ) (fault : RleFault) → refusal text ≡ Some fault →
+    ensures found { (question : Question) (text : List ℕ) (pattern : Picture) →
+        picture_of (reading text) ≡ Ok pattern →
+        answer_to_question question text ≡
+        Found pattern.rule (finding_to question pattern.rule pattern.cells) }
+    ensures refused { (question : Question) (text : List ℕ) (fault : RleFault) →
+        refusal text ≡ Some fault →
         answer_to_question question text ≡ Refused (fault_number fault) }
-    ensures numbered { (question : Question) (text : List ℕ) (number : ℕ) → answer_to_question question text ≡ Refused number →
+    ensures numbered { (question : Question) (text : List ℕ) (number : ℕ) →
+        answer_to_question question text ≡ Refused number →
         (1 ≤ number) × (number ≤ 10) }
 {}
 
 /// Where it is asked which generation comes again, no answer is that a pattern has fallen apart.
 pub fn what_comes_again_is_no_ash()
-    ensures { (text : List ℕ) (b : ℕ) (cells : Option ℕ) (rule : Rule) (population : ℕ) (parts : List Part) →
+    ensures { (text : List ℕ) (b : ℕ) (cells : Option ℕ) (rule : Rule) (population : ℕ)
+        (parts : List Part) →
         answer_to_question (AsksSettling b cells) text ≡ Found rule (Ash population parts) → ⊥ }
 {}
 
 /// The first generation past a limit is the first that has more cells than allowed, and there is none exactly where all
 /// stay within it.
 pub fn the_first_generation_past_the_limit()
-    ensures some { (R : Rule) (G : Generation) (most last n : ℕ) → (first_past (Some most) R G last ≡ Some n)
-        ↔ ((n ≤ last) × (most < size (generation R G n)) × ((m : ℕ) → m < n → size (generation R G m) ≤ most)) }
+    ensures some { (R : Rule) (G : Generation) (most last n : ℕ) →
+        (first_past (Some most) R G last ≡ Some n)
+        ↔ ((n ≤ last) × (most < size (generation R G n)) ×
+        ((m : ℕ) → m < n → size (generation R G m) ≤ most)) }
     ensures none { (R : Rule) (G : Generation) (limit : Option ℕ) (last : ℕ) →
         (first_past limit R G last ≡ None) ↔ StaysWithin limit R G last }
 {}
 
 /// Of two sets that settle under one rule, the codes are equal exactly where their generations at the onset are one object.
 pub fn codes_tell_objects()
-    ensures { (R : Rule) (G J : Generation) (b c onset period onset2 period2 : ℕ) (d e : Cell) → Settles R G b onset period d →
+    ensures { (R : Rule) (G J : Generation) (b c onset period onset2 period2 : ℕ) (d e : Cell) →
+        Settles R G b onset period d →
         Settles R J c onset2 period2 e →
         (code_of R (generation R G onset) period d ≡ code_of R (generation R J onset2) period2 e)
         ↔ AreOneObject R (generation R G onset) (generation R J onset2) }
@@ -79,6 +95,7 @@ pub fn codes_tell_objects()
 
 /// Objects are counted by their codes the same in whatever order these come, each once in all.
 pub fn counts_know_no_order()
-    ensures order { (codes others : List (List ℕ)) → IsPermutation codes others → counted_codes codes ≡ counted_codes others }
+    ensures order { (codes others : List (List ℕ)) → IsPermutation codes others →
+        counted_codes codes ≡ counted_codes others }
     ensures all { (codes : List (List ℕ)) → objects_in (counted_codes codes) ≡ length codes }
 {}

@@ -39,7 +39,8 @@ fn place_of(parts: &[Part], code: &[u8]) -> (usize, bool)
     ensures inside { result.1 ≡ true → result.0 < length parts.now }
     ensures there { result.1 ≡ true → (d : declared.Part) → with_code code.now parts.now
         ≡ slice_set parts.now result.0 (more (slice_index_or parts.now result.0 d)) }
-    ensures new { result.1 ≡ false → with_code code.now parts.now ≡ insert parts.now result.0 (single code.now) }
+    ensures new { result.1 ≡ false →
+        with_code code.now parts.now ≡ insert parts.now result.0 (single code.now) }
 {
     for n in 0..parts.len() {
         match shorter(code, parts[n].code.as_slice()) {

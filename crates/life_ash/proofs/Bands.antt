@@ -16,7 +16,7 @@ use Rattle.life_orbit.specs.Course.{Course}
 use Rattle.life_orbit.specs.Hulls.{AreFar}
 use Rattle.life_orbit.specs.declared.hull.Hull.{Hull}
 use Rattle.life_orbit.proofs.HullLemmas.{before_left, before_top, past_bottom, past_right}
-use Rattle.life_ash.specs.Spans.{AreApartInOrder, ArePlacesApart, AreRising, HasBands, IsBandOf, IsNext, IsPast, span_at}
+use Rattle.life_ash.specs.Spans.{AreApartInOrder, ArePlacesApart, AreRisingSpans, HasBands, IsBandOf, IsNext, IsPast, span_at}
 use Rattle.life_ash.specs.declared.span.Span.{Span}
 
 -- ---- spans in order
@@ -32,7 +32,7 @@ not_before Equal Greater m n x y a b least = inr (sym a, omega (arith, ints))
 abbrev pub key_cmp : ℕ × ℤ → ℕ × ℤ → Ordering
 key_cmp p q = ordering_then (nat_cmp p.0 q.0) (int_cmp p.1 q.1)
 
-pub rising_from_sorted : (ss : List Span) → IsSortedByKey (λ s. (s.band, s.start)) key_cmp ss → AreRising ss
+pub rising_from_sorted : (ss : List Span) → IsSortedByKey (λ s. (s.band, s.start)) key_cmp ss → AreRisingSpans ss
 rising_from_sorted ss sorted i j d before within =
     let s = get_or ss j d in
     let t = get_or ss i d in
@@ -43,7 +43,7 @@ rising_from_sorted ss sorted i j d before within =
     ss sorted i j d before within)
 
 -- where one is past another, none after it is next to that one
-pub none_after : (ss : List Span) → AreRising ss → (n m k : ℕ) (d e : Span) → n ≤ m → m ≤ k → k < length ss →
+pub none_after : (ss : List Span) → AreRisingSpans ss → (n m k : ℕ) (d e : Span) → n ≤ m → m ≤ k → k < length ss →
     IsPast (get_or ss n e) (get_or ss m e) → IsNext (get_or ss n d) (get_or ss k d) → ⊥
 none_after ss rising n m k d e before after within past next =
     let here : get_or ss n d ≡ get_or ss n e = get_or_default ss n d e (omega arith) in

@@ -15,7 +15,7 @@ use Rattle.life_objects.proofs.Cores.{core_of, part_around}
 use Rattle.life_objects.proofs.Lists.{AllPairs-map, AllPairs-weaker}
 use Rattle.life_orbit.specs.Course.{Course}
 use Rattle.life_ash.specs.Living.{has_cells}
-use Rattle.life_ash.specs.Parts.{AreEnds, IsEnd, ash_age_limit, sets_of}
+use Rattle.life_ash.specs.Parts.{AreEndsOfCourses, IsEnd, ash_age_limit, sets_of}
 use Rattle.life_ash.proofs.Ends.{IsPartOfEnd, ash_of_ends, part_is_end}
 use Rattle.life_ash.proofs.Lists.{Contains-filter, Contains-map}
 use Rattle.life_ash.proofs.Survivors.{ends, some_by_test, test_by_some}
@@ -53,7 +53,7 @@ module _ (R : Rule) (b : ℕ) (G : Generation) (Ls : List Generation) (whole : u
         (Contains-map (λ Q. generation R Q b) Ls L.0 L.1) (test_by_some (generation R L.0 b) L.2.lives))
 
     module _ (placed : All (IsWithin ash_age_limit) (cells G)) where
-      pub ash_by_ends : (os : List Course) → AreEnds R b (ends R b Ls) os → IsAsh R b G (sets_of os)
+      pub ash_by_ends : (os : List Course) → AreEndsOfCourses R b (ends R b Ls) os → IsAsh R b G (sets_of os)
       ash_by_ends os told = ash_of_ends R b G parts ash placed (ends R b Ls) os told of_parts ends_apart reached
 
       pub no_end : (Q : Generation) → Contains (ends R b Ls) Q → ((P : Generation) → IsEnd R b Q P → ⊥) → ⊥

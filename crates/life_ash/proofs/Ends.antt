@@ -18,7 +18,7 @@ use Rattle.life_objects.proofs.Members.{found_now, in_list_now}
 use Rattle.life_objects.proofs.Sides.{within_each_other}
 use Rattle.life_objects.proofs.Times.{AreApartForEver-swap}
 use Rattle.life_orbit.specs.Course.{Course}
-use Rattle.life_ash.specs.Parts.{AreEnds, IsEnd, ash_age_limit, sets_of}
+use Rattle.life_ash.specs.Parts.{AreEndsOfCourses, IsEnd, ash_age_limit, sets_of}
 use Rattle.life_ash.proofs.Lists.{Contains-map}
 use Rattle.life_ash.proofs.Places.{subset_within}
 
@@ -54,7 +54,7 @@ module _ (R : Rule) (b : ℕ) (G : Generation) (parts : List Generation) (ash : 
       end = e;
     }
 
-    module _ (Qs : List Generation) (os : List Course) (told : AreEnds R b Qs os) (of_parts : All IsPartOfEnd Qs)
+    module _ (Qs : List Generation) (os : List Course) (told : AreEndsOfCourses R b Qs os) (of_parts : All IsPartOfEnd Qs)
         (apart : AllPairs AreApart Qs)
         (reached : (P : Generation) → Contains parts P → Contains Qs (generation R P b)) where
       at : (k : ℕ) (e : Course) (d : Generation) → k < length os →

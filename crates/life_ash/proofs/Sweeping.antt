@@ -14,7 +14,7 @@ use Rattle.life_objects.proofs.Lists.{AllPairs-map}
 use Rattle.life_objects.proofs.Times.{AreApartForEver-swap}
 use Rattle.life_orbit.specs.Course.{Course}
 use Rattle.life_orbit.proofs.Clearances.{apart_at_rest}
-use Rattle.life_ash.specs.Parts.{IsOf, sets_of}
+use Rattle.life_ash.specs.Parts.{IsCourseBy, sets_of}
 use Rattle.life_ash.specs.Spans.{AreApartInOrder, AreMoversApart, ArePlacesApart, AreSpans, HasSpans, IsPlacedIn}
 use Rattle.life_ash.specs.declared.span.Span.{Span}
 use Rattle.life_ash.proofs.Bands.{close_apart, far_or_close}
@@ -48,7 +48,7 @@ rests_or_moves d =
     ] in
     by (same_cell d origin) refl
 
-module _ (R : Rule) (os : List Course) (ss : List Span) (of : All (IsOf R) os) (spans : AreSpans os ss)
+module _ (R : Rule) (os : List Course) (ss : List Span) (of : All (IsCourseBy R) os) (spans : AreSpans os ss)
     (movers : AreMoversApart R os) (in_order : AreApartInOrder R os ss) where
   -- two places, and the sets there
   module _ (i j : ℕ) (e : Course) (before : i < j) (within : j < length os) where

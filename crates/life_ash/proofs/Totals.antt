@@ -15,7 +15,7 @@ use Rattle.life_objects.proofs.Many.{list_ever}
 use Rattle.life_objects.proofs.Moving.{generation-wrapped}
 use Rattle.life_orbit.specs.Course.{Course, IsCourse}
 use Rattle.life_ash.specs.Later.{total_later}
-use Rattle.life_ash.specs.Parts.{IsOf, sets_of}
+use Rattle.life_ash.specs.Parts.{IsCourseBy, sets_of}
 
 -- no generation of a set that recurs is larger than each of those over one period
 pub largest_by_period : (o : Course) → IsCourse o → (most : ℕ) →
@@ -45,18 +45,18 @@ size-union P Q =
     omega arith
 
 -- together they have no more cells than one by one
-size-union_of : (R : Rule) (n : ℕ) (os : List Course) → All (IsOf R) os →
+size-union_of : (R : Rule) (n : ℕ) (os : List Course) → All (IsCourseBy R) os →
     size (union_of (generations R (sets_of os) n)) ≤ total_later n os
 size-union_of R n [] of = let e = size-empty in omega arith
 size-union_of R n (o ∷ os) of =
     let h = size-union (generation R o.set n) (union_of (generations R (sets_of os) n)) in
-    let k = size-union_of R n os (All-tail (IsOf R) o os of) in
+    let k = size-union_of R n os (All-tail (IsCourseBy R) o os of) in
     let e : size (generation o.rule o.set n) ≡ size (generation R o.set n) =
-    ap (λ S. size (generation S o.set n)) (All-head (IsOf R) o os of) in
+    ap (λ S. size (generation S o.set n)) (All-head (IsCourseBy R) o os of) in
     omega arith
 
 -- a later generation of ash has no more cells than its parts have one by one
-pub size-ash : (R : Rule) (b n : ℕ) (G : Generation) (os : List Course) → All (IsOf R) os → IsAsh R b G (sets_of os) →
+pub size-ash : (R : Rule) (b n : ℕ) (G : Generation) (os : List Course) → All (IsCourseBy R) os → IsAsh R b G (sets_of os) →
     size (generation R G n) ≤ total_later n os
 size-ash R b n G os of ash =
     let e : size (generation R G n) ≡ size (union_of (generations R (sets_of os) n)) =

@@ -5,7 +5,7 @@ use Rattle.life_model.specs.Generation.{Generation}
 use Rattle.life_model.specs.Rule.{Rule}
 use Rattle.life_objects.specs.Ash.{HasFallenApart}
 use Rattle.life_answer.specs.Limited.{first_past}
-use Rattle.life_ash.specs.Parts.{IsOf, sets_of}
+use Rattle.life_ash.specs.Parts.{IsCourseBy, sets_of}
 use Rattle.life_ash.specs.declared.pattern_fate.Fate.{Fate}
 use Rattle.life_ash.specs.declared.pattern_fate.Fate.TheVariants.{Ash, Large, Unresolved}
 
@@ -17,7 +17,7 @@ IsSmallEnough R G b limit = first_past limit R G (3 * b) ≡ None
 -- this one.
 abbrev pub IsFate : Rule → Generation → ℕ → Option ℕ → Fate → Type 0
 IsFate R G b limit (Ash parts) =
-    IsSmallEnough R G b limit × HasFallenApart R b G (sets_of parts) × All (IsOf R) parts
+    IsSmallEnough R G b limit × HasFallenApart R b G (sets_of parts) × All (IsCourseBy R) parts
 IsFate R G b limit Unresolved =
     IsSmallEnough R G b limit × ((parts : List Generation) → HasFallenApart R b G parts → ⊥)
 IsFate R G b limit (Large n) = first_past limit R G (3 * b) ≡ Some n

@@ -17,8 +17,8 @@ abbrev pub sets_of : List Course → List Generation
 sets_of courses = map (λ o. o.set) courses
 
 -- it recurs by this rule
-abbrev pub IsOf : Rule → Course → Type 0
-IsOf R o = o.rule ≡ R
+abbrev pub IsCourseBy : Rule → Course → Type 0
+IsCourseBy R o = o.rule ≡ R
 
 -- it stands in the field at age 400,000
 abbrev pub IsPlaced : Course → Type 0
@@ -42,7 +42,7 @@ abbrev pub IsOnlyOne : Rule → ℕ → Generation → Course → Type 0
 IsOnlyOne R b last o = (P : Generation) → IsEnd R b last P → o.set ≡ P
 
 -- one for each of the sets, in order
-pub record AreEnds (R : Rule) (b : ℕ) (ends : List Generation) (courses : List Course) : Type 0 where
+pub record AreEndsOfCourses (R : Rule) (b : ℕ) (ends : List Generation) (courses : List Course) : Type 0 where
   pub count : length courses ≡ length ends
   pub only : (k : ℕ) (e : Course) (d : Generation) → k < length courses →
       IsOnlyOne R b (slice_index_or ends k d) (slice_index_or courses k e)

@@ -49,8 +49,8 @@ abbrev pub IsUpTo : Span → Span → Type 0
 IsUpTo s t = (s.band < t.band) ⊎ ((s.band ≡ t.band) × (s.start ≤ℤ t.start))
 
 -- none stands before one that it comes after
-abbrev pub AreRising : List Span → Type 0
-AreRising ss = (i j : ℕ) (d : Span) → i ≤ j → j < length ss → IsUpTo (slice_index_or ss i d) (slice_index_or ss j d)
+abbrev pub AreRisingSpans : List Span → Type 0
+AreRisingSpans ss = (i j : ℕ) (d : Span) → i ≤ j → j < length ss → IsUpTo (slice_index_or ss i d) (slice_index_or ss j d)
 
 -- the other is in a later band, or begins more than two columns past the end
 abbrev pub IsPast : Span → Span → Type 0

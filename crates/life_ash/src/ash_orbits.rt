@@ -4,7 +4,7 @@ ghost use Rattle.life_model.specs.Generation.{Generation};
 ghost use Rattle.life_objects.specs.Ash.{IsAsh};
 ghost use Rattle.life_ash.specs.Later.{courses_after};
 ghost use Rattle.life_orbit.specs.Course.{IsCourse};
-ghost use Rattle.life_ash.specs.Parts.{IsFit, IsOf, IsPlaced, ash_age_limit, sets_of};
+ghost use Rattle.life_ash.specs.Parts.{IsCourseBy, IsFit, IsPlaced, ash_age_limit, sets_of};
 
 use crate::checks::{are_apart, are_together};
 use crate::known::Known;
@@ -69,7 +69,8 @@ pub fn is_ash<P: Plane>(
 ) -> Result<bool, AllocError>
     requires bound { bound ≤ BOUND_LIMIT }
     requires fit { All (IsFit rule.now bound) parts.now }
-    ensures { IfOk result (λ is. IsTrue is ↔ IsAsh rule.now bound (P.members plane.now) (sets_of parts.now)) }
+    ensures { IfOk result
+        (λ is. IsTrue is ↔ IsAsh rule.now bound (P.members plane.now) (sets_of parts.now)) }
 {
     let cells = plane.cells()?;
     if !are_together(alloc, parts, &cells)? {
@@ -90,7 +91,8 @@ pub fn ash_by<P: Plane>(
     requires young { P.steps_made plane.now ≤ ash_age_limit }
     ensures some { IfOk result (λ found. IfSome found (λ ash.
         IsAsh known.old.rule known.old.bound (P.members plane.now) (sets_of ash))) }
-    ensures rule { IfOk result (λ found. IfSome found (λ ash. All (IsOf known.old.rule) ash)) }
+    ensures rule { IfOk result
+        (λ found. IfSome found (λ ash. All (IsCourseBy known.old.rule) ash)) }
     ensures none { IfOk result (λ found. IfNone found ((parts : List Generation) →
         IsAsh known.old.rule known.old.bound (P.members plane.now) parts → ⊥)) }
 {
@@ -116,7 +118,7 @@ pub fn ash_of<P: Plane>(
     requires young { P.steps_made plane.now ≤ ash_age_limit }
     ensures some { IfOk result (λ found. IfSome found (λ ash.
         IsAsh rule.now bound (P.members plane.now) (sets_of ash))) }
-    ensures rule { IfOk result (λ found. IfSome found (λ ash. All (IsOf rule.now) ash)) }
+    ensures rule { IfOk result (λ found. IfSome found (λ ash. All (IsCourseBy rule.now) ash)) }
     ensures none { IfOk result (λ found. IfNone found ((parts : List Generation) →
         IsAsh rule.now bound (P.members plane.now) parts → ⊥)) }
 {

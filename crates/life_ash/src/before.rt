@@ -41,10 +41,13 @@ fn cells_before(
     by: (i128, i128),
 ) -> Result<Option<CellList>, AllocError>
     requires { IsReach (2 ^ 126) by }
-    ensures moved { IfOk result (λ found. IfSome found (λ set. set ≡ translate_of cells.now (opposite by))) }
-    ensures within { IfOk result (λ found. IfSome found (λ set. All (IsWithin ash_age_limit) (generations.cells set))) }
+    ensures moved { IfOk result
+        (λ found. IfSome found (λ set. set ≡ translate_of cells.now (opposite by))) }
+    ensures within { IfOk result
+        (λ found. IfSome found (λ set. All (IsWithin ash_age_limit) (generations.cells set))) }
     ensures outside { IfOk result (λ found. IfNone found
-        (All (IsWithin ash_age_limit) (generations.cells (translate_of cells.now (opposite by))) → ⊥)) }
+        (All (IsWithin ash_age_limit) (generations.cells (translate_of cells.now (opposite by))) →
+        ⊥)) }
 {
     let places = cells.as_slice();
     let mut items = Vec::new(alloc);
@@ -60,13 +63,15 @@ fn cells_before(
 /// What a set was so many generations ago that comes again as this orbit does, where it was in the field at age 400,000.
 pub fn set_before(alloc: Global, orbit: &Orbit, ago: u32) -> Result<Option<CellList>, AllocError>
     requires { 1 ≤ ago × ago ≤ BOUND_LIMIT }
-    ensures within { IfOk result (λ found. IfSome found (λ set. All (IsWithin ash_age_limit) (generations.cells set))) }
+    ensures within { IfOk result
+        (λ found. IfSome found (λ set. All (IsWithin ash_age_limit) (generations.cells set))) }
     ensures set { IfOk result (λ found. IfSome found (λ set. (P : Generation) →
         RecursBy orbit.now.rule P orbit.now.period orbit.now.displacement →
         generation orbit.now.rule P ago ≡ orbit.now.set → set ≡ P)) }
     ensures outside { IfOk result (λ found. IfNone found ((P : Generation) →
         RecursBy orbit.now.rule P orbit.now.period orbit.now.displacement →
-        generation orbit.now.rule P ago ≡ orbit.now.set → All (IsWithin ash_age_limit) (generations.cells P) → ⊥)) }
+        generation orbit.now.rule P ago ≡ orbit.now.set →
+        All (IsWithin ash_age_limit) (generations.cells P) → ⊥)) }
 {
     let period = orbit.period();
     let rounds = (ago - 1) / period + 1;

@@ -4,7 +4,7 @@ ghost use Rattle.life_model.specs.Generation as generations;
 ghost use Rattle.life_model.specs.Rule.{Rule as ModelRule};
 ghost use Rattle.life_objects.specs.Apart.{AreApartForEver};
 ghost use Rattle.life_objects.specs.Union.{union_of};
-ghost use Rattle.life_ash.specs.Parts.{IsOf, sets_of};
+ghost use Rattle.life_ash.specs.Parts.{IsCourseBy, sets_of};
 
 use crate::span::spans_in_order;
 use crate::sweep::are_apart_by_bands;
@@ -17,7 +17,8 @@ const FEW: usize = 16;
 
 /// The cells of each of the sets.
 fn all_cells(alloc: Global, orbits: &[Orbit]) -> Result<Vec<(i32, i32)>, AllocError>
-    ensures cells { IfOk result (λ all. all.items ≡ flat_map generations.cells (sets_of orbits.now)) }
+    ensures cells { IfOk result
+        (λ all. all.items ≡ flat_map generations.cells (sets_of orbits.now)) }
 {
     let mut all = Vec::new(alloc);
     for orbit in orbits {
@@ -37,8 +38,9 @@ pub fn are_together(alloc: Global, orbits: &[Orbit], cells: &CellList) -> Result
 
 /// Whether a set stays apart for ever from each of some others.
 fn is_apart_from_all(orbit: &Orbit, others: &[Orbit]) -> bool
-    requires { All (IsOf orbit.now.rule) others.now }
-    ensures { IsTrue result ↔ All (AreApartForEver orbit.now.rule orbit.now.set) (sets_of others.now) }
+    requires { All (IsCourseBy orbit.now.rule) others.now }
+    ensures { IsTrue result ↔ All (AreApartForEver orbit.now.rule orbit.now.set)
+        (sets_of others.now) }
 {
     for other in others {
         if !orbit.is_apart_for_ever_from(other) {
@@ -50,8 +52,8 @@ fn is_apart_from_all(orbit: &Orbit, others: &[Orbit]) -> bool
 
 /// Whether any two of the sets stay apart for ever, each compared with each.
 fn each_is_apart(orbits: &[Orbit]) -> bool
-    requires { (R : ModelRule) × All (IsOf R) orbits.now }
-    ensures { (R : ModelRule) → All (IsOf R) orbits.now →
+    requires { (R : ModelRule) × All (IsCourseBy R) orbits.now }
+    ensures { (R : ModelRule) → All (IsCourseBy R) orbits.now →
         IsTrue result ↔ AllPairs (AreApartForEver R) (sets_of orbits.now) }
 {
     for n in 0..orbits.len() {
@@ -66,8 +68,8 @@ fn each_is_apart(orbits: &[Orbit]) -> bool
 /// with those in the same band of rows whose columns are near. Where memory for that is not there, each is compared with
 /// each.
 pub fn are_apart(alloc: Global, orbits: &[Orbit]) -> bool
-    requires { (R : ModelRule) × All (IsOf R) orbits.now }
-    ensures { (R : ModelRule) → All (IsOf R) orbits.now →
+    requires { (R : ModelRule) × All (IsCourseBy R) orbits.now }
+    ensures { (R : ModelRule) → All (IsCourseBy R) orbits.now →
         IsTrue result ↔ AllPairs (AreApartForEver R) (sets_of orbits.now) }
 {
     if orbits.len() > FEW {

@@ -4,7 +4,7 @@ ghost use Rattle.life_model.specs.Generation as generations;
 ghost use Rattle.life_cells.specs.Limits.{IsWithin};
 ghost use Rattle.life_objects.specs.Ash.{IsAsh};
 ghost use Rattle.life_orbit.specs.Course.{IsCourse};
-ghost use Rattle.life_ash.specs.Parts.{IsFit, IsOf, IsPlaced, ash_age_limit, sets_of};
+ghost use Rattle.life_ash.specs.Parts.{IsCourseBy, IsFit, IsPlaced, ash_age_limit, sets_of};
 
 use crate::ash_orbits::is_ash;
 use crate::known::Known;
@@ -52,9 +52,12 @@ fn orbits_of(
 ) -> Result<Option<Vec<Orbit>>, AllocError>
     requires some { 1 ≤ tried }
     requires most { tried ≤ known.now.bound }
-    requires within { All (λ c. All (IsWithin ash_age_limit) (generations.cells c.first)) classes.now }
+    requires within { All (λ c. All (IsWithin ash_age_limit) (generations.cells c.first))
+        classes.now }
     ensures same { known.new ≡ known.old }
-    ensures fit { IfOk result (λ found. IfSome found (λ orbits. All (IsFit known.old.rule known.old.bound) orbits.items)) }
+    ensures fit { IfOk result
+        (λ found. IfSome found
+        (λ orbits. All (IsFit known.old.rule known.old.bound) orbits.items)) }
 {
     let mut orbits = Vec::new(alloc);
     for class in classes {
@@ -77,7 +80,8 @@ fn parts_by_effort<P: Plane>(
     ensures same { known.new ≡ known.old }
     ensures ash { IfOk result (λ found. IfSome found (λ parts.
         IsAsh known.old.rule known.old.bound (P.members plane.now) (sets_of parts.items))) }
-    ensures rule { IfOk result (λ found. IfSome found (λ parts. All (IsOf known.old.rule) parts.items)) }
+    ensures rule { IfOk result
+        (λ found. IfSome found (λ parts. All (IsCourseBy known.old.rule) parts.items)) }
     ensures placed { IfOk result (λ found. IfSome found (λ parts. All IsPlaced parts.items)) }
     ensures courses { IfOk result (λ found. IfSome found (λ parts. All IsCourse parts.items)) }
 {
@@ -110,7 +114,8 @@ pub fn guessed_parts<P: Plane>(
     ensures same { known.new ≡ known.old }
     ensures ash { IfOk result (λ found. IfSome found (λ parts.
         IsAsh known.old.rule known.old.bound (P.members plane.now) (sets_of parts.items))) }
-    ensures rule { IfOk result (λ found. IfSome found (λ parts. All (IsOf known.old.rule) parts.items)) }
+    ensures rule { IfOk result
+        (λ found. IfSome found (λ parts. All (IsCourseBy known.old.rule) parts.items)) }
     ensures placed { IfOk result (λ found. IfSome found (λ parts. All IsPlaced parts.items)) }
     ensures courses { IfOk result (λ found. IfSome found (λ parts. All IsCourse parts.items)) }
 {

@@ -48,7 +48,8 @@ fn moved_orbit(
     cells: &CellList,
 ) -> Result<Option<Orbit>, AllocError>
     ensures set { IfOk result (λ found. IfSome found (λ orbit. orbit.set ≡ cells.now)) }
-    ensures met { (t : Terms) → All (IsMet t) orbits.now → IfOk result (λ found. IfSome found (IsMet t)) }
+    ensures met { (t : Terms) → All (IsMet t) orbits.now →
+        IfOk result (λ found. IfSome found (IsMet t)) }
 {
     for orbit in orbits {
         if let Some(found) = orbit.moved_to(alloc, cells)? {
@@ -60,7 +61,8 @@ fn moved_orbit(
 
 /// Keeps an orbit, where it is small and there is room for it.
 fn keep(alloc: Global, orbits: &mut Vec<Orbit>, orbit: &Orbit) -> Result<(), AllocError>
-    ensures { (t : Terms) → All (IsMet t) orbits.old.items → IsMet t orbit.now → All (IsMet t) orbits.new.items }
+    ensures { (t : Terms) → All (IsMet t) orbits.old.items → IsMet t orbit.now →
+        All (IsMet t) orbits.new.items }
 {
     if orbits.len() < MOST && orbit.period() <= LONGEST && orbit.set().len() <= LARGEST {
         if let Some(copy) = orbit.moved_to(alloc, orbit.set())? {
@@ -114,7 +116,8 @@ impl Known {
         ensures same { self.new ≡ self.old }
         ensures set { IfOk result (λ found. IfSome found (λ orbit. orbit.set ≡ cells.now)) }
         ensures met { IfOk result (λ found. IfSome found (IsMet self.old)) }
-        ensures none { IfOk result (λ found. IfNone found (RecursWithin self.old.rule tried cells.now → ⊥)) }
+        ensures none { IfOk result
+            (λ found. IfNone found (RecursWithin self.old.rule tried cells.now → ⊥)) }
     {
         if let Some(orbit) = moved_orbit(alloc, &self.orbits, cells)? {
             return Ok(Some(orbit));

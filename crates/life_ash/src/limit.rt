@@ -6,7 +6,7 @@ ghost use Rattle.life_model.specs.Rule.{Rule as ModelRule};
 ghost use Rattle.life_answer.specs.Limited.{IsAllowed, first_past};
 ghost use Rattle.life_objects.specs.Ash.{IsAsh};
 ghost use Rattle.life_ash.specs.Allowed.{AreAllowedBefore};
-ghost use Rattle.life_ash.specs.Parts.{IsOf, sets_of};
+ghost use Rattle.life_ash.specs.Parts.{IsCourseBy, sets_of};
 
 use crate::pace::{Pace, STRIDE};
 use crate::sizes::are_few;
@@ -28,7 +28,8 @@ fn is_allowed(limit: Option<u32>, population: u64) -> bool
 /// For how many generations, from a set of so many cells on, surely none has more cells than are allowed: 0 where the set
 /// itself has more, and 4 at most. No generation has more than nine times as many cells as the one before.
 fn few_for(limit: Option<u32>, population: u64) -> u32
-    ensures few { (R : ModelRule) (G : Generation) → size G ≡ population → AreAllowedBefore R G limit result }
+    ensures few { (R : ModelRule) (G : Generation) → size G ≡ population →
+        AreAllowedBefore R G limit result }
     ensures none { result ≡ 0 → IsAllowed limit population → ⊥ }
     ensures short { result ≤ 4 }
 {
@@ -55,8 +56,10 @@ pub fn few_until<P: Plane>(
     pace: &mut Pace,
 ) -> Option<u32>
     requires { age ≤ BOUND_LIMIT }
-    ensures few { IfSome result (λ until. (R : ModelRule) (G : Generation) → P.members plane.now ≡ generation R G age →
-        AreAllowedBefore R G limit age → AreAllowedBefore R G limit known → AreAllowedBefore R G limit until) }
+    ensures few { IfSome result
+        (λ until. (R : ModelRule) (G : Generation) → P.members plane.now ≡ generation R G age →
+        AreAllowedBefore R G limit age → AreAllowedBefore R G limit known →
+        AreAllowedBefore R G limit until) }
     ensures later { IfSome result (λ until. age < until) }
     ensures none { IfNone result (IsAllowed limit (size (P.members plane.now)) → ⊥) }
 {
@@ -108,7 +111,7 @@ pub fn first_past_of_ash<P: Plane>(
     last: u32,
 ) -> Result<Option<u32>, AllocError>
     requires ash { (b : ℕ) × IsAsh rule.now b (P.members plane.now) (sets_of parts.now) }
-    requires of { All (IsOf rule.now) parts.now }
+    requires of { All (IsCourseBy rule.now) parts.now }
     requires young { P.steps_made plane.now + last ≤ AGE_LIMIT }
     ensures { IfOk result (λ found. found ≡ first_past limit rule.now (P.members plane.now) last) }
 {

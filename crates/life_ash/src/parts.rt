@@ -6,7 +6,7 @@ ghost use Rattle.std.specs.List.{Contains};
 ghost use Rattle.life_cells.specs.Limits.{IsWithin};
 ghost use Rattle.life_objects.specs.Ash.{IsAsh};
 ghost use Rattle.life_orbit.specs.Kept.{orbit_age_limit};
-ghost use Rattle.life_ash.specs.Parts.{AreEnds, IsEnd, IsFit, ash_age_limit, sets_of};
+ghost use Rattle.life_ash.specs.Parts.{AreEndsOfCourses, IsEnd, IsFit, ash_age_limit, sets_of};
 
 use crate::before::set_before;
 use crate::known::Known;
@@ -21,7 +21,8 @@ use std::alloc::{AllocError, Global};
 fn part_of(alloc: Global, known: &mut Known, last: &CellList) -> Result<Option<Orbit>, AllocError>
     requires within { All (IsWithin orbit_age_limit) (generations.cells last.now) }
     ensures same { known.new ≡ known.old }
-    ensures fit { IfOk result (λ found. IfSome found (λ orbit. IsFit known.old.rule known.old.bound orbit)) }
+    ensures fit { IfOk result
+        (λ found. IfSome found (λ orbit. IsFit known.old.rule known.old.bound orbit)) }
     ensures set { IfOk result (λ found. IfSome found (λ orbit. (P : Generation) →
         IsEnd known.old.rule known.old.bound last.now P → orbit.set ≡ P)) }
     ensures none { IfOk result (λ found. IfNone found ((P : Generation) →
@@ -45,9 +46,11 @@ fn parts_of(
 ) -> Result<Option<Vec<Orbit>>, AllocError>
     requires within { All (λ G. All (IsWithin orbit_age_limit) (generations.cells G)) lasts.now }
     ensures same { known.new ≡ known.old }
-    ensures fit { IfOk result (λ found. IfSome found (λ orbits. All (IsFit known.old.rule known.old.bound) orbits.items)) }
+    ensures fit { IfOk result
+        (λ found. IfSome found
+        (λ orbits. All (IsFit known.old.rule known.old.bound) orbits.items)) }
     ensures sets { IfOk result (λ found. IfSome found (λ orbits.
-        AreEnds known.old.rule known.old.bound lasts.now orbits.items)) }
+        AreEndsOfCourses known.old.rule known.old.bound lasts.now orbits.items)) }
     ensures none { IfOk result (λ found. IfNone found ((last : Generation) × Contains lasts.now last
         × ((P : Generation) → IsEnd known.old.rule known.old.bound last P → ⊥))) }
 {
@@ -69,7 +72,9 @@ pub fn only_parts<P: Plane>(
 ) -> Result<Option<Vec<Orbit>>, AllocError>
     requires young { P.steps_made plane.now ≤ ash_age_limit }
     ensures same { known.new ≡ known.old }
-    ensures fit { IfOk result (λ found. IfSome found (λ orbits. All (IsFit known.old.rule known.old.bound) orbits.items)) }
+    ensures fit { IfOk result
+        (λ found. IfSome found
+        (λ orbits. All (IsFit known.old.rule known.old.bound) orbits.items)) }
     ensures only { IfOk result (λ found. IfSome found (λ orbits. (parts : List Generation) →
         IsAsh known.old.rule known.old.bound (P.members plane.now) parts →
         IsAsh known.old.rule known.old.bound (P.members plane.now) (sets_of orbits.items))) }

@@ -6,7 +6,7 @@ ghost use Rattle.life_cells.specs.Limits.{IsWithin};
 ghost use Rattle.life_objects.specs.Ash.{HasFallenApart, IsAsh};
 ghost use Rattle.life_orbit.specs.Course.{IsCourse};
 ghost use Rattle.life_ash.specs.Fates.{IsFate};
-ghost use Rattle.life_ash.specs.Parts.{IsOf, IsPlaced, ash_age_limit, sets_of};
+ghost use Rattle.life_ash.specs.Parts.{IsCourseBy, IsPlaced, ash_age_limit, sets_of};
 
 use crate::ash_orbits::{Ash, ash_by};
 use crate::guess::guessed_parts;
@@ -31,7 +31,8 @@ fn parts_if_due<P: Plane>(
     ensures same { met.new ≡ met.old }
     ensures ash { IfOk result (λ found. IfSome found (λ parts.
         IsAsh met.old.rule met.old.bound (P.members plane.now) (sets_of parts.items))) }
-    ensures rule { IfOk result (λ found. IfSome found (λ parts. All (IsOf met.old.rule) parts.items)) }
+    ensures rule { IfOk result
+        (λ found. IfSome found (λ parts. All (IsCourseBy met.old.rule) parts.items)) }
     ensures placed { IfOk result (λ found. IfSome found (λ parts. All IsPlaced parts.items)) }
     ensures courses { IfOk result (λ found. IfSome found (λ parts. All IsCourse parts.items)) }
 {
@@ -97,7 +98,7 @@ pub fn ash<P: Plane>(
     requires fits { All (IsWithin 0) (generations.cells cells.now) }
     ensures some { IfOk result (λ found. IfSome found (λ ash.
         HasFallenApart rule.now bound cells.now (sets_of ash))) }
-    ensures rule { IfOk result (λ found. IfSome found (λ ash. All (IsOf rule.now) ash)) }
+    ensures rule { IfOk result (λ found. IfSome found (λ ash. All (IsCourseBy rule.now) ash)) }
     ensures none { IfOk result (λ found. IfNone found ((parts : List Generation) →
         HasFallenApart rule.now bound cells.now parts → ⊥)) }
 {

@@ -2,7 +2,7 @@
 ghost use Rattle.std.specs.Prelude.{◌≡◌, ℕ, ◌<◌, ◌^◌, ◌↔◌, All, IfOk, IsTrue, OnOk, pos, ◌+ℤ◌};
 ghost use Rattle.std.specs.List.{Contains};
 ghost use Rattle.life_model.specs.Cell.{origin};
-ghost use Rattle.life_ash.specs.Spans.{AreRising, AreSpans, HasBands, HasSpans, IsBandOf, IsPlacedIn, span_at};
+ghost use Rattle.life_ash.specs.Spans.{AreRisingSpans, AreSpans, HasBands, HasSpans, IsBandOf, IsPlacedIn, span_at};
 
 use life_orbit::{Hull, Orbit};
 use std::alloc::{AllocError, Global};
@@ -56,7 +56,8 @@ pub fn rests(orbit: &Orbit) -> bool
 /// Adds a span for each band from that of the first row of a box to that of the second row past its last.
 fn add_bands(spans: &mut Vec<Span>, hull: Hull, place: usize) -> Result<(), AllocError>
     ensures kept { (s : Span) → Contains spans.old.items s → Contains spans.new.items s }
-    ensures placed { (n : ℕ) → place < n → All (IsPlacedIn n) spans.old.items → All (IsPlacedIn n) spans.new.items }
+    ensures placed { (n : ℕ) → place < n → All (IsPlacedIn n) spans.old.items →
+        All (IsPlacedIn n) spans.new.items }
     ensures bands { OnOk result (HasBands spans.new.items hull place) }
 {
     let first = first_band(hull);
@@ -70,8 +71,10 @@ fn add_bands(spans: &mut Vec<Span>, hull: Hull, place: usize) -> Result<(), Allo
 /// Adds the spans of a set, where it stays where it is.
 fn add_spans(spans: &mut Vec<Span>, orbit: &Orbit, place: usize) -> Result<(), AllocError>
     ensures kept { (s : Span) → Contains spans.old.items s → Contains spans.new.items s }
-    ensures placed { (n : ℕ) → place < n → All (IsPlacedIn n) spans.old.items → All (IsPlacedIn n) spans.new.items }
-    ensures spans { OnOk result (orbit.now.displacement ≡ origin → HasSpans spans.new.items orbit.now place) }
+    ensures placed { (n : ℕ) → place < n → All (IsPlacedIn n) spans.old.items →
+        All (IsPlacedIn n) spans.new.items }
+    ensures spans { OnOk result
+        (orbit.now.displacement ≡ origin → HasSpans spans.new.items orbit.now place) }
 {
     if !rests(orbit) {
         return Ok(());
@@ -93,7 +96,7 @@ fn spans_of(alloc: Global, orbits: &[Orbit]) -> Result<Vec<Span>, AllocError>
 /// The spans of the sets that stay where they are, band after band, and in each in order by where they begin.
 pub fn spans_in_order(alloc: Global, orbits: &[Orbit]) -> Result<Vec<Span>, AllocError>
     ensures spans { IfOk result (λ spans. AreSpans orbits.now spans.items) }
-    ensures rising { IfOk result (λ spans. AreRising spans.items) }
+    ensures rising { IfOk result (λ spans. AreRisingSpans spans.items) }
 {
     let mut spans = spans_of(alloc, orbits)?;
     spans.sort_unstable_by_key(|span| (span.band, span.start));

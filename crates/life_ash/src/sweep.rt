@@ -3,18 +3,19 @@ ghost use Rattle.std.specs.Prelude.{◌<◌, ◌↔◌, All, AllPairs, IsTrue, l
 ghost use Rattle.std.specs.Bool.{OnTrue};
 ghost use Rattle.life_model.specs.Rule.{Rule as ModelRule};
 ghost use Rattle.life_objects.specs.Apart.{AreApartForEver};
-ghost use Rattle.life_ash.specs.Parts.{IsOf, sets_of};
-ghost use Rattle.life_ash.specs.Spans.{AreApartInOrder, AreMoversApart, ArePlacesApart, AreRising, AreSpans, IsApartFromLater, IsApartFromOthers, IsPast, IsPlacedIn, IsStillOrApart};
+ghost use Rattle.life_ash.specs.Parts.{IsCourseBy, sets_of};
+ghost use Rattle.life_ash.specs.Spans.{AreApartInOrder, AreMoversApart, ArePlacesApart, AreRisingSpans, AreSpans, IsApartFromLater, IsApartFromOthers, IsPast, IsPlacedIn, IsStillOrApart};
 
 use crate::span::{Span, rests};
 use life_orbit::Orbit;
 
 /// Whether the sets in two places stay apart for ever, or are one.
 fn are_places_apart(orbits: &[Orbit], first: usize, second: usize) -> bool
-    requires rule { (R : ModelRule) × All (IsOf R) orbits.now }
+    requires rule { (R : ModelRule) × All (IsCourseBy R) orbits.now }
     requires first { first < length orbits.now }
     requires second { second < length orbits.now }
-    ensures { (R : ModelRule) → All (IsOf R) orbits.now → IsTrue result ↔ ArePlacesApart R orbits.now first second }
+    ensures { (R : ModelRule) → All (IsCourseBy R) orbits.now →
+        IsTrue result ↔ ArePlacesApart R orbits.now first second }
 {
     if first == second {
         return true;
@@ -24,9 +25,10 @@ fn are_places_apart(orbits: &[Orbit], first: usize, second: usize) -> bool
 
 /// Whether a set stays apart for ever from all others.
 fn is_apart_from_others(orbits: &[Orbit], place: usize) -> bool
-    requires rule { (R : ModelRule) × All (IsOf R) orbits.now }
+    requires rule { (R : ModelRule) × All (IsCourseBy R) orbits.now }
     requires place { place < length orbits.now }
-    ensures { (R : ModelRule) → All (IsOf R) orbits.now → IsTrue result ↔ IsApartFromOthers R orbits.now place }
+    ensures { (R : ModelRule) → All (IsCourseBy R) orbits.now →
+        IsTrue result ↔ IsApartFromOthers R orbits.now place }
 {
     for other in 0..orbits.len() {
         if !are_places_apart(orbits, place, other) {
@@ -38,10 +40,12 @@ fn is_apart_from_others(orbits: &[Orbit], place: usize) -> bool
 
 /// Whether a set stays where it is, or apart for ever from all others.
 fn rests_or_is_apart(orbits: &[Orbit], place: usize) -> bool
-    requires rule { (R : ModelRule) × All (IsOf R) orbits.now }
+    requires rule { (R : ModelRule) × All (IsCourseBy R) orbits.now }
     requires place { place < length orbits.now }
-    ensures apart { (R : ModelRule) → All (IsOf R) orbits.now → IsTrue result → IsStillOrApart R orbits.now place }
-    ensures found { (R : ModelRule) → All (IsOf R) orbits.now → AllPairs (AreApartForEver R) (sets_of orbits.now) → IsTrue result }
+    ensures apart { (R : ModelRule) → All (IsCourseBy R) orbits.now → IsTrue result →
+        IsStillOrApart R orbits.now place }
+    ensures found { (R : ModelRule) → All (IsCourseBy R) orbits.now →
+        AllPairs (AreApartForEver R) (sets_of orbits.now) → IsTrue result }
 {
     if rests(&orbits[place]) {
         return true;
@@ -51,9 +55,11 @@ fn rests_or_is_apart(orbits: &[Orbit], place: usize) -> bool
 
 /// Whether each set that moves stays apart for ever from all others.
 fn are_movers_apart(orbits: &[Orbit]) -> bool
-    requires rule { (R : ModelRule) × All (IsOf R) orbits.now }
-    ensures apart { (R : ModelRule) → All (IsOf R) orbits.now → IsTrue result → AreMoversApart R orbits.now }
-    ensures found { (R : ModelRule) → All (IsOf R) orbits.now → AllPairs (AreApartForEver R) (sets_of orbits.now) → IsTrue result }
+    requires rule { (R : ModelRule) × All (IsCourseBy R) orbits.now }
+    ensures apart { (R : ModelRule) → All (IsCourseBy R) orbits.now → IsTrue result →
+        AreMoversApart R orbits.now }
+    ensures found { (R : ModelRule) → All (IsCourseBy R) orbits.now →
+        AllPairs (AreApartForEver R) (sets_of orbits.now) → IsTrue result }
 {
     for place in 0..orbits.len() {
         if !rests_or_is_apart(orbits, place) {
@@ -78,12 +84,14 @@ fn is_past(span: Span, other: Span) -> bool
 
 /// Whether the set of a span stays apart for ever from those of the spans after it that are near it.
 fn is_apart_from_later(orbits: &[Orbit], spans: &[Span], n: usize) -> bool
-    requires rule { (R : ModelRule) × All (IsOf R) orbits.now }
+    requires rule { (R : ModelRule) × All (IsCourseBy R) orbits.now }
     requires placed { All (IsPlacedIn (length orbits.now)) spans.now }
-    requires rising { AreRising spans.now }
+    requires rising { AreRisingSpans spans.now }
     requires within { n < length spans.now }
-    ensures apart { (R : ModelRule) → All (IsOf R) orbits.now → IsTrue result → IsApartFromLater R orbits.now spans.now n }
-    ensures found { (R : ModelRule) → All (IsOf R) orbits.now → AllPairs (AreApartForEver R) (sets_of orbits.now) → IsTrue result }
+    ensures apart { (R : ModelRule) → All (IsCourseBy R) orbits.now → IsTrue result →
+        IsApartFromLater R orbits.now spans.now n }
+    ensures found { (R : ModelRule) → All (IsCourseBy R) orbits.now →
+        AllPairs (AreApartForEver R) (sets_of orbits.now) → IsTrue result }
 {
     for other in n + 1..spans.len() {
         if is_past(spans[n], spans[other]) {
@@ -98,11 +106,13 @@ fn is_apart_from_later(orbits: &[Orbit], spans: &[Span], n: usize) -> bool
 
 /// Whether any two sets with spans that are near each other stay apart for ever.
 fn are_apart_in_order(orbits: &[Orbit], spans: &[Span]) -> bool
-    requires rule { (R : ModelRule) × All (IsOf R) orbits.now }
+    requires rule { (R : ModelRule) × All (IsCourseBy R) orbits.now }
     requires spans { AreSpans orbits.now spans.now }
-    requires rising { AreRising spans.now }
-    ensures apart { (R : ModelRule) → All (IsOf R) orbits.now → IsTrue result → AreApartInOrder R orbits.now spans.now }
-    ensures found { (R : ModelRule) → All (IsOf R) orbits.now → AllPairs (AreApartForEver R) (sets_of orbits.now) → IsTrue result }
+    requires rising { AreRisingSpans spans.now }
+    ensures apart { (R : ModelRule) → All (IsCourseBy R) orbits.now → IsTrue result →
+        AreApartInOrder R orbits.now spans.now }
+    ensures found { (R : ModelRule) → All (IsCourseBy R) orbits.now →
+        AllPairs (AreApartForEver R) (sets_of orbits.now) → IsTrue result }
 {
     for n in 0..spans.len() {
         if !is_apart_from_later(orbits, spans, n) {
@@ -115,10 +125,10 @@ fn are_apart_in_order(orbits: &[Orbit], spans: &[Span]) -> bool
 /// Whether any two of the sets stay apart for ever, where these are the spans of those that stay where they are. Each set
 /// that moves is compared with all others.
 pub fn are_apart_by_bands(orbits: &[Orbit], spans: &[Span]) -> bool
-    requires rule { (R : ModelRule) × All (IsOf R) orbits.now }
+    requires rule { (R : ModelRule) × All (IsCourseBy R) orbits.now }
     requires spans { AreSpans orbits.now spans.now }
-    requires rising { AreRising spans.now }
-    ensures { (R : ModelRule) → All (IsOf R) orbits.now →
+    requires rising { AreRisingSpans spans.now }
+    ensures { (R : ModelRule) → All (IsCourseBy R) orbits.now →
         IsTrue result ↔ AllPairs (AreApartForEver R) (sets_of orbits.now) }
 {
     if !are_movers_apart(orbits) {

@@ -41,7 +41,8 @@ pub fn word_of(answer: bool) -> u64
 
 /// At each bit the word of the table that the planes' number names.
 fn select(planes: &[u64; 4], table: &[u64; 9]) -> u64
-    ensures { (j : ℕ) → number_in_planes planes.now j ≤ 8 → bit_at result j ≡ bit_at (slice_index table.now (number_in_planes planes.now j)) j }
+    ensures { (j : ℕ) → number_in_planes planes.now j ≤ 8 →
+        bit_at result j ≡ bit_at (slice_index table.now (number_in_planes planes.now j)) j }
 {
     let none = choose(planes[0], table[0], table[1]);
     let twos = choose(planes[0], table[2], table[3]);

@@ -41,7 +41,8 @@ fn next_rows<B: Branch>(branch: &B, window: &Window) -> [u64; 8]
 fn replace(tile: &mut Tile, top: usize, next: &[u64; 8]) -> Change
     requires { top ≤ 56 }
     ensures rows { (y : ℕ) → y < 8 → slice_index tile.new.rows (top + y) ≡ slice_index next.now y }
-    ensures others { (y : ℕ) → (y < top) ⊎ (top + 8 ≤ y) → slice_index tile.new.rows y ≡ slice_index tile.old.rows y }
+    ensures others { (y : ℕ) → (y < top) ⊎ (top + 8 ≤ y) →
+        slice_index tile.new.rows y ≡ slice_index tile.old.rows y }
     ensures change { IsChange result tile.old tile.new top }
 {
     let first = tile.rows[top] ^ next[0];

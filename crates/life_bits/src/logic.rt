@@ -88,7 +88,8 @@ fn xor_where(bit: u64, word: u64, more: u64) -> u64
 /// form, by the Möbius transform.
 fn four_coefficients(words: [u64; 4]) -> [u64; 4]
     ensures { (j a b : ℕ) → a < 2 → b < 2 →
-        sum_of_four (λ n. bit_at (slice_index result n) j) a b ≡ bit_at (slice_index words (a + 2 * b)) j }
+        sum_of_four (λ n. bit_at (slice_index result n) j) a b ≡
+        bit_at (slice_index words (a + 2 * b)) j }
 {
     let both = words[0] ^ words[1];
     [
@@ -103,7 +104,8 @@ fn four_coefficients(words: [u64; 4]) -> [u64; 4]
 /// and the ninth where the number is 8.
 fn coefficients(words: &[u64; 9]) -> [u64; 9]
     ensures { (j number : ℕ) → number ≤ 8 →
-        polynomial_at (λ n. bit_at (slice_index result n) j) number ≡ bit_at (slice_index words.now number) j }
+        polynomial_at (λ n. bit_at (slice_index result n) j) number ≡
+        bit_at (slice_index words.now number) j }
 {
     let low = four_coefficients([words[0], words[1], words[2], words[3]]);
     let high = four_coefficients([
@@ -150,8 +152,10 @@ impl RulePolynomial {
 
     /// The polynomial with these coefficients for a dead cell and those for a live one.
     fn between(dead: &[u64; 9], live: &[u64; 9]) -> RulePolynomial
-        ensures dead { (j n : ℕ) → n ≤ 8 → term_at result 0 j n ≡ bit_at (slice_index dead.now n) j }
-        ensures live { (j n : ℕ) → n ≤ 8 → term_at result 1 j n ≡ bit_at (slice_index live.now n) j }
+        ensures dead { (j n : ℕ) → n ≤ 8 →
+            term_at result 0 j n ≡ bit_at (slice_index dead.now n) j }
+        ensures live { (j n : ℕ) → n ≤ 8 →
+            term_at result 1 j n ≡ bit_at (slice_index live.now n) j }
     {
         let mut turn = [0; 9];
         for number in 0..9 {
@@ -213,7 +217,8 @@ impl Logic {
     /// The next state of the cells of `here`, which have `count` live neighbours: at each bit whether a cell with that
     /// state and that number lives in the next generation.
     pub fn next(&self, here: u64, count: Count) -> u64
-        ensures { (rule : Rule) → IsLogicOf self.now rule → (j : ℕ) → j < 64 → number_at count j ≤ 8 →
+        ensures { (rule : Rule) → IsLogicOf self.now rule → (j : ℕ) → j < 64 →
+            number_at count j ≤ 8 →
             bit_at result j ≡ next_state rule (bit_at here j) (number_at count j) }
     {
         match self {

@@ -46,7 +46,8 @@ impl Tile {
         requires column { x < 64 }
         requires row { y < 64 }
         ensures here { tile_cell self.new x y ≡ as_bit live }
-        ensures elsewhere { (p q : ℕ) → p < 64 → (p ≢ x) ⊎ (q ≢ y) → tile_cell self.new p q ≡ tile_cell self.old p q }
+        ensures elsewhere { (p q : ℕ) → p < 64 → (p ≢ x) ⊎ (q ≢ y) →
+            tile_cell self.new p q ≡ tile_cell self.old p q }
     {
         let row = self.rows[y];
         self.rows[y] = if live {
@@ -110,7 +111,8 @@ impl Default for Tile {
 
 /// Whether each word is 0.
 fn all_zero(words: &[u64]) -> bool
-    ensures { IsTrue result ↔ ((x y : ℕ) → x < 64 → y < length words.now → bit_at (slice_index words.now y) x ≡ 0) }
+    ensures { IsTrue result ↔
+        ((x y : ℕ) → x < 64 → y < length words.now → bit_at (slice_index words.now y) x ≡ 0) }
 {
     words.iter().all(|word| *word == 0)
 }

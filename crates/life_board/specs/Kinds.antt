@@ -14,9 +14,9 @@ abbrev pub age_of : Kind → ℕ
 age_of (Small square) = square.age
 age_of (Large plane) = plane.1
 
-abbrev pub IsKept : Kind → Type 0
-IsKept (Small square) = squares.IsKept square
-IsKept (Large plane) = All (IsWithin plane.1) (cells plane.0)
+abbrev pub IsKind : Kind → Type 0
+IsKind (Small square) = squares.IsSquare square
+IsKind (Large plane) = All (IsWithin plane.1) (cells plane.0)
 
 -- the next generation of a square has no cell outside it
 abbrev pub HasRoom : Kind → Type 0

@@ -19,7 +19,7 @@ abbrev pub members_of : Square → Generation
 members_of square = shown square.left square.top square.tile
 
 -- a place far from the ends of the numbers of 32 bits
-pub record IsReached (left top : ℤ) : Type 0 where
+pub record IsFarFromEnds (left top : ℤ) : Type 0 where
   pub west : negsuc 100000000 ≤ℤ left
   pub east : left ≤ℤ pos 100000000
   pub north : negsuc 100000000 ≤ℤ top
@@ -37,8 +37,8 @@ abbrev pub AreColumnsOf : ℕ → Tile → Type 0
 AreColumnsOf columns tile = (x : ℕ) → x < 64 → (bit_at columns x ≡ 0) ↔ ((y : ℕ) → y < 64 → tile_cell tile x y ≡ 0)
 
 -- what a square keeps
-pub record IsKept (square : Square) : Type 0 where
-  pub place : IsReached square.left square.top
+pub record IsSquare (square : Square) : Type 0 where
+  pub place : IsFarFromEnds square.left square.top
   pub young : square.age ≤ age_limit
   pub void : IsVoidOutside square.tile.rows square.first square.end
   pub columns : AreColumnsOf square.columns square.tile
@@ -87,7 +87,7 @@ pub record HasRoom (square : Square) : Type 0 where
   pub inner : IsInner square.tile
 
 -- cells that are not too near to the edge of a square may be put into it
-pub record IsOpen (square : Square) : Type 0 where
+pub record IsOpenSquare (square : Square) : Type 0 where
   pub first : square.first ≡ 8
   pub end : square.end ≡ 56
 

@@ -1,6 +1,6 @@
 //! The plane of small patterns.
 ghost use Rattle.std.specs.Prelude.{◌≡◌};
-ghost use Rattle.life_board.specs.Kinds.{IsKept};
+ghost use Rattle.life_board.specs.Kinds.{IsKind};
 
 use crate::kind::Kind;
 use life_cells::{CellList, Rule};
@@ -19,7 +19,7 @@ impl Model for Board {
     ghost use Rattle.std.specs.Prelude.{ℕ};
     ghost use Rattle.life_model.specs.Generation.{Generation};
     ghost use Rattle.life_plane.specs.Kept.{coded_plane};
-    ghost use Rattle.life_board.specs.Kinds.{age_of, members_of, IsKept};
+    ghost use Rattle.life_board.specs.Kinds.{age_of, members_of, IsKind};
 
     ghost Value = { Generation × ℕ };
 
@@ -27,7 +27,7 @@ impl Model for Board {
 
     ghost view = { λ p. (members_of p.kind, age_of p.kind) };
 
-    ghost invariant = { λ p. IsKept p.kind };
+    ghost invariant = { λ p. IsKind p.kind };
 }
 
 impl Plane for Board {

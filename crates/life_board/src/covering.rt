@@ -7,7 +7,7 @@ ghost use Rattle.life_cells.specs.Limits.{IsPlace};
 ghost use Rattle.life_slots.specs.Ends.{IsMember};
 ghost use Rattle.life_tile.specs.Reach.{IsInReach, IsRowIn};
 ghost use Rattle.life_slots.specs.Cells.{state_at};
-ghost use Rattle.life_board.specs.Squares.{members_of, IsKept, IsReached};
+ghost use Rattle.life_board.specs.Squares.{members_of, IsSquare, IsFarFromEnds};
 
 use crate::small::Square;
 
@@ -31,7 +31,7 @@ fn index_from(z: i32, from: i32) -> Option<usize>
 
 /// Whether a cell is live.
 fn is_live(square: &Square, cell: (i32, i32)) -> bool
-    requires kept { IsKept square.now }
+    requires kept { IsSquare square.now }
     requires reach { IsInReach cell }
     ensures { result ≡ contains (members_of square.now) cell }
 {
@@ -46,7 +46,7 @@ fn is_live(square: &Square, cell: (i32, i32)) -> bool
 
 /// The cell, moved as one place is from another.
 fn moved(cell: (i32, i32), from: (i32, i32), to: (i32, i32)) -> (i32, i32)
-    requires cell { IsReached cell.0 cell.1 }
+    requires cell { IsFarFromEnds cell.0 cell.1 }
     requires from { IsPlace from }
     requires to { IsPlace to }
     ensures is { result ≡ plus cell (plus to (opposite from)) }
@@ -57,11 +57,12 @@ fn moved(cell: (i32, i32), from: (i32, i32), to: (i32, i32)) -> (i32, i32)
 
 /// Whether each of some cells is live, moved as one place is from another.
 pub fn are_live(square: &Square, cells: &[(i32, i32)], from: (i32, i32), to: (i32, i32)) -> bool
-    requires kept { IsKept square.now }
+    requires kept { IsSquare square.now }
     requires placed { All IsPlace cells.now }
     requires from { IsPlace from }
     requires to { IsPlace to }
-    ensures { IsTrue result ↔ All (λ c. IsMember (members_of square.now) (plus c (plus to (opposite from)))) cells.now }
+    ensures { IsTrue result ↔ All
+        (λ c. IsMember (members_of square.now) (plus c (plus to (opposite from)))) cells.now }
 {
     for cell in cells {
         if !is_live(square, moved(*cell, from, to)) {
@@ -73,7 +74,8 @@ pub fn are_live(square: &Square, cells: &[(i32, i32)], from: (i32, i32), to: (i3
 
 /// The 64 bits from a bit of a word on. Before its first bit and after its last there are zeros.
 fn bits_from(word: u64, from: i32) -> u64
-    ensures inside { (j n : ℕ) → j < 64 → n < 64 → (from +ℤ pos j) ≡ pos n → bit_at result j ≡ bit_at word n }
+    ensures inside { (j n : ℕ) → j < 64 → n < 64 → (from +ℤ pos j) ≡ pos n →
+        bit_at result j ≡ bit_at word n }
     ensures before { (j : ℕ) → j < 64 → (from +ℤ pos j) <ℤ pos 0 → bit_at result j ≡ 0 }
     ensures behind { (j : ℕ) → j < 64 → pos 64 ≤ℤ (from +ℤ pos j) → bit_at result j ≡ 0 }
 {
@@ -90,9 +92,10 @@ fn bits_from(word: u64, from: i32) -> u64
 
 /// The cell and the 63 to the east of it.
 fn row_from(square: &Square, cell: (i32, i32)) -> u64
-    requires kept { IsKept square.now }
+    requires kept { IsSquare square.now }
     requires reach { IsInReach cell }
-    ensures { (j : ℕ) → j < 64 → bit_at result j ≡ state_at (members_of square.now) (cell.0 +ℤ pos j) cell.1 }
+    ensures { (j : ℕ) → j < 64 →
+        bit_at result j ≡ state_at (members_of square.now) (cell.0 +ℤ pos j) cell.1 }
 {
     match index_from(cell.1, square.top) {
         None => 0,
@@ -102,7 +105,7 @@ fn row_from(square: &Square, cell: (i32, i32)) -> u64
 
 /// Whether each set bit of a word is a live cell, where bit 0 is at this cell.
 fn has_row(square: &Square, word: u64, start: (i32, i32)) -> bool
-    requires kept { IsKept square.now }
+    requires kept { IsSquare square.now }
     requires reach { IsInReach start }
     ensures { IsTrue result ↔ IsRowIn (members_of square.now) word start }
 {
@@ -111,11 +114,13 @@ fn has_row(square: &Square, word: u64, start: (i32, i32)) -> bool
 
 /// Whether each live cell of another square is live, moved as one place is from another.
 pub fn has_square(square: &Square, other: &Square, from: (i32, i32), to: (i32, i32)) -> bool
-    requires kept { IsKept square.now }
-    requires other { IsKept other.now }
+    requires kept { IsSquare square.now }
+    requires other { IsSquare other.now }
     requires from { IsPlace from }
     requires to { IsPlace to }
-    ensures { IsTrue result ↔ ((c : Cell) → IsMember (members_of other.now) c → IsMember (members_of square.now) (plus c (plus to (opposite from)))) }
+    ensures { IsTrue result ↔
+        ((c : Cell) → IsMember (members_of other.now) c →
+        IsMember (members_of square.now) (plus c (plus to (opposite from)))) }
 {
     let corner = moved((other.left, other.top), from, to);
     for y in other.first..other.end {

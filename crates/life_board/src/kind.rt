@@ -6,7 +6,7 @@ ghost use Rattle.life_model.specs.Generation as generation;
 ghost use Rattle.life_cells.specs.Limits.{IsWithin, age_limit};
 ghost use Rattle.life_plane.specs.Span.{set_span};
 ghost use Rattle.life_plane.specs.Offsets.{AreNotTranslates, IsOffset};
-ghost use Rattle.life_board.specs.Kinds.{age_of, members_of, HasRoom, IsKept};
+ghost use Rattle.life_board.specs.Kinds.{age_of, members_of, HasRoom, IsKind};
 ghost use Rattle.life_board.specs.Squares as squares;
 
 use crate::offset::{offset_from, offset_from_square};
@@ -26,7 +26,7 @@ pub enum Kind {
 
 /// The cells of a square as tiles.
 fn as_tiles(square: &Square) -> Result<TilePlane, AllocError>
-    requires { squares.IsKept square.now }
+    requires { squares.IsSquare square.now }
     ensures cells { IfOk result (λ plane. plane.0 ≡ squares.members_of square.now) }
     ensures age { IfOk result (λ plane. plane.1 ≡ square.now.age) }
     ensures within { IfOk result (λ plane. All (IsWithin plane.1) (generation.cells plane.0)) }
@@ -41,7 +41,7 @@ fn as_tiles(square: &Square) -> Result<TilePlane, AllocError>
 fn tiles_of(alloc: Global, list: &CellList, age: u32) -> Result<Kind, AllocError>
     requires age { age ≤ age_limit }
     requires within { All (IsWithin age) (generation.cells list.now) }
-    ensures kept { IfOk result IsKept }
+    ensures kept { IfOk result IsKind }
     ensures cells { IfOk result (λ kind. members_of kind ≡ list.now) }
     ensures age { IfOk result (λ kind. age_of kind ≡ age) }
 {
@@ -53,7 +53,7 @@ impl Kind {
     pub fn of(alloc: Global, list: &CellList, age: u32) -> Result<Kind, AllocError>
         requires age { age ≤ age_limit }
         requires within { All (IsWithin age) (generation.cells list.now) }
-        ensures kept { IfOk result IsKept }
+        ensures kept { IfOk result IsKind }
         ensures cells { IfOk result (λ kind. members_of kind ≡ list.now) }
         ensures age { IfOk result (λ kind. age_of kind ≡ age) }
     {
@@ -69,8 +69,8 @@ impl Kind {
     /// It stands apart in the program too: within `step` each step of a square would first make room for tiles.
     #[inline(never)]
     fn leave_square(&mut self) -> Result<(), AllocError>
-        requires { IsKept self.old }
-        ensures kept { IsKept self.new }
+        requires { IsKind self.old }
+        ensures kept { IsKind self.new }
         ensures cells { members_of self.new ≡ members_of self.old }
         ensures age { age_of self.new ≡ age_of self.old }
         ensures room { OnOk result (HasRoom self.new) }
@@ -83,8 +83,8 @@ impl Kind {
 
     /// Makes room for a next generation that may have a cell outside a square.
     fn make_room(&mut self) -> Result<(), AllocError>
-        requires { IsKept self.old }
-        ensures kept { IsKept self.new }
+        requires { IsKind self.old }
+        ensures kept { IsKind self.new }
         ensures cells { members_of self.new ≡ members_of self.old }
         ensures age { age_of self.new ≡ age_of self.old }
         ensures room { OnOk result (HasRoom self.new) }
@@ -99,9 +99,9 @@ impl Kind {
 
     /// Makes the next generation. After an `Err` the cells and the age are what they were.
     pub fn step(&mut self, rule: &Rule) -> Result<(), AllocError>
-        requires kept { IsKept self.old }
+        requires kept { IsKind self.old }
         requires young { age_of self.old < age_limit }
-        ensures kept { IsKept self.new }
+        ensures kept { IsKind self.new }
         ensures cells { OnOk result (members_of self.new ≡ next rule.now (members_of self.old)) }
         ensures age { OnOk result (age_of self.new ≡ age_of self.old + 1) }
         ensures cells_unchanged { OnErr result (members_of self.new ≡ members_of self.old) }
@@ -119,7 +119,7 @@ impl Kind {
 
     /// How many live cells there are.
     pub fn population(&self) -> u64
-        requires { IsKept self.now }
+        requires { IsKind self.now }
         ensures { result ≡ size (members_of self.now) }
     {
         match self {
@@ -130,7 +130,7 @@ impl Kind {
 
     /// How many steps it has made.
     pub fn age(&self) -> u32
-        requires { IsKept self.now }
+        requires { IsKind self.now }
         ensures age { result ≡ age_of self.now }
         ensures within { All (IsWithin (age_of self.now)) (generation.cells (members_of self.now)) }
     {
@@ -142,7 +142,7 @@ impl Kind {
 
     /// The live cells in order.
     pub fn cells(&self) -> Result<CellList, AllocError>
-        requires { IsKept self.now }
+        requires { IsKind self.now }
         ensures { IfOk result (λ list. list ≡ members_of self.now) }
     {
         match self {
@@ -153,7 +153,7 @@ impl Kind {
 
     /// How far the last of its cells, by y and then by x, is from the first, or (0, 0) where there is none.
     pub fn span(&self) -> Result<(i32, i32), AllocError>
-        requires { IsKept self.now }
+        requires { IsKind self.now }
         ensures { IfOk result (λ span. span ≡ set_span (members_of self.now)) }
     {
         match self {
@@ -164,9 +164,11 @@ impl Kind {
 
     /// How far its cells are from the listed ones, where they are those moved as a whole.
     pub fn offset_from(&self, list: &CellList) -> Result<Option<(i32, i32)>, AllocError>
-        requires { IsKept self.now }
-        ensures offset { IfOk result (λ offset. IfSome offset (λ d. IsOffset list.now (members_of self.now) d)) }
-        ensures apart { IfOk result (λ offset. IfNone offset (AreNotTranslates list.now (members_of self.now))) }
+        requires { IsKind self.now }
+        ensures offset { IfOk result
+            (λ offset. IfSome offset (λ d. IsOffset list.now (members_of self.now) d)) }
+        ensures apart { IfOk result
+            (λ offset. IfNone offset (AreNotTranslates list.now (members_of self.now))) }
     {
         match self {
             Kind::Small(square) => Ok(offset_from(square, list.as_slice())),
@@ -176,10 +178,14 @@ impl Kind {
 
     /// How far its cells are from those of another board, where they are those moved as a whole.
     pub fn offset_from_plane(&self, other: &Kind) -> Result<Option<(i32, i32)>, AllocError>
-        requires kept { IsKept self.now }
-        requires other { IsKept other.now }
-        ensures offset { IfOk result (λ offset. IfSome offset (λ d. IsOffset (members_of other.now) (members_of self.now) d)) }
-        ensures apart { IfOk result (λ offset. IfNone offset (AreNotTranslates (members_of other.now) (members_of self.now))) }
+        requires kept { IsKind self.now }
+        requires other { IsKind other.now }
+        ensures offset { IfOk result
+            (λ offset. IfSome offset
+            (λ d. IsOffset (members_of other.now) (members_of self.now) d)) }
+        ensures apart { IfOk result
+            (λ offset. IfNone offset
+            (AreNotTranslates (members_of other.now) (members_of self.now))) }
     {
         match self {
             Kind::Small(to) => {
@@ -198,8 +204,8 @@ impl Kind {
 
     /// The same cells at the same age.
     pub fn copy(&self) -> Result<Kind, AllocError>
-        requires { IsKept self.now }
-        ensures kept { IfOk result IsKept }
+        requires { IsKind self.now }
+        ensures kept { IfOk result IsKind }
         ensures cells { IfOk result (λ kind. members_of kind ≡ members_of self.now) }
         ensures age { IfOk result (λ kind. age_of kind ≡ age_of self.now) }
     {

@@ -3,7 +3,7 @@ ghost use Rattle.std.specs.Prelude.{All, IfNone, IfSome, T};
 ghost use Rattle.life_model.specs.Generation.{from_list, is_rising};
 ghost use Rattle.life_cells.specs.Limits.{IsPlace};
 ghost use Rattle.life_plane.specs.Offsets.{AreNotTranslates, IsOffset};
-ghost use Rattle.life_board.specs.Squares.{members_of, IsKept};
+ghost use Rattle.life_board.specs.Squares.{members_of, IsSquare};
 
 use crate::covering::{are_live, has_square};
 use crate::small::Square;
@@ -12,7 +12,7 @@ use life_plane::move_between;
 /// How far the live cells are from those of a list, where they are those moved as a whole. They are if there are as many, and
 /// each of the list is live where the first of them would be moved to.
 pub fn offset_from(square: &Square, cells: &[(i32, i32)]) -> Option<(i32, i32)>
-    requires kept { IsKept square.now }
+    requires kept { IsSquare square.now }
     requires rising { T (is_rising cells.now) }
     requires placed { All IsPlace cells.now }
     ensures offset { IfSome result (λ d. IsOffset (from_list cells.now) (members_of square.now) d) }
@@ -36,10 +36,12 @@ pub fn offset_from(square: &Square, cells: &[(i32, i32)]) -> Option<(i32, i32)>
 /// How far the live cells are from those of another square, where they are those moved as a whole. They are if there are as many,
 /// and each of the other is live where the first of them would be moved to.
 pub fn offset_from_square(square: &Square, other: &Square) -> Option<(i32, i32)>
-    requires kept { IsKept square.now }
-    requires other { IsKept other.now }
-    ensures offset { IfSome result (λ d. IsOffset (members_of other.now) (members_of square.now) d) }
-    ensures apart { IfNone result (AreNotTranslates (members_of other.now) (members_of square.now)) }
+    requires kept { IsSquare square.now }
+    requires other { IsSquare other.now }
+    ensures offset { IfSome result
+        (λ d. IsOffset (members_of other.now) (members_of square.now) d) }
+    ensures apart { IfNone result
+        (AreNotTranslates (members_of other.now) (members_of square.now)) }
 {
     if square.population() != other.population() {
         return None;

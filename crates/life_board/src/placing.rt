@@ -1,7 +1,7 @@
 //! Where the square of a pattern stands.
 ghost use Rattle.std.specs.Prelude.{pos, negsuc, ◌≤ℤ◌, All};
 ghost use Rattle.life_cells.specs.Limits.{IsPlace};
-ghost use Rattle.life_board.specs.Squares.{IsReached, IsRange};
+ghost use Rattle.life_board.specs.Squares.{IsFarFromEnds, IsRange};
 
 /// The range with one number more.
 fn widened(range: (i32, i32), number: i32) -> (i32, i32)
@@ -28,7 +28,7 @@ fn start_around(range: (i32, i32)) -> i32
 /// The corner of a square of 64 by 64 cells that has these cells in its middle, where it is large enough.
 pub fn corner_around(cells: &[(i32, i32)]) -> (i32, i32)
     requires { All IsPlace cells.now }
-    ensures { IsReached result.0 result.1 }
+    ensures { IsFarFromEnds result.0 result.1 }
 {
     if cells.is_empty() {
         return (0, 0);

@@ -13,7 +13,8 @@ use life_cells::Rule;
 /// How many live neighbours each cell of a row has, by the sums of the row above, of its own and of the row below.
 #[inline(always)]
 fn count(above: RowSums, beside: RowSums, below: RowSums) -> Count
-    ensures { (a b c : ℕ) → IsRowSumsOf above a → IsRowSumsOf beside b → IsRowSumsOf below c → (x : ℕ) → x < 64 →
+    ensures { (a b c : ℕ) → IsRowSumsOf above a → IsRowSumsOf beside b → IsRowSumsOf below c →
+        (x : ℕ) → x < 64 →
         number_at result x ≡ around_in a b c x }
 {
     let sum = full_adder(above.three.ones, below.three.ones, beside.two.ones);
@@ -58,7 +59,8 @@ fn advance_by_rule(tile: &mut Tile, first: usize, end: usize, rule: &Rule) -> u6
     requires first { 0 < first }
     requires end { end ≤ 62 }
     requires void { IsVoidOutside tile.old.rows first end }
-    ensures next { (x y : ℕ) → x < 64 → y < 64 → tile_cell tile.new x y ≡ next_in_area rule.now (alone tile.old) x y }
+    ensures next { (x y : ℕ) → x < 64 → y < 64 →
+        tile_cell tile.new x y ≡ next_in_area rule.now (alone tile.old) x y }
     ensures void { IsVoidOutside tile.new.rows (first - 1) (end + 1) }
     ensures columns { AreColumnsOf result tile.new }
 {
@@ -71,7 +73,8 @@ pub fn advance(tile: &mut Tile, first: usize, end: usize, rule: &Rule) -> u64
     requires first { 0 < first }
     requires end { end ≤ 62 }
     requires void { IsVoidOutside tile.old.rows first end }
-    ensures next { (x y : ℕ) → x < 64 → y < 64 → tile_cell tile.new x y ≡ next_in_area rule.now (alone tile.old) x y }
+    ensures next { (x y : ℕ) → x < 64 → y < 64 →
+        tile_cell tile.new x y ≡ next_in_area rule.now (alone tile.old) x y }
     ensures void { IsVoidOutside tile.new.rows (first - 1) (end + 1) }
     ensures columns { AreColumnsOf result tile.new }
 {

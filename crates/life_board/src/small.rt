@@ -6,7 +6,7 @@ ghost use Rattle.life_bits.specs.Area.{tile_cell};
 ghost use Rattle.life_cells.specs.Limits.{IsWithin, age_limit};
 ghost use Rattle.life_plane.specs.Span.{set_span};
 ghost use Rattle.life_slots.specs.Cells.{block_cells, row_cells};
-ghost use Rattle.life_board.specs.Squares.{members_of, AreColumnsOf, AreEnds, HasNoMember, HasRoom, IsInner, IsKept, IsOpen, IsReached, IsVoidOutside};
+ghost use Rattle.life_board.specs.Squares.{members_of, AreColumnsOf, AreEnds, HasNoMember, HasRoom, IsInner, IsSquare, IsOpenSquare, IsFarFromEnds, IsVoidOutside};
 
 use crate::ends::{first_in, last_in};
 use crate::listing::push_row;
@@ -83,7 +83,8 @@ fn make_live(tile: &mut Tile, x: usize, y: usize)
     requires column { x < 64 }
     requires row { y < 64 }
     ensures here { tile_cell tile.new x y ≡ 1 }
-    ensures elsewhere { (p q : ℕ) → p < 64 → (p ≢ x) ⊎ (q ≢ y) → tile_cell tile.new p q ≡ tile_cell tile.old p q }
+    ensures elsewhere { (p q : ℕ) → p < 64 → (p ≢ x) ⊎ (q ≢ y) →
+        tile_cell tile.new p q ≡ tile_cell tile.old p q }
     ensures others { (k : ℕ) → k ≢ y → slice_index tile.new.rows k ≡ slice_index tile.old.rows k }
 {
     tile.rows[y] |= 1 << x;
@@ -110,10 +111,10 @@ fn column_of(z: i32, from: i32) -> Option<usize>
 impl Square {
     /// The square without a live cell.
     fn empty(alloc: Global, left: i32, top: i32, age: u32) -> Square
-        requires place { IsReached left top }
+        requires place { IsFarFromEnds left top }
         requires young { age ≤ age_limit }
-        ensures kept { IsKept result }
-        ensures free { IsOpen result }
+        ensures kept { IsSquare result }
+        ensures free { IsOpenSquare result }
         ensures members { members_of result ≡ from_list [] }
         ensures age { result.age ≡ age }
     {
@@ -131,12 +132,13 @@ impl Square {
 
     /// Makes a cell live, where it is not too near to the edge.
     fn put(&mut self, cell: (i32, i32)) -> Option<()>
-        requires kept { IsKept self.old }
+        requires kept { IsSquare self.old }
         requires within { IsWithin self.old.age cell }
-        requires free { IsOpen self.old }
-        ensures kept { IfSome result (λ _. IsKept self.new) }
-        ensures free { IsOpen self.new }
-        ensures members { IfSome result (λ _. members_of self.new ≡ insert (members_of self.old) cell) }
+        requires free { IsOpenSquare self.old }
+        ensures kept { IfSome result (λ _. IsSquare self.new) }
+        ensures free { IsOpenSquare self.new }
+        ensures members { IfSome result
+            (λ _. members_of self.new ≡ insert (members_of self.old) cell) }
         ensures age { self.new.age ≡ self.old.age }
     {
         let x = column_of(cell.0, self.left)?;
@@ -148,10 +150,10 @@ impl Square {
 
     /// The square of these cells, whose corner is this, where none of them is too near to its edge.
     pub fn of(alloc: Global, cells: &[(i32, i32)], corner: (i32, i32), age: u32) -> Option<Square>
-        requires place { IsReached corner.0 corner.1 }
+        requires place { IsFarFromEnds corner.0 corner.1 }
         requires young { age ≤ age_limit }
         requires within { All (IsWithin age) cells.now }
-        ensures kept { IfSome result IsKept }
+        ensures kept { IfSome result IsSquare }
         ensures members { IfSome result (λ square. members_of square ≡ from_list cells.now) }
         ensures age { IfSome result (λ square. square.age ≡ age) }
     {
@@ -165,8 +167,8 @@ impl Square {
 
     /// Leaves out rows without a live cell.
     fn shrink(&mut self)
-        requires { IsKept self.old }
-        ensures kept { IsKept self.new }
+        requires { IsSquare self.old }
+        ensures kept { IsSquare self.new }
         ensures members { members_of self.new ≡ members_of self.old }
         ensures age { self.new.age ≡ self.old.age }
     {
@@ -176,7 +178,7 @@ impl Square {
 
     /// Whether the next generation may have a cell outside the square.
     pub fn is_full(&self) -> bool
-        requires { IsKept self.now }
+        requires { IsSquare self.now }
         ensures { result ≡ false → HasRoom self.now }
     {
         self.first == 0 || self.end > 62 || is_at_edge(&self.tile, self.columns)
@@ -184,10 +186,10 @@ impl Square {
 
     /// Makes the next generation.
     pub fn advance(&mut self, rule: &Rule)
-        requires kept { IsKept self.old }
+        requires kept { IsSquare self.old }
         requires room { HasRoom self.old }
         requires young { self.old.age < age_limit }
-        ensures kept { IsKept self.new }
+        ensures kept { IsSquare self.new }
         ensures members { members_of self.new ≡ next rule.now (members_of self.old) }
         ensures age { self.new.age ≡ self.old.age + 1 }
     {
@@ -200,7 +202,7 @@ impl Square {
 
     /// How many live cells there are.
     pub fn population(&self) -> u64
-        requires { IsKept self.now }
+        requires { IsSquare self.now }
         ensures { result ≡ size (members_of self.now) }
     {
         count_rows(&self.tile, self.first, self.end)
@@ -208,7 +210,7 @@ impl Square {
 
     /// The live cells.
     pub fn cells(&self) -> Result<CellList, AllocError>
-        requires { IsKept self.now }
+        requires { IsSquare self.now }
         ensures { IfOk result (λ list. list ≡ members_of self.now) }
     {
         let mut cells = Vec::with_capacity(self.alloc, FEW)?;
@@ -225,7 +227,7 @@ impl Square {
 
     /// The cell in a column and a row.
     fn cell_at(&self, x: usize, y: usize) -> (i32, i32)
-        requires kept { IsKept self.now }
+        requires kept { IsSquare self.now }
         requires column { x < 64 }
         requires row { y < 64 }
         ensures { result ≡ (self.now.left +ℤ pos x, self.now.top +ℤ pos y) }
@@ -235,8 +237,9 @@ impl Square {
 
     /// The first and the last of the live cells, by y and then by x.
     pub fn ends(&self) -> Option<((i32, i32), (i32, i32))>
-        requires { IsKept self.now }
-        ensures { MatchOption result (HasNoMember (members_of self.now)) (AreEnds (members_of self.now)) }
+        requires { IsSquare self.now }
+        ensures { MatchOption result (HasNoMember (members_of self.now))
+            (AreEnds (members_of self.now)) }
     {
         let (left, top) = first_in(&self.tile, self.first, self.end)?;
         let (right, bottom) = last_in(&self.tile, self.first, self.end)?;
@@ -245,7 +248,7 @@ impl Square {
 
     /// How far the last of its cells, by y and then by x, is from the first, or (0, 0) where there is none.
     pub fn span(&self) -> Result<(i32, i32), AllocError>
-        requires { IsKept self.now }
+        requires { IsSquare self.now }
         ensures { IfOk result (λ span. span ≡ set_span (members_of self.now)) }
     {
         Ok(match self.ends() {

@@ -98,8 +98,10 @@ fn is_digits(text: &[u8]) -> bool
 
 // The two runs of digits of a text whose second run is `second`.
 fn with_second<'a>(text: &'a [u8], second: Option<&'a [u8]>) -> Option<(&'a [u8], &'a [u8])>
-    ensures value { option_map (λ p. (p.0.now, p.1.now)) result ≡ runs_with text.now (option_copied second.entry) }
-    ensures digits { IfSome result (λ p. IsTrue (list_all is_count p.0.now) × IsTrue (list_all is_count p.1.now)) }
+    ensures value { option_map (λ p. (p.0.now, p.1.now)) result ≡
+        runs_with text.now (option_copied second.entry) }
+    ensures digits { IfSome result
+        (λ p. IsTrue (list_all is_count p.0.now) × IsTrue (list_all is_count p.1.now)) }
 {
     let second = second?;
     if !is_digits(second) {
@@ -124,8 +126,10 @@ fn members_of(digits: &[u8]) -> u16
 
 // The text after a first letter: its digits, `/` or nothing, a second letter, digits.
 fn behind_letter<'a>(text: &'a [u8], one: u8, other: u8) -> Option<(&'a [u8], &'a [u8])>
-    ensures digits { IfSome result (λ p. IsTrue (list_all is_count p.0.now) × IsTrue (list_all is_count p.1.now)) }
-    ensures value { option_map (λ p. (p.0.now, p.1.now)) result ≡ runs_with text.now (after_slash_and (one ∷ other ∷ []) (after_digits text.now)) }
+    ensures digits { IfSome result
+        (λ p. IsTrue (list_all is_count p.0.now) × IsTrue (list_all is_count p.1.now)) }
+    ensures value { option_map (λ p. (p.0.now, p.1.now)) result ≡
+        runs_with text.now (after_slash_and (one ∷ other ∷ []) (after_digits text.now)) }
 {
     let between = &text[count_digits(text)..];
     let letter = match after_byte(between, b'/') {
@@ -141,7 +145,8 @@ fn behind_letter<'a>(text: &'a [u8], one: u8, other: u8) -> Option<(&'a [u8], &'
 // The birth digits and the survival digits of a text of one of the three forms.
 fn digits_by_form(text: &[u8]) -> Option<(&[u8], &[u8])>
     ensures value { option_map (λ p. (p.0.now, p.1.now)) result ≡ digits_by_form text.now }
-    ensures digits { IfSome result (λ p. IsTrue (list_all is_count p.0.now) × IsTrue (list_all is_count p.1.now)) }
+    ensures digits { IfSome result
+        (λ p. IsTrue (list_all is_count p.0.now) × IsTrue (list_all is_count p.1.now)) }
 {
     if let Some(rest) = after_either(text, b'B', b'b') {
         return behind_letter(rest, b'S', b's');
@@ -236,16 +241,20 @@ impl Rule {
 
 /// The set of some digits from 0 to 8 has the numbers that stand among them.
 pub fn members_are_digits()
-    ensures { (digits : List ℕ) (n : ℕ) → IsDigits digits → n ≤ 8 → has_bit (members digits) n ≡ is_in digits (48 + n) }
+    ensures { (digits : List ℕ) (n : ℕ) → IsDigits digits → n ≤ 8 →
+        has_bit (members digits) n ≡ is_in digits (48 + n) }
 {}
 
 /// A printed rule means the rule.
 pub fn printed_rules_are_read()
-    ensures { (rule : model.Rule) → rule.birth < 512 → rule.survival < 512 → rule.birth % 2 ≡ 0 → rule_of (rule_text rule) ≡ Ok rule }
+    ensures { (rule : model.Rule) → rule.birth < 512 → rule.survival < 512 → rule.birth % 2 ≡ 0 →
+        rule_of (rule_text rule) ≡ Ok rule }
 {}
 
 /// The digits of a rule text are those of the one form that it has.
 pub fn forms()
-    ensures found { (text birth survival : List ℕ) → digits_by_form text ≡ Some (birth, survival) → HasForm text birth survival }
-    ensures only { (text birth survival : List ℕ) → HasForm text birth survival → digits_by_form text ≡ Some (birth, survival) }
+    ensures found { (text birth survival : List ℕ) → digits_by_form text ≡ Some (birth, survival) →
+        HasForm text birth survival }
+    ensures only { (text birth survival : List ℕ) → HasForm text birth survival →
+        digits_by_form text ≡ Some (birth, survival) }
 {}

@@ -22,7 +22,7 @@ use Rattle.life_answer.proofs.Codes.{codes_tell_objects}
 use Rattle.life_answer.proofs.Tallying.{counted_permutation}
 use Rattle.life_orbit.specs.Course.{Course, IsCourse}
 use Rattle.life_ash.specs.Later.{courses_after, course_after}
-use Rattle.life_ash.specs.Parts.{IsOf, sets_of}
+use Rattle.life_ash.specs.Parts.{IsCourseBy, sets_of}
 use Rattle.life_answer.specs.Census.{census_found, census_of, part_code}
 use Rattle.life_census.specs.Courses.{course_code}
 use Rattle.life_census.proofs.PartCodes.{code_alone, settles}
@@ -73,7 +73,7 @@ module _ (R : Rule) (b n : ℕ) (P : Generation) (p : ℕ) (d : Cell)
       code_alone (record { rule = R; set = generation R P n; period = p; displacement = d }) b later_course within part.nonempty
       ∙ same_code
 
-code_of_part : (R : Rule) (b n : ℕ) (o : Course) → IsOf R o → IsCourse o → IsObject R b (generation o.rule o.set n) →
+code_of_part : (R : Rule) (b n : ℕ) (o : Course) → IsCourseBy R o → IsCourse o → IsObject R b (generation o.rule o.set n) →
     part_code R b (generation o.rule o.set n) ≡ course_code o
 code_of_part R b n o of course part =
     subst (λ S. IsObject S b (generation o.rule o.set n) → part_code S b (generation o.rule o.set n) ≡ course_code o) of
@@ -81,7 +81,7 @@ code_of_part R b n o of course part =
 
 -- ---- all of them
 
-codes_of_parts : (R : Rule) (b n : ℕ) (os : List Course) → All (IsOf R) os → All IsCourse os →
+codes_of_parts : (R : Rule) (b n : ℕ) (os : List Course) → All (IsCourseBy R) os → All IsCourse os →
     All (IsObject R b) (sets_of (courses_after n os)) →
     map (part_code R b) (sets_of (courses_after n os)) ≡ map course_code os
 codes_of_parts R b n [] of courses parts = refl
@@ -89,13 +89,13 @@ codes_of_parts R b n (o ∷ os) of courses parts =
     let rest = sets_of (courses_after n os) in
     let first = generation o.rule o.set n in
     λ i.
-    code_of_part R b n o (All-head (IsOf R) o os of) (All-head IsCourse o os courses)
+    code_of_part R b n o (All-head (IsCourseBy R) o os of) (All-head IsCourse o os courses)
     (All-head (IsObject R b) first rest parts) i
-    ∷ codes_of_parts R b n os (All-tail (IsOf R) o os of) (All-tail IsCourse o os courses)
+    ∷ codes_of_parts R b n os (All-tail (IsCourseBy R) o os of) (All-tail IsCourse o os courses)
     (All-tail (IsObject R b) first rest parts) i
 
 module _ (R : Rule) (b : ℕ) (G : Generation) where
-  pub census_some : (n : ℕ) (os : List Course) → All (IsOf R) os → All IsCourse os →
+  pub census_some : (n : ℕ) (os : List Course) → All (IsCourseBy R) os → All IsCourse os →
       HasFallenApart R b G (sets_of (courses_after n os)) → census_of R G b ≡ Ash (size G) (counted_codes (map course_code os))
   unfolding census_of
   census_some n os of courses fallen =
@@ -111,8 +111,8 @@ module _ (R : Rule) (b : ℕ) (G : Generation) where
   unfolding census_of
   census_none none = ap (census_found R b (size G)) (none_if_no_ash R b (generation R G b) none)
 
-pub of_sooner : (R : Rule) (n : ℕ) (os : List Course) → All (IsOf R) (courses_after n os) → All (IsOf R) os
+pub of_sooner : (R : Rule) (n : ℕ) (os : List Course) → All (IsCourseBy R) (courses_after n os) → All (IsCourseBy R) os
 of_sooner R n [] of = of
 of_sooner R n (o ∷ os) of =
-    All-cons (IsOf R) o os (All-head (IsOf R) (course_after n o) (courses_after n os) of)
-    (of_sooner R n os (All-tail (IsOf R) (course_after n o) (courses_after n os) of))
+    All-cons (IsCourseBy R) o os (All-head (IsCourseBy R) (course_after n o) (courses_after n os) of)
+    (of_sooner R n os (All-tail (IsCourseBy R) (course_after n o) (courses_after n os) of))

@@ -18,7 +18,9 @@ use std::alloc::{AllocError, Global};
 fn add_phase(least: &mut LeastText, orbit: &Orbit, n: u32) -> Result<(), AllocError>
     requires phase { n < orbit.now.period }
     requires within { All (IsWithin ash_age_limit) (cells orbit.now.set) }
-    ensures { OnOk result (least.new ≡ fold with_text least.old (turned_bodies (generation orbit.now.rule orbit.now.set n))) }
+    ensures { OnOk result
+        (least.new ≡
+        fold with_text least.old (turned_bodies (generation orbit.now.rule orbit.now.set n))) }
 {
     prove!(orbit.period() <= BOUND_LIMIT);
     least.add(orbit.phase(n))
@@ -27,7 +29,8 @@ fn add_phase(least: &mut LeastText, orbit: &Orbit, n: u32) -> Result<(), AllocEr
 /// The least text of all phases, in all eight orientations.
 fn least_body(alloc: Global, orbit: &Orbit) -> Result<Vec<u8>, AllocError>
     requires within { All (IsWithin ash_age_limit) (cells orbit.now.set) }
-    ensures { IfOk result (λ text. text.items ≡ least_text (bodies orbit.now.rule orbit.now.set orbit.now.period)) }
+    ensures { IfOk result
+        (λ text. text.items ≡ least_text (bodies orbit.now.rule orbit.now.set orbit.now.period)) }
 {
     let mut least = LeastText::new(alloc);
     for n in 0..orbit.period() {

@@ -10,47 +10,47 @@ use Rattle.life_model.specs.Cell.{Cell, same_cell}
 use Rattle.life_model.specs.Generation.{Generation, cells, contains, from_list, keep}
 use Rattle.life_model.proofs.Cells.{same_cell-is}
 use Rattle.life_model.proofs.Generations.{contains-cells, contains-from_list}
-use Rattle.life_classes.specs.Nearness.{are_within, has, reaches}
-use Rattle.life_classes.specs.Tags.{number_of}
+use Rattle.life_classes.specs.Nearness.{are_within, lists_cell, reaches}
+use Rattle.life_classes.specs.Tags.{place_number}
 use Rattle.life_classes.proofs.Kept.{same_kept}
 use Rattle.life_classes.proofs.Lookups.{has_contains}
 use Rattle.life_classes.proofs.RowsRise.{any_by_filter}
 
 -- a cell with such a number is among those with such numbers
 pub in_window : (G : Generation) (all window : List Cell) (low high : ℤ) (c : Cell) → all ≡ cells G →
-    ((p : Cell → Bool) → ((d : Cell) → p d ≡ true → (low ≤ℤ number_of d) × (number_of d ≤ℤ high)) →
+    ((p : Cell → Bool) → ((d : Cell) → p d ≡ true → (low ≤ℤ place_number d) × (place_number d ≤ℤ high)) →
     filter p window ≡ filter p all) →
-    contains G c ≡ true → low ≤ℤ number_of c → number_of c ≤ℤ high → has window c ≡ true
+    contains G c ≡ true → low ≤ℤ place_number c → place_number c ≤ℤ high → lists_cell window c ≡ true
 in_window G all window low high c is kept h from to =
     any_by_filter (same_cell c) window all
     (kept (same_cell c) (λ d e.
     let same : c ≡ d = (same_cell-is c d).0 e in
-    (subst (λ x. low ≤ℤ number_of x) same from, subst (λ x. number_of x ≤ℤ high) same to)))
-    ∙ ap (λ ds. has ds c) is ∙ sym (contains-cells G c) ∙ h
+    (subst (λ x. low ≤ℤ place_number x) same from, subst (λ x. place_number x ≤ℤ high) same to)))
+    ∙ ap (λ ds. lists_cell ds c) is ∙ sym (contains-cells G c) ∙ h
 
 -- lists that three others are put to one after another
 module _ (old a b d x y z : List Cell) (first : x ≡ old ++ a) (second : y ≡ x ++ b) (third : z ≡ y ++ d) (c : Cell) where
-  has_left : (xs ys : List Cell) → has xs c ≡ true → has (xs ++ ys) c ≡ true
+  has_left : (xs ys : List Cell) → lists_cell xs c ≡ true → lists_cell (xs ++ ys) c ≡ true
   has_left xs ys h = list_any-append (same_cell c) xs ys ∙ or_left _ _ h
 
-  has_right : (xs ys : List Cell) → has ys c ≡ true → has (xs ++ ys) c ≡ true
+  has_right : (xs ys : List Cell) → lists_cell ys c ≡ true → lists_cell (xs ++ ys) c ≡ true
   has_right xs ys h = list_any-append (same_cell c) xs ys ∙ or_right _ _ h
 
-  pub still_has : has old c ≡ true → has z c ≡ true
+  pub still_has : lists_cell old c ≡ true → lists_cell z c ≡ true
   still_has h =
-      ap (λ xs. has xs c) third ∙ has_left y d (ap (λ xs. has xs c) second
-      ∙ has_left x b (ap (λ xs. has xs c) first ∙ has_left old a h))
+      ap (λ xs. lists_cell xs c) third ∙ has_left y d (ap (λ xs. lists_cell xs c) second
+      ∙ has_left x b (ap (λ xs. lists_cell xs c) first ∙ has_left old a h))
 
-  pub has_first : has a c ≡ true → has z c ≡ true
+  pub has_first : lists_cell a c ≡ true → lists_cell z c ≡ true
   has_first h =
-      ap (λ xs. has xs c) third ∙ has_left y d (ap (λ xs. has xs c) second
-      ∙ has_left x b (ap (λ xs. has xs c) first ∙ has_right old a h))
+      ap (λ xs. lists_cell xs c) third ∙ has_left y d (ap (λ xs. lists_cell xs c) second
+      ∙ has_left x b (ap (λ xs. lists_cell xs c) first ∙ has_right old a h))
 
-  pub has_second : has b c ≡ true → has z c ≡ true
-  has_second h = ap (λ xs. has xs c) third ∙ has_left y d (ap (λ xs. has xs c) second ∙ has_right x b h)
+  pub has_second : lists_cell b c ≡ true → lists_cell z c ≡ true
+  has_second h = ap (λ xs. lists_cell xs c) third ∙ has_left y d (ap (λ xs. lists_cell xs c) second ∙ has_right x b h)
 
-  pub has_third : has d c ≡ true → has z c ≡ true
-  has_third h = ap (λ xs. has xs c) third ∙ has_right y d h
+  pub has_third : lists_cell d c ≡ true → lists_cell z c ≡ true
+  has_third h = ap (λ xs. lists_cell xs c) third ∙ has_right y d h
 
 pub all_of_four : (P : Cell → Type 0) (old a b d x y z : List Cell) → x ≡ old ++ a → y ≡ x ++ b → z ≡ y ++ d → All P old →
     All P a → All P b → All P d → All P z
@@ -61,11 +61,11 @@ all_of_four P old a b d x y z first second third in_old in_a in_b in_d =
 -- those near the first n of some cells are there
 abbrev pub AreAdded : Generation → List Cell → ℕ → List Cell → Type 0
 AreAdded G cs n items = (k : ℕ) (d c : Cell) → k < n → contains G c ≡ true → are_within 1 c (get_or cs k d) ≡ true →
-    has items c ≡ true
+    lists_cell items c ≡ true
 
 pub one_more_added : (G : Generation) (cs : List Cell) (n : ℕ) (e : Cell) (items more : List Cell) → n < length cs →
-    ((c : Cell) → has items c ≡ true → has more c ≡ true) →
-    ((c : Cell) → contains G c ≡ true → are_within 1 c (get_or cs n e) ≡ true → has more c ≡ true) →
+    ((c : Cell) → lists_cell items c ≡ true → lists_cell more c ≡ true) →
+    ((c : Cell) → contains G c ≡ true → are_within 1 c (get_or cs n e) ≡ true → lists_cell more c ≡ true) →
     AreAdded G cs n items → AreAdded G cs (n + 1) more
 one_more_added G cs n e items more h kept added so_far k d c below in_G near = elim (cases_lt k n) [
   | inl before ↦ kept c (so_far k d c before in_G near)
@@ -82,7 +82,7 @@ pub around_kept : (G S P : Generation) (cs items : List Cell) (n : ℕ) → P �
 around_kept G S P cs items n is same whole only added =
     same_kept (reaches 1 S) P G
     (λ c h.
-    let listed : has items c ≡ true = sym (contains-from_list items c) ∙ ap (λ H. contains H c) (sym is) ∙ h in
+    let listed : lists_cell items c ≡ true = sym (contains-from_list items c) ∙ ap (λ H. contains H c) (sym is) ∙ h in
     All-contains (λ d. contains G d ≡ true) items c only (has_contains items c listed))
     (λ c in_G reached.
     let one = Any-from_list_any (are_within 1 c) (cells S) reached in

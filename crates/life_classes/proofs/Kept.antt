@@ -5,7 +5,7 @@ use Rattle.life_model.specs.Cell.{Cell, same_cell}
 use Rattle.life_model.specs.Generation.{Generation, cells, contains, from_list, keep}
 use Rattle.life_model.proofs.Cells.{same_cell-is}
 use Rattle.life_objects.proofs.Sides.{within_each_other}
-use Rattle.life_classes.specs.Nearness.{has}
+use Rattle.life_classes.specs.Nearness.{lists_cell}
 use Rattle.life_model.proofs.Generations.{contains-cells, contains-from_list, contains-keep, same_members}
 
 and-or : (same rest here passes : Bool) → (same ≡ true → here ≡ passes) →
@@ -16,16 +16,16 @@ and-or true false false passes h = h refl
 and-or false rest true passes h = refl
 and-or false rest false passes h = refl
 
-has-cond : (b : Bool) (xs ys : List Cell) (c : Cell) → has (cond b xs ys) c ≡ cond b (has xs c) (has ys c)
+has-cond : (b : Bool) (xs ys : List Cell) (c : Cell) → lists_cell (cond b xs ys) c ≡ cond b (lists_cell xs c) (lists_cell ys c)
 has-cond true xs ys c = refl
 has-cond false xs ys c = refl
 
-has-filter : (p : Cell → Bool) (cs : List Cell) (c : Cell) → has (filter p cs) c ≡ (has cs c && p c)
+has-filter : (p : Cell → Bool) (cs : List Cell) (c : Cell) → lists_cell (filter p cs) c ≡ (lists_cell cs c && p c)
 has-filter p [] c = refl
 has-filter p (d ∷ ds) c =
     has-cond (p d) (d ∷ filter p ds) (filter p ds) c
     ∙ (λ i. cond (p d) (same_cell c d || has-filter p ds c i) (has-filter p ds c i))
-    ∙ and-or (same_cell c d) (has ds c) (p d) (p c) (λ e. ap p (sym ((same_cell-is c d).0 e)))
+    ∙ and-or (same_cell c d) (lists_cell ds c) (p d) (p c) (λ e. ap p (sym ((same_cell-is c d).0 e)))
 
 pub from_list-filter : (p : Cell → Bool) (G : Generation) → from_list (filter p (cells G)) ≡ keep G p
 from_list-filter p G = same_members _ _ (λ c.

@@ -20,8 +20,8 @@ use Rattle.life_objects.specs.Apart.{AreNear}
 use Rattle.life_objects.proofs.Distances.{AreNear-swap}
 use Rattle.life_classes.specs.declared.class.Class.{Class}
 use Rattle.life_classes.specs.declared.tags.Tag.{Tag}
-use Rattle.life_classes.specs.Nearness.{has}
-use Rattle.life_classes.specs.Tags.{AreOf, AreOfUpTo, AreRising, AreTags, IsAlone, number_of, tag_of}
+use Rattle.life_classes.specs.Nearness.{lists_cell}
+use Rattle.life_classes.specs.Tags.{AreOfOneClass, AreOfUpTo, AreRisingTags, AreTags, IsAlone, place_number, tag_of}
 use Rattle.life_classes.specs.Tracking.{AreApartNow}
 
 by_rank : (r : Ordering) (x y : ℤ) → MatchOrdering r (x <ℤ y) (x ≡ y) (y <ℤ x) → (x ≤ℤ y) ⊎ (y <ℤ x)
@@ -34,7 +34,7 @@ either x y = by_rank (int_cmp x y) x y (int_ranks x y)
 
 module _ (ts : List Tag) (i j : ℕ) (a b : Cell) (alone : IsAlone (tag_of i a) ts) (there : Contains ts (tag_of j b))
     (near : AreNear a b) (above : a.1 ≤ℤ b.1) where
-  looked_up : (low : ℤ) → AreOf low i ts → low ≤ℤ number_of b → number_of b ≤ℤ (low +ℤ pos 4) → j ≡ i
+  looked_up : (low : ℤ) → AreOfOneClass low i ts → low ≤ℤ place_number b → place_number b ≤ℤ (low +ℤ pos 4) → j ≡ i
   looked_up low all = All-contains (λ t. low ≤ℤ t.number → t.number ≤ℤ (low +ℤ pos 4) → t.place ≡ i) ts (tag_of j b) all there
 
   -- a cell that is near one in its row or below is of the same class
@@ -73,7 +73,7 @@ not_less Less x y ranks least = absurd (true≢false least)
 not_less Equal x y ranks least = omega (arith, ints)
 not_less Greater x y ranks least = omega (arith, ints)
 
-pub rising_from_sorted : (ts : List Tag) → IsSortedByKey (λ t. t.number) int_cmp ts → AreRising ts
+pub rising_from_sorted : (ts : List Tag) → IsSortedByKey (λ t. t.number) int_cmp ts → AreRisingTags ts
 rising_from_sorted ts sorted i j d before within =
     let x = (get_or ts j d).number in
     let y = (get_or ts i d).number in
@@ -88,7 +88,7 @@ not_rising x y t h e = grind (arith, ints)
 not_below : (x t : ℤ) → int_lt x t ≡ true → t ≤ℤ x → ⊥
 not_below x t e h = grind (arith, ints)
 
-pub parted_at : (ts : List Tag) (low : ℤ) → AreRising ts → IsPartitionedBy (λ t. int_lt t.number low) ts
+pub parted_at : (ts : List Tag) (low : ℤ) → AreRisingTags ts → IsPartitionedBy (λ t. int_lt t.number low) ts
 parted_at ts low rising i j d k l e = not_rising _ _ low (rising i j d k l) e
 
 pub kept_from : (ts : List Tag) (low high : ℤ) (s place : ℕ) →
@@ -112,7 +112,7 @@ abbrev pub AreThere : List Class → ℕ → List Tag → Type 0
 AreThere cs n ts = (i : ℕ) (d : Class) (c : Cell) → i < n → contains (get_or cs i d).last c ≡ true →
     Contains ts (tag_of i c)
 
-pub has_contains : (cs : List Cell) (c : Cell) → has cs c ≡ true → Contains cs c
+pub has_contains : (cs : List Cell) (c : Cell) → lists_cell cs c ≡ true → Contains cs c
 has_contains cs c h =
     let one = Any-from_list_any (same_cell c) cs h in
     let same : c ≡ one.1 = (same_cell-is c one.1).0 one.4 in
@@ -155,7 +155,7 @@ one_more P xs n s h all one k d below = elim (cases_lt k n) [
 
 -- one tag more
 pub one_tag_more : (old ts : List Tag) (place : ℕ) (cs : List Cell) (i : ℕ) (d : Cell) (number : ℤ) → i < length cs →
-    number ≡ number_of (get_or cs i d) → ts ≡ old ++ map (tag_of place) (take i cs) →
+    number ≡ place_number (get_or cs i d) → ts ≡ old ++ map (tag_of place) (take i cs) →
     ts ++ (record { number = number; place = place } ∷ []) ≡ old ++ map (tag_of place) (take (i + 1) cs)
 one_tag_more old ts place cs i d number h is e =
     (λ k. e k ++ (record { number = is k; place = place } ∷ []))

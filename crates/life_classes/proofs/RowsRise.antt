@@ -19,7 +19,7 @@ use Rattle.life_model.specs.Generation.{is_rising}
 use Rattle.life_model.proofs.Cells.{same_cell-is}
 use Rattle.life_cells.specs.Limits.{IsPlace}
 use Rattle.life_cells.proofs.Sorted.{sorted_from_rising}
-use Rattle.life_classes.specs.Tags.{number_of}
+use Rattle.life_classes.specs.Tags.{place_number}
 
 not_below : (x y : ℤ) (r s : Ordering) → MatchOrdering r (x <ℤ y) (x ≡ y) (y <ℤ x) → ordering_then r s ≡ Less → x ≤ℤ y
 not_below x y Less s h e = omega (arith, ints)
@@ -37,7 +37,7 @@ lower x y u v Equal Equal h k e = inr (h, omega (arith, ints))
 lower x y u v Equal Greater h k e = cc
 lower x y u v Greater s h k e = cc
 
-number_not_below : (a b : Cell) → cell_cmp a b ≡ Less → IsPlace a → IsPlace b → number_of a ≤ℤ number_of b
+number_not_below : (a b : Cell) → cell_cmp a b ≡ Less → IsPlace a → IsPlace b → place_number a ≤ℤ place_number b
 number_not_below a b e p q =
     let left = p.left in
     let right = p.right in
@@ -72,8 +72,8 @@ pub rows_rise : (cs : List Cell) → T (is_rising cs) → Rise (λ c. c.1) cs
 rows_rise cs h =
     sorted_rise (λ c. c.1) (λ c. Unit {0}) (λ a b e p q. row_not_below a b e) cs (sorted_from_rising cs h) (λ k d l. tt)
 
-pub numbers_rise : (cs : List Cell) → T (is_rising cs) → All IsPlace cs → Rise number_of cs
-numbers_rise cs h placed = sorted_rise number_of IsPlace number_not_below cs (sorted_from_rising cs h) placed
+pub numbers_rise : (cs : List Cell) → T (is_rising cs) → All IsPlace cs → Rise place_number cs
+numbers_rise cs h placed = sorted_rise place_number IsPlace number_not_below cs (sorted_from_rising cs h) placed
 
 pub some_listed : (cs : List Cell) (d : Cell) → list_any (same_cell d) cs ≡ true → 0 < length cs
 some_listed cs d one =

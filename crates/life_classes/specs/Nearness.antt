@@ -13,12 +13,12 @@ abbrev pub reaches : ℕ → Generation → Cell → Bool
 reaches r P c = list_any (are_within r c) (cells P)
 
 -- whether a cell of P is near one of Q
-abbrev pub are_near : Generation → Generation → Bool
-are_near P Q = list_any (reaches 2 Q) (cells P)
+abbrev pub sets_are_near : Generation → Generation → Bool
+sets_are_near P Q = list_any (reaches 2 Q) (cells P)
 
 -- whether a cell is listed
-abbrev pub has : List Cell → Cell → Bool
-has cs c = list_any (same_cell c) cs
+abbrev pub lists_cell : List Cell → Cell → Bool
+lists_cell cs c = list_any (same_cell c) cs
 
 -- each of the cells is near the one before it
 abbrev pub IsChain : List Cell → Type 0

@@ -7,11 +7,11 @@ use Rattle.life_classes.specs.declared.class.Class.{Class}
 use Rattle.life_classes.specs.declared.tags.Tag.{Tag}
 
 -- a number that rises along each row and from row to row
-abbrev pub number_of : Cell → ℤ
-number_of c = (c.1 *ℤ pos (2 ^ 31)) +ℤ c.0
+abbrev pub place_number : Cell → ℤ
+place_number c = (c.1 *ℤ pos (2 ^ 31)) +ℤ c.0
 
 abbrev pub tag_of : ℕ → Cell → Tag
-tag_of place c = record { number = number_of c; place = place }
+tag_of place c = record { number = place_number c; place = place }
 
 -- the number is one of a cell
 pub record IsNumbered (t : Tag) : Type 0 where
@@ -24,19 +24,19 @@ AreTags cs ts = (i : ℕ) (d : Class) (c : Cell) → i < length cs → contains 
     Contains ts (tag_of i c)
 
 -- no number is less than one that stands before it
-abbrev pub AreRising : List Tag → Type 0
-AreRising ts = (i j : ℕ) (d : Tag) → i ≤ j → j < length ts → (get_or ts i d).number ≤ℤ (get_or ts j d).number
+abbrev pub AreRisingTags : List Tag → Type 0
+AreRisingTags ts = (i j : ℕ) (d : Tag) → i ≤ j → j < length ts → (get_or ts i d).number ≤ℤ (get_or ts j d).number
 
 -- those with a number up to this one are of one class
 abbrev pub AreOfUpTo : ℤ → ℕ → List Tag → Type 0
 AreOfUpTo high place ts = All (λ t. t.number ≤ℤ high → t.place ≡ place) ts
 
 -- those with a number from this one to four more are of one class
-abbrev pub AreOf : ℤ → ℕ → List Tag → Type 0
-AreOf low place ts = All (λ t. low ≤ℤ t.number → t.number ≤ℤ (low +ℤ pos 4) → t.place ≡ place) ts
+abbrev pub AreOfOneClass : ℤ → ℕ → List Tag → Type 0
+AreOfOneClass low place ts = All (λ t. low ≤ℤ t.number → t.number ≤ℤ (low +ℤ pos 4) → t.place ≡ place) ts
 
 -- those that may be near the cell, in its row and in the two below it, are of its class
 pub record IsAlone (t : Tag) (ts : List Tag) : Type 0 where
-  pub here : AreOf (t.number +ℤ neg_ℤ (pos 2)) t.place ts
-  pub below : AreOf (t.number +ℤ pos (2 ^ 31) +ℤ neg_ℤ (pos 2)) t.place ts
-  pub further : AreOf (t.number +ℤ pos (2 ^ 32) +ℤ neg_ℤ (pos 2)) t.place ts
+  pub here : AreOfOneClass (t.number +ℤ neg_ℤ (pos 2)) t.place ts
+  pub below : AreOfOneClass (t.number +ℤ pos (2 ^ 31) +ℤ neg_ℤ (pos 2)) t.place ts
+  pub further : AreOfOneClass (t.number +ℤ pos (2 ^ 32) +ℤ neg_ℤ (pos 2)) t.place ts

@@ -8,7 +8,7 @@ ghost use Rattle.life_classes.specs.Tracking.{LeadTo};
 
 use crate::class::Class;
 use crate::meeting::Turn;
-use crate::nearness::are_near;
+use crate::nearness::sets_are_near;
 use life_cells::{CellList, put_in_order};
 use std::alloc::{AllocError, Global};
 
@@ -57,7 +57,7 @@ fn is_led(ranked: &[Ranked], start: usize, n: usize) -> bool
     if from < start || n <= from {
         return false;
     }
-    are_near(&ranked[from].class.last, &ranked[n].class.last)
+    sets_are_near(&ranked[from].class.last, &ranked[n].class.last)
 }
 
 /// The end of the classes from a place on that hang together.
@@ -87,7 +87,8 @@ fn side_of(class: &Class, last: bool) -> &CellList
 
 /// What is left of the classes together, or else what they were at first.
 fn all_cells(alloc: Global, group: &[Ranked], last: bool) -> Result<CellList, AllocError>
-    ensures { IfOk result (λ list. list ≡ union_of (map (set_on_side last) (classes_of group.now))) }
+    ensures { IfOk result
+        (λ list. list ≡ union_of (map (set_on_side last) (classes_of group.now))) }
 {
     let mut items = Vec::new(alloc);
     for one in group {
@@ -99,8 +100,10 @@ fn all_cells(alloc: Global, group: &[Ranked], last: bool) -> Result<CellList, Al
 
 /// The classes as one.
 fn as_one(alloc: Global, group: &[Ranked]) -> Result<Class, AllocError>
-    ensures first { IfOk result (λ class. class.first ≡ union_of (map (set_on_side false) (classes_of group.now))) }
-    ensures last { IfOk result (λ class. class.last ≡ union_of (map (set_on_side true) (classes_of group.now))) }
+    ensures first { IfOk result
+        (λ class. class.first ≡ union_of (map (set_on_side false) (classes_of group.now))) }
+    ensures last { IfOk result
+        (λ class. class.last ≡ union_of (map (set_on_side true) (classes_of group.now))) }
 {
     Ok(Class {
         first: all_cells(alloc, group, false)?,

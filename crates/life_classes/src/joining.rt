@@ -1,13 +1,13 @@
 //! Classes that are near each other become one.
 ghost use Rattle.std.specs.Prelude.{◌≡◌, ◌∷◌, IfOk, OnOk};
 ghost use Rattle.life_objects.specs.Union.{union};
-ghost use Rattle.life_classes.specs.Tags.{AreRising};
+ghost use Rattle.life_classes.specs.Tags.{AreRisingTags};
 ghost use Rattle.life_classes.specs.Tracking.{AreApartNow, LeadTo};
 
 use crate::class::Class;
 use crate::gathering::{gathered, in_ranks};
 use crate::meeting::turns;
-use crate::nearness::are_near;
+use crate::nearness::sets_are_near;
 use crate::tags::{Tag, stand_apart, tags_in_order};
 use life_cells::{CellList, put_in_order};
 use std::alloc::{AllocError, Global};
@@ -44,7 +44,7 @@ fn add(alloc: Global, classes: &mut Vec<Class>, class: Class) -> Result<(), Allo
     let mut class = class;
     let mut n = 0;
     while n < classes.len() {
-        if are_near(&classes[n].last, &class.last) {
+        if sets_are_near(&classes[n].last, &class.last) {
             let other = classes.remove(n);
             class = joined(alloc, &other, &class)?;
         } else {
@@ -70,7 +70,7 @@ fn each_joined(alloc: Global, classes: Vec<Class>) -> Result<Vec<Class>, AllocEr
 
 /// The classes with those joined that are seen to hang together, where these are the cells of all.
 fn gathered_by(alloc: Global, classes: Vec<Class>, tags: &[Tag]) -> Result<Vec<Class>, AllocError>
-    requires { AreRising tags.now }
+    requires { AreRisingTags tags.now }
     ensures { IfOk result (λ all. LeadTo classes.items all.items) }
 {
     let turns = turns(alloc, classes.as_slice(), tags)?;

@@ -1,9 +1,9 @@
 //! Which classes hang together, as far as can be told: a guess, which is tested where it is used.
 ghost use Rattle.std.specs.Prelude.{◌-◌, ◌^◌, ◌≤ℤ◌, pos};
-ghost use Rattle.life_classes.specs.Tags.{AreRising};
+ghost use Rattle.life_classes.specs.Tags.{AreRisingTags};
 
 use crate::class::Class;
-use crate::tags::{ROW, Tag, number_of, tags_from};
+use crate::tags::{ROW, Tag, place_number, tags_from};
 use std::alloc::{AllocError, Global};
 
 /// When a class is met, and when the one was that it is near. Those that hang together are met one after another.
@@ -53,7 +53,7 @@ impl Meeting {
 
     /// Meets the classes that have a cell with a number from this one to four more.
     fn meet_near(&mut self, tags: &[Tag], low: i64, from: usize) -> Result<(), AllocError>
-        requires rising { AreRising tags.now }
+        requires rising { AreRisingTags tags.now }
         requires small { low ≤ℤ pos (2 ^ 63 - 5) }
     {
         for tag in tags_from(tags, low) {
@@ -67,10 +67,10 @@ impl Meeting {
 
     /// Meets the classes that a class is near, which was met as the FROM-th.
     fn meet_around(&mut self, tags: &[Tag], class: &Class, from: usize) -> Result<(), AllocError>
-        requires { AreRising tags.now }
+        requires { AreRisingTags tags.now }
     {
         for cell in class.last.as_slice() {
-            let number = number_of(*cell);
+            let number = place_number(*cell);
             self.meet_near(tags, number - 2 * ROW - 2, from)?;
             self.meet_near(tags, number - ROW - 2, from)?;
             self.meet_near(tags, number - 2, from)?;
@@ -93,7 +93,7 @@ impl Meeting {
 
 /// When each of the classes is met, where each that is met leads to those that it is near.
 pub fn turns(alloc: Global, classes: &[Class], tags: &[Tag]) -> Result<Vec<Turn>, AllocError>
-    requires { AreRising tags.now }
+    requires { AreRisingTags tags.now }
 {
     let mut met = Meeting::of(alloc, classes.len())?;
     let mut first = 0;

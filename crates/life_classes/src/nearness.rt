@@ -1,7 +1,7 @@
 //! Which cells are near each other.
 ghost use Rattle.std.specs.Prelude.{◌≡◌};
 ghost use Rattle.std.specs.List.{list_any};
-ghost use Rattle.life_classes.specs.Nearness.{are_near, are_within, reaches};
+ghost use Rattle.life_classes.specs.Nearness.{are_within, reaches, sets_are_near};
 
 use crate::rows::{rows, rows_about};
 use life_cells::CellList;
@@ -41,8 +41,8 @@ fn is_any_reached(reach: u32, set: &CellList, cells: &[(i32, i32)]) -> bool
 }
 
 /// Whether some cell of the one set is near a cell of the other.
-pub fn are_near(one: &CellList, other: &CellList) -> bool
-    ensures { result ≡ are_near one.now other.now }
+pub fn sets_are_near(one: &CellList, other: &CellList) -> bool
+    ensures { result ≡ sets_are_near one.now other.now }
 {
     let (top, bottom) = rows_about(2, other);
     let (first, last) = rows_about(0, one);

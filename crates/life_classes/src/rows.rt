@@ -4,9 +4,9 @@ ghost use Rattle.life_model.specs.Cell.{Cell};
 ghost use Rattle.life_model.specs.Generation.{is_rising};
 ghost use Rattle.life_cells.specs.Limits.{IsPlace};
 ghost use Rattle.life_classes.specs.Nearness.{reaches};
-ghost use Rattle.life_classes.specs.Tags.{number_of};
+ghost use Rattle.life_classes.specs.Tags.{place_number};
 
-use crate::tags::number_of;
+use crate::tags::place_number;
 use life_cells::CellList;
 
 /// Those of the cells that stand in the rows from one to another.
@@ -29,14 +29,16 @@ pub fn rows(cells: &[(i32, i32)], top: i64, bottom: i64) -> &[(i32, i32)]
 pub fn numbered(cells: &[(i32, i32)], low: i64, high: i64) -> &[(i32, i32)]
     requires rising { T (is_rising cells.now) }
     requires placed { All IsPlace cells.now }
-    ensures kept { (p : Cell → Bool) → ((c : Cell) → p c ≡ true → (low ≤ℤ number_of c) × (number_of c ≤ℤ high)) →
+    ensures kept { (p : Cell → Bool) →
+        ((c : Cell) → p c ≡ true → (low ≤ℤ place_number c) × (place_number c ≤ℤ high)) →
         filter p result.now ≡ filter p cells.now }
     ensures placed { All IsPlace result.now }
-    ensures passing { (p : Cell → Bool) → All (λ c. p c ≡ true) cells.now → All (λ c. p c ≡ true) result.now }
+    ensures passing { (p : Cell → Bool) → All (λ c. p c ≡ true) cells.now →
+        All (λ c. p c ≡ true) result.now }
 {
-    let start = cells.partition_point(|cell| number_of(*cell) < low);
+    let start = cells.partition_point(|cell| place_number(*cell) < low);
     let from = &cells[start..];
-    let count = from.partition_point(|cell| number_of(*cell) <= high);
+    let count = from.partition_point(|cell| place_number(*cell) <= high);
     &from[..count]
 }
 

@@ -34,9 +34,12 @@ pub fn classes<P: Plane>(
 ) -> Result<Vec<Class>, AllocError>
     requires young { P.steps_made plane + bound ≤ AGE_LIMIT }
     ensures together { IfOk result (λ all. union_of (first_sets all.items) ≡ P.members plane) }
-    ensures whole { IfOk result (λ all. All (StaysWhole rule.now bound (P.members plane)) (first_sets all.items)) }
-    ensures apart { IfOk result (λ all. AllPairs (AreApartFor rule.now bound) (first_sets all.items)) }
-    ensures later { IfOk result (λ all. last_sets all.items ≡ generations rule.now (first_sets all.items) bound) }
+    ensures whole { IfOk result
+        (λ all. All (StaysWhole rule.now bound (P.members plane)) (first_sets all.items)) }
+    ensures apart { IfOk result
+        (λ all. AllPairs (AreApartFor rule.now bound) (first_sets all.items)) }
+    ensures later { IfOk result
+        (λ all. last_sets all.items ≡ generations rule.now (first_sets all.items) bound) }
 {
     let mut plane = plane;
     let mut classes = first_classes(alloc, plane.cells()?.as_slice())?;

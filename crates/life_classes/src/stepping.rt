@@ -3,13 +3,13 @@ ghost use Rattle.std.specs.Prelude.{◌≡◌, All, IfOk, OnOk, filter, map, tru
 ghost use Rattle.life_model.specs.Cell.{Cell};
 ghost use Rattle.life_model.specs.Generation.{contains, keep};
 ghost use Rattle.life_cells.specs.Limits.{IsPlace};
-ghost use Rattle.life_classes.specs.Nearness.{are_within, has, reaches};
+ghost use Rattle.life_classes.specs.Nearness.{are_within, lists_cell, reaches};
 ghost use Rattle.life_classes.specs.Tracking.{moved_on};
 
 use crate::class::Class;
 use crate::nearness::reaches;
 use crate::rows::{numbered, rows, rows_about};
-use crate::tags::{ROW, number_of};
+use crate::tags::{ROW, place_number};
 use life_cells::{CellList, put_in_order};
 use std::alloc::{AllocError, Global};
 
@@ -37,15 +37,17 @@ fn add_around(
     cells: &CellList,
     cell: (i32, i32),
 ) -> Result<(), AllocError>
-    ensures kept { OnOk result ((c : Cell) → has items.old.items c ≡ true → has items.new.items c ≡ true) }
-    ensures added { OnOk result ((c : Cell) → contains cells.now c ≡ true → are_within 1 c cell ≡ true →
-        has items.new.items c ≡ true) }
+    ensures kept { OnOk result
+        ((c : Cell) → lists_cell items.old.items c ≡ true → lists_cell items.new.items c ≡ true) }
+    ensures added { OnOk result
+        ((c : Cell) → contains cells.now c ≡ true → are_within 1 c cell ≡ true →
+        lists_cell items.new.items c ≡ true) }
     ensures only { OnOk result (All (λ c. contains cells.now c ≡ true) items.old.items →
         All (λ c. contains cells.now c ≡ true) items.new.items) }
     ensures placed { OnOk result (All IsPlace items.old.items → All IsPlace items.new.items) }
 {
     let all = cells.as_slice();
-    let low = number_of(cell) - 1;
+    let low = place_number(cell) - 1;
     items.extend_from_slice(numbered(all, low - ROW, low - ROW + 2))?;
     items.extend_from_slice(numbered(all, low, low + 2))?;
     items.extend_from_slice(numbered(all, low + ROW, low + ROW + 2))?;
@@ -54,7 +56,8 @@ fn add_around(
 
 /// Those of the cells that may be at most one away from a cell of a set.
 fn around(alloc: Global, cells: &CellList, set: &CellList) -> Result<CellList, AllocError>
-    ensures { IfOk result (λ list. keep list (reaches 1 set.now) ≡ keep cells.now (reaches 1 set.now)) }
+    ensures { IfOk result
+        (λ list. keep list (reaches 1 set.now) ≡ keep cells.now (reaches 1 set.now)) }
 {
     let mut items = Vec::new(alloc);
     for cell in set.as_slice() {

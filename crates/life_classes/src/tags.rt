@@ -3,7 +3,7 @@ ghost use Rattle.std.specs.Prelude.{◌≡◌, ◌-◌, ℕ, ℤ, ◌+ℤ◌, �
 ghost use Rattle.std.specs.Bool.{OnTrue};
 ghost use Rattle.life_model.specs.Generation as generations;
 ghost use Rattle.life_classes.specs.declared.class.Class.{Class as ModelClass};
-ghost use Rattle.life_classes.specs.Tags.{AreOf, AreOfUpTo, AreRising, AreTags, IsAlone, IsNumbered, number_of, tag_of};
+ghost use Rattle.life_classes.specs.Tags.{AreOfOneClass, AreOfUpTo, AreRisingTags, AreTags, IsAlone, IsNumbered, place_number, tag_of};
 ghost use Rattle.life_classes.specs.Tracking.{AreApartNow};
 
 use crate::class::Class;
@@ -21,8 +21,8 @@ pub struct Tag {
 }
 
 /// A number that rises along each row and from row to row.
-pub fn number_of(cell: (i32, i32)) -> i64
-    ensures number { result ≡ number_of cell }
+pub fn place_number(cell: (i32, i32)) -> i64
+    ensures number { result ≡ place_number cell }
     ensures low { neg_ℤ (pos (2 ^ 62 + 2 ^ 31)) ≤ℤ result }
     ensures high { result ≤ℤ pos (2 ^ 62 + 2 ^ 31) }
 {
@@ -31,12 +31,13 @@ pub fn number_of(cell: (i32, i32)) -> i64
 
 /// Adds the cells of a set, as those of the class in some place.
 fn add(tags: &mut Vec<Tag>, set: &CellList, place: usize) -> Result<(), AllocError>
-    ensures items { OnOk result (tags.new.items ≡ tags.old.items ++ map (tag_of place) (generations.cells set.now)) }
+    ensures items { OnOk result
+        (tags.new.items ≡ tags.old.items ++ map (tag_of place) (generations.cells set.now)) }
     ensures numbered { OnOk result (All IsNumbered tags.old.items → All IsNumbered tags.new.items) }
 {
     for cell in set.as_slice() {
         tags.push(Tag {
-            number: number_of(*cell),
+            number: place_number(*cell),
             place,
         })?;
     }
@@ -46,7 +47,7 @@ fn add(tags: &mut Vec<Tag>, set: &CellList, place: usize) -> Result<(), AllocErr
 /// The cells of what is left of the classes, in order.
 pub fn tags_in_order(alloc: Global, classes: &[Class]) -> Result<Vec<Tag>, AllocError>
     ensures tags { IfOk result (λ tags. AreTags classes.now tags.items) }
-    ensures rising { IfOk result (λ tags. AreRising tags.items) }
+    ensures rising { IfOk result (λ tags. AreRisingTags tags.items) }
     ensures numbered { IfOk result (λ tags. All IsNumbered tags.items) }
 {
     let mut tags = Vec::new(alloc);
@@ -59,8 +60,8 @@ pub fn tags_in_order(alloc: Global, classes: &[Class]) -> Result<Vec<Tag>, Alloc
 
 /// The tags from the first on whose number is not less.
 pub fn tags_from(tags: &[Tag], low: i64) -> &[Tag]
-    requires { AreRising tags.now }
-    ensures rising { AreRising result.now }
+    requires { AreRisingTags tags.now }
+    ensures rising { AreRisingTags result.now }
     ensures kept { (high : ℤ) (place : ℕ) → AreOfUpTo high place result.now →
         All (λ t. low ≤ℤ t.number → t.number ≤ℤ high → t.place ≡ place) tags.now }
 {
@@ -70,7 +71,7 @@ pub fn tags_from(tags: &[Tag], low: i64) -> &[Tag]
 
 /// Whether those tags with a number up to this one are all of one class.
 fn are_of_up_to(tags: &[Tag], high: i64, place: usize) -> bool
-    requires { AreRising tags.now }
+    requires { AreRisingTags tags.now }
     ensures { OnTrue result (AreOfUpTo high place tags.now) }
 {
     for tag in tags {
@@ -86,16 +87,16 @@ fn are_of_up_to(tags: &[Tag], high: i64, place: usize) -> bool
 
 /// Whether those tags with a number from this one to four more are all of one class.
 fn are_of(tags: &[Tag], low: i64, place: usize) -> bool
-    requires rising { AreRising tags.now }
+    requires rising { AreRisingTags tags.now }
     requires small { low ≤ℤ pos (2 ^ 63 - 5) }
-    ensures { OnTrue result (AreOf low place tags.now) }
+    ensures { OnTrue result (AreOfOneClass low place tags.now) }
 {
     are_of_up_to(tags_from(tags, low), low + 4, place)
 }
 
 /// Whether no cell of another class is near a cell, in its row and in the two below it.
 fn is_alone(tags: &[Tag], tag: Tag) -> bool
-    requires rising { AreRising tags.now }
+    requires rising { AreRisingTags tags.now }
     requires numbered { IsNumbered tag }
     ensures { OnTrue result (IsAlone tag tags.now) }
 {
@@ -110,9 +111,10 @@ fn is_alone(tags: &[Tag], tag: Tag) -> bool
 
 /// Whether no cell is near one of another class. Each is looked up among those that may be near it.
 pub fn stand_apart(tags: &[Tag]) -> bool
-    requires rising { AreRising tags.now }
+    requires rising { AreRisingTags tags.now }
     requires numbered { All IsNumbered tags.now }
-    ensures { OnTrue result ((classes : List ModelClass) → AreTags classes tags.now → AreApartNow classes) }
+    ensures { OnTrue result
+        ((classes : List ModelClass) → AreTags classes tags.now → AreApartNow classes) }
 {
     for tag in tags {
         if !is_alone(tags, *tag) {

@@ -38,7 +38,8 @@ fn are_few(classes: &[Class]) -> bool
 
 /// Whether cells are one class from the first. Then they are undivided under each rule and for each bound.
 pub fn hold_together(alloc: Global, cells: &CellList) -> Result<bool, AllocError>
-    ensures { IfOk result (λ are. IsTrue are → (R : ModelRule) (b : ℕ) → IsUndivided R b cells.now) }
+    ensures { IfOk result
+        (λ are. IsTrue are → (R : ModelRule) (b : ℕ) → IsUndivided R b cells.now) }
 {
     let classes = first_classes(alloc, cells.as_slice())?;
     Ok(classes.len() < 2)

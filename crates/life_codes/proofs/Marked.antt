@@ -17,14 +17,14 @@ use Rattle.life_shape.proofs.Weights.{live_value}
 use Rattle.life_codes.specs.declared.frame.Frame.{Frame}
 use Rattle.life_codes.specs.declared.measure.Lengths.{Lengths}
 use Rattle.life_codes.specs.Frames.{IsInFrame, frame_of, turned_frame, cell_in_frame, wide_of, strips_of}
-use Rattle.life_codes.specs.Words.{AreLengths, AreZeroTogether, HoldsMarks, IsFrameOf, IsSmall, upside_down, word_columns, words_text}
+use Rattle.life_codes.specs.Words.{AreLengths, AreZeroTogether, HoldsMarks, IsFrameOf, IsSmallFrame, upside_down, word_columns, words_text}
 use Rattle.life_codes.proofs.Bodies.{column-mirror, contains-normal_placed, framed_cells, strip_number}
 use Rattle.life_codes.proofs.Framed.{Framed, framed_turned, width_framed, range_ordered}
 use Rattle.life_codes.proofs.Worded.{same_lengths, same_texts_length, length-word_columns, column_at}
 
 -- ---- a small frame is small however it is turned
 
-pub small_turned : (m : Orientation) (f : Frame) → f.left ≤ℤ f.right → f.top ≤ℤ f.bottom → IsSmall f → IsSmall (turned_frame m f)
+pub small_turned : (m : Orientation) (f : Frame) → f.left ≤ℤ f.right → f.top ≤ℤ f.bottom → IsSmallFrame f → IsSmallFrame (turned_frame m f)
 small_turned Same f a d h = h
 small_turned FlipX f a d h = let x = h.across in record { across = omega (arith, ints); down = h.down }
 small_turned FlipY f a d h = let y = h.down in record { across = h.across; down = omega (arith, ints) }

@@ -74,7 +74,7 @@ abbrev pub words_text : (ℕ → ℕ) → ℕ → ℕ → Bool → List ℕ
 words_text words wide strips back = strips_text (λ k. columns_text 0 (columns_from back (word_columns wide (words k)))) strips
 
 -- It is at most 64 wide and at most 64 high.
-pub record IsSmall (f : Frame) : Type 0 where
+pub record IsSmallFrame (f : Frame) : Type 0 where
   pub across : nat_abs (f.right -ℤ f.left) < 64
   pub down : nat_abs (f.bottom -ℤ f.top) < 64
 

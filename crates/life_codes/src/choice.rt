@@ -57,7 +57,8 @@ impl Choice {
 
     /// Whether there is a text that is less than each of so many bytes of which this is the first.
     pub fn is_before(&self, bytes: usize, first: u8) -> bool
-        ensures { IsTrue result → (rest : List ℕ) → length (first ∷ rest) ≡ bytes → with_text self.now (first ∷ rest) ≡ self.now }
+        ensures { IsTrue result → (rest : List ℕ) → length (first ∷ rest) ≡ bytes →
+            with_text self.now (first ∷ rest) ≡ self.now }
     {
         if !self.some || self.text.len() != bytes || bytes == 0 {
             return false;
@@ -67,7 +68,8 @@ impl Choice {
 
     /// Whether there is a text that is less than each of so many bytes that begins so.
     pub fn is_begun_before(&self, bytes: usize, start: &[u8]) -> bool
-        ensures { IsTrue result → (rest : List ℕ) → length (start.now ++ rest) ≡ bytes → with_text self.now (start.now ++ rest) ≡ self.now }
+        ensures { IsTrue result → (rest : List ℕ) → length (start.now ++ rest) ≡ bytes →
+            with_text self.now (start.now ++ rest) ≡ self.now }
     {
         if !self.some || self.text.len() != bytes || start.len() > bytes {
             return false;

@@ -3,7 +3,7 @@ ghost use Rattle.std.specs.Prelude.{◌≡◌, ◌+◌, ◌-ℤ◌, ◌<◌, All
 ghost use Rattle.life_cells.specs.Limits.{IsPlace};
 ghost use Rattle.life_shape.specs.Orients.{orientation};
 ghost use Rattle.life_codes.specs.Frames.{IsBounded, frame_of, strips_of, turned_frame, wide_of};
-ghost use Rattle.life_codes.specs.Words.{IsSmall};
+ghost use Rattle.life_codes.specs.Words.{IsSmallFrame};
 
 use life_shape::Orient;
 
@@ -102,7 +102,7 @@ impl Frame {
     /// Whether it is at most 64 wide and at most 64 high.
     pub fn is_small(self) -> bool
         requires { IsBounded self }
-        ensures { IsTrue result → IsSmall self }
+        ensures { IsTrue result → IsSmallFrame self }
     {
         self.width() <= 64 && self.height() <= 64
     }

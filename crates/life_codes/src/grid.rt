@@ -40,7 +40,9 @@ impl Grid {
     /// Whether it has the columns of another.
     pub fn is_same(&self, other: &Grid) -> bool
         ensures strips { IsTrue result → self.now.strips ≡ other.now.strips }
-        ensures texts { IsTrue result → both_texts self.now.values.items self.now.wide self.now.strips ≡ both_texts other.now.values.items other.now.wide other.now.strips }
+        ensures texts { IsTrue result →
+            both_texts self.now.values.items self.now.wide self.now.strips ≡
+            both_texts other.now.values.items other.now.wide other.now.strips }
     {
         self.wide == other.wide && self.strips == other.strips && self.values == other.values
     }
@@ -68,9 +70,11 @@ fn fill(values: &mut [u8], cells: &[(i32, i32)], orient: Orient, frame: Frame)
     requires bounded { IsBounded frame }
     requires placed { All IsPlace cells.now }
     requires inside { All (λ c. IsInFrame frame (turn (orientation orient) c)) cells.now }
-    requires small { (k x : ℕ) → weights k (map (cell_in_frame (orientation orient) frame) cells.now) x < 32 }
+    requires small { (k x : ℕ) →
+        weights k (map (cell_in_frame (orientation orient) frame) cells.now) x < 32 }
     ensures len { length values.new ≡ length values.old }
-    ensures weights { HoldsWeights values.new (wide_of frame) (strips_of frame) (map (cell_in_frame (orientation orient) frame) cells.now) }
+    ensures weights { HoldsWeights values.new (wide_of frame) (strips_of frame)
+        (map (cell_in_frame (orientation orient) frame) cells.now) }
 {
     let wide = frame.width();
     for cell in cells {
@@ -89,9 +93,12 @@ pub fn make_grid(
     requires bounded { IsBounded frame }
     requires placed { All IsPlace cells.now }
     requires inside { All (λ c. IsInFrame frame (turn (orientation orient) c)) cells.now }
-    requires small { (k x : ℕ) → weights k (map (cell_in_frame (orientation orient) frame) cells.now) x < 32 }
+    requires small { (k x : ℕ) →
+        weights k (map (cell_in_frame (orientation orient) frame) cells.now) x < 32 }
     ensures room { OnOk result (length values.new.items ≡ strips_of frame * wide_of frame) }
-    ensures weights { OnOk result (HoldsWeights values.new.items (wide_of frame) (strips_of frame) (map (cell_in_frame (orientation orient) frame) cells.now)) }
+    ensures weights { OnOk result
+        (HoldsWeights values.new.items (wide_of frame) (strips_of frame)
+        (map (cell_in_frame (orientation orient) frame) cells.now)) }
 {
     values.clear();
     values.resize(frame.strips() * frame.width(), 0)?;

@@ -9,7 +9,7 @@ ghost use Rattle.life_answer.specs.Apgcode.{turned_bodies};
 ghost use Rattle.life_codes.specs.Frames.{IsBounded, frame_of};
 ghost use Rattle.life_codes.specs.Grids.{both_texts, grid_text};
 ghost use Rattle.life_codes.specs.Least.{IsTaken, two_bodies, with_text};
-ghost use Rattle.life_codes.specs.Words.{AreLengths, IsSmall};
+ghost use Rattle.life_codes.specs.Words.{AreLengths, IsSmallFrame};
 
 use crate::choice::Choice;
 use crate::frame::{Frame, frame_of};
@@ -74,7 +74,8 @@ fn is_beyond(
     requires room { length values.now ≡ strips * wide }
     requires small { All (λ v. v < 36) values.now }
     requires bytes { bytes ≡ length (grid_text values.now wide strips back) }
-    ensures { IsTrue result → with_text least.now (grid_text values.now wide strips back) ≡ least.now }
+    ensures { IsTrue result →
+        with_text least.now (grid_text values.now wide strips back) ≡ least.now }
 {
     if least.is_shorter(bytes) {
         return true;
@@ -95,8 +96,11 @@ fn add_text(
     requires wide { 0 < grid.now.wide }
     requires room { length grid.now.values.items ≡ grid.now.strips * grid.now.wide }
     requires small { All (λ v. v < 36) grid.now.values.items }
-    requires bytes { bytes ≡ length (grid_text grid.now.values.items grid.now.wide grid.now.strips back) }
-    ensures { OnOk result (least.new ≡ with_text least.old (grid_text grid.now.values.items grid.now.wide grid.now.strips back)) }
+    requires bytes { bytes ≡ length (grid_text grid.now.values.items grid.now.wide grid.now.strips
+        back) }
+    ensures { OnOk result
+        (least.new ≡
+        with_text least.old (grid_text grid.now.values.items grid.now.wide grid.now.strips back)) }
 {
     if is_beyond(least, &grid.values, grid.wide, grid.strips, back, bytes) {
         return Ok(());
@@ -129,7 +133,9 @@ fn make_turned(
     ensures wide { OnOk result (0 < grid.new.wide) }
     ensures room { OnOk result (length grid.new.values.items ≡ grid.new.strips * grid.new.wide) }
     ensures small { OnOk result (All (λ v. v < 36) grid.new.values.items) }
-    ensures texts { OnOk result (both_texts grid.new.values.items grid.new.wide grid.new.strips ≡ two_bodies (from_list cells.now) (orientation orient)) }
+    ensures texts { OnOk result
+        (both_texts grid.new.values.items grid.new.wide grid.new.strips ≡
+        two_bodies (from_list cells.now) (orientation orient)) }
 {
     let turned = frame.turned(orient);
     make_grid(&mut grid.values, cells, orient, turned)?;
@@ -142,13 +148,23 @@ fn make_turned(
 fn add_second(least: &mut Choice, room: &mut Room, lengths: Lengths) -> Result<(), AllocError>
     requires some { 0 < room.old.second.strips }
     requires wide { 0 < room.old.second.wide }
-    requires room { length room.old.second.values.items ≡ room.old.second.strips * room.old.second.wide }
+    requires room { length room.old.second.values.items ≡
+        room.old.second.strips * room.old.second.wide }
     requires small { All (λ v. v < 36) room.old.second.values.items }
-    requires forward { lengths.forward ≡ length (grid_text room.old.second.values.items room.old.second.wide room.old.second.strips false) }
-    requires backward { lengths.backward ≡ length (grid_text room.old.second.values.items room.old.second.wide room.old.second.strips true) }
-    requires taken { IsTaken least.old room.old.first.values.items room.old.first.wide room.old.first.strips }
-    ensures texts { OnOk result (least.new ≡ fold with_text least.old (both_texts room.old.second.values.items room.old.second.wide room.old.second.strips)) }
-    ensures taken { OnOk result (IsTaken least.new room.new.first.values.items room.new.first.wide room.new.first.strips) }
+    requires forward { lengths.forward ≡
+        length (grid_text room.old.second.values.items room.old.second.wide room.old.second.strips
+        false) }
+    requires backward { lengths.backward ≡
+        length (grid_text room.old.second.values.items room.old.second.wide room.old.second.strips
+        true) }
+    requires taken { IsTaken least.old room.old.first.values.items room.old.first.wide
+        room.old.first.strips }
+    ensures texts { OnOk result
+        (least.new ≡
+        fold with_text least.old
+        (both_texts room.old.second.values.items room.old.second.wide room.old.second.strips)) }
+    ensures taken { OnOk result
+        (IsTaken least.new room.new.first.values.items room.new.first.wide room.new.first.strips) }
 {
     if room.second.is_same(&room.first) {
         return Ok(());
@@ -176,9 +192,13 @@ fn add_turned(
     requires frame { frame ≡ frame_of cells.now }
     requires bounded { IsBounded frame }
     requires lengths { AreLengths lengths (from_list cells.now) (orientation orient) }
-    requires taken { IsTaken least.old room.old.first.values.items room.old.first.wide room.old.first.strips }
-    ensures texts { OnOk result (least.new ≡ fold with_text least.old (two_bodies (from_list cells.now) (orientation orient))) }
-    ensures taken { OnOk result (IsTaken least.new room.new.first.values.items room.new.first.wide room.new.first.strips) }
+    requires taken { IsTaken least.old room.old.first.values.items room.old.first.wide
+        room.old.first.strips }
+    ensures texts { OnOk result
+        (least.new ≡
+        fold with_text least.old (two_bodies (from_list cells.now) (orientation orient))) }
+    ensures taken { OnOk result
+        (IsTaken least.new room.new.first.values.items room.new.first.wide room.new.first.strips) }
 {
     if least.is_shorter(lengths.forward) && least.is_shorter(lengths.backward) {
         return Ok(());
@@ -199,8 +219,9 @@ fn add_small(
     requires placed { All IsPlace cells.now }
     requires frame { frame ≡ frame_of cells.now }
     requires bounded { IsBounded frame }
-    requires small { IsSmall frame }
-    ensures { OnOk result (least.new ≡ fold with_text least.old (turned_bodies (from_list cells.now))) }
+    requires small { IsSmallFrame frame }
+    ensures { OnOk result
+        (least.new ≡ fold with_text least.old (turned_bodies (from_list cells.now))) }
 {
     let lengths = four_lengths(cells, frame);
     room.first.forget();
@@ -229,7 +250,8 @@ fn add_wide(
     requires placed { All IsPlace cells.now }
     requires frame { frame ≡ frame_of cells.now }
     requires bounded { IsBounded frame }
-    ensures { OnOk result (least.new ≡ fold with_text least.old (turned_bodies (from_list cells.now))) }
+    ensures { OnOk result
+        (least.new ≡ fold with_text least.old (turned_bodies (from_list cells.now))) }
 {
     let found = wide_lengths(&mut room.marks, cells, frame)?;
     room.forget();

@@ -4,7 +4,7 @@ ghost use Rattle.life_model.specs.Cell.{Cell};
 ghost use Rattle.life_model.specs.Symmetry.{Same, Swap};
 ghost use Rattle.life_cells.specs.Limits.{IsPlace};
 ghost use Rattle.life_codes.specs.Frames.{IsBounded, IsInFrame, cell_in_frame, turned_frame, wide_of};
-ghost use Rattle.life_codes.specs.Words.{HoldsRows, IsSmall, IsWithin, five_rows};
+ghost use Rattle.life_codes.specs.Words.{HoldsRows, IsSmallFrame, IsWithin, five_rows};
 
 use crate::frame::Frame;
 use crate::grid::place_in;
@@ -22,7 +22,8 @@ fn mark(rows: &mut [u64], column: usize, row: usize)
     requires column { column < 64 }
     requires row { row < 64 }
     ensures len { length rows.new ≡ length rows.old }
-    ensures marks { (cells : List Cell) → HoldsRows rows.old cells → HoldsRows rows.new (cells ++ (pos column, pos row) ∷ []) }
+    ensures marks { (cells : List Cell) → HoldsRows rows.old cells →
+        HoldsRows rows.new (cells ++ (pos column, pos row) ∷ []) }
     ensures within { (wide : ℕ) → column < wide → IsWithin rows.old wide → IsWithin rows.new wide }
 {
     rows[row + ABOVE] |= 1 << column;
@@ -35,13 +36,14 @@ pub fn mark_cells(rows: &mut [u64], columns: &mut [u64], cells: &[(i32, i32)], f
     requires empty { All (λ w. w ≡ 0) rows.old }
     requires columns_empty { All (λ w. w ≡ 0) columns.old }
     requires bounded { IsBounded frame }
-    requires small { IsSmall frame }
+    requires small { IsSmallFrame frame }
     requires placed { All IsPlace cells.now }
     requires inside { All (IsInFrame frame) cells.now }
     ensures room { length rows.new ≡ 69 }
     ensures columns_room { length columns.new ≡ 69 }
     ensures rows { HoldsRows rows.new (map (cell_in_frame Same frame) cells.now) }
-    ensures columns { HoldsRows columns.new (map (cell_in_frame Swap (turned_frame Swap frame)) cells.now) }
+    ensures columns { HoldsRows columns.new
+        (map (cell_in_frame Swap (turned_frame Swap frame)) cells.now) }
     ensures within { IsWithin rows.new (wide_of frame) }
     ensures columns_within { IsWithin columns.new (wide_of (turned_frame Swap frame)) }
 {

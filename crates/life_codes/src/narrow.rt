@@ -12,7 +12,8 @@ pub const NARROW: usize = 40;
 
 /// The columns right after one that is marked, and those at most four after one. One before the first counts as marked.
 fn after_marks(word: u64) -> (u64, u64)
-    ensures { (wide : ℕ) → wide ≤ 40 → AreNear (word_columns wide word) (bit_at result.0) (bit_at result.1) }
+    ensures { (wide : ℕ) → wide ≤ 40 →
+        AreNear (word_columns wide word) (bit_at result.0) (bit_at result.1) }
 {
     let next = word << 1 | 1;
     let two = next | next << 1;
@@ -22,7 +23,8 @@ fn after_marks(word: u64) -> (u64, u64)
 /// The columns right before one that is marked, and those at most four before one. Those after the last count as marked.
 fn before_marks(word: u64, wide: usize) -> (u64, u64)
     requires { wide ≤ 40 }
-    ensures { AreNear (reverse (word_columns wide word)) (λ i. bit_at result.0 (wide - 1 - i)) (λ i. bit_at result.1 (wide - 1 - i)) }
+    ensures { AreNear (reverse (word_columns wide word)) (λ i. bit_at result.0 (wide - 1 - i))
+        (λ i. bit_at result.1 (wide - 1 - i)) }
 {
     let next = (word | u64::MAX << wide) >> 1;
     let two = next | next >> 1;
@@ -32,7 +34,8 @@ fn before_marks(word: u64, wide: usize) -> (u64, u64)
 /// How long a text is whose columns are marked. Each takes three bytes, with the zeros before it, but one less where no zero
 /// stands before it, and one less where fewer than four do.
 fn text_length(word: u64, marks: (u64, u64)) -> usize
-    ensures { result + count_ones (bit_and word marks.0) + count_ones (bit_and word marks.1) ≡ 3 * count_ones word }
+    ensures { result + count_ones (bit_and word marks.0) + count_ones (bit_and word marks.1) ≡
+        3 * count_ones word }
 {
     let (next, near) = marks;
     let bytes = 3 * word.count_ones();
@@ -43,8 +46,10 @@ fn text_length(word: u64, marks: (u64, u64)) -> usize
 pub fn narrow_lengths(word: u64, wide: usize) -> Lengths
     requires narrow { wide ≤ 40 }
     requires beyond { (i : ℕ) → wide ≤ i → bit_at word i ≡ 0 }
-    ensures forward { result.forward ≡ length (columns_text 0 (columns_from false (word_columns wide word))) }
-    ensures backward { result.backward ≡ length (columns_text 0 (columns_from true (word_columns wide word))) }
+    ensures forward { result.forward ≡
+        length (columns_text 0 (columns_from false (word_columns wide word))) }
+    ensures backward { result.backward ≡
+        length (columns_text 0 (columns_from true (word_columns wide word))) }
     ensures small_forward { result.forward ≤ wide }
     ensures small_backward { result.backward ≤ wide }
 {

@@ -16,7 +16,8 @@ pub fn prefix(
     period: u32,
     displacement: (i32, i32),
 ) -> Result<Vec<u8>, AllocError>
-    ensures { IfOk result (λ text. text.items ≡ prefix population period displacement ++ codes "_") }
+    ensures { IfOk result
+        (λ text. text.items ≡ prefix population period displacement ++ codes "_") }
 {
     let (mark, number) = if displacement != (0, 0) {
         (b'q', u64::from(period))

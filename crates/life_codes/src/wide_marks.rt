@@ -126,7 +126,8 @@ fn mark_all(
 /// Makes words for the strips of a frame, without a mark.
 fn clear(words: &mut Vec<u64>, frame: Frame) -> Result<(), AllocError>
     requires { IsBounded frame }
-    ensures room { OnOk result (length words.new.items ≡ strips_of frame * words_in (wide_of frame)) }
+    ensures room { OnOk result
+        (length words.new.items ≡ strips_of frame * words_in (wide_of frame)) }
     ensures empty { OnOk result (All (λ w. w ≡ 0) words.new.items) }
 {
     words.clear();
@@ -145,7 +146,8 @@ pub fn mark_wide(
     ensures same { OnOk result (HoldsWideTurned marks.new.same.items Same frame cells.now) }
     ensures flip { OnOk result (HoldsWideTurned marks.new.flip.items FlipY frame cells.now) }
     ensures swap { OnOk result (HoldsWideTurned marks.new.swap.items Swap frame cells.now) }
-    ensures swap_flip { OnOk result (HoldsWideTurned marks.new.swap_flip.items SwapFlipY frame cells.now) }
+    ensures swap_flip { OnOk result
+        (HoldsWideTurned marks.new.swap_flip.items SwapFlipY frame cells.now) }
     ensures same_room { OnOk result (IsRoomFor marks.new.same.items Same frame) }
     ensures flip_room { OnOk result (IsRoomFor marks.new.flip.items FlipY frame) }
     ensures swap_room { OnOk result (IsRoomFor marks.new.swap.items Swap frame) }

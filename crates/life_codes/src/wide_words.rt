@@ -56,8 +56,10 @@ fn strip_lengths(words: &[u64], first: usize, per: usize, wide: usize) -> Length
     requires per { per ≡ words_in wide }
     requires room { first + per ≤ length words.now }
     requires beyond { IsMarkedWithin words.now first wide }
-    ensures forward { result.forward ≡ length (columns_text 0 (columns_from false (wide_columns words.now first wide))) }
-    ensures backward { result.backward ≡ length (columns_text 0 (columns_from true (wide_columns words.now first wide))) }
+    ensures forward { result.forward ≡
+        length (columns_text 0 (columns_from false (wide_columns words.now first wide))) }
+    ensures backward { result.backward ≡
+        length (columns_text 0 (columns_from true (wide_columns words.now first wide))) }
     ensures small_forward { result.forward ≤ wide }
     ensures small_backward { result.backward ≤ wide }
 {
@@ -88,9 +90,12 @@ fn strip_lengths(words: &[u64], first: usize, per: usize, wide: usize) -> Length
 fn strips_lengths(words: &[u64], frame: Frame) -> Lengths
     requires bounded { IsBounded frame }
     requires room { length words.now ≡ strips_of frame * words_in (wide_of frame) }
-    requires beyond { (k : ℕ) → k < strips_of frame → IsMarkedWithin words.now (k * words_in (wide_of frame)) (wide_of frame) }
-    ensures forward { result.forward ≡ length (wide_text words.now (wide_of frame) (strips_of frame) false) }
-    ensures backward { result.backward ≡ length (wide_text words.now (wide_of frame) (strips_of frame) true) }
+    requires beyond { (k : ℕ) → k < strips_of frame →
+        IsMarkedWithin words.now (k * words_in (wide_of frame)) (wide_of frame) }
+    ensures forward { result.forward ≡
+        length (wide_text words.now (wide_of frame) (strips_of frame) false) }
+    ensures backward { result.backward ≡
+        length (wide_text words.now (wide_of frame) (strips_of frame) true) }
 {
     let wide = frame.width();
     let per = words_per_strip(frame);
@@ -109,9 +114,15 @@ fn strips_lengths(words: &[u64], frame: Frame) -> Lengths
 fn turned_lengths(words: &[u64], frame: Frame, orient: Orient) -> Lengths
     requires bounded { IsBounded frame }
     requires room { IsRoomFor words.now (orientation orient) frame }
-    requires beyond { (k : ℕ) → k < strips_of (turned_frame (orientation orient) frame) → IsMarkedWithin words.now (k * words_in (wide_of (turned_frame (orientation orient) frame))) (wide_of (turned_frame (orientation orient) frame)) }
-    ensures forward { result.forward ≡ length (wide_text words.now (wide_of (turned_frame (orientation orient) frame)) (strips_of (turned_frame (orientation orient) frame)) false) }
-    ensures backward { result.backward ≡ length (wide_text words.now (wide_of (turned_frame (orientation orient) frame)) (strips_of (turned_frame (orientation orient) frame)) true) }
+    requires beyond { (k : ℕ) → k < strips_of (turned_frame (orientation orient) frame) →
+        IsMarkedWithin words.now (k * words_in (wide_of (turned_frame (orientation orient) frame)))
+        (wide_of (turned_frame (orientation orient) frame)) }
+    ensures forward { result.forward ≡
+        length (wide_text words.now (wide_of (turned_frame (orientation orient) frame))
+        (strips_of (turned_frame (orientation orient) frame)) false) }
+    ensures backward { result.backward ≡
+        length (wide_text words.now (wide_of (turned_frame (orientation orient) frame))
+        (strips_of (turned_frame (orientation orient) frame)) true) }
 {
     strips_lengths(words, frame.turned(orient))
 }
@@ -130,7 +141,8 @@ pub fn wide_lengths(
     ensures same { IfOk result (λ lengths. AreLengths lengths.same (from_list cells.now) Same) }
     ensures half { IfOk result (λ lengths. AreLengths lengths.half (from_list cells.now) Half) }
     ensures swap { IfOk result (λ lengths. AreLengths lengths.swap (from_list cells.now) Swap) }
-    ensures swap_half { IfOk result (λ lengths. AreLengths lengths.swap_half (from_list cells.now) SwapHalf) }
+    ensures swap_half { IfOk result
+        (λ lengths. AreLengths lengths.swap_half (from_list cells.now) SwapHalf) }
 {
     mark_wide(marks, cells, frame)?;
     Ok(FourLengths {

@@ -8,7 +8,7 @@ ghost use Rattle.life_shape.specs.Wechsler.{columns_text};
 ghost use Rattle.life_cells.specs.Limits.{IsPlace};
 ghost use Rattle.life_codes.specs.Frames.{IsBounded, cell_in_frame, frame_of, wide_of};
 ghost use Rattle.life_codes.specs.Grids.{columns_from};
-ghost use Rattle.life_codes.specs.Words.{AreLengths, HoldsRows, IsFrameOf, IsSmall, IsWithin, word_columns};
+ghost use Rattle.life_codes.specs.Words.{AreLengths, HoldsRows, IsFrameOf, IsSmallFrame, IsWithin, word_columns};
 
 use crate::frame::Frame;
 use crate::marks::{ABOVE, ROWS, columns_of, mark_cells};
@@ -42,8 +42,10 @@ pub fn next_column(rest: u64) -> (usize, u64)
 fn long_lengths(word: u64, wide: usize) -> Lengths
     requires narrow { wide ≤ 64 }
     requires beyond { (i : ℕ) → wide ≤ i → bit_at word i ≡ 0 }
-    ensures forward { result.forward ≡ length (columns_text 0 (columns_from false (word_columns wide word))) }
-    ensures backward { result.backward ≡ length (columns_text 0 (columns_from true (word_columns wide word))) }
+    ensures forward { result.forward ≡
+        length (columns_text 0 (columns_from false (word_columns wide word))) }
+    ensures backward { result.backward ≡
+        length (columns_text 0 (columns_from true (word_columns wide word))) }
     ensures small_forward { result.forward ≤ wide }
     ensures small_backward { result.backward ≤ wide }
 {
@@ -74,8 +76,10 @@ fn long_lengths(word: u64, wide: usize) -> Lengths
 fn word_lengths(word: u64, wide: usize) -> Lengths
     requires narrow { wide ≤ 64 }
     requires beyond { (i : ℕ) → wide ≤ i → bit_at word i ≡ 0 }
-    ensures forward { result.forward ≡ length (columns_text 0 (columns_from false (word_columns wide word))) }
-    ensures backward { result.backward ≡ length (columns_text 0 (columns_from true (word_columns wide word))) }
+    ensures forward { result.forward ≡
+        length (columns_text 0 (columns_from false (word_columns wide word))) }
+    ensures backward { result.backward ≡
+        length (columns_text 0 (columns_from true (word_columns wide word))) }
     ensures small_forward { result.forward ≤ wide }
     ensures small_backward { result.backward ≤ wide }
 {
@@ -91,9 +95,11 @@ fn word_lengths(word: u64, wide: usize) -> Lengths
 fn lengths_down(rows: &[u64], frame: Frame) -> Lengths
     requires room { length rows.now ≡ 69 }
     requires bounded { IsBounded frame }
-    requires small { IsSmall frame }
+    requires small { IsSmallFrame frame }
     requires within { IsWithin rows.now (wide_of frame) }
-    ensures lengths { (m : Orientation) (cells : List Cell) → IsFrameOf frame m cells → HoldsRows rows.now (map (cell_in_frame m frame) cells) → AreLengths result (from_list cells) m }
+    ensures lengths { (m : Orientation) (cells : List Cell) → IsFrameOf frame m cells →
+        HoldsRows rows.now (map (cell_in_frame m frame) cells) →
+        AreLengths result (from_list cells) m }
 {
     let wide = frame.width();
     let strips = frame.strips();
@@ -113,9 +119,11 @@ fn lengths_down(rows: &[u64], frame: Frame) -> Lengths
 fn lengths_up(rows: &[u64], frame: Frame) -> Lengths
     requires room { length rows.now ≡ 69 }
     requires bounded { IsBounded frame }
-    requires small { IsSmall frame }
+    requires small { IsSmallFrame frame }
     requires within { IsWithin rows.now (wide_of frame) }
-    ensures lengths { (m : Orientation) (cells : List Cell) → IsFrameOf frame m cells → HoldsRows rows.now (map (cell_in_frame m frame) cells) → AreLengths result (image_under (from_list cells) m) FlipY }
+    ensures lengths { (m : Orientation) (cells : List Cell) → IsFrameOf frame m cells →
+        HoldsRows rows.now (map (cell_in_frame m frame) cells) →
+        AreLengths result (image_under (from_list cells) m) FlipY }
 {
     let wide = frame.width();
     let strips = frame.strips();
@@ -149,7 +157,7 @@ pub fn four_lengths(cells: &[(i32, i32)], frame: Frame) -> FourLengths
     requires placed { All IsPlace cells.now }
     requires frame { frame ≡ frame_of cells.now }
     requires bounded { IsBounded frame }
-    requires small { IsSmall frame }
+    requires small { IsSmallFrame frame }
     ensures same { AreLengths result.same (from_list cells.now) Same }
     ensures half { AreLengths result.half (from_list cells.now) Half }
     ensures swap { AreLengths result.swap (from_list cells.now) Swap }

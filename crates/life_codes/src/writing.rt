@@ -72,7 +72,8 @@ pub fn value_at(strip: &[u8], place: usize, back: bool) -> u8
 #[inline(always)]
 fn push_strip(text: &mut Vec<u8>, strip: &[u8], back: bool) -> Result<(), AllocError>
     requires { All (λ v. v < 36) strip.now }
-    ensures { OnOk result (text.new.items ≡ text.old.items ++ columns_text 0 (columns_from back strip.now)) }
+    ensures { OnOk result
+        (text.new.items ≡ text.old.items ++ columns_text 0 (columns_from back strip.now)) }
 {
     let mut skipped = 0;
     'columns: for place in 0..strip.len() {
@@ -116,7 +117,8 @@ pub fn begin_text(
     requires room { wide ≤ length values.now }
     requires small { All (λ v. v < 36) values.now }
     requires empty { text.old.items ≡ [] }
-    ensures { OnOk result (text.new.items ≡ columns_text 0 (columns_from back (strip_of values.now wide 0))) }
+    ensures { OnOk result
+        (text.new.items ≡ columns_text 0 (columns_from back (strip_of values.now wide 0))) }
 {
     push_strip(text, strip_of(values, wide, 0), back)
 }
@@ -132,7 +134,8 @@ pub fn end_text(
     requires some { 0 < strips }
     requires room { length values.now ≡ strips * wide }
     requires small { All (λ v. v < 36) values.now }
-    requires begun { text.old.items ≡ columns_text 0 (columns_from back (strip_of values.now wide 0)) }
+    requires begun { text.old.items ≡
+        columns_text 0 (columns_from back (strip_of values.now wide 0)) }
     ensures { OnOk result (text.new.items ≡ grid_text values.now wide strips back) }
 {
     'strips: for strip in 1..strips {

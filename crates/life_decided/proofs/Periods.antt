@@ -15,17 +15,17 @@ use Rattle.life_objects.specs.Drift.{multiple_of}
 use Rattle.life_objects.specs.Whole.{IsCore}
 use Rattle.life_objects.proofs.Moving.{generation-times}
 use Rattle.life_objects.proofs.Recurring.{RecursBy-later, RecursBy-sooner, moved_back, n-le}
-use Rattle.life_decided.specs.Parts.{comes_again, first_from, part_of, period, corner_offset}
+use Rattle.life_decided.specs.Parts.{returns_after, first_or_zero, part_of, period, corner_offset}
 use Rattle.life_decided.proofs.Tests.{same_set-is}
 
 module _ (test : ℕ → Bool) where
-  here : (n count : ℕ) → test n ≡ true → first_from test n (suc count) ≡ n
-  here n count e = ap (λ t. cond t n (first_from test (n + 1) count)) e
+  here : (n count : ℕ) → test n ≡ true → first_or_zero test n (suc count) ≡ n
+  here n count e = ap (λ t. cond t n (first_or_zero test (n + 1) count)) e
 
-  further : (n count : ℕ) → test n ≡ false → first_from test n (suc count) ≡ first_from test (n + 1) count
-  further n count e = ap (λ t. cond t n (first_from test (n + 1) count)) e
+  further : (n count : ℕ) → test n ≡ false → first_or_zero test n (suc count) ≡ first_or_zero test (n + 1) count
+  further n count e = ap (λ t. cond t n (first_or_zero test (n + 1) count)) e
 
-  first-le : (count n : ℕ) → 1 ≤ n → first_from test n count ≤ (n + count) - 1
+  first-le : (count n : ℕ) → 1 ≤ n → first_or_zero test n count ≤ (n + count) - 1
   first-le zero n one = omega arith
   first-le (suc count) n one =
       elim (cases_Bool (test n)) [
@@ -33,7 +33,7 @@ module _ (test : ℕ → Bool) where
         | inr fails ↦ let e = further n count fails in let h = first-le count (n + 1) (omega arith) in omega arith
       ]
 
-  first_passes : (count n : ℕ) → 1 ≤ first_from test n count → test (first_from test n count) ≡ true
+  first_passes : (count n : ℕ) → 1 ≤ first_or_zero test n count → test (first_or_zero test n count) ≡ true
   first_passes zero n h = absurd (omega arith)
   first_passes (suc count) n h =
       elim (cases_Bool (test n)) [
@@ -43,7 +43,7 @@ module _ (test : ℕ → Bool) where
             ap test e ∙ first_passes count (n + 1) (omega arith)
       ]
 
-  first_found : (count n m : ℕ) → 1 ≤ n → n ≤ m → m < n + count → test m ≡ true → 1 ≤ first_from test n count
+  first_found : (count n m : ℕ) → 1 ≤ n → n ≤ m → m < n + count → test m ≡ true → 1 ≤ first_or_zero test n count
   first_found zero n m one h k e = absurd (omega arith)
   first_found (suc count) n m one h k e =
       elim (cases_Bool (test n)) [
@@ -59,29 +59,29 @@ module _ (test : ℕ → Bool) where
       ]
 
 module _ (R : Rule) (P : Generation) where
-  recurs_by_test : (n : ℕ) → 1 ≤ n → comes_again R P n ≡ true → RecursBy R P n (corner_offset R P n)
+  recurs_by_test : (n : ℕ) → 1 ≤ n → returns_after R P n ≡ true → RecursBy R P n (corner_offset R P n)
   recurs_by_test n h e = record {
     later = h;
     again = moved_from_normal P (generation R P n) (sym ((same_set-is (normal (generation R P n)) (normal P)).0 e));
   }
 
-  test_by_recurs : (n : ℕ) (d : Cell) → RecursBy R P n d → comes_again R P n ≡ true
+  test_by_recurs : (n : ℕ) (d : Cell) → RecursBy R P n d → returns_after R P n ≡ true
   test_by_recurs n d r =
       (same_set-is (normal (generation R P n)) (normal P)).1 (ap normal r.again ∙ normal-moved P d)
 
   pub period-le : (b : ℕ) → period R b P ≤ b
-  period-le b = let h = first-le (comes_again R P) b 1 (omega arith) in omega arith
+  period-le b = let h = first-le (returns_after R P) b 1 (omega arith) in omega arith
 
   -- what is found is a number of generations after which P comes again
   pub recurs : (b : ℕ) → 1 ≤ period R b P → RecursBy R P (period R b P) (corner_offset R P (period R b P))
-  recurs b h = recurs_by_test (period R b P) h (first_passes (comes_again R P) b 1 h)
+  recurs b h = recurs_by_test (period R b P) h (first_passes (returns_after R P) b 1 h)
 
   -- where there is one within b, one is found
   pub period_found : (b : ℕ) → RecursWithin R b P → 1 ≤ period R b P
   period_found b r =
       let one : 1 ≤ r.steps = r.recurs.later in
       let within : r.steps ≤ b = r.within in
-      first_found (comes_again R P) b 1 r.steps (omega arith) one (omega arith)
+      first_found (returns_after R P) b 1 r.steps (omega arith) one (omega arith)
       (test_by_recurs r.steps r.by r.recurs)
 
   pub recurs_within : (b : ℕ) → 1 ≤ period R b P → RecursWithin R b P

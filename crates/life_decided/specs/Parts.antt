@@ -10,17 +10,17 @@ use Rattle.life_objects.specs.Drift.{multiple_of}
 use Rattle.life_decided.specs.Tests.{each_below, meet, same_set}
 
 -- whether generation n of P is P, moved as a whole
-abbrev pub comes_again : Rule → Generation → ℕ → Bool
-comes_again R P n = same_set (normal (generation R P n)) (normal P)
+abbrev pub returns_after : Rule → Generation → ℕ → Bool
+returns_after R P n = same_set (normal (generation R P n)) (normal P)
 
 -- the first of so many numbers from n on that passes the test, or 0 if none does
-abbrev pub first_from : (ℕ → Bool) → ℕ → ℕ → ℕ
-first_from test n zero = 0
-first_from test n (suc count) = if test n then n else first_from test (n + 1) count
+abbrev pub first_or_zero : (ℕ → Bool) → ℕ → ℕ → ℕ
+first_or_zero test n zero = 0
+first_or_zero test n (suc count) = if test n then n else first_or_zero test (n + 1) count
 
 -- after how many generations, from 1 to b, P first comes again, or 0 if it doesn't
 abbrev pub period : Rule → ℕ → Generation → ℕ
-period R b P = first_from (comes_again R P) 1 b
+period R b P = first_or_zero (returns_after R P) 1 b
 
 -- how far the least x and the least y of generation n are from those of P
 abbrev pub corner_offset : Rule → Generation → ℕ → Cell

@@ -15,17 +15,21 @@ ghost use Rattle.life_decided.specs.Decided.{ash_of};
 
 /// The parts that are found make the set ash, and where none are found it is no ash, of whatever parts.
 pub fn ash_is_decided()
-    ensures some { (R : Rule) (b : ℕ) (G : Generation) (parts : List Generation) → ash_of R b G ≡ Some parts →
+    ensures some { (R : Rule) (b : ℕ) (G : Generation) (parts : List Generation) →
+        ash_of R b G ≡ Some parts →
         IsAsh R b G parts }
-    ensures none { (R : Rule) (b : ℕ) (G : Generation) (parts : List Generation) → ash_of R b G ≡ None →
+    ensures none { (R : Rule) (b : ℕ) (G : Generation) (parts : List Generation) →
+        ash_of R b G ≡ None →
         IsAsh R b G parts → ⊥ }
 {}
 
 /// Of ash its parts are found, in some order, of what is no ash none, and of the empty set the empty list.
 pub fn parts_are_found()
-    ensures parts { (R : Rule) (b : ℕ) (G : Generation) (parts : List Generation) → IsAsh R b G parts →
+    ensures parts { (R : Rule) (b : ℕ) (G : Generation) (parts : List Generation) →
+        IsAsh R b G parts →
         (found : List Generation) × (ash_of R b G ≡ Some found) × IsPermutation parts found }
-    ensures otherwise { (R : Rule) (b : ℕ) (G : Generation) → ((parts : List Generation) → IsAsh R b G parts → ⊥) →
+    ensures otherwise { (R : Rule) (b : ℕ) (G : Generation) →
+        ((parts : List Generation) → IsAsh R b G parts → ⊥) →
         ash_of R b G ≡ None }
     ensures nothing { (R : Rule) (b : ℕ) → ash_of R b empty ≡ Some [] }
 {}
@@ -34,7 +38,8 @@ pub fn parts_are_found()
 /// become by then, in some order. Within a smaller bound nothing else is found.
 pub fn what_was_found_lasts()
     ensures later { (R : Rule) (b c n : ℕ) (G : Generation) (parts : List Generation) → b ≤ c →
-        ash_of R b G ≡ Some parts → (found : List Generation) × (ash_of R c (generation R G n) ≡ Some found)
+        ash_of R b G ≡ Some parts → (found : List Generation) ×
+        (ash_of R c (generation R G n) ≡ Some found)
         × IsPermutation (generations R parts n) found }
     ensures bound { (R : Rule) (b c : ℕ) (G : Generation) (parts : List Generation) → b ≤ c →
         ash_of R b (generation R G b) ≡ Some parts →

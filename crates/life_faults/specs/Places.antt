@@ -42,5 +42,5 @@ place_in text NoEnd = length text
 place_in text Memory = 0
 
 -- its line and column; a place after the text's end counts as the end
-abbrev pub place_of : List ℕ → RleFault → Place
-place_of text fault = line_and_column text (min (place_in text fault) (length text))
+abbrev pub place_of_fault : List ℕ → RleFault → Place
+place_of_fault text fault = line_and_column text (min (place_in text fault) (length text))

@@ -79,8 +79,8 @@ is_map (c ∷ []) = false
 is_map (c ∷ d ∷ []) = false
 is_map (c ∷ d ∷ e ∷ rest) = (c == 77) && ((d == 65) && (e == 80))
 
-abbrev pub is_name : List ℕ → Bool
-is_name rule = has_word_behind 47 rule && (not (is_in rule 47) && not (is_map rule))
+abbrev pub is_rule_name : List ℕ → Bool
+is_rule_name rule = has_word_behind 47 rule && (not (is_in rule 47) && not (is_map rule))
 
 -- which kind of rule a text names that is no Life-like rule: the first of these tests that holds says it
 abbrev pub rule_kind : List ℕ → RuleKind
@@ -89,5 +89,5 @@ rule_kind rule =
     (if is_larger rule then LargerThanLife else
     (if is_generations rule then Generations else
     (if is_non_totalistic rule then NonTotalistic else
-    (if is_name rule then Named else
+    (if is_rule_name rule then Named else
     (if list_any is_blank rule then Blank else Other)))))

@@ -2,7 +2,7 @@
 ghost use Rattle.std.specs.Prelude.{◌≡◌};
 ghost use Rattle.std.specs.List.{list_all, list_any};
 ghost use Rattle.life_cells.specs.Bytes.{is_blank, is_digit};
-ghost use Rattle.life_faults.specs.Rules.{begins_with_range, has_arrangement_behind, has_word_behind, is_arrangement, is_generations, is_in_numbers, is_isotropic, is_larger, is_map, is_name, is_non_totalistic, is_number, is_states, rule_kind};
+ghost use Rattle.life_faults.specs.Rules.{begins_with_range, has_arrangement_behind, has_word_behind, is_arrangement, is_generations, is_in_numbers, is_isotropic, is_larger, is_map, is_non_totalistic, is_number, is_rule_name, is_states, rule_kind};
 
 use crate::bytes::{behind_last, count_of};
 use life_text::{is_blank, is_digit, is_letter};
@@ -149,8 +149,8 @@ fn is_map(rule: &[u8]) -> bool
 }
 
 // Whether a rule is a name.
-fn is_name(rule: &[u8]) -> bool
-    ensures { result ≡ is_name rule.now }
+fn is_rule_name(rule: &[u8]) -> bool
+    ensures { result ≡ is_rule_name rule.now }
 {
     has_word(rule) && !rule.contains(&b'/') && !is_map(rule)
 }
@@ -182,7 +182,7 @@ pub fn rule_kind(rule: &[u8]) -> RuleKind
         RuleKind::Generations
     } else if is_non_totalistic(rule) {
         RuleKind::NonTotalistic
-    } else if is_name(rule) {
+    } else if is_rule_name(rule) {
         RuleKind::Named
     } else if has_blank(rule) {
         RuleKind::Blank

@@ -1,6 +1,6 @@
 //! Where the bytes of a text stand.
 ghost use Rattle.std.specs.Prelude.{◌≡◌, ◌≤◌, length};
-ghost use Rattle.life_faults.specs.Places.{line_and_column, place_in, place_of};
+ghost use Rattle.life_faults.specs.Places.{line_and_column, place_in, place_of_fault};
 
 use crate::bytes::{count_of, last_line_len};
 use crate::header::header_place;
@@ -44,7 +44,7 @@ fn place_in(text: &[u8], fault: RleFault) -> usize
 /// for a fault of the header; at the text's end where the end is missing; and at the text's first byte where memory was
 /// refused. A byte after the text's end counts as the end.
 pub fn place_of(text: &[u8], fault: &RleFault) -> Place
-    ensures { result ≡ place_of text.now fault.now }
+    ensures { result ≡ place_of_fault text.now fault.now }
 {
     line_and_column(text, place_in(text, *fault).min(text.len()))
 }

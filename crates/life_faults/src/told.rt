@@ -1,6 +1,6 @@
 //! The lines that tell a fault.
 ghost use Rattle.std.specs.Prelude.{◌≡◌, ◌++◌, OnOk, IfOk, decimal};
-ghost use Rattle.life_faults.specs.Lines.{fault_line, number_of, with_number, place_text, sentence_line};
+ghost use Rattle.life_faults.specs.Lines.{fault_line, number_and_place, with_number, place_text, sentence_line};
 
 use crate::line::place_of;
 use crate::places::Place;
@@ -30,7 +30,7 @@ fn push_place(line: &mut Vec<u8>, place: Place) -> Result<(), AllocError>
 
 // The words of a fault's number, and the byte that follows them where there is one.
 fn number_words(fault: RleFault) -> (&'static str, Option<usize>)
-    ensures { number_of fault ≡ with_number result.0.now result.1 }
+    ensures { number_and_place fault ≡ with_number result.0.now result.1 }
 {
     match fault {
         RleFault::NoHeader => ("rle fault 1", None),
@@ -49,7 +49,7 @@ fn number_words(fault: RleFault) -> (&'static str, Option<usize>)
 
 // Appends the number of a fault, and its byte where it has one.
 fn push_fault_number(line: &mut Vec<u8>, fault: RleFault) -> Result<(), AllocError>
-    ensures { OnOk result (line.new.items ≡ line.old.items ++ number_of fault) }
+    ensures { OnOk result (line.new.items ≡ line.old.items ++ number_and_place fault) }
 {
     let (words, place) = number_words(fault);
     line.extend_from_slice(words.as_bytes())?;

@@ -9,12 +9,12 @@ use Rattle.life_model.specs.Evolution.{generation}
 use Rattle.life_answer.specs.Answers.{finding_of, recurrence_finding}
 use Rattle.life_answer.proofs.Findings.{finding-settled, settles_by_finding, nowhere_by_finding}
 use Rattle.life_answer.proofs.Codes.{codes_tell_objects}
-use Rattle.life_find.specs.Objects.{HasCode, TellsObject}
+use Rattle.life_find.specs.Objects.{SettlesIntoCode, TellsObject}
 
 code_found : (R : Rule) (G : Generation) (b population onset period : ℕ) (dx dy : ℤ) (code : List ℕ) → Recurs population onset period dx dy code ≡ recurrence_finding R G onset period (dx, dy) → code ≡ code_of R (generation R G onset) period (dx, dy)
 code_found R G b population onset period dx dy code e = cc
 
-pub HasCode_by_finding : (R : Rule) (G : Generation) (b population onset period : ℕ) (dx dy : ℤ) (code : List ℕ) → Recurs population onset period dx dy code ≡ finding_of R G b → HasCode R G b code
+pub HasCode_by_finding : (R : Rule) (G : Generation) (b population onset period : ℕ) (dx dy : ℤ) (code : List ℕ) → Recurs population onset period dx dy code ≡ finding_of R G b → SettlesIntoCode R G b code
 HasCode_by_finding R G b population onset period dx dy code e =
     let s = settles_by_finding R G b population onset period dx dy code (sym e) in
     record {
@@ -28,7 +28,7 @@ HasCode_by_finding R G b population onset period dx dy code e =
 pub nowhere_found : (R : Rule) (G : Generation) (b population : ℕ) → Unresolved population ≡ finding_of R G b → (g : ℕ) → SettlesAt R G b g → ⊥
 nowhere_found R G b population e g s = nowhere_by_finding R G b population g (sym e) s
 
-pub TellsObject_by_codes : (R : Rule) (F S : Generation) (b : ℕ) (one other : List ℕ) (same : Bool) → HasCode R F b one → HasCode R S b other → Decides same (one ≡ other) → TellsObject R F S b same
+pub TellsObject_by_codes : (R : Rule) (F S : Generation) (b : ℕ) (one other : List ℕ) (same : Bool) → SettlesIntoCode R F b one → SettlesIntoCode R S b other → Decides same (one ≡ other) → TellsObject R F S b same
 TellsObject_by_codes R F S b one other same f s decides =
     let law = codes_tell_objects R F S b b f.onset f.period s.onset s.period f.by s.by f.settles s.settles in
     record {

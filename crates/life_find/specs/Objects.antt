@@ -8,7 +8,7 @@ use Rattle.life_answer.specs.Apgcode.{code_of}
 use Rattle.life_model.specs.Recurrence.{Settles, AreOneObject}
 
 -- It settles within the bound, into an object with this code.
-pub record HasCode (R : Rule) (G : Generation) (b : ℕ) (code : List ℕ) : Type 0 where
+pub record SettlesIntoCode (R : Rule) (G : Generation) (b : ℕ) (code : List ℕ) : Type 0 where
   pub onset : ℕ
   pub period : ℕ
   pub by : Cell

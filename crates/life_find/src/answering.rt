@@ -20,7 +20,8 @@ fn answer_on<P: Plane>(
     limit: Option<u32>,
 ) -> Result<Answer, AllocError>
     requires { 1 ≤ bound × bound ≤ BOUND_LIMIT }
-    ensures answer { IfOk result (λ answer. answer ≡ answer_to_question (Settles bound limit) text.now) }
+    ensures answer { IfOk result
+        (λ answer. answer ≡ answer_to_question (Settles bound limit) text.now) }
     ensures memory { OnErr result (IsOk (header_rule text.now)) }
 {
     match read_rle(alloc, text) {
@@ -46,7 +47,8 @@ pub fn answer(
     limit: Option<u32>,
 ) -> Result<Answer, AllocError>
     requires { 1 ≤ bound × bound ≤ BOUND_LIMIT }
-    ensures answer { IfOk result (λ answer. answer ≡ answer_to_question (Settles bound limit) text.now) }
+    ensures answer { IfOk result
+        (λ answer. answer ≡ answer_to_question (Settles bound limit) text.now) }
     ensures memory { OnErr result (IsOk (header_rule text.now)) }
 {
     answer_on::<Board>(alloc, text, bound, limit)

@@ -15,7 +15,8 @@ use std::alloc::{AllocError, Global};
 /// Adds the texts of what a plane holds.
 fn add_plane<P: Plane>(least: &mut LeastText, plane: &P) -> Result<(), AllocError>
     requires { P.steps_made plane.now ≤ AGE_LIMIT }
-    ensures { OnOk result (least.new ≡ fold with_text least.old (turned_bodies (P.members plane.now))) }
+    ensures { OnOk result
+        (least.new ≡ fold with_text least.old (turned_bodies (P.members plane.now))) }
 {
     prove!(plane.age() <= AGE_LIMIT);
     least.add(&plane.cells()?)
@@ -42,7 +43,8 @@ fn least_body<P: Plane>(
 ) -> Result<Vec<u8>, AllocError>
     requires period { 1 ≤ period }
     requires young { P.steps_made plane + period ≤ AGE_LIMIT }
-    ensures { IfOk result (λ text. text.items ≡ least_text (bodies rule.now (P.members plane) period)) }
+    ensures { IfOk result
+        (λ text. text.items ≡ least_text (bodies rule.now (P.members plane) period)) }
 {
     let mut plane = plane;
     let mut least = LeastText::new(alloc);
@@ -70,7 +72,9 @@ pub fn code_of<P: Plane>(
 ) -> Result<Code, AllocError>
     requires period { 1 ≤ recurrence.now.period }
     requires young { P.steps_made plane + recurrence.now.period ≤ AGE_LIMIT }
-    ensures { IfOk result (λ code. code ≡ code_of rule.now (P.members plane) recurrence.now.period recurrence.now.displacement) }
+    ensures { IfOk result
+        (λ code. code ≡
+        code_of rule.now (P.members plane) recurrence.now.period recurrence.now.displacement) }
 {
     let mut text = prefix(
         alloc,

@@ -34,15 +34,26 @@ fn run_to_return<P: Plane>(
     requires listed { listed.now ≡ P.members runner.old }
     requires steps { steps ≤ BOUND_LIMIT }
     requires young { P.steps_made runner.old + steps ≤ AGE_LIMIT }
-    ensures found { IfOk result (λ answer. IfSome answer (λ r. IsReturn rule.now (P.members runner.old) r.0 r.1)) }
+    ensures found { IfOk result
+        (λ answer. IfSome answer (λ r. IsReturn rule.now (P.members runner.old) r.0 r.1)) }
     ensures within { IfOk result (λ answer. IfSome answer (λ r. r.0 ≤ steps)) }
-    ensures seen { IfOk result (λ answer. IfSome answer (λ r. P.members runner.new ≡ generation rule.now (P.members runner.old) r.0)) }
-    ensures seen_age { IfOk result (λ answer. IfSome answer (λ r. P.steps_made runner.new ≡ P.steps_made runner.old + r.0)) }
-    ensures there { IfOk result (λ answer. IfNone answer (P.members runner.new ≡ generation rule.now (P.members runner.old) steps)) }
-    ensures age { IfOk result (λ answer. IfNone answer (P.steps_made runner.new ≡ P.steps_made runner.old + steps)) }
-    ensures count { IfOk result (λ answer. IfNone answer (length fingerprints.new.items ≡ length fingerprints.old.items + steps)) }
-    ensures fingerprints { OnOk result ((first : Generation) (age : ℕ) → P.members runner.old ≡ generation rule.now first age →
-        length fingerprints.old.items ≡ age + 1 → AreFingerprints rule.now first fingerprints.old.items →
+    ensures seen { IfOk result
+        (λ answer. IfSome answer
+        (λ r. P.members runner.new ≡ generation rule.now (P.members runner.old) r.0)) }
+    ensures seen_age { IfOk result
+        (λ answer. IfSome answer (λ r. P.steps_made runner.new ≡ P.steps_made runner.old + r.0)) }
+    ensures there { IfOk result
+        (λ answer. IfNone answer
+        (P.members runner.new ≡ generation rule.now (P.members runner.old) steps)) }
+    ensures age { IfOk result
+        (λ answer. IfNone answer (P.steps_made runner.new ≡ P.steps_made runner.old + steps)) }
+    ensures count { IfOk result
+        (λ answer. IfNone answer
+        (length fingerprints.new.items ≡ length fingerprints.old.items + steps)) }
+    ensures fingerprints { OnOk result
+        ((first : Generation) (age : ℕ) → P.members runner.old ≡ generation rule.now first age →
+        length fingerprints.old.items ≡ age + 1 →
+        AreFingerprints rule.now first fingerprints.old.items →
         AreFingerprints rule.now first fingerprints.new.items) }
 {
     let marked = fingerprint_of(listed);
@@ -72,13 +83,20 @@ fn find_return_within<P: Plane>(
     requires cells { cells.now ≡ P.members runner.old }
     requires new { P.steps_made runner.old ≡ 0 }
     requires none { fingerprints.old.items ≡ [] }
-    ensures found { IfOk result (λ answer. IfSome answer (λ r. IsReturn rule.now (generation rule.now cells.now r.onset) r.period r.displacement)) }
+    ensures found { IfOk result
+        (λ answer. IfSome answer
+        (λ r. IsReturn rule.now (generation rule.now cells.now r.onset) r.period r.displacement)) }
     ensures within { IfOk result (λ answer. IfSome answer (λ r. r.onset + r.period ≤ bound)) }
-    ensures seen { IfOk result (λ answer. IfSome answer (λ r. P.members runner.new ≡ generation rule.now cells.now (r.onset + r.period))) }
-    ensures seen_age { IfOk result (λ answer. IfSome answer (λ r. P.steps_made runner.new ≡ r.onset + r.period)) }
-    ensures there { IfOk result (λ answer. IfNone answer (P.members runner.new ≡ generation rule.now cells.now bound)) }
+    ensures seen { IfOk result
+        (λ answer. IfSome answer
+        (λ r. P.members runner.new ≡ generation rule.now cells.now (r.onset + r.period))) }
+    ensures seen_age { IfOk result
+        (λ answer. IfSome answer (λ r. P.steps_made runner.new ≡ r.onset + r.period)) }
+    ensures there { IfOk result
+        (λ answer. IfNone answer (P.members runner.new ≡ generation rule.now cells.now bound)) }
     ensures age { IfOk result (λ answer. IfNone answer (P.steps_made runner.new ≡ bound)) }
-    ensures count { IfOk result (λ answer. IfNone answer (length fingerprints.new.items ≡ bound + 1)) }
+    ensures count { IfOk result
+        (λ answer. IfNone answer (length fingerprints.new.items ≡ bound + 1)) }
     ensures fingerprints { OnOk result (AreFingerprints rule.now cells.now fingerprints.new.items) }
 {
     fingerprints.push(fingerprint_of(cells))?;
@@ -125,13 +143,19 @@ pub fn find_return<P: Plane>(
     requires cells { cells.now ≡ P.members runner.old }
     requires new { P.steps_made runner.old ≡ 0 }
     requires none { fingerprints.old.items ≡ [] }
-    ensures found { IfOk result (λ answer. IfSome answer (λ r. IsReturn rule.now (generation rule.now cells.now r.onset) r.period r.displacement)) }
+    ensures found { IfOk result
+        (λ answer. IfSome answer
+        (λ r. IsReturn rule.now (generation rule.now cells.now r.onset) r.period r.displacement)) }
     ensures onset { IfOk result (λ answer. IfSome answer (λ r. r.onset ≤ bound)) }
     ensures period { IfOk result (λ answer. IfSome answer (λ r. r.period ≤ bound)) }
-    ensures seen { IfOk result (λ answer. IfSome answer (λ r. P.members runner.new ≡ generation rule.now cells.now (r.onset + r.period))) }
-    ensures seen_age { IfOk result (λ answer. IfSome answer (λ r. P.steps_made runner.new ≡ r.onset + r.period)) }
+    ensures seen { IfOk result
+        (λ answer. IfSome answer
+        (λ r. P.members runner.new ≡ generation rule.now cells.now (r.onset + r.period))) }
+    ensures seen_age { IfOk result
+        (λ answer. IfSome answer (λ r. P.steps_made runner.new ≡ r.onset + r.period)) }
     ensures fingerprints { OnOk result (AreFingerprints rule.now cells.now fingerprints.new.items) }
-    ensures none { IfOk result (λ answer. IfNone answer ((g : ℕ) → SettlesAt rule.now cells.now bound g → ⊥)) }
+    ensures none { IfOk result
+        (λ answer. IfNone answer ((g : ℕ) → SettlesAt rule.now cells.now bound g → ⊥)) }
 {
     if let Some(seen) = find_return_within(runner, cells, rule, bound, fingerprints)? {
         return Ok(Some(seen));

@@ -25,7 +25,8 @@ pub fn candidates(
     bound: u32,
 ) -> Result<Vec<u32>, AllocError>
     requires { bound < u32.MAX }
-    ensures { IfOk result (λ periods. periods.items ≡ filter (ends_alike fingerprints.now) (range_with_len 1 bound)) }
+    ensures { IfOk result
+        (λ periods. periods.items ≡ filter (ends_alike fingerprints.now) (range_with_len 1 bound)) }
 {
     let mut periods = Vec::new(alloc);
     for period in 1..bound + 1 {

@@ -21,7 +21,9 @@ use std::alloc::{AllocError, Global};
 
 /// The finding of a pattern that settles.
 fn recurs(population: u64, recurrence: Recurrence, code: Code) -> Finding
-    ensures { result ≡ Recurs population recurrence.onset recurrence.period recurrence.displacement.0 recurrence.displacement.1 code }
+    ensures { result ≡
+        Recurs population recurrence.onset recurrence.period recurrence.displacement.0
+        recurrence.displacement.1 code }
 {
     let Recurrence {
         onset,
@@ -81,7 +83,8 @@ pub fn find_limited<P: Plane>(
     limit: Option<u32>,
 ) -> Result<Finding, AllocError>
     requires { 1 ≤ bound × bound ≤ BOUND_LIMIT }
-    ensures { IfOk result (λ found. found ≡ finding_to (Settles bound limit) pattern.now.rule pattern.now.cells) }
+    ensures { IfOk result
+        (λ found. found ≡ finding_to (Settles bound limit) pattern.now.rule pattern.now.cells) }
 {
     let rule = pattern.rule();
     if let Some(found) = found_early::<P>(alloc, &rule, pattern.cells(), bound, limit)? {

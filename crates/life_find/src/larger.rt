@@ -46,8 +46,13 @@ pub fn too_large<P: Plane>(
 ) -> Result<Option<Finding>, AllocError>
     requires fits { All (IsWithin 0) (generations.cells cells.now) }
     requires last { last < AGE_LIMIT }
-    ensures large { IfOk result (λ answer. IfSome answer (λ large. (found : Found) → finding_unless_large limit rule.now cells.now last found ≡ large)) }
-    ensures small { IfOk result (λ answer. IfNone answer ((found : Found) → finding_unless_large limit rule.now cells.now last found ≡ found)) }
+    ensures large { IfOk result
+        (λ answer. IfSome answer
+        (λ large. (found : Found) →
+        finding_unless_large limit rule.now cells.now last found ≡ large)) }
+    ensures small { IfOk result
+        (λ answer. IfNone answer
+        ((found : Found) → finding_unless_large limit rule.now cells.now last found ≡ found)) }
 {
     let Some(most) = limit else {
         return Ok(None);

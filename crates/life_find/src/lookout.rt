@@ -105,10 +105,14 @@ impl Lookout {
         requires marked { IsFingerprint listed.now marked }
         requires taken { taken ≤ BOUND_LIMIT }
         requires quiet { (R : Rule) × IsQuiet R listed.now (P.members plane.now) self.old.quiet }
-        ensures fingerprint { IfOk result (λ sight. IsFingerprint (P.members plane.now) sight.fingerprint) }
-        ensures offset { IfOk result (λ sight. IfSome sight.offset (λ d. IsOffset listed.now (P.members plane.now) d)) }
-        ensures apart { IfOk result (λ sight. IfNone sight.offset (normal listed.now ≡ normal (P.members plane.now) → ⊥)) }
-        ensures quiet { OnOk result ((R : Rule) → IsQuiet R listed.now (P.members plane.now) self.old.quiet →
+        ensures fingerprint { IfOk result
+            (λ sight. IsFingerprint (P.members plane.now) sight.fingerprint) }
+        ensures offset { IfOk result
+            (λ sight. IfSome sight.offset (λ d. IsOffset listed.now (P.members plane.now) d)) }
+        ensures apart { IfOk result
+            (λ sight. IfNone sight.offset (normal listed.now ≡ normal (P.members plane.now) → ⊥)) }
+        ensures quiet { OnOk result
+            ((R : Rule) → IsQuiet R listed.now (P.members plane.now) self.old.quiet →
             IsQuiet R listed.now (next R (P.members plane.now)) self.new.quiet) }
     {
         if self.quiet > 0 {

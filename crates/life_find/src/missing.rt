@@ -17,7 +17,8 @@ fn is_far_across(
     requires to { IsPlace to }
     requires other { IsPlace other }
     requires most { reach ≤ extent_limit }
-    ensures { IsTrue result → IsReachedBy (pos reach) (plus cell (plus to (opposite from))) other → ⊥ }
+    ensures { IsTrue result → IsReachedBy (pos reach) (plus cell (plus to (opposite from))) other →
+        ⊥ }
 {
     let x = cell.0 - from.0 + to.0;
     let far = reach as i32;
@@ -43,7 +44,8 @@ fn is_far_down(
     requires to { IsPlace to }
     requires other { IsPlace other }
     requires most { reach ≤ extent_limit }
-    ensures { IsTrue result → IsReachedBy (pos reach) (plus cell (plus to (opposite from))) other → ⊥ }
+    ensures { IsTrue result → IsReachedBy (pos reach) (plus cell (plus to (opposite from))) other →
+        ⊥ }
 {
     let y = cell.1 - from.1 + to.1;
     let far = reach as i32;
@@ -63,7 +65,8 @@ fn is_far(cell: (i32, i32), from: (i32, i32), to: (i32, i32), other: (i32, i32),
     requires to { IsPlace to }
     requires other { IsPlace other }
     requires most { reach ≤ extent_limit }
-    ensures { IsTrue result → IsReachedBy (pos reach) (plus cell (plus to (opposite from))) other → ⊥ }
+    ensures { IsTrue result → IsReachedBy (pos reach) (plus cell (plus to (opposite from))) other →
+        ⊥ }
 {
     if is_far_across(cell, from, to, other, reach) {
         return true;

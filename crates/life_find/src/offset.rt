@@ -19,8 +19,10 @@ pub fn offset_to<P: Plane>(
 ) -> Result<Option<(i32, i32)>, AllocError>
     requires marked { IsFingerprint from.now marked }
     requires known { IsFingerprint (P.members to.now) fingerprint }
-    ensures offset { IfOk result (λ found. IfSome found (λ d. IsOffset from.now (P.members to.now) d)) }
-    ensures apart { IfOk result (λ found. IfNone found (normal from.now ≡ normal (P.members to.now) → ⊥)) }
+    ensures offset { IfOk result
+        (λ found. IfSome found (λ d. IsOffset from.now (P.members to.now) d)) }
+    ensures apart { IfOk result
+        (λ found. IfNone found (normal from.now ≡ normal (P.members to.now) → ⊥)) }
 {
     if may_match(marked, fingerprint) {
         return to.offset_from(from);
@@ -30,8 +32,10 @@ pub fn offset_to<P: Plane>(
 
 /// How far the second plane's cells are from the first's, where they are those moved as a whole.
 pub fn plane_offset<P: Plane>(from: &P, to: &P) -> Result<Option<(i32, i32)>, AllocError>
-    ensures offset { IfOk result (λ found. IfSome found (λ d. IsOffset (P.members from.now) (P.members to.now) d)) }
-    ensures apart { IfOk result (λ found. IfNone found (normal (P.members from.now) ≡ normal (P.members to.now) → ⊥)) }
+    ensures offset { IfOk result
+        (λ found. IfSome found (λ d. IsOffset (P.members from.now) (P.members to.now) d)) }
+    ensures apart { IfOk result
+        (λ found. IfNone found (normal (P.members from.now) ≡ normal (P.members to.now) → ⊥)) }
 {
     if from.population() != to.population() {
         return Ok(None);

@@ -35,7 +35,8 @@ fn found_to<P: Plane>(
     ensures found { IfOk result (λ answer. IfSome answer (λ found. (bound : ℕ) → reach ≤ bound →
         finding_to (Settles bound limit) rule.now cells.now ≡ found)) }
     ensures open { IfOk result (λ answer. IfNone answer (
-        finding_to (Settles reach limit) rule.now cells.now ≡ Unresolved (generations.size cells.now))) }
+        finding_to (Settles reach limit) rule.now cells.now ≡
+        Unresolved (generations.size cells.now))) }
 {
     if let Some(large) = too_large::<P>(alloc, rule, cells, limit, reach)? {
         return Ok(Some(large));

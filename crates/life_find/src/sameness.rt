@@ -3,7 +3,7 @@ ghost use Rattle.std.specs.Prelude.{◌≤◌, ℕ, All, IfNone, IfOk, IfSome};
 ghost use Rattle.life_model.specs.Generation as generation;
 ghost use Rattle.life_model.specs.Recurrence.{SettlesAt};
 ghost use Rattle.life_cells.specs.Limits.{IsWithin};
-ghost use Rattle.life_find.specs.Objects.{HasCode, TellsObject};
+ghost use Rattle.life_find.specs.Objects.{SettlesIntoCode, TellsObject};
 
 use crate::finding::find_cells;
 use crate::limit::BOUND_LIMIT;
@@ -22,8 +22,10 @@ fn settled_code<P: Plane>(
 ) -> Result<Option<Code>, AllocError>
     requires fits { All (IsWithin 0) (generation.cells cells.now) }
     requires bound { 1 ≤ bound × bound ≤ BOUND_LIMIT }
-    ensures settled { IfOk result (λ answer. IfSome answer (HasCode rule.now cells.now bound)) }
-    ensures unsettled { IfOk result (λ answer. IfNone answer ((g : ℕ) → SettlesAt rule.now cells.now bound g → ⊥)) }
+    ensures settled { IfOk result
+        (λ answer. IfSome answer (SettlesIntoCode rule.now cells.now bound)) }
+    ensures unsettled { IfOk result
+        (λ answer. IfNone answer ((g : ℕ) → SettlesAt rule.now cells.now bound g → ⊥)) }
 {
     match find_cells::<P>(alloc, rule, cells, bound)? {
         Finding::Recurs { code, .. } => Ok(Some(code)),
@@ -44,7 +46,8 @@ fn same_object_on<P: Plane>(
     requires first_fits { All (IsWithin 0) (generation.cells first.now) }
     requires second_fits { All (IsWithin 0) (generation.cells second.now) }
     requires bound { 1 ≤ bound × bound ≤ BOUND_LIMIT }
-    ensures settled { IfOk result (λ answer. IfSome answer (TellsObject rule.now first.now second.now bound)) }
+    ensures settled { IfOk result
+        (λ answer. IfSome answer (TellsObject rule.now first.now second.now bound)) }
     ensures unsettled { IfOk result (λ answer. IfNone answer ((g h : ℕ) →
         SettlesAt rule.now first.now bound g → SettlesAt rule.now second.now bound h → ⊥)) }
 {
@@ -72,7 +75,8 @@ pub fn same_object(
     requires first_fits { All (IsWithin 0) (generation.cells first.now) }
     requires second_fits { All (IsWithin 0) (generation.cells second.now) }
     requires bound { 1 ≤ bound × bound ≤ BOUND_LIMIT }
-    ensures settled { IfOk result (λ answer. IfSome answer (TellsObject rule.now first.now second.now bound)) }
+    ensures settled { IfOk result
+        (λ answer. IfSome answer (TellsObject rule.now first.now second.now bound)) }
     ensures unsettled { IfOk result (λ answer. IfNone answer ((g h : ℕ) →
         SettlesAt rule.now first.now bound g → SettlesAt rule.now second.now bound h → ⊥)) }
 {

@@ -18,7 +18,8 @@ use std::alloc::{AllocError, Global};
 /// Makes so many steps.
 fn advance<P: Plane>(plane: &mut P, rule: &Rule, steps: u32) -> Result<(), AllocError>
     requires { P.steps_made plane.old + steps ≤ AGE_LIMIT }
-    ensures cells { OnOk result (P.members plane.new ≡ generation rule.now (P.members plane.old) steps) }
+    ensures cells { OnOk result
+        (P.members plane.new ≡ generation rule.now (P.members plane.old) steps) }
     ensures age { OnOk result (P.steps_made plane.new ≡ P.steps_made plane.old + steps) }
 {
     for _ in 0..steps {
@@ -37,10 +38,15 @@ pub fn settling<P: Plane>(
 ) -> Result<Option<(Recurrence, P)>, AllocError>
     requires fits { All (IsWithin 0) (generations.cells cells.now) }
     requires bound { 1 ≤ bound × bound ≤ BOUND_LIMIT }
-    ensures found { IfOk result (λ answer. IfSome answer (λ r. Settles rule.now cells.now bound r.0.onset r.0.period r.0.displacement)) }
-    ensures shape { IfOk result (λ answer. IfSome answer (λ r. normal (P.members r.1) ≡ normal (generation rule.now cells.now r.0.onset))) }
+    ensures found { IfOk result
+        (λ answer. IfSome answer
+        (λ r. Settles rule.now cells.now bound r.0.onset r.0.period r.0.displacement)) }
+    ensures shape { IfOk result
+        (λ answer. IfSome answer
+        (λ r. normal (P.members r.1) ≡ normal (generation rule.now cells.now r.0.onset))) }
     ensures age { IfOk result (λ answer. IfSome answer (λ r. P.steps_made r.1 ≤ 2 * bound)) }
-    ensures none { IfOk result (λ answer. IfNone answer ((g : ℕ) → SettlesAt rule.now cells.now bound g → ⊥)) }
+    ensures none { IfOk result
+        (λ answer. IfNone answer ((g : ℕ) → SettlesAt rule.now cells.now bound g → ⊥)) }
 {
     let mut runner = P::from_cells(alloc, cells)?;
     let mut fingerprints = Vec::new(alloc);
@@ -72,11 +78,18 @@ fn settling_from<P: Plane>(
     requires bound { 1 ≤ bound × bound ≤ BOUND_LIMIT }
     requires range { first + period ≤ bound }
     requires period { (t : ℕ) × IsPeriodAt rule.now cells.now t period }
-    requires earlier { (n : ℕ) → n < first → normal (generation rule.now cells.now (n + period)) ≡ normal (generation rule.now cells.now n) → ⊥ }
-    ensures found { IfOk result (λ answer. IfSome answer (λ r. Settles rule.now cells.now bound r.0.onset r.0.period r.0.displacement)) }
-    ensures shape { IfOk result (λ answer. IfSome answer (λ r. normal (P.members r.1) ≡ normal (generation rule.now cells.now r.0.onset))) }
+    requires earlier { (n : ℕ) → n < first →
+        normal (generation rule.now cells.now (n + period)) ≡
+        normal (generation rule.now cells.now n) → ⊥ }
+    ensures found { IfOk result
+        (λ answer. IfSome answer
+        (λ r. Settles rule.now cells.now bound r.0.onset r.0.period r.0.displacement)) }
+    ensures shape { IfOk result
+        (λ answer. IfSome answer
+        (λ r. normal (P.members r.1) ≡ normal (generation rule.now cells.now r.0.onset))) }
     ensures age { IfOk result (λ answer. IfSome answer (λ r. P.steps_made r.1 ≤ 2 * bound)) }
-    ensures none { IfOk result (λ answer. IfNone answer ((g : ℕ) → SettlesAt rule.now cells.now bound g → ⊥)) }
+    ensures none { IfOk result
+        (λ answer. IfNone answer ((g : ℕ) → SettlesAt rule.now cells.now bound g → ⊥)) }
 {
     let mut plane = P::from_cells(alloc, cells)?;
     advance(&mut plane, rule, first)?;

@@ -35,9 +35,11 @@ pub fn answer_soon(
     limit: Option<u32>,
 ) -> Result<Option<Answer>, AllocError>
     requires { 1 ≤ bound × bound ≤ BOUND_LIMIT }
-    ensures known { IfOk result (λ soon. IfSome soon (λ found. found ≡ answer_to_question (Settles bound limit) text.now)) }
+    ensures known { IfOk result
+        (λ soon. IfSome soon (λ found. found ≡ answer_to_question (Settles bound limit) text.now)) }
     ensures open { IfOk result (λ soon. IfNone soon (
-        soon_reach < bound × is_open (answer_to_question (Settles soon_reach limit) text.now) ≡ true)) }
+        soon_reach < bound ×
+        is_open (answer_to_question (Settles soon_reach limit) text.now) ≡ true)) }
 {
     let reach = bound.min(SOON_REACH);
     let found = answer(alloc, text, reach, limit)?;

@@ -30,7 +30,8 @@ pub fn members_tell_generations()
 pub fn members_in_order()
     ensures listed { (G : Generation) (c : Cell) → contains G c ≡ list_any (same_cell c) (cells G) }
     ensures rising { (G : Generation) → T (is_rising (cells G)) }
-    ensures made { (cs : List Cell) (c : Cell) → contains (from_list cs) c ≡ list_any (same_cell c) cs }
+    ensures made { (cs : List Cell) (c : Cell) →
+        contains (from_list cs) c ≡ list_any (same_cell c) cs }
     ensures again { (cs : List Cell) → T (is_rising cs) → cells (from_list cs) ≡ cs }
 {}
 
@@ -50,23 +51,28 @@ pub fn next_is_near()
 
 /// Evolution commutes with moves and with the eight maps.
 pub fn next_commutes()
-    ensures moved { (R : Rule) (G : Generation) (d : Cell) → next R (translate_of G d) ≡ translate_of (next R G) d }
-    ensures turned { (R : Rule) (G : Generation) (m : Orientation) → next R (image_under G m) ≡ image_under (next R G) m }
+    ensures moved { (R : Rule) (G : Generation) (d : Cell) →
+        next R (translate_of G d) ≡ translate_of (next R G) d }
+    ensures turned { (R : Rule) (G : Generation) (m : Orientation) →
+        next R (image_under G m) ≡ image_under (next R G) m }
 {}
 
 /// A set with a cell comes to one place by one move alone.
 pub fn a_move_is_unique()
-    ensures { (G : Generation) (c d e : Cell) → contains G c ≡ true → translate_of G d ≡ translate_of G e → d ≡ e }
+    ensures { (G : Generation) (c d e : Cell) → contains G c ≡ true →
+        translate_of G d ≡ translate_of G e → d ≡ e }
 {}
 
 /// A move keeps the order of cells.
 pub fn moves_keep_order()
-    ensures { (G : Generation) (d : Cell) → cells (translate_of G d) ≡ map (λ c. plus c d) (cells G) }
+    ensures { (G : Generation) (d : Cell) →
+        cells (translate_of G d) ≡ map (λ c. plus c d) (cells G) }
 {}
 
 /// The least x and the least y of a normal form are 0, and the empty set stays.
 pub fn normal_form_stands_at_the_origin()
-    ensures corner { (G : Generation) (c : Cell) → contains G c ≡ true → IsCorner (normal G) origin }
+    ensures corner { (G : Generation) (c : Cell) → contains G c ≡ true →
+        IsCorner (normal G) origin }
     ensures empty { normal empty ≡ empty }
 {}
 
@@ -78,7 +84,8 @@ pub fn normal_forms_tell_moves()
 /// Onset, period and displacement are the same for every bound within which they exist.
 pub fn one_settling()
     ensures { (R : Rule) (G : Generation) (b c onset period onset2 period2 : ℕ) (d e : Cell) →
-        Settles R G b onset period d → Settles R G c onset2 period2 e → (onset ≡ onset2) × (period ≡ period2) × (d ≡ e) }
+        Settles R G b onset period d → Settles R G c onset2 period2 e → (onset ≡ onset2) ×
+        (period ≡ period2) × (d ≡ e) }
 {}
 
 /// A set settles within exactly those bounds that its onset and its period together don't pass.
@@ -95,9 +102,12 @@ pub fn settles_within()
 /// other, turned; and then each phase of the one, turned in any way, has.
 pub fn one_object()
     ensures made { (R : Rule) (G H : Generation) (k l : ℕ) (m n : Orientation) →
-        normal (image_under (generation R G k) m) ≡ normal (image_under (generation R H l) n) → AreOneObject R G H }
-    ensures each { (R : Rule) (G H : Generation) (p q : ℕ) (d e : Cell) → RecursBy R G p d → RecursBy R H q e →
+        normal (image_under (generation R G k) m) ≡ normal (image_under (generation R H l) n) →
+        AreOneObject R G H }
+    ensures each { (R : Rule) (G H : Generation) (p q : ℕ) (d e : Cell) → RecursBy R G p d →
+        RecursBy R H q e →
         AreOneObject R G H → (k : ℕ) (m : Orientation) →
-        (l : ℕ) × (n : Orientation) × (l < q) × (normal (image_under (generation R G k) m) ≡ normal (image_under (generation R H l) n)) }
+        (l : ℕ) × (n : Orientation) × (l < q) ×
+        (normal (image_under (generation R G k) m) ≡ normal (image_under (generation R H l) n)) }
     ensures swapped { (R : Rule) (G H : Generation) → AreOneObject R G H → AreOneObject R H G }
 {}

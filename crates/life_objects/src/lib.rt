@@ -22,8 +22,10 @@ ghost use Rattle.life_objects.specs.Whole.{IsCore, StaysWhole};
 
 /// A cell is in the union of two sets where it is in one of them, and in that of a list where it is in one of its sets.
 pub fn unions_by_members()
-    ensures two { (P Q : Generation) (c : Cell) → contains (union P Q) c ≡ (contains P c || contains Q c) }
-    ensures list { (Ps : List Generation) (c : Cell) → contains (union_of Ps) c ≡ list_any (λ P. contains P c) Ps }
+    ensures two { (P Q : Generation) (c : Cell) →
+        contains (union P Q) c ≡ (contains P c || contains Q c) }
+    ensures list { (Ps : List Generation) (c : Cell) →
+        contains (union_of Ps) c ≡ list_any (λ P. contains P c) Ps }
 {}
 
 /// Two sets that are apart evolve as if each were alone: for one step, for as long as they stay apart and one step
@@ -42,18 +44,24 @@ pub fn what_is_apart_evolves_alone()
 /// The sets of a list of which any two are apart evolve as if each were alone, just as two sets do.
 pub fn a_list_of_what_is_apart_evolves_alone()
     ensures one_step { (R : Rule) (Ps : List Generation) → AllPairs AreApart Ps →
-        (next R (union_of Ps) ≡ union_of (map (next R) Ps)) × AllPairs AreDisjoint (map (next R) Ps) }
-    ensures a_while { (R : Rule) (b n : ℕ) (Ps : List Generation) → AllPairs (AreApartFor R b) Ps → n ≤ b + 1 →
-        (generation R (union_of Ps) n ≡ union_of (generations R Ps n)) × AllPairs AreDisjoint (generations R Ps n) }
+        (next R (union_of Ps) ≡ union_of (map (next R) Ps)) ×
+        AllPairs AreDisjoint (map (next R) Ps) }
+    ensures a_while { (R : Rule) (b n : ℕ) (Ps : List Generation) → AllPairs (AreApartFor R b) Ps →
+        n ≤ b + 1 →
+        (generation R (union_of Ps) n ≡ union_of (generations R Ps n)) ×
+        AllPairs AreDisjoint (generations R Ps n) }
     ensures ever { (R : Rule) (n : ℕ) (Ps : List Generation) → AllPairs (AreApartForEver R) Ps →
-        (generation R (union_of Ps) n ≡ union_of (generations R Ps n)) × AllPairs AreDisjoint (generations R Ps n) }
+        (generation R (union_of Ps) n ≡ union_of (generations R Ps n)) ×
+        AllPairs AreDisjoint (generations R Ps n) }
 {}
 
 /// Each later generation of ash is that generation of its parts, which stay apart.
 pub fn ash_goes_on_as_its_parts()
-    ensures future { (R : Rule) (b n : ℕ) (G : Generation) (parts : List Generation) → IsAsh R b G parts →
+    ensures future { (R : Rule) (b n : ℕ) (G : Generation) (parts : List Generation) →
+        IsAsh R b G parts →
         generation R G n ≡ union_of (generations R parts n) }
-    ensures apart { (R : Rule) (b n : ℕ) (G : Generation) (parts : List Generation) → IsAsh R b G parts →
+    ensures apart { (R : Rule) (b n : ℕ) (G : Generation) (parts : List Generation) →
+        IsAsh R b G parts →
         AllPairs AreApart (generations R parts n) }
 {}
 
@@ -61,25 +69,31 @@ pub fn ash_goes_on_as_its_parts()
 pub fn ash_has_one_list_of_parts()
     ensures one { (R : Rule) (b c : ℕ) (G : Generation) (parts others : List Generation) →
         IsAsh R b G parts → IsAsh R c G others → IsPermutation parts others }
-    ensures once { (R : Rule) (b : ℕ) (G : Generation) (parts : List Generation) → IsAsh R b G parts →
+    ensures once { (R : Rule) (b : ℕ) (G : Generation) (parts : List Generation) →
+        IsAsh R b G parts →
         AllPairs (λ P Q. P ≢ Q) parts }
     ensures members { (R : Rule) (b c : ℕ) (G : Generation) (parts others : List Generation) →
-        IsAsh R b G parts → IsAsh R c G others → (P : Generation) → Contains parts P ↔ Contains others P }
+        IsAsh R b G parts → IsAsh R c G others → (P : Generation) →
+        Contains parts P ↔ Contains others P }
 {}
 
 /// Ash stays ash: its parts are then what each of them has become, and a greater bound changes nothing.
 pub fn ash_lasts()
-    ensures later { (R : Rule) (b n : ℕ) (G : Generation) (parts : List Generation) → IsAsh R b G parts →
+    ensures later { (R : Rule) (b n : ℕ) (G : Generation) (parts : List Generation) →
+        IsAsh R b G parts →
         IsAsh R b (generation R G n) (generations R parts n) }
-    ensures wider { (R : Rule) (b c : ℕ) (G : Generation) (parts : List Generation) → IsAsh R b G parts → b ≤ c →
+    ensures wider { (R : Rule) (b c : ℕ) (G : Generation) (parts : List Generation) →
+        IsAsh R b G parts → b ≤ c →
         IsAsh R c G parts }
-    ensures same { (R : Rule) (b c n : ℕ) (G : Generation) (parts others : List Generation) → IsAsh R b G parts →
+    ensures same { (R : Rule) (b c n : ℕ) (G : Generation) (parts others : List Generation) →
+        IsAsh R b G parts →
         IsAsh R c (generation R G n) others → IsPermutation (generations R parts n) others }
 {}
 
 /// A part of ash comes again after n generations, moved by d, exactly where each of its later generations does.
 pub fn parts_keep_their_periods()
-    ensures { (R : Rule) (b k n : ℕ) (G P : Generation) (d : Cell) (parts : List Generation) → IsAsh R b G parts →
+    ensures { (R : Rule) (b k n : ℕ) (G P : Generation) (d : Cell) (parts : List Generation) →
+        IsAsh R b G parts →
         Contains parts P → RecursBy R (generation R P k) n d ↔ RecursBy R P n d }
 {}
 
@@ -98,7 +112,8 @@ pub fn what_has_fallen_apart_stays_so()
 /// The empty set is ash of no part, and of no list but the empty one.
 pub fn the_empty_set_has_no_parts()
     ensures none { (R : Rule) (b : ℕ) → IsAsh R b empty [] }
-    ensures only { (R : Rule) (b : ℕ) (parts : List Generation) → IsAsh R b empty parts → parts ≡ [] }
+    ensures only { (R : Rule) (b : ℕ) (parts : List Generation) → IsAsh R b empty parts →
+        parts ≡ [] }
 {}
 
 /// A set that comes again after some generations comes again after each multiple of them, moved as often.
@@ -110,19 +125,24 @@ pub fn recurrences_go_on()
 /// Two sets that come again after the same number of generations, moved by the same step, are apart for ever where they
 /// are apart until then.
 pub fn sets_of_one_velocity_stay_apart()
-    ensures { (R : Rule) (n : ℕ) (P Q : Generation) (d : Cell) → RecursBy R P n d → RecursBy R Q n d →
+    ensures { (R : Rule) (n : ℕ) (P Q : Generation) (d : Cell) → RecursBy R P n d →
+        RecursBy R Q n d →
         AreApartBefore R n P Q → AreApartForEver R P Q }
 {}
 
 /// Two sets that come again after the same number of generations are apart for ever where they are apart until a time
 /// from which on, for that number of generations, there is a gap between them, and they don't move towards each other.
 pub fn sets_that_drift_apart_stay_apart()
-    ensures right { (R : Rule) (g n : ℕ) (P Q : Generation) (d e : Cell) → RecursBy R P n d → RecursBy R Q n e →
+    ensures right { (R : Rule) (g n : ℕ) (P Q : Generation) (d e : Cell) → RecursBy R P n d →
+        RecursBy R Q n e →
         AreApartBefore R g P Q → e.0 ≤ℤ d.0 →
-        ((m : ℕ) → m < n → IsRightOf (generation R P (g + m)) (generation R Q (g + m))) → AreApartForEver R P Q }
-    ensures below { (R : Rule) (g n : ℕ) (P Q : Generation) (d e : Cell) → RecursBy R P n d → RecursBy R Q n e →
+        ((m : ℕ) → m < n → IsRightOf (generation R P (g + m)) (generation R Q (g + m))) →
+        AreApartForEver R P Q }
+    ensures below { (R : Rule) (g n : ℕ) (P Q : Generation) (d e : Cell) → RecursBy R P n d →
+        RecursBy R Q n e →
         AreApartBefore R g P Q → e.1 ≤ℤ d.1 →
-        ((m : ℕ) → m < n → IsBelow (generation R P (g + m)) (generation R Q (g + m))) → AreApartForEver R P Q }
+        ((m : ℕ) → m < n → IsBelow (generation R P (g + m)) (generation R Q (g + m))) →
+        AreApartForEver R P Q }
 {}
 
 /// A set that comes again is in one piece where none of its generations until then is divided.
@@ -136,8 +156,10 @@ pub fn one_period_decides_one_piece()
 pub fn what_meets_stays_whole()
     ensures cell { (R : Rule) (b : ℕ) (G : Generation) (c : Cell) → contains G c ≡ true →
         StaysWhole R b G (from_list (c ∷ [])) }
-    ensures meeting { (R : Rule) (b n : ℕ) (G P Q : Generation) (Ps : List Generation) → union_of Ps ≡ G →
-        All (StaysWhole R b G) Ps → n ≤ b → AllPairs (AreApartBefore R n) Ps → Contains Ps P → Contains Ps Q →
+    ensures meeting { (R : Rule) (b n : ℕ) (G P Q : Generation) (Ps : List Generation) →
+        union_of Ps ≡ G →
+        All (StaysWhole R b G) Ps → n ≤ b → AllPairs (AreApartBefore R n) Ps → Contains Ps P →
+        Contains Ps Q →
         ¬ AreApart (generation R P n) (generation R Q n) → StaysWhole R b G (union P Q) }
 {}
 
@@ -151,10 +173,14 @@ pub fn parts_decide_what_is_undivided()
 /// Where ash is made up of sets that no split tears and that stay apart for its bound, what lives on of each part is
 /// one of these sets, and each of them that lives on is what lives on of a part.
 pub fn what_lives_on_tells_the_parts()
-    ensures of_parts { (R : Rule) (b : ℕ) (G P : Generation) (parts Ls : List Generation) → IsAsh R b G parts →
-        union_of Ls ≡ G → All (StaysWhole R b G) Ls → AllPairs (AreApartFor R b) Ls → Contains parts P →
+    ensures of_parts { (R : Rule) (b : ℕ) (G P : Generation) (parts Ls : List Generation) →
+        IsAsh R b G parts →
+        union_of Ls ≡ G → All (StaysWhole R b G) Ls → AllPairs (AreApartFor R b) Ls →
+        Contains parts P →
         (L : Generation) × Contains Ls L × IsCore R b L P }
-    ensures of_sets { (R : Rule) (b : ℕ) (G L : Generation) (parts Ls : List Generation) → IsAsh R b G parts →
-        union_of Ls ≡ G → All (StaysWhole R b G) Ls → AllPairs (AreApartFor R b) Ls → Contains Ls L →
+    ensures of_sets { (R : Rule) (b : ℕ) (G L : Generation) (parts Ls : List Generation) →
+        IsAsh R b G parts →
+        union_of Ls ≡ G → All (StaysWhole R b G) Ls → AllPairs (AreApartFor R b) Ls →
+        Contains Ls L →
         LivesThrough R b L → (P : Generation) × Contains parts P × IsCore R b L P }
 {}

@@ -5,7 +5,7 @@ use Rattle.std.proofs.lemmas.Int.{ints}
 use Rattle.life_model.specs.Cell.{Cell, same_cell}
 use Rattle.life_model.specs.Generation.{Generation, cells}
 use Rattle.life_model.proofs.Generations.{contains-cells}
-use Rattle.life_orbit.specs.Hulls.{AreFar, HasAll, IsInside, IsPartOf}
+use Rattle.life_orbit.specs.Hulls.{AreFar, HoldsAllCells, IsInHull, IsPartOf}
 use Rattle.life_orbit.specs.declared.hull.Hull.{Hull}
 use Rattle.life_orbit.proofs.Lists.{of_member}
 
@@ -25,7 +25,7 @@ part_through a b c h k = record {
   below = omega (arith, ints);
 }
 
-pub inside_wider : (a b : Hull) (c : Cell) → IsPartOf a b → IsInside a c → IsInside b c
+pub inside_wider : (a b : Hull) (c : Cell) → IsPartOf a b → IsInHull a c → IsInHull b c
 inside_wider a b c h k = record {
   left = omega (arith, ints);
   right = omega (arith, ints);
@@ -33,12 +33,12 @@ inside_wider a b c h k = record {
   below = omega (arith, ints);
 }
 
-pub has_all_of : (h : Hull) (P : Generation) (cs : List Cell) → cs ≡ cells P → All (IsInside h) cs → HasAll h P
+pub has_all_of : (h : Hull) (P : Generation) (cs : List Cell) → cs ≡ cells P → All (IsInHull h) cs → HoldsAllCells h P
 has_all_of h P cs listed all c in_it =
-    of_member (IsInside h) cs all c
+    of_member (IsInHull h) cs all c
     (ap (λ l. list_any (same_cell c) l) listed ∙ sym (contains-cells P c) ∙ in_it)
 
-pub wider_has_all : (h w : Hull) (P : Generation) → IsPartOf h w → HasAll h P → HasAll w P
+pub wider_has_all : (h w : Hull) (P : Generation) → IsPartOf h w → HoldsAllCells h P → HoldsAllCells w P
 wider_has_all h w P wider all c in_it = inside_wider h w c wider (all c in_it)
 
 -- ---- boxes with a gap between them

@@ -14,7 +14,7 @@ use Rattle.life_cells.specs.Limits.{IsWithin}
 use Rattle.life_objects.specs.Ash.{RecursWithin}
 use Rattle.life_objects.specs.Limits.{objects_bound_limit}
 use Rattle.life_plane.specs.Offsets.{AreNotTranslates, IsOffset}
-use Rattle.life_orbit.specs.Kept.{ArePhases, ArePhasesOfOrbit, IsWalk, orbit_age_limit}
+use Rattle.life_orbit.specs.Kept.{ArePhases, ArePhasesOfOrbit, IsOrbitWalk, orbit_age_limit}
 
 get_or-last : (xs : List Generation) (x d : Generation) (k : ℕ) → k ≡ length xs → get_or (xs ++ x ∷ []) k d ≡ x
 get_or-last [] x d zero e = refl
@@ -44,7 +44,7 @@ module _ (R : Rule) (G : Generation) where
             get_or-last list here empty k last ∙ reached ∙ ap (generation R G) (sym last)
       ]
 
-  module _ (taken : ℕ) (list : List Generation) (here : Generation) (walk : IsWalk R G taken list here) where
+  module _ (taken : ℕ) (list : List Generation) (here : Generation) (walk : IsOrbitWalk R G taken list here) where
     pub walked_phases : ArePhases R G (list ++ here ∷ [])
     walked_phases =
         phases_more list here walk.phases (walk.reached ∙ ap (generation R G) (sym walk.count))
@@ -63,7 +63,7 @@ module _ (R : Rule) (G : Generation) where
         ]
 
     pub walk_more : (later : Generation) → later ≡ next R here → AreNotTranslates G later →
-        All (IsWithin ((orbit_age_limit + taken) + 1)) (cells later) → IsWalk R G (taken + 1) (list ++ here ∷ []) later
+        All (IsWithin ((orbit_age_limit + taken) + 1)) (cells later) → IsOrbitWalk R G (taken + 1) (list ++ here ∷ []) later
     walk_more later e apart within = record {
       count = length-more list here ∙ ap (λ n. n + 1) walk.count;
       phases = walked_phases;
@@ -90,7 +90,7 @@ module _ (R : Rule) (G : Generation) where
           short = omega arith;
         }
 
-  pub walk_start : (here : Generation) → here ≡ G → All (IsWithin orbit_age_limit) (cells G) → IsWalk R G 0 [] here
+  pub walk_start : (here : Generation) → here ≡ G → All (IsWithin orbit_age_limit) (cells G) → IsOrbitWalk R G 0 [] here
   walk_start here e within = record {
     count = refl;
     phases = λ k h. absurd (omega arith);
@@ -99,7 +99,7 @@ module _ (R : Rule) (G : Generation) where
     new = λ n d h r. let one = r.later in absurd (omega arith);
   }
 
-  pub never_again : (bound : ℕ) (list : List Generation) (here : Generation) → IsWalk R G bound list here →
+  pub never_again : (bound : ℕ) (list : List Generation) (here : Generation) → IsOrbitWalk R G bound list here →
       RecursWithin R bound G → ⊥
   never_again bound list here walk again = walk.new again.steps again.by again.within again.recurs
 
@@ -110,7 +110,7 @@ module _ (R : Rule) (G : Generation) where
       ArePhasesOfOrbit R (get_or list 0 empty) list d
   kept_by_phases list d kept = subst (λ H. ArePhasesOfOrbit R H list d) (sym (first_phase list d kept)) kept
 
-  module _ (taken : ℕ) (list : List Generation) (here : Generation) (walk : IsWalk R G taken list here)
+  module _ (taken : ℕ) (list : List Generation) (here : Generation) (walk : IsOrbitWalk R G taken list here)
       (later : Generation) (d : Cell) (offset : IsOffset G later d) (whole : List Generation) where
     kept : later ≡ next R here → taken < objects_bound_limit → whole ≡ list ++ here ∷ [] → ArePhasesOfOrbit R G whole d
     kept e few pushed =

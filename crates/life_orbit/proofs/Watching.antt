@@ -15,7 +15,7 @@ use Rattle.life_objects.proofs.Drifting.{apart_by_below, apart_by_right}
 use Rattle.life_objects.proofs.Moving.{apart_by_period}
 use Rattle.life_objects.proofs.Times.{AreApartForEver-swap}
 use Rattle.life_orbit.specs.Course.{Course, IsCourse}
-use Rattle.life_orbit.specs.Hulls.{IsHullOf, IsInside}
+use Rattle.life_orbit.specs.Hulls.{IsHullOf, IsInHull}
 use Rattle.life_orbit.specs.Passing.{IsPassed, IsWatch}
 use Rattle.life_orbit.specs.declared.hull.Hull.{Hull}
 use Rattle.life_orbit.proofs.Gaps.{gap_from, whole_first, whole_second}
@@ -51,7 +51,7 @@ course_recurs o R p d rule period displacement is =
     (subst (λ S. RecursBy S o.set o.period o.displacement) (sym rule) is.recurs))
 
 abbrev pub Holds : Hull → Rule → Generation → ℕ → Type 0
-Holds h R P p = (k : ℕ) (c : Cell) → k < p → contains (generation R P k) c ≡ true → IsInside h c
+Holds h R P p = (k : ℕ) (c : Cell) → k < p → contains (generation R P k) c ≡ true → IsInHull h c
 
 pub hull_holds : (o : Course) (h : Hull) (R : Rule) (p : ℕ) → R ≡ o.rule → p ≡ o.period → IsHullOf h o →
     Holds h R o.set p

@@ -8,7 +8,7 @@ use Rattle.life_orbit.specs.Course.{Course}
 use Rattle.life_orbit.specs.declared.hull.Hull.{Hull}
 
 -- the cell is in the box
-pub record IsInside (h : Hull) (c : Cell) : Type 0 where
+pub record IsInHull (h : Hull) (c : Cell) : Type 0 where
   pub left : h.left ≤ℤ c.0
   pub right : c.0 ≤ℤ h.right
   pub above : h.top ≤ℤ c.1
@@ -23,12 +23,12 @@ pub record IsPartOf (a b : Hull) : Type 0 where
 
 -- no cell of the one box, moved, is near one of the other
 abbrev pub AreFar : Hull → Cell → Hull → Type 0
-AreFar a by b = (c d : Cell) → IsInside a c → IsInside b d → AreNear (plus c by) d → ⊥
+AreFar a by b = (c d : Cell) → IsInHull a c → IsInHull b d → AreNear (plus c by) d → ⊥
 
 -- the box has all cells of the set
-abbrev pub HasAll : Hull → Generation → Type 0
-HasAll h G = (c : Cell) → contains G c ≡ true → IsInside h c
+abbrev pub HoldsAllCells : Hull → Generation → Type 0
+HoldsAllCells h G = (c : Cell) → contains G c ≡ true → IsInHull h c
 
 -- the box has all cells of all generations over a period
 abbrev pub IsHullOf : Hull → Course → Type 0
-IsHullOf h o = (k : ℕ) (c : Cell) → k < o.period → contains (generation o.rule o.set k) c ≡ true → IsInside h c
+IsHullOf h o = (k : ℕ) (c : Cell) → k < o.period → contains (generation o.rule o.set k) c ≡ true → IsInHull h c

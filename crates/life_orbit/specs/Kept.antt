@@ -25,7 +25,7 @@ pub record ArePhasesOfOrbit (R : Rule) (G : Generation) (list : List Generation)
   pub short : length list ≤ objects_bound_limit
 
 -- the list is the generations of G before this one, and G has not come again so far
-pub record IsWalk (R : Rule) (G : Generation) (taken : ℕ) (list : List Generation) (here : Generation) : Type 0 where
+pub record IsOrbitWalk (R : Rule) (G : Generation) (taken : ℕ) (list : List Generation) (here : Generation) : Type 0 where
   pub count : length list ≡ taken
   pub phases : ArePhases R G list
   pub reached : here ≡ generation R G taken

@@ -1,7 +1,7 @@
 //! Boxes around cells.
 ghost use Rattle.std.specs.Prelude.{◌^◌, All, pos, neg_ℤ, ◌+ℤ◌, ◌≤ℤ◌};
 ghost use Rattle.std.specs.Bool.{OnTrue};
-ghost use Rattle.life_orbit.specs.Hulls.{AreFar, HasAll, IsInside, IsPartOf};
+ghost use Rattle.life_orbit.specs.Hulls.{AreFar, HoldsAllCells, IsInHull, IsPartOf};
 ghost use Rattle.life_orbit.specs.Reach.{IsReach};
 
 use life_cells::CellList;
@@ -17,7 +17,7 @@ pub struct Hull {
 
 /// The hull, with one more cell.
 fn with_cell(hull: Hull, cell: (i32, i32)) -> Hull
-    ensures cell { IsInside result cell }
+    ensures cell { IsInHull result cell }
     ensures wider { IsPartOf hull result }
 {
     Hull {
@@ -30,7 +30,7 @@ fn with_cell(hull: Hull, cell: (i32, i32)) -> Hull
 
 /// The hull, with some more cells.
 fn with_cells(hull: Hull, cells: &[(i32, i32)]) -> Hull
-    ensures cells { All (IsInside result) cells.now }
+    ensures cells { All (IsInHull result) cells.now }
     ensures wider { IsPartOf hull result }
 {
     let mut wider = hull;
@@ -42,7 +42,7 @@ fn with_cells(hull: Hull, cells: &[(i32, i32)]) -> Hull
 
 /// A box that has all cells of some sets, and a place.
 pub fn hull_of(place: (i32, i32), sets: &[CellList]) -> Hull
-    ensures { All (HasAll result) sets.now }
+    ensures { All (HoldsAllCells result) sets.now }
 {
     let mut hull = Hull {
         left: place.0,

@@ -56,7 +56,8 @@ pub fn moved_sets(
     sets: &[CellList],
     by: (i32, i32),
 ) -> Result<Option<Vec<CellList>>, AllocError>
-    ensures { IfOk result (λ found. IfSome found (λ all. all.items ≡ map (λ P. translate_of P by) sets.now)) }
+    ensures { IfOk result
+        (λ found. IfSome found (λ all. all.items ≡ map (λ P. translate_of P by) sets.now)) }
 {
     let mut all = Vec::new(alloc);
     for set in sets {

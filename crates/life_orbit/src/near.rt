@@ -9,7 +9,8 @@ ghost use Rattle.life_orbit.specs.Reach.{IsReach};
 fn is_close(place: i32, by: i128, other: i32) -> bool
     requires low { neg_ℤ (pos (2 ^ 126)) ≤ℤ by }
     requires high { by ≤ℤ pos (2 ^ 126) }
-    ensures { IsTrue result ↔ (((other -ℤ pos 2) ≤ℤ (place +ℤ by)) × ((place +ℤ by) ≤ℤ (other +ℤ pos 2))) }
+    ensures { IsTrue result ↔
+        (((other -ℤ pos 2) ≤ℤ (place +ℤ by)) × ((place +ℤ by) ≤ℤ (other +ℤ pos 2))) }
 {
     let offset = place as i128 + by - other as i128;
     if offset < -2 {

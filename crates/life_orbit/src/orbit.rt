@@ -31,7 +31,7 @@ impl Model for Orbit {
     ghost use Rattle.std.specs.Prelude.{All, length, slice_index_or};
     ghost use Rattle.life_model.specs.Generation.{empty};
     ghost use Rattle.life_orbit.specs.Course.{Course, coded_course};
-    ghost use Rattle.life_orbit.specs.Hulls.{HasAll};
+    ghost use Rattle.life_orbit.specs.Hulls.{HoldsAllCells};
     ghost use Rattle.life_orbit.specs.Kept.{ArePhasesOfOrbit};
 
     ghost Value = { Course };
@@ -46,7 +46,7 @@ impl Model for Orbit {
     } };
 
     ghost invariant = { λ o. ArePhasesOfOrbit o.rule (slice_index_or o.phases.items 0 empty) o.phases.items o.displacement
-        × All (HasAll o.hull) o.phases.items };
+        × All (HoldsAllCells o.hull) o.phases.items };
 }
 
 impl Orbit {
@@ -63,7 +63,8 @@ impl Orbit {
         ensures set { IfOk result (λ found. IfSome found (λ orbit. orbit.set ≡ cells.now)) }
         ensures period { IfOk result (λ found. IfSome found (λ orbit. orbit.period ≤ bound)) }
         ensures recurs { IfOk result (λ found. IfSome found (λ orbit. IsCourse orbit)) }
-        ensures none { IfOk result (λ found. IfNone found (RecursWithin rule.now bound cells.now → ⊥)) }
+        ensures none { IfOk result
+            (λ found. IfNone found (RecursWithin rule.now bound cells.now → ⊥)) }
     {
         let mut phases = Vec::new(alloc);
         let mut phase = copied(alloc, cells)?;
@@ -88,7 +89,8 @@ impl Orbit {
     pub fn moved_to(&self, alloc: Global, cells: &CellList) -> Result<Option<Orbit>, AllocError>
         ensures rule { IfOk result (λ found. IfSome found (λ orbit. orbit.rule ≡ self.now.rule)) }
         ensures set { IfOk result (λ found. IfSome found (λ orbit. orbit.set ≡ cells.now)) }
-        ensures period { IfOk result (λ found. IfSome found (λ orbit. orbit.period ≡ self.now.period)) }
+        ensures period { IfOk result
+            (λ found. IfSome found (λ orbit. orbit.period ≡ self.now.period)) }
         ensures recurs { IfOk result (λ found. IfSome found (λ orbit. IsCourse orbit)) }
     {
         let Some(by) = offset(self.set(), cells) else {

@@ -20,7 +20,8 @@ pub fn copied(alloc: Global, cells: &CellList) -> Result<CellList, AllocError>
 pub fn next_list(alloc: Global, rule: &Rule, cells: &CellList) -> Result<CellList, AllocError>
     requires { All (IsWithin (age_limit - 1)) (generations.cells cells.now) }
     ensures next { IfOk result (λ later. later ≡ next rule.now cells.now) }
-    ensures within { IfOk result (λ later. (a : ℕ) → All (IsWithin a) (generations.cells cells.now) →
+    ensures within { IfOk result
+        (λ later. (a : ℕ) → All (IsWithin a) (generations.cells cells.now) →
         All (IsWithin (a + 1)) (generations.cells later)) }
 {
     Ok(CellList::from_ordered(next_cells(alloc, rule, cells.as_slice())?))

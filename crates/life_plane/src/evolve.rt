@@ -161,8 +161,10 @@ pub fn next_cells(
     requires rising { T (is_rising cells.now) }
     requires within { All (IsWithin age_limit) cells.now }
     ensures rising { IfOk result (λ next. T (is_rising next.items)) }
-    ensures next { IfOk result (λ later. from_list later.items ≡ next rule.now (from_list cells.now)) }
-    ensures within { IfOk result (λ next. (a : ℕ) → All (IsWithin a) cells.now → All (IsWithin (a + 1)) next.items) }
+    ensures next { IfOk result
+        (λ later. from_list later.items ≡ next rule.now (from_list cells.now)) }
+    ensures within { IfOk result
+        (λ next. (a : ℕ) → All (IsWithin a) cells.now → All (IsWithin (a + 1)) next.items) }
 {
     let mut all = candidates(alloc, cells)?;
     put_in_order(&mut all);

@@ -30,7 +30,8 @@ pub trait Plane: Sized + Drop {
         requires { All (IsWithin 0) (generation.cells list.now) }
         ensures cells { IfOk result (λ plane. members plane ≡ list.now) }
         ensures age { IfOk result (λ plane. steps_made plane ≡ 0) }
-        ensures within { IfOk result (λ plane. All (IsWithin (steps_made plane)) (generation.cells (members plane))) };
+        ensures within { IfOk result
+            (λ plane. All (IsWithin (steps_made plane)) (generation.cells (members plane))) };
 
     /// The plane of these cells at some age, at which their places may be.
     fn at_age(alloc: Global, list: &CellList, age: u32) -> Result<Self, AllocError>
@@ -38,15 +39,18 @@ pub trait Plane: Sized + Drop {
         requires within { All (IsWithin age) (generation.cells list.now) }
         ensures cells { IfOk result (λ plane. members plane ≡ list.now) }
         ensures age { IfOk result (λ plane. steps_made plane ≡ age) }
-        ensures within { IfOk result (λ plane. All (IsWithin (steps_made plane)) (generation.cells (members plane))) };
+        ensures within { IfOk result
+            (λ plane. All (IsWithin (steps_made plane)) (generation.cells (members plane))) };
 
     /// Makes the next generation. After an `Err` the cells and the age are what they were.
     fn step(&mut self, rule: &Rule) -> Result<(), AllocError>
         requires { steps_made self.old < AGE_LIMIT }
         ensures cells { OnOk result (members self.new ≡ next rule.now (members self.old)) }
         ensures age { OnOk result (steps_made self.new ≡ steps_made self.old + 1) }
-        ensures unchanged { OnErr result ((members self.new ≡ members self.old) × (steps_made self.new ≡ steps_made self.old)) }
-        ensures within { OnOk result (All (IsWithin (steps_made self.new)) (generation.cells (members self.new))) };
+        ensures unchanged { OnErr result
+            ((members self.new ≡ members self.old) × (steps_made self.new ≡ steps_made self.old)) }
+        ensures within { OnOk result
+            (All (IsWithin (steps_made self.new)) (generation.cells (members self.new))) };
 
     /// How many live cells there are.
     fn population(&self) -> u64
@@ -72,8 +76,10 @@ pub trait Plane: Sized + Drop {
 
     /// How far its cells are from the listed ones, where they are those moved as a whole. No cell is moved by nothing.
     fn offset_from(&self, list: &CellList) -> Result<Option<(i32, i32)>, AllocError>
-        ensures offset { IfOk result (λ offset. IfSome offset (λ d. IsOffset list.now (members self.now) d)) }
-        ensures apart { IfOk result (λ offset. IfNone offset (AreNotTranslates list.now (members self.now))) }
+        ensures offset { IfOk result
+            (λ offset. IfSome offset (λ d. IsOffset list.now (members self.now) d)) }
+        ensures apart { IfOk result
+            (λ offset. IfNone offset (AreNotTranslates list.now (members self.now))) }
     {
         let cells = self.cells()?;
         Ok(offset_between(list.as_slice(), cells.as_slice()))
@@ -81,8 +87,10 @@ pub trait Plane: Sized + Drop {
 
     /// How far its cells are from those of another plane, where they are those moved as a whole.
     fn offset_from_plane(&self, other: &Self) -> Result<Option<(i32, i32)>, AllocError>
-        ensures offset { IfOk result (λ offset. IfSome offset (λ d. IsOffset (members other.now) (members self.now) d)) }
-        ensures apart { IfOk result (λ offset. IfNone offset (AreNotTranslates (members other.now) (members self.now))) }
+        ensures offset { IfOk result
+            (λ offset. IfSome offset (λ d. IsOffset (members other.now) (members self.now) d)) }
+        ensures apart { IfOk result
+            (λ offset. IfNone offset (AreNotTranslates (members other.now) (members self.now))) }
     {
         self.offset_from(&other.cells()?)
     }
@@ -91,5 +99,6 @@ pub trait Plane: Sized + Drop {
     fn copy(&self) -> Result<Self, AllocError>
         ensures cells { IfOk result (λ plane. members plane ≡ members self.now) }
         ensures age { IfOk result (λ plane. steps_made plane ≡ steps_made self.now) }
-        ensures within { IfOk result (λ plane. All (IsWithin (steps_made plane)) (generation.cells (members plane))) };
+        ensures within { IfOk result
+            (λ plane. All (IsWithin (steps_made plane)) (generation.cells (members plane))) };
 }

@@ -4,23 +4,23 @@ use Rattle.std.specs.Prelude.{◌==◌}
 use Rattle.std.proofs.lemmas.Bool.Decides.{nat_tests}
 use Rattle.std.proofs.lemmas.List.{drop_more, drop_all}
 use Rattle.life_shape.specs.declared.reader.CodeFault.TheVariants.{BadChar, CutRun}
-use Rattle.life_shape.specs.Reading.{Column, Zeros, NextStrip, Offence, digit_value, is_base_36_digit, marks, mark_of, mark_of_run}
+use Rattle.life_shape.specs.Reading.{Column, Zeros, NextStrip, Offence, digit_value, is_base_36_digit, marks, mark_of_byte, mark_of_run}
 use Rattle.life_shape.specs.Drawing.{marks_at}
 
 is_y : (c : ℕ) → c ≡ 121 → (c == 121) ≡ true
 is_y c e = grind (arith, nat_tests)
 
-pub mark_here : (text : List ℕ) (at : ℕ) → at < length text → (get_or text at 0 == 121) ≡ false → marks_at text at ≡ mark_of at (get_or text at 0) ∷ marks_at text (at + 1)
+pub mark_here : (text : List ℕ) (at : ℕ) → at < length text → (get_or text at 0 == 121) ≡ false → marks_at text at ≡ mark_of_byte at (get_or text at 0) ∷ marks_at text (at + 1)
 mark_here text at h e =
     let c = get_or text at 0 in
     ap (marks None at) (drop_more text at 0 h)
-    ∙ ap (λ b. if b then marks (Some at) (at + 1) (drop (at + 1) text) else mark_of at c ∷ marks None (at + 1) (drop (at + 1) text)) e
+    ∙ ap (λ b. if b then marks (Some at) (at + 1) (drop (at + 1) text) else mark_of_byte at c ∷ marks None (at + 1) (drop (at + 1) text)) e
 
 run_behind : (text : List ℕ) (at : ℕ) → at < length text → get_or text at 0 ≡ 121 → marks_at text at ≡ marks (Some at) (at + 1) (drop (at + 1) text)
 run_behind text at h e =
     let c = get_or text at 0 in
     ap (marks None at) (drop_more text at 0 h)
-    ∙ ap (λ b. if b then marks (Some at) (at + 1) (drop (at + 1) text) else mark_of at c ∷ marks None (at + 1) (drop (at + 1) text)) (is_y c e)
+    ∙ ap (λ b. if b then marks (Some at) (at + 1) (drop (at + 1) text) else mark_of_byte at c ∷ marks None (at + 1) (drop (at + 1) text)) (is_y c e)
 
 pub run_cut : (text : List ℕ) (at : ℕ) → at < length text → get_or text at 0 ≡ 121 → length text ≤ at + 1 → marks_at text at ≡ Offence (CutRun at) ∷ []
 run_cut text at h e k = run_behind text at h e ∙ ap (marks (Some at) (at + 1)) (drop_all (at + 1) text k)
@@ -42,5 +42,5 @@ no_digit c r e n = no_value (is_base_36_digit c) (digit_value c) r e n
 pub run_of_other : (at c : ℕ) → is_base_36_digit c ≡ false → mark_of_run at c ≡ Offence (CutRun at)
 run_of_other at c e = ap (λ b. if b then Zeros (4 + digit_value c) else Offence (CutRun at)) e
 
-pub mark_of_other : (at c : ℕ) → is_base_36_digit c ≡ false → mark_of at c ≡ Offence (BadChar at)
+pub mark_of_other : (at c : ℕ) → is_base_36_digit c ≡ false → mark_of_byte at c ≡ Offence (BadChar at)
 mark_of_other at c e = ap (λ b. if b then (if c == 122 then NextStrip else (if c == 119 then Zeros 2 else (if c == 120 then Zeros 3 else Column at (digit_value c)))) else Offence (BadChar at)) e

@@ -18,7 +18,7 @@ use Rattle.life_model.proofs.Moves.{same_cell_itself}
 use Rattle.life_cells.specs.Limits.{place_limit}
 use Rattle.life_shape.specs.Wechsler.{digit, column_value, short_zeros, full_runs, zeros, columns_text, strip_text, strips_text, body}
 use Rattle.life_shape.specs.declared.reader.CodeFault.TheVariants.{BadChar, CutRun}
-use Rattle.life_shape.specs.Reading.{is_far, first_fault, refusal, Column, Zeros, NextStrip, Offence, digit_value, is_base_36_digit, mark_of, mark_of_run, marks, marks_of, live_rows, column_cells, cell_of_pair, cells_spelled}
+use Rattle.life_shape.specs.Reading.{is_far, first_fault, refusal, Column, Zeros, NextStrip, Offence, digit_value, is_base_36_digit, mark_of_byte, mark_of_run, marks, marks_of, live_rows, column_cells, cell_of_pair, cells_spelled}
 use Rattle.life_shape.specs.Drawing.{cells_from, fault_from}
 use Rattle.life_shape.proofs.Members.{holds_in}
 use Rattle.life_shape.proofs.Boxes.{IsInBox, normal_in_box, normal_normal}
@@ -42,7 +42,7 @@ digit_value-digit n h = grind (arith, nat_tests)
 column_digit : (n : ℕ) → n < 32 → ((digit n == 122) ≡ false) × (((digit n == 119) ≡ false) × (((digit n == 120) ≡ false) × ((digit n == 121) ≡ false)))
 column_digit n h = (grind (arith, nat_tests), (grind (arith, nat_tests), (grind (arith, nat_tests), grind (arith, nat_tests))))
 
-mark_of-digit : (at n : ℕ) → n < 32 → mark_of at (digit n) ≡ Column at n
+mark_of-digit : (at n : ℕ) → n < 32 → mark_of_byte at (digit n) ≡ Column at n
 mark_of-digit at n h =
     let t = column_digit n h in
     (λ i. if is_digit-digit n (omega arith) i then (if t.0 i then NextStrip else (if t.1.0 i then Zeros 2 else (if t.1.1.0 i then Zeros 3 else Column at (digit_value (digit n))))) else Offence (BadChar at))
@@ -122,7 +122,7 @@ spells_column : (k x v : ℕ) → v < 32 → Spells k x (x + 1) (digit v ∷ [])
 spells_column k x v h = record {
   goes = λ at rest.
       let mark =
-      ap (λ b. if b then marks (Some at) (at + 1) rest else mark_of at (digit v) ∷ marks None (at + 1) rest) (column_digit v h).1.1.1
+      ap (λ b. if b then marks (Some at) (at + 1) rest else mark_of_byte at (digit v) ∷ marks None (at + 1) rest) (column_digit v h).1.1.1
       ∙ ap (λ m. m ∷ marks None (at + 1) rest) (mark_of-digit at v h) in (
         at + 1,
         record {

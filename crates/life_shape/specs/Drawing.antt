@@ -49,8 +49,8 @@ abbrev pub marks_at : List ℕ → ℕ → List Mark
 marks_at text at = marks None at (drop at text)
 
 -- the first of the marks is m
-abbrev pub Begins : Mark → List Mark → Type 0
-Begins m ms = (rest : List Mark) × (ms ≡ m ∷ rest)
+abbrev pub BeginsWithMark : Mark → List Mark → Type 0
+BeginsWithMark m ms = (rest : List Mark) × (ms ≡ m ∷ rest)
 
 -- what a sign at this place stands for
 abbrev pub mark_of_sign : ℕ → Sign → Mark
@@ -59,10 +59,10 @@ mark_of_sign at (Skip n) = Zeros n
 mark_of_sign at Down = NextStrip
 
 -- the number of a sign is as small as the text's digits make it
-abbrev pub IsSmall : Sign → Type 0
-IsSmall (Value v) = v < 32
-IsSmall (Skip n) = n ≤ 39
-IsSmall Down = 0 ≤ 0
+abbrev pub IsWithinDigits : Sign → Type 0
+IsWithinDigits (Value v) = v < 32
+IsWithinDigits (Skip n) = n ≤ 39
+IsWithinDigits Down = 0 ≤ 0
 
 -- the rows of a column's value from row j on, and the cells there
 abbrev pub rows_left : ℕ → ℕ → List ℕ

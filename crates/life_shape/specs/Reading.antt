@@ -25,8 +25,8 @@ pub data Mark : Type 0 where
   Offence : CodeFault → Mark
 
 -- what a byte other than `y` stands for
-abbrev pub mark_of : ℕ → ℕ → Mark
-mark_of at c =
+abbrev pub mark_of_byte : ℕ → ℕ → Mark
+mark_of_byte at c =
     if is_base_36_digit c then (if c == 122 then NextStrip else (if c == 119 then Zeros 2 else (if c == 120 then Zeros 3 else Column at (digit_value c)))) else Offence (BadChar at)
 
 -- what `y` and the byte after it stand for
@@ -37,7 +37,7 @@ mark_of_run at c = if is_base_36_digit c then Zeros (4 + digit_value c) else Off
 abbrev pub marks : Option ℕ → ℕ → List ℕ → List Mark
 marks None at [] = []
 marks (Some y) at [] = Offence (CutRun y) ∷ []
-marks None at (c ∷ rest) = if c == 121 then marks (Some at) (at + 1) rest else mark_of at c ∷ marks None (at + 1) rest
+marks None at (c ∷ rest) = if c == 121 then marks (Some at) (at + 1) rest else mark_of_byte at c ∷ marks None (at + 1) rest
 marks (Some y) at (c ∷ rest) = mark_of_run y c ∷ marks None (at + 1) rest
 
 abbrev pub marks_of : List ℕ → List Mark

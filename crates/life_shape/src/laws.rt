@@ -20,5 +20,6 @@ pub fn texts_tell_sets()
 
 /// The text of a set that stands within the limit of places is read without a fault.
 pub fn a_text_is_lawful()
-    ensures { (G : Generation) → width G ≤ place_limit → height G ≤ place_limit → refusal (body G) ≡ None }
+    ensures { (G : Generation) → width G ≤ place_limit → height G ≤ place_limit →
+        refusal (body G) ≡ None }
 {}

@@ -4,7 +4,7 @@ ghost use Rattle.std.specs.List.{list_any};
 ghost use Rattle.life_model.specs.Symmetry.{normal};
 ghost use Rattle.life_cells.specs.Limits.{IsWithin};
 ghost use Rattle.life_shape.specs.Reading.{Offence, begins_near, column_cells, digit_value, is_base_36_digit, is_far, keeps_a_cell, cell_of_pair, refusal, cells_spelled};
-ghost use Rattle.life_shape.specs.Drawing.{Begins, Gives, IsSmall, cells_drawn, keeps_from, marks_at, mark_of_sign};
+ghost use Rattle.life_shape.specs.Drawing.{BeginsWithMark, Gives, IsWithinDigits, cells_drawn, keeps_from, marks_at, mark_of_sign};
 ghost use Rattle.life_shape.specs.declared.reader.CodeFault.TheVariants.{Memory, TooFar};
 
 use crate::shape::Shape;
@@ -67,11 +67,13 @@ fn digit_value(byte: u8) -> Option<u8>
 // What stands at a place, and the place after it.
 fn next_sign(text: &[u8], at: usize) -> Result<(Sign, usize), CodeFault>
     requires { at < length text.now }
-    ensures found { IfOk result (λ p. marks_at text.now at ≡ mark_of_sign at p.0 ∷ marks_at text.now p.1) }
-    ensures small { IfOk result (λ p. IsSmall p.0) }
+    ensures found { IfOk result
+        (λ p. marks_at text.now at ≡ mark_of_sign at p.0 ∷ marks_at text.now p.1) }
+    ensures small { IfOk result (λ p. IsWithinDigits p.0) }
     ensures further { IfOk result (λ p. at < p.1) }
     ensures within { IfOk result (λ p. p.1 ≤ length text.now) }
-    ensures refused { IfErr result (λ fault. Begins (Offence fault) (marks_at text.now at)) }
+    ensures refused { IfErr result
+        (λ fault. BeginsWithMark (Offence fault) (marks_at text.now at)) }
     ensures told { IfErr result (λ fault. fault ≢ Memory) }
 {
     if text[at] == b'y' {
@@ -100,7 +102,8 @@ fn push_cell(cells: &mut Vec<(i32, i32)>, x: u32, y: u32) -> Result<(), AllocErr
     requires column { x < PLACE_LIMIT }
     requires row { y < PLACE_LIMIT }
     ensures cells { OnOk result (cells.new.items ≡ cells.old.items ++ (pos x, pos y) ∷ []) }
-    ensures within { OnOk result (All (IsWithin 0) cells.old.items → All (IsWithin 0) cells.new.items) }
+    ensures within { OnOk result
+        (All (IsWithin 0) cells.old.items → All (IsWithin 0) cells.new.items) }
 {
     cells.push((x as i32, y as i32))?;
     Ok(())
@@ -116,11 +119,15 @@ fn push_column(
 ) -> Result<(), CodeFault>
     requires strips { strip ≤ PLACE_LIMIT }
     ensures near { OnOk result (list_any is_far (column_cells strip column value) ≡ false) }
-    ensures cells { OnOk result (cells.new.items ≡ cells.old.items ++ map cell_of_pair (column_cells strip column value)) }
-    ensures within { OnOk result (All (IsWithin 0) cells.old.items → All (IsWithin 0) cells.new.items) }
+    ensures cells { OnOk result
+        (cells.new.items ≡ cells.old.items ++ map cell_of_pair (column_cells strip column value)) }
+    ensures within { OnOk result
+        (All (IsWithin 0) cells.old.items → All (IsWithin 0) cells.new.items) }
     ensures told { IfErr result (λ fault. fault ≢ Memory → fault ≡ TooFar at) }
-    ensures far { IfErr result (λ fault. fault ≢ Memory → list_any is_far (column_cells strip column value) ≡ true) }
-    ensures memory { IfErr result (λ fault. fault ≡ Memory → begins_near (column_cells strip column value) ≡ true) }
+    ensures far { IfErr result
+        (λ fault. fault ≢ Memory → list_any is_far (column_cells strip column value) ≡ true) }
+    ensures memory { IfErr result
+        (λ fault. fault ≡ Memory → begins_near (column_cells strip column value) ≡ true) }
 {
     'rows: for row in 0..5 {
         if (value >> row) % 2 == 1 {
@@ -138,8 +145,10 @@ fn push_column(
 fn read_cells(alloc: Global, text: &[u8]) -> Result<Vec<(i32, i32)>, CodeFault>
     ensures drawn { Gives (λ cells. cells.items) result (cells_drawn 0 0 (marks_at text.now 0)) }
     ensures within { IfOk result (λ cells. All (IsWithin 0) cells.items) }
-    ensures kept { IfOk result (λ cells. 0 < length cells.items → keeps_from 0 0 (marks_at text.now 0) ≡ true) }
-    ensures memory { IfErr result (λ fault. fault ≡ Memory → keeps_from 0 0 (marks_at text.now 0) ≡ true) }
+    ensures kept { IfOk result
+        (λ cells. 0 < length cells.items → keeps_from 0 0 (marks_at text.now 0) ≡ true) }
+    ensures memory { IfErr result
+        (λ fault. fault ≡ Memory → keeps_from 0 0 (marks_at text.now 0) ≡ true) }
 {
     let mut cells = Vec::new(alloc);
     let mut strip = 0;

@@ -75,7 +75,8 @@ fn moved_back(
     corner: (i32, i32),
 ) -> Result<Vec<(i32, i32)>, AllocError>
     requires { All (IsAhead corner) cells.now }
-    ensures moved { IfOk result (λ moved. moved.items ≡ map (λ c. plus c (opposite corner)) cells.now) }
+    ensures moved { IfOk result
+        (λ moved. moved.items ≡ map (λ c. plus c (opposite corner)) cells.now) }
     ensures memory { OnErr result (0 < length cells.now) }
 {
     let mut moved = Vec::with_capacity(alloc, cells.len())?;
@@ -150,7 +151,8 @@ impl Shape {
 
     /// The shape of the cells that the map takes its cells to.
     pub fn turned(&self, orient: Orient) -> Result<Shape, AllocError>
-        ensures { IfOk result (λ shape. shape ≡ normal (image_under self.now (orientation orient))) }
+        ensures { IfOk result
+            (λ shape. shape ≡ normal (image_under self.now (orientation orient))) }
     {
         let mut cells = turned_cells(self.alloc, self.list.as_slice(), orient)?;
         put_in_order(&mut cells);

@@ -55,8 +55,10 @@ fn first_column(dots: &[(u32, u8)]) -> (u8, usize)
     ensures value { result.0 ≡ dots_value dots.now (slice_index_or dots.now 0 (0, 0)).0 }
     ensures further { 0 < result.1 }
     ensures within { result.1 ≤ length dots.now }
-    ensures behind { All (λ d. (slice_index_or dots.now 0 (0, 0)).0 < d.0) (drop result.1 dots.now) }
-    ensures others { (x : ℕ) → (slice_index_or dots.now 0 (0, 0)).0 < x → dots_value (drop result.1 dots.now) x ≡ dots_value dots.now x }
+    ensures behind { All (λ d. (slice_index_or dots.now 0 (0, 0)).0 < d.0)
+        (drop result.1 dots.now) }
+    ensures others { (x : ℕ) → (slice_index_or dots.now 0 (0, 0)).0 < x →
+        dots_value (drop result.1 dots.now) x ≡ dots_value dots.now x }
 {
     let column = dots[0].0;
     let mut value = 0;
@@ -75,7 +77,9 @@ fn push_columns(text: &mut Vec<u8>, dots: &[(u32, u8)]) -> Result<(), AllocError
     requires live { All (λ d. 0 < d.1) dots.now }
     requires small { (x : ℕ) → dots_value dots.now x < 36 }
     requires placed { All (λ d. d.0 < extent_limit) dots.now }
-    ensures { OnOk result ((wide : ℕ) → All (λ d. d.0 < wide) dots.now → text.new.items ≡ text.old.items ++ values_text (dots_value dots.now) wide) }
+    ensures { OnOk result
+        ((wide : ℕ) → All (λ d. d.0 < wide) dots.now →
+        text.new.items ≡ text.old.items ++ values_text (dots_value dots.now) wide) }
 {
     let mut written = 0;
     let mut rest = dots;
@@ -123,7 +127,9 @@ fn push_strip(
     requires strips { strip ≤ strip_limit }
     requires placed { All (IsInStrip strip) cells.now }
     requires small { (x : ℕ) → weights strip cells.now x < 36 }
-    ensures { OnOk result ((wide : ℕ) → All (IsLeftOf wide) cells.now → text.new.items ≡ text.old.items ++ values_text (weights strip cells.now) wide) }
+    ensures { OnOk result
+        ((wide : ℕ) → All (IsLeftOf wide) cells.now →
+        text.new.items ≡ text.old.items ++ values_text (weights strip cells.now) wide) }
 {
     let mut dots = dots_of(alloc, cells, strip)?;
     dots.sort_unstable_by_key(|dot| dot.0);
@@ -170,7 +176,9 @@ pub fn text_of(alloc: Global, cells: &[(i32, i32)], strips: u32) -> Result<Vec<u
     requires rising { T (is_rising cells.now) }
     requires placed { All IsInField cells.now }
     requires strips { strips ≤ strip_limit }
-    ensures { IfOk result (λ text. (wide : ℕ) → All (IsLeftOf wide) cells.now → text.items ≡ strips_text (λ k. values_text (weights k cells.now) wide) strips) }
+    ensures { IfOk result
+        (λ text. (wide : ℕ) → All (IsLeftOf wide) cells.now →
+        text.items ≡ strips_text (λ k. values_text (weights k cells.now) wide) strips) }
 {
     let mut text = Vec::new(alloc);
     if strips == 0 {

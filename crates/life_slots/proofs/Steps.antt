@@ -12,7 +12,7 @@ use Rattle.life_slots.specs.declared.bands.Bands.{Bands}
 use Rattle.life_slots.specs.declared.slot.Slot.{Slot}
 use Rattle.life_slots.specs.Slots.{Index, slot_at, neighbour_at, place_of, link_of, tile_of, empty_tile, generation_shown}
 use Rattle.life_slots.specs.Rims.{IsAtEdge, IsNextToBand}
-use Rattle.life_slots.specs.Work.{mark_of, IsWorkedOut, IsIdle, IsCalm}
+use Rattle.life_slots.specs.Work.{band_mark, IsWorkedOut, IsIdle, IsCalm}
 use Rattle.life_slots.specs.Cells.{state_at}
 use Rattle.life_slots.specs.Indexes.{IsIndexed, IsSlotOf, IsClosed}
 use Rattle.life_slots.proofs.Bits.{bit_cases}
@@ -58,10 +58,10 @@ in_own x y high = record {
 }
 
 module _ (index : Index) (slots : List Slot) (whole : IsIndexed index slots) (previous after : List Tile) (marked : List Bands) (previous_none : tile_of previous 0 ≡ empty_tile) (after_none : tile_of after 0 ≡ empty_tile)
-    (around : (k m band x y : ℕ) → 0 < k → k < length slots → m < 9 → band < 8 → x < 64 → y < 64 → IsNextToBand m band x y → mark_of marked (link_of slots k m) band ≡ 0 →
+    (around : (k m band x y : ℕ) → 0 < k → k < length slots → m < 9 → band < 8 → x < 64 → y < 64 → IsNextToBand m band x y → band_mark marked (link_of slots k m) band ≡ 0 →
     tile_cell (tile_of after k) x y ≡ tile_cell (tile_of previous k) x y) where
   -- in and next to a band that is not marked nothing changed
-  pub unchanged : (j band : ℕ) → 0 < j → j < length slots → band < 8 → mark_of marked j band ≡ 0 → (X Y : ℤ) → IsBeside X (place_of slots j).0 →
+  pub unchanged : (j band : ℕ) → 0 < j → j < length slots → band < 8 → band_mark marked j band ≡ 0 → (X Y : ℤ) → IsBeside X (place_of slots j).0 →
       ((start_at (place_of slots j).1 +ℤ pos (8 * band)) -ℤ pos 1) ≤ℤ Y → Y ≤ℤ (start_at (place_of slots j).1 +ℤ pos (8 * band + 8)) →
       state_at (generation_shown index after) X Y ≡ state_at (generation_shown index previous) X Y
   unchanged j band later inside b_small clear X Y beside_x low high =
@@ -83,7 +83,7 @@ module _ (index : Index) (slots : List Slot) (whole : IsIndexed index slots) (pr
       let rows = next_to d.m band t.remainder t.quotient (place_of slots j).1 Y (ap (λ (z : ℤ × ℤ). z.1) d.is) t.is low high in
       shown_state index after whole.ordered after_none s.quotient t.quotient s.remainder t.remainder s.small t.small
       ∙ around k d.m band s.remainder t.remainder there.later there.inside d.small b_small s.small t.small
-      (record { column = d.edge.column; from = rows.0; to = rows.1 }) (ap (λ i. mark_of marked i band) link ∙ clear)
+      (record { column = d.edge.column; from = rows.0; to = rows.1 }) (ap (λ i. band_mark marked i band) link ∙ clear)
       ∙ sym (shown_state index previous whole.ordered previous_none s.quotient t.quotient s.remainder t.remainder s.small t.small))
       (slot_cases index slots whole (s.quotient, t.quotient))
       ∙ sym (λ i. state_at (generation_shown index previous) (s.is i) (t.is i))
@@ -97,7 +97,7 @@ module _ (index : Index) (slots : List Slot) (whole : IsIndexed index slots) (cu
   -- every tile is worked out, or was so before
   pub advanced :
       ((k : ℕ) → 0 < k → k < length slots → IsClosed slots current k) →
-      ((k x y : ℕ) → 0 < k → k < length slots → x < 64 → y < 64 → mark_of active k (y / 8) ≡ 0 →
+      ((k x y : ℕ) → 0 < k → k < length slots → x < 64 → y < 64 → band_mark active k (y / 8) ≡ 0 →
       tile_cell (tile_of previous k) x y ≡ state_at (next rule (generation_shown index current)) (start_at (place_of slots k).0 +ℤ pos x) (start_at (place_of slots k).1 +ℤ pos y)) →
       generation_shown index after ≡ next rule (generation_shown index current)
   advanced closed settled =
@@ -115,16 +115,16 @@ module _ (index : Index) (slots : List Slot) (whole : IsIndexed index slots) (cu
       let k : ℕ = slot_at index (column, row) in
       shown_state index after whole.ordered after_none column row x y wide high
       ∙ ⊎_elim
-      (λ (busy : mark_of active (slot_at index (column, row)) (y / 8) ≡ 1).
+      (λ (busy : band_mark active (slot_at index (column, row)) (y / 8) ≡ 1).
       worked.next k x y there.later there.inside wide high busy ∙ next_linked index slots whole current current_none rule k there.later there.inside x y wide high)
-      (λ (idle : mark_of active (slot_at index (column, row)) (y / 8) ≡ 0).
+      (λ (idle : band_mark active (slot_at index (column, row)) (y / 8) ≡ 0).
       worked.idle k x y wide high idle ∙ settled k x y there.later there.inside wide high idle)
       (bit_cases _ (y / 8))
       ∙ ap (λ (p : ℤ × ℤ). state_at (next rule (generation_shown index current)) (start_at p.0 +ℤ pos x) (start_at p.1 +ℤ pos y)) there.place)
       (slot_cases index slots whole (column, row)))
 
   -- so it will be again what it is now, where this is what becomes of the generation before
-  pub settled_again : (j x y : ℕ) → 0 < j → j < length slots → x < 64 → y < 64 → mark_of marked j (y / 8) ≡ 0 →
+  pub settled_again : (j x y : ℕ) → 0 < j → j < length slots → x < 64 → y < 64 → band_mark marked j (y / 8) ≡ 0 →
       tile_cell (tile_of current j) x y ≡ state_at (next rule (generation_shown index previous)) (start_at (place_of slots j).0 +ℤ pos x) (start_at (place_of slots j).1 +ℤ pos y) →
       tile_cell (tile_of current j) x y ≡ state_at (next rule (generation_shown index after)) (start_at (place_of slots j).0 +ℤ pos x) (start_at (place_of slots j).1 +ℤ pos y)
   settled_again j x y later inside wide high clear earlier =
@@ -143,7 +143,7 @@ module _ (index : Index) (slots : List Slot) (whole : IsIndexed index slots) (cu
     closed = λ m small link. record {
       still = λ x y wide high edge.
           let b : BandBeyond m x y = beyond m x y small high edge in
-          worked.around j m b.band x y later inside small b.small wide high b.near (ap (λ k. mark_of marked k b.band) link ∙ calm b.band b.small)
+          worked.around j m b.band x y later inside small b.small wide high b.near (ap (λ k. band_mark marked k b.band) link ∙ calm b.band b.small)
           ∙ ((closed j later inside).closed m small link).still x y wide high edge;
     };
   }
@@ -156,7 +156,7 @@ module _ (index : Index) (slots : List Slot) (whole : IsIndexed index slots) (cu
       record {
         closed = λ m small link. record {
           still = λ x y wide high edge.
-              worked.around j 4 (y / 8) x y later inside (omega arith) (omega arith) wide high (in_own x y high) (ap (λ k. mark_of marked k (y / 8)) own ∙ idle (y / 8) (omega arith))
+              worked.around j 4 (y / 8) x y later inside (omega arith) (omega arith) wide high (in_own x y high) (ap (λ k. band_mark marked k (y / 8)) own ∙ idle (y / 8) (omega arith))
               ∙ (closed.closed m small link).still x y wide high edge;
         };
       }

@@ -10,7 +10,7 @@ use Rattle.life_slots.specs.declared.bands.Bands.{Bands}
 use Rattle.life_slots.specs.declared.slot.Slot.{Slot}
 use Rattle.life_slots.specs.Slots.{links_of, link_of, tile_of, nine_linked}
 use Rattle.life_slots.specs.Rims.{IsNextToBand}
-use Rattle.life_slots.specs.Work.{bands_of, mark_of, touch_of, IsTouchedAround, IsTileWorkedOut, IsWorkedOut}
+use Rattle.life_slots.specs.Work.{bands_of, band_mark, touch_of, IsTouchedAround, IsTileWorkedOut, IsWorkedOut}
 use Rattle.life_slots.proofs.Lists.{set_here, set_there}
 use Rattle.life_slots.proofs.Marks.{clear_before}
 use Rattle.life_slots.proofs.Marking.{bit_before}
@@ -85,7 +85,7 @@ module _ (current : List Tile) (links : List ℕ) (active : Bands) (rule : Rule)
 -- slots that have nothing to do
 pub slots_idle : (slots : List Slot) (current : List Tile) (active : List Bands) (rule : Rule) (before after : List Tile) (marks marked : List Bands) (n : ℕ) →
     IsWorkedOut slots current active rule before after marks marked n →
-    (later : ℕ) → n ≤ later → ((k band : ℕ) → n ≤ k → k < later → mark_of active k band ≡ 0) → IsWorkedOut slots current active rule before after marks marked later
+    (later : ℕ) → n ≤ later → ((k band : ℕ) → n ≤ k → k < later → band_mark active k band ≡ 0) → IsWorkedOut slots current active rule before after marks marked later
 slots_idle slots current active rule before after marks marked n worked later more idle = record {
   length_after = worked.length_after;
   length_marked = worked.length_marked;
@@ -123,8 +123,8 @@ module _ (slots : List Slot) (current : List Tile) (active : List Bands) (rule :
   -- a slot of which some bands are worked out
   pub worked_busy : (tile : Tile) (columns : List ℕ) (more : List Bands) → length after ≡ length slots →
       IsTileWorkedOut current (links_of slots n) (bands_of active n) rule (tile_of after n) tile columns 8 →
-      length more ≡ length marked → ((k band : ℕ) → mark_of marked k band ≡ 1 → mark_of more k band ≡ 1) →
-      ((m band : ℕ) → m < 9 → band < 8 → mark_of more (link_of slots n m) band ≡ 0 → touch_of columns m band ≡ 0) →
+      length more ≡ length marked → ((k band : ℕ) → band_mark marked k band ≡ 1 → band_mark more k band ≡ 1) →
+      ((m band : ℕ) → m < 9 → band < 8 → band_mark more (link_of slots n m) band ≡ 0 → touch_of columns m band ≡ 0) →
       IsWorkedOut slots current active rule before (slice_set after n tile) marks more (n + 1)
   worked_busy tile columns more count law same_length kept touched =
       let room : n < length after = omega arith in
@@ -140,13 +140,13 @@ module _ (slots : List Slot) (current : List Tile) (active : List Bands) (rule :
         next = λ k x y positive less wide high busy.
             ⊎_elim
             (λ (same : k ≡ n).
-            at k x y same ∙ law.next x y wide high (omega arith) (ap (λ j. mark_of active j (y / 8)) (sym same) ∙ busy)
+            at k x y same ∙ law.next x y wide high (omega arith) (ap (λ j. band_mark active j (y / 8)) (sym same) ∙ busy)
             ∙ ap (λ j. next_in_area rule (nine_linked current (links_of slots j)) x y) (sym same))
             (λ (apart : k ≢ n). ap (λ (t : Tile). tile_cell t x y) (there k apart) ∙ worked.next k x y positive (omega arith) wide high busy)
             (cases_eq k n);
         idle = λ k x y wide high idle.
             ⊎_elim
-            (λ (same : k ≡ n). at k x y same ∙ law.idle x y wide high (ap (λ j. mark_of active j (y / 8)) (sym same) ∙ idle) ∙ was k x y same)
+            (λ (same : k ≡ n). at k x y same ∙ law.idle x y wide high (ap (λ j. band_mark active j (y / 8)) (sym same) ∙ idle) ∙ was k x y same)
             (λ (apart : k ≢ n). ap (λ (t : Tile). tile_cell t x y) (there k apart) ∙ worked.idle k x y wide high idle)
             (cases_eq k n);
         first = (let apart : 0 ≢ n = omega arith in there 0 apart ∙ worked.first);
@@ -154,7 +154,7 @@ module _ (slots : List Slot) (current : List Tile) (active : List Bands) (rule :
         around = λ k m band x y positive less small b_small wide high near clear.
             ⊎_elim
             (λ (same : k ≡ n).
-            at k x y same ∙ law.around m band x y small b_small wide high (omega arith) near (touched m band small b_small (ap (λ j. mark_of more (link_of slots j m) band) (sym same) ∙ clear)) ∙ was k x y same)
+            at k x y same ∙ law.around m band x y small b_small wide high (omega arith) near (touched m band small b_small (ap (λ j. band_mark more (link_of slots j m) band) (sym same) ∙ clear)) ∙ was k x y same)
             (λ (apart : k ≢ n).
             ap (λ (t : Tile). tile_cell t x y) (there k apart)
             ∙ worked.around k m band x y positive (omega arith) small b_small wide high near (clear_before marked more (link_of slots k m) band (kept (link_of slots k m) band) clear))

@@ -15,12 +15,12 @@ abbrev pub bands_of : List Bands → ℕ → Bands
 bands_of marks k = slice_index_or marks k (record { bits = 0 })
 
 -- 1 where a band of a slot is marked, else 0
-abbrev pub mark_of : List Bands → ℕ → ℕ → ℕ
-mark_of marks k band = bit_at (bands_of marks k).bits band
+abbrev pub band_mark : List Bands → ℕ → ℕ → ℕ
+band_mark marks k band = bit_at (bands_of marks k).bits band
 
 -- no band of a slot is marked
 abbrev pub IsIdle : List Bands → ℕ → Type 0
-IsIdle marks k = (band : ℕ) → band < 8 → mark_of marks k band ≡ 0
+IsIdle marks k = (band : ℕ) → band < 8 → band_mark marks k band ≡ 0
 
 -- no band of slot 0 is marked, which stands for every place without a slot
 abbrev pub IsCalm : List Bands → Type 0
@@ -28,7 +28,7 @@ IsCalm marks = IsIdle marks 0
 
 -- each band is marked that a live cell of the tile of a slot from 1 to n is in or next to
 pub record IsMarkedNear (slots : List Slot) (tiles : List Tile) (marks : List Bands) (n : ℕ) : Type 0 where
-  pub near : (k m band x y : ℕ) → 0 < k → k < n → m < 9 → band < 8 → x < 64 → y < 64 → IsNextToBand m band x y → mark_of marks (link_of slots k m) band ≡ 0 →
+  pub near : (k m band x y : ℕ) → 0 < k → k < n → m < 9 → band < 8 → x < 64 → y < 64 → IsNextToBand m band x y → band_mark marks (link_of slots k m) band ≡ 0 →
       tile_cell (tile_of tiles k) x y ≡ 0
 
 -- each link of each slot but the first is a slot
@@ -63,10 +63,10 @@ pub record IsTileWorkedOut (current : List Tile) (links : List ℕ) (active : Ba
 pub record IsWorkedOut (slots : List Slot) (current : List Tile) (active : List Bands) (rule : Rule) (before after : List Tile) (marks marked : List Bands) (n : ℕ) : Type 0 where
   pub length_after : length after ≡ length before
   pub length_marked : length marked ≡ length marks
-  pub next : (k x y : ℕ) → 0 < k → k < n → x < 64 → y < 64 → mark_of active k (y / 8) ≡ 1 → tile_cell (tile_of after k) x y ≡ next_in_area rule (nine_linked current (links_of slots k)) x y
-  pub idle : (k x y : ℕ) → x < 64 → y < 64 → mark_of active k (y / 8) ≡ 0 → tile_cell (tile_of after k) x y ≡ tile_cell (tile_of before k) x y
+  pub next : (k x y : ℕ) → 0 < k → k < n → x < 64 → y < 64 → band_mark active k (y / 8) ≡ 1 → tile_cell (tile_of after k) x y ≡ next_in_area rule (nine_linked current (links_of slots k)) x y
+  pub idle : (k x y : ℕ) → x < 64 → y < 64 → band_mark active k (y / 8) ≡ 0 → tile_cell (tile_of after k) x y ≡ tile_cell (tile_of before k) x y
   pub first : tile_of after 0 ≡ tile_of before 0
   pub later : (k : ℕ) → n ≤ k → tile_of after k ≡ tile_of before k
-  pub around : (k m band x y : ℕ) → 0 < k → k < n → m < 9 → band < 8 → x < 64 → y < 64 → IsNextToBand m band x y → mark_of marked (link_of slots k m) band ≡ 0 →
+  pub around : (k m band x y : ℕ) → 0 < k → k < n → m < 9 → band < 8 → x < 64 → y < 64 → IsNextToBand m band x y → band_mark marked (link_of slots k m) band ≡ 0 →
       tile_cell (tile_of after k) x y ≡ tile_cell (tile_of before k) x y
-  pub kept : (k band : ℕ) → mark_of marks k band ≡ 1 → mark_of marked k band ≡ 1
+  pub kept : (k band : ℕ) → band_mark marks k band ≡ 1 → band_mark marked k band ≡ 1

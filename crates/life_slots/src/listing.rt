@@ -35,7 +35,8 @@ pub fn next_bit(word: u64, from: usize) -> usize
 pub fn push_row(cells: &mut Vec<(i32, i32)>, left: i32, y: i32, word: u64) -> Result<(), AllocError>
     requires west { negsuc 1000000000 ≤ℤ left }
     requires east { left ≤ℤ pos 1000000000 }
-    ensures { OnOk result (cells.new.items ≡ cells.old.items ++ reverse (row_cells left y word 64)) }
+    ensures { OnOk result
+        (cells.new.items ≡ cells.old.items ++ reverse (row_cells left y word 64)) }
 {
     let mut x = next_bit(word, 0);
     while x < 64 {

@@ -30,8 +30,10 @@ impl Rim {
     /// Whether a live cell is at the edge in one of the nine directions.
     pub fn reaches(&self, direction: usize) -> bool
         requires { direction < 9 }
-        ensures still { (tile : Tile) → IsRimOf self.now tile → result ≡ false → IsStill tile direction }
-        ensures live { (tile : Tile) → IsRimOf self.now tile → result ≡ true → IsStill tile direction → ⊥ }
+        ensures still { (tile : Tile) → IsRimOf self.now tile → result ≡ false →
+            IsStill tile direction }
+        ensures live { (tile : Tile) → IsRimOf self.now tile → result ≡ true →
+            IsStill tile direction → ⊥ }
     {
         let side = direction % 3;
         match direction / 3 {
@@ -57,7 +59,8 @@ pub fn has_at_side(bits: u64, side: usize) -> bool
 
 /// At each column whether one of its cells is live.
 fn live_columns(tile: &Tile) -> u64
-    ensures { (x : ℕ) → x < 64 → (bit_at result x ≡ 0) ↔ ((y : ℕ) → y < 64 → tile_cell tile.now x y ≡ 0) }
+    ensures { (x : ℕ) → x < 64 →
+        (bit_at result x ≡ 0) ↔ ((y : ℕ) → y < 64 → tile_cell tile.now x y ≡ 0) }
 {
     let mut columns = 0;
     for row in &tile.rows {

@@ -29,7 +29,8 @@ fn live_seats(
     tiles: &[Tile],
 ) -> Result<Vec<Seat>, AllocError>
     requires inside { (p : ℤ × ℤ) (k : ℕ) → get place_cmp index.now p ≡ Some k → IsInside p }
-    requires slots { (p : ℤ × ℤ) (k : ℕ) → get place_cmp index.now p ≡ Some k → k < length tiles.now }
+    requires slots { (p : ℤ × ℤ) (k : ℕ) → get place_cmp index.now p ≡ Some k →
+        k < length tiles.now }
     ensures seats { IfOk result (λ seats. All (IsSeat (length tiles.now)) seats.items) }
     ensures cells { IfOk result (λ seats. (q : Cell) → list_any (has_tile tiles.now q) seats.items
         ≡ list_any (same_cell q) (tiles_cells (placed_tiles index.now.entries tiles.now))) }
@@ -54,7 +55,8 @@ pub fn seats_by_rows(
     tiles: &[Tile],
 ) -> Result<Vec<Seat>, AllocError>
     requires inside { (p : ℤ × ℤ) (k : ℕ) → get place_cmp index.now p ≡ Some k → IsInside p }
-    requires slots { (p : ℤ × ℤ) (k : ℕ) → get place_cmp index.now p ≡ Some k → k < length tiles.now }
+    requires slots { (p : ℤ × ℤ) (k : ℕ) → get place_cmp index.now p ≡ Some k →
+        k < length tiles.now }
     ensures seats { IfOk result (λ seats. All (IsSeat (length tiles.now)) seats.items) }
     ensures cells { IfOk result (λ seats. (q : Cell) → list_any (has_tile tiles.now q) seats.items
         ≡ list_any (same_cell q) (tiles_cells (placed_tiles index.now.entries tiles.now))) }

@@ -65,8 +65,10 @@ pub fn connect(slots: &mut [Slot], links: &[u32; 9], slot: u32)
     requires { (m : ℕ) → m < 9 → slice_index links.now m < length slots.old }
     ensures length { length slots.new ≡ length slots.old }
     ensures place { (k : ℕ) → place_of slots.new k ≡ place_of slots.old k }
-    ensures here { (k m : ℕ) → k < length slots.old → m < 9 → slice_index links.now (8 - m) ≡ k → link_of slots.new k m ≡ slot }
-    ensures others { (k m : ℕ) → m < 9 → slice_index links.now (8 - m) ≢ k → link_of slots.new k m ≡ link_of slots.old k m }
+    ensures here { (k m : ℕ) → k < length slots.old → m < 9 → slice_index links.now (8 - m) ≡ k →
+        link_of slots.new k m ≡ slot }
+    ensures others { (k m : ℕ) → m < 9 → slice_index links.now (8 - m) ≢ k →
+        link_of slots.new k m ≡ link_of slots.old k m }
 {
     for direction in 0..9 {
         let beside = links[direction] as usize;

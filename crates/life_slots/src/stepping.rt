@@ -3,7 +3,7 @@ ghost use Rattle.std.specs.Prelude.{◌≡◌, ℕ, ◌+◌, ◌*◌, ◌%◌, �
 ghost use Rattle.std.specs.Int.{bit_at};
 ghost use Rattle.life_model.specs.Rule.{Rule};
 ghost use Rattle.life_bits.specs.Logics.{IsLogicOf};
-ghost use Rattle.life_slots.specs.Work.{mark_of, IsLinked, IsTileWorkedOut, IsWorkedOut};
+ghost use Rattle.life_slots.specs.Work.{band_mark, IsLinked, IsTileWorkedOut, IsWorkedOut};
 
 use crate::bands::Bands;
 use crate::slot::{CENTRE, Slot};
@@ -14,7 +14,8 @@ use life_cells::Rule;
 /// Makes each of the marks the same.
 pub fn mark_all(marks: &mut [Bands], value: Bands)
     ensures length { length marks.new ≡ length marks.old }
-    ensures marks { (k band : ℕ) → k < length marks.old → mark_of marks.new k band ≡ bit_at value.bits band }
+    ensures marks { (k band : ℕ) → k < length marks.old →
+        band_mark marks.new k band ≡ bit_at value.bits band }
 {
     for mark in marks.iter_mut() {
         *mark = value;
@@ -63,7 +64,8 @@ const STRIDE: usize = 32;
 /// Whether one of so many slots has something to do.
 fn is_busy(active: &[Bands], from: usize) -> bool
     requires { from + STRIDE ≤ length active.now }
-    ensures { result ≡ false → (k band : ℕ) → from ≤ k → k < from + STRIDE → mark_of active.now k band ≡ 0 }
+    ensures { result ≡ false → (k band : ℕ) → from ≤ k → k < from + STRIDE →
+        band_mark active.now k band ≡ 0 }
 {
     let mut all = Bands::NONE;
     for slot in 0..STRIDE {
@@ -78,7 +80,7 @@ fn is_busy(active: &[Bands], from: usize) -> bool
 #[inline(never)]
 fn first_busy(active: &[Bands], from: usize) -> usize
     ensures from { from ≤ result }
-    ensures idle { (k band : ℕ) → from ≤ k → k < result → mark_of active.now k band ≡ 0 }
+    ensures idle { (k band : ℕ) → from ≤ k → k < result → band_mark active.now k band ≡ 0 }
 {
     let mut slot = from;
     while active.len() >= STRIDE && slot <= active.len() - STRIDE && !is_busy(active, slot) {
@@ -106,7 +108,8 @@ fn next_tiles_by(
     requires active { length active.now ≡ length slots.now }
     requires marks { length marks.old ≡ length slots.now }
     ensures { (rule : Rule) → IsLogicOf logic.now rule →
-        IsWorkedOut slots.now current.now active.now rule previous.old previous.new marks.old marks.new (length slots.now) }
+        IsWorkedOut slots.now current.now active.now rule previous.old previous.new marks.old
+        marks.new (length slots.now) }
 {
     let mut slot = first_busy(active, 1);
     while slot < slots.len() {
@@ -132,7 +135,8 @@ pub fn next_tiles(
     requires previous { length previous.old ≡ length slots.now }
     requires active { length active.now ≡ length slots.now }
     requires marks { length marks.old ≡ length slots.now }
-    ensures { IsWorkedOut slots.now current.now active.now rule.now previous.old previous.new marks.old marks.new (length slots.now) }
+    ensures { IsWorkedOut slots.now current.now active.now rule.now previous.old previous.new
+        marks.old marks.new (length slots.now) }
 {
     // Which logic it is, is found out here once for all bands.
     match Logic::of(rule) {

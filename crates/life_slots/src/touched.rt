@@ -4,7 +4,7 @@ ghost use Rattle.std.specs.Int.{bit_at};
 ghost use Rattle.life_bits.specs.declared.tile.Tile.{Tile};
 ghost use Rattle.life_bits.specs.Changes.{IsChange};
 ghost use Rattle.life_slots.specs.Rims.{IsSideClear};
-ghost use Rattle.life_slots.specs.Work.{mark_of, touch_of, IsTouchedBeside, IsTouchedAround};
+ghost use Rattle.life_slots.specs.Work.{band_mark, touch_of, IsTouchedBeside, IsTouchedAround};
 
 use crate::bands::Bands;
 use crate::rim::has_at_side;
@@ -49,7 +49,8 @@ fn with_change(column: u32, side: usize, index: usize, change: &Change) -> u32
     requires side { side < 3 }
     requires index { index < 8 }
     ensures kept { (k : ℕ) → bit_at column k ≡ 1 → bit_at result k ≡ 1 }
-    ensures touched { (old new : Tile) → IsChange change.now old new (8 * index) → IsTouchedBeside result index old new side }
+    ensures touched { (old new : Tile) → IsChange change.now old new (8 * index) →
+        IsTouchedBeside result index old new side }
 {
     // The bands above, beside and below.
     with_bits(column, index + 7, rows_beside(change, side))
@@ -70,8 +71,9 @@ fn mark_column(marks: &mut [Bands], links: &[u32; 9], side: usize, column: u32)
     requires links { (m : ℕ) → m < 9 → slice_index links.now m < length marks.old }
     requires side { side < 3 }
     ensures length { length marks.new ≡ length marks.old }
-    ensures kept { (k band : ℕ) → mark_of marks.old k band ≡ 1 → mark_of marks.new k band ≡ 1 }
-    ensures marked { (m band : ℕ) → m < 9 → m % 3 ≡ side → band < 8 → mark_of marks.new (slice_index links.now m) band ≡ 0 →
+    ensures kept { (k band : ℕ) → band_mark marks.old k band ≡ 1 → band_mark marks.new k band ≡ 1 }
+    ensures marked { (m band : ℕ) → m < 9 → m % 3 ≡ side → band < 8 →
+        band_mark marks.new (slice_index links.now m) band ≡ 0 →
         bit_at column (8 * (m / 3) + band) ≡ 0 }
 {
     for row in 0..3 {
@@ -88,8 +90,10 @@ impl Touched {
     #[inline(always)]
     pub fn with_band(self, index: usize, change: &Change) -> Touched
         requires { index < 8 }
-        ensures kept { (side k : ℕ) → side < 3 → bit_at (slice_index self.columns side) k ≡ 1 → bit_at (slice_index result.columns side) k ≡ 1 }
-        ensures touched { (old new : Tile) → IsChange change.now old new (8 * index) → IsTouchedAround result.columns index old new }
+        ensures kept { (side k : ℕ) → side < 3 → bit_at (slice_index self.columns side) k ≡ 1 →
+            bit_at (slice_index result.columns side) k ≡ 1 }
+        ensures touched { (old new : Tile) → IsChange change.now old new (8 * index) →
+            IsTouchedAround result.columns index old new }
     {
         let [west, here, east] = self.columns;
         Touched {
@@ -105,8 +109,10 @@ impl Touched {
     pub fn mark(&self, marks: &mut [Bands], links: &[u32; 9])
         requires { (m : ℕ) → m < 9 → slice_index links.now m < length marks.old }
         ensures length { length marks.new ≡ length marks.old }
-        ensures kept { (k band : ℕ) → mark_of marks.old k band ≡ 1 → mark_of marks.new k band ≡ 1 }
-        ensures marked { (m band : ℕ) → m < 9 → band < 8 → mark_of marks.new (slice_index links.now m) band ≡ 0 →
+        ensures kept { (k band : ℕ) → band_mark marks.old k band ≡ 1 →
+            band_mark marks.new k band ≡ 1 }
+        ensures marked { (m band : ℕ) → m < 9 → band < 8 →
+            band_mark marks.new (slice_index links.now m) band ≡ 0 →
             touch_of self.now.columns m band ≡ 0 }
     {
         for side in 0..3 {

@@ -5,7 +5,7 @@ use Rattle.std.specs.Str.Parse.{digits_value}
 use Rattle.life_cells.specs.Bytes.{is_digit, is_space, without_front}
 use Rattle.life_text.specs.Rle.{Lexeme, Count, Tag, lexemes, tokens}
 use Rattle.life_text.specs.Reader.{plain_at, tokens_at, count_cap, IsPlain}
-use Rattle.life_text.specs.Found.{Begins}
+use Rattle.life_text.specs.Found.{BeginsWithToken}
 use Rattle.life_text.proofs.LexLemmas.{lexemes-spaces, first_digit, within_digit, tag_first, stop_end}
 
 -- the lexemes of the text from a place on
@@ -30,7 +30,7 @@ lexemes_count text at behind lt h rest =
     first_digit text at lt h ∙ ap (λ ls. Count at (digits_value 10 (take_while is_digit (plain_at text at))) ∷ ls) (sym (within_digit text at lt h) ∙ rest)
 
 -- the five kinds of first token
-pub begins_end : (text : List ℕ) (from : ℕ) → lexemes_at text from ≡ [] → Begins text from (record { at = 0; counted = false; times = 1; tag_at = 0; tag = None })
+pub begins_end : (text : List ℕ) (from : ℕ) → lexemes_at text from ≡ [] → BeginsWithToken text from (record { at = 0; counted = false; times = 1; tag_at = 0; tag = None })
 begins_end text from e = record {
   token = record { at = 0; count = None; tag_at = 0; tag = None };
   others = [];
@@ -39,7 +39,7 @@ begins_end text from e = record {
   behind = tt;
 }
 
-pub begins_tag : (text : List ℕ) (from at c : ℕ) → lexemes_at text from ≡ Tag at c ∷ lexemes_at text (at + 1) → Begins text from (record { at = at; counted = false; times = 1; tag_at = at; tag = Some c })
+pub begins_tag : (text : List ℕ) (from at c : ℕ) → lexemes_at text from ≡ Tag at c ∷ lexemes_at text (at + 1) → BeginsWithToken text from (record { at = at; counted = false; times = 1; tag_at = at; tag = Some c })
 begins_tag text from at c e = record {
   token = record { at = at; count = None; tag_at = at; tag = Some c };
   others = if c == 33 then [] else tokens_at text (at + 1);
@@ -48,7 +48,7 @@ begins_tag text from at c e = record {
   behind = refl;
 }
 
-pub begins_count_end : (text : List ℕ) (from at n times : ℕ) → times ≡ min n count_cap → lexemes_at text from ≡ Count at n ∷ [] → Begins text from (record { at = at; counted = true; times = times; tag_at = at; tag = None })
+pub begins_count_end : (text : List ℕ) (from at n times : ℕ) → times ≡ min n count_cap → lexemes_at text from ≡ Count at n ∷ [] → BeginsWithToken text from (record { at = at; counted = true; times = times; tag_at = at; tag = None })
 begins_count_end text from at n times value e = record {
   token = record { at = at; count = Some n; tag_at = at; tag = None };
   others = [];
@@ -58,7 +58,7 @@ begins_count_end text from at n times value e = record {
 }
 
 pub begins_count_count : (text : List ℕ) (from at n times next m : ℕ) (rest : List Lexeme) → times ≡ min n count_cap → lexemes_at text from ≡ Count at n ∷ Count next m ∷ rest
-    → Begins text from (record { at = at; counted = true; times = times; tag_at = at; tag = None })
+    → BeginsWithToken text from (record { at = at; counted = true; times = times; tag_at = at; tag = None })
 begins_count_count text from at n times next m rest value e = record {
   token = record { at = at; count = Some n; tag_at = at; tag = None };
   others = tokens (Count next m ∷ rest);
@@ -68,7 +68,7 @@ begins_count_count text from at n times next m rest value e = record {
 }
 
 pub begins_count_tag : (text : List ℕ) (from at n times next c : ℕ) → times ≡ min n count_cap → lexemes_at text from ≡ Count at n ∷ Tag next c ∷ lexemes_at text (next + 1)
-    → Begins text from (record { at = at; counted = true; times = times; tag_at = next; tag = Some c })
+    → BeginsWithToken text from (record { at = at; counted = true; times = times; tag_at = next; tag = Some c })
 begins_count_tag text from at n times next c value e = record {
   token = record { at = at; count = Some n; tag_at = next; tag = Some c };
   others = if c == 33 then [] else tokens_at text (next + 1);

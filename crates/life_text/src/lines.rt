@@ -13,7 +13,8 @@ fn put_piece(out: &mut Vec<u8>, used: usize, digits: &[u8], tag: u8) -> Result<u
     requires used { used ≤ 70 }
     requires short { length digits.now ≤ 40 }
     ensures written { IfOk result (λ now. (rest : List (List ℕ)) →
-        out.old.items ++ filled_lines used ((digits.now ++ tag ∷ []) ∷ rest) ≡ out.new.items ++ filled_lines now rest) }
+        out.old.items ++ filled_lines used ((digits.now ++ tag ∷ []) ∷ rest) ≡
+        out.new.items ++ filled_lines now rest) }
     ensures within { IfOk result (λ now. now ≤ 70) }
 {
     let len = digits.len() + 1;
@@ -34,7 +35,8 @@ fn put_piece(out: &mut Vec<u8>, used: usize, digits: &[u8], tag: u8) -> Result<u
 pub fn put_token(out: &mut Vec<u8>, used: usize, count: u32, tag: u8) -> Result<usize, AllocError>
     requires { used ≤ 70 }
     ensures written { IfOk result (λ now. (tokens : List (ℕ × ℕ)) →
-        out.old.items ++ filled_lines used (map token_text (with_token count tag tokens)) ≡ out.new.items ++ filled_lines now (map token_text tokens)) }
+        out.old.items ++ filled_lines used (map token_text (with_token count tag tokens)) ≡
+        out.new.items ++ filled_lines now (map token_text tokens)) }
     ensures within { IfOk result (λ now. now ≤ 70) }
 {
     if count == 0 {

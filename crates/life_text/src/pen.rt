@@ -96,7 +96,9 @@ pub fn push_span(
     requires once { found.now.counted ≡ false → found.now.times ≡ 1 }
     requires row { is_live (token_found found.now) ≡ true → y < place_limit }
     requires column { is_live (token_found found.now) ≡ true → x + found.now.times ≤ place_limit }
-    ensures { OnOk result (cells.new.items ≡ cells.old.items ++ map cell_of_pair (run_cells y x (token_found found.now))) }
+    ensures { OnOk result
+        (cells.new.items ≡
+        cells.old.items ++ map cell_of_pair (run_cells y x (token_found found.now))) }
 {
     if is_live(found) {
         make_room(cells)?;

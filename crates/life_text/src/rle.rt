@@ -101,7 +101,8 @@ impl From<AllocError> for RleFault {
 // The cells of the body that begins at a place, or its first fault.
 fn read_body(alloc: Global, text: &[u8], from: usize) -> Result<Vec<(i32, i32)>, RleFault>
     requires { from ≤ length text.now }
-    ensures { Gives (λ v. v.items) result (placed_all (cells_drawn first_pen (tokens_at text.now from))) }
+    ensures { Gives (λ v. v.items) result
+        (placed_all (cells_drawn first_pen (tokens_at text.now from))) }
 {
     let mut cells = Vec::new(alloc);
     let mut pen = Pen {
@@ -141,9 +142,12 @@ pub fn line_end(text: &[u8], start: usize) -> usize
     requires plain { start < length text.now → IsPlain text.now start }
     ensures from { start ≤ result }
     ensures within { result ≤ length text.now }
-    ensures line { before_first is_line_feed (plain_at text.now start) ≡ take (result - start) (drop start text.now) }
-    ensures more { result < length text.now → after_first is_line_feed (plain_at text.now start) ≡ plain_at text.now (result + 1) }
-    ensures last { result ≡ length text.now → after_first is_line_feed (plain_at text.now start) ≡ plain_at text.now result }
+    ensures line { before_first is_line_feed (plain_at text.now start) ≡
+        take (result - start) (drop start text.now) }
+    ensures more { result < length text.now →
+        after_first is_line_feed (plain_at text.now start) ≡ plain_at text.now (result + 1) }
+    ensures last { result ≡ length text.now →
+        after_first is_line_feed (plain_at text.now start) ≡ plain_at text.now result }
 {
     let mut next = start;
     while next < text.len() && text[next] != b'\n' {

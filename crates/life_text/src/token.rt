@@ -3,7 +3,7 @@ ghost use Rattle.std.specs.Prelude.{◌&&◌, ◌+◌, ◌<◌, ◌≡◌, ◌�
 ghost use Rattle.std.specs.List.{prefix_len, take_while};
 ghost use Rattle.std.specs.Str.Parse.{digits_value};
 ghost use Rattle.life_cells.specs.Bytes.{is_digit, is_space, without_front};
-ghost use Rattle.life_text.specs.Found.{Begins, token_found};
+ghost use Rattle.life_text.specs.Found.{BeginsWithToken, token_found};
 ghost use Rattle.life_text.specs.Reader.{IsPlain, count_cap, is_in_comment, plain_at};
 ghost use Rattle.life_text.specs.Rle.{is_bad_run, is_cells, is_live, is_missing, is_no_tag, is_other_state, is_row_end, lexemes};
 
@@ -69,8 +69,10 @@ fn read_count(text: &[u8], at: usize) -> (u32, usize)
     requires { at ≤ length text.now }
     ensures behind { at ≤ result.1 }
     ensures within { result.1 ≤ length text.now }
-    ensures value { result.0 ≡ min (digits_value 10 (take_while is_digit (plain_at text.now at))) count_cap }
-    ensures rest { lexemes true at (plain_at text.now at) ≡ lexemes false result.1 (plain_at text.now result.1) }
+    ensures value { result.0 ≡
+        min (digits_value 10 (take_while is_digit (plain_at text.now at))) count_cap }
+    ensures rest { lexemes true at (plain_at text.now at) ≡
+        lexemes false result.1 (plain_at text.now result.1) }
 {
     let mut value: u32 = 0;
     let mut next = at;
@@ -84,8 +86,9 @@ fn read_count(text: &[u8], at: usize) -> (u32, usize)
 /// The first token from a place on.
 pub fn next_token(text: &[u8], from: usize) -> Found
     requires { from ≤ length text.now }
-    ensures begins { Begins text.now from result }
-    ensures tag_within { IfSome result.tag (λ _. (from ≤ result.tag_at) × (result.tag_at < length text.now)) }
+    ensures begins { BeginsWithToken text.now from result }
+    ensures tag_within { IfSome result.tag
+        (λ _. (from ≤ result.tag_at) × (result.tag_at < length text.now)) }
     ensures once { result.counted ≡ false → result.times ≡ 1 }
     ensures few { result.times ≤ count_cap }
 {

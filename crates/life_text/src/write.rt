@@ -88,7 +88,8 @@ fn put_cell(text: &mut Vec<u8>, nib: Nib, cell: (u32, u32)) -> Result<Nib, Alloc
     requires column { cell.1 ≡ nib.y → nib.x ≤ cell.0 }
     requires small { cell.0 < 2 ^ 25 }
     ensures written { IfOk result (λ next. (cells : List (ℕ × ℕ)) →
-        text.old.items ++ rest_of_text nib (cell ∷ cells) ≡ text.new.items ++ rest_of_text next cells) }
+        text.old.items ++ rest_of_text nib (cell ∷ cells) ≡
+        text.new.items ++ rest_of_text next cells) }
     ensures used { IfOk result (λ next. next.used ≤ 70) }
     ensures row { IfOk result (λ next. next.y ≡ cell.1) }
     ensures column { IfOk result (λ next. next.x ≡ cell.0 + 1) }
@@ -131,7 +132,10 @@ fn push_body(text: &mut Vec<u8>, cells: &[(i32, i32)], corner: (i32, i32)) -> Re
     requires placed { All IsPlace cells.now }
     requires rising { T (is_rising cells.now) }
     requires corner { corner ≡ corner_of cells.now }
-    ensures { OnOk result (text.new.items ≡ text.old.items ++ filled_lines 0 (map token_text (tokens_from 0 0 (places_from corner cells.now)))) }
+    ensures { OnOk result
+        (text.new.items ≡
+        text.old.items ++
+        filled_lines 0 (map token_text (tokens_from 0 0 (places_from corner cells.now)))) }
 {
     let mut nib = Nib {
         used: 0,
@@ -168,7 +172,8 @@ pub fn write_rle(rule: &Rule, cells: &CellList, out: &mut Vec<u8>) -> Result<(),
 /// A written text means its rule and the normal form of its cells, where that has no place above 1,048,575 and at most
 /// 1,048,576 cells.
 pub fn written_texts_are_read()
-    ensures { (rule : model.Rule) (G : Generation) → rule.birth < 512 → rule.survival < 512 → rule.birth % 2 ≡ 0
+    ensures { (rule : model.Rule) (G : Generation) → rule.birth < 512 → rule.survival < 512 →
+        rule.birth % 2 ≡ 0
         → All (IsWithin 0) (cells (normal G)) → size (normal G) ≤ cell_limit
         → picture_of (reading (rle_text rule G)) ≡ Ok (record { rule = rule; cells = normal G }) }
 {}

@@ -15,7 +15,7 @@ use Rattle.life_slots.proofs.Orders.{same_or_other, place_total}
 use Rattle.life_slots.specs.declared.bands.Bands.{Bands}
 use Rattle.life_slots.specs.declared.slot.Slot.{Slot}
 use Rattle.life_slots.specs.Slots.{Index, slot_at, neighbour_at, place_of, link_of, tile_of, empty_tile, no_slot}
-use Rattle.life_slots.specs.Work.{mark_of}
+use Rattle.life_slots.specs.Work.{band_mark}
 use Rattle.life_slots.specs.Indexes.{IsIndexed, IsSlotOf}
 use Rattle.life_slots.proofs.Marks.{all_marked}
 use Rattle.life_slots.proofs.Places.{here_is, slot_cases, slot_of_place}
@@ -270,12 +270,12 @@ module _ (before after : TileStore) (place : ℤ × ℤ) (links : List ℕ) (who
             ⊎_elim
             (λ (old : k < length before.slots.items). (
               old,
-              sym (ap (λ (bs : List Bands). mark_of bs k band) added.active
+              sym (ap (λ (bs : List Bands). band_mark bs k band) added.active
                   ∙ ap (λ (v : Bands). bit_at v.bits band) (get_or-append before.active.items (all_bands ∷ []) no_bands k (omega arith))) ∙ clear,
             ))
             (λ past.
             let never : 1 ≡ 0 =
-            sym (ap (λ (bs : List Bands). mark_of bs k band) added.active ∙ ap (λ (v : Bands). bit_at v.bits band) (at_end before.active.items all_bands no_bands k (omega arith)) ∙ all_marked band small)
+            sym (ap (λ (bs : List Bands). band_mark bs k band) added.active ∙ ap (λ (v : Bands). bit_at v.bits band) (at_end before.active.items all_bands no_bands k (omega arith)) ∙ all_marked band small)
             ∙ clear in
             absurd (omega arith))
             (cases_lt k (length before.slots.items));

@@ -13,7 +13,7 @@ use Rattle.life_slots.specs.Places.{start_at}
 use Rattle.life_slots.specs.declared.bands.Bands.{Bands}
 use Rattle.life_slots.specs.declared.slot.Slot.{Slot}
 use Rattle.life_slots.specs.Slots.{place_of, tile_of, generation_shown, IsReached}
-use Rattle.life_slots.specs.Work.{mark_of, IsWorkedOut, IsIdle}
+use Rattle.life_slots.specs.Work.{band_mark, IsWorkedOut, IsIdle}
 use Rattle.life_slots.specs.Cells.{state_at}
 use Rattle.life_slots.specs.Indexes.{IsClosed}
 use Rattle.life_slots.proofs.Marks.{clear_before}
@@ -57,7 +57,7 @@ module _ (s b u : TileStore) (after : List Tile) (marked : List Bands) (kept : I
       grown.closed begun.settled
 
   idle_marks : (k : ℕ) → IsIdle u.active.items k → IsIdle marked k
-  idle_marks k idle = λ band small. sym (ap (λ (bs : List Bands). mark_of bs k band) active_is) ∙ idle band small
+  idle_marks k idle = λ band small. sym (ap (λ (bs : List Bands). band_mark bs k band) active_is) ∙ idle band small
 
   pub members_next : generation_shown s.index u.current.items ≡ next s.rule (members_of s)
   members_next = ap (generation_shown s.index) current_is ∙ after_is
@@ -84,15 +84,15 @@ module _ (s b u : TileStore) (after : List Tile) (marked : List Bands) (kept : I
     earlier = λ _. members_next ∙ ap (next s.rule) (sym earlier_is);
     earlier_closed = λ _ k later inside. subst (λ (ts : List Tile). IsClosed s.slots.items ts k) (sym previous_is) (grown.closed k later inside);
     settled = λ k band later inside small clear.
-        let clear_after : mark_of marked k band ≡ 0 = sym (ap (λ (bs : List Bands). mark_of bs k band) active_is) ∙ clear in
-        let clear_mark : mark_of b.next_active.items k band ≡ 0 = clear_before b.next_active.items marked k band (worked.kept k band) clear_after in
+        let clear_after : band_mark marked k band ≡ 0 = sym (ap (λ (bs : List Bands). band_mark bs k band) active_is) ∙ clear in
+        let clear_mark : band_mark b.next_active.items k band ≡ 0 = clear_before b.next_active.items marked k band (worked.kept k band) clear_after in
         record {
           known = refl;
           cell = λ x y wide high in_band.
               ap (λ (ts : List Tile). tile_cell (tile_of ts k) x y) previous_is
               ∙ settled_again s.index s.slots.items kept.whole.indexed s.current.items b.previous.items after b.active.items b.next_active.items marked s.rule kept.whole.current_none begun.previous_none worked
-              k x y later inside wide high (ap (mark_of marked k) in_band ∙ clear_after)
-              (begun.again k x y later inside wide high (ap (mark_of b.next_active.items k) in_band ∙ clear_mark))
+              k x y later inside wide high (ap (band_mark marked k) in_band ∙ clear_after)
+              (begun.again k x y later inside wide high (ap (band_mark b.next_active.items k) in_band ∙ clear_mark))
               ∙ ap (λ (ts : List Tile). state_at (next s.rule (generation_shown s.index ts)) (start_at (place_of s.slots.items k).0 +ℤ pos x) (start_at (place_of s.slots.items k).1 +ℤ pos y)) (sym current_is);
         };
     closed = λ k later inside idle.

@@ -9,7 +9,7 @@ use Rattle.life_slots.specs.Places.{IsBeside, start_at}
 use Rattle.life_slots.specs.declared.bands.Bands.{Bands}
 use Rattle.life_slots.specs.declared.slot.Slot.{Slot}
 use Rattle.life_slots.specs.Slots.{Index, slot_at, place_of, tile_of, empty_tile, generation_shown}
-use Rattle.life_slots.specs.Work.{mark_of, IsMarkedNear}
+use Rattle.life_slots.specs.Work.{band_mark, IsMarkedNear}
 use Rattle.life_slots.specs.Cells.{state_at}
 use Rattle.life_slots.specs.Indexes.{IsIndexed, IsSlotOf, IsClosed}
 use Rattle.life_slots.proofs.Splits.{Split, split}
@@ -49,7 +49,7 @@ module _ (s b : TileStore) (kept : IsKept s) (next_active_length : length b.next
         previous_closed = λ k later inside. subst (λ (ts : List Tile). IsClosed s.slots.items ts k) (sym previous_is) (kept.earlier_closed going k later inside);
         settled = λ k x y later inside wide high clear.
             ap (λ (ts : List Tile). tile_cell (tile_of ts k) x y) previous_is
-            ∙ (kept.settled k (y / 8) later inside (omega arith) (sym (ap (λ (bs : List Bands). mark_of bs k (y / 8)) active_is) ∙ clear)).cell x y wide high refl;
+            ∙ (kept.settled k (y / 8) later inside (omega arith) (sym (ap (λ (bs : List Bands). band_mark bs k (y / 8)) active_is) ∙ clear)).cell x y wide high refl;
         again = λ k x y later inside wide high clear.
             sym (state_of_slot s.index s.slots.items kept.whole.indexed s.current.items kept.whole.current_none k later inside x y wide high)
             ∙ ap (λ (G : Generation). state_at G (start_at (place_of s.slots.items k).0 +ℤ pos x) (start_at (place_of s.slots.items k).1 +ℤ pos y))
@@ -62,7 +62,7 @@ module _ (s b : TileStore) (kept : IsKept s) (next_active_length : length b.next
   begun_fresh is previous_length active_is empties marked =
       let none : tile_of b.previous.items 0 ≡ empty_tile = empties 0 kept.whole.indexed.some in
       let dead : (X Y : ℤ) → state_at (generation_shown s.index b.previous.items) X Y ≡ 0 = empty_state s.index s.slots.items kept.whole.indexed b.previous.items none empties in
-      let bare : (k band : ℕ) → 0 < k → k < length s.slots.items → band < 8 → mark_of b.next_active.items k band ≡ 0 → (X Y : ℤ) → IsBeside X (place_of s.slots.items k).0 →
+      let bare : (k band : ℕ) → 0 < k → k < length s.slots.items → band < 8 → band_mark b.next_active.items k band ≡ 0 → (X Y : ℤ) → IsBeside X (place_of s.slots.items k).0 →
       ((start_at (place_of s.slots.items k).1 +ℤ pos (8 * band)) -ℤ pos 1) ≤ℤ Y → Y ≤ℤ (start_at (place_of s.slots.items k).1 +ℤ pos (8 * band + 8)) → state_at (members_of s) X Y ≡ 0 =
       λ k band later inside small clear X Y beside low high.
       unchanged s.index s.slots.items kept.whole.indexed b.previous.items s.current.items b.next_active.items none kept.whole.current_none
@@ -79,7 +79,7 @@ module _ (s b : TileStore) (kept : IsKept s) (next_active_length : length b.next
         previous_none = none;
         previous_closed = λ k later inside. record { closed = λ m small link. empty_still (tile_of b.previous.items k) m (empties k inside) };
         settled = λ k x y later inside wide high clear.
-            let band_clear : mark_of b.next_active.items k (y / 8) ≡ 0 = sym (ap (λ (bs : List Bands). mark_of bs k (y / 8)) active_is) ∙ clear in
+            let band_clear : band_mark b.next_active.items k (y / 8) ≡ 0 = sym (ap (λ (bs : List Bands). band_mark bs k (y / 8)) active_is) ∙ clear in
             let row : 8 * (y / 8) ≤ y = omega arith in
             let end : y < 8 * (y / 8) + 8 = omega arith in
             ap (λ (t : Tile). tile_cell t x y) (empties k inside) ∙ empty_cell x y

@@ -20,7 +20,7 @@ use Rattle.life_slots.specs.declared.bands.Bands.{Bands}
 use Rattle.life_slots.specs.declared.slot.Slot.{Slot}
 use Rattle.life_slots.specs.Slots.{slot_at, neighbour_at, place_of, link_of, tile_of, empty_tile, IsReached}
 use Rattle.life_slots.specs.Rims.{IsEdge, IsAtEdge, IsStill}
-use Rattle.life_slots.specs.Work.{mark_of, IsCalm}
+use Rattle.life_slots.specs.Work.{band_mark, IsCalm}
 use Rattle.life_slots.specs.Cells.{state_at}
 use Rattle.life_slots.specs.Indexes.{IsClosed}
 use Rattle.life_slots.proofs.Shown.{empty_cell, shown_state, same_states}
@@ -99,7 +99,7 @@ module _ (before after : TileStore) (alike : IsAlike before after) where
         previous = λ k inside. ap (λ (ts : List Tile). tile_of ts k) alike.previous;
         current_new = λ k past inside. absurd (omega arith);
         previous_new = λ k past inside. absurd (omega arith);
-        active = λ k band inside small clear. (omega arith, sym (ap (λ (bs : List Bands). mark_of bs k band) alike.active) ∙ clear);
+        active = λ k band inside small clear. (omega arith, sym (ap (λ (bs : List Bands). band_mark bs k band) alike.active) ∙ clear);
         current_at = λ p. (λ i. tile_of (alike.current i) (at_alike p i));
         previous_at = λ p. (λ i. tile_of (alike.previous i) (at_alike p i));
       }

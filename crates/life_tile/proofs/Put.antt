@@ -18,7 +18,7 @@ use Rattle.life_slots.proofs.Inserted.{inserted_cases}
 use Rattle.life_slots.specs.declared.bands.Bands.{Bands}
 use Rattle.life_slots.specs.declared.slot.Slot.{Slot}
 use Rattle.life_slots.specs.Slots.{slot_at, place_of, tile_of, empty_tile, placed_tiles, generation_shown, IsReached}
-use Rattle.life_slots.specs.Work.{mark_of, IsCalm}
+use Rattle.life_slots.specs.Work.{band_mark, IsCalm}
 use Rattle.life_slots.specs.Indexes.{IsSlotOf}
 use Rattle.life_slots.proofs.Bits.{bit_cases}
 use Rattle.life_slots.proofs.Shown.{shown_state, same_states}
@@ -29,7 +29,7 @@ use Rattle.life_tile.specs.TileStores.{IsTileStore, members_of, IsKept, all_band
 -- a fresh store keeps little
 pub kept_fresh : (s : TileStore) → IsTileStore s → s.age ≤ age_limit → ((c : Cell) → contains (members_of s) c ≡ true → IsWithin s.age c) →
     ((k : ℕ) → 0 < k → k < length s.slots.items → IsReached s.age (place_of s.slots.items k)) → s.lacks_previous ≡ true →
-    ((k band : ℕ) → 0 < k → k < length s.slots.items → band < 8 → mark_of s.active.items k band ≡ 1) → (IsCalm s.active.items → ⊥) → IsKept s
+    ((k band : ℕ) → 0 < k → k < length s.slots.items → band < 8 → band_mark s.active.items k band ≡ 1) → (IsCalm s.active.items → ⊥) → IsKept s
 kept_fresh s whole young within reached lacks_previous busy stirred = record {
   whole = whole;
   young = young;
@@ -43,10 +43,10 @@ kept_fresh s whole young within reached lacks_previous busy stirred = record {
   grown = λ calm. absurd (stirred calm);
 }
 
-pub busy_fresh : (s : TileStore) → IsKept s → s.lacks_previous ≡ true → (k band : ℕ) → 0 < k → k < length s.slots.items → band < 8 → mark_of s.active.items k band ≡ 1
+pub busy_fresh : (s : TileStore) → IsKept s → s.lacks_previous ≡ true → (k band : ℕ) → 0 < k → k < length s.slots.items → band < 8 → band_mark s.active.items k band ≡ 1
 busy_fresh s kept lacks_previous k band later inside small =
     ⊎_elim (λ busy. busy)
-    (λ (clear : mark_of s.active.items k band ≡ 0). let never : true ≡ false = sym lacks_previous ∙ (kept.settled k band later inside small clear).known in absurd (cc))
+    (λ (clear : band_mark s.active.items k band ≡ 0). let never : true ≡ false = sym lacks_previous ∙ (kept.settled k band later inside small clear).known in absurd (cc))
     (bit_cases _ band)
 
 pub stirred_fresh : (s : TileStore) → IsKept s → s.lacks_previous ≡ true → IsCalm s.active.items → ⊥
@@ -174,4 +174,4 @@ module _ (s : TileStore) (slot : Slot) (none : s.index.entries ≡ []) (ordered 
       (λ k later inside. absurd (omega arith))
       lacks_previous
       (λ k band later inside. absurd (omega arith))
-      (λ calm. let never : 1 ≡ 0 = sym (ap (λ (bs : List Bands). mark_of bs 0 0) active) ∙ calm 0 (omega arith) in omega arith)
+      (λ calm. let never : 1 ≡ 0 = sym (ap (λ (bs : List Bands). band_mark bs 0 0) active) ∙ calm 0 (omega arith) in omega arith)

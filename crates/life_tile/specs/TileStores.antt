@@ -13,7 +13,7 @@ use Rattle.life_slots.specs.declared.slot.Slot.{Slot}
 use Rattle.life_slots.specs.Slots.{slot_at, place_of, link_of, tile_of, empty_tile, generation_shown, IsReached}
 use Rattle.life_slots.specs.Ends.{IsVoid}
 use Rattle.life_slots.specs.Indexes.{IsIndexed, IsClosed}
-use Rattle.life_slots.specs.Work.{mark_of, IsIdle, IsCalm}
+use Rattle.life_slots.specs.Work.{band_mark, IsIdle, IsCalm}
 use Rattle.life_slots.specs.declared.bands.Bands.{Bands}
 use Rattle.life_tile.specs.declared.tile_store.TileStore.{TileStore}
 
@@ -54,7 +54,7 @@ pub record IsKept (store : TileStore) : Type 0 where
   pub reached : (k : ℕ) → 0 < k → k < length store.slots.items → IsReached store.age (place_of store.slots.items k)
   pub earlier : store.lacks_previous ≡ false → members_of store ≡ next store.rule (earlier_of store)
   pub earlier_closed : store.lacks_previous ≡ false → (k : ℕ) → 0 < k → k < length store.slots.items → IsClosed store.slots.items store.previous.items k
-  pub settled : (k band : ℕ) → 0 < k → k < length store.slots.items → band < 8 → mark_of store.active.items k band ≡ 0 → IsSettled store k band
+  pub settled : (k band : ℕ) → 0 < k → k < length store.slots.items → band < 8 → band_mark store.active.items k band ≡ 0 → IsSettled store k band
   pub closed : (k : ℕ) → 0 < k → k < length store.slots.items → IsIdle store.active.items k → IsClosed store.slots.items store.current.items k
   pub calm : IsCalm store.active.items → store.lacks_previous ≡ false
   pub grown : IsCalm store.active.items → IsGrown store
@@ -68,10 +68,10 @@ pub record IsBegun (before after : TileStore) : Type 0 where
   pub next_active_length : length after.next_active.items ≡ length before.slots.items
   pub previous_none : tile_of after.previous.items 0 ≡ empty_tile
   pub previous_closed : (k : ℕ) → 0 < k → k < length before.slots.items → IsClosed before.slots.items after.previous.items k
-  pub settled : (k x y : ℕ) → 0 < k → k < length before.slots.items → x < 64 → y < 64 → mark_of after.active.items k (y / 8) ≡ 0 →
+  pub settled : (k x y : ℕ) → 0 < k → k < length before.slots.items → x < 64 → y < 64 → band_mark after.active.items k (y / 8) ≡ 0 →
       tile_cell (tile_of after.previous.items k) x y
       ≡ state_at (next before.rule (members_of before)) (start_at (place_of before.slots.items k).0 +ℤ pos x) (start_at (place_of before.slots.items k).1 +ℤ pos y)
-  pub again : (k x y : ℕ) → 0 < k → k < length before.slots.items → x < 64 → y < 64 → mark_of after.next_active.items k (y / 8) ≡ 0 →
+  pub again : (k x y : ℕ) → 0 < k → k < length before.slots.items → x < 64 → y < 64 → band_mark after.next_active.items k (y / 8) ≡ 0 →
       tile_cell (tile_of before.current.items k) x y
       ≡ state_at (next before.rule (generation_shown before.index after.previous.items)) (start_at (place_of before.slots.items k).0 +ℤ pos x) (start_at (place_of before.slots.items k).1 +ℤ pos y)
 
@@ -125,7 +125,7 @@ pub record IsExtended (before after : TileStore) : Type 0 where
   pub previous : (k : ℕ) → k < length before.slots.items → tile_of after.previous.items k ≡ tile_of before.previous.items k
   pub current_new : (k : ℕ) → length before.slots.items ≤ k → k < length after.slots.items → tile_of after.current.items k ≡ empty_tile
   pub previous_new : (k : ℕ) → length before.slots.items ≤ k → k < length after.slots.items → tile_of after.previous.items k ≡ empty_tile
-  pub active : (k band : ℕ) → k < length after.slots.items → band < 8 → mark_of after.active.items k band ≡ 0 → (k < length before.slots.items) × (mark_of before.active.items k band ≡ 0)
+  pub active : (k band : ℕ) → k < length after.slots.items → band < 8 → band_mark after.active.items k band ≡ 0 → (k < length before.slots.items) × (band_mark before.active.items k band ≡ 0)
   pub current_at : (place : ℤ × ℤ) → tile_of after.current.items (slot_at after.index place) ≡ tile_of before.current.items (slot_at before.index place)
   pub previous_at : (place : ℤ × ℤ) → tile_of after.previous.items (slot_at after.index place) ≡ tile_of before.previous.items (slot_at before.index place)
 

@@ -64,7 +64,8 @@ fn lists_tile(
     requires lower { IsPlace (corner.0, corner.1 +ℤ pos 63) }
     requires from { IsPlace from }
     requires to { IsPlace to }
-    ensures { result ≡ false → IsTileIn (from_list cells.now) tile.now corner (plus to (opposite from)) → ⊥ }
+    ensures { result ≡ false →
+        IsTileIn (from_list cells.now) tile.now corner (plus to (opposite from)) → ⊥ }
 {
     for y in 0..64 {
         let start = moved((corner.0, corner.1 + y as i32), from, to);
@@ -87,7 +88,9 @@ pub fn lists_changed(
     requires rising { T (is_rising cells.now) }
     requires from { IsPlace from }
     requires to { IsPlace to }
-    ensures { result ≡ false → ((c : Cell) → IsMember (members_of store.now) c → IsMember (from_list cells.now) (plus c (plus to (opposite from)))) → ⊥ }
+    ensures { result ≡ false →
+        ((c : Cell) → IsMember (members_of store.now) c →
+        IsMember (from_list cells.now) (plus c (plus to (opposite from)))) → ⊥ }
 {
     for slot in 1..store.slots.len() {
         if !store.is_idle(slot) {

@@ -19,7 +19,8 @@ use life_slots::{Slot, corner_of, slot_or_none, split, tile_in};
 fn joined(west: u64, east: u64, shift: usize) -> u64
     requires { shift < 64 }
     ensures near { (j : ℕ) → shift + j < 64 → bit_at result j ≡ bit_at west (shift + j) }
-    ensures far { (j : ℕ) → j < 64 → 64 ≤ shift + j → bit_at result j ≡ bit_at east (shift + j - 64) }
+    ensures far { (j : ℕ) → j < 64 → 64 ≤ shift + j →
+        bit_at result j ≡ bit_at east (shift + j - 64) }
 {
     if shift == 0 {
         west
@@ -32,7 +33,9 @@ fn joined(west: u64, east: u64, shift: usize) -> u64
 fn row_at(store: &TileStore, column: i32, row: i32, y: usize) -> u64
     requires kept { IsKept store.now }
     requires y { y < 64 }
-    ensures { (x : ℕ) → x < 64 → bit_at result x ≡ state_at (members_of store.now) (start_at column +ℤ pos x) (start_at row +ℤ pos y) }
+    ensures { (x : ℕ) → x < 64 →
+        bit_at result x ≡
+        state_at (members_of store.now) (start_at column +ℤ pos x) (start_at row +ℤ pos y) }
 {
     tile_in(
         &store.current,
@@ -45,7 +48,8 @@ fn row_at(store: &TileStore, column: i32, row: i32, y: usize) -> u64
 fn row_from(store: &TileStore, cell: (i32, i32)) -> u64
     requires kept { IsKept store.now }
     requires reach { IsInReach cell }
-    ensures { (j : ℕ) → j < 64 → bit_at result j ≡ state_at (members_of store.now) (cell.0 +ℤ pos j) cell.1 }
+    ensures { (j : ℕ) → j < 64 →
+        bit_at result j ≡ state_at (members_of store.now) (cell.0 +ℤ pos j) cell.1 }
 {
     let (column, shift) = split(cell.0);
     let (row, y) = split(cell.1);
@@ -79,7 +83,8 @@ fn has_tile(
     requires lower { IsPlace (corner.0, corner.1 +ℤ pos 63) }
     requires from { IsPlace from }
     requires to { IsPlace to }
-    ensures { IsTrue result ↔ IsTileIn (members_of store.now) tile.now corner (plus to (opposite from)) }
+    ensures { IsTrue result ↔ IsTileIn (members_of store.now) tile.now corner
+        (plus to (opposite from)) }
 {
     for y in 0..64 {
         let start = moved((corner.0, corner.1 + y as i32), from, to);
@@ -116,7 +121,9 @@ pub fn has_store(store: &TileStore, other: &TileStore, from: (i32, i32), to: (i3
     requires other { IsKept other.now }
     requires from { IsPlace from }
     requires to { IsPlace to }
-    ensures { IsTrue result ↔ ((c : Cell) → IsMember (members_of other.now) c → IsMember (members_of store.now) (plus c (plus to (opposite from)))) }
+    ensures { IsTrue result ↔
+        ((c : Cell) → IsMember (members_of other.now) c →
+        IsMember (members_of store.now) (plus c (plus to (opposite from)))) }
 {
     for slot in 1..other.slots.len() {
         let tile = tile_in(&other.current, slot);

@@ -43,7 +43,8 @@ fn are_live(store: &TileStore, cells: &[(i32, i32)], from: (i32, i32), to: (i32,
     requires placed { All IsPlace cells.now }
     requires from { IsPlace from }
     requires to { IsPlace to }
-    ensures { IsTrue result ↔ All (λ c. IsMember (members_of store.now) (plus c (plus to (opposite from)))) cells.now }
+    ensures { IsTrue result ↔ All
+        (λ c. IsMember (members_of store.now) (plus c (plus to (opposite from)))) cells.now }
 {
     for cell in cells {
         if !is_live(store, moved(*cell, from, to)) {

@@ -129,9 +129,11 @@ impl TileStore {
         requires absent { slot_at self.old.index place ≡ 0 }
         ensures kept { IsKept self.new }
         ensures extended { IsExtended self.old self.new }
-        ensures slot { OnOk result (IsSlotOf self.new.slots.items place (length self.old.slots.items)) }
+        ensures slot { OnOk result
+            (IsSlotOf self.new.slots.items place (length self.old.slots.items)) }
         ensures indexed { OnOk result (slot_at self.new.index place ≡ length self.old.slots.items) }
-        ensures count { OnOk result (length self.new.slots.items ≡ length self.old.slots.items + 1) }
+        ensures count { OnOk result
+            (length self.new.slots.items ≡ length self.old.slots.items + 1) }
     {
         let slot = self.next_slot()?;
         let links = with_link(links_around(&self.index, place), CENTRE, slot);
@@ -189,7 +191,9 @@ impl TileStore {
         requires direction { direction < 9 }
         ensures kept { IsKept self.new }
         ensures extended { IsExtended self.old self.new }
-        ensures grown { OnOk result (link_of self.new.slots.items slot direction ≡ 0 → IsStill (tile_of self.old.current.items slot) direction) }
+        ensures grown { OnOk result
+            (link_of self.new.slots.items slot direction ≡ 0 →
+            IsStill (tile_of self.old.current.items slot) direction) }
     {
         if self.link(slot, direction) == 0 && rim.reaches(direction) {
             self.add(neighbour(self.place(slot), direction))?;
@@ -314,8 +318,12 @@ impl TileStore {
         ensures kept { IsKept self.new }
         ensures extended { IsExtended self.old self.new }
         ensures slot { IfOk result (IsSlotOf self.new.slots.items place) }
-        ensures made { IfOk result (λ slot. (k : ℕ) → length self.old.slots.items ≤ k → k < length self.new.slots.items → k ≡ slot) }
-        ensures count { OnOk result (slot_at self.old.index place ≡ 0 → length self.new.slots.items ≡ length self.old.slots.items + 1) }
+        ensures made { IfOk result
+            (λ slot. (k : ℕ) → length self.old.slots.items ≤ k → k < length self.new.slots.items →
+            k ≡ slot) }
+        ensures count { OnOk result
+            (slot_at self.old.index place ≡ 0 →
+            length self.new.slots.items ≡ length self.old.slots.items + 1) }
     {
         let slot = slot_or_none(&self.index, place);
         if slot != 0 {
@@ -367,14 +375,17 @@ impl TileStore {
         requires kept { IsKept self.old }
         requires lacks_previous { self.old.lacks_previous ≡ true }
         requires reached { IsReached self.old.age place }
-        requires within { (x y : ℕ) → x < 64 → y < 64 → tile_cell tile.now x y ≡ 1 → IsWithin self.old.age (cell_of place x y) }
+        requires within { (x y : ℕ) → x < 64 → y < 64 → tile_cell tile.now x y ≡ 1 →
+            IsWithin self.old.age (cell_of place x y) }
         ensures kept { OnOk result (IsKept self.new) }
         ensures lacks_previous { OnOk result (self.new.lacks_previous ≡ true) }
         ensures age { OnOk result (self.new.age ≡ self.old.age) }
         ensures tile { OnOk result (IsTileAt (members_of self.new) tile.now place) }
         ensures others { OnOk result (IsSameBut (members_of self.old) (members_of self.new) place) }
         ensures tiles { OnOk result (HasTilesOf self.old self.new tile.now) }
-        ensures count { OnOk result (slot_at self.old.index place ≡ 0 → length self.new.slots.items ≡ length self.old.slots.items + 1) }
+        ensures count { OnOk result
+            (slot_at self.old.index place ≡ 0 →
+            length self.new.slots.items ≡ length self.old.slots.items + 1) }
     {
         let slot = self.slot_for(place)?;
         self.show(slot, tile);
@@ -436,7 +447,8 @@ impl TileStore {
         ensures members { IfOk result (λ store. members_of store ≡ members_of self.now) }
         ensures age { IfOk result (λ store. store.age ≡ self.now.age) }
         ensures compact { IfOk result IsCompact }
-        ensures count { IfOk result (λ store. length store.slots.items ≡ 1 + live_tiles self.now.current.items) }
+        ensures count { IfOk result
+            (λ store. length store.slots.items ≡ 1 + live_tiles self.now.current.items) }
     {
         let mut store = TileStore::new(*self.slots.allocator(), self.age)?;
         for slot in 1..self.slots.len() {

@@ -5,7 +5,7 @@ use Rattle.std.specs.declared.cmp.Ordering.{Ordering}
 use Rattle.std.specs.declared.cmp.Ordering.TheVariants.{Less, Equal, Greater}
 use Rattle.std.proofs.lemmas.List.{length-append, length-map}
 use Rattle.std.proofs.lemmas.List.Elements.{All-head, All-tail}
-use Rattle.census_bundle.specs.Sizes.{IsSmall, count_limit}
+use Rattle.census_bundle.specs.Sizes.{IsWithinCounts, count_limit}
 use Rattle.census_bundle.specs.declared.bundle.Entry.{Entry}
 use Rattle.census_bundle.specs.declared.bundle.Folder.{Folder}
 use Rattle.census_format.specs.Lines.{answer_to_entry, answers}
@@ -49,7 +49,7 @@ use Rattle.life_text.specs.declared.rle.RleFault.{RleFault}
 use Rattle.life_text.specs.declared.rle.RleFault.TheVariants.{NoHeader, BadHeader, RuleNotLifeLike, RuleHasB0, ManyStates, BadChar, BadRun, TooFar, TooMany, NoEnd, Memory}
 use Rattle.life_text.proofs.PictureLemmas.{placed_rises, placed_within}
 use Rattle.life_text.proofs.RisingLemmas.{meaning_rises}
-use Rattle.report_laws.specs.Ranges.{HasCode, InRange, IsTold, IsToldAnswer, IsToldFolder}
+use Rattle.report_laws.specs.Ranges.{FitsReport, InRange, IsCodedPart, IsToldAnswer, IsToldFolder}
 use Rattle.range_laws.proofs.CellCounts.{few_cells, few_parts}
 use Rattle.report_laws.proofs.Solid.{each-map}
 
@@ -97,18 +97,18 @@ parts-some R b (P ∷ parts) h =
     (part-some R b P (All-head (IsObject R b) P parts h), parts-some R b parts (All-tail (IsObject R b) P parts h))
 
 beside-some : (order : Ordering) (code : List ℕ) (part : Part) (parts rest : List Part)
-    → IsSome code → Each HasCode (part ∷ parts) → Each HasCode rest → Each HasCode (with_code_by_order order code part parts rest)
+    → IsSome code → Each IsCodedPart (part ∷ parts) → Each IsCodedPart rest → Each IsCodedPart (with_code_by_order order code part parts rest)
 beside-some Less code part parts rest h k l = (h, k)
 beside-some Equal code part parts rest h k l = (k.0, k.1)
 beside-some Greater code part parts rest h k l = (k.0, l)
 
-with-some : (code : List ℕ) (parts : List Part) → IsSome code → Each HasCode parts → Each HasCode (with_code code parts)
+with-some : (code : List ℕ) (parts : List Part) → IsSome code → Each IsCodedPart parts → Each IsCodedPart (with_code code parts)
 with-some code [] h k = (h, tt)
 with-some code (part ∷ parts) h k =
     beside-some (shorter_cmp code part.code) code part parts (with_code code parts) h k (with-some code parts h k.1)
 
-counted-some : (all : List (List ℕ)) (parts : List Part) → Each IsSome all → Each HasCode parts
-    → Each HasCode (fold (λ parts code. with_code code parts) parts all)
+counted-some : (all : List (List ℕ)) (parts : List Part) → Each IsSome all → Each IsCodedPart parts
+    → Each IsCodedPart (fold (λ parts code. with_code code parts) parts all)
 counted-some [] parts h k = k
 counted-some (code ∷ all) parts h k = counted-some all (with_code code parts) h.1 (with-some code parts h.0 k)
 
@@ -116,16 +116,16 @@ counted-some (code ∷ all) parts h k = counted-some all (with_code code parts) 
 
 -- the finding can be told, and is of at most 2^48 objects
 abbrev IsRanged : Finding → Type 0
-IsRanged (Recurs population onset period dx dy code) = IsTold (Recurs population onset period dx dy code)
-IsRanged (Unresolved population) = IsTold (Unresolved population)
-IsRanged (Large population generation) = IsTold (Large population generation)
-IsRanged (Ash population parts) = IsTold (Ash population parts) × (objects_in parts ≤ 2 ^ 48)
+IsRanged (Recurs population onset period dx dy code) = FitsReport (Recurs population onset period dx dy code)
+IsRanged (Unresolved population) = FitsReport (Unresolved population)
+IsRanged (Large population generation) = FitsReport (Large population generation)
+IsRanged (Ash population parts) = FitsReport (Ash population parts) × (objects_in parts ≤ 2 ^ 48)
 
 abbrev IsRangedAnswer : Answer → Type 0
 IsRangedAnswer (Found rule finding) = IsRanged finding
 IsRangedAnswer (Refused number) = number < 2 ^ 64
 
-ranged-told : (finding : Finding) → IsRanged finding → IsTold finding
+ranged-told : (finding : Finding) → IsRanged finding → FitsReport finding
 ranged-told (Recurs population onset period dx dy code) h = h
 ranged-told (Unresolved population) h = h
 ranged-told (Large population generation) h = h
@@ -265,5 +265,5 @@ module _ (bound : ℕ) (limit : Option ℕ) (answered : IsAnswered (Objects boun
   folders-told [] small = tt
   folders-told (f ∷ b) small = (folder-told f (small 0 f refl), folders-told b (λ j g. small (suc j) g))
 
-  pub objects_in_range : (b : List Folder) → IsSmall b → InRange b (Objects bound limit)
+  pub objects_in_range : (b : List Folder) → IsWithinCounts b → InRange b (Objects bound limit)
   objects_in_range b small = folders-told b small.entries

@@ -3,7 +3,7 @@ use Rattle.std.proofs.Common.{◌≡◌, ℕ, suc, ◌+◌, ◌<◌, ◌≤◌, 
 use Rattle.std.specs.Prelude.{⊤}
 use Rattle.std.specs.List.{AllByRecursion as Each}
 use Rattle.std.proofs.lemmas.List.{length-map}
-use Rattle.census_bundle.specs.Sizes.{IsSmall, count_limit}
+use Rattle.census_bundle.specs.Sizes.{IsWithinCounts, count_limit}
 use Rattle.census_bundle.specs.declared.bundle.Entry.{Entry}
 use Rattle.census_bundle.specs.declared.bundle.Folder.{Folder}
 use Rattle.census_format.specs.Lines.{answer_to_entry, answers}
@@ -31,7 +31,7 @@ use Rattle.life_text.specs.Picture.{Picture, picture_of}
 use Rattle.life_text.specs.Rle.{reading}
 use Rattle.life_text.specs.declared.rle.RleFault.{RleFault}
 use Rattle.life_text.specs.declared.rle.RleFault.TheVariants.{NoHeader, BadHeader, RuleNotLifeLike, RuleHasB0, ManyStates, BadChar, BadRun, TooFar, TooMany, NoEnd, Memory}
-use Rattle.report_laws.specs.Ranges.{InRange, IsTold, IsToldAnswer, IsToldFolder}
+use Rattle.report_laws.specs.Ranges.{FitsReport, InRange, IsToldAnswer, IsToldFolder}
 use Rattle.report_laws.proofs.Solid.{each-map}
 use Rattle.range_laws.proofs.Standing.{IsTextual, IsTextualPicture, Stands, generation-stands, moved-fits, text-textual}
 
@@ -84,7 +84,7 @@ whole-objects (Refused number ∷ found) h = let most = whole-objects found h.1 
 
 module _ (R : Rule) (G : Generation) (b : ℕ) (textual : IsTextual G) where
   settled-told : (onset period : ℕ) (d : Cell) → b ≤ settles_bound_limit → IsSettling R G b onset period d
-      → IsTold (recurrence_finding R G onset period d)
+      → FitsReport (recurrence_finding R G onset period d)
   settled-told onset period d low s =
       let both = onset-period-least R G b onset period d s b onset s.settles in
       let here : Stands (onset + 0) (generation R G onset) = generation-stands R 0 G textual.stands onset in
@@ -96,21 +96,21 @@ module _ (R : Rule) (G : Generation) (b : ℕ) (textual : IsTextual G) where
       let code = code-some R (generation R G onset) period d in
       (textual.few, omega (arith, both, low), omega (arith, both, low), fits.0, fits.1, code)
 
-  pub found-told : b ≤ settles_bound_limit → IsTold (finding_of R G b)
+  pub found-told : b ≤ settles_bound_limit → FitsReport (finding_of R G b)
   found-told low = ⊎_elim
-      (λ some. subst IsTold (sym some.found) (settled-told some.onset some.period some.by low some.settles))
-      (λ none. subst IsTold (sym none.found) textual.few)
+      (λ some. subst FitsReport (sym some.found) (settled-told some.onset some.period some.by low some.settles))
+      (λ none. subst FitsReport (sym none.found) textual.few)
       (settled_or_not R G b)
 
 -- where what is found can be told, so can it where a generation may be too large
 module _ (R : Rule) (G : Generation) (last : ℕ) (few : size G < 2 ^ 64) (short : last < 2 ^ 64)
-    (found : Finding) (told : IsTold found) where
+    (found : Finding) (told : FitsReport found) where
   past-told : (most : ℕ) (large : Option ℕ) → first_past (Some most) R G last ≡ large
-      → IsTold (unless_large found (size G) large)
+      → FitsReport (unless_large found (size G) large)
   past-told most None e = told
   past-told most (Some n) e = let first = (first_past-is R G last most n).0 e in (few, omega (arith, first.0, short))
 
-  pub limited-told : (limit : Option ℕ) → IsTold (finding_unless_large limit R G last found)
+  pub limited-told : (limit : Option ℕ) → FitsReport (finding_unless_large limit R G last found)
   limited-told None = told
   limited-told (Some most) = past-told most (first_past (Some most) R G last) refl
 
@@ -167,5 +167,5 @@ module _ (bound : ℕ) (cells : Option ℕ) (answered : IsAnswered (Settles boun
   folders-are-told (f ∷ b) few = (folder-is-told f (few 0 f refl), folders-are-told b (λ k g. few (suc k) g))
 
   -- the numbers that are found of a bundle's patterns are in the range of a line
-  pub settled-in-range : (b : List Folder) → IsSmall b → InRange b (Settles bound cells)
+  pub settled-in-range : (b : List Folder) → IsWithinCounts b → InRange b (Settles bound cells)
   settled-in-range b small = folders-are-told b small.entries

@@ -2,7 +2,7 @@
 use Rattle.std.proofs.Common.{◌≡◌, ℕ, ◌<◌, List, [], ◌∷◌, ◌++◌, length, refl, sym, ap, ◌∙◌, subst, arith, append_assoc, append-nil}
 use Rattle.census_bundle.specs.declared.bundle.Folder.{Folder}
 use Rattle.census_format.specs.Reports.{IsReport}
-use Rattle.census_readback.specs.Reports.{IsReport as IsReadBack}
+use Rattle.census_readback.specs.Reports.{ReadsAsReports}
 use Rattle.census_readback.specs.Shapes.{AreReports, AreWhole, all_rows}
 use Rattle.census_readback.specs.Texts.{AllLines, text_of}
 use Rattle.census_rows.specs.declared.row.Row.{Row}
@@ -38,7 +38,7 @@ reports-append xs ys first second =
       each = whole-append first.reports second.reports first.each second.each;
     }
 
-read-append : (xs ys : List Row) (s t : List ℕ) → IsReadBack xs s → IsReadBack ys t → IsReadBack (xs ++ ys) (s ++ t)
+read-append : (xs ys : List Row) (s t : List ℕ) → ReadsAsReports xs s → ReadsAsReports ys t → ReadsAsReports (xs ++ ys) (s ++ t)
 read-append xs ys s t first second =
     record {
       lines = lines-append xs ys first.lines second.lines;

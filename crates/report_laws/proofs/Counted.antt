@@ -3,7 +3,7 @@ use Rattle.std.proofs.Common.{◌≡◌, ℕ, zero, suc, ◌+◌, ◌<◌, ◌�
 use Rattle.std.proofs.lemmas.Bool.{cases_Bool}
 use Rattle.census_bundle.specs.declared.bundle.Folder.{Folder}
 use Rattle.census_format.specs.Lines.{pattern_count}
-use Rattle.census_readback.specs.Shapes.{AreCodes, AreLines, AreOf, is_ash, patterns_in, rows_of}
+use Rattle.census_readback.specs.Shapes.{AreCodes, AreLines, AreOfCollections, is_ash, patterns_in, rows_of}
 use Rattle.census_readback.specs.Steps.{collection_of, patterns_opened}
 use Rattle.census_rows.specs.declared.row.Row.{Row}
 use Rattle.census_rows.specs.declared.row.Row.TheVariants.{Open, Line, Part, Code, Close, End}
@@ -66,7 +66,7 @@ total-here first (suc count) r rows low high = elim (cases_Bool (eqb (collection
       omega (arith, here, others)
 ]
 
-total-all : (n : ℕ) (rows : List Row) → AreOf n rows → total 1 n rows ≡ patterns_in rows
+total-all : (n : ℕ) (rows : List Row) → AreOfCollections n rows → total 1 n rows ≡ patterns_in rows
 total-all n [] h = total-nil 1 n
 total-all n (r ∷ rows) h =
     let here = total-here 1 n r rows (omega (arith, h.0)) (omega (arith, h.1)) in
@@ -89,7 +89,7 @@ total-count body first (f ∷ fs) h =
     ap (λ c. patterns_in (rows_of c body)) next ∙ h (suc k)) in
     omega (arith, here, others)
 
-pub patterns-counted : (body : List Row) (b : List Folder) → AreOf (length b) body → ((k : ℕ) → patterns_in (rows_of (suc k) body) ≡ size_of (slice_get b k))
+pub patterns-counted : (body : List Row) (b : List Folder) → AreOfCollections (length b) body → ((k : ℕ) → patterns_in (rows_of (suc k) body) ≡ size_of (slice_get b k))
     → patterns_in body ≡ pattern_count b
 patterns-counted body b owned h =
     sym (total-all (length b) body owned)

@@ -11,7 +11,7 @@ use Rattle.census_rows.specs.declared.row.Row.{Row}
 use Rattle.census_rows.specs.declared.row.Row.TheVariants.{End}
 use Rattle.life_answer.specs.declared.question.Question.{Question}
 use Rattle.report_laws.specs.Joining.{AreBundles, EachTells, bundles}
-use Rattle.report_laws.specs.Telling.{AreGroups, AreOwned, Group, Tells, rows_in}
+use Rattle.report_laws.specs.Telling.{AreGroups, AreOwned, Group, TellsBundle, rows_in}
 use Rattle.report_laws.proofs.Joined.{count-append}
 use Rattle.report_laws.proofs.Named.{few-in}
 
@@ -47,7 +47,7 @@ none-too-many question report s [] [] h few small = refl
 none-too-many question report s [] (rows ∷ reports) h few small = absurd h
 none-too-many question report s (b ∷ parts) [] h few small = absurd h
 none-too-many question report s (b ∷ parts) (rows ∷ reports) h few small =
-    let t : Tells b question rows = h.0 in
+    let t : TellsBundle b question rows = h.0 in
     let others = all_rows reports in
     let last = End (length b) (pattern_count b) in
     let lengths = length-append b (bundles parts) in

@@ -11,7 +11,7 @@ use Rattle.census_rows.specs.declared.row.Row.TheVariants.{End}
 use Rattle.life_answer.specs.declared.question.Question.{Question}
 use Rattle.report_laws.specs.Joining.{EachTells, bundles}
 use Rattle.report_laws.specs.Said.{said_by, said_of, said_section}
-use Rattle.report_laws.specs.Telling.{AreGroups, Group, Tells, rows_in, statements_of}
+use Rattle.report_laws.specs.Telling.{AreGroups, Group, TellsBundle, rows_in, statements_of}
 use Rattle.report_laws.proofs.Shifted.{groups-append, groups-owned, on-groups, rows-append, sayings-append, sayings-low, sayings-shifted, shifted, sums-groups}
 
 pub count-append : (b more : List Folder) → pattern_count (b ++ more) ≡ pattern_count b + pattern_count more
@@ -56,7 +56,7 @@ no-sections question zero = refl
 no-sections question (suc k) = refl
 
 one-more : (n : ℕ) (question : Question) (b more : List Folder) (rows others : List Row)
-    → Tells b question rows → TellOn (n + length b) question more others → TellOn n question (b ++ more) (rows ++ others)
+    → TellsBundle b question rows → TellOn (n + length b) question more others → TellOn n question (b ++ more) (rows ++ others)
 one-more n question b more rows others t rest =
     let last = End (length b) (pattern_count b) in
     let all : rows ++ others ≡ rows_in t.groups ++ last ∷ others =
@@ -100,7 +100,7 @@ each-more n question (b ∷ parts) (rows ∷ reports) h =
     one-more n question b (bundles parts) rows (all_rows reports) h.0 (each-more (n + length b) question parts reports h.1)
 
 pub joined-tell : (question : Question) (parts : List (List Folder)) (reports : List (List Row))
-    → EachTells question parts reports → Tells (bundles parts) question (merged_rows (all_rows reports))
+    → EachTells question parts reports → TellsBundle (bundles parts) question (merged_rows (all_rows reports))
 joined-tell question parts reports h =
     let all = each-more 0 question parts reports h in
     let sums = all.counted no_sums in

@@ -6,7 +6,7 @@ use Rattle.std.proofs.lemmas.Option.{slice_get_past}
 use Rattle.census_bundle.specs.declared.bundle.Entry.{Entry}
 use Rattle.census_bundle.specs.declared.bundle.Folder.{Folder}
 use Rattle.census_bundle.specs.Names.{HasLawfulNames, IsNamedEntry, IsNamedFolder, is_name, is_name_byte}
-use Rattle.census_bundle.specs.Sizes.{IsSmall, count_limit}
+use Rattle.census_bundle.specs.Sizes.{IsWithinCounts, count_limit}
 use Rattle.census_format.specs.Lines.{answer_fields, answer_to_entry, answers, is_refused, is_resolved, is_unresolved, pattern_count}
 use Rattle.census_format.specs.Objects.{Object, objects, same_object, tally}
 use Rattle.census_readback.specs.Texts.{HasNoFeed}
@@ -127,7 +127,7 @@ by-parsed question b h (suc k) = at-parsed question b k (each-of IsNamedFolder b
 
 -- ---- numbers
 
-pub few-collections : (question : Question) (b : List Folder) → IsSmall b → (c : ℕ) → (said_by b question c ≡ []) ⊎ (c < 2 ^ 64)
+pub few-collections : (question : Question) (b : List Folder) → IsWithinCounts b → (c : ℕ) → (said_by b question c ≡ []) ⊎ (c < 2 ^ 64)
 few-collections question b h zero = inl refl
 few-collections question b h (suc k) = ⊎_elim
     (λ none. inl (ap (said_of question) (slice_get_past b k (omega arith))))
@@ -141,5 +141,5 @@ few-in (f ∷ b) h =
     let rest = few-in b (λ k g. h (suc k) g) in
     omega arith
 
-pub few-patterns : (b : List Folder) → IsSmall b → pattern_count b < 2 ^ 64
+pub few-patterns : (b : List Folder) → IsWithinCounts b → pattern_count b < 2 ^ 64
 few-patterns b h = let all = few-in b h.entries in omega (arith, h.folders)

@@ -4,7 +4,7 @@ use Rattle.std.specs.List.{AllByRecursion as Each}
 use Rattle.std.proofs.lemmas.List.{length-map}
 use Rattle.std.proofs.lemmas.List.Sums.{count_by-le-length}
 use Rattle.std.proofs.lemmas.Option.{slice_get_past}
-use Rattle.census_bundle.specs.Sizes.{IsSmall, count_limit}
+use Rattle.census_bundle.specs.Sizes.{IsWithinCounts, count_limit}
 use Rattle.census_bundle.specs.declared.bundle.Entry.{Entry}
 use Rattle.census_bundle.specs.declared.bundle.Folder.{Folder}
 use Rattle.census_format.specs.Lines.{answer_to_entry, answers, is_refused, is_resolved, is_unresolved}
@@ -21,7 +21,7 @@ use Rattle.life_answer.specs.declared.question.Question.{Question}
 use Rattle.life_answer.specs.Parts.{objects_in}
 use Rattle.life_cells.specs.Rules.{rule_text}
 use Rattle.life_model.specs.Rule.{Rule}
-use Rattle.report_laws.specs.Ranges.{HasCode, InRange, IsToldAnswer, IsToldFolder}
+use Rattle.report_laws.specs.Ranges.{InRange, IsCodedPart, IsToldAnswer, IsToldFolder}
 use Rattle.report_laws.proofs.Coded.{IsCodedAnswer, IsSolidObject, IsSolidPart, counted-each, distinct-each, entry-coded, tally-coded}
 use Rattle.report_laws.proofs.Parsed.{solid-plain}
 use Rattle.report_laws.proofs.Rowed.{close_row, code_rows, counted_in, optional_rows, outcome_of, part_row, part_rows, pattern_rows, rows_by, section_rows}
@@ -45,7 +45,7 @@ outcome-fits (Found rule (Large population generation)) h k = (rule-word rule, h
 outcome-fits (Found rule (Ash population parts)) h k = (rule-word rule, h.0, h.1)
 outcome-fits (Refused number) h k = h
 
-parts-fit : (c i : ℕ) (parts : List part.Part) → c < 2 ^ 64 → i < 2 ^ 64 → objects_in parts < 2 ^ 64 → Each HasCode parts → Each IsSolidPart parts
+parts-fit : (c i : ℕ) (parts : List part.Part) → c < 2 ^ 64 → i < 2 ^ 64 → objects_in parts < 2 ^ 64 → Each IsCodedPart parts → Each IsSolidPart parts
     → Each (IsFit c) (map (part_row c i) parts)
 parts-fit c i [] a b few some h = tt
 parts-fit c i (p ∷ parts) a b few some h =
@@ -74,7 +74,7 @@ patterns-fit question c i (e ∷ es) a b h =
 abbrev HasObjectCode : Object → Type 0
 HasObjectCode o = 0 < length o.code
 
-parts-some : (rule : Rule) (parts : List part.Part) → Each HasCode parts → Each HasObjectCode (part_objects rule parts)
+parts-some : (rule : Rule) (parts : List part.Part) → Each IsCodedPart parts → Each HasObjectCode (part_objects rule parts)
 parts-some rule [] h = tt
 parts-some rule (p ∷ parts) h =
     each-append HasObjectCode (replicate p.count (object rule p.code)) (part_objects rule parts)
@@ -128,7 +128,7 @@ at-fit question c [] k a few h = tt
 at-fit question c (f ∷ b) zero a few h = section-fit question c f a (few 0 f refl) h.0
 at-fit question c (f ∷ b) (suc k) a few h = at-fit question c b k a (λ j g. few (suc j) g) h.1
 
-pub rows-fit : (question : Question) (b : List Folder) → IsSmall b → InRange b question → (c : ℕ) → Each (Each (IsFit c)) (rows_by b question c)
+pub rows-fit : (question : Question) (b : List Folder) → IsWithinCounts b → InRange b question → (c : ℕ) → Each (Each (IsFit c)) (rows_by b question c)
 rows-fit question b small h zero = tt
 rows-fit question b small h (suc k) = ⊎_elim
     (λ none. subst (λ o. Each (Each (IsFit (suc k))) (optional_rows question (suc k) o)) (sym (slice_get_past b k (omega arith))) tt)

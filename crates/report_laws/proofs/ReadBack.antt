@@ -6,7 +6,7 @@ use Rattle.census_format.specs.Lines.{end_line, pattern_count}
 use Rattle.census_format.specs.Reports.{IsReport, owned_text}
 use Rattle.census_merge.specs.Merged.{merged_rows}
 use Rattle.census_merge.specs.Sums.{first_excess, no_sums}
-use Rattle.census_readback.specs.Reports.{IsReport as IsReadBack}
+use Rattle.census_readback.specs.Reports.{ReadsAsReports}
 use Rattle.census_readback.specs.Shapes.{all_rows}
 use Rattle.census_readback.specs.Texts.{AllLines, text_of}
 use Rattle.census_rows.specs.declared.row.Row.{Row}
@@ -15,7 +15,7 @@ use Rattle.census_rows.specs.Lines.{row_text}
 use Rattle.life_answer.specs.declared.question.Question.{Question}
 use Rattle.report_laws.specs.Joining.{AreBundles, EachIsReport, EachTells, IsBundle, bundles, texts}
 use Rattle.report_laws.specs.Said.{said_by}
-use Rattle.report_laws.specs.Telling.{Tells, rows_in}
+use Rattle.report_laws.specs.Telling.{TellsBundle, rows_in}
 use Rattle.report_laws.proofs.Cut.{cut-end, cut-lines, isnt-empty}
 use Rattle.report_laws.proofs.Fitting.{fitting}
 use Rattle.report_laws.proofs.Joined.{joined-tell}
@@ -27,7 +27,7 @@ record ReportCut (b : List Folder) (question : Question) (rows : List Row) (more
   told : List Row
   rest : List Row
   whole : rows ≡ told ++ rest
-  tells : Tells b question told
+  tells : TellsBundle b question told
   lines : AllLines rest
   left : text_of rest ≡ more
 
@@ -60,7 +60,7 @@ none-left [] e = refl
 none-left (row ∷ rows) e = absurd (isnt-empty (row_text row) (text_of rows) (sym e ∙ append_assoc (row_text row) (10 ∷ []) (text_of rows)))
 
 pub read-tells : (b : List Folder) (question : Question) (text : List ℕ) (rows : List Row)
-    → IsBundle b → IsReport b question text → IsReadBack rows text → Tells b question rows
+    → IsBundle b → IsReport b question text → ReadsAsReports rows text → TellsBundle b question rows
 read-tells b question text rows bundle report read =
     let one = cut-report b question text rows [] bundle report read.lines (sym read.whole ∙ sym (append-nil text)) in
     let all : rows ≡ one.told = one.whole ∙ ap (λ w. one.told ++ w) (none-left one.rest one.left) ∙ append-nil one.told in
@@ -91,7 +91,7 @@ cut-reports question (b ∷ parts) (text ∷ reports) rows small h each e =
     }
 
 pub merged-report : (question : Question) (parts : List (List Folder)) (reports : List (List ℕ)) (rows : List Row)
-    → AreBundles parts → EachIsReport question parts reports → IsReadBack rows (texts reports) → IsReport (bundles parts) question (text_of (merged_rows rows))
+    → AreBundles parts → EachIsReport question parts reports → ReadsAsReports rows (texts reports) → IsReport (bundles parts) question (text_of (merged_rows rows))
 merged-report question parts reports rows small h read =
     let all = cut-reports question parts reports rows small h read.lines (sym read.whole) in
     told-report (bundles parts) question (merged_rows rows)
@@ -104,7 +104,7 @@ merged-report question parts reports rows small h read =
     })
 
 pub fitting-reports : (question : Question) (parts : List (List Folder)) (reports : List (List ℕ)) (rows : List Row)
-    → AreBundles parts → EachIsReport question parts reports → IsReadBack rows (texts reports) → length (bundles parts) ≤ count_limit → first_excess 1 no_sums rows ≡ Nothing
+    → AreBundles parts → EachIsReport question parts reports → ReadsAsReports rows (texts reports) → length (bundles parts) ≤ count_limit → first_excess 1 no_sums rows ≡ Nothing
 fitting-reports question parts reports rows small h read fit =
     let all = cut-reports question parts reports rows small h read.lines (sym read.whole) in
     ap (first_excess 1 no_sums) all.whole ∙ fitting question parts all.reports small all.tell fit

@@ -6,7 +6,7 @@ use Rattle.census_bundle.specs.declared.bundle.Folder.{Folder}
 use Rattle.census_bundle.specs.Sizes.{count_limit}
 use Rattle.census_format.specs.Lines.{end_line, pattern_count}
 use Rattle.census_format.specs.Reports.{IsReport}
-use Rattle.census_readback.specs.Shapes.{AreOf, IsSection, IsWhole, all_rows, patterns_in, rows_of}
+use Rattle.census_readback.specs.Shapes.{AreOfCollections, IsSection, IsWholeReport, all_rows, patterns_in, rows_of}
 use Rattle.census_readback.specs.Steps.{collection_of}
 use Rattle.census_readback.specs.Texts.{AllLines, HasNoFeed, IsLine, text_of}
 use Rattle.census_readback.proofs.Rows.{lines-more}
@@ -63,7 +63,7 @@ placed-lines : (most : ℕ) (rows : List Row) → Each (λ row. IsPlaced most (c
 placed-lines most [] h = tt
 placed-lines most (row ∷ rows) h = (h.0.0, placed-lines most rows h.1)
 
-placed-of : (most : ℕ) (rows : List Row) → Each (λ row. IsPlaced most (collection_of row) row) rows → AreOf most rows
+placed-of : (most : ℕ) (rows : List Row) → Each (λ row. IsPlaced most (collection_of row) row) rows → AreOfCollections most rows
 placed-of most [] h = tt
 placed-of most (row ∷ rows) h = (h.0.1, h.0.2, placed-of most rows h.1)
 
@@ -99,7 +99,7 @@ module _ (b : List Folder) (question : Question) (bundle : IsBundle b) (range : 
   abbrev the_end : Row
   the_end = End (length b) (pattern_count b)
 
-  whole-of : (body : List Row) → AreOf (length b) body → ((c : ℕ) → rows_of c body ≡ all_rows (rows_by b question c)) → IsWhole (body ++ the_end ∷ [])
+  whole-of : (body : List Row) → AreOfCollections (length b) body → ((c : ℕ) → rows_of c body ≡ all_rows (rows_by b question c)) → IsWholeReport (body ++ the_end ∷ [])
   whole-of body owned sections =
       let counted = patterns-counted body b owned (λ k. ap patterns_in (sections (suc k)) ∙ opens-at question (suc k) (slice_get b k)) in
       let all = few-patterns b bundle.0 in

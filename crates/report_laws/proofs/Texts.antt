@@ -14,7 +14,7 @@ use Rattle.census_rows.specs.declared.row.Row.{Row}
 use Rattle.census_rows.specs.declared.row.Row.TheVariants.{Open, Line, Part, Code, Close, End}
 use Rattle.census_rows.specs.Lines.{fields_text, outcome_fields, row_text}
 use Rattle.life_answer.specs.declared.question.Question.{Question}
-use Rattle.report_laws.specs.Telling.{AreGroups, AreOwned, Group, Tells, rows_in, statement_of_row, statements_of}
+use Rattle.report_laws.specs.Telling.{AreGroups, AreOwned, Group, TellsBundle, rows_in, statement_of_row, statements_of}
 use Rattle.report_laws.proofs.Lines.{end-is, group_line, lines-said, said_line}
 
 behind-same : (fields : List (List ℕ)) → fields_text fields ≡ book.fields_text fields
@@ -79,7 +79,7 @@ end-text b =
     ∙ written (codes "end") (decimal (length b) ∷ decimal (pattern_count b) ∷ [])
     ∙ end-is b
 
-pub told-report : (b : List Folder) (question : Question) (rows : List Row) → Tells b question rows → IsReport b question (text_of rows)
+pub told-report : (b : List Folder) (question : Question) (rows : List Row) → TellsBundle b question rows → IsReport b question (text_of rows)
 told-report b question rows t = record {
   lines = told t.groups;
   sections = λ c. told-lines c t.groups t.owned ∙ ap (map (group_line c)) (t.sections c) ∙ lines-said b question c;

@@ -5,7 +5,7 @@ use Rattle.std.specs.List.{AllByRecursion as Each}
 use Rattle.census_bundle.specs.declared.bundle.Folder.{Folder}
 use Rattle.census_format.specs.Lines.{answers}
 use Rattle.census_format.specs.Objects.{objects}
-use Rattle.census_readback.specs.Reports.{IsReport as IsReadBack}
+use Rattle.census_readback.specs.Reports.{ReadsAsReports}
 use Rattle.census_rows.specs.declared.row.Row.{Row}
 use Rattle.life_answer.specs.Parts.{objects_in}
 use Rattle.life_answer.specs.declared.finding.Answer.{Answer}
@@ -16,19 +16,19 @@ use Rattle.life_answer.specs.declared.part.Part.{Part}
 use Rattle.life_answer.specs.declared.question.Question.{Question}
 
 -- the part has a code
-abbrev pub HasCode : Part → Type 0
-HasCode part = 0 < length part.code
+abbrev pub IsCodedPart : Part → Type 0
+IsCodedPart part = 0 < length part.code
 
 -- the numbers found fit 64 bits, and each object has a code
-abbrev pub IsTold : Finding → Type 0
-IsTold (Recurs population onset period dx dy code) =
+abbrev pub FitsReport : Finding → Type 0
+FitsReport (Recurs population onset period dx dy code) =
     (population < 2 ^ 64) × (onset < 2 ^ 64) × (period < 2 ^ 64) × FitsSigned w64 dx × FitsSigned w64 dy × (0 < length code)
-IsTold (Unresolved population) = population < 2 ^ 64
-IsTold (Large population generation) = (population < 2 ^ 64) × (generation < 2 ^ 64)
-IsTold (Ash population parts) = (population < 2 ^ 64) × (objects_in parts < 2 ^ 64) × Each HasCode parts
+FitsReport (Unresolved population) = population < 2 ^ 64
+FitsReport (Large population generation) = (population < 2 ^ 64) × (generation < 2 ^ 64)
+FitsReport (Ash population parts) = (population < 2 ^ 64) × (objects_in parts < 2 ^ 64) × Each IsCodedPart parts
 
 abbrev pub IsToldAnswer : Answer → Type 0
-IsToldAnswer (Found rule finding) = IsTold finding
+IsToldAnswer (Found rule finding) = FitsReport finding
 IsToldAnswer (Refused number) = number < 2 ^ 64
 
 -- what is found of the folder's patterns can be told, and there are fewer than 2^64 objects in all
@@ -42,4 +42,4 @@ InRange b question = Each (IsToldFolder question) b
 -- the text is read back, giving these rows
 pub record Readable (text : List ℕ) : Type 0 where
   pub rows : List Row
-  pub read : IsReadBack rows text
+  pub read : ReadsAsReports rows text

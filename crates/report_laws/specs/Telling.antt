@@ -45,7 +45,7 @@ rows_in (group ∷ groups) = group.rows ++ rows_in groups
 
 -- The rows say what is found of the bundle's patterns: those of each collection, in their order, what its lines say, and
 -- then `end`. The rows of one pattern stand together.
-pub record Tells (b : List Folder) (question : Question) (rows : List Row) : Type 0 where
+pub record TellsBundle (b : List Folder) (question : Question) (rows : List Row) : Type 0 where
   pub groups : List Group
   pub owned : AreGroups groups
   pub sections : (c : ℕ) → statements_of c groups ≡ said_by b question c

@@ -26,7 +26,8 @@ pub struct Memory<'a> {
 
 // The first leaf of this folder and name.
 fn find<'b, 'a>(leaves: &'b [Leaf<'a>], folder: &str, name: &[u8]) -> Option<&'b Leaf<'a>>
-    ensures some { IfSome result (λ leaf. told_in leaves.now folder.now name.now ≡ told_of leaf.now) }
+    ensures some { IfSome result
+        (λ leaf. told_in leaves.now folder.now name.now ≡ told_of leaf.now) }
     ensures none { IfNone result (told_in leaves.now folder.now name.now ≡ Unreadable) }
 {
     for leaf in leaves {

@@ -45,7 +45,8 @@ pub(crate) fn drain<R: Threads + Wait + Sync>(
 ) -> Result<Vec<Hand>, AllocError>
     requires { AreHandsOf feed.now hands.items }
     ensures all { IfOk result (λ done. AreHandsOf feed.now done.items) }
-    ensures finished { IfOk result (λ done. All (λ h. ends_with_mark (list_of h) ≡ true) done.items) }
+    ensures finished { IfOk result
+        (λ done. All (λ h. ends_with_mark (list_of h) ≡ true) done.items) }
 {
     let _ = feed;
     thread::map_vec(rt, hands, &|hand| take_all(rt, hand))

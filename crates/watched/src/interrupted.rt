@@ -11,7 +11,8 @@ use std::io::{ErrorKind, Read, Write};
 // One read. Where a signal interrupts it, it is made again.
 pub fn read_through<R: Read>(reader: &mut R, buffer: &mut [u8]) -> io::Result<usize>
     ensures count { ReadsAtMost result buffer.new }
-    ensures bytes { ReadConsumes (R.remaining reader.old) (R.remaining reader.new) result buffer.new }
+    ensures bytes { ReadConsumes (R.remaining reader.old) (R.remaining reader.new) result
+        buffer.new }
     ensures again { IfErr result (λ error. error_kind error ≢ ErrorKind.Interrupted) }
 {
     for _ in 0..u64::MAX {

@@ -63,13 +63,18 @@ pub fn read_all<R: Read>(
 
     // All the bytes up to the end.
     ensures within { IfOk result (λ bytes. vec_len bytes ≤ limit) }
-    ensures bytes { IfOk result (λ bytes. Consumes (R.remaining (inner_of reader.old)) (R.remaining (inner_of reader.new)) bytes.items) }
+    ensures bytes { IfOk result
+        (λ bytes. Consumes (R.remaining (inner_of reader.old)) (R.remaining (inner_of reader.new))
+        bytes.items) }
     ensures end { OnOk result (IsAtEnd (R.remaining (inner_of reader.new))) }
-    ensures whole { IfOk result (λ bytes. IfSome (R.remaining (inner_of reader.old)) (λ all. bytes.items ≡ all)) }
+    ensures whole { IfOk result
+        (λ bytes. IfSome (R.remaining (inner_of reader.old)) (λ all. bytes.items ≡ all)) }
 
     ensures too_long { result ≡ Err ReadFault.TooLong
-        → ConsumesMoreThan limit (R.remaining (inner_of reader.old)) (R.remaining (inner_of reader.new)) }
-    ensures taken { ConsumesAtMost (limit + 1) (R.remaining (inner_of reader.old)) (R.remaining (inner_of reader.new)) }
+        → ConsumesMoreThan limit (R.remaining (inner_of reader.old))
+        (R.remaining (inner_of reader.new)) }
+    ensures taken { ConsumesAtMost (limit + 1) (R.remaining (inner_of reader.old))
+        (R.remaining (inner_of reader.new)) }
 {
     if reader.failed() {
         return Err(ReadFault::Read);

@@ -57,13 +57,16 @@ impl<R: Read> Watched<R> {
     /// before. In the second case the reader is not called. A call that a signal interrupts is made again.
     pub fn get(&mut self, buffer: &mut [u8]) -> Result<usize, Failed>
         requires { 0 < length buffer.old }
-        ensures failed { MatchResult result (λ _. has_failed self.new ≡ false) (λ _. has_failed self.new ≡ true) }
+        ensures failed { MatchResult result (λ _. has_failed self.new ≡ false)
+            (λ _. has_failed self.new ≡ true) }
         ensures stays { has_failed self.old ≡ true → has_failed self.new ≡ true }
-        ensures uncalled { has_failed self.old ≡ true → (inner_of self.new ≡ inner_of self.old) × (buffer.new ≡ buffer.old) }
+        ensures uncalled { has_failed self.old ≡ true → (inner_of self.new ≡ inner_of self.old) ×
+            (buffer.new ≡ buffer.old) }
 
         // The bytes come from the front of what the reader had left.
         ensures count { ReadsAtMost result buffer.new }
-        ensures bytes { ReadConsumes (R.remaining (inner_of self.old)) (R.remaining (inner_of self.new)) result buffer.new }
+        ensures bytes { ReadConsumes (R.remaining (inner_of self.old))
+            (R.remaining (inner_of self.new)) result buffer.new }
     {
         if self.failed {
             return Err(Failed);
@@ -86,12 +89,14 @@ impl<W: Write> Watched<W> {
     /// written. In the last case the writer is not called. A call that a signal interrupts is made again.
     pub fn put(&mut self, bytes: &[u8]) -> Result<usize, Failed>
         requires { 0 < length bytes.now }
-        ensures failed { MatchResult result (λ _. has_failed self.new ≡ false) (λ _. has_failed self.new ≡ true) }
+        ensures failed { MatchResult result (λ _. has_failed self.new ≡ false)
+            (λ _. has_failed self.new ≡ true) }
         ensures stays { has_failed self.old ≡ true → has_failed self.new ≡ true }
         ensures uncalled { has_failed self.old ≡ true → inner_of self.new ≡ inner_of self.old }
         ensures count { IfOk result (λ count. (0 < count) × (count ≤ length bytes.now)) }
         ensures bytes { MatchResult result
-            (λ count. Appends (W.contents (inner_of self.old)) (W.contents (inner_of self.new)) (take count bytes.now))
+            (λ count. Appends (W.contents (inner_of self.old)) (W.contents (inner_of self.new))
+            (take count bytes.now))
             (λ _. Keeps (W.contents (inner_of self.old)) (W.contents (inner_of self.new))) }
     {
         if self.failed {

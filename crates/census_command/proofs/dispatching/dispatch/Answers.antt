@@ -3,7 +3,7 @@ use Rattle.census_reports.specs.declared.form.Form.TheVariants as form
 use Rattle.census_command.specs.Outcomes.{IsIdentify, IsRemaking}
 use Rattle.census_errors.specs.Messages.{error_line}
 use Rattle.census_errors.specs.Sayings.{said_if}
-use Rattle.census_errors.specs.ErrorStreams.{Tells, TellsIf}
+use Rattle.census_errors.specs.ErrorStreams.{TellsIf, TellsText}
 use Rattle.census_command.proofs.Outcomes.{are_explained, ends_answered, ends_done, ends_failed}
 use Rattle.census_errors.proofs.Said.{says_at}
 use Rattle.census_command.proofs.dispatching.dispatch.Goals as goal
@@ -82,7 +82,7 @@ returns g c =
     let explained = are_explained (map (λ s. s.now) c.args.words.now) c.args.errors.now c.in-Ok.asked.explain explain c.in-Ok.ensures.1 c.explains-explain.ensures in
     let error = c.in-Err-execute.error in
     let place = c.place_if-place.result in
-    let lines = subst (λ (l : List ℕ). Tells (error_line error ++ said_if explain l) c.args.errors.now c.stop_saying.new.errors)
+    let lines = subst (λ (l : List ℕ). TellsText (error_line error ++ said_if explain l) c.args.errors.now c.stop_saying.new.errors)
     (says_at _ _ _ c.saying_of.result place c.at-saying.result c.saying_of.ensures c.at-saying.ensures) c.stop_saying.ensures.lines in
     rw c.stop_saying.ensures.status
     (inr (inr (inr (ends_failed _ _ _ _ _ _ c.in-Ok.asked.request explain c.in-Ok.ensures.0 explained error c.in-Err-execute.ensures.fails place c.place_if-place.ensures lines))))

@@ -1,6 +1,6 @@
 use Rattle.std.proofs.Common.{List, ℕ, inl, inr, refl, ap, subst, ◌∙◌, ◌≡◌}
 use Rattle.census_command.specs.Keeps.{cut_lines, lost_lines}
-use Rattle.census_errors.specs.ErrorStreams.{Tells, TellsMore}
+use Rattle.census_errors.specs.ErrorStreams.{TellsMoreText, TellsText}
 use Rattle.census_errors.proofs.Said.{told_after}
 use Rattle.census_command.proofs.Kept.{status_kept}
 use Rattle.census_command.proofs.Reports.{is_cut}
@@ -11,10 +11,10 @@ returns-in-Ok-report g c =
     let lost = c.in-Ok.ensures.0 in
     let bundle = c.in-Ok.gathered.bundle in
     let lines : c.as_slice.result.now ≡ lost_lines lost = c.as_slice.ensures.value ∙ c.in-Ok.ensures.2 in
-    let first : Tells (lost_lines lost) c.args.errors.now c.tell.new.self = subst (λ (l : List ℕ). Tells l c.args.errors.now c.tell.new.self) lines c.tell.ensures in
+    let first : TellsText (lost_lines lost) c.args.errors.now c.tell.new.self = subst (λ (l : List ℕ). TellsText l c.args.errors.now c.tell.new.self) lines c.tell.ensures in
     let beside = c.in-Ok-report.lines.items in
-    let more : TellsMore beside c.tell.new.self c.tell_more.new.self =
-    subst (λ (l : List ℕ). TellsMore l c.tell.new.self c.tell_more.new.self) c.as_slice-in-Ok-report.ensures.value c.tell_more.ensures in
+    let more : TellsMoreText beside c.tell.new.self c.tell_more.new.self =
+    subst (λ (l : List ℕ). TellsMoreText l c.tell.new.self c.tell_more.new.self) c.as_slice-in-Ok-report.ensures.value c.tell_more.ensures in
     rw (← c.streams.view_is) (inl (record {
       bundle = bundle;
       lost = lost;
@@ -34,7 +34,7 @@ returns g c =
     let lost = c.in-Ok.ensures.0 in
     let error = c.from.result in
     let lines : c.as_slice.result.now ≡ lost_lines lost = c.as_slice.ensures.value ∙ c.in-Ok.ensures.2 in
-    let first : Tells (lost_lines lost) c.args.errors.now c.tell.new.self = subst (λ (l : List ℕ). Tells l c.args.errors.now c.tell.new.self) lines c.tell.ensures in
+    let first : TellsText (lost_lines lost) c.args.errors.now c.tell.new.self = subst (λ (l : List ℕ). TellsText l c.args.errors.now c.tell.new.self) lines c.tell.ensures in
     rw (← c.streams.view_is) (inr (inl (record {
       bundle = c.in-Ok.gathered.bundle;
       lost = lost;

@@ -5,7 +5,7 @@ use Rattle.std.proofs.lemmas.List.Elements.{filter_passes}
 use Rattle.crossbeam_deque.specs.Handles.{worker_view}
 use Rattle.census_feed.specs.declared.item.Item.TheVariants.{Work}
 use Rattle.census_feed.specs.declared.view.View.{View}
-use Rattle.census_feed.specs.Items.{has, is_ticket, occurrence_count, mark_count}
+use Rattle.census_feed.specs.Items.{has_item, is_ticket, occurrence_count, mark_count}
 use Rattle.census_feed.specs.Rule.{all_items_of}
 use Rattle.census_feed.proofs.Counts.{times_tickets, no_tickets}
 use Rattle.census_feed.proofs.Steps.{pops, finds_all_out}
@@ -37,7 +37,7 @@ returns-clause-left c =
             let o = out.0 (Work t) in
             let k = times_tickets t taken in
             let e = ap (λ (v : View). occurrence_count (Work t) (all_items_of v.ended)) same in
-            let f = ap (λ (v : View). cond {A = ℕ} (has v.filled (Work t)) 1 0) same in
+            let f = ap (λ (v : View). cond {A = ℕ} (has_item v.filled (Work t)) 1 0) same in
             omega arith,
       ),
     )

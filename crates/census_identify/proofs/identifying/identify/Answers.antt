@@ -1,6 +1,6 @@
 use Rattle.std.proofs.Common.{[], inr, subst, ◌∙◌}
 use Rattle.census_identify.specs.Identifies.{Stops, words_or_input}
-use Rattle.census_identify.specs.Streams.{TellsMore, sink, streams}
+use Rattle.census_identify.specs.Streams.{PutsMoreBytes, sink, streams}
 use Rattle.census_identify.proofs.Words.{stops_told, texts}
 use Rattle.census_identify.proofs.identifying.identify.Goals as goal
 
@@ -15,5 +15,5 @@ returns-in-Err g c =
       status_is = c.status.ensures;
       stops = stops_told c.in-Err.error held c.args.bound (words_or_input (texts c.args.words.now)) before now errors
           (subst (λ ws. Stops c.in-Err.error [] held c.args.bound ws before now) c.words_or_input.ensures c.in-Err.ensures)
-          (subst (λ l. TellsMore l now.errors errors) (c.as_bytes.ensures.value ∙ c.line.ensures) c.tell_line.ensures);
+          (subst (λ l. PutsMoreBytes l now.errors errors) (c.as_bytes.ensures.value ∙ c.line.ensures) c.tell_line.ensures);
     })

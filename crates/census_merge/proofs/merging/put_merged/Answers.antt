@@ -1,5 +1,5 @@
 use Rattle.std.proofs.Common.{◌≡◌, ◌∙◌, refl, subst, sym}
-use Rattle.gathered.specs.Telling.{Tells, sheet}
+use Rattle.gathered.specs.Telling.{TellsAfter, sheet}
 use Rattle.census_readback.specs.Texts.{line_of}
 use Rattle.census_merge.proofs.Few.{few-at, few-reports}
 use Rattle.census_merge.proofs.Steps.{all_put, row_put, stopped_put}
@@ -22,7 +22,7 @@ loop-index-preserved-in_default g c =
     let here = sheet contents l.block l.writer in
     let next = sheet contents c.put_line.new.block c.put_line.new.writer in
     row_put c.args.rows.now l.index l.sums _ (sheet contents c.args.block.now c.args.writer.now) here l.invariant c.loop-index-test.true next
-    (sym c.in_default.ensures) (subst (λ r. Tells (line_of r) here next) c.renumbered_row.ensures c.put_line.ensures)
+    (sym c.in_default.ensures) (subst (λ r. TellsAfter (line_of r) here next) c.renumbered_row.ensures c.put_line.ensures)
 
 pub returns : goal.returns
 returns g c =

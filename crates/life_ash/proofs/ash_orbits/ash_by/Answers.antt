@@ -1,7 +1,7 @@
 use Rattle.std.proofs.Common.{sym, subst}
 use Rattle.std.proofs.lemmas.List.Elements.{All-same, All-weaker}
 use Rattle.life_objects.specs.Ash.{IsAsh}
-use Rattle.life_ash.specs.Parts.{IsFit, IsOf, sets_of}
+use Rattle.life_ash.specs.Parts.{IsCourseBy, IsFit, sets_of}
 use Rattle.life_ash.proofs.Later.{ash_now, of_later}
 use Rattle.life_ash.proofs.ash_orbits.ash_by.Goals as goal
 
@@ -19,7 +19,7 @@ returns-clause-some g c =
 pub returns-clause-rule : goal.returns-clause-rule
 returns-clause-rule g c =
     let R = c.args.known.now.rule in
-    All-same (IsOf R) _ _ c.of.ensures
+    All-same (IsCourseBy R) _ _ c.of.ensures
     (of_later R 0 c.in-Some.parts.items
-    (All-weaker (IsFit R c.args.known.now.bound) (IsOf R) (λ o fit. fit.rule) c.in-Some.parts.items
+    (All-weaker (IsFit R c.args.known.now.bound) (IsCourseBy R) (λ o fit. fit.rule) c.in-Some.parts.items
     (rw c.in-Some.is at c.in_ok-parts.ensures.fit)))

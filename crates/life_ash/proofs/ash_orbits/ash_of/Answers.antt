@@ -2,7 +2,7 @@ use Rattle.std.proofs.Common.{IfNone, IfOk, IfSome, List, subst}
 use Rattle.std.specs.List.{All}
 use Rattle.life_model.specs.Generation.{Generation}
 use Rattle.life_objects.specs.Ash.{IsAsh}
-use Rattle.life_ash.specs.Parts.{IsOf, sets_of}
+use Rattle.life_ash.specs.Parts.{IsCourseBy, sets_of}
 use Rattle.life_ash.proofs.ash_orbits.ash_of.Goals as goal
 
 pub returns-clause-some : goal.returns-clause-some
@@ -14,7 +14,7 @@ returns-clause-some g c =
 
 pub returns-clause-rule : goal.returns-clause-rule
 returns-clause-rule g c =
-    subst (λ S. IfOk c.ash_by.result (λ found. IfSome found (All (IsOf S)))) c.new-known.ensures.rule c.ash_by.ensures.rule
+    subst (λ S. IfOk c.ash_by.result (λ found. IfSome found (All (IsCourseBy S)))) c.new-known.ensures.rule c.ash_by.ensures.rule
 
 pub returns-clause-none : goal.returns-clause-none
 returns-clause-none g c =

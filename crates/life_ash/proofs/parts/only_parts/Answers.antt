@@ -11,7 +11,7 @@ use Rattle.life_objects.specs.Whole.{StaysWhole}
 use Rattle.life_classes.specs.Tracking.{first_sets}
 use Rattle.life_orbit.specs.Kept.{orbit_age_limit}
 use Rattle.life_ash.specs.Living.{has_cells}
-use Rattle.life_ash.specs.Parts.{AreEnds, ash_age_limit}
+use Rattle.life_ash.specs.Parts.{AreEndsOfCourses, ash_age_limit}
 use Rattle.life_ash.proofs.Cores.{ash_by_ends, no_end}
 use Rattle.life_ash.proofs.Finding.{none_then}
 use Rattle.life_ash.proofs.Following.{ends_within}
@@ -80,7 +80,7 @@ returns-clause-only g c =
     (λ orbits told parts ash. ash_by_ends R b (g.P.Plane.members c.args.plane.now)
     (first_sets c.in_ok-classes.field-0.items) (c.in_ok-classes.ensures.together ∙ c.in_ok-copy.ensures.cells) (stay g c)
     (apart g c) parts ash (placed g c) orbits.items
-    (subst (λ Qs. AreEnds R b Qs orbits.items) (listed g c) told)))
+    (subst (λ Qs. AreEndsOfCourses R b Qs orbits.items) (listed g c) told)))
     c.parts_of.ensures.sets
 
 pub returns-clause-none : goal.returns-clause-none

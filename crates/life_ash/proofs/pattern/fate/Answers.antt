@@ -7,7 +7,7 @@ use Rattle.life_model.proofs.Recurrences.{generation-zero, generation-next}
 use Rattle.life_answer.specs.Limited.{IsAllowed, first_past}
 use Rattle.life_objects.specs.Ash.{HasFallenApart, IsAsh}
 use Rattle.life_ash.specs.Fates.{IsFate}
-use Rattle.life_ash.specs.Parts.{IsOf, sets_of}
+use Rattle.life_ash.specs.Parts.{IsCourseBy, sets_of}
 use Rattle.life_ash.proofs.Finding.{of_none}
 use Rattle.life_ash.proofs.Later.{ash_until, of_later}
 use Rattle.life_ash.proofs.Limits.{none_before, past_here, past_later, past_nowhere_later, past_within}
@@ -63,13 +63,13 @@ returns-in-Some-2 g c =
           let found = subst (λ n. IsAsh R n here (sets_of parts)) c.loop-age.invariant.bound
           (subst (λ S. IsAsh S c.loop-age.met.bound here (sets_of parts)) c.loop-age.invariant.rule
           (rw c.in-Some-2.is at c.in_ok-parts.ensures.ash)) in
-          let of = subst (λ S. All (IsOf S) parts) c.loop-age.invariant.rule
+          let of = subst (λ S. All (IsCourseBy S) parts) c.loop-age.invariant.rule
           (rw c.in-Some-2.is at c.in_ok-parts.ensures.rule) in
           subst (IsFate R G b c.args.limit) (sym w.result-is) (
             past_nowhere_later R G c.args.limit (3 * b) age (omega arith) c.loop-age.invariant.before (past ∙ w.in-None.is),
             subst (λ os. HasFallenApart R b G (sets_of os)) (sym w.of.ensures)
                 (ash_until R b age G parts (omega arith) of (subst (λ H. IsAsh R b H (sets_of parts)) reached found)),
-            All-same (IsOf R) _ _ w.of.ensures (of_later R (b - age) parts of),
+            All-same (IsCourseBy R) _ _ w.of.ensures (of_later R (b - age) parts of),
           )
     ]
 
@@ -135,7 +135,7 @@ returns g c =
           subst (IsFate R G b c.args.limit) (sym w.result-is) (
             small,
             subst (λ H. IsAsh R b H (sets_of ash)) reached found,
-            subst (λ S. All (IsOf S) ash) c.loop-age.invariant.rule (rw w.in-Some-4.is at c.in_ok-ash.ensures.rule),
+            subst (λ S. All (IsCourseBy S) ash) c.loop-age.invariant.rule (rw w.in-Some-4.is at c.in_ok-ash.ensures.rule),
           )
       | in-None-2 w ↦
           let here = g.P.Plane.members c.loop-age.plane in

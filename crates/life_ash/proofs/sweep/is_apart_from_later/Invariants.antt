@@ -1,7 +1,7 @@
 use Rattle.std.proofs.Common.{ℕ, ◌<◌, slice_index_or}
 use Rattle.std.specs.List.{All}
 use Rattle.life_model.specs.Rule.{Rule}
-use Rattle.life_ash.specs.Parts.{IsOf}
+use Rattle.life_ash.specs.Parts.{IsCourseBy}
 use Rattle.life_ash.specs.Spans.{ArePlacesApart, IsNext}
 use Rattle.life_ash.specs.declared.span.Span.{Span}
 use Rattle.life_ash.proofs.sweep.is_apart_from_later.Given as goal
@@ -9,6 +9,6 @@ use Rattle.life_ash.proofs.sweep.is_apart_from_later.Given as goal
 -- the set is apart for ever from those of the spans so far that are near its own
 abbrev pub invariant-loop-other : goal.invariant-loop-other
 invariant-loop-other l =
-    (R : Rule) → All (IsOf R) l.orbits → (k : ℕ) (d : Span) → l.n < k → k < l.other →
+    (R : Rule) → All (IsCourseBy R) l.orbits → (k : ℕ) (d : Span) → l.n < k → k < l.other →
     IsNext (slice_index_or l.spans l.n d) (slice_index_or l.spans k d) →
     ArePlacesApart R l.orbits (slice_index_or l.spans l.n d).place (slice_index_or l.spans k d).place

@@ -7,7 +7,7 @@ use Rattle.life_answer.specs.Limited.{unless_large}
 use Rattle.life_answer.specs.declared.finding.Finding.{Finding}
 use Rattle.life_answer.specs.declared.finding.Finding.TheVariants.{Ash, Large, Unresolved}
 use Rattle.life_ash.specs.Fates.{IsFate}
-use Rattle.life_ash.specs.Parts.{IsOf, sets_of}
+use Rattle.life_ash.specs.Parts.{IsCourseBy, sets_of}
 use Rattle.life_census.proofs.LaterParts.{census_none, census_some, of_sooner}
 use Rattle.life_census.proofs.pattern.census.Goals as goal
 use Rattle.life_census.proofs.pattern.census.Goals.{in-Ash+in_ok-parts_of-in-Ash, in-Large, in-Unresolved}
@@ -26,7 +26,7 @@ returns g c =
           let n = w.orbits.ensures.later.0 in
           let parts = w.orbits.ensures.later.1 in
           let fallen = subst (λ ps. HasFallenApart R b G (sets_of ps)) parts fate.1 in
-          let of = of_sooner R n os (subst (λ ps. All (IsOf R) ps) parts fate.2) in
+          let of = of_sooner R n os (subst (λ ps. All (IsCourseBy R) ps) parts fate.2) in
           w.result-is ∙ (λ i. Ash (c.len-population.ensures i) (w.in_ok-parts_of-in-Ash.ensures i))
           ∙ sym (census_some R b G n os of w.orbits.ensures.courses fallen) ∙ ap unless (sym fate.0)
       | in-Unresolved w ↦

@@ -17,7 +17,7 @@ returns c =
     let inside = c.requires in
     let before = c.if-n-from.false in
     let other = get_or rs n c.index-ranked-n-2.result in
-    on_true c.are_near.result _ (λ t. record {
+    on_true c.sets_are_near.result _ (λ t. record {
       by = from;
       from = c.if-from-start.false;
       before = before;
@@ -26,5 +26,5 @@ returns c =
           (sym (get_or-map (λ (r : Ranked). r.class) rs from one d (omega arith)))
           (subst (λ (x : Class). ¬ AreApart (get_or rs from one).class.last x.last)
           (sym (get_or-map (λ (r : Ranked). r.class) rs n c.index-ranked-n-2.result e inside))
-          (near_by_test (get_or rs from one).class.last other.class.last (sym c.are_near.ensures ∙ t)));
+          (near_by_test (get_or rs from one).class.last other.class.last (sym c.sets_are_near.ensures ∙ t)));
     })

@@ -10,8 +10,8 @@ use Rattle.life_classes.proofs.Merging.{in_turn}
 use Rattle.life_classes.proofs.Reaches.{apart_by_test, near_by_test}
 use Rattle.life_classes.proofs.joining.add.Goals as goal
 
-pub loop-n-preserved-then-are_near : goal.loop-n-preserved-then-are_near
-loop-n-preserved-then-are_near c =
+pub loop-n-preserved-then-sets_are_near : goal.loop-n-preserved-then-sets_are_near
+loop-n-preserved-then-sets_are_near c =
     let at = c.loop-n.invariant in
     let cs = c.loop-n.classes.items in
     let n = c.loop-n.n in
@@ -24,7 +24,7 @@ loop-n-preserved-then-are_near c =
     let same = here ∙ get_or_default cs n c.index.result.now other inside ∙ sym c.remove-other.ensures.value in
     let near =
     subst (λ d. ¬ AreApart d.last class.last) same
-    (near_by_test c.index.result.now.last class.last (sym c.are_near.ensures ∙ c.if-are_near.true)) in
+    (near_by_test c.index.result.now.last class.last (sym c.sets_are_near.ensures ∙ c.if-sets_are_near.true)) in
     let first = c.in_ok-class.ensures.first in
     let last = c.in_ok-class.ensures.last in
     let value = c.remove-other.ensures.value in
@@ -47,7 +47,7 @@ loop-n-preserved c =
     let class = c.loop-n.class in
     let inside : n < length cs = omega arith in
     let far =
-    apart_by_test c.index.result.now.last class.last (sym c.are_near.ensures ∙ c.if-are_near.false) in
+    apart_by_test c.index.result.now.last class.last (sym c.sets_are_near.ensures ∙ c.if-sets_are_near.false) in
     record {
       within = omega arith;
       tracked = at.tracked;

@@ -1,7 +1,7 @@
 use Rattle.std.proofs.Common.{◌≡◌, ℕ, cond, ap, true, arith}
 use Rattle.census_feed.specs.declared.item.Item.TheVariants.{Work}
 use Rattle.census_feed.specs.declared.view.View.{View}
-use Rattle.census_feed.specs.Items.{has, occurrence_count, mark_count}
+use Rattle.census_feed.specs.Items.{has_item, occurrence_count, mark_count}
 use Rattle.census_feed.specs.Rule.{all_items_of}
 use Rattle.census_feed.specs.Feeds.{some_finished}
 use Rattle.census_feed.proofs.Closes.{joined_lists, marks_finished}
@@ -19,7 +19,7 @@ returns-clause-left c =
             let o = r.2.1 t in
             let j = ap (occurrence_count (Work t)) (joined_lists c.args.hands.items) in
             let a = ap (λ (v : View). occurrence_count (Work t) (all_items_of v.ended)) e in
-            let f = ap (λ (v : View). cond {A = ℕ} (has v.filled (Work t)) 1 0) e in
+            let f = ap (λ (v : View). cond {A = ℕ} (has_item v.filled (Work t)) 1 0) e in
             omega arith,
       ),
     )

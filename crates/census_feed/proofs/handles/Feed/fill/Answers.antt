@@ -2,7 +2,7 @@ use Rattle.std.proofs.Common.{◌≡◌, true, ℕ, ◌<◌, ◌^◌, List, ◌+
 use Rattle.crossbeam_deque.specs.Handles.{worker_view}
 use Rattle.census_feed.specs.declared.item.Item.{Item}
 use Rattle.census_feed.specs.declared.item.Item.TheVariants.{Work}
-use Rattle.census_feed.specs.Items.{end_marks, items, has, mark_count, Rises}
+use Rattle.census_feed.specs.Items.{end_marks, items, has_item, mark_count, Rises}
 use Rattle.census_feed.specs.Fillings.{CanFollow}
 use Rattle.census_feed.proofs.Orders.{items_rise}
 use Rattle.census_feed.proofs.Places.{is_ticket_of, ticket_is_there}
@@ -34,8 +34,8 @@ returns-clause-tickets c =
     let all : (worker_view c.deal.new.owner).filled ≡ items bundle n =
     c.in_ok-hands.ensures.same.0 ∙ c.in_ok-push_marks.ensures.pushed ∙ ap (λ l. l ++ end_marks n) c.in_ok-push_tickets.ensures.pushed in
     λ t. (
-      (λ h. is_ticket_of bundle n t (subst (λ (l : List Item). has l (Work t) ≡ true) all h)),
-      λ h. subst (λ (l : List Item). has l (Work t) ≡ true) (sym all) (ticket_is_there bundle n t h),
+      (λ h. is_ticket_of bundle n t (subst (λ (l : List Item). has_item l (Work t) ≡ true) all h)),
+      λ h. subst (λ (l : List Item). has_item l (Work t) ≡ true) (sym all) (ticket_is_there bundle n t h),
     )
 
 pub returns-clause-rising : goal.returns-clause-rising

@@ -1,7 +1,7 @@
 use Rattle.std.proofs.Common.{◌≡◌, true, ap, ◌∙◌, arith}
 use Rattle.crossbeam_deque.specs.Handles.{view}
 use Rattle.census_feed.specs.declared.item.Item.TheVariants.{Work}
-use Rattle.census_feed.specs.Items.{has, ends_with_mark}
+use Rattle.census_feed.specs.Items.{has_item, ends_with_mark}
 use Rattle.census_feed.proofs.Counts.{marks_at_end, marked_at_end, has_last}
 use Rattle.census_feed.proofs.Places.{is_ticket_for}
 use Rattle.census_feed.proofs.Steps.{none_left, only_later_left}
@@ -17,7 +17,7 @@ pub returns-in-Work-clause-least : goal.returns-in-Work-clause-least
 returns-in-Work-clause-least g c =
     let e = c.in-Work.ensures.stole.0 in
     let taken = (view c.steal.new.pass).taken in
-    let i : has taken (Work c.in-Work.ticket) ≡ true = ap (λ v. has v.taken (Work c.in-Work.ticket)) e ∙ has_last (view c.args.self.now.pass).taken (Work c.in-Work.ticket) in
+    let i : has_item taken (Work c.in-Work.ticket) ≡ true = ap (λ v. has_item v.taken (Work c.in-Work.ticket)) e ∙ has_last (view c.args.self.now.pass).taken (Work c.in-Work.ticket) in
     only_later_left _ _ (Work c.in-Work.ticket) (ap (λ v. v.role) e ∙ c.args.self.now.holder) i
 
 pub returns-in-Work-clause-over : goal.returns-in-Work-clause-over

@@ -3,7 +3,7 @@ use Rattle.std.proofs.lemmas.List.Elements.{All-same}
 use Rattle.life_model.specs.Generation.{Generation, empty}
 use Rattle.life_model.specs.Symmetry.{translate_of}
 use Rattle.life_orbit.specs.Course.{Course}
-use Rattle.life_orbit.specs.Hulls.{HasAll}
+use Rattle.life_orbit.specs.Hulls.{HoldsAllCells}
 use Rattle.life_orbit.specs.Kept.{ArePhasesOfOrbit}
 use Rattle.life_orbit.proofs.Moves.{kept_first, kept_there}
 use Rattle.life_orbit.proofs.orbit.Orbit.moved_to.Goals as goal
@@ -23,7 +23,7 @@ kept c =
 pub invariant_of-result : goal.invariant_of-result
 invariant_of-result c = (
   kept c,
-  All-same (HasAll c.hull_of-hull.result) c.in-Some-2.phases.items c.as_slice-3.result.now
+  All-same (HoldsAllCells c.hull_of-hull.result) c.in-Some-2.phases.items c.as_slice-3.result.now
       (sym c.as_slice-3.ensures.value) c.hull_of-hull.ensures,
 )
 

@@ -3,14 +3,14 @@ use Rattle.std.proofs.lemmas.List.Elements.{All-same, All-weaker}
 use Rattle.life_model.specs.Generation.{cells}
 use Rattle.life_cells.specs.Limits.{IsWithin, age_limit}
 use Rattle.life_plane.proofs.Later.{within_later}
-use Rattle.life_orbit.specs.Hulls.{HasAll}
-use Rattle.life_orbit.specs.Kept.{IsWalk, orbit_age_limit}
+use Rattle.life_orbit.specs.Hulls.{HoldsAllCells}
+use Rattle.life_orbit.specs.Kept.{IsOrbitWalk, orbit_age_limit}
 use Rattle.life_orbit.proofs.Walking.{kept_set, kept_whole, walk_more, walk_start}
 use Rattle.life_orbit.proofs.orbit.Orbit.of.Goals as goal
 
 pub loop-taken-init : goal.loop-taken-init
 loop-taken-init c =
-    subst (λ list. IsWalk c.args.rule.now c.args.cells.now 0 list c.in_ok-phase.phase) (sym c.new-phases.ensures.items)
+    subst (λ list. IsOrbitWalk c.args.rule.now c.args.cells.now 0 list c.in_ok-phase.phase) (sym c.new-phases.ensures.items)
     (walk_start c.args.rule.now c.args.cells.now c.in_ok-phase.phase c.in_ok-phase.ensures c.requires.within)
 
 pub next_list-requires : goal.next_list-requires
@@ -24,7 +24,7 @@ invariant_of-result c = (
   kept_whole c.args.rule.now c.args.cells.now c.loop-taken.taken c.loop-taken.phases.items c.loop-taken.phase
       c.loop-taken.invariant c.in_ok-next.next c.in-Some.displacement c.in-Some.ensures.offset c.push.new.self.items
       c.in_ok-next.ensures.next (omega arith) c.in_ok-push.ensures.items,
-  All-same (HasAll c.hull_of-hull.result) c.push.new.self.items c.as_slice-in-Some.result.now
+  All-same (HoldsAllCells c.hull_of-hull.result) c.push.new.self.items c.as_slice-in-Some.result.now
       (sym c.as_slice-in-Some.ensures.value) c.hull_of-hull.ensures,
 )
 
@@ -44,7 +44,7 @@ returns-in-Some-clause-recurs c =
 
 pub loop-taken-preserved : goal.loop-taken-preserved
 loop-taken-preserved c =
-    subst (λ list. IsWalk c.args.rule.now c.args.cells.now (c.loop-taken.taken + 1) list c.in_ok-next.next)
+    subst (λ list. IsOrbitWalk c.args.rule.now c.args.cells.now (c.loop-taken.taken + 1) list c.in_ok-next.next)
     (sym c.in_ok-push.ensures.items)
     (walk_more c.args.rule.now c.args.cells.now c.loop-taken.taken c.loop-taken.phases.items c.loop-taken.phase
     c.loop-taken.invariant c.in_ok-next.next c.in_ok-next.ensures.next c.in_default.ensures.apart

@@ -1,5 +1,5 @@
-use Rattle.life_orbit.specs.Kept.{IsWalk}
+use Rattle.life_orbit.specs.Kept.{IsOrbitWalk}
 use Rattle.life_orbit.proofs.orbit.Orbit.of.Given as goal
 
 abbrev pub invariant-loop-taken : goal.invariant-loop-taken
-invariant-loop-taken l = IsWalk l.rule l.cells l.taken l.phases.items l.phase
+invariant-loop-taken l = IsOrbitWalk l.rule l.cells l.taken l.phases.items l.phase

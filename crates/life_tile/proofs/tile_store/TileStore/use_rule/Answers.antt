@@ -1,7 +1,7 @@
 use Rattle.std.proofs.Common.{◌≡◌, ℕ, ◌<◌, List, length, refl, ap, ◌∙◌, arith}
 use Rattle.std.specs.Vec.{with_items}
 use Rattle.life_slots.specs.declared.bands.Bands.{Bands}
-use Rattle.life_slots.specs.Work.{mark_of, IsCalm}
+use Rattle.life_slots.specs.Work.{band_mark, IsCalm}
 use Rattle.life_slots.proofs.Marks.{all_marked}
 use Rattle.life_tile.proofs.Kept.{written_back}
 use Rattle.life_tile.proofs.Put.{kept_fresh}
@@ -17,16 +17,16 @@ module _ (c : goal.After-self-then-ne-3-1) where
   count : length c.deref_mut.result.now ≡ length c.args.self.now.slots.items
   count = ap (λ (bs : List Bands). length bs) c.deref_mut.ensures.value ∙ c.requires.whole.active_length
 
-  marked : (k band : ℕ) → k < length c.args.self.now.slots.items → band < 8 → mark_of (with_items c.args.self.now.active c.mark_all.new.marks).items k band ≡ 1
+  marked : (k band : ℕ) → k < length c.args.self.now.slots.items → band < 8 → band_mark (with_items c.args.self.now.active c.mark_all.new.marks).items k band ≡ 1
   marked k band inside small =
       let same = count in
-      ap (λ (bs : List Bands). mark_of bs k band) written ∙ c.mark_all.ensures.marks k band (omega arith) ∙ all_marked band small
+      ap (λ (bs : List Bands). band_mark bs k band) written ∙ c.mark_all.ensures.marks k band (omega arith) ∙ all_marked band small
 
   stirred : IsCalm (with_items c.args.self.now.active c.mark_all.new.marks).items → ⊥
   stirred calm =
-      let clear : mark_of (with_items c.args.self.now.active c.mark_all.new.marks).items 0 0 ≡ 0 = calm 0 (omega arith) in
-      let set : mark_of (with_items c.args.self.now.active c.mark_all.new.marks).items 0 0 ≡ 1 = marked 0 0 c.requires.whole.indexed.some (omega arith) in
-      not_both (mark_of (with_items c.args.self.now.active c.mark_all.new.marks).items 0 0) set clear
+      let clear : band_mark (with_items c.args.self.now.active c.mark_all.new.marks).items 0 0 ≡ 0 = calm 0 (omega arith) in
+      let set : band_mark (with_items c.args.self.now.active c.mark_all.new.marks).items 0 0 ≡ 1 = marked 0 0 c.requires.whole.indexed.some (omega arith) in
+      not_both (band_mark (with_items c.args.self.now.active c.mark_all.new.marks).items 0 0) set clear
 
 pub returns-then-ne-clause-kept : goal.returns-then-ne-clause-kept
 returns-then-ne-clause-kept c =

@@ -4,7 +4,7 @@ use Rattle.std.proofs.lemmas.Int.{ints}
 use Rattle.life_classes.specs.Nearness.{reaches}
 use Rattle.life_classes.proofs.Reaches.{none_passes, reaches_itself}
 use Rattle.life_classes.proofs.RowsRise.{any_by_filter}
-use Rattle.life_classes.proofs.nearness.are_near.Goals as goal
+use Rattle.life_classes.proofs.nearness.sets_are_near.Goals as goal
 
 pub returns : goal.returns
 returns c =
