@@ -3,3 +3,4 @@ pub mod FormLemmas
 pub mod Sorted
 pub mod PrintLemmas
 pub mod Corners
+pub mod Readings

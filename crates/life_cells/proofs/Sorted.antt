@@ -1,6 +1,6 @@
 -- Lists that were sorted, without repeats.
-use Rattle.std.proofs.Common.{◌≡◌, Bool, true, false, cond, ◌&&◌, ◌||◌, T, List, [], ◌∷◌, Ordering, Less, Equal, Greater, Decides, int_eq, sym, refl, ap, subst, ◌∙◌, arith}
-use Rattle.std.specs.Prelude.{ℕ, ◌+◌, IsTrue, length, ◌==◌}
+use Rattle.std.proofs.Common.{◌≡◌, Bool, true, false, cond, ◌&&◌, ◌||◌, T, List, [], ◌∷◌, Ordering, Less, Equal, Greater, Decides, int_eq, slice_index_or, sym, refl, ap, subst, ◌∙◌, arith}
+use Rattle.std.specs.Prelude.{ℕ, ◌+◌, ◌<◌, IsTrue, length, ◌==◌}
 use Rattle.std.specs.List as lists
 use Rattle.std.specs.List.{list_any, dedup, AllByRecursion}
 use Rattle.std.specs.List.Sorted.{IsStrictlySortedBy}
@@ -10,6 +10,7 @@ use Rattle.std.specs.List.Sorted.{IsSorted}
 use Rattle.std.specs.List.Retain.{IsFiltered, DiffersFromLast}
 use Rattle.std.proofs.lemmas.List.Filters.{dedup_is, All-dedup}
 use Rattle.std.proofs.lemmas.List.Kept.{IsStrictlySortedBy-dedup}
+use Rattle.std.proofs.lemmas.Map.Keys.{sorted_from_all_adjacent}
 use Rattle.std.proofs.lemmas.Bool.Decides.{nat_tests, same_from_decides, Decides-like, Decides-and, Decides-int_eq}
 use Rattle.life_model.proofs.Cells.{pair, cell_cmp_total, same_cell-is}
 use Rattle.life_model.proofs.Generations.{same_members, cells-from_list, from_list-cells, contains-from_list}
@@ -28,6 +29,9 @@ pub rising_from_sorted : (cs : List Cell) → IsStrictlySortedBy cell_cmp cs →
 unfolding IsStrictlySortedBy
 rising_from_sorted [] h = tt
 rising_from_sorted (c ∷ cs) h = both_hold _ _ (below_from_all c cs h.0) (rising_from_sorted cs h.1)
+
+pub rising_from_adjacent : (cs : List Cell) (d : Cell) → ((k : ℕ) → k + 1 < length cs → cell_cmp (slice_index_or cs k d) (slice_index_or cs (k + 1) d) ≡ Less) → T (is_rising cs)
+rising_from_adjacent cs d h = rising_from_sorted cs (sorted_from_all_adjacent cell_cmp_total cs d h)
 
 or_twice : (a b : Bool) → (a || (a || b)) ≡ (a || b)
 or_twice true b = refl

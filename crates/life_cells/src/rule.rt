@@ -229,6 +229,9 @@ impl Rule {
         ensures printed { OnOk result (text.new.items ≡ text.old.items ++ rule_text self.now) }
         ensures refused { OnErr result (text.new.items ≡ text.old.items) }
     {
+        if *self == Rule::life() {
+            return text.extend_from_slice(b"B3/S23");
+        }
         let mut printed = Vec::new(*text.allocator());
         printed.push(b'B')?;
         push_set(&mut printed, self.birth)?;

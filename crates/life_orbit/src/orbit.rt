@@ -45,7 +45,8 @@ impl Model for Orbit {
       displacement = o.displacement;
     } };
 
-    ghost invariant = { λ o. ArePhasesOfOrbit o.rule (slice_index_or o.phases.items 0 empty) o.phases.items o.displacement
+    ghost invariant = { λ o. ArePhasesOfOrbit o.rule
+        (slice_index_or o.phases.items 0 empty) o.phases.items o.displacement
         × All (HoldsAllCells o.hull) o.phases.items };
 }
 

@@ -29,7 +29,8 @@ impl Model for ListPlane {
 
     ghost view = { λ p. (from_list p.items.items, p.age) };
 
-    ghost invariant = { λ p. T (is_rising p.items.items) × All (IsWithin p.age) p.items.items × (p.age ≤ age_limit) };
+    ghost invariant = { λ p. T (is_rising p.items.items) × All (IsWithin p.age) p.items.items
+        × (p.age ≤ age_limit) };
 }
 
 impl Plane for ListPlane {

@@ -59,7 +59,8 @@ pub trait Plane: Sized + Drop {
     /// How many steps it has made. No cell is further from the places of age 0 than that.
     fn age(&self) -> u32
         ensures age { result ≡ steps_made self.now }
-        ensures within { All (IsWithin (steps_made self.now)) (generation.cells (members self.now)) };
+        ensures within { All (IsWithin (steps_made self.now))
+            (generation.cells (members self.now)) };
 
     /// The live cells in order.
     fn cells(&self) -> Result<CellList, AllocError>

@@ -13,7 +13,9 @@ use Rattle.life_cells.specs.Limits.{place_limit}
 use Rattle.life_shape.specs.declared.reader.CodeFault.{CodeFault}
 use Rattle.life_shape.specs.declared.reader.CodeFault.TheVariants.{TooFar}
 use Rattle.life_shape.specs.Reading.{Mark, Column, Zeros, NextStrip, Offence, is_next_strip, columns_in, strip_number, column, mark_cells, mark_fault, column_cells, live_rows, is_far, cells_after, first_fault, marks_of, cell_of_pair}
-use Rattle.life_shape.specs.Drawing.{strip_behind, column_behind, cells_from, fault_from, cells_unless, cells_drawn, rows_left, cells_left, marks_at, with_front}
+use Rattle.life_shape.specs.Drawing.{strip_behind, column_behind, cells_from, fault_from, cells_unless, cells_drawn, rows_left, cells_left, marks_at}
+use Rattle.life_cells.specs.Readings.{with_prefix}
+use Rattle.life_cells.proofs.Readings.{with_prefix-twice}
 
 -- ---- sums over the marks before, step by step
 
@@ -63,11 +65,11 @@ first_fault_is (m ∷ ms) before =
 
 -- ---- one mark
 
-unless_front : (fault : Option CodeFault) (front cells : List (ℕ × ℕ)) → cells_unless fault (front ++ cells) ≡ with_front (map cell_of_pair front) (cells_unless fault cells)
+unless_front : (fault : Option CodeFault) (front cells : List (ℕ × ℕ)) → cells_unless fault (front ++ cells) ≡ with_prefix (map cell_of_pair front) (cells_unless fault cells)
 unless_front None front cells = ap Ok (map-append cell_of_pair front cells)
 unless_front (Some fault) front cells = refl
 
-pub drawn_step : (k x : ℕ) (m : Mark) (ms : List Mark) → mark_fault k x m ≡ None → cells_drawn k x (m ∷ ms) ≡ with_front (map cell_of_pair (mark_cells k x m)) (cells_drawn (strip_behind k m) (column_behind x m) ms)
+pub drawn_step : (k x : ℕ) (m : Mark) (ms : List Mark) → mark_fault k x m ≡ None → cells_drawn k x (m ∷ ms) ≡ with_prefix (map cell_of_pair (mark_cells k x m)) (cells_drawn (strip_behind k m) (column_behind x m) ms)
 drawn_step k x m ms h =
     ap (λ f. cells_unless (option_or f (fault_from (strip_behind k m) (column_behind x m) ms)) (mark_cells k x m ++ cells_from (strip_behind k m) (column_behind x m) ms)) h
     ∙ unless_front (fault_from (strip_behind k m) (column_behind x m) ms) (mark_cells k x m) (cells_from (strip_behind k m) (column_behind x m) ms)
@@ -75,10 +77,6 @@ drawn_step k x m ms h =
 pub drawn_stop : (k x : ℕ) (m : Mark) (ms : List Mark) (fault : CodeFault) → mark_fault k x m ≡ Some fault → cells_drawn k x (m ∷ ms) ≡ Err fault
 drawn_stop k x m ms fault h =
     ap (λ f. cells_unless (option_or f (fault_from (strip_behind k m) (column_behind x m) ms)) (mark_cells k x m ++ cells_from (strip_behind k m) (column_behind x m) ms)) h
-
-pub with_front-twice : (a b : List Cell) (r : Result (List Cell) CodeFault) → with_front a (with_front b r) ≡ with_front (a ++ b) r
-with_front-twice a b (Ok cs) = ap Ok (sym (append_assoc a b cs))
-with_front-twice a b (Err fault) = refl
 
 pub near_fault : (at k x v : ℕ) → list_any is_far (column_cells k x v) ≡ false → mark_fault k x (Column at v) ≡ None
 near_fault at k x v h = ap (λ b. if b then Some (TooFar at) else None) h
@@ -128,7 +126,7 @@ drawn_near (Column at v ∷ ms) k l x y h g =
       | true ↦ λ e. drawn_stop k x (Column at v) ms (TooFar at) (far_fault at k x v e) ∙ sym (drawn_stop l y (Column at v) ms (TooFar at) (far_fault at l y v (sym (same_far k l x y h g (live_rows v)) ∙ e)))
       | false ↦ λ e.
           drawn_step k x (Column at v) ms (near_fault at k x v e)
-          ∙ (λ i. with_front (map cell_of_pair (same_column k l x y h g (live_rows v) e i)) (drawn_near ms k l (x + 1) (y + 1) h (near_more x y 1 g) i))
+          ∙ (λ i. with_prefix (map cell_of_pair (same_column k l x y h g (live_rows v) e i)) (drawn_near ms k l (x + 1) (y + 1) h (near_more x y 1 g) i))
           ∙ sym (drawn_step l y (Column at v) ms (near_fault at l y v (sym (same_far k l x y h g (live_rows v)) ∙ e)))
     ] refl
 drawn_near (Zeros n ∷ ms) k l x y h g = drawn_near ms k l (x + n) (y + n) h (near_more x y n g)
@@ -187,20 +185,20 @@ left_more k x v j all cells new h e a n =
 
 -- ---- one sign, with strip and column capped
 
-pub drawn_capped : (k x : ℕ) (m : Mark) (ms : List Mark) (k' x' : ℕ) → mark_fault k x m ≡ None → k' ≡ min (strip_behind k m) place_limit → x' ≡ min (column_behind x m) place_limit → cells_drawn k x (m ∷ ms) ≡ with_front (map cell_of_pair (mark_cells k x m)) (cells_drawn k' x' ms)
+pub drawn_capped : (k x : ℕ) (m : Mark) (ms : List Mark) (k' x' : ℕ) → mark_fault k x m ≡ None → k' ≡ min (strip_behind k m) place_limit → x' ≡ min (column_behind x m) place_limit → cells_drawn k x (m ∷ ms) ≡ with_prefix (map cell_of_pair (mark_cells k x m)) (cells_drawn k' x' ms)
 drawn_capped k x m ms k' x' h s c =
     drawn_step k x m ms h
-    ∙ ap (with_front (map cell_of_pair (mark_cells k x m))) (drawn_near ms (strip_behind k m) (min (strip_behind k m) place_limit) (column_behind x m) (min (column_behind x m) place_limit) (near_capped (strip_behind k m)) (near_capped (column_behind x m)) ∙ (λ i. cells_drawn (sym s i) (sym c i) ms))
+    ∙ ap (with_prefix (map cell_of_pair (mark_cells k x m))) (drawn_near ms (strip_behind k m) (min (strip_behind k m) place_limit) (column_behind x m) (min (column_behind x m) place_limit) (near_capped (strip_behind k m)) (near_capped (column_behind x m)) ∙ (λ i. cells_drawn (sym s i) (sym c i) ms))
 
 -- the reader's step: what is drawn so far, a mark, and what is drawn after it
-pub drawn_more : (all : Result (List Cell) CodeFault) (cells new : List Cell) (k x : ℕ) (m : Mark) (here ms : List Mark) (k' x' : ℕ) → all ≡ with_front cells (cells_drawn k x here) → here ≡ m ∷ ms → mark_fault k x m ≡ None → k' ≡ min (strip_behind k m) place_limit → x' ≡ min (column_behind x m) place_limit → new ≡ cells ++ map cell_of_pair (mark_cells k x m) → all ≡ with_front new (cells_drawn k' x' ms)
+pub drawn_more : (all : Result (List Cell) CodeFault) (cells new : List Cell) (k x : ℕ) (m : Mark) (here ms : List Mark) (k' x' : ℕ) → all ≡ with_prefix cells (cells_drawn k x here) → here ≡ m ∷ ms → mark_fault k x m ≡ None → k' ≡ min (strip_behind k m) place_limit → x' ≡ min (column_behind x m) place_limit → new ≡ cells ++ map cell_of_pair (mark_cells k x m) → all ≡ with_prefix new (cells_drawn k' x' ms)
 drawn_more all cells new k x m here ms k' x' a e h s c n =
-    a ∙ ap (λ rest. with_front cells (cells_drawn k x rest)) e ∙ ap (with_front cells) (drawn_capped k x m ms k' x' h s c)
-    ∙ with_front-twice cells (map cell_of_pair (mark_cells k x m)) (cells_drawn k' x' ms) ∙ ap (λ front. with_front front (cells_drawn k' x' ms)) (sym n)
+    a ∙ ap (λ rest. with_prefix cells (cells_drawn k x rest)) e ∙ ap (with_prefix cells) (drawn_capped k x m ms k' x' h s c)
+    ∙ with_prefix-twice cells (map cell_of_pair (mark_cells k x m)) (cells_drawn k' x' ms) ∙ ap (λ front. with_prefix front (cells_drawn k' x' ms)) (sym n)
 
-pub drawn_refused : (all : Result (List Cell) CodeFault) (cells : List Cell) (k x : ℕ) (m : Mark) (here ms : List Mark) (fault : CodeFault) → all ≡ with_front cells (cells_drawn k x here) → here ≡ m ∷ ms → mark_fault k x m ≡ Some fault → all ≡ Err fault
+pub drawn_refused : (all : Result (List Cell) CodeFault) (cells : List Cell) (k x : ℕ) (m : Mark) (here ms : List Mark) (fault : CodeFault) → all ≡ with_prefix cells (cells_drawn k x here) → here ≡ m ∷ ms → mark_fault k x m ≡ Some fault → all ≡ Err fault
 drawn_refused all cells k x m here ms fault a e h =
-    a ∙ ap (λ rest. with_front cells (cells_drawn k x rest)) e ∙ ap (with_front cells) (drawn_stop k x m ms fault h)
+    a ∙ ap (λ rest. with_prefix cells (cells_drawn k x rest)) e ∙ ap (with_prefix cells) (drawn_stop k x m ms fault h)
 
 -- ---- what the whole text gives
 

@@ -1,11 +1,11 @@
 -- What the reader keeps: the place in the text, the strip and the column, and what follows from there.
-use Rattle.std.specs.Prelude.{◌≡◌, ℕ, ◌+◌, ◌-◌, ◌*◌, ◌<◌, ◌≤◌, ◌==◌, Bool, List, [], ◌∷◌, ◌++◌, Option, Some, None, Result, Ok, Err, drop, map, ◌≢◌}
+use Rattle.std.specs.Prelude.{◌≡◌, ℕ, ◌+◌, ◌-◌, ◌*◌, ◌<◌, ◌≤◌, ◌==◌, Bool, List, [], ◌∷◌, ◌++◌, Option, Some, None, Result, drop, map}
 use Rattle.std.specs.List.{filter, range_with_len}
 use Rattle.std.specs.Int.{bit_at}
 use Rattle.std.specs.Option.{option_or}
 use Rattle.life_model.specs.Cell.{Cell}
+use Rattle.life_cells.specs.Readings.{unless_refused}
 use Rattle.life_shape.specs.declared.reader.CodeFault.{CodeFault}
-use Rattle.life_shape.specs.declared.reader.CodeFault.TheVariants.{Memory}
 use Rattle.life_shape.specs.declared.reader.Sign.{Sign}
 use Rattle.life_shape.specs.declared.reader.Sign.TheVariants.{Value, Skip, Down}
 use Rattle.life_shape.specs.Reading.{Mark, Column, Zeros, NextStrip, Offence, begins_near, mark_cells, mark_fault, marks, cell_of_pair, until_offence}
@@ -34,8 +34,7 @@ fault_from k x (m ∷ ms) = option_or (mark_fault k x m) (fault_from (strip_behi
 
 -- cells, or the fault where there is one
 abbrev pub cells_unless : Option CodeFault → List (ℕ × ℕ) → Result (List Cell) CodeFault
-cells_unless None cells = Ok (map cell_of_pair cells)
-cells_unless (Some fault) cells = Err fault
+cells_unless fault cells = unless_refused fault (map cell_of_pair cells)
 
 abbrev pub cells_drawn : ℕ → ℕ → List Mark → Result (List Cell) CodeFault
 cells_drawn k x ms = cells_unless (fault_from k x ms) (cells_from k x ms)
@@ -70,13 +69,3 @@ rows_left v j = filter (λ i. bit_at v i == 1) (range_with_len j (5 - j))
 
 abbrev pub cells_left : ℕ → ℕ → ℕ → ℕ → List (ℕ × ℕ)
 cells_left k x v j = map {B = ℕ × ℕ} (λ i. (x, 5 * k + i)) (rows_left v j)
-
--- cells before others
-abbrev pub with_front : List Cell → Result (List Cell) CodeFault → Result (List Cell) CodeFault
-with_front front (Ok cells) = Ok (front ++ cells)
-with_front front (Err fault) = Err fault
-
--- what was returned, seen by view, is what reading gives, unless memory ran out
-abbrev pub Gives : {X Y : Type 0} → (X → Y) → Result X CodeFault → Result Y CodeFault → Type 0
-Gives view (Ok x) read = read ≡ Ok (view x)
-Gives view (Err fault) read = fault ≢ Memory → read ≡ Err fault

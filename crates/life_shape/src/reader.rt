@@ -3,8 +3,9 @@ ghost use Rattle.std.specs.Prelude.{◌≡◌, ◌≢◌, ◌+◌, ◌*◌, ◌<
 ghost use Rattle.std.specs.List.{list_any};
 ghost use Rattle.life_model.specs.Symmetry.{normal};
 ghost use Rattle.life_cells.specs.Limits.{IsWithin};
+ghost use Rattle.life_cells.specs.Readings.{Gives};
 ghost use Rattle.life_shape.specs.Reading.{Offence, begins_near, column_cells, digit_value, is_base_36_digit, is_far, keeps_a_cell, cell_of_pair, refusal, cells_spelled};
-ghost use Rattle.life_shape.specs.Drawing.{BeginsWithMark, Gives, IsWithinDigits, cells_drawn, keeps_from, marks_at, mark_of_sign};
+ghost use Rattle.life_shape.specs.Drawing.{BeginsWithMark, IsWithinDigits, cells_drawn, keeps_from, marks_at, mark_of_sign};
 ghost use Rattle.life_shape.specs.declared.reader.CodeFault.TheVariants.{Memory, TooFar};
 
 use crate::shape::Shape;
@@ -143,7 +144,8 @@ fn push_column(
 
 // The cells that the text spells, in its order.
 fn read_cells(alloc: Global, text: &[u8]) -> Result<Vec<(i32, i32)>, CodeFault>
-    ensures drawn { Gives (λ cells. cells.items) result (cells_drawn 0 0 (marks_at text.now 0)) }
+    ensures drawn { Gives Memory (λ cells. cells.items) result
+        (cells_drawn 0 0 (marks_at text.now 0)) }
     ensures within { IfOk result (λ cells. All (IsWithin 0) cells.items) }
     ensures kept { IfOk result
         (λ cells. 0 < length cells.items → keeps_from 0 0 (marks_at text.now 0) ≡ true) }

@@ -4,7 +4,7 @@ use Rattle.std.specs.List.{range_with_len}
 use Rattle.std.proofs.lemmas.Bool.Decides.{nat_tests}
 use Rattle.life_model.specs.Box.{extent}
 use Rattle.life_cells.specs.Bytes.{is_in}
-use Rattle.life_text.specs.RleText.{onto_rows, rows_of, run_onto, runs_of, run_token, row_tokens, tokens_of_rows}
+use Rattle.life_text.specs.RleText.{onto_rows, drawn_rows, run_onto, runs_of, run_token, row_tokens, tokens_of_rows}
 use Rattle.life_text.specs.Writer.{with_token, onto_run, tokens_from}
 use Rattle.life_text.proofs.PlaceLemmas.{IsBehind, BeginsAbove}
 
@@ -117,7 +117,7 @@ live_token ((n, false) ∷ runs) y rows = refl
 record Front (c : ℕ × ℕ) (cs : List (ℕ × ℕ)) : Type 0 where
   columns : List ℕ
   others : List (ℕ × List ℕ)
-  rows : rows_of (c ∷ cs) ≡ (c.1, c.0 ∷ columns) ∷ others
+  rows : drawn_rows (c ∷ cs) ≡ (c.1, c.0 ∷ columns) ∷ others
   rises : Rises (c.0 + 1) columns
   tokens : onto_run 1 (tokens_from c.1 (c.0 + 1) cs) ≡ map run_token (run_onto true (gap_runs (c.0 + 1) columns)) ++ behind_row c.1 others
 
@@ -174,7 +174,7 @@ front c (d ∷ ds) h = by_row (front d ds h.2) (c.1 == d.1) refl
         }
 
 -- the tokens of cells in order that begin in the first row
-pub tokens_are : (cells : List (ℕ × ℕ)) → IsBehind 0 0 cells → BeginsAbove cells → tokens_from 0 0 cells ≡ tokens_of_rows (rows_of cells)
+pub tokens_are : (cells : List (ℕ × ℕ)) → IsBehind 0 0 cells → BeginsAbove cells → tokens_from 0 0 cells ≡ tokens_of_rows (drawn_rows cells)
 tokens_are [] h first = refl
 tokens_are (c ∷ cs) h first =
     let f = front c cs h.2 in

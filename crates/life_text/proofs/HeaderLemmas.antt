@@ -1,17 +1,19 @@
 -- The header line of a text, and the body after it.
-use Rattle.std.proofs.Common.{◌≡◌, ℕ, suc, ◌+◌, ◌-◌, ◌<◌, ◌≤◌, Bool, true, false, not, cond, List, [], ◌∷◌, ◌++◌, length, get_or, drop, take, if◌then◌else◌, ◌==◌, sym, ap, ◌∙◌, refl, arith, Option, Some, None, Result, Ok, Err, ℤ}
+use Rattle.std.proofs.Common.{◌≡◌, ℕ, zero, suc, ◌+◌, ◌-◌, ◌<◌, ◌≤◌, Bool, true, false, not, cond, List, [], ◌∷◌, ◌++◌, length, get_or, drop, take, if◌then◌else◌, ◌==◌, subst, sym, ap, ◌∙◌, refl, arith, append_assoc, append-nil, Option, Some, None, Result, Ok, Err, ℤ}
 use Rattle.std.specs.List.{prefix_len, before_first, after_first}
-use Rattle.std.proofs.lemmas.List.{take_more, get_or-drop, length-drop}
+use Rattle.std.proofs.lemmas.List.{take_all, take_more, get_or-drop, length-drop}
+use Rattle.memchr.specs.Find.{IsFirstByte, is_byte}
 use Rattle.life_cells.specs.Bytes.{is_space, without_front}
 use Rattle.life_text.specs.Rle.{comments_as_blanks, from_header, body, body_place, body_tokens, lexemes, tokens}
 use Rattle.life_text.specs.Reader.{byte_before, plain_at, tokens_at, is_in_comment, is_line_feed}
 use Rattle.life_text.specs.Rle.{Token, with_body, header_rule, reading, first_fault, cells_after, unless_fault}
-use Rattle.life_text.specs.Reader.{cells_drawn, cells_unless, placed_all, first_pen}
+use Rattle.life_text.specs.Reader.{cells_drawn, placed_all, first_pen}
 use Rattle.life_text.specs.Drawing.{drawing_of, drawing_with}
 use Rattle.life_model.specs.Rule.{Rule}
+use Rattle.life_cells.specs.Readings.{unless_refused}
 use Rattle.life_text.specs.declared.rle.RleFault.{RleFault}
 use Rattle.life_text.proofs.PenLemmas.{drawn_is}
-use Rattle.life_text.proofs.LexLemmas.{previous_more, blanked_plain}
+use Rattle.life_text.proofs.LexLemmas.{previous_more, blanked_plain, stop_end}
 
 -- a byte that ends no line
 pub line_more : (c : ℕ) (rest : List ℕ) → (c == 10) ≡ false → (before_first is_line_feed (c ∷ rest) ≡ c ∷ before_first is_line_feed rest) × (after_first is_line_feed (c ∷ rest) ≡ after_first is_line_feed rest)
@@ -41,6 +43,97 @@ part_more text from at le lt =
     ap (λ k. take k (drop from text)) n ∙ take_more (drop from text) (at - from) 0 few
     ∙ ap (λ b. take (at - from) (drop from text) ++ b ∷ []) (get_or-drop from text (at - from) 0 ∙ ap (λ k. get_or text k 0) place)
 
+-- a line goes on from one place to another
+pub record GoesOn (text : List ℕ) (start next : ℕ) : Type 0 where
+  pub line : before_first is_line_feed (plain_at text start) ≡ take (next - start) (drop start text) ++ before_first is_line_feed (plain_at text next)
+  pub rest : after_first is_line_feed (plain_at text start) ≡ after_first is_line_feed (plain_at text next)
+  pub plain : next < length text → plain_at text next ≡ get_or text next 0 ∷ plain_at text (next + 1)
+
+-- it goes on over a byte that is no LF
+one_more : (text : List ℕ) (start next : ℕ) → start ≤ next → next < length text → (get_or text next 0 == 10) ≡ false → GoesOn text start next → GoesOn text start (next + 1)
+one_more text start next le lt on g =
+    let byte : ℕ = get_or text next 0 in
+    let more = line_more byte (plain_at text (next + 1)) on in
+    let front : List ℕ = take (next - start) (drop start text) in
+    record {
+      line = g.line ∙ ap (λ (s : List ℕ). front ++ before_first is_line_feed s) (g.plain lt) ∙ ap (λ (s : List ℕ). front ++ s) more.0
+          ∙ sym (append_assoc front (byte ∷ []) (before_first is_line_feed (plain_at text (next + 1))))
+          ∙ ap (λ (s : List ℕ). s ++ before_first is_line_feed (plain_at text (next + 1))) (sym (part_more text start next le lt));
+      rest = g.rest ∙ ap (after_first is_line_feed) (g.plain lt) ∙ more.1;
+      plain = λ below. plain_behind text next on below;
+    }
+
+-- it goes on as long as no LF comes
+pub goes_on : (text : List ℕ) (start : ℕ) → (start < length text → plain_at text start ≡ get_or text start 0 ∷ plain_at text (start + 1))
+    → (n : ℕ) → start + n ≤ length text → ((k : ℕ) → k < n → (get_or text (start + k) 0 == 10) ≡ false) → GoesOn text start (start + n)
+goes_on text start plain zero le none =
+    let here : start ≡ start + 0 = omega arith in
+    let nothing : start - start ≡ 0 = omega arith in
+    subst (λ (k : ℕ). GoesOn text start k) here
+    (record {
+      line = ap (λ k. take k (drop start text) ++ before_first is_line_feed (plain_at text start)) (sym nothing);
+      rest = refl;
+      plain = plain;
+    })
+goes_on text start plain (suc n) le none =
+    let place : start + n + 1 ≡ start + suc n = omega arith in
+    subst (λ (k : ℕ). GoesOn text start k) place
+    (one_more text start (start + n) (omega arith) (omega arith) (none n (omega arith)) (goes_on text start plain n (omega arith) (λ k lt. none k (omega arith))))
+
+-- as long as no LF comes in what stands behind a place
+pub goes_without : (text : List ℕ) (start : ℕ) → (start < length text → plain_at text start ≡ get_or text start 0 ∷ plain_at text (start + 1))
+    → (n : ℕ) → start + n ≤ length text → ((k : ℕ) → k < n → (get_or (drop start text) k 0 == 10) ≡ true → ⊥) → GoesOn text start (start + n)
+goes_without text start plain n le none =
+    goes_on text start plain n le (λ k lt. ap (λ b. b == 10) (sym (get_or-drop start text k 0)) ∙ is_false (get_or (drop start text) k 0 == 10) (none k lt))
+  where
+    is_false : (b : Bool) → (b ≡ true → ⊥) → b ≡ false
+    is_false true h = absurd (h refl)
+    is_false false h = refl
+
+-- it ends at LF
+pub ends_at : (text : List ℕ) (start next : ℕ) → next < length text → (get_or text next 0 == 10) ≡ true → GoesOn text start next
+    → (before_first is_line_feed (plain_at text start) ≡ take (next - start) (drop start text)) × (after_first is_line_feed (plain_at text start) ≡ plain_at text (next + 1))
+ends_at text start next lt end g =
+    let ends = line_ends (get_or text next 0) (plain_at text (next + 1)) end in
+    let front : List ℕ = take (next - start) (drop start text) in (
+      g.line ∙ ap (λ (s : List ℕ). front ++ before_first is_line_feed s) (g.plain lt) ∙ ap (λ (s : List ℕ). front ++ s) ends.0 ∙ append-nil front,
+      g.rest ∙ ap (after_first is_line_feed) (g.plain lt) ∙ ends.1,
+    )
+
+-- or with the text
+pub ends_last : (text : List ℕ) (start next : ℕ) → length text ≤ next → GoesOn text start next
+    → (before_first is_line_feed (plain_at text start) ≡ take (next - start) (drop start text)) × (after_first is_line_feed (plain_at text start) ≡ plain_at text next)
+ends_last text start next le g =
+    let none : plain_at text next ≡ [] = stop_end false (byte_before text next) text next le in
+    let front : List ℕ = take (next - start) (drop start text) in (
+      g.line ∙ ap (λ (s : List ℕ). front ++ before_first is_line_feed s) none ∙ append-nil front,
+      g.rest ∙ ap (after_first is_line_feed) none ∙ sym none,
+    )
+
+module _ (text : List ℕ) (start : ℕ) (within : start ≤ length text) (plain : start < length text → plain_at text start ≡ get_or text start 0 ∷ plain_at text (start + 1)) where
+  all_behind : take (length text - start) (drop start text) ≡ drop start text
+  all_behind = take_all (length text - start) (drop start text) (omega (arith, length-drop start text))
+
+  -- the first LF from a place on
+  pub line_found : (len : ℕ) → IsFirstByte (is_byte 10) (take (length text - start) (drop start text)) (Some len)
+      → (start + len < length text) × (before_first is_line_feed (plain_at text start) ≡ take (start + len - start) (drop start text)) × (after_first is_line_feed (plain_at text start) ≡ plain_at text (start + len + 1))
+  line_found len h =
+      let found : IsFirstByte (is_byte 10) (drop start text) (Some len) = subst (λ (s : List ℕ). IsFirstByte (is_byte 10) s (Some len)) all_behind h in
+      let lt : start + len < length text = omega (arith, length-drop start text, found.0.high) in
+      let end : (get_or text (start + len) 0 == 10) ≡ true = ap (λ b. b == 10) (sym (get_or-drop start text len 0)) ∙ found.1 in
+      let ends = ends_at text start (start + len) lt end (goes_without text start plain len (omega arith) (λ k below. found.0.before k (omega arith) below)) in
+      (lt, ends.0, ends.1)
+
+  -- and none
+  pub line_unfound : IsFirstByte (is_byte 10) (take (length text - start) (drop start text)) None
+      → (before_first is_line_feed (plain_at text start) ≡ take (length text - start) (drop start text)) × (after_first is_line_feed (plain_at text start) ≡ plain_at text (length text))
+  line_unfound h =
+      let none : IsFirstByte (is_byte 10) (drop start text) None = subst (λ (s : List ℕ). IsFirstByte (is_byte 10) s None) all_behind h in
+      let all : start + (length text - start) ≡ length text = omega arith in
+      let long = length-drop start text in
+      let on : GoesOn text start (length text) = rw all at (goes_without text start plain (length text - start) (omega arith) (λ k below. none k (omega arith) (omega (arith, long)))) in
+      ends_last text start (length text) (omega arith) on
+
 length-blanked : (comment : Bool) (before : ℕ) (s : List ℕ) → length (comments_as_blanks comment before s) ≡ length s
 length-blanked comment before [] = refl
 length-blanked comment before (c ∷ s) = ap suc (length-blanked (if before == 10 then c == 35 else comment) c s)
@@ -61,7 +154,7 @@ body_is text start from head within rest =
     let place : body_place text ≡ from = ap (λ (s : List ℕ). length text - length s) is ∙ omega arith in
     ap (λ (s : List ℕ). tokens (lexemes false (body_place text) s)) is ∙ ap (λ n. tokens (lexemes false n (plain_at text from))) place
 
-first_of_is : (ts : List Token) → cells_drawn first_pen ts ≡ cells_unless (first_fault [] ts) (cells_after [] ts)
+first_of_is : (ts : List Token) → cells_drawn first_pen ts ≡ unless_refused (first_fault [] ts) (cells_after [] ts)
 first_of_is ts = drawn_is ts []
 
 -- the drawing that a text means, by a rule of its header and by what is drawn of its tokens
@@ -69,7 +162,7 @@ pub drawing_is : (text : List ℕ) (r : Result Rule RleFault) (cells : Result (L
 drawing_is text r cells rule body =
     ap (λ o. drawing_of (with_body o (body_tokens text))) rule ∙ by_rule r ∙ ap (drawing_with r) body
   where
-    by_fault : (s : Rule) (o : Option RleFault) (cs : List (ℕ × ℕ)) → drawing_of (unless_fault o (record { rule = s; cells = cs })) ≡ drawing_with (Ok s) (placed_all (cells_unless o cs))
+    by_fault : (s : Rule) (o : Option RleFault) (cs : List (ℕ × ℕ)) → drawing_of (unless_fault o (record { rule = s; cells = cs })) ≡ drawing_with (Ok s) (placed_all (unless_refused o cs))
     by_fault s None cs = refl
     by_fault s (Some fault) cs = refl
 

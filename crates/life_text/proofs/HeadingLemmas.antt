@@ -13,6 +13,7 @@ use Rattle.life_cells.proofs.FormLemmas.{and_left, and_right}
 use Rattle.life_cells.proofs.PrintLemmas.{printed_set, printed_rule}
 use Rattle.life_text.specs.Filled.{filled_lines}
 use Rattle.life_text.specs.Rle.{comments_as_blanks, from_header, header_rule, body, part, after_size, after_sizes, rule_or_fault, rule_behind, line_rule}
+use Rattle.life_text.specs.Sizes.{after_number}
 use Rattle.life_text.specs.Reader.{is_line_feed}
 use Rattle.life_text.specs.RleText.{token_text}
 use Rattle.life_text.specs.Writer.{with_token, onto_run, tokens_from}
@@ -124,6 +125,17 @@ size_found ds n c rest w stop =
   where
     no_zero : (k : ℕ) → (1 + k == 0) ≡ false
     no_zero k = grind (arith, nat_tests)
+
+-- a blank before a number
+pub number_behind : (s rest : List ℕ) → after_number s ≡ Some rest → after_size (32 ∷ s) ≡ Some rest
+number_behind [] rest h = cc
+number_behind (d ∷ s) rest h = by_digit (is_digit d) refl
+  where
+    by_digit : (b : Bool) → is_digit d ≡ b → after_size (32 ∷ d ∷ s) ≡ Some rest
+    by_digit true is = ap after_number (blank_front d s (digit_no_blank d is)) ∙ h
+    by_digit false is =
+        let none : after_number (d ∷ s) ≡ None = ap (λ b. if cond b (1 + prefix_len is_digit s) 0 == 0 then None else Some (without_front is_digit (d ∷ s))) is in
+        cc
 
 -- # The header line
 

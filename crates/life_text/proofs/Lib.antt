@@ -4,6 +4,7 @@ pub mod LexLemmas
 pub mod TokenLemmas
 pub mod SpanLemmas
 pub mod BodyLemmas
+pub mod StepLemmas
 pub mod HeaderLemmas
 pub mod RisingLemmas
 pub mod ReadLemmas

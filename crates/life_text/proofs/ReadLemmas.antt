@@ -6,11 +6,11 @@ use Rattle.life_cells.specs.Bytes.{after_one_of, is_blank, without_ends}
 use Rattle.life_cells.specs.Rules.{life, rule_of}
 use Rattle.life_cells.specs.declared.rule.RuleFault.{RuleFault}
 use Rattle.life_cells.specs.declared.rule.RuleFault.TheVariants.{NotLifeLike, HasB0}
+use Rattle.life_cells.specs.Readings.{Gives}
 use Rattle.life_text.specs.declared.rle.RleFault.{RleFault}
-use Rattle.life_text.specs.declared.rle.RleFault.TheVariants.{BadHeader, Memory, NoHeader}
+use Rattle.life_text.specs.declared.rle.RleFault.TheVariants.{Memory, NoHeader}
 use Rattle.life_text.specs.declared.rle.Plot.{Plot}
 use Rattle.life_text.specs.Rle.{Meaning, after_rule_name, after_sizes, fault_of, line_rule, named_rule, reading, refusal, rule_behind, rule_or_fault}
-use Rattle.life_text.specs.Reader.{Gives}
 use Rattle.life_text.specs.Drawing.{Drawing, drawing, drawing_of}
 
 lawful_of : (r : Result Meaning RleFault) (d : Drawing) → drawing_of r ≡ Ok d → fault_of r ≡ None
@@ -21,15 +21,15 @@ pub fault_is : (r : Result Meaning RleFault) (fault : RleFault) → drawing_of r
 fault_is (Ok meaning) fault h = cc
 fault_is (Err other) fault h = cc
 
-pub lawful : (text : List ℕ) (r : Result Plot RleFault) → Gives drawing r (drawing_of (reading text)) → OnOk r (refusal text ≡ None)
+pub lawful : (text : List ℕ) (r : Result Plot RleFault) → Gives Memory drawing r (drawing_of (reading text)) → OnOk r (refusal text ≡ None)
 lawful text (Ok pattern) h = lawful_of (reading text) (drawing pattern) h
 lawful text (Err fault) h = tt
 
-pub found : (text : List ℕ) (r : Result Plot RleFault) → Gives drawing r (drawing_of (reading text)) → IfOk r (λ pattern. drawing_of (reading text) ≡ Ok (drawing pattern))
+pub found : (text : List ℕ) (r : Result Plot RleFault) → Gives Memory drawing r (drawing_of (reading text)) → IfOk r (λ pattern. drawing_of (reading text) ≡ Ok (drawing pattern))
 found text (Ok pattern) h = h
 found text (Err fault) h = tt
 
-pub refused : (text : List ℕ) (r : Result Plot RleFault) → Gives drawing r (drawing_of (reading text)) → IfErr r (λ fault. fault ≢ Memory → refusal text ≡ Some fault)
+pub refused : (text : List ℕ) (r : Result Plot RleFault) → Gives Memory drawing r (drawing_of (reading text)) → IfErr r (λ fault. fault ≢ Memory → refusal text ≡ Some fault)
 refused text (Ok pattern) h = tt
 refused text (Err fault) h = λ known. fault_is (reading text) fault (h known)
 

@@ -8,8 +8,9 @@ use Rattle.life_text.specs.declared.pen.Pen.{Pen}
 use Rattle.life_text.specs.declared.rle.RleFault.{RleFault}
 use Rattle.life_cells.specs.Bytes.{is_in}
 use Rattle.life_cells.specs.Limits.{place_limit}
+use Rattle.life_cells.specs.Readings.{unless_refused}
 use Rattle.life_text.specs.Rle.{Token, is_live, is_cells, is_row_end, run_length, run_cells, token_fault, first_fault, cells_after, has_tag}
-use Rattle.life_text.specs.Reader.{cells_drawn, cells_or_fault, pen_after, pen_behind, cells_unless}
+use Rattle.life_text.specs.Reader.{cells_drawn, cells_or_fault, pen_after, pen_behind}
 use Rattle.life_text.specs.Rising.{RisesFrom}
 use Rattle.life_text.proofs.CappedLemmas.{good, live_within}
 use Rattle.life_text.proofs.PenLemmas.{drawn_is}
@@ -67,4 +68,4 @@ drawn_rises (t ∷ ts) pen cells h = by_parts (drawn_rises ts (pen_after pen t))
 
 -- the cells of tokens without fault
 pub meaning_rises : (ts : List Token) → first_fault [] ts ≡ None → RisesFrom 0 0 (cells_after [] ts)
-meaning_rises ts none = drawn_rises ts (pen_behind []) (cells_after [] ts) (drawn_is ts [] ∙ ap (λ o. cells_unless o (cells_after [] ts)) none)
+meaning_rises ts none = drawn_rises ts (pen_behind []) (cells_after [] ts) (drawn_is ts [] ∙ ap (λ o. unless_refused o (cells_after [] ts)) none)

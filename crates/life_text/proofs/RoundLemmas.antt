@@ -12,11 +12,12 @@ use Rattle.life_model.proofs.Cells.{pair}
 use Rattle.life_model.proofs.Generations.{cells-rise, from_list-cells, size-cells}
 use Rattle.life_cells.specs.Limits.{IsWithin, place_limit}
 use Rattle.life_cells.specs.Rules.{rule_text}
+use Rattle.life_cells.specs.Readings.{unless_refused}
 use Rattle.life_text.specs.declared.rle.RleFault.{RleFault}
 use Rattle.life_text.specs.Filled.{filled_lines}
 use Rattle.life_text.specs.Picture.{picture_of}
 use Rattle.life_text.specs.Places.{place, places}
-use Rattle.life_text.specs.Reader.{cells_unless, cells_drawn, first_pen, cell_of_pair}
+use Rattle.life_text.specs.Reader.{cells_drawn, first_pen, cell_of_pair}
 use Rattle.life_text.specs.Rle.{Token, cell_limit, lexemes, tokens, body_place, body_tokens, cells_after, first_fault, unless_fault, with_body, reading}
 use Rattle.life_text.specs.RleText.{body_text, header, rle_text, token_text}
 use Rattle.life_text.specs.Writer.{tokens_from}
@@ -69,7 +70,7 @@ meaning R ts ps e = by_fault (first_fault [] ts) (sym (drawn_is ts []) ∙ e)
     drawn_cells (Ok cs) = cs
     drawn_cells (Err fault) = []
 
-    by_fault : (o : Option RleFault) → cells_unless o (cells_after [] ts) ≡ Ok ps → unless_fault o (record { rule = R; cells = cells_after [] ts }) ≡ Ok (record { rule = R; cells = ps })
+    by_fault : (o : Option RleFault) → unless_refused o (cells_after [] ts) ≡ Ok ps → unless_fault o (record { rule = R; cells = cells_after [] ts }) ≡ Ok (record { rule = R; cells = ps })
     by_fault None h = ap (λ (r : Result (List (ℕ × ℕ)) RleFault). Ok (record { rule = R; cells = drawn_cells r })) h
     by_fault (Some fault) h = cc
 

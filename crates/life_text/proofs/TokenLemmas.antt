@@ -5,6 +5,7 @@ use Rattle.std.specs.Str.Parse.{digits_value}
 use Rattle.life_cells.specs.Bytes.{is_digit, is_space, without_front}
 use Rattle.life_text.specs.Rle.{Lexeme, Count, Tag, lexemes, tokens}
 use Rattle.life_text.specs.Reader.{plain_at, tokens_at, count_cap, IsPlain}
+use Rattle.life_text.specs.declared.token.Found.{Found}
 use Rattle.life_text.specs.Found.{BeginsWithToken}
 use Rattle.life_text.proofs.LexLemmas.{lexemes-spaces, first_digit, within_digit, tag_first, stop_end}
 
@@ -76,3 +77,7 @@ begins_count_tag text from at n times next c value e = record {
   same = ap (λ k. record { at = at; count = Some k; tag_at = next; tag = Some c }) (sym value);
   behind = refl;
 }
+
+-- blanks and comments before the first token
+pub begins_behind : (text : List ℕ) (from at : ℕ) (f : Found) → tokens_at text from ≡ tokens_at text at → BeginsWithToken text at f → BeginsWithToken text from f
+begins_behind text from at f e b = record { token = b.token; others = b.others; all = e ∙ b.all; same = b.same; behind = b.behind }

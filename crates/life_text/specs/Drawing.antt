@@ -1,10 +1,11 @@
 -- What a text means, in the numbers of a list of cells.
-use Rattle.std.specs.Prelude.{List, ℤ, map, Result, Ok, Err}
+use Rattle.std.specs.Prelude.{List, ℕ, ℤ, map, Result, Ok, Err}
 use Rattle.life_text.specs.declared.rle.RleFault.{RleFault}
 use Rattle.life_text.specs.declared.rle.Plot.{Plot}
 use Rattle.life_model.specs.Rule.{Rule}
 use Rattle.life_text.specs.Rle.{Meaning}
-use Rattle.life_text.specs.Reader.{cell_of_pair}
+use Rattle.life_text.specs.declared.pen.Pen.{Pen}
+use Rattle.life_text.specs.Reader.{cell_of_pair, cells_drawn, placed_all, tokens_at}
 
 pub record Drawing : Type 0 where
   pub rule : Rule
@@ -23,3 +24,7 @@ abbrev pub drawing_with : Result Rule RleFault → Result (List (ℤ × ℤ)) Rl
 drawing_with (Err fault) cells = Err fault
 drawing_with (Ok r) (Ok cells) = Ok (record { rule = r; cells = cells })
 drawing_with (Ok r) (Err fault) = Err fault
+
+-- what the tokens of a text from a place on draw, or their first fault, where the pen stands
+abbrev pub drawn_from : List ℕ → Pen → ℕ → Result (List (ℤ × ℤ)) RleFault
+drawn_from text pen at = placed_all (cells_drawn pen (tokens_at text at))

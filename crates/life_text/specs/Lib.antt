@@ -8,6 +8,7 @@ pub mod Filled
 pub mod Places
 pub mod RleText
 pub mod Writer
+pub mod Sizes
 pub use Rattle.life_cells.specs.Bytes
 pub use Rattle.life_cells.specs.Rules
 pub use Rattle.life_cells.specs.Forms

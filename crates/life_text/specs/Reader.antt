@@ -1,10 +1,9 @@
 -- What the reader keeps: the text from a place on, the tokens there, and a pen that draws them.
-use Rattle.std.specs.Prelude.{◌≡◌, ℕ, zero, suc, ◌+◌, min, Bool, false, List, [], ◌∷◌, ◌++◌, drop, Option, Some, None, Result, Ok, Err, slice_index, ◌==◌, ℤ, pos, map, ◌≢◌, if◌then◌else◌}
+use Rattle.std.specs.Prelude.{◌≡◌, ℕ, zero, suc, ◌+◌, min, Bool, false, List, [], ◌∷◌, ◌++◌, drop, Option, Some, None, Result, Ok, Err, slice_index, ◌==◌, ℤ, pos, map, if◌then◌else◌}
 use Rattle.std.specs.Option.{option_map}
 use Rattle.life_cells.specs.Bytes.{is_space}
 use Rattle.life_text.specs.declared.pen.Pen.{Pen}
 use Rattle.life_text.specs.declared.rle.RleFault.{RleFault}
-use Rattle.life_text.specs.declared.rle.RleFault.TheVariants.{Memory}
 use Rattle.life_text.specs.Rle.{Token, comments_as_blanks, lexemes, tokens, is_live, is_cells, is_row_end, run_length, row, column, live_cells, run_cells, token_fault}
 
 -- the byte before a place; LF before the first
@@ -46,10 +45,6 @@ cells_drawn pen (t ∷ ts) = cells_or_fault (token_fault pen.y pen.x pen.live t)
 abbrev pub pen_behind : List Token → Pen
 pen_behind before = record { y = row before; x = column before; live = live_cells before }
 
-abbrev pub cells_unless : Option RleFault → List (ℕ × ℕ) → Result (List (ℕ × ℕ)) RleFault
-cells_unless None cells = Ok cells
-cells_unless (Some fault) cells = Err fault
-
 -- more than any place and any number of live cells
 abbrev pub count_cap : ℕ
 count_cap = 2097152
@@ -73,16 +68,6 @@ cell_of_pair (x, y) = (pos x, pos y)
 abbrev pub placed_all : Result (List (ℕ × ℕ)) RleFault → Result (List (ℤ × ℤ)) RleFault
 placed_all (Ok cells) = Ok (map cell_of_pair cells)
 placed_all (Err fault) = Err fault
-
--- cells before others
-abbrev pub with_front : List (ℤ × ℤ) → Result (List (ℤ × ℤ)) RleFault → Result (List (ℤ × ℤ)) RleFault
-with_front front (Ok cells) = Ok (front ++ cells)
-with_front front (Err fault) = Err fault
-
--- what was returned, seen by view, is what reading gives, unless memory ran out
-abbrev pub Gives : {X Y : Type 0} → (X → Y) → Result X RleFault → Result Y RleFault → Type 0
-Gives view (Ok x) read = read ≡ Ok (view x)
-Gives view (Err fault) read = fault ≢ Memory → read ≡ Err fault
 
 -- at the first place, with nothing drawn
 abbrev pub first_pen : Pen

@@ -21,9 +21,9 @@ onto_rows c [] = (c.1, c.0 ∷ []) ∷ []
 onto_rows c ((y, columns) ∷ rows) = if c.1 == y then (y, c.0 ∷ columns) ∷ rows else (c.1, c.0 ∷ []) ∷ (y, columns) ∷ rows
 
 -- the rows that have live cells, from the top, each with the columns of its live cells
-abbrev pub rows_of : List (ℕ × ℕ) → List (ℕ × List ℕ)
-rows_of [] = []
-rows_of (c ∷ cells) = onto_rows c (rows_of cells)
+abbrev pub drawn_rows : List (ℕ × ℕ) → List (ℕ × List ℕ)
+drawn_rows [] = []
+drawn_rows (c ∷ cells) = onto_rows c (drawn_rows cells)
 
 -- the cells of a row from column 0 up to its last live cell: whether each is live
 abbrev pub row_values : List ℕ → List Bool
@@ -64,7 +64,7 @@ token_text (count, tag) = (if count == 1 then [] else decimal count) ++ tag ∷ 
 
 -- the lines of the body, of cells whose least column and row are 0
 abbrev pub body_text : List (ℕ × ℕ) → List ℕ
-body_text cells = filled_lines 0 (map token_text (tokens_of_rows (rows_of cells)))
+body_text cells = filled_lines 0 (map token_text (tokens_of_rows (drawn_rows cells)))
 
 -- the text of a rule and of the normal form of a set
 unfoldable pub rle_text : Rule → Generation → List ℕ

@@ -1,8 +1,9 @@
 //! The header line of RLE texts.
-ghost use Rattle.std.specs.Prelude.{◌≡◌, ◌<◌, ◌≤◌, ◌+◌, ◌∷◌, ◌++◌, ◌==◌, [], length, drop, take, codes};
+ghost use Rattle.std.specs.Prelude.{◌≡◌, ◌<◌, ◌≤◌, ◌+◌, ◌∷◌, ◌++◌, ◌==◌, [], IfSome, IsTrue, Some, length, drop, take, codes};
 ghost use Rattle.std.specs.List.{prefix_len, suffix_len, list_all};
 ghost use Rattle.std.specs.Option.{option_copied};
 ghost use Rattle.life_cells.specs.Bytes.{is_blank, is_digit, without_front, without_back, without_ends, after_one_of};
+ghost use Rattle.life_text.specs.Sizes.{after_number};
 ghost use Rattle.life_text.specs.Rle.{part, after_size, after_sizes, after_rule_name, rule_or_fault, named_rule, rule_behind, line_rule};
 
 use crate::bytes::{is_blank, is_digit};
@@ -59,22 +60,41 @@ fn part_byte<'a>(text: &'a [u8], byte: u8) -> Option<&'a [u8]>
     after_byte(skip_blanks(text), byte)
 }
 
+// What follows one or more digits.
+fn after_number(text: &[u8]) -> Option<&[u8]>
+    ensures { option_copied result ≡ after_number text.now }
+{
+    let count = count_digits(text);
+    if count == 0 {
+        return None;
+    }
+    Some(&text[count..])
+}
+
 // What follows one or more digits, before which blanks may stand.
 fn after_size(text: &[u8]) -> Option<&[u8]>
     ensures { option_copied result ≡ after_size text.now }
 {
-    let digits = skip_blanks(text);
-    let count = count_digits(digits);
-    if count == 0 {
-        return None;
-    }
-    Some(&digits[count..])
+    after_number(skip_blanks(text))
+}
+
+// What follows sizes that are written as this program writes them.
+fn after_written_sizes(line: &[u8]) -> Option<&[u8]>
+    ensures { IfSome result (λ rest. after_sizes line.now ≡ Some rest.now) }
+{
+    let width = line.strip_prefix(b"x = ")?;
+    let comma = after_number(width)?;
+    let height = comma.strip_prefix(b", y = ")?;
+    after_number(height)
 }
 
 /// What follows `x = W, y = H` at the start of a line. `None` where the line doesn't begin so.
 pub fn after_sizes(line: &[u8]) -> Option<&[u8]>
     ensures { option_copied result ≡ after_sizes line.now }
 {
+    if let Some(rest) = after_written_sizes(line) {
+        return Some(rest);
+    }
     let width_name = part_either(line, b'x', b'X')?;
     let width_equals = part_byte(width_name, b'=')?;
     let width = after_size(width_equals)?;
@@ -114,6 +134,13 @@ fn is_blanks(text: &[u8]) -> bool
     text.iter().all(|byte| is_blank(*byte))
 }
 
+// Whether what follows the sizes is what this program writes of Life.
+fn is_written_life(rest: &[u8]) -> bool
+    ensures { IsTrue result → rest.now ≡ codes ", rule = B3/S23" }
+{
+    rest == b", rule = B3/S23".as_slice()
+}
+
 /// The rule of a header line, or its fault.
 pub fn line_rule(line: &[u8]) -> Result<Rule, RleFault>
     ensures { result ≡ line_rule line.now }
@@ -124,7 +151,7 @@ pub fn line_rule(line: &[u8]) -> Result<Rule, RleFault>
     let Some(rest) = after_sizes(line) else {
         return Err(RleFault::BadHeader);
     };
-    if is_blanks(rest) {
+    if is_written_life(rest) || is_blanks(rest) {
         return Ok(Rule::life());
     }
     match after_rule_name(rest) {

@@ -4,6 +4,7 @@
 #![tactic(auto)]
 
 mod bytes;
+mod drawn;
 mod header;
 mod lines;
 mod pattern;

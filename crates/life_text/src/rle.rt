@@ -1,21 +1,24 @@
 //! RLE texts that are read.
 ghost use Rattle.std.specs.Prelude.{[], ◌+◌, ◌-◌, ◌<◌, ◌≡◌, ◌≢◌, ◌≤◌, IfErr, IfOk, IsOk, List, OnOk, drop, false, length, take};
 ghost use Rattle.std.specs.List.{after_first, before_first};
+ghost use Rattle.life_cells.specs.Readings.{Gives};
 ghost use Rattle.life_text.specs.Drawing.{drawing, drawing_of};
 ghost use Rattle.life_text.specs.Found.{token_found};
 ghost use Rattle.life_text.specs.Picture.{picture_of};
-ghost use Rattle.life_text.specs.Reader.{Gives, IsPlain, count_cap, cells_drawn, first_pen, is_line_feed, placed_all, plain_at, tokens_at};
+ghost use Rattle.life_text.specs.Reader.{IsPlain, count_cap, cells_drawn, first_pen, is_line_feed, placed_all, plain_at, tokens_at};
 ghost use Rattle.life_text.specs.Rising.{RisesFrom};
 ghost use Rattle.life_text.specs.Rle.{Token, cell_limit, cells_after, first_fault, header_rule, reading, refusal, token_fault};
 ghost use Rattle.life_text.specs.declared.rle.RleFault.TheVariants.{Memory};
 
+use crate::drawn::{draw_found, draw_tokens};
 use crate::header::line_rule;
 use crate::pattern::Pattern;
-use crate::pen::{Pen, advanced, is_too_far, is_too_many, push_span};
+use crate::pen::{Pen, is_too_far, is_too_many};
 use crate::token::{
     Found, is_bad_run, is_missing, is_no_tag, is_other_state, next_token, skip_spaces,
 };
 use life_cells::{CellList, Rule};
+use memchr::memchr;
 use std::alloc::{AllocError, Global};
 use thiserror::Error;
 
@@ -98,13 +101,16 @@ impl From<AllocError> for RleFault {
     }
 }
 
+// There is room for so many live cells from the start.
+const FIRST_CELLS: usize = 64;
+
 // The cells of the body that begins at a place, or its first fault.
 fn read_body(alloc: Global, text: &[u8], from: usize) -> Result<Vec<(i32, i32)>, RleFault>
     requires { from ≤ length text.now }
-    ensures { Gives (λ v. v.items) result
+    ensures { Gives Memory (λ v. v.items) result
         (placed_all (cells_drawn first_pen (tokens_at text.now from))) }
 {
-    let mut cells = Vec::new(alloc);
+    let mut cells = Vec::with_capacity(alloc, FIRST_CELLS)?;
     let mut pen = Pen {
         y: 0,
         x: 0,
@@ -112,19 +118,23 @@ fn read_body(alloc: Global, text: &[u8], from: usize) -> Result<Vec<(i32, i32)>,
     };
     let mut at = from;
     'tokens: loop {
-        let found = next_token(text, at);
-        if let Some(fault) = found_fault(&found, pen) {
-            return Err(fault);
-        }
-        let Some(tag) = found.tag else {
-            return Err(RleFault::NoEnd);
-        };
-        if tag == b'!' {
+        let (behind, place) = draw_tokens(&mut cells, text, at, pen)?;
+        if place < text.len() && text[place] == b'!' {
             return Ok(cells);
         }
-        push_span(&mut cells, pen.x, pen.y, &found)?;
-        pen = advanced(pen, &found);
-        at = found.tag_at + 1;
+        let found = next_token(text, place);
+        match draw_found(&mut cells, behind, &found)? {
+            Some(next) => {
+                pen = next;
+                at = found.tag_at + 1;
+            }
+            None => {
+                return match found_fault(&found, behind) {
+                    Some(fault) => Err(fault),
+                    None => Ok(cells),
+                };
+            }
+        }
     }
 }
 
@@ -149,16 +159,15 @@ pub fn line_end(text: &[u8], start: usize) -> usize
     ensures last { result ≡ length text.now →
         after_first is_line_feed (plain_at text.now start) ≡ plain_at text.now result }
 {
-    let mut next = start;
-    while next < text.len() && text[next] != b'\n' {
-        next += 1;
+    match memchr(b'\n', &text[start..]) {
+        Some(len) => start + len,
+        None => text.len(),
     }
-    next
 }
 
 // The pattern that an RLE text means, or its fault.
 fn read_text(alloc: Global, text: &[u8]) -> Result<Plot, RleFault>
-    ensures gives { Gives drawing result (drawing_of (reading text.now)) }
+    ensures gives { Gives Memory drawing result (drawing_of (reading text.now)) }
     ensures memory { IfErr result (λ fault. fault ≡ Memory → IsOk (header_rule text.now)) }
 {
     let start = skip_spaces(text, 0);

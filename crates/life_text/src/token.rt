@@ -1,5 +1,5 @@
 //! The tokens of RLE texts, as the reader finds them.
-ghost use Rattle.std.specs.Prelude.{◌&&◌, ◌+◌, ◌<◌, ◌≡◌, ◌≤◌, IfSome, false, length, min, not, true};
+ghost use Rattle.std.specs.Prelude.{◌&&◌, ◌+◌, ◌<◌, ◌==◌, ◌≡◌, ◌≤◌, IfSome, None, Some, false, length, min, not, slice_index, true};
 ghost use Rattle.std.specs.List.{prefix_len, take_while};
 ghost use Rattle.std.specs.Str.Parse.{digits_value};
 ghost use Rattle.life_cells.specs.Bytes.{is_digit, is_space, without_front};
@@ -41,6 +41,14 @@ fn stops(inside: bool, byte: u8) -> bool
     !inside && !is_space(byte)
 }
 
+// Whether a byte is neither blank nor LF and begins no comment.
+#[inline(always)]
+fn is_word(byte: u8) -> bool
+    ensures { result ≡ (not (is_space byte) && not (byte == 35)) }
+{
+    !is_space(byte) && byte != b'#'
+}
+
 /// The place of the first byte, from one on that is in no line of comment, that is neither blank nor LF nor in such a line.
 pub fn skip_spaces(text: &[u8], from: usize) -> usize
     requires { from ≤ length text.now }
@@ -50,6 +58,9 @@ pub fn skip_spaces(text: &[u8], from: usize) -> usize
     ensures rest { without_front is_space (plain_at text.now from) ≡ plain_at text.now result }
     ensures stops { result < length text.now → IsPlain text.now result }
 {
+    if from < text.len() && is_word(text[from]) {
+        return from;
+    }
     let mut comment = false;
     let mut before = if from == 0 { b'\n' } else { text[from - 1] };
     for at in from..text.len() {
@@ -83,6 +94,61 @@ fn read_count(text: &[u8], at: usize) -> (u32, usize)
     (value, next)
 }
 
+/// A tag without a count.
+#[inline(always)]
+pub fn tag_alone(at: usize, tag: u8) -> Found
+    ensures { result ≡ record { at = at; counted = false; times = 1; tag_at = at; tag = Some tag } }
+{
+    Found {
+        at,
+        counted: false,
+        times: 1,
+        tag_at: at,
+        tag: Some(tag),
+    }
+}
+
+// A count with no tag.
+fn count_alone(at: usize, times: u32) -> Found
+    ensures { result ≡ record { at = at; counted = true; times = times; tag_at = at; tag = None } }
+{
+    Found {
+        at,
+        counted: true,
+        times,
+        tag_at: at,
+        tag: None,
+    }
+}
+
+/// The token that begins with the digit at a place.
+#[inline(always)]
+pub fn counted_token(text: &[u8], at: usize) -> Found
+    requires within { at < length text.now }
+    requires digit { is_digit (slice_index text.now at) ≡ true }
+    ensures begins { BeginsWithToken text.now at result }
+    ensures tag_within { IfSome result.tag
+        (λ _. (at ≤ result.tag_at) × (result.tag_at < length text.now)) }
+    ensures counted { result.counted ≡ true }
+    ensures few { result.times ≤ count_cap }
+{
+    let (times, behind) = read_count(text, at);
+    let tag_at = skip_spaces(text, behind);
+    if tag_at == text.len() {
+        return count_alone(at, times);
+    }
+    if is_digit(text[tag_at]) {
+        return count_alone(at, times);
+    }
+    Found {
+        at,
+        counted: true,
+        times,
+        tag_at,
+        tag: Some(text[tag_at]),
+    }
+}
+
 /// The first token from a place on.
 pub fn next_token(text: &[u8], from: usize) -> Found
     requires { from ≤ length text.now }
@@ -102,42 +168,10 @@ pub fn next_token(text: &[u8], from: usize) -> Found
             tag: None,
         };
     }
-    if !is_digit(text[at]) {
-        return Found {
-            at,
-            counted: false,
-            times: 1,
-            tag_at: at,
-            tag: Some(text[at]),
-        };
+    if is_digit(text[at]) {
+        return counted_token(text, at);
     }
-    let (times, behind) = read_count(text, at);
-    let tag_at = skip_spaces(text, behind);
-    if tag_at == text.len() {
-        return Found {
-            at,
-            counted: true,
-            times,
-            tag_at: at,
-            tag: None,
-        };
-    }
-    if is_digit(text[tag_at]) {
-        return Found {
-            at,
-            counted: true,
-            times,
-            tag_at: at,
-            tag: None,
-        };
-    }
-    Found {
-        at,
-        counted: true,
-        times,
-        tag_at,
-        tag: Some(text[tag_at]),
-    }
+    tag_alone(at, text[at])
 }
 
 /// Whether its tag is that of live cells.

@@ -13,9 +13,9 @@ loop-step-preserved c =
     c.in_ok-push.ensures.items ∙ ap (λ (cs : List (ℤ × ℤ)). cs ++ c.cell.result ∷ []) c.loop-step.invariant ∙ ap (λ (p : ℤ × ℤ). (old ++ drawn) ++ p ∷ []) c.cell.ensures
     ∙ append_assoc old drawn ((pos (x + step), pos y) ∷ []) ∙ ap (λ (cs : List (ℤ × ℤ)). old ++ cs) (sym (cells_more x step y))
 
-pub returns-after-loop-step : goal.returns-after-loop-step
-returns-after-loop-step c =
+pub returns : goal.returns
+returns c =
     let all : c.loop-step.step ≡ c.args.found.now.times = omega arith in
     c.loop-step.invariant
     ∙ ap (λ n. c.args.cells.now.items ++ map {B = ℤ × ℤ} (λ k. (pos k, pos c.args.y)) (range_with_len c.args.x n)) all
-    ∙ ap (λ (cs : List (ℤ × ℤ)). c.args.cells.now.items ++ cs) (sym (placed_span c.args.y c.args.x c.args.found.now c.requires.once (sym c.is_live.ensures ∙ c.if-is_live.true)))
+    ∙ ap (λ (cs : List (ℤ × ℤ)). c.args.cells.now.items ++ cs) (sym (placed_span c.args.y c.args.x c.args.found.now c.requires.once c.requires.live))

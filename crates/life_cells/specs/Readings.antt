@@ -1,0 +1,18 @@
+-- What reading a text gives, whatever its faults.
+use Rattle.std.specs.Prelude.{◌≡◌, ◌≢◌, List, ◌++◌, Option, Some, None, Result, Ok, Err}
+use Rattle.life_model.specs.Cell.{Cell}
+
+-- what was read, or the fault where there is one
+abbrev pub unless_refused : {X F : Type 0} → Option F → X → Result X F
+unless_refused None x = Ok x
+unless_refused (Some fault) x = Err fault
+
+-- what was read, with cells before its own
+abbrev pub with_prefix : {F : Type 0} → List Cell → Result (List Cell) F → Result (List Cell) F
+with_prefix prefix (Ok cells) = Ok (prefix ++ cells)
+with_prefix prefix (Err fault) = Err fault
+
+-- what was returned, seen by view, is what reading gives, unless the fault is that memory ran out
+abbrev pub Gives : {X Y F : Type 0} → F → (X → Y) → Result X F → Result Y F → Type 0
+Gives memory view (Ok x) read = read ≡ Ok (view x)
+Gives memory view (Err fault) read = fault ≢ memory → read ≡ Err fault
