@@ -6,6 +6,5 @@ pub mod Rises
 pub mod Edges
 pub mod Alone
 pub mod EndCells
-pub mod Lowest
 pub mod Shifts
 pub mod Columns

@@ -1,5 +1,5 @@
 -- Cells put into a square one after another.
-use Rattle.std.proofs.Common.{◌≡◌, ◌≢◌, ℕ, ℤ, pos, ◌+ℤ◌, ◌<◌, ⊎_elim, ◌⊎◌, inl, inr, Bool, true, false, ◌||◌, [], refl, sym, subst, ap, ◌∙◌, ◌≤◌, List, slice_index, arith}
+use Rattle.std.proofs.Common.{◌≡◌, ◌≢◌, ℕ, ℤ, pos, ◌+ℤ◌, ◌<◌, ⊎_elim, ◌⊎◌, inl, inr, Bool, true, false, ◌||◌, [], refl, sym, subst, ap, ◌∙◌, ◌≤◌, ◌+◌, min, max, List, slice_index, arith}
 use Rattle.std.proofs.lemmas.Bool.{cases_eq}
 use Rattle.life_model.specs.Cell.{Cell, same_cell}
 use Rattle.life_model.specs.Generation.{Generation, contains, empty, from_list, insert}
@@ -102,15 +102,18 @@ within_put G H c age is here before q live =
     ⊎_elim (λ (same : q ≡ c). subst (IsWithin age) (sym same) here) (λ (old : contains G q ≡ true). before q old)
     (inserted_cases G c q (sym (ap (λ (K : Generation). contains K q) is) ∙ live))
 
--- no row outside the range changes where one in it does
-pub void_put : (before after : List ℕ) (first end y : ℕ) → IsVoidOutside before first end → first ≤ y → y < end → ((k : ℕ) → k ≢ y → slice_index after k ≡ slice_index before k) →
-    IsVoidOutside after first end
-void_put before after first end y void from to others = record {
-  order = void.order;
-  inside = void.inside;
-  above = λ k less. (let apart : k ≢ y = omega arith in others k apart ∙ void.above k less);
-  below = λ k past small. (let apart : k ≢ y = omega arith in others k apart ∙ void.below k past small);
-}
+-- the range of the rows that have a live cell, with one row more
+pub void_widened : (before after : List ℕ) (first end low high y : ℕ) → IsVoidOutside before first end → y < 64 → low ≡ min first y → high ≡ max end (y + 1) →
+    ((k : ℕ) → k ≢ y → slice_index after k ≡ slice_index before k) → IsVoidOutside after low high
+void_widened before after first end low high y void small low_is high_is others =
+    let order = void.order in
+    let inside = void.inside in
+    record {
+      order = omega arith;
+      inside = omega arith;
+      above = λ k less. (let apart : k ≢ y = omega arith in others k apart ∙ void.above k (let before : k < first = omega arith in before));
+      below = λ k past small. (let apart : k ≢ y = omega arith in others k apart ∙ void.below k (let behind : end ≤ k = omega arith in behind) small);
+    }
 
 pub void_none : (first end : ℕ) → first ≤ end → end ≤ 64 → IsVoidOutside empty_tile.rows first end
 void_none first end order inside = record { order = order; inside = inside; above = λ k less. empty_row k; below = λ k past small. empty_row k }

@@ -19,6 +19,6 @@ IsKind (Small square) = squares.IsSquare square
 IsKind (Large plane) = All (IsWithin plane.1) (cells plane.0)
 
 -- the next generation of a square has no cell outside it
-abbrev pub HasRoom : Kind → Type 0
-HasRoom (Small square) = squares.HasRoom square
-HasRoom (Large plane) = Unit {0}
+abbrev pub StaysInSquare : Kind → Type 0
+StaysInSquare (Small square) = squares.StaysInSquare square
+StaysInSquare (Large plane) = Unit {0}

@@ -9,6 +9,7 @@ use Rattle.life_bits.specs.Area.{Nine, tile_cell}
 use Rattle.life_slots.specs.Cells.{block_cells}
 use Rattle.life_slots.specs.Slots.{empty_tile}
 use Rattle.life_slots.specs.Ends.{HasEnds, IsMember}
+use Rattle.life_board.specs.Limits.{corner_limit}
 use Rattle.life_board.specs.declared.small.Square.{Square}
 
 -- the cells of the 64 rows of a tile whose first cell is at (left, top)
@@ -20,10 +21,10 @@ members_of square = shown square.left square.top square.tile
 
 -- a place far from the ends of the numbers of 32 bits
 pub record IsFarFromEnds (left top : ℤ) : Type 0 where
-  pub west : negsuc 100000000 ≤ℤ left
-  pub east : left ≤ℤ pos 100000000
-  pub north : negsuc 100000000 ≤ℤ top
-  pub south : top ≤ℤ pos 100000000
+  pub west : negsuc corner_limit ≤ℤ left
+  pub east : left ≤ℤ pos corner_limit
+  pub north : negsuc corner_limit ≤ℤ top
+  pub south : top ≤ℤ pos corner_limit
 
 -- no row outside a range has a live cell
 pub record IsVoidOutside (rows : List ℕ) (first end : ℕ) : Type 0 where
@@ -81,15 +82,10 @@ around_in a b c x =
     + bit_at c (x + 63) + bit_at c (x + 64) + bit_at c (x + 65)
 
 -- the next generation of a square has no cell outside it
-pub record HasRoom (square : Square) : Type 0 where
+pub record StaysInSquare (square : Square) : Type 0 where
   pub above : 0 < square.first
   pub below : square.end ≤ 62
   pub inner : IsInner square.tile
-
--- cells that are not too near to the edge of a square may be put into it
-pub record IsOpenSquare (square : Square) : Type 0 where
-  pub first : square.first ≡ 8
-  pub end : square.end ≡ 56
 
 -- no cell is in a set
 abbrev pub HasNoMember : Generation → Type 0

@@ -36,12 +36,14 @@ impl Plane for Board {
     ghost steps_made = { λ p. p.1 };
 
     fn from_cells(alloc: Global, list: &CellList) -> Result<Self, AllocError> {
-        let kind = Kind::of(alloc, list, 0)?;
+        let mut kind = Kind::around(alloc, list, 0);
+        kind.fill(alloc, list, 0)?;
         Ok(Board { kind })
     }
 
     fn at_age(alloc: Global, list: &CellList, age: u32) -> Result<Self, AllocError> {
-        let kind = Kind::of(alloc, list, age)?;
+        let mut kind = Kind::around(alloc, list, age);
+        kind.fill(alloc, list, age)?;
         Ok(Board { kind })
     }
 

@@ -7,16 +7,18 @@ ghost use Rattle.life_cells.specs.Limits.{IsPlace};
 ghost use Rattle.life_slots.specs.Ends.{IsMember};
 ghost use Rattle.life_tile.specs.Reach.{IsInReach, IsRowIn};
 ghost use Rattle.life_slots.specs.Cells.{state_at};
+ghost use Rattle.life_slots.specs.Limits.{reach_limit};
+ghost use Rattle.life_board.specs.Limits.{corner_limit};
 ghost use Rattle.life_board.specs.Squares.{members_of, IsSquare, IsFarFromEnds};
 
 use crate::small::Square;
 
 /// Which of the 64 columns from a column on this one is. The same for rows.
 fn index_from(z: i32, from: i32) -> Option<usize>
-    requires west { negsuc 1000000000 ≤ℤ z }
-    requires east { z ≤ℤ pos 1000000000 }
-    requires from_west { negsuc 100000000 ≤ℤ from }
-    requires from_east { from ≤ℤ pos 100000000 }
+    requires west { negsuc reach_limit ≤ℤ z }
+    requires east { z ≤ℤ pos reach_limit }
+    requires from_west { negsuc corner_limit ≤ℤ from }
+    requires from_east { from ≤ℤ pos corner_limit }
     ensures inside { IfSome result (λ n. n < 64) }
     ensures is { IfSome result (λ n. z ≡ (from +ℤ pos n)) }
     ensures outside { IfNone result ((n : ℕ) → n < 64 → z ≢ (from +ℤ pos n)) }

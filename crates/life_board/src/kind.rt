@@ -1,12 +1,12 @@
 //! A pattern in one square or in many tiles.
-ghost use Rattle.std.specs.Prelude.{◌≡◌, ◌+◌, ◌<◌, ◌≤◌, All, IfNone, IfOk, IfSome, OnOk, OnErr};
+ghost use Rattle.std.specs.Prelude.{◌≡◌, ◌+◌, ◌<◌, ◌≤◌, All, IfNone, IfOk, IfSome, OnOk, OnErr, []};
 ghost use Rattle.life_model.specs.Evolution.{next};
-ghost use Rattle.life_model.specs.Generation.{size};
+ghost use Rattle.life_model.specs.Generation.{from_list, size};
 ghost use Rattle.life_model.specs.Generation as generation;
 ghost use Rattle.life_cells.specs.Limits.{IsWithin, age_limit};
 ghost use Rattle.life_plane.specs.Span.{set_span};
 ghost use Rattle.life_plane.specs.Offsets.{AreNotTranslates, IsOffset};
-ghost use Rattle.life_board.specs.Kinds.{age_of, members_of, HasRoom, IsKind};
+ghost use Rattle.life_board.specs.Kinds.{age_of, members_of, StaysInSquare, IsKind};
 ghost use Rattle.life_board.specs.Squares as squares;
 
 use crate::offset::{offset_from, offset_from_square};
@@ -34,34 +34,50 @@ fn as_tiles(square: &Square) -> Result<TilePlane, AllocError>
     TilePlane::at_age(square.alloc, &square.cells()?, square.age)
 }
 
-/// The cells of a list at some age as tiles.
-///
-/// It stands apart in the program too: within `Kind::of` each square would first make room for tiles.
-#[inline(never)]
-fn tiles_of(alloc: Global, list: &CellList, age: u32) -> Result<Kind, AllocError>
-    requires age { age ≤ age_limit }
-    requires within { All (IsWithin age) (generation.cells list.now) }
-    ensures kept { IfOk result IsKind }
-    ensures cells { IfOk result (λ kind. members_of kind ≡ list.now) }
-    ensures age { IfOk result (λ kind. age_of kind ≡ age) }
-{
-    Ok(Kind::Large(TilePlane::at_age(alloc, list, age)?))
-}
-
 impl Kind {
-    /// The cells of a list at some age.
-    pub fn of(alloc: Global, list: &CellList, age: u32) -> Result<Kind, AllocError>
+    /// A square without a live cell that has those of a list in its middle, where it is large enough.
+    pub fn around(alloc: Global, list: &CellList, age: u32) -> Kind
+        requires { age ≤ age_limit }
+        ensures kept { IsKind result }
+        ensures empty { members_of result ≡ from_list [] }
+        ensures age { age_of result ≡ age }
+    {
+        let (left, top) = corner_around(list.as_slice());
+        Kind::Small(Square::empty(alloc, left, top, age))
+    }
+
+    /// Puts the cells of a list into a square without a live cell, or into tiles where one is too near to its edge.
+    pub fn fill(&mut self, alloc: Global, list: &CellList, age: u32) -> Result<(), AllocError>
+        requires kept { IsKind self.old }
+        requires empty { members_of self.old ≡ from_list [] }
+        requires same_age { age_of self.old ≡ age }
         requires age { age ≤ age_limit }
         requires within { All (IsWithin age) (generation.cells list.now) }
-        ensures kept { IfOk result IsKind }
-        ensures cells { IfOk result (λ kind. members_of kind ≡ list.now) }
-        ensures age { IfOk result (λ kind. age_of kind ≡ age) }
+        ensures kept { OnOk result (IsKind self.new) }
+        ensures cells { OnOk result (members_of self.new ≡ list.now) }
+        ensures age { OnOk result (age_of self.new ≡ age) }
     {
-        let cells = list.as_slice();
-        match Square::of(alloc, cells, corner_around(cells), age) {
-            Some(square) => Ok(Kind::Small(square)),
-            None => tiles_of(alloc, list, age),
+        if let Kind::Small(square) = self {
+            if let Some(()) = square.put_all(list.as_slice()) {
+                return Ok(());
+            }
         }
+        self.fill_tiles(alloc, list, age)
+    }
+
+    /// Puts the cells of a list into tiles, whatever it held.
+    ///
+    /// It stands apart in the program too: within `fill` each square would first make room for tiles.
+    #[inline(never)]
+    fn fill_tiles(&mut self, alloc: Global, list: &CellList, age: u32) -> Result<(), AllocError>
+        requires age { age ≤ age_limit }
+        requires within { All (IsWithin age) (generation.cells list.now) }
+        ensures kept { OnOk result (IsKind self.new) }
+        ensures cells { OnOk result (members_of self.new ≡ list.now) }
+        ensures age { OnOk result (age_of self.new ≡ age) }
+    {
+        *self = Kind::Large(TilePlane::at_age(alloc, list, age)?);
+        Ok(())
     }
 
     /// Keeps the cells in tiles from now on.
@@ -73,7 +89,7 @@ impl Kind {
         ensures kept { IsKind self.new }
         ensures cells { members_of self.new ≡ members_of self.old }
         ensures age { age_of self.new ≡ age_of self.old }
-        ensures room { OnOk result (HasRoom self.new) }
+        ensures room { OnOk result (StaysInSquare self.new) }
     {
         if let Kind::Small(square) = self {
             *self = Kind::Large(as_tiles(square)?);
@@ -87,7 +103,7 @@ impl Kind {
         ensures kept { IsKind self.new }
         ensures cells { members_of self.new ≡ members_of self.old }
         ensures age { age_of self.new ≡ age_of self.old }
-        ensures room { OnOk result (HasRoom self.new) }
+        ensures room { OnOk result (StaysInSquare self.new) }
     {
         if let Kind::Small(square) = self {
             if square.is_full() {

@@ -7,7 +7,6 @@ mod board;
 mod covering;
 mod ends;
 mod kind;
-mod listing;
 mod offset;
 mod placing;
 mod rows;

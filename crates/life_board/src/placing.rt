@@ -2,6 +2,7 @@
 ghost use Rattle.std.specs.Prelude.{pos, negsuc, ◌≤ℤ◌, All};
 ghost use Rattle.life_cells.specs.Limits.{IsPlace};
 ghost use Rattle.life_board.specs.Squares.{IsFarFromEnds, IsRange};
+ghost use Rattle.life_board.specs.Limits.{corner_limit};
 
 /// The range with one number more.
 fn widened(range: (i32, i32), number: i32) -> (i32, i32)
@@ -19,13 +20,14 @@ fn widened(range: (i32, i32), number: i32) -> (i32, i32)
 /// The first of 64 columns that have this range in their middle, where they are wide enough. The same for rows.
 fn start_around(range: (i32, i32)) -> i32
     requires { IsRange range }
-    ensures from { negsuc 100000000 ≤ℤ result }
-    ensures to { result ≤ℤ pos 100000000 }
+    ensures from { negsuc corner_limit ≤ℤ result }
+    ensures to { result ≤ℤ pos corner_limit }
 {
     (range.0 + range.1).div_euclid(2) - 32
 }
 
-/// The corner of a square of 64 by 64 cells that has these cells in its middle, where it is large enough.
+/// The corner of a square of 64 by 64 cells that has these cells, which are in order, in its middle, where it is large
+/// enough.
 pub fn corner_around(cells: &[(i32, i32)]) -> (i32, i32)
     requires { All IsPlace cells.now }
     ensures { IsFarFromEnds result.0 result.1 }
@@ -34,10 +36,9 @@ pub fn corner_around(cells: &[(i32, i32)]) -> (i32, i32)
         return (0, 0);
     }
     let mut columns = (cells[0].0, cells[0].0);
-    let mut rows = (cells[0].1, cells[0].1);
     for cell in cells {
         columns = widened(columns, cell.0);
-        rows = widened(rows, cell.1);
     }
+    let rows = (cells[0].1, cells[cells.len() - 1].1);
     (start_around(columns), start_around(rows))
 }

@@ -6,15 +6,15 @@ ghost use Rattle.life_bits.specs.Area.{tile_cell};
 ghost use Rattle.life_cells.specs.Limits.{IsWithin, age_limit};
 ghost use Rattle.life_plane.specs.Span.{set_span};
 ghost use Rattle.life_slots.specs.Cells.{block_cells, row_cells};
-ghost use Rattle.life_board.specs.Squares.{members_of, AreColumnsOf, AreEnds, HasNoMember, HasRoom, IsInner, IsSquare, IsOpenSquare, IsFarFromEnds, IsVoidOutside};
+ghost use Rattle.life_board.specs.Squares.{members_of, AreColumnsOf, AreEnds, HasNoMember, StaysInSquare, IsInner, IsSquare, IsFarFromEnds, IsVoidOutside};
+ghost use Rattle.life_board.specs.Limits.{corner_limit};
 
 use crate::ends::{first_in, last_in};
-use crate::listing::push_row;
 use crate::rows::{advance, end_of_rows, first_row};
 use life_bits::Tile;
 use life_cells::{CellList, Rule};
 use life_plane::move_between;
-use life_slots::Rim;
+use life_slots::{Rim, push_row};
 use std::alloc::{AllocError, Global};
 
 /// A list of so few cells is made without growing.
@@ -22,6 +22,9 @@ const FEW: usize = 64;
 
 /// A cell that is put into a square is at least so far from its edge.
 const MARGIN: i32 = 8;
+
+/// The row around which cells are put into a square.
+const MIDDLE: usize = 32;
 
 /// 64 by 64 cells at a place, and how many steps they have made. All other cells are dead.
 #[derive(Clone, Copy)]
@@ -92,10 +95,10 @@ fn make_live(tile: &mut Tile, x: usize, y: usize)
 
 /// Which of the 64 columns from a column on this one is, where it is not too near to the first or the last. The same for rows.
 fn column_of(z: i32, from: i32) -> Option<usize>
-    requires west { negsuc 100000000 ≤ℤ z }
-    requires east { z ≤ℤ pos 100000000 }
-    requires from_west { negsuc 100000000 ≤ℤ from }
-    requires from_east { from ≤ℤ pos 100000000 }
+    requires west { negsuc corner_limit ≤ℤ z }
+    requires east { z ≤ℤ pos corner_limit }
+    requires from_west { negsuc corner_limit ≤ℤ from }
+    requires from_east { from ≤ℤ pos corner_limit }
     ensures first { IfSome result (λ n. 8 ≤ n) }
     ensures last { IfSome result (λ n. n < 56) }
     ensures is { IfSome result (λ n. z ≡ (from +ℤ pos n)) }
@@ -110,11 +113,10 @@ fn column_of(z: i32, from: i32) -> Option<usize>
 
 impl Square {
     /// The square without a live cell.
-    fn empty(alloc: Global, left: i32, top: i32, age: u32) -> Square
+    pub fn empty(alloc: Global, left: i32, top: i32, age: u32) -> Square
         requires place { IsFarFromEnds left top }
         requires young { age ≤ age_limit }
         ensures kept { IsSquare result }
-        ensures free { IsOpenSquare result }
         ensures members { members_of result ≡ from_list [] }
         ensures age { result.age ≡ age }
     {
@@ -123,8 +125,8 @@ impl Square {
             tile: Tile::EMPTY,
             left,
             top,
-            first: MARGIN as usize,
-            end: 64 - MARGIN as usize,
+            first: MIDDLE,
+            end: MIDDLE,
             columns: 0,
             age,
         }
@@ -134,35 +136,33 @@ impl Square {
     fn put(&mut self, cell: (i32, i32)) -> Option<()>
         requires kept { IsSquare self.old }
         requires within { IsWithin self.old.age cell }
-        requires free { IsOpenSquare self.old }
         ensures kept { IfSome result (λ _. IsSquare self.new) }
-        ensures free { IsOpenSquare self.new }
         ensures members { IfSome result
             (λ _. members_of self.new ≡ insert (members_of self.old) cell) }
         ensures age { self.new.age ≡ self.old.age }
     {
         let x = column_of(cell.0, self.left)?;
         let y = column_of(cell.1, self.top)?;
+        self.first = self.first.min(y);
+        self.end = self.end.max(y + 1);
         self.columns |= 1 << x;
         make_live(&mut self.tile, x, y);
         Some(())
     }
 
-    /// The square of these cells, whose corner is this, where none of them is too near to its edge.
-    pub fn of(alloc: Global, cells: &[(i32, i32)], corner: (i32, i32), age: u32) -> Option<Square>
-        requires place { IsFarFromEnds corner.0 corner.1 }
-        requires young { age ≤ age_limit }
-        requires within { All (IsWithin age) cells.now }
-        ensures kept { IfSome result IsSquare }
-        ensures members { IfSome result (λ square. members_of square ≡ from_list cells.now) }
-        ensures age { IfSome result (λ square. square.age ≡ age) }
+    /// Makes cells live in a square without a live cell, where none of them is too near to its edge.
+    pub fn put_all(&mut self, cells: &[(i32, i32)]) -> Option<()>
+        requires kept { IsSquare self.old }
+        requires empty { members_of self.old ≡ from_list [] }
+        requires within { All (IsWithin self.old.age) cells.now }
+        ensures kept { IfSome result (λ _. IsSquare self.new) }
+        ensures members { IfSome result (λ _. members_of self.new ≡ from_list cells.now) }
+        ensures age { IfSome result (λ _. self.new.age ≡ self.old.age) }
     {
-        let mut square = Square::empty(alloc, corner.0, corner.1, age);
         for cell in cells {
-            square.put(*cell)?;
+            self.put(*cell)?;
         }
-        square.shrink();
-        Some(square)
+        Some(())
     }
 
     /// Leaves out rows without a live cell.
@@ -179,7 +179,7 @@ impl Square {
     /// Whether the next generation may have a cell outside the square.
     pub fn is_full(&self) -> bool
         requires { IsSquare self.now }
-        ensures { result ≡ false → HasRoom self.now }
+        ensures { result ≡ false → StaysInSquare self.now }
     {
         self.first == 0 || self.end > 62 || is_at_edge(&self.tile, self.columns)
     }
@@ -187,7 +187,7 @@ impl Square {
     /// Makes the next generation.
     pub fn advance(&mut self, rule: &Rule)
         requires kept { IsSquare self.old }
-        requires room { HasRoom self.old }
+        requires room { StaysInSquare self.old }
         requires young { self.old.age < age_limit }
         ensures kept { IsSquare self.new }
         ensures members { members_of self.new ≡ next rule.now (members_of self.old) }

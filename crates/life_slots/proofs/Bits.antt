@@ -1,5 +1,5 @@
 -- Bits of a byte.
-use Rattle.std.proofs.Common.{◌≡◌, ◌≢◌, ℕ, ◌+◌, ◌-◌, ◌*◌, ◌/◌, ◌%◌, ◌^◌, ◌<◌, ◌≤◌, ◌⊎◌, inl, inr, ⊎_elim, w32, w64, refl, sym, ap, ◌∙◌, arith}
+use Rattle.std.proofs.Common.{◌≡◌, ◌≢◌, ℕ, ◌+◌, ◌-◌, ◌*◌, ◌/◌, ◌%◌, ◌^◌, ◌<◌, ◌≤◌, ◌⊎◌, inl, inr, ⊎_elim, w32, sym, ap, ◌∙◌, arith}
 use Rattle.std.specs.Int.{bit_at, trailing_zeros}
 use Rattle.std.proofs.lemmas.Bool.{cases_eq, cases_lt}
 use Rattle.std.proofs.lemmas.Nat.{pow_pos}
@@ -59,25 +59,3 @@ bit_at_moved n at w k inside =
     ∙ ap (λ v. bit_at v (at + k)) none
     ∙ bit_at_cat_high n at 0 (at + k) (pow_pos at) (omega arith)
     ∙ ap (bit_at n) back
-
-pub record FirstOfWord (n b i : ℕ) : Type 0 where
-  pub small : i < 64
-  pub set_bit : bit_at n i ≡ 1
-  pub between : (k : ℕ) → b ≤ k → k < i → bit_at n k ≡ 0
-
--- the first bit of a word from bit b on
-pub first_of_word : (n b : ℕ) → n < 2 ^ 64 → (n / 2 ^ b ≡ 0 → ⊥) → FirstOfWord n b (b + trailing_zeros w64 (n / 2 ^ b))
-first_of_word n b fits some =
-    let less : n / 2 ^ b ≤ n = omega arith in
-    let first = bit_at-trailing_zeros w64 (n / 2 ^ b) (omega arith) (omega arith) in
-    let is_set : bit_at n (b + trailing_zeros w64 (n / 2 ^ b)) ≡ 1 =
-    sym (bit_at_rest n b (trailing_zeros w64 (n / 2 ^ b))) ∙ first.1 in
-    record {
-      small =
-          ⊎_elim (λ (inside : b + trailing_zeros w64 (n / 2 ^ b) < 64). inside)
-          (λ (past : 64 ≤ b + trailing_zeros w64 (n / 2 ^ b)).
-          let never : 1 ≡ 0 = sym is_set ∙ bit_at_above n 64 (b + trailing_zeros w64 (n / 2 ^ b)) fits past in absurd (omega arith))
-          (cases_lt (b + trailing_zeros w64 (n / 2 ^ b)) 64);
-      set_bit = is_set;
-      between = λ k from before. bit_from n n b k refl from ∙ first.2 (k - b) (omega arith);
-    }

@@ -20,3 +20,4 @@ pub mod Seated
 pub mod Sizes
 pub mod EndBits
 pub mod EndCells
+pub mod Lowest

@@ -11,6 +11,7 @@ use Rattle.life_model.specs.Cell.{Cell, same_cell}
 use Rattle.life_model.proofs.Tests.{list_any-alike, list_any-or, list_any-reverse}
 use Rattle.life_bits.specs.declared.tile.Tile.{Tile}
 use Rattle.life_slots.specs.Cells.{row_cells, block_cells, tiles_cells}
+use Rattle.life_slots.specs.Limits.{tile_limit}
 use Rattle.life_slots.specs.Places.{start_at, IsInside}
 use Rattle.life_slots.specs.Seats.{has_line, has_rows, has_tile, IsBetween}
 use Rattle.life_slots.specs.Ends.{IsVoid}
@@ -164,13 +165,13 @@ seats_joined p seats from to later =
 
 -- ---- places in 32 bits and out of them
 
-pub placed_left : (z at : ℤ) → negsuc 10000000 ≤ℤ z → z ≤ℤ pos 10000000 → at ≡ start_at (to_z w32 (of_z w32 z)) → to_z w32 (of_z w32 at) ≡ start_at z
+pub placed_left : (z at : ℤ) → negsuc tile_limit ≤ℤ z → z ≤ℤ pos tile_limit → at ≡ start_at (to_z w32 (of_z w32 z)) → to_z w32 (of_z w32 at) ≡ start_at z
 placed_left z at low high is =
     let same : to_z w32 (of_z w32 z) ≡ z = omega (arith, ints) in
     let at_is : at ≡ start_at z = is ∙ ap start_at same in
     omega (arith, ints, at_is)
 
-pub placed_top : (z at : ℤ) (y : ℕ) → negsuc 10000000 ≤ℤ z → z ≤ℤ pos 10000000 → y < 64 → at ≡ start_at (to_z w32 (of_z w32 z)) →
+pub placed_top : (z at : ℤ) (y : ℕ) → negsuc tile_limit ≤ℤ z → z ≤ℤ pos tile_limit → y < 64 → at ≡ start_at (to_z w32 (of_z w32 z)) →
     to_z w32 (of_z w32 (to_z w32 (of_z w32 at) +ℤ to_z w32 y)) ≡ (start_at z +ℤ pos y)
 placed_top z at y low high small is =
     let first : to_z w32 (of_z w32 at) ≡ start_at z = placed_left z at low high is in

@@ -2,6 +2,7 @@
 use Rattle.std.specs.Prelude.{ℤ, pos, negsuc, ◌+ℤ◌, ◌-ℤ◌, ◌*ℤ◌, ◌≤ℤ◌}
 use Rattle.std.specs.Ordering.{int_cmp, ordering_then}
 use Rattle.std.specs.declared.cmp.Ordering.{Ordering}
+use Rattle.life_slots.specs.Limits.{tile_limit}
 
 -- the order of the places of tiles, a column and a row
 abbrev pub place_cmp : ℤ × ℤ → ℤ × ℤ → Ordering
@@ -9,10 +10,10 @@ place_cmp a b = ordering_then (int_cmp a.0 b.0) (int_cmp a.1 b.1)
 
 -- a place whose neighbours are numbers of 32 bits, by far
 pub record IsInside (place : ℤ × ℤ) : Type 0 where
-  pub west : negsuc 10000000 ≤ℤ place.0
-  pub east : place.0 ≤ℤ pos 10000000
-  pub north : negsuc 10000000 ≤ℤ place.1
-  pub south : place.1 ≤ℤ pos 10000000
+  pub west : negsuc tile_limit ≤ℤ place.0
+  pub east : place.0 ≤ℤ pos tile_limit
+  pub north : negsuc tile_limit ≤ℤ place.1
+  pub south : place.1 ≤ℤ pos tile_limit
 
 -- The first of the columns of the tiles in a column, or of the rows of those in a row. The tiles stand off by 26 to the north
 -- west, so that a pattern of up to 38 cells a side that is read at (0, 0) lies in one tile.

@@ -1,5 +1,6 @@
 //! Where the tiles stand among the cells.
 ghost use Rattle.std.specs.Prelude.{◌≡◌, pos, ◌+ℤ◌, ◌<◌, ◌≤ℤ◌};
+ghost use Rattle.life_slots.specs.Limits.{reach_limit};
 ghost use Rattle.life_slots.specs.Places.{start_at, IsInside};
 
 /// By how much the tiles stand off to the north west, so that a pattern of up to 38 cells a side that is read at `(0, 0)` lies in
@@ -8,7 +9,7 @@ const STAND_OFF: i32 = 26;
 
 /// In which column of tiles a column of cells is, and which of its 64 it is. The same for rows.
 pub fn split(z: i32) -> (i32, usize)
-    requires { z ≤ℤ pos 1000000000 }
+    requires { z ≤ℤ pos reach_limit }
     ensures small { result.1 < 64 }
     ensures is { z ≡ (start_at result.0 +ℤ pos result.1) }
 {

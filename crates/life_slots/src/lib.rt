@@ -20,7 +20,7 @@ pub use bands::Bands;
 pub use counting::{count_cells, count_tile};
 pub use ends::{Ends, ends_of, is_before, is_void};
 pub use grid::{corner_of, split};
-pub use listing::{next_bit, push_row, push_seats, tile_in};
+pub use listing::{push_row, push_seats, tile_in};
 pub use rim::Rim;
 pub use seats::{Seat, seats_by_rows};
 pub use slot::{CENTRE, Slot, connect, links_around, neighbour, slot_or_none, with_link};

@@ -1,9 +1,9 @@
 //! The cells of tiles as a list.
 ghost use Rattle.std.specs.Prelude.{◌≡◌, ℕ, ◌+◌, ◌<◌, ◌≤◌, ℤ, ◌≤ℤ◌, pos, negsuc, ◌||◌, All, OnOk, length, reverse, ◌++◌};
-ghost use Rattle.std.specs.Int.{bit_at};
 ghost use Rattle.std.specs.List.{list_any};
 ghost use Rattle.life_model.specs.Cell.{Cell, same_cell};
 ghost use Rattle.life_slots.specs.Cells.{row_cells};
+ghost use Rattle.life_slots.specs.Limits.{reach_limit};
 ghost use Rattle.life_slots.specs.Seats.{has_line, has_rows, has_tile, IsBetween, IsSeat};
 ghost use Rattle.life_slots.specs.Slots.{tile_of};
 
@@ -12,36 +12,18 @@ use crate::seats::{Seat, end_of_row};
 use life_bits::{Tile, end_of_eights, first_eight};
 use std::alloc::AllocError;
 
-/// The first bit of a word that is set, from a bit on; 64 where none is.
-pub fn next_bit(word: u64, from: usize) -> usize
-    requires { from ≤ 64 }
-    ensures small { result ≤ 64 }
-    ensures from { from ≤ result }
-    ensures set { result < 64 → bit_at word result ≡ 1 }
-    ensures between { (j : ℕ) → from ≤ j → j < result → bit_at word j ≡ 0 }
-{
-    if from >= 64 {
-        return 64;
-    }
-    let rest = word >> from;
-    if rest == 0 {
-        64
-    } else {
-        from + rest.trailing_zeros() as usize
-    }
-}
-
 /// Appends the live cells of a row from west to east. Bit 0 of the word is the cell at `(left, y)`.
 pub fn push_row(cells: &mut Vec<(i32, i32)>, left: i32, y: i32, word: u64) -> Result<(), AllocError>
-    requires west { negsuc 1000000000 ≤ℤ left }
-    requires east { left ≤ℤ pos 1000000000 }
+    requires west { negsuc reach_limit ≤ℤ left }
+    requires east { left ≤ℤ pos reach_limit }
     ensures { OnOk result
         (cells.new.items ≡ cells.old.items ++ reverse (row_cells left y word 64)) }
 {
-    let mut x = next_bit(word, 0);
-    while x < 64 {
+    let mut rest = word;
+    while rest != 0 {
+        let x = rest.trailing_zeros();
         cells.push((left + x as i32, y))?;
-        x = next_bit(word, x + 1);
+        rest &= !(1 << x);
     }
     Ok(())
 }

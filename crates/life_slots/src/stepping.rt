@@ -8,7 +8,7 @@ ghost use Rattle.life_slots.specs.Work.{band_mark, IsLinked, IsTileWorkedOut, Is
 use crate::bands::Bands;
 use crate::slot::{CENTRE, Slot};
 use crate::touched::Touched;
-use life_bits::{Around, Logic, Tile, Window, band};
+use life_bits::{Around, Logic, RulePolynomial, Tile, Window, band};
 use life_cells::Rule;
 
 /// Makes each of the marks the same.
@@ -138,9 +138,11 @@ pub fn next_tiles(
     ensures { IsWorkedOut slots.now current.now active.now rule.now previous.old previous.new
         marks.old marks.new (length slots.now) }
 {
-    // Which logic it is, is found out here once for all bands.
-    match Logic::of(rule) {
-        Logic::Life => next_tiles_by(&Logic::Life, slots, current, previous, active, marks),
-        logic => next_tiles_by(&logic, slots, current, previous, active, marks),
+    // Which logic it is, is found out here once for all bands, and for Conway's rule without making room for another.
+    if *rule == Rule::life() {
+        next_tiles_by(&Logic::Life, slots, current, previous, active, marks);
+    } else {
+        let logic = Logic::General(RulePolynomial::of(rule));
+        next_tiles_by(&logic, slots, current, previous, active, marks);
     }
 }

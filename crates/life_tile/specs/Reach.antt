@@ -6,14 +6,15 @@ use Rattle.life_model.specs.Generation.{Generation}
 use Rattle.life_bits.specs.declared.tile.Tile.{Tile}
 use Rattle.life_bits.specs.Area.{tile_cell}
 use Rattle.life_slots.specs.Ends.{IsMember}
+use Rattle.life_slots.specs.Limits.{reach_limit}
 use Rattle.life_slots.specs.Places.{start_at}
 
 -- both places are numbers of 32 bits, by far
 pub record IsInReach (c : Cell) : Type 0 where
-  pub west : negsuc 1000000000 ≤ℤ c.0
-  pub east : c.0 ≤ℤ pos 1000000000
-  pub north : negsuc 1000000000 ≤ℤ c.1
-  pub south : c.1 ≤ℤ pos 1000000000
+  pub west : negsuc reach_limit ≤ℤ c.0
+  pub east : c.0 ≤ℤ pos reach_limit
+  pub north : negsuc reach_limit ≤ℤ c.1
+  pub south : c.1 ≤ℤ pos reach_limit
 
 -- each of the 64 bits of a word that is set is a member, where bit 0 is at this cell
 pub record IsRowIn (G : Generation) (word : ℕ) (start : Cell) : Type 0 where

@@ -11,7 +11,7 @@ use crate::covering::corner_in;
 use crate::sameness::moved;
 use crate::tile_store::TileStore;
 use life_bits::Tile;
-use life_slots::{is_before, next_bit, tile_in};
+use life_slots::{is_before, tile_in};
 
 /// Whether a cell is in a list, which is halved until it shows.
 fn is_listed(cells: &[(i32, i32)], cell: (i32, i32)) -> bool
@@ -41,12 +41,13 @@ fn lists_row(cells: &[(i32, i32)], word: u64, start: (i32, i32)) -> bool
     requires reach { IsInReach start }
     ensures { result ≡ false → IsRowIn (from_list cells.now) word start → ⊥ }
 {
-    let mut x = next_bit(word, 0);
-    while x < 64 {
+    let mut rest = word;
+    while rest != 0 {
+        let x = rest.trailing_zeros();
         if !is_listed(cells, (start.0 + x as i32, start.1)) {
             return false;
         }
-        x = next_bit(word, x + 1);
+        rest &= !(1 << x);
     }
     true
 }

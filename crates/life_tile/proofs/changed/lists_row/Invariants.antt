@@ -1,12 +1,10 @@
-use Rattle.std.proofs.Common.{◌≡◌, ◌≤◌, ◌<◌, ◌-◌}
-use Rattle.std.specs.Int.{bit_at}
+use Rattle.std.proofs.Common.{◌-◌, w64}
+use Rattle.std.specs.Int.{trailing_zeros}
+use Rattle.life_slots.proofs.Lowest.{IsRest}
 use Rattle.life_tile.proofs.changed.lists_row.Given as goal
 
-abbrev pub invariant-loop-x : goal.invariant-loop-x
-invariant-loop-x l = record {
-  inside : l.x ≤ 64;
-  next : l.x < 64 → bit_at l.word l.x ≡ 1;
-}
+abbrev pub invariant-loop-rest : goal.invariant-loop-rest
+invariant-loop-rest l = record { same : IsRest l.word l.rest }
 
-abbrev pub decreases-loop-x : goal.decreases-loop-x
-decreases-loop-x l = 64 - l.x
+abbrev pub decreases-loop-rest : goal.decreases-loop-rest
+decreases-loop-rest l = 64 - trailing_zeros w64 l.rest

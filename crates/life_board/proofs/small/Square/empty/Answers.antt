@@ -10,7 +10,7 @@ pub returns-clause-kept : goal.returns-clause-kept
 returns-clause-kept c =
     let left = c.ranges.left in
     let top = c.ranges.top in
-    simp to_z-of_z (record { place = c.requires.place; young = c.requires.young; void = void_none 8 56 (omega arith) (omega arith); columns = columns_all empty_tile 0 0 (omega arith) (columns_none empty_tile.rows 0 (λ k less. empty_row k)) (λ k past small. empty_row k); within = λ q live. absurd (shown_none c.args.left c.args.top _ refl q live) })
+    simp to_z-of_z (record { place = c.requires.place; young = c.requires.young; void = void_none 32 32 (omega arith) (omega arith); columns = columns_all empty_tile 0 0 (omega arith) (columns_none empty_tile.rows 0 (λ k less. empty_row k)) (λ k past small. empty_row k); within = λ q live. absurd (shown_none c.args.left c.args.top _ refl q live) })
 
 pub returns-clause-members : goal.returns-clause-members
 returns-clause-members c =

@@ -3,7 +3,7 @@ use Rattle.std.proofs.lemmas.Int.{ints}
 use Rattle.life_model.specs.Generation.{insert}
 use Rattle.life_board.specs.Squares.{shown, members_of}
 use Rattle.life_board.proofs.Columns.{columns_put}
-use Rattle.life_board.proofs.Puts.{shown_put, void_put, within_put}
+use Rattle.life_board.proofs.Puts.{shown_put, void_widened, within_put}
 use Rattle.life_board.proofs.small.Square.put.Goals as goal
 
 module _ (c : goal.After-make_live) where
@@ -30,7 +30,7 @@ pub returns-clause-kept : goal.returns-clause-kept
 returns-clause-kept c = record {
   place = c.requires.kept.place;
   young = c.requires.kept.young;
-  void = void_put c.args.self.now.tile.rows c.make_live.new.tile.rows c.args.self.now.first c.args.self.now.end c.in_ok-y.y c.requires.kept.void (let is = c.requires.free.first in let from = c.in_ok-y.ensures.first in omega arith) (let is = c.requires.free.end in let less = c.in_ok-y.ensures.last in omega arith) c.make_live.ensures.others;
+  void = void_widened c.args.self.now.tile.rows c.make_live.new.tile.rows c.args.self.now.first c.args.self.now.end c.min-self.result c.max-self.result c.in_ok-y.y c.requires.kept.void (high c) c.min-self.ensures c.max-self.ensures c.make_live.ensures.others;
   columns = columns_put c.args.self.now.tile c.make_live.new.tile c.args.self.now.columns c.in_ok-x.x c.in_ok-y.y (wide c) (high c) c.requires.kept.columns c.make_live.ensures.here c.make_live.ensures.elsewhere;
   within = within_put (members_of c.args.self.now) (shown c.args.self.now.left c.args.self.now.top c.make_live.new.tile) c.args.cell c.args.self.now.age (put c) c.requires.within c.requires.kept.within;
 }

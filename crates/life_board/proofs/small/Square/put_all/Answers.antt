@@ -4,21 +4,17 @@ use Rattle.life_model.specs.Generation.{from_list}
 use Rattle.life_cells.specs.Limits.{IsWithin}
 use Rattle.life_slots.proofs.Inserted.{list_more}
 use Rattle.life_board.specs.Squares.{members_of}
-use Rattle.life_board.proofs.small.Square.of.Goals as goal
+use Rattle.life_board.proofs.small.Square.put_all.Goals as goal
 
 pub loop-cell-init : goal.loop-cell-init
 loop-cell-init c = record {
-  kept = c.empty-square.ensures.kept;
-  free = c.empty-square.ensures.free;
-  age = c.empty-square.ensures.age;
-  members = c.empty-square.ensures.members;
+  kept = c.requires.kept;
+  age = refl;
+  members = c.requires.empty;
 }
 
 pub put-requires-clause-kept : goal.put-requires-clause-kept
 put-requires-clause-kept c = c.loop-cell.invariant.kept
-
-pub put-requires-clause-free : goal.put-requires-clause-free
-put-requires-clause-free c = c.loop-cell.invariant.free
 
 pub put-requires-clause-within : goal.put-requires-clause-within
 put-requires-clause-within c =
@@ -30,16 +26,12 @@ loop-cell-preserved c =
     let inside : c.loop-cell.cell-index < length c.args.cells.now = c.loop-cell-test.true in
     record {
       kept = c.in_ok-put.ensures.kept;
-      free = c.put.ensures.free;
       age = c.put.ensures.age ∙ c.loop-cell.invariant.age;
       members = list_more c.args.cells.now c.loop-cell.cell-index (pos 0, pos 0) (get_or c.args.cells.now c.loop-cell.cell-index (pos 0, pos 0))
-          (members_of c.loop-cell.square) (members_of c.put.new.self) inside c.loop-cell.invariant.members c.in_ok-put.ensures.members refl;
+          (members_of c.loop-cell.self) (members_of c.put.new.self) inside c.loop-cell.invariant.members c.in_ok-put.ensures.members refl;
     }
 
 pub returns-clause-members : goal.returns-clause-members
 returns-clause-members c =
     let all : length c.args.cells.now ≤ c.loop-cell.cell-index = c.loop-cell-test.false in
-    c.shrink.ensures.members ∙ c.loop-cell.invariant.members ∙ ap from_list (take_all c.loop-cell.cell-index c.args.cells.now all)
-
-pub returns-clause-age : goal.returns-clause-age
-returns-clause-age c = c.shrink.ensures.age ∙ c.loop-cell.invariant.age
+    c.loop-cell.invariant.members ∙ ap from_list (take_all c.loop-cell.cell-index c.args.cells.now all)

@@ -3,8 +3,16 @@ use Rattle.std.proofs.Common.{◌≡◌, ◌≢◌, ℕ, ◌+◌, ◌*◌, ◌%�
 use Rattle.std.specs.Int.{bit_at, bit_not, trailing_zeros}
 use Rattle.std.specs.Int.Count.{trailing_of_zero}
 use Rattle.std.proofs.lemmas.Bool.{cases_eq, cases_lt}
+use Rattle.std.proofs.lemmas.Nat.{and_le_l}
 use Rattle.std.proofs.lemmas.Nat.Bits.{bit_at-zero, bit_at-trailing_zeros, bit_at_clear_same, bit_at_clear_other}
 use Rattle.life_slots.proofs.EndCells.{never_both}
+
+abbrev pub without_lowest : ℕ → ℕ
+without_lowest word = bit_and word (bit_not w64 (1 * 2 ^ trailing_zeros w64 word % 2 ^ 64))
+
+-- from the first bit that is left on, what is left is the word
+abbrev pub IsRest : ℕ → ℕ → Type 0
+IsRest word rest = (j : ℕ) → j < 64 → trailing_zeros w64 rest ≤ j → bit_at rest j ≡ bit_at word j
 
 pub none_left : (rest : ℕ) → rest ≡ 0 → trailing_zeros w64 rest ≡ 64
 none_left rest none = ap (trailing_zeros w64) none ∙ trailing_of_zero 64
@@ -17,11 +25,17 @@ none_before word fits j before =
     (λ (more : word ≢ 0). (bit_at-trailing_zeros w64 word (omega arith) fits).2 j before)
     (cases_eq word 0)
 
-module _ (word rest next : ℕ) (fits : rest < 2 ^ 64) (some : 0 < rest) (next_fits : next < 2 ^ 64)
-    (is : next ≡ bit_and rest (bit_not w64 (1 * 2 ^ trailing_zeros w64 rest % 2 ^ 64)))
-    (same : (j : ℕ) → j < 64 → trailing_zeros w64 rest ≤ j → bit_at rest j ≡ bit_at word j) where
+module _ (word rest : ℕ) (fits : rest < 2 ^ 64) (some : 0 < rest) (same : IsRest word rest) where
   abbrev x : ℕ
   x = trailing_zeros w64 rest
+
+  abbrev next : ℕ
+  next = without_lowest rest
+
+  next_fits : next < 2 ^ 64
+  next_fits =
+      let less : next ≤ rest = and_le_l rest (bit_not w64 (1 * 2 ^ trailing_zeros w64 rest % 2 ^ 64)) in
+      omega arith
 
   pub inside : x < 64
   inside = (bit_at-trailing_zeros w64 rest some fits).0
@@ -30,15 +44,12 @@ module _ (word rest next : ℕ) (fits : rest < 2 ^ 64) (some : 0 < rest) (next_f
   set_there = let here : x ≤ x = omega arith in sym (same x inside here) ∙ (bit_at-trailing_zeros w64 rest some fits).1
 
   others : (j : ℕ) → j < 64 → j ≢ x → bit_at next j ≡ bit_at rest j
-  others j small apart = ap (λ w. bit_at w j) is ∙ bit_at_clear_other w64 rest x inside j small apart
-
-  cleared : bit_at next x ≡ 0
-  cleared = ap (λ w. bit_at w x) is ∙ bit_at_clear_same w64 rest x inside
+  others j small apart = bit_at_clear_other w64 rest x inside j small apart
 
   not_before : (j : ℕ) → j ≤ x → bit_at next j ≡ 0
   not_before j less =
       ⊎_elim
-      (λ (here : j ≡ x). ap (bit_at next) here ∙ cleared)
+      (λ (here : j ≡ x). ap (bit_at next) here ∙ bit_at_clear_same w64 rest x inside)
       (λ (apart : j ≢ x). let small : j < 64 = (let h = inside in omega arith) in others j small apart ∙ (bit_at-trailing_zeros w64 rest some fits).2 j (omega arith))
       (cases_eq j x)
 
@@ -58,7 +69,7 @@ module _ (word rest next : ℕ) (fits : rest < 2 ^ 64) (some : 0 < rest) (next_f
       let apart : j ≢ x = omega arith in
       sym (same j small (omega arith)) ∙ sym (others j small apart) ∙ none_before next next_fits j before
 
-  pub same_on : (j : ℕ) → j < 64 → trailing_zeros w64 next ≤ j → bit_at next j ≡ bit_at word j
+  pub same_on : IsRest word next
   same_on j small from =
       let h = goes_on in
       let apart : j ≢ x = omega arith in
