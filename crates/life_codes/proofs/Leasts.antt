@@ -4,7 +4,7 @@ use Rattle.std.specs.List.{fold}
 use Rattle.std.proofs.lemmas.List.{map-append, take_more}
 use Rattle.std.proofs.lemmas.List.Sums.{fold-append}
 use Rattle.life_model.specs.Generation.{Generation}
-use Rattle.life_model.specs.Symmetry.{normal, Orientation, FlipX, image_under}
+use Rattle.life_model.specs.Symmetry.{normal, Orientation, Same, FlipX, Half, Swap, SwapHalf, image_under}
 use Rattle.life_model.proofs.Objects.{then_turned, turned-turned, normal-turned}
 use Rattle.life_shape.specs.declared.orient.Orient.{Orient}
 use Rattle.life_shape.specs.declared.orient.Orient.TheVariants as orient
@@ -80,6 +80,35 @@ either_two least a b c d =
     ∙ either_first (with_text (with_text least a) c) b d
     ∙ ap (λ l. with_text (with_text l d) b) (either_first least a c)
     ∙ ap (λ l. with_text l b) (either_first (with_text least c) a d)
+
+-- nor which lists of them
+after_all : (least : Option (List ℕ)) (ts : List (List ℕ)) (t : List ℕ) → with_text (fold with_text least ts) t ≡ fold with_text (with_text least t) ts
+after_all least [] t = refl
+after_all least (u ∷ us) t = after_all (with_text least u) us t ∙ ap (λ l. fold with_text l us) (either_first least u t)
+
+pub either_list : (least : Option (List ℕ)) (ts us : List (List ℕ)) → fold with_text (fold with_text least ts) us ≡ fold with_text (fold with_text least us) ts
+either_list least ts [] = refl
+either_list least ts (u ∷ us) = ap (λ l. fold with_text l us) (after_all least ts u) ∙ either_list (with_text least u) ts us
+
+-- those of four maps and of their mirror images are those of all eight
+pub all_bodies : (G : Generation) (least : Option (List ℕ)) → fold with_text (fold with_text (fold with_text (fold with_text least (two_bodies G Same)) (two_bodies G Half)) (two_bodies G SwapHalf)) (two_bodies G Swap) ≡ fold with_text least (turned_bodies G)
+all_bodies G least =
+    let first = fold-two_bodies G Same least in
+    let second = ap (λ l. fold with_text l (two_bodies G Half)) first ∙ fold-two_turned G Half _ in
+    let third = ap (λ l. fold with_text l (two_bodies G SwapHalf)) second ∙ fold-two_turned G SwapHalf _ in
+    ap (λ l. fold with_text l (two_bodies G Swap)) third ∙ fold-two_bodies G Swap _
+    ∙ either_two _ (body (image_under G (then_turned SwapHalf FlipX))) (body (image_under G SwapHalf)) (body (image_under G Swap)) (body (image_under G (then_turned Swap FlipX)))
+
+pub swapped_first : (G : Generation) (least : Option (List ℕ)) → fold with_text (fold with_text (fold with_text (fold with_text least (two_bodies G SwapHalf)) (two_bodies G Swap)) (two_bodies G Same)) (two_bodies G Half) ≡ fold with_text least (turned_bodies G)
+swapped_first G least =
+    let a = two_bodies G Same in
+    let b = two_bodies G Half in
+    let c = two_bodies G SwapHalf in
+    let d = two_bodies G Swap in
+    ap (λ l. fold with_text l b) (either_list (fold with_text least c) d a ∙ ap (λ l. fold with_text l d) (either_list least c a))
+    ∙ either_list (fold with_text (fold with_text least a) c) d b
+    ∙ ap (λ l. fold with_text l d) (either_list (fold with_text least a) c b)
+    ∙ all_bodies G least
 
 -- ---- one map after another
 

@@ -1,14 +1,5 @@
-pub mod Framed
-pub mod Written
-pub mod Filled
-pub mod Bodies
 pub mod Leasts
-pub mod Measured
 pub mod Phases
 pub mod Firsts
-pub mod Worded
-pub mod Marked
-pub mod Rows
-pub mod Counts
-pub mod WideWorded
-pub mod WideMarked
+pub mod Keyed
+pub mod Ordered

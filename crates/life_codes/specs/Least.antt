@@ -5,7 +5,7 @@ use Rattle.life_model.specs.Generation.{Generation}
 use Rattle.life_model.specs.Symmetry.{Orientation, FlipX, image_under}
 use Rattle.life_shape.specs.TextOrder.{lesser_text}
 use Rattle.life_shape.specs.Wechsler.{body}
-use Rattle.life_codes.specs.Grids.{both_texts}
+use Rattle.life_lengths.specs.Grids.{both_texts}
 
 -- the least so far, with one more text
 abbrev pub with_text : Option (List ℕ) → List ℕ → Option (List ℕ)

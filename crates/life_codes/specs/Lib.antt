@@ -1,5 +1,2 @@
-pub mod Frames
-pub mod Grids
+pub mod Keys
 pub mod Least
-pub mod Words
-pub mod WideWords

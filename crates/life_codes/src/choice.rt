@@ -2,6 +2,7 @@
 ghost use Rattle.std.specs.Prelude.{◌≡◌, ◌++◌, ◌<◌, ◌∷◌, IsSomeAnd, IsTrue, List, None, OnOk, [], length, unwrap_or, ℕ};
 ghost use Rattle.life_codes.specs.Least.{with_text};
 
+use life_lengths::Lengths;
 use life_shape::shorter;
 use std::alloc::{AllocError, Global};
 use std::cmp::Ordering;
@@ -53,6 +54,20 @@ impl Choice {
         ensures { IsTrue result → IsSomeAnd self.now (λ t. length t < bytes) }
     {
         self.some && self.text.len() < bytes
+    }
+
+    /// Whether there is a text of fewer bytes than each of the texts of these lengths.
+    pub fn is_below(&self, one: Lengths, other: Lengths) -> bool
+        ensures one { IsTrue result → IsSomeAnd self.now (λ t. length t < one.forward) }
+        ensures one_back { IsTrue result → IsSomeAnd self.now (λ t. length t < one.backward) }
+        ensures other { IsTrue result → IsSomeAnd self.now (λ t. length t < other.forward) }
+        ensures other_back { IsTrue result →
+            IsSomeAnd self.now (λ t. length t < other.backward) }
+    {
+        self.is_shorter(one.forward)
+            && self.is_shorter(one.backward)
+            && self.is_shorter(other.forward)
+            && self.is_shorter(other.backward)
     }
 
     /// Whether there is a text that is less than each of so many bytes of which this is the first.

@@ -4,10 +4,10 @@ ghost use Rattle.life_model.specs.Symmetry.{turn};
 ghost use Rattle.life_cells.specs.Limits.{IsPlace};
 ghost use Rattle.life_shape.specs.Dots.{weights};
 ghost use Rattle.life_shape.specs.Orients.{orientation};
-ghost use Rattle.life_codes.specs.Frames.{IsBounded, IsInFrame, cell_in_frame, strips_of, wide_of};
-ghost use Rattle.life_codes.specs.Grids.{HoldsWeights, both_texts};
+ghost use Rattle.life_lengths.specs.Frames.{IsBounded, IsInFrame, cell_in_frame, strips_of, wide_of};
+ghost use Rattle.life_lengths.specs.Grids.{HoldsWeights, both_texts};
 
-use crate::frame::Frame;
+use life_lengths::{Frame, place_in};
 use life_shape::Orient;
 use std::alloc::{AllocError, Global};
 
@@ -46,20 +46,6 @@ impl Grid {
     {
         self.wide == other.wide && self.strips == other.strips && self.values == other.values
     }
-}
-
-/// Where the map takes the cell, seen from the corner of the frame.
-pub fn place_in(cell: (i32, i32), orient: Orient, frame: Frame) -> (usize, usize)
-    requires placed { IsPlace cell }
-    requires bounded { IsBounded frame }
-    requires inside { IsInFrame frame (turn (orientation orient) cell) }
-    ensures place { (pos result.0, pos result.1) ≡ cell_in_frame (orientation orient) frame cell }
-    ensures column { result.0 < wide_of frame }
-    ensures strip { result.1 / 5 < strips_of frame }
-{
-    let (x, y) = orient.turn(cell);
-    let (column, row) = ((x - frame.left) as u32, (y - frame.top) as u32);
-    (column as usize, row as usize)
 }
 
 /// Adds to each column what the cells weigh there that the map takes these cells to. They stand in the frame, which has

@@ -1,25 +1,24 @@
 //! The least text of sets in all eight orientations.
-ghost use Rattle.std.specs.Prelude.{◌≡◌, ◌*◌, ◌<◌, ◌≤◌, All, IsTrue, None, OnErr, OnOk, T, [], false, length, true, unwrap_or};
+ghost use Rattle.std.specs.Prelude.{◌≡◌, ◌*◌, ◌<◌, ◌≤◌, All, IfSome, IsTrue, None, OnErr, OnOk, T, [], false, length, true, unwrap_or};
 ghost use Rattle.std.specs.List.{fold};
 ghost use Rattle.life_model.specs.Box.{height, width};
-ghost use Rattle.life_model.specs.Generation.{from_list, is_rising};
+ghost use Rattle.life_model.specs.Generation.{cells, from_list, is_rising};
+ghost use Rattle.life_model.specs.Symmetry.{Half, Same, Swap, SwapHalf};
 ghost use Rattle.life_cells.specs.Limits.{IsPlace, extent_limit};
 ghost use Rattle.life_shape.specs.Orients.{orientation};
 ghost use Rattle.life_answer.specs.Apgcode.{turned_bodies};
-ghost use Rattle.life_codes.specs.Frames.{IsBounded, frame_of};
-ghost use Rattle.life_codes.specs.Grids.{both_texts, grid_text};
+ghost use Rattle.life_lengths.specs.Frames.{IsBounded, frame_of};
+ghost use Rattle.life_lengths.specs.Grids.{both_texts, grid_text};
+ghost use Rattle.life_codes.specs.Keys.{key_text};
 ghost use Rattle.life_codes.specs.Least.{IsTaken, two_bodies, with_text};
-ghost use Rattle.life_codes.specs.Words.{AreLengths, IsSmallFrame};
+ghost use Rattle.life_lengths.specs.Words.{AreLengths};
 
 use crate::choice::Choice;
-use crate::frame::{Frame, frame_of};
 use crate::grid::{Grid, make_grid};
-use crate::measure::Lengths;
-use crate::wide_marks::WideMarks;
-use crate::wide_words::wide_lengths;
-use crate::words::four_lengths;
+use crate::keys::{key_of, push_key};
 use crate::writing::{begin_text, digit, end_text, strip_of, value_at};
 use life_cells::CellList;
+use life_lengths::{FourLengths, Frame, Lengths, WideMarks, four_lengths, frame_of, wide_lengths};
 use life_shape::{Orient, Shape};
 use std::alloc::{AllocError, Global};
 use std::marker::Model;
@@ -115,6 +114,22 @@ fn add_text(
     Ok(())
 }
 
+/// Takes the text of so many columns of a key, unless the least text is shorter.
+fn add_key(least: &mut Choice, text: &mut Vec<u8>, key: u32, wide: usize) -> Result<(), AllocError>
+    requires { wide ≤ 5 }
+    ensures ok { OnOk result (least.new ≡ with_text least.old (key_text wide key)) }
+    ensures err { OnErr result (least.new ≡ least.old) }
+{
+    if least.is_shorter(wide) {
+        return Ok(());
+    }
+    text.clear();
+    text.reserve(wide)?;
+    push_key(text, key, wide)?;
+    least.offer(text);
+    Ok(())
+}
+
 /// Makes a grid of cells, turned by a map, whose texts are those of the cells and of their mirror image. It is compiled
 /// once for each of the four maps that it is called with, so that a cell's turn costs no branch.
 #[inline(always)]
@@ -207,58 +222,93 @@ fn add_turned(
     add_second(least, room, lengths)
 }
 
-/// Takes the texts of cells of a small frame, turned by each of the eight maps.
-fn add_small(
+/// Takes the texts of cells and of their half turn, and of the mirror images of both.
+fn add_upright(
     least: &mut Choice,
     room: &mut Room,
     cells: &[(i32, i32)],
     frame: Frame,
+    lengths: FourLengths,
 ) -> Result<(), AllocError>
     requires some { 0 < length cells.now }
     requires rising { T (is_rising cells.now) }
     requires placed { All IsPlace cells.now }
     requires frame { frame ≡ frame_of cells.now }
     requires bounded { IsBounded frame }
-    requires small { IsSmallFrame frame }
-    ensures { OnOk result
-        (least.new ≡ fold with_text least.old (turned_bodies (from_list cells.now))) }
+    requires same { AreLengths lengths.same (from_list cells.now) Same }
+    requires half { AreLengths lengths.half (from_list cells.now) Half }
+    requires taken { IsTaken least.old room.old.first.values.items room.old.first.wide
+        room.old.first.strips }
+    ensures texts { OnOk result
+        (least.new ≡
+        fold with_text
+        (fold with_text least.old (two_bodies (from_list cells.now) Same))
+        (two_bodies (from_list cells.now) Half)) }
+    ensures taken { OnOk result
+        (IsTaken least.new room.new.first.values.items room.new.first.wide room.new.first.strips) }
 {
-    let lengths = four_lengths(cells, frame);
-    room.first.forget();
     add_turned(least, room, cells, frame, Orient::Same, lengths.same)?;
-    add_turned(least, room, cells, frame, Orient::Half, lengths.half)?;
-    add_turned(
-        least,
-        room,
-        cells,
-        frame,
-        Orient::SwapHalf,
-        lengths.swap_half,
-    )?;
+    add_turned(least, room, cells, frame, Orient::Half, lengths.half)
+}
+
+/// The same with x and y swapped.
+fn add_swapped(
+    least: &mut Choice,
+    room: &mut Room,
+    cells: &[(i32, i32)],
+    frame: Frame,
+    lengths: FourLengths,
+) -> Result<(), AllocError>
+    requires some { 0 < length cells.now }
+    requires rising { T (is_rising cells.now) }
+    requires placed { All IsPlace cells.now }
+    requires frame { frame ≡ frame_of cells.now }
+    requires bounded { IsBounded frame }
+    requires swap { AreLengths lengths.swap (from_list cells.now) Swap }
+    requires swap_half { AreLengths lengths.swap_half (from_list cells.now) SwapHalf }
+    requires taken { IsTaken least.old room.old.first.values.items room.old.first.wide
+        room.old.first.strips }
+    ensures texts { OnOk result
+        (least.new ≡
+        fold with_text
+        (fold with_text least.old (two_bodies (from_list cells.now) SwapHalf))
+        (two_bodies (from_list cells.now) Swap)) }
+    ensures taken { OnOk result
+        (IsTaken least.new room.new.first.values.items room.new.first.wide room.new.first.strips) }
+{
+    let turned = lengths.swap_half;
+    add_turned(least, room, cells, frame, Orient::SwapHalf, turned)?;
     add_turned(least, room, cells, frame, Orient::Swap, lengths.swap)
 }
 
-/// Takes the texts of cells of any frame, turned by each of the eight maps.
-fn add_wide(
+/// Takes the texts of cells, turned by each of the eight maps, the shortest of them among the first.
+fn add_eight(
     least: &mut Choice,
     room: &mut Room,
     cells: &[(i32, i32)],
     frame: Frame,
+    lengths: FourLengths,
 ) -> Result<(), AllocError>
     requires some { 0 < length cells.now }
     requires rising { T (is_rising cells.now) }
     requires placed { All IsPlace cells.now }
     requires frame { frame ≡ frame_of cells.now }
     requires bounded { IsBounded frame }
+    requires same { AreLengths lengths.same (from_list cells.now) Same }
+    requires half { AreLengths lengths.half (from_list cells.now) Half }
+    requires swap { AreLengths lengths.swap (from_list cells.now) Swap }
+    requires swap_half { AreLengths lengths.swap_half (from_list cells.now) SwapHalf }
     ensures { OnOk result
         (least.new ≡ fold with_text least.old (turned_bodies (from_list cells.now))) }
 {
-    let found = wide_lengths(&mut room.marks, cells, frame)?;
     room.forget();
-    add_turned(least, room, cells, frame, Orient::Same, found.same)?;
-    add_turned(least, room, cells, frame, Orient::Half, found.half)?;
-    add_turned(least, room, cells, frame, Orient::SwapHalf, found.swap_half)?;
-    add_turned(least, room, cells, frame, Orient::Swap, found.swap)
+    if lengths.swapped() < lengths.upright() {
+        add_swapped(least, room, cells, frame, lengths)?;
+        add_upright(least, room, cells, frame, lengths)
+    } else {
+        add_upright(least, room, cells, frame, lengths)?;
+        add_swapped(least, room, cells, frame, lengths)
+    }
 }
 
 /// Takes the texts of a shape, turned by each of the eight maps.
@@ -270,29 +320,6 @@ fn add_shape(least: &mut Choice, shape: &Shape) -> Result<(), AllocError>
         least.offer(&mut text);
     }
     Ok(())
-}
-
-/// Takes the texts of a set, turned by each of the eight maps: from words and grids, unless those
-/// were mostly empty, and else from shapes.
-fn add_list(
-    alloc: Global,
-    least: &mut Choice,
-    room: &mut Room,
-    list: &CellList,
-) -> Result<(), AllocError>
-    requires wide { width list.now ≤ extent_limit }
-    requires high { height list.now ≤ extent_limit }
-    ensures { OnOk result (least.new ≡ fold with_text least.old (turned_bodies list.now)) }
-{
-    let cells = list.as_slice();
-    match frame_of(cells) {
-        Some(frame) if frame.is_small() => add_small(least, room, cells, frame),
-        Some(frame) if frame.is_dense(cells.len()) => add_wide(least, room, cells, frame),
-        _ => {
-            let (shape, _) = Shape::of(alloc, list)?;
-            add_shape(least, &shape)
-        }
-    }
 }
 
 impl LeastText {
@@ -313,6 +340,75 @@ impl LeastText {
         }
     }
 
+    /// Adds the texts of cells in order, turned by each of the eight maps, which have these lengths.
+    fn add_cells(
+        &mut self,
+        cells: &[(i32, i32)],
+        frame: Frame,
+        lengths: FourLengths,
+    ) -> Result<(), AllocError>
+        requires some { 0 < length cells.now }
+        requires rising { T (is_rising cells.now) }
+        requires placed { All IsPlace cells.now }
+        requires frame { frame ≡ frame_of cells.now }
+        requires bounded { IsBounded frame }
+        requires same { AreLengths lengths.same (from_list cells.now) Same }
+        requires half { AreLengths lengths.half (from_list cells.now) Half }
+        requires swap { AreLengths lengths.swap (from_list cells.now) Swap }
+        requires swap_half { AreLengths lengths.swap_half (from_list cells.now) SwapHalf }
+        ensures ok { OnOk result
+            (self.new ≡ fold with_text self.old (turned_bodies (from_list cells.now))) }
+        ensures err { OnErr result (self.new ≡ self.old) }
+    {
+        if self.least.is_below(lengths.same, lengths.half)
+            && self.least.is_below(lengths.swap, lengths.swap_half)
+        {
+            return Ok(());
+        }
+        self.next.copy(&self.least)?;
+        add_eight(&mut self.next, &mut self.room, cells, frame, lengths)?;
+        swap(&mut self.least, &mut self.next);
+        Ok(())
+    }
+
+    /// Adds the texts of a set by its shapes.
+    fn add_shapes(&mut self, list: &CellList) -> Result<(), AllocError>
+        requires wide { width list.now ≤ extent_limit }
+        requires high { height list.now ≤ extent_limit }
+        ensures ok { OnOk result (self.new ≡ fold with_text self.old (turned_bodies list.now)) }
+        ensures err { OnErr result (self.new ≡ self.old) }
+    {
+        let (shape, _) = Shape::of(self.alloc, list)?;
+        self.next.copy(&self.least)?;
+        add_shape(&mut self.next, &shape)?;
+        swap(&mut self.least, &mut self.next);
+        Ok(())
+    }
+
+    /// Adds the texts of a set of this frame: from words and grids, unless those were mostly empty, and else from shapes.
+    fn add_framed(&mut self, list: &CellList, frame: Option<Frame>) -> Result<(), AllocError>
+        requires wide { width list.now ≤ extent_limit }
+        requires high { height list.now ≤ extent_limit }
+        requires some { IfSome frame (λ f. 0 < length (cells list.now)) }
+        requires frame { IfSome frame (λ f. f ≡ frame_of (cells list.now)) }
+        requires bounded { IfSome frame IsBounded }
+        ensures ok { OnOk result (self.new ≡ fold with_text self.old (turned_bodies list.now)) }
+        ensures err { OnErr result (self.new ≡ self.old) }
+    {
+        let cells = list.as_slice();
+        match frame {
+            Some(frame) if frame.is_small() => {
+                let lengths = four_lengths(cells, frame);
+                self.add_cells(cells, frame, lengths)
+            }
+            Some(frame) if frame.is_dense(cells.len()) => {
+                let lengths = wide_lengths(&mut self.room.marks, cells, frame)?;
+                self.add_cells(cells, frame, lengths)
+            }
+            _ => self.add_shapes(list),
+        }
+    }
+
     /// Adds the texts of a set. After an `Err` it is what it was.
     ///
     /// Their box is at most 16,777,216 wide and high.
@@ -322,10 +418,12 @@ impl LeastText {
         ensures ok { OnOk result (self.new ≡ fold with_text self.old (turned_bodies list.now)) }
         ensures err { OnErr result (self.new ≡ self.old) }
     {
-        self.next.copy(&self.least)?;
-        add_list(self.alloc, &mut self.next, &mut self.room, list)?;
-        swap(&mut self.least, &mut self.next);
-        Ok(())
+        let cells = list.as_slice();
+        let frame = frame_of(cells);
+        match key_of(cells, frame) {
+            Some((key, wide)) => add_key(&mut self.least, &mut self.room.text, key, wide),
+            None => self.add_framed(list, frame),
+        }
     }
 
     /// The text so far; no byte where no set was added.

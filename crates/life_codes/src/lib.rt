@@ -4,16 +4,10 @@
 #![tactic(auto)]
 
 mod choice;
-mod frame;
 mod grid;
+mod keys;
 mod least_text;
-mod marks;
-mod measure;
-mod narrow;
 mod prefixes;
-mod wide_marks;
-mod wide_words;
-mod words;
 mod writing;
 
 pub use least_text::LeastText;

@@ -1,0 +1,11 @@
+pub mod Framed
+pub mod Written
+pub mod Filled
+pub mod Bodies
+pub mod Measured
+pub mod Worded
+pub mod Marked
+pub mod Rows
+pub mod Counts
+pub mod WideWorded
+pub mod WideMarked

@@ -1,0 +1,4 @@
+pub mod Frames
+pub mod Grids
+pub mod Words
+pub mod WideWords

@@ -1,0 +1,18 @@
+//! How long the Wechsler texts of sets of cells are in all eight orientations, told by words of bits.
+//!
+//! Tested in `tests_patterns`.
+#![tactic(auto)]
+
+mod frame;
+mod marks;
+mod measure;
+mod narrow;
+mod wide_marks;
+mod wide_words;
+mod words;
+
+pub use frame::{Frame, frame_of, place_in};
+pub use measure::Lengths;
+pub use wide_marks::WideMarks;
+pub use wide_words::wide_lengths;
+pub use words::{FourLengths, four_lengths};
