@@ -1,5 +1,5 @@
 -- Where the phase after half a period is the first one, turned and moved, the second half has the texts of the first.
-use Rattle.std.proofs.Common.{◌≡◌, ℕ, zero, suc, ◌+◌, ◌<◌, ◌≤◌, List, [], ◌∷◌, ◌++◌, inl, inr, sym, refl, ap, subst, ◌∙◌, arith}
+use Rattle.std.proofs.Common.{◌≡◌, ℕ, zero, suc, ◌+◌, ◌<◌, ◌≤◌, List, inl, inr, sym, refl, ap, subst, ◌∙◌, arith}
 use Rattle.std.proofs.lemmas.Bool.Decides.{eqb_tells}
 use Rattle.life_model.specs.Rule.{Rule}
 use Rattle.life_model.specs.Generation.{Generation}
@@ -7,7 +7,7 @@ use Rattle.life_model.specs.Evolution.{generation}
 use Rattle.life_model.specs.Symmetry.{Orientation, Same, image_under, normal}
 use Rattle.life_model.proofs.Moves.{normal_decides, normal-moved}
 use Rattle.life_model.proofs.Objects.{then_turned, turned-turned, turned-undone, normal-turned}
-use Rattle.life_model.proofs.Recurrences.{generation-zero, generation-add}
+use Rattle.life_model.proofs.Recurrences.{generation-add}
 use Rattle.life_model.proofs.Symmetries.{undone, generation-moved, generation-turned}
 use Rattle.life_shape.specs.Wechsler.{body}
 use Rattle.life_shape.specs.TextOrder.{least_text}

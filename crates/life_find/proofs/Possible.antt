@@ -13,7 +13,7 @@ use Rattle.life_model.specs.Evolution.{generation}
 use Rattle.life_model.specs.Recurrence.{SettlesAt}
 use Rattle.life_model.specs.Symmetry.{normal}
 use Rattle.life_model.proofs.Orbits.{along}
-use Rattle.life_model.proofs.Recurrences.{generation-add, generation-zero, shape, shape-follows, shape_from_move}
+use Rattle.life_model.proofs.Recurrences.{generation-add, shape, shape-follows, shape_from_move}
 use Rattle.life_find.specs.declared.fingerprint.Fingerprint.{Fingerprint}
 use Rattle.life_find.specs.Fingerprint.{IsFingerprint, may_match, no_fingerprint}
 use Rattle.life_find.specs.Search.{AreFingerprints, changes_at, ends_alike, from_first}
@@ -93,15 +93,8 @@ module _ (R : Rule) (G : Generation) (list new : List Fingerprint) (x : Fingerpr
         ];
   }
 
-AreFingerprints-none : (R : Rule) (G : Generation) (list : List Fingerprint) → list ≡ [] → AreFingerprints R G list
+pub AreFingerprints-none : (R : Rule) (G : Generation) (list : List Fingerprint) → list ≡ [] → AreFingerprints R G list
 AreFingerprints-none R G list e = record { each = λ k below. absurd (let none : length list ≡ 0 = ap length e in omega arith) }
-
-pub AreFingerprints-first : (R : Rule) (G : Generation) (list new : List Fingerprint) (x : Fingerprint) → list ≡ [] → new ≡ list ++ x ∷ [] → IsFingerprint G x → (length new ≡ 0 + 1) × AreFingerprints R G new
-AreFingerprints-first R G list new x none e told =
-    let count : length list ≡ 0 = ap length none in (
-      length-more R G list new x 0 e count,
-      AreFingerprints-more R G list new x 0 e count (AreFingerprints-none R G list none) (subst (λ H. IsFingerprint H x) (sym (generation-zero R G)) told),
-    )
 
 -- ---- possible periods
 

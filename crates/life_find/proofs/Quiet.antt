@@ -1,11 +1,11 @@
 -- For how long no generation of a set is another set, moved.
-use Rattle.std.proofs.Common.{◌≡◌, ℕ, zero, suc, ℤ, pos, ◌+ℤ◌, ◌-ℤ◌, ◌≤ℤ◌, ◌+◌, ◌<◌, ◌≤◌, All, true, List, length, slice_index_or, sym, ap, subst, ◌∙◌, arith}
+use Rattle.std.proofs.Common.{◌≡◌, ℕ, zero, suc, ℤ, pos, ◌+◌, ◌<◌, ◌≤◌, All, true, List, length, slice_index_or, sym, ap, subst, ◌∙◌, arith}
 use Rattle.std.specs.List.{Contains}
 use Rattle.std.proofs.lemmas.Int.{ints}
 use Rattle.std.proofs.lemmas.List.Elements.{All-contains, Contains-get_or}
 use Rattle.std.proofs.lemmas.Map.Views.{Contains-from_any, list_any-from_Contains}
 use Rattle.std.proofs.lemmas.Cmp.{eq_by_cmp_equiv}
-use Rattle.life_model.specs.Cell.{Cell, IsNear, origin, plus, opposite, same_cell}
+use Rattle.life_model.specs.Cell.{Cell, IsNear, origin, plus, opposite}
 use Rattle.life_model.specs.Rule.{Rule}
 use Rattle.life_model.specs.Generation.{Generation, cells, contains}
 use Rattle.life_model.specs.Evolution.{generation, next}
@@ -16,7 +16,7 @@ use Rattle.life_model.proofs.Moves.{normal_decides}
 use Rattle.life_model.proofs.Near.{next_near}
 use Rattle.life_model.proofs.Recurrences.{generation-add, generation-next, generation-zero}
 use Rattle.life_model.proofs.Symmetries.{contains-moved}
-use Rattle.life_find.specs.Quiet.{IsReachedBy, IsFar, IsMissed, IsAway, IsQuiet}
+use Rattle.life_find.specs.Quiet.{IsReachedBy, IsMissed, IsAway, IsQuiet}
 
 -- ---- members and places of a list
 

@@ -1,13 +1,18 @@
 //! Codes of objects.
-ghost use Rattle.std.specs.Prelude.{◌≡◌, ◌+◌, ◌≤◌, IfOk, IsTrue, OnOk};
+ghost use Rattle.std.specs.Prelude.{◌≡◌, ◌+◌, ◌≤◌, All, IfOk, IsTrue, None, OnOk, [], unwrap_or};
 ghost use Rattle.std.specs.List.{fold};
+ghost use Rattle.life_model.specs.Box.{height, width};
+ghost use Rattle.life_model.specs.Evolution.{generation};
+ghost use Rattle.life_model.specs.Generation as generations;
+ghost use Rattle.life_model.specs.Symmetry.{normal};
+ghost use Rattle.life_cells.specs.Limits.{IsWithin, extent_limit};
 ghost use Rattle.life_shape.specs.TextOrder.{least_text};
 ghost use Rattle.life_answer.specs.Apgcode.{bodies, code_of, turned_bodies};
 ghost use Rattle.life_codes.specs.Least.{with_text};
 
 use crate::recurrence::Recurrence;
 use life_answer::Code;
-use life_cells::Rule;
+use life_cells::{CellList, Rule};
 use life_codes::{LeastText, prefix};
 use life_plane::{AGE_LIMIT, Plane};
 use std::alloc::{AllocError, Global};
@@ -33,56 +38,93 @@ fn has_text<P: Plane>(alloc: Global, plane: &P, text: &[u8]) -> Result<bool, All
     Ok(own.text() == text)
 }
 
-/// The least text of all phases of one period, in all eight orientations. Where the phase after half the period is the
-/// first one, turned and moved, the second half of the phases has no other texts than the first.
-fn least_body<P: Plane>(
+/// Adds the texts of all phases of one period, in all eight orientations; the list has the cells of the first, wherever
+/// they stand. Where the phase after half the period is the first one, turned and moved, the second half of the phases has
+/// no other texts than the first.
+fn add_phases<P: Plane>(
     alloc: Global,
-    plane: P,
+    least: &mut LeastText,
+    listed: &CellList,
+    plane: &mut P,
     rule: &Rule,
     period: u32,
-) -> Result<Vec<u8>, AllocError>
+) -> Result<(), AllocError>
+    requires none { least.old ≡ None }
+    requires wide { width listed.now ≤ extent_limit }
+    requires high { height listed.now ≤ extent_limit }
+    requires same { normal listed.now ≡ normal (P.members plane.old) }
     requires period { 1 ≤ period }
-    requires young { P.steps_made plane + period ≤ AGE_LIMIT }
-    ensures { IfOk result
-        (λ text. text.items ≡ least_text (bodies rule.now (P.members plane) period)) }
+    requires young { P.steps_made plane.old + period ≤ AGE_LIMIT }
+    ensures { OnOk result
+        (unwrap_or least.new [] ≡ least_text (bodies rule.now (P.members plane.old) period)) }
 {
-    let mut plane = plane;
-    let mut least = LeastText::new(alloc);
-    add_plane(&mut least, &plane)?;
+    least.add(listed)?;
     let mut first = Vec::new(alloc);
     if period > 2 {
         first.extend_from_slice(least.text())?;
     }
     for n in 1..period {
         plane.step(rule)?;
-        if n > 1 && n + n == period && has_text(alloc, &plane, &first)? {
-            return Ok(least.into_text());
+        if n > 1 && n + n == period && has_text(alloc, plane, &first)? {
+            return Ok(());
         }
-        add_plane(&mut least, &plane)?;
+        add_plane(least, plane)?;
     }
-    Ok(least.into_text())
+    Ok(())
 }
 
-/// The code of what a plane holds, which comes again as the recurrence says.
-pub fn code_of<P: Plane>(
+/// The code of what a plane holds, which comes again as the recurrence says; the list has its cells, wherever they stand.
+fn code_from<P: Plane>(
     alloc: Global,
-    plane: P,
+    listed: &CellList,
+    plane: &mut P,
     rule: &Rule,
     recurrence: &Recurrence,
 ) -> Result<Code, AllocError>
+    requires wide { width listed.now ≤ extent_limit }
+    requires high { height listed.now ≤ extent_limit }
+    requires same { normal listed.now ≡ normal (P.members plane.old) }
     requires period { 1 ≤ recurrence.now.period }
-    requires young { P.steps_made plane + recurrence.now.period ≤ AGE_LIMIT }
+    requires young { P.steps_made plane.old + recurrence.now.period ≤ AGE_LIMIT }
     ensures { IfOk result
         (λ code. code ≡
-        code_of rule.now (P.members plane) recurrence.now.period recurrence.now.displacement) }
+        code_of rule.now (P.members plane.old) recurrence.now.period recurrence.now.displacement) }
 {
+    let population = listed.len() as u64;
     let mut text = prefix(
         alloc,
-        plane.population(),
+        population,
         recurrence.period,
         recurrence.displacement,
     )?;
-    let body = least_body(alloc, plane, rule, recurrence.period)?;
-    text.extend_from_slice(&body)?;
+    let mut least = LeastText::new(alloc);
+    add_phases(alloc, &mut least, listed, plane, rule, recurrence.period)?;
+    text.extend_from_slice(least.text())?;
     Code::of(alloc, &text)
+}
+
+/// The code of what a plane holds, which comes again as the recurrence says. Where a pattern comes again from its first
+/// generation on, its own list has the cells of the first phase.
+pub fn code_of<P: Plane>(
+    alloc: Global,
+    cells: &CellList,
+    plane: &mut P,
+    rule: &Rule,
+    recurrence: &Recurrence,
+) -> Result<Code, AllocError>
+    requires fits { All (IsWithin 0) (generations.cells cells.now) }
+    requires shape { normal (P.members plane.old) ≡
+        normal (generation rule.now cells.now recurrence.now.onset) }
+    requires period { 1 ≤ recurrence.now.period }
+    requires young { P.steps_made plane.old + recurrence.now.period ≤ AGE_LIMIT }
+    ensures { IfOk result
+        (λ code. code ≡
+        code_of rule.now (P.members plane.old) recurrence.now.period recurrence.now.displacement) }
+{
+    if recurrence.onset == 0 {
+        return code_from(alloc, cells, plane, rule, recurrence);
+    }
+    prove!(plane.age() <= AGE_LIMIT);
+    let listed = plane.cells()?;
+    code_from(alloc, &listed, plane, rule, recurrence)
 }

@@ -1,7 +1,7 @@
 //! Brent's cycle finding: the walk along the generations of a pattern, until one of them comes again. Each generation is
 //! compared with an anchor, which is moved on at the powers of two (R. P. Brent, An improved Monte Carlo factorization
 //! algorithm, 1980).
-ghost use Rattle.std.specs.Prelude.{◌≡◌, ℕ, ◌+◌, ◌*◌, ◌<◌, ◌≤◌, IfNone, IfOk, IfSome, OnOk, [], length};
+ghost use Rattle.std.specs.Prelude.{◌≡◌, ℕ, ◌+◌, ◌*◌, ◌<◌, ◌≤◌, ◌++◌, IfNone, IfOk, IfSome, OnOk, [], ◌∷◌, length};
 ghost use Rattle.life_model.specs.Evolution.{generation};
 ghost use Rattle.life_model.specs.Generation.{Generation};
 ghost use Rattle.life_model.specs.Recurrence.{SettlesAt};
@@ -22,8 +22,24 @@ const FIRST_LEAD: u32 = 64;
 /// Once in so many generations the span is looked at whatever the population is.
 const SPAN_STEP: u32 = 16;
 
+/// For so many fingerprints there is room from the first one on.
+const FINGERPRINT_ROOM: usize = 16;
+
+/// Notes one more fingerprint.
+fn note(fingerprints: &mut Vec<Fingerprint>, fingerprint: Fingerprint) -> Result<(), AllocError>
+    ensures { OnOk result
+        (fingerprints.new.items ≡ fingerprints.old.items ++ fingerprint ∷ []) }
+{
+    if fingerprints.is_empty() {
+        fingerprints.reserve(FINGERPRINT_ROOM)?;
+    }
+    fingerprints.push(fingerprint)?;
+    Ok(())
+}
+
 /// Steps on, at most so many times, until the cells stand again that the plane began with, which are listed: after how many
-/// steps, and how far away. Notes the fingerprint of each generation.
+/// steps, and how far away. Notes the fingerprints of the generations before the last two, or before the last where they
+/// don't stand again. So a pattern that comes again at once takes no room for them.
 fn run_to_return<P: Plane>(
     runner: &mut P,
     listed: &CellList,
@@ -52,20 +68,22 @@ fn run_to_return<P: Plane>(
         (length fingerprints.new.items ≡ length fingerprints.old.items + steps)) }
     ensures fingerprints { OnOk result
         ((first : Generation) (age : ℕ) → P.members runner.old ≡ generation rule.now first age →
-        length fingerprints.old.items ≡ age + 1 →
+        length fingerprints.old.items ≡ age →
         AreFingerprints rule.now first fingerprints.old.items →
         AreFingerprints rule.now first fingerprints.new.items) }
 {
     let marked = fingerprint_of(listed);
     let mut lookout = Lookout::new();
+    let mut latest = marked;
     for taken in 0..steps {
         runner.step(rule)?;
         let spanned = taken % SPAN_STEP == SPAN_STEP - 1;
         let sight = lookout.look(listed, marked, runner, taken, spanned)?;
-        fingerprints.push(sight.fingerprint)?;
         if let Some(displacement) = sight.offset {
             return Ok(Some((taken + 1, displacement)));
         }
+        note(fingerprints, latest)?;
+        latest = sight.fingerprint;
     }
     Ok(None)
 }
@@ -96,10 +114,9 @@ fn find_return_within<P: Plane>(
         (λ answer. IfNone answer (P.members runner.new ≡ generation rule.now cells.now bound)) }
     ensures age { IfOk result (λ answer. IfNone answer (P.steps_made runner.new ≡ bound)) }
     ensures count { IfOk result
-        (λ answer. IfNone answer (length fingerprints.new.items ≡ bound + 1)) }
+        (λ answer. IfNone answer (length fingerprints.new.items ≡ bound)) }
     ensures fingerprints { OnOk result (AreFingerprints rule.now cells.now fingerprints.new.items) }
 {
-    fingerprints.push(fingerprint_of(cells))?;
     let mut onset = FIRST_LEAD.min(bound);
     if let Some((period, displacement)) = run_to_return(runner, cells, rule, onset, fingerprints)? {
         return Ok(Some(Recurrence {
@@ -162,6 +179,7 @@ pub fn find_return<P: Plane>(
     }
     let anchor = runner.cells()?;
     let marked = fingerprint_of(&anchor);
+    fingerprints.push(marked)?;
     let candidates = candidates(alloc, fingerprints, bound)?;
     let mut periods = candidates.as_slice();
     let mut lookout = Lookout::new();

@@ -41,6 +41,30 @@ fn recurs(population: u64, recurrence: Recurrence, code: Code) -> Finding
     }
 }
 
+/// What is found of cells that a plane at age 0 holds.
+fn find_on<P: Plane>(
+    alloc: Global,
+    plane: &mut P,
+    rule: &Rule,
+    cells: &CellList,
+    bound: u32,
+) -> Result<Finding, AllocError>
+    requires fits { All (IsWithin 0) (generation.cells cells.now) }
+    requires bound { 1 ≤ bound × bound ≤ BOUND_LIMIT }
+    requires cells { cells.now ≡ P.members plane.old }
+    requires new { P.steps_made plane.old ≡ 0 }
+    ensures { IfOk result (λ found. found ≡ finding_of rule.now cells.now bound) }
+{
+    let population = cells.len() as u64;
+    match settling(alloc, plane, cells, rule, bound)? {
+        None => Ok(Finding::Unresolved { population }),
+        Some(recurrence) => {
+            let code = code_of(alloc, cells, plane, rule, &recurrence)?;
+            Ok(recurs(population, recurrence, code))
+        }
+    }
+}
+
 /// What is found of cells whose places are from 0 to 1,048,575.
 pub fn find_cells<P: Plane>(
     alloc: Global,
@@ -52,14 +76,8 @@ pub fn find_cells<P: Plane>(
     requires bound { 1 ≤ bound × bound ≤ BOUND_LIMIT }
     ensures { IfOk result (λ found. found ≡ finding_of rule.now cells.now bound) }
 {
-    let population = cells.len() as u64;
-    match settling::<P>(alloc, cells, rule, bound)? {
-        None => Ok(Finding::Unresolved { population }),
-        Some((recurrence, plane)) => {
-            let code = code_of(alloc, plane, rule, &recurrence)?;
-            Ok(recurs(population, recurrence, code))
-        }
-    }
+    let mut plane = P::from_cells(alloc, cells)?;
+    find_on(alloc, &mut plane, rule, cells, bound)
 }
 
 /// What is found of a pattern within the bound, over planes of any kind: its population, and where some generation up to

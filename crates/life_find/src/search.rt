@@ -28,29 +28,31 @@ fn advance<P: Plane>(plane: &mut P, rule: &Rule, steps: u32) -> Result<(), Alloc
     Ok(())
 }
 
-/// The first generation that comes again within the bound, after how many steps, and how far away; and a plane with the
-/// cells of that generation, wherever they stand.
+/// The first generation that comes again within the bound, after how many steps, and how far away. The plane of the cells
+/// then has those of that generation, wherever they stand.
 pub fn settling<P: Plane>(
     alloc: Global,
+    runner: &mut P,
     cells: &CellList,
     rule: &Rule,
     bound: u32,
-) -> Result<Option<(Recurrence, P)>, AllocError>
+) -> Result<Option<Recurrence>, AllocError>
     requires fits { All (IsWithin 0) (generations.cells cells.now) }
     requires bound { 1 ≤ bound × bound ≤ BOUND_LIMIT }
+    requires cells { cells.now ≡ P.members runner.old }
+    requires new { P.steps_made runner.old ≡ 0 }
     ensures found { IfOk result
         (λ answer. IfSome answer
-        (λ r. Settles rule.now cells.now bound r.0.onset r.0.period r.0.displacement)) }
+        (λ r. Settles rule.now cells.now bound r.onset r.period r.displacement)) }
     ensures shape { IfOk result
         (λ answer. IfSome answer
-        (λ r. normal (P.members r.1) ≡ normal (generation rule.now cells.now r.0.onset))) }
-    ensures age { IfOk result (λ answer. IfSome answer (λ r. P.steps_made r.1 ≤ 2 * bound)) }
+        (λ r. normal (P.members runner.new) ≡ normal (generation rule.now cells.now r.onset))) }
+    ensures age { IfOk result (λ answer. IfSome answer (λ r. P.steps_made runner.new ≤ 2 * bound)) }
     ensures none { IfOk result
         (λ answer. IfNone answer ((g : ℕ) → SettlesAt rule.now cells.now bound g → ⊥)) }
 {
-    let mut runner = P::from_cells(alloc, cells)?;
     let mut fingerprints = Vec::new(alloc);
-    let seen = match find_return(alloc, &mut runner, cells, rule, bound, &mut fingerprints)? {
+    let seen = match find_return(alloc, runner, cells, rule, bound, &mut fingerprints)? {
         Some(seen) => seen,
         None => return Ok(None),
     };
@@ -60,20 +62,24 @@ pub fn settling<P: Plane>(
         return Ok(None);
     }
     if seen.onset <= first {
-        return Ok(Some((seen, runner)));
+        return Ok(Some(seen));
     }
-    settling_from(alloc, cells, rule, bound, seen.period, first)
+    settling_from(alloc, runner, cells, rule, bound, seen.period, first)
 }
 
 /// The same, where the period and a generation before which none comes again are known.
+///
+/// It stands apart in the program too: within `settling` each search would first make room for its planes.
+#[inline(never)]
 fn settling_from<P: Plane>(
     alloc: Global,
+    runner: &mut P,
     cells: &CellList,
     rule: &Rule,
     bound: u32,
     period: u32,
     first: u32,
-) -> Result<Option<(Recurrence, P)>, AllocError>
+) -> Result<Option<Recurrence>, AllocError>
     requires fits { All (IsWithin 0) (generations.cells cells.now) }
     requires bound { 1 ≤ bound × bound ≤ BOUND_LIMIT }
     requires range { first + period ≤ bound }
@@ -83,28 +89,27 @@ fn settling_from<P: Plane>(
         normal (generation rule.now cells.now n) → ⊥ }
     ensures found { IfOk result
         (λ answer. IfSome answer
-        (λ r. Settles rule.now cells.now bound r.0.onset r.0.period r.0.displacement)) }
+        (λ r. Settles rule.now cells.now bound r.onset r.period r.displacement)) }
     ensures shape { IfOk result
         (λ answer. IfSome answer
-        (λ r. normal (P.members r.1) ≡ normal (generation rule.now cells.now r.0.onset))) }
-    ensures age { IfOk result (λ answer. IfSome answer (λ r. P.steps_made r.1 ≤ 2 * bound)) }
+        (λ r. normal (P.members runner.new) ≡ normal (generation rule.now cells.now r.onset))) }
+    ensures age { IfOk result (λ answer. IfSome answer (λ r. P.steps_made runner.new ≤ 2 * bound)) }
     ensures none { IfOk result
         (λ answer. IfNone answer ((g : ℕ) → SettlesAt rule.now cells.now bound g → ⊥)) }
 {
-    let mut plane = P::from_cells(alloc, cells)?;
-    advance(&mut plane, rule, first)?;
-    let mut later = plane.copy()?;
+    *runner = P::from_cells(alloc, cells)?;
+    advance(runner, rule, first)?;
+    let mut later = runner.copy()?;
     advance(&mut later, rule, period)?;
     for onset in first..bound - period + 1 {
-        if let Some(displacement) = plane_offset(&plane, &later)? {
-            let recurrence = Recurrence {
+        if let Some(displacement) = plane_offset(runner, &later)? {
+            return Ok(Some(Recurrence {
                 onset,
                 period,
                 displacement,
-            };
-            return Ok(Some((recurrence, plane)));
+            }));
         }
-        plane.step(rule)?;
+        runner.step(rule)?;
         later.step(rule)?;
     }
     Ok(None)

@@ -21,16 +21,22 @@ loop-lead-init g c =
     let list = c.find_return_within.new.fingerprints.items in
     let there = rw c.in_default.is at c.in_ok-seen.ensures.there in
     let age = rw c.in_default.is at c.in_ok-seen.ensures.age in
-    let count : length list ≡ b + 1 = rw c.in_default.is at c.in_ok-seen.ensures.count in
+    let more = c.push.new.self.items in
+    let before : length list ≡ b = rw c.in_default.is at c.in_ok-seen.ensures.count in
+    let marked : IsFingerprint (generation R G b) c.fingerprint_of-marked.result =
+    subst (λ H. IsFingerprint H c.fingerprint_of-marked.result) (c.in_ok-anchor.ensures.cells ∙ there) c.fingerprint_of-marked.ensures in
+    let count : length more ≡ b + 1 = length-more R G list more c.fingerprint_of-marked.result b c.in_ok-push.ensures.items before in
+    let are : AreFingerprints R G more =
+    AreFingerprints-more R G list more c.fingerprint_of-marked.result b c.in_ok-push.ensures.items before c.in_ok-seen.ensures.fingerprints marked in
     let here : b ≡ b + 0 = omega arith in
     record {
       there = there ∙ ap (generation R G) here;
       aged = age ∙ here;
       counted = count ∙ ap (λ n. n + 1) here;
-      fingerprints = c.in_ok-seen.ensures.fingerprints;
+      fingerprints = are;
       apart = IsApart-start R (generation R G b);
       quiet = quiet_none R _ _ _ c.new-lookout.ensures;
-      left = AreLeft-start R G b list _ c.in_ok-seen.ensures.fingerprints count
+      left = AreLeft-start R G b more _ are count
           (c.as_slice-periods.ensures.value ∙ c.in_ok-candidates.ensures ∙ ap (λ l. filter (ends_alike l) (range_with_len 1 b)) c.deref.ensures.value);
     }
 
@@ -79,8 +85,8 @@ returns-in-Some-offset-clause-fingerprints g c =
     let age = c.args.bound + c.loop-lead.lead in
     let at = c.loop-lead.invariant in
     let there = c.in_ok-step.ensures.cells ∙ ap (next R) at.there ∙ sym (generation-next R G age) in
-    AreFingerprints-more R G c.loop-lead.fingerprints.items c.push.new.self.items c.in_ok-sight.sight.fingerprint (age + 1)
-    c.in_ok-push.ensures.items at.counted at.fingerprints (subst (λ H. IsFingerprint H c.in_ok-sight.sight.fingerprint) there c.in_ok-sight.ensures.fingerprint)
+    AreFingerprints-more R G c.loop-lead.fingerprints.items c.push-in-loop-lead.new.self.items c.in_ok-sight.sight.fingerprint (age + 1)
+    c.in_ok-push-2.ensures.items at.counted at.fingerprints (subst (λ H. IsFingerprint H c.in_ok-sight.sight.fingerprint) there c.in_ok-sight.ensures.fingerprint)
 
 pub loop-lead-preserved : goal.loop-lead-preserved
 loop-lead-preserved g c =
@@ -92,7 +98,7 @@ loop-lead-preserved g c =
     let H = generation R G b in
     let at = c.loop-lead.invariant in
     let before = c.loop-lead.fingerprints.items in
-    let after = c.push.new.self.items in
+    let after = c.push-in-loop-lead.new.self.items in
     let later : age + 1 ≡ b + (n + 1) = omega arith in
     let here : c.in_ok-anchor.anchor ≡ H = c.in_ok-anchor.ensures.cells ∙ rw c.in_default.is at c.in_ok-seen.ensures.there in
     let there : g.P.Plane.members c.step.new.self ≡ generation R G (age + 1) =
@@ -100,9 +106,9 @@ loop-lead-preserved g c =
     let again : g.P.Plane.members c.step.new.self ≡ generation R H (n + 1) = there ∙ ap (generation R G) later ∙ sym (generation-add R G b (n + 1)) in
     let aged : g.P.Plane.steps_made c.step.new.self ≡ age + 1 = c.in_ok-step.ensures.age ∙ ap (λ k. k + 1) at.aged in
     let missed = rw c.in_default-offset.is at c.in_ok-sight.ensures.apart in
-    let counted : length after ≡ (age + 1) + 1 = length-more R G before after c.in_ok-sight.sight.fingerprint (age + 1) c.in_ok-push.ensures.items at.counted in
+    let counted : length after ≡ (age + 1) + 1 = length-more R G before after c.in_ok-sight.sight.fingerprint (age + 1) c.in_ok-push-2.ensures.items at.counted in
     let fingerprints : AreFingerprints R G after = AreFingerprints-more R G before after c.in_ok-sight.sight.fingerprint (age + 1)
-    c.in_ok-push.ensures.items at.counted at.fingerprints (subst (λ H. IsFingerprint H c.in_ok-sight.sight.fingerprint) there c.in_ok-sight.ensures.fingerprint) in
+    c.in_ok-push-2.ensures.items at.counted at.fingerprints (subst (λ H. IsFingerprint H c.in_ok-sight.sight.fingerprint) there c.in_ok-sight.ensures.fingerprint) in
     record {
       there = there ∙ ap (generation R G) later;
       aged = aged ∙ later;

@@ -2,7 +2,7 @@ use Rattle.std.proofs.Common.{◌≡◌, ◌+◌, ◌≤◌, length, sym, ap, su
 use Rattle.life_model.specs.Evolution.{generation}
 use Rattle.life_model.proofs.Recurrences.{generation-zero, generation-add}
 use Rattle.life_find.specs.Search.{IsReturn}
-use Rattle.life_find.proofs.Possible.{AreFingerprints-first}
+use Rattle.life_find.proofs.Possible.{AreFingerprints-none}
 use Rattle.life_find.proofs.brent.find_return_within.Goals as goal
 
 pub returns-in-Some-clause-found : goal.returns-in-Some-clause-found
@@ -16,8 +16,8 @@ pub returns-in-Some-clause-fingerprints : goal.returns-in-Some-clause-fingerprin
 returns-in-Some-clause-fingerprints g c =
     let R = c.args.rule.now in
     let G = c.args.cells.now in
-    let first = AreFingerprints-first R G c.args.fingerprints.now.items c.push.new.self.items c.fingerprint_of.result c.requires.none c.in_ok-push.ensures.items c.fingerprint_of.ensures in
-    c.in_ok-period.ensures.fingerprints G 0 (sym c.requires.cells ∙ sym (generation-zero R G)) first.0 first.1
+    c.in_ok-period.ensures.fingerprints G 0 (sym c.requires.cells ∙ sym (generation-zero R G)) (ap length c.requires.none)
+    (AreFingerprints-none R G c.args.fingerprints.now.items c.requires.none)
 
 pub anchors-init : goal.anchors-init
 anchors-init g c =
@@ -26,18 +26,18 @@ anchors-init g c =
     let n = c.min-onset.result in
     let bound = c.requires.bound in
     let least = c.min-onset.ensures in
-    let first = AreFingerprints-first R G c.args.fingerprints.now.items c.push.new.self.items c.fingerprint_of.result c.requires.none c.in_ok-push.ensures.items c.fingerprint_of.ensures in
-    let one : length c.push.new.self.items ≡ 0 + 1 = first.0 in
+    let zero : length c.args.fingerprints.now.items ≡ 0 = ap length c.requires.none in
     let there = rw c.in_default.is at c.in_ok-period.ensures.there in
     let age = rw c.in_default.is at c.in_ok-period.ensures.age in
-    let count : length c.run_to_return.new.fingerprints.items ≡ length c.push.new.self.items + n = rw c.in_default.is at c.in_ok-period.ensures.count in
+    let count : length c.run_to_return.new.fingerprints.items ≡ length c.args.fingerprints.now.items + n = rw c.in_default.is at c.in_ok-period.ensures.count in
     record {
       later = omega arith;
       within = omega arith;
       there = there ∙ ap (λ H. generation R H n) (sym c.requires.cells);
       aged = age ∙ ap (λ k. k + n) c.requires.new ∙ zero-add n;
       counted = omega arith;
-      fingerprints = c.in_ok-period.ensures.fingerprints G 0 (sym c.requires.cells ∙ sym (generation-zero R G)) first.0 first.1;
+      fingerprints = c.in_ok-period.ensures.fingerprints G 0 (sym c.requires.cells ∙ sym (generation-zero R G)) zero
+          (AreFingerprints-none R G c.args.fingerprints.now.items c.requires.none);
     }
 
 pub returns-in-Some-2-clause-seen : goal.returns-in-Some-2-clause-seen
@@ -59,7 +59,7 @@ anchors-preserved g c =
     let inside = c.anchors-test.true in
     let there = rw c.in_default-2.is at c.in_ok-period-2.ensures.there in
     let age = rw c.in_default-2.is at c.in_ok-period-2.ensures.age in
-    let before : length c.anchors.fingerprints.items ≡ o + 1 = at.counted in
+    let before : length c.anchors.fingerprints.items ≡ o = at.counted in
     let count : length c.run_to_return-in-anchors.new.fingerprints.items ≡ length c.anchors.fingerprints.items + n = rw c.in_default-2.is at c.in_ok-period-2.ensures.count in
     record {
       later = omega arith;

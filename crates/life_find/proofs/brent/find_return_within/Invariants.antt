@@ -1,4 +1,4 @@
-use Rattle.std.proofs.Common.{◌≡◌, ◌+◌, ◌-◌, ◌≤◌, length}
+use Rattle.std.proofs.Common.{◌≡◌, ◌-◌, ◌≤◌, length}
 use Rattle.life_model.specs.Evolution.{generation}
 use Rattle.life_find.specs.Search.{AreFingerprints}
 use Rattle.life_find.proofs.brent.find_return_within.Given as goal
@@ -9,7 +9,7 @@ invariant-anchors g l = record {
   within : l.onset ≤ l.bound;
   there : g.P.Plane.members l.runner ≡ generation l.rule l.cells l.onset;
   aged : g.P.Plane.steps_made l.runner ≡ l.onset;
-  counted : length l.fingerprints.items ≡ l.onset + 1;
+  counted : length l.fingerprints.items ≡ l.onset;
   fingerprints : AreFingerprints l.rule l.cells l.fingerprints.items;
 }
 

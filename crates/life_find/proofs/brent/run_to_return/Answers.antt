@@ -16,6 +16,7 @@ loop-taken-init g c = record {
   aged = sym (add-zero _);
   apart = IsApart-start _ _;
   quiet = quiet_none _ _ _ _ c.new-lookout.ensures;
+  latest = subst (λ H. IsFingerprint H c.fingerprint_of-marked.result) c.requires.listed c.fingerprint_of-marked.ensures;
   counted = sym (add-zero _);
   fingerprints = λ first age e n are. are;
 }
@@ -43,16 +44,7 @@ returns-in-Some-clause-seen g c =
     c.in_ok-step.ensures.cells ∙ ap (next R) c.loop-taken.invariant.there ∙ sym (generation-next R (g.P.Plane.members c.args.runner.now) c.loop-taken.taken)
 
 pub returns-in-Some-clause-fingerprints : goal.returns-in-Some-clause-fingerprints
-returns-in-Some-clause-fingerprints g c first age e count are =
-    let R = c.args.rule.now in
-    let G = g.P.Plane.members c.args.runner.now in
-    let n = c.loop-taken.taken in
-    let at = c.loop-taken.invariant in
-    let counted : length c.loop-taken.fingerprints.items ≡ length c.args.fingerprints.now.items + n = at.counted in
-    let there : g.P.Plane.members c.step.new.self ≡ generation R first (age + (n + 1)) =
-    c.in_ok-step.ensures.cells ∙ ap (next R) at.there ∙ sym (generation-next R G n) ∙ ap (λ H. generation R H (n + 1)) e ∙ generation-add R first age (n + 1) in
-    AreFingerprints-more R first c.loop-taken.fingerprints.items c.push.new.self.items c.in_ok-sight.sight.fingerprint (age + (n + 1))
-    c.in_ok-push.ensures.items (omega arith) (at.fingerprints first age e count are) (subst (λ H. IsFingerprint H c.in_ok-sight.sight.fingerprint) there c.in_ok-sight.ensures.fingerprint)
+returns-in-Some-clause-fingerprints g c = c.loop-taken.invariant.fingerprints
 
 pub loop-taken-preserved : goal.loop-taken-preserved
 loop-taken-preserved g c =
@@ -64,17 +56,18 @@ loop-taken-preserved g c =
     c.in_ok-step.ensures.cells ∙ ap (next R) at.there ∙ sym (generation-next R G n) in
     let missed = rw c.in_default.is at c.in_ok-sight.ensures.apart in
     let counted : length c.loop-taken.fingerprints.items ≡ length c.args.fingerprints.now.items + n = at.counted in
-    let more : length c.push.new.self.items ≡ length c.loop-taken.fingerprints.items + 1 =
-    length-more R G c.loop-taken.fingerprints.items c.push.new.self.items c.in_ok-sight.sight.fingerprint (length c.loop-taken.fingerprints.items) c.in_ok-push.ensures.items refl in
+    let more : length c.note.new.fingerprints.items ≡ length c.loop-taken.fingerprints.items + 1 =
+    length-more R G c.loop-taken.fingerprints.items c.note.new.fingerprints.items c.loop-taken.latest (length c.loop-taken.fingerprints.items) c.in_ok-note.ensures refl in
     record {
       there = there;
       aged = c.in_ok-step.ensures.age ∙ ap (λ k. k + 1) at.aged ∙ add_assoc _ _ _;
       apart = IsApart-next R G n at.apart (λ e. missed (ap normal c.requires.listed ∙ e ∙ ap normal (sym there)));
       quiet = c.in_ok-sight.ensures.quiet R (subst (λ H. IsQuiet R c.args.listed.now H c.loop-taken.lookout.quiet) (sym c.in_ok-step.ensures.cells) at.quiet);
       counted = omega arith;
+      latest = c.in_ok-sight.ensures.fingerprint;
       fingerprints = λ first age e count are.
-          let later : g.P.Plane.members c.step.new.self ≡ generation R first (age + (n + 1)) =
-          there ∙ ap (λ H. generation R H (n + 1)) e ∙ generation-add R first age (n + 1) in
-          AreFingerprints-more R first c.loop-taken.fingerprints.items c.push.new.self.items c.in_ok-sight.sight.fingerprint (age + (n + 1))
-          c.in_ok-push.ensures.items (omega arith) (at.fingerprints first age e count are) (subst (λ H. IsFingerprint H c.in_ok-sight.sight.fingerprint) later c.in_ok-sight.ensures.fingerprint);
+          let here : g.P.Plane.members c.loop-taken.runner ≡ generation R first (age + n) =
+          at.there ∙ ap (λ H. generation R H n) e ∙ generation-add R first age n in
+          AreFingerprints-more R first c.loop-taken.fingerprints.items c.note.new.fingerprints.items c.loop-taken.latest (age + n)
+          c.in_ok-note.ensures (omega arith) (at.fingerprints first age e count are) (subst (λ H. IsFingerprint H c.loop-taken.latest) here at.latest);
     }

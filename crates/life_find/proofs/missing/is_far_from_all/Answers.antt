@@ -1,4 +1,4 @@
-use Rattle.std.proofs.Common.{pos, slice_index_or, sym, subst, below_more}
+use Rattle.std.proofs.Common.{pos, slice_index_or, subst, below_more}
 use Rattle.std.proofs.lemmas.List.{get_or_default}
 use Rattle.life_model.specs.Cell.{Cell, opposite, plus}
 use Rattle.life_find.specs.Quiet.{IsReachedBy}

@@ -11,9 +11,9 @@ loop-onset-init g c =
     let p = c.args.period in
     let first = c.args.first in
     let here : g.P.Plane.members c.advance.new.plane ≡ generation R G first =
-    c.in_ok-advance.ensures.cells ∙ ap (λ H. generation R H first) c.in_ok-plane.ensures.cells in
+    c.in_ok-advance.ensures.cells ∙ ap (λ H. generation R H first) c.in_ok-runner.ensures.cells in
     let aged : g.P.Plane.steps_made c.advance.new.plane ≡ first =
-    c.in_ok-advance.ensures.age ∙ ap (λ n. n + first) c.in_ok-plane.ensures.age ∙ zero-add first in
+    c.in_ok-advance.ensures.age ∙ ap (λ n. n + first) c.in_ok-runner.ensures.age ∙ zero-add first in
     record {
       here = here;
       there = c.in_ok-advance-2.ensures.cells ∙ ap (λ H. generation R H p) (c.in_ok-later.ensures.cells ∙ here) ∙ generation-add R G first p;

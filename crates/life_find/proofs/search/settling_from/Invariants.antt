@@ -6,9 +6,9 @@ use Rattle.life_find.proofs.search.settling_from.Given as goal
 -- No generation so far comes again after the period.
 abbrev pub invariant-loop-onset : goal.invariant-loop-onset
 invariant-loop-onset g l = record {
-  here : g.P.Plane.members l.plane ≡ generation l.rule l.cells l.onset;
+  here : g.P.Plane.members l.runner ≡ generation l.rule l.cells l.onset;
   there : g.P.Plane.members l.later ≡ generation l.rule l.cells (l.onset + l.period);
-  aged : g.P.Plane.steps_made l.plane ≡ l.onset;
+  aged : g.P.Plane.steps_made l.runner ≡ l.onset;
   later_aged : g.P.Plane.steps_made l.later ≡ l.onset + l.period;
   none : (h : ℕ) → h < l.onset → shape l.rule l.cells (h + l.period) ≡ shape l.rule l.cells h → ⊥;
 }

@@ -1,4 +1,4 @@
-use Rattle.std.proofs.Common.{◌≡◌, ◌-◌, ◌+◌, ◌<◌, arith}
+use Rattle.std.proofs.Common.{◌-◌, arith}
 use Rattle.life_find.proofs.Quiet.{quiet_here, quiet_next, quiet_after}
 use Rattle.life_find.proofs.lookout.Lookout.look.Goals as goal
 

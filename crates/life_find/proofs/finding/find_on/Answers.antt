@@ -3,7 +3,7 @@ use Rattle.life_model.specs.Evolution.{generation}
 use Rattle.life_model.proofs.Recurrences.{onset-period-le}
 use Rattle.life_find.proofs.Found.{unresolved-found, recurs-found}
 use Rattle.life_codes.proofs.Phases.{code_by_shape}
-use Rattle.life_find.proofs.finding.find_cells.Goals as goal
+use Rattle.life_find.proofs.finding.find_on.Goals as goal
 
 pub returns-in-None : goal.returns-in-None
 returns-in-None g c =
@@ -33,4 +33,7 @@ returns-in_ok-code-in-Some g c =
     let same = rw c.in-Some.is at c.in_ok-settling.ensures.shape in
     c.recurs.ensures
     ∙ recurs-found R G G refl c.args.bound c.len-population.result c.len-population.ensures r.onset r.period r.displacement (generation R G r.onset) c.in_ok-code-in-Some.code settles refl
-    (c.in_ok-code-in-Some.ensures ∙ code_by_shape R (g.P.Plane.members c.in-Some.plane) (generation R G r.onset) r.period r.displacement same)
+    (c.in_ok-code-in-Some.ensures ∙ code_by_shape R (g.P.Plane.members c.settling.new.runner) (generation R G r.onset) r.period r.displacement same)
+
+pub code_of-requires-clause-shape : goal.code_of-requires-clause-shape
+code_of-requires-clause-shape g c = rw c.in-Some.is at c.in_ok-settling.ensures.shape

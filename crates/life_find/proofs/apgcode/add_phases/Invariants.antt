@@ -4,7 +4,7 @@ use Rattle.life_model.specs.Evolution.{generation}
 use Rattle.life_shape.specs.TextOrder.{least_text}
 use Rattle.life_answer.specs.Apgcode.{bodies, turned_bodies}
 use Rattle.life_codes.specs.Least.{with_text}
-use Rattle.life_find.proofs.apgcode.least_body.Given as goal
+use Rattle.life_find.proofs.apgcode.add_phases.Given as goal
 
 -- the least of the phases so far, and that of the first
 abbrev pub invariant-loop-n : goal.invariant-loop-n
