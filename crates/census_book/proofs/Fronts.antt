@@ -7,7 +7,7 @@ use Rattle.census_bundle.specs.declared.bundle.Entry.{Entry}
 use Rattle.census_bundle.specs.declared.bundle.Folder.{Folder}
 use Rattle.census_bundle.specs.declared.ticket.Ticket.{Ticket}
 use Rattle.census_bundle.specs.Tickets.{Tickets, no_tickets, element_at, entry_at, with_ticket, has_ticket, ticket}
-use Rattle.census_book.specs.Front.{IsFront, IsNextOpen, run_at}
+use Rattle.census_book.specs.Front.{FolderRun, IsFront, IsNextOpen, run_at}
 use Rattle.census_book.specs.Collecting.{Belongs, IsLeastMissing}
 use Rattle.census_format.specs.Lines.{end_line, text_of}
 use Rattle.census_format.specs.Reports.{run_of, has_all, end_if, folder_out, text_released, folder_text_released}
@@ -21,12 +21,12 @@ use Rattle.census_format.proofs.Owning.{eqb_same, eqb_apart}
 use Rattle.life_answer.specs.declared.question.Question.{Question}
 
 -- the runs are those of these tickets, and the first open collection was looked for from one before which all are whole
-pub next_front : (b : List Folder) (taken : Tickets) (new runs : List ℕ) (c m from first : ℕ) → length new ≡ length b
-    → ((k : ℕ) (f : Folder) → slice_get b k ≡ Some f → slice_index new k ≡ run_at runs c m k)
-    → ((k : ℕ) (f : Folder) → slice_get b k ≡ Some f → run_at runs c m k ≡ run_of taken (1 + k) f)
+pub next_front : (b : List Folder) (taken : Tickets) (new runs : List ℕ) (come : FolderRun) (from first : ℕ) → length new ≡ length b
+    → ((k : ℕ) (f : Folder) → slice_get b k ≡ Some f → slice_index new k ≡ run_at runs come k)
+    → ((k : ℕ) (f : Folder) → slice_get b k ≡ Some f → run_at runs come k ≡ run_of taken (1 + k) f)
     → ((k : ℕ) → k < from → (f : Folder) → slice_get b k ≡ Some f → run_of taken (1 + k) f ≡ length f.entries)
-    → IsNextOpen b runs c m from first → IsFront b taken new first
-next_front b taken new runs c m from first size same is before next = record {
+    → IsNextOpen b runs come from first → IsFront b taken new first
+next_front b taken new runs come from first size same is before next = record {
   each = size;
   run = λ k f at. same k f at ∙ is k f at;
   whole = λ k lt f at.
@@ -38,17 +38,15 @@ next_front b taken new runs c m from first size same is before next = record {
   part = λ f at full. next.part f at (is first f at ∙ full);
 }
 
-run_at-other : (runs : List ℕ) (c m k : ℕ) → (k + 1 ≡ c → ⊥) → run_at runs c m k ≡ slice_index runs k
-run_at-other runs c m k apart = ap (λ b. cond b m (slice_index runs k)) (eqb_apart (k + 1) c apart)
-
-run_at-same : (runs : List ℕ) (c m k : ℕ) → k + 1 ≡ c → run_at runs c m k ≡ m
-run_at-same runs c m k is = ap (λ b. cond b m (slice_index runs k)) (eqb_same (k + 1) c is)
+run_at-other : (runs : List ℕ) (come : FolderRun) (k : ℕ) → (k + 1 ≡ come.folder → ⊥) → run_at runs come k ≡ slice_index runs k
+run_at-other runs come k apart = ap (λ b. cond b come.run (slice_index runs k)) (eqb_apart (k + 1) come.folder apart)
 
 -- nothing has arrived
-pub front_new : (b : List Folder) (runs : List ℕ) (first : ℕ) → length runs ≡ length b → ((k : ℕ) → k < length b → slice_index runs k ≡ 0) → IsNextOpen b runs 0 0 0 first → IsFront b no_tickets runs first
+pub front_new : (b : List Folder) (runs : List ℕ) (first : ℕ) → length runs ≡ length b → ((k : ℕ) → k < length b → slice_index runs k ≡ 0) → IsNextOpen b runs (record { folder = 0; run = 0 }) 0 first → IsFront b no_tickets runs first
 front_new b runs first size zeros next =
-    let other : (k : ℕ) → run_at runs 0 0 k ≡ slice_index runs k = λ k. run_at-other runs 0 0 k (λ e. absurd (omega arith)) in
-    next_front b no_tickets runs runs 0 0 0 first size (λ k f at. sym (other k)) (λ k f at. other k ∙ zeros k (slice_get_within b k f at) ∙ sym (run_none (1 + k) 1 f.entries))
+    let none : FolderRun = record { folder = 0; run = 0 } in
+    let other : (k : ℕ) → run_at runs none k ≡ slice_index runs k = λ k. run_at-other runs none k (λ e. absurd (omega arith)) in
+    next_front b no_tickets runs runs none 0 first size (λ k f at. sym (other k)) (λ k f at. other k ∙ zeros k (slice_get_within b k f at) ∙ sym (run_none (1 + k) 1 f.entries))
     (λ k lt f at. absurd (omega arith)) next
 
 numbered_before : {A : Type 0} (xs : List A) (c k : ℕ) (x : A) → k + 1 ≡ c → slice_get xs k ≡ Some x → element_at xs c ≡ Some x
@@ -63,7 +61,7 @@ run_other taken t c f apart =
 -- the runs, where one more ticket has arrived
 pub runs_with : (b : List Folder) (taken : Tickets) (runs : List ℕ) (first : ℕ) (t : Ticket) (m : ℕ) → IsFront b taken runs first
     → ((f : Folder) → element_at b t.folder ≡ Some f → m ≡ run_of (with_ticket taken t) t.folder f)
-    → (k : ℕ) (f : Folder) → slice_get b k ≡ Some f → run_at runs t.folder m k ≡ run_of (with_ticket taken t) (1 + k) f
+    → (k : ℕ) (f : Folder) → slice_get b k ≡ Some f → run_at runs (record { folder = t.folder; run = m }) k ≡ run_of (with_ticket taken t) (1 + k) f
 runs_with b taken runs first t m front here k f at =
     let one : k + 1 ≡ 1 + k = omega arith in
     elim (eqb (k + 1) t.folder) as (λ x. eqb (k + 1) t.folder ≡ x → cond x m (slice_index runs k) ≡ run_of (with_ticket taken t) (1 + k) f) [
@@ -92,10 +90,10 @@ pub front_with : (b : List Folder) (taken : Tickets) (runs : List ℕ) (first ne
     → (0 < t.folder) × (t.folder ≤ length b)
     → ((f : Folder) → element_at b t.folder ≡ Some f → m ≡ run_of (with_ticket taken t) t.folder f)
     → ((f : Folder) → element_at b t.folder ≡ Some f → run_of taken t.folder f ≡ length f.entries → ⊥)
-    → IsNextOpen b runs t.folder m first next → IsFront b (with_ticket taken t) (set runs (t.folder - 1) m) next
+    → IsNextOpen b runs (record { folder = t.folder; run = m }) first next → IsFront b (with_ticket taken t) (set runs (t.folder - 1) m) next
 front_with b taken runs first next t m front within here part behind =
     let new = set runs (t.folder - 1) m in
-    next_front b (with_ticket taken t) new runs t.folder m first next (length-set runs (t.folder - 1) m ∙ front.each)
+    next_front b (with_ticket taken t) new runs (record { folder = t.folder; run = m }) first next (length-set runs (t.folder - 1) m ∙ front.each)
     (λ k f at.
     elim (eqb (k + 1) t.folder) as (λ x. eqb (k + 1) t.folder ≡ x → get_or new k 0 ≡ cond x m (get_or runs k 0)) [
       | true ↦ λ e.
@@ -139,7 +137,7 @@ run_kept taken t c k f is j lt =
 
 -- the front after a result that belongs there
 pub front_after : (b : List Folder) (question : Question) (taken : Tickets) (runs : List ℕ) (first next : ℕ) (t : Ticket) (m : ℕ) (worked : Entry) (asked : Question) → IsFront b taken runs first → Belongs b question t worked asked → has_ticket taken t ≡ false
-    → ((f : Folder) → element_at b t.folder ≡ Some f → m ≡ run_of (with_ticket taken t) t.folder f) → IsNextOpen b runs t.folder m first next → IsFront b (with_ticket taken t) (set runs (t.folder - 1) m) next
+    → ((f : Folder) → element_at b t.folder ≡ Some f → m ≡ run_of (with_ticket taken t) t.folder f) → IsNextOpen b runs (record { folder = t.folder; run = m }) first next → IsFront b (with_ticket taken t) (set runs (t.folder - 1) m) next
 front_after b question taken runs first next t m worked n front belongs new here behind =
     let at = folder_at (element_at b t.folder) t.number belongs.entry belongs.at in
     front_with b taken runs first next t m front (ticket_in b t belongs.entry belongs.at) here

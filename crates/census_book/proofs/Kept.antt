@@ -5,7 +5,7 @@ use Rattle.census_bundle.specs.declared.ticket.Ticket.{Ticket}
 use Rattle.census_bundle.specs.declared.bundle.Entry.{Entry}
 use Rattle.census_bundle.specs.Tickets.{Tickets, ticket, element_at, entry_in, has_ticket, with_ticket}
 use Rattle.census_book.specs.Work.{Work}
-use Rattle.census_book.specs.Collecting.{Belongs, HasCollection, IsResult}
+use Rattle.census_book.specs.Collecting.{Belongs, HasCollection, IsResult, IsResultOf}
 use Rattle.census_book.proofs.TicketSets.{new_ticket}
 use Rattle.census_format.specs.Heads.{line_with_head, line_head, line_tail}
 use Rattle.census_format.specs.Lines.{answer_to_entry, pattern_text}
@@ -29,7 +29,7 @@ chosen P None is some none given = subst P (sym is) (given none)
 chosen P (Some y) is some none given = subst P (sym is) some
 
 -- a result that belongs to the bundle and the question at its own ticket
-pub result_at_own : (b : List Folder) (question : Question) (t : Ticket) (w : Work) → w.ticket ≡ t → Belongs b question w.ticket w.entry w.question → IsResult b question t w
+pub result_at_own : (b : List Folder) (question : Question) (t : Ticket) (w : Work) → w.ticket ≡ t → IsResultOf b question w → IsResult b question t w
 result_at_own b question t w own belongs = record {
   own = own;
   belongs = subst (λ s. Belongs b question s w.entry w.question) own belongs;
@@ -37,7 +37,7 @@ result_at_own b question t w own belongs = record {
 
 -- A ticket is that of the result that arrives where it is then taken, and was before only in a collection that had arrived
 -- whole.
-pub own_result : (b : List Folder) (question : Question) (taken : Tickets) (w : Work) (t : Ticket) → Belongs b question w.ticket w.entry w.question → has_ticket taken w.ticket ≡ false → t.folder ≡ w.ticket.folder
+pub own_result : (b : List Folder) (question : Question) (taken : Tickets) (w : Work) (t : Ticket) → IsResultOf b question w → has_ticket taken w.ticket ≡ false → t.folder ≡ w.ticket.folder
     → has_ticket (with_ticket taken w.ticket) t ≡ true → (has_ticket taken t ≡ true → HasCollection b taken t.folder) → IsResult b question t w
 own_result b question taken w t belongs new same has whole =
     result_at_own b question t w (sym (new_ticket taken w.ticket t not has)) belongs
@@ -60,13 +60,14 @@ result_answer b question c n f e w is at here =
 
 -- a result's head and tail make the lines of the pattern of its ticket's number
 pub result_line : (b : List Folder) (question : Question) (c n : ℕ) (f : Folder) (e : Entry) (w : Work) (head tail : List ℕ) → IsResult b question (ticket c n) w → element_at b c ≡ Some f → element_at f.entries n ≡ Some e
-    → head ≡ line_head w.ticket.folder w.ticket.number (answer_to_entry w.question w.entry) → tail ≡ line_tail w.ticket.folder w.ticket.number (answer_to_entry w.question w.entry) → line_with_head head tail e ≡ pattern_text question c n e
+    → head ≡ line_head w.ticket (answer_to_entry w.question w.entry) → tail ≡ line_tail w.ticket (answer_to_entry w.question w.entry) → line_with_head head e tail ≡ pattern_text question c n e
 result_line b question c n f e w head tail is at here head_is tail_is =
     let found = result_answer b question c n f e w is at here in
-    ap (λ h. line_with_head h tail e)
-    (head_is ∙ ap (λ (t : Ticket). line_head t.folder t.number (answer_to_entry w.question w.entry)) is.own ∙ ap (line_head c n) found)
-    ∙ ap (λ t. line_with_head (line_head c n (answer_to_entry question e)) t e)
-    (tail_is ∙ ap (λ (t : Ticket). line_tail t.folder t.number (answer_to_entry w.question w.entry)) is.own ∙ ap (line_tail c n) found)
+    let own = ticket c n in
+    ap (λ h. line_with_head h e tail)
+    (head_is ∙ ap (λ (t : Ticket). line_head t (answer_to_entry w.question w.entry)) is.own ∙ ap (line_head own) found)
+    ∙ ap (line_with_head (line_head own (answer_to_entry question e)) e)
+    (tail_is ∙ ap (λ (t : Ticket). line_tail t (answer_to_entry w.question w.entry)) is.own ∙ ap (line_tail own) found)
     ∙ headed_line question c n e
 
 pub numbered_next : {A : Type 0} (xs : List A) (i : ℕ) (x : A) → slice_get xs i ≡ Some x → element_at xs (i + 1) ≡ Some x

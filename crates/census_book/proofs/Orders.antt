@@ -2,7 +2,6 @@
 use Rattle.std.proofs.Common.{◌≡◌, ℕ, List, [], ◌∷◌, ◌++◌, refl, sym, ap, subst, ◌∙◌, append_assoc, append-nil}
 use Rattle.census_bundle.specs.declared.bundle.Folder.{Folder}
 use Rattle.census_bundle.specs.declared.ticket.Ticket.{Ticket}
-use Rattle.census_bundle.specs.declared.bundle.Entry.{Entry}
 use Rattle.census_bundle.specs.Tickets.{Tickets, no_tickets, with_ticket, entry_at, IsTicketOf}
 use Rattle.census_format.specs.Reports.{text_at_start, text_released}
 use Rattle.census_book.specs.Released.{IsReleased}
@@ -35,10 +34,11 @@ record IsUnderWay (b : List Folder) (question : Question) (p : Progress) : Type 
   same_question : p.question ≡ question
   released : IsReleased b question p.taken p.unsent
 
-way_step : (b : List Folder) (question : Question) (p q : Progress) (t : Ticket) (worked : Entry) (asked : Question) (o : Offer) → IsUnderWay b question p → Offered p t worked asked q o → IsUnderWay b question q
-way_step b question p q t worked n Stranger way offered = subst (IsUnderWay b question) (sym offered.1) way
-way_step b question p q t worked n Double way offered = subst (IsUnderWay b question) (sym offered.1) way
-way_step b question p q t worked n Taken way offered =
+way_step : (b : List Folder) (question : Question) (p q : Progress) (w : Work) (o : Offer) → IsUnderWay b question p → Offered p w q o → IsUnderWay b question q
+way_step b question p q w Stranger way offered = subst (IsUnderWay b question) (sym offered.1) way
+way_step b question p q w Double way offered = subst (IsUnderWay b question) (sym offered.1) way
+way_step b question p q w Taken way offered =
+    let t = w.ticket in
     let belongs = offered.0.0 in
     let of : IsTicketOf b t = (belongs.entry, ap (λ fs. entry_at fs t) (sym way.same_bundle) ∙ belongs.at) in
     let more : IsReleased b question (with_ticket p.taken t) (p.unsent ++ text_released b question p.taken t) = released_more b question p.taken p.unsent t way.released of offered.0.1 in
@@ -51,7 +51,7 @@ way_step b question p q t worked n Taken way offered =
 
 way_all : (b : List Folder) (question : Question) (p r : Progress) (ws : List Work) → IsUnderWay b question p → OfferedAll p ws r → IsUnderWay b question r
 way_all b question p r [] way all = subst (IsUnderWay b question) (sym all) way
-way_all b question p r (w ∷ ws) way all = way_all b question all.0 r ws (way_step b question p all.0 w.ticket w.entry w.question all.1 way all.2) all.3
+way_all b question p r (w ∷ ws) way all = way_all b question all.0 r ws (way_step b question p all.0 w all.1 way all.2) all.3
 
 pub arrivals_are_lawful : ArrivalsAreLawful
 arrivals_are_lawful b question ws p all =

@@ -2,6 +2,7 @@
 use Rattle.std.proofs.Common.{◌≡◌, ℕ, zero, suc, ◌+◌, ◌-◌, ◌<◌, ◌≤◌, Bool, true, false, List, [], ◌∷◌, ◌++◌, length, map, replicate, is_some, Option, None, Some, refl, sym, ap, ◌∙◌, arith, append_assoc, append-nil, slice_get}
 use Rattle.std.specs.Prelude.{slice_set}
 use Rattle.std.proofs.lemmas.List.{map-set, set-append_left, length-map, length-set, length-append, length-replicate, replicate-append-replicate}
+use Rattle.std.proofs.Math.Seq.{set-append_seam}
 use Rattle.census_book.specs.Slots.{Row, Taking, IsFull, dropped, work_in, kept, padded_row, row_of, work_at}
 use Rattle.census_bundle.specs.Tickets.{element_at}
 use Rattle.census_book.specs.Work.{Work}
@@ -127,21 +128,45 @@ not_dropped true len results i pos le empty is = let full = slot_full len i pos 
 not_dropped false len results i pos le empty is = absurd (cc)
 
 -- a result is put into a slot that is empty
-pub put_row : (is_dropped : Bool) (number len : ℕ) (results filled : List (Option Work)) (w : Work) → 0 < number → number ≤ len → length results ≤ len → work_at (row_of is_dropped len results) number ≡ None → filled ≡ padded_row number results
-    → row_of is_dropped len (slice_set filled (number - 1) (Some w)) ≡ slice_set (row_of is_dropped len results) (number - 1) (Some (Some w))
-put_row true number len results filled w pos within few empty is = absurd (not_dropped true len results number pos within empty refl)
-put_row false number len results filled w pos within few empty is =
+pub put_row : (is_dropped : Bool) (number len : ℕ) (results made : List (Option Work)) (w : Work) → 0 < number → number ≤ len → length results ≤ len → work_at (row_of is_dropped len results) number ≡ None
+    → made ≡ slice_set (padded_row number results) (number - 1) (Some w) → row_of is_dropped len made ≡ slice_set (row_of is_dropped len results) (number - 1) (Some (Some w))
+put_row true number len results made w pos within few empty is = absurd (not_dropped true len results number pos within empty refl)
+put_row false number len results made w pos within few empty is =
     let next : number ≡ (number - 1) + 1 = omega arith in
-    ap (λ xs. map kept (padded_row len (slice_set xs (number - 1) (Some w)))) (is ∙ ap (λ n. padded_row n results) next)
+    ap (λ xs. map kept (padded_row len xs)) (is ∙ ap (λ n. slice_set (padded_row n results) (number - 1) (Some w)) next)
     ∙ ap (map kept) (put_padded (number - 1) len results (Some w) (omega arith) few) ∙ map-set kept (padded_row len results) (number - 1) (Some w)
 
 -- and it fits in the row
-pub put_fits : (is_dropped : Bool) (number len : ℕ) (results filled : List (Option Work)) (w : Work) → 0 < number → number ≤ len → length results ≤ len → work_at (row_of is_dropped len results) number ≡ None → filled ≡ padded_row number results
-    → (length (slice_set filled (number - 1) (Some w)) ≤ len) × (is_dropped ≡ true → slice_set filled (number - 1) (Some w) ≡ [])
-put_fits is_dropped number len results filled w pos within few empty is =
-    let size : length (slice_set filled (number - 1) (Some w)) ≡ length results + (number - length results) =
-    length-set filled (number - 1) (Some w) ∙ ap length is ∙ length-padded number results in
+pub put_fits : (is_dropped : Bool) (number len : ℕ) (results made : List (Option Work)) (w : Work) → 0 < number → number ≤ len → length results ≤ len → work_at (row_of is_dropped len results) number ≡ None
+    → made ≡ slice_set (padded_row number results) (number - 1) (Some w) → (length made ≤ len) × (is_dropped ≡ true → made ≡ [])
+put_fits is_dropped number len results made w pos within few empty is =
+    let size : length made ≡ length results + (number - length results) =
+    ap length is ∙ length-set (padded_row number results) (number - 1) (Some w) ∙ length-padded number results in
     (omega arith, λ told. absurd (not_dropped is_dropped len results number pos within empty told))
+
+-- a slot that is there before is filled
+pub set_there : (number : ℕ) (results filled : List (Option Work)) (w : Work) → 0 < number → filled ≡ padded_row (number - 1) results → number - 1 < length filled
+    → slice_set filled (number - 1) (Some w) ≡ slice_set (padded_row number results) (number - 1) (Some w)
+set_there number results filled w pos is there =
+    let size : length filled ≡ length results + (number - 1 - length results) = ap length is ∙ length-padded (number - 1) results in
+    let none : number - 1 - length results ≡ number - length results = omega arith in
+    ap (λ xs. slice_set xs (number - 1) (Some w)) (is ∙ ap (λ k. results ++ replicate k None) none)
+
+-- a slot is made that is filled
+pub set_behind : (number : ℕ) (results filled : List (Option Work)) (w : Work) → 0 < number → filled ≡ padded_row (number - 1) results → (number - 1 < length filled → ⊥)
+    → filled ++ Some w ∷ [] ≡ slice_set (padded_row number results) (number - 1) (Some w)
+set_behind number results filled w pos is behind =
+    let size : length filled ≡ length results + (number - 1 - length results) = ap length is ∙ length-padded (number - 1) results in
+    let at : length filled ≡ number - 1 = omega (arith, behind) in
+    let more : (number - 1 - length results) + 1 ≡ number - length results = omega (arith, behind) in
+    let next : filled ++ None ∷ [] ≡ padded_row number results =
+    ap (λ xs. xs ++ None ∷ []) is
+    ∙ append_assoc results (replicate (number - 1 - length results) None) (None ∷ [])
+    ∙ ap (λ xs. results ++ xs) (replicate-append-replicate (number - 1 - length results) 1 None)
+    ∙ ap (λ k. results ++ replicate k None) more in
+    sym (set-append_seam filled None [] (Some w))
+    ∙ ap (λ k. slice_set (filled ++ None ∷ []) k (Some w)) at
+    ∙ ap (λ xs. slice_set xs (number - 1) (Some w)) next
 
 -- the results of a row that is full are dropped
 full_dropped : (row : Row) → ((i : ℕ) → i < length row → is_some (work_in (slice_get row i)) ≡ true) → replicate (length row) (Some None) ≡ map dropped row

@@ -14,7 +14,7 @@ use Rattle.census_bundle.specs.declared.bundle.Entry.{Entry}
 use Rattle.census_bundle.specs.declared.bundle.Folder.{Folder}
 use Rattle.census_bundle.specs.declared.ticket.Ticket.{Ticket}
 use Rattle.census_bundle.specs.Tickets.{IsTicketOf, entry_at, entry_in, folder_of, has_ticket, no_tickets, number_in_folder, element_at, ticket, ticket_cmp, tickets_of, with_ticket}
-use Rattle.census_book.specs.Collecting.{Belongs, HasCollection, IsResult}
+use Rattle.census_book.specs.Collecting.{HasCollection, IsResult, IsResultOf}
 use Rattle.census_book.specs.Slots.{Row, Taking, HasSlot, IsFull, KeepsResults, dropped, empty_slots, work_in, result_at, row_tickets, rows_tickets, work_at, slot_in, taken_in, taking_at, with_result, without_results}
 use Rattle.census_book.specs.Work.{Work}
 use Rattle.census_book.proofs.Kept.{result_at_own}
@@ -180,7 +180,7 @@ has_slot b question rows t e keeps at = slot t.folder t.number at
         ] refl is
 
 -- one more result that belongs there
-pub keeps_put : (b : List Folder) (question : Question) (rows : List Row) (w : Work) → KeepsResults b question rows → Belongs b question w.ticket w.entry w.question → KeepsResults b question (with_result rows w)
+pub keeps_put : (b : List Folder) (question : Question) (rows : List Row) (w : Work) → KeepsResults b question rows → IsResultOf b question w → KeepsResults b question (with_result rows w)
 keeps_put b question rows w keeps belongs =
     let has = has_slot b question rows w.ticket belongs.entry keeps belongs.at in
     record {

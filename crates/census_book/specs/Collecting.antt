@@ -29,11 +29,15 @@ pub record IsResult (b : List Folder) (question : Question) (t : Ticket) (w : Wo
 abbrev pub HasCollection : List Folder → Tickets → ℕ → Type 0
 HasCollection b taken c = (t : Ticket) → IsTicketOf b t → t.folder ≡ c → has_ticket taken t ≡ true
 
+-- it was worked for a ticket of this bundle, on the text of that ticket, for this question
+abbrev pub IsResultOf : List Folder → Question → Work → Type 0
+IsResultOf b question w = Belongs b question w.ticket w.entry w.question
+
 -- what is answered to a result where these tickets were taken
-abbrev pub Judged : List Folder → Question → Tickets → Ticket → Entry → Question → Offer → Type 0
-Judged b question taken t worked asked Stranger = Belongs b question t worked asked → ⊥
-Judged b question taken t worked asked Double = Belongs b question t worked asked × (has_ticket taken t ≡ true)
-Judged b question taken t worked asked Taken = Belongs b question t worked asked × (has_ticket taken t ≡ false)
+abbrev pub Judged : List Folder → Question → Tickets → Work → Offer → Type 0
+Judged b question taken w Stranger = IsResultOf b question w → ⊥
+Judged b question taken w Double = IsResultOf b question w × (has_ticket taken w.ticket ≡ true)
+Judged b question taken w Taken = IsResultOf b question w × (has_ticket taken w.ticket ≡ false)
 
 -- the collector afterwards
 abbrev pub after_offer : Progress → Ticket → Offer → Progress
@@ -41,9 +45,9 @@ after_offer p t Stranger = p
 after_offer p t Double = p
 after_offer p t Taken = with_taken p t
 
--- what becomes of a collector to which this result was offered
-abbrev pub Offered : Progress → Ticket → Entry → Question → Progress → Offer → Type 0
-Offered p t worked asked q o = Judged p.bundle p.question p.taken t worked asked o × (q ≡ after_offer p t o)
+-- a collector before a result is offered, the result, the collector afterwards, and what is answered
+abbrev pub Offered : Progress → Work → Progress → Offer → Type 0
+Offered before w after o = Judged before.bundle before.question before.taken w o × (after ≡ after_offer before w.ticket o)
 
 -- the least ticket that is not taken
 pub record IsLeastMissing (b : List Folder) (taken : Tickets) (t : Ticket) : Type 0 where

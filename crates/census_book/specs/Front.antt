@@ -14,19 +14,30 @@ pub record IsFront (b : List Folder) (taken : Tickets) (runs : List ℕ) (first 
   pub within : first ≤ length b
   pub part : (f : Folder) → slice_get b first ≡ Some f → run_of taken (1 + first) f ≡ length f.entries → ⊥
 
--- the runs, where the collection c has come to m
-abbrev pub run_at : List ℕ → ℕ → ℕ → ℕ → ℕ
-run_at runs c m k = if k + 1 == c then m else slice_index runs k
+-- the number of a collection, and its run
+pub record FolderRun : Type 0 where
+  pub folder : ℕ
+  pub run : ℕ
 
--- the first collection from one on that is not whole, where the collection c has come to m
-pub record IsNextOpen (b : List Folder) (runs : List ℕ) (c m from first : ℕ) : Type 0 where
+-- the runs, where one collection has come so far
+abbrev pub run_at : List ℕ → FolderRun → ℕ → ℕ
+run_at runs come k = if k + 1 == come.folder then come.run else slice_index runs k
+
+-- the first collection from one on that is not whole, where one collection has come so far
+pub record IsNextOpen (b : List Folder) (runs : List ℕ) (come : FolderRun) (from first : ℕ) : Type 0 where
   pub behind : from ≤ first
   pub within : first ≤ length b
-  pub whole : (k : ℕ) → from ≤ k → k < first → (f : Folder) → slice_get b k ≡ Some f → run_at runs c m k ≡ length f.entries
-  pub part : (f : Folder) → slice_get b first ≡ Some f → run_at runs c m first ≡ length f.entries → ⊥
+  pub whole : (k : ℕ) → from ≤ k → k < first → (f : Folder) → slice_get b k ≡ Some f → run_at runs come k ≡ length f.entries
+  pub part : (f : Folder) → slice_get b first ≡ Some f → run_at runs come first ≡ length f.entries → ⊥
 
--- what a ticket's result releases, its collection's run then, and the first collection that is then open
-pub record IsRelease (b : List Folder) (question : Question) (taken : Tickets) (runs : List ℕ) (first : ℕ) (t : Ticket) (text : List ℕ) (run next : ℕ) : Type 0 where
-  pub released : text ≡ text_released b question taken t
-  pub come_to : (f : Folder) → element_at b t.folder ≡ Some f → run ≡ run_of (with_ticket taken t) t.folder f
-  pub then_open : IsNextOpen b runs t.folder run first next
+-- a text that is released, the run of a collection then, and the first collection that is then open
+pub record Effect : Type 0 where
+  pub text : List ℕ
+  pub run : ℕ
+  pub first_open : ℕ
+
+-- what a ticket's result brings about
+pub record IsRelease (b : List Folder) (question : Question) (taken : Tickets) (runs : List ℕ) (first : ℕ) (t : Ticket) (e : Effect) : Type 0 where
+  pub released : e.text ≡ text_released b question taken t
+  pub come_to : (f : Folder) → element_at b t.folder ≡ Some f → e.run ≡ run_of (with_ticket taken t) t.folder f
+  pub then_open : IsNextOpen b runs (record { folder = t.folder; run = e.run }) first e.first_open

@@ -35,7 +35,7 @@ OrdersAreLawful =
 -- the second is what becomes of the first, to which these results were offered in turn
 abbrev pub OfferedAll : Progress → List Work → Progress → Type 0
 OfferedAll p [] r = r ≡ p
-OfferedAll p (w ∷ ws) r = (q : Progress) × (o : Offer) × Offered p w.ticket w.entry w.question q o × OfferedAll q ws r
+OfferedAll p (w ∷ ws) r = (q : Progress) × (o : Offer) × Offered p w q o × OfferedAll q ws r
 
 -- Whatever results are offered, in whatever order, some of them twice or of another bundle or question: what is released
 -- begins a report, and it is one where no ticket is missing.

@@ -1,7 +1,7 @@
 //! A result beside those that were taken before.
 ghost use Rattle.std.specs.Prelude.{◌≡◌, true, false};
 ghost use Rattle.census_bundle.specs.Tickets.{has_ticket};
-ghost use Rattle.census_book.specs.Collecting.{Belongs, IsResult};
+ghost use Rattle.census_book.specs.Collecting.{IsResult, IsResultOf};
 ghost use Rattle.census_book.specs.Progress.{arrived_of};
 
 use crate::done::Done;
@@ -21,7 +21,7 @@ impl<'r, 'a> Model for Arrival<'r, 'a> {
     ghost use Rattle.std.specs.Prelude.{◌≡◌, false};
     ghost use Rattle.census_bundle.specs.Tickets.{has_ticket};
     ghost use Rattle.census_book.specs.Coded.{arrived_code};
-    ghost use Rattle.census_book.specs.Collecting.{Belongs};
+    ghost use Rattle.census_book.specs.Collecting.{IsResultOf};
     ghost use Rattle.census_book.specs.Progress.{Arrived, arrived_of};
 
     ghost Value = { Arrived };
@@ -30,14 +30,14 @@ impl<'r, 'a> Model for Arrival<'r, 'a> {
 
     ghost view = { λ a. arrived_of a.results.now a.done.now.ticket };
 
-    ghost invariant = { λ a. Belongs a.results.now.bundle a.results.now.question a.done.now.ticket a.done.now.entry a.done.now.question × (has_ticket a.results.now.taken a.done.now.ticket ≡ false) };
+    ghost invariant = { λ a. IsResultOf a.results.now.bundle a.results.now.question a.done.now
+        × (has_ticket a.results.now.taken a.done.now.ticket ≡ false) };
 }
 
 impl<'r, 'a> Arrival<'r, 'a> {
     /// A result that belongs to the bundle and the question, and is new.
     pub fn new(results: &'r Results<'a>, done: &'r Done<'a>) -> Arrival<'r, 'a>
-        requires belongs { Belongs results.now.bundle results.now.question done.now.ticket
-            done.now.entry done.now.question }
+        requires belongs { IsResultOf results.now.bundle results.now.question done.now }
         requires new { has_ticket results.now.taken done.now.ticket ≡ false }
         ensures { result ≡ arrived_of results.now done.now.ticket }
     {

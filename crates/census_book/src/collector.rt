@@ -2,7 +2,7 @@
 ghost use Rattle.std.specs.Prelude.{◌≡◌, ◌≤◌, ◌++◌, true, false, length, IfOk, IfErr, OnOk, OnErr, MatchOption};
 ghost use Rattle.census_bundle.specs.Tickets.{HasAllTickets, has_ticket, with_ticket};
 ghost use Rattle.life_answer.specs.Questions.{IsAnswered};
-ghost use Rattle.census_book.specs.Collecting.{Belongs, IsLeastMissing, Judged, Offered};
+ghost use Rattle.census_book.specs.Collecting.{IsLeastMissing, IsResultOf, Judged, Offered};
 ghost use Rattle.census_book.specs.declared.offer.Offer.TheVariants.{Taken};
 ghost use Rattle.census_book.specs.Front.{IsFront, IsRelease};
 ghost use Rattle.census_book.specs.Progress.{sent_of, initial_progress, taken_of};
@@ -41,9 +41,15 @@ impl<'a> Model for Collector<'a> {
 
     ghost coded = { progress_code };
 
-    ghost view = { λ s. record { bundle = s.results.bundle; question = s.results.question; taken = s.results.taken; unsent = s.unsent.items } };
+    ghost view = { λ s. record {
+      bundle = s.results.bundle;
+      question = s.results.question;
+      taken = s.results.taken;
+      unsent = s.unsent.items;
+    } };
 
-    ghost invariant = { λ s. IsFront s.results.bundle s.results.taken s.front.runs.items s.front.first_open };
+    ghost invariant = { λ s. IsFront s.results.bundle s.results.taken
+        s.front.runs.items s.front.first_open };
 }
 
 // Takes a result that belongs and is new, with what it releases, and drops the results of its collection where that has
@@ -56,14 +62,13 @@ fn accept<'a>(
     text: &[u8],
     release: Release,
 ) -> Result<(), NoRoom<'a>>
-    requires belongs { Belongs results.old.bundle results.old.question done.ticket done.entry
-        done.question }
+    requires belongs { IsResultOf results.old.bundle results.old.question done }
     requires new { has_ticket results.old.taken done.ticket ≡ false }
     requires front { IsFront results.old.bundle results.old.taken front.old.runs.items
         front.old.first_open }
     requires release { IsRelease results.old.bundle results.old.question results.old.taken
-        front.old.runs.items front.old.first_open done.ticket text.now release.run
-        release.first_open }
+        front.old.runs.items front.old.first_open done.ticket
+        (record { text = text.now; run = release.run; first_open = release.first_open }) }
     ensures taken { OnOk result
         (results.new ≡
         taken_of results.old.bundle results.old.question
@@ -127,12 +132,10 @@ impl<'a> Collector<'a> {
     /// hands back a result that would have been `Taken`, and changes nothing.
     pub fn offer(&mut self, done: Done<'a>) -> Result<Offer, NoRoom<'a>>
         ensures ok { IfOk result
-            (λ o. Offered self.old done.entry.ticket done.entry.entry done.entry.question self.new
-            o) }
+            (λ o. Offered self.old done.entry self.new o) }
         ensures no_room { IfErr result (λ e. e.done ≡ done.entry) }
         ensures fits { OnErr result
-            (Judged self.old.bundle self.old.question self.old.taken done.entry.ticket
-            done.entry.entry done.entry.question Taken) }
+            (Judged self.old.bundle self.old.question self.old.taken done.entry Taken) }
         ensures unchanged { OnErr result (self.new ≡ self.old) }
     {
         match self.results.judge(&done) {

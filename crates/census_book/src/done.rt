@@ -43,7 +43,9 @@ impl<'a> Model for Done<'a> {
 
     ghost view = { λ d. record { ticket = d.ticket; entry = d.entry.now; question = d.question } };
 
-    ghost invariant = { λ d. (d.answer ≡ answer_to_entry d.question d.entry.now) × IfSome d.head (λ head. head ≡ line_head d.ticket.folder d.ticket.number d.answer) × (d.tail.items ≡ line_tail d.ticket.folder d.ticket.number d.answer) };
+    ghost invariant = { λ d. (d.answer ≡ answer_to_entry d.question d.entry.now)
+        × IfSome d.head (λ head. head ≡ line_head d.ticket d.answer)
+        × (d.tail.items ≡ line_tail d.ticket d.answer) };
 }
 
 // What is found of an entry, whatever is asked.
@@ -85,7 +87,7 @@ fn find_soon(alloc: Global, entry: &Entry, question: Question) -> Result<Option<
 // The line of a pattern of which this was found, as far as its name; none where it is refused.
 fn head_of(alloc: Global, ticket: Ticket, answer: &Answer) -> Result<Option<Text>, AllocError>
     ensures head { IfOk result
-        (λ made. IfSome made (λ head. head ≡ line_head ticket.folder ticket.number answer.now)) }
+        (λ made. IfSome made (λ head. head ≡ line_head ticket answer.now)) }
     ensures memory { OnErr result ((number : ℕ) → answer.now ≡ Refused number → ⊥) }
 {
     match answer {
@@ -102,7 +104,7 @@ fn head_of(alloc: Global, ticket: Ticket, answer: &Answer) -> Result<Option<Text
 #[tactic(auto, unfolding(census_format::specs::Heads::line_tail))]
 fn tail_of(alloc: Global, ticket: Ticket, answer: &Answer) -> Result<Vec<u8>, AllocError>
     ensures tail { IfOk result
-        (λ tail. tail.items ≡ line_tail ticket.folder ticket.number answer.now) }
+        (λ tail. tail.items ≡ line_tail ticket answer.now) }
     ensures memory { OnErr result ((number : ℕ) → answer.now ≡ Refused number → ⊥) }
 {
     let mut tail = Vec::new(alloc);
@@ -212,10 +214,9 @@ impl<'a> Done<'a> {
     // Appends the lines of the pattern, under the name of this entry.
     pub(crate) fn push_lines(&self, text: &mut Vec<u8>, entry: &Entry) -> Result<(), AllocError>
         ensures { OnOk result (text.new.items ≡ text.old.items ++ line_with_head
-            (line_head self.now.ticket.folder self.now.ticket.number
-            (answer_to_entry self.now.question self.now.entry))
-            (line_tail self.now.ticket.folder self.now.ticket.number
-            (answer_to_entry self.now.question self.now.entry)) entry.now) }
+            (line_head self.now.ticket (answer_to_entry self.now.question self.now.entry))
+            entry.now
+            (line_tail self.now.ticket (answer_to_entry self.now.question self.now.entry))) }
     {
         match self.head.as_ref() {
             Some(head) => push_pattern(text, head.as_slice(), self.tail.as_slice(), entry),

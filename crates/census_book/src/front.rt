@@ -20,7 +20,7 @@ pub fn next_open(runs: &[u32], folders: &[Folder], c: u32, m: u32, from: usize) 
     requires each { length runs.now ≡ length folders.now }
     requires within { from ≤ length folders.now }
     requires small { IsWithinCounts folders.now }
-    ensures { IsNextOpen folders.now runs.now c m from result }
+    ensures { IsNextOpen folders.now runs.now (record { folder = c; run = m }) from result }
 {
     for k in from..folders.len() {
         let run = if k as u32 + 1 == c { m } else { runs[k] };

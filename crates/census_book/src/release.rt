@@ -3,7 +3,7 @@ ghost use Rattle.std.specs.Prelude.{◌≡◌, ◌≤◌, ◌<◌, ◌++◌, ◌
 ghost use Rattle.census_bundle.specs.Sizes.{IsWithinCounts, count_limit};
 ghost use Rattle.census_bundle.specs.Tickets.{has_ticket, element_at, ticket};
 ghost use Rattle.census_format.specs.Lines.{answers, end_line, pattern_lines, pattern_count, text_of};
-ghost use Rattle.census_book.specs.Collecting.{Belongs};
+ghost use Rattle.census_book.specs.Collecting.{IsResultOf};
 ghost use Rattle.census_book.specs.Front.{IsFront, IsRelease};
 ghost use Rattle.census_format.specs.Reports.{folder_out, run_of, text_at_start};
 
@@ -174,15 +174,14 @@ pub fn released<'a>(
     front: &Front,
     text: &mut Vec<u8>,
 ) -> Result<Release, AllocError>
-    requires belongs { Belongs results.now.bundle results.now.question done.now.ticket
-        done.now.entry done.now.question }
+    requires belongs { IsResultOf results.now.bundle results.now.question done.now }
     requires new { has_ticket results.now.taken done.now.ticket ≡ false }
     requires front { IsFront results.now.bundle results.now.taken front.now.runs.items
         front.now.first_open }
     ensures { IfOk result
         (λ r. IsRelease results.now.bundle results.now.question results.now.taken
-        front.now.runs.items front.now.first_open done.now.ticket text.new.items r.run
-        r.first_open) }
+        front.now.runs.items front.now.first_open done.now.ticket
+        (record { text = text.new.items; run = r.run; first_open = r.first_open })) }
 {
     let arrival = Arrival::new(results, done);
     let folders = results.bundle().folders();

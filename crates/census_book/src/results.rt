@@ -1,7 +1,7 @@
 //! The results that were taken.
 ghost use Rattle.std.specs.Prelude.{◌≡◌, ◌≢◌, ◌<◌, ◌≤◌, true, false, length, Some, IfOk, IfErr, OnOk, OnErr, IfSome, IfNone, MatchBool};
 ghost use Rattle.census_bundle.specs.Tickets.{has_ticket, no_tickets, with_ticket};
-ghost use Rattle.census_book.specs.Collecting.{Belongs, HasCollection, IsResult, Judged};
+ghost use Rattle.census_book.specs.Collecting.{HasCollection, IsResult, IsResultOf, Judged};
 ghost use Rattle.census_book.specs.Progress.{taken_of};
 
 use crate::done::Done;
@@ -31,7 +31,11 @@ impl<'a> Model for Results<'a> {
 
     ghost coded = { taken_code };
 
-    ghost view = { λ r. record { bundle = r.bundle.now; question = r.question; taken = taken_in r.slots } };
+    ghost view = { λ r. record {
+      bundle = r.bundle.now;
+      question = r.question;
+      taken = taken_in r.slots;
+    } };
 
     ghost invariant = { λ r. KeepsResults r.bundle.now r.question r.slots };
 }
@@ -94,8 +98,7 @@ impl<'a> Results<'a> {
 
     /// What becomes of a result that is offered.
     pub fn judge(&self, done: &Done) -> Offer
-        ensures { Judged self.now.bundle self.now.question self.now.taken done.now.ticket
-            done.now.entry done.now.question result }
+        ensures { Judged self.now.bundle self.now.question self.now.taken done.now result }
     {
         let ticket = done.ticket();
         let Some(entry) = self.bundle.entry(ticket) else {
@@ -119,8 +122,7 @@ impl<'a> Results<'a> {
 
     /// Takes a result. It comes back where there is no memory.
     pub fn add(&mut self, done: Done<'a>) -> Result<(), NoRoom<'a>>
-        requires belongs { Belongs self.old.bundle self.old.question done.ticket done.entry
-            done.question }
+        requires belongs { IsResultOf self.old.bundle self.old.question done }
         requires new { has_ticket self.old.taken done.ticket ≡ false }
         ensures taken { OnOk result
             (self.new ≡

@@ -1,5 +1,5 @@
 //! A slot for the result of each pattern of a bundle.
-ghost use Rattle.std.specs.Prelude.{◌≡◌, IfSome, IfNone, IfOk, IfErr, OnOk, OnErr, None, Some, is_some, length, map, replicate, slice_set, ◌-◌, ◌<◌, ◌≤◌};
+ghost use Rattle.std.specs.Prelude.{◌≡◌, IfSome, IfNone, IfOk, IfErr, OnOk, OnErr, None, Some, is_some, length, map, replicate, slice_set, vec_capacity, ◌-◌, ◌<◌, ◌≤◌};
 ghost use Rattle.census_bundle.specs.Tickets.{element_at};
 ghost use Rattle.census_book.specs.Slots.{dropped, empty_slots, work_in, padded_row, result_at, work_at, taking_at, with_result, without_results, HasSlot, IsFull, Row};
 
@@ -27,13 +27,15 @@ impl<'a> Model for Row<'a> {
 
     ghost view = { λ r. row_of r.is_dropped r.len r.slots.items };
 
-    ghost invariant = { λ r. (length r.slots.items ≤ r.len) × (r.is_dropped ≡ true → r.slots.items ≡ []) };
+    ghost invariant = { λ r. (length r.slots.items ≤ r.len)
+        × (r.is_dropped ≡ true → r.slots.items ≡ []) };
 }
 
 // Appends empty slots, up to so many, where there is room for all.
 fn fill<'a>(slots: &mut Vec<Option<Done<'a>>>, len: usize, all: usize) -> Result<(), AllocError>
     requires { (len ≤ all) × (length slots.old.items ≤ all) }
     ensures items { OnOk result (slots.new.items ≡ padded_row len slots.old.items) }
+    ensures room { OnOk result (all ≤ vec_capacity slots.new) }
     ensures unchanged { OnErr result (slots.new.items ≡ slots.old.items) }
 {
     slots.reserve_exact(all - slots.len())?;
@@ -96,10 +98,15 @@ impl<'a> Row<'a> {
         ensures back { IfErr result (λ e. e.done ≡ done.entry) }
         ensures unchanged { OnErr result (self.new ≡ self.old) }
     {
-        if fill(&mut self.slots, number as usize, self.len).is_err() {
+        let at = number as usize - 1;
+        if fill(&mut self.slots, at, self.len).is_err() {
             return Err(NoRoom { done });
         }
-        self.slots[number as usize - 1] = Some(done);
+        if at < self.slots.len() {
+            self.slots[at] = Some(done);
+            return Ok(());
+        }
+        self.slots.push_reserved(Some(done));
         Ok(())
     }
 

@@ -1,8 +1,6 @@
 -- How the state of a run follows its collector.
 use Rattle.std.proofs.Common.{◌≡◌, ℕ, ◌^◌, ◌<◌, ◌≤◌, List, Option, true, arith, sym, subst, ap, ◌∙◌}
-use Rattle.census_bundle.specs.declared.bundle.Entry.{Entry}
 use Rattle.census_bundle.specs.declared.bundle.Folder.{Folder}
-use Rattle.census_bundle.specs.declared.ticket.Ticket.{Ticket}
 use Rattle.census_bundle.specs.Sizes.{IsWithinCounts}
 use Rattle.census_bundle.specs.Tickets.{Tickets, HasAllTickets}
 use Rattle.census_book.specs.Collecting.{Offered}
@@ -11,6 +9,7 @@ use Rattle.census_book.specs.declared.offer.Offer.{Offer}
 use Rattle.census_format.specs.Lines.{answer_to_entry, is_refused, is_resolved, is_unresolved}
 use Rattle.life_answer.specs.declared.finding.Answer.{Answer}
 use Rattle.census_book.specs.Progress.{Progress, initial_progress}
+use Rattle.census_book.specs.Work.{Work}
 use Rattle.census_crew.specs.declared.tally.Tally.{Tally}
 use Rattle.census_crew.specs.RunStates.{IsRunState}
 use Rattle.census_crew.specs.Writing.{StaysInStep}
@@ -62,24 +61,24 @@ state_kept p q t u g is patterns resolved unresolved refused =
       };
     })
 
-pub state_taken : (asked : Question) (p q : Progress) (t : Tally) (k : Ticket) (worked : Entry) → IsRunState p t → Offered p k worked asked q Taken → IsRunState q (tally_with t (answer_to_entry asked worked))
-state_taken asked p q t k worked g h =
-    subst (λ r. IsRunState r (tally_with t (answer_to_entry asked worked))) (sym h.1) (record {
+pub state_taken : (p q : Progress) (t : Tally) (w : Work) → IsRunState p t → Offered p w q Taken → IsRunState q (tally_with t (answer_to_entry w.question w.entry))
+state_taken p q t w g h =
+    subst (λ r. IsRunState r (tally_with t (answer_to_entry w.question w.entry))) (sym h.1) (record {
       small = g.small;
       lawful = g.lawful;
-      counted = one_taken p.bundle p.question asked p.taken k worked t h.0.0 h.0.1 g.counted;
+      counted = one_taken p.bundle p.question p.taken w t h.0.0 h.0.1 g.counted;
     })
 
-pub state_one : (asked : Question) (p q : Progress) (t u : Tally) (k : Ticket) (worked : Entry) (o : Offer) (a : Answer) → IsRunState p t → o ≡ Taken → Offered p k worked asked q o → a ≡ answer_to_entry asked worked → u ≡ tally_with t a → IsRunState q u
-state_one asked p q t u k worked o a g taken h found is =
+pub state_one : (p q : Progress) (t u : Tally) (w : Work) (o : Offer) (a : Answer) → IsRunState p t → o ≡ Taken → Offered p w q o → a ≡ answer_to_entry w.question w.entry → u ≡ tally_with t a → IsRunState q u
+state_one p q t u w o a g taken h found is =
     subst (λ s. IsRunState q s) (sym (is ∙ ap (tally_with t) found))
-    (state_taken asked p q t k worked g (subst (λ x. Offered p k worked asked q x) taken h))
+    (state_taken p q t w g (subst (Offered p w q) taken h))
 
-pub state_double : (asked : Question) (p q : Progress) (t u : Tally) (k : Ticket) (worked : Entry) (o : Offer) → IsRunState p t → o ≡ Double → Offered p k worked asked q o → u.patterns ≡ t.patterns → u.resolved ≡ t.resolved → u.unresolved ≡ t.unresolved → u.refused ≡ t.refused → IsRunState q u
-state_double asked p q t u k worked o g double h = state_kept p q t u g (subst (λ x. Offered p k worked asked q x) double h).1
+pub state_double : (p q : Progress) (t u : Tally) (w : Work) (o : Offer) → IsRunState p t → o ≡ Double → Offered p w q o → u.patterns ≡ t.patterns → u.resolved ≡ t.resolved → u.unresolved ≡ t.unresolved → u.refused ≡ t.refused → IsRunState q u
+state_double p q t u w o g double h = state_kept p q t u g (subst (Offered p w q) double h).1
 
-pub state_stranger : (asked : Question) (p q : Progress) (t u : Tally) (k : Ticket) (worked : Entry) (o : Offer) → IsRunState p t → o ≡ Stranger → Offered p k worked asked q o → u.patterns ≡ t.patterns → u.resolved ≡ t.resolved → u.unresolved ≡ t.unresolved → u.refused ≡ t.refused → IsRunState q u
-state_stranger asked p q t u k worked o g stranger h = state_kept p q t u g (subst (λ x. Offered p k worked asked q x) stranger h).1
+pub state_stranger : (p q : Progress) (t u : Tally) (w : Work) (o : Offer) → IsRunState p t → o ≡ Stranger → Offered p w q o → u.patterns ≡ t.patterns → u.resolved ≡ t.resolved → u.unresolved ≡ t.unresolved → u.refused ≡ t.refused → IsRunState q u
+state_stranger p q t u w o g stranger h = state_kept p q t u g (subst (Offered p w q) stranger h).1
 
 -- where nothing is missing, all patterns were counted
 pub state_whole : (k m : Option (List ℕ)) (p q : Progress) (t : Tally) → IsRunState q t → StaysInStep k p m q → HasAllTickets q.bundle q.taken → TalliesPatterns p.bundle p.question t

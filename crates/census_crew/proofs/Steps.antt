@@ -4,13 +4,13 @@ use Rattle.std.proofs.KnownBytes.{Appends-nil, Appends-trans}
 use Rattle.std.proofs.lemmas.List.{take-append-drop}
 use Rattle.std.specs.Io.KnownBytes.{Appends}
 use Rattle.watched.specs.Watching.{AppendsFront}
-use Rattle.census_bundle.specs.declared.bundle.Entry.{Entry}
 use Rattle.census_bundle.specs.declared.ticket.Ticket.{Ticket}
 use Rattle.census_bundle.specs.declared.bundle.Folder.{Folder}
 use Rattle.census_bundle.specs.Tickets.{IsTicketOf, HasAllTickets, has_ticket}
 use Rattle.census_format.specs.Reports.{text_released}
 use Rattle.census_book.specs.Released.{IsReleased}
 use Rattle.census_book.specs.Progress.{Progress, initial_progress, with_taken, sent_of}
+use Rattle.census_book.specs.Work.{Work}
 use Rattle.census_crew.specs.Writing.{EndsInStep, WritesReport, WritesPrefix, IsInStep, StaysInStep, StopsInStep}
 use Rattle.census_book.specs.declared.offer.Offer.{Offer}
 use Rattle.census_book.specs.declared.offer.Offer.TheVariants.{Stranger, Double, Taken}
@@ -92,11 +92,11 @@ stops_after k l m p q stays stops =
 pub stops_here : (k : Option (List ℕ)) (p : Progress) → StopsInStep k p k
 stops_here k p = record { front = λ base s. front_of_step base k p s }
 
-pub stays_offered : (k : Option (List ℕ)) (p q : Progress) (t : Ticket) (worked : Entry) (question : Question) (o : Offer) → Offered p t worked question q o → StaysInStep k p k q
-stays_offered k p q t worked question Stranger h = subst (StaysInStep k p k) (sym h.1) (stays_refl k p)
-stays_offered k p q t worked question Double h = subst (StaysInStep k p k) (sym h.1) (stays_refl k p)
-stays_offered k p q t worked question Taken h =
-    subst (StaysInStep k p k) (sym h.1) (stays_more k p t (h.0.0.entry, h.0.0.at) h.0.1)
+pub stays_offered : (k : Option (List ℕ)) (p q : Progress) (w : Work) (o : Offer) → Offered p w q o → StaysInStep k p k q
+stays_offered k p q w Stranger h = subst (StaysInStep k p k) (sym h.1) (stays_refl k p)
+stays_offered k p q w Double h = subst (StaysInStep k p k) (sym h.1) (stays_refl k p)
+stays_offered k p q w Taken h =
+    subst (StaysInStep k p k) (sym h.1) (stays_more k p w.ticket (h.0.0.entry, h.0.0.at) h.0.1)
 
 pub front_at_start : (k : Option (List ℕ)) (b : List Folder) (question : Question) → WritesPrefix k k b question
 front_at_start k b question = front_of_step k k (initial_progress b question) (in_step_start k b question)

@@ -7,7 +7,8 @@ use Rattle.census_bundle.specs.Sizes.{IsWithinCounts, count_limit}
 use Rattle.std.specs.FinSet.{contains-empty}
 use Rattle.census_bundle.specs.Tickets.{Tickets, ticket_cmp, ticket, no_tickets, element_at, entry_in, has_ticket, with_ticket, HasAllTickets}
 use Rattle.life_answer.specs.declared.finding.Answer.{Answer}
-use Rattle.census_book.specs.Collecting.{Belongs}
+use Rattle.census_book.specs.Collecting.{IsResultOf}
+use Rattle.census_book.specs.Work.{Work}
 use Rattle.census_book.specs.Counts.{numbered_sum, one_if, count_of, taken_count}
 use Rattle.census_format.specs.Lines.{answer_to_entry, is_refused, is_resolved, is_unresolved, pattern_count}
 use Rattle.census_book.proofs.Counting.{count_more}
@@ -79,9 +80,12 @@ none_taken b question = record {
   refused = sym (count_none is_refused b question);
 }
 
-pub one_taken : (b : List Folder) (question asked : Question) (taken : Tickets) (t : Ticket) (worked : Entry) (tally : Tally) → Belongs b question t worked asked → has_ticket taken t ≡ false → TalliesTaken tally b question taken
-    → TalliesTaken (tally_with tally (answer_to_entry asked worked)) b question (with_ticket taken t)
-one_taken b question asked taken t worked tally belongs not counted =
+pub one_taken : (b : List Folder) (question : Question) (taken : Tickets) (w : Work) (tally : Tally) → IsResultOf b question w → has_ticket taken w.ticket ≡ false → TalliesTaken tally b question taken
+    → TalliesTaken (tally_with tally (answer_to_entry w.question w.entry)) b question (with_ticket taken w.ticket)
+one_taken b question taken w tally belongs not counted =
+    let t = w.ticket in
+    let worked = w.entry in
+    let asked = w.question in
     let same : answer_to_entry question belongs.entry ≡ answer_to_entry asked worked = same_answer question belongs.entry worked belongs.same_text belongs.same_loss ∙ ap (λ q. answer_to_entry q worked) belongs.same_question in
     let more : (kind : Answer → Bool) (m : ℕ) → m ≡ taken_count kind b question taken → m + one_if (kind (answer_to_entry asked worked)) ≡ taken_count kind b question (with_ticket taken t)
     = λ kind m is. ap (λ k. k + one_if (kind (answer_to_entry asked worked))) is ∙ sym (count_more kind b question taken t belongs.entry belongs.at not ∙ ap (λ a. taken_count kind b question taken + one_if (kind a)) same) in

@@ -44,27 +44,32 @@ ReadsBundle old new (Err (Bundle f)) = ReadsFault old new f
 ReadsBundle old new (Err Memory) = Unit {0}
 ReadsBundle old new (Err Write) = ⊥
 
+-- what is left of a reader, and what stands in a writer
+pub record StreamPair : Type 0 where
+  pub unread : Option (List ℕ)
+  pub written : Option (List ℕ)
+
 -- a report of the bundle that was read was written, and its patterns were counted
-pub record RunsAll (question : Question) (source source' out out' : Option (List ℕ)) (t : Tally) : Type 0 where
+pub record RunsAll (question : Question) (before after : StreamPair) (t : Tally) : Type 0 where
   pub bundle : List Folder
-  pub read : ReadsFolders source source' bundle
-  pub report : WritesReport out out' bundle question
+  pub read : ReadsFolders before.unread after.unread bundle
+  pub report : WritesReport before.written after.written bundle question
   pub tally : TalliesPatterns bundle question t
 
 -- a prefix of a report of the bundle that was read was written
-pub record RunsFront (question : Question) (source source' out out' : Option (List ℕ)) : Type 0 where
+pub record RunsFront (question : Question) (before after : StreamPair) : Type 0 where
   pub bundle : List Folder
-  pub read : ReadsFolders source source' bundle
-  pub front : WritesPrefix out out' bundle question
+  pub read : ReadsFolders before.unread after.unread bundle
+  pub front : WritesPrefix before.written after.written bundle question
 
 -- what was read and written, by what is answered
-abbrev pub RunsBytes : Question → Option (List ℕ) → Option (List ℕ) → Option (List ℕ) → Option (List ℕ) → Result Tally BytesFault → Type 0
-RunsBytes question source source' out out' (Ok t) = RunsAll question source source' out out' t
-RunsBytes question source source' out out' (Err Read) = out' ≡ out
-RunsBytes question source source' out out' (Err TooLong) = ConsumesMoreThan input_limit source source' × (out' ≡ out)
-RunsBytes question source source' out out' (Err (Bundle f)) = ReadsFault source source' f × (out' ≡ out)
-RunsBytes question source source' out out' (Err Memory) = (out' ≡ out) ⊎ RunsFront question source source' out out'
-RunsBytes question source source' out out' (Err Write) = RunsFront question source source' out out'
+abbrev pub RunsBytes : Question → StreamPair → StreamPair → Result Tally BytesFault → Type 0
+RunsBytes question before after (Ok t) = RunsAll question before after t
+RunsBytes question before after (Err Read) = after.written ≡ before.written
+RunsBytes question before after (Err TooLong) = ConsumesMoreThan input_limit before.unread after.unread × (after.written ≡ before.written)
+RunsBytes question before after (Err (Bundle f)) = ReadsFault before.unread after.unread f × (after.written ≡ before.written)
+RunsBytes question before after (Err Memory) = (after.written ≡ before.written) ⊎ RunsFront question before after
+RunsBytes question before after (Err Write) = RunsFront question before after
 
 -- `Write` is answered where the writer has failed, and nothing else where it has
 abbrev pub FitsBytesFault : {A : Type 0} → Result A BytesFault → Bool → Type 0

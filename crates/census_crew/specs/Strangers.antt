@@ -1,13 +1,9 @@
 -- Which results are strangers.
 use Rattle.std.specs.Prelude.{◌≡◌, ℕ, ◌+◌, ◌<◌, ◌^◌, ◌⊎◌, List, [], ◌∷◌}
 use Rattle.census_bundle.specs.declared.bundle.Folder.{Folder}
-use Rattle.census_book.specs.Collecting.{Belongs}
+use Rattle.census_book.specs.Collecting.{IsResultOf}
 use Rattle.census_book.specs.Work.{Work}
 use Rattle.life_answer.specs.declared.question.Question.{Question}
-
--- it was worked for a ticket of this bundle, on the text of that ticket, for this question
-abbrev pub IsResultOf : List Folder → Question → Work → Type 0
-IsResultOf b question w = Belongs b question w.ticket w.entry w.question
 
 -- a count of strangers grows by one where the result is one
 abbrev pub CountsStranger : List Folder → Question → Work → ℕ → ℕ → Type 0

@@ -77,9 +77,15 @@ pub fn run_bytes<R: Read, G: Gate, W: Write, T: Threads + Wait + Sync>(
     requires sound { has_failed out.old ≡ false }
     ensures read { (result ≡ Err BytesFault.Read) ↔ (has_failed reader.new ≡ true) }
     ensures failed { FitsBytesFault result (has_failed out.new) }
-    ensures report { RunsBytes question (R.remaining (inner_of reader.old))
-        (R.remaining (inner_of reader.new)) (W.contents (inner_of out.old))
-        (W.contents (inner_of out.new)) result }
+    ensures report { RunsBytes question
+        (record {
+          unread = R.remaining (inner_of reader.old);
+          written = W.contents (inner_of out.old);
+        })
+        (record {
+          unread = R.remaining (inner_of reader.new);
+          written = W.contents (inner_of out.new);
+        }) result }
 {
     let bundle = read_input(alloc, reader)?;
     match run(rt, alloc, &bundle, question, workers, gate, out) {

@@ -49,10 +49,14 @@ impl<'c, 'a, W: Write> Task for CollectTask<'c, 'a, W> {
 
     ghost run_gives = { λ s r.
         (r.out.ghost_name ≡ s.out.ghost_name)
-        × MatchResult r.written (λ _. has_failed r.out.now ≡ false) (λ _. has_failed r.out.now ≡ true)
         × MatchResult r.written
-        (λ _. StaysInStep (W.contents (inner_of s.out.now)) s.state.collector (W.contents (inner_of r.out.now)) r.state.collector)
-        (λ _. StopsInStep (W.contents (inner_of s.out.now)) s.state.collector (W.contents (inner_of r.out.now)))
+        (λ _. has_failed r.out.now ≡ false)
+        (λ _. has_failed r.out.now ≡ true)
+        × MatchResult r.written
+        (λ _. StaysInStep (W.contents (inner_of s.out.now)) s.state.collector
+        (W.contents (inner_of r.out.now)) r.state.collector)
+        (λ _. StopsInStep (W.contents (inner_of s.out.now)) s.state.collector
+        (W.contents (inner_of r.out.now)))
         × OnOk r.written (r.state.collector.unsent ≡ []) };
 
     fn run<R: Wait>(self, rt: &R) -> TaskEnd<'c, 'a, W> {

@@ -60,8 +60,7 @@ impl<'a> RunState<'a> {
     /// Takes a result. `None` says that there was no memory to take it, though it is of this bundle and question.
     pub(crate) fn take(&mut self, done: Done<'a>) -> Option<Offer>
         ensures offered { IfSome result
-            (λ o. Offered self.old.collector done.entry.ticket done.entry.entry done.entry.question
-            self.new.collector o) }
+            (λ o. Offered self.old.collector done.entry self.new.collector o) }
         ensures no_room { IfNone result (self.new.collector ≡ self.old.collector) }
         ensures step { (written : Option (List ℕ)) →
             StaysInStep written self.old.collector written self.new.collector }
@@ -120,7 +119,7 @@ impl<'a> RunState<'a> {
             (self.old.collector.unsent ≡ [] → self.new.collector.unsent ≡ []) }
         ensures offered { IfOk result (λ o. IfSome o (λ offer.
             Judged self.old.collector.bundle self.old.collector.question self.old.collector.taken
-            done.entry.ticket done.entry.entry done.entry.question offer
+            done.entry offer
             × (self.new.collector.taken ≡
             (after_offer self.old.collector done.entry.ticket offer).taken))) }
         ensures strangers { NotesStranger self.old.collector.bundle self.old.collector.question

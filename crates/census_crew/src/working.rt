@@ -86,35 +86,49 @@ fn send_batch<'a, R: Wait>(
     results.send(rt, full).is_ok()
 }
 
-// What is found of a pattern whose worker passed the gate, where its first generations tell it and results wait: where none
-// does, the pattern may take as long as it will. `None` also where memory is out.
-fn found_soon<'a>(
+// Puts a result into a batch, and says whether it may wait there: it is kept, and was quick work.
+fn put_in<'a>(batch: &mut Batch<'a>, done: Done<'a>) -> bool {
+    let waits = was_quick(done.answer());
+    batch.push(done).is_ok() && waits
+}
+
+// Works a pattern whose worker passed the gate, where its first generations tell it and results wait: where none does, the
+// pattern may take as long as it will. The result goes into the batch. `None` also where memory is out.
+fn work_soon<'a>(
     alloc: Global,
     bundle: &'a Bundle,
     question: Question,
     passed: &Passed,
-    batch: &Batch<'a>,
-) -> Option<Done<'a>>
+    batch: &mut Batch<'a>,
+) -> Option<bool>
     requires { IsAnswered question }
 {
     if batch.is_empty() {
         return None;
     }
     let entry = bundle.entry(passed.ticket())?;
-    Done::work_soon(alloc, passed.ticket(), entry, question).ok()?
+    match Done::work_soon(alloc, passed.ticket(), entry, question) {
+        Ok(Some(done)) => Some(put_in(batch, done)),
+        Ok(None) | Err(_) => None,
+    }
 }
 
-// What is found of a pattern whose worker passed the gate, however long it takes. `None` where memory is out.
-fn found<'a>(
+// Works a pattern whose worker passed the gate, however long it takes. The result goes into the batch. `None` where memory
+// is out.
+fn work_long<'a>(
     alloc: Global,
     bundle: &'a Bundle,
     question: Question,
     passed: &Passed,
-) -> Option<Done<'a>>
+    batch: &mut Batch<'a>,
+) -> Option<bool>
     requires { IsAnswered question }
 {
     let entry = bundle.entry(passed.ticket())?;
-    Done::work(alloc, passed.ticket(), entry, question).ok()
+    match Done::work(alloc, passed.ticket(), entry, question) {
+        Ok(done) => Some(put_in(batch, done)),
+        Err(_) => None,
+    }
 }
 
 // Takes tickets until none is left, works them, and sends what was found: the results of quick work several together,
@@ -138,19 +152,17 @@ fn work<'a, G: Gate, R: Wait>(
             break;
         };
         let passed = pass(gate, ticket);
-        let mut next = found_soon(alloc, bundle, question, &passed, &batch);
-        if next.is_none() {
+        let mut worked = work_soon(alloc, bundle, question, &passed, &mut batch);
+        if worked.is_none() {
             if !batch.is_empty() && !send_batch(rt, alloc, &mut batch, &results) {
                 return;
             }
-            next = found(alloc, bundle, question, &passed);
+            worked = work_long(alloc, bundle, question, &passed, &mut batch);
         }
-        let Some(done) = next else {
+        let Some(waits) = worked else {
             continue;
         };
-        let waits = was_quick(done.answer());
-        let kept = batch.push(done).is_ok();
-        if kept && waits && batch.len() < BATCH_LEN {
+        if waits && batch.len() < BATCH_LEN {
             continue;
         }
         if !send_batch(rt, alloc, &mut batch, &results) {

@@ -9,6 +9,7 @@ use Rattle.life_answer.specs.declared.finding.Finding.TheVariants.{Recurs}
 use Rattle.life_model.specs.Rule.{Rule}
 use Rattle.life_cells.specs.Rules.{rule_text}
 use Rattle.census_bundle.specs.declared.bundle.Entry.{Entry}
+use Rattle.census_bundle.specs.Tickets.{ticket}
 use Rattle.census_format.specs.Heads.{line_with_head, line_head, line_tail}
 use Rattle.census_format.specs.Lines.{answer_to_entry, fields_text, finding_fields, part_lines, pattern_line, pattern_text, text_of}
 use Rattle.life_answer.specs.declared.question.Question.{Question}
@@ -53,7 +54,7 @@ one_more word name xs =
     ∙ ap (λ r. word ++ r) (sym (behind-append xs (name ∷ [])))
 
 -- a pattern's lines are its head, its name and its tail
-pub headed_line : (question : Question) (c i : ℕ) (e : Entry) → line_with_head (line_head c i (answer_to_entry question e)) (line_tail c i (answer_to_entry question e)) e ≡ pattern_text question c i e
+pub headed_line : (question : Question) (c i : ℕ) (e : Entry) → line_with_head (line_head (ticket c i) (answer_to_entry question e)) e (line_tail (ticket c i) (answer_to_entry question e)) ≡ pattern_text question c i e
 unfolding line_head line_tail pattern_line pattern_text
 headed_line question c i e =
     let found = answer_to_entry question e in

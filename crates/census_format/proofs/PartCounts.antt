@@ -4,7 +4,7 @@ use Rattle.std.proofs.lemmas.Bool.{false≢true, or_right}
 use Rattle.std.proofs.lemmas.List.Elements.{All-map}
 use Rattle.std.proofs.lemmas.List.Folds.{sum_by-replicate}
 use Rattle.std.proofs.lemmas.List.Sums.{sum_by-append, sum_by-cons}
-use Rattle.std.specs.List.{All, list_any, count_by, sum_by}
+use Rattle.std.specs.List.{All, list_any, count_by}
 use Rattle.census_bundle.specs.declared.bundle.Entry.{Entry}
 use Rattle.life_answer.specs.Census.{census_found, census_of}
 use Rattle.life_answer.specs.Limited.{first_past, finding_unless_large, unless_large}

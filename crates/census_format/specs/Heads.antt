@@ -1,17 +1,18 @@
 -- What stands before the name of a pattern in its lines, and what stands after it.
 use Rattle.std.specs.Prelude.{ℕ, List, ◌∷◌, ◌++◌, codes, decimal}
 use Rattle.census_bundle.specs.declared.bundle.Entry.{Entry}
+use Rattle.census_bundle.specs.declared.ticket.Ticket.{Ticket}
 use Rattle.life_answer.specs.declared.finding.Answer.{Answer}
 use Rattle.census_format.specs.Lines.{Line, fields_text, finding_fields, part_lines, text_of}
 
 -- the line of a pattern of which this was found, as far as its name
-unfoldable pub line_head : ℕ → ℕ → Answer → List ℕ
-line_head c i found = codes "line" ++ fields_text (decimal c ∷ decimal i ∷ finding_fields found)
+unfoldable pub line_head : Ticket → Answer → List ℕ
+line_head t found = codes "line" ++ fields_text (decimal t.folder ∷ decimal t.number ∷ finding_fields found)
 
 -- the `part` lines of a pattern of which this was found
-unfoldable pub line_tail : ℕ → ℕ → Answer → List ℕ
-line_tail c i found = text_of (part_lines c i found)
+unfoldable pub line_tail : Ticket → Answer → List ℕ
+line_tail t found = text_of (part_lines t.folder t.number found)
 
--- the lines that begin with a head and end with a tail
-abbrev pub line_with_head : List ℕ → List ℕ → Entry → Line
-line_with_head head tail e = (head ++ 32 ∷ e.name ++ codes "\n") ++ tail
+-- the lines that begin with a head, before the name of a pattern, and end with a tail
+abbrev pub line_with_head : List ℕ → Entry → List ℕ → Line
+line_with_head head e tail = (head ++ 32 ∷ e.name ++ codes "\n") ++ tail

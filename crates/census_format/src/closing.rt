@@ -8,7 +8,8 @@ ghost use Rattle.census_format.specs.Objects.{code_line, object, objects, part_o
 ghost use Rattle.census_format.specs.Reports.{closing};
 ghost use Rattle.census_format.specs.Tallying.{HasTally};
 
-use crate::lines::{push_field, push_number, push_rule};
+use crate::lines::{push_field, push_rule};
+use crate::numbers::push_count;
 use census_bundle::Folder;
 use indexmap::IndexMap;
 use life_answer::{Answer, Finding, Part, Question};
@@ -164,10 +165,10 @@ fn push_code(text: &mut Vec<u8>, c: u32, object: &Object, count: u64) -> Result<
     ensures { OnOk result (text.new.items ≡ text.old.items ++ code_line c object.now count) }
 {
     text.extend_from_slice(b"code")?;
-    push_number(text, c)?;
+    push_count(text, u64::from(c))?;
     push_rule(text, &object.rule)?;
     push_field(text, object.code)?;
-    push_number(text, count)?;
+    push_count(text, count)?;
     text.push(b'\n')?;
     Ok(())
 }
@@ -261,11 +262,11 @@ fn push_close(
     ensures { OnOk result (text.new.items ≡ text.old.items ++ close_line question c folder.now) }
 {
     text.extend_from_slice(b"close")?;
-    push_number(text, c)?;
-    push_number(text, folder.entries.as_slice().len())?;
-    push_number(text, count_resolved(found))?;
-    push_number(text, count_unresolved(found))?;
-    push_number(text, count_refused(found))?;
+    push_count(text, u64::from(c))?;
+    push_count(text, folder.entries.as_slice().len() as u64)?;
+    push_count(text, count_resolved(found) as u64)?;
+    push_count(text, count_unresolved(found) as u64)?;
+    push_count(text, count_refused(found) as u64)?;
     text.push(b'\n')?;
     Ok(())
 }

@@ -6,9 +6,11 @@
 mod closing;
 mod codes;
 mod lines;
+mod numbers;
 mod parts;
 
 pub use closing::push_closing;
 pub use codes::{codes_count_objects, codes_count_parts};
-pub use lines::{push_end, push_head, push_number, push_open, push_pattern};
+pub use lines::{push_end, push_head, push_open, push_pattern};
+pub use numbers::push_number;
 pub use parts::push_tail;

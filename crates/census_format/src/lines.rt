@@ -6,28 +6,21 @@ ghost use Rattle.census_bundle.specs.Sizes.{IsWithinCounts};
 ghost use Rattle.census_format.specs.Heads.{line_with_head, line_head};
 ghost use Rattle.census_format.specs.Lines.{fields_text, end_line, finding_fields, open_line, pattern_count};
 
+use crate::numbers::{push_count, push_signed};
 use crate::parts::count_objects;
 use census_bundle::{Bundle, Entry, Folder, Ticket};
-use itoa::{Buffer, Integer};
 use life_answer::{Answer, Finding};
 use life_cells::Rule;
 use std::alloc::AllocError;
 
 /// A blank and these bytes.
+#[inline(always)]
 pub fn push_field(text: &mut Vec<u8>, field: &[u8]) -> Result<(), AllocError>
     ensures { OnOk result (text.new.items ≡ text.old.items ++ 32 ∷ field.now) }
 {
     text.push(b' ')?;
     text.extend_from_slice(field)?;
     Ok(())
-}
-
-/// A blank and a number.
-pub fn push_number<I: Integer>(text: &mut Vec<u8>, number: I) -> Result<(), AllocError>
-    ensures { OnOk result (text.new.items ≡ text.old.items ++ 32 ∷ I.text number) }
-{
-    let mut buffer = Buffer::new();
-    push_field(text, buffer.format(number).as_bytes())
 }
 
 /// A blank and a rule.
@@ -44,14 +37,15 @@ pub fn push_open(text: &mut Vec<u8>, c: u32, folder: &Folder) -> Result<(), Allo
     ensures { OnOk result (text.new.items ≡ text.old.items ++ open_line c folder.now) }
 {
     text.extend_from_slice(b"open")?;
-    push_number(text, c)?;
-    push_number(text, folder.entries.as_slice().len())?;
+    push_count(text, u64::from(c))?;
+    push_count(text, folder.entries.as_slice().len() as u64)?;
     push_field(text, folder.name.as_slice())?;
     text.push(b'\n')?;
     Ok(())
 }
 
 // A word, a rule and how many live cells generation 0 has.
+#[inline(always)]
 fn push_population(
     text: &mut Vec<u8>,
     word: &[u8],
@@ -64,7 +58,7 @@ fn push_population(
 {
     push_field(text, word)?;
     push_rule(text, rule)?;
-    push_number(text, population)
+    push_count(text, population)
 }
 
 // When a pattern recurs, and how it has moved then.
@@ -81,10 +75,10 @@ fn push_recurrence(
         fields_text
         (decimal onset ∷ decimal period ∷ signed_decimal dx.now ∷ signed_decimal dy.now ∷ [])) }
 {
-    push_number(text, onset)?;
-    push_number(text, period)?;
-    push_number(text, *dx)?;
-    push_number(text, *dy)
+    push_count(text, u64::from(onset))?;
+    push_count(text, u64::from(period))?;
+    push_signed(text, *dx)?;
+    push_signed(text, *dy)
 }
 
 // What was found of a pattern.
@@ -114,16 +108,16 @@ fn push_finding(text: &mut Vec<u8>, answer: &Answer) -> Result<(), AllocError>
                 generation,
             } => {
                 push_population(text, b"large", rule, *population)?;
-                push_number(text, *generation)
+                push_count(text, u64::from(*generation))
             }
             Finding::Ash { population, parts } => {
                 push_population(text, b"ash", rule, *population)?;
-                push_number(text, count_objects(parts.as_slice()))
+                push_count(text, count_objects(parts.as_slice()))
             }
         },
         Answer::Refused(number) => {
             push_field(text, b"bad")?;
-            push_number(text, *number)
+            push_count(text, u64::from(*number))
         }
     }
 }
@@ -132,11 +126,11 @@ fn push_finding(text: &mut Vec<u8>, answer: &Answer) -> Result<(), AllocError>
 #[tactic(auto, unfolding(crate::specs::Heads::line_head))]
 pub fn push_head(text: &mut Vec<u8>, ticket: Ticket, answer: &Answer) -> Result<(), AllocError>
     ensures { OnOk result
-        (text.new.items ≡ text.old.items ++ line_head ticket.folder ticket.number answer.now) }
+        (text.new.items ≡ text.old.items ++ line_head ticket answer.now) }
 {
     text.extend_from_slice(b"line")?;
-    push_number(text, ticket.folder)?;
-    push_number(text, ticket.number)?;
+    push_count(text, u64::from(ticket.folder))?;
+    push_count(text, u64::from(ticket.number))?;
     push_finding(text, answer)
 }
 
@@ -148,12 +142,14 @@ pub fn push_pattern(
     entry: &Entry,
 ) -> Result<(), AllocError>
     ensures { OnOk result
-        (text.new.items ≡ text.old.items ++ line_with_head head.now tail.now entry.now) }
+        (text.new.items ≡ text.old.items ++ line_with_head head.now entry.now tail.now) }
 {
     text.extend_from_slice(head)?;
     push_field(text, entry.name.as_slice())?;
     text.push(b'\n')?;
-    text.extend_from_slice(tail)?;
+    if !tail.is_empty() {
+        text.extend_from_slice(tail)?;
+    }
     Ok(())
 }
 
@@ -176,8 +172,8 @@ pub fn push_end(text: &mut Vec<u8>, folders: &[Folder]) -> Result<(), AllocError
     ensures { OnOk result (text.new.items ≡ text.old.items ++ end_line folders.now) }
 {
     text.extend_from_slice(b"end")?;
-    push_number(text, folders.len())?;
-    push_number(text, count_patterns(folders))?;
+    push_count(text, folders.len() as u64)?;
+    push_count(text, count_patterns(folders))?;
     text.push(b'\n')?;
     Ok(())
 }

@@ -4,7 +4,8 @@ ghost use Rattle.life_answer.specs.Parts.{objects_in};
 ghost use Rattle.census_format.specs.Heads.{line_tail};
 ghost use Rattle.census_format.specs.Lines.{part_line, text_of};
 
-use crate::lines::{push_field, push_number};
+use crate::lines::push_field;
+use crate::numbers::push_count;
 use census_bundle::Ticket;
 use life_answer::{Answer, Finding, Part};
 use std::alloc::AllocError;
@@ -28,10 +29,10 @@ fn push_part(text: &mut Vec<u8>, ticket: Ticket, part: &Part) -> Result<(), Allo
         (text.new.items ≡ text.old.items ++ part_line ticket.folder ticket.number part.now) }
 {
     text.extend_from_slice(b"part")?;
-    push_number(text, ticket.folder)?;
-    push_number(text, ticket.number)?;
+    push_count(text, u64::from(ticket.folder))?;
+    push_count(text, u64::from(ticket.number))?;
     push_field(text, part.code.as_slice())?;
-    push_number(text, part.count)?;
+    push_count(text, part.count)?;
     text.push(b'\n')?;
     Ok(())
 }
@@ -52,7 +53,7 @@ fn push_parts(text: &mut Vec<u8>, ticket: Ticket, parts: &[Part]) -> Result<(), 
 #[tactic(auto, unfolding(crate::specs::Heads::line_tail))]
 pub fn push_tail(text: &mut Vec<u8>, ticket: Ticket, answer: &Answer) -> Result<(), AllocError>
     ensures { OnOk result
-        (text.new.items ≡ text.old.items ++ line_tail ticket.folder ticket.number answer.now) }
+        (text.new.items ≡ text.old.items ++ line_tail ticket answer.now) }
 {
     match answer {
         Answer::Found { rule: _, finding } => match finding {

@@ -50,7 +50,7 @@ returns c =
     let k : c.index.result.now ≡ run_of taken t.folder f = run_read b taken runs c.args.front.now.first_open t c.requires.belongs.entry f c.index.result.now c.requires.front c.requires.belongs.at at (rw own at c.index.ensures) in
     let m : c.run_count-m.result ≡ run_of (with_ticket taken t) t.folder f = rw (c.new-arrival.ensures, own) at c.run_count-m.ensures.run in
     let come : (g : Folder) → element_at b t.folder ≡ Some g → c.run_count-m.result ≡ run_of (with_ticket taken t) t.folder g = λ g is. m ∙ ap (run_of (with_ticket taken t) t.folder) (same_folder _ f g at is) in
-    let next : IsNextOpen b runs t.folder c.run_count-m.result c.args.front.now.first_open c.next_open-first_open.result = rw (folders, c.deref.ensures.value, own) at c.next_open-first_open.ensures in
+    let next : IsNextOpen b runs (record { folder = t.folder; run = c.run_count-m.result }) c.args.front.now.first_open c.next_open-first_open.result = rw (folders, c.deref.ensures.value, own) at c.next_open-first_open.ensures in
     let front = front_after b c.args.results.now.question taken runs c.args.front.now.first_open c.next_open-first_open.result t c.run_count-m.result _ _ c.requires.front c.requires.belongs c.requires.new come next in
     let lines : c.push_folder.new.text.items ≡ [] ++ text_of (folder_out c.args.results.now.question t.folder f c.index.result.now c.run_count-m.result) = rw (c.clear.ensures.items, c.new-arrival.ensures, own) at c.in_ok-push_folder.ensures in
     record {

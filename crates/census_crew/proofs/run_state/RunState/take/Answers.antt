@@ -16,16 +16,16 @@ pub with-counted-requires-clause-refused : goal.with-counted-requires-clause-ref
 with-counted-requires-clause-refused c = (state_few _ _ c.args.self.now.sound).3
 
 pub invariant_of-self : goal.invariant_of-self
-invariant_of-self c = record { sound = state_one _ _ _ _ _ _ _ _ _ c.args.self.now.sound c.in-Ok-Taken.field-0-is c.in-Ok-Taken.ensures.ok c.answer.ensures c.with-counted.ensures }
+invariant_of-self c = record { sound = state_one _ _ _ _ c.args.done _ _ c.args.self.now.sound c.in-Ok-Taken.field-0-is c.in-Ok-Taken.ensures.ok c.answer.ensures c.with-counted.ensures }
 
 pub invariant_of-self-in-Ok-Double : goal.invariant_of-self-in-Ok-Double
-invariant_of-self-in-Ok-Double c = record { sound = state_double _ _ _ _ _ _ _ _ c.args.self.now.sound c.in-Ok-Double.field-0-is c.in-Ok-Double.ensures.ok refl refl refl refl }
+invariant_of-self-in-Ok-Double c = record { sound = state_double _ _ _ _ c.args.done _ c.args.self.now.sound c.in-Ok-Double.field-0-is c.in-Ok-Double.ensures.ok refl refl refl refl }
 
 pub invariant_of-self-in-Ok-Stranger : goal.invariant_of-self-in-Ok-Stranger
-invariant_of-self-in-Ok-Stranger c = record { sound = state_stranger _ _ _ _ _ _ _ _ c.args.self.now.sound c.in-Ok-Stranger.field-0-is c.in-Ok-Stranger.ensures.ok refl refl refl refl }
+invariant_of-self-in-Ok-Stranger c = record { sound = state_stranger _ _ _ _ c.args.done _ c.args.self.now.sound c.in-Ok-Stranger.field-0-is c.in-Ok-Stranger.ensures.ok refl refl refl refl }
 
 pub invariant_of-self-in-Err : goal.invariant_of-self-in-Err
 invariant_of-self-in-Err c = record { sound = state_kept _ _ _ _ c.args.self.now.sound c.in-Err.ensures.unchanged refl refl refl refl }
 
 pub returns-in-Ok-Taken-clause-step : goal.returns-in-Ok-Taken-clause-step
-returns-in-Ok-Taken-clause-step c written = stays_offered written _ _ _ _ _ _ c.in-Ok-Taken.ensures.ok
+returns-in-Ok-Taken-clause-step c written = stays_offered written _ _ c.args.done _ c.in-Ok-Taken.ensures.ok
