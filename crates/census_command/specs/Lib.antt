@@ -3,6 +3,7 @@ pub mod BesideReports
 pub mod Advances
 pub mod Draws
 pub mod Runs
+pub mod Asking
 pub mod Keeps
 pub mod Remakes
 pub mod Requests

@@ -31,6 +31,13 @@ EndsAtFirst (Run bound workers cells input recursive keep_going folders) = Stops
 EndsAtFirst (Objects bound workers cells input recursive keep_going folders) = StopsAtFirstLoss (source_of input recursive keep_going (map (λ s. s.now) folders.items))
 EndsAtFirst request = Unit {0}
 
+-- nothing is to be made of reports
+abbrev pub MakesNothing : Request → Type 0
+MakesNothing (Merge reports) = ⊥
+MakesNothing (Table format reports) = ⊥
+MakesNothing (Page reports) = ⊥
+MakesNothing request = Unit {0}
+
 -- neither what patterns are is asked for, nor what is made of reports, nor to go on past what can't be read, which have
 -- outcomes of their own
 abbrev pub IsDone : Request → Type 0

@@ -1,16 +1,15 @@
 //! What the program does with its words.
-ghost use Rattle.std.specs.Prelude.{◌≡◌, ◌≤◌, ◌||◌, false, map, IfErr, IfNone, IfOk, IfSome, OnOk};
-ghost use Rattle.life_answer.specs.Questions.{IsAnswered};
+ghost use Rattle.std.specs.Prelude.{◌≡◌, ◌||◌, false, map, IfErr, IfNone, IfOk, IfSome, OnOk};
 ghost use Rattle.census_errors.specs.Errors.{status_of};
 ghost use Rattle.census_errors.specs.Messages.{error_line};
-ghost use Rattle.census_command.specs.Outcomes.{Answers, IsKeeping, Outcome};
-ghost use Rattle.census_command.specs.Requests.{Does, EndsAtFirst, Fails, IsDone, IsLawful};
+ghost use Rattle.census_command.specs.Outcomes.{Answers, IsRemaking, Outcome};
+ghost use Rattle.census_command.specs.Requests.{Does, Fails, IsDone, IsLawful, MakesNothing};
 ghost use Rattle.census_errors.specs.Shelves.{tellings};
-ghost use Rattle.census_errors.specs.Sources.{Kept, StopsAtFirstLoss, source_of};
 ghost use Rattle.census_errors.specs.ErrorStreams.{TellsIf, TellsText};
 ghost use Rattle.census_command.specs.Streams.{HasSoundStreams};
 
 use crate::advancing::advance;
+use crate::census::{census_of, kept_of};
 use crate::drawing::draw;
 use crate::keeping::keep_going;
 use crate::quiet_gate::QuietGate;
@@ -23,94 +22,22 @@ use census_errors::{CommandError, ErrorStream, place_if, saying_of, stop_saying}
 use census_folders::Shelf;
 use census_identify::identify;
 use census_reports::Form;
-use life_answer::Question;
 use std::alloc::Global;
 use std::io::{Read, Write};
 use std::sync::Wait;
 use std::thread::Threads;
 use watched::put_all;
 
-// A census of folders that goes on past what can't be read.
-#[derive(Clone, Copy)]
-struct KeptCensus<'r, 'a> {
-    question: Question,
-    workers: u32,
-    limit: Option<u64>,
-    recursive: bool,
-    folders: &'r [&'a str],
-}
-
-// The census of these folders, where it goes on past what can't be read: without a folder nothing does.
-fn kept_census<'r, 'a>(
-    keep_going: bool,
-    question: Question,
-    workers: u32,
-    limit: Option<u64>,
-    recursive: bool,
-    folders: &'r [&'a str],
-) -> Option<KeptCensus<'r, 'a>>
+// What is made of reports, and of which, where that is asked for.
+fn remaking_of<'r, 'a>(request: &'r Request<'a>) -> Option<(Form, &'r [&'a str])>
     ensures some { IfSome result
-        (λ census. (census.question ≡ question) × (census.workers ≡ workers)
-        × (source_of limit recursive keep_going (map (λ s. s.now) folders.now)
-        ≡ Kept census.limit census.recursive (map (λ s. s.now) census.folders.now))) }
-    ensures none { IfNone result
-        (StopsAtFirstLoss (source_of limit recursive keep_going (map (λ s. s.now) folders.now))) }
-{
-    if !keep_going || folders.is_empty() {
-        return None;
-    }
-    Some(KeptCensus {
-        question,
-        workers,
-        limit,
-        recursive,
-        folders,
-    })
-}
-
-// The census that is asked for, where it goes on past what can't be read.
-fn kept_of<'r, 'a>(request: &'r Request<'a>) -> Option<KeptCensus<'r, 'a>>
-    requires { IsLawful request.now }
-    ensures some { IfSome result (λ census.
-        IsKeeping request.now census.limit census.recursive (map (λ s. s.now) census.folders.now)
-        census.question) }
-    ensures question { IfSome result (λ census. IsAnswered census.question) }
-    ensures workers { IfSome result (λ census. (1 ≤ census.workers) × (census.workers ≤ 16)) }
-    ensures none { IfNone result (EndsAtFirst request.now) }
+        (λ made. IsRemaking request.now made.0 (map (λ s. s.now) made.1.now)) }
+    ensures none { IfNone result (MakesNothing request.now) }
 {
     match request {
-        Request::Run {
-            bound,
-            workers,
-            cells,
-            input,
-            recursive,
-            keep_going,
-            folders,
-        } => {
-            let question = Question::Settles {
-                bound: *bound,
-                cells: *cells,
-            };
-            let folders = folders.as_slice();
-            kept_census(*keep_going, question, *workers, *input, *recursive, folders)
-        }
-        Request::Objects {
-            bound,
-            workers,
-            cells,
-            input,
-            recursive,
-            keep_going,
-            folders,
-        } => {
-            let question = Question::Objects {
-                bound: *bound,
-                cells: Some(*cells),
-            };
-            let folders = folders.as_slice();
-            kept_census(*keep_going, question, *workers, *input, *recursive, folders)
-        }
+        Request::Merge { reports } => Some((Form::Merged, reports.as_slice())),
+        Request::Table { format, reports } => Some((form_of(*format), reports.as_slice())),
+        Request::Page { reports } => Some((Form::Page, reports.as_slice())),
         _ => None,
     }
 }
@@ -137,68 +64,24 @@ fn execute<S: Shelf, I: Read, O: Write, G: Gate, R: Threads + Wait + Sync>(
         (λ e. Fails e (tellings (S.listed shelf.now) (S.inner shelf.now) (S.held shelf.now))
         request.now streams.old streams.new) }
 {
+    if let Some(census) = census_of(request) {
+        return Ok(run_command(rt, shelf, alloc, census, explain, gate, streams)?);
+    }
     match request {
-        Request::Run {
-            bound,
-            workers,
-            cells,
-            input,
-            recursive,
-            folders,
-            ..
-        } => Ok(run_command(
-            rt,
-            shelf,
-            alloc,
-            Question::Settles {
-                bound: *bound,
-                cells: *cells,
-            },
-            *workers,
-            folders.as_slice(),
-            *input,
-            *recursive,
-            explain,
-            gate,
-            streams,
-        )?),
-        Request::Objects {
-            bound,
-            workers,
-            cells,
-            input,
-            recursive,
-            folders,
-            ..
-        } => Ok(run_command(
-            rt,
-            shelf,
-            alloc,
-            Question::Objects {
-                bound: *bound,
-                cells: Some(*cells),
-            },
-            *workers,
-            folders.as_slice(),
-            *input,
-            *recursive,
-            explain,
-            gate,
-            streams,
-        )?),
-        Request::Identify { .. }
-        | Request::Merge { .. }
-        | Request::Table { .. }
-        | Request::Page { .. } => unreachable!(),
         Request::Advance { generations, file } => {
             advance(shelf, alloc, *generations, *file, streams)?;
-            Ok(Vec::new(alloc))
         }
         Request::Draw { code, rule } => {
             draw(alloc, code.as_bytes(), rule.as_bytes(), streams)?;
-            Ok(Vec::new(alloc))
         }
+        Request::Run { .. }
+        | Request::Objects { .. }
+        | Request::Identify { .. }
+        | Request::Merge { .. }
+        | Request::Table { .. }
+        | Request::Page { .. } => unreachable!(),
     }
+    Ok(Vec::new(alloc))
 }
 
 // Whether faults are explained: where that is asked for, or at a terminal.
@@ -300,60 +183,15 @@ pub fn dispatch<S: Shelf, I: Read, O: Write, E: Write, G: Gate, R: Threads + Wai
     let gate = &QuietGate::new(gate, asked.quiet);
     let request = &asked.request;
     if let Some(census) = kept_of(request) {
-        return keep_going(
-            rt,
-            shelf,
-            alloc,
-            census.question,
-            census.workers,
-            census.folders,
-            census.limit,
-            census.recursive,
-            explain,
-            gate,
-            streams,
-            errors,
-        );
+        return keep_going(rt, shelf, alloc, census, explain, gate, streams, errors);
+    }
+    if let Some((form, reports)) = remaking_of(request) {
+        return remake(shelf, alloc, form, reports, explain, streams, errors);
     }
     if let Request::Identify { bound, files } = request {
         let Streams { input, output } = streams;
         let told = &mut errors.inner;
         return identify(shelf, alloc, *bound, files.as_slice(), input, output, told);
-    }
-    if let Request::Merge { reports } = request {
-        return remake(
-            shelf,
-            alloc,
-            Form::Merged,
-            reports.as_slice(),
-            explain,
-            streams,
-            errors,
-        );
-    }
-    if let Request::Table { format, reports } = request {
-        let form = form_of(*format);
-        return remake(
-            shelf,
-            alloc,
-            form,
-            reports.as_slice(),
-            explain,
-            streams,
-            errors,
-        );
-    }
-    if let Request::Page { reports } = request {
-        let form = Form::Page;
-        return remake(
-            shelf,
-            alloc,
-            form,
-            reports.as_slice(),
-            explain,
-            streams,
-            errors,
-        );
     }
     match execute(rt, shelf, alloc, request, explain, gate, streams) {
         Ok(lines) => {

@@ -12,6 +12,7 @@ ghost use Rattle.census_errors.specs.Shelves.{tellings};
 ghost use Rattle.census_command.specs.Streams.{HasSoundStreams};
 ghost use Rattle.census_errors.specs.declared.run_error.RunError.TheVariants.{Memory};
 
+use crate::census::Census;
 use crate::reporting::report;
 use crate::streams::Streams;
 use census_bundle::Bundle;
@@ -22,7 +23,6 @@ use census_errors::{
 };
 use census_faults::printable_text;
 use census_folders::{Loss, Shelf, folders_below_each_on, read_folders_on};
-use life_answer::Question;
 use std::alloc::{AllocError, Global};
 use std::io::{Read, Write};
 use std::sync::Wait;
@@ -136,8 +136,7 @@ fn tell_cut<E: Write>(
     error.status()
 }
 
-/// Writes the report of the folders of these words, or where it is recursive of those at and below them, of each of whose
-/// patterns this question is asked, by 1 to 16 workers, and gives the exit status. Each worker passes the gate with a
+/// Writes the report of a census of folders, or where it is recursive of those at and below them, and gives the exit status. Each worker passes the gate with a
 /// ticket before it works. Nothing is read from standard input.
 ///
 /// What can't be listed or read doesn't end it: a file that can't be read is a lost entry, and so is, where there is a limit,
@@ -159,25 +158,21 @@ pub fn keep_going<S: Shelf, I: Read, O: Write, E: Write, G: Gate, R: Threads + W
     rt: &R,
     shelf: &S,
     alloc: Global,
-    question: Question,
-    workers: u32,
-    words: &[&str],
-    limit: Option<u64>,
-    recursive: bool,
+    census: Census<'_, '_>,
     explain: bool,
     gate: &G,
     streams: &mut Streams<I, O>,
     errors: &mut ErrorStream<E>,
 ) -> u8
-    requires question { IsAnswered question }
-    requires workers { (1 ≤ workers) × (workers ≤ 16) }
+    requires question { IsAnswered census.question }
+    requires workers { (1 ≤ census.workers) × (census.workers ≤ 16) }
     requires sound { HasSoundStreams streams.old }
     requires errors { errors.old.failed ≡ false }
     ensures { Keeps (tellings (S.listed shelf.now) (S.inner shelf.now) (S.held shelf.now))
-        limit recursive (map (λ s. s.now) words.now) question explain result
-        streams.old streams.new errors.old errors.new }
+        census.entry.limit census.entry.recursive (map (λ s. s.now) census.entry.folders.now)
+        census.entry.question explain result streams.old streams.new errors.old errors.new }
 {
-    let gathered = match gather(shelf, alloc, words, limit, recursive) {
+    let gathered = match gather(shelf, alloc, census.folders, census.limit, census.recursive) {
         Ok(gathered) => gathered,
         Err(error) => {
             let saying = run_saying(error);
@@ -192,8 +187,8 @@ pub fn keep_going<S: Shelf, I: Read, O: Write, E: Write, G: Gate, R: Threads + W
         alloc,
         bundle,
         true,
-        question,
-        workers,
+        census.question,
+        census.workers,
         explain,
         gate,
         &mut streams.output,

@@ -4,6 +4,7 @@
 #![tactic(auto)]
 
 mod advancing;
+mod census;
 mod dispatching;
 mod drawing;
 mod entry_point;
@@ -16,6 +17,7 @@ mod running;
 mod streams;
 
 pub use advancing::advance;
+pub use census::Census;
 pub use dispatching::{answer, dispatch, stop};
 pub use drawing::draw;
 pub use entry_point::program;

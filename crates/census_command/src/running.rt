@@ -10,13 +10,13 @@ ghost use Rattle.census_errors.specs.Shelves.{tellings};
 ghost use Rattle.census_errors.specs.Sources.{source_of};
 ghost use Rattle.census_command.specs.Streams.{HasSoundStreams};
 
+use crate::census::Census;
 use crate::reporting::report;
 use crate::streams::Streams;
 use census_bundle::{Bundle, BundleFault, INPUT_LIMIT, read_bundle};
 use census_crew::{BytesFault, Gate};
 use census_errors::{RunError, borrowed_words};
 use census_folders::{Shelf, folders_below_each, read_folders};
-use life_answer::Question;
 use std::alloc::Global;
 use std::io::{Read, Write};
 use std::sync::Wait;
@@ -47,65 +47,72 @@ fn run_input<S: Shelf, I: Read, O: Write, G: Gate, R: Threads + Wait + Sync>(
     rt: &R,
     shelf: &S,
     alloc: Global,
-    question: Question,
-    workers: u32,
+    census: Census<'_, '_>,
     explain: bool,
     gate: &G,
     streams: &mut Streams<I, O>,
 ) -> Result<Vec<u8>, RunError>
-    requires question { IsAnswered question }
-    requires workers { (1 ≤ workers) × (workers ≤ 16) }
+    requires question { IsAnswered census.question }
+    requires workers { (1 ≤ census.workers) × (census.workers ≤ 16) }
     requires sound { HasSoundStreams streams.old }
     ensures done { IfOk result
         (λ lines. ReportsInput
         (tellings (S.listed shelf.now) (S.inner shelf.now) (S.held shelf.now))
-        question explain lines.items streams.old streams.new) }
+        census.entry.question explain lines.items streams.old streams.new) }
     ensures sound { OnOk result (HasSoundStreams streams.new) }
-    ensures fails { IfErr result (λ e. InputFails e question streams.old streams.new) }
+    ensures fails { IfErr result (λ e. InputFails e census.entry.question streams.old streams.new) }
 {
     let Streams { input, output } = streams;
     let bundle = read_input(alloc, input)?;
     let lines = report(
-        rt, shelf, alloc, &bundle, false, question, workers, explain, gate, output,
+        rt,
+        shelf,
+        alloc,
+        &bundle,
+        false,
+        census.question,
+        census.workers,
+        explain,
+        gate,
+        output,
     )?;
     Ok(lines)
 }
 
-// Reads the folders of these words, whose files may have so many bytes together where there is a limit, and writes their
+// Reads the folders of a census, whose files may have so many bytes together where there is a limit, and writes their
 // report.
 fn run_folders<S: Shelf, I: Read, O: Write, G: Gate, R: Threads + Wait + Sync>(
     rt: &R,
     shelf: &S,
     alloc: Global,
-    question: Question,
-    workers: u32,
-    folders: &[&str],
-    limit: Option<u64>,
+    census: Census<'_, '_>,
     explain: bool,
     gate: &G,
     streams: &mut Streams<I, O>,
 ) -> Result<Vec<u8>, RunError>
-    requires question { IsAnswered question }
-    requires workers { (1 ≤ workers) × (workers ≤ 16) }
+    requires question { IsAnswered census.question }
+    requires workers { (1 ≤ census.workers) × (census.workers ≤ 16) }
     requires sound { HasSoundStreams streams.old }
     ensures done { IfOk result
         (λ lines. ReportsFolders
         (tellings (S.listed shelf.now) (S.inner shelf.now) (S.held shelf.now))
-        limit (map (λ s. s.now) folders.now) question explain lines.items streams.old streams.new) }
+        census.entry.limit (map (λ s. s.now) census.entry.folders.now) census.entry.question
+        explain lines.items streams.old streams.new) }
     ensures sound { OnOk result (HasSoundStreams streams.new) }
     ensures fails { IfErr result
         (λ e. FoldersFail e (tellings (S.listed shelf.now) (S.inner shelf.now) (S.held shelf.now))
-        limit (map (λ s. s.now) folders.now) question streams.old streams.new) }
+        census.entry.limit (map (λ s. s.now) census.entry.folders.now) census.entry.question
+        streams.old streams.new) }
 {
-    let bundle = read_folders(shelf, alloc, folders, limit)?;
+    let bundle = read_folders(shelf, alloc, census.folders, census.limit)?;
     let lines = report(
         rt,
         shelf,
         alloc,
         &bundle,
         true,
-        question,
-        workers,
+        census.question,
+        census.workers,
         explain,
         gate,
         &mut streams.output,
@@ -113,53 +120,48 @@ fn run_folders<S: Shelf, I: Read, O: Write, G: Gate, R: Threads + Wait + Sync>(
     Ok(lines)
 }
 
-// Reads the folders at and below those of these words, whose files may have so many bytes together where there is a limit,
+// Reads the folders at and below those of a census, whose files may have so many bytes together where there is a limit,
 // and writes their report.
 fn run_trees<S: Shelf, I: Read, O: Write, G: Gate, R: Threads + Wait + Sync>(
     rt: &R,
     shelf: &S,
     alloc: Global,
-    question: Question,
-    workers: u32,
-    words: &[&str],
-    limit: Option<u64>,
+    census: Census<'_, '_>,
     explain: bool,
     gate: &G,
     streams: &mut Streams<I, O>,
 ) -> Result<Vec<u8>, RunError>
-    requires question { IsAnswered question }
-    requires workers { (1 ≤ workers) × (workers ≤ 16) }
+    requires question { IsAnswered census.question }
+    requires workers { (1 ≤ census.workers) × (census.workers ≤ 16) }
     requires sound { HasSoundStreams streams.old }
     ensures done { IfOk result
         (λ lines. ReportsTrees
         (tellings (S.listed shelf.now) (S.inner shelf.now) (S.held shelf.now))
-        limit (map (λ s. s.now) words.now) question explain lines.items streams.old streams.new) }
+        census.entry.limit (map (λ s. s.now) census.entry.folders.now) census.entry.question
+        explain lines.items streams.old streams.new) }
     ensures sound { OnOk result (HasSoundStreams streams.new) }
     ensures fails { IfErr result
         (λ e. TreesFail e (tellings (S.listed shelf.now) (S.inner shelf.now) (S.held shelf.now))
-        limit (map (λ s. s.now) words.now) question streams.old streams.new) }
+        census.entry.limit (map (λ s. s.now) census.entry.folders.now) census.entry.question
+        streams.old streams.new) }
 {
-    let own = folders_below_each(shelf, alloc, words)?;
+    let own = folders_below_each(shelf, alloc, census.folders)?;
     let folders = borrowed_words(alloc, own.as_slice())?;
-    run_folders(
-        rt,
-        shelf,
-        alloc,
-        question,
-        workers,
-        folders.as_slice(),
-        limit,
-        explain,
-        gate,
-        streams,
-    )
+    let census = Census {
+        question: census.question,
+        workers: census.workers,
+        limit: census.limit,
+        recursive: false,
+        keep_going: false,
+        folders: folders.as_slice(),
+    };
+    run_folders(rt, shelf, alloc, census, explain, gate, streams)
 }
 
-/// Writes the report of collections, of each of whose patterns this question is asked, by 1 to 16 workers. Each of them
-/// passes the gate with a ticket before it works. The collections are the folders of these words on the shelf, as
-/// `read_folders` reads them, or, where it is recursive, those at and below them that list a name that ends in `.rle`, as
-/// `folders_below_each` tells them; without a word they are those of the bundle on standard input, which is read to its
-/// end. With words nothing is read from it. Where there is a limit, the files of the folders may have so many bytes together:
+/// Writes the report of a census. Each of its workers passes the gate with a ticket before it works. The collections are
+/// its folders on the shelf, as `read_folders` reads them, or, where it is recursive, those at and below them that list a
+/// name that ends in `.rle`, as `folders_below_each` tells them; without a folder they are those of the bundle on standard
+/// input, which is read to its end. With folders nothing is read from it. Where there is a limit, the files of the folders may have so many bytes together:
 /// the file that goes past it is too long.
 ///
 /// What is answered are the lines that are said beside the report, where faults are explained: those that explain what it
@@ -171,38 +173,31 @@ pub fn run_command<S: Shelf, I: Read, O: Write, G: Gate, R: Threads + Wait + Syn
     rt: &R,
     shelf: &S,
     alloc: Global,
-    question: Question,
-    workers: u32,
-    folders: &[&str],
-    limit: Option<u64>,
-    recursive: bool,
+    census: Census<'_, '_>,
     explain: bool,
     gate: &G,
     streams: &mut Streams<I, O>,
 ) -> Result<Vec<u8>, RunError>
-    requires question { IsAnswered question }
-    requires workers { (1 ≤ workers) × (workers ≤ 16) }
+    requires question { IsAnswered census.question }
+    requires workers { (1 ≤ census.workers) × (census.workers ≤ 16) }
     requires sound { HasSoundStreams streams.old }
     ensures done { IfOk result
         (λ lines. Runs (tellings (S.listed shelf.now) (S.inner shelf.now) (S.held shelf.now))
-        (source_of limit recursive false (map (λ s. s.now) folders.now)) question explain
-        lines.items
-        streams.old streams.new) }
+        (source_of census.entry.limit census.entry.recursive false
+        (map (λ s. s.now) census.entry.folders.now)) census.entry.question
+        explain lines.items streams.old streams.new) }
     ensures sound { OnOk result (HasSoundStreams streams.new) }
     ensures fails { IfErr result
         (λ e. RunFails e (tellings (S.listed shelf.now) (S.inner shelf.now) (S.held shelf.now))
-        (source_of limit recursive false (map (λ s. s.now) folders.now)) question streams.old
-        streams.new) }
+        (source_of census.entry.limit census.entry.recursive false
+        (map (λ s. s.now) census.entry.folders.now)) census.entry.question
+        streams.old streams.new) }
 {
-    if folders.is_empty() {
-        run_input(rt, shelf, alloc, question, workers, explain, gate, streams)
-    } else if recursive {
-        run_trees(
-            rt, shelf, alloc, question, workers, folders, limit, explain, gate, streams,
-        )
+    if census.folders.is_empty() {
+        run_input(rt, shelf, alloc, census, explain, gate, streams)
+    } else if census.recursive {
+        run_trees(rt, shelf, alloc, census, explain, gate, streams)
     } else {
-        run_folders(
-            rt, shelf, alloc, question, workers, folders, limit, explain, gate, streams,
-        )
+        run_folders(rt, shelf, alloc, census, explain, gate, streams)
     }
 }

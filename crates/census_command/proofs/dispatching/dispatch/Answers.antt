@@ -1,6 +1,5 @@
 use Rattle.std.proofs.Common.{List, ℕ, ◌++◌, inl, inr, refl, sym, ap, subst, map}
-use Rattle.census_reports.specs.declared.form.Form.TheVariants as form
-use Rattle.census_command.specs.Outcomes.{IsIdentify, IsRemaking}
+use Rattle.census_command.specs.Outcomes.{IsIdentify}
 use Rattle.census_errors.specs.Messages.{error_line}
 use Rattle.census_errors.specs.Sayings.{said_if}
 use Rattle.census_errors.specs.ErrorStreams.{TellsIf, TellsText}
@@ -26,46 +25,17 @@ returns-in-Identify g c =
       identifies = c.identify.ensures;
     }))
 
-pub returns-in-Merge : goal.returns-in-Merge
-returns-in-Merge g c =
-    let files = map (λ s. s.now) c.as_slice-in-Merge.result.now in
+pub returns-in-Some-remaking_of : goal.returns-in-Some-remaking_of
+returns-in-Some-remaking_of g c =
     inr (inl (record {
       request = c.in-Ok.asked.request;
       asked = c.in-Ok.ensures.0;
-      form = form.Merged;
-      files = files;
-      is = subst (λ r. IsRemaking r form.Merged files) (sym c.in-Merge.is) (refl, ap (λ fs. map (λ s. s.now) fs) c.as_slice-in-Merge.ensures.value);
+      form = c.in-Some-remaking_of.form;
+      files = map (λ s. s.now) c.in-Some-remaking_of.reports.now;
+      is = c.in-Some-remaking_of.ensures.some;
       explain = c.explains-explain.result;
       explained = are_explained (map (λ s. s.now) c.args.words.now) c.args.errors.now c.in-Ok.asked.explain c.explains-explain.result c.in-Ok.ensures.1 c.explains-explain.ensures;
       remakes = c.remake.ensures;
-    }))
-
-pub returns-in-Table : goal.returns-in-Table
-returns-in-Table g c =
-    let files = map (λ s. s.now) c.as_slice-in-Table.result.now in
-    inr (inl (record {
-      request = c.in-Ok.asked.request;
-      asked = c.in-Ok.ensures.0;
-      form = c.form_of-form.result;
-      files = files;
-      is = subst (λ r. IsRemaking r c.form_of-form.result files) (sym c.in-Table.is) (c.form_of-form.ensures, ap (λ fs. map (λ s. s.now) fs) c.as_slice-in-Table.ensures.value);
-      explain = c.explains-explain.result;
-      explained = are_explained (map (λ s. s.now) c.args.words.now) c.args.errors.now c.in-Ok.asked.explain c.explains-explain.result c.in-Ok.ensures.1 c.explains-explain.ensures;
-      remakes = c.remake-in-Table.ensures;
-    }))
-
-pub returns-in-Page : goal.returns-in-Page
-returns-in-Page g c =
-    let files = map (λ s. s.now) c.as_slice-in-Page.result.now in
-    inr (inl (record {
-      request = c.in-Ok.asked.request;
-      asked = c.in-Ok.ensures.0;
-      form = form.Page;
-      files = files;
-      is = subst (λ r. IsRemaking r form.Page files) (sym c.in-Page.is) (refl, ap (λ fs. map (λ s. s.now) fs) c.as_slice-in-Page.ensures.value);
-      explain = c.explains-explain.result;
-      explained = are_explained (map (λ s. s.now) c.args.words.now) c.args.errors.now c.in-Ok.asked.explain c.explains-explain.result c.in-Ok.ensures.1 c.explains-explain.ensures;
-      remakes = c.remake-in-Page.ensures;
     }))
 
 pub returns-in-Ok-execute : goal.returns-in-Ok-execute
