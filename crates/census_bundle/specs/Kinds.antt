@@ -21,8 +21,8 @@ pub record IsOtherAtLine (line : List ℕ) : Type 0 where
 pub record IsPlainLine (line : List ℕ) : Type 0 where
   pub is : is_at_line line ≡ false
 
-abbrev pub IsKind : List ℕ → Line → Type 0
-IsKind line (Folder name) = IsFolderLine line name.now
-IsKind line (File name) = IsFileLine line name.now
-IsKind line OtherAt = IsOtherAtLine line
-IsKind line Plain = IsPlainLine line
+abbrev pub IsLineKind : List ℕ → Line → Type 0
+IsLineKind line (Folder name) = IsFolderLine line name.now
+IsLineKind line (File name) = IsFileLine line name.now
+IsLineKind line OtherAt = IsOtherAtLine line
+IsLineKind line Plain = IsPlainLine line

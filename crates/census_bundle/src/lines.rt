@@ -2,7 +2,7 @@
 ghost use Rattle.std.specs.Prelude.{◌≡◌, ◌+◌, ◌<◌, ◌≤◌, ◌∷◌, ◌++◌, true, length};
 ghost use Rattle.std.specs.List.{list_all};
 ghost use Rattle.census_bundle.specs.Lines.{whole_lines, content, is_space};
-ghost use Rattle.census_bundle.specs.Kinds.{IsKind};
+ghost use Rattle.census_bundle.specs.Kinds.{IsLineKind};
 ghost use Rattle.census_bundle.specs.Scan.{line_len, begins_section, IsTextOf};
 
 use memchr::memchr;
@@ -71,7 +71,7 @@ pub fn is_blank(line: &[u8]) -> bool
 
 // What a line begins.
 pub fn line_of(line: &[u8]) -> Line
-    ensures { IsKind line.now result }
+    ensures { IsLineKind line.now result }
 {
     if line.starts_with(b"@folder ") {
         return Line::Folder(without_ending(&line[8..]));

@@ -10,7 +10,7 @@ use Rattle.hex.specs.Hex.{encode_lower}
 use Rattle.census_identify.proofs.Written.{tells_more}
 use Rattle.census_identify.specs.Streams.{Sink}
 use Rattle.census_bundle.specs.Names.{is_name_byte}
-use Rattle.census_faults.specs.Explained.{explanation, heading, spot_text}
+use Rattle.census_faults.specs.Explained.{explanation, place_heading, spot_text}
 use Rattle.census_faults.specs.Printed.{printable_text, printed_byte}
 use Rattle.census_faults.specs.declared.fault.Fault.{Fault}
 use Rattle.census_faults.specs.declared.spot.Spot.{Spot}
@@ -68,7 +68,7 @@ of_ok P (Ok x) is p = p
 of_ok P (Err e) is p = absurd (true≢false (sym is))
 
 -- a place that is known, and a blank
-pub place_is : (spot : Spot) → (spot ≡ Nowhere → ⊥) → spot_text spot ++ codes " " ≡ heading None spot
+pub place_is : (spot : Spot) → (spot ≡ Nowhere → ⊥) → spot_text spot ++ codes " " ≡ place_heading None spot
 place_is Nowhere known = absurd (known refl)
 place_is (Line line) known = refl
 place_is (At place) known = refl

@@ -1,7 +1,7 @@
 //! What is said of an error besides its line, where faults are explained.
 ghost use Rattle.std.specs.Prelude.{◌≡◌, ◌++◌, None, Some, codes, decimal, false};
 ghost use Rattle.std.specs.Option.{option_copied};
-ghost use Rattle.census_faults.specs.Explained.{heading, spot_text, word_text};
+ghost use Rattle.census_faults.specs.Explained.{place_heading, spot_text, word_text};
 ghost use Rattle.census_faults.specs.Printed.{printable_text, printed_byte};
 ghost use Rattle.census_errors.specs.Errors.{status_of};
 ghost use Rattle.census_errors.specs.Messages.{error_line};
@@ -104,7 +104,7 @@ fn tell_spot<E: Write>(spot: Spot, errors: &mut ErrorStream<E>)
 
 // Tells the place of a fault that no file is known of, and a blank where anything is known.
 fn tell_place<E: Write>(spot: Spot, errors: &mut ErrorStream<E>)
-    ensures { TellsMoreText (heading None spot) errors.old errors.new }
+    ensures { TellsMoreText (place_heading None spot) errors.old errors.new }
 {
     match spot {
         Spot::Nowhere => errors.tell_more(b""),
@@ -117,7 +117,7 @@ fn tell_place<E: Write>(spot: Spot, errors: &mut ErrorStream<E>)
 
 // Tells the file of a fault, its place there as far as it is known, and a blank.
 fn tell_named<E: Write>(name: &[u8], spot: Spot, errors: &mut ErrorStream<E>)
-    ensures { TellsMoreText (heading (Some name.now) spot) errors.old errors.new }
+    ensures { TellsMoreText (place_heading (Some name.now) spot) errors.old errors.new }
 {
     tell_bytes(name, errors);
     errors.tell_more(b":");
@@ -127,7 +127,7 @@ fn tell_named<E: Write>(name: &[u8], spot: Spot, errors: &mut ErrorStream<E>)
 
 // Tells what is known of where a fault stands, and a blank where anything is.
 fn tell_heading<E: Write>(name: Option<&[u8]>, spot: Spot, errors: &mut ErrorStream<E>)
-    ensures { TellsMoreText (heading (option_copied name.entry) spot) errors.old errors.new }
+    ensures { TellsMoreText (place_heading (option_copied name.entry) spot) errors.old errors.new }
 {
     match name {
         Some(name) => tell_named(name, spot, errors),

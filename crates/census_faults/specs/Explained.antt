@@ -18,10 +18,10 @@ spot_text (Line line) = decimal line ++ codes ":"
 spot_text (At place) = decimal place.line ++ codes ":" ++ decimal place.column ++ codes ":"
 
 -- both and a blank, where anything is known
-abbrev pub heading : Option (List ℕ) → Spot → List ℕ
-heading None Nowhere = []
-heading None spot = spot_text spot ++ codes " "
-heading (Some name) spot = name_text (Some name) ++ spot_text spot ++ codes " "
+abbrev pub place_heading : Option (List ℕ) → Spot → List ℕ
+place_heading None Nowhere = []
+place_heading None spot = spot_text spot ++ codes " "
+place_heading (Some name) spot = name_text (Some name) ++ spot_text spot ++ codes " "
 
 -- ` (WORD)`, where the system has a word
 abbrev pub word_text : Option (List ℕ) → List ℕ
@@ -30,4 +30,4 @@ word_text (Some word) = codes " (" ++ printable_text word ++ codes ")"
 
 -- two blanks, where the fault stands, the sentence, the system's word, and LF
 abbrev pub explanation : Fault → Option (List ℕ) → Spot → Option (List ℕ) → List ℕ
-explanation fault name spot word = codes "  " ++ heading name spot ++ sentence_of fault ++ word_text word ++ codes "\n"
+explanation fault name spot word = codes "  " ++ place_heading name spot ++ sentence_of fault ++ word_text word ++ codes "\n"

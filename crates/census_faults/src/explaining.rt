@@ -1,7 +1,7 @@
 //! The line that explains a fault.
 ghost use Rattle.std.specs.Prelude.{◌≡◌, ◌++◌, IfOk, OnOk, codes, decimal};
 ghost use Rattle.std.specs.Option.{option_copied};
-ghost use Rattle.census_faults.specs.Explained.{explanation, heading, name_text, spot_text, word_text};
+ghost use Rattle.census_faults.specs.Explained.{explanation, place_heading, name_text, spot_text, word_text};
 
 use crate::fault::Fault;
 use crate::printing::push_printed;
@@ -50,7 +50,7 @@ fn push_spot(line: &mut Vec<u8>, spot: Spot) -> Result<(), AllocError>
 // Appends what is known of where the fault stands, and a blank where anything is.
 fn push_heading(line: &mut Vec<u8>, name: Option<&[u8]>, spot: Spot) -> Result<(), AllocError>
     ensures { OnOk result
-        (line.new.items ≡ line.old.items ++ heading (option_copied name.entry) spot) }
+        (line.new.items ≡ line.old.items ++ place_heading (option_copied name.entry) spot) }
 {
     if name.is_none() && spot == Spot::Nowhere {
         return Ok(());

@@ -21,8 +21,8 @@ abbrev pub list_of : Hand → List Item
 list_of h = (view h.pass).taken
 
 -- what the feed of the hand was filled with
-abbrev pub source_of : Hand → List Item
-source_of h = (view h.pass).filled
+abbrev pub filled_items : Hand → List Item
+filled_items h = (view h.pass).filled
 
 -- what the feed was filled with
 abbrev pub items_of : Feed → List Item
@@ -38,7 +38,7 @@ IsFeedOf f bundle = items_of f ≡ items bundle (workers_of f)
 
 -- a hand of this deque
 abbrev pub IsHandOfDeque : {P : Type 0} → Worker Item Global View P → Hand → Type 0
-IsHandOfDeque owner h = (stealer_deque h.stealer ≡ worker_deque owner) × (source_of h ≡ (worker_view owner).filled)
+IsHandOfDeque owner h = (stealer_deque h.stealer ≡ worker_deque owner) × (filled_items h ≡ (worker_view owner).filled)
 
 -- the same, which has taken nothing
 abbrev pub IsNew : {P : Type 0} → Worker Item Global View P → Hand → Type 0
@@ -54,7 +54,7 @@ AreHandsOf f hands = (length hands ≡ workers_of f) × All (IsHandOf f) hands
 
 -- the feed of the hand was filled from this bundle
 abbrev pub DrawsFrom : Hand → List Folder → Type 0
-DrawsFrom h bundle = (workers : ℕ) × (source_of h ≡ items bundle workers)
+DrawsFrom h bundle = (workers : ℕ) × (filled_items h ≡ items bundle workers)
 
 -- from whatever bundle the feed of the hand was filled, the ticket is one of that bundle's
 abbrev pub IsTicketFor : Hand → Ticket → Type 0
@@ -62,7 +62,7 @@ IsTicketFor h t = (bundle : List Folder) → DrawsFrom h bundle → IsTicketOf b
 
 -- it has the same feed
 abbrev pub SameHand : Hand → Hand → Type 0
-SameHand old new = (stealer_deque new.stealer ≡ stealer_deque old.stealer) × (source_of new ≡ source_of old)
+SameHand old new = (stealer_deque new.stealer ≡ stealer_deque old.stealer) × (filled_items new ≡ filled_items old)
 
 -- it took an end mark, or had one and did nothing
 abbrev pub TookMark : Hand → Hand → Type 0

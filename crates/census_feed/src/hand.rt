@@ -5,7 +5,7 @@ ghost use Rattle.census_feed.specs.declared.item.Item.TheVariants.{Work};
 ghost use Rattle.census_feed.specs.declared.view.Role.TheVariants.{Holder};
 ghost use Rattle.census_feed.specs.Items.{mark_count, Rises, has_item, ends_with_mark};
 ghost use Rattle.census_feed.specs.Rule.{Stole};
-ghost use Rattle.census_feed.specs.Feeds.{list_of, source_of, SameHand, IsTicketFor, TookMark, OnlyLaterLeft, NoTicketLeft};
+ghost use Rattle.census_feed.specs.Feeds.{list_of, filled_items, SameHand, IsTicketFor, TookMark, OnlyLaterLeft, NoTicketLeft};
 
 use crate::handles::Hand;
 use crate::item::Item;
@@ -22,7 +22,7 @@ impl Hand {
         ensures same { SameHand self.old self.new }
         ensures ticket { IfSome result
             (λ t. (list_of self.new ≡ list_of self.old ++ Work t ∷ []) × Rises (list_of self.new) ×
-            (has_item (source_of self.old) (Work t) ≡ true)) }
+            (has_item (filled_items self.old) (Work t) ≡ true)) }
         ensures bundle { IfSome result (IsTicketFor self.old) }
         ensures least { IfSome result (λ t. OnlyLaterLeft self.new (Work t)) }
         ensures mark { IfNone result (TookMark self.old self.new) }

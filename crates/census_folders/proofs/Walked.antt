@@ -9,7 +9,7 @@ use Rattle.std.proofs.lemmas.Option.{slice_get-get_or}
 use Rattle.census_folders.specs.declared.fault.FoldersFault.{FoldersFault}
 use Rattle.census_folders.specs.declared.fault.FoldersFault.TheVariants.{Add, Read, TooLong, Memory}
 use Rattle.census_folders.specs.Folders.{AreInOrder}
-use Rattle.census_folders.specs.Shelves.{IsChosen, patterns_in}
+use Rattle.census_folders.specs.Shelves.{IsChosen, pattern_names_in}
 use Rattle.census_folders.specs.Told.{Told, GivesTold}
 use Rattle.census_folders.specs.Walks.{AddsVisit, HoldsTree, IsVisit, StopsNames, StopsVisit, StopsWalk, Visit, paths_below, has_patterns, is_any, names_in, paths, paths_in}
 
@@ -23,8 +23,8 @@ stops_visit listed inner names TooLong told why = why
 stops_visit listed inner names Memory told why = why
 
 -- some name was chosen where some name is there
-pub any_chosen : (listing : List ℕ) (names : List (List ℕ)) (count : ℕ) → IsChosen listing names → count ≡ length names → nat_le 1 count ≡ is_any (patterns_in listing)
-any_chosen listing names count chosen is = ap (nat_le 1) (is ∙ length_permutation (patterns_in listing) names chosen.same)
+pub any_chosen : (listing : List ℕ) (names : List (List ℕ)) (count : ℕ) → IsChosen listing names → count ≡ length names → nat_le 1 count ≡ is_any (pattern_names_in listing)
+any_chosen listing names count chosen is = ap (nat_le 1) (is ∙ length_permutation (pattern_names_in listing) names chosen.same)
 
 -- # Several folders
 

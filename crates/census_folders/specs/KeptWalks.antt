@@ -5,7 +5,7 @@ use Rattle.std.specs.List.Sorted.{IsPermutation}
 use Rattle.std.specs.Str.{is_utf8}
 use Rattle.census_folders.specs.declared.loss.Loss.{Loss}
 use Rattle.census_folders.specs.Folders.{AreInOrder}
-use Rattle.census_folders.specs.Shelves.{patterns_in}
+use Rattle.census_folders.specs.Shelves.{pattern_names_in}
 use Rattle.census_folders.specs.Told.{Told, GivesTold, MayFail}
 use Rattle.census_folders.specs.Walks.{is_any, names_in, path_of}
 
@@ -25,7 +25,7 @@ KeepsListing told None = MayFail told
 
 -- the folder can't be listed, or lists a name that ends in `.rle`
 abbrev pub is_taken : Option (List ℕ) → Bool
-is_taken (Some listing) = is_any (patterns_in listing)
+is_taken (Some listing) = is_any (pattern_names_in listing)
 is_taken None = true
 
 abbrev pub was_taken : KeptVisit → Bool

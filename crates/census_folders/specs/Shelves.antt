@@ -21,12 +21,12 @@ abbrev pub is_end : ℕ → Bool
 is_end byte = nat_eq byte 0
 
 -- the names that stand in a list and end in `.rle`
-abbrev pub patterns_in : List ℕ → List (List ℕ)
-patterns_in listing = filter is_pattern_name (slice_split is_end listing)
+abbrev pub pattern_names_in : List ℕ → List (List ℕ)
+pattern_names_in listing = filter is_pattern_name (slice_split is_end listing)
 
 -- exactly the names that end in `.rle`, by their bytes
 pub record IsChosen (listing : List ℕ) (names : List (List ℕ)) : Type 0 where
-  pub same : IsPermutation (patterns_in listing) names
+  pub same : IsPermutation (pattern_names_in listing) names
   pub order : AreInOrder names
 
 -- # Folders that were read

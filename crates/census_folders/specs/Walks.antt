@@ -5,7 +5,7 @@ use Rattle.std.specs.List.Sorted.{IsPermutation}
 use Rattle.census_folders.specs.declared.fault.FoldersFault.{FoldersFault}
 use Rattle.census_folders.specs.declared.fault.FoldersFault.TheVariants.{Add, Read, TooLong, Memory}
 use Rattle.census_folders.specs.Folders.{AreInOrder}
-use Rattle.census_folders.specs.Shelves.{is_end, patterns_in}
+use Rattle.census_folders.specs.Shelves.{is_end, pattern_names_in}
 use Rattle.census_folders.specs.Told.{Told, GivesTold, MayFail}
 
 -- a folder that was walked: its path, what it lists, and the names of the folders in it, each ended by a byte 0
@@ -40,7 +40,7 @@ paths visits = map (λ v. v.path) visits
 
 -- the folder lists a name that ends in `.rle`
 abbrev pub has_patterns : Visit → Bool
-has_patterns v = is_any (patterns_in v.listing)
+has_patterns v = is_any (pattern_names_in v.listing)
 
 -- the folder lists this and has these folders in it, as the shelf tells
 pub record IsVisit (listed inner : List ℕ → Told) (v : Visit) : Type 0 where

@@ -19,12 +19,12 @@ abbrev pub is_exclamation_mark : ℕ → Bool
 is_exclamation_mark c = c == 33
 
 -- a line of a bundle that begins a pattern or a collection may stand in the text
-abbrev pub has_line : List ℕ → Bool
-has_line text = stands_in (codes "@file ") text || stands_in (codes "@folder ") text
+abbrev pub may_hold_lines : List ℕ → Bool
+may_hold_lines text = stands_in (codes "@file ") text || stands_in (codes "@folder ") text
 
 -- such a line may stand after the first `!` of the pattern's text
 abbrev pub may_follow_the_end : Entry → Bool
-may_follow_the_end entry = not entry.is_lost && has_line (after_first is_exclamation_mark entry.text)
+may_follow_the_end entry = not entry.is_lost && may_hold_lines (after_first is_exclamation_mark entry.text)
 
 -- two blanks and `COLLECTION/NAME: `. The names of a bundle are lawful and are shown as they are.
 abbrev pub stray_place : List ℕ → List ℕ → List ℕ

@@ -1,7 +1,7 @@
 //! Texts that the next pattern may be lost in.
 ghost use Rattle.std.specs.Prelude.{◌≡◌, ◌++◌, ◌<◌, length, IfOk, OnOk};
 ghost use Rattle.std.specs.List.{after_first};
-ghost use Rattle.census_hints.specs.Hints.{entry_lines, folder_lines, has_line, is_exclamation_mark, may_follow_the_end, stands_in, stray_line, stray_lines, stray_place, stray_sentence};
+ghost use Rattle.census_hints.specs.Hints.{entry_lines, folder_lines, may_hold_lines, is_exclamation_mark, may_follow_the_end, stands_in, stray_line, stray_lines, stray_place, stray_sentence};
 
 use census_bundle::{Bundle, Entry, Folder};
 use memchr::{memchr, memmem};
@@ -26,8 +26,8 @@ fn stands_in(word: &[u8], text: &[u8]) -> bool
 }
 
 // Whether a line that begins a pattern or a collection may stand in a text.
-fn has_line(text: &[u8]) -> bool
-    ensures { result ≡ has_line text.now }
+fn may_hold_lines(text: &[u8]) -> bool
+    ensures { result ≡ may_hold_lines text.now }
 {
     stands_in(b"@file ", text) || stands_in(b"@folder ", text)
 }
@@ -36,7 +36,7 @@ fn has_line(text: &[u8]) -> bool
 fn may_follow_the_end(entry: &Entry) -> bool
     ensures { result ≡ may_follow_the_end entry.now }
 {
-    !entry.is_lost && has_line(after_mark(entry.text.as_slice()))
+    !entry.is_lost && may_hold_lines(after_mark(entry.text.as_slice()))
 }
 
 // What is told of such a pattern.

@@ -6,10 +6,10 @@ use Rattle.census_bundle.specs.Sizes.{input_limit}
 use Rattle.census_folders.specs.Told.{Told as ToldOf}
 use Rattle.census_identify.specs.Courses.{with_told}
 use Rattle.census_identify.specs.Errors.{error_line}
-use Rattle.census_identify.specs.Hearing.{Hearing, Hears, HearsEach, words_of}
+use Rattle.census_identify.specs.Hearing.{Hearing, Hears, HearsEach, heard_words}
 use Rattle.census_identify.specs.Identifies.{LacksMemory, LosesOutput, Stops, TellsAll}
-use Rattle.census_identify.specs.Streams.{PutsBytes, PutsMoreBytes, PutsPrefix, Sink, Source, Streams, Writes, WritesBetween}
-use Rattle.census_identify.specs.Telling.{blocks_in, blocks_text, line_told, lines_text, output_of, status_of, told_of, tellings}
+use Rattle.census_identify.specs.Streams.{PutsBytes, PutsMoreBytes, PutsPrefix, Sink, Reader, Streams, Writes, WritesBetween}
+use Rattle.census_identify.specs.Telling.{blocks_in, blocks_text, line_told, lines_text, output_of, status_of, told_of, told_words}
 use Rattle.census_identify.specs.declared.course.Course.{Course}
 use Rattle.census_identify.specs.declared.error.IdentifyError.{IdentifyError}
 use Rattle.census_identify.specs.declared.error.IdentifyError.TheVariants.{Memory, Write}
@@ -20,7 +20,7 @@ use Rattle.census_identify.proofs.Parted.{any_block, blocks_more, has_any, lines
 use Rattle.census_identify.proofs.Written.{tells_more, tells_none, writes_between, writes_more, writes_none}
 
 -- one more was heard
-hears_more : (held : List ℕ → ToldOf) (heard : List Hearing) (h : Hearing) (a b c : Source) → HearsEach held heard a b → Hears held h.word h.heard b c
+hears_more : (held : List ℕ → ToldOf) (heard : List Hearing) (h : Hearing) (a b c : Reader) → HearsEach held heard a b → Hears held h.word h.heard b c
     → HearsEach held (heard ++ h ∷ []) a c
 hears_more held [] h a b c same p = (c, subst (λ s. Hears held h.word h.heard s c) same p, refl)
 hears_more held (g ∷ heard) h a b c p q = (p.0, p.1, hears_more held heard h p.0 b c p.2 q)
@@ -43,11 +43,11 @@ counts_more course course' told (Line line status) before is = record {
 -- these words were heard and told
 pub record IsUnderWay (held : List ℕ → ToldOf) (bound : ℕ) (words : List (List ℕ)) (course : Course) (before now : Streams) : Type 0 where
   pub heard : List Hearing
-  pub words_are : words ≡ words_of heard
+  pub words_are : words ≡ heard_words heard
   pub hears : HearsEach held heard before.input now.input
-  pub blocks : Writes (blocks_text (tellings bound heard)) before.output now.output
-  pub lines : PutsBytes (lines_text (tellings bound heard)) before.errors now.errors
-  pub counts : Counts course (tellings bound heard)
+  pub blocks : Writes (blocks_text (told_words bound heard)) before.output now.output
+  pub lines : PutsBytes (lines_text (told_words bound heard)) before.errors now.errors
+  pub counts : Counts course (told_words bound heard)
 
 pub at_first : (held : List ℕ → ToldOf) (bound : ℕ) (course : Course) (streams : Streams) → course.has_block ≡ false → course.status ≡ 0
     → streams.output.failed ≡ false → streams.errors.failed ≡ false → IsUnderWay held bound [] course streams streams
@@ -62,27 +62,27 @@ at_first held bound course streams none zero output errors = record {
 
 -- one more word
 module _ (held : List ℕ → ToldOf) (bound : ℕ) (words : List (List ℕ)) (course : Course) (before now : Streams) (w : IsUnderWay held bound words course before now)
-    (word : List ℕ) (heard : Heard) (input : Source) (hears : Hears held word heard now.input input) where
+    (word : List ℕ) (heard : Heard) (input : Reader) (hears : Hears held word heard now.input input) where
   abbrev next : Hearing
   next = record { word = word; heard = heard }
 
   abbrev told : List Told
-  told = tellings bound w.heard
+  told = told_words bound w.heard
 
   abbrev more : Told
   more = told_of bound word heard
 
-  all_told : tellings bound (w.heard ++ next ∷ []) ≡ told ++ more ∷ []
+  all_told : told_words bound (w.heard ++ next ∷ []) ≡ told ++ more ∷ []
   all_told = tellings_more bound w.heard next
 
-  all_blocks : blocks_text (tellings bound (w.heard ++ next ∷ [])) ≡ blocks_text told ++ output_of course.has_block more
+  all_blocks : blocks_text (told_words bound (w.heard ++ next ∷ [])) ≡ blocks_text told ++ output_of course.has_block more
   all_blocks = ap blocks_text all_told ∙ blocks_more told more ∙ ap (λ b. blocks_text told ++ output_of b more) (sym w.counts.has_block)
 
-  all_lines : lines_text (tellings bound (w.heard ++ next ∷ [])) ≡ lines_text told ++ line_told more
+  all_lines : lines_text (told_words bound (w.heard ++ next ∷ [])) ≡ lines_text told ++ line_told more
   all_lines = ap lines_text all_told ∙ lines_more told more
 
   module _ (course' : Course) (output errors : Sink) (told_more : PutsMoreBytes (line_told more) now.errors errors) where
-    lines_so : PutsBytes (lines_text (tellings bound (w.heard ++ next ∷ []))) before.errors errors
+    lines_so : PutsBytes (lines_text (told_words bound (w.heard ++ next ∷ []))) before.errors errors
     lines_so = subst (λ l. PutsBytes l before.errors errors) (sym all_lines) (tells_more (lines_text told) (line_told more) before.errors now.errors errors w.lines told_more)
 
     pub one_more_word : Writes (output_of course.has_block more) now.output output → course' ≡ with_told course more
@@ -106,11 +106,11 @@ module _ (held : List ℕ → ToldOf) (bound : ℕ) (words : List (List ℕ)) (c
       hears = hears_more held w.heard next before.input now.input input w.hears hears;
       blocks = subst (λ l. WritesBetween (blocks_text told) l before.output output) (sym all_blocks)
           (writes_between (blocks_text told) (output_of course.has_block more) before.output now.output output w.blocks front);
-      lines = subst (λ l. PutsBytes l before.errors errors) (sym (append-nil (lines_text (tellings bound (w.heard ++ next ∷ []))))) lines_so;
+      lines = subst (λ l. PutsBytes l before.errors errors) (sym (append-nil (lines_text (told_words bound (w.heard ++ next ∷ []))))) lines_so;
     }
 
 module _ (held : List ℕ → ToldOf) (bound : ℕ) (words : List (List ℕ)) (course : Course) (before now : Streams) (w : IsUnderWay held bound words course before now) where
-  pub memory_lacks : (all : List (List ℕ)) (word : List ℕ) (left : List (List ℕ)) → all ≡ words ++ word ∷ left → (input : Source)
+  pub memory_lacks : (all : List (List ℕ)) (word : List ℕ) (left : List (List ℕ)) → all ≡ words ++ word ∷ left → (input : Reader)
       → ConsumesAtMost (input_limit + 1) now.input.unread input.unread → LacksMemory [] held bound all before (record { input = input; output = now.output; errors = now.errors })
   memory_lacks all word left is input taken = record {
     heard = w.heard;
@@ -121,7 +121,7 @@ module _ (held : List ℕ → ToldOf) (bound : ℕ) (words : List (List ℕ)) (c
     hears = w.hears;
     taken = taken;
     blocks = w.blocks;
-    lines = subst (λ l. PutsBytes l before.errors now.errors) (sym (append-nil (lines_text (tellings bound w.heard)))) w.lines;
+    lines = subst (λ l. PutsBytes l before.errors now.errors) (sym (append-nil (lines_text (told_words bound w.heard)))) w.lines;
   }
 
   pub all_told_of : (all : List (List ℕ)) → all ≡ words → TellsAll held bound all course.status before now
@@ -148,11 +148,11 @@ word_between words i d within =
 
 module _ (held : List ℕ → ToldOf) (bound : ℕ) (words : List (Bor (List ℕ))) (i : ℕ) (d : Bor (List ℕ)) (course : Course) (before now : Streams)
     (within : i < length words) (w : IsUnderWay held bound (texts (take i words)) course before now) where
-  pub lacks_memory : (input : Source) → ConsumesAtMost (input_limit + 1) now.input.unread input.unread
+  pub lacks_memory : (input : Reader) → ConsumesAtMost (input_limit + 1) now.input.unread input.unread
       → LacksMemory [] held bound (texts words) before (record { input = input; output = now.output; errors = now.errors })
   lacks_memory input taken = memory_lacks held bound (texts (take i words)) course before now w (texts words) (get_or words i d).now (texts (drop (suc i) words)) (word_between words i d within) input taken
 
-  module _ (heard : Heard) (told : Told) (input : Source) (output errors : Sink) (hears : Hears held (get_or words i d).now heard now.input input)
+  module _ (heard : Heard) (told : Told) (input : Reader) (output errors : Sink) (hears : Hears held (get_or words i d).now heard now.input input)
       (is : told ≡ told_of bound (get_or words i d).now heard) (told_more : PutsMoreBytes (line_told told) now.errors errors) where
     line_so : PutsMoreBytes (line_told (told_of bound (get_or words i d).now heard)) now.errors errors
     line_so = subst (λ t. PutsMoreBytes (line_told t) now.errors errors) is told_more
@@ -187,7 +187,7 @@ stops_told Memory held bound words before now errors stops more = record {
   hears = stops.hears;
   taken = stops.taken;
   blocks = stops.blocks;
-  lines = told_last (lines_text (tellings bound stops.heard)) (error_line Memory) before.errors now.errors errors stops.lines more;
+  lines = told_last (lines_text (told_words bound stops.heard)) (error_line Memory) before.errors now.errors errors stops.lines more;
 }
 stops_told Write held bound words before now errors stops more = record {
   heard = stops.heard;
@@ -196,5 +196,5 @@ stops_told Write held bound words before now errors stops more = record {
   words_are = stops.words_are;
   hears = stops.hears;
   blocks = stops.blocks;
-  lines = told_last (lines_text (tellings bound (stops.heard ++ stops.next ∷ []))) (error_line Write) before.errors now.errors errors stops.lines more;
+  lines = told_last (lines_text (told_words bound (stops.heard ++ stops.next ∷ []))) (error_line Write) before.errors now.errors errors stops.lines more;
 }

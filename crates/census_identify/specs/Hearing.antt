@@ -9,7 +9,7 @@ use Rattle.watched.specs.declared.reading.ReadFault.{ReadFault}
 use Rattle.watched.specs.declared.reading.ReadFault.TheVariants as reads
 use Rattle.census_bundle.specs.Sizes.{input_limit}
 use Rattle.census_folders.specs.Told.{Told, GivesTold, MayExceed, MayFail}
-use Rattle.census_identify.specs.Streams.{Source}
+use Rattle.census_identify.specs.Streams.{Reader}
 use Rattle.census_identify.specs.declared.heard.Heard.{Heard}
 use Rattle.census_identify.specs.declared.heard.Heard.TheVariants.{Text, TooLong, Unread}
 
@@ -33,7 +33,7 @@ HearsFile told TooLong = MayExceed input_limit told
 HearsFile told Unread = MayFail told
 
 -- the text is all that the reader had left, up to its end, and within the limit
-pub record ReadsText (text : List ℕ) (before after : Source) : Type 0 where
+pub record ReadsText (text : List ℕ) (before after : Reader) : Type 0 where
   pub within : length text ≤ input_limit
   pub consumed : Consumes before.unread after.unread text
   pub end : IsAtEnd after.unread
@@ -41,18 +41,18 @@ pub record ReadsText (text : List ℕ) (before after : Source) : Type 0 where
   pub sound : after.failed ≡ false
 
 -- more was read than one text may have
-pub record ReadsTooMuch (before after : Source) : Type 0 where
+pub record ReadsTooMuch (before after : Reader) : Type 0 where
   pub consumed : ConsumesMoreThan input_limit before.unread after.unread
   pub sound : after.failed ≡ false
 
 -- what is got of standard input: it is unread where it has failed
-abbrev pub HearsInput : Heard → Source → Source → Type 0
+abbrev pub HearsInput : Heard → Reader → Reader → Type 0
 HearsInput (Text bytes) before after = ReadsText bytes before after
 HearsInput TooLong before after = ReadsTooMuch before after
 HearsInput Unread before after = after.failed ≡ true
 
 -- What is got of a word, where this is told of files by their paths. Nothing is read from standard input for a file.
-abbrev pub Hears : (List ℕ → Told) → List ℕ → Heard → Source → Source → Type 0
+abbrev pub Hears : (List ℕ → Told) → List ℕ → Heard → Reader → Reader → Type 0
 Hears held word heard before after =
     MatchBool (is_input word) (HearsInput heard before after) (HearsFile (held word) heard × (after ≡ before))
 
@@ -63,11 +63,11 @@ pub record Hearing : Type 0 where
   pub word : List ℕ
   pub heard : Heard
 
-abbrev pub words_of : List Hearing → List (List ℕ)
-words_of hearings = map (λ h. h.word) hearings
+abbrev pub heard_words : List Hearing → List (List ℕ)
+heard_words hearings = map (λ h. h.word) hearings
 
 -- each was heard after the one before it
-abbrev pub HearsEach : (List ℕ → Told) → List Hearing → Source → Source → Type 0
+abbrev pub HearsEach : (List ℕ → Told) → List Hearing → Reader → Reader → Type 0
 HearsEach held [] before after = after ≡ before
 HearsEach held (h ∷ hs) before after =
-    (next : Source) × Hears held h.word h.heard before next × HearsEach held hs next after
+    (next : Reader) × Hears held h.word h.heard before next × HearsEach held hs next after

@@ -4,9 +4,9 @@ use Rattle.watched.specs.Watching.{ConsumesAtMost}
 use Rattle.census_bundle.specs.Sizes.{input_limit}
 use Rattle.census_folders.specs.Told.{Told}
 use Rattle.census_identify.specs.Errors.{error_line, error_status}
-use Rattle.census_identify.specs.Hearing.{Hearing, HearsEach, words_of}
-use Rattle.census_identify.specs.Streams.{PutsBytes, Source, Streams, Writes, WritesBetween}
-use Rattle.census_identify.specs.Telling.{blocks_text, lines_text, status_of, tellings}
+use Rattle.census_identify.specs.Hearing.{Hearing, HearsEach, heard_words}
+use Rattle.census_identify.specs.Streams.{PutsBytes, Reader, Streams, Writes, WritesBetween}
+use Rattle.census_identify.specs.Telling.{blocks_text, lines_text, status_of, told_words}
 use Rattle.census_identify.specs.declared.error.IdentifyError.{IdentifyError}
 use Rattle.census_identify.specs.declared.error.IdentifyError.TheVariants.{Memory, Write}
 
@@ -19,24 +19,24 @@ words_or_input (word ∷ words) = word ∷ words
 -- error, and this is the greatest status that a line asks for.
 pub record TellsAll (held : List ℕ → Told) (bound : ℕ) (words : List (List ℕ)) (status : ℕ) (before after : Streams) : Type 0 where
   pub heard : List Hearing
-  pub words_are : words ≡ words_of heard
+  pub words_are : words ≡ heard_words heard
   pub hears : HearsEach held heard before.input after.input
-  pub blocks : Writes (blocks_text (tellings bound heard)) before.output after.output
-  pub lines : PutsBytes (lines_text (tellings bound heard)) before.errors after.errors
-  pub status_is : status ≡ status_of (tellings bound heard)
+  pub blocks : Writes (blocks_text (told_words bound heard)) before.output after.output
+  pub lines : PutsBytes (lines_text (told_words bound heard)) before.errors after.errors
+  pub status_is : status ≡ status_of (told_words bound heard)
 
 -- Memory was refused for a word. What was got of the words before it was told, and then this last line.
 pub record LacksMemory (last : List ℕ) (held : List ℕ → Told) (bound : ℕ) (words : List (List ℕ)) (before after : Streams) : Type 0 where
   pub heard : List Hearing
   pub word : List ℕ
   pub left : List (List ℕ)
-  pub words_are : words ≡ words_of heard ++ word ∷ left
+  pub words_are : words ≡ heard_words heard ++ word ∷ left
   -- standard input as the words before it left it
-  pub reached : Source
+  pub reached : Reader
   pub hears : HearsEach held heard before.input reached
   pub taken : ConsumesAtMost (input_limit + 1) reached.unread after.input.unread
-  pub blocks : Writes (blocks_text (tellings bound heard)) before.output after.output
-  pub lines : PutsBytes (lines_text (tellings bound heard) ++ last) before.errors after.errors
+  pub blocks : Writes (blocks_text (told_words bound heard)) before.output after.output
+  pub lines : PutsBytes (lines_text (told_words bound heard) ++ last) before.errors after.errors
 
 -- Standard output failed at the block of a word: what was written is a prefix of the blocks up to that one, and the
 -- blocks before it are whole. The lines up to that word were told, and then this last line.
@@ -44,10 +44,10 @@ pub record LosesOutput (last : List ℕ) (held : List ℕ → Told) (bound : ℕ
   pub heard : List Hearing
   pub next : Hearing
   pub left : List (List ℕ)
-  pub words_are : words ≡ words_of heard ++ next.word ∷ left
+  pub words_are : words ≡ heard_words heard ++ next.word ∷ left
   pub hears : HearsEach held (heard ++ next ∷ []) before.input after.input
-  pub blocks : WritesBetween (blocks_text (tellings bound heard)) (blocks_text (tellings bound (heard ++ next ∷ []))) before.output after.output
-  pub lines : PutsBytes (lines_text (tellings bound (heard ++ next ∷ [])) ++ last) before.errors after.errors
+  pub blocks : WritesBetween (blocks_text (told_words bound heard)) (blocks_text (told_words bound (heard ++ next ∷ []))) before.output after.output
+  pub lines : PutsBytes (lines_text (told_words bound (heard ++ next ∷ [])) ++ last) before.errors after.errors
 
 -- what was done before this error ended it, with this line told last
 abbrev pub Stops : IdentifyError → List ℕ → (List ℕ → Told) → ℕ → List (List ℕ) → Streams → Streams → Type 0

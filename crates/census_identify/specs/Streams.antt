@@ -5,7 +5,7 @@ use Rattle.watched.specs.Watching.{AppendsFront, has_failed, inner_of}
 use Rattle.watched.specs.declared.watched.Watched.{Watched}
 
 -- a reader: the bytes that it has left, where it tells any, and whether it has failed
-pub record Source : Type 0 where
+pub record Reader : Type 0 where
   pub unread : Option (List ℕ)
   pub failed : Bool
 
@@ -15,7 +15,7 @@ pub record Sink : Type 0 where
   pub failed : Bool
 
 -- a watched reader, by what its reader has left
-abbrev pub source : {R : Type 0} → (R → Option (List ℕ)) → Watched R → Source
+abbrev pub source : {R : Type 0} → (R → Option (List ℕ)) → Watched R → Reader
 source remaining reader = record { unread = remaining (inner_of reader); failed = has_failed reader }
 
 -- a watched writer, by what was written to its writer
@@ -24,7 +24,7 @@ sink contents writer = record { written = contents (inner_of writer); failed = h
 
 -- standard input, standard output and standard error
 pub record Streams : Type 0 where
-  pub input : Source
+  pub input : Reader
   pub output : Sink
   pub errors : Sink
 

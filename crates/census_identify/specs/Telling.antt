@@ -33,8 +33,8 @@ told_of bound word Unread = Line (message_line word (codes " read failed")) 4
 
 -- # All
 
-abbrev pub tellings : ℕ → List Hearing → List Told
-tellings bound hearings = map (λ h. told_of bound h.word h.heard) hearings
+abbrev pub told_words : ℕ → List Hearing → List Told
+told_words bound hearings = map (λ h. told_of bound h.word h.heard) hearings
 
 abbrev pub blocks_in : List Told → List (List ℕ)
 blocks_in [] = []

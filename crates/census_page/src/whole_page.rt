@@ -1,7 +1,7 @@
 //! The page.
 ghost use Rattle.std.specs.Prelude.{◌≡◌, ◌++◌, [], IfOk, List, OnOk};
 ghost use Rattle.census_rows.specs.declared.row.Row.{Row};
-ghost use Rattle.census_readback.specs.Grouped.{collections_of, rows_in, rows_lent};
+ghost use Rattle.census_readback.specs.Grouped.{collections_of, sections_lent, rows_lent};
 ghost use Rattle.census_readback.specs.Shapes.{AreReports};
 ghost use Rattle.census_page.specs.Pages.{code_table, codes_in, collection_name, counts_text, framed_text, heading, headings, page_of, section_text, sections_codes, sections_text, stray_list, stray_row, stray_rows};
 
@@ -151,7 +151,7 @@ fn push_sections(
     sections: &[Vec<&Row>],
 ) -> Result<(), AllocError>
     ensures { OnOk result (text.new.items
-        ≡ text.old.items ++ sections_text (rows_in sections.now)) }
+        ≡ text.old.items ++ sections_text (sections_lent sections.now)) }
 {
     for index in 0..sections.len() {
         push_section(alloc, text, sections[index].as_slice())?;

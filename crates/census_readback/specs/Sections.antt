@@ -10,16 +10,16 @@ use Rattle.census_readback.specs.declared.place.Tally.{Tally}
 use Rattle.census_readback.specs.Limits.{count_limit}
 
 -- one more, as far as 64 bits go
-abbrev pub more : ℕ → ℕ
-more n = min (n + 1) (2 ^ 64 - 1)
+abbrev pub next_count : ℕ → ℕ
+next_count n = min (n + 1) (2 ^ 64 - 1)
 
 -- with the line of one more pattern
 abbrev pub with_line : Tally → Outcome → Tally
-with_line t (Ok rule population onset period dx dy code) = record t { read = t.read + 1; resolved = more t.resolved; ash = false }
-with_line t (Ash rule population objects) = record t { read = t.read + 1; resolved = more t.resolved; ash = true }
-with_line t (None rule population) = record t { read = t.read + 1; unresolved = more t.unresolved; ash = false }
-with_line t (Large rule population generation) = record t { read = t.read + 1; unresolved = more t.unresolved; ash = false }
-with_line t (Bad fault) = record t { read = t.read + 1; refused = more t.refused; ash = false }
+with_line t (Ok rule population onset period dx dy code) = record t { read = t.read + 1; resolved = next_count t.resolved; ash = false }
+with_line t (Ash rule population objects) = record t { read = t.read + 1; resolved = next_count t.resolved; ash = true }
+with_line t (None rule population) = record t { read = t.read + 1; unresolved = next_count t.unresolved; ash = false }
+with_line t (Large rule population generation) = record t { read = t.read + 1; unresolved = next_count t.unresolved; ash = false }
+with_line t (Bad fault) = record t { read = t.read + 1; refused = next_count t.refused; ash = false }
 
 -- all patterns are read, and these are the numbers of all, of `ok` and `ash`, of `none` and `large`, and of `bad`
 abbrev pub closes : Tally → ℕ → ℕ → ℕ → ℕ → Bool

@@ -1,11 +1,11 @@
 -- What stands in standard input and standard output: one value before and one after.
 use Rattle.std.specs.Prelude.{ℕ, List, Option}
 use Rattle.watched.specs.declared.watched.Watched.{Watched}
-use Rattle.census_identify.specs.Streams.{Sink, Source, sink, source}
+use Rattle.census_identify.specs.Streams.{Sink, Reader, sink, source}
 
 -- standard input and standard output
 pub record Streams : Type 0 where
-  pub input : Source
+  pub input : Reader
   pub output : Sink
 
 -- watched streams

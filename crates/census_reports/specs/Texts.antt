@@ -4,39 +4,39 @@ use Rattle.watched.specs.Watching.{ConsumesAtMost}
 use Rattle.census_bundle.specs.Sizes.{input_limit}
 use Rattle.census_folders.specs.Told.{Told}
 use Rattle.census_identify.specs.Hearing.{Hears}
-use Rattle.census_identify.specs.Streams.{Source}
+use Rattle.census_identify.specs.Streams.{Reader}
 use Rattle.census_identify.specs.declared.heard.Heard.TheVariants as heard
 use Rattle.census_reports.specs.declared.error.ReportsError.{ReportsError}
 use Rattle.census_reports.specs.declared.error.ReportsError.TheVariants.{TooLong, Memory, Read}
 
 -- Each word has its text, which was read after that of the word before it.
-abbrev pub ReadsEach : (List ℕ → Told) → List (List ℕ) → List (List ℕ) → Source → Source → Type 0
+abbrev pub ReadsEach : (List ℕ → Told) → List (List ℕ) → List (List ℕ) → Reader → Reader → Type 0
 ReadsEach held [] [] before after = after ≡ before
 ReadsEach held [] (text ∷ texts) before after = ⊥
 ReadsEach held (word ∷ words) [] before after = ⊥
 ReadsEach held (word ∷ words) (text ∷ texts) before after =
-    (next : Source) × Hears held word (heard.Text text) before next × ReadsEach held words texts next after
+    (next : Reader) × Hears held word (heard.Text text) before next × ReadsEach held words texts next after
 
 -- standard input may have lost what one text has and a byte more, and has not failed
-pub record LosesAtMost (before after : Source) : Type 0 where
+pub record LosesAtMost (before after : Reader) : Type 0 where
   pub taken : ConsumesAtMost (input_limit + 1) before.unread after.unread
   pub sound : after.failed ≡ false
 
 -- why the text of a word was not read
-abbrev pub RefusesWord : ReportsError → (List ℕ → Told) → List ℕ → Source → Source → Type 0
+abbrev pub RefusesWord : ReportsError → (List ℕ → Told) → List ℕ → Reader → Reader → Type 0
 RefusesWord Read held word before after = Hears held word heard.Unread before after
 RefusesWord TooLong held word before after = Hears held word heard.TooLong before after × (after.failed ≡ false)
 RefusesWord Memory held word before after = LosesAtMost before after
 RefusesWord error held word before after = ⊥
 
 -- The texts of the words before some place were read. That of the word at this place was not, for this error.
-pub record StopsReadingTexts (error : ReportsError) (held : List ℕ → Told) (words : List (List ℕ)) (before after : Source) : Type 0 where
+pub record StopsReadingTexts (error : ReportsError) (held : List ℕ → Told) (words : List (List ℕ)) (before after : Reader) : Type 0 where
   pub texts : List (List ℕ)
   pub done : List (List ℕ)
   pub word : List ℕ
   pub left : List (List ℕ)
   pub words_are : words ≡ done ++ word ∷ left
   -- standard input as the words before it left it
-  pub reached : Source
+  pub reached : Reader
   pub read : ReadsEach held done texts before reached
   pub why : RefusesWord error held word reached after

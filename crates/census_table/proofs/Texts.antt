@@ -3,7 +3,7 @@ use Rattle.std.proofs.Common.{◌≡◌, ℕ, ◌+◌, ◌-◌, ◌<◌, List, [
 use Rattle.std.proofs.lemmas.List.{drop-drop, map-append, take-append-drop}
 use Rattle.std.specs.declared.vec.Vec.{Vec}
 use Rattle.census_rows.specs.declared.row.Row.{Row}
-use Rattle.census_readback.specs.Grouped.{rows_in, rows_lent}
+use Rattle.census_readback.specs.Grouped.{sections_lent, rows_lent}
 use Rattle.census_table.specs.Entries.{all_entries, entry_before, entry_of_row, lines_under, section_entries}
 use Rattle.csv.specs.Writing.{default_writer, row_text}
 use Rattle.serde_json.specs.Data.{object}
@@ -57,15 +57,15 @@ rows-cut format number heading rows some others entries e are =
 -- a collection, and those behind it
 pub sections-cut : {A : Type 0} (format : Format) (sections : List (Vec (Bor Row) A)) (i : ℕ) (d : Vec (Bor Row) A) (rows : List (Bor Row)) → i < length sections
     → rows ≡ (get_or sections i d).items
-    → rows_text format (all_entries (i + 1) (rows_in (drop i sections)))
-    ≡ rows_text format (section_entries (i + 1) (rows_lent rows)) ++ rows_text format (all_entries (i + 1 + 1) (rows_in (drop (i + 1) sections)))
+    → rows_text format (all_entries (i + 1) (sections_lent (drop i sections)))
+    ≡ rows_text format (section_entries (i + 1) (rows_lent rows)) ++ rows_text format (all_entries (i + 1 + 1) (sections_lent (drop (i + 1) sections)))
 sections-cut format sections i d rows less are =
     let behind = drop (i + 1) sections in
     let next : drop i sections ≡ get_or sections i d ∷ behind =
     drop-cons sections i d less ∙ ap (λ k. get_or sections i d ∷ drop k sections) (let e : suc i ≡ i + 1 = omega arith in e) in
-    ap (λ s. rows_text format (all_entries (i + 1) (rows_in s))) next
-    ∙ rows-append format (section_entries (i + 1) (rows_lent (get_or sections i d).items)) (all_entries (i + 1 + 1) (rows_in behind))
-    ∙ ap (λ r. rows_text format (section_entries (i + 1) (rows_lent r)) ++ rows_text format (all_entries (i + 1 + 1) (rows_in behind))) (sym are)
+    ap (λ s. rows_text format (all_entries (i + 1) (sections_lent s))) next
+    ∙ rows-append format (section_entries (i + 1) (rows_lent (get_or sections i d).items)) (all_entries (i + 1 + 1) (sections_lent behind))
+    ∙ ap (λ r. rows_text format (section_entries (i + 1) (rows_lent r)) ++ rows_text format (all_entries (i + 1 + 1) (sections_lent behind))) (sym are)
 
 -- a collection without rows
 pub section-empty : (format : Format) (number : ℕ) (rows : List (Bor Row)) → length rows < 1 → rows_text format (section_entries number (rows_lent rows)) ≡ []

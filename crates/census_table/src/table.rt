@@ -2,7 +2,7 @@
 ghost use Rattle.std.specs.Prelude.{◌≡◌, List, length, IfOk, MatchResult};
 ghost use Rattle.gathered.specs.Telling.{TellsAfter, sheet};
 ghost use Rattle.census_rows.specs.declared.row.Row.{Row};
-ghost use Rattle.census_readback.specs.Grouped.{rows_in, rows_lent};
+ghost use Rattle.census_readback.specs.Grouped.{sections_lent, rows_lent};
 ghost use Rattle.census_readback.specs.Shapes.{AreReports, any_outcome, lines_that};
 ghost use Rattle.census_table.specs.Entries.{all_entries, entries_of, lines_under, section_entries};
 ghost use Rattle.census_table.specs.Tables.{head_text, rows_text, table_text};
@@ -140,9 +140,9 @@ fn put_sections<W: Write>(
     writer: &mut Watched<W>,
 ) -> Result<(), AllocError>
     ensures { MatchResult result
-        (λ _. TellsAfter (rows_text format (all_entries 1 (rows_in sections.now)))
+        (λ _. TellsAfter (rows_text format (all_entries 1 (sections_lent sections.now)))
         (sheet W.contents block.old writer.old) (sheet W.contents block.new writer.new))
-        (λ _. TellsFront (rows_text format (all_entries 1 (rows_in sections.now)))
+        (λ _. TellsFront (rows_text format (all_entries 1 (sections_lent sections.now)))
         (sheet W.contents block.old writer.old) (sheet W.contents block.new writer.new)) }
 {
     for index in 0..sections.len() {

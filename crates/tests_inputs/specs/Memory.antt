@@ -5,13 +5,13 @@ use Rattle.census_folders.specs.Told.{Told, Unreadable, Holds}
 use Rattle.tests_inputs.specs.declared.memory.Leaf.{Leaf}
 
 -- the bytes of a regular file
-abbrev pub told_of : Leaf → Told
-told_of leaf = if leaf.regular then Holds leaf.bytes.now else Unreadable
+abbrev pub file_told : Leaf → Told
+file_told leaf = if leaf.regular then Holds leaf.bytes.now else Unreadable
 
 -- what the first leaf of this folder and name holds
 abbrev pub told_in : List Leaf → List ℕ → List ℕ → Told
 told_in [] folder name = Unreadable
-told_in (leaf ∷ leaves) folder name = if bytes_eq leaf.folder.now folder && bytes_eq leaf.name.now name then told_of leaf else told_in leaves folder name
+told_in (leaf ∷ leaves) folder name = if bytes_eq leaf.folder.now folder && bytes_eq leaf.name.now name then file_told leaf else told_in leaves folder name
 
 -- there are bytes to be read
 abbrev pub is_held : Told → Bool

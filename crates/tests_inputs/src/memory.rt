@@ -1,7 +1,7 @@
 //! A shelf in memory, which tells all that stands on it.
 ghost use Rattle.std.specs.Prelude.{◌≡◌, [], IfSome, IfNone, codes};
 ghost use Rattle.census_folders.specs.Told.{Unreadable};
-ghost use Rattle.tests_inputs.specs.Memory.{told_in, told_of};
+ghost use Rattle.tests_inputs.specs.Memory.{told_in, file_told};
 
 use census_folders::Shelf;
 use std::alloc::Global;
@@ -27,7 +27,7 @@ pub struct Memory<'a> {
 // The first leaf of this folder and name.
 fn find<'b, 'a>(leaves: &'b [Leaf<'a>], folder: &str, name: &[u8]) -> Option<&'b Leaf<'a>>
     ensures some { IfSome result
-        (λ leaf. told_in leaves.now folder.now name.now ≡ told_of leaf.now) }
+        (λ leaf. told_in leaves.now folder.now name.now ≡ file_told leaf.now) }
     ensures none { IfNone result (told_in leaves.now folder.now name.now ≡ Unreadable) }
 {
     for leaf in leaves {

@@ -1,6 +1,6 @@
 use Rattle.std.proofs.Common.{List, ℕ, [], ◌∷◌, ◌++◌, subst, ◌∙◌}
 use Rattle.std.specs.Option.{option_copied}
-use Rattle.census_faults.specs.Explained.{heading, word_text}
+use Rattle.census_faults.specs.Explained.{place_heading, word_text}
 use Rattle.census_faults.specs.Sentences.{sentence_of}
 use Rattle.census_errors.proofs.Said.{more_after}
 use Rattle.census_errors.specs.ErrorStreams.{TellsMoreText}
@@ -9,7 +9,7 @@ use Rattle.census_errors.proofs.saying.say.Goals as goal
 pub returns : goal.returns
 returns g c =
     let blanks = 32 ∷ 32 ∷ [] in
-    let head = heading (option_copied c.args.saying.name) c.args.saying.spot in
+    let head = place_heading (option_copied c.args.saying.name) c.args.saying.spot in
     let words = sentence_of c.args.saying.fault in
     let word = word_text (option_copied c.args.saying.word) in
     let third = subst (λ (t : List ℕ). TellsMoreText t c.tell_heading.new.errors c.tell_more-2.new.self) (c.as_bytes.ensures.value ∙ c.sentence.ensures) c.tell_more-2.ensures in

@@ -2,12 +2,12 @@ use Rattle.std.proofs.Common.{◌≡◌, ◌+◌, ◌++◌, length}
 use Rattle.std.specs.List.{filter}
 use Rattle.std.specs.Option.{option_map_or}
 use Rattle.census_folders.specs.Folders.{is_pattern_name}
-use Rattle.census_folders.specs.Shelves.{patterns_in}
+use Rattle.census_folders.specs.Shelves.{pattern_names_in}
 use Rattle.census_folders.proofs.Listings.{bytes_of, left_names}
 use Rattle.census_folders.proofs.listing.pattern_names.Given as goal
 
 abbrev pub invariant-loop-left : goal.invariant-loop-left
-invariant-loop-left l = bytes_of l.names.items ++ filter is_pattern_name (left_names l.left) ≡ patterns_in l.listing
+invariant-loop-left l = bytes_of l.names.items ++ filter is_pattern_name (left_names l.left) ≡ pattern_names_in l.listing
 
 abbrev pub decreases-loop-left : goal.decreases-loop-left
 decreases-loop-left l = option_map_or (λ rest. 1 + length rest.now) l.left 0

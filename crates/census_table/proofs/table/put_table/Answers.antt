@@ -1,7 +1,7 @@
 use Rattle.std.proofs.Common.{◌≡◌, [], ◌++◌, ◌∙◌, ap, sym}
 use Rattle.std.proofs.lemmas.Result.{err_from_is_err_and}
 use Rattle.gathered.specs.Telling.{sheet}
-use Rattle.census_readback.specs.Grouped.{collections_of, rows_in}
+use Rattle.census_readback.specs.Grouped.{collections_of, sections_lent}
 use Rattle.census_table.specs.Entries.{all_entries, entries_of}
 use Rattle.census_table.specs.Tables.{head_text, rows_text, table_text}
 use Rattle.census_table.proofs.Texts.{whole-table}
@@ -26,9 +26,9 @@ pub returns : goal.returns
 returns g c =
     let head = head_text c.args.format in
     let entries = entries_of c.args.rows.now in
-    let same : collections_of [] c.args.rows.now ≡ rows_in c.as_slice.result.now =
-    sym (ap (λ s. rows_in s) c.as_slice.ensures.value ∙ c.in_ok-sections.ensures) in
-    told_both c.put_sections.result (table_text c.args.format entries) head (rows_text c.args.format (all_entries 1 (rows_in c.as_slice.result.now)))
+    let same : collections_of [] c.args.rows.now ≡ sections_lent c.as_slice.result.now =
+    sym (ap (λ s. sections_lent s) c.as_slice.ensures.value ∙ c.in_ok-sections.ensures) in
+    told_both c.put_sections.result (table_text c.args.format entries) head (rows_text c.args.format (all_entries 1 (sections_lent c.as_slice.result.now)))
     (sheet g.W.Write.contents c.args.block.now c.args.writer.now) (sheet g.W.Write.contents c.put_head.new.block c.put_head.new.writer)
     (sheet g.W.Write.contents c.put_sections.new.block c.put_sections.new.writer)
     (whole-table c.args.format entries ∙ ap (λ s. head ++ rows_text c.args.format (all_entries 1 s)) same)
