@@ -3,6 +3,7 @@ use Rattle.std.specs.Prelude.{◌≡◌, ℕ, Bool, true, not, ◌&&◌, ◌||�
 use Rattle.std.specs.List.{All, list_all, starts_with, ends_with}
 use Rattle.census_bundle.specs.declared.bundle.Folder.{Folder}
 use Rattle.census_bundle.specs.declared.bundle.Entry.{Entry}
+use Rattle.census_bundle.specs.Sizes.{name_limit}
 
 -- no control character
 abbrev pub is_name_byte : ℕ → Bool
@@ -10,7 +11,7 @@ is_name_byte c = nat_le 32 c && not (c == 127)
 
 -- 1 to 255 such bytes, the first and the last not blank
 abbrev pub is_name : List ℕ → Bool
-is_name name = nat_lt 0 (length name) && (nat_le (length name) 255 && (list_all is_name_byte name && not (starts_with nat_eq name (codes " ") || ends_with nat_eq name (codes " "))))
+is_name name = nat_lt 0 (length name) && (nat_le (length name) name_limit && (list_all is_name_byte name && not (starts_with nat_eq name (codes " ") || ends_with nat_eq name (codes " "))))
 
 pub record IsNamedEntry (e : Entry) : Type 0 where
   pub name : is_name e.name ≡ true

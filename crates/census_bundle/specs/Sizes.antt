@@ -10,6 +10,14 @@ count_limit = 65535
 abbrev pub input_limit : ℕ
 input_limit = 67108864
 
+-- the most bytes of a name
+abbrev pub name_limit : ℕ
+name_limit = 255
+
+-- the most workers of a run
+abbrev pub worker_limit : ℕ
+worker_limit = 16
+
 -- at most 65,535 folders, each with at most 65,535 entries
 pub record IsWithinCounts (b : List Folder) : Type 0 where
   pub folders : length b ≤ count_limit

@@ -3,6 +3,8 @@ ghost use Rattle.std.specs.Prelude.{◌≡◌, ◌||◌, codes, nat_eq};
 ghost use Rattle.std.specs.List.{list_all, starts_with, ends_with};
 ghost use Rattle.census_bundle.specs.Names.{is_name, is_name_byte};
 
+use crate::limits::NAME_LIMIT;
+
 // Whether no byte is below 32 or equal to 127.
 fn is_printed(name: &[u8]) -> bool
     ensures { result ≡ list_all is_name_byte name.now }
@@ -23,5 +25,5 @@ fn has_blank_end(name: &[u8]) -> bool
 pub fn is_lawful(name: &[u8]) -> bool
     ensures { result ≡ is_name name.now }
 {
-    !name.is_empty() && name.len() <= 255 && is_printed(name) && !has_blank_end(name)
+    !name.is_empty() && name.len() <= NAME_LIMIT && is_printed(name) && !has_blank_end(name)
 }

@@ -12,7 +12,7 @@ use Rattle.census_cli.specs.declared.request.Request.{Request}
 use Rattle.census_cli.specs.declared.request.Request.TheVariants.{Run, Objects, Identify, Advance, Draw, Merge, Table, Page}
 use Rattle.census_cli.specs.declared.request.TableFormat.{TableFormat}
 use Rattle.census_cli.specs.declared.request.TableFormat.TheVariants.{Csv, Json}
-use Rattle.census_cli.specs.Limits.{generation_limit, objects_bound_limit, settles_bound_limit}
+use Rattle.census_cli.specs.Limits.{generation_limit, objects_bound_limit, settles_bound_limit, worker_limit}
 
 -- ---- what the matches of a command say
 
@@ -47,7 +47,7 @@ pub record GivesRun (command : Option (List ℕ × List Row)) (bound workers : �
   pub bound_is : argument_number (codes "bound") rows ≡ Some bound
   pub bound_in : (1 ≤ bound) × (bound ≤ settles_bound_limit)
   pub workers_are : argument_number (codes "workers") rows ≡ Some workers
-  pub workers_in : (1 ≤ workers) × (workers ≤ 16)
+  pub workers_in : (1 ≤ workers) × (workers ≤ worker_limit)
   pub cells_are : argument_number (codes "cells") rows ≡ cells
   pub cells_in : IsLimit 4294967295 cells
   pub input_is : argument_number (codes "input") rows ≡ input
@@ -64,7 +64,7 @@ pub record GivesObjects (command : Option (List ℕ × List Row)) (bound workers
   pub bound_is : argument_number (codes "bound") rows ≡ Some bound
   pub bound_in : (1 ≤ bound) × (bound ≤ objects_bound_limit)
   pub workers_are : argument_number (codes "workers") rows ≡ Some workers
-  pub workers_in : (1 ≤ workers) × (workers ≤ 16)
+  pub workers_in : (1 ≤ workers) × (workers ≤ worker_limit)
   pub cells_are : argument_number (codes "cells") rows ≡ Some cells
   pub cells_in : (1 ≤ cells) × (cells ≤ 4294967295)
   pub input_is : argument_number (codes "input") rows ≡ input

@@ -5,7 +5,7 @@ use Rattle.clap.specs.Walk.{Rule}
 use Rattle.clap.specs.Simple.{App, Shape, new_rule, new_shape}
 use Rattle.clap.specs.declared.builder.action.ArgAction.TheVariants.{SetTrue}
 use Rattle.clap.specs.declared.builder.value_parser.ValueParser.TheVariants.{Unsigned}
-use Rattle.census_cli.specs.Limits.{generation_limit, objects_bound_limit, settles_bound_limit}
+use Rattle.census_cli.specs.Limits.{generation_limit, objects_bound_limit, settles_bound_limit, worker_limit}
 
 -- `--bound N`
 abbrev pub bound_rule : Rule
@@ -24,7 +24,7 @@ workers_rule = record (new_rule (codes "workers")) {
   long = Some (codes "workers");
   value_names = 1;
   defaults = codes "4" ∷ [];
-  parser = Some (Unsigned 1 16);
+  parser = Some (Unsigned 1 worker_limit);
 }
 
 -- the `--bound N` of `objects` and of `identify`

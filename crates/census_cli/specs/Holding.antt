@@ -3,7 +3,7 @@ use Rattle.std.specs.Prelude.{◌≡◌, ◌⊎◌, ℕ, List, Bool, Option, Som
 use Rattle.clap.specs.Values.{IsUnsignedIn}
 use Rattle.clap.specs.Walk.{Row, first_of, one_of}
 use Rattle.census_cli.specs.Asking.{IsFlag}
-use Rattle.census_cli.specs.Limits.{generation_limit, objects_bound_limit, settles_bound_limit}
+use Rattle.census_cli.specs.Limits.{generation_limit, objects_bound_limit, settles_bound_limit, worker_limit}
 
 -- a number of this range
 abbrev pub HasNumberIn : ℕ → ℕ → List ℕ → List Row → Type 0
@@ -28,7 +28,7 @@ HasText id rows = (text : List ℕ) × (first_of id rows ≡ Some text)
 -- the matches of `run` have their numbers and flags
 pub record HasRun (rows : List Row) : Type 0 where
   pub bound : HasNumberIn 1 settles_bound_limit (codes "bound") rows
-  pub workers : HasNumberIn 1 16 (codes "workers") rows
+  pub workers : HasNumberIn 1 worker_limit (codes "workers") rows
   pub cells : HasLimit 4294967295 (codes "cells") rows
   pub input : HasLimit 9223372036854775807 (codes "input") rows
   pub recursive : HasFlag (codes "recursive") rows
@@ -39,7 +39,7 @@ pub record HasRun (rows : List Row) : Type 0 where
 -- those of `objects` have theirs
 pub record HasObjects (rows : List Row) : Type 0 where
   pub bound : HasNumberIn 1 objects_bound_limit (codes "bound") rows
-  pub workers : HasNumberIn 1 16 (codes "workers") rows
+  pub workers : HasNumberIn 1 worker_limit (codes "workers") rows
   pub cells : HasNumberIn 1 4294967295 (codes "cells") rows
   pub input : HasLimit 9223372036854775807 (codes "input") rows
   pub recursive : HasFlag (codes "recursive") rows

@@ -12,3 +12,7 @@ objects_bound_limit = 100000
 -- the N of `advance`
 abbrev pub generation_limit : ℕ
 generation_limit = 4194304
+
+-- the workers of `run` and of `objects`
+abbrev pub worker_limit : ℕ
+worker_limit = 16

@@ -2,7 +2,7 @@
 use Rattle.std.specs.Prelude.{◌≡◌, ℕ, ◌≤◌, Bool, List, [], Some, map, option_map}
 use Rattle.census_cli.specs.declared.request.Request.{Request}
 use Rattle.census_cli.specs.declared.request.Request.TheVariants.{Run, Objects, Identify, Advance, Draw, Merge, Table, Page}
-use Rattle.census_cli.specs.Limits.{generation_limit, objects_bound_limit, settles_bound_limit}
+use Rattle.census_cli.specs.Limits.{generation_limit, objects_bound_limit, settles_bound_limit, worker_limit}
 use Rattle.life_answer.specs.declared.question.Question.TheVariants as question
 use Rattle.census_command.specs.Advances.{AdvanceFromFails, AdvancesFrom, AdvancesFromInPart}
 use Rattle.census_errors.specs.Files.{file_of}
@@ -16,8 +16,8 @@ use Rattle.census_errors.specs.declared.error.CommandError.TheVariants as error
 
 -- its numbers are in their ranges
 abbrev pub IsLawful : Request → Type 0
-IsLawful (Run bound workers cells input recursive keep_going folders) = ((1 ≤ bound) × (bound ≤ settles_bound_limit)) × ((1 ≤ workers) × (workers ≤ 16))
-IsLawful (Objects bound workers cells input recursive keep_going folders) = ((1 ≤ bound) × (bound ≤ objects_bound_limit)) × ((1 ≤ workers) × (workers ≤ 16))
+IsLawful (Run bound workers cells input recursive keep_going folders) = ((1 ≤ bound) × (bound ≤ settles_bound_limit)) × ((1 ≤ workers) × (workers ≤ worker_limit))
+IsLawful (Objects bound workers cells input recursive keep_going folders) = ((1 ≤ bound) × (bound ≤ objects_bound_limit)) × ((1 ≤ workers) × (workers ≤ worker_limit))
 IsLawful (Identify bound files) = (1 ≤ bound) × (bound ≤ objects_bound_limit)
 IsLawful (Advance generations file) = generations ≤ generation_limit
 IsLawful (Draw code rule) = Unit {0}

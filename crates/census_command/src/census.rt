@@ -4,6 +4,7 @@ ghost use Rattle.life_answer.specs.Questions.{IsAnswered};
 ghost use Rattle.census_command.specs.Asking.{AsksForNone, IsAsked};
 ghost use Rattle.census_command.specs.Outcomes.{IsKeeping};
 ghost use Rattle.census_command.specs.Requests.{EndsAtFirst, IsLawful};
+ghost use Rattle.census_bundle.specs.Sizes.{worker_limit};
 
 use census_cli::Request;
 use life_answer::Question;
@@ -29,7 +30,8 @@ pub fn census_of<'r, 'a>(request: &'r Request<'a>) -> Option<Census<'r, 'a>>
     requires { IsLawful request.now }
     ensures some { IfSome result (IsAsked request.now) }
     ensures question { IfSome result (λ census. IsAnswered census.question) }
-    ensures workers { IfSome result (λ census. (1 ≤ census.workers) × (census.workers ≤ 16)) }
+    ensures workers { IfSome result
+        (λ census. (1 ≤ census.workers) × (census.workers ≤ worker_limit)) }
     ensures none { IfNone result (AsksForNone request.now) }
 {
     match request {
@@ -82,7 +84,8 @@ pub fn kept_of<'r, 'a>(request: &'r Request<'a>) -> Option<Census<'r, 'a>>
         IsKeeping request.now census.limit census.recursive (map (λ s. s.now) census.folders.now)
         census.question) }
     ensures question { IfSome result (λ census. IsAnswered census.question) }
-    ensures workers { IfSome result (λ census. (1 ≤ census.workers) × (census.workers ≤ 16)) }
+    ensures workers { IfSome result
+        (λ census. (1 ≤ census.workers) × (census.workers ≤ worker_limit)) }
     ensures none { IfNone result (EndsAtFirst request.now) }
 {
     let census = census_of(request)?;

@@ -11,6 +11,7 @@ ghost use Rattle.census_errors.specs.ErrorStreams.{TellsMoreText};
 ghost use Rattle.census_errors.specs.Shelves.{tellings};
 ghost use Rattle.census_command.specs.Streams.{HasSoundStreams};
 ghost use Rattle.census_errors.specs.declared.run_error.RunError.TheVariants.{Memory};
+ghost use Rattle.census_bundle.specs.Sizes.{worker_limit};
 
 use crate::census::Census;
 use crate::reporting::report;
@@ -165,7 +166,7 @@ pub fn keep_going<S: Shelf, I: Read, O: Write, E: Write, G: Gate, R: Threads + W
     errors: &mut ErrorStream<E>,
 ) -> u8
     requires question { IsAnswered census.question }
-    requires workers { (1 ≤ census.workers) × (census.workers ≤ 16) }
+    requires workers { (1 ≤ census.workers) × (census.workers ≤ worker_limit) }
     requires sound { HasSoundStreams streams.old }
     requires errors { errors.old.failed ≡ false }
     ensures { Keeps (tellings (S.listed shelf.now) (S.inner shelf.now) (S.held shelf.now))

@@ -5,6 +5,7 @@ ghost use Rattle.watched.specs.Watching.{has_failed, inner_of};
 ghost use Rattle.census_crew.specs.Faults.{FitsFault};
 ghost use Rattle.census_crew.specs.Writing.{WritesPrefix, WritesReport};
 ghost use Rattle.census_command.specs.BesideReports.{SaysBesideReport, SaysOfReport};
+ghost use Rattle.census_bundle.specs.Sizes.{worker_limit};
 
 use census_bundle::Bundle;
 use census_crew::{Gate, RunFault, run};
@@ -70,7 +71,7 @@ pub fn report<S: Shelf, G: Gate, W: Write, R: Threads + Wait + Sync>(
     out: &mut Watched<W>,
 ) -> Result<Vec<u8>, RunFault>
     requires question { IsAnswered question }
-    requires workers { (1 ≤ workers) × (workers ≤ 16) }
+    requires workers { (1 ≤ workers) × (workers ≤ worker_limit) }
     requires sound { has_failed out.old ≡ false }
     ensures failed { FitsFault result (has_failed out.new) }
     ensures report { MatchResult result

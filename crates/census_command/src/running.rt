@@ -9,6 +9,7 @@ ghost use Rattle.census_command.specs.Runs.{ReportsTrees, RunFails, Runs, TreesF
 ghost use Rattle.census_errors.specs.Shelves.{tellings};
 ghost use Rattle.census_errors.specs.Sources.{source_of};
 ghost use Rattle.census_command.specs.Streams.{HasSoundStreams};
+ghost use Rattle.census_bundle.specs.Sizes.{worker_limit};
 
 use crate::census::Census;
 use crate::reporting::report;
@@ -53,7 +54,7 @@ fn run_input<S: Shelf, I: Read, O: Write, G: Gate, R: Threads + Wait + Sync>(
     streams: &mut Streams<I, O>,
 ) -> Result<Vec<u8>, RunError>
     requires question { IsAnswered census.question }
-    requires workers { (1 ≤ census.workers) × (census.workers ≤ 16) }
+    requires workers { (1 ≤ census.workers) × (census.workers ≤ worker_limit) }
     requires sound { HasSoundStreams streams.old }
     ensures done { IfOk result
         (λ lines. ReportsInput
@@ -91,7 +92,7 @@ fn run_folders<S: Shelf, I: Read, O: Write, G: Gate, R: Threads + Wait + Sync>(
     streams: &mut Streams<I, O>,
 ) -> Result<Vec<u8>, RunError>
     requires question { IsAnswered census.question }
-    requires workers { (1 ≤ census.workers) × (census.workers ≤ 16) }
+    requires workers { (1 ≤ census.workers) × (census.workers ≤ worker_limit) }
     requires sound { HasSoundStreams streams.old }
     ensures done { IfOk result
         (λ lines. ReportsFolders
@@ -132,7 +133,7 @@ fn run_trees<S: Shelf, I: Read, O: Write, G: Gate, R: Threads + Wait + Sync>(
     streams: &mut Streams<I, O>,
 ) -> Result<Vec<u8>, RunError>
     requires question { IsAnswered census.question }
-    requires workers { (1 ≤ census.workers) × (census.workers ≤ 16) }
+    requires workers { (1 ≤ census.workers) × (census.workers ≤ worker_limit) }
     requires sound { HasSoundStreams streams.old }
     ensures done { IfOk result
         (λ lines. ReportsTrees
@@ -179,7 +180,7 @@ pub fn run_command<S: Shelf, I: Read, O: Write, G: Gate, R: Threads + Wait + Syn
     streams: &mut Streams<I, O>,
 ) -> Result<Vec<u8>, RunError>
     requires question { IsAnswered census.question }
-    requires workers { (1 ≤ census.workers) × (census.workers ≤ 16) }
+    requires workers { (1 ≤ census.workers) × (census.workers ≤ worker_limit) }
     requires sound { HasSoundStreams streams.old }
     ensures done { IfOk result
         (λ lines. Runs (tellings (S.listed shelf.now) (S.inner shelf.now) (S.held shelf.now))

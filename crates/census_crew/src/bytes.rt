@@ -4,6 +4,7 @@ ghost use Rattle.life_answer.specs.Questions.{IsAnswered};
 ghost use Rattle.watched.specs.Watching.{inner_of, has_failed};
 ghost use Rattle.census_crew.specs.Bytes.{FitsBytesFault, ReadsBundle, RunsBytes};
 ghost use Rattle.census_crew.specs.declared.bytes.BytesFault.{BytesFault};
+ghost use Rattle.census_bundle.specs.Sizes.{worker_limit};
 
 use crate::fault::RunFault;
 use crate::gate::Gate;
@@ -72,7 +73,7 @@ pub fn run_bytes<R: Read, G: Gate, W: Write, T: Threads + Wait + Sync>(
     out: &mut Watched<W>,
 ) -> Result<Tally, BytesFault>
     requires question { IsAnswered question }
-    requires workers { (1 ≤ workers) × (workers ≤ 16) }
+    requires workers { (1 ≤ workers) × (workers ≤ worker_limit) }
     requires reader { has_failed reader.old ≡ false }
     requires sound { has_failed out.old ≡ false }
     ensures read { (result ≡ Err BytesFault.Read) ↔ (has_failed reader.new ≡ true) }

@@ -6,6 +6,7 @@ ghost use Rattle.census_crew.specs.Faults.{FitsFault, MayTellTicket};
 ghost use Rattle.census_crew.specs.Strangers.{HasStrangers};
 ghost use Rattle.census_crew.specs.Tallying.{TalliesPatterns};
 ghost use Rattle.census_crew.specs.Writing.{WritesPrefix, WritesReport};
+ghost use Rattle.census_bundle.specs.Sizes.{worker_limit};
 
 use crate::fault::RunFault;
 use crate::gate::Gate;
@@ -46,7 +47,7 @@ pub fn run<G: Gate, W: Write, R: Threads + Wait + Sync>(
     out: &mut Watched<W>,
 ) -> Result<Tally, RunFault>
     requires question { IsAnswered question }
-    requires workers { (1 ≤ workers) × (workers ≤ 16) }
+    requires workers { (1 ≤ workers) × (workers ≤ worker_limit) }
     requires sound { has_failed out.old ≡ false }
     ensures failed { FitsFault result (has_failed out.new) }
     ensures report { MatchResult result

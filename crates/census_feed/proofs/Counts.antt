@@ -7,7 +7,7 @@ use Rattle.std.proofs.lemmas.List.Concat.{flat_map-append}
 use Rattle.census_bundle.specs.declared.ticket.Ticket.{Ticket}
 use Rattle.census_bundle.specs.declared.bundle.Folder.{Folder}
 use Rattle.census_bundle.specs.Tickets.{ticket}
-use Rattle.census_bundle.specs.Sizes.{IsWithinCounts, count_limit}
+use Rattle.census_bundle.specs.Sizes.{IsWithinCounts, count_limit, worker_limit}
 use Rattle.census_feed.specs.declared.item.Item.{Item}
 use Rattle.census_feed.specs.declared.item.Item.TheVariants.{Work, Mark}
 use Rattle.census_feed.specs.Items.{folder_tickets, tickets_from, end_marks, items, Before, Rises, same_item, has_item, is_mark, is_ticket, occurrence_count, mark_count, ends_with_mark}
@@ -159,7 +159,7 @@ length_ends : (n : ℕ) → length (end_marks n) ≡ n
 length_ends zero = refl
 length_ends (suc n) = let h = length_ends n in omega (arith, length-append (end_marks n) (Mark (suc n) ∷ []))
 
-pub few_items : (bundle : List Folder) (workers : ℕ) → IsWithinCounts bundle → workers ≤ 16 → length (items bundle workers) < 2 ^ 62
+pub few_items : (bundle : List Folder) (workers : ℕ) → IsWithinCounts bundle → workers ≤ worker_limit → length (items bundle workers) < 2 ^ 62
 few_items bundle workers small some =
     let t = few_tickets 1 bundle small.entries in let e = length_ends workers in let few = small.folders in
     omega (arith, length-append (tickets_from 1 bundle) (end_marks workers))

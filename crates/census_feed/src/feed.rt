@@ -6,6 +6,7 @@ ghost use Rattle.census_feed.specs.declared.item.Item.{Item};
 ghost use Rattle.census_feed.specs.declared.item.Item.TheVariants.{Work};
 ghost use Rattle.census_feed.specs.Items.{Rises, has_item};
 ghost use Rattle.census_feed.specs.Feeds.{list_of, items_of, workers_of, IsFeedOf, AreHandsOf, all_lists, some_finished, AreLeft};
+ghost use Rattle.census_bundle.specs.Sizes.{worker_limit};
 
 use crate::closing::{end_all, pop_all};
 use crate::filling::{deal, push_marks, push_tickets};
@@ -23,7 +24,7 @@ impl Feed {
         bundle: &Bundle,
         workers: u32,
     ) -> Result<(Feed, Vec<Hand>), AllocError>
-        requires workers { (1 ≤ workers) × (workers ≤ 16) }
+        requires workers { (1 ≤ workers) × (workers ≤ worker_limit) }
         ensures feed { IfOk result (λ r. IsFeedOf r.0 bundle.now × (workers_of r.0 ≡ workers)) }
         ensures rising { IfOk result (λ r. Rises (items_of r.0)) }
         ensures tickets { IfOk result

@@ -5,7 +5,7 @@ use Rattle.std.proofs.lemmas.Bool.{cases_eq, cases_lt}
 use Rattle.std.proofs.lemmas.Nat.Bits.{bit_at_or, bit_at-zero, bit_at_set_same, bit_at_set_other}
 use Rattle.life_bits.specs.Area.{tile_cell}
 use Rattle.life_bits.specs.declared.tile.Tile.{Tile}
-use Rattle.life_slots.proofs.EndCells.{never_both}
+use Rattle.life_slots.proofs.EndCells.{one_is_not_none}
 use Rattle.life_slots.proofs.Lists.{set_there}
 use Rattle.life_board.specs.Squares.{AreColumnsOf}
 
@@ -58,8 +58,8 @@ columns_put before after columns x y wide high old here others = λ p p_wide.
     ⊎_elim
     (λ (same : p ≡ x).
     let set : bit_at (bit_or columns (1 * 2 ^ x % 2 ^ 64)) p ≡ 1 = ap (bit_at (bit_or columns (1 * 2 ^ x % 2 ^ 64))) same ∙ bit_at_set_same w64 columns x wide in (
-      λ none. absurd (never_both _ set none),
-      λ dead. absurd (never_both _ here (ap (λ n. tile_cell after n y) (sym same) ∙ dead y high)),
+      λ none. absurd (one_is_not_none _ set none),
+      λ dead. absurd (one_is_not_none _ here (ap (λ n. tile_cell after n y) (sym same) ∙ dead y high)),
     ))
     (λ (apart : p ≢ x).
     let other : bit_at (bit_or columns (1 * 2 ^ x % 2 ^ 64)) p ≡ bit_at columns p = bit_at_set_other w64 columns x wide p apart in (

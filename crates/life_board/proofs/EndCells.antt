@@ -6,7 +6,7 @@ use Rattle.life_model.specs.Cell.{Cell}
 use Rattle.life_bits.specs.declared.tile.Tile.{Tile}
 use Rattle.life_bits.specs.Area.{tile_cell}
 use Rattle.life_slots.specs.Ends.{IsFirstIn, IsLastIn, IsMember, IsNoLater, IsVoid}
-use Rattle.life_slots.proofs.EndCells.{never_both}
+use Rattle.life_slots.proofs.EndCells.{one_is_not_none}
 use Rattle.life_slots.proofs.Members.{BlockHas}
 use Rattle.life_board.specs.Squares.{shown, AreEnds, HasNoMember}
 use Rattle.life_board.proofs.States.{live_at, is_live}
@@ -15,29 +15,29 @@ module _ (left top : ℤ) (tile : Tile) where
   pub none_shown : IsVoid tile → HasNoMember (shown left top tile)
   none_shown void c live =
       let b : BlockHas left top tile.rows 64 c = live_at left top tile c live in
-      absurd (never_both (tile_cell tile b.row.j b.i) b.row.set_bit (void.dead b.row.j b.i b.row.inside b.inside))
+      absurd (one_is_not_none (tile_cell tile b.row.j b.i) b.row.set_bit (void.dead b.row.j b.i b.row.inside b.inside))
 
   behind_first : (x y p q : ℕ) → IsFirstIn tile x y → p < 64 → q < 64 → tile_cell tile p q ≡ 1 → IsNoLater (left +ℤ pos x, top +ℤ pos y) (left +ℤ pos p, top +ℤ pos q)
   behind_first x y p q first wide high live =
-      let under : y ≤ q = ⊎_elim (λ (above : q < y). absurd (never_both _ live (first.above p q wide above))) (λ (under : y ≤ q). under) (cases_lt q y) in
+      let under : y ≤ q = ⊎_elim (λ (above : q < y). absurd (one_is_not_none _ live (first.above p q wide above))) (λ (under : y ≤ q). under) (cases_lt q y) in
       record {
         above = omega (arith, ints);
         left = λ same.
             let here : q ≡ y = omega (arith, ints) in
             let along : x ≤ p =
-            ⊎_elim (λ (before : p < x). absurd (never_both _ live (ap (tile_cell tile p) here ∙ first.before p before))) (λ (along : x ≤ p). along) (cases_lt p x) in
+            ⊎_elim (λ (before : p < x). absurd (one_is_not_none _ live (ap (tile_cell tile p) here ∙ first.before p before))) (λ (along : x ≤ p). along) (cases_lt p x) in
             omega (arith, ints);
       }
 
   before_last : (x y p q : ℕ) → IsLastIn tile x y → p < 64 → q < 64 → tile_cell tile p q ≡ 1 → IsNoLater (left +ℤ pos p, top +ℤ pos q) (left +ℤ pos x, top +ℤ pos y)
   before_last x y p q last wide high live =
-      let over : q ≤ y = ⊎_elim (λ (below : y < q). absurd (never_both _ live (last.below p q wide below high))) (λ (over : q ≤ y). over) (cases_lt y q) in
+      let over : q ≤ y = ⊎_elim (λ (below : y < q). absurd (one_is_not_none _ live (last.below p q wide below high))) (λ (over : q ≤ y). over) (cases_lt y q) in
       record {
         above = omega (arith, ints);
         left = λ same.
             let here : q ≡ y = omega (arith, ints) in
             let along : p ≤ x =
-            ⊎_elim (λ (behind : x < p). absurd (never_both _ live (ap (tile_cell tile p) here ∙ last.behind p behind wide))) (λ (along : p ≤ x). along) (cases_lt x p) in
+            ⊎_elim (λ (behind : x < p). absurd (one_is_not_none _ live (ap (tile_cell tile p) here ∙ last.behind p behind wide))) (λ (along : p ≤ x). along) (cases_lt x p) in
             omega (arith, ints);
       }
 

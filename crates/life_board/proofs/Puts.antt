@@ -8,7 +8,7 @@ use Rattle.life_model.proofs.Cells.{same_cell-is}
 use Rattle.life_bits.specs.declared.tile.Tile.{Tile}
 use Rattle.life_bits.specs.Area.{tile_cell}
 use Rattle.life_slots.specs.Slots.{empty_tile}
-use Rattle.life_slots.proofs.EndCells.{never_both}
+use Rattle.life_slots.proofs.EndCells.{one_is_not_none}
 use Rattle.life_slots.proofs.Inserted.{inserted_cases}
 use Rattle.life_slots.proofs.Members.{BlockHas}
 use Rattle.life_slots.proofs.Orders.{true_or_false}
@@ -29,7 +29,7 @@ shown_none left top tile is q live =
     let b : BlockHas left top tile.rows 64 q = live_at left top tile q live in
     let one : tile_cell tile b.row.j b.i ≡ 1 = b.row.set_bit in
     let none : tile_cell tile b.row.j b.i ≡ 0 = ap (λ (t : Tile). tile_cell t b.row.j b.i) is ∙ empty_cell b.row.j b.i in
-    absurd (never_both (tile_cell tile b.row.j b.i) one none)
+    absurd (one_is_not_none (tile_cell tile b.row.j b.i) one none)
 
 pub shown_empty : (left top : ℤ) (tile : Tile) → tile ≡ empty_tile → shown left top tile ≡ from_list []
 shown_empty left top tile is =

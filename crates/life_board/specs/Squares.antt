@@ -3,7 +3,7 @@ use Rattle.std.specs.Prelude.{◌≡◌, ◌↔◌, ℕ, ℤ, pos, negsuc, true,
 use Rattle.std.specs.Int.{bit_at}
 use Rattle.life_model.specs.Cell.{Cell}
 use Rattle.life_model.specs.Generation.{Generation, contains, from_list}
-use Rattle.life_cells.specs.Limits.{IsWithin, age_limit}
+use Rattle.life_cells.specs.Limits.{IsWithin, age_limit, last_place}
 use Rattle.life_bits.specs.declared.tile.Tile.{Tile}
 use Rattle.life_bits.specs.Area.{Nine, tile_cell}
 use Rattle.life_slots.specs.Cells.{block_cells}
@@ -68,10 +68,10 @@ pub record IsInner (tile : Tile) : Type 0 where
 
 -- two numbers that are places of cells
 pub record IsRange (range : ℤ × ℤ) : Type 0 where
-  pub low_from : negsuc 16777215 ≤ℤ range.0
-  pub low_to : range.0 ≤ℤ pos 16777215
-  pub high_from : negsuc 16777215 ≤ℤ range.1
-  pub high_to : range.1 ≤ℤ pos 16777215
+  pub low_from : negsuc last_place ≤ℤ range.0
+  pub low_to : range.0 ≤ℤ pos last_place
+  pub high_from : negsuc last_place ≤ℤ range.1
+  pub high_to : range.1 ≤ℤ pos last_place
 
 -- How many of the eight cells around a cell are live, in three rows of 192 cells one above the other. The cell is in the middle
 -- row, in column x of the middle 64.

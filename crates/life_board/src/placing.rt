@@ -1,14 +1,14 @@
 //! Where the square of a pattern stands.
 ghost use Rattle.std.specs.Prelude.{pos, negsuc, ◌≤ℤ◌, All};
-ghost use Rattle.life_cells.specs.Limits.{IsPlace};
+ghost use Rattle.life_cells.specs.Limits.{IsPlace, last_place};
 ghost use Rattle.life_board.specs.Squares.{IsFarFromEnds, IsRange};
 ghost use Rattle.life_board.specs.Limits.{corner_limit};
 
 /// The range with one number more.
 fn widened(range: (i32, i32), number: i32) -> (i32, i32)
     requires range { IsRange range }
-    requires from { negsuc 16777215 ≤ℤ number }
-    requires to { number ≤ℤ pos 16777215 }
+    requires from { negsuc last_place ≤ℤ number }
+    requires to { number ≤ℤ pos last_place }
     ensures { IsRange result }
 {
     (

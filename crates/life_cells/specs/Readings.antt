@@ -1,6 +1,10 @@
 -- What reading a text gives, whatever its faults.
-use Rattle.std.specs.Prelude.{◌≡◌, ◌≢◌, List, ◌++◌, Option, Some, None, Result, Ok, Err}
+use Rattle.std.specs.Prelude.{◌≡◌, ◌≢◌, ℕ, pos, List, ◌++◌, Option, Some, None, Result, Ok, Err}
 use Rattle.life_model.specs.Cell.{Cell}
+
+-- the cell of a column and a row
+abbrev pub cell_of_pair : ℕ × ℕ → Cell
+cell_of_pair (x, y) = (pos x, pos y)
 
 -- what was read, or the fault where there is one
 abbrev pub unless_refused : {X F : Type 0} → Option F → X → Result X F

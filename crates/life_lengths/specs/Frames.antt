@@ -4,7 +4,7 @@ use Rattle.std.specs.List.{slice_index_or}
 use Rattle.std.specs.Int.{int_min, int_max}
 use Rattle.life_model.specs.Cell.{Cell, plus, opposite, origin}
 use Rattle.life_model.specs.Symmetry.{Orientation, Same, FlipX, FlipY, Half, Swap, SwapFlipX, SwapFlipY, SwapHalf, turn}
-use Rattle.life_cells.specs.Limits.{coordinate_limit}
+use Rattle.life_cells.specs.Limits.{coordinate_limit, last_place}
 use Rattle.life_lengths.specs.declared.frame.Frame.{Frame}
 
 abbrev pub least_at : (Cell → ℤ) → List Cell → ℤ
@@ -42,10 +42,10 @@ pub record IsInFrame (f : Frame) (c : Cell) : Type 0 where
 
 -- Its places are -16,777,216 to 16,777,216, and it is not turned inside out.
 pub record IsBounded (f : Frame) : Type 0 where
-  pub left : negsuc 16777215 ≤ℤ f.left
+  pub left : negsuc last_place ≤ℤ f.left
   pub across : f.left ≤ℤ f.right
   pub right : f.right ≤ℤ pos coordinate_limit
-  pub top : negsuc 16777215 ≤ℤ f.top
+  pub top : negsuc last_place ≤ℤ f.top
   pub down : f.top ≤ℤ f.bottom
   pub bottom : f.bottom ≤ℤ pos coordinate_limit
 

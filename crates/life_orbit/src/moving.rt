@@ -2,7 +2,7 @@
 ghost use Rattle.std.specs.Prelude.{◌≡◌, IfOk, IfSome, map, negsuc, pos, ◌+ℤ◌, ◌≤ℤ◌};
 ghost use Rattle.life_model.specs.Cell.{plus};
 ghost use Rattle.life_model.specs.Symmetry.{translate_of};
-ghost use Rattle.life_cells.specs.Limits.{IsPlace};
+ghost use Rattle.life_cells.specs.Limits.{IsPlace, last_place};
 
 use life_cells::{COORDINATE_LIMIT, CellList};
 use std::alloc::{AllocError, Global};
@@ -10,8 +10,8 @@ use std::alloc::{AllocError, Global};
 /// The number, moved, where it is one of a place of a list of cells then.
 fn moved_number(number: i32, by: i32) -> Option<i32>
     ensures moved { IfSome result (λ n. n ≡ number +ℤ by) }
-    ensures low { IfSome result (λ n. negsuc 16777215 ≤ℤ n) }
-    ensures high { IfSome result (λ n. n ≤ℤ pos 16777215) }
+    ensures low { IfSome result (λ n. negsuc last_place ≤ℤ n) }
+    ensures high { IfSome result (λ n. n ≤ℤ pos last_place) }
 {
     let n = number as i64 + by as i64;
     let limit = COORDINATE_LIMIT as i64;

@@ -12,9 +12,9 @@ use Rattle.life_model.specs.Cell.{Cell}
 use Rattle.life_cells.specs.Limits.{place_limit}
 use Rattle.life_shape.specs.declared.reader.CodeFault.{CodeFault}
 use Rattle.life_shape.specs.declared.reader.CodeFault.TheVariants.{TooFar}
-use Rattle.life_shape.specs.Reading.{Mark, Column, Zeros, NextStrip, Offence, is_next_strip, columns_in, strip_number, column, mark_cells, mark_fault, column_cells, live_rows, is_far, cells_after, first_fault, marks_of, cell_of_pair}
+use Rattle.life_shape.specs.Reading.{Mark, Column, Zeros, NextStrip, Offence, is_next_strip, columns_in, strip_number, column, mark_cells, mark_fault, column_cells, live_rows, is_far, cells_after, first_fault, marks_of}
 use Rattle.life_shape.specs.Drawing.{strip_behind, column_behind, cells_from, fault_from, cells_unless, cells_drawn, rows_left, cells_left, marks_at}
-use Rattle.life_cells.specs.Readings.{with_prefix}
+use Rattle.life_cells.specs.Readings.{cell_of_pair, with_prefix}
 use Rattle.life_cells.proofs.Readings.{with_prefix-twice}
 
 -- ---- sums over the marks before, step by step

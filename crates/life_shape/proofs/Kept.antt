@@ -9,9 +9,10 @@ use Rattle.life_model.specs.Cell.{Cell}
 use Rattle.life_model.specs.Generation.{Generation, cells, from_list}
 use Rattle.life_model.proofs.Generations.{cells-from_list}
 use Rattle.life_cells.specs.Limits.{place_limit}
+use Rattle.life_cells.specs.Readings.{cell_of_pair}
 use Rattle.life_shape.specs.declared.reader.CodeFault.{CodeFault}
 use Rattle.life_shape.specs.declared.reader.CodeFault.TheVariants.{Memory}
-use Rattle.life_shape.specs.Reading.{Mark, Column, Zeros, NextStrip, Offence, begins_near, column_cells, is_far, is_offence, keeps_a_cell, live_rows, marks_of, mark_cells, cell_of_pair, until_offence}
+use Rattle.life_shape.specs.Reading.{Mark, Column, Zeros, NextStrip, Offence, begins_near, column_cells, is_far, is_offence, keeps_a_cell, live_rows, marks_of, mark_cells, until_offence}
 use Rattle.life_shape.specs.Drawing.{strip_behind, column_behind, cells_left, keeps_from, marks_at}
 use Rattle.life_shape.proofs.Drawings.{AreNear, cells_after_is, far_column, far_row, cells_left-live, is_near_one, near_capped, near_itself, near_more}
 

@@ -16,9 +16,10 @@ use Rattle.life_model.specs.Symmetry.{normal}
 use Rattle.life_model.proofs.Generations.{contains-from_list, same_members, cells-from_list}
 use Rattle.life_model.proofs.Moves.{same_cell_itself}
 use Rattle.life_cells.specs.Limits.{place_limit}
+use Rattle.life_cells.specs.Readings.{cell_of_pair}
 use Rattle.life_shape.specs.Wechsler.{digit, column_value, short_zeros, full_runs, zeros, columns_text, strip_text, strips_text, body}
 use Rattle.life_shape.specs.declared.reader.CodeFault.TheVariants.{BadChar, CutRun}
-use Rattle.life_shape.specs.Reading.{is_far, first_fault, refusal, Column, Zeros, NextStrip, Offence, digit_value, is_base_36_digit, mark_of_byte, mark_of_run, marks, marks_of, live_rows, column_cells, cell_of_pair, cells_spelled}
+use Rattle.life_shape.specs.Reading.{is_far, first_fault, refusal, Column, Zeros, NextStrip, Offence, digit_value, is_base_36_digit, mark_of_byte, mark_of_run, marks, marks_of, live_rows, column_cells, cells_spelled}
 use Rattle.life_shape.specs.Drawing.{cells_from, fault_from}
 use Rattle.life_shape.proofs.Members.{holds_in}
 use Rattle.life_shape.proofs.Boxes.{IsInBox, normal_in_box, normal_normal}

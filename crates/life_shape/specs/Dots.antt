@@ -3,6 +3,7 @@ use Rattle.std.specs.Prelude.{ℕ, ◌+◌, ◌-◌, ◌*◌, ◌^◌, List, [],
 use Rattle.std.specs.List.{range_with_len, sum_by}
 use Rattle.life_model.specs.Cell.{Cell, same_cell}
 use Rattle.life_shape.specs.Wechsler.{columns_text}
+use Rattle.life_cells.specs.Limits.{last_place}
 
 -- as many strips of five rows as the most rows have
 abbrev pub strip_limit : ℕ
@@ -30,16 +31,16 @@ values_text value wide = columns_text 0 (map value (range_with_len 0 wide))
 -- the cell stands in strip k, at no more than 16,777,215
 pub record IsInStrip (k : ℕ) (c : Cell) : Type 0 where
   pub left : pos 0 ≤ℤ c.0
-  pub right : c.0 ≤ℤ pos 16777215
+  pub right : c.0 ≤ℤ pos last_place
   pub above : pos (5 * k) ≤ℤ c.1
   pub below : c.1 <ℤ pos (5 * k + 5)
 
 -- the places of a cell of a shape
 pub record IsInField (c : Cell) : Type 0 where
   pub left : pos 0 ≤ℤ c.0
-  pub right : c.0 ≤ℤ pos 16777215
+  pub right : c.0 ≤ℤ pos last_place
   pub above : pos 0 ≤ℤ c.1
-  pub below : c.1 ≤ℤ pos 16777215
+  pub below : c.1 ≤ℤ pos last_place
 
 -- the column of the cell is one of so many
 abbrev pub IsLeftOf : ℕ → Cell → Type 0

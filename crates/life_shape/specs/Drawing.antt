@@ -4,11 +4,11 @@ use Rattle.std.specs.List.{filter, range_with_len}
 use Rattle.std.specs.Int.{bit_at}
 use Rattle.std.specs.Option.{option_or}
 use Rattle.life_model.specs.Cell.{Cell}
-use Rattle.life_cells.specs.Readings.{unless_refused}
+use Rattle.life_cells.specs.Readings.{cell_of_pair, unless_refused}
 use Rattle.life_shape.specs.declared.reader.CodeFault.{CodeFault}
 use Rattle.life_shape.specs.declared.reader.Sign.{Sign}
 use Rattle.life_shape.specs.declared.reader.Sign.TheVariants.{Value, Skip, Down}
-use Rattle.life_shape.specs.Reading.{Mark, Column, Zeros, NextStrip, Offence, begins_near, mark_cells, mark_fault, marks, cell_of_pair, until_offence}
+use Rattle.life_shape.specs.Reading.{Mark, Column, Zeros, NextStrip, Offence, begins_near, mark_cells, mark_fault, marks, until_offence}
 
 -- strip and column after a mark
 abbrev pub strip_behind : ℕ → Mark → ℕ

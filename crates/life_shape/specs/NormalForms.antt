@@ -3,6 +3,7 @@ use Rattle.std.specs.Prelude.{◌≡◌, pos, ◌+ℤ◌, ◌≤ℤ◌}
 use Rattle.life_model.specs.Cell.{Cell}
 use Rattle.life_model.specs.Generation.{Generation}
 use Rattle.life_model.specs.Symmetry.{normal}
+use Rattle.life_cells.specs.Limits.{last_place}
 
 -- the least x and the least y are 0, or there is no cell
 abbrev pub IsNormal : Generation → Type 0
@@ -11,6 +12,6 @@ IsNormal G = normal G ≡ G
 -- how far the cell is from the corner, in both directions, is 0 to 16,777,215
 pub record IsAhead (corner c : Cell) : Type 0 where
   pub left : corner.0 ≤ℤ c.0
-  pub right : c.0 ≤ℤ (corner.0 +ℤ pos 16777215)
+  pub right : c.0 ≤ℤ (corner.0 +ℤ pos last_place)
   pub above : corner.1 ≤ℤ c.1
-  pub below : c.1 ≤ℤ (corner.1 +ℤ pos 16777215)
+  pub below : c.1 ≤ℤ (corner.1 +ℤ pos last_place)

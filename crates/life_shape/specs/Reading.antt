@@ -1,5 +1,5 @@
 -- Wechsler texts, as they are read: which cells a text spells, and the first character that offends.
-use Rattle.std.specs.Prelude.{ℕ, ◌+◌, ◌-◌, ◌*◌, Bool, true, false, not, ◌&&◌, ◌||◌, List, [], ◌∷◌, ◌++◌, Option, Some, None, map, pos, nat_le, ◌==◌, if◌then◌else◌}
+use Rattle.std.specs.Prelude.{ℕ, ◌+◌, ◌-◌, ◌*◌, Bool, true, false, not, ◌&&◌, ◌||◌, List, [], ◌∷◌, ◌++◌, Option, Some, None, map, nat_le, ◌==◌, if◌then◌else◌}
 use Rattle.std.specs.List.{list_any, range_with_len, after_last, filter, sum_by}
 use Rattle.std.specs.Option.{option_or}
 use Rattle.std.specs.Int.{bit_at}
@@ -8,6 +8,7 @@ use Rattle.life_model.specs.Generation.{Generation, from_list}
 use Rattle.life_cells.specs.Limits.{place_limit}
 use Rattle.life_shape.specs.declared.reader.CodeFault.{CodeFault}
 use Rattle.life_shape.specs.declared.reader.CodeFault.TheVariants.{Empty, BadChar, CutRun, TooFar}
+use Rattle.life_cells.specs.Readings.{cell_of_pair}
 
 -- `0` to `9`, and `a` to `z`
 abbrev pub is_base_36_digit : ℕ → Bool
@@ -97,9 +98,6 @@ mark_fault k x (Offence fault) = Some fault
 abbrev pub first_fault : List Mark → List Mark → Option CodeFault
 first_fault before [] = None
 first_fault before (m ∷ ms) = option_or (mark_fault (strip_number before) (column before) m) (first_fault (before ++ m ∷ []) ms)
-
-abbrev pub cell_of_pair : ℕ × ℕ → Cell
-cell_of_pair (x, y) = (pos x, pos y)
 
 -- the cells that the text's lawful characters spell, of any size
 unfoldable pub cells_spelled : List ℕ → Generation

@@ -3,8 +3,8 @@ ghost use Rattle.std.specs.Prelude.{◌≡◌, ◌≢◌, ◌+◌, ◌*◌, ◌<
 ghost use Rattle.std.specs.List.{list_any};
 ghost use Rattle.life_model.specs.Symmetry.{normal};
 ghost use Rattle.life_cells.specs.Limits.{IsWithin};
-ghost use Rattle.life_cells.specs.Readings.{Gives};
-ghost use Rattle.life_shape.specs.Reading.{Offence, begins_near, column_cells, digit_value, is_base_36_digit, is_far, keeps_a_cell, cell_of_pair, refusal, cells_spelled};
+ghost use Rattle.life_cells.specs.Readings.{cell_of_pair, Gives};
+ghost use Rattle.life_shape.specs.Reading.{Offence, begins_near, column_cells, digit_value, is_base_36_digit, is_far, keeps_a_cell, refusal, cells_spelled};
 ghost use Rattle.life_shape.specs.Drawing.{BeginsWithMark, IsWithinDigits, cells_drawn, keeps_from, marks_at, mark_of_sign};
 ghost use Rattle.life_shape.specs.declared.reader.CodeFault.TheVariants.{Memory, TooFar};
 

@@ -11,8 +11,8 @@ use Rattle.life_slots.specs.declared.ends.Ends.{Ends}
 use Rattle.life_slots.specs.Slots.{place_of, tile_of}
 use Rattle.life_slots.specs.Ends.{IsNoLater, IsFirstIn, IsLastIn, IsLiveIn, IsLiveAt, HasEnds, AreEnds, AreJoined}
 
-pub never_both : (n : ℕ) → n ≡ 1 → n ≡ 0 → ⊥
-never_both n one none = let never : 1 + 0 ≡ 0 + 0 = sym one ∙ none in absurd (omega arith)
+pub one_is_not_none : (n : ℕ) → n ≡ 1 → n ≡ 0 → ⊥
+one_is_not_none n one none = let never : 1 + 0 ≡ 0 + 0 = sym one ∙ none in absurd (omega arith)
 
 pub later_than : (a b c : Cell) → IsNoLater a b → IsNoLater b c → IsNoLater a c
 later_than a b c first second = record {
@@ -38,22 +38,22 @@ module _ (place : ℤ × ℤ) (x y p q : ℕ) where
 
 first_order : (tile : Tile) (x y p q : ℕ) → IsFirstIn tile x y → p < 64 → q < 64 → tile_cell tile p q ≡ 1 → (y < q) ⊎ ((y ≡ q) × (x ≤ p))
 first_order tile x y p q first wide high live =
-    ⊎_elim (λ (above : q < y). absurd (never_both _ live (first.above p q wide above)))
+    ⊎_elim (λ (above : q < y). absurd (one_is_not_none _ live (first.above p q wide above)))
     (λ (not_above : y ≤ q).
     ⊎_elim
     (λ (here : y ≡ q).
-    ⊎_elim (λ (before : p < x). absurd (never_both _ live (ap (tile_cell tile p) (sym here) ∙ first.before p before))) (λ (along : x ≤ p). inr (here, along)) (cases_lt p x))
+    ⊎_elim (λ (before : p < x). absurd (one_is_not_none _ live (ap (tile_cell tile p) (sym here) ∙ first.before p before))) (λ (along : x ≤ p). inr (here, along)) (cases_lt p x))
     (λ other. inl (omega arith))
     (cases_eq y q))
     (cases_lt q y)
 
 last_order : (tile : Tile) (x y p q : ℕ) → IsLastIn tile x y → p < 64 → q < 64 → tile_cell tile p q ≡ 1 → (q < y) ⊎ ((q ≡ y) × (p ≤ x))
 last_order tile x y p q last wide high live =
-    ⊎_elim (λ (below : y < q). absurd (never_both _ live (last.below p q wide below high)))
+    ⊎_elim (λ (below : y < q). absurd (one_is_not_none _ live (last.below p q wide below high)))
     (λ (not_below : q ≤ y).
     ⊎_elim
     (λ (here : q ≡ y).
-    ⊎_elim (λ (behind : x < p). absurd (never_both _ live (ap (tile_cell tile p) here ∙ last.behind p behind wide))) (λ (along : p ≤ x). inr (here, along)) (cases_lt x p))
+    ⊎_elim (λ (behind : x < p). absurd (one_is_not_none _ live (ap (tile_cell tile p) here ∙ last.behind p behind wide))) (λ (along : p ≤ x). inr (here, along)) (cases_lt x p))
     (λ other. inl (omega arith))
     (cases_eq q y))
     (cases_lt y q)

@@ -5,7 +5,7 @@ use Rattle.std.specs.Int.Count.{trailing_of_zero}
 use Rattle.std.proofs.lemmas.Bool.{cases_eq, cases_lt}
 use Rattle.std.proofs.lemmas.Nat.{and_le_l}
 use Rattle.std.proofs.lemmas.Nat.Bits.{bit_at-zero, bit_at-trailing_zeros, bit_at_clear_same, bit_at_clear_other}
-use Rattle.life_slots.proofs.EndCells.{never_both}
+use Rattle.life_slots.proofs.EndCells.{one_is_not_none}
 
 abbrev pub without_lowest : ℕ → ℕ
 without_lowest word = bit_and word (bit_not w64 (1 * 2 ^ trailing_zeros w64 word % 2 ^ 64))
@@ -60,7 +60,7 @@ module _ (word rest : ℕ) (fits : rest < 2 ^ 64) (some : 0 < rest) (same : IsRe
       (λ (more : next ≢ 0).
       let first = bit_at-trailing_zeros w64 next (omega arith) next_fits in
       ⊎_elim (λ (past : x < trailing_zeros w64 next). omega arith)
-      (λ (before : trailing_zeros w64 next ≤ x). absurd (never_both _ first.1 (not_before (trailing_zeros w64 next) before)))
+      (λ (before : trailing_zeros w64 next ≤ x). absurd (one_is_not_none _ first.1 (not_before (trailing_zeros w64 next) before)))
       (cases_lt x (trailing_zeros w64 next)))
       (cases_eq next 0)
 

@@ -11,10 +11,10 @@ use Rattle.life_model.specs.Generation.{cells, from_list, below_all, is_rising}
 use Rattle.life_model.proofs.Generations.{cells-from_list}
 use Rattle.life_cells.specs.Limits.{IsPlace, IsWithin, place_limit}
 use Rattle.life_cells.proofs.Sorted.{both_hold}
+use Rattle.life_cells.specs.Readings.{cell_of_pair}
 use Rattle.life_text.specs.declared.rle.RleFault.{RleFault}
 use Rattle.life_text.specs.declared.rle.Plot.{Plot}
 use Rattle.life_text.specs.Rle.{Token, Meaning, cells_after, first_fault, header_rule, body_tokens, reading, unless_fault, with_body}
-use Rattle.life_text.specs.Reader.{cell_of_pair}
 use Rattle.life_text.specs.Rising.{RisesFrom}
 use Rattle.life_text.specs.Drawing.{Drawing, drawing, drawing_of}
 use Rattle.life_text.specs.Picture.{Picture, picture_of}

@@ -12,12 +12,12 @@ use Rattle.life_model.proofs.Cells.{pair}
 use Rattle.life_model.proofs.Generations.{cells-rise, from_list-cells, size-cells}
 use Rattle.life_cells.specs.Limits.{IsWithin, place_limit}
 use Rattle.life_cells.specs.Rules.{rule_text}
-use Rattle.life_cells.specs.Readings.{unless_refused}
+use Rattle.life_cells.specs.Readings.{cell_of_pair, unless_refused}
 use Rattle.life_text.specs.declared.rle.RleFault.{RleFault}
 use Rattle.life_text.specs.Filled.{filled_lines}
 use Rattle.life_text.specs.Picture.{picture_of}
 use Rattle.life_text.specs.Places.{place, places}
-use Rattle.life_text.specs.Reader.{cells_drawn, first_pen, cell_of_pair}
+use Rattle.life_text.specs.Reader.{cells_drawn, first_pen}
 use Rattle.life_text.specs.Rle.{Token, cell_limit, lexemes, tokens, body_place, body_tokens, cells_after, first_fault, unless_fault, with_body, reading}
 use Rattle.life_text.specs.RleText.{body_text, header, rle_text, token_text}
 use Rattle.life_text.specs.Writer.{tokens_from}

@@ -6,7 +6,7 @@ use Rattle.std.specs.Str.Parse.{digits_value}
 use Rattle.std.proofs.lemmas.Bool.{false≢true}
 use Rattle.std.proofs.lemmas.Bool.Decides.{nat_tests}
 use Rattle.life_cells.specs.Bytes.{is_digit, is_in, is_space}
-use Rattle.life_cells.specs.Readings.{with_prefix}
+use Rattle.life_cells.specs.Readings.{cell_of_pair, with_prefix}
 use Rattle.life_cells.proofs.Readings.{with_prefix-twice}
 use Rattle.life_text.specs.declared.token.Found.{Found}
 use Rattle.life_text.specs.declared.pen.Pen.{Pen}
@@ -14,7 +14,7 @@ use Rattle.life_text.specs.declared.rle.RleFault.{RleFault}
 use Rattle.life_text.specs.Drawing.{drawn_from}
 use Rattle.life_text.specs.Found.{BeginsWithToken, Draws, token_found}
 use Rattle.life_text.specs.Rle.{Count, Tag, cell_limit, lexemes, run_cells, tokens}
-use Rattle.life_text.specs.Reader.{byte_before, cell_of_pair, cells_drawn, count_cap, placed_all, plain_at, tokens_at}
+use Rattle.life_text.specs.Reader.{byte_before, cells_drawn, count_cap, placed_all, plain_at, tokens_at}
 use Rattle.life_text.proofs.LexLemmas.{blanked_plain}
 use Rattle.life_text.proofs.TokenLemmas.{begins_tag, lexemes_tag}
 use Rattle.life_text.proofs.BodyLemmas.{finish, live_behind, next_pen, step}

@@ -5,7 +5,8 @@ use Rattle.life_text.specs.declared.rle.Plot.{Plot}
 use Rattle.life_model.specs.Rule.{Rule}
 use Rattle.life_text.specs.Rle.{Meaning}
 use Rattle.life_text.specs.declared.pen.Pen.{Pen}
-use Rattle.life_text.specs.Reader.{cell_of_pair, cells_drawn, placed_all, tokens_at}
+use Rattle.life_text.specs.Reader.{cells_drawn, placed_all, tokens_at}
+use Rattle.life_cells.specs.Readings.{cell_of_pair}
 
 pub record Drawing : Type 0 where
   pub rule : Rule

@@ -6,7 +6,7 @@ use Rattle.life_model.specs.Generation.{Generation, from_list}
 use Rattle.life_model.specs.Rule.{Rule}
 use Rattle.life_text.specs.declared.rle.RleFault.{RleFault}
 use Rattle.life_text.specs.Rle.{Meaning}
-use Rattle.life_text.specs.Reader.{cell_of_pair}
+use Rattle.life_cells.specs.Readings.{cell_of_pair}
 
 pub record Picture : Type 0 where
   pub rule : Rule

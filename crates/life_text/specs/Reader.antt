@@ -1,10 +1,11 @@
 -- What the reader keeps: the text from a place on, the tokens there, and a pen that draws them.
-use Rattle.std.specs.Prelude.{◌≡◌, ℕ, zero, suc, ◌+◌, min, Bool, false, List, [], ◌∷◌, ◌++◌, drop, Option, Some, None, Result, Ok, Err, slice_index, ◌==◌, ℤ, pos, map, if◌then◌else◌}
+use Rattle.std.specs.Prelude.{◌≡◌, ℕ, zero, suc, ◌+◌, min, Bool, false, List, [], ◌∷◌, ◌++◌, drop, Option, Some, None, Result, Ok, Err, slice_index, ◌==◌, ℤ, map, if◌then◌else◌}
 use Rattle.std.specs.Option.{option_map}
 use Rattle.life_cells.specs.Bytes.{is_space}
 use Rattle.life_text.specs.declared.pen.Pen.{Pen}
 use Rattle.life_text.specs.declared.rle.RleFault.{RleFault}
 use Rattle.life_text.specs.Rle.{Token, comments_as_blanks, lexemes, tokens, is_live, is_cells, is_row_end, run_length, row, column, live_cells, run_cells, token_fault}
+use Rattle.life_cells.specs.Readings.{cell_of_pair}
 
 -- the byte before a place; LF before the first
 abbrev pub byte_before : List ℕ → ℕ → ℕ
@@ -60,10 +61,6 @@ capped_pen pen = record pen { y = min pen.y count_cap; x = min pen.x count_cap }
 -- no blank or byte of a comment stands there
 abbrev pub IsPlain : List ℕ → ℕ → Type 0
 IsPlain text at = (is_space (slice_index text at) ≡ false) × (plain_at text at ≡ slice_index text at ∷ plain_at text (at + 1))
-
--- cells in the numbers of a list of cells
-abbrev pub cell_of_pair : ℕ × ℕ → ℤ × ℤ
-cell_of_pair (x, y) = (pos x, pos y)
 
 abbrev pub placed_all : Result (List (ℕ × ℕ)) RleFault → Result (List (ℤ × ℤ)) RleFault
 placed_all (Ok cells) = Ok (map cell_of_pair cells)

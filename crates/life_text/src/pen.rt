@@ -1,8 +1,9 @@
 //! What tokens draw.
 ghost use Rattle.std.specs.Prelude.{◌++◌, ◌+◌, ◌<◌, ◌≡◌, ◌≤◌, ◌||◌, OnOk, false, map, nat_lt, pos, true};
 ghost use Rattle.life_cells.specs.Limits.{place_limit};
+ghost use Rattle.life_cells.specs.Readings.{cell_of_pair};
 ghost use Rattle.life_text.specs.Found.{token_found};
-ghost use Rattle.life_text.specs.Reader.{count_cap, cell_of_pair};
+ghost use Rattle.life_text.specs.Reader.{count_cap};
 ghost use Rattle.life_text.specs.Rle.{cell_limit, is_live, is_too_far, is_too_many, run_cells};
 
 use crate::token::{Found, is_live};

@@ -17,7 +17,7 @@ use Rattle.life_slots.specs.Ends.{IsNoLater, IsMember, IsLiveAt, HasEnds, AreEnd
 use Rattle.life_slots.proofs.Splits.{Split, split, same_flag}
 use Rattle.life_slots.proofs.Members.{Has, has_head, has_tail, has_cases, has_none}
 use Rattle.life_slots.proofs.Shown.{shown_state}
-use Rattle.life_slots.proofs.EndCells.{never_both}
+use Rattle.life_slots.proofs.EndCells.{one_is_not_none}
 use Rattle.life_slots.proofs.Places.{slot_cases, state_absent, state_of_slot}
 use Rattle.life_slots.proofs.Sizes.{below_has, both_hold, lesser, int_less, int_same, member_has}
 use Rattle.life_tile.specs.declared.tile_store.TileStore.{TileStore}
@@ -101,7 +101,7 @@ module _ (store : TileStore) (kept : IsKept store) where
       (λ absent.
       let none : state_at members (start_at s.quotient +ℤ pos s.remainder) (start_at t.quotient +ℤ pos t.remainder) ≡ 0 =
       state_absent store.index store.slots.items kept.whole.indexed store.current.items kept.whole.current_none (s.quotient, t.quotient) s.remainder t.remainder s.small t.small absent in
-      absurd (never_both _ one none))
+      absurd (one_is_not_none _ one none))
       (λ (there : IsSlotOf store.slots.items (s.quotient, t.quotient) (slot_at store.index (s.quotient, t.quotient))).
       record {
         k = slot_at store.index (s.quotient, t.quotient);

@@ -21,7 +21,7 @@ use Rattle.life_slots.proofs.Counted.{IsFresh, size-fresh, length-block}
 use Rattle.life_slots.proofs.Shown.{empty_cell}
 use Rattle.life_slots.proofs.Places.{slot_of_place}
 use Rattle.life_slots.proofs.Sizes.{fresh-append, fresh_block}
-use Rattle.life_slots.proofs.EndCells.{never_both}
+use Rattle.life_slots.proofs.EndCells.{one_is_not_none}
 use Rattle.life_tile.specs.declared.tile_store.TileStore.{TileStore}
 use Rattle.life_tile.specs.TileStores.{IsKept, members_of}
 use Rattle.life_tile.proofs.Edges.{member_live, live_member}
@@ -87,7 +87,7 @@ module _ (slots : List Slot) (tiles : List Tile) where
     not_first n q live =
         ⊎_elim
         (λ (first : n ≡ 0).
-        absurd (never_both _ live.live (ap (λ (k : ℕ). tile_cell (tile_of tiles k) live.x live.y) first ∙ ap (λ (t : Tile). tile_cell t live.x live.y) none ∙ empty_cell live.x live.y)))
+        absurd (one_is_not_none _ live.live (ap (λ (k : ℕ). tile_cell (tile_of tiles k) live.x live.y) first ∙ ap (λ (t : Tile). tile_cell t live.x live.y) none ∙ empty_cell live.x live.y)))
         (λ other. omega arith)
         (cases_eq n 0)
 

@@ -29,6 +29,7 @@ use Rattle.life_answer.proofs.Tallying.{counted_all}
 use Rattle.life_ash.proofs.Limits.{past_within}
 use Rattle.life_ash.proofs.Places.{generation_within, place_of}
 use Rattle.life_cells.specs.Limits.{IsWithin}
+use Rattle.life_cells.specs.Readings.{cell_of_pair}
 use Rattle.life_decided.specs.Decided.{ash_of}
 use Rattle.life_decided.proofs.Deciding.{ash_if_found}
 use Rattle.life_model.specs.Cell.{Cell}
@@ -43,7 +44,6 @@ use Rattle.life_objects.specs.Ash.{IsObject}
 use Rattle.life_objects.specs.Limits.{objects_bound_limit}
 use Rattle.life_shape.specs.TextOrder.{least_text, shorter_cmp}
 use Rattle.life_text.specs.Picture.{picture_of}
-use Rattle.life_text.specs.Reader.{cell_of_pair}
 use Rattle.life_text.specs.Rle.{Token, body_tokens, cells_after, first_fault, header_rule, unless_fault, with_body}
 use Rattle.life_text.specs.declared.rle.RleFault.{RleFault}
 use Rattle.life_text.specs.declared.rle.RleFault.TheVariants.{NoHeader, BadHeader, RuleNotLifeLike, RuleHasB0, ManyStates, BadChar, BadRun, TooFar, TooMany, NoEnd, Memory}

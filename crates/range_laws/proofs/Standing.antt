@@ -6,6 +6,7 @@ use Rattle.std.proofs.lemmas.Int.{ints}
 use Rattle.std.proofs.lemmas.List.{length-map}
 use Rattle.life_answer.proofs.Sizes.{size-from_list}
 use Rattle.life_cells.specs.Limits.{IsWithin, place_limit}
+use Rattle.life_cells.specs.Readings.{cell_of_pair}
 use Rattle.life_model.proofs.Cells.{plus-opposite}
 use Rattle.life_model.proofs.Generations.{cells-from_list}
 use Rattle.life_model.proofs.Moves.{nothing_or_some}
@@ -20,7 +21,6 @@ use Rattle.life_shape.proofs.Members.{member_has}
 use Rattle.life_text.proofs.PictureLemmas.{placed_rises, placed_within}
 use Rattle.life_text.proofs.RisingLemmas.{meaning_rises}
 use Rattle.life_text.specs.Picture.{Picture, picture_of}
-use Rattle.life_text.specs.Reader.{cell_of_pair}
 use Rattle.life_text.specs.Rising.{RisesFrom}
 use Rattle.life_text.specs.Rle.{Token, body_tokens, cells_after, first_fault, header_rule, reading, unless_fault, with_body}
 use Rattle.life_text.specs.declared.rle.RleFault.{RleFault}

@@ -7,14 +7,14 @@ use Rattle.life_model.specs.Cell.{Cell, opposite, plus}
 use Rattle.life_model.proofs.Cells.{pair}
 use Rattle.life_bits.specs.Area.{tile_cell}
 use Rattle.life_slots.specs.Ends.{IsMember}
-use Rattle.life_slots.proofs.EndCells.{never_both}
+use Rattle.life_slots.proofs.EndCells.{one_is_not_none}
 use Rattle.life_slots.proofs.Members.{BlockHas}
 use Rattle.life_board.specs.Squares.{members_of}
 use Rattle.life_board.proofs.States.{is_live, live_at}
 use Rattle.life_board.proofs.covering.has_square.Goals as goal
 
 pub loop-y-init : goal.loop-y-init
-loop-y-init c = λ v before x wide live. absurd (never_both _ live (ap (λ w. bit_at w x) (c.requires.other.void.above v before) ∙ bit_at-zero x))
+loop-y-init c = λ v before x wide live. absurd (one_is_not_none _ live (ap (λ w. bit_at w x) (c.requires.other.void.above v before) ∙ bit_at-zero x))
 
 pub has_row-requires-clause-reach : goal.has_row-requires-clause-reach
 has_row-requires-clause-reach c =
@@ -78,7 +78,7 @@ returns c = (
       (λ (past : c.loop-y.y ≤ h.i).
       let over : c.args.other.now.end ≤ c.loop-y.y = c.loop-y-test.false in
       absurd
-      (never_both _ h.row.set_bit (ap (λ w. bit_at w h.row.j) (c.requires.other.void.below h.i (omega arith) h.inside) ∙ bit_at-zero h.row.j)))
+      (one_is_not_none _ h.row.set_bit (ap (λ w. bit_at w h.row.j) (c.requires.other.void.below h.i (omega arith) h.inside) ∙ bit_at-zero h.row.j)))
       (cases_lt h.i c.loop-y.y) in
       subst (λ (d : Cell). IsMember (members_of c.args.square.now) (plus d by)) (sym h.row.is) (c.loop-y.invariant h.i done h.row.j h.row.inside h.row.set_bit),
   λ all. refl,

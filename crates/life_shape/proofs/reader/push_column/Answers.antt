@@ -3,7 +3,8 @@ use Rattle.std.specs.Prelude.{All}
 use Rattle.std.specs.List.{list_any}
 use Rattle.life_model.specs.Cell.{Cell}
 use Rattle.life_cells.specs.Limits.{IsWithin}
-use Rattle.life_shape.specs.Reading.{begins_near, is_far, cell_of_pair}
+use Rattle.life_cells.specs.Readings.{cell_of_pair}
+use Rattle.life_shape.specs.Reading.{begins_near, is_far}
 use Rattle.life_shape.proofs.Drawings.{cells_left-dead, cells_left-end, bit_set, bit_clear, left_far, left_near, left_more}
 use Rattle.life_shape.proofs.Kept.{if_refused, near_left}
 use Rattle.life_shape.proofs.reader.push_column.Goals.{then-column-ge-PLACE_LIMIT-via-then-column-ge-PLACE_LIMIT, then-column-ge-PLACE_LIMIT-via-else-column-ge-PLACE_LIMIT+then-y-ge-PLACE_LIMIT, then-value-row-eq1+else-column-ge-PLACE_LIMIT+else-y-ge-PLACE_LIMIT+in_ok-push_cell, else-value-row-eq1}

@@ -2,7 +2,8 @@ use Rattle.std.proofs.Common.{◌≡◌, ◌++◌, map, true}
 use Rattle.std.specs.Prelude.{All}
 use Rattle.std.specs.List.{list_any}
 use Rattle.life_cells.specs.Limits.{IsWithin}
-use Rattle.life_shape.specs.Reading.{begins_near, column_cells, is_far, cell_of_pair}
+use Rattle.life_cells.specs.Readings.{cell_of_pair}
+use Rattle.life_shape.specs.Reading.{begins_near, column_cells, is_far}
 use Rattle.life_shape.specs.Drawing.{cells_left}
 use Rattle.life_shape.proofs.reader.push_column.Given as goal
 
