@@ -11,7 +11,7 @@ use Rattle.census_blocks.specs.Lines.{head_lines, known_lines, text_of}
 -- the lines of generation 0, and then those of what is known of the pattern within the bound
 unfoldable pub pattern_block : ℕ → Picture → List ℕ
 pattern_block bound pattern =
-    text_of (head_lines pattern.rule (size pattern.cells) (width pattern.cells) (height pattern.cells))
+    text_of (head_lines pattern.rule (size pattern.cells) (width pattern.cells, height pattern.cells))
     ++ text_of (known_lines bound (known_of bound pattern))
 
 -- the block of a pattern, or the fault of a text that means none

@@ -1,6 +1,7 @@
 -- The lines of a block.
-use Rattle.std.specs.Prelude.{ℕ, ℤ, List, [], ◌∷◌, ◌++◌, codes, decimal, map}
+use Rattle.std.specs.Prelude.{ℕ, List, [], ◌∷◌, ◌++◌, codes, decimal, map}
 use Rattle.std.specs.Fmt.{signed_decimal}
+use Rattle.life_model.specs.Recurrence.{Recurrence}
 use Rattle.life_model.specs.Rule.{Rule}
 use Rattle.life_cells.specs.Rules.{rule_text}
 use Rattle.life_answer.specs.declared.part.Part.{Part}
@@ -27,19 +28,19 @@ text_of [] = []
 text_of (l ∷ ls) = l ++ text_of ls
 
 -- `rule`, `population` and `box` of generation 0: its rule, how many cells it has, how wide and how high it is
-abbrev pub head_lines : Rule → ℕ → ℕ → ℕ → List Line
-head_lines rule population width height =
+abbrev pub head_lines : Rule → ℕ → ℕ × ℕ → List Line
+head_lines rule population size =
     line (codes "rule") (rule_text rule ∷ [])
     ∷ line (codes "population") (decimal population ∷ [])
-    ∷ line (codes "box") (decimal width ∷ decimal height ∷ [])
+    ∷ line (codes "box") (decimal size.0 ∷ decimal size.1 ∷ [])
     ∷ []
 
 -- `onset`, `period`, `displacement` and `apgcode` of a pattern that settles
-abbrev pub settled_lines : ℕ → ℕ → ℤ → ℤ → List ℕ → List Line
-settled_lines onset period dx dy code =
-    line (codes "onset") (decimal onset ∷ [])
-    ∷ line (codes "period") (decimal period ∷ [])
-    ∷ line (codes "displacement") (signed_decimal dx ∷ signed_decimal dy ∷ [])
+abbrev pub settled_lines : Recurrence → List ℕ → List Line
+settled_lines found code =
+    line (codes "onset") (decimal found.onset ∷ [])
+    ∷ line (codes "period") (decimal found.period ∷ [])
+    ∷ line (codes "displacement") (signed_decimal found.displacement.0 ∷ signed_decimal found.displacement.1 ∷ [])
     ∷ line (codes "apgcode") (code ∷ [])
     ∷ []
 
@@ -57,6 +58,7 @@ unresolved_lines bound = line (codes "unresolved") (decimal bound ∷ []) ∷ []
 
 -- the lines of what is known within the bound
 abbrev pub known_lines : ℕ → Known → List Line
-known_lines bound (Settles onset period dx dy code) = settled_lines onset period dx dy code
+known_lines bound (Settles onset period dx dy code) =
+    settled_lines (record { onset = onset; period = period; displacement = (dx, dy) }) code
 known_lines bound (Apart parts) = object_lines parts
 known_lines bound Unresolved = unresolved_lines bound

@@ -84,7 +84,7 @@ pub fn push_head(
 ) -> Result<(), AllocError>
     ensures { OnOk result
         (text.new.items ≡
-        text.old.items ++ text_of (head_lines rule.now population size.0 size.1)) }
+        text.old.items ++ text_of (head_lines rule.now population size)) }
 {
     let (width, height) = size;
     push_rule(text, rule)?;
@@ -125,7 +125,11 @@ fn push_settled(
 ) -> Result<(), AllocError>
     ensures { OnOk result
         (text.new.items ≡
-        text.old.items ++ text_of (settled_lines onset period dx.now dy.now code.now)) }
+        text.old.items ++ text_of (settled_lines (record {
+          onset = onset;
+          period = period;
+          displacement = (dx.now, dy.now);
+        }) code.now)) }
 {
     push_one(text, b"onset", onset)?;
     push_one(text, b"period", period)?;

@@ -8,9 +8,11 @@ use Rattle.census_bundle.specs.declared.fault.BundleFault.TheVariants.{StrayText
 use Rattle.census_bundle.specs.Sizes.{count_limit}
 use Rattle.census_bundle.specs.Names.{is_name}
 use Rattle.census_bundle.specs.Growing.{last_entries}
-use Rattle.census_bundle.specs.Lines.{is_space, is_at_line, is_folder_line, is_file_line, line_name}
+use Rattle.texts.specs.Bytes.{is_space}
+use Rattle.census_bundle.specs.Lines.{is_at_line, is_folder_line, is_file_line, line_name}
 use Rattle.census_bundle.specs.Kinds.{IsOtherAtLine}
-use Rattle.census_bundle.specs.Reading.{fault_if, is_outside}
+use Rattle.texts.specs.Faults.{fault_if}
+use Rattle.census_bundle.specs.Reading.{is_outside}
 use Rattle.census_bundle.specs.Scan.{fault_behind}
 
 -- the fault by the tests of the line and of what stands before it

@@ -6,7 +6,8 @@ use Rattle.census_bundle.specs.declared.fault.BundleFault.{BundleFault}
 use Rattle.census_bundle.specs.declared.fault.BundleFault.TheVariants.{StrayText, FileBeforeFolder}
 use Rattle.census_bundle.specs.Growing.{last_entries}
 use Rattle.census_bundle.specs.Lines.{whole_lines, is_file_line}
-use Rattle.census_bundle.specs.Reading.{content_of_lines, content_with_line, folder_count, entry_count, line_fault, fault_if, first_fault, folders_of, fault_of, is_stray, is_early_file}
+use Rattle.texts.specs.Faults.{fault_if}
+use Rattle.census_bundle.specs.Reading.{content_of_lines, content_with_line, folder_count, entry_count, line_fault, first_fault, folders_of, fault_of, is_stray, is_early_file}
 use Rattle.census_bundle.specs.Scan.{after_line, fault_behind, unless, read_on}
 use Rattle.census_bundle.proofs.Joining.{joined, joined-nothing, joined-after_line, joined_start}
 use Rattle.census_bundle.proofs.Tallies.{Follows, follows_start, follows-after_line}

@@ -10,7 +10,8 @@ use Rattle.census_bundle.specs.Names.{is_name}
 use Rattle.census_bundle.specs.Entries.{entry_of}
 use Rattle.census_bundle.specs.Growing.{on_last, with_entry, last_entries, with_folder}
 use Rattle.census_bundle.specs.Kinds.{IsFolderLine, IsFileLine, IsPlainLine}
-use Rattle.census_bundle.specs.Lines.{whole_lines, is_at_line, is_file_line, is_space, line_name}
+use Rattle.texts.specs.Bytes.{is_space}
+use Rattle.census_bundle.specs.Lines.{whole_lines, is_at_line, is_file_line, line_name}
 use Rattle.census_bundle.specs.Reading.{folders_of, fault_of, is_outside}
 use Rattle.census_bundle.specs.Scan.{entry_with_text, with_entry_text, after_line, unless, read_on, begins_section, IsClosedText, IsTextOf, ReadsOn}
 use Rattle.std.specs.List.{list_all}
@@ -42,7 +43,7 @@ folder_section b new n text line rest name lines whole some kind now bad many =
       fits = omega arith;
     }
 
-pub file_section : (b new : List Folder) (n count : ℕ) (text line behind name body rest : List ℕ) → whole_lines text ≡ line ∷ whole_lines behind → text ≡ line ++ behind → 0 < length line → IsFileLine line name → 0 < length b → IsTextOf behind body count rest → begins_section rest ≡ true → count + length rest ≤ length behind → new ≡ with_entry b (entry_of name body) → (is_name name ≡ false → ⊥) → ((is_name name ≡ true) × (count_limit ≤ length (last_entries b)) → ⊥) → ReadsOn b new n (n + 1 + count) text rest
+pub file_section : (b new : List Folder) (n count : ℕ) (text line behind name body rest : List ℕ) → whole_lines text ≡ line ∷ whole_lines behind → text ≡ line ++ behind → 0 < length line → IsFileLine line name → 0 < length b → IsTextOf behind (record { text = body; lines = count; rest = rest }) → begins_section rest ≡ true → count + length rest ≤ length behind → new ≡ with_entry b (entry_of name body) → (is_name name ≡ false → ⊥) → ((is_name name ≡ true) × (count_limit ≤ length (last_entries b)) → ⊥) → ReadsOn b new n (n + 1 + count) text rest
 file_section b new n count text line behind name body rest lines whole some kind here is_text ends few now bad many =
     let none = file_fine b n line kind.other kind.is here (lawful_name line name kind.named bad) (below name (length (last_entries b)) bad many) in
     let e : List ℕ → Entry = λ m. entry_of m [] in

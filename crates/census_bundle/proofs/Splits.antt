@@ -54,7 +54,8 @@ plain_read b name t n line rest some plain =
 take_two : (whole : List ℕ) (n k : ℕ) → take n whole ++ take k (drop n whole) ≡ take (n + k) whole
 take_two whole n k = sym (take-add n k whole)
 
-pub text_step : (whole : List ℕ) (len lines : ℕ) → 0 < length (drop len whole) → is_at_line (drop len whole) ≡ false → IsTextOf whole (take len whole) lines (drop len whole) → IsTextOf whole (take (len + line_len (drop len whole)) whole) (lines + 1) (drop (len + line_len (drop len whole)) whole)
+pub text_step : (whole : List ℕ) (len lines : ℕ) → 0 < length (drop len whole) → is_at_line (drop len whole) ≡ false → IsTextOf whole (record { text = take len whole; lines = lines; rest = drop len whole }) →
+    IsTextOf whole (record { text = take (len + line_len (drop len whole)) whole; lines = lines + 1; rest = drop (len + line_len (drop len whole)) whole })
 text_step whole len lines some plain was = record {
   reads = λ b name t n many.
       let rest = drop len whole in

@@ -1,5 +1,5 @@
 -- The lines of a bundle text.
-use Rattle.std.specs.Prelude.{ℕ, ◌-◌, Bool, ◌||◌, List, [], ◌∷◌, drop, length, take, codes, nat_eq, ◌==◌, if◌then◌else◌}
+use Rattle.std.specs.Prelude.{ℕ, ◌-◌, Bool, List, [], ◌∷◌, drop, length, take, codes, nat_eq, ◌==◌, if◌then◌else◌}
 use Rattle.std.specs.List.{starts_with, ends_with, onto_first}
 
 -- the lines of a text, each with its LF where it has one
@@ -12,10 +12,6 @@ abbrev pub content : List ℕ → List ℕ
 content line =
     if ends_with nat_eq line (codes "\r\n") then take (length line - 2) line else
     (if ends_with nat_eq line (codes "\n") then take (length line - 1) line else line)
-
--- the blank, the tab, CR and LF
-abbrev pub is_space : ℕ → Bool
-is_space c = (c == 32) || ((c == 9) || ((c == 13) || (c == 10)))
 
 abbrev pub is_at_line : List ℕ → Bool
 is_at_line line = starts_with nat_eq line (codes "@")

@@ -7,7 +7,9 @@ use Rattle.census_bundle.specs.declared.bundle.Entry.{Entry}
 use Rattle.census_bundle.specs.declared.fault.BundleFault.{BundleFault}
 use Rattle.census_bundle.specs.declared.fault.BundleFault.TheVariants.{StrayText, FileBeforeFolder, BadAtLine, BadName, TooMany}
 use Rattle.census_bundle.specs.Entries.{entry_of}
-use Rattle.census_bundle.specs.Lines.{whole_lines, is_space, is_at_line, is_folder_line, is_file_line, line_name}
+use Rattle.texts.specs.Bytes.{is_space}
+use Rattle.texts.specs.Faults.{fault_if}
+use Rattle.census_bundle.specs.Lines.{whole_lines, is_at_line, is_folder_line, is_file_line, line_name}
 use Rattle.census_bundle.specs.Names.{is_name}
 use Rattle.census_bundle.specs.Sizes.{count_limit}
 
@@ -62,10 +64,6 @@ has_bad_name line = (is_folder_line line || is_file_line line) && not (is_name (
 -- one more than the limit of its kind
 abbrev pub is_one_too_many : ℕ → ℕ → List ℕ → Bool
 is_one_too_many folders entries line = (is_folder_line line && nat_le count_limit folders) || (is_file_line line && nat_le count_limit entries)
-
-abbrev pub fault_if : Bool → BundleFault → Option BundleFault → Option BundleFault
-fault_if true fault others = Some fault
-fault_if false fault others = others
 
 -- the fault of the line of this number after so many folders and so many entries of the last of them: the first that
 -- there is

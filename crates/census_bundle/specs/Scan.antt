@@ -56,9 +56,15 @@ begins_section rest = (length rest == 0) || is_at_line rest
 abbrev pub IsClosedText : List Folder → List ℕ → Type 0
 IsClosedText b rest = (is_outside (length b) (length (last_entries b)) || begins_section rest) ≡ true
 
+-- the text of an entry, its number of lines, and what stands after it
+pub record SplitText : Type 0 where
+  pub text : List ℕ
+  pub lines : ℕ
+  pub rest : List ℕ
+
 -- after an entry's line the whole reads as so many lines of its text and then the rest
-pub record IsTextOf (whole text : List ℕ) (lines : ℕ) (rest : List ℕ) : Type 0 where
-  pub reads : (b : List Folder) (name t : List ℕ) (n : ℕ) → 0 < length b → read_on (with_entry b (entry_of name t)) n (whole_lines whole) ≡ read_on (with_entry b (entry_of name (t ++ text))) (n + lines) (whole_lines rest)
+pub record IsTextOf (whole : List ℕ) (split : SplitText) : Type 0 where
+  pub reads : (b : List Folder) (name t : List ℕ) (n : ℕ) → 0 < length b → read_on (with_entry b (entry_of name t)) n (whole_lines whole) ≡ read_on (with_entry b (entry_of name (t ++ split.text))) (n + split.lines) (whole_lines split.rest)
 
 -- the folders with those of some lines of the text, and what is then left to read
 pub record ReadsOn (old new : List Folder) (number next : ℕ) (text rest : List ℕ) : Type 0 where

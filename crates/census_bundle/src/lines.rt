@@ -1,7 +1,8 @@
 //! The lines of a bundle text.
 ghost use Rattle.std.specs.Prelude.{◌≡◌, ◌+◌, ◌<◌, ◌≤◌, ◌∷◌, ◌++◌, true, length};
 ghost use Rattle.std.specs.List.{list_all};
-ghost use Rattle.census_bundle.specs.Lines.{whole_lines, content, is_space};
+ghost use Rattle.texts.specs.Bytes.{is_space};
+ghost use Rattle.census_bundle.specs.Lines.{whole_lines, content};
 ghost use Rattle.census_bundle.specs.Kinds.{IsLineKind};
 ghost use Rattle.census_bundle.specs.Scan.{line_len, begins_section, IsTextOf};
 
@@ -95,7 +96,11 @@ fn begins_section(rest: &[u8]) -> bool
 
 // The lines up to the next that begins with `@`, or up to the end.
 pub fn split_text(whole: &[u8]) -> EntryText
-    ensures text { IsTextOf whole.now result.text.now result.lines result.rest.now }
+    ensures text { IsTextOf whole.now (record {
+      text = result.text.now;
+      lines = result.lines;
+      rest = result.rest.now;
+    }) }
     ensures ends { begins_section result.rest.now ≡ true }
     ensures fits { result.lines + length result.rest.now ≤ length whole.now }
 {

@@ -13,19 +13,19 @@ use Rattle.life_text.specs.Rle.{reading}
 use Rattle.life_text.specs.RleText.{rle_text}
 use Rattle.census_crew.specs.Bytes.{ReadsText}
 use Rattle.census_folders.specs.Told.{GivesTold}
-use Rattle.census_errors.specs.Shelves.{Tellings}
+use Rattle.census_folders.specs.Tellings.{Tellings}
 use Rattle.census_command.specs.Streams.{State}
 use Rattle.census_command.specs.Advances.{Advances, AdvancesFile, AdvancesFileInPart, AdvancesInPart, IsAdvanced}
 
 pub is_advanced : (text : List ℕ) (n : ℕ) (old new : List ℕ) (pattern : Picture) (R : Rule) (G : Generation) → picture_of (reading text) ≡ Ok pattern
-    → R ≡ pattern.rule → G ≡ generation pattern.rule pattern.cells n → old ≡ [] → new ≡ old ++ rle_text R G → IsAdvanced text n new
+    → R ≡ pattern.rule → G ≡ generation pattern.rule pattern.cells n → old ≡ [] → new ≡ old ++ rle_text R G → IsAdvanced (record { text = text; generations = n }) new
 is_advanced text n old new pattern R G means rule cells none written = record {
   pattern = pattern;
   means = means;
   is = written ∙ ap (λ xs. xs ++ rle_text R G) none ∙ (λ i. rle_text (rule i) (cells i));
 }
 
-module _ (text bytes : List ℕ) (n : ℕ) (written : List ℕ) (same : bytes ≡ text) (a : IsAdvanced bytes n written) where
+module _ (text bytes : List ℕ) (n : ℕ) (written : List ℕ) (same : bytes ≡ text) (a : IsAdvanced (record { text = bytes; generations = n }) written) where
   means : picture_of (reading text) ≡ Ok a.pattern
   means = subst (λ xs. picture_of (reading xs) ≡ Ok a.pattern) same a.means
 
@@ -49,7 +49,7 @@ module _ (text bytes : List ℕ) (n : ℕ) (written : List ℕ) (same : bytes �
     written = subst (λ xs. AppendsFront before.written after.written xs) (e ∙ a.is) appended;
   }
 
-module _ (text bytes : List ℕ) (n : ℕ) (written : List ℕ) (same : bytes ≡ text) (a : IsAdvanced bytes n written) (shelf : Tellings) (path : List ℕ) where
+module _ (text bytes : List ℕ) (n : ℕ) (written : List ℕ) (same : bytes ≡ text) (a : IsAdvanced (record { text = bytes; generations = n }) written) (shelf : Tellings) (path : List ℕ) where
   pub advances_file : (out : List ℕ) (before after : State) → out ≡ written → GivesTold (shelf.held [] path) text → length text ≤ input_limit
       → after.unread ≡ before.unread → Appends before.written after.written out → AdvancesFile shelf path n before after
   advances_file out before after e told within unread appended = record {

@@ -3,10 +3,10 @@ use Rattle.std.proofs.Common.{◌≡◌, ◌≢◌, ◌⊎◌, ℕ, ◌+◌, ◌
 use Rattle.std.proofs.lemmas.List.{append_assoc, drop_more}
 use Rattle.census_folders.specs.declared.loss.Loss.{Loss}
 use Rattle.census_command.specs.Keeps.{IsKeptBundle, KeepsInto, StopsKeeping, StopsKeepingIn, kept_status, lost_line, lost_lines}
-use Rattle.census_errors.specs.Shelves.{Tellings}
+use Rattle.census_folders.specs.Tellings.{Tellings}
 use Rattle.census_command.specs.declared.keeping.Gathered.{Gathered}
 use Rattle.census_errors.specs.declared.run_error.RunError.{RunError}
-use Rattle.census_errors.specs.Sources.{Kept, StopsAtFirstLoss, source_of}
+use Rattle.census_errors.specs.Sources.{Kept, StopsAtFirstLoss, source_by}
 
 -- # The lines
 
@@ -21,7 +21,7 @@ next_line lost i loss lines more whole within at is before =
 -- # The folders of the words themselves
 
 pub gathered_plain : (shelf : Tellings) (limit : Option ℕ) (recursive : Bool) (words : List (List ℕ)) (r : Result Gathered RunError) → recursive ≡ false
-    → MatchResult r (KeepsInto shelf.listed shelf.held limit words []) (StopsKeepingIn shelf.listed shelf.held limit words)
+    → MatchResult r (KeepsInto shelf limit words []) (StopsKeepingIn shelf limit words)
     → MatchResult r (λ gathered. (lost : List Loss) × IsKeptBundle shelf limit recursive words gathered.bundle lost × (gathered.lines.items ≡ lost_lines lost))
     (StopsKeeping shelf limit recursive words)
 gathered_plain shelf limit recursive words (Ok gathered) off kept = (
@@ -44,21 +44,21 @@ status_kept (loss ∷ lost) lines status is none some = some (λ e. let both : l
 -- # Where collections come from
 
 -- nothing goes on where it isn't asked for, or without a word
-pub stops_at_first : (limit : Option ℕ) (recursive keep_going : Bool) (words : List (List ℕ)) → (keep_going ≡ false) ⊎ (words ≡ []) → StopsAtFirstLoss (source_of limit recursive keep_going words)
+pub stops_at_first : (limit : Option ℕ) (recursive keep_going : Bool) (words : List (List ℕ)) → (keep_going ≡ false) ⊎ (words ≡ []) → StopsAtFirstLoss (source_by limit recursive keep_going words)
 stops_at_first limit recursive keep_going [] why = tt
 stops_at_first limit true false (word ∷ words) why = tt
 stops_at_first limit false false (word ∷ words) why = tt
 stops_at_first limit recursive true (word ∷ words) (inl h) = absurd cc
 stops_at_first limit recursive true (word ∷ words) (inr h) = absurd cc
 
-pub goes_on : (limit : Option ℕ) (recursive keep_going : Bool) (words : List (List ℕ)) → keep_going ≡ true → (words ≢ []) → source_of limit recursive keep_going words ≡ Kept limit recursive words
+pub goes_on : (limit : Option ℕ) (recursive keep_going : Bool) (words : List (List ℕ)) → keep_going ≡ true → (words ≢ []) → source_by limit recursive keep_going words ≡ Kept limit recursive words
 goes_on limit recursive keep_going [] asked any = absurd (any refl)
 goes_on limit recursive true (word ∷ words) asked any = refl
 goes_on limit recursive false (word ∷ words) asked any = absurd cc
 
 -- where the first thing that can't be read ends it, it is as if nothing else were asked for
-pub ends_at_first : (limit : Option ℕ) (recursive keep_going : Bool) (words : List (List ℕ)) → StopsAtFirstLoss (source_of limit recursive keep_going words)
-    → source_of limit recursive false words ≡ source_of limit recursive keep_going words
+pub ends_at_first : (limit : Option ℕ) (recursive keep_going : Bool) (words : List (List ℕ)) → StopsAtFirstLoss (source_by limit recursive keep_going words)
+    → source_by limit recursive false words ≡ source_by limit recursive keep_going words
 ends_at_first limit recursive keep_going [] whole = refl
 ends_at_first limit recursive false (word ∷ words) whole = refl
 ends_at_first limit recursive true (word ∷ words) whole = absurd whole

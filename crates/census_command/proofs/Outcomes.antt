@@ -25,8 +25,8 @@ use Rattle.census_errors.specs.Places.{IsPlaceOf}
 use Rattle.census_command.specs.Requests.{Does, DoesInPart, Fails}
 use Rattle.census_command.specs.Runs.{FoldersFail, ReportsFoldersInPart, RunFails, RunsInPart, StopsReadingFolders}
 use Rattle.census_errors.specs.Sayings.{line_said, said_if}
-use Rattle.census_errors.specs.Shelves.{Tellings}
-use Rattle.census_errors.specs.Sources.{Source, Input, Folders, Trees, Kept, source_of}
+use Rattle.census_folders.specs.Tellings.{Tellings}
+use Rattle.census_errors.specs.Sources.{Source, Input, Folders, Trees, Kept, source_by}
 use Rattle.census_errors.specs.ErrorStreams.{Errors, TellsIf, TellsText}
 use Rattle.census_command.specs.Streams.{HasFailed, HasSoundStreams, IsUntouched, State, WritesNothing}
 use Rattle.census_errors.specs.declared.advance_error.AdvanceError.{AdvanceError}
@@ -83,23 +83,23 @@ module _ (shelf : Tellings) (before after : State) where
   folders_say run.Write limit fs question h = inr (inr (refl, inl (inr h.1.write), inr h.0, unread_flag h.1.read))
 
   -- why folders below others are not told: one can't be walked, or out of memory
-  no_add : {A : Type 0} (fault : AddFault) (fs : List (List ℕ)) → StopsTrees shelf.listed shelf.inner fs (folder_fault.Add fault) → A
+  no_add : {A : Type 0} (fault : AddFault) (fs : List (List ℕ)) → StopsTrees shelf fs (folder_fault.Add fault) → A
   no_add fault fs (inl h) = absurd cc
   no_add fault fs (inr h) = at_visit h.why
     where
-      at_visit : {A : Type 0} {word : List ℕ} → StopsWalk shelf.listed shelf.inner word (folder_fault.Add fault) → A
+      at_visit : {A : Type 0} {word : List ℕ} → StopsWalk shelf word (folder_fault.Add fault) → A
       at_visit (inl h) = absurd cc
       at_visit (inr h) = absurd h.why
 
-  not_long : {A : Type 0} (fs : List (List ℕ)) → StopsTrees shelf.listed shelf.inner fs folder_fault.TooLong → A
+  not_long : {A : Type 0} (fs : List (List ℕ)) → StopsTrees shelf fs folder_fault.TooLong → A
   not_long fs (inl h) = absurd cc
   not_long fs (inr h) = at_visit h.why
     where
-      at_visit : {A : Type 0} {word : List ℕ} → StopsWalk shelf.listed shelf.inner word folder_fault.TooLong → A
+      at_visit : {A : Type 0} {word : List ℕ} → StopsWalk shelf word folder_fault.TooLong → A
       at_visit (inl h) = absurd cc
       at_visit (inr h) = absurd h.why
 
-  walk_says : (fault : FoldersFault) (limit : Option ℕ) (fs : List (List ℕ)) (question : Question) → StopsTrees shelf.listed shelf.inner fs fault → IsUntouched before after
+  walk_says : (fault : FoldersFault) (limit : Option ℕ) (fs : List (List ℕ)) (question : Question) → StopsTrees shelf fs fault → IsUntouched before after
       → Says before after (run_status (run_error_of_folders fault)) (RefusesCollections shelf (Trees limit fs) before after)
       (RunsInPart shelf (Trees limit fs) question before after) (RunsInPart shelf (Trees limit fs) question before after) (MissesSource shelf (Trees limit fs))
   walk_says (folder_fault.Add fault) limit fs question why untouched = no_add fault fs why
@@ -121,7 +121,7 @@ module _ (shelf : Tellings) (before after : State) where
   run_says e (Trees limit fs) question (inl h) = rw h.is (walk_says h.fault limit fs question h.why h.untouched)
   run_says e (Trees limit fs) question (inr h) = in_trees h.folders h.trees (folders_say e limit h.folders question h.why)
     where
-      in_trees : (folders : List (List ℕ)) → HoldsTrees shelf.listed shelf.inner fs folders
+      in_trees : (folders : List (List ℕ)) → HoldsTrees shelf fs folders
           → Says before after (run_status e) (RefusesFolders shelf limit folders) (ReportsFoldersInPart shelf limit folders question before after)
           (ReportsFoldersInPart shelf limit folders question before after) (StopsReadingFolders shelf limit folders folder_fault.Read)
           → Says before after (run_status e) (RefusesCollections shelf (Trees limit fs) before after) (RunsInPart shelf (Trees limit fs) question before after)
@@ -142,8 +142,8 @@ module _ (shelf : Tellings) (before after : State) where
   says : (error : CommandError) (request : Request) → Fails error shelf request before after
       → Says before after (status_of error) (RefusesInput shelf request before after) (ReportsInPart shelf request before after) (DoesInPart shelf request before after)
       (StopsAtFolder shelf request)
-  says (command.Run e) (Run bound workers cells input recursive keep_going folders) h = run_says shelf before after e (source_of input recursive keep_going _) (question.Settles bound cells) h
-  says (command.Run e) (Objects bound workers cells input recursive keep_going folders) h = run_says shelf before after e (source_of input recursive keep_going _) (question.Objects bound (Some cells)) h
+  says (command.Run e) (Run bound workers cells input recursive keep_going folders) h = run_says shelf before after e (source_by input recursive keep_going _) (question.Settles bound cells) h
+  says (command.Run e) (Objects bound workers cells input recursive keep_going folders) h = run_says shelf before after e (source_by input recursive keep_going _) (question.Objects bound (Some cells)) h
   says (command.Advance e) (Advance n file) h = advance_says shelf before after e (file_of (option_map (λ s. s.now) file)) n h
   says (command.Draw (draw.Rule fault)) (Draw code rule) h = inl (refl, inl (fault, h.0), record { written = h.1.written; sound = h.1.sound })
   says (command.Draw (draw.Code fault)) (Draw code rule) h = inl (refl, inr (fault, h.0.1), record { written = h.1.written; sound = h.1.sound })

@@ -21,7 +21,7 @@ use Rattle.census_errors.specs.Errors.{run_error_of_bytes, run_error_of_folders,
 use Rattle.census_command.specs.Runs.{FoldersFail, InputFails, ReportsFolders, ReportsFoldersInPart, ReportsTrees, StopsReadingFolders, TreesFail}
 use Rattle.census_errors.specs.declared.run_error.RunError.{RunError}
 use Rattle.census_command.specs.Keeps.{IsCut}
-use Rattle.census_errors.specs.Shelves.{Tellings}
+use Rattle.census_folders.specs.Tellings.{Tellings}
 use Rattle.census_command.specs.Streams.{HasSoundStreams, State}
 
 is_down : (failed : Bool) → (failed ≡ true → ⊥) → failed ≡ false
@@ -61,7 +61,7 @@ module _ (shelf : Tellings) (limit : Option ℕ) (words : List (List ℕ)) (ques
   folders_stop folder_fault.Memory state sound stops = inl (stops, record { unread = refl; written = refl; sound = sound })
 
   module _ (before after : State) (bundle : List Folder) (holds : HoldsFolders words bundle)
-      (told : HoldsShelf shelf.listed shelf.held words bundle) (within : Fits limit (bytes_of_all bundle)) (unread : after.unread ≡ before.unread)
+      (told : HoldsShelf shelf words bundle) (within : Fits limit (bytes_of_all bundle)) (unread : after.unread ≡ before.unread)
       (down : after.read_failed ≡ false) (written : WritesPrefix before.written after.written bundle question) where
     folders_front : ReportsFoldersInPart shelf limit words question before after
     folders_front = record { bundle = bundle; holds = holds; told = told; within = within; front = written; unread = unread }
@@ -73,7 +73,7 @@ module _ (shelf : Tellings) (limit : Option ℕ) (words : List (List ℕ)) (ques
 
 -- the report of trees, from that of their folders
 pub trees_done : {V : Type 0} (f : V → List ℕ) (shelf : Tellings) (limit : Option ℕ) (words folders named : List (List ℕ)) (question : Question) (explain : Bool)
-    (before after : State) (r : Result V RunError) → HoldsTrees shelf.listed shelf.inner words folders → named ≡ folders
+    (before after : State) (r : Result V RunError) → HoldsTrees shelf words folders → named ≡ folders
     → IfOk r (λ v. ReportsFolders shelf limit named question explain (f v) before after) → IfOk r (λ v. ReportsTrees shelf limit words question explain (f v) before after)
 trees_done f shelf limit words folders named question explain before after (Ok v) trees same h =
     record { folders = folders; trees = trees; report = subst (λ fs. ReportsFolders shelf limit fs question explain (f v) before after) same h }
@@ -81,7 +81,7 @@ trees_done f shelf limit words folders named question explain before after (Err 
 
 -- why no whole report of trees was written, from that of their folders
 pub trees_fail : {A : Type 0} (shelf : Tellings) (limit : Option ℕ) (words folders named : List (List ℕ)) (question : Question) (before after : State) (r : Result A RunError)
-    → HoldsTrees shelf.listed shelf.inner words folders → named ≡ folders
+    → HoldsTrees shelf words folders → named ≡ folders
     → IfErr r (λ e. FoldersFail e shelf limit named question before after) → IfErr r (λ e. TreesFail e shelf limit words question before after)
 trees_fail shelf limit words folders named question before after (Ok x) trees same h = h
 trees_fail shelf limit words folders named question before after (Err e) trees same h =

@@ -14,7 +14,7 @@ use Rattle.census_faults.specs.Faults.{text_fault}
 use Rattle.census_faults.specs.Spots.{spot_of_text}
 use Rattle.census_faults.specs.declared.fault.Fault.{Fault}
 use Rattle.census_faults.specs.declared.spot.Spot.{Spot}
-use Rattle.census_errors.specs.Shelves.{Tellings}
+use Rattle.census_folders.specs.Tellings.{Tellings}
 use Rattle.census_command.specs.Streams.{IsUntouched, ReadFails, State, WriteFails, WritesNothing}
 use Rattle.census_errors.specs.declared.advance_error.AdvanceError.{AdvanceError}
 use Rattle.census_errors.specs.declared.advance_error.AdvanceError.TheVariants.{Text, TooLong, Memory, Read, Write}
@@ -23,11 +23,16 @@ use Rattle.census_errors.specs.declared.advance_error.AdvanceError.TheVariants.{
 abbrev pub advanced_text : Picture → ℕ → List ℕ
 advanced_text pattern n = rle_text pattern.rule (generation pattern.rule pattern.cells n)
 
--- the text of generation n of the pattern that a text means
-pub record IsAdvanced (text : List ℕ) (n : ℕ) (written : List ℕ) : Type 0 where
+-- a text, and how many generations its pattern is to be advanced
+pub record TextToAdvance : Type 0 where
+  pub text : List ℕ
+  pub generations : ℕ
+
+-- the text of that generation of the pattern that the text means
+pub record IsAdvanced (given : TextToAdvance) (written : List ℕ) : Type 0 where
   pub pattern : Picture
-  pub means : picture_of (reading text) ≡ Ok pattern
-  pub is : written ≡ advanced_text pattern n
+  pub means : picture_of (reading given.text) ≡ Ok pattern
+  pub is : written ≡ advanced_text pattern given.generations
 
 -- the text has this fault, and this is said of it
 pub record IsRefusedText (text : List ℕ) (fault : RleFault) (told : Fault) (spot : Spot) : Type 0 where

@@ -12,6 +12,6 @@ pub record SaysBesideReport (listed : List ℕ → Told) (from_folders : Bool) (
   pub hinted : Hints listed from_folders bundle hints
   pub lines_are : lines ≡ refusal_lines bundle ++ hints
 
--- where faults are explained, and else nothing
-abbrev pub SaysOfReport : (List ℕ → Told) → Bool → Bool → List Folder → List ℕ → Type 0
-SaysOfReport listed from_folders explain bundle lines = MatchBool explain (SaysBesideReport listed from_folders bundle lines) (lines ≡ [])
+-- where faults are explained, this is said, and else there is no line
+abbrev pub IfExplained : Bool → Type 0 → List ℕ → Type 0
+IfExplained explain said lines = MatchBool explain said (lines ≡ [])

@@ -16,35 +16,41 @@ use Rattle.census_errors.specs.declared.draw_error.DrawError.TheVariants.{Rule a
 abbrev pub drawn_text : Rule → List ℕ → List ℕ
 drawn_text R code = rle_text R (normal (wechsler.cells_spelled (body_of code)))
 
+-- what is to be drawn: a code, and the text of a rule
+pub record Drawing : Type 0 where
+  pub code : List ℕ
+  pub rule : List ℕ
+
 -- the rule text names a rule, the code's body has no fault, and this is its RLE text
-pub record IsDrawn (code rule written : List ℕ) : Type 0 where
+pub record IsDrawn (drawing : Drawing) (written : List ℕ) : Type 0 where
   pub named : Rule
-  pub names : rule_of rule ≡ Ok named
-  pub lawful : wechsler.refusal (body_of code) ≡ None
-  pub is : written ≡ drawn_text named code
+  pub names : rule_of drawing.rule ≡ Ok named
+  pub lawful : wechsler.refusal (body_of drawing.code) ≡ None
+  pub is : written ≡ drawn_text named drawing.code
 
 -- The rule text has a fault, or else the body of the code has. The rule is judged first.
-abbrev pub RefusesCode : DrawError → List ℕ → List ℕ → Type 0
-RefusesCode (RuleText fault) code rule = rule_of rule ≡ Err fault
-RefusesCode (Code fault) code rule = ((R : Rule) × (rule_of rule ≡ Ok R)) × (wechsler.refusal (body_of code) ≡ Some fault)
-RefusesCode Memory code rule = Unit {0}
-RefusesCode Write code rule = ⊥
+abbrev pub RefusesCode : DrawError → Drawing → Type 0
+RefusesCode (RuleText fault) drawing = rule_of drawing.rule ≡ Err fault
+RefusesCode (Code fault) drawing =
+    ((R : Rule) × (rule_of drawing.rule ≡ Ok R)) × (wechsler.refusal (body_of drawing.code) ≡ Some fault)
+RefusesCode Memory drawing = Unit {0}
+RefusesCode Write drawing = ⊥
 
 -- The code's RLE text is what was written, and nothing was read.
-pub record Draws (code rule : List ℕ) (before after : State) : Type 0 where
+pub record Draws (drawing : Drawing) (before after : State) : Type 0 where
   pub text : List ℕ
-  pub drawn : IsDrawn code rule text
+  pub drawn : IsDrawn drawing text
   pub written : Appends before.written after.written text
   pub unread : after.unread ≡ before.unread
 
 -- as far as the writer took it
-pub record DrawsInPart (code rule : List ℕ) (before after : State) : Type 0 where
+pub record DrawsInPart (drawing : Drawing) (before after : State) : Type 0 where
   pub text : List ℕ
-  pub drawn : IsDrawn code rule text
+  pub drawn : IsDrawn drawing text
   pub written : AppendsFront before.written after.written text
   pub unread : after.unread ≡ before.unread
 
 -- Why the code's RLE text was not written. Where the writer didn't fail, nothing was.
-abbrev pub DrawFails : DrawError → List ℕ → List ℕ → State → State → Type 0
-DrawFails Write code rule before after = DrawsInPart code rule before after × WriteFails after
-DrawFails error code rule before after = RefusesCode error code rule × IsUntouched before after
+abbrev pub DrawFails : DrawError → Drawing → State → State → Type 0
+DrawFails Write drawing before after = DrawsInPart drawing before after × WriteFails after
+DrawFails error drawing before after = RefusesCode error drawing × IsUntouched before after

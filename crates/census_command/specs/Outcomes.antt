@@ -20,7 +20,6 @@ use Rattle.census_cli.specs.declared.fault.WordsFault.{WordsFault}
 use Rattle.census_cli.specs.declared.fault.WordsFault.TheVariants.{Help, Refused, Memory}
 use Rattle.census_cli.specs.declared.request.Request.{Request}
 use Rattle.census_cli.specs.declared.request.Request.TheVariants.{Run, Objects, Identify, Advance, Draw, Merge, Table, Page}
-use Rattle.life_answer.specs.declared.question.Question.{Question}
 use Rattle.life_answer.specs.declared.question.Question.TheVariants as question
 use Rattle.census_faults.specs.declared.fault.Fault.{Fault}
 use Rattle.census_faults.specs.declared.spot.Spot.{Spot}
@@ -30,7 +29,7 @@ use Rattle.census_identify.specs.Identifies.{Identifies}
 use Rattle.census_command.specs.Advances.{HasFileFault, HasRleFault, ReadsTooMuch}
 use Rattle.census_errors.specs.Errors.{IsArgumentsError, status_of}
 use Rattle.census_errors.specs.Files.{file_of}
-use Rattle.census_command.specs.Keeps.{Keeps}
+use Rattle.census_command.specs.Keeps.{KeptCensus, Keeps}
 use Rattle.census_errors.specs.Messages.{error_line}
 use Rattle.census_errors.specs.Places.{IsPlaceOf}
 use Rattle.census_command.specs.Remakes.{Remakes, form_of}
@@ -39,7 +38,7 @@ use Rattle.census_reports.specs.declared.form.Form.{Form}
 use Rattle.census_reports.specs.declared.form.Form.TheVariants as form
 use Rattle.census_command.specs.Runs.{RunsInPart, StopsReadingFolders}
 use Rattle.census_errors.specs.Sayings.{line_said, said_if}
-use Rattle.census_errors.specs.Shelves.{Tellings}
+use Rattle.census_folders.specs.Tellings.{Tellings}
 use Rattle.census_errors.specs.Sources.{Source, Input, Folders, Trees, Kept, source_of}
 use Rattle.census_errors.specs.ErrorStreams.{Errors, TellsIf, TellsText}
 use Rattle.census_command.specs.Streams.{all_streams, HasFailed, HasSoundStreams, IsUntouched, State, WriteFails, WritesNothing}
@@ -87,7 +86,7 @@ RefusesCollections shelf Input before after =
     ((fault : BundleFault) × ReadsFault before.unread after.unread fault) ⊎ ReadsTooMuch before after
 RefusesCollections shelf (Folders limit words) before after = RefusesFolders shelf limit words
 RefusesCollections shelf (Trees limit words) before after =
-    (folders : List (List ℕ)) × HoldsTrees shelf.listed shelf.inner words folders × RefusesFolders shelf limit folders
+    (folders : List (List ℕ)) × HoldsTrees shelf words folders × RefusesFolders shelf limit folders
 RefusesCollections shelf (Kept limit recursive words) before after = ⊥
 
 -- a file, or without one standard input, has a fault or is too long
@@ -99,8 +98,8 @@ RefusesText shelf (Some path) before after =
 
 -- what a request is to be done with is refused
 abbrev pub RefusesInput : Tellings → Request → State → State → Type 0
-RefusesInput shelf (Run bound workers cells input recursive keep_going folders) before after = RefusesCollections shelf (source_of input recursive keep_going (map (λ s. s.now) folders.items)) before after
-RefusesInput shelf (Objects bound workers cells input recursive keep_going folders) before after = RefusesCollections shelf (source_of input recursive keep_going (map (λ s. s.now) folders.items)) before after
+RefusesInput shelf (Run bound workers cells input recursive keep_going folders) before after = RefusesCollections shelf (source_of (record { limit = input; recursive = recursive; keep_going = keep_going; words = map (λ s. s.now) folders.items })) before after
+RefusesInput shelf (Objects bound workers cells input recursive keep_going folders) before after = RefusesCollections shelf (source_of (record { limit = input; recursive = recursive; keep_going = keep_going; words = map (λ s. s.now) folders.items })) before after
 RefusesInput shelf (Identify bound files) before after = ⊥
 RefusesInput shelf (Advance generations file) before after = RefusesText shelf (file_of (option_map (λ s. s.now) file)) before after
 RefusesInput shelf (Draw code rule) before after =
@@ -132,8 +131,8 @@ pub record HelpsInPart (words : List (List ℕ)) (before after : State) : Type 0
   pub unread : after.unread ≡ before.unread
 
 abbrev pub ReportsInPart : Tellings → Request → State → State → Type 0
-ReportsInPart shelf (Run bound workers cells input recursive keep_going folders) before after = RunsInPart shelf (source_of input recursive keep_going (map (λ s. s.now) folders.items)) (question.Settles bound cells) before after
-ReportsInPart shelf (Objects bound workers cells input recursive keep_going folders) before after = RunsInPart shelf (source_of input recursive keep_going (map (λ s. s.now) folders.items)) (question.Objects bound (Some cells)) before after
+ReportsInPart shelf (Run bound workers cells input recursive keep_going folders) before after = RunsInPart shelf (source_of (record { limit = input; recursive = recursive; keep_going = keep_going; words = map (λ s. s.now) folders.items })) (question.Settles bound cells) before after
+ReportsInPart shelf (Objects bound workers cells input recursive keep_going folders) before after = RunsInPart shelf (source_of (record { limit = input; recursive = recursive; keep_going = keep_going; words = map (λ s. s.now) folders.items })) (question.Objects bound (Some cells)) before after
 ReportsInPart shelf request before after = ⊥
 
 -- The words ask for a census, and a prefix of its report was written.
@@ -152,13 +151,13 @@ abbrev pub MissesSource : Tellings → Source → Type 0
 MissesSource shelf Input = ⊥
 MissesSource shelf (Folders limit words) = StopsReadingFolders shelf limit words folder_fault.Read
 MissesSource shelf (Trees limit words) =
-    StopsTrees shelf.listed shelf.inner words folder_fault.Read
-    ⊎ ((folders : List (List ℕ)) × HoldsTrees shelf.listed shelf.inner words folders × StopsReadingFolders shelf limit folders folder_fault.Read)
+    StopsTrees shelf words folder_fault.Read
+    ⊎ ((folders : List (List ℕ)) × HoldsTrees shelf words folders × StopsReadingFolders shelf limit folders folder_fault.Read)
 MissesSource shelf (Kept limit recursive words) = ⊥
 
 abbrev pub StopsAtFolder : Tellings → Request → Type 0
-StopsAtFolder shelf (Run bound workers cells input recursive keep_going folders) = MissesSource shelf (source_of input recursive keep_going (map (λ s. s.now) folders.items))
-StopsAtFolder shelf (Objects bound workers cells input recursive keep_going folders) = MissesSource shelf (source_of input recursive keep_going (map (λ s. s.now) folders.items))
+StopsAtFolder shelf (Run bound workers cells input recursive keep_going folders) = MissesSource shelf (source_of (record { limit = input; recursive = recursive; keep_going = keep_going; words = map (λ s. s.now) folders.items }))
+StopsAtFolder shelf (Objects bound workers cells input recursive keep_going folders) = MissesSource shelf (source_of (record { limit = input; recursive = recursive; keep_going = keep_going; words = map (λ s. s.now) folders.items }))
 StopsAtFolder shelf (Identify bound files) = ⊥
 StopsAtFolder shelf (Advance generations file) = MissesFile shelf (file_of (option_map (λ s. s.now) file))
 StopsAtFolder shelf (Draw code rule) = ⊥
@@ -243,25 +242,22 @@ pub record RemakesAsked (shelf : Tellings) (words : List (List ℕ)) (status : �
 -- # To go on past what can't be read
 
 -- The request asks for a census of these folders that goes on past what can't be read.
-abbrev pub IsKeeping : Request → Option ℕ → Bool → List (List ℕ) → Question → Type 0
-IsKeeping (Run bound workers cells input recursive keep_going folders) limit r words q =
-    (source_of input recursive keep_going (map (λ s. s.now) folders.items) ≡ Kept limit r words) × (q ≡ question.Settles bound cells)
-IsKeeping (Objects bound workers cells input recursive keep_going folders) limit r words q =
-    (source_of input recursive keep_going (map (λ s. s.now) folders.items) ≡ Kept limit r words) × (q ≡ question.Objects bound (Some cells))
-IsKeeping request limit r words q = ⊥
+abbrev pub IsKeeping : Request → KeptCensus → Type 0
+IsKeeping (Run bound workers cells input recursive keep_going folders) keeping =
+    (source_of (record { limit = input; recursive = recursive; keep_going = keep_going; words = map (λ s. s.now) folders.items }) ≡ Kept keeping.limit keeping.recursive keeping.words) × (keeping.question ≡ question.Settles bound cells)
+IsKeeping (Objects bound workers cells input recursive keep_going folders) keeping =
+    (source_of (record { limit = input; recursive = recursive; keep_going = keep_going; words = map (λ s. s.now) folders.items }) ≡ Kept keeping.limit keeping.recursive keeping.words) × (keeping.question ≡ question.Objects bound (Some cells))
+IsKeeping request keeping = ⊥
 
 -- The words ask for such a census. What could be read was reported, or an error ended it.
 pub record KeepsAsked (shelf : Tellings) (words : List (List ℕ)) (status : ℕ) (before after : State) (old new : Errors) : Type 0 where
   pub request : Request
   pub asked : Asks words request
-  pub limit : Option ℕ
-  pub recursive : Bool
-  pub folders : List (List ℕ)
-  pub question : Question
-  pub is : IsKeeping request limit recursive folders question
+  pub keeping : KeptCensus
+  pub is : IsKeeping request keeping
   pub explain : Bool
   pub explained : AreExplained words old explain
-  pub keeps : Keeps shelf limit recursive folders question explain status before after old new
+  pub keeps : Keeps shelf keeping explain status before after old new
 
 -- # The exit status
 

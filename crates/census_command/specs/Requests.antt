@@ -8,7 +8,7 @@ use Rattle.census_command.specs.Advances.{AdvanceFromFails, AdvancesFrom, Advanc
 use Rattle.census_errors.specs.Files.{file_of}
 use Rattle.census_command.specs.Draws.{DrawFails, Draws, DrawsInPart}
 use Rattle.census_command.specs.Runs.{RunFails, Runs, RunsInPart}
-use Rattle.census_errors.specs.Shelves.{Tellings}
+use Rattle.census_folders.specs.Tellings.{Tellings}
 use Rattle.census_errors.specs.Sources.{StopsAtFirstLoss, source_of}
 use Rattle.census_command.specs.Streams.{State}
 use Rattle.census_errors.specs.declared.error.CommandError.{CommandError}
@@ -27,8 +27,8 @@ IsLawful (Page reports) = Unit {0}
 
 -- the first thing that can't be read ends it
 abbrev pub EndsAtFirst : Request → Type 0
-EndsAtFirst (Run bound workers cells input recursive keep_going folders) = StopsAtFirstLoss (source_of input recursive keep_going (map (λ s. s.now) folders.items))
-EndsAtFirst (Objects bound workers cells input recursive keep_going folders) = StopsAtFirstLoss (source_of input recursive keep_going (map (λ s. s.now) folders.items))
+EndsAtFirst (Run bound workers cells input recursive keep_going folders) = StopsAtFirstLoss (source_of (record { limit = input; recursive = recursive; keep_going = keep_going; words = map (λ s. s.now) folders.items }))
+EndsAtFirst (Objects bound workers cells input recursive keep_going folders) = StopsAtFirstLoss (source_of (record { limit = input; recursive = recursive; keep_going = keep_going; words = map (λ s. s.now) folders.items }))
 EndsAtFirst request = Unit {0}
 
 -- nothing is to be made of reports
@@ -50,33 +50,33 @@ IsDone request = EndsAtFirst request
 -- What is asked for was done, and these lines are said beside it, where faults are explained.
 abbrev pub Does : Tellings → Request → Bool → List ℕ → State → State → Type 0
 Does shelf (Run bound workers cells input recursive keep_going folders) explain lines before after =
-    Runs shelf (source_of input recursive keep_going (map (λ s. s.now) folders.items)) (question.Settles bound cells) explain lines before after
+    Runs shelf (source_of (record { limit = input; recursive = recursive; keep_going = keep_going; words = map (λ s. s.now) folders.items })) (question.Settles bound cells) explain lines before after
 Does shelf (Objects bound workers cells input recursive keep_going folders) explain lines before after =
-    Runs shelf (source_of input recursive keep_going (map (λ s. s.now) folders.items)) (question.Objects bound (Some cells)) explain lines before after
+    Runs shelf (source_of (record { limit = input; recursive = recursive; keep_going = keep_going; words = map (λ s. s.now) folders.items })) (question.Objects bound (Some cells)) explain lines before after
 Does shelf (Identify bound files) explain lines before after = ⊥
 Does shelf (Advance generations file) explain lines before after =
     (lines ≡ []) × AdvancesFrom shelf (file_of (option_map (λ s. s.now) file)) generations before after
-Does shelf (Draw code rule) explain lines before after = (lines ≡ []) × Draws code.now rule.now before after
+Does shelf (Draw code rule) explain lines before after = (lines ≡ []) × Draws (record { code = code.now; rule = rule.now }) before after
 Does shelf (Merge reports) explain lines before after = ⊥
 Does shelf (Table format reports) explain lines before after = ⊥
 Does shelf (Page reports) explain lines before after = ⊥
 
 -- it was done as far as the writer took it
 abbrev pub DoesInPart : Tellings → Request → State → State → Type 0
-DoesInPart shelf (Run bound workers cells input recursive keep_going folders) before after = RunsInPart shelf (source_of input recursive keep_going (map (λ s. s.now) folders.items)) (question.Settles bound cells) before after
-DoesInPart shelf (Objects bound workers cells input recursive keep_going folders) before after = RunsInPart shelf (source_of input recursive keep_going (map (λ s. s.now) folders.items)) (question.Objects bound (Some cells)) before after
+DoesInPart shelf (Run bound workers cells input recursive keep_going folders) before after = RunsInPart shelf (source_of (record { limit = input; recursive = recursive; keep_going = keep_going; words = map (λ s. s.now) folders.items })) (question.Settles bound cells) before after
+DoesInPart shelf (Objects bound workers cells input recursive keep_going folders) before after = RunsInPart shelf (source_of (record { limit = input; recursive = recursive; keep_going = keep_going; words = map (λ s. s.now) folders.items })) (question.Objects bound (Some cells)) before after
 DoesInPart shelf (Identify bound files) before after = ⊥
 DoesInPart shelf (Advance generations file) before after = AdvancesFromInPart shelf (file_of (option_map (λ s. s.now) file)) generations before after
-DoesInPart shelf (Draw code rule) before after = DrawsInPart code.now rule.now before after
+DoesInPart shelf (Draw code rule) before after = DrawsInPart (record { code = code.now; rule = rule.now }) before after
 DoesInPart shelf (Merge reports) before after = ⊥
 DoesInPart shelf (Table format reports) before after = ⊥
 DoesInPart shelf (Page reports) before after = ⊥
 
 -- it was not done whole, for this error
 abbrev pub Fails : CommandError → Tellings → Request → State → State → Type 0
-Fails (error.Run e) shelf (Run bound workers cells input recursive keep_going folders) before after = RunFails e shelf (source_of input recursive keep_going (map (λ s. s.now) folders.items)) (question.Settles bound cells) before after
-Fails (error.Run e) shelf (Objects bound workers cells input recursive keep_going folders) before after = RunFails e shelf (source_of input recursive keep_going (map (λ s. s.now) folders.items)) (question.Objects bound (Some cells)) before after
+Fails (error.Run e) shelf (Run bound workers cells input recursive keep_going folders) before after = RunFails e shelf (source_of (record { limit = input; recursive = recursive; keep_going = keep_going; words = map (λ s. s.now) folders.items })) (question.Settles bound cells) before after
+Fails (error.Run e) shelf (Objects bound workers cells input recursive keep_going folders) before after = RunFails e shelf (source_of (record { limit = input; recursive = recursive; keep_going = keep_going; words = map (λ s. s.now) folders.items })) (question.Objects bound (Some cells)) before after
 Fails (error.Advance e) shelf (Advance generations file) before after =
     AdvanceFromFails e shelf (file_of (option_map (λ s. s.now) file)) generations before after
-Fails (error.Draw e) shelf (Draw code rule) before after = DrawFails e code.now rule.now before after
+Fails (error.Draw e) shelf (Draw code rule) before after = DrawFails e (record { code = code.now; rule = rule.now }) before after
 Fails e shelf request before after = ⊥

@@ -13,8 +13,8 @@ use Rattle.census_folders.specs.declared.fault.FoldersFault.TheVariants as folde
 use Rattle.census_command.specs.Advances.{ReadsTooMuch}
 use Rattle.life_answer.specs.declared.question.Question.{Question}
 use Rattle.census_errors.specs.Errors.{run_error_of_folders}
-use Rattle.census_command.specs.BesideReports.{SaysOfReport}
-use Rattle.census_errors.specs.Shelves.{Tellings}
+use Rattle.census_command.specs.BesideReports.{IfExplained, SaysBesideReport}
+use Rattle.census_folders.specs.Tellings.{Tellings}
 use Rattle.census_errors.specs.Sources.{Source, Input, Folders, Trees, Kept}
 use Rattle.census_command.specs.Streams.{HasSoundStreams, IsUntouched, ReadFails, State, WriteFails, WritesNothing}
 use Rattle.census_errors.specs.declared.run_error.RunError.{RunError}
@@ -28,7 +28,7 @@ pub record ReportsInput (shelf : Tellings) (question : Question) (explain : Bool
   pub bundle : List Folder
   pub read : ReadsFolders before.unread after.unread bundle
   pub report : WritesReport before.written after.written bundle question
-  pub said : SaysOfReport shelf.listed false explain bundle lines
+  pub said : IfExplained explain (SaysBesideReport shelf.listed false bundle lines) lines
 
 -- as far as the writer took it
 pub record ReportsInputInPart (question : Question) (before after : State) : Type 0 where
@@ -55,24 +55,24 @@ pub record ReportsFolders (shelf : Tellings) (limit : Option ℕ) (words : List 
     (before after : State) : Type 0 where
   pub bundle : List Folder
   pub holds : HoldsFolders words bundle
-  pub told : HoldsShelf shelf.listed shelf.held words bundle
+  pub told : HoldsShelf shelf words bundle
   pub within : Fits limit (bytes_of_all bundle)
   pub report : WritesReport before.written after.written bundle question
-  pub said : SaysOfReport shelf.listed true explain bundle lines
+  pub said : IfExplained explain (SaysBesideReport shelf.listed true bundle lines) lines
   pub unread : after.unread ≡ before.unread
 
 -- as far as the writer took it
 pub record ReportsFoldersInPart (shelf : Tellings) (limit : Option ℕ) (words : List (List ℕ)) (question : Question) (before after : State) : Type 0 where
   pub bundle : List Folder
   pub holds : HoldsFolders words bundle
-  pub told : HoldsShelf shelf.listed shelf.held words bundle
+  pub told : HoldsShelf shelf words bundle
   pub within : Fits limit (bytes_of_all bundle)
   pub front : WritesPrefix before.written after.written bundle question
   pub unread : after.unread ≡ before.unread
 
 -- The folders of the words before some place were read, as the shelf tells; that of the word at this place was not.
 abbrev pub StopsReadingFolders : Tellings → Option ℕ → List (List ℕ) → FoldersFault → Type 0
-StopsReadingFolders shelf limit words fault = StopsAtWord words fault × StopsAtShelf shelf.listed shelf.held limit words fault
+StopsReadingFolders shelf limit words fault = StopsAtWord words fault × StopsAtShelf shelf limit words fault
 
 -- why no whole report of the folders was written
 abbrev pub FoldersFail : RunError → Tellings → Option ℕ → List (List ℕ) → Question → State → State → Type 0
@@ -90,26 +90,26 @@ FoldersFail Write shelf limit words question before after = ReportsFoldersInPart
 pub record ReportsTrees (shelf : Tellings) (limit : Option ℕ) (words : List (List ℕ)) (question : Question) (explain : Bool) (lines : List ℕ)
     (before after : State) : Type 0 where
   pub folders : List (List ℕ)
-  pub trees : HoldsTrees shelf.listed shelf.inner words folders
+  pub trees : HoldsTrees shelf words folders
   pub report : ReportsFolders shelf limit folders question explain lines before after
 
 -- as far as the writer took it
 pub record ReportsTreesInPart (shelf : Tellings) (limit : Option ℕ) (words : List (List ℕ)) (question : Question) (before after : State) : Type 0 where
   pub folders : List (List ℕ)
-  pub trees : HoldsTrees shelf.listed shelf.inner words folders
+  pub trees : HoldsTrees shelf words folders
   pub part : ReportsFoldersInPart shelf limit folders question before after
 
 -- the folders at and below those of the words are not told, for this fault
 pub record StopsWalking (shelf : Tellings) (words : List (List ℕ)) (error : RunError) (before after : State) : Type 0 where
   pub fault : FoldersFault
   pub is : error ≡ run_error_of_folders fault
-  pub why : StopsTrees shelf.listed shelf.inner words fault
+  pub why : StopsTrees shelf words fault
   pub untouched : IsUntouched before after
 
 -- they are told, and no whole report of them was written, for this error
 pub record StopsInTrees (shelf : Tellings) (limit : Option ℕ) (words : List (List ℕ)) (error : RunError) (question : Question) (before after : State) : Type 0 where
   pub folders : List (List ℕ)
-  pub trees : HoldsTrees shelf.listed shelf.inner words folders
+  pub trees : HoldsTrees shelf words folders
   pub why : FoldersFail error shelf limit folders question before after
 
 -- why no whole report of the trees was written

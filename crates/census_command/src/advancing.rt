@@ -4,7 +4,6 @@ ghost use Rattle.census_command.specs.Advances.{AdvanceFails, AdvanceFileFails, 
 ghost use Rattle.census_command.specs.Advances.{Advances, AdvancesFile, AdvancesFrom, IsAdvanced, RefusesText};
 ghost use Rattle.census_errors.specs.Errors.{advance_error_of_text};
 ghost use Rattle.census_errors.specs.Files.{file_of};
-ghost use Rattle.census_errors.specs.Shelves.{tellings};
 ghost use Rattle.census_command.specs.Streams.{HasSoundStreams};
 
 use crate::evolving::evolved;
@@ -39,7 +38,8 @@ fn refused(text: &[u8], fault: RleFault) -> AdvanceError
 fn advanced_text(alloc: Global, text: &[u8], generations: u32) -> Result<Vec<u8>, AdvanceError>
     requires { generations ≤ AGE_LIMIT }
     ensures { MatchResult result
-        (λ written. IsAdvanced text.now generations written.items)
+        (λ written. IsAdvanced
+        (record { text = text.now; generations = generations }) written.items)
         (λ error. RefusesText error text.now) }
 {
     let pattern = match read_rle(alloc, text) {
@@ -81,11 +81,11 @@ fn advance_file<S: Shelf, I: Read, O: Write>(
     requires generations { generations ≤ AGE_LIMIT }
     requires sound { HasSoundStreams streams.old }
     ensures done { OnOk result
-        (AdvancesFile (tellings (S.listed shelf.now) (S.inner shelf.now) (S.held shelf.now))
+        (AdvancesFile (S.tellings shelf.now)
         path.now generations streams.old streams.new) }
     ensures sound { OnOk result (HasSoundStreams streams.new) }
     ensures fails { IfErr result (λ e. AdvanceFileFails e
-        (tellings (S.listed shelf.now) (S.inner shelf.now) (S.held shelf.now))
+        (S.tellings shelf.now)
         path.now generations streams.old streams.new) }
 {
     let text = read_file(shelf, alloc, path.as_bytes())?;
@@ -109,11 +109,11 @@ pub fn advance<S: Shelf, I: Read, O: Write>(
     requires generations { generations ≤ AGE_LIMIT }
     requires sound { HasSoundStreams streams.old }
     ensures done { OnOk result
-        (AdvancesFrom (tellings (S.listed shelf.now) (S.inner shelf.now) (S.held shelf.now))
+        (AdvancesFrom (S.tellings shelf.now)
         (file_of (option_map (λ s. s.now) file.entry)) generations streams.old streams.new) }
     ensures sound { OnOk result (HasSoundStreams streams.new) }
     ensures fails { IfErr result (λ e. AdvanceFromFails e
-        (tellings (S.listed shelf.now) (S.inner shelf.now) (S.held shelf.now))
+        (S.tellings shelf.now)
         (file_of (option_map (λ s. s.now) file.entry)) generations streams.old streams.new) }
 {
     match file_of(file) {

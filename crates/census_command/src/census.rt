@@ -80,9 +80,12 @@ pub fn census_of<'r, 'a>(request: &'r Request<'a>) -> Option<Census<'r, 'a>>
 /// The census that is asked for, where it goes on past what can't be read: without a folder none does.
 pub fn kept_of<'r, 'a>(request: &'r Request<'a>) -> Option<Census<'r, 'a>>
     requires { IsLawful request.now }
-    ensures some { IfSome result (λ census.
-        IsKeeping request.now census.limit census.recursive (map (λ s. s.now) census.folders.now)
-        census.question) }
+    ensures some { IfSome result (λ census. IsKeeping request.now (record {
+      limit = census.limit;
+      recursive = census.recursive;
+      words = map (λ s. s.now) census.folders.now;
+      question = census.question;
+    })) }
     ensures question { IfSome result (λ census. IsAnswered census.question) }
     ensures workers { IfSome result
         (λ census. (1 ≤ census.workers) × (census.workers ≤ worker_limit)) }

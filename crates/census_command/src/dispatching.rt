@@ -4,7 +4,6 @@ ghost use Rattle.census_errors.specs.Errors.{status_of};
 ghost use Rattle.census_errors.specs.Messages.{error_line};
 ghost use Rattle.census_command.specs.Outcomes.{Answers, IsRemaking, Outcome};
 ghost use Rattle.census_command.specs.Requests.{Does, Fails, IsDone, IsLawful, MakesNothing};
-ghost use Rattle.census_errors.specs.Shelves.{tellings};
 ghost use Rattle.census_errors.specs.ErrorStreams.{TellsIf, TellsText};
 ghost use Rattle.census_command.specs.Streams.{HasSoundStreams};
 
@@ -57,11 +56,11 @@ fn execute<S: Shelf, I: Read, O: Write, G: Gate, R: Threads + Wait + Sync>(
     requires more { IsDone request.now }
     requires sound { HasSoundStreams streams.old }
     ensures done { IfOk result
-        (λ lines. Does (tellings (S.listed shelf.now) (S.inner shelf.now) (S.held shelf.now))
+        (λ lines. Does (S.tellings shelf.now)
         request.now explain lines.items streams.old streams.new) }
     ensures sound { OnOk result (HasSoundStreams streams.new) }
     ensures fails { IfErr result
-        (λ e. Fails e (tellings (S.listed shelf.now) (S.inner shelf.now) (S.held shelf.now))
+        (λ e. Fails e (S.tellings shelf.now)
         request.now streams.old streams.new) }
 {
     if let Some(census) = census_of(request) {
@@ -172,7 +171,7 @@ pub fn dispatch<S: Shelf, I: Read, O: Write, E: Write, G: Gate, R: Threads + Wai
 ) -> u8
     requires streams { HasSoundStreams streams.old }
     requires errors { errors.old.failed ≡ false }
-    ensures { Outcome (tellings (S.listed shelf.now) (S.inner shelf.now) (S.held shelf.now))
+    ensures { Outcome (S.tellings shelf.now)
         (map (λ s. s.now) words.now) result streams.old streams.new errors.old errors.new }
 {
     let asked = match read_words(alloc, &*words) {

@@ -15,8 +15,8 @@ use watched::put_all;
 // The RLE text of what a code draws under a rule.
 fn drawn_text(alloc: Global, code: &[u8], rule: &[u8]) -> Result<Vec<u8>, DrawError>
     ensures { MatchResult result
-        (λ written. IsDrawn code.now rule.now written.items)
-        (λ error. RefusesCode error code.now rule.now) }
+        (λ written. IsDrawn (record { code = code.now; rule = rule.now }) written.items)
+        (λ error. RefusesCode error (record { code = code.now; rule = rule.now })) }
 {
     let rule = Rule::parse(rule)?;
     let shape = read_wechsler(alloc, body_of(code))?;
@@ -36,9 +36,11 @@ pub fn draw<I: Read, O: Write>(
     streams: &mut Streams<I, O>,
 ) -> Result<(), DrawError>
     requires { HasSoundStreams streams.old }
-    ensures done { OnOk result (Draws code.now rule.now streams.old streams.new) }
+    ensures done { OnOk result
+        (Draws (record { code = code.now; rule = rule.now }) streams.old streams.new) }
     ensures sound { OnOk result (HasSoundStreams streams.new) }
-    ensures fails { IfErr result (λ e. DrawFails e code.now rule.now streams.old streams.new) }
+    ensures fails { IfErr result
+        (λ e. DrawFails e (record { code = code.now; rule = rule.now }) streams.old streams.new) }
 {
     let written = drawn_text(alloc, code, rule)?;
     put_all(&mut streams.output, written.as_slice())?;

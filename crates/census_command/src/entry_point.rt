@@ -4,7 +4,6 @@ ghost use Rattle.std.specs.IoError.{error_kind};
 ghost use Rattle.std.specs.Process.{exit_status};
 ghost use Rattle.std.specs.Vec.Iter.{into_iter_items};
 ghost use Rattle.census_command.specs.Outcomes.{Outcome, StopsUnread};
-ghost use Rattle.census_errors.specs.Shelves.{tellings};
 ghost use Rattle.census_command.specs.Streams.{HasSoundStreams};
 
 use crate::dispatching::{dispatch, stop};
@@ -45,7 +44,7 @@ fn dispatch_arguments<S: Shelf, I: Read, O: Write, E: Write, G: Gate, R: Threads
 ) -> u8
     requires streams { HasSoundStreams streams.old }
     requires errors { errors.old.failed ≡ false }
-    ensures { Outcome (tellings (S.listed shelf.now) (S.inner shelf.now) (S.held shelf.now))
+    ensures { Outcome (S.tellings shelf.now)
         (map (λ word. string_bytes word) (drop 1 (into_iter_items args))) result
         streams.old streams.new errors.old errors.new }
 {
@@ -75,7 +74,7 @@ pub fn program<S: Shelf, I: Read, O: Write, E: Write, G: Gate, R: Threads + Wait
     requires streams { HasSoundStreams streams.old }
     requires errors { errors.old.failed ≡ false }
     ensures { MatchResult args
-        (λ args. Outcome (tellings (S.listed shelf.now) (S.inner shelf.now) (S.held shelf.now))
+        (λ args. Outcome (S.tellings shelf.now)
         (map (λ word. string_bytes word) (drop 1 (into_iter_items args)))
         (exit_status result) streams.old streams.new errors.old errors.new)
         (λ error. StopsUnread (error_kind error) (exit_status result)

@@ -8,7 +8,6 @@ ghost use Rattle.census_errors.specs.Errors.{run_error_of_folders, run_status};
 ghost use Rattle.census_command.specs.Keeps.{IsKeptBundle, Keeps, KeepsInto, StopsKeeping, StopsKeepingIn};
 ghost use Rattle.census_command.specs.Keeps.{cut_lines, lost_line, lost_lines};
 ghost use Rattle.census_errors.specs.ErrorStreams.{TellsMoreText};
-ghost use Rattle.census_errors.specs.Shelves.{tellings};
 ghost use Rattle.census_command.specs.Streams.{HasSoundStreams};
 ghost use Rattle.census_errors.specs.declared.run_error.RunError.TheVariants.{Memory};
 ghost use Rattle.census_bundle.specs.Sizes.{worker_limit};
@@ -66,9 +65,9 @@ fn gather_folders<S: Shelf>(
     way: &[Loss],
 ) -> Result<Gathered, RunError>
     ensures { MatchResult result
-        (KeepsInto (S.listed shelf.now) (S.held shelf.now) limit (map (λ s. s.now) folders.now)
+        (KeepsInto (S.tellings shelf.now) limit (map (λ s. s.now) folders.now)
         way.now)
-        (StopsKeepingIn (S.listed shelf.now) (S.held shelf.now) limit
+        (StopsKeepingIn (S.tellings shelf.now) limit
         (map (λ s. s.now) folders.now)) }
 {
     let kept = read_folders_on(shelf, alloc, folders, limit)?;
@@ -91,10 +90,10 @@ fn gather<S: Shelf>(
 ) -> Result<Gathered, RunError>
     ensures { MatchResult result
         (λ gathered. (lost : List Loss)
-        × IsKeptBundle (tellings (S.listed shelf.now) (S.inner shelf.now) (S.held shelf.now))
+        × IsKeptBundle (S.tellings shelf.now)
         limit recursive (map (λ s. s.now) words.now) gathered.bundle lost
         × (gathered.lines.items ≡ lost_lines lost))
-        (StopsKeeping (tellings (S.listed shelf.now) (S.inner shelf.now) (S.held shelf.now))
+        (StopsKeeping (S.tellings shelf.now)
         limit recursive (map (λ s. s.now) words.now)) }
 {
     if !recursive {
@@ -169,9 +168,12 @@ pub fn keep_going<S: Shelf, I: Read, O: Write, E: Write, G: Gate, R: Threads + W
     requires workers { (1 ≤ census.workers) × (census.workers ≤ worker_limit) }
     requires sound { HasSoundStreams streams.old }
     requires errors { errors.old.failed ≡ false }
-    ensures { Keeps (tellings (S.listed shelf.now) (S.inner shelf.now) (S.held shelf.now))
-        census.entry.limit census.entry.recursive (map (λ s. s.now) census.entry.folders.now)
-        census.entry.question explain result streams.old streams.new errors.old errors.new }
+    ensures { Keeps (S.tellings shelf.now) (record {
+      limit = census.entry.limit;
+      recursive = census.entry.recursive;
+      words = map (λ s. s.now) census.entry.folders.now;
+      question = census.entry.question;
+    }) explain result streams.old streams.new errors.old errors.new }
 {
     let gathered = match gather(shelf, alloc, census.folders, census.limit, census.recursive) {
         Ok(gathered) => gathered,

@@ -34,13 +34,15 @@ fn write<S: Shelf, I: Read, O: Write>(
 ) -> Result<(), ReportsError>
     requires sound { HasSoundStreams streams.old }
     ensures done { OnOk result
-        (WritesReports form (S.held shelf.now []) (map (λ s. s.now) files.now)
+        (WritesReports form ((S.tellings shelf.now).held []) (map (λ s. s.now) files.now)
         (both_streams streams.old) (both_streams streams.new)) }
     ensures fails { IfErr result
-        (λ error. ReportsFail error form (S.held shelf.now []) (map (λ s. s.now) files.now)
+        (λ error. ReportsFail error form ((S.tellings shelf.now).held [])
+        (map (λ s. s.now) files.now)
         (both_streams streams.old) (both_streams streams.new)) }
     ensures lawful { OnOk result
-        (KeepsLaw form (S.held shelf.now []) (map (λ s. s.now) files.now) streams.old streams.new) }
+        (KeepsLaw form ((S.tellings shelf.now).held []) (map (λ s. s.now) files.now) streams.old
+        streams.new) }
 {
     let Streams { input, output } = streams;
     match form {
@@ -72,8 +74,8 @@ pub fn remake<S: Shelf, I: Read, O: Write, E: Write>(
 ) -> u8
     requires sound { HasSoundStreams streams.old }
     requires errors { errors.old.failed ≡ false }
-    ensures { Remakes (S.held shelf.now []) form (map (λ s. s.now) files.now) explain result
-        streams.old streams.new errors.old errors.new }
+    ensures { Remakes ((S.tellings shelf.now).held []) form (map (λ s. s.now) files.now) explain
+        result streams.old streams.new errors.old errors.new }
 {
     match write(shelf, alloc, form, files, streams) {
         Ok(()) => 0,

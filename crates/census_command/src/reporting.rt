@@ -4,7 +4,7 @@ ghost use Rattle.life_answer.specs.Questions.{IsAnswered};
 ghost use Rattle.watched.specs.Watching.{has_failed, inner_of};
 ghost use Rattle.census_crew.specs.Faults.{FitsFault};
 ghost use Rattle.census_crew.specs.Writing.{WritesPrefix, WritesReport};
-ghost use Rattle.census_command.specs.BesideReports.{SaysBesideReport, SaysOfReport};
+ghost use Rattle.census_command.specs.BesideReports.{IfExplained, SaysBesideReport};
 ghost use Rattle.census_bundle.specs.Sizes.{worker_limit};
 
 use census_bundle::Bundle;
@@ -28,7 +28,8 @@ fn lines_beside<S: Shelf>(
     from_folders: bool,
 ) -> Result<Vec<u8>, AllocError>
     ensures { IfOk result
-        (λ lines. SaysBesideReport (S.listed shelf.now) from_folders bundle.now lines.items) }
+        (λ lines. SaysBesideReport (S.tellings shelf.now).listed from_folders bundle.now
+        lines.items) }
 {
     let mut lines = refusal_lines(alloc, bundle)?;
     let hints = hint_lines(shelf, alloc, bundle, from_folders)?;
@@ -45,7 +46,9 @@ fn lines_of<S: Shelf>(
     explain: bool,
 ) -> Result<Vec<u8>, AllocError>
     ensures { IfOk result
-        (λ lines. SaysOfReport (S.listed shelf.now) from_folders explain bundle.now lines.items) }
+        (λ lines. IfExplained explain
+        (SaysBesideReport (S.tellings shelf.now).listed from_folders bundle.now lines.items)
+        lines.items) }
 {
     if explain {
         lines_beside(shelf, alloc, bundle, from_folders)
@@ -80,7 +83,9 @@ pub fn report<S: Shelf, G: Gate, W: Write, R: Threads + Wait + Sync>(
         (λ _. WritesPrefix (W.contents (inner_of out.old)) (W.contents (inner_of out.new))
         bundle.now question) }
     ensures lines { IfOk result
-        (λ lines. SaysOfReport (S.listed shelf.now) from_folders explain bundle.now lines.items) }
+        (λ lines. IfExplained explain
+        (SaysBesideReport (S.tellings shelf.now).listed from_folders bundle.now lines.items)
+        lines.items) }
 {
     run(rt, alloc, bundle, question, workers, gate, out)?;
     match lines_of(shelf, alloc, bundle, from_folders, explain) {

@@ -6,8 +6,7 @@ ghost use Rattle.census_crew.specs.declared.bytes.BytesFault.{BytesFault};
 ghost use Rattle.life_answer.specs.Questions.{IsAnswered};
 ghost use Rattle.census_command.specs.Runs.{FoldersFail, InputFails, ReportsFolders, ReportsInput};
 ghost use Rattle.census_command.specs.Runs.{ReportsTrees, RunFails, Runs, TreesFail};
-ghost use Rattle.census_errors.specs.Shelves.{tellings};
-ghost use Rattle.census_errors.specs.Sources.{source_of};
+ghost use Rattle.census_errors.specs.Sources.{plain_source};
 ghost use Rattle.census_command.specs.Streams.{HasSoundStreams};
 ghost use Rattle.census_bundle.specs.Sizes.{worker_limit};
 
@@ -58,7 +57,7 @@ fn run_input<S: Shelf, I: Read, O: Write, G: Gate, R: Threads + Wait + Sync>(
     requires sound { HasSoundStreams streams.old }
     ensures done { IfOk result
         (λ lines. ReportsInput
-        (tellings (S.listed shelf.now) (S.inner shelf.now) (S.held shelf.now))
+        (S.tellings shelf.now)
         census.entry.question explain lines.items streams.old streams.new) }
     ensures sound { OnOk result (HasSoundStreams streams.new) }
     ensures fails { IfErr result (λ e. InputFails e census.entry.question streams.old streams.new) }
@@ -96,12 +95,12 @@ fn run_folders<S: Shelf, I: Read, O: Write, G: Gate, R: Threads + Wait + Sync>(
     requires sound { HasSoundStreams streams.old }
     ensures done { IfOk result
         (λ lines. ReportsFolders
-        (tellings (S.listed shelf.now) (S.inner shelf.now) (S.held shelf.now))
+        (S.tellings shelf.now)
         census.entry.limit (map (λ s. s.now) census.entry.folders.now) census.entry.question
         explain lines.items streams.old streams.new) }
     ensures sound { OnOk result (HasSoundStreams streams.new) }
     ensures fails { IfErr result
-        (λ e. FoldersFail e (tellings (S.listed shelf.now) (S.inner shelf.now) (S.held shelf.now))
+        (λ e. FoldersFail e (S.tellings shelf.now)
         census.entry.limit (map (λ s. s.now) census.entry.folders.now) census.entry.question
         streams.old streams.new) }
 {
@@ -137,12 +136,12 @@ fn run_trees<S: Shelf, I: Read, O: Write, G: Gate, R: Threads + Wait + Sync>(
     requires sound { HasSoundStreams streams.old }
     ensures done { IfOk result
         (λ lines. ReportsTrees
-        (tellings (S.listed shelf.now) (S.inner shelf.now) (S.held shelf.now))
+        (S.tellings shelf.now)
         census.entry.limit (map (λ s. s.now) census.entry.folders.now) census.entry.question
         explain lines.items streams.old streams.new) }
     ensures sound { OnOk result (HasSoundStreams streams.new) }
     ensures fails { IfErr result
-        (λ e. TreesFail e (tellings (S.listed shelf.now) (S.inner shelf.now) (S.held shelf.now))
+        (λ e. TreesFail e (S.tellings shelf.now)
         census.entry.limit (map (λ s. s.now) census.entry.folders.now) census.entry.question
         streams.old streams.new) }
 {
@@ -183,14 +182,14 @@ pub fn run_command<S: Shelf, I: Read, O: Write, G: Gate, R: Threads + Wait + Syn
     requires workers { (1 ≤ census.workers) × (census.workers ≤ worker_limit) }
     requires sound { HasSoundStreams streams.old }
     ensures done { IfOk result
-        (λ lines. Runs (tellings (S.listed shelf.now) (S.inner shelf.now) (S.held shelf.now))
-        (source_of census.entry.limit census.entry.recursive false
+        (λ lines. Runs (S.tellings shelf.now)
+        (plain_source census.entry.limit census.entry.recursive
         (map (λ s. s.now) census.entry.folders.now)) census.entry.question
         explain lines.items streams.old streams.new) }
     ensures sound { OnOk result (HasSoundStreams streams.new) }
     ensures fails { IfErr result
-        (λ e. RunFails e (tellings (S.listed shelf.now) (S.inner shelf.now) (S.held shelf.now))
-        (source_of census.entry.limit census.entry.recursive false
+        (λ e. RunFails e (S.tellings shelf.now)
+        (plain_source census.entry.limit census.entry.recursive
         (map (λ s. s.now) census.entry.folders.now)) census.entry.question
         streams.old streams.new) }
 {

@@ -6,7 +6,7 @@ use Rattle.census_reports.specs.declared.error.ReportsError.TheVariants as repor
 use Rattle.census_cli.specs.declared.request.Request.{Request}
 use Rattle.census_cli.specs.declared.request.Request.TheVariants.{Run, Objects, Identify, Advance, Draw, Merge, Table, Page}
 use Rattle.census_errors.specs.Places.{IsCensusPlace, IsPlaceOf, IsReportsPlace, nowhere}
-use Rattle.census_errors.specs.Shelves.{Tellings}
+use Rattle.census_folders.specs.Tellings.{Tellings}
 use Rattle.census_errors.specs.Sources.{Source}
 use Rattle.census_errors.specs.declared.advance_error.AdvanceError.TheVariants as advance
 use Rattle.census_errors.specs.declared.error.CommandError.{CommandError}

@@ -1,5 +1,4 @@
 pub mod ErrorStreams
-pub mod Shelves
 pub mod Sources
 pub mod Errors
 pub mod Files

@@ -21,9 +21,9 @@ use Rattle.census_reports.specs.declared.error.ReportsError.{ReportsError}
 use Rattle.census_reports.specs.declared.error.ReportsError.TheVariants as reports
 use Rattle.census_cli.specs.declared.request.Request.{Request}
 use Rattle.census_cli.specs.declared.request.Request.TheVariants.{Run, Objects, Advance}
-use Rattle.census_errors.specs.Shelves.{Tellings}
+use Rattle.census_folders.specs.Tellings.{Tellings}
 use Rattle.census_errors.specs.Sources as source
-use Rattle.census_errors.specs.Sources.{Source, source_of}
+use Rattle.census_errors.specs.Sources.{Source, plain_source}
 use Rattle.census_errors.specs.declared.advance_error.AdvanceError.TheVariants as advance
 use Rattle.census_errors.specs.declared.error.CommandError.{CommandError}
 use Rattle.census_errors.specs.declared.error.CommandError.TheVariants as command
@@ -60,14 +60,14 @@ pub record IsFirst (lost : List Loss) (path : List ℕ) : Type 0 where
 -- Where a census of these folders goes on past what can't be read, it loses this first.
 pub record LosesFirst (shelf : Tellings) (limit : Option ℕ) (folders : List (List ℕ)) (path : List ℕ) : Type 0 where
   pub kept : Kept
-  pub reads : FoldsTo (KeepsFolder shelf.listed shelf.held) (kept_at_start limit) folders kept
+  pub reads : FoldsTo (KeepsFolder shelf) (kept_at_start limit) folders kept
   pub first : IsFirst kept.lost path
 
 -- the walk to the folders at and below those of these words loses this first
 pub record LosesOnTheWay (shelf : Tellings) (words : List (List ℕ)) (path : List ℕ) : Type 0 where
   pub folders : List (List ℕ)
   pub lost : List Loss
-  pub trees : KeepsTrees shelf.listed shelf.inner words folders lost
+  pub trees : KeepsTrees shelf words folders lost
   pub first : IsFirst lost path
 
 -- a folder that can't be listed, or that a walk loses first
@@ -77,7 +77,7 @@ IsUnwalked shelf words path = MayFail (shelf.listed path) ⊎ LosesOnTheWay shel
 -- what is lost first in the folders at and below those of these words
 pub record LosesInTrees (shelf : Tellings) (limit : Option ℕ) (words : List (List ℕ)) (path : List ℕ) : Type 0 where
   pub folders : List (List ℕ)
-  pub trees : HoldsTrees shelf.listed shelf.inner words folders
+  pub trees : HoldsTrees shelf words folders
   pub first : LosesFirst shelf limit folders path
 
 -- what a census of this source loses first, if it is known
@@ -102,14 +102,14 @@ pub record IsPathOf (bundle : List Folder) (ticket : Ticket) (path : List ℕ) :
 pub record IsPathInFolders (shelf : Tellings) (limit : Option ℕ) (folders : List (List ℕ)) (ticket : Ticket) (path : List ℕ) : Type 0 where
   pub bundle : List Folder
   pub holds : HoldsFolders folders bundle
-  pub told : HoldsShelf shelf.listed shelf.held folders bundle
+  pub told : HoldsShelf shelf folders bundle
   pub within : Fits limit (bytes_of_all bundle)
   pub path_is : IsPathOf bundle ticket path
 
 -- of the pattern of a ticket in the folders at and below those of these words
 pub record IsPathInTrees (shelf : Tellings) (limit : Option ℕ) (words : List (List ℕ)) (ticket : Ticket) (path : List ℕ) : Type 0 where
   pub folders : List (List ℕ)
-  pub trees : HoldsTrees shelf.listed shelf.inner words folders
+  pub trees : HoldsTrees shelf words folders
   pub path_is : IsPathInFolders shelf limit folders ticket path
 
 -- its number and that of its collection, from 1, as the lines of a report have them
@@ -147,9 +147,9 @@ kept_place error = nowhere
 -- of what is asked for
 abbrev pub IsPlaceOf : Tellings → Request → CommandError → Place → Type 0
 IsPlaceOf shelf (Run bound workers cells input recursive keep_going folders) (command.Run error) place =
-    IsCensusPlace shelf (source_of input recursive false (map (λ s. s.now) folders.items)) error place
+    IsCensusPlace shelf (plain_source input recursive (map (λ s. s.now) folders.items)) error place
 IsPlaceOf shelf (Objects bound workers cells input recursive keep_going folders) (command.Run error) place =
-    IsCensusPlace shelf (source_of input recursive false (map (λ s. s.now) folders.items)) error place
+    IsCensusPlace shelf (plain_source input recursive (map (λ s. s.now) folders.items)) error place
 IsPlaceOf shelf (Advance generations file) (command.Advance advance.Read) place = (place.path ≡ None) × (place.is_file ≡ false)
 IsPlaceOf shelf request error place = place ≡ nowhere
 

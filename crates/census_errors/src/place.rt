@@ -1,5 +1,5 @@
 //! What is known of where something stands that can't be read.
-ghost use Rattle.std.specs.Prelude.{◌≡◌};
+ghost use Rattle.std.specs.Prelude.{◌≡◌, false, None};
 ghost use Rattle.census_errors.specs.Places.{nowhere};
 
 use census_bundle::Text;
@@ -16,6 +16,17 @@ pub struct Place {
 }
 
 impl Place {
+    /// This path, if it is known, of which the system says nothing.
+    pub fn at(path: Option<Text>) -> Place
+        ensures { result ≡ record { path = path; word = None; is_file = false } }
+    {
+        Place {
+            path,
+            word: None,
+            is_file: false,
+        }
+    }
+
     /// Nothing is known.
     pub fn nowhere() -> Place
         ensures { result ≡ nowhere }

@@ -4,8 +4,7 @@ ghost use Rattle.census_folders.specs.Told.{MayFail, RefusesFile};
 ghost use Rattle.census_errors.specs.Places.{IsCensusPlace, IsFirst, IsPathInFolders, IsPathInTrees, IsPathOf, IsPlaceOf};
 ghost use Rattle.census_errors.specs.Places.{IsReportsPlace, IsUnwalked, LosesFirst, MayLose, MayTellPattern};
 ghost use Rattle.census_errors.specs.Places.{kept_place, numbers_of};
-ghost use Rattle.census_errors.specs.Shelves.{tellings};
-ghost use Rattle.census_errors.specs.Sources.{Trees, source_of};
+ghost use Rattle.census_errors.specs.Sources.{Trees, plain_source};
 
 use crate::advance_error::AdvanceError;
 use crate::borrowing::borrowed_words;
@@ -44,7 +43,7 @@ fn lost_first<S: Shelf>(
     limit: Option<u64>,
 ) -> Option<Text>
     ensures { IfSome result
-        (LosesFirst (tellings (S.listed shelf.now) (S.inner shelf.now) (S.held shelf.now))
+        (LosesFirst (S.tellings shelf.now)
         limit (map (λ s. s.now) folders.now)) }
 {
     let Ok(kept) = read_folders_on(shelf, alloc, folders, limit) else {
@@ -55,7 +54,7 @@ fn lost_first<S: Shelf>(
 
 // The first of these folders that can't be listed.
 fn first_unlisted<S: Shelf>(shelf: &S, alloc: Global, folders: &[String]) -> Option<Text>
-    ensures { IfSome result (λ path. MayFail (S.listed shelf.now path)) }
+    ensures { IfSome result (λ path. MayFail ((S.tellings shelf.now).listed path)) }
 {
     for folder in folders {
         if let Err(ReadFault::Read) = shelf.list(alloc, folder.as_str()) {
@@ -68,7 +67,7 @@ fn first_unlisted<S: Shelf>(shelf: &S, alloc: Global, folders: &[String]) -> Opt
 // The path of a folder at or below those of these words that can't be listed, or in which the folders can't be told.
 fn first_unwalked<S: Shelf>(shelf: &S, alloc: Global, words: &[&str]) -> Option<Text>
     ensures { IfSome result
-        (IsUnwalked (tellings (S.listed shelf.now) (S.inner shelf.now) (S.held shelf.now))
+        (IsUnwalked (S.tellings shelf.now)
         (map (λ s. s.now) words.now)) }
 {
     let Ok(trees) = folders_below_each_on(shelf, alloc, words) else {
@@ -87,7 +86,7 @@ fn lost_in_trees<S: Shelf>(
     words: &[&str],
     limit: Option<u64>,
 ) -> Option<Text>
-    ensures { MayLose (tellings (S.listed shelf.now) (S.inner shelf.now) (S.held shelf.now))
+    ensures { MayLose (S.tellings shelf.now)
         (Trees limit (map (λ s. s.now) words.now)) result }
 {
     let Ok(own) = folders_below_each(shelf, alloc, words) else {
@@ -107,8 +106,8 @@ fn lost_path<S: Shelf>(
     limit: Option<u64>,
     recursive: bool,
 ) -> Option<Text>
-    ensures { MayLose (tellings (S.listed shelf.now) (S.inner shelf.now) (S.held shelf.now))
-        (source_of limit recursive false (map (λ s. s.now) folders.now)) result }
+    ensures { MayLose (S.tellings shelf.now)
+        (plain_source limit recursive (map (λ s. s.now) folders.now)) result }
 {
     if folders.is_empty() {
         None
@@ -147,7 +146,7 @@ fn path_in_folders<S: Shelf>(
     ticket: Ticket,
 ) -> Option<Text>
     ensures { IfSome result
-        (IsPathInFolders (tellings (S.listed shelf.now) (S.inner shelf.now) (S.held shelf.now))
+        (IsPathInFolders (S.tellings shelf.now)
         limit (map (λ s. s.now) folders.now) ticket) }
 {
     let Ok(bundle) = read_folders(shelf, alloc, folders, limit) else {
@@ -165,7 +164,7 @@ fn path_in_trees<S: Shelf>(
     ticket: Ticket,
 ) -> Option<Text>
     ensures { IfSome result
-        (IsPathInTrees (tellings (S.listed shelf.now) (S.inner shelf.now) (S.held shelf.now))
+        (IsPathInTrees (S.tellings shelf.now)
         limit (map (λ s. s.now) words.now) ticket) }
 {
     let Ok(own) = folders_below_each(shelf, alloc, words) else {
@@ -199,8 +198,8 @@ fn pattern_path<S: Shelf>(
     recursive: bool,
     ticket: Ticket,
 ) -> Option<Text>
-    ensures { MayTellPattern (tellings (S.listed shelf.now) (S.inner shelf.now) (S.held shelf.now))
-        (source_of limit recursive false (map (λ s. s.now) folders.now)) ticket result }
+    ensures { MayTellPattern (S.tellings shelf.now)
+        (plain_source limit recursive (map (λ s. s.now) folders.now)) ticket result }
 {
     if folders.is_empty() {
         numbers_of(alloc, ticket)
@@ -254,26 +253,20 @@ fn census_place<S: Shelf>(
     recursive: bool,
     error: RunError,
 ) -> Place
-    ensures { IsCensusPlace (tellings (S.listed shelf.now) (S.inner shelf.now) (S.held shelf.now))
-        (source_of limit recursive false (map (λ s. s.now) folders.now)) error result }
+    ensures { IsCensusPlace (S.tellings shelf.now)
+        (plain_source limit recursive (map (λ s. s.now) folders.now)) error result }
 {
     match error {
         RunError::Read => {
             let path = lost_path(shelf, alloc, folders, limit, recursive);
             unread_place(shelf, alloc, folders, path)
         }
-        RunError::Folder(_) | RunError::TooLong => Place {
-            path: lost_path(shelf, alloc, folders, limit, recursive),
-            word: None,
-            is_file: false,
-        },
+        RunError::Folder(_) | RunError::TooLong => {
+            Place::at(lost_path(shelf, alloc, folders, limit, recursive))
+        }
         RunError::Memory {
             ticket: Some(ticket),
-        } => Place {
-            path: pattern_path(shelf, alloc, folders, limit, recursive, ticket),
-            word: None,
-            is_file: false,
-        },
+        } => Place::at(pattern_path(shelf, alloc, folders, limit, recursive, ticket)),
         _ => Place::nowhere(),
     }
 }
@@ -296,7 +289,7 @@ fn file_place<S: Shelf>(shelf: &S, alloc: Global, file: Option<&str>) -> Place
 // Where something stands that what is asked for can't read or refuses, as far as a second look at the shelf finds it, and
 // what the system says of it.
 fn place_of<S: Shelf>(shelf: &S, alloc: Global, request: &Request<'_>, error: CommandError) -> Place
-    ensures { IsPlaceOf (tellings (S.listed shelf.now) (S.inner shelf.now) (S.held shelf.now))
+    ensures { IsPlaceOf (S.tellings shelf.now)
         request.now error result }
 {
     match (error, request) {
@@ -331,7 +324,7 @@ pub fn place_if<S: Shelf>(
     request: &Request<'_>,
     error: CommandError,
 ) -> Place
-    ensures { IsPlaceOf (tellings (S.listed shelf.now) (S.inner shelf.now) (S.held shelf.now))
+    ensures { IsPlaceOf (S.tellings shelf.now)
         request.now error result }
 {
     if explain {
@@ -349,11 +342,7 @@ pub fn kept_place(alloc: Global, error: RunError) -> Place
     match error {
         RunError::Memory {
             ticket: Some(ticket),
-        } => Place {
-            path: numbers_of(alloc, ticket),
-            word: None,
-            is_file: false,
-        },
+        } => Place::at(numbers_of(alloc, ticket)),
         _ => Place::nowhere(),
     }
 }
@@ -365,7 +354,8 @@ fn first_unread<S: Shelf>(
     files: &[&str],
     fault: ReadFault,
 ) -> Option<Text>
-    ensures { IfSome result (λ path. RefusesFile INPUT_LIMIT (S.held shelf.now [] path) fault) }
+    ensures { IfSome result
+        (λ path. RefusesFile INPUT_LIMIT ((S.tellings shelf.now).held [] path) fault) }
 {
     for file in files {
         if is_input(file) {
@@ -382,7 +372,7 @@ fn first_unread<S: Shelf>(
 
 // The same of what is made of the reports of these files.
 fn reports_place<S: Shelf>(shelf: &S, alloc: Global, files: &[&str], error: ReportsError) -> Place
-    ensures { IsReportsPlace (S.held shelf.now []) error result }
+    ensures { IsReportsPlace ((S.tellings shelf.now).held []) error result }
 {
     match error {
         ReportsError::Read => {
@@ -397,11 +387,9 @@ fn reports_place<S: Shelf>(shelf: &S, alloc: Global, files: &[&str], error: Repo
                 is_file: false,
             }
         }
-        ReportsError::TooLong => Place {
-            path: first_unread(shelf, alloc, files, ReadFault::TooLong),
-            word: None,
-            is_file: false,
-        },
+        ReportsError::TooLong => {
+            Place::at(first_unread(shelf, alloc, files, ReadFault::TooLong))
+        }
         _ => Place::nowhere(),
     }
 }
@@ -414,7 +402,7 @@ pub fn reports_place_if<S: Shelf>(
     files: &[&str],
     error: ReportsError,
 ) -> Place
-    ensures { IsReportsPlace (S.held shelf.now []) error result }
+    ensures { IsReportsPlace ((S.tellings shelf.now).held []) error result }
 {
     if explain {
         reports_place(shelf, alloc, files, error)

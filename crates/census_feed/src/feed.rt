@@ -17,8 +17,8 @@ use std::alloc::{AllocError, Global};
 
 impl Feed {
     /// A feed of all tickets of the bundle, in rising order, and 1 to 16 hands that draw from it, one for each worker.
-    /// After the tickets stands one end mark for each hand. No hand has taken a ticket. Want of memory is an
-    /// `AllocError`, also where the deque refused a push.
+    /// After the tickets stands one end mark for each hand. No hand has taken a ticket. Where memory runs
+    /// out, or the deque refuses a push, the answer is an `AllocError`.
     pub fn fill(
         alloc: Global,
         bundle: &Bundle,

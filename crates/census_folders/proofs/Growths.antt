@@ -16,6 +16,7 @@ use Rattle.census_folders.specs.declared.fault.FoldersFault.{FoldersFault}
 use Rattle.census_folders.specs.Folders.{IsPatternFile, names_of}
 use Rattle.census_folders.specs.Shelves.{AddsFileOf, AddsFolderOf, IsChosen, StopsAtFile, StopsFile, StopsFolderOf, StopsList}
 use Rattle.census_folders.specs.Sums.{Fits, bytes_in, limit_after}
+use Rattle.census_folders.specs.Tellings.{Tellings}
 use Rattle.census_folders.specs.Told.{Told, GivesTold}
 use Rattle.census_folders.proofs.Listings.{bytes_of}
 use Rattle.census_folders.proofs.Totals.{fits_more, fits_nothing, less_more, less_nothing}
@@ -74,10 +75,10 @@ next_file held word names i name text early middle late old mid new within at is
     rw next (one_more_file held word (bytes_of (take i names)) text early middle late old mid new before more)
 
 -- all the names, after which the folder is whole
-pub last_file : (listed : List ℕ → Told) (held : List ℕ → List ℕ → Told) (word : List ℕ) (names : List (Vec ℕ Global)) (i : ℕ) (early late : Option ℕ) (old new : List Folder) (listing : List ℕ) → length names ≤ i
-    → GivesTold (listed word) listing → IsChosen listing (bytes_of names)
-    → (is_name word ≡ false → ⊥) → ((is_name word ≡ true) × (count_limit ≤ length old) → ⊥) → HoldsFiles (held word) word (bytes_of (take i names)) early late old new → AddsFolderOf listed held word early late old new
-last_file listed held word names i early late old new listing all lists chosen unlawful full before =
+pub last_file : (shelf : Tellings) (word : List ℕ) (names : List (Vec ℕ Global)) (i : ℕ) (early late : Option ℕ) (old new : List Folder) (listing : List ℕ) → length names ≤ i
+    → GivesTold (shelf.listed word) listing → IsChosen listing (bytes_of names)
+    → (is_name word ≡ false → ⊥) → ((is_name word ≡ true) × (count_limit ≤ length old) → ⊥) → HoldsFiles (shelf.held word) word (bytes_of (take i names)) early late old new → AddsFolderOf shelf word early late old new
+last_file shelf word names i early late old new listing all lists chosen unlawful full before =
     let lawful : is_name word ≡ true = true_from_ne_false (is_name word) unlawful in
     let room : count_limit ≤ length old → ⊥ = λ many. full (lawful, many) in
     let whole : names_of before.entries ≡ bytes_of names = before.named ∙ ap bytes_of (take_all i names all) in
@@ -95,10 +96,10 @@ last_file listed held word names i early late old new listing all lists chosen u
 -- # The name at which reading stops
 
 -- the files of the names before this place were added, and the file of the name at this place was not
-pub stops_at_file : (listed : List ℕ → Told) (held : List ℕ → List ℕ → Told) (word : List ℕ) (names : List (Vec ℕ Global)) (i : ℕ) (name : Vec ℕ Global) (text : List ℕ) (early late : Option ℕ) (old new : List Folder) (listing : List ℕ) (fault : FoldersFault)
-    → i < length names → name ≡ get_or names i name → text ≡ name.items → GivesTold (listed word) listing → IsChosen listing (bytes_of names)
-    → HoldsFiles (held word) word (bytes_of (take i names)) early late old new → StopsFile (held word text) late (length (last_entries new)) text fault → StopsAtFile listed held early word fault
-stops_at_file listed held word names i name text early late old new listing fault within at is lists chosen before why =
+pub stops_at_file : (shelf : Tellings) (word : List ℕ) (names : List (Vec ℕ Global)) (i : ℕ) (name : Vec ℕ Global) (text : List ℕ) (early late : Option ℕ) (old new : List Folder) (listing : List ℕ) (fault : FoldersFault)
+    → i < length names → name ≡ get_or names i name → text ≡ name.items → GivesTold (shelf.listed word) listing → IsChosen listing (bytes_of names)
+    → HoldsFiles (shelf.held word) word (bytes_of (take i names)) early late old new → StopsFile (shelf.held word text) late (length (last_entries new)) text fault → StopsAtFile shelf early word fault
+stops_at_file shelf word names i name text early late old new listing fault within at is lists chosen before why =
     let folder : Folder = record { name = word; entries = before.entries } in
     let here : last_entries new ≡ before.entries = ap last_entries before.is ∙ last_entries-push old folder in
     let count : length (last_entries new) ≡ i = omega (arith, ap length here, ap length before.named, length-map before.entries (λ e. e.name), length-map (take i names) (λ n. n.items), length-take i names) in
@@ -117,13 +118,13 @@ stops_at_file listed held word names i name text early late old new listing faul
       texts = before.texts;
       fits = before.fits;
       few = omega (arith, before.few, ap length here, count);
-      why = subst (λ l. StopsFile (held word text) l i text fault) before.left (subst (λ n. StopsFile (held word text) late n text fault) count why);
+      why = subst (λ l. StopsFile (shelf.held word text) l i text fault) before.left (subst (λ n. StopsFile (shelf.held word text) late n text fault) count why);
     }
 
 -- why the folder of a lawful word is not read, for which there is room
-pub stops_folder : (listed : List ℕ → Told) (held : List ℕ → List ℕ → Told) (left : Option ℕ) (count : ℕ) (word : List ℕ) (fault : FoldersFault) → (is_name word ≡ false → ⊥) → ((is_name word ≡ true) × (count_limit ≤ count) → ⊥)
-    → StopsList (listed word) fault ⊎ StopsAtFile listed held left word fault → StopsFolderOf listed held left count word fault
-stops_folder listed held left count word fault unlawful full why =
+pub stops_folder : (shelf : Tellings) (left : Option ℕ) (count : ℕ) (word : List ℕ) (fault : FoldersFault) → (is_name word ≡ false → ⊥) → ((is_name word ≡ true) × (count_limit ≤ count) → ⊥)
+    → StopsList (shelf.listed word) fault ⊎ StopsAtFile shelf left word fault → StopsFolderOf shelf left count word fault
+stops_folder shelf left count word fault unlawful full why =
     let lawful : is_name word ≡ true = true_from_ne_false (is_name word) unlawful in
     let below : count < count_limit = (let open_ : count_limit ≤ count → ⊥ = λ many. full (lawful, many) in omega arith) in
     let room : nat_le count_limit count ≡ false = lt-leb count_limit count below in

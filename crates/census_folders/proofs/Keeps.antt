@@ -13,6 +13,7 @@ use Rattle.census_folders.specs.declared.fault.FoldersFault.{FoldersFault}
 use Rattle.census_folders.specs.declared.keeping.Kept.{Kept}
 use Rattle.census_folders.specs.Losses.{AddsEntry, KeepsFile, KeepsFiles, KeepsFolder, StopsInFolder, StopsKeepingAt, StopsKeepingFile, StopsKeepingFolder, left_out, kept_at_start, with_empty, with_file_text}
 use Rattle.census_folders.specs.Shelves.{IsChosen}
+use Rattle.census_folders.specs.Tellings.{Tellings}
 use Rattle.census_folders.specs.Told.{Told, GivesTold}
 use Rattle.census_folders.specs.Walks.{path_of}
 use Rattle.census_folders.proofs.Listings.{bytes_of}
@@ -47,10 +48,10 @@ next_kept held word names i name text start mid new within at is before more =
     let next : bytes_of (take (i + 1) names) ≡ bytes_of (take i names) ++ text ∷ [] = map_more (λ n. n.items) names i name within ∙ ap (λ t. bytes_of (take i names) ++ t ∷ []) (sym (is ∙ ap (λ n. n.items) at)) in
     rw next (FoldsTo-push (λ k n l. KeepsFile (held n) word n k l) start (bytes_of (take i names)) mid text new before more)
 
-pub stops_in_folder : (listed : List ℕ → Told) (held : List ℕ → List ℕ → Told) (word : List ℕ) (names : List (Vec ℕ Global)) (i : ℕ) (name : Vec ℕ Global) (text listing : List ℕ) (old mid : Kept) (fault : FoldersFault)
-    → i < length names → name ≡ get_or names i name → text ≡ name.items → GivesTold (listed word) listing → IsChosen listing (bytes_of names)
-    → KeepsFiles (held word) word (with_empty word old) (bytes_of (take i names)) mid → StopsKeepingFile text mid fault → StopsInFolder listed held word old fault
-stops_in_folder listed held word names i name text listing old mid fault within at is lists chosen before why =
+pub stops_in_folder : (shelf : Tellings) (word : List ℕ) (names : List (Vec ℕ Global)) (i : ℕ) (name : Vec ℕ Global) (text listing : List ℕ) (old mid : Kept) (fault : FoldersFault)
+    → i < length names → name ≡ get_or names i name → text ≡ name.items → GivesTold (shelf.listed word) listing → IsChosen listing (bytes_of names)
+    → KeepsFiles (shelf.held word) word (with_empty word old) (bytes_of (take i names)) mid → StopsKeepingFile text mid fault → StopsInFolder shelf word old fault
+stops_in_folder shelf word names i name text listing old mid fault within at is lists chosen before why =
     let item : get_or (bytes_of names) i text ≡ text = get_or-map (λ n. n.items) names i name text within ∙ sym (is ∙ ap (λ n. n.items) at) in
     record {
       listing = listing;
@@ -67,14 +68,14 @@ stops_in_folder listed held word names i name text listing old mid fault within 
 
 -- # Folders
 
-pub next_folder : (listed : List ℕ → Told) (held : List ℕ → List ℕ → Told) (words : List (Bor (List ℕ))) (i : ℕ) (d : Bor (List ℕ)) (start mid new : Kept) → i < length words
-    → FoldsTo (KeepsFolder listed held) start (words_of (take i words)) mid → KeepsFolder listed held mid (get_or words i d).now new → FoldsTo (KeepsFolder listed held) start (words_of (take (i + 1) words)) new
-next_folder listed held words i d start mid new within before more =
-    rw (map_more (λ s. s.now) words i d within) (FoldsTo-push (KeepsFolder listed held) start (words_of (take i words)) mid (get_or words i d).now new before more)
+pub next_folder : (shelf : Tellings) (words : List (Bor (List ℕ))) (i : ℕ) (d : Bor (List ℕ)) (start mid new : Kept) → i < length words
+    → FoldsTo (KeepsFolder shelf) start (words_of (take i words)) mid → KeepsFolder shelf mid (get_or words i d).now new → FoldsTo (KeepsFolder shelf) start (words_of (take (i + 1) words)) new
+next_folder shelf words i d start mid new within before more =
+    rw (map_more (λ s. s.now) words i d within) (FoldsTo-push (KeepsFolder shelf) start (words_of (take i words)) mid (get_or words i d).now new before more)
 
-pub stops_keeping : (listed : List ℕ → Told) (held : List ℕ → List ℕ → Told) (limit : Option ℕ) (words : List (Bor (List ℕ))) (i : ℕ) (d : Bor (List ℕ)) (mid : Kept) (fault : FoldersFault) → i < length words
-    → FoldsTo (KeepsFolder listed held) (kept_at_start limit) (words_of (take i words)) mid → StopsKeepingFolder listed held (get_or words i d).now mid fault → StopsKeepingAt listed held limit (words_of words) fault
-stops_keeping listed held limit words i d mid fault within before why =
+pub stops_keeping : (shelf : Tellings) (limit : Option ℕ) (words : List (Bor (List ℕ))) (i : ℕ) (d : Bor (List ℕ)) (mid : Kept) (fault : FoldersFault) → i < length words
+    → FoldsTo (KeepsFolder shelf) (kept_at_start limit) (words_of (take i words)) mid → StopsKeepingFolder shelf (get_or words i d).now mid fault → StopsKeepingAt shelf limit (words_of words) fault
+stops_keeping shelf limit words i d mid fault within before why =
     let word = (get_or words i d).now in
     record {
       place = i;

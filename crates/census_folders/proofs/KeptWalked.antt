@@ -7,23 +7,23 @@ use Rattle.std.proofs.lemmas.List.Elements.{All-nil, All-push, filter-append}
 use Rattle.census_folders.specs.declared.loss.Loss.{Loss}
 use Rattle.census_folders.specs.Folders.{AreInOrder}
 use Rattle.census_folders.specs.KeptWalks.{AddsKeptVisit, IsKeptVisit, KeptVisit, LosesTree, kept_below, kept_paths, kept_visits, lost_below, lost_in, was_taken}
-use Rattle.census_folders.specs.Told.{Told}
+use Rattle.census_folders.specs.Tellings.{Tellings}
 
 -- So many folders of those that were found were walked. Those of them that are taken were chosen. What was lost in them
 -- comes after what was lost before.
-pub record KeptWalked (listed inner : List ℕ → Told) (word : List ℕ) (found chosen : List (List ℕ)) (before after : List Loss) (count : ℕ) : Type 0 where
+pub record KeptWalked (shelf : Tellings) (word : List ℕ) (found chosen : List (List ℕ)) (before after : List Loss) (count : ℕ) : Type 0 where
   pub visits : List KeptVisit
-  pub told : All (IsKeptVisit listed inner) visits
+  pub told : All (IsKeptVisit shelf) visits
   pub found_are : found ≡ word ∷ kept_below visits
   pub order : kept_visits visits ≡ take count found
   pub within : count ≤ length found
   pub chosen_are : chosen ≡ kept_visits (filter was_taken visits)
   pub lost_are : after ≡ before ++ lost_below visits
 
-pub none_kept : (listed inner : List ℕ → Told) (word : List ℕ) (found : List (List ℕ)) (lost : List Loss) → found ≡ word ∷ [] → KeptWalked listed inner word found [] lost lost 0
-none_kept listed inner word found lost is = record {
+pub none_kept : (shelf : Tellings) (word : List ℕ) (found : List (List ℕ)) (lost : List Loss) → found ≡ word ∷ [] → KeptWalked shelf word found [] lost lost 0
+none_kept shelf word found lost is = record {
   visits = [];
-  told = All-nil (IsKeptVisit listed inner);
+  told = All-nil (IsKeptVisit shelf);
   found_are = is;
   order = refl;
   within = omega arith;
@@ -32,10 +32,10 @@ none_kept listed inner word found lost is = record {
 }
 
 -- what one more folder does to those that were found
-more_kept : (listed inner : List ℕ → Told) (word path : List ℕ) (found more chosen : List (List ℕ)) (start lost later : List Loss) (count : ℕ) (taken : Bool) → count < length found → path ≡ get_or found count path
-    → KeptWalked listed inner word found chosen start lost count → AddsKeptVisit listed inner path found more lost later taken → (more_chosen : List (List ℕ))
-    → ((v : KeptVisit) → v.path ≡ path → was_taken v ≡ taken → more_chosen ≡ chosen ++ kept_visits (filter was_taken (v ∷ []))) → KeptWalked listed inner word more more_chosen start later (count + 1)
-more_kept listed inner word path found more chosen start lost later count taken within at before adds more_chosen choose =
+more_kept : (shelf : Tellings) (word path : List ℕ) (found more chosen : List (List ℕ)) (start lost later : List Loss) (count : ℕ) (taken : Bool) → count < length found → path ≡ get_or found count path
+    → KeptWalked shelf word found chosen start lost count → AddsKeptVisit shelf path found more lost later taken → (more_chosen : List (List ℕ))
+    → ((v : KeptVisit) → v.path ≡ path → was_taken v ≡ taken → more_chosen ≡ chosen ++ kept_visits (filter was_taken (v ∷ []))) → KeptWalked shelf word more more_chosen start later (count + 1)
+more_kept shelf word path found more chosen start lost later count taken within at before adds more_chosen choose =
     let v = adds.visit in
     let visits = before.visits in
     let names = kept_paths v.path v.inner in
@@ -44,7 +44,7 @@ more_kept listed inner word path found more chosen start lost later count taken 
     let next : take (count + 1) found ≡ take count found ++ path ∷ [] = take_more found count path within ∙ ap (λ p. take count found ++ p ∷ []) (sym at) in
     record {
       visits = visits ++ v ∷ [];
-      told = All-push (IsKeptVisit listed inner) visits v before.told adds.told;
+      told = All-push (IsKeptVisit shelf) visits v before.told adds.told;
       found_are = adds.added ∙ ap (λ ns. ns ++ names) before.found_are ∙ flat_map_more (λ w. kept_paths w.path w.inner) (word ∷ []) visits v;
       order = map-append (λ w. w.path) visits (v ∷ []) ∙ cc (before.order, adds.at, first, next);
       within = omega arith;
@@ -59,19 +59,19 @@ choose_it path chosen taken true_ v at is = rw (is, true_) (ap (λ p. chosen ++ 
 pass_it : (path : List ℕ) (chosen : List (List ℕ)) (taken : Bool) → taken ≡ false → (v : KeptVisit) → v.path ≡ path → was_taken v ≡ taken → chosen ≡ chosen ++ kept_visits (filter was_taken (v ∷ []))
 pass_it path chosen taken false_ v at is = rw (is, false_) (sym (append-nil chosen))
 
-pub one_more_taken : (listed inner : List ℕ → Told) (word path : List ℕ) (found more chosen : List (List ℕ)) (start lost later : List Loss) (count : ℕ) (taken : Bool) → taken ≡ true → count < length found → path ≡ get_or found count path
-    → KeptWalked listed inner word found chosen start lost count → AddsKeptVisit listed inner path found more lost later taken → KeptWalked listed inner word more (chosen ++ path ∷ []) start later (count + 1)
-one_more_taken listed inner word path found more chosen start lost later count taken true_ within at before adds =
-    more_kept listed inner word path found more chosen start lost later count taken within at before adds (chosen ++ path ∷ []) (choose_it path chosen taken true_)
+pub one_more_taken : (shelf : Tellings) (word path : List ℕ) (found more chosen : List (List ℕ)) (start lost later : List Loss) (count : ℕ) (taken : Bool) → taken ≡ true → count < length found → path ≡ get_or found count path
+    → KeptWalked shelf word found chosen start lost count → AddsKeptVisit shelf path found more lost later taken → KeptWalked shelf word more (chosen ++ path ∷ []) start later (count + 1)
+one_more_taken shelf word path found more chosen start lost later count taken true_ within at before adds =
+    more_kept shelf word path found more chosen start lost later count taken within at before adds (chosen ++ path ∷ []) (choose_it path chosen taken true_)
 
-pub one_more_left : (listed inner : List ℕ → Told) (word path : List ℕ) (found more chosen : List (List ℕ)) (start lost later : List Loss) (count : ℕ) (taken : Bool) → taken ≡ false → count < length found → path ≡ get_or found count path
-    → KeptWalked listed inner word found chosen start lost count → AddsKeptVisit listed inner path found more lost later taken → KeptWalked listed inner word more chosen start later (count + 1)
-one_more_left listed inner word path found more chosen start lost later count taken false_ within at before adds =
-    more_kept listed inner word path found more chosen start lost later count taken within at before adds chosen (pass_it path chosen taken false_)
+pub one_more_left : (shelf : Tellings) (word path : List ℕ) (found more chosen : List (List ℕ)) (start lost later : List Loss) (count : ℕ) (taken : Bool) → taken ≡ false → count < length found → path ≡ get_or found count path
+    → KeptWalked shelf word found chosen start lost count → AddsKeptVisit shelf path found more lost later taken → KeptWalked shelf word more chosen start later (count + 1)
+one_more_left shelf word path found more chosen start lost later count taken false_ within at before adds =
+    more_kept shelf word path found more chosen start lost later count taken within at before adds chosen (pass_it path chosen taken false_)
 
-pub whole_kept : (listed inner : List ℕ → Told) (word : List ℕ) (found chosen sorted : List (List ℕ)) (start lost : List Loss) (count : ℕ) → length found ≤ count → KeptWalked listed inner word found chosen start lost count
-    → IsPermutation chosen sorted → AreInOrder sorted → LosesTree listed inner word sorted start lost
-whole_kept listed inner word found chosen sorted start lost count all walked moved order = record {
+pub whole_kept : (shelf : Tellings) (word : List ℕ) (found chosen sorted : List (List ℕ)) (start lost : List Loss) (count : ℕ) → length found ≤ count → KeptWalked shelf word found chosen start lost count
+    → IsPermutation chosen sorted → AreInOrder sorted → LosesTree shelf word sorted start lost
+whole_kept shelf word found chosen sorted start lost count all walked moved order = record {
   lost = lost_below walked.visits;
   holds = record {
     visits = walked.visits;

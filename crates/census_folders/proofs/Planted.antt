@@ -4,19 +4,19 @@ use Rattle.std.proofs.lemmas.Fn.{FoldsTo-push}
 use Rattle.std.proofs.lemmas.List.{get_or-map, length-map, map_more, take-map}
 use Rattle.std.proofs.lemmas.Option.{slice_get-get_or}
 use Rattle.census_folders.specs.declared.fault.FoldersFault.{FoldersFault}
-use Rattle.census_folders.specs.Told.{Told}
+use Rattle.census_folders.specs.Tellings.{Tellings}
 use Rattle.census_folders.specs.Trees.{AddsTree, HoldsTrees, StopsTrees}
 use Rattle.census_folders.specs.Walks.{HoldsTree, StopsWalk}
 use Rattle.census_folders.proofs.Stops.{words_of}
 
-pub next_tree : (listed inner : List ℕ → Told) (words : List (Bor (List ℕ))) (i : ℕ) (d : Bor (List ℕ)) (mid tree new : List (List ℕ)) → i < length words
-    → HoldsTrees listed inner (words_of (take i words)) mid → HoldsTree listed inner (get_or words i d).now tree → new ≡ mid ++ tree → HoldsTrees listed inner (words_of (take (i + 1) words)) new
-next_tree listed inner words i d mid tree new within before holds added =
-    rw (map_more (λ s. s.now) words i d within) (FoldsTo-push (AddsTree listed inner) [] (words_of (take i words)) mid (get_or words i d).now new before (record { tree = tree; holds = holds; added = added }))
+pub next_tree : (shelf : Tellings) (words : List (Bor (List ℕ))) (i : ℕ) (d : Bor (List ℕ)) (mid tree new : List (List ℕ)) → i < length words
+    → HoldsTrees shelf (words_of (take i words)) mid → HoldsTree shelf (get_or words i d).now tree → new ≡ mid ++ tree → HoldsTrees shelf (words_of (take (i + 1) words)) new
+next_tree shelf words i d mid tree new within before holds added =
+    rw (map_more (λ s. s.now) words i d within) (FoldsTo-push (AddsTree shelf) [] (words_of (take i words)) mid (get_or words i d).now new before (record { tree = tree; holds = holds; added = added }))
 
-pub stops_at_tree : (listed inner : List ℕ → Told) (words : List (Bor (List ℕ))) (i : ℕ) (d : Bor (List ℕ)) (mid : List (List ℕ)) (fault : FoldersFault) → i < length words
-    → HoldsTrees listed inner (words_of (take i words)) mid → StopsWalk listed inner (get_or words i d).now fault → StopsTrees listed inner (words_of words) fault
-stops_at_tree listed inner words i d mid fault within before why =
+pub stops_at_tree : (shelf : Tellings) (words : List (Bor (List ℕ))) (i : ℕ) (d : Bor (List ℕ)) (mid : List (List ℕ)) (fault : FoldersFault) → i < length words
+    → HoldsTrees shelf (words_of (take i words)) mid → StopsWalk shelf (get_or words i d).now fault → StopsTrees shelf (words_of words) fault
+stops_at_tree shelf words i d mid fault within before why =
     let word = (get_or words i d).now in
     inr (record {
       place = i;

@@ -10,17 +10,18 @@ use Rattle.census_folders.specs.declared.fault.FoldersFault.{FoldersFault}
 use Rattle.census_folders.specs.declared.fault.FoldersFault.TheVariants.{Add, Read, TooLong, Memory}
 use Rattle.census_folders.specs.Folders.{AreInOrder}
 use Rattle.census_folders.specs.Shelves.{IsChosen, pattern_names_in}
-use Rattle.census_folders.specs.Told.{Told, GivesTold}
+use Rattle.census_folders.specs.Tellings.{Tellings}
+use Rattle.census_folders.specs.Told.{GivesTold}
 use Rattle.census_folders.specs.Walks.{AddsVisit, HoldsTree, IsVisit, StopsNames, StopsVisit, StopsWalk, Visit, paths_below, has_patterns, is_any, names_in, paths, paths_in}
 
 -- # One folder
 
 -- a folder is not walked for the sake of a name in it
-pub stops_visit : (listed inner : Told) (names : List ℕ) (fault : FoldersFault) → GivesTold inner names → StopsNames (names_in names) fault → StopsVisit listed inner fault
-stops_visit listed inner names (Add fault) told why = why
-stops_visit listed inner names Read told why = inr (inr (record { inner = names; holds = told; foreign = why }))
-stops_visit listed inner names TooLong told why = why
-stops_visit listed inner names Memory told why = why
+pub stops_visit : (shelf : Tellings) (path names : List ℕ) (fault : FoldersFault) → GivesTold (shelf.inner path) names → StopsNames (names_in names) fault → StopsVisit shelf path fault
+stops_visit shelf path names (Add fault) told why = why
+stops_visit shelf path names Read told why = inr (inr (record { inner = names; holds = told; foreign = why }))
+stops_visit shelf path names TooLong told why = why
+stops_visit shelf path names Memory told why = why
 
 -- some name was chosen where some name is there
 pub any_chosen : (listing : List ℕ) (names : List (List ℕ)) (count : ℕ) → IsChosen listing names → count ≡ length names → nat_le 1 count ≡ is_any (pattern_names_in listing)
@@ -34,19 +35,19 @@ below-push [] v = append-nil (paths_in v.path v.inner)
 below-push (w ∷ visits) v = ap (λ names. paths_in w.path w.inner ++ names) (below-push visits v) ∙ sym (append_assoc (paths_in w.path w.inner) (paths_below visits) (paths_in v.path v.inner))
 
 -- So many folders of those that were found were walked. Those of them that have patterns were chosen.
-pub record Walked (listed inner : List ℕ → Told) (word : List ℕ) (found chosen : List (List ℕ)) (count : ℕ) : Type 0 where
+pub record Walked (shelf : Tellings) (word : List ℕ) (found chosen : List (List ℕ)) (count : ℕ) : Type 0 where
   pub visits : List Visit
-  pub told : All (IsVisit listed inner) visits
+  pub told : All (IsVisit shelf) visits
   pub found_are : found ≡ word ∷ paths_below visits
   pub order : paths visits ≡ take count found
   pub within : count ≤ length found
   pub chosen_are : chosen ≡ paths (filter has_patterns visits)
 
-pub none_walked : (listed inner : List ℕ → Told) (word : List ℕ) (found : List (List ℕ)) → found ≡ word ∷ [] → Walked listed inner word found [] 0
+pub none_walked : (shelf : Tellings) (word : List ℕ) (found : List (List ℕ)) → found ≡ word ∷ [] → Walked shelf word found [] 0
 unfolding paths_below
-none_walked listed inner word found is = record {
+none_walked shelf word found is = record {
   visits = [];
-  told = All-nil (IsVisit listed inner);
+  told = All-nil (IsVisit shelf);
   found_are = is;
   order = refl;
   within = omega arith;
@@ -54,15 +55,15 @@ none_walked listed inner word found is = record {
 }
 
 -- so many folders were walked
-count_walked : (listed inner : List ℕ → Told) (word : List ℕ) (found chosen : List (List ℕ)) (count : ℕ) (w : Walked listed inner word found chosen count) → length w.visits ≡ count
-count_walked listed inner word found chosen count w =
+count_walked : (shelf : Tellings) (word : List ℕ) (found chosen : List (List ℕ)) (count : ℕ) (w : Walked shelf word found chosen count) → length w.visits ≡ count
+count_walked shelf word found chosen count w =
     omega (arith, length-map w.visits (λ v. v.path), ap length w.order, length-take count found, w.within)
 
 -- what one more folder does to those that were found
-more_found : (listed inner : List ℕ → Told) (word path : List ℕ) (found more chosen : List (List ℕ)) (count : ℕ) (has : Bool) → count < length found → path ≡ get_or found count path
-    → Walked listed inner word found chosen count → AddsVisit listed inner path found more has → (more_chosen : List (List ℕ)) → ((v : Visit) → v.path ≡ path → has_patterns v ≡ has → more_chosen ≡ chosen ++ paths (filter has_patterns (v ∷ [])))
-    → Walked listed inner word more more_chosen (count + 1)
-more_found listed inner word path found more chosen count has within at before adds more_chosen choose =
+more_found : (shelf : Tellings) (word path : List ℕ) (found more chosen : List (List ℕ)) (count : ℕ) (has : Bool) → count < length found → path ≡ get_or found count path
+    → Walked shelf word found chosen count → AddsVisit shelf path found more has → (more_chosen : List (List ℕ)) → ((v : Visit) → v.path ≡ path → has_patterns v ≡ has → more_chosen ≡ chosen ++ paths (filter has_patterns (v ∷ [])))
+    → Walked shelf word more more_chosen (count + 1)
+more_found shelf word path found more chosen count has within at before adds more_chosen choose =
     let v = adds.visit in
     let visits = before.visits in
     let longer : length more ≡ length found + length (paths_in v.path v.inner) = ap length adds.added ∙ length-append found (paths_in v.path v.inner) in
@@ -70,7 +71,7 @@ more_found listed inner word path found more chosen count has within at before a
     let next : take (count + 1) found ≡ take count found ++ path ∷ [] = take_more found count path within ∙ ap (λ p. take count found ++ p ∷ []) (sym at) in
     record {
       visits = visits ++ v ∷ [];
-      told = All-push (IsVisit listed inner) visits v before.told adds.told;
+      told = All-push (IsVisit shelf) visits v before.told adds.told;
       found_are = adds.added ∙ ap (λ names. names ++ paths_in v.path v.inner) before.found_are ∙ ap (λ names. word ∷ names) (sym (below-push visits v));
       order = map-append (λ w. w.path) visits (v ∷ []) ∙ cc (before.order, adds.at, first, next);
       within = omega arith;
@@ -84,23 +85,23 @@ choose_it path chosen has true_ v at is = rw (is, true_) (ap (λ p. chosen ++ p 
 pass_it : (path : List ℕ) (chosen : List (List ℕ)) (has : Bool) → has ≡ false → (v : Visit) → v.path ≡ path → has_patterns v ≡ has → chosen ≡ chosen ++ paths (filter has_patterns (v ∷ []))
 pass_it path chosen has false_ v at is = rw (is, false_) (sym (append-nil chosen))
 
-pub one_more_chosen : (listed inner : List ℕ → Told) (word path : List ℕ) (found more chosen : List (List ℕ)) (count : ℕ) (has : Bool) → has ≡ true → count < length found → path ≡ get_or found count path
-    → Walked listed inner word found chosen count → AddsVisit listed inner path found more has → Walked listed inner word more (chosen ++ path ∷ []) (count + 1)
-one_more_chosen listed inner word path found more chosen count has true_ within at before adds =
-    more_found listed inner word path found more chosen count has within at before adds (chosen ++ path ∷ []) (choose_it path chosen has true_)
+pub one_more_chosen : (shelf : Tellings) (word path : List ℕ) (found more chosen : List (List ℕ)) (count : ℕ) (has : Bool) → has ≡ true → count < length found → path ≡ get_or found count path
+    → Walked shelf word found chosen count → AddsVisit shelf path found more has → Walked shelf word more (chosen ++ path ∷ []) (count + 1)
+one_more_chosen shelf word path found more chosen count has true_ within at before adds =
+    more_found shelf word path found more chosen count has within at before adds (chosen ++ path ∷ []) (choose_it path chosen has true_)
 
-pub one_more_passed : (listed inner : List ℕ → Told) (word path : List ℕ) (found more chosen : List (List ℕ)) (count : ℕ) (has : Bool) → has ≡ false → count < length found → path ≡ get_or found count path
-    → Walked listed inner word found chosen count → AddsVisit listed inner path found more has → Walked listed inner word more chosen (count + 1)
-one_more_passed listed inner word path found more chosen count has false_ within at before adds =
-    more_found listed inner word path found more chosen count has within at before adds chosen (pass_it path chosen has false_)
+pub one_more_passed : (shelf : Tellings) (word path : List ℕ) (found more chosen : List (List ℕ)) (count : ℕ) (has : Bool) → has ≡ false → count < length found → path ≡ get_or found count path
+    → Walked shelf word found chosen count → AddsVisit shelf path found more has → Walked shelf word more chosen (count + 1)
+one_more_passed shelf word path found more chosen count has false_ within at before adds =
+    more_found shelf word path found more chosen count has within at before adds chosen (pass_it path chosen has false_)
 
 -- # The end
 
 -- the folder at which walking stops
-pub stops_walk : (listed inner : List ℕ → Told) (word path : List ℕ) (found chosen : List (List ℕ)) (count : ℕ) (fault : FoldersFault) → count < length found → path ≡ get_or found count path
-    → Walked listed inner word found chosen count → StopsVisit (listed path) (inner path) fault → StopsWalk listed inner word fault
-stops_walk listed inner word path found chosen count fault within at before why =
-    let here = count_walked listed inner word found chosen count before in
+pub stops_walk : (shelf : Tellings) (word path : List ℕ) (found chosen : List (List ℕ)) (count : ℕ) (fault : FoldersFault) → count < length found → path ≡ get_or found count path
+    → Walked shelf word found chosen count → StopsVisit shelf path fault → StopsWalk shelf word fault
+stops_walk shelf word path found chosen count fault within at before why =
+    let here = count_walked shelf word found chosen count before in
     inr (record {
       visits = before.visits;
       walk = record { told = before.told; order = before.order ∙ cc (before.found_are, here) };
@@ -109,9 +110,9 @@ stops_walk listed inner word path found chosen count fault within at before why 
       why = why;
     })
 
-pub whole_tree : (listed inner : List ℕ → Told) (word : List ℕ) (found chosen sorted : List (List ℕ)) (count : ℕ) → length found ≤ count → Walked listed inner word found chosen count
-    → IsPermutation chosen sorted → AreInOrder sorted → HoldsTree listed inner word sorted
-whole_tree listed inner word found chosen sorted count all walked moved order = record {
+pub whole_tree : (shelf : Tellings) (word : List ℕ) (found chosen sorted : List (List ℕ)) (count : ℕ) → length found ≤ count → Walked shelf word found chosen count
+    → IsPermutation chosen sorted → AreInOrder sorted → HoldsTree shelf word sorted
+whole_tree shelf word found chosen sorted count all walked moved order = record {
   visits = walked.visits;
   told = walked.told;
   whole = walked.order ∙ take_all count found all ∙ walked.found_are;

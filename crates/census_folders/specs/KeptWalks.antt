@@ -6,6 +6,7 @@ use Rattle.std.specs.Str.{is_utf8}
 use Rattle.census_folders.specs.declared.loss.Loss.{Loss}
 use Rattle.census_folders.specs.Folders.{AreInOrder}
 use Rattle.census_folders.specs.Shelves.{pattern_names_in}
+use Rattle.census_folders.specs.Tellings.{Tellings}
 use Rattle.census_folders.specs.Told.{Told, GivesTold, MayFail}
 use Rattle.census_folders.specs.Walks.{is_any, names_in, path_of}
 
@@ -55,9 +56,9 @@ lost_in (Some listing) path None = lost_at path ∷ []
 lost_in None path None = []
 
 -- the folder lists this and has these folders in it, as the shelf tells
-pub record IsKeptVisit (listed inner : List ℕ → Told) (v : KeptVisit) : Type 0 where
-  pub lists : KeepsListing (listed v.path) v.listing
-  pub holds : KeepsListing (inner v.path) v.inner
+pub record IsKeptVisit (shelf : Tellings) (v : KeptVisit) : Type 0 where
+  pub lists : KeepsListing (shelf.listed v.path) v.listing
+  pub holds : KeepsListing (shelf.inner v.path) v.inner
 
 -- # Several folders
 
@@ -74,9 +75,9 @@ lost_below visits = flat_map (λ v. lost_in v.listing v.path v.inner) visits
 
 -- The folder of the word, and each folder that is told in one that was walked, was walked. The folders are exactly those
 -- of them that can't be listed or that list a name that ends in `.rle`, in the order of their paths' bytes. This was lost.
-pub record KeepsTree (listed inner : List ℕ → Told) (word : List ℕ) (folders : List (List ℕ)) (lost : List Loss) : Type 0 where
+pub record KeepsTree (shelf : Tellings) (word : List ℕ) (folders : List (List ℕ)) (lost : List Loss) : Type 0 where
   pub visits : List KeptVisit
-  pub told : All (IsKeptVisit listed inner) visits
+  pub told : All (IsKeptVisit shelf) visits
   pub whole : kept_visits visits ≡ word ∷ kept_below visits
   pub same : IsPermutation (kept_visits (filter was_taken visits)) folders
   pub order : AreInOrder folders
@@ -85,16 +86,16 @@ pub record KeepsTree (listed inner : List ℕ → Told) (word : List ℕ) (folde
 -- # Growing
 
 -- the folder was walked: its folders come after those that were found, and what was lost in it after what was lost before
-pub record AddsKeptVisit (listed inner : List ℕ → Told) (path : List ℕ) (old new : List (List ℕ)) (before after : List Loss) (taken : Bool) : Type 0 where
+pub record AddsKeptVisit (shelf : Tellings) (path : List ℕ) (old new : List (List ℕ)) (before after : List Loss) (taken : Bool) : Type 0 where
   pub visit : KeptVisit
   pub at : visit.path ≡ path
-  pub told : IsKeptVisit listed inner visit
+  pub told : IsKeptVisit shelf visit
   pub added : new ≡ old ++ kept_paths visit.path visit.inner
   pub losses : after ≡ before ++ lost_in visit.listing visit.path visit.inner
   pub has : taken ≡ is_taken visit.listing
 
 -- what was lost on the way to these folders comes after what was lost before
-pub record LosesTree (listed inner : List ℕ → Told) (word : List ℕ) (folders : List (List ℕ)) (before after : List Loss) : Type 0 where
+pub record LosesTree (shelf : Tellings) (word : List ℕ) (folders : List (List ℕ)) (before after : List Loss) : Type 0 where
   pub lost : List Loss
-  pub holds : KeepsTree listed inner word folders lost
+  pub holds : KeepsTree shelf word folders lost
   pub added : after ≡ before ++ lost

@@ -1,4 +1,5 @@
 pub mod Told
+pub mod Tellings
 pub mod Faults
 pub mod Folders
 pub mod Sums

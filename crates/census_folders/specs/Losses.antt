@@ -14,6 +14,7 @@ use Rattle.census_folders.specs.declared.keeping.Kept.{Kept}
 use Rattle.census_folders.specs.declared.loss.Loss.{Loss}
 use Rattle.census_folders.specs.Shelves.{IsChosen}
 use Rattle.census_folders.specs.Sums.{Fits, limit_after, most_of}
+use Rattle.census_folders.specs.Tellings.{Tellings}
 use Rattle.census_folders.specs.Told.{Told, GivesTold, MayExceed, MayFail}
 use Rattle.census_folders.specs.Walks.{path_of}
 
@@ -71,26 +72,26 @@ abbrev pub KeepsFiles : (List ℕ → Told) → List ℕ → Kept → List (List
 KeepsFiles held word = FoldsTo (λ old name new. KeepsFile (held name) word name old new)
 
 -- the folder was listed, and its pattern files were added in the order of the bytes of their names
-pub record KeepsListed (listed : List ℕ → Told) (held : List ℕ → List ℕ → Told) (word : List ℕ) (old new : Kept) : Type 0 where
+pub record KeepsListed (shelf : Tellings) (word : List ℕ) (old new : Kept) : Type 0 where
   pub listing : List ℕ
-  pub lists : GivesTold (listed word) listing
+  pub lists : GivesTold (shelf.listed word) listing
   pub names : List (List ℕ)
   pub chosen : IsChosen listing names
-  pub files : KeepsFiles (held word) word (with_empty word old) names new
+  pub files : KeepsFiles (shelf.held word) word (with_empty word old) names new
 
 -- the folder can't be listed: it has no entry, and is lost
-pub record KeepsUnlisted (listed : List ℕ → Told) (word : List ℕ) (old new : Kept) : Type 0 where
-  pub why : MayFail (listed word)
+pub record KeepsUnlisted (shelf : Tellings) (word : List ℕ) (old new : Kept) : Type 0 where
+  pub why : MayFail (shelf.listed word)
   pub added : new ≡ left_out word (with_empty word old)
 
 -- a folder was added, for which there was room
-pub record AddsKept (listed : List ℕ → Told) (held : List ℕ → List ℕ → Told) (word : List ℕ) (old new : Kept) : Type 0 where
+pub record AddsKept (shelf : Tellings) (word : List ℕ) (old new : Kept) : Type 0 where
   pub room : length old.bundle < count_limit
-  pub added : KeepsListed listed held word old new ⊎ KeepsUnlisted listed word old new
+  pub added : KeepsListed shelf word old new ⊎ KeepsUnlisted shelf word old new
 
 -- the folder of a word was added, or was left out where the word isn't a lawful name
-abbrev pub KeepsFolder : (List ℕ → Told) → (List ℕ → List ℕ → Told) → Kept → List ℕ → Kept → Type 0
-KeepsFolder listed held old word new = MatchBool (is_name word) (AddsKept listed held word old new) (new ≡ left_out word old)
+abbrev pub KeepsFolder : Tellings → Kept → List ℕ → Kept → Type 0
+KeepsFolder shelf old word new = MatchBool (is_name word) (AddsKept shelf word old new) (new ≡ left_out word old)
 
 -- # Why folders were not read
 
@@ -100,32 +101,32 @@ StopsKeepingFile name old fault =
     (fault ≡ Memory) ⊎ ((fault ≡ Add adds.TooMany) × (is_name name ≡ true) × (count_limit ≤ length (last_entries old.bundle)))
 
 -- the files before this place were added; the file at this place was not
-pub record StopsInFolder (listed : List ℕ → Told) (held : List ℕ → List ℕ → Told) (word : List ℕ) (old : Kept) (fault : FoldersFault) : Type 0 where
+pub record StopsInFolder (shelf : Tellings) (word : List ℕ) (old : Kept) (fault : FoldersFault) : Type 0 where
   pub listing : List ℕ
-  pub lists : GivesTold (listed word) listing
+  pub lists : GivesTold (shelf.listed word) listing
   pub names : List (List ℕ)
   pub chosen : IsChosen listing names
   pub place : ℕ
   pub name : List ℕ
   pub is : slice_get names place ≡ Some name
   pub kept : Kept
-  pub before : KeepsFiles (held word) word (with_empty word old) (take place names) kept
+  pub before : KeepsFiles (shelf.held word) word (with_empty word old) (take place names) kept
   pub why : StopsKeepingFile name kept fault
 
 -- why a folder is not added: out of memory, too many folders, or a file
-abbrev pub StopsKeepingFolder : (List ℕ → Told) → (List ℕ → List ℕ → Told) → List ℕ → Kept → FoldersFault → Type 0
-StopsKeepingFolder listed held word old fault =
-    (fault ≡ Memory) ⊎ (((fault ≡ Add adds.TooMany) × (is_name word ≡ true) × (count_limit ≤ length old.bundle)) ⊎ StopsInFolder listed held word old fault)
+abbrev pub StopsKeepingFolder : Tellings → List ℕ → Kept → FoldersFault → Type 0
+StopsKeepingFolder shelf word old fault =
+    (fault ≡ Memory) ⊎ (((fault ≡ Add adds.TooMany) × (is_name word ≡ true) × (count_limit ≤ length old.bundle)) ⊎ StopsInFolder shelf word old fault)
 
 -- nothing is kept so far, and so many bytes may be read in all
 abbrev pub kept_at_start : Option ℕ → Kept
 kept_at_start limit = record { bundle = []; lost = []; left = limit }
 
 -- the folders of the words before this place were added; the folder of the word at this place was not
-pub record StopsKeepingAt (listed : List ℕ → Told) (held : List ℕ → List ℕ → Told) (limit : Option ℕ) (words : List (List ℕ)) (fault : FoldersFault) : Type 0 where
+pub record StopsKeepingAt (shelf : Tellings) (limit : Option ℕ) (words : List (List ℕ)) (fault : FoldersFault) : Type 0 where
   pub place : ℕ
   pub word : List ℕ
   pub is : slice_get words place ≡ Some word
   pub kept : Kept
-  pub before : FoldsTo (KeepsFolder listed held) (kept_at_start limit) (take place words) kept
-  pub why : StopsKeepingFolder listed held word kept fault
+  pub before : FoldsTo (KeepsFolder shelf) (kept_at_start limit) (take place words) kept
+  pub why : StopsKeepingFolder shelf word kept fault

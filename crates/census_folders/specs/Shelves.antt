@@ -12,6 +12,7 @@ use Rattle.census_folders.specs.declared.fault.FoldersFault.{FoldersFault}
 use Rattle.census_folders.specs.declared.fault.FoldersFault.TheVariants.{Add, Read, TooLong, Memory}
 use Rattle.census_folders.specs.Folders.{AreInOrder, HoldsFolders, IsPatternFile, IsPatternFolder, is_pattern_name, names_of}
 use Rattle.census_folders.specs.Sums.{Fits, bytes_in, bytes_of_all, limit_after, most_of}
+use Rattle.census_folders.specs.Tellings.{Tellings}
 use Rattle.census_folders.specs.Told.{Told, GivesTold, MayExceed, MayFail}
 
 -- # Which files
@@ -33,16 +34,16 @@ pub record IsChosen (listing : List ℕ) (names : List (List ℕ)) : Type 0 wher
 
 -- The entries are exactly the names of this folder that end in `.rle`, in the order of their bytes, each with the bytes
 -- of that file of this folder.
-pub record IsFolderOf (listed : List ℕ → Told) (held : List ℕ → List ℕ → Told) (f : Folder) : Type 0 where
+pub record IsFolderOf (shelf : Tellings) (f : Folder) : Type 0 where
   pub listing : List ℕ
-  pub lists : GivesTold (listed f.name) listing
+  pub lists : GivesTold (shelf.listed f.name) listing
   pub chosen : IsChosen listing (names_of f.entries)
-  pub texts : All (λ e. GivesTold (held f.name e.name) e.text) f.entries
+  pub texts : All (λ e. GivesTold (shelf.held f.name e.name) e.text) f.entries
 
 -- one folder for each word, as the shelf tells
-pub record HoldsShelf (listed : List ℕ → Told) (held : List ℕ → List ℕ → Told) (words : List (List ℕ)) (b : List Folder) : Type 0 where
+pub record HoldsShelf (shelf : Tellings) (words : List (List ℕ)) (b : List Folder) : Type 0 where
   pub holds : HoldsFolders words b
-  pub told : All (IsFolderOf listed held) b
+  pub told : All (IsFolderOf shelf) b
 
 -- # Why folders were not read
 
@@ -61,9 +62,9 @@ StopsFile told left count name TooLong = MayExceed (most_of left) told
 StopsFile told left count name Memory = Unit {0}
 
 -- The files before this place were added, as entries of these texts; the file at this place was not.
-pub record StopsAtFile (listed : List ℕ → Told) (held : List ℕ → List ℕ → Told) (left : Option ℕ) (word : List ℕ) (fault : FoldersFault) : Type 0 where
+pub record StopsAtFile (shelf : Tellings) (left : Option ℕ) (word : List ℕ) (fault : FoldersFault) : Type 0 where
   pub listing : List ℕ
-  pub lists : GivesTold (listed word) listing
+  pub lists : GivesTold (shelf.listed word) listing
   pub names : List (List ℕ)
   pub chosen : IsChosen listing names
   pub place : ℕ
@@ -72,10 +73,10 @@ pub record StopsAtFile (listed : List ℕ → Told) (held : List ℕ → List �
   pub entries : List Entry
   pub named : names_of entries ≡ take place names
   pub files : All IsPatternFile entries
-  pub texts : All (λ e. GivesTold (held word e.name) e.text) entries
+  pub texts : All (λ e. GivesTold (shelf.held word e.name) e.text) entries
   pub fits : Fits left (bytes_in entries)
   pub few : place ≤ count_limit
-  pub why : StopsFile (held word name) (limit_after left (bytes_in entries)) place name fault
+  pub why : StopsFile (shelf.held word name) (limit_after left (bytes_in entries)) place name fault
 
 -- why the names of a folder are not listed
 abbrev pub StopsList : Told → FoldersFault → Type 0
@@ -85,21 +86,21 @@ StopsList told TooLong = ⊥
 StopsList told Memory = Unit {0}
 
 -- why the folder of a word is not read after so many others, where so many bytes may still be read
-abbrev pub StopsFolderOf : (List ℕ → Told) → (List ℕ → List ℕ → Told) → Option ℕ → ℕ → List ℕ → FoldersFault → Type 0
-StopsFolderOf listed held left count word fault =
-    MatchBool (is_name word) (MatchBool (nat_le count_limit count) (fault ≡ Add adds.TooMany) (StopsList (listed word) fault ⊎ StopsAtFile listed held left word fault)) (fault ≡ Add adds.BadName)
+abbrev pub StopsFolderOf : Tellings → Option ℕ → ℕ → List ℕ → FoldersFault → Type 0
+StopsFolderOf shelf left count word fault =
+    MatchBool (is_name word) (MatchBool (nat_le count_limit count) (fault ≡ Add adds.TooMany) (StopsList (shelf.listed word) fault ⊎ StopsAtFile shelf left word fault)) (fault ≡ Add adds.BadName)
 
 -- The folders of the words before this place were read, of no more bytes than there may be in all; the folder of the word
 -- at this place was not.
-pub record StopsAtShelf (listed : List ℕ → Told) (held : List ℕ → List ℕ → Told) (limit : Option ℕ) (words : List (List ℕ)) (fault : FoldersFault) : Type 0 where
+pub record StopsAtShelf (shelf : Tellings) (limit : Option ℕ) (words : List (List ℕ)) (fault : FoldersFault) : Type 0 where
   pub place : ℕ
   pub word : List ℕ
   pub is : slice_get words place ≡ Some word
   pub folders : List Folder
-  pub before : HoldsShelf listed held (take place words) folders
+  pub before : HoldsShelf shelf (take place words) folders
   pub fits : Fits limit (bytes_of_all folders)
   pub few : place ≤ count_limit
-  pub why : StopsFolderOf listed held (limit_after limit (bytes_of_all folders)) place word fault
+  pub why : StopsFolderOf shelf (limit_after limit (bytes_of_all folders)) place word fault
 
 -- # One more
 
@@ -117,11 +118,11 @@ pub record AddsFileOf (told : Told) (name : List ℕ) (before after : Option ℕ
 
 -- One more folder of pattern files, for which there was room, as the shelf tells. So many bytes might be read before it, and
 -- so many after it.
-pub record AddsFolderOf (listed : List ℕ → Told) (held : List ℕ → List ℕ → Told) (name : List ℕ) (before after : Option ℕ) (old new : List Folder) : Type 0 where
+pub record AddsFolderOf (shelf : Tellings) (name : List ℕ) (before after : Option ℕ) (old new : List Folder) : Type 0 where
   pub folder : Folder
   pub named : folder.name ≡ name
   pub is_folder : IsPatternFolder folder
-  pub told : IsFolderOf listed held folder
+  pub told : IsFolderOf shelf folder
   pub fits : Fits before (bytes_in folder.entries)
   pub left : after ≡ limit_after before (bytes_in folder.entries)
   pub room : length old < count_limit

@@ -5,31 +5,31 @@ use Rattle.census_folders.specs.declared.fault.FoldersFault.{FoldersFault}
 use Rattle.census_folders.specs.declared.fault.FoldersFault.TheVariants.{Memory}
 use Rattle.census_folders.specs.declared.loss.Loss.{Loss}
 use Rattle.census_folders.specs.KeptWalks.{LosesTree}
-use Rattle.census_folders.specs.Told.{Told}
+use Rattle.census_folders.specs.Tellings.{Tellings}
 use Rattle.census_folders.specs.Walks.{HoldsTree, StopsWalk}
 
 -- the folders at and below a word come after those of the words before it
-pub record AddsTree (listed inner : List ℕ → Told) (old : List (List ℕ)) (word : List ℕ) (new : List (List ℕ)) : Type 0 where
+pub record AddsTree (shelf : Tellings) (old : List (List ℕ)) (word : List ℕ) (new : List (List ℕ)) : Type 0 where
   pub tree : List (List ℕ)
-  pub holds : HoldsTree listed inner word tree
+  pub holds : HoldsTree shelf word tree
   pub added : new ≡ old ++ tree
 
 -- These are the folders at and below each of the words, in the order of the words.
-abbrev pub HoldsTrees : (List ℕ → Told) → (List ℕ → Told) → List (List ℕ) → List (List ℕ) → Type 0
-HoldsTrees listed inner words folders = FoldsTo (AddsTree listed inner) [] words folders
+abbrev pub HoldsTrees : Tellings → List (List ℕ) → List (List ℕ) → Type 0
+HoldsTrees shelf words folders = FoldsTo (AddsTree shelf) [] words folders
 
 -- the trees of the words before this place were told; that of the word at this place was not
-pub record StopsAtTree (listed inner : List ℕ → Told) (words : List (List ℕ)) (fault : FoldersFault) : Type 0 where
+pub record StopsAtTree (shelf : Tellings) (words : List (List ℕ)) (fault : FoldersFault) : Type 0 where
   pub place : ℕ
   pub word : List ℕ
   pub is : slice_get words place ≡ Some word
   pub folders : List (List ℕ)
-  pub before : HoldsTrees listed inner (take place words) folders
-  pub why : StopsWalk listed inner word fault
+  pub before : HoldsTrees shelf (take place words) folders
+  pub why : StopsWalk shelf word fault
 
 -- why the folders at and below words are not told
-abbrev pub StopsTrees : (List ℕ → Told) → (List ℕ → Told) → List (List ℕ) → FoldersFault → Type 0
-StopsTrees listed inner words fault = (fault ≡ Memory) ⊎ StopsAtTree listed inner words fault
+abbrev pub StopsTrees : Tellings → List (List ℕ) → FoldersFault → Type 0
+StopsTrees shelf words fault = (fault ≡ Memory) ⊎ StopsAtTree shelf words fault
 
 -- # Whatever can't be told
 
@@ -39,12 +39,12 @@ pub record Planted : Type 0 where
   pub lost : List Loss
 
 -- the folders at and below a word, and what was lost on the way to them, come after those of the words before it
-pub record AddsKeptTree (listed inner : List ℕ → Told) (old : Planted) (word : List ℕ) (new : Planted) : Type 0 where
+pub record AddsKeptTree (shelf : Tellings) (old : Planted) (word : List ℕ) (new : Planted) : Type 0 where
   pub tree : List (List ℕ)
-  pub holds : LosesTree listed inner word tree old.lost new.lost
+  pub holds : LosesTree shelf word tree old.lost new.lost
   pub added : new.folders ≡ old.folders ++ tree
 
 -- These are the folders at and below each of the words, in the order of the words, and this was lost on the way to them.
-abbrev pub KeepsTrees : (List ℕ → Told) → (List ℕ → Told) → List (List ℕ) → List (List ℕ) → List Loss → Type 0
-KeepsTrees listed inner words folders lost =
-    FoldsTo (AddsKeptTree listed inner) (record { folders = []; lost = [] }) words (record { folders = folders; lost = lost })
+abbrev pub KeepsTrees : Tellings → List (List ℕ) → List (List ℕ) → List Loss → Type 0
+KeepsTrees shelf words folders lost =
+    FoldsTo (AddsKeptTree shelf) (record { folders = []; lost = [] }) words (record { folders = folders; lost = lost })

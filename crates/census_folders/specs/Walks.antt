@@ -6,6 +6,7 @@ use Rattle.census_folders.specs.declared.fault.FoldersFault.{FoldersFault}
 use Rattle.census_folders.specs.declared.fault.FoldersFault.TheVariants.{Add, Read, TooLong, Memory}
 use Rattle.census_folders.specs.Folders.{AreInOrder}
 use Rattle.census_folders.specs.Shelves.{is_end, pattern_names_in}
+use Rattle.census_folders.specs.Tellings.{Tellings}
 use Rattle.census_folders.specs.Told.{Told, GivesTold, MayFail}
 
 -- a folder that was walked: its path, what it lists, and the names of the folders in it, each ended by a byte 0
@@ -43,20 +44,20 @@ abbrev pub has_patterns : Visit → Bool
 has_patterns v = is_any (pattern_names_in v.listing)
 
 -- the folder lists this and has these folders in it, as the shelf tells
-pub record IsVisit (listed inner : List ℕ → Told) (v : Visit) : Type 0 where
-  pub lists : GivesTold (listed v.path) v.listing
-  pub holds : GivesTold (inner v.path) v.inner
+pub record IsVisit (shelf : Tellings) (v : Visit) : Type 0 where
+  pub lists : GivesTold (shelf.listed v.path) v.listing
+  pub holds : GivesTold (shelf.inner v.path) v.inner
 
 -- These are the first of the folder of the word and of the folders in those that were walked, in this order.
-pub record IsFolderWalk (listed inner : List ℕ → Told) (word : List ℕ) (visits : List Visit) : Type 0 where
-  pub told : All (IsVisit listed inner) visits
+pub record IsFolderWalk (shelf : Tellings) (word : List ℕ) (visits : List Visit) : Type 0 where
+  pub told : All (IsVisit shelf) visits
   pub order : paths visits ≡ take (length visits) (word ∷ paths_below visits)
 
 -- The folder of the word, and each folder in one that was walked, was walked. The folders are exactly those of them
 -- that list a name that ends in `.rle`, in the order of their bytes.
-pub record HoldsTree (listed inner : List ℕ → Told) (word : List ℕ) (folders : List (List ℕ)) : Type 0 where
+pub record HoldsTree (shelf : Tellings) (word : List ℕ) (folders : List (List ℕ)) : Type 0 where
   pub visits : List Visit
-  pub told : All (IsVisit listed inner) visits
+  pub told : All (IsVisit shelf) visits
   pub whole : paths visits ≡ word ∷ paths_below visits
   pub same : IsPermutation (paths (filter has_patterns visits)) folders
   pub order : AreInOrder folders
@@ -68,23 +69,23 @@ pub record HasForeign (told : Told) : Type 0 where
   pub foreign : ¬ (All IsUtf8 (names_in inner))
 
 -- why a folder is not walked
-abbrev pub StopsVisit : Told → Told → FoldersFault → Type 0
-StopsVisit listed inner (Add fault) = ⊥
-StopsVisit listed inner Read = MayFail listed ⊎ (MayFail inner ⊎ HasForeign inner)
-StopsVisit listed inner TooLong = ⊥
-StopsVisit listed inner Memory = Unit {0}
+abbrev pub StopsVisit : Tellings → List ℕ → FoldersFault → Type 0
+StopsVisit shelf path (Add fault) = ⊥
+StopsVisit shelf path Read = MayFail (shelf.listed path) ⊎ (MayFail (shelf.inner path) ⊎ HasForeign (shelf.inner path))
+StopsVisit shelf path TooLong = ⊥
+StopsVisit shelf path Memory = Unit {0}
 
 -- the folders before this one were walked; this one was not
-pub record StopsAtVisit (listed inner : List ℕ → Told) (word : List ℕ) (fault : FoldersFault) : Type 0 where
+pub record StopsAtVisit (shelf : Tellings) (word : List ℕ) (fault : FoldersFault) : Type 0 where
   pub visits : List Visit
-  pub walk : IsFolderWalk listed inner word visits
+  pub walk : IsFolderWalk shelf word visits
   pub path : List ℕ
   pub is : slice_get (word ∷ paths_below visits) (length visits) ≡ Some path
-  pub why : StopsVisit (listed path) (inner path) fault
+  pub why : StopsVisit shelf path fault
 
 -- why the folders below a word are not told
-abbrev pub StopsWalk : (List ℕ → Told) → (List ℕ → Told) → List ℕ → FoldersFault → Type 0
-StopsWalk listed inner word fault = (fault ≡ Memory) ⊎ StopsAtVisit listed inner word fault
+abbrev pub StopsWalk : Tellings → List ℕ → FoldersFault → Type 0
+StopsWalk shelf word fault = (fault ≡ Memory) ⊎ StopsAtVisit shelf word fault
 
 -- why names of folders are not added
 abbrev pub StopsNames : List (List ℕ) → FoldersFault → Type 0
@@ -94,9 +95,9 @@ StopsNames names TooLong = ⊥
 StopsNames names Memory = Unit {0}
 
 -- the folder was walked: its folders come after those that were found
-pub record AddsVisit (listed inner : List ℕ → Told) (path : List ℕ) (old new : List (List ℕ)) (chosen : Bool) : Type 0 where
+pub record AddsVisit (shelf : Tellings) (path : List ℕ) (old new : List (List ℕ)) (chosen : Bool) : Type 0 where
   pub visit : Visit
   pub at : visit.path ≡ path
-  pub told : IsVisit listed inner visit
+  pub told : IsVisit shelf visit
   pub added : new ≡ old ++ paths_in visit.path visit.inner
   pub has : chosen ≡ has_patterns visit

@@ -15,7 +15,7 @@ use std::rt::Files;
 use std::{fs, io};
 use watched::{ReadFault, Watched, read_all};
 
-// The system's own want of memory is want of memory.
+// Where the system is out of memory, so is the call.
 fn fault_of(error: io::Error) -> ReadFault
     ensures { RefusesList Untold result }
 {

@@ -25,9 +25,9 @@ pub fn read_file<S: Shelf>(
     ensures within { IfOk result (λ bytes. vec_len bytes ≤ input_limit) }
     ensures fits { IfOk result (λ bytes. Fits left (vec_len bytes)) }
     ensures told { IfOk result
-        (λ bytes. GivesTold (S.held shelf.now folder.now name.now) bytes.items) }
+        (λ bytes. GivesTold ((S.tellings shelf.now).held folder.now name.now) bytes.items) }
     ensures fault { IfErr result
-        (RefusesFile (most_of left) (S.held shelf.now folder.now name.now)) }
+        (RefusesFile (most_of left) ((S.tellings shelf.now).held folder.now name.now)) }
 {
     if !shelf.is_file(alloc, folder, name)? {
         return Err(ReadFault::Read);
@@ -47,10 +47,10 @@ pub fn add_file<S: Shelf>(
     requires kind { is_pattern_name name.now ≡ true }
     requires open { 0 < length bundle.old }
     ensures added { OnOk result
-        (AddsFileOf (S.held shelf.now folder.now name.now) name.now left.old left.new bundle.old
-        bundle.new) }
+        (AddsFileOf ((S.tellings shelf.now).held folder.now name.now) name.now left.old left.new
+        bundle.old bundle.new) }
     ensures fault { IfErr result
-        (StopsFile (S.held shelf.now folder.now name.now) left.old
+        (StopsFile ((S.tellings shelf.now).held folder.now name.now) left.old
         (length (last_entries bundle.old)) name.now) }
 {
     let bytes = read_file(shelf, alloc, folder, name, *left)?;

@@ -32,7 +32,7 @@ fn read_text<S: Shelf>(
     left: Option<u64>,
 ) -> Result<Option<Vec<u8>>, FoldersFault>
     ensures { MatchResult result
-        (λ text. GivesText (S.held shelf.now folder.now name.now) left
+        (λ text. GivesText ((S.tellings shelf.now).held folder.now name.now) left
         (option_map (λ bytes. bytes.items) text))
         (λ fault. fault ≡ Memory) }
 {
@@ -54,8 +54,8 @@ fn keep_file<S: Shelf>(
 ) -> Result<(), FoldersFault>
     requires { 0 < length kept.old.bundle }
     ensures { MatchResult result
-        (λ _. KeepsFile (S.held shelf.now folder.now name.now) folder.now name.now kept.old
-        kept.new)
+        (λ _. KeepsFile ((S.tellings shelf.now).held folder.now name.now) folder.now name.now
+        kept.old kept.new)
         (StopsKeepingFile name.now kept.old) }
 {
     let text = read_text(shelf, alloc, folder, name, kept.left)?;
@@ -93,8 +93,8 @@ fn keep_folder<S: Shelf>(
     word: &str,
 ) -> Result<(), FoldersFault>
     ensures { MatchResult result
-        (λ _. KeepsFolder (S.listed shelf.now) (S.held shelf.now) kept.old word.now kept.new)
-        (StopsKeepingFolder (S.listed shelf.now) (S.held shelf.now) word.now kept.old) }
+        (λ _. KeepsFolder (S.tellings shelf.now) kept.old word.now kept.new)
+        (StopsKeepingFolder (S.tellings shelf.now) word.now kept.old) }
 {
     match kept.bundle.add_folder(word.as_bytes()) {
         Ok(()) => {}
@@ -137,9 +137,9 @@ pub fn read_folders_on<S: Shelf>(
     limit: Option<u64>,
 ) -> Result<Kept, FoldersFault>
     ensures { MatchResult result
-        (FoldsTo (KeepsFolder (S.listed shelf.now) (S.held shelf.now)) (kept_at_start limit)
+        (FoldsTo (KeepsFolder (S.tellings shelf.now)) (kept_at_start limit)
         (map (λ s. s.now) folders.now))
-        (StopsKeepingAt (S.listed shelf.now) (S.held shelf.now) limit
+        (StopsKeepingAt (S.tellings shelf.now) limit
         (map (λ s. s.now) folders.now)) }
 {
     let mut kept = Kept {

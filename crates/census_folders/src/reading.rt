@@ -21,9 +21,9 @@ fn add_folder<S: Shelf>(
     word: &str,
 ) -> Result<(), FoldersFault>
     ensures { MatchResult result
-        (λ _. AddsFolderOf (S.listed shelf.now) (S.held shelf.now) word.now left.old left.new
+        (λ _. AddsFolderOf (S.tellings shelf.now) word.now left.old left.new
         bundle.old bundle.new)
-        (StopsFolderOf (S.listed shelf.now) (S.held shelf.now) left.old (length bundle.old)
+        (StopsFolderOf (S.tellings shelf.now) left.old (length bundle.old)
         word.now) }
 {
     bundle.add_folder(word.as_bytes())?;
@@ -58,8 +58,8 @@ pub fn read_folders<S: Shelf>(
     ensures folders { MatchResult result (HoldsFolders (map (λ s. s.now) folders.now))
         (StopsAtWord (map (λ s. s.now) folders.now)) }
     ensures told { MatchResult result
-        (HoldsShelf (S.listed shelf.now) (S.held shelf.now) (map (λ s. s.now) folders.now))
-        (StopsAtShelf (S.listed shelf.now) (S.held shelf.now) limit
+        (HoldsShelf (S.tellings shelf.now) (map (λ s. s.now) folders.now))
+        (StopsAtShelf (S.tellings shelf.now) limit
         (map (λ s. s.now) folders.now)) }
     ensures within { IfOk result (λ bundle. Fits limit (bytes_of_all bundle)) }
 {

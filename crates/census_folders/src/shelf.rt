@@ -1,6 +1,7 @@
 //! What folders are read from.
 ghost use Rattle.std.specs.Prelude.{◌≡◌, ◌≤◌, ℕ, Bool, true, false, List, Ok, IfOk, IfErr, vec_len};
-ghost use Rattle.census_folders.specs.Told.{Told, Untold, GivesTold, MayFail, RefusesFile, RefusesList};
+ghost use Rattle.census_folders.specs.Tellings.{Tellings, tells_nothing};
+ghost use Rattle.census_folders.specs.Told.{GivesTold, MayFail, RefusesFile, RefusesList};
 
 use std::alloc::Global;
 use watched::ReadFault;
@@ -8,33 +9,31 @@ use watched::ReadFault;
 /// A shelf of folders, each with files. It may tell what stands on it: of a folder its names, of a file of a folder its
 /// bytes, or that it can't be read. A disk tells nothing.
 pub trait Shelf {
-    // What the folder of this path lists: its names, each ended by a byte 0.
-    ghost listed: { Self → List ℕ → Told } = { λ _ _. Untold };
-
-    // Which folders stand in the folder of this path: their names, each ended by a byte 0. A link to one is none.
-    ghost inner: { Self → List ℕ → Told } = { λ _ _. Untold };
-
-    // What the file of this name in the folder of this path holds.
-    ghost held: { Self → List ℕ → List ℕ → Told } = { λ _ _ _. Untold };
+    // What it tells: what the folder of a path lists, its names, each ended by a byte 0; which folders stand in that
+    // folder, their names, each ended by a byte 0, where a link to one is none; and what the file of a name in the folder of
+    // a path holds.
+    ghost tellings: { Self → Tellings } = { λ _. tells_nothing };
 
     // Whether the file of this name in the folder of this path may be opened: it is a regular file, or a link to one.
     ghost may_open: { Self → List ℕ → List ℕ → Bool } = { λ _ _ _. true };
 
     /// The names in a folder, each ended by a byte 0.
     fn list(&self, alloc: Global, folder: &str) -> Result<Vec<u8>, ReadFault>
-        ensures told { IfOk result (λ bytes. GivesTold (listed self.now folder.now) bytes.items) }
-        ensures fault { IfErr result (RefusesList (listed self.now folder.now)) };
+        ensures told { IfOk result
+            (λ bytes. GivesTold ((tellings self.now).listed folder.now) bytes.items) }
+        ensures fault { IfErr result (RefusesList ((tellings self.now).listed folder.now)) };
 
     /// The names of the folders in a folder, each ended by a byte 0. Links to folders are left out.
     fn list_folders(&self, alloc: Global, folder: &str) -> Result<Vec<u8>, ReadFault>
-        ensures told { IfOk result (λ bytes. GivesTold (inner self.now folder.now) bytes.items) }
-        ensures fault { IfErr result (RefusesList (inner self.now folder.now)) };
+        ensures told { IfOk result
+            (λ bytes. GivesTold ((tellings self.now).inner folder.now) bytes.items) }
+        ensures fault { IfErr result (RefusesList ((tellings self.now).inner folder.now)) };
 
     /// Whether a name in a folder is that of a regular file, or of a link to one. Nothing is opened.
     fn is_file(&self, alloc: Global, folder: &str, name: &[u8]) -> Result<bool, ReadFault>
         ensures yes { result ≡ Ok true → may_open self.now folder.now name.now ≡ true }
-        ensures no { result ≡ Ok false → MayFail (held self.now folder.now name.now) }
-        ensures fault { IfErr result (RefusesList (held self.now folder.now name.now)) };
+        ensures no { result ≡ Ok false → MayFail ((tellings self.now).held folder.now name.now) }
+        ensures fault { IfErr result (RefusesList ((tellings self.now).held folder.now name.now)) };
 
     /// The bytes of a file in a folder, of which there may be at most `limit`.
     fn read(
@@ -47,8 +46,9 @@ pub trait Shelf {
         requires { may_open self.now folder.now name.now ≡ true }
         ensures within { IfOk result (λ bytes. vec_len bytes ≤ limit) }
         ensures told { IfOk result
-            (λ bytes. GivesTold (held self.now folder.now name.now) bytes.items) }
-        ensures fault { IfErr result (RefusesFile limit (held self.now folder.now name.now)) };
+            (λ bytes. GivesTold ((tellings self.now).held folder.now name.now) bytes.items) }
+        ensures fault { IfErr result
+            (RefusesFile limit ((tellings self.now).held folder.now name.now)) };
 
     /// What the system says of why the folder or the file of this path can't be read, where it says anything. Nothing is
     /// opened that isn't a folder or a regular file.

@@ -28,9 +28,9 @@ pub fn folders_below_each<S: Shelf>(
     words: &[&str],
 ) -> Result<Vec<String>, FoldersFault>
     ensures { MatchResult result
-        (λ folders. HoldsTrees (S.listed shelf.now) (S.inner shelf.now) (map (λ s. s.now) words.now)
+        (λ folders. HoldsTrees (S.tellings shelf.now) (map (λ s. s.now) words.now)
         (map string_bytes folders.items))
-        (StopsTrees (S.listed shelf.now) (S.inner shelf.now) (map (λ s. s.now) words.now)) }
+        (StopsTrees (S.tellings shelf.now) (map (λ s. s.now) words.now)) }
 {
     let mut found = Vec::new(alloc);
     for word in words {
@@ -59,7 +59,7 @@ pub fn folders_below_each_on<S: Shelf>(
     words: &[&str],
 ) -> Result<Trees, FoldersFault>
     ensures { MatchResult result
-        (λ trees. KeepsTrees (S.listed shelf.now) (S.inner shelf.now) (map (λ s. s.now) words.now)
+        (λ trees. KeepsTrees (S.tellings shelf.now) (map (λ s. s.now) words.now)
         (map string_bytes trees.folders.items) trees.lost)
         (λ fault. fault ≡ Memory) }
 {

@@ -69,9 +69,9 @@ fn visit<S: Shelf>(
     folder: &str,
 ) -> Result<bool, FoldersFault>
     ensures { MatchResult result
-        (AddsVisit (S.listed shelf.now) (S.inner shelf.now) folder.now
+        (AddsVisit (S.tellings shelf.now) folder.now
         (map string_bytes found.old.items) (map string_bytes found.new.items))
-        (StopsVisit (S.listed shelf.now folder.now) (S.inner shelf.now folder.now)) }
+        (StopsVisit (S.tellings shelf.now) folder.now) }
 {
     let listing = shelf.list(alloc, folder)?;
     let names = pattern_names(alloc, listing.as_slice())?;
@@ -93,9 +93,9 @@ pub fn folders_below<S: Shelf>(
     word: &str,
 ) -> Result<Vec<String>, FoldersFault>
     ensures { MatchResult result
-        (λ folders. HoldsTree (S.listed shelf.now) (S.inner shelf.now) word.now
+        (λ folders. HoldsTree (S.tellings shelf.now) word.now
         (map string_bytes folders.items))
-        (StopsWalk (S.listed shelf.now) (S.inner shelf.now) word.now) }
+        (StopsWalk (S.tellings shelf.now) word.now) }
 {
     let mut found = Vec::new(alloc);
     found.push(String::from_str(alloc, word)?)?;

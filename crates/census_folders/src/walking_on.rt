@@ -20,7 +20,7 @@ fn list_on<S: Shelf>(
     folder: &str,
 ) -> Result<Option<Vec<u8>>, FoldersFault>
     ensures { MatchResult result
-        (λ listing. KeepsListing (S.listed shelf.now folder.now)
+        (λ listing. KeepsListing ((S.tellings shelf.now).listed folder.now)
         (option_map (λ bytes. bytes.items) listing))
         (λ fault. fault ≡ Memory) }
 {
@@ -38,7 +38,7 @@ fn list_folders_on<S: Shelf>(
     folder: &str,
 ) -> Result<Option<Vec<u8>>, FoldersFault>
     ensures { MatchResult result
-        (λ folders. KeepsListing (S.inner shelf.now folder.now)
+        (λ folders. KeepsListing ((S.tellings shelf.now).inner folder.now)
         (option_map (λ bytes. bytes.items) folders))
         (λ fault. fault ≡ Memory) }
 {
@@ -149,7 +149,7 @@ fn visit_on<S: Shelf>(
     folder: &str,
 ) -> Result<bool, FoldersFault>
     ensures { MatchResult result
-        (AddsKeptVisit (S.listed shelf.now) (S.inner shelf.now) folder.now
+        (AddsKeptVisit (S.tellings shelf.now) folder.now
         (map string_bytes found.old.items) (map string_bytes found.new.items) lost.old lost.new)
         (λ fault. fault ≡ Memory) }
 {
@@ -168,7 +168,7 @@ pub(crate) fn folders_below_on<S: Shelf>(
     word: &str,
 ) -> Result<Vec<String>, FoldersFault>
     ensures { MatchResult result
-        (λ folders. LosesTree (S.listed shelf.now) (S.inner shelf.now) word.now
+        (λ folders. LosesTree (S.tellings shelf.now) word.now
         (map string_bytes folders.items) lost.old lost.new)
         (λ fault. fault ≡ Memory) }
 {

@@ -19,7 +19,7 @@ use Rattle.life_answer.proofs.Limits.{limited-else, limited-same}
 use Rattle.life_answer.proofs.Texts.{answer-found, answer-no_ash}
 use Rattle.life_model.specs.Evolution.{generation}
 use Rattle.life_model.specs.Generation.{size}
-use Rattle.life_model.specs.Recurrence.{AreOneObject, Settles}
+use Rattle.life_model.specs.Recurrence.{AreOneObject, Recurrence, Settles}
 use Rattle.life_model.specs.Rule.{Rule}
 use Rattle.life_text.specs.declared.rle.RleFault.{RleFault}
 use Rattle.life_text.specs.Picture.{Picture, picture_of}
@@ -58,17 +58,19 @@ said bound most e rule population onset period dx dy code is (Ok pattern) read =
     let kept = found_kept (question.Settles bound most) e rule (Recurs population onset period dx dy code) is in
     let parts = found_parts rule pattern.rule (Recurs population onset period dx dy code) (finding_to (question.Settles bound most) pattern.rule pattern.cells) (sym is ∙ answer_by e bound most (Ok pattern) kept read) in
     let found = limited-else pattern.rule pattern.cells bound most (finding_of pattern.rule pattern.cells bound) (Recurs population onset period dx dy code) (sym parts.1) (not_large population onset period dx dy code) in
-    let settles : Settles pattern.rule pattern.cells bound onset period (dx, dy) = settles_by_finding pattern.rule pattern.cells bound population onset period dx dy code found.1 in
-    let codes : code ≡ code_of pattern.rule (generation pattern.rule pattern.cells onset) period (dx, dy) = recurs_code _ _ _ _ _ _ _ _ _ _ _ _ (sym found.1 ∙ finding-settled pattern.rule pattern.cells bound onset period (dx, dy) settles) in (
-      record { rule = pattern.rule; cells = pattern.cells; kept = kept; reads = read; onset = onset; period = period; displacement = (dx, dy); settles = settles; small = found.0 },
+    let recurrence : Recurrence = record { onset = onset; period = period; displacement = (dx, dy) } in
+    let settles : Settles pattern.rule pattern.cells bound recurrence = settles_by_finding pattern.rule pattern.cells bound population onset period dx dy code found.1 in
+    let codes : code ≡ code_of pattern.rule (generation pattern.rule pattern.cells onset) period (dx, dy) = recurs_code _ _ _ _ _ _ _ _ _ _ _ _ (sym found.1 ∙ finding-settled pattern.rule pattern.cells bound recurrence settles) in (
+      record { rule = pattern.rule; cells = pattern.cells; kept = kept; reads = read; recurrence = recurrence; settles = settles; small = found.0 },
       ap (λ r. object r code) parts.0 ∙ ap (object pattern.rule) codes,
     )
 
 -- and of one that resolves it is said
-to_say : (bound : ℕ) (most : Option ℕ) (e : Entry) (s : Resolves bound most e) → answer_in bound most e ≡ Found s.rule (Recurs (size s.cells) s.onset s.period s.displacement.0 s.displacement.1 (settled_object bound most e s).code)
+to_say : (bound : ℕ) (most : Option ℕ) (e : Entry) (s : Resolves bound most e) → answer_in bound most e ≡ Found s.rule
+    (Recurs (size s.cells) s.recurrence.onset s.recurrence.period s.recurrence.displacement.0 s.recurrence.displacement.1 (settled_object bound most e s).code)
 to_say bound most e s =
     kept_answer (question.Settles bound most) e s.kept ∙ answer-found (question.Settles bound most) e.text (record { rule = s.rule; cells = s.cells }) s.reads
-    ∙ ap (Found s.rule) (limited-same s.rule s.cells bound most (finding_of s.rule s.cells bound) s.small ∙ finding-settled s.rule s.cells bound s.onset s.period s.displacement s.settles)
+    ∙ ap (Found s.rule) (limited-same s.rule s.cells bound most (finding_of s.rule s.cells bound) s.small ∙ finding-settled s.rule s.cells bound s.recurrence s.settles)
 
 -- ---- the patterns of an object
 
@@ -109,22 +111,22 @@ module _ (bound : ℕ) (most : Option ℕ) (pattern : Entry) (s : Resolves bound
   one_code e r is =
       let rules : s.rule ≡ r.rule = ap (λ (k : Object). k.rule) is in
       let R = s.rule in
-      let settles : Settles R r.cells bound r.onset r.period r.displacement = subst (λ q. Settles q r.cells bound r.onset r.period r.displacement) (sym rules) r.settles in
-      let codes : code_of R (generation R s.cells s.onset) s.period s.displacement ≡ code_of R (generation R r.cells r.onset) r.period r.displacement =
-      ap (λ (k : Object). k.code) is ∙ ap (λ q. code_of q (generation q r.cells r.onset) r.period r.displacement) (sym rules) in
-      let told = codes_tell_objects R r.cells s.cells bound bound r.onset r.period s.onset s.period r.displacement s.displacement settles s.settles in
-      record { resolves = r; same_rule = sym rules; one = subst (λ q. AreOneObject R (generation q r.cells r.onset) (settled_cells bound most pattern s)) rules (told.0 (sym codes)) }
+      let settles : Settles R r.cells bound r.recurrence = subst (λ q. Settles q r.cells bound r.recurrence) (sym rules) r.settles in
+      let codes : code_of R (generation R s.cells s.recurrence.onset) s.recurrence.period s.recurrence.displacement ≡ code_of R (generation R r.cells r.recurrence.onset) r.recurrence.period r.recurrence.displacement =
+      ap (λ (k : Object). k.code) is ∙ ap (λ q. code_of q (generation q r.cells r.recurrence.onset) r.recurrence.period r.recurrence.displacement) (sym rules) in
+      let told = codes_tell_objects R r.cells s.cells bound bound r.recurrence s.recurrence settles s.settles in
+      record { resolves = r; same_rule = sym rules; one = subst (λ q. AreOneObject R (generation q r.cells r.recurrence.onset) (settled_cells bound most pattern s)) rules (told.0 (sym codes)) }
 
   told_by : (e : Entry) → into e → says (settled_object bound most pattern s) (answer_in bound most e) ≡ true
   unfolding says
   told_by e h =
       let r = h.resolves in
       let R = s.rule in
-      let settles : Settles R r.cells bound r.onset r.period r.displacement = subst (λ q. Settles q r.cells bound r.onset r.period r.displacement) h.same_rule r.settles in
-      let one : AreOneObject R (generation R r.cells r.onset) (settled_cells bound most pattern s) = subst (λ q. AreOneObject R (generation q r.cells r.onset) (settled_cells bound most pattern s)) h.same_rule h.one in
-      let told = codes_tell_objects R r.cells s.cells bound bound r.onset r.period s.onset s.period r.displacement s.displacement settles s.settles in
-      let codes : code_of R (generation R r.cells r.onset) r.period r.displacement ≡ code_of R (generation R s.cells s.onset) s.period s.displacement = told.1 one in
-      let same : settled_object bound most e r ≡ settled_object bound most pattern s = ap (λ q. object q (code_of q (generation q r.cells r.onset) r.period r.displacement)) h.same_rule ∙ ap (object R) codes in
+      let settles : Settles R r.cells bound r.recurrence = subst (λ q. Settles q r.cells bound r.recurrence) h.same_rule r.settles in
+      let one : AreOneObject R (generation R r.cells r.recurrence.onset) (settled_cells bound most pattern s) = subst (λ q. AreOneObject R (generation q r.cells r.recurrence.onset) (settled_cells bound most pattern s)) h.same_rule h.one in
+      let told = codes_tell_objects R r.cells s.cells bound bound r.recurrence s.recurrence settles s.settles in
+      let codes : code_of R (generation R r.cells r.recurrence.onset) r.recurrence.period r.recurrence.displacement ≡ code_of R (generation R s.cells s.recurrence.onset) s.recurrence.period s.recurrence.displacement = told.1 one in
+      let same : settled_object bound most e r ≡ settled_object bound most pattern s = ap (λ q. object q (code_of q (generation q r.cells r.recurrence.onset) r.recurrence.period r.recurrence.displacement)) h.same_rule ∙ ap (object R) codes in
       ap (says (settled_object bound most pattern s)) (to_say bound most e r) ∙ ap (same_object (settled_object bound most pattern s)) same ∙ same_itself (settled_object bound most pattern s)
 
   tells_by : (e : Entry) (a : Answer) → answer_in bound most e ≡ a → says (settled_object bound most pattern s) a ≡ true → into e

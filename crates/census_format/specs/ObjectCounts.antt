@@ -5,10 +5,9 @@ use Rattle.std.specs.List.{All, Contains}
 use Rattle.census_bundle.specs.declared.bundle.Entry.{Entry}
 use Rattle.life_answer.specs.Apgcode.{code_of}
 use Rattle.life_answer.specs.Limited.{StaysWithin}
-use Rattle.life_model.specs.Cell.{Cell}
 use Rattle.life_model.specs.Evolution.{generation}
 use Rattle.life_model.specs.Generation.{Generation}
-use Rattle.life_model.specs.Recurrence.{AreOneObject, Settles}
+use Rattle.life_model.specs.Recurrence.{AreOneObject, Recurrence, Settles}
 use Rattle.life_model.specs.Rule.{Rule}
 use Rattle.life_text.specs.Picture.{picture_of}
 use Rattle.life_text.specs.Rle.{reading}
@@ -23,19 +22,18 @@ pub record Resolves (bound : ℕ) (most : Option ℕ) (e : Entry) : Type 0 where
   pub cells : Generation
   pub kept : e.is_lost ≡ false
   pub reads : picture_of (reading e.text) ≡ Ok (record { rule = rule; cells = cells })
-  pub onset : ℕ
-  pub period : ℕ
-  pub displacement : Cell
-  pub settles : Settles rule cells bound onset period displacement
+  pub recurrence : Recurrence
+  pub settles : Settles rule cells bound recurrence
   pub small : StaysWithin most rule cells bound
 
 -- what it settles into
 abbrev pub settled_cells : (bound : ℕ) (most : Option ℕ) (e : Entry) → Resolves bound most e → Generation
-settled_cells bound most e r = generation r.rule r.cells r.onset
+settled_cells bound most e r = generation r.rule r.cells r.recurrence.onset
 
 -- its rule and its code
 abbrev pub settled_object : (bound : ℕ) (most : Option ℕ) (e : Entry) → Resolves bound most e → Object
-settled_object bound most e r = object r.rule (code_of r.rule (settled_cells bound most e r) r.period r.displacement)
+settled_object bound most e r =
+    object r.rule (code_of r.rule (settled_cells bound most e r) r.recurrence.period r.recurrence.displacement)
 
 -- The pattern settles within the bound, under this rule, into one object with this set.
 pub record SettlesInto (bound : ℕ) (most : Option ℕ) (e : Entry) (R : Rule) (H : Generation) : Type 0 where

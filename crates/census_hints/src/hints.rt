@@ -85,7 +85,7 @@ pub fn hint_lines<S: Shelf>(
     from_folders: bool,
 ) -> Result<Vec<u8>, AllocError>
     ensures { IfOk result
-        (λ lines. Hints (S.listed shelf.now) from_folders bundle.now lines.items) }
+        (λ lines. Hints (S.tellings shelf.now).listed from_folders bundle.now lines.items) }
 {
     let mut lines = stray_lines(alloc, bundle)?;
     let passed = if from_folders {

@@ -33,7 +33,7 @@ fn count_alike(listing: &[u8]) -> usize
 // What the folder of this name lists, or nothing where it can't be listed.
 fn list<S: Shelf>(shelf: &S, alloc: Global, name: &[u8]) -> Result<Option<Vec<u8>>, AllocError>
     ensures { IfOk result
-        (λ listing. Lists (S.listed shelf.now name.now) name.now
+        (λ listing. Lists ((S.tellings shelf.now).listed name.now) name.now
         (option_map (λ bytes. bytes.items) listing)) }
 {
     let Ok(name) = str::from_utf8(name) else {
@@ -50,7 +50,7 @@ fn list<S: Shelf>(shelf: &S, alloc: Global, name: &[u8]) -> Result<Option<Vec<u8
 fn passed_in<S: Shelf>(shelf: &S, alloc: Global, folder: &Folder) -> Result<usize, AllocError>
     ensures { IfOk result
         (λ count. (before : ℕ) →
-        PassesFolder (S.listed shelf.now) before folder.now (before + count)) }
+        PassesFolder (S.tellings shelf.now).listed before folder.now (before + count)) }
 {
     match list(shelf, alloc, folder.name.as_slice())? {
         Some(listing) => Ok(count_alike(listing.as_slice())),
@@ -61,7 +61,7 @@ fn passed_in<S: Shelf>(shelf: &S, alloc: Global, folder: &Folder) -> Result<usiz
 // How many such names the folders of all collections list: each no more than a list has bytes, which all together may not
 // fit in 64 bits.
 pub fn passed_over<S: Shelf>(shelf: &S, alloc: Global, bundle: &Bundle) -> Result<u128, AllocError>
-    ensures { IfOk result (λ passed. PassesOver (S.listed shelf.now) bundle.now passed) }
+    ensures { IfOk result (λ passed. PassesOver (S.tellings shelf.now).listed bundle.now passed) }
 {
     let mut passed = 0;
     for folder in bundle.folders() {

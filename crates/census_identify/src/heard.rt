@@ -39,8 +39,10 @@ fn heard_of(read: Result<Vec<u8>, ReadFault>) -> Result<Heard, AllocError>
 /// file.
 pub fn read_file<S: Shelf>(shelf: &S, alloc: Global, path: &[u8]) -> Result<Vec<u8>, ReadFault>
     ensures within { IfOk result (λ bytes. vec_len bytes ≤ INPUT_LIMIT) }
-    ensures told { IfOk result (λ bytes. GivesTold (S.held shelf.now [] path.now) bytes.items) }
-    ensures fault { IfErr result (RefusesFile INPUT_LIMIT (S.held shelf.now [] path.now)) }
+    ensures told { IfOk result
+        (λ bytes. GivesTold ((S.tellings shelf.now).held [] path.now) bytes.items) }
+    ensures fault { IfErr result
+        (RefusesFile INPUT_LIMIT ((S.tellings shelf.now).held [] path.now)) }
 {
     if !shelf.is_file(alloc, "", path)? {
         return Err(ReadFault::Read);
@@ -49,7 +51,7 @@ pub fn read_file<S: Shelf>(shelf: &S, alloc: Global, path: &[u8]) -> Result<Vec<
 }
 
 fn hear_file<S: Shelf>(shelf: &S, alloc: Global, path: &[u8]) -> Result<Heard, AllocError>
-    ensures { IfOk result (HearsFile (S.held shelf.now [] path.now)) }
+    ensures { IfOk result (HearsFile ((S.tellings shelf.now).held [] path.now)) }
 {
     heard_of(read_file(shelf, alloc, path))
 }
@@ -81,7 +83,7 @@ pub fn hear<S: Shelf, I: Read>(
     word: &str,
     input: &mut Watched<I>,
 ) -> Result<Heard, AllocError>
-    ensures heard { IfOk result (λ heard. Hears (S.held shelf.now []) word.now heard
+    ensures heard { IfOk result (λ heard. Hears ((S.tellings shelf.now).held []) word.now heard
         (source I.remaining input.old) (source I.remaining input.new)) }
     ensures taken { ConsumesAtMost (INPUT_LIMIT + 1)
         (I.remaining (inner_of input.old)) (I.remaining (inner_of input.new)) }

@@ -35,10 +35,10 @@ fn identify_each<S: Shelf, I: Read, O: Write, E: Write>(
     requires output { has_failed output.old ≡ false }
     requires errors { has_failed errors.old ≡ false }
     ensures { MatchResult result
-        (λ status. TellsAll (S.held shelf.now []) bound (map (λ s. s.now) words.now) status
-        (streams I.remaining O.contents E.contents input.old output.old errors.old)
+        (λ status. TellsAll ((S.tellings shelf.now).held []) bound (map (λ s. s.now) words.now)
+        status (streams I.remaining O.contents E.contents input.old output.old errors.old)
         (streams I.remaining O.contents E.contents input.new output.new errors.new))
-        (λ error. Stops error [] (S.held shelf.now []) bound (map (λ s. s.now) words.now)
+        (λ error. Stops error [] ((S.tellings shelf.now).held []) bound (map (λ s. s.now) words.now)
         (streams I.remaining O.contents E.contents input.old output.old errors.old)
         (streams I.remaining O.contents E.contents input.new output.new errors.new)) }
 {
@@ -78,7 +78,7 @@ pub fn identify<S: Shelf, I: Read, O: Write, E: Write>(
     requires bound { 1 ≤ bound × bound ≤ BOUND_LIMIT }
     requires output { has_failed output.old ≡ false }
     requires errors { has_failed errors.old ≡ false }
-    ensures { Identifies (S.held shelf.now []) bound (map (λ s. s.now) words.now) result
+    ensures { Identifies ((S.tellings shelf.now).held []) bound (map (λ s. s.now) words.now) result
         (streams I.remaining O.contents E.contents input.old output.old errors.old)
         (streams I.remaining O.contents E.contents input.new output.new errors.new) }
 {

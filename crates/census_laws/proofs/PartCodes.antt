@@ -18,7 +18,7 @@ module _ (R : Rule) (b : ℕ) where
   pub record Recurs (P : Generation) : Type 0 where
     pub period : ℕ
     pub displacement : Cell
-    pub settles : Settles R P b 0 period displacement
+    pub settles : Settles R P b (record { onset = 0; period = period; displacement = displacement })
 
   pub object_recurs : (P : Generation) → IsObject R b P → Recurs P
   object_recurs P one =
@@ -36,21 +36,21 @@ module _ (R : Rule) (b : ℕ) where
       } in
       elim (settled_or_not R P b) [
         | inl found ↦
-            let period = found.period in
-            let early : found.onset ≤ 0 = found.settles.first 0 again in
-            let at_once : found.onset ≡ 0 = omega arith in
+            let r = found.recurrence in
+            let early : r.onset ≤ 0 = found.settles.first 0 again in
+            let at_once : r.onset ≡ 0 = omega arith in
             record {
-              period = period;
-              displacement = found.by;
-              settles = subst (λ g. Settles R P b g period found.by) at_once found.settles;
+              period = r.period;
+              displacement = r.displacement;
+              settles = subst (Settles R P b) (λ i. record r { onset = at_once i }) found.settles;
             }
         | inr none ↦ absurd (none.nowhere 0 again)
       ]
 
-  pub part_code-is : (P : Generation) (period : ℕ) (d : Cell) → Settles R P b 0 period d →
-      part_code R b P ≡ code_of R P period d
+  pub part_code-is : (P : Generation) (period : ℕ) (d : Cell) →
+      Settles R P b (record { onset = 0; period = period; displacement = d }) → part_code R b P ≡ code_of R P period d
   part_code-is P period d s =
-      ap code_found (finding-settled R P b 0 period d s) ∙ ap (λ G. code_of R G period d) (generation-zero R P)
+      ap code_found (finding-settled R P b (record { onset = 0; period = period; displacement = d }) s) ∙ ap (λ G. code_of R G period d) (generation-zero R P)
 
   -- parts have one code exactly where they are one object
   pub part_codes_tell : (P Q : Generation) → Recurs P → Recurs Q →
@@ -60,7 +60,8 @@ module _ (R : Rule) (b : ℕ) where
       let q = other.period in
       let d = one.displacement in
       let e = other.displacement in
-      let told = codes_tell_objects R P Q b b 0 p 0 q d e one.settles other.settles in
+      let told = codes_tell_objects R P Q b b (record { onset = 0; period = p; displacement = d })
+      (record { onset = 0; period = q; displacement = e }) one.settles other.settles in
       let here = part_code-is P p d one.settles ∙ ap (λ G. code_of R G p d) (sym (generation-zero R P)) in
       let there = part_code-is Q q e other.settles ∙ ap (λ G. code_of R G q e) (sym (generation-zero R Q)) in
       let are_one : Generation → Generation → Type 0 = λ G H. AreOneObject R G H in

@@ -16,7 +16,7 @@ use Rattle.census_laws.specs.Fallen.{CountsIn, FallsApart}
 pub record IsCoded (bound : ℕ) (R : Rule) (P : Generation) (k : Object) : Type 0 where
   pub period : ℕ
   pub displacement : Cell
-  pub settles : Settles R P bound 0 period displacement
+  pub settles : Settles R P bound (record { onset = 0; period = period; displacement = displacement })
   pub named : k ≡ object R (code_of R P period displacement)
 
 -- The line has the rule and the code of a part of one of these patterns, and its number is how many parts, of all of

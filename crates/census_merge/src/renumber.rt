@@ -7,67 +7,18 @@ ghost use Rattle.census_readback.specs.Limits.{count_limit};
 use census_rows::Row;
 
 // A row, where so many collections come before those of its report.
-pub fn renumbered_row<'a>(before: u64, row: Row<'a>) -> Row<'a>
+pub fn renumbered_row<'a>(before: u64, mut row: Row<'a>) -> Row<'a>
     requires few { before ≤ count_limit }
     requires small { collection_of row ≤ count_limit }
     ensures { result ≡ renumbered_row before row.entry }
 {
-    match row {
-        Row::Open {
-            collection,
-            patterns,
-            name,
-        } => Row::Open {
-            collection: before + collection,
-            patterns,
-            name,
-        },
-        Row::Line {
-            collection,
-            pattern,
-            outcome,
-            name,
-        } => Row::Line {
-            collection: before + collection,
-            pattern,
-            outcome,
-            name,
-        },
-        Row::Part {
-            collection,
-            pattern,
-            code,
-            count,
-        } => Row::Part {
-            collection: before + collection,
-            pattern,
-            code,
-            count,
-        },
-        Row::Code {
-            collection,
-            rule,
-            code,
-            count,
-        } => Row::Code {
-            collection: before + collection,
-            rule,
-            code,
-            count,
-        },
-        Row::Close {
-            collection,
-            patterns,
-            resolved,
-            unresolved,
-            refused,
-        } => Row::Close {
-            collection: before + collection,
-            patterns,
-            resolved,
-            unresolved,
-            refused,
-        },
-        Row::End { .. } => row,
+    match &mut row {
+        Row::Open { collection, .. } => *collection += before,
+        Row::Line { collection, .. } => *collection += before,
+        Row::Part { collection, .. } => *collection += before,
+        Row::Code { collection, .. } => *collection += before,
+        Row::Close { collection, .. } => *collection += before,
+        Row::End { .. } => {}
     }
+    row
 }

@@ -16,9 +16,16 @@ abbrev pub collection_name : List ℕ → List ℕ
 collection_name name = codes "<h2>" ++ name_element name ++ codes "</h2>\n"
 
 -- how many patterns are resolved and how many are not
-abbrev pub counts_text : ℕ → ℕ → ℕ → ℕ → List ℕ
-counts_text patterns resolved unresolved refused =
-    codes "<p>" ++ decimal patterns ++ codes " patterns: " ++ decimal resolved ++ codes " resolved, " ++ decimal unresolved ++ codes " unresolved, " ++ decimal refused ++ codes " refused</p>\n"
+pub record PatternCounts : Type 0 where
+  pub patterns : ℕ
+  pub resolved : ℕ
+  pub unresolved : ℕ
+  pub refused : ℕ
+
+abbrev pub counts_text : PatternCounts → List ℕ
+counts_text counts =
+    codes "<p>" ++ decimal counts.patterns ++ codes " patterns: " ++ decimal counts.resolved ++ codes " resolved, "
+    ++ decimal counts.unresolved ++ codes " unresolved, " ++ decimal counts.refused ++ codes " refused</p>\n"
 
 -- what a row says of its collection as a whole
 abbrev pub heading : Row → List ℕ
@@ -26,7 +33,8 @@ heading (Open collection patterns name) = collection_name name.now
 heading (Line collection pattern outcome name) = []
 heading (Part collection pattern code count) = []
 heading (Code collection rule code count) = []
-heading (Close collection patterns resolved unresolved refused) = counts_text patterns resolved unresolved refused
+heading (Close collection patterns resolved unresolved refused) =
+    counts_text (record { patterns = patterns; resolved = resolved; unresolved = unresolved; refused = refused })
 heading (End collections patterns) = []
 
 abbrev pub headings : List Row → List ℕ

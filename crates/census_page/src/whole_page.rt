@@ -32,8 +32,12 @@ fn push_counts(
     unresolved: u64,
     refused: u64,
 ) -> Result<(), AllocError>
-    ensures { OnOk result (text.new.items
-        ≡ text.old.items ++ counts_text patterns resolved unresolved refused) }
+    ensures { OnOk result (text.new.items ≡ text.old.items ++ counts_text (record {
+      patterns = patterns;
+      resolved = resolved;
+      unresolved = unresolved;
+      refused = refused;
+    })) }
 {
     text.extend_from_slice(b"<p>")?;
     push_number(text, patterns)?;

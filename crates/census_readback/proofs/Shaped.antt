@@ -198,7 +198,7 @@ within-sound t (Code c rule code m ∷ rows) g h =
       refused-are = r.refused-are ∙ ap (λ ls. t.refused + lines_that is_refused ls) none;
     }
 within-sound t (Close c n a b d ∷ rows) g h =
-    let k = passed (closes t n a b d) Behind rows h in
+    let k = passed (closes t (record { patterns = n; resolved = a; unresolved = b; refused = d })) Behind rows h in
     let b1 = and-both (eqb t.read t.patterns) (eqb n t.patterns && (eqb a t.resolved && (eqb b t.unresolved && eqb d t.refused))) k.0 in
     let b2 = and-both (eqb n t.patterns) (eqb a t.resolved && (eqb b t.unresolved && eqb d t.refused)) b1.1 in
     let b3 = and-both (eqb a t.resolved) (eqb b t.unresolved && eqb d t.refused) b2.1 in
@@ -273,7 +273,7 @@ pass false p rows h = absurd (cc)
 codes-complete : (t : Tally) (codes : List Row) (c n a b d : ℕ) → AreCodes codes → t.read ≡ t.patterns → n ≡ t.patterns
     → a ≡ t.resolved → b ≡ t.unresolved → d ≡ t.refused → run (Within t) (codes ++ Close c n a b d ∷ []) ≡ Some Behind
 codes-complete t [] c n a b d counts e1 e2 e3 e4 e5 =
-    pass (closes t n a b d) Behind []
+    pass (closes t (record { patterns = n; resolved = a; unresolved = b; refused = d })) Behind []
     (both-and _ _ (eq-eqb _ _ e1) (both-and _ _ (eq-eqb _ _ e2) (both-and _ _ (eq-eqb _ _ e3) (both-and _ _ (eq-eqb _ _ e4) (eq-eqb _ _ e5)))))
 codes-complete t (Open c2 n2 name ∷ codes) c n a b d counts e1 e2 e3 e4 e5 = absurd counts
 codes-complete t (Line c2 i o name ∷ codes) c n a b d counts e1 e2 e3 e4 e5 = absurd counts

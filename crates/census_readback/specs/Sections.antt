@@ -21,10 +21,17 @@ with_line t (None rule population) = record t { read = t.read + 1; unresolved = 
 with_line t (Large rule population generation) = record t { read = t.read + 1; unresolved = next_count t.unresolved; ash = false }
 with_line t (Bad fault) = record t { read = t.read + 1; refused = next_count t.refused; ash = false }
 
--- all patterns are read, and these are the numbers of all, of `ok` and `ash`, of `none` and `large`, and of `bad`
-abbrev pub closes : Tally → ℕ → ℕ → ℕ → ℕ → Bool
-closes t patterns resolved unresolved refused =
-    (t.read == t.patterns) && ((patterns == t.patterns) && ((resolved == t.resolved) && ((unresolved == t.unresolved) && (refused == t.refused))))
+-- the numbers of a `close` line: of all patterns, of `ok` and `ash`, of `none` and `large`, and of `bad`
+pub record ClosingNumbers : Type 0 where
+  pub patterns : ℕ
+  pub resolved : ℕ
+  pub unresolved : ℕ
+  pub refused : ℕ
+
+-- all patterns are read, and these are their numbers
+abbrev pub closes : Tally → ClosingNumbers → Bool
+closes t n =
+    (t.read == t.patterns) && ((n.patterns == t.patterns) && ((n.resolved == t.resolved) && ((n.unresolved == t.unresolved) && (n.refused == t.refused))))
 
 -- between `open` and `close`: the lines of the patterns in order, `part` lines after an `ash` line, then `code` lines
 abbrev pub next_within : Tally → Row → Option Place
@@ -34,7 +41,7 @@ next_within t (Line collection pattern outcome name) =
 next_within t (Part collection pattern code count) = if t.ash && (pattern == t.read) then Some (Within t) else Nothing
 next_within t (Code collection rule code count) = if t.read == t.patterns then Some (Within (record t { ash = false })) else Nothing
 next_within t (Close collection patterns resolved unresolved refused) =
-    if closes t patterns resolved unresolved refused then Some Behind else Nothing
+    if closes t (record { patterns = patterns; resolved = resolved; unresolved = unresolved; refused = refused }) then Some Behind else Nothing
 next_within t (End collections patterns) = Nothing
 
 -- before all others `open`

@@ -62,7 +62,12 @@ fn with_line(tally: Tally, outcome: &Outcome) -> Tally
 
 // Whether all patterns are read and these are their numbers.
 fn closes(tally: Tally, patterns: u64, resolved: u64, unresolved: u64, refused: u64) -> bool
-    ensures { result ≡ closes tally patterns resolved unresolved refused }
+    ensures { result ≡ closes tally (record {
+      patterns = patterns;
+      resolved = resolved;
+      unresolved = unresolved;
+      refused = refused;
+    }) }
 {
     tally.read == tally.patterns
         && patterns == tally.patterns
@@ -80,43 +85,23 @@ fn next_within(tally: Tally, row: &Row) -> Option<Place>
             pattern,
             outcome,
             ..
-        } => {
-            if tally.read < tally.patterns && *pattern == tally.read + 1 {
-                Some(Place::Within(with_line(tally, outcome)))
-            } else {
-                None
-            }
+        } if tally.read < tally.patterns && *pattern == tally.read + 1 => {
+            Some(Place::Within(with_line(tally, outcome)))
         }
-        Row::Part { pattern, .. } => {
-            if tally.ash && *pattern == tally.read {
-                Some(Place::Within(tally))
-            } else {
-                None
-            }
+        Row::Part { pattern, .. } if tally.ash && *pattern == tally.read => {
+            Some(Place::Within(tally))
         }
-        Row::Code { .. } => {
-            if tally.read == tally.patterns {
-                Some(Place::Within(Tally {
-                    ash: false,
-                    ..tally
-                }))
-            } else {
-                None
-            }
-        }
+        Row::Code { .. } if tally.read == tally.patterns => Some(Place::Within(Tally {
+            ash: false,
+            ..tally
+        })),
         Row::Close {
             patterns,
             resolved,
             unresolved,
             refused,
             ..
-        } => {
-            if closes(tally, *patterns, *resolved, *unresolved, *refused) {
-                Some(Place::Behind)
-            } else {
-                None
-            }
-        }
+        } if closes(tally, *patterns, *resolved, *unresolved, *refused) => Some(Place::Behind),
         _ => None,
     }
 }

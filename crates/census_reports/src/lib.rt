@@ -7,7 +7,7 @@ mod error;
 mod form;
 mod reports;
 mod rows;
-mod texts;
+mod words;
 
 pub use error::ReportsError;
 pub use form::{Form, merging_changes_no_table, write_made};

@@ -9,7 +9,7 @@ ghost use Rattle.census_reports.specs.Streams.{streams};
 use crate::error::ReportsError;
 use crate::form::{Form, write_made};
 use crate::rows::rows_of;
-use crate::texts::{read_texts, words_or_input};
+use crate::words::{read_texts, words_or_input};
 use census_folders::Shelf;
 use census_identify::Bytes;
 use std::alloc::Global;
@@ -57,11 +57,12 @@ pub fn write_reports<S: Shelf, I: Read, O: Write>(
 ) -> Result<(), ReportsError>
     requires { has_failed input.old ≡ false }
     ensures done { OnOk result
-        (WritesReports form (S.held shelf.now []) (map (λ s. s.now) words.now)
+        (WritesReports form ((S.tellings shelf.now).held []) (map (λ s. s.now) words.now)
         (streams I.remaining O.contents input.old output.old)
         (streams I.remaining O.contents input.new output.new)) }
     ensures fails { IfErr result
-        (λ error. ReportsFail error form (S.held shelf.now []) (map (λ s. s.now) words.now)
+        (λ error. ReportsFail error form ((S.tellings shelf.now).held [])
+        (map (λ s. s.now) words.now)
         (streams I.remaining O.contents input.old output.old)
         (streams I.remaining O.contents input.new output.new)) }
 {

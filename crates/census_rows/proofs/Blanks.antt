@@ -38,6 +38,10 @@ blank-at (b ∷ bs) =
     ] in
     cases (eqb b 32) refl
 
+-- four bytes that are no blanks
+pub four : (a b c d : ℕ) → (a ≡ 32 → ⊥) → (b ≡ 32 → ⊥) → (c ≡ 32 → ⊥) → (d ≡ 32 → ⊥) → HasNoBlank (a ∷ b ∷ c ∷ d ∷ [])
+four a b c d p q r s = (p, (q, (r, (s, tt))))
+
 -- a text has one field at its front
 pub one-field : (a b x y : List ℕ) → HasNoBlank a → HasNoBlank b → EndsField x → EndsField y → a ++ x ≡ b ++ y → (a ≡ b) × (x ≡ y)
 one-field [] [] x y ha hb hx hy e = (refl, e)

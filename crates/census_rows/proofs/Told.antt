@@ -1,5 +1,5 @@
 -- Fields told one after another.
-use Rattle.std.proofs.Common.{ℕ, List, [], ◌∷◌, ◌++◌, subst, sym}
+use Rattle.std.proofs.Common.{ℕ, List, [], ◌∷◌, ◌++◌, ap, append_assoc, ◌∙◌, subst, sym}
 use Rattle.gathered.specs.Telling.{Sheet, TellsAfter}
 use Rattle.gathered.proofs.Telling.{tells_more, tells_none}
 use Rattle.census_rows.specs.Lines.{fields_text}
@@ -16,3 +16,9 @@ field_last field a b p = field_then field [] a b b p (tells_none b)
 
 pub fields_more : (xs ys : List (List ℕ)) (a b c : Sheet) → TellsAfter (fields_text xs) a b → TellsAfter (fields_text ys) b c → TellsAfter (fields_text (xs ++ ys)) a c
 fields_more xs ys a b c p q = subst (λ t. TellsAfter t a c) (sym (behind-append xs ys)) (tells_more (fields_text xs) (fields_text ys) a b c p q)
+
+-- more fields after the first ones of a line
+pub fields_behind : (kind : List ℕ) (xs ys : List (List ℕ)) (a b c : Sheet) → TellsAfter (kind ++ fields_text xs) a b → TellsAfter (fields_text ys) b c → TellsAfter (kind ++ fields_text (xs ++ ys)) a c
+fields_behind kind xs ys a b c p q =
+    subst (λ t. TellsAfter t a c) (append_assoc kind (fields_text xs) (fields_text ys) ∙ ap (λ w. kind ++ w) (sym (behind-append xs ys)))
+    (tells_more (kind ++ fields_text xs) (fields_text ys) a b c p q)

@@ -1,5 +1,5 @@
 -- The lines of a report, by themselves.
-use Rattle.std.specs.Prelude.{ℕ, FitsSigned, List, [], ◌∷◌, ◌++◌, ◌≡◌, ◌≢◌, ◌<◌, ◌^◌, ⊤, length, codes, decimal}
+use Rattle.std.specs.Prelude.{ℕ, Bool, true, false, FitsSigned, List, [], ◌∷◌, ◌++◌, ◌≡◌, ◌≢◌, ◌<◌, ◌^◌, ⊤, length, codes, decimal}
 use Rattle.std.specs.Int.{w64}
 use Rattle.std.specs.Fmt.{signed_decimal}
 use Rattle.census_rows.specs.declared.row.Outcome.{Outcome}
@@ -31,6 +31,15 @@ row_text (Code collection rule code count) = codes "code" ++ fields_text (decima
 row_text (Close collection patterns resolved unresolved refused) =
     codes "close" ++ fields_text (decimal collection ∷ decimal patterns ∷ decimal resolved ∷ decimal unresolved ∷ decimal refused ∷ [])
 row_text (End collections patterns) = codes "end" ++ fields_text (decimal collections ∷ decimal patterns ∷ [])
+
+-- whether a row describes a collection: that it begins, how often an object is in it, or what became of all its patterns
+abbrev pub describes_collection : Row → Bool
+describes_collection (Open collection patterns name) = true
+describes_collection (Line collection pattern outcome name) = false
+describes_collection (Part collection pattern code count) = false
+describes_collection (Code collection rule code count) = true
+describes_collection (Close collection patterns resolved unresolved refused) = true
+describes_collection (End collections patterns) = false
 
 -- no byte is a blank
 abbrev pub HasNoBlank : List ℕ → Type 0

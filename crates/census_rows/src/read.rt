@@ -1,10 +1,10 @@
 //! Lines read.
-ghost use Rattle.std.specs.Prelude.{◌≡◌, ◌==◌, ◌++◌, ◌∷◌, [], ◌<◌, ◌^◌, ℕ, ℤ, List, length, drop, position, true, IfSome, MatchOption, decimal, FitsSigned};
+ghost use Rattle.std.specs.Prelude.{◌≡◌, ◌==◌, ◌++◌, ◌∷◌, [], ◌<◌, ◌^◌, ℕ, ℤ, List, length, drop, position, true, IsTrue, IfSome, MatchOption, decimal, FitsSigned};
 ghost use Rattle.std.specs.Fmt.{signed_decimal};
 ghost use Rattle.std.specs.Int.{w64};
 ghost use Rattle.census_rows.specs.declared.row.Outcome.{Outcome};
 ghost use Rattle.census_rows.specs.declared.row.Row.{Row};
-ghost use Rattle.census_rows.specs.Lines.{HasNoBlank, IsWord, EndsField, IsOutcome, SameOutcome, IsRow, SameRow, fields_text, outcome_fields, row_text};
+ghost use Rattle.census_rows.specs.Lines.{describes_collection, HasNoBlank, IsWord, EndsField, IsOutcome, SameOutcome, IsRow, SameRow, fields_text, outcome_fields, row_text};
 
 use crate::numbers::{number_of, signed_of};
 use crate::row::{Outcome, Row};
@@ -194,11 +194,13 @@ impl<'a> Fields<'a> {
         }
     }
 
-    // The row after its first word.
-    fn row(&mut self, kind: &[u8]) -> Row<'a>
+    // The row after its first word, where it describes a collection.
+    fn row_of_collection(&mut self, kind: &[u8]) -> Row<'a>
         ensures sound { self.new.whole ≡ true → (self.old.whole ≡ true) × IsRow result
+            × IsTrue (describes_collection result)
             × (kind.now ++ self.old.rest.now ≡ row_text result ++ self.new.rest.now) }
         ensures all { (row : Row) → self.old.whole ≡ true → IsRow row
+            → IsTrue (describes_collection row)
             → HasNoBlank kind.now → EndsField self.old.rest.now
             → kind.now ++ self.old.rest.now ≡ row_text row
             → (self.new.whole ≡ true) × SameRow result row × (self.new.rest.now ≡ []) }
@@ -208,20 +210,6 @@ impl<'a> Fields<'a> {
                 collection: self.number(),
                 patterns: self.number(),
                 name: self.name(),
-            }
-        } else if are_same(kind, b"line") {
-            Row::Line {
-                collection: self.number(),
-                pattern: self.number(),
-                outcome: self.outcome(),
-                name: self.name(),
-            }
-        } else if are_same(kind, b"part") {
-            Row::Part {
-                collection: self.number(),
-                pattern: self.number(),
-                code: self.word(),
-                count: self.number(),
             }
         } else if are_same(kind, b"code") {
             Row::Code {
@@ -238,17 +226,45 @@ impl<'a> Fields<'a> {
                 unresolved: self.number(),
                 refused: self.number(),
             }
-        } else if are_same(kind, b"end") {
-            Row::End {
-                collections: self.number(),
-                patterns: self.number(),
-            }
         } else {
             self.whole = false;
             Row::End {
                 collections: 0,
                 patterns: 0,
             }
+        }
+    }
+
+    // The row after its first word.
+    fn row(&mut self, kind: &[u8]) -> Row<'a>
+        ensures sound { self.new.whole ≡ true → (self.old.whole ≡ true) × IsRow result
+            × (kind.now ++ self.old.rest.now ≡ row_text result ++ self.new.rest.now) }
+        ensures all { (row : Row) → self.old.whole ≡ true → IsRow row
+            → HasNoBlank kind.now → EndsField self.old.rest.now
+            → kind.now ++ self.old.rest.now ≡ row_text row
+            → (self.new.whole ≡ true) × SameRow result row × (self.new.rest.now ≡ []) }
+    {
+        if are_same(kind, b"line") {
+            Row::Line {
+                collection: self.number(),
+                pattern: self.number(),
+                outcome: self.outcome(),
+                name: self.name(),
+            }
+        } else if are_same(kind, b"part") {
+            Row::Part {
+                collection: self.number(),
+                pattern: self.number(),
+                code: self.word(),
+                count: self.number(),
+            }
+        } else if are_same(kind, b"end") {
+            Row::End {
+                collections: self.number(),
+                patterns: self.number(),
+            }
+        } else {
+            self.row_of_collection(kind)
         }
     }
 }

@@ -1,8 +1,8 @@
 //! Lines written.
-ghost use Rattle.std.specs.Prelude.{◌≡◌, ◌∷◌, [], decimal};
+ghost use Rattle.std.specs.Prelude.{◌≡◌, ◌∷◌, ◌++◌, [], decimal, if◌then◌else◌};
 ghost use Rattle.std.specs.Fmt.{signed_decimal};
 ghost use Rattle.gathered.specs.Telling.{TellsAfter, sheet};
-ghost use Rattle.census_rows.specs.Lines.{fields_text, outcome_fields, row_text};
+ghost use Rattle.census_rows.specs.Lines.{describes_collection, fields_text, outcome_fields, row_text};
 
 use crate::fields::{put_field, put_number};
 use crate::row::{Outcome, Row};
@@ -97,9 +97,25 @@ fn put_outcome<W: Write>(outcome: &Outcome, block: &mut Block, writer: &mut Watc
     }
 }
 
-/// Tells a line, without its LF, and asks for no memory but the block's.
-pub fn put_row<W: Write>(row: &Row, block: &mut Block, writer: &mut Watched<W>)
-    ensures { TellsAfter (row_text row.now)
+// A line's first word, and its first two numbers.
+fn put_start<W: Write>(
+    kind: &[u8],
+    first: u64,
+    second: u64,
+    block: &mut Block,
+    writer: &mut Watched<W>,
+)
+    ensures { TellsAfter (kind.now ++ fields_text (decimal first ∷ decimal second ∷ []))
+        (sheet W.contents block.old writer.old) (sheet W.contents block.new writer.new) }
+{
+    put(kind, block, writer);
+    put_number(first, block, writer);
+    put_number(second, block, writer);
+}
+
+// A line that describes a collection; of another row nothing.
+fn put_of_collection<W: Write>(row: &Row, block: &mut Block, writer: &mut Watched<W>)
+    ensures { TellsAfter (if describes_collection row.now then row_text row.now else [])
         (sheet W.contents block.old writer.old) (sheet W.contents block.new writer.new) }
 {
     match row {
@@ -108,34 +124,8 @@ pub fn put_row<W: Write>(row: &Row, block: &mut Block, writer: &mut Watched<W>)
             patterns,
             name,
         } => {
-            put(b"open", block, writer);
-            put_number(*collection, block, writer);
-            put_number(*patterns, block, writer);
+            put_start(b"open", *collection, *patterns, block, writer);
             put_field(*name, block, writer);
-        }
-        Row::Line {
-            collection,
-            pattern,
-            outcome,
-            name,
-        } => {
-            put(b"line", block, writer);
-            put_number(*collection, block, writer);
-            put_number(*pattern, block, writer);
-            put_outcome(outcome, block, writer);
-            put_field(*name, block, writer);
-        }
-        Row::Part {
-            collection,
-            pattern,
-            code,
-            count,
-        } => {
-            put(b"part", block, writer);
-            put_number(*collection, block, writer);
-            put_number(*pattern, block, writer);
-            put_field(*code, block, writer);
-            put_number(*count, block, writer);
         }
         Row::Code {
             collection,
@@ -156,20 +146,45 @@ pub fn put_row<W: Write>(row: &Row, block: &mut Block, writer: &mut Watched<W>)
             unresolved,
             refused,
         } => {
-            put(b"close", block, writer);
-            put_number(*collection, block, writer);
-            put_number(*patterns, block, writer);
+            put_start(b"close", *collection, *patterns, block, writer);
             put_number(*resolved, block, writer);
             put_number(*unresolved, block, writer);
             put_number(*refused, block, writer);
         }
+        _ => {}
+    }
+}
+
+/// Tells a line, without its LF, and asks for no memory but the block's.
+pub fn put_row<W: Write>(row: &Row, block: &mut Block, writer: &mut Watched<W>)
+    ensures { TellsAfter (row_text row.now)
+        (sheet W.contents block.old writer.old) (sheet W.contents block.new writer.new) }
+{
+    match row {
+        Row::Line {
+            collection,
+            pattern,
+            outcome,
+            name,
+        } => {
+            put_start(b"line", *collection, *pattern, block, writer);
+            put_outcome(outcome, block, writer);
+            put_field(*name, block, writer);
+        }
+        Row::Part {
+            collection,
+            pattern,
+            code,
+            count,
+        } => {
+            put_start(b"part", *collection, *pattern, block, writer);
+            put_field(*code, block, writer);
+            put_number(*count, block, writer);
+        }
         Row::End {
             collections,
             patterns,
-        } => {
-            put(b"end", block, writer);
-            put_number(*collections, block, writer);
-            put_number(*patterns, block, writer);
-        }
+        } => put_start(b"end", *collections, *patterns, block, writer),
+        _ => put_of_collection(row, block, writer),
     }
 }

@@ -15,7 +15,7 @@ use Rattle.kernel_laws.proofs.Counts.{three_rows, next_by_bit}
 
 -- ---- strands
 
-module _ (G : Generation) (left y : ℤ) (above here below : ℕ) (up mid down : Strand) (rows : AreRowsAt G left y above here below)
+module _ (G : Generation) (left y : ℤ) (above here below : ℕ) (up mid down : Strand) (rows : AreRowsAt G (record { left = left; y = y; above = above; here = here; below = below }))
     (u : IsStrandOf up above) (m : IsStrandOf mid here) (d : IsStrandOf down below) where
   pub strands_count : (j : ℕ) → j < 64 → neighbour_count up mid down j ≡ count G (left +ℤ pos j, y)
   strands_count j column =

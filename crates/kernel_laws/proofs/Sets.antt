@@ -134,7 +134,7 @@ one_of first second third zero = first
 one_of first second third (suc zero) = second
 one_of first second third (suc (suc n)) = third
 
-pub rows_of_set : (left y : ℤ) (first second third : ℕ) → (G : Generation) × AreRowsAt G left y first second third
+pub rows_of_set : (left y : ℤ) (first second third : ℕ) → (G : Generation) × AreRowsAt G (record { left = left; y = y; above = first; here = second; below = third })
 unfolding one_of
 rows_of_set left y first second third =
     let some = set_of left (y -ℤ pos 1) (one_of first second third) 3 in

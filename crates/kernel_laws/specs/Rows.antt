@@ -17,11 +17,19 @@ state G c = as_bit (contains G c)
 pub record IsRowAt (G : Generation) (left y : ℤ) (bits : ℕ) : Type 0 where
   pub bit : (j : ℕ) → 63 ≤ j → j < 129 → bit_at bits j ≡ state G ((left -ℤ pos 64) +ℤ pos j, y)
 
+-- the bits of three rows, one below another, and where the cells of the middle one begin
+pub record ThreeRows : Type 0 where
+  pub left : ℤ
+  pub y : ℤ
+  pub above : ℕ
+  pub here : ℕ
+  pub below : ℕ
+
 -- three rows of a set, one below another: the middle one is that from (left, y) on
-pub record AreRowsAt (G : Generation) (left y : ℤ) (first second third : ℕ) : Type 0 where
-  pub above : IsRowAt G left (y -ℤ pos 1) first
-  pub here : IsRowAt G left y second
-  pub below : IsRowAt G left (y +ℤ pos 1) third
+pub record AreRowsAt (G : Generation) (rows : ThreeRows) : Type 0 where
+  pub above : IsRowAt G rows.left (rows.y -ℤ pos 1) rows.above
+  pub here : IsRowAt G rows.left rows.y rows.here
+  pub below : IsRowAt G rows.left (rows.y +ℤ pos 1) rows.below
 
 -- the eight rows of a window are those of a set from (left, top) on, southwards, with the row above and the row below
 pub record IsWindowAt (G : Generation) (left top : ℤ) (window : Window) : Type 0 where

@@ -18,11 +18,12 @@ ghost use Rattle.kernel_laws.specs.Rows.{AreRowsAt, IsNineAt, IsWindowAt, state}
 /// of the cell there, and what a rule makes of the bit and of that number is the cell in the next generation.
 pub fn strands_tell_the_next_generation()
     ensures count { (G : Generation) (left y : ℤ) (above here below : ℕ) (up mid down : Strand) →
-        AreRowsAt G left y above here below →
+        AreRowsAt G (record { left = left; y = y; above = above; here = here; below = below }) →
         IsStrandOf up above → IsStrandOf mid here → IsStrandOf down below → (j : ℕ) → j < 64 →
         neighbour_count up mid down j ≡ count G (left +ℤ pos j, y) }
     ensures next { (R : Rule) (G : Generation) (left y : ℤ) (above here below : ℕ)
-        (up mid down : Strand) → AreRowsAt G left y above here below →
+        (up mid down : Strand) →
+        AreRowsAt G (record { left = left; y = y; above = above; here = here; below = below }) →
         IsStrandOf up above → IsStrandOf mid here → IsStrandOf down below → (j : ℕ) → j < 64 →
         next_state R (bit_at mid.here j) (neighbour_count up mid down j) ≡
         state (next R G) (left +ℤ pos j, y) }
@@ -55,8 +56,8 @@ pub fn tiles_tell_the_next_generation()
 
 /// Whatever bits three rows, a window or nine tiles have, some set has these cells, wherever it is to stand.
 pub fn each_row_is_of_a_set()
-    ensures rows { (left y : ℤ) (first second third : ℕ) → (G : Generation) ×
-        AreRowsAt G left y first second third }
+    ensures rows { (left y : ℤ) (above here below : ℕ) → (G : Generation) ×
+        AreRowsAt G (record { left = left; y = y; above = above; here = here; below = below }) }
     ensures window { (left top : ℤ) (window : Window) → (G : Generation) ×
         IsWindowAt G left top window }
     ensures tiles { (left top : ℤ) (nine : Nine) → (G : Generation) × IsNineAt G left top nine }

@@ -22,14 +22,16 @@ pub fn merge_reports<S: Shelf, I: Read, O: Write>(
 ) -> Result<(), ReportsError>
     requires { has_failed input.old ≡ false }
     ensures done { OnOk result
-        (WritesReports Form.Merged (S.held shelf.now []) (map (λ s. s.now) words.now)
+        (WritesReports Form.Merged ((S.tellings shelf.now).held []) (map (λ s. s.now) words.now)
         (streams I.remaining O.contents input.old output.old)
         (streams I.remaining O.contents input.new output.new)) }
     ensures fails { IfErr result
-        (λ error. ReportsFail error Form.Merged (S.held shelf.now []) (map (λ s. s.now) words.now)
+        (λ error. ReportsFail error Form.Merged ((S.tellings shelf.now).held [])
+        (map (λ s. s.now) words.now)
         (streams I.remaining O.contents input.old output.old)
         (streams I.remaining O.contents input.new output.new)) }
-    ensures lawful { OnOk result (MergesLawfully (S.held shelf.now []) (map (λ s. s.now) words.now)
+    ensures lawful { OnOk result
+        (MergesLawfully ((S.tellings shelf.now).held []) (map (λ s. s.now) words.now)
         (streams I.remaining O.contents input.old output.old)
         (streams I.remaining O.contents input.new output.new)) }
 {

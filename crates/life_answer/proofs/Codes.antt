@@ -10,7 +10,7 @@ use Rattle.life_model.specs.Rule.{Rule}
 use Rattle.life_model.specs.Generation.{Generation, size}
 use Rattle.life_model.specs.Evolution.{generation}
 use Rattle.life_model.specs.Symmetry.{normal, Orientation, Same, FlipX, FlipY, Half, Swap, SwapFlipX, SwapFlipY, SwapHalf, image_under}
-use Rattle.life_model.specs.Recurrence.{AreOneObject, Settles}
+use Rattle.life_model.specs.Recurrence.{AreOneObject, Recurrence, Settles}
 use Rattle.life_model.proofs.Cells.{same_cell-is}
 use Rattle.life_model.proofs.Objects.{each_phase, object_from_shapes, AreOneObject-swap}
 use Rattle.life_shape.specs.Wechsler.{body}
@@ -185,14 +185,18 @@ module _ (R : Rule) (H K : Generation) (p q : ℕ) (d e : Cell) (first : RecursF
       let there = least_phase R K H q p e d second first in
       object_from_shapes R H K here.phase there.phase here.map there.map ((same_bodies _ _).0 (sym here.text ∙ texts ∙ there.text))
 
-first_return : (R : Rule) (G : Generation) (b onset period : ℕ) (d : Cell) → Settles R G b onset period d → RecursFirst R (generation R G onset) period d
-first_return R G b onset period d s = record { recurs = s.recurs; least = s.least; unmoved = s.unmoved }
+first_return : (R : Rule) (G : Generation) (b : ℕ) (r : Recurrence) → Settles R G b r → RecursFirst R (generation R G r.onset) r.period r.displacement
+first_return R G b r s = record { recurs = s.recurs; least = s.least; unmoved = s.unmoved }
 
 -- of two sets that settle, the codes are equal exactly where the generations at the onset are one object
-pub codes_tell_objects : (R : Rule) (G J : Generation) (b c onset period onset2 period2 : ℕ) (d e : Cell) → Settles R G b onset period d → Settles R J c onset2 period2 e → (code_of R (generation R G onset) period d ≡ code_of R (generation R J onset2) period2 e) ↔ AreOneObject R (generation R G onset) (generation R J onset2)
-codes_tell_objects R G J b c onset period onset2 period2 d e s t =
-    let first = first_return R G b onset period d s in
-    let second = first_return R J c onset2 period2 e t in
-    let H = generation R G onset in
-    let K = generation R J onset2 in
-    (λ same. object_by_code R H K period period2 d e first second same, λ one. code-object R H K period period2 d e first second one)
+pub codes_tell_objects : (R : Rule) (G J : Generation) (b c : ℕ) (r q : Recurrence) → Settles R G b r → Settles R J c q
+    → (code_of R (generation R G r.onset) r.period r.displacement ≡ code_of R (generation R J q.onset) q.period q.displacement)
+    ↔ AreOneObject R (generation R G r.onset) (generation R J q.onset)
+codes_tell_objects R G J b c r q s t =
+    let first = first_return R G b r s in
+    let second = first_return R J c q t in
+    let H = generation R G r.onset in
+    let K = generation R J q.onset in (
+      λ same. object_by_code R H K r.period q.period r.displacement q.displacement first second same,
+      λ one. code-object R H K r.period q.period r.displacement q.displacement first second one,
+    )

@@ -3,12 +3,12 @@ use Rattle.std.proofs.Common.{◌≡◌, ℕ, zero, suc, ◌+◌, ◌-◌, ◌<�
 use Rattle.std.proofs.lemmas.Slice.Eq.{slice_eq-Decides}
 use Rattle.std.proofs.lemmas.Bool.{cases_lt}
 use Rattle.std.proofs.lemmas.Bool.Decides.{Decides-like}
-use Rattle.life_model.specs.Cell.{Cell, origin, plus, opposite}
+use Rattle.life_model.specs.Cell.{origin, plus, opposite}
 use Rattle.life_model.specs.Rule.{Rule}
 use Rattle.life_model.specs.Generation.{Generation, cells, from_list, size, empty}
 use Rattle.life_model.specs.Evolution.{generation}
 use Rattle.life_model.specs.Symmetry.{normal, translate_of, corner, corner_of}
-use Rattle.life_model.specs.Recurrence.{SettlesAt, Settles}
+use Rattle.life_model.specs.Recurrence.{SettlesAt, Recurrence, Settles}
 use Rattle.life_model.proofs.Cells.{same_cell-is, pair}
 use Rattle.life_model.proofs.Generations.{from_list-cells, cells-from_list}
 use Rattle.life_model.proofs.Moves.{moved-empty}
@@ -124,7 +124,7 @@ module _ (R : Rule) (G : Generation) where
         true≢false (sym ((comes_again-is g n).1 e) ∙ first_from-none (comes_again R G g) (b - g) 1 n (is_none (first_return R G b g) none) later (omega arith))
 
     -- the least return of the first generation that has one is the period
-    settles_by_first : (g n : ℕ) → ((h : ℕ) → h < g → SettlesAt R G b h → ⊥) → g < b → IsFirst (comes_again R G g) 1 (1 + (b - g)) n → Settles R G b g n (way R G g n)
+    settles_by_first : (g n : ℕ) → ((h : ℕ) → h < g → SettlesAt R G b h → ⊥) → g < b → IsFirst (comes_again R G g) 1 (1 + (b - g)) n → Settles R G b (record { onset = g; period = n; displacement = way R G g n })
     settles_by_first g n before early r =
         let later : 1 ≤ n = r.reached in
         let below = r.below in
@@ -143,11 +143,9 @@ module _ (R : Rule) (G : Generation) where
 
     -- what is found: a settling with its finding, or that there is none
     pub record IsSettled : Type 0 where
-      pub onset : ℕ
-      pub period : ℕ
-      pub by : Cell
-      pub settles : Settles R G b onset period by
-      pub found : finding_of R G b ≡ recurrence_finding R G onset period by
+      pub recurrence : Recurrence
+      pub settles : Settles R G b recurrence
+      pub found : finding_of R G b ≡ recurrence_finding R G recurrence
 
     pub record IsUnsettled : Type 0 where
       pub nowhere : (g : ℕ) → SettlesAt R G b g → ⊥
@@ -174,9 +172,7 @@ module _ (R : Rule) (G : Generation) where
         let n = return_of g (first_return R G b g) first.passes in
         let below : g < 0 + b = first.below in
         inl (record {
-          onset = g;
-          period = n.0;
-          by = way R G g n.0;
+          recurrence = record { onset = g; period = n.0; displacement = way R G g n.0 };
           settles = settles_by_first g n.0 (λ h k. no_return h (first.before h (omega arith) k)) (omega arith)
               (first_from-found (comes_again R G g) (b - g) 1 n.0 n.1);
           found = found_by (Some g) e ∙ ap (finding_at R G g) n.1;
@@ -185,76 +181,72 @@ module _ (R : Rule) (G : Generation) where
     pub settled_or_not : IsSettled ⊎ IsUnsettled
     settled_or_not = onset_cases (first_onset R G b) refl
 
-    settled_same : (o p o' p' : ℕ) (d d' : Cell) → o ≡ o' → p ≡ p' → d ≡ d' → recurrence_finding R G o p d ≡ recurrence_finding R G o' p' d'
-    settled_same o p o' p' d d' x y z = λ i. recurrence_finding R G (x i) (y i) (z i)
-
-    pub finding-settled : (o p : ℕ) (d : Cell) → Settles R G b o p d → finding_of R G b ≡ recurrence_finding R G o p d
-    finding-settled o p d s =
+    pub finding-settled : (r : Recurrence) → Settles R G b r → finding_of R G b ≡ recurrence_finding R G r
+    finding-settled r s =
         elim settled_or_not [
-          | inl found ↦
-              let one = Settles-one R G b b found.onset found.period o p found.by d in
-              let same = one found.settles s in
-              found.found ∙ settled_same found.onset found.period o p found.by d same.0 same.1 same.2
-          | inr none ↦ absurd (none.nowhere o s.settles)
+          | inl found ↦ found.found ∙ ap (recurrence_finding R G) (Settles-one R G b b found.recurrence r found.settles s)
+          | inr none ↦ absurd (none.nowhere r.onset s.settles)
         ]
 
     pub finding-nowhere : ((g : ℕ) → SettlesAt R G b g → ⊥) → finding_of R G b ≡ Unresolved (size G)
     finding-nowhere none =
         elim settled_or_not [
-          | inl found ↦ absurd (none found.onset found.settles.settles)
+          | inl found ↦ absurd (none found.recurrence.onset found.settles.settles)
           | inr not ↦ not.found
         ]
 
-    settled_apart : (o p n : ℕ) (d : Cell) → recurrence_finding R G o p d ≡ Unresolved n → ⊥
-    settled_apart o p n d e = cc
+    settled_apart : (r : Recurrence) (n : ℕ) → recurrence_finding R G r ≡ Unresolved n → ⊥
+    settled_apart r n e = cc
 
     pub nowhere_by_finding : (n g : ℕ) → finding_of R G b ≡ Unresolved n → SettlesAt R G b g → ⊥
     nowhere_by_finding n g e s =
         elim settled_or_not [
-          | inl found ↦ settled_apart found.onset found.period n found.by (sym found.found ∙ e)
+          | inl found ↦ settled_apart found.recurrence n (sym found.found ∙ e)
           | inr not ↦ not.nowhere g s
         ]
 
-    settles_same : (o p population onset period : ℕ) (d : Cell) (dx dy : ℤ) (code : List ℕ) → recurrence_finding R G o p d ≡ Recurs population onset period dx dy code → Settles R G b o p d → Settles R G b onset period (dx, dy)
-    settles_same o p population onset period d dx dy code e s =
-        let onsets : o ≡ onset = cc in
-        let periods : p ≡ period = cc in
-        let left : d.0 ≡ dx = cc in
-        let down : d.1 ≡ dy = cc in
-        subst (λ o. Settles R G b o period (dx, dy)) onsets (subst (λ p. Settles R G b o p (dx, dy)) periods (subst (λ d. Settles R G b o p d) (pair left down) s))
+    settles_same : (r : Recurrence) (population onset period : ℕ) (dx dy : ℤ) (code : List ℕ) → recurrence_finding R G r ≡ Recurs population onset period dx dy code
+        → Settles R G b r → Settles R G b (record { onset = onset; period = period; displacement = (dx, dy) })
+    settles_same r population onset period dx dy code e s =
+        let onsets : r.onset ≡ onset = cc in
+        let periods : r.period ≡ period = cc in
+        let left : r.displacement.0 ≡ dx = cc in
+        let down : r.displacement.1 ≡ dy = cc in
+        subst (Settles R G b) (λ i. record { onset = onsets i; period = periods i; displacement = pair left down i }) s
 
-    pub settles_by_finding : (population onset period : ℕ) (dx dy : ℤ) (code : List ℕ) → finding_of R G b ≡ Recurs population onset period dx dy code → Settles R G b onset period (dx, dy)
+    pub settles_by_finding : (population onset period : ℕ) (dx dy : ℤ) (code : List ℕ) → finding_of R G b ≡ Recurs population onset period dx dy code
+        → Settles R G b (record { onset = onset; period = period; displacement = (dx, dy) })
     settles_by_finding population onset period dx dy code e =
         elim settled_or_not [
-          | inl found ↦ settles_same found.onset found.period population onset period found.by dx dy code (sym found.found ∙ e) found.settles
+          | inl found ↦ settles_same found.recurrence population onset period dx dy code (sym found.found ∙ e) found.settles
           | inr not ↦ absurd (let apart : Unresolved (size G) ≡ Recurs population onset period dx dy code = sym not.found ∙ e in cc)
         ]
 
-    ash_apart_settled : (o p n : ℕ) (d : Cell) (parts : List Part) → recurrence_finding R G o p d ≡ Ash n parts → ⊥
-    ash_apart_settled o p n d parts e = cc
+    ash_apart_settled : (r : Recurrence) (n : ℕ) (parts : List Part) → recurrence_finding R G r ≡ Ash n parts → ⊥
+    ash_apart_settled r n parts e = cc
 
     -- no such finding is an ash
     pub finding-no_ash : (population : ℕ) (parts : List Part) → finding_of R G b ≡ Ash population parts → ⊥
     finding-no_ash population parts e =
         elim settled_or_not [
-          | inl found ↦ ash_apart_settled found.onset found.period population found.by parts (sym found.found ∙ e)
+          | inl found ↦ ash_apart_settled found.recurrence population parts (sym found.found ∙ e)
           | inr not ↦ (let apart : Unresolved (size G) ≡ Ash population parts = sym not.found ∙ e in cc)
         ]
 
-    large_apart_settled : (o p n m : ℕ) (d : Cell) → recurrence_finding R G o p d ≡ Large n m → ⊥
-    large_apart_settled o p n m d e = cc
+    large_apart_settled : (r : Recurrence) (n m : ℕ) → recurrence_finding R G r ≡ Large n m → ⊥
+    large_apart_settled r n m e = cc
 
     -- nor is it that a generation is too large
     pub finding-no_large : (population first : ℕ) → finding_of R G b ≡ Large population first → ⊥
     finding-no_large population first e =
         elim settled_or_not [
-          | inl found ↦ large_apart_settled found.onset found.period population first found.by (sym found.found ∙ e)
+          | inl found ↦ large_apart_settled found.recurrence population first (sym found.found ∙ e)
           | inr not ↦ (let apart : Unresolved (size G) ≡ Large population first = sym not.found ∙ e in cc)
         ]
 
-  pub finding-more : (b c o p : ℕ) (d : Cell) → Settles R G b o p d → o + p ≤ c → finding_of R G c ≡ finding_of R G b
-  finding-more b c o p d s h = finding-settled c o p d (Settles-other_bound R G b o p d s c h) ∙ sym (finding-settled b o p d s)
+  pub finding-more : (b c : ℕ) (r : Recurrence) → Settles R G b r → r.onset + r.period ≤ c → finding_of R G c ≡ finding_of R G b
+  finding-more b c r s h = finding-settled c r (Settles-other_bound R G b r s c h) ∙ sym (finding-settled b r s)
 
-  pub finding-less : (b c o p : ℕ) (d : Cell) → Settles R G b o p d → c < o + p → finding_of R G c ≡ Unresolved (size G)
-  finding-less b c o p d s h =
-      finding-nowhere c (λ g t. let enough : o + p ≤ c = onset-period-least R G b o p d s c g t in let no : ⊥ = omega arith in no)
+  pub finding-less : (b c : ℕ) (r : Recurrence) → Settles R G b r → c < r.onset + r.period → finding_of R G c ≡ Unresolved (size G)
+  finding-less b c r s h =
+      finding-nowhere c (λ g t. let enough : r.onset + r.period ≤ c = onset-period-least R G b r s c g t in let no : ⊥ = omega arith in no)

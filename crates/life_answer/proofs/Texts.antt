@@ -2,7 +2,7 @@
 use Rattle.std.proofs.Common.{◌≡◌, ℕ, ◌≤◌, Bool, true, false, List, [], ◌∷◌, ◌++◌, Option, Some, None, Result, Ok, Err, cond, is_some, codes, ap, subst, sym, arith, ◌∙◌, ◌≢◌, IfOk, IsOk, OnErr, OnOk, refl}
 use Rattle.std.specs.Option.{option_or}
 use Rattle.std.specs.List.{list_all}
-use Rattle.life_cells.specs.Bytes.{is_blank, after_one_of}
+use Rattle.texts.specs.Bytes.{is_blank, after_one_of}
 use Rattle.life_cells.specs.Rules.{life}
 use Rattle.life_model.specs.Rule.{Rule}
 use Rattle.life_model.specs.Generation.{Generation, size}
@@ -11,7 +11,8 @@ use Rattle.life_cells.specs.declared.rule.RuleFault.TheVariants.{NotLifeLike, Ha
 use Rattle.life_text.specs.declared.rle.RleFault.{RleFault}
 use Rattle.life_text.specs.declared.rle.RleFault.TheVariants.{Memory, NoHeader, ManyStates, BadChar, BadRun, TooFar, TooMany, NoEnd}
 use Rattle.life_text.specs.Rle as rle
-use Rattle.life_text.specs.Rle.{Meaning, Token, reading, refusal, fault_of, with_body, unless_fault, first_fault, token_fault, fault_if, header_rule, line_rule, rule_behind, named_rule, rule_or_fault, rule_fault}
+use Rattle.texts.specs.Faults.{fault_if}
+use Rattle.life_text.specs.Rle.{Meaning, Token, reading, refusal, fault_of, with_body, unless_fault, first_fault, token_fault, header_rule, line_rule, rule_behind, named_rule, rule_or_fault, rule_fault}
 use Rattle.life_text.specs.Picture.{Picture, picture_of}
 use Rattle.life_answer.specs.declared.finding.Finding.{Finding}
 use Rattle.life_answer.specs.declared.finding.Finding.TheVariants.{Ash}

@@ -1,9 +1,9 @@
 -- What is found of a pattern that settles, and the numbers of faults.
 use Rattle.std.specs.Prelude.{ℕ, ◌+◌, Option, Some, None}
-use Rattle.life_model.specs.Cell.{Cell}
 use Rattle.life_model.specs.Rule.{Rule}
 use Rattle.life_model.specs.Generation.{Generation, size}
 use Rattle.life_model.specs.Evolution.{generation}
+use Rattle.life_model.specs.Recurrence.{Recurrence}
 use Rattle.life_text.specs.declared.rle.RleFault.{RleFault}
 use Rattle.life_text.specs.declared.rle.RleFault.TheVariants.{NoHeader, BadHeader, RuleNotLifeLike, RuleHasB0, ManyStates, BadChar, BadRun, TooFar, TooMany, NoEnd, Memory}
 use Rattle.life_answer.specs.declared.finding.Finding.{Finding}
@@ -13,14 +13,18 @@ use Rattle.life_answer.specs.Recurrence.{first_onset, first_return, corners_apar
 
 -- The finding of a set that settles: the population is that of the set itself, and the code that of its generation at
 -- the onset.
-abbrev pub recurrence_finding : Rule → Generation → ℕ → ℕ → Cell → Finding
-recurrence_finding R G onset period displacement =
-    Recurs (size G) onset period displacement.0 displacement.1 (code_of R (generation R G onset) period displacement)
+abbrev pub recurrence_finding : Rule → Generation → Recurrence → Finding
+recurrence_finding R G r =
+    Recurs (size G) r.onset r.period r.displacement.0 r.displacement.1 (code_of R (generation R G r.onset) r.period r.displacement)
 
 abbrev pub finding_at : Rule → Generation → ℕ → Option ℕ → Finding
 finding_at R G onset None = Unresolved (size G)
 finding_at R G onset (Some period) =
-    recurrence_finding R G onset period (corners_apart (generation R G onset) (generation R G (onset + period)))
+    recurrence_finding R G (record {
+      onset = onset;
+      period = period;
+      displacement = corners_apart (generation R G onset) (generation R G (onset + period));
+    })
 
 abbrev pub finding_from : Rule → Generation → ℕ → Option ℕ → Finding
 finding_from R G b None = Unresolved (size G)

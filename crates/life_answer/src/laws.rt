@@ -1,9 +1,8 @@
 //! The laws that tie the answer to the definition of onset, period and displacement.
 ghost use Rattle.std.specs.Prelude.{◌≡◌, ◌+◌, ◌<◌, ◌≤◌, ◌↔◌, ℕ, List, None, Ok, Option, Some, ℤ, length};
-ghost use Rattle.life_model.specs.Cell.{Cell};
 ghost use Rattle.life_model.specs.Evolution.{generation};
 ghost use Rattle.life_model.specs.Generation.{Generation, size};
-ghost use Rattle.life_model.specs.Recurrence.{AreOneObject, Settles, SettlesAt};
+ghost use Rattle.life_model.specs.Recurrence.{AreOneObject, Recurrence, Settles, SettlesAt};
 ghost use Rattle.life_model.specs.Rule.{Rule};
 ghost use Rattle.life_text.specs.declared.rle.RleFault.{RleFault};
 ghost use Rattle.life_text.specs.Picture.{Picture, picture_of};
@@ -23,14 +22,14 @@ ghost use Rattle.std.specs.List.Sorted.{IsPermutation};
 /// What is found of a set that settles within the bound: the population of the set itself, its onset, period and
 /// displacement, and the code of the generation at the onset. And only of such a set is it found.
 pub fn a_settled_set_recurs()
-    ensures found { (R : Rule) (G : Generation) (b onset period : ℕ) (d : Cell) →
-        Settles R G b onset period d →
+    ensures found { (R : Rule) (G : Generation) (b : ℕ) (r : Recurrence) → Settles R G b r →
         finding_of R G b ≡
-        Recurs (size G) onset period d.0 d.1 (code_of R (generation R G onset) period d) }
+        Recurs (size G) r.onset r.period r.displacement.0 r.displacement.1
+        (code_of R (generation R G r.onset) r.period r.displacement) }
     ensures only { (R : Rule) (G : Generation) (b population onset period : ℕ) (dx dy : ℤ)
         (code : List ℕ) →
         finding_of R G b ≡ Recurs population onset period dx dy code →
-        Settles R G b onset period (dx, dy) }
+        Settles R G b (record { onset = onset; period = period; displacement = (dx, dy) }) }
 {}
 
 /// A set is unresolved exactly where none of its generations comes again within the bound.
@@ -44,12 +43,10 @@ pub fn an_unresolved_set_settles_nowhere()
 /// A set that settles within a bound has the same finding within every bound that its onset and its period together
 /// don't pass, and within no other.
 pub fn one_finding()
-    ensures more { (R : Rule) (G : Generation) (b c onset period : ℕ) (d : Cell) →
-        Settles R G b onset period d →
-        onset + period ≤ c → finding_of R G c ≡ finding_of R G b }
-    ensures less { (R : Rule) (G : Generation) (b c onset period : ℕ) (d : Cell) →
-        Settles R G b onset period d →
-        c < onset + period → finding_of R G c ≡ Unresolved (size G) }
+    ensures more { (R : Rule) (G : Generation) (b c : ℕ) (r : Recurrence) → Settles R G b r →
+        r.onset + r.period ≤ c → finding_of R G c ≡ finding_of R G b }
+    ensures less { (R : Rule) (G : Generation) (b c : ℕ) (r : Recurrence) → Settles R G b r →
+        c < r.onset + r.period → finding_of R G c ≡ Unresolved (size G) }
 {}
 
 /// The answer to a text is the finding of the pattern that it means, or the number of its fault, which is 1 to 10.
@@ -86,11 +83,11 @@ pub fn the_first_generation_past_the_limit()
 
 /// Of two sets that settle under one rule, the codes are equal exactly where their generations at the onset are one object.
 pub fn codes_tell_objects()
-    ensures { (R : Rule) (G J : Generation) (b c onset period onset2 period2 : ℕ) (d e : Cell) →
-        Settles R G b onset period d →
-        Settles R J c onset2 period2 e →
-        (code_of R (generation R G onset) period d ≡ code_of R (generation R J onset2) period2 e)
-        ↔ AreOneObject R (generation R G onset) (generation R J onset2) }
+    ensures { (R : Rule) (G J : Generation) (b c : ℕ) (r s : Recurrence) →
+        Settles R G b r → Settles R J c s →
+        (code_of R (generation R G r.onset) r.period r.displacement ≡
+        code_of R (generation R J s.onset) s.period s.displacement)
+        ↔ AreOneObject R (generation R G r.onset) (generation R J s.onset) }
 {}
 
 /// Objects are counted by their codes the same in whatever order these come, each once in all.

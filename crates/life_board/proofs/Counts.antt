@@ -37,7 +37,7 @@ pub counted_more : (rows : List ℕ) (n count row : ℕ) → ((left y : ℤ) →
     ((left top : ℤ) → count ≡ length (block_cells left top rows n)) → (left top : ℤ) → count + row ≡ length (block_cells left top rows (n + 1))
 counted_more rows n count row counts before left top =
     let at : n + 0 ≡ n = omega arith in
-    let more : IsCountFrom rows n 1 (0 + row) =
+    let more : IsCountFrom rows (record { from = n; height = 1; cells = 0 + row }) =
     counted_from rows n 0 0 row (λ west y. counts west y ∙ ap (λ (k : ℕ). length (row_cells west y (slice_index rows k) 64)) (sym at)) (counted_from_none rows n) in
     let start : count ≡ length (block_cells left top rows n) = before left top in
     let all : length (block_cells left top rows n) + (0 + row) ≡ length (block_cells left top rows (n + 1)) = more left top in

@@ -64,6 +64,10 @@ impl Plane for Board {
         self.kind.cells()
     }
 
+    fn cells_in(&self, list: CellList) -> Result<CellList, AllocError> {
+        self.kind.cells_in(list)
+    }
+
     fn span(&self) -> Result<(i32, i32), AllocError> {
         self.kind.span()
     }

@@ -167,6 +167,17 @@ impl Kind {
         }
     }
 
+    /// The live cells in order, in the memory of a list that is no longer needed.
+    pub fn cells_in(&self, list: CellList) -> Result<CellList, AllocError>
+        requires { IsKind self.now }
+        ensures { IfOk result (λ new. new ≡ members_of self.now) }
+    {
+        match self {
+            Kind::Small(square) => square.cells_in(list),
+            Kind::Large(plane) => plane.cells_in(list),
+        }
+    }
+
     /// How far the last of its cells, by y and then by x, is from the first, or (0, 0) where there is none.
     pub fn span(&self) -> Result<(i32, i32), AllocError>
         requires { IsKind self.now }

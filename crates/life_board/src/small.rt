@@ -213,7 +213,16 @@ impl Square {
         requires { IsSquare self.now }
         ensures { IfOk result (λ list. list ≡ members_of self.now) }
     {
-        let mut cells = Vec::with_capacity(self.alloc, FEW)?;
+        self.cells_in(CellList::with_capacity(self.alloc, FEW)?)
+    }
+
+    /// The live cells, in the memory of a list that is no longer needed.
+    pub fn cells_in(&self, list: CellList) -> Result<CellList, AllocError>
+        requires { IsSquare self.now }
+        ensures { IfOk result (λ new. new ≡ members_of self.now) }
+    {
+        let mut cells = list.into_vec();
+        cells.clear();
         for y in self.first..self.end {
             push_row(
                 &mut cells,

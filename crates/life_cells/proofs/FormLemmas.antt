@@ -5,7 +5,7 @@ use Rattle.std.specs.Option.{option_or, option_map}
 use Rattle.std.proofs.lemmas.List.{take-append-drop}
 use Rattle.std.proofs.lemmas.Bool.{false≢true}
 use Rattle.std.proofs.lemmas.Bool.Decides.{nat_tests}
-use Rattle.life_cells.specs.Bytes.{is_in, after_one_of, ◌>>=◌}
+use Rattle.texts.specs.Bytes.{is_in, after_one_of, ◌>>=◌}
 use Rattle.life_cells.specs.Rules.{is_count, digits_of, after_digits, runs_with, digits_by_slash, after_slash_and, digits_by_letters, reversed_pair, digits_by_form}
 use Rattle.life_cells.specs.Forms.{IsDigits, IsLettered, IsSlashed, HasForm}
 use Rattle.life_cells.proofs.RuleLemmas.{front_passes}

@@ -10,7 +10,7 @@ use Rattle.std.specs.Int.{bit_at}
 use Rattle.std.specs.List.{list_all, range_with_len}
 use Rattle.life_model.specs.Rule.{Rule, has_bit}
 use Rattle.life_cells.specs.declared.rule.RuleFault.TheVariants.{HasB0}
-use Rattle.life_cells.specs.Bytes.{is_in}
+use Rattle.texts.specs.Bytes.{is_in}
 use Rattle.life_cells.specs.Rules.{is_count, members, set_text, rule_text, rule_of, rule_of_digits}
 use Rattle.life_cells.specs.Forms.{IsDigits, HasForm}
 use Rattle.life_cells.proofs.RuleLemmas.{count_range}

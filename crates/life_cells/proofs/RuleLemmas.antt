@@ -8,7 +8,7 @@ use Rattle.std.proofs.lemmas.Bool.Decides.{nat_tests}
 use Rattle.std.proofs.lemmas.List.Sums.{AllPass-from_list_all, list_all-from_AllPass, prefix_len_passes}
 use Rattle.std.proofs.lemmas.List.Folds.{length-prefix_len}
 use Rattle.std.specs.List.{list_all, prefix_len}
-use Rattle.life_cells.specs.Bytes.{is_in}
+use Rattle.texts.specs.Bytes.{is_in}
 use Rattle.life_cells.specs.Rules.{is_count}
 
 pub count_range : (c : ℕ) → is_count c ≡ true → (48 ≤ c) × (c ≤ 56)

@@ -1,7 +1,7 @@
 -- The three forms of a rule text, as what they are made of.
 use Rattle.std.specs.Prelude.{◌≡◌, ℕ, true, List, [], ◌∷◌, ◌++◌, codes, ◌⊎◌}
 use Rattle.std.specs.List.{list_all}
-use Rattle.life_cells.specs.Bytes.{is_in}
+use Rattle.texts.specs.Bytes.{is_in}
 use Rattle.life_cells.specs.Rules.{is_count}
 
 abbrev pub IsDigits : List ℕ → Type 0

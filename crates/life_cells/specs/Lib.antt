@@ -1,4 +1,3 @@
-pub mod Bytes
 pub mod Rules
 pub mod Forms
 pub mod Limits

@@ -6,7 +6,7 @@ use Rattle.std.specs.Int.{bit_at}
 use Rattle.life_cells.specs.declared.rule.RuleFault.{RuleFault}
 use Rattle.life_cells.specs.declared.rule.RuleFault.TheVariants.{NotLifeLike, HasB0}
 use Rattle.life_model.specs.Rule.{Rule}
-use Rattle.life_cells.specs.Bytes.{is_in, without_front, after_one_of, ◌>>=◌}
+use Rattle.texts.specs.Bytes.{is_in, without_front, after_one_of, ◌>>=◌}
 
 -- Conway's Life, B3/S23
 abbrev pub life : Rule

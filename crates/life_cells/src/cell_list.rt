@@ -115,6 +115,15 @@ impl CellList {
         Ok(CellList { items })
     }
 
+    /// The set without a cell, in memory for so many cells.
+    pub fn with_capacity(alloc: Global, capacity: usize) -> Result<CellList, AllocError>
+        ensures { IfOk result (λ list. list ≡ empty) }
+    {
+        Ok(CellList {
+            items: Vec::with_capacity(alloc, capacity)?,
+        })
+    }
+
     /// The set of cells that rise by y and then by x, each once.
     pub fn from_ordered(items: Vec<(i32, i32)>) -> CellList
         requires rising { T (is_rising items.items) }
@@ -122,6 +131,15 @@ impl CellList {
         ensures { result ≡ from_list items.items }
     {
         CellList { items }
+    }
+
+    /// The cells, rising by y and then by x, each once, in the memory that the list has.
+    pub fn into_vec(self) -> Vec<(i32, i32)>
+        ensures cells { result.items ≡ generation.cells self }
+        ensures rising { T (is_rising result.items) }
+        ensures placed { All IsPlace result.items }
+    {
+        self.items
     }
 
     /// The cells, rising by y and then by x, each once.

@@ -2,7 +2,7 @@
 ghost use Rattle.std.specs.Prelude.{◌≡◌, ◌<◌, ◌≤◌, ◌+◌, ◌∷◌, ◌++◌, ◌%◌, false, [], length, drop, take, map, IsTrue, IfSome, OnErr, OnOk, Ok, codes};
 ghost use Rattle.std.specs.List.{list_all, prefix_len};
 ghost use Rattle.std.specs.Option.{option_copied, option_map};
-ghost use Rattle.life_cells.specs.Bytes.{after_one_of, is_in};
+ghost use Rattle.texts.specs.Bytes.{after_one_of, is_in};
 ghost use Rattle.life_cells.specs.Rules.{is_count, members, after_digits, digits_of, digits_by_form, runs_with, after_slash_and, rule_of, rule_text, set_text, life};
 ghost use Rattle.std.specs.Prelude.{List, ℕ};
 ghost use Rattle.life_cells.specs.Forms.{HasForm, IsDigits};

@@ -7,7 +7,7 @@ use Rattle.life_model.specs.Cell.{Cell}
 use Rattle.life_model.specs.Rule.{Rule}
 use Rattle.life_model.specs.Generation.{Generation, empty, size}
 use Rattle.life_model.specs.Evolution.{generation}
-use Rattle.life_model.specs.Recurrence.{AreOneObject, RecursBy}
+use Rattle.life_model.specs.Recurrence.{AreOneObject, Recurrence, RecursBy}
 use Rattle.life_model.specs.Symmetry.{Same, normal, image_under}
 use Rattle.life_model.proofs.Objects.{object_from_shapes}
 use Rattle.life_model.proofs.Recurrences.{generation-zero}
@@ -60,10 +60,13 @@ module _ (R : Rule) (b n : ℕ) (P : Generation) (p : ℕ) (d : Cell)
       (ap (λ G. normal (image_under G Same))
       (generation-zero R _ ∙ generation-zero R (generation R P n) ∙ ap (λ G. generation R G n) (sym (generation-zero R P))))
 
+  abbrev at_once : Recurrence
+  at_once = record { onset = 0; period = p; displacement = d }
+
   same_code : code_of R (generation R P n) p d ≡ code_of R P p d
   same_code =
       ap (λ G. code_of R G p d) (sym (generation-zero R (generation R P n)))
-      ∙ (codes_tell_objects R (generation R P n) P b b 0 p 0 p d d
+      ∙ (codes_tell_objects R (generation R P n) P b b at_once at_once
       (settles (record { rule = R; set = generation R P n; period = p; displacement = d }) b later_course within part.nonempty)
       (settles (record { rule = R; set = P; period = p; displacement = d }) b course within some)).1 one_object
       ∙ ap (λ G. code_of R G p d) (generation-zero R P)

@@ -6,7 +6,7 @@ use Rattle.std.proofs.lemmas.List.Sums.{fold-append}
 use Rattle.life_model.specs.Cell.{Cell}
 use Rattle.life_model.specs.Generation.{empty}
 use Rattle.life_model.specs.Evolution.{generation}
-use Rattle.life_model.specs.Recurrence.{RecursBy, Settles}
+use Rattle.life_model.specs.Recurrence.{Recurrence, RecursBy, Settles}
 use Rattle.life_model.specs.Symmetry.{translate_of}
 use Rattle.life_model.proofs.Recurrences.{generation-zero}
 use Rattle.life_answer.specs.Apgcode.{code_of}
@@ -27,6 +27,10 @@ counted_more os n d below =
 
 -- ---- a set that recurs so, alone
 
+-- it comes again from the first generation on
+abbrev pub recurrence_of : Course → Recurrence
+recurrence_of o = record { onset = 0; period = o.period; displacement = o.displacement }
+
 module _ (o : Course) (b : ℕ) (course : IsCourse o) (within : o.period ≤ b) (some : o.set ≢ empty) where
   start : generation o.rule o.set 0 ≡ o.set
   start = generation-zero o.rule o.set
@@ -34,7 +38,7 @@ module _ (o : Course) (b : ℕ) (course : IsCourse o) (within : o.period ≤ b) 
   at_start : (n : ℕ) (d : Cell) → RecursBy o.rule (generation o.rule o.set 0) n d → RecursBy o.rule o.set n d
   at_start n d = subst (λ G. RecursBy o.rule G n d) start
 
-  pub settles : Settles o.rule o.set b 0 o.period o.displacement
+  pub settles : Settles o.rule o.set b (recurrence_of o)
   settles = record {
     settles = record {
       steps = o.period;
@@ -51,5 +55,5 @@ module _ (o : Course) (b : ℕ) (course : IsCourse o) (within : o.period ≤ b) 
 
   pub code_alone : part_code o.rule b o.set ≡ course_code o
   code_alone =
-      ap code_found (finding-settled o.rule o.set b 0 o.period o.displacement settles)
+      ap code_found (finding-settled o.rule o.set b (recurrence_of o) settles)
       ∙ ap (λ G. code_of o.rule G o.period o.displacement) start

@@ -3,14 +3,15 @@ use Rattle.std.proofs.Common.{◌≡◌, ℕ, Bool, true, false, List, [], ◌�
 use Rattle.std.specs.List.{list_all}
 use Rattle.std.specs.Option.{option_or, option_map}
 use Rattle.std.proofs.lemmas.Bool.{false≢true}
-use Rattle.life_cells.specs.Bytes.{is_blank, without_ends, after_one_of, ◌>>=◌}
+use Rattle.texts.specs.Bytes.{is_blank, without_ends, after_one_of, ◌>>=◌}
 use Rattle.life_cells.specs.Rules.{rule_of, life}
 use Rattle.life_cells.specs.declared.rule.RuleFault.{RuleFault}
 use Rattle.life_cells.specs.declared.rule.RuleFault.TheVariants.{NotLifeLike, HasB0}
 use Rattle.life_model.specs.Rule.{Rule}
 use Rattle.life_text.specs.declared.rle.RleFault.{RleFault}
 use Rattle.life_text.specs.declared.rle.RleFault.TheVariants.{NoHeader, BadHeader, RuleNotLifeLike, RuleHasB0, ManyStates, BadChar, BadRun, TooFar, TooMany, NoEnd, Memory}
-use Rattle.life_text.specs.Rle.{Token, Meaning, after_rule_name, after_sizes, body_tokens, cells_after, fault_if, fault_of, first_fault, header_line, header_rule, is_bad_run, is_missing, is_no_tag, is_other_state, is_too_far, is_too_many, line_rule, live_cells, column, named_rule, row, rule_behind, rule_or_fault, token_fault, unless_fault, with_body}
+use Rattle.texts.specs.Faults.{fault_if}
+use Rattle.life_text.specs.Rle.{Token, Meaning, after_rule_name, after_sizes, body_tokens, cells_after, fault_of, first_fault, header_line, header_rule, is_bad_run, is_missing, is_no_tag, is_other_state, is_too_far, is_too_many, line_rule, live_cells, column, named_rule, row, rule_behind, rule_or_fault, token_fault, unless_fault, with_body}
 use Rattle.life_faults.specs.Rules.{rule_in_line}
 use Rattle.life_faults.specs.Refused.{RefusedRulesAreTold}
 

@@ -4,4 +4,4 @@ pub mod Sentences
 pub mod Lines
 pub mod Refused
 pub use Rattle.life_text.specs.Rle
-pub use Rattle.life_cells.specs.Bytes
+pub use Rattle.texts.specs.Bytes

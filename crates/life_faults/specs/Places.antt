@@ -1,7 +1,7 @@
 -- Where the bytes of a text stand.
 use Rattle.std.specs.Prelude.{ℕ, ◌+◌, Bool, not, List, [], ◌∷◌, length, min, take, ◌==◌, if◌then◌else◌}
 use Rattle.std.specs.List.{prefix_len, suffix_len}
-use Rattle.life_cells.specs.Bytes.{is_space}
+use Rattle.texts.specs.Bytes.{is_space}
 use Rattle.life_text.specs.Rle.{without_comments}
 use Rattle.life_text.specs.declared.rle.RleFault.{RleFault}
 use Rattle.life_text.specs.declared.rle.RleFault.TheVariants.{NoHeader, BadHeader, RuleNotLifeLike, RuleHasB0, ManyStates, BadChar, BadRun, TooFar, TooMany, NoEnd, Memory}

@@ -1,7 +1,7 @@
 -- The rule text of a header, and which kind of rule it names.
 use Rattle.std.specs.Prelude.{ℕ, Bool, ◌&&◌, ◌||◌, not, false, List, [], ◌∷◌, Option, Some, codes, ◌==◌, if◌then◌else◌}
 use Rattle.std.specs.List.{list_all, list_any, after_last}
-use Rattle.life_cells.specs.Bytes.{is_in, is_digit, is_letter, is_blank, without_ends, ◌>>=◌}
+use Rattle.texts.specs.Bytes.{is_in, is_digit, is_letter, is_blank, without_ends, ◌>>=◌}
 use Rattle.life_text.specs.Rle.{after_sizes, after_rule_name, header_line}
 use Rattle.life_faults.specs.Places.{times_in}
 use Rattle.life_faults.specs.declared.kinds.RuleKind.{RuleKind}

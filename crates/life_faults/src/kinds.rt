@@ -1,7 +1,7 @@
 //! Kinds of rules that are not Life-like.
 ghost use Rattle.std.specs.Prelude.{◌≡◌};
 ghost use Rattle.std.specs.List.{list_all, list_any};
-ghost use Rattle.life_cells.specs.Bytes.{is_blank, is_digit};
+ghost use Rattle.texts.specs.Bytes.{is_blank, is_digit};
 ghost use Rattle.life_faults.specs.Rules.{begins_with_range, has_arrangement_behind, has_word_behind, is_arrangement, is_generations, is_in_numbers, is_isotropic, is_larger, is_map, is_non_totalistic, is_number, is_rule_name, is_states, rule_kind};
 
 use crate::bytes::{behind_last, count_of};

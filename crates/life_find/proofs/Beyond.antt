@@ -1,11 +1,10 @@
 -- What the first generations of a set tell of all those after them.
 use Rattle.std.proofs.Common.{◌≡◌, ℕ, zero, suc, ◌+◌, ◌-◌, ◌<◌, ◌≤◌, inl, inr, Option, None, Some, refl, sym, ap, subst, ◌∙◌, arith}
 use Rattle.std.proofs.lemmas.Bool.{cases_lt}
-use Rattle.life_model.specs.Cell.{Cell}
 use Rattle.life_model.specs.Rule.{Rule}
 use Rattle.life_model.specs.Generation.{Generation, size}
 use Rattle.life_model.specs.Evolution.{generation}
-use Rattle.life_model.specs.Recurrence.{Settles}
+use Rattle.life_model.specs.Recurrence.{Recurrence, Settles}
 use Rattle.life_model.proofs.Orbits.{along}
 use Rattle.life_model.proofs.Recurrences.{shape, shape-follows, shape_from_recurs, onset-period-le}
 use Rattle.life_answer.specs.declared.finding.Finding.{Finding}
@@ -45,12 +44,18 @@ module _ (R : Rule) (G : Generation) where
   stays limit last all =
       (limited-else R G last limit (Unresolved 0) (Unresolved 0) (all (Unresolved 0)) (λ population first e. cc)).0
 
-  module _ (b o p : ℕ) (d : Cell) (s : Settles R G b o p d) where
+  module _ (b : ℕ) (r : Recurrence) (s : Settles R G b r) where
+    abbrev o : ℕ
+    o = r.onset
+
+    abbrev p : ℕ
+    p = r.period
+
     -- a generation that comes a period or more after the onset has as many cells as the one a period before it
     size-before : (n : ℕ) → o + p ≤ n → size (generation R G (n - p)) ≡ size (generation R G n)
     size-before n h =
         let k : ℕ = n - (o + p) in
-        let again : shape R G (o + p) ≡ shape R G o = shape_from_recurs R G o p d s.recurs in
+        let again : shape R G (o + p) ≡ shape R G o = shape_from_recurs R G o p r.displacement s.recurs in
         let here : (o + p) + k ≡ n = omega arith in
         let before : o + k ≡ n - p = omega arith in
         size_by_shape (generation R G (n - p)) (generation R G n)
@@ -62,7 +67,7 @@ module _ (R : Rule) (G : Generation) where
       allowed_before : (count n : ℕ) → n < count → IsAllowed limit (size (generation R G n))
       allowed_before zero n h = absurd (omega arith)
       allowed_before (suc count) n h =
-          let whole : o + p ≤ b = onset-period-le R G b o p d s in
+          let whole : o + p ≤ b = onset-period-le R G b r s in
           let later : 1 ≤ p = s.recurs.later in
           elim (cases_lt n (o + p)) [
             | inl early ↦ small n (omega arith)
@@ -75,8 +80,8 @@ module _ (R : Rule) (G : Generation) where
 
       settled_beyond : (c : ℕ) → b ≤ c → finding_unless_large limit R G c (finding_of R G c) ≡ finding_of R G b
       settled_beyond c h =
-          let whole : o + p ≤ b = onset-period-le R G b o p d s in
-          limited-same R G c limit (finding_of R G c) (stays_beyond c) ∙ finding-more R G b c o p d s (omega arith)
+          let whole : o + p ≤ b = onset-period-le R G b r s in
+          limited-same R G c limit (finding_of R G c) (stays_beyond c) ∙ finding-more R G b c r s (omega arith)
 
   -- what is found of a set that stays within its limit is found within any greater bound, unless it is unresolved
   pub found_beyond : (limit : Option ℕ) (b c : ℕ) → StaysWithin limit R G b
@@ -84,7 +89,7 @@ module _ (R : Rule) (G : Generation) where
       → finding_unless_large limit R G c (finding_of R G c) ≡ finding_of R G b
   found_beyond limit b c small resolved h =
       elim (settled_or_not R G b) [
-        | inl found ↦ settled_beyond b found.onset found.period found.by found.settles limit small c h
+        | inl found ↦ settled_beyond b found.recurrence found.settles limit small c h
         | inr not ↦ absurd (resolved not.found)
       ]
 

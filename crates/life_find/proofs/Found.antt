@@ -1,10 +1,9 @@
 -- From what the search says of a set to its finding.
 use Rattle.std.proofs.Common.{◌≡◌, ℕ, List, sym, ap, ◌∙◌}
-use Rattle.life_model.specs.Cell.{Cell}
 use Rattle.life_model.specs.Rule.{Rule}
 use Rattle.life_model.specs.Generation.{Generation, size}
 use Rattle.life_model.specs.Evolution.{generation}
-use Rattle.life_model.specs.Recurrence.{SettlesAt, Settles}
+use Rattle.life_model.specs.Recurrence.{SettlesAt, Recurrence, Settles}
 use Rattle.life_answer.specs.declared.finding.Finding.TheVariants.{Recurs, Unresolved}
 use Rattle.life_answer.specs.Apgcode.{code_of}
 use Rattle.life_answer.specs.Answers.{finding_of}
@@ -14,8 +13,9 @@ module _ (R : Rule) (G S : Generation) (same : S ≡ G) (b population : ℕ) (co
   pub unresolved-found : ((g : ℕ) → SettlesAt R S b g → ⊥) → Unresolved population ≡ finding_of R G b
   unresolved-found none = ap Unresolved counted ∙ sym (finding-nowhere R S b none) ∙ ap (λ X. finding_of R X b) same
 
-  pub recurs-found : (onset period : ℕ) (d : Cell) (H : Generation) (code : List ℕ) → Settles R S b onset period d → H ≡ generation R S onset → code ≡ code_of R H period d → Recurs population onset period d.0 d.1 code ≡ finding_of R G b
-  recurs-found onset period d H code s at coded =
-      (λ i. Recurs (counted i) onset period d.0 d.1 ((coded ∙ ap (λ X. code_of R X period d) at) i))
-      ∙ sym (finding-settled R S b onset period d s)
+  pub recurs-found : (r : Recurrence) (H : Generation) (code : List ℕ) → Settles R S b r → H ≡ generation R S r.onset → code ≡ code_of R H r.period r.displacement
+      → Recurs population r.onset r.period r.displacement.0 r.displacement.1 code ≡ finding_of R G b
+  recurs-found r H code s at coded =
+      (λ i. Recurs (counted i) r.onset r.period r.displacement.0 r.displacement.1 ((coded ∙ ap (λ X. code_of R X r.period r.displacement) at) i))
+      ∙ sym (finding-settled R S b r s)
       ∙ ap (λ X. finding_of R X b) same

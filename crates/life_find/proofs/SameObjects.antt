@@ -2,7 +2,7 @@
 use Rattle.std.proofs.Common.{◌≡◌, ℕ, ℤ, List, Bool, Decides, sym, ◌∙◌}
 use Rattle.life_model.specs.Rule.{Rule}
 use Rattle.life_model.specs.Generation.{Generation}
-use Rattle.life_model.specs.Recurrence.{SettlesAt}
+use Rattle.life_model.specs.Recurrence.{Recurrence, SettlesAt}
 use Rattle.life_answer.specs.declared.finding.Finding.TheVariants.{Recurs, Unresolved}
 use Rattle.life_answer.specs.Apgcode.{code_of}
 use Rattle.life_model.specs.Evolution.{generation}
@@ -11,18 +11,18 @@ use Rattle.life_answer.proofs.Findings.{finding-settled, settles_by_finding, now
 use Rattle.life_answer.proofs.Codes.{codes_tell_objects}
 use Rattle.life_find.specs.Objects.{SettlesIntoCode, TellsObject}
 
-code_found : (R : Rule) (G : Generation) (b population onset period : ℕ) (dx dy : ℤ) (code : List ℕ) → Recurs population onset period dx dy code ≡ recurrence_finding R G onset period (dx, dy) → code ≡ code_of R (generation R G onset) period (dx, dy)
+code_found : (R : Rule) (G : Generation) (b population onset period : ℕ) (dx dy : ℤ) (code : List ℕ) → Recurs population onset period dx dy code ≡ recurrence_finding R G (record { onset = onset; period = period; displacement = (dx, dy) })
+    → code ≡ code_of R (generation R G onset) period (dx, dy)
 code_found R G b population onset period dx dy code e = cc
 
 pub HasCode_by_finding : (R : Rule) (G : Generation) (b population onset period : ℕ) (dx dy : ℤ) (code : List ℕ) → Recurs population onset period dx dy code ≡ finding_of R G b → SettlesIntoCode R G b code
 HasCode_by_finding R G b population onset period dx dy code e =
+    let r : Recurrence = record { onset = onset; period = period; displacement = (dx, dy) } in
     let s = settles_by_finding R G b population onset period dx dy code (sym e) in
     record {
-      onset = onset;
-      period = period;
-      by = (dx, dy);
+      recurrence = r;
       settles = s;
-      coded = code_found R G b population onset period dx dy code (e ∙ finding-settled R G b onset period (dx, dy) s);
+      coded = code_found R G b population onset period dx dy code (e ∙ finding-settled R G b r s);
     }
 
 pub nowhere_found : (R : Rule) (G : Generation) (b population : ℕ) → Unresolved population ≡ finding_of R G b → (g : ℕ) → SettlesAt R G b g → ⊥
@@ -30,15 +30,11 @@ nowhere_found R G b population e g s = nowhere_by_finding R G b population g (sy
 
 pub TellsObject_by_codes : (R : Rule) (F S : Generation) (b : ℕ) (one other : List ℕ) (same : Bool) → SettlesIntoCode R F b one → SettlesIntoCode R S b other → Decides same (one ≡ other) → TellsObject R F S b same
 TellsObject_by_codes R F S b one other same f s decides =
-    let law = codes_tell_objects R F S b b f.onset f.period s.onset s.period f.by s.by f.settles s.settles in
+    let law = codes_tell_objects R F S b b f.recurrence s.recurrence f.settles s.settles in
     record {
-      first_onset = f.onset;
-      first_period = f.period;
-      first_by = f.by;
+      first = f.recurrence;
       first_settles = f.settles;
-      second_onset = s.onset;
-      second_period = s.period;
-      second_by = s.by;
+      second = s.recurrence;
       second_settles = s.settles;
       one_object = (
         λ h. law.0 (sym f.coded ∙ decides.0 h ∙ s.coded),

@@ -17,30 +17,32 @@ use life_codes::{LeastText, prefix};
 use life_plane::{AGE_LIMIT, Plane};
 use std::alloc::{AllocError, Global};
 
-/// Adds the texts of what a plane holds.
-fn add_plane<P: Plane>(least: &mut LeastText, plane: &P) -> Result<(), AllocError>
+/// Lists what a plane holds, in the memory of a list that is no longer needed.
+fn list_phase<P: Plane>(plane: &P, list: CellList) -> Result<CellList, AllocError>
     requires { P.steps_made plane.now ≤ AGE_LIMIT }
-    ensures { OnOk result
-        (least.new ≡ fold with_text least.old (turned_bodies (P.members plane.now))) }
+    ensures cells { IfOk result (λ phase. phase ≡ P.members plane.now) }
+    ensures wide { IfOk result (λ phase. width phase ≤ extent_limit) }
+    ensures high { IfOk result (λ phase. height phase ≤ extent_limit) }
 {
     prove!(plane.age() <= AGE_LIMIT);
-    least.add(&plane.cells()?)
+    plane.cells_in(list)
 }
 
-/// Whether this is the least text of what a plane holds, in all eight orientations.
-fn has_text<P: Plane>(alloc: Global, plane: &P, text: &[u8]) -> Result<bool, AllocError>
-    requires { P.steps_made plane.now ≤ AGE_LIMIT }
+/// Whether this is the least text of these cells, in all eight orientations.
+fn has_text(alloc: Global, phase: &CellList, text: &[u8]) -> Result<bool, AllocError>
+    requires wide { width phase.now ≤ extent_limit }
+    requires high { height phase.now ≤ extent_limit }
     ensures { IfOk result
-        (λ same. IsTrue same → least_text (turned_bodies (P.members plane.now)) ≡ text.now) }
+        (λ same. IsTrue same → least_text (turned_bodies phase.now) ≡ text.now) }
 {
     let mut own = LeastText::new(alloc);
-    add_plane(&mut own, plane)?;
+    own.add(phase)?;
     Ok(own.text() == text)
 }
 
 /// Adds the texts of all phases of one period, in all eight orientations; the list has the cells of the first, wherever
-/// they stand. Where the phase after half the period is the first one, turned and moved, the second half of the phases has
-/// no other texts than the first.
+/// they stand, and all later ones are listed in one memory. Where the phase after half the period is the first one, turned
+/// and moved, the second half of the phases has no other texts than the first.
 fn add_phases<P: Plane>(
     alloc: Global,
     least: &mut LeastText,
@@ -63,12 +65,15 @@ fn add_phases<P: Plane>(
     if period > 2 {
         first.extend_from_slice(least.text())?;
     }
+    let room = if period > 1 { listed.len() } else { 0 };
+    let mut phase = CellList::with_capacity(alloc, room)?;
     for n in 1..period {
         plane.step(rule)?;
-        if n > 1 && n + n == period && has_text(alloc, plane, &first)? {
+        phase = list_phase(plane, phase)?;
+        if n > 1 && n + n == period && has_text(alloc, &phase, &first)? {
             return Ok(());
         }
-        add_plane(least, plane)?;
+        least.add(&phase)?;
     }
     Ok(())
 }

@@ -43,7 +43,8 @@ pub fn settling<P: Plane>(
     requires new { P.steps_made runner.old ≡ 0 }
     ensures found { IfOk result
         (λ answer. IfSome answer
-        (λ r. Settles rule.now cells.now bound r.onset r.period r.displacement)) }
+        (λ r. Settles rule.now cells.now bound
+        (record { onset = r.onset; period = r.period; displacement = r.displacement }))) }
     ensures shape { IfOk result
         (λ answer. IfSome answer
         (λ r. normal (P.members runner.new) ≡ normal (generation rule.now cells.now r.onset))) }
@@ -89,7 +90,8 @@ fn settling_from<P: Plane>(
         normal (generation rule.now cells.now n) → ⊥ }
     ensures found { IfOk result
         (λ answer. IfSome answer
-        (λ r. Settles rule.now cells.now bound r.onset r.period r.displacement)) }
+        (λ r. Settles rule.now cells.now bound
+        (record { onset = r.onset; period = r.period; displacement = r.displacement }))) }
     ensures shape { IfOk result
         (λ answer. IfSome answer
         (λ r. normal (P.members runner.new) ≡ normal (generation rule.now cells.now r.onset))) }

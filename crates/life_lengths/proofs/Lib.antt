@@ -2,6 +2,7 @@ pub mod Framed
 pub mod Written
 pub mod Filled
 pub mod Bodies
+pub mod ColumnMarks
 pub mod Measured
 pub mod Worded
 pub mod Marked

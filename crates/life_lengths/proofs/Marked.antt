@@ -17,8 +17,9 @@ use Rattle.life_shape.proofs.Weights.{live_value}
 use Rattle.life_lengths.specs.declared.frame.Frame.{Frame}
 use Rattle.life_lengths.specs.declared.measure.Lengths.{Lengths}
 use Rattle.life_lengths.specs.Frames.{IsInFrame, frame_of, turned_frame, cell_in_frame, wide_of, strips_of}
-use Rattle.life_lengths.specs.Words.{AreLengths, AreZeroTogether, HoldsMarks, IsFrameOf, IsSmallFrame, upside_down, word_columns, words_text}
+use Rattle.life_lengths.specs.Words.{AreLengths, AreZeroTogether, IsFrameOf, IsSmallFrame, word_columns}
 use Rattle.life_lengths.proofs.Bodies.{column-mirror, contains-normal_placed, framed_cells, strip_number}
+use Rattle.life_lengths.proofs.ColumnMarks.{HoldsMarks, upside_down, words_text}
 use Rattle.life_lengths.proofs.Framed.{Framed, framed_turned, width_framed, range_ordered}
 use Rattle.life_lengths.proofs.Worded.{same_lengths, same_texts_length, length-word_columns, column_at}
 

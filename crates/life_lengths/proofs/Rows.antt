@@ -14,7 +14,8 @@ use Rattle.life_model.proofs.Cells.{same_cell-is}
 use Rattle.life_model.proofs.Symmetries.{AreInverse, same_cell-forth}
 use Rattle.life_model.proofs.Tests.{list_any-map, list_any-alike, or-false}
 use Rattle.life_shape.proofs.Weights.{live_value}
-use Rattle.life_lengths.specs.Words.{AreZeroTogether, HoldsMarks, HoldsRows, AreWithinColumns, five_rows, is_at, upside_down}
+use Rattle.life_lengths.specs.Words.{AreZeroTogether, HoldsRows, AreWithinColumns, five_rows, is_at}
+use Rattle.life_lengths.proofs.ColumnMarks.{HoldsMarks, upside_down}
 
 -- ---- one cell after another
 

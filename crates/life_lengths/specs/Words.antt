@@ -1,16 +1,15 @@
--- Strips of at most 64 columns as words of bits, and the texts of the bits.
-use Rattle.std.specs.Prelude.{◌≡◌, ℕ, zero, suc, ◌+◌, ◌*◌, ◌^◌, ◌<◌, ◌≤◌, Bool, List, length, map, slice_index, nat_abs, ℤ, pos, T, ◌-ℤ◌, if◌then◌else◌}
+-- Strips of at most 64 columns as words of bits, and how long the texts of a set are.
+use Rattle.std.specs.Prelude.{◌≡◌, ℕ, zero, suc, ◌+◌, ◌<◌, ◌≤◌, Bool, List, length, map, slice_index, nat_abs, ℤ, pos, T, ◌-ℤ◌, if◌then◌else◌}
 use Rattle.std.specs.Int.{bit_at}
 use Rattle.std.specs.Int.Bits.{bit_or}
-use Rattle.std.specs.List.{list_any, range_with_len, sum_by}
+use Rattle.std.specs.List.{list_any, range_with_len}
 use Rattle.life_model.specs.Cell.{Cell, same_cell}
 use Rattle.life_model.specs.Generation.{Generation, is_rising}
 use Rattle.life_model.specs.Symmetry.{Orientation, FlipX, image_under}
-use Rattle.life_shape.specs.Wechsler.{body, columns_text, strips_text}
+use Rattle.life_shape.specs.Wechsler.{body}
 use Rattle.life_lengths.specs.declared.frame.Frame.{Frame}
 use Rattle.life_lengths.specs.declared.measure.Lengths.{Lengths}
 use Rattle.life_lengths.specs.Frames.{frame_of, turned_frame}
-use Rattle.life_lengths.specs.Grids.{columns_from}
 
 -- either both are 0 or neither
 abbrev pub AreZeroTogether : ℕ → ℕ → Type 0
@@ -19,10 +18,6 @@ AreZeroTogether a b = (a ≡ 0 → b ≡ 0) × (b ≡ 0 → a ≡ 0)
 -- whether one of the cells stands in column x of row y
 abbrev pub is_at : List Cell → ℕ → ℤ → Bool
 is_at cells x y = list_any (same_cell (pos x, y)) cells
-
--- column x of strip k as a number, as `column_value` tells it
-abbrev pub cells_column : List Cell → ℕ → ℕ → ℕ
-cells_column cells k x = sum_by (λ j. if is_at cells x (pos (5 * k + j)) then 2 ^ j else 0) (range_with_len 0 5)
 
 -- how many rows stand above that of 0
 abbrev pub rows_above : ℕ
@@ -39,14 +34,6 @@ AreWithinColumns words wide = (k x : ℕ) → k < length words → wide ≤ x �
 -- the bits of five rows, from one on, taken together
 abbrev pub five_rows : List ℕ → ℕ → ℕ
 five_rows rows first = bit_or (bit_or (bit_or (bit_or (slice_index rows first) (slice_index rows (first + 1))) (slice_index rows (first + 2))) (slice_index rows (first + 3))) (slice_index rows (first + 4))
-
--- Bit x of word k is set where column x of strip k is not 0.
-abbrev pub HoldsMarks : (ℕ → ℕ) → ℕ → List Cell → Type 0
-HoldsMarks words strips cells = (k x : ℕ) → k < strips → AreZeroTogether (bit_at (words k) x) (cells_column cells k x)
-
--- a cell of so many rows, from the last row
-abbrev pub upside_down : ℕ → Cell → Cell
-upside_down high c = (c.0, pos high -ℤ pos 1 -ℤ c.1)
 
 -- the bits of a word as so many columns
 abbrev pub word_columns : ℕ → ℕ → List ℕ
@@ -68,10 +55,6 @@ pub record AreNearMarks (columns : List ℕ) (next near : ℕ → ℕ) : Type 0 
   pub apart : (i : ℕ) → i < length columns → 0 < zeros_before columns i → next i ≡ 0
   pub close : (i : ℕ) → i < length columns → zeros_before columns i < 4 → near i ≡ 1
   pub far : (i : ℕ) → i < length columns → 4 ≤ zeros_before columns i → near i ≡ 0
-
--- the text of so many strips, as it were if each column that is marked held 1
-abbrev pub words_text : (ℕ → ℕ) → ℕ → ℕ → Bool → List ℕ
-words_text words wide strips back = strips_text (λ k. columns_text 0 (columns_from back (word_columns wide (words k)))) strips
 
 -- It is at most 64 wide and at most 64 high.
 pub record IsSmallFrame (f : Frame) : Type 0 where

@@ -11,7 +11,7 @@ ghost use Rattle.std.specs.FinMap.{IsAntisymmetric};
 ghost use Rattle.life_model.specs.Cell.{Cell, IsNear, around, cell_cmp, origin, plus, same_cell};
 ghost use Rattle.life_model.specs.Evolution.{count, generation, next};
 ghost use Rattle.life_model.specs.Generation.{Generation, cells, contains, empty, from_list, is_rising};
-ghost use Rattle.life_model.specs.Recurrence.{AreOneObject, RecursBy, Settles, SettlesAt};
+ghost use Rattle.life_model.specs.Recurrence.{AreOneObject, Recurrence, RecursBy, Settles, SettlesAt};
 ghost use Rattle.life_model.specs.Rule.{Rule, born, stays};
 ghost use Rattle.life_model.specs.Symmetry.{IsCorner, Orientation, translate_of, normal, image_under};
 
@@ -83,19 +83,18 @@ pub fn normal_forms_tell_moves()
 
 /// Onset, period and displacement are the same for every bound within which they exist.
 pub fn one_settling()
-    ensures { (R : Rule) (G : Generation) (b c onset period onset2 period2 : ℕ) (d e : Cell) →
-        Settles R G b onset period d → Settles R G c onset2 period2 e → (onset ≡ onset2) ×
-        (period ≡ period2) × (d ≡ e) }
+    ensures { (R : Rule) (G : Generation) (b c : ℕ) (r s : Recurrence) →
+        Settles R G b r → Settles R G c s → r ≡ s }
 {}
 
 /// A set settles within exactly those bounds that its onset and its period together don't pass.
 pub fn settles_within()
-    ensures within { (R : Rule) (G : Generation) (b onset period : ℕ) (d : Cell) →
-        Settles R G b onset period d → onset + period ≤ b }
-    ensures any { (R : Rule) (G : Generation) (b c onset period : ℕ) (d : Cell) →
-        Settles R G b onset period d → onset + period ≤ c → Settles R G c onset period d }
-    ensures only { (R : Rule) (G : Generation) (b c g onset period : ℕ) (d : Cell) →
-        Settles R G b onset period d → SettlesAt R G c g → onset + period ≤ c }
+    ensures within { (R : Rule) (G : Generation) (b : ℕ) (r : Recurrence) →
+        Settles R G b r → r.onset + r.period ≤ b }
+    ensures any { (R : Rule) (G : Generation) (b c : ℕ) (r : Recurrence) →
+        Settles R G b r → r.onset + r.period ≤ c → Settles R G c r }
+    ensures only { (R : Rule) (G : Generation) (b c g : ℕ) (r : Recurrence) →
+        Settles R G b r → SettlesAt R G c g → r.onset + r.period ≤ c }
 {}
 
 /// Sets that recur are one object exactly where some phase of the one, turned, has the shape of some phase of the

@@ -16,7 +16,7 @@ use Rattle.life_objects.proofs.Moving.{apart_by_period}
 use Rattle.life_objects.proofs.Times.{AreApartForEver-swap}
 use Rattle.life_orbit.specs.Course.{Course, IsCourse}
 use Rattle.life_orbit.specs.Hulls.{IsHullOf, IsInHull}
-use Rattle.life_orbit.specs.Passing.{IsPassed, IsWatch}
+use Rattle.life_orbit.specs.Passing.{IsPassed, IsWatch, Passing, Watch, across, down}
 use Rattle.life_orbit.specs.declared.hull.Hull.{Hull}
 use Rattle.life_orbit.proofs.Gaps.{gap_from, whole_first, whole_second}
 use Rattle.life_orbit.proofs.Reaching.{x_axis, y_axis}
@@ -60,37 +60,49 @@ hull_holds o h R p rule period held =
 
 -- ---- a gap that only widens
 
-pub passed_same : (l h x y l' h' x' y' : ℤ) (k : ℕ) → l ≡ l' → h ≡ h' → x ≡ x' → y ≡ y' → IsPassed l h k x y →
-    IsPassed l' h' k x' y'
-passed_same l h x y l' h' x' y' k a b c d passed =
-    subst (λ z. IsPassed z h' k x' y') a
-    (subst (λ z. IsPassed l z k x' y') b
-    (subst (λ z. IsPassed l h k z y') c (subst (λ z. IsPassed l h k x z) d passed)))
+pub passed_same : (p q : Passing) → p.first ≡ q.first → p.by ≡ q.by → p.other_last ≡ q.other_last →
+    p.other_by ≡ q.other_by → p.rounds ≡ q.rounds → IsPassed p → IsPassed q
+passed_same p q a b c d e =
+    subst IsPassed (λ i. record { first = a i; by = b i; other_last = c i; other_by = d i; rounds = e i })
 
--- one of the two has passed the other, with the same numbers by other names
+-- one of the two has passed the other, where the one has the places l to r and moves by x, the other m to n and y
+abbrev pub EitherPassed : ℤ → ℤ → ℤ → ℤ → ℤ → ℤ → ℕ → Type 0
+EitherPassed l r x m n y k =
+    IsPassed (record { first = l; by = x; other_last = n; other_by = y; rounds = k })
+    ⊎ IsPassed (record { first = m; by = y; other_last = r; other_by = x; rounds = k })
+
+-- the same numbers by other names
 pub either_same : {l r x l' r' x' m n y m' n' y' : ℤ} (k : ℕ) → l ≡ l' → r ≡ r' → x ≡ x' → m ≡ m' → n ≡ n' → y ≡ y' →
-    IsPassed l n k x y ⊎ IsPassed m r k y x → IsPassed l' n' k x' y' ⊎ IsPassed m' r' k y' x'
+    EitherPassed l r x m n y k → EitherPassed l' r' x' m' n' y' k
 either_same {l} {r} {x} {l'} {r'} {x'} {m} {n} {y} {m'} {n'} {y'} k a b c d e f passed =
     elim passed [
-      | inl first ↦ inl (passed_same l n x y l' n' x' y' k a e c f first)
-      | inr second ↦ inr (passed_same m r y x m' r' y' x' k d b f c second)
+      | inl first ↦ inl (passed_same
+          (record { first = l; by = x; other_last = n; other_by = y; rounds = k })
+          (record { first = l'; by = x'; other_last = n'; other_by = y'; rounds = k }) a c e f refl first)
+      | inr second ↦ inr (passed_same
+          (record { first = m; by = y; other_last = r; other_by = x; rounds = k })
+          (record { first = m'; by = y'; other_last = r'; other_by = x'; rounds = k }) d f b c refl second)
     ]
+
+-- two boxes, each with its set's move, and so many rounds
+abbrev pub watch_of : Hull → Cell → Hull → Cell → ℕ → Watch
+watch_of g x h y k = record { hull = g; by = x; other_hull = h; other_by = y; rounds = k }
 
 -- the sooner of two moments at which the boxes have passed each other, along the one axis and along the other
 pub sooner : (g h : Hull) (x y : Cell) (m n k : ℕ) → k ≡ min m n →
-    IsPassed g.left h.right m x.0 y.0 ⊎ IsPassed h.left g.right m y.0 x.0 →
-    IsPassed g.top h.bottom n x.1 y.1 ⊎ IsPassed h.top g.bottom n y.1 x.1 → IsWatch g x h y k
+    EitherPassed g.left g.right x.0 h.left h.right y.0 m → EitherPassed g.top g.bottom x.1 h.top h.bottom y.1 n →
+    IsWatch (watch_of g x h y k)
 sooner g h x y m n k least across down =
     elim (cases_lt n m) [
       | inl less ↦
           let here : n ≡ k = omega arith in
-          subst (IsWatch g x h y) here (elim down [
+          subst (λ r. IsWatch (watch_of g x h y r)) here (elim down [
             | inl below ↦ inr (inr (inl below))
             | inr above ↦ inr (inr (inr (inl above)))
           ])
       | inr most ↦
           let here : m ≡ k = omega arith in
-          subst (IsWatch g x h y) here (elim across [
+          subst (λ r. IsWatch (watch_of g x h y r)) here (elim across [
             | inl right ↦ inl right
             | inr left ↦ inr (inl left)
           ])
@@ -116,7 +128,7 @@ IsPair-swap R P Q p q a b d e pair = record {
 
 module _ (R : Rule) (P Q : Generation) (p q a b : ℕ) (d e : Cell) (pair : IsPair R P Q p q a b d e) (g h : Hull)
     (in_g : Holds g R P p) (in_h : Holds h R Q q) (k : ℕ) (before : AreApartBefore R (k * (a * p)) P Q) where
-  apart_on_right : IsPassed g.left h.right k (multiple_of a d).0 (multiple_of b e).0 → AreApartForEver R P Q
+  apart_on_right : IsPassed (across (watch_of g (multiple_of a d) h (multiple_of b e) k)) → AreApartForEver R P Q
   apart_on_right passed =
       let v = further (multiple_of a d).0 (multiple_of b e).0 passed.order in
       apart_by_right R (k * (a * p)) (a * p) P Q (multiple_of a d) (multiple_of b e)
@@ -128,7 +140,7 @@ module _ (R : Rule) (P Q : Generation) (p q a b : ℕ) (d e : Cell) (pair : IsPa
       g.left h.right k v.0 (λ n c early at. (in_g n c early at).left) (λ n c early at. (in_h n c early at).right) v.1
       (passed.passes v.0 v.1) m within i j in_P in_Q)
 
-  apart_below : IsPassed g.top h.bottom k (multiple_of a d).1 (multiple_of b e).1 → AreApartForEver R P Q
+  apart_below : IsPassed (down (watch_of g (multiple_of a d) h (multiple_of b e) k)) → AreApartForEver R P Q
   apart_below passed =
       let v = further (multiple_of a d).1 (multiple_of b e).1 passed.order in
       apart_by_below R (k * (a * p)) (a * p) P Q (multiple_of a d) (multiple_of b e)
@@ -157,7 +169,7 @@ module _ (R : Rule) (P Q : Generation) (p q a b : ℕ) (d e : Cell) (pair : IsPa
   before_swapped m early =
       AreApart-swap (generation R P m) (generation R Q m) (before m (subst (λ n. m < k * n) (sym pair.together) early))
 
-  pub apart_by_watch : IsWatch g (multiple_of a d) h (multiple_of b e) k → AreApartForEver R P Q
+  pub apart_by_watch : IsWatch (watch_of g (multiple_of a d) h (multiple_of b e) k) → AreApartForEver R P Q
   apart_by_watch watch =
       elim watch [
         | inl right ↦ apart_on_right R P Q p q a b d e pair g h in_g in_h k before right

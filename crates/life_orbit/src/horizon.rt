@@ -81,7 +81,13 @@ fn rounds_to_pass(left: i32, forward: i128, right: i32, back: i128) -> u128
     requires faster { back <ℤ forward }
     requires low { neg_ℤ (pos (2 ^ 49)) ≤ℤ back }
     requires high { forward ≤ℤ pos (2 ^ 49) }
-    ensures passed { IsPassed left right result forward back }
+    ensures passed { IsPassed (record {
+      first = left;
+      by = forward;
+      other_last = right;
+      other_by = back;
+      rounds = result;
+    }) }
     ensures few { result ≤ 2 ^ 52 }
 {
     let low = low_end(left, forward);
@@ -105,7 +111,13 @@ fn stays_past(lane: Lane, other: Lane) -> bool
     requires order { other.by ≤ℤ lane.by }
     requires low { neg_ℤ (pos (2 ^ 49)) ≤ℤ lane.by }
     requires high { other.by ≤ℤ pos (2 ^ 49) }
-    ensures { OnTrue result (IsPassed lane.first other.last 0 lane.by other.by) }
+    ensures { OnTrue result (IsPassed (record {
+      first = lane.first;
+      by = lane.by;
+      other_last = other.last;
+      other_by = other.by;
+      rounds = 0;
+    })) }
 {
     if high_end(other.last, other.by) + 3 <= low_end(lane.first, lane.by) {
         return true;
@@ -120,8 +132,19 @@ fn rounds_along(lane: Lane, other: Lane) -> Option<u128>
     requires high { lane.by ≤ℤ pos (2 ^ 49) }
     requires other_low { neg_ℤ (pos (2 ^ 49)) ≤ℤ other.by }
     requires other_high { other.by ≤ℤ pos (2 ^ 49) }
-    ensures passed { IfSome result (λ rounds. IsPassed lane.first other.last rounds lane.by other.by
-        ⊎ IsPassed other.first lane.last rounds other.by lane.by) }
+    ensures passed { IfSome result (λ rounds. IsPassed (record {
+      first = lane.first;
+      by = lane.by;
+      other_last = other.last;
+      other_by = other.by;
+      rounds = rounds;
+    }) ⊎ IsPassed (record {
+      first = other.first;
+      by = other.by;
+      other_last = lane.last;
+      other_by = lane.by;
+      rounds = rounds;
+    })) }
     ensures few { IfSome result (λ rounds. rounds ≤ 2 ^ 52) }
     ensures same { IfNone result (lane.by ≡ other.by) }
 {
@@ -145,7 +168,13 @@ fn rounds_along(lane: Lane, other: Lane) -> Option<u128>
 fn rounds_to_watch(hull: Hull, by: (i128, i128), other_hull: Hull, other_by: (i128, i128)) -> u128
     requires reach { IsReach (2 ^ 49) by }
     requires other_reach { IsReach (2 ^ 49) other_by }
-    ensures watch { IsWatch hull by other_hull other_by result }
+    ensures watch { IsWatch (record {
+      hull = hull;
+      by = by;
+      other_hull = other_hull;
+      other_by = other_by;
+      rounds = result;
+    }) }
     ensures few { result ≤ 2 ^ 52 }
 {
     let across = rounds_along(

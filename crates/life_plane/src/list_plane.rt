@@ -68,7 +68,14 @@ impl Plane for ListPlane {
 
     fn cells(&self) -> Result<CellList, AllocError> {
         let alloc = *self.items.allocator();
-        Ok(CellList::from_ordered(self.items.as_slice().to_vec(alloc)?))
+        self.cells_in(CellList::with_capacity(alloc, self.items.len())?)
+    }
+
+    fn cells_in(&self, list: CellList) -> Result<CellList, AllocError> {
+        let mut items = list.into_vec();
+        items.clear();
+        items.extend_from_slice(self.items.as_slice())?;
+        Ok(CellList::from_ordered(items))
     }
 
     fn copy(&self) -> Result<Self, AllocError> {

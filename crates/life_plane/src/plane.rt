@@ -66,6 +66,10 @@ pub trait Plane: Sized + Drop {
     fn cells(&self) -> Result<CellList, AllocError>
         ensures cells { IfOk result (λ list. list ≡ members self.now) };
 
+    /// The live cells in order, in the memory of a list that is no longer needed.
+    fn cells_in(&self, list: CellList) -> Result<CellList, AllocError>
+        ensures cells { IfOk result (λ new. new ≡ members self.now) };
+
     /// How far the last of its cells, by y and then by x, is from the first, or (0, 0) where there is none. Sets that are
     /// equal up to a move have one span, and few others do.
     fn span(&self) -> Result<(i32, i32), AllocError>

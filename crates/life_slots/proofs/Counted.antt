@@ -117,7 +117,7 @@ length-block left top rows (suc n) =
     ∙ sym (length-append (row_cells (pos 0) (pos 0 +ℤ pos n) word 64) (block_cells (pos 0) (pos 0) rows n))
 
 -- no row counted yet
-pub counted_from_none : (rows : List ℕ) (from : ℕ) → IsCountFrom rows from 0 0
+pub counted_from_none : (rows : List ℕ) (from : ℕ) → IsCountFrom rows (record { from = from; height = 0; cells = 0 })
 counted_from_none rows from left top =
     let same : from ≡ from + 0 = omega arith in
     none_more _ ∙ ap (λ (k : ℕ). length (block_cells left top rows k)) same
@@ -128,7 +128,7 @@ counted_from_none rows from left top =
 -- one row more counted
 pub counted_from : (rows : List ℕ) (from n count row : ℕ) →
     ((left y : ℤ) → row ≡ length (row_cells left y (slice_index rows (from + n)) 64)) →
-    IsCountFrom rows from n count → IsCountFrom rows from (n + 1) (count + row)
+    IsCountFrom rows (record { from = from; height = n; cells = count }) → IsCountFrom rows (record { from = from; height = n + 1; cells = count + row })
 counted_from rows from n count row counts before left top =
     let next : from + n + 1 ≡ from + (n + 1) = omega arith in
     regroup _ count row
@@ -145,19 +145,19 @@ none_in left y word is =
     let none : count_ones (0 % 2 ^ 64) ≡ 0 = refl in
     sym (length-row_cells left y word 64 ∙ ap (λ (w : ℕ). count_ones (w % 2 ^ 64)) is ∙ none)
 
-some_void : (rows : List ℕ) (from : ℕ) → ((y : ℕ) → y < 8 → slice_index rows (from + y) ≡ 0) → (n : ℕ) → n ≤ 8 → IsCountFrom rows from n 0
+some_void : (rows : List ℕ) (from : ℕ) → ((y : ℕ) → y < 8 → slice_index rows (from + y) ≡ 0) → (n : ℕ) → n ≤ 8 → IsCountFrom rows (record { from = from; height = n; cells = 0 })
 some_void rows from void zero few = counted_from_none rows from
 some_void rows from void (suc n) few =
     let after : n + 1 ≡ suc n = omega arith in
-    subst (λ (k : ℕ). IsCountFrom rows from k 0) after
+    subst (λ (k : ℕ). IsCountFrom rows (record { from = from; height = k; cells = 0 })) after
     (counted_from rows from n 0 0 (λ left y. none_in left y (slice_index rows (from + n)) (void n (omega arith))) (some_void rows from void n (omega arith)))
 
-counted_void : (rows : List ℕ) (from : ℕ) → ((y : ℕ) → y < 8 → slice_index rows (from + y) ≡ 0) → IsCountFrom rows from 8 0
+counted_void : (rows : List ℕ) (from : ℕ) → ((y : ℕ) → y < 8 → slice_index rows (from + y) ≡ 0) → IsCountFrom rows (record { from = from; height = 8; cells = 0 })
 counted_void rows from void = some_void rows from void 8 (omega arith)
 
 -- eight rows more of a tile
 pub counted_band : (rows : List ℕ) (band count more : ℕ) →
-    ((left top : ℤ) → count ≡ length (block_cells left top rows (8 * band))) → IsCountFrom rows (8 * band) 8 more →
+    ((left top : ℤ) → count ≡ length (block_cells left top rows (8 * band))) → IsCountFrom rows (record { from = 8 * band; height = 8; cells = more }) →
     (left top : ℤ) → count + more ≡ length (block_cells left top rows (8 * (band + 1)))
 counted_band rows band count more before is left top =
     let next : 8 * band + 8 ≡ 8 * (band + 1) = omega arith in

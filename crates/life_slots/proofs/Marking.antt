@@ -19,7 +19,7 @@ module _ (change : Change) (old new : Tile) (index side column bits : ℕ) (is :
     (set : (k : ℕ) → k < 3 → bit_at column (index + 7 + k) ≡ 0 → bit_at bits k ≡ 0)
     (first : bit_at bits 0 ≡ 0 → IsSideClear side change.first) (all : bit_at bits 1 ≡ 0 → IsSideClear side change.all) (last : bit_at bits 2 ≡ 0 → IsSideClear side change.last) where
   -- a cell that changed is not next to a band whose bit is not set
-  pub touched_beside : IsTouchedBeside column index old new side
+  pub touched_beside : IsTouchedBeside (record { side = side; word = column; index = index; before = old; after = new })
   touched_beside = record {
     same = λ m band x y small on_side b_small wide high near clear.
         let edge : IsEdge side x = subst (λ (n : ℕ). IsEdge n x) on_side near.column in

@@ -29,7 +29,7 @@ next_to m band y row p Y is at low high = (omega (arith, ints), omega (arith, in
 record BandBeyond (m x y : ℕ) : Type 0 where
   pub band : ℕ
   pub small : band < 8
-  pub near : IsNextToBand m band x y
+  pub near : IsNextToBand (record { direction = m; band = band; column = x; row = y })
 
 -- each cell at the edge in a direction is next to a band of the tile there
 beyond : (m x y : ℕ) → m < 9 → y < 64 → IsAtEdge m x y → BandBeyond m x y
@@ -50,7 +50,7 @@ beyond m x y small high edge =
     (cases_eq (m / 3) 0)
 
 -- and each cell is next to its own band
-in_own : (x y : ℕ) → y < 64 → IsNextToBand 4 (y / 8) x y
+in_own : (x y : ℕ) → y < 64 → IsNextToBand (record { direction = 4; band = y / 8; column = x; row = y })
 in_own x y high = record {
   column = record { first = λ is. absurd (omega arith); last = λ is. absurd (omega arith) };
   from = omega arith;
@@ -58,7 +58,8 @@ in_own x y high = record {
 }
 
 module _ (index : Index) (slots : List Slot) (whole : IsIndexed index slots) (previous after : List Tile) (marked : List Bands) (previous_none : tile_of previous 0 ≡ empty_tile) (after_none : tile_of after 0 ≡ empty_tile)
-    (around : (k m band x y : ℕ) → 0 < k → k < length slots → m < 9 → band < 8 → x < 64 → y < 64 → IsNextToBand m band x y → band_mark marked (link_of slots k m) band ≡ 0 →
+    (around : (k m band x y : ℕ) → 0 < k → k < length slots → m < 9 → band < 8 → x < 64 → y < 64 →
+    IsNextToBand (record { direction = m; band = band; column = x; row = y }) → band_mark marked (link_of slots k m) band ≡ 0 →
     tile_cell (tile_of after k) x y ≡ tile_cell (tile_of previous k) x y) where
   -- in and next to a band that is not marked nothing changed
   pub unchanged : (j band : ℕ) → 0 < j → j < length slots → band < 8 → band_mark marked j band ≡ 0 → (X Y : ℤ) → IsBeside X (place_of slots j).0 →
@@ -90,7 +91,7 @@ module _ (index : Index) (slots : List Slot) (whole : IsIndexed index slots) (pr
 
 module _ (index : Index) (slots : List Slot) (whole : IsIndexed index slots) (current previous after : List Tile) (active marks marked : List Bands) (rule : Rule)
     (current_none : tile_of current 0 ≡ empty_tile) (previous_none : tile_of previous 0 ≡ empty_tile)
-    (worked : IsWorkedOut slots current active rule previous after marks marked (length slots)) where
+    (worked : IsWorkedOut slots (record { current = current; active = active; rule = rule; before = previous; after = after; marks_before = marks; marks_after = marked; done = length slots })) where
   pub after_none : tile_of after 0 ≡ empty_tile
   after_none = worked.first ∙ previous_none
 

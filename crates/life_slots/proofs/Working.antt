@@ -5,7 +5,7 @@ use Rattle.std.proofs.lemmas.Bool.{cases_eq, cases_lt}
 use Rattle.std.proofs.Math.ListN.{length-set}
 use Rattle.life_model.specs.Rule.{Rule}
 use Rattle.life_bits.specs.declared.tile.Tile.{Tile}
-use Rattle.life_bits.specs.Area.{tile_cell, next_in_area}
+use Rattle.life_bits.specs.Area.{Nine, tile_cell, next_in_area}
 use Rattle.life_slots.specs.declared.bands.Bands.{Bands}
 use Rattle.life_slots.specs.declared.slot.Slot.{Slot}
 use Rattle.life_slots.specs.Slots.{links_of, link_of, tile_of, nine_linked}
@@ -16,18 +16,18 @@ use Rattle.life_slots.proofs.Marks.{clear_before}
 use Rattle.life_slots.proofs.Marking.{bit_before}
 
 -- no band yet
-pub nothing_done : (current : List Tile) (links : List ℕ) (active : Bands) (rule : Rule) (tile : Tile) (columns : List ℕ) → IsTileWorkedOut current links active rule tile tile columns 0
-nothing_done current links active rule tile columns = record {
+pub nothing_done : (nine : Nine) (active : Bands) (rule : Rule) (tile : Tile) (columns : List ℕ) → IsTileWorkedOut (record { nine = nine; active = active; rule = rule; before = tile; after = tile; columns = columns; done = 0 })
+nothing_done nine active rule tile columns = record {
   next = λ x y wide high less. absurd (omega arith);
   idle = λ x y wide high clear. refl;
   later = λ x y wide high past. refl;
   around = λ m band x y small b_small wide high less. absurd (omega arith);
 }
 
-module _ (current : List Tile) (links : List ℕ) (active : Bands) (rule : Rule) (before tile : Tile) (columns : List ℕ) (n : ℕ)
-    (worked : IsTileWorkedOut current links active rule before tile columns n) where
+module _ (nine : Nine) (active : Bands) (rule : Rule) (before tile : Tile) (columns : List ℕ) (n : ℕ)
+    (worked : IsTileWorkedOut (record { nine = nine; active = active; rule = rule; before = before; after = tile; columns = columns; done = n })) where
   -- bands that have nothing to do
-  pub bands_idle : (later : ℕ) → n ≤ later → ((band : ℕ) → n ≤ band → band < later → bit_at active.bits band ≡ 0) → IsTileWorkedOut current links active rule before tile columns later
+  pub bands_idle : (later : ℕ) → n ≤ later → ((band : ℕ) → n ≤ band → band < later → bit_at active.bits band ≡ 0) → IsTileWorkedOut (record { nine = nine; active = active; rule = rule; before = before; after = tile; columns = columns; done = later })
   bands_idle later more idle = record {
     next = λ x y wide high less busy.
         ⊎_elim
@@ -45,7 +45,7 @@ module _ (current : List Tile) (links : List ℕ) (active : Bands) (rule : Rule)
 
   -- a band that is worked out
   module _ (after : Tile) (more : List ℕ) (busy : bit_at active.bits n ≡ 1)
-      (law : (x y : ℕ) → x < 64 → y < 8 → tile_cell after x (8 * n + y) ≡ next_in_area rule (nine_linked current links) x (8 * n + y))
+      (law : (x y : ℕ) → x < 64 → y < 8 → tile_cell after x (8 * n + y) ≡ next_in_area rule nine x (8 * n + y))
       (others : (x y : ℕ) → (y < 8 * n) ⊎ (8 * n + 8 ≤ y) → tile_cell after x y ≡ tile_cell tile x y)
       (kept : (side k : ℕ) → side < 3 → bit_at (slice_index columns side) k ≡ 1 → bit_at (slice_index more side) k ≡ 1)
       (around : IsTouchedAround more n tile after) where
@@ -55,12 +55,12 @@ module _ (current : List Tile) (links : List ℕ) (active : Bands) (rule : Rule)
     row_is : (y : ℕ) → y / 8 ≡ n → 8 * n + (y - 8 * n) ≡ y
     row_is y same = omega arith
 
-    pub band_busy : IsTileWorkedOut current links active rule before after more (n + 1)
+    pub band_busy : IsTileWorkedOut (record { nine = nine; active = active; rule = rule; before = before; after = after; columns = more; done = n + 1 })
     band_busy = record {
       next = λ x y wide high less wanted.
           ⊎_elim
           (λ (same : y / 8 ≡ n).
-          subst (λ z. tile_cell after x z ≡ next_in_area rule (nine_linked current links) x z) (row_is y same) (law x (y - 8 * n) wide (omega arith)))
+          subst (λ z. tile_cell after x z ≡ next_in_area rule nine x z) (row_is y same) (law x (y - 8 * n) wide (omega arith)))
           (λ (apart : y / 8 ≢ n). apart_from x y apart ∙ worked.next x y wide high (omega arith) wanted)
           (cases_eq (y / 8) n);
       idle = λ x y wide high idle.
@@ -72,7 +72,7 @@ module _ (current : List Tile) (links : List ℕ) (active : Bands) (rule : Rule)
       around = λ m band x y small b_small wide high less near clear.
           ⊎_elim
           (λ (same : y / 8 ≡ n).
-          subst (λ z. IsNextToBand m band x z → tile_cell after x z ≡ tile_cell tile x z) (row_is y same)
+          subst (λ z. IsNextToBand (record { direction = m; band = band; column = x; row = z }) → tile_cell after x z ≡ tile_cell tile x z) (row_is y same)
           (λ beside. around.same m band x (y - 8 * n) small b_small wide (omega arith) beside clear) near
           ∙ worked.later x y wide high (omega arith))
           (λ (apart : y / 8 ≢ n).
@@ -84,8 +84,8 @@ module _ (current : List Tile) (links : List ℕ) (active : Bands) (rule : Rule)
 
 -- slots that have nothing to do
 pub slots_idle : (slots : List Slot) (current : List Tile) (active : List Bands) (rule : Rule) (before after : List Tile) (marks marked : List Bands) (n : ℕ) →
-    IsWorkedOut slots current active rule before after marks marked n →
-    (later : ℕ) → n ≤ later → ((k band : ℕ) → n ≤ k → k < later → band_mark active k band ≡ 0) → IsWorkedOut slots current active rule before after marks marked later
+    IsWorkedOut slots (record { current = current; active = active; rule = rule; before = before; after = after; marks_before = marks; marks_after = marked; done = n }) →
+    (later : ℕ) → n ≤ later → ((k band : ℕ) → n ≤ k → k < later → band_mark active k band ≡ 0) → IsWorkedOut slots (record { current = current; active = active; rule = rule; before = before; after = after; marks_before = marks; marks_after = marked; done = later })
 slots_idle slots current active rule before after marks marked n worked later more idle = record {
   length_after = worked.length_after;
   length_marked = worked.length_marked;
@@ -106,7 +106,7 @@ slots_idle slots current active rule before after marks marked n worked later mo
 }
 
 -- no slot yet
-pub no_slot_done : (slots : List Slot) (current : List Tile) (active : List Bands) (rule : Rule) (tiles : List Tile) (marks : List Bands) → IsWorkedOut slots current active rule tiles tiles marks marks 1
+pub no_slot_done : (slots : List Slot) (current : List Tile) (active : List Bands) (rule : Rule) (tiles : List Tile) (marks : List Bands) → IsWorkedOut slots (record { current = current; active = active; rule = rule; before = tiles; after = tiles; marks_before = marks; marks_after = marks; done = 1 })
 no_slot_done slots current active rule tiles marks = record {
   length_after = refl;
   length_marked = refl;
@@ -119,13 +119,13 @@ no_slot_done slots current active rule tiles marks = record {
 }
 
 module _ (slots : List Slot) (current : List Tile) (active : List Bands) (rule : Rule) (before after : List Tile) (marks marked : List Bands) (n : ℕ) (later : 0 < n) (inside : n < length slots)
-    (worked : IsWorkedOut slots current active rule before after marks marked n) where
+    (worked : IsWorkedOut slots (record { current = current; active = active; rule = rule; before = before; after = after; marks_before = marks; marks_after = marked; done = n })) where
   -- a slot of which some bands are worked out
   pub worked_busy : (tile : Tile) (columns : List ℕ) (more : List Bands) → length after ≡ length slots →
-      IsTileWorkedOut current (links_of slots n) (bands_of active n) rule (tile_of after n) tile columns 8 →
+      IsTileWorkedOut (record { nine = nine_linked current (links_of slots n); active = bands_of active n; rule = rule; before = tile_of after n; after = tile; columns = columns; done = 8 }) →
       length more ≡ length marked → ((k band : ℕ) → band_mark marked k band ≡ 1 → band_mark more k band ≡ 1) →
       ((m band : ℕ) → m < 9 → band < 8 → band_mark more (link_of slots n m) band ≡ 0 → touch_of columns m band ≡ 0) →
-      IsWorkedOut slots current active rule before (slice_set after n tile) marks more (n + 1)
+      IsWorkedOut slots (record { current = current; active = active; rule = rule; before = before; after = slice_set after n tile; marks_before = marks; marks_after = more; done = n + 1 })
   worked_busy tile columns more count law same_length kept touched =
       let room : n < length after = omega arith in
       let there : (k : ℕ) → k ≢ n → tile_of (slice_set after n tile) k ≡ tile_of after k = λ k apart. set_there after n k tile (record { rows = [] }) apart in

@@ -35,9 +35,16 @@ has_cell tile = nat_lt 0 (tile_count tile)
 abbrev pub live_tiles : List Tile → ℕ
 live_tiles tiles = count_by has_cell tiles
 
--- how many cells the n rows from a row on add to those before
-abbrev pub IsCountFrom : List ℕ → ℕ → ℕ → ℕ → Type 0
-IsCountFrom rows from n count = (left top : ℤ) → length (block_cells left top rows from) + count ≡ length (block_cells left top rows (from + n))
+-- the first of some rows, how many rows these are, and how many cells they have
+pub record RowsCount : Type 0 where
+  pub from : ℕ
+  pub height : ℕ
+  pub cells : ℕ
+
+-- how many cells some rows add to those before
+abbrev pub IsCountFrom : List ℕ → RowsCount → Type 0
+IsCountFrom rows counted = (left top : ℤ) →
+    length (block_cells left top rows counted.from) + counted.cells ≡ length (block_cells left top rows (counted.from + counted.height))
 
 -- 1 for a live cell, 0 for a dead one
 abbrev pub state_at : Generation → ℤ → ℤ → ℕ

@@ -19,12 +19,19 @@ pub record IsAtEdge (m x y : ℕ) : Type 0 where
   pub column : IsEdge (m % 3) x
   pub row : IsEdge (m / 3) y
 
--- Column x and row y of a tile are in or next to a band of the tile in a direction. Of three tiles one above the other, of which
--- this is the middle one, that band is the one with number 8 * (m / 3) + band.
-pub record IsNextToBand (m band x y : ℕ) : Type 0 where
-  pub column : IsEdge (m % 3) x
-  pub from : 8 * (8 * (m / 3) + band) ≤ y + 65
-  pub to : y + 56 ≤ 8 * (8 * (m / 3) + band)
+-- a direction from a tile, a band of the tile there, and the column and the row of a cell of this tile
+pub record BandAndCell : Type 0 where
+  pub direction : ℕ
+  pub band : ℕ
+  pub column : ℕ
+  pub row : ℕ
+
+-- A cell of a tile is in or next to a band of the tile in a direction. Of three tiles one above the other, of which this is the
+-- middle one, that band is the one with number 8 * (direction / 3) + band.
+pub record IsNextToBand (at : BandAndCell) : Type 0 where
+  pub column : IsEdge (at.direction % 3) at.column
+  pub from : 8 * (8 * (at.direction / 3) + at.band) ≤ at.row + 65
+  pub to : at.row + 56 ≤ 8 * (8 * (at.direction / 3) + at.band)
 
 -- no cell of a tile at its edge in a direction is live
 pub record IsStill (tile : Tile) (m : ℕ) : Type 0 where

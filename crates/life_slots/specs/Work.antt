@@ -3,7 +3,7 @@ use Rattle.std.specs.Prelude.{◌≡◌, ℕ, ◌+◌, ◌*◌, ◌%◌, ◌/◌
 use Rattle.std.specs.Int.{bit_at}
 use Rattle.life_model.specs.Rule.{Rule}
 use Rattle.life_bits.specs.declared.tile.Tile.{Tile}
-use Rattle.life_bits.specs.Area.{tile_cell, next_in_area}
+use Rattle.life_bits.specs.Area.{Nine, tile_cell, next_in_area}
 use Rattle.life_bits.specs.Changes.{IsSameCell}
 use Rattle.life_slots.specs.declared.bands.Bands.{Bands}
 use Rattle.life_slots.specs.declared.slot.Slot.{Slot}
@@ -28,17 +28,27 @@ IsCalm marks = IsIdle marks 0
 
 -- each band is marked that a live cell of the tile of a slot from 1 to n is in or next to
 pub record IsMarkedNear (slots : List Slot) (tiles : List Tile) (marks : List Bands) (n : ℕ) : Type 0 where
-  pub near : (k m band x y : ℕ) → 0 < k → k < n → m < 9 → band < 8 → x < 64 → y < 64 → IsNextToBand m band x y → band_mark marks (link_of slots k m) band ≡ 0 →
+  pub near : (k m band x y : ℕ) → 0 < k → k < n → m < 9 → band < 8 → x < 64 → y < 64 →
+      IsNextToBand (record { direction = m; band = band; column = x; row = y }) → band_mark marks (link_of slots k m) band ≡ 0 →
       tile_cell (tile_of tiles k) x y ≡ 0
 
 -- each link of each slot but the first is a slot
 pub record IsLinked (slots : List Slot) : Type 0 where
   pub inside : (k m : ℕ) → 0 < k → k < length slots → m < 9 → link_of slots k m < length slots
 
+-- the word of the bands of the tiles on one side, a band of the tile in the middle, and that tile before and after it changes there
+pub record SideOfChange : Type 0 where
+  pub side : ℕ
+  pub word : ℕ
+  pub index : ℕ
+  pub before : Tile
+  pub after : Tile
+
 -- of the tiles on one side each band has its bit set that a cell which changed is in or next to, of a band of the tile in the middle
-pub record IsTouchedBeside (column index : ℕ) (old new : Tile) (side : ℕ) : Type 0 where
-  pub same : (m band x y : ℕ) → m < 9 → m % 3 ≡ side → band < 8 → x < 64 → y < 8 → IsNextToBand m band x (8 * index + y) →
-      bit_at column (8 * (m / 3) + band) ≡ 0 → IsSameCell old new x (8 * index + y)
+pub record IsTouchedBeside (change : SideOfChange) : Type 0 where
+  pub same : (m band x y : ℕ) → m < 9 → m % 3 ≡ change.side → band < 8 → x < 64 → y < 8 →
+      IsNextToBand (record { direction = m; band = band; column = x; row = 8 * change.index + y }) →
+      bit_at change.word (8 * (m / 3) + band) ≡ 0 → IsSameCell change.before change.after x (8 * change.index + y)
 
 -- the bit of a band of the tile in a direction, in the words of three columns
 abbrev pub touch_of : List ℕ → ℕ → ℕ → ℕ
@@ -46,27 +56,56 @@ touch_of columns m band = bit_at (slice_index columns (m % 3)) (8 * (m / 3) + ba
 
 -- the same of all nine tiles
 pub record IsTouchedAround (columns : List ℕ) (index : ℕ) (old new : Tile) : Type 0 where
-  pub same : (m band x y : ℕ) → m < 9 → band < 8 → x < 64 → y < 8 → IsNextToBand m band x (8 * index + y) → touch_of columns m band ≡ 0 →
+  pub same : (m band x y : ℕ) → m < 9 → band < 8 → x < 64 → y < 8 →
+      IsNextToBand (record { direction = m; band = band; column = x; row = 8 * index + y }) → touch_of columns m band ≡ 0 →
       IsSameCell old new x (8 * index + y)
 
--- Of the tile in the middle of nine slots the bands before band n that had something to do are worked out, the others are what they
--- were, and each band has its bit set that a cell which changed is in or next to.
-pub record IsTileWorkedOut (current : List Tile) (links : List ℕ) (active : Bands) (rule : Rule) (before after : Tile) (columns : List ℕ) (n : ℕ) : Type 0 where
-  pub next : (x y : ℕ) → x < 64 → y < 64 → y / 8 < n → bit_at active.bits (y / 8) ≡ 1 → tile_cell after x y ≡ next_in_area rule (nine_linked current links) x y
-  pub idle : (x y : ℕ) → x < 64 → y < 64 → bit_at active.bits (y / 8) ≡ 0 → tile_cell after x y ≡ tile_cell before x y
-  pub later : (x y : ℕ) → x < 64 → y < 64 → n ≤ y / 8 → tile_cell after x y ≡ tile_cell before x y
-  pub around : (m band x y : ℕ) → m < 9 → band < 8 → x < 64 → y < 64 → y / 8 < n → IsNextToBand m band x y → touch_of columns m band ≡ 0 →
-      tile_cell after x y ≡ tile_cell before x y
+-- The nine tiles now, the bands of the middle one that have something to do, and by which rule. The tile in the middle before and
+-- after, the words of three columns of bands, and how many bands are done.
+pub record TileWork : Type 0 where
+  pub nine : Nine
+  pub active : Bands
+  pub rule : Rule
+  pub before : Tile
+  pub after : Tile
+  pub columns : List ℕ
+  pub done : ℕ
 
--- The bands of the slots from 1 to n that had something to do are worked out, the others are what they were, and each band is
--- marked that a cell which changed is in or next to.
-pub record IsWorkedOut (slots : List Slot) (current : List Tile) (active : List Bands) (rule : Rule) (before after : List Tile) (marks marked : List Bands) (n : ℕ) : Type 0 where
-  pub length_after : length after ≡ length before
-  pub length_marked : length marked ≡ length marks
-  pub next : (k x y : ℕ) → 0 < k → k < n → x < 64 → y < 64 → band_mark active k (y / 8) ≡ 1 → tile_cell (tile_of after k) x y ≡ next_in_area rule (nine_linked current (links_of slots k)) x y
-  pub idle : (k x y : ℕ) → x < 64 → y < 64 → band_mark active k (y / 8) ≡ 0 → tile_cell (tile_of after k) x y ≡ tile_cell (tile_of before k) x y
-  pub first : tile_of after 0 ≡ tile_of before 0
-  pub later : (k : ℕ) → n ≤ k → tile_of after k ≡ tile_of before k
-  pub around : (k m band x y : ℕ) → 0 < k → k < n → m < 9 → band < 8 → x < 64 → y < 64 → IsNextToBand m band x y → band_mark marked (link_of slots k m) band ≡ 0 →
-      tile_cell (tile_of after k) x y ≡ tile_cell (tile_of before k) x y
-  pub kept : (k band : ℕ) → band_mark marks k band ≡ 1 → band_mark marked k band ≡ 1
+-- Of the bands of the tile in the middle that are done, those that had something to do are worked out, all others are what they
+-- were, and each band has its bit set that a cell which changed is in or next to.
+pub record IsTileWorkedOut (work : TileWork) : Type 0 where
+  pub next : (x y : ℕ) → x < 64 → y < 64 → y / 8 < work.done → bit_at work.active.bits (y / 8) ≡ 1 →
+      tile_cell work.after x y ≡ next_in_area work.rule work.nine x y
+  pub idle : (x y : ℕ) → x < 64 → y < 64 → bit_at work.active.bits (y / 8) ≡ 0 → tile_cell work.after x y ≡ tile_cell work.before x y
+  pub later : (x y : ℕ) → x < 64 → y < 64 → work.done ≤ y / 8 → tile_cell work.after x y ≡ tile_cell work.before x y
+  pub around : (m band x y : ℕ) → m < 9 → band < 8 → x < 64 → y < 64 → y / 8 < work.done →
+      IsNextToBand (record { direction = m; band = band; column = x; row = y }) → touch_of work.columns m band ≡ 0 →
+      tile_cell work.after x y ≡ tile_cell work.before x y
+
+-- The tiles now, the bands of each slot that have something to do, and by which rule. The tiles before and after, the marks before
+-- and after, and how many slots are done, slot 0 among these.
+pub record SlotsWork : Type 0 where
+  pub current : List Tile
+  pub active : List Bands
+  pub rule : Rule
+  pub before : List Tile
+  pub after : List Tile
+  pub marks_before : List Bands
+  pub marks_after : List Bands
+  pub done : ℕ
+
+-- Of the bands of the slots that are done, slot 0 apart, those that had something to do are worked out, all others are what they
+-- were, and each band is marked that a cell which changed is in or next to.
+pub record IsWorkedOut (slots : List Slot) (work : SlotsWork) : Type 0 where
+  pub length_after : length work.after ≡ length work.before
+  pub length_marked : length work.marks_after ≡ length work.marks_before
+  pub next : (k x y : ℕ) → 0 < k → k < work.done → x < 64 → y < 64 → band_mark work.active k (y / 8) ≡ 1 →
+      tile_cell (tile_of work.after k) x y ≡ next_in_area work.rule (nine_linked work.current (links_of slots k)) x y
+  pub idle : (k x y : ℕ) → x < 64 → y < 64 → band_mark work.active k (y / 8) ≡ 0 →
+      tile_cell (tile_of work.after k) x y ≡ tile_cell (tile_of work.before k) x y
+  pub first : tile_of work.after 0 ≡ tile_of work.before 0
+  pub later : (k : ℕ) → work.done ≤ k → tile_of work.after k ≡ tile_of work.before k
+  pub around : (k m band x y : ℕ) → 0 < k → k < work.done → m < 9 → band < 8 → x < 64 → y < 64 →
+      IsNextToBand (record { direction = m; band = band; column = x; row = y }) → band_mark work.marks_after (link_of slots k m) band ≡ 0 →
+      tile_cell (tile_of work.after k) x y ≡ tile_cell (tile_of work.before k) x y
+  pub kept : (k band : ℕ) → band_mark work.marks_before k band ≡ 1 → band_mark work.marks_after k band ≡ 1

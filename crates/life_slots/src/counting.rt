@@ -17,7 +17,7 @@ fn count_row(row: u64) -> u64
 fn count_rows(tile: &Tile, top: usize) -> u64
     requires { top ≤ 56 }
     ensures few { result ≤ 512 }
-    ensures cells { IsCountFrom tile.now.rows top 8 result }
+    ensures cells { IsCountFrom tile.now.rows (record { from = top; height = 8; cells = result }) }
 {
     let mut count = 0;
     for y in 0..8 {

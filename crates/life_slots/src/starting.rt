@@ -40,7 +40,8 @@ fn birth(tile: &Tile, top: usize) -> Change
 
 /// Of nine tiles the bands that a live cell of the tile in the middle is in or next to.
 fn bands_near(tile: &Tile) -> Touched
-    ensures { (m band x y : ℕ) → m < 9 → band < 8 → x < 64 → y < 64 → IsNextToBand m band x y →
+    ensures { (m band x y : ℕ) → m < 9 → band < 8 → x < 64 → y < 64 →
+        IsNextToBand (record { direction = m; band = band; column = x; row = y }) →
         touch_of result.columns m band ≡ 0 →
         tile_cell tile.now x y ≡ 0 }
 {

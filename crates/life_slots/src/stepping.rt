@@ -3,6 +3,7 @@ ghost use Rattle.std.specs.Prelude.{◌≡◌, ℕ, ◌+◌, ◌*◌, ◌%◌, �
 ghost use Rattle.std.specs.Int.{bit_at};
 ghost use Rattle.life_model.specs.Rule.{Rule};
 ghost use Rattle.life_bits.specs.Logics.{IsLogicOf};
+ghost use Rattle.life_slots.specs.Slots.{nine_linked};
 ghost use Rattle.life_slots.specs.Work.{band_mark, IsLinked, IsTileWorkedOut, IsWorkedOut};
 
 use crate::bands::Bands;
@@ -34,7 +35,15 @@ fn work_out(
 ) -> Touched
     requires { (m : ℕ) → m < 9 → slice_index links.now m < length current.now }
     ensures { (rule : Rule) → IsLogicOf logic.now rule →
-        IsTileWorkedOut current.now links.now active rule tile.old tile.new result.columns 8 }
+        IsTileWorkedOut (record {
+          nine = nine_linked current.now links.now;
+          active = active;
+          rule = rule;
+          before = tile.old;
+          after = tile.new;
+          columns = result.columns;
+          done = 8;
+        }) }
 {
     let here = &current[links[CENTRE] as usize];
     let around = Around {
@@ -108,8 +117,16 @@ fn next_tiles_by(
     requires active { length active.now ≡ length slots.now }
     requires marks { length marks.old ≡ length slots.now }
     ensures { (rule : Rule) → IsLogicOf logic.now rule →
-        IsWorkedOut slots.now current.now active.now rule previous.old previous.new marks.old
-        marks.new (length slots.now) }
+        IsWorkedOut slots.now (record {
+          current = current.now;
+          active = active.now;
+          rule = rule;
+          before = previous.old;
+          after = previous.new;
+          marks_before = marks.old;
+          marks_after = marks.new;
+          done = length slots.now;
+        }) }
 {
     let mut slot = first_busy(active, 1);
     while slot < slots.len() {
@@ -135,8 +152,16 @@ pub fn next_tiles(
     requires previous { length previous.old ≡ length slots.now }
     requires active { length active.now ≡ length slots.now }
     requires marks { length marks.old ≡ length slots.now }
-    ensures { IsWorkedOut slots.now current.now active.now rule.now previous.old previous.new
-        marks.old marks.new (length slots.now) }
+    ensures { IsWorkedOut slots.now (record {
+      current = current.now;
+      active = active.now;
+      rule = rule.now;
+      before = previous.old;
+      after = previous.new;
+      marks_before = marks.old;
+      marks_after = marks.new;
+      done = length slots.now;
+    }) }
 {
     // Which logic it is, is found out here once for all bands, and for Conway's rule without making room for another.
     if *rule == Rule::life() {

@@ -50,7 +50,13 @@ fn with_change(column: u32, side: usize, index: usize, change: &Change) -> u32
     requires index { index < 8 }
     ensures kept { (k : ℕ) → bit_at column k ≡ 1 → bit_at result k ≡ 1 }
     ensures touched { (old new : Tile) → IsChange change.now old new (8 * index) →
-        IsTouchedBeside result index old new side }
+        IsTouchedBeside (record {
+          side = side;
+          word = result;
+          index = index;
+          before = old;
+          after = new;
+        }) }
 {
     // The bands above, beside and below.
     with_bits(column, index + 7, rows_beside(change, side))

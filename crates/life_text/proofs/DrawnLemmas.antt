@@ -8,7 +8,8 @@ use Rattle.life_text.specs.declared.pen.Pen.{Pen}
 use Rattle.life_text.specs.declared.rle.RleFault.{RleFault}
 use Rattle.life_text.specs.declared.rle.RleFault.TheVariants.{BadRun, TooFar, TooMany, NoEnd}
 use Rattle.life_text.specs.Filled.{filled_lines}
-use Rattle.life_text.specs.Rle.{Token, lexemes, tokens, cell_limit, fault_if, is_bad_run, is_too_far, is_too_many, is_missing}
+use Rattle.texts.specs.Faults.{fault_if}
+use Rattle.life_text.specs.Rle.{Token, lexemes, tokens, cell_limit, is_bad_run, is_too_far, is_too_many, is_missing}
 use Rattle.life_text.specs.Reader.{cells_drawn, cells_or_fault}
 use Rattle.life_text.specs.RleText.{token_text}
 use Rattle.life_text.specs.Writer.{with_token, onto_run, tokens_from}

@@ -3,7 +3,7 @@ use Rattle.std.proofs.Common.{◌≡◌, ℕ, zero, suc, ◌+◌, ◌-◌, ◌<�
 use Rattle.std.specs.List.{range_with_len}
 use Rattle.std.proofs.lemmas.Bool.Decides.{nat_tests}
 use Rattle.life_model.specs.Box.{extent}
-use Rattle.life_cells.specs.Bytes.{is_in}
+use Rattle.texts.specs.Bytes.{is_in}
 use Rattle.life_text.specs.RleText.{onto_rows, drawn_rows, run_onto, runs_of, run_token, row_tokens, tokens_of_rows}
 use Rattle.life_text.specs.Writer.{with_token, onto_run, tokens_from}
 use Rattle.life_text.proofs.PlaceLemmas.{IsBehind, BeginsAbove}

@@ -3,7 +3,7 @@ use Rattle.std.proofs.Common.{◌≡◌, ℕ, zero, suc, ◌+◌, ◌-◌, ◌<�
 use Rattle.std.specs.List.{prefix_len, before_first, after_first}
 use Rattle.std.proofs.lemmas.List.{take_all, take_more, get_or-drop, length-drop}
 use Rattle.memchr.specs.Find.{IsFirstByte, is_byte}
-use Rattle.life_cells.specs.Bytes.{is_space, without_front}
+use Rattle.texts.specs.Bytes.{is_space, without_front}
 use Rattle.life_text.specs.Rle.{comments_as_blanks, from_header, body, body_place, body_tokens, lexemes, tokens}
 use Rattle.life_text.specs.Reader.{byte_before, plain_at, tokens_at, is_in_comment, is_line_feed}
 use Rattle.life_text.specs.Rle.{Token, with_body, header_rule, reading, first_fault, cells_after, unless_fault}

@@ -7,7 +7,7 @@ use Rattle.std.proofs.lemmas.List.Folds.{list_all-append}
 use Rattle.std.proofs.lemmas.List.Sums.{suffix_len_is, AllPass-from_list_all}
 use Rattle.std.proofs.lemmas.Bool.Decides.{nat_tests}
 use Rattle.life_model.specs.Rule.{Rule}
-use Rattle.life_cells.specs.Bytes.{is_blank, is_digit, is_space, without_front, without_ends, ◌>>=◌}
+use Rattle.texts.specs.Bytes.{is_blank, is_digit, is_space, without_front, without_ends, ◌>>=◌}
 use Rattle.life_cells.specs.Rules.{is_count, set_text, rule_text, rule_of}
 use Rattle.life_cells.proofs.FormLemmas.{and_left, and_right}
 use Rattle.life_cells.proofs.PrintLemmas.{printed_set, printed_rule}

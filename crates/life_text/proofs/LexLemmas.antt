@@ -7,7 +7,7 @@ use Rattle.std.proofs.Math.Seq.{drop-cons}
 use Rattle.std.proofs.lemmas.Bool.Decides.{nat_tests}
 use Rattle.std.proofs.lemmas.List.{drop_all}
 use Rattle.std.proofs.Math.Bool.{true≢false, or-true}
-use Rattle.life_cells.specs.Bytes.{is_digit, is_space, is_blank, without_front}
+use Rattle.texts.specs.Bytes.{is_digit, is_space, is_blank, without_front}
 use Rattle.life_text.specs.Rle.{Count, Tag, comments_as_blanks, lexemes}
 use Rattle.life_text.specs.Reader.{byte_before, plain_at, count_cap, is_in_comment}
 

@@ -6,7 +6,7 @@ use Rattle.std.proofs.lemmas.Str.Parse.{tells_digits}
 use Rattle.std.proofs.lemmas.Fmt.{decimal_is_IsNumeral}
 use Rattle.std.proofs.lemmas.Bool.{false≢true}
 use Rattle.std.proofs.lemmas.Bool.Decides.{nat_tests}
-use Rattle.life_cells.specs.Bytes.{is_digit, is_space}
+use Rattle.texts.specs.Bytes.{is_digit, is_space}
 use Rattle.life_cells.proofs.FormLemmas.{and_left, and_right}
 use Rattle.life_text.specs.Filled.{filled_lines}
 use Rattle.life_text.specs.Rle.{Lexeme, Count, Tag, Token, lexemes, tokens}

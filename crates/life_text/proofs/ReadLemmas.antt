@@ -2,7 +2,7 @@
 use Rattle.std.proofs.Common.{◌≡◌, ◌≢◌, ℕ, Bool, true, false, if◌then◌else◌, is_some, codes, List, Option, Some, None, Result, Ok, Err, IfOk, IfErr, OnOk, refl}
 use Rattle.std.specs.List.{list_all}
 use Rattle.life_model.specs.Rule.{Rule}
-use Rattle.life_cells.specs.Bytes.{after_one_of, is_blank, without_ends}
+use Rattle.texts.specs.Bytes.{after_one_of, is_blank, without_ends}
 use Rattle.life_cells.specs.Rules.{life, rule_of}
 use Rattle.life_cells.specs.declared.rule.RuleFault.{RuleFault}
 use Rattle.life_cells.specs.declared.rule.RuleFault.TheVariants.{NotLifeLike, HasB0}

@@ -6,7 +6,7 @@ use Rattle.std.proofs.lemmas.Bool.{false≢true}
 use Rattle.std.proofs.lemmas.Bool.Decides.{nat_tests}
 use Rattle.life_text.specs.declared.pen.Pen.{Pen}
 use Rattle.life_text.specs.declared.rle.RleFault.{RleFault}
-use Rattle.life_cells.specs.Bytes.{is_in}
+use Rattle.texts.specs.Bytes.{is_in}
 use Rattle.life_cells.specs.Limits.{place_limit}
 use Rattle.life_cells.specs.Readings.{unless_refused}
 use Rattle.life_text.specs.Rle.{Token, is_live, is_cells, is_row_end, run_length, run_cells, token_fault, first_fault, cells_after, has_tag}

@@ -5,7 +5,7 @@ use Rattle.std.specs.Option.{option_map_or}
 use Rattle.std.specs.Str.Parse.{digits_value}
 use Rattle.std.proofs.lemmas.Bool.{false≢true}
 use Rattle.std.proofs.lemmas.Bool.Decides.{nat_tests}
-use Rattle.life_cells.specs.Bytes.{is_digit, is_in, is_space}
+use Rattle.texts.specs.Bytes.{is_digit, is_in, is_space}
 use Rattle.life_cells.specs.Readings.{cell_of_pair, with_prefix}
 use Rattle.life_cells.proofs.Readings.{with_prefix-twice}
 use Rattle.life_text.specs.declared.token.Found.{Found}

@@ -2,7 +2,7 @@
 use Rattle.std.proofs.Common.{◌≡◌, ℕ, ◌+◌, ◌<◌, ◌≤◌, min, true, false, List, [], ◌∷◌, length, get_or, if◌then◌else◌, ◌==◌, Some, None, sym, ap, ◌∙◌, refl}
 use Rattle.std.specs.List.{prefix_len, take_while}
 use Rattle.std.specs.Str.Parse.{digits_value}
-use Rattle.life_cells.specs.Bytes.{is_digit, is_space, without_front}
+use Rattle.texts.specs.Bytes.{is_digit, is_space, without_front}
 use Rattle.life_text.specs.Rle.{Lexeme, Count, Tag, lexemes, tokens}
 use Rattle.life_text.specs.Reader.{plain_at, tokens_at, count_cap, IsPlain}
 use Rattle.life_text.specs.declared.token.Found.{Found}

@@ -9,7 +9,7 @@ pub mod Places
 pub mod RleText
 pub mod Writer
 pub mod Sizes
-pub use Rattle.life_cells.specs.Bytes
+pub use Rattle.texts.specs.Bytes
 pub use Rattle.life_cells.specs.Rules
 pub use Rattle.life_cells.specs.Forms
 pub use Rattle.life_cells.specs.Limits

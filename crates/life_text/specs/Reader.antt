@@ -1,7 +1,7 @@
 -- What the reader keeps: the text from a place on, the tokens there, and a pen that draws them.
 use Rattle.std.specs.Prelude.{◌≡◌, ℕ, zero, suc, ◌+◌, min, Bool, false, List, [], ◌∷◌, ◌++◌, drop, Option, Some, None, Result, Ok, Err, slice_index, ◌==◌, ℤ, map, if◌then◌else◌}
 use Rattle.std.specs.Option.{option_map}
-use Rattle.life_cells.specs.Bytes.{is_space}
+use Rattle.texts.specs.Bytes.{is_space}
 use Rattle.life_text.specs.declared.pen.Pen.{Pen}
 use Rattle.life_text.specs.declared.rle.RleFault.{RleFault}
 use Rattle.life_text.specs.Rle.{Token, comments_as_blanks, lexemes, tokens, is_live, is_cells, is_row_end, run_length, row, column, live_cells, run_cells, token_fault}

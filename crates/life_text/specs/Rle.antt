@@ -3,7 +3,8 @@ use Rattle.std.specs.Prelude.{ℕ, ◌+◌, ◌-◌, Bool, true, false, not, ◌
 use Rattle.std.specs.List.{list_all, prefix_len, take_while, before_first, after_first, after_last, range_with_len}
 use Rattle.std.specs.Option.{option_or, option_map_or}
 use Rattle.std.specs.Str.Parse.{digits_value}
-use Rattle.life_cells.specs.Bytes.{is_in, is_digit, is_letter, is_blank, is_space, without_front, without_ends, after_one_of, ◌>>=◌}
+use Rattle.texts.specs.Faults.{fault_if}
+use Rattle.texts.specs.Bytes.{is_in, is_digit, is_letter, is_blank, is_space, without_front, without_ends, after_one_of, ◌>>=◌}
 use Rattle.life_cells.specs.declared.rule.RuleFault.{RuleFault}
 use Rattle.life_cells.specs.declared.rule.RuleFault.TheVariants.{NotLifeLike, HasB0}
 use Rattle.life_text.specs.declared.rle.RleFault.{RleFault}
@@ -178,10 +179,6 @@ cells_after before [] = []
 cells_after before (t ∷ ts) = run_cells (row before) (column before) t ++ cells_after (before ++ t ∷ []) ts
 
 -- # The first fault
-
-abbrev pub fault_if : Bool → RleFault → Option RleFault → Option RleFault
-fault_if true fault others = Some fault
-fault_if false fault others = others
 
 -- a letter that names a state other than the two
 abbrev pub is_other_state : Token → Bool

@@ -4,7 +4,7 @@ use Rattle.std.specs.List.{range_with_len}
 use Rattle.life_model.specs.Box.{extent, width, height}
 use Rattle.life_model.specs.Generation.{Generation}
 use Rattle.life_model.specs.Rule.{Rule}
-use Rattle.life_cells.specs.Bytes.{is_in}
+use Rattle.texts.specs.Bytes.{is_in}
 use Rattle.life_cells.specs.Rules.{rule_text}
 use Rattle.life_text.specs.Filled.{filled_lines}
 use Rattle.life_text.specs.Places.{places}

@@ -1,7 +1,7 @@
 -- How the reader takes the sizes of a header.
 use Rattle.std.specs.Prelude.{ℕ, List, Option, Some, None, ◌==◌, if◌then◌else◌}
 use Rattle.std.specs.List.{prefix_len}
-use Rattle.life_cells.specs.Bytes.{is_digit, without_front}
+use Rattle.texts.specs.Bytes.{is_digit, without_front}
 
 -- what follows one or more digits
 abbrev pub after_number : List ℕ → Option (List ℕ)

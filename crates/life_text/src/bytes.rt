@@ -1,6 +1,6 @@
 //! Kinds of bytes.
 ghost use Rattle.std.specs.Prelude.{◌≡◌};
-ghost use Rattle.life_cells.specs.Bytes.{is_blank, is_digit, is_letter, is_space};
+ghost use Rattle.texts.specs.Bytes.{is_blank, is_digit, is_letter, is_space};
 
 /// A blank, a tab or CR.
 pub fn is_blank(byte: u8) -> bool

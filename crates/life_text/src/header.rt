@@ -2,7 +2,7 @@
 ghost use Rattle.std.specs.Prelude.{◌≡◌, ◌<◌, ◌≤◌, ◌+◌, ◌∷◌, ◌++◌, ◌==◌, [], IfSome, IsTrue, Some, length, drop, take, codes};
 ghost use Rattle.std.specs.List.{prefix_len, suffix_len, list_all};
 ghost use Rattle.std.specs.Option.{option_copied};
-ghost use Rattle.life_cells.specs.Bytes.{is_blank, is_digit, without_front, without_back, without_ends, after_one_of};
+ghost use Rattle.texts.specs.Bytes.{is_blank, is_digit, without_front, without_back, without_ends, after_one_of};
 ghost use Rattle.life_text.specs.Sizes.{after_number};
 ghost use Rattle.life_text.specs.Rle.{part, after_size, after_sizes, after_rule_name, rule_or_fault, named_rule, rule_behind, line_rule};
 

@@ -2,7 +2,7 @@
 ghost use Rattle.std.specs.Prelude.{◌&&◌, ◌+◌, ◌<◌, ◌==◌, ◌≡◌, ◌≤◌, IfSome, None, Some, false, length, min, not, slice_index, true};
 ghost use Rattle.std.specs.List.{prefix_len, take_while};
 ghost use Rattle.std.specs.Str.Parse.{digits_value};
-ghost use Rattle.life_cells.specs.Bytes.{is_digit, is_space, without_front};
+ghost use Rattle.texts.specs.Bytes.{is_digit, is_space, without_front};
 ghost use Rattle.life_text.specs.Found.{BeginsWithToken, token_found};
 ghost use Rattle.life_text.specs.Reader.{IsPlain, count_cap, is_in_comment, plain_at};
 ghost use Rattle.life_text.specs.Rle.{is_bad_run, is_cells, is_live, is_missing, is_no_tag, is_other_state, is_row_end, lexemes};

@@ -1,6 +1,7 @@
 -- What a store keeps in a step.
 use Rattle.std.proofs.Common.{◌≡◌, ℕ, ℤ, pos, ◌+ℤ◌, ◌+◌, ◌<◌, false, List, length, refl, sym, subst, ap, ◌∙◌, arith}
 use Rattle.std.proofs.lemmas.Int.{ints}
+use Rattle.std.proofs.Math.Path.{transport}
 use Rattle.life_model.specs.Cell.{Cell, IsNear}
 use Rattle.life_model.specs.Rule.{Rule}
 use Rattle.life_model.specs.Generation.{Generation, contains}
@@ -39,17 +40,15 @@ reached_later age place reached = record {
 
 pub worked_at : (slots slots' : List Slot) (current cur' : List Tile) (active todo' : List Bands) (rule rule' : Rule) (previous alt' after : List Tile) (marks marks' marked : List Bands) →
     slots ≡ slots' → current ≡ cur' → active ≡ todo' → rule ≡ rule' → previous ≡ alt' → marks ≡ marks' →
-    IsWorkedOut slots current active rule previous after marks marked (length slots) → IsWorkedOut slots' cur' todo' rule' alt' after marks' marked (length slots')
+    IsWorkedOut slots (record { current = current; active = active; rule = rule; before = previous; after = after; marks_before = marks; marks_after = marked; done = length slots }) →
+    IsWorkedOut slots' (record { current = cur'; active = todo'; rule = rule'; before = alt'; after = after; marks_before = marks'; marks_after = marked; done = length slots' })
 worked_at slots slots' current cur' active todo' rule rule' previous alt' after marks marks' marked p q r t s v worked =
-    subst (λ (z : List Slot). IsWorkedOut z cur' todo' rule' alt' after marks' marked (length z)) p
-    (subst (λ (z : List Tile). IsWorkedOut slots z todo' rule' alt' after marks' marked (length slots)) q
-    (subst (λ (z : List Bands). IsWorkedOut slots current z rule' alt' after marks' marked (length slots)) r
-    (subst (λ (z : Rule). IsWorkedOut slots current active z alt' after marks' marked (length slots)) t
-    (subst (λ (z : List Tile). IsWorkedOut slots current active rule z after marks' marked (length slots)) s
-    (subst (λ (z : List Bands). IsWorkedOut slots current active rule previous after z marked (length slots)) v worked)))))
+    transport
+    (λ i. IsWorkedOut (p i) (record { current = q i; active = r i; rule = t i; before = s i; after = after; marks_before = v i; marks_after = marked; done = length (p i) }))
+    worked
 
 module _ (s b u : TileStore) (after : List Tile) (marked : List Bands) (kept : IsKept s) (grown : IsGrown s) (young : s.age < age_limit) (begun : IsBegun s b)
-    (worked : IsWorkedOut s.slots.items s.current.items b.active.items s.rule b.previous.items after b.next_active.items marked (length s.slots.items))
+    (worked : IsWorkedOut s.slots.items (record { current = s.current.items; active = b.active.items; rule = s.rule; before = b.previous.items; after = after; marks_before = b.next_active.items; marks_after = marked; done = length s.slots.items }))
     (current_is : u.current.items ≡ after) (previous_is : u.previous.items ≡ s.current.items) (active_is : u.active.items ≡ marked) (next_active_length : length u.next_active.items ≡ length s.slots.items) where
   after_is : generation_shown s.index after ≡ next s.rule (members_of s)
   after_is =

@@ -36,6 +36,9 @@ impl Model for TilePlane {
     ghost invariant = { λ p. IsKept p.store };
 }
 
+/// So many cells are few: a list begins with room for them.
+const FEW: usize = 32;
+
 /// With how many slots a store is to be made anew that now has room for what its tiles may grow into.
 fn limit_of(store: &TileStore) -> usize {
     store.slots.len().saturating_mul(2).saturating_add(32)
@@ -111,7 +114,12 @@ impl Plane for TilePlane {
     }
 
     fn cells(&self) -> Result<CellList, AllocError> {
-        let mut cells = self.store.cells()?;
+        let alloc = *self.store.slots.allocator();
+        self.cells_in(CellList::with_capacity(alloc, FEW)?)
+    }
+
+    fn cells_in(&self, list: CellList) -> Result<CellList, AllocError> {
+        let mut cells = self.store.cells_in(list.into_vec())?;
         put_in_order(&mut cells);
         Ok(CellList::from_ordered(cells))
     }

@@ -20,9 +20,6 @@ use std::alloc::{AllocError, Global};
 use std::collections::BTreeMap;
 use std::mem::swap;
 
-/// So many cells are few: a list begins with room for them.
-const FEW: usize = 32;
-
 /// Room for so many tiles is asked for at first, for the empty one and one more: pieces of memory that are quick to get.
 const FIRST_TILES: usize = 2;
 
@@ -409,15 +406,15 @@ impl TileStore {
         Ok(store)
     }
 
-    /// The live cells, in no order that is told.
-    pub fn cells(&self) -> Result<Vec<(i32, i32)>, AllocError>
+    /// The live cells, in no order that is told, in the memory of cells that are no longer needed.
+    pub fn cells_in(&self, mut cells: Vec<(i32, i32)>) -> Result<Vec<(i32, i32)>, AllocError>
         requires { IsKept self.now }
         ensures members { IfOk result (λ cells. from_list cells.items ≡ members_of self.now) }
         ensures within { IfOk result (λ cells. All (IsWithin self.now.age) cells.items) }
     {
         let alloc = *self.slots.allocator();
         let seats = seats_by_rows(alloc, &self.index, &self.current)?;
-        let mut cells = Vec::with_capacity(alloc, FEW)?;
+        cells.clear();
         push_seats(&mut cells, &seats, &self.current)?;
         Ok(cells)
     }

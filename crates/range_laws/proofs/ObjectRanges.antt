@@ -86,7 +86,7 @@ module _ (R : Rule) (b : ℕ) (P : Generation) (object : IsObject R b P) where
       elim (settled_or_not R P b) [
         | inl one ↦
             subst (λ f. IsSome (code_found f)) (sym one.found)
-            (code-some R (generation R P one.onset) one.period one.by)
+            (code-some R (generation R P one.recurrence.onset) one.recurrence.period one.recurrence.displacement)
         | inr none ↦ absurd (none.nowhere 0 settles)
       ]
 

@@ -24,7 +24,7 @@ use Rattle.life_model.proofs.Recurrences.{onset-period-least}
 use Rattle.life_model.specs.Cell.{Cell}
 use Rattle.life_model.specs.Evolution.{generation}
 use Rattle.life_model.specs.Generation.{Generation, size}
-use Rattle.life_model.specs.Recurrence.{Settles as IsSettling}
+use Rattle.life_model.specs.Recurrence.{Recurrence, Settles as IsSettling}
 use Rattle.life_model.specs.Rule.{Rule}
 use Rattle.life_shape.specs.TextOrder.{least_text}
 use Rattle.life_text.specs.Picture.{Picture, picture_of}
@@ -83,22 +83,23 @@ whole-objects (Refused number ∷ found) h = let most = whole-objects found h.1 
 -- ---- what is found of a set
 
 module _ (R : Rule) (G : Generation) (b : ℕ) (textual : IsTextual G) where
-  settled-told : (onset period : ℕ) (d : Cell) → b ≤ settles_bound_limit → IsSettling R G b onset period d
-      → FitsReport (recurrence_finding R G onset period d)
-  settled-told onset period d low s =
-      let both = onset-period-least R G b onset period d s b onset s.settles in
+  settled-told : (r : Recurrence) → b ≤ settles_bound_limit → IsSettling R G b r → FitsReport (recurrence_finding R G r)
+  settled-told r low s =
+      let onset = r.onset in
+      let period = r.period in
+      let both = onset-period-least R G b r s b onset s.settles in
       let here : Stands (onset + 0) (generation R G onset) = generation-stands R 0 G textual.stands onset in
       let later = generation-stands R (onset + 0) (generation R G onset) here period in
       let again = subst (Stands (period + (onset + 0))) s.recurs.again later in
       let young : onset + 0 ≤ 4000000 = omega (arith, both, low) in
       let soon : period + (onset + 0) ≤ 4000000 = omega (arith, both, low) in
-      let fits = moved-fits (onset + 0) (period + (onset + 0)) (generation R G onset) d young soon here again s.unmoved in
-      let code = code-some R (generation R G onset) period d in
+      let fits = moved-fits (onset + 0) (period + (onset + 0)) (generation R G onset) r.displacement young soon here again s.unmoved in
+      let code = code-some R (generation R G onset) period r.displacement in
       (textual.few, omega (arith, both, low), omega (arith, both, low), fits.0, fits.1, code)
 
   pub found-told : b ≤ settles_bound_limit → FitsReport (finding_of R G b)
   found-told low = ⊎_elim
-      (λ some. subst FitsReport (sym some.found) (settled-told some.onset some.period some.by low some.settles))
+      (λ some. subst FitsReport (sym some.found) (settled-told some.recurrence low some.settles))
       (λ none. subst FitsReport (sym none.found) textual.few)
       (settled_or_not R G b)
 

@@ -42,11 +42,11 @@ impl<'a> Shelf for Memory<'a> {
     ghost use Rattle.census_folders.specs.Told.{Told};
     ghost use Rattle.tests_inputs.specs.Memory.{is_held};
 
-    ghost listed = { λ shelf folder. told_in shelf.leaves.now folder [] };
-
-    ghost inner = { λ shelf folder. told_in shelf.leaves.now folder (codes "/") };
-
-    ghost held = { λ shelf folder name. told_in shelf.leaves.now folder name };
+    ghost tellings = { λ shelf. record {
+      listed = λ folder. told_in shelf.leaves.now folder [];
+      inner = λ folder. told_in shelf.leaves.now folder (codes "/");
+      held = λ folder name. told_in shelf.leaves.now folder name;
+    } };
 
     ghost may_open = { λ shelf folder name. is_held (told_in shelf.leaves.now folder name) };
 

@@ -51,6 +51,15 @@ fn a_copy_keeps_older_cells<P: Plane>(rt: &impl Abort, alloc: Global) -> Result<
     Ok(())
 }
 
+fn cells_take_the_place_of_others<P: Plane>(rt: &impl Abort, alloc: Global) -> Result<(), Fail> {
+    let plane: P = after(rt, alloc, DOWN, b"B3/S23", 200)?;
+    let list = plane.cells_in(CellList::of(alloc, UP)?)?;
+    assert!(rt; list.as_slice() == DOWN_50);
+    let same = plane.cells_in(list)?;
+    assert!(rt; same.as_slice() == DOWN_50);
+    Ok(())
+}
+
 // The plane of the cells that a plane shows, of the same age.
 fn begun_again<P: Plane>(rt: &impl Abort, alloc: Global, walked: &P) -> Result<P, AllocError> {
     let list = walked.cells()?;
@@ -113,6 +122,21 @@ fn a_glider_keeps_its_span_on_the_tile_plane(rt: HostRuntime) -> Result<(), Fail
 #[test]
 fn a_glider_keeps_its_span_on_the_board(rt: HostRuntime) -> Result<(), Fail> {
     a_glider_keeps_its_span::<Board>(&rt, rt.alloc())
+}
+
+#[test]
+fn cells_of_the_list_plane_take_the_place_of_others(rt: HostRuntime) -> Result<(), Fail> {
+    cells_take_the_place_of_others::<ListPlane>(&rt, rt.alloc())
+}
+
+#[test]
+fn cells_of_the_tile_plane_take_the_place_of_others(rt: HostRuntime) -> Result<(), Fail> {
+    cells_take_the_place_of_others::<TilePlane>(&rt, rt.alloc())
+}
+
+#[test]
+fn cells_of_the_board_take_the_place_of_others(rt: HostRuntime) -> Result<(), Fail> {
+    cells_take_the_place_of_others::<Board>(&rt, rt.alloc())
 }
 
 #[test]

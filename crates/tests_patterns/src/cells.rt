@@ -51,6 +51,15 @@ fn a_list_has_its_cells_in_order(rt: HostRuntime) -> Result<(), Fail> {
 }
 
 #[test]
+fn a_list_gives_its_memory_back(rt: HostRuntime) -> Result<(), Fail> {
+    let none = CellList::with_capacity(rt.alloc(), 5)?;
+    assert!(rt; none.is_empty() && none.into_vec().is_empty());
+    let list = CellList::of(rt.alloc(), &[(1, 0), (0, 0)])?;
+    assert!(rt; list.into_vec().as_slice() == [(0, 0), (1, 0)].as_slice());
+    Ok(())
+}
+
+#[test]
 fn cells_outside_the_field_are_no_list(rt: HostRuntime) {
     for outside in [
         (16_777_216, 0),

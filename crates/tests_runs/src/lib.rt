@@ -8,6 +8,8 @@
 #[cfg(test)]
 mod arrivals;
 #[cfg(test)]
+mod bundle_texts;
+#[cfg(test)]
 mod bundles;
 #[cfg(test)]
 mod draining;
@@ -23,5 +25,3 @@ mod gates;
 mod reports;
 #[cfg(test)]
 mod runs;
-#[cfg(test)]
-mod texts;

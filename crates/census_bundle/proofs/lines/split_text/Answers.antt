@@ -20,5 +20,5 @@ loop-len-preserved c =
     record {
       within = omega (arith, within, length-drop c.loop-len.len whole);
       few = omega (arith, value, more);
-      reads = subst (λ k. IsTextOf whole (take (c.loop-len.len + k) whole) (c.loop-len.lines + 1) (drop (c.loop-len.len + k) whole)) (sym value) (text_step whole c.loop-len.len c.loop-len.lines some tests.1 c.loop-len.invariant.reads);
+      reads = subst (λ k. IsTextOf whole (record { text = take (c.loop-len.len + k) whole; lines = c.loop-len.lines + 1; rest = drop (c.loop-len.len + k) whole })) (sym value) (text_step whole c.loop-len.len c.loop-len.lines some tests.1 c.loop-len.invariant.reads);
     }

@@ -6,7 +6,7 @@ abbrev pub invariant-loop-len : goal.invariant-loop-len
 invariant-loop-len l = record {
   within : l.len ≤ length l.whole;
   few : l.lines ≤ l.len;
-  reads : IsTextOf l.whole (take l.len l.whole) l.lines (drop l.len l.whole);
+  reads : IsTextOf l.whole (record { text = take l.len l.whole; lines = l.lines; rest = drop l.len l.whole });
 }
 
 abbrev pub decreases-loop-len : goal.decreases-loop-len

@@ -5,4 +5,4 @@ use Rattle.census_folders.proofs.Stops.{words_of}
 use Rattle.census_folders.proofs.keeping.read_folders_on.Given as goal
 
 abbrev pub invariant-loop-word : goal.invariant-loop-word
-invariant-loop-word g l = FoldsTo (KeepsFolder (g.S.Shelf.listed l.shelf) (g.S.Shelf.held l.shelf)) (kept_at_start l.fn.limit) (words_of (take l.word-index l.folders)) l.kept
+invariant-loop-word g l = FoldsTo (KeepsFolder (g.S.Shelf.tellings l.shelf)) (kept_at_start l.fn.limit) (words_of (take l.word-index l.folders)) l.kept

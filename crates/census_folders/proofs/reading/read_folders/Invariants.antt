@@ -3,4 +3,4 @@ use Rattle.census_folders.proofs.Stops.{HoldsSoFar, words_of}
 use Rattle.census_folders.proofs.reading.read_folders.Given as goal
 
 abbrev pub invariant-loop-word : goal.invariant-loop-word
-invariant-loop-word g l = HoldsSoFar (g.S.Shelf.listed l.shelf) (g.S.Shelf.held l.shelf) l.fn.limit (words_of (take l.word-index l.folders)) l.bundle l.left
+invariant-loop-word g l = HoldsSoFar (g.S.Shelf.tellings l.shelf) l.fn.limit (words_of (take l.word-index l.folders)) l.bundle l.left

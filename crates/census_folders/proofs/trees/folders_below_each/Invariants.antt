@@ -5,4 +5,4 @@ use Rattle.census_folders.proofs.Stops.{words_of}
 use Rattle.census_folders.proofs.trees.folders_below_each.Given as goal
 
 abbrev pub invariant-loop-word : goal.invariant-loop-word
-invariant-loop-word g l = HoldsTrees (g.S.Shelf.listed l.shelf) (g.S.Shelf.inner l.shelf) (words_of (take l.word-index l.words)) (map string_bytes l.found.items)
+invariant-loop-word g l = HoldsTrees (g.S.Shelf.tellings l.shelf) (words_of (take l.word-index l.words)) (map string_bytes l.found.items)

@@ -9,8 +9,8 @@ use Rattle.census_folders.proofs.walking.visit.Goals as goal
 pub returns-in_err-add_inner : goal.returns-in_err-add_inner
 returns-in_err-add_inner g c =
     let p = err_from_is_err_and c.from_residual-in_err-add_inner.result c.from_residual-in_err-add_inner.ensures.1 in
-    let told : GivesTold (g.S.Shelf.inner c.args.shelf.now c.args.folder.now) c.as_slice-2.result.now = rw c.as_slice-2.ensures.value c.in_ok-folders.ensures.told in
-    rw (p.1, p.2) (stops_visit (g.S.Shelf.listed c.args.shelf.now c.args.folder.now) _ _ _ told c.in_err-add_inner.ensures.fault)
+    let told : GivesTold ((g.S.Shelf.tellings c.args.shelf.now).inner c.args.folder.now) c.as_slice-2.result.now = rw c.as_slice-2.ensures.value c.in_ok-folders.ensures.told in
+    rw (p.1, p.2) (stops_visit (g.S.Shelf.tellings c.args.shelf.now) c.args.folder.now _ _ told c.in_err-add_inner.ensures.fault)
 
 pub returns : goal.returns
 returns g c = record {

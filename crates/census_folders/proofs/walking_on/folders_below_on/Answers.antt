@@ -11,7 +11,7 @@ use Rattle.census_folders.proofs.walking_on.folders_below_on.Goals as goal
 pub loop-at-init : goal.loop-at-init
 loop-at-init g c =
     let found : map string_bytes c.push.new.self.items ≡ c.args.word.now ∷ [] = ap (map string_bytes) (c.in_ok-push.ensures.items ∙ ap (λ xs. xs ++ c.in_ok-from_str.field-0 ∷ []) c.new-found.ensures.items) ∙ ap (λ p. p ∷ []) c.in_ok-from_str.ensures.ok in
-    rw c.new-chosen.ensures.items (none_kept (g.S.Shelf.listed c.args.shelf.now) (g.S.Shelf.inner c.args.shelf.now) c.args.word.now _ c.args.lost.now found)
+    rw c.new-chosen.ensures.items (none_kept (g.S.Shelf.tellings c.args.shelf.now) c.args.word.now _ c.args.lost.now found)
 
 pub loop-at-preserved-then-if-drop : goal.loop-at-preserved-then-if-drop
 loop-at-preserved-then-if-drop g c =
@@ -25,9 +25,9 @@ loop-at-preserved-then-if-drop g c =
     elim c.if-branch.branch [
       | then-branch+in_ok-push-2 w ↦
           (let added : map string_bytes c.if-branch.chosen.items ≡ chosen ++ path ∷ [] = ap (λ v. map string_bytes v.items) w.chosen-is ∙ ap (map string_bytes) w.in_ok-push-2.ensures.items ∙ map-append string_bytes c.loop-at.chosen.items (c.in_ok-folder.folder ∷ []) ∙ ap (λ p. chosen ++ p ∷ []) (sym same) in
-          rw added (one_more_taken (g.S.Shelf.listed c.args.shelf.now) (g.S.Shelf.inner c.args.shelf.now) c.args.word.now path found (map string_bytes c.visit_on.new.found.items) chosen c.args.lost.now c.loop-at.lost c.visit_on.new.lost c.loop-at.at c.in_ok-visit_on.field-0 w.if-branch.true within_paths here c.loop-at.invariant c.in_ok-visit_on.ensures))
+          rw added (one_more_taken (g.S.Shelf.tellings c.args.shelf.now) c.args.word.now path found (map string_bytes c.visit_on.new.found.items) chosen c.args.lost.now c.loop-at.lost c.visit_on.new.lost c.loop-at.at c.in_ok-visit_on.field-0 w.if-branch.true within_paths here c.loop-at.invariant c.in_ok-visit_on.ensures))
       | else-branch w ↦
-          rw w.chosen-is (one_more_left (g.S.Shelf.listed c.args.shelf.now) (g.S.Shelf.inner c.args.shelf.now) c.args.word.now path found (map string_bytes c.visit_on.new.found.items) chosen c.args.lost.now c.loop-at.lost c.visit_on.new.lost c.loop-at.at c.in_ok-visit_on.field-0 w.if-branch.false within_paths here c.loop-at.invariant c.in_ok-visit_on.ensures)
+          rw w.chosen-is (one_more_left (g.S.Shelf.tellings c.args.shelf.now) c.args.word.now path found (map string_bytes c.visit_on.new.found.items) chosen c.args.lost.now c.loop-at.lost c.visit_on.new.lost c.loop-at.at c.in_ok-visit_on.field-0 w.if-branch.false within_paths here c.loop-at.invariant c.in_ok-visit_on.ensures)
     ]
 
 pub loop-at-preserved : goal.loop-at-preserved
@@ -42,13 +42,13 @@ loop-at-preserved g c =
     elim c.if-branch.branch [
       | then-branch+in_ok-push-2 w ↦
           (let added : map string_bytes c.if-branch.chosen.items ≡ chosen ++ path ∷ [] = ap (λ v. map string_bytes v.items) w.chosen-is ∙ ap (map string_bytes) w.in_ok-push-2.ensures.items ∙ map-append string_bytes c.loop-at.chosen.items (c.in_ok-folder.folder ∷ []) ∙ ap (λ p. chosen ++ p ∷ []) (sym same) in
-          rw added (one_more_taken (g.S.Shelf.listed c.args.shelf.now) (g.S.Shelf.inner c.args.shelf.now) c.args.word.now path found (map string_bytes c.visit_on.new.found.items) chosen c.args.lost.now c.loop-at.lost c.visit_on.new.lost c.loop-at.at c.in_ok-visit_on.field-0 w.if-branch.true within_paths here c.loop-at.invariant c.in_ok-visit_on.ensures))
+          rw added (one_more_taken (g.S.Shelf.tellings c.args.shelf.now) c.args.word.now path found (map string_bytes c.visit_on.new.found.items) chosen c.args.lost.now c.loop-at.lost c.visit_on.new.lost c.loop-at.at c.in_ok-visit_on.field-0 w.if-branch.true within_paths here c.loop-at.invariant c.in_ok-visit_on.ensures))
       | else-branch w ↦
-          rw w.chosen-is (one_more_left (g.S.Shelf.listed c.args.shelf.now) (g.S.Shelf.inner c.args.shelf.now) c.args.word.now path found (map string_bytes c.visit_on.new.found.items) chosen c.args.lost.now c.loop-at.lost c.visit_on.new.lost c.loop-at.at c.in_ok-visit_on.field-0 w.if-branch.false within_paths here c.loop-at.invariant c.in_ok-visit_on.ensures)
+          rw w.chosen-is (one_more_left (g.S.Shelf.tellings c.args.shelf.now) c.args.word.now path found (map string_bytes c.visit_on.new.found.items) chosen c.args.lost.now c.loop-at.lost c.visit_on.new.lost c.loop-at.at c.in_ok-visit_on.field-0 w.if-branch.false within_paths here c.loop-at.invariant c.in_ok-visit_on.ensures)
     ]
 
 pub returns : goal.returns
 returns g c =
     let found = map string_bytes c.loop-at.found.items in
     let all : length found ≤ c.loop-at.at = omega (arith, length-map c.loop-at.found.items (λ s. string_bytes s), c.len.ensures) in
-    whole_kept _ _ _ found (map string_bytes c.loop-at.chosen.items) _ c.args.lost.now c.loop-at.lost c.loop-at.at all c.loop-at.invariant (IsPermutation-map (λ s. string_bytes s) c.loop-at.chosen.items c.sort.new.self.items c.sort.ensures.permutation) (IsSorted-map (λ s. string_bytes s) (slice_cmp nat_cmp) c.sort.new.self.items c.in_ok-sort.ensures.sorted)
+    whole_kept _ _ found (map string_bytes c.loop-at.chosen.items) _ c.args.lost.now c.loop-at.lost c.loop-at.at all c.loop-at.invariant (IsPermutation-map (λ s. string_bytes s) c.loop-at.chosen.items c.sort.new.self.items c.sort.ensures.permutation) (IsSorted-map (λ s. string_bytes s) (slice_cmp nat_cmp) c.sort.new.self.items c.in_ok-sort.ensures.sorted)

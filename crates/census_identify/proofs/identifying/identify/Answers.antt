@@ -6,7 +6,7 @@ use Rattle.census_identify.proofs.identifying.identify.Goals as goal
 
 pub returns-in-Err : goal.returns-in-Err
 returns-in-Err g c =
-    let held = g.S.Shelf.held c.args.shelf.now [] in
+    let held = (g.S.Shelf.tellings c.args.shelf.now).held [] in
     let before = streams g.I.Read.remaining g.O.Write.contents g.E.Write.contents c.args.input.now c.args.output.now c.args.errors.now in
     let now = streams g.I.Read.remaining g.O.Write.contents g.E.Write.contents c.identify_each.new.input c.identify_each.new.output c.identify_each.new.errors in
     let errors = sink g.E.Write.contents c.tell_line.new.errors in

@@ -1,4 +1,4 @@
-use Rattle.std.proofs.Common.{◌≡◌, ◌∙◌, refl, subst, sym}
+use Rattle.std.proofs.Common.{◌∙◌, refl, subst, sym}
 use Rattle.gathered.specs.Telling.{TellsAfter, sheet}
 use Rattle.census_readback.specs.Texts.{line_of}
 use Rattle.census_merge.proofs.Few.{few-at, few-reports}

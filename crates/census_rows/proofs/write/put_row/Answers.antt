@@ -1,77 +1,45 @@
-use Rattle.std.proofs.Common.{[], ◌∷◌, ◌++◌, codes, decimal}
+use Rattle.std.proofs.Common.{◌≡◌, ℕ, List, [], ◌∷◌, ◌++◌, Bor, codes, decimal, refl}
+use Rattle.std.specs.Prelude.{if◌then◌else◌}
 use Rattle.gathered.proofs.Telling.{tells_more}
-use Rattle.census_rows.specs.Lines.{fields_text, outcome_fields}
-use Rattle.census_rows.proofs.Told.{field_last, field_then}
+use Rattle.census_rows.specs.declared.row.Outcome.{Outcome}
+use Rattle.census_rows.specs.declared.row.Row.{Row}
+use Rattle.census_rows.specs.declared.row.Row.TheVariants.{Open, Line, Part, Code, Close, End}
+use Rattle.census_rows.specs.Lines.{describes_collection, fields_text, outcome_fields, row_text}
+use Rattle.census_rows.proofs.Told.{field_last, field_then, fields_behind}
 use Rattle.census_rows.proofs.write.put_row.Goals as goal
-
-pub returns-in-Open : goal.returns-in-Open
-returns-in-Open g c =
-    let o = c.in-Open in
-    let n = decimal o.collection in
-    let k = decimal o.patterns in
-    rw o.is
-    (tells_more (codes "open") (fields_text (n ∷ k ∷ o.name.now ∷ [])) _ _ _ c.put.ensures
-    (field_then n (k ∷ o.name.now ∷ []) _ _ _ c.put_number.ensures
-    (field_then k (o.name.now ∷ []) _ _ _ c.put_number-in-Open.ensures (field_last o.name.now _ _ c.put_field.ensures))))
 
 pub returns-in-Line : goal.returns-in-Line
 returns-in-Line g c =
     let o = c.in-Line in
-    let n = decimal o.collection in
-    let i = decimal o.pattern in
+    let two = decimal o.collection ∷ decimal o.pattern ∷ [] in
     let found = fields_text (outcome_fields o.outcome) in
-    let front = codes "line" ++ fields_text (n ∷ i ∷ []) in
+    let front = codes "line" ++ fields_text two in
     rw o.is
     (tells_more (front ++ found) (fields_text (o.name.now ∷ [])) _ _ _
-    (tells_more front found _ _ _
-    (tells_more (codes "line") (fields_text (n ∷ i ∷ [])) _ _ _ c.put-in-Line.ensures
-    (field_then n (i ∷ []) _ _ _ c.put_number-in-Line.ensures (field_last i _ _ c.put_number-in-Line-2.ensures)))
-    c.put_outcome.ensures)
-    (field_last o.name.now _ _ c.put_field-in-Line.ensures))
+    (tells_more front found _ _ _ c.put_start.ensures c.put_outcome.ensures)
+    (field_last o.name.now _ _ c.put_field.ensures))
 
 pub returns-in-Part : goal.returns-in-Part
 returns-in-Part g c =
     let o = c.in-Part in
-    let n = decimal o.collection in
-    let i = decimal o.pattern in
+    let two = decimal o.collection ∷ decimal o.pattern ∷ [] in
     let k = decimal o.count in
     rw o.is
-    (tells_more (codes "part") (fields_text (n ∷ i ∷ o.code.now ∷ k ∷ [])) _ _ _ c.put-in-Part.ensures
-    (field_then n (i ∷ o.code.now ∷ k ∷ []) _ _ _ c.put_number-in-Part.ensures
-    (field_then i (o.code.now ∷ k ∷ []) _ _ _ c.put_number-in-Part-2.ensures
-    (field_then o.code.now (k ∷ []) _ _ _ c.put_field-in-Part.ensures (field_last k _ _ c.put_number-in-Part-3.ensures)))))
+    (fields_behind (codes "part") two (o.code.now ∷ k ∷ []) _ _ _ c.put_start-in-Part.ensures
+    (field_then o.code.now (k ∷ []) _ _ _ c.put_field-in-Part.ensures (field_last k _ _ c.put_number.ensures)))
 
-pub returns-in-Code : goal.returns-in-Code
-returns-in-Code g c =
-    let o = c.in-Code in
-    let n = decimal o.collection in
-    let k = decimal o.count in
-    rw o.is
-    (tells_more (codes "code") (fields_text (n ∷ o.rule.now ∷ o.code.now ∷ k ∷ [])) _ _ _ c.put-in-Code.ensures
-    (field_then n (o.rule.now ∷ o.code.now ∷ k ∷ []) _ _ _ c.put_number-in-Code.ensures
-    (field_then o.rule.now (o.code.now ∷ k ∷ []) _ _ _ c.put_field-in-Code.ensures
-    (field_then o.code.now (k ∷ []) _ _ _ c.put_field-in-Code-2.ensures (field_last k _ _ c.put_number-in-Code-2.ensures)))))
+-- a row of another kind describes a collection
+all-told : (row : Row) → ((c i : ℕ) (outcome : Outcome) (name : Bor (List ℕ)) → row ≡ Line c i outcome name → ⊥)
+    → ((c i : ℕ) (code : Bor (List ℕ)) (k : ℕ) → row ≡ Part c i code k → ⊥) → ((n k : ℕ) → row ≡ End n k → ⊥)
+    → (if describes_collection row then row_text row else []) ≡ row_text row
+all-told (Open c n name) not_line not_part not_end = refl
+all-told (Line c i outcome name) not_line not_part not_end = absurd (not_line c i outcome name refl)
+all-told (Part c i code k) not_line not_part not_end = absurd (not_part c i code k refl)
+all-told (Code c rule code k) not_line not_part not_end = refl
+all-told (Close c n a b d) not_line not_part not_end = refl
+all-told (End n k) not_line not_part not_end = absurd (not_end n k refl)
 
-pub returns-in-Close : goal.returns-in-Close
-returns-in-Close g c =
-    let o = c.in-Close in
-    let n = decimal o.collection in
-    let k = decimal o.patterns in
-    let r = decimal o.resolved in
-    let u = decimal o.unresolved in
-    let f = decimal o.refused in
-    rw o.is
-    (tells_more (codes "close") (fields_text (n ∷ k ∷ r ∷ u ∷ f ∷ [])) _ _ _ c.put-in-Close.ensures
-    (field_then n (k ∷ r ∷ u ∷ f ∷ []) _ _ _ c.put_number-in-Close.ensures
-    (field_then k (r ∷ u ∷ f ∷ []) _ _ _ c.put_number-in-Close-2.ensures
-    (field_then r (u ∷ f ∷ []) _ _ _ c.put_number-in-Close-3.ensures
-    (field_then u (f ∷ []) _ _ _ c.put_number-in-Close-4.ensures (field_last f _ _ c.put_number-in-Close-5.ensures))))))
-
-pub returns-in-End : goal.returns-in-End
-returns-in-End g c =
-    let o = c.in-End in
-    let n = decimal o.collections in
-    let k = decimal o.patterns in
-    rw o.is
-    (tells_more (codes "end") (fields_text (n ∷ k ∷ [])) _ _ _ c.put-in-End.ensures
-    (field_then n (k ∷ []) _ _ _ c.put_number-in-End.ensures (field_last k _ _ c.put_number-in-End-2.ensures)))
+pub returns-in_default : goal.returns-in_default
+returns-in_default g c =
+    let others = c.in_default in
+    rw (all-told c.args.row.now others.not-Line others.not-Part others.not-End) at c.put_of_collection.ensures

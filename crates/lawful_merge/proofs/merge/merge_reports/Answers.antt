@@ -7,5 +7,5 @@ use Rattle.lawful_merge.proofs.merge.merge_reports.Goals as goal
 pub returns-clause-lawful : goal.returns-clause-lawful
 returns-clause-lawful g c =
     on_ok_weaker c.write_reports.result
-    (merges_lawfully (g.S.Shelf.held c.args.shelf.now []) (map (λ s. s.now) c.args.words.now) _ _)
+    (merges_lawfully ((g.S.Shelf.tellings c.args.shelf.now).held []) (map (λ s. s.now) c.args.words.now) _ _)
     c.write_reports.ensures.done

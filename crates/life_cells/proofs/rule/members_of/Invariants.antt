@@ -1,5 +1,5 @@
 use Rattle.std.proofs.Common.{◌≡◌, ◌<◌, ◌%◌, false, take}
-use Rattle.life_cells.specs.Bytes.{is_in}
+use Rattle.texts.specs.Bytes.{is_in}
 use Rattle.life_cells.specs.Rules.{members}
 use Rattle.life_cells.proofs.rule.members_of.Given as goal
 

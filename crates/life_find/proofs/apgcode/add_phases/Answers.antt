@@ -44,7 +44,7 @@ returns-then-branch g c =
     c.in_ok-step.ensures.cells ∙ ap (next R) c.loop-n.invariant.cells ∙ sym (generation-next R H (n - 1))
     ∙ ap (generation R H) (let e : n - 1 + 1 ≡ n = omega arith in e) in
     let same : least_text (turned_bodies (generation R H n)) ≡ least_text (turned_bodies H) =
-    ap (λ G. least_text (turned_bodies G)) (sym there) ∙ c.in_ok-has_text.ensures c.if-branch.true ∙ c.deref.ensures.value ∙ c.loop-n.invariant.first (omega arith) in
+    ap (λ G. least_text (turned_bodies G)) (sym there) ∙ ap (λ G. least_text (turned_bodies G)) (sym c.in_ok-phase-2.ensures.cells) ∙ c.in_ok-has_text.ensures c.if-branch.true ∙ c.deref.ensures.value ∙ c.loop-n.invariant.first (omega arith) in
     ap (λ o. unwrap_or o []) c.loop-n.invariant.least
     ∙ least_is (bodies R H n)
     ∙ half_is_enough R H n same (omega arith)
@@ -64,7 +64,8 @@ loop-n-preserved g c =
     record {
       cells = there ∙ ap (generation R H) (let e : n ≡ n + 1 - 1 = omega arith in e);
       age = omega arith;
-      least = c.in_ok-add_plane.ensures
+      least = c.in_ok-add-2.ensures.ok
+          ∙ ap (λ G. fold with_text c.loop-n.least (turned_bodies G)) c.in_ok-phase-2.ensures.cells
           ∙ ap (λ o. fold with_text o (turned_bodies (g.P.Plane.members c.step.new.self))) at.least
           ∙ least-more R H (g.P.Plane.members c.step.new.self) n there;
       first = at.first;

@@ -1,5 +1,6 @@
 use Rattle.std.proofs.Common.{refl, ◌+◌, ◌≤◌, ◌∙◌, arith}
 use Rattle.life_model.specs.Evolution.{generation}
+use Rattle.life_model.specs.Recurrence.{Recurrence}
 use Rattle.life_model.proofs.Recurrences.{onset-period-le}
 use Rattle.life_find.proofs.Found.{unresolved-found, recurs-found}
 use Rattle.life_codes.proofs.Phases.{code_by_shape}
@@ -14,10 +15,11 @@ returns-in-None g c =
 pub code_of-requires-clause-young : goal.code_of-requires-clause-young
 code_of-requires-clause-young g c =
     let r = c.in-Some.recurrence in
+    let recurrence : Recurrence = record { onset = r.onset; period = r.period; displacement = r.displacement } in
     let settles = rw c.in-Some.is at c.in_ok-settling.ensures.found in
     let age = rw c.in-Some.is at c.in_ok-settling.ensures.age in
     let bound = c.requires.bound in
-    let within : r.onset + r.period ≤ c.args.bound = onset-period-le c.args.rule.now c.args.cells.now c.args.bound r.onset r.period r.displacement settles in
+    let within : r.onset + r.period ≤ c.args.bound = onset-period-le c.args.rule.now c.args.cells.now c.args.bound recurrence settles in
     omega arith
 
 pub code_of-requires-clause-period : goal.code_of-requires-clause-period
@@ -29,10 +31,11 @@ returns-in_ok-code-in-Some g c =
     let R = c.args.rule.now in
     let G = c.args.cells.now in
     let r = c.in-Some.recurrence in
+    let recurrence : Recurrence = record { onset = r.onset; period = r.period; displacement = r.displacement } in
     let settles = rw c.in-Some.is at c.in_ok-settling.ensures.found in
     let same = rw c.in-Some.is at c.in_ok-settling.ensures.shape in
     c.recurs.ensures
-    ∙ recurs-found R G G refl c.args.bound c.len-population.result c.len-population.ensures r.onset r.period r.displacement (generation R G r.onset) c.in_ok-code-in-Some.code settles refl
+    ∙ recurs-found R G G refl c.args.bound c.len-population.result c.len-population.ensures recurrence (generation R G r.onset) c.in_ok-code-in-Some.code settles refl
     (c.in_ok-code-in-Some.ensures ∙ code_by_shape R (g.P.Plane.members c.settling.new.runner) (generation R G r.onset) r.period r.displacement same)
 
 pub code_of-requires-clause-shape : goal.code_of-requires-clause-shape

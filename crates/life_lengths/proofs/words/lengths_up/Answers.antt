@@ -4,7 +4,8 @@ use Rattle.life_shape.specs.Wechsler.{columns_text}
 use Rattle.life_shape.proofs.Columns.{joined, strips_text_is}
 use Rattle.life_lengths.specs.Frames.{cell_in_frame}
 use Rattle.life_lengths.specs.Grids.{columns_from}
-use Rattle.life_lengths.specs.Words.{HoldsMarks, AreWithinColumns, five_rows, upside_down, word_columns, words_text}
+use Rattle.life_lengths.specs.Words.{AreWithinColumns, five_rows, word_columns}
+use Rattle.life_lengths.proofs.ColumnMarks.{HoldsMarks, upside_down, words_text}
 use Rattle.life_lengths.proofs.Marked.{framed_from, lengths_of_marks_up}
 use Rattle.life_lengths.proofs.Rows.{five_within, marks_up}
 use Rattle.life_lengths.proofs.Worded.{joined_marks}

@@ -2,7 +2,7 @@ use Rattle.std.proofs.Common.{◌*◌, ◌≤◌, refl, subst, arith}
 use Rattle.life_objects.specs.Drift.{multiple_of}
 use Rattle.life_orbit.specs.Passing.{IsWatch}
 use Rattle.life_orbit.proofs.Reaching.{reach_wider}
-use Rattle.life_orbit.proofs.Watching.{IsPair, apart_by_watch, course_recurs, hull_holds}
+use Rattle.life_orbit.proofs.Watching.{IsPair, apart_by_watch, course_recurs, hull_holds, watch_of}
 use Rattle.life_orbit.proofs.horizon.horizon.Goals as goal
 
 pub returns-clause-enough : goal.returns-clause-enough
@@ -28,9 +28,9 @@ returns-clause-enough c before =
     (hull_holds o c.args.hull o.rule p refl c.period-period.ensures.value c.requires.hull)
     (hull_holds w c.args.other_hull o.rule q c.requires.rule c.period.ensures.value c.requires.other_hull)
     c.rounds_to_watch.result before
-    (subst (λ z. IsWatch c.args.hull (multiple_of a d) c.args.other_hull z c.rounds_to_watch.result)
+    (subst (λ z. IsWatch (watch_of c.args.hull (multiple_of a d) c.args.other_hull z c.rounds_to_watch.result))
     c.repeated-other_by.ensures.value
-    (subst (λ z. IsWatch c.args.hull z c.args.other_hull c.repeated-other_by.result c.rounds_to_watch.result)
+    (subst (λ z. IsWatch (watch_of c.args.hull z c.args.other_hull c.repeated-other_by.result c.rounds_to_watch.result))
     c.repeated-by.ensures.value c.rounds_to_watch.ensures.watch))
 
 pub rounds_to_watch-requires-clause-reach : goal.rounds_to_watch-requires-clause-reach

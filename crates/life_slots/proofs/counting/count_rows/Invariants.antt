@@ -5,5 +5,5 @@ use Rattle.life_slots.proofs.counting.count_rows.Given as goal
 abbrev pub invariant-loop-y : goal.invariant-loop-y
 invariant-loop-y l = record {
   few : l.count ≤ 64 * l.y;
-  counted : IsCountFrom l.tile.rows l.top l.y l.count;
+  counted : IsCountFrom l.tile.rows (record { from = l.top; height = l.y; cells = l.count });
 }

@@ -24,7 +24,7 @@ loop-index-preserved c = λ m band x y small b_small wide less near clear.
           c.loop-index.invariant m band x y small b_small wide old near
           (bit_before (slice_index c.loop-index.touched.columns (m % 3)) (slice_index w.with_band-touched.result.columns (m % 3)) (8 * (m / 3) + band) (w.with_band-touched.ensures.kept (m % 3) (8 * (m / 3) + band) (omega arith)) none))
           (λ (new : 8 * c.loop-index.index ≤ y).
-          subst (λ z. IsNextToBand m band x z → tile_cell c.args.tile.now x z ≡ 0) (row_is new)
+          subst (λ z. IsNextToBand (record { direction = m; band = band; column = x; row = z }) → tile_cell c.args.tile.now x z ≡ 0) (row_is new)
           (λ beside. (w.with_band-touched.ensures.touched empty_tile c.args.tile.now w.birth.ensures).same m band x (y - 8 * c.loop-index.index) small b_small wide (omega arith) beside none
           ∙ empty_cell x (8 * c.loop-index.index + (y - 8 * c.loop-index.index))) near)
           (cases_lt y (8 * c.loop-index.index))

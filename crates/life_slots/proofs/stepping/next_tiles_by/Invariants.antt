@@ -7,7 +7,16 @@ use Rattle.life_slots.proofs.stepping.next_tiles_by.Given as goal
 abbrev pub invariant-loop-slot : goal.invariant-loop-slot
 invariant-loop-slot l = record {
   later : 1 ≤ l.slot;
-  worked : (rule : Rule) → IsLogicOf l.logic rule → IsWorkedOut l.slots l.current l.active rule l.initial.previous l.previous l.initial.marks l.marks l.slot;
+  worked : (rule : Rule) → IsLogicOf l.logic rule → IsWorkedOut l.slots (record {
+    current = l.current;
+    active = l.active;
+    rule = rule;
+    before = l.initial.previous;
+    after = l.previous;
+    marks_before = l.initial.marks;
+    marks_after = l.marks;
+    done = l.slot;
+  });
 }
 
 abbrev pub decreases-loop-slot : goal.decreases-loop-slot

@@ -13,8 +13,8 @@ loop-index-init c = record {
   small = c.first_from-index.ensures.small;
   marked = c.first_from-index.ensures.marked;
   worked = λ rule of.
-      bands_idle c.args.current.now c.args.links.now c.args.active rule c.args.tile.now c.args.tile.now _ 0
-      (nothing_done c.args.current.now c.args.links.now c.args.active rule c.args.tile.now _)
+      bands_idle (nine_linked c.args.current.now c.args.links.now) c.args.active rule c.args.tile.now c.args.tile.now _ 0
+      (nothing_done (nine_linked c.args.current.now c.args.links.now) c.args.active rule c.args.tile.now _)
       c.first_from-index.result (omega arith) c.first_from-index.ensures.between;
 }
 
@@ -26,8 +26,8 @@ loop-index-preserved c =
       small = c.first_from-index-in-loop-index.ensures.small;
       marked = c.first_from-index-in-loop-index.ensures.marked;
       worked = λ rule of.
-          bands_idle c.args.current.now c.args.links.now c.args.active rule c.args.tile.now c.band-change.new.out c.with_band-touched.result.columns (c.loop-index.index + 1)
-          (band_busy c.args.current.now c.args.links.now c.args.active rule c.args.tile.now c.loop-index.tile c.loop-index.touched.columns c.loop-index.index (c.loop-index.invariant.worked rule of)
+          bands_idle (nine_linked c.args.current.now c.args.links.now) c.args.active rule c.args.tile.now c.band-change.new.out c.with_band-touched.result.columns (c.loop-index.index + 1)
+          (band_busy (nine_linked c.args.current.now c.args.links.now) c.args.active rule c.args.tile.now c.loop-index.tile c.loop-index.touched.columns c.loop-index.index (c.loop-index.invariant.worked rule of)
           c.band-change.new.out c.with_band-touched.result.columns
           (c.loop-index.invariant.marked inside)
           (λ x y wide high.
@@ -44,4 +44,4 @@ pub returns : goal.returns
 returns c = λ rule of.
     let small : c.loop-index.index ≤ 8 = c.loop-index.invariant.small in
     let done : c.loop-index.index ≡ 8 = omega arith in
-    subst (λ n. IsTileWorkedOut c.args.current.now c.args.links.now c.args.active rule c.args.tile.now c.loop-index.tile c.loop-index.touched.columns n) done (c.loop-index.invariant.worked rule of)
+    subst (λ n. IsTileWorkedOut (record { nine = nine_linked c.args.current.now c.args.links.now; active = c.args.active; rule = rule; before = c.args.tile.now; after = c.loop-index.tile; columns = c.loop-index.touched.columns; done = n })) done (c.loop-index.invariant.worked rule of)

@@ -3,7 +3,7 @@ use Rattle.std.specs.Borrow.{Bor}
 use Rattle.std.specs.Cmp.Lexicographic.{same_text}
 use Rattle.std.specs.Option.{option_copied}
 use Rattle.std.proofs.lemmas.List.{take-append-drop}
-use Rattle.life_cells.specs.Bytes.{◌>>=◌}
+use Rattle.texts.specs.Bytes.{◌>>=◌}
 use Rattle.life_text.specs.Rle.{after_size, after_sizes, part}
 use Rattle.life_text.specs.Sizes.{after_number}
 use Rattle.life_text.proofs.HeadingLemmas.{number_behind}

@@ -1,6 +1,6 @@
 use Rattle.std.proofs.Common.{◌≡◌, ◌+◌, ◌≤◌, length, take}
 use Rattle.std.specs.List.{suffix_len}
-use Rattle.life_cells.specs.Bytes.{is_blank}
+use Rattle.texts.specs.Bytes.{is_blank}
 use Rattle.life_text.proofs.header.drop_blanks.Given as goal
 
 abbrev pub invariant-loop-end : goal.invariant-loop-end

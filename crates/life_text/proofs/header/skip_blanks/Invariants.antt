@@ -1,6 +1,6 @@
 use Rattle.std.proofs.Common.{◌≡◌, ◌+◌, drop}
 use Rattle.std.specs.List.{prefix_len}
-use Rattle.life_cells.specs.Bytes.{is_blank}
+use Rattle.texts.specs.Bytes.{is_blank}
 use Rattle.life_text.proofs.header.skip_blanks.Given as goal
 
 abbrev pub invariant-loop-i : goal.invariant-loop-i

@@ -1,7 +1,7 @@
 use Rattle.std.proofs.Common.{◌+◌, ◌<◌, ◌∷◌, List, true, length, get_or, subst, sym, ap, ◌∙◌, arith}
 use Rattle.std.specs.List.{take_while}
 use Rattle.std.specs.Str.Parse.{digits_value}
-use Rattle.life_cells.specs.Bytes.{is_digit}
+use Rattle.texts.specs.Bytes.{is_digit}
 use Rattle.life_text.specs.declared.token.Found.{Found}
 use Rattle.life_text.specs.Found.{BeginsWithToken}
 use Rattle.life_text.specs.Rle.{Lexeme, Count, lexemes}

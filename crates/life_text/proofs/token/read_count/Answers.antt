@@ -1,7 +1,7 @@
 use Rattle.std.proofs.Common.{◌≡◌, ◌+◌, ◌*◌, ◌-◌, ◌<◌, min, true, length, get_or, sym, ap, ◌∙◌, arith}
 use Rattle.std.specs.List.{take_while}
 use Rattle.std.specs.Str.Parse.{digits_value_after}
-use Rattle.life_cells.specs.Bytes.{is_digit}
+use Rattle.texts.specs.Bytes.{is_digit}
 use Rattle.life_text.specs.Reader.{plain_at, count_cap}
 use Rattle.life_text.proofs.LexLemmas.{value_more, within_digit}
 use Rattle.life_text.proofs.token.read_count.Goals as goal

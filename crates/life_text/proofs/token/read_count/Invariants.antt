@@ -1,7 +1,7 @@
 use Rattle.std.proofs.Common.{◌≡◌, ◌-◌, ◌≤◌, min, true, length}
 use Rattle.std.specs.List.{take_while}
 use Rattle.std.specs.Str.Parse.{digits_value_after, digits_value}
-use Rattle.life_cells.specs.Bytes.{is_digit}
+use Rattle.texts.specs.Bytes.{is_digit}
 use Rattle.life_text.specs.Rle.{lexemes}
 use Rattle.life_text.specs.Reader.{plain_at, count_cap}
 use Rattle.life_text.proofs.token.read_count.Given as goal

@@ -1,6 +1,6 @@
 use Rattle.std.proofs.Common.{◌≡◌, ◌+◌, ◌<◌, ◌&&◌, not, false, true, drop, length, get_or, sym, ap, ◌∙◌, arith}
 use Rattle.std.specs.List.{prefix_len}
-use Rattle.life_cells.specs.Bytes.{is_space, without_front}
+use Rattle.texts.specs.Bytes.{is_space, without_front}
 use Rattle.life_text.specs.Rle.{comments_as_blanks}
 use Rattle.life_text.specs.Reader.{byte_before, is_in_comment}
 use Rattle.life_text.proofs.LexLemmas.{previous_more, pass_over, stop_at, neither}

@@ -1,6 +1,6 @@
 use Rattle.std.proofs.Common.{◌≡◌, ◌+◌, drop}
 use Rattle.std.specs.List.{prefix_len}
-use Rattle.life_cells.specs.Bytes.{is_space, without_front}
+use Rattle.texts.specs.Bytes.{is_space, without_front}
 use Rattle.life_text.specs.Rle.{comments_as_blanks}
 use Rattle.life_text.specs.Reader.{byte_before, plain_at}
 use Rattle.life_text.proofs.token.skip_spaces.Given as goal

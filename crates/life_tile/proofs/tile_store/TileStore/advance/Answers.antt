@@ -11,7 +11,7 @@ module _ (c : goal.After-self-4-1) where
   same : c.begin.new.self ≡ record c.args.self.now { previous = c.begin.new.self.previous; active = c.begin.new.self.active; next_active = c.begin.new.self.next_active }
   same = c.begin.ensures.same
 
-  worked : IsWorkedOut c.args.self.now.slots.items c.args.self.now.current.items c.begin.new.self.active.items c.args.self.now.rule c.begin.new.self.previous.items c.next_tiles.new.previous c.begin.new.self.next_active.items c.next_tiles.new.marks (length c.args.self.now.slots.items)
+  worked : IsWorkedOut c.args.self.now.slots.items (record { current = c.args.self.now.current.items; active = c.begin.new.self.active.items; rule = c.args.self.now.rule; before = c.begin.new.self.previous.items; after = c.next_tiles.new.previous; marks_before = c.begin.new.self.next_active.items; marks_after = c.next_tiles.new.marks; done = length c.args.self.now.slots.items })
   worked =
       worked_at c.deref.result.now c.args.self.now.slots.items c.deref-2.result.now c.args.self.now.current.items c.deref-3.result.now c.begin.new.self.active.items
       c.begin.new.self.rule c.args.self.now.rule c.deref_mut.result.now c.begin.new.self.previous.items c.next_tiles.new.previous c.deref_mut-2.result.now c.begin.new.self.next_active.items c.next_tiles.new.marks

@@ -1,6 +1,6 @@
--- What the shelf tells that folders and files are read from.
+-- What a shelf tells that folders and files are read from, as one value.
 use Rattle.std.specs.Prelude.{ℕ, List}
-use Rattle.census_folders.specs.Told.{Told}
+use Rattle.census_folders.specs.Told.{Told, Untold}
 
 -- what each folder lists, which folders stand in it, and what each file of each folder holds, as far as the shelf tells
 pub record Tellings : Type 0 where
@@ -8,5 +8,6 @@ pub record Tellings : Type 0 where
   pub inner : List ℕ → Told
   pub held : List ℕ → List ℕ → Told
 
-abbrev pub tellings : (List ℕ → Told) → (List ℕ → Told) → (List ℕ → List ℕ → Told) → Tellings
-tellings listed inner held = record { listed = listed; inner = inner; held = held }
+-- those of a disk, which tells nothing
+abbrev pub tells_nothing : Tellings
+tells_nothing = record { listed = λ _. Untold; inner = λ _. Untold; held = λ _ _. Untold }

@@ -5,10 +5,10 @@ use Rattle.life_model.specs.Generation.{from_list, is_rising}
 use Rattle.life_cells.specs.Limits.{IsPlace}
 use Rattle.life_slots.specs.Cells.{block_cells}
 use Rattle.life_board.proofs.Rises.{all_rows, from_turned, none_listed, places, rise_block, row_listed}
-use Rattle.life_board.proofs.small.Square.cells.Goals as goal
+use Rattle.life_board.proofs.small.Square.cells_in.Goals as goal
 
 pub loop-y-init : goal.loop-y-init
-loop-y-init c = record { inside = c.requires.void.order; pushed = c.in_ok-cells.ensures.items ∙ none_listed c.args.self.now.left c.args.self.now.top c.args.self.now.tile.rows c.args.self.now.first c.requires.void.above }
+loop-y-init c = record { inside = c.requires.void.order; pushed = c.clear.ensures.items ∙ none_listed c.args.self.now.left c.args.self.now.top c.args.self.now.tile.rows c.args.self.now.first c.requires.void.above }
 
 pub loop-y-preserved : goal.loop-y-preserved
 loop-y-preserved c =

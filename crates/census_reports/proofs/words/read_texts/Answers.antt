@@ -1,24 +1,24 @@
 use Rattle.std.proofs.Common.{[], ◌∷◌, ◌++◌, ◌∙◌, ap, arith}
 use Rattle.std.proofs.lemmas.Result.{err_from_is_err_and}
 use Rattle.census_reports.proofs.Read.{next_text, stops_reading}
-use Rattle.census_reports.proofs.texts.read_texts.Goals as goal
+use Rattle.census_reports.proofs.words.read_texts.Goals as goal
 
 pub returns-in_err-text-clause-fault : goal.returns-in_err-text-clause-fault
 returns-in_err-text-clause-fault g c =
     let p = err_from_is_err_and c.from_residual.result c.from_residual.ensures.1 in
     rw (p.1, p.2)
-    (stops_reading (g.S.Shelf.held c.args.shelf.now []) c.args.words.now c.loop-word.word-index (record { ref_ptr = (0, 0); now = [] }) c.loop-word.texts.items _ _ (omega arith) c.loop-word.invariant.0 _ _ c.in_err-text.ensures.fault)
+    (stops_reading ((g.S.Shelf.tellings c.args.shelf.now).held []) c.args.words.now c.loop-word.word-index (record { ref_ptr = (0, 0); now = [] }) c.loop-word.texts.items _ _ (omega arith) c.loop-word.invariant.0 _ _ c.in_err-text.ensures.fault)
 
 pub returns-in_err-push-clause-fault : goal.returns-in_err-push-clause-fault
 returns-in_err-push-clause-fault g c =
     let p = err_from_is_err_and c.from_residual-in_err-push.result c.from_residual-in_err-push.ensures.1 in
     rw (p.1, p.2)
-    (stops_reading (g.S.Shelf.held c.args.shelf.now []) c.args.words.now c.loop-word.word-index (record { ref_ptr = (0, 0); now = [] }) c.loop-word.texts.items _ _ (omega arith) c.loop-word.invariant.0 _ _
+    (stops_reading ((g.S.Shelf.tellings c.args.shelf.now).held []) c.args.words.now c.loop-word.word-index (record { ref_ptr = (0, 0); now = [] }) c.loop-word.texts.items _ _ (omega arith) c.loop-word.invariant.0 _ _
     (record { taken = c.in_ok-text.ensures.taken; sound = c.in_ok-text.ensures.sound }))
 
 pub loop-word-preserved : goal.loop-word-preserved
 loop-word-preserved g c = (
-  next_text (g.S.Shelf.held c.args.shelf.now []) c.args.words.now c.loop-word.word-index (record { ref_ptr = (0, 0); now = [] }) c.loop-word.texts.items _ _ (omega arith) c.loop-word.invariant.0
+  next_text ((g.S.Shelf.tellings c.args.shelf.now).held []) c.args.words.now c.loop-word.word-index (record { ref_ptr = (0, 0); now = [] }) c.loop-word.texts.items _ _ (omega arith) c.loop-word.invariant.0
       c.in_ok-text.text.items c.push.new.self.items _ c.in_ok-text.ensures.read (c.in_ok-push.ensures.items ∙ ap (λ t. c.loop-word.texts.items ++ t ∷ []) c.new.ensures),
   c.in_ok-text.ensures.sound,
 )

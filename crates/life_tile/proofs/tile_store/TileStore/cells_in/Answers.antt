@@ -11,7 +11,7 @@ use Rattle.life_slots.proofs.Inserted.{all_listed}
 use Rattle.life_slots.specs.Slots.{placed_tiles, generation_shown, IsReached}
 use Rattle.life_tile.specs.TileStores.{members_of}
 use Rattle.life_tile.proofs.Kept.{inside_from_reached}
-use Rattle.life_tile.proofs.tile_store.TileStore.cells.Goals as goal
+use Rattle.life_tile.proofs.tile_store.TileStore.cells_in.Goals as goal
 
 pub seats_by_rows-requires-clause-inside : goal.seats_by_rows-requires-clause-inside
 seats_by_rows-requires-clause-inside c = λ p k is.
@@ -27,7 +27,7 @@ module _ (c : goal.After-drop-seats-2) where
       (λ q.
       contains-from_list c.push_seats.new.cells.items q
       ∙ c.in_ok-push_seats.ensures q
-      ∙ (λ i. list_any (same_cell q) (c.in_ok-cells.ensures.items i) || list_any (has_tile (c.deref-3.ensures.value i) q) (c.deref-2.ensures.value i))
+      ∙ (λ i. list_any (same_cell q) (c.clear.ensures.items i) || list_any (has_tile (c.deref-3.ensures.value i) q) (c.deref-2.ensures.value i))
       ∙ ap (λ (ts : List Tile). list_any (has_tile ts q) c.in_ok-seats.seats.items) (sym c.deref.ensures.value)
       ∙ c.in_ok-seats.ensures.cells q
       ∙ ap (λ (ts : List Tile). list_any (same_cell q) (tiles_cells (placed_tiles c.args.self.now.index.entries ts))) c.deref.ensures.value

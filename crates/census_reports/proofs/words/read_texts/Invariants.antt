@@ -3,10 +3,10 @@ use Rattle.watched.specs.Watching.{has_failed}
 use Rattle.census_identify.specs.Streams.{source}
 use Rattle.census_reports.specs.Texts.{ReadsEach}
 use Rattle.census_reports.proofs.Read.{words_of}
-use Rattle.census_reports.proofs.texts.read_texts.Given as goal
+use Rattle.census_reports.proofs.words.read_texts.Given as goal
 
 abbrev pub invariant-loop-word : goal.invariant-loop-word
 invariant-loop-word g l =
-    ReadsEach (g.S.Shelf.held l.shelf []) (words_of (take l.word-index l.words)) l.texts.items
+    ReadsEach ((g.S.Shelf.tellings l.shelf).held []) (words_of (take l.word-index l.words)) l.texts.items
     (source g.I.Read.remaining l.fn.input) (source g.I.Read.remaining l.input)
     × (has_failed l.input ≡ false)

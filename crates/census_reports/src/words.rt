@@ -30,12 +30,14 @@ fn read_text<S: Shelf, I: Read>(
     input: &mut Watched<I>,
 ) -> Result<Vec<u8>, ReportsError>
     requires { has_failed input.old ≡ false }
-    ensures read { IfOk result (λ bytes. Hears (S.held shelf.now []) word.now (Text bytes.items)
+    ensures read { IfOk result
+        (λ bytes. Hears ((S.tellings shelf.now).held []) word.now (Text bytes.items)
         (source I.remaining input.old) (source I.remaining input.new)) }
     ensures sound { OnOk result (has_failed input.new ≡ false) }
     ensures taken { ConsumesAtMost (INPUT_LIMIT + 1)
         (I.remaining (inner_of input.old)) (I.remaining (inner_of input.new)) }
-    ensures fault { IfErr result (λ error. RefusesWord error (S.held shelf.now []) word.now
+    ensures fault { IfErr result
+        (λ error. RefusesWord error ((S.tellings shelf.now).held []) word.now
         (source I.remaining input.old) (source I.remaining input.new)) }
 {
     if is_input(word) {
@@ -54,11 +56,12 @@ pub fn read_texts<S: Shelf, I: Read>(
 ) -> Result<Vec<Bytes>, ReportsError>
     requires { has_failed input.old ≡ false }
     ensures read { IfOk result
-        (λ texts. ReadsEach (S.held shelf.now []) (map (λ s. s.now) words.now) texts.items
-        (source I.remaining input.old) (source I.remaining input.new)) }
+        (λ texts. ReadsEach ((S.tellings shelf.now).held []) (map (λ s. s.now) words.now)
+        texts.items (source I.remaining input.old) (source I.remaining input.new)) }
     ensures sound { OnOk result (has_failed input.new ≡ false) }
     ensures fault { IfErr result
-        (λ error. StopsReadingTexts error (S.held shelf.now []) (map (λ s. s.now) words.now)
+        (λ error. StopsReadingTexts error ((S.tellings shelf.now).held [])
+        (map (λ s. s.now) words.now)
         (source I.remaining input.old) (source I.remaining input.new)) }
 {
     let mut texts = Vec::new(alloc);

@@ -1,6 +1,6 @@
 use Rattle.std.proofs.Common.{◌≡◌, ◌≤◌, reverse}
 use Rattle.life_slots.specs.Cells.{block_cells}
-use Rattle.life_board.proofs.small.Square.cells.Given as goal
+use Rattle.life_board.proofs.small.Square.cells_in.Given as goal
 
 abbrev pub invariant-loop-y : goal.invariant-loop-y
 invariant-loop-y l = record {

@@ -1,5 +1,5 @@
 use Rattle.life_plane.proofs.Later.{place_from_within}
-use Rattle.life_tile.proofs.plane.TilePlanePlane.cells.Goals as goal
+use Rattle.life_tile.proofs.plane.TilePlanePlane.cells_in.Goals as goal
 
 pub from_ordered-requires-clause-placed : goal.from_ordered-requires-clause-placed
 from_ordered-requires-clause-placed c =
