@@ -8,4 +8,5 @@ use Rattle.kernel_laws.specs.Rows.{state}
 
 -- the tile has the cells of a set from a place on, but for so many rows and columns at each side
 pub record ShowsWithin (rim : ℕ) (tile : Tile) (G : Generation) (place : Cell) : Type 0 where
-  pub cell : (x y : ℕ) → rim ≤ x → x + rim < 64 → rim ≤ y → y + rim < 64 → tile_cell tile x y ≡ state G (plus place (pos x, pos y))
+  pub cell : (x y : ℕ) → rim ≤ x → x + rim < 64 → rim ≤ y → y + rim < 64 →
+      tile_cell tile x y ≡ state G (plus place (pos x, pos y))

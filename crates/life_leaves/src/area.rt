@@ -71,8 +71,8 @@ pub fn middle(area: &Tile) -> Leaf
     Leaf { rows }
 }
 
-/// Writes the next generation of an area over another one. Where all cells beyond its edge are taken for dead, one row and one
-/// column more at each side may be wrong.
+/// Writes the next generation of an area over another one, as if no cell beyond its edge were live. So one row and one column
+/// more at each side may be wrong then.
 #[inline(always)]
 pub fn advance(logic: &Logic, here: &Tile, there: &mut Tile)
     ensures { (rule : Rule) → IsLogicOf logic.now rule → (G : Generation) (place : Cell) (rim : ℕ) →
