@@ -71,11 +71,13 @@ pub fn middle(area: &Tile) -> Leaf
     Leaf { rows }
 }
 
-/// Writes the next generation of an area over another one, as if no cell beyond its edge were live. So one row and one column
-/// more at each side may be wrong then.
+/// Writes the next generation of an area of which so many rows and columns at each side may be wrong over another area, as if no
+/// cell beyond its edge were live. So one row and one column more at each side may be wrong then. Bands that have no other row
+/// stay as they were.
 #[inline(always)]
-pub fn advance(logic: &Logic, here: &Tile, there: &mut Tile)
-    ensures { (rule : Rule) → IsLogicOf logic.now rule → (G : Generation) (place : Cell) (rim : ℕ) →
+pub fn advance(logic: &Logic, rim: usize, here: &Tile, there: &mut Tile)
+    requires { rim < 32 }
+    ensures { (rule : Rule) → IsLogicOf logic.now rule → (G : Generation) (place : Cell) →
         ShowsWithin rim here.now G place → ShowsWithin (rim + 1) there.new (next rule G) place }
 {
     let empty = &Tile::EMPTY;
@@ -89,7 +91,8 @@ pub fn advance(logic: &Logic, here: &Tile, there: &mut Tile)
         west: empty,
         north_west: empty,
     };
-    for i in 0..8 {
+    let from = (rim + 1) / 8;
+    for i in from..8 - from {
         let window = Window::of(here, &around, 8 * i);
         let _ = band(logic, &window, there);
     }

@@ -21,13 +21,14 @@ pub fn middle_later(logic: &Logic, four: &FourLeaves, generations: u32) -> Leaf
 {
     let mut here = area_of(four);
     let mut there = Tile::EMPTY;
-    for _ in 0..generations / 2 {
-        advance(logic, &here, &mut there);
-        advance(logic, &there, &mut here);
+    let generations = generations as usize;
+    for twice in 0..generations / 2 {
+        advance(logic, 2 * twice, &here, &mut there);
+        advance(logic, 2 * twice + 1, &there, &mut here);
     }
     if generations % 2 == 0 {
         return middle(&here);
     }
-    advance(logic, &here, &mut there);
+    advance(logic, generations - 1, &here, &mut there);
     middle(&there)
 }

@@ -11,7 +11,7 @@ use Rattle.life_leaves.proofs.area.advance.Given as goal
 
 abbrev pub invariant-loop-i : goal.invariant-loop-i
 invariant-loop-i l = record {
-  done : (rule : Rule) → IsLogicOf l.logic rule → (G : Generation) (place : Cell) (rim : ℕ) → ShowsWithin rim l.here G place →
-      (x y : ℕ) → rim + 1 ≤ x → x + (rim + 1) < 64 → rim + 1 ≤ y → y + (rim + 1) < 64 → y < 8 * l.i →
+  done : (rule : Rule) → IsLogicOf l.logic rule → (G : Generation) (place : Cell) → ShowsWithin l.rim l.here G place →
+      (x y : ℕ) → l.rim + 1 ≤ x → x + (l.rim + 1) < 64 → l.rim + 1 ≤ y → y + (l.rim + 1) < 64 → y < 8 * l.i →
       tile_cell l.there x y ≡ state (next rule G) (plus place (pos x, pos y));
 }

@@ -8,8 +8,8 @@ use Rattle.life_leaves.specs.Areas.{ShowsWithin}
 use Rattle.life_leaves.specs.Leaves.{ShowsFour}
 use Rattle.life_leaves.proofs.later.middle_later.Given as goal
 
-abbrev pub invariant-loop : goal.invariant-loop
-invariant-loop l = record {
+abbrev pub invariant-loop-twice : goal.invariant-loop-twice
+invariant-loop-twice l = record {
   shows : (rule : Rule) → IsLogicOf l.logic rule → (G : Generation) (place : Cell) → ShowsFour l.four G place →
-      ShowsWithin (2 * l.counter) l.here (generation rule G (2 * l.counter)) place;
+      ShowsWithin (2 * l.twice) l.here (generation rule G (2 * l.twice)) place;
 }
