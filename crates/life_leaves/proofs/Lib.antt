@@ -3,3 +3,4 @@ pub mod Bits
 pub mod Local
 pub mod Bands
 pub mod Quarters
+pub mod Listed

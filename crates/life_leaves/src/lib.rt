@@ -6,6 +6,7 @@
 mod area;
 mod later;
 mod leaf;
+mod listing;
 
-pub use later::middle_later;
+pub use later::{centre, middle_later};
 pub use leaf::{FourLeaves, Leaf};
