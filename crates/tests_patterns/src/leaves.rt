@@ -1,5 +1,4 @@
 //! The middle of four leaves some generations later: gliders that come into it, and what many cells become on a plane.
-ghost use Rattle.std.specs.Prelude.{◌<◌, IfSome};
 
 use crate::evolved::{after, step};
 use life_bits::Logic;
@@ -14,38 +13,23 @@ use std::test::Fail;
 const GLIDER: &[(i32, i32)] = &[(1, 0), (2, 1), (0, 2), (1, 2), (2, 2)];
 
 // Where it begins: within the middle, at its corners and across the edges of leaves.
-const STARTS: &[(i32, i32)] = &[(24, 24), (10, 11), (12, 30), (43, 10), (30, 13), (29, 44), (43, 43)];
-
-// The column of a leaf that a place is in, where the leaf begins at this one. The same for rows.
-fn column_in(place: i32, from: i32) -> Option<u32>
-    ensures { IfSome result (λ column. column < 32) }
-{
-    let offset = i64::from(place) - i64::from(from);
-    if 0 <= offset && offset < 32 {
-        Some(offset as u32)
-    } else {
-        None
-    }
-}
-
-// The cells of a list that are in the leaf that begins at this place.
-fn leaf_of(cells: &[(i32, i32)], from: (i32, i32)) -> Leaf {
-    let mut leaf = Leaf::empty();
-    for cell in cells {
-        if let (Some(x), Some(y)) = (column_in(cell.0, from.0), column_in(cell.1, from.1)) {
-            leaf.set(x, y);
-        }
-    }
-    leaf
-}
+const STARTS: &[(i32, i32)] = &[
+    (24, 24),
+    (10, 11),
+    (12, 30),
+    (43, 10),
+    (30, 13),
+    (29, 44),
+    (43, 43),
+];
 
 // What becomes of the middle of the square that these cells make, of columns and rows 0 to 63.
 fn middle_after(rt: &impl Abort, cells: &[(i32, i32)], rule: &Rule, generations: u32) -> Leaf {
     let four = FourLeaves {
-        north_west: &leaf_of(cells, (0, 0)),
-        north_east: &leaf_of(cells, (32, 0)),
-        south_west: &leaf_of(cells, (0, 32)),
-        south_east: &leaf_of(cells, (32, 32)),
+        north_west: &Leaf::of(cells, (0, 0)),
+        north_east: &Leaf::of(cells, (32, 0)),
+        south_west: &Leaf::of(cells, (0, 32)),
+        south_east: &Leaf::of(cells, (32, 32)),
     };
     assert!(rt; generations <= 16);
     middle_later(&Logic::of(rule), &four, generations)
@@ -74,10 +58,19 @@ fn gliders_move_through_the_middle(rt: HostRuntime) -> Result<(), Fail> {
                 let by = turns as i32;
                 let end = glider_at(&rt, rt.alloc(), *x + by, *y + by)?;
                 let middle = middle_after(&rt, start.as_slice(), &rule, 4 * turns);
-                assert!(rt; middle == leaf_of(end.as_slice(), (16, 16)));
+                assert!(rt; middle == Leaf::of(end.as_slice(), (16, 16)));
             }
         }
     }
+    Ok(())
+}
+
+#[test]
+fn leaves_list_their_cells_in_order(rt: HostRuntime) -> Result<(), Fail> {
+    let leaf = Leaf::of(GLIDER, (-30, -29));
+    let mut cells = Vec::new(rt.alloc());
+    leaf.push_cells((100, 200), &mut cells)?;
+    assert!(rt; cells.as_slice() == [(131, 229), (130, 231), (131, 231)].as_slice());
     Ok(())
 }
 
@@ -99,12 +92,16 @@ fn many_cells(alloc: Global) -> Result<Vec<(i32, i32)>, Fail> {
 #[test]
 fn many_cells_become_what_they_do_on_a_plane(rt: HostRuntime) -> Result<(), Fail> {
     let cells = many_cells(rt.alloc())?;
-    for text in [b"B3/S23".as_slice(), b"B36/S23".as_slice(), b"B1357/S1357".as_slice()] {
+    for text in [
+        b"B3/S23".as_slice(),
+        b"B36/S23".as_slice(),
+        b"B1357/S1357".as_slice(),
+    ] {
         let rule = Rule::parse(text)?;
         let mut plane: ListPlane = after(&rt, rt.alloc(), cells.as_slice(), text, 0)?;
         for generations in 0..17 {
             let middle = middle_after(&rt, cells.as_slice(), &rule, generations);
-            let expected = leaf_of(plane.cells()?.as_slice(), (16, 16));
+            let expected = Leaf::of(plane.cells()?.as_slice(), (16, 16));
             assert!(rt; middle == expected && !middle.is_empty());
             step(&rt, &mut plane, &rule)?;
         }
