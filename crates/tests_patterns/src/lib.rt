@@ -1,5 +1,5 @@
-//! Tests of cells, rules, texts, shapes and codes, of rows of bits, bands of tiles and planes, and of what patterns
-//! become.
+//! Tests of cells, rules, texts, shapes and codes, of rows of bits, bands of tiles, leaves and planes, and of what
+//! patterns become.
 //!
 //! Each example's answer was worked by hand or is known from elsewhere: patterns of LifeWiki by their period, displacement
 //! and apgcode, gliders by where they go, texts as their format has them.
@@ -19,6 +19,8 @@ mod codes;
 mod evolved;
 #[cfg(test)]
 mod fast_plane;
+#[cfg(test)]
+mod leaves;
 #[cfg(test)]
 mod limits;
 #[cfg(test)]

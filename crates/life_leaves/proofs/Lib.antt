@@ -1,0 +1,6 @@
+pub mod OneCell
+pub mod Bits
+pub mod Local
+pub mod Bands
+pub mod Quarters
+pub mod Listed

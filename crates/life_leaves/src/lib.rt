@@ -1,0 +1,12 @@
+//! Leaves: squares of 32 by 32 cells, and what becomes of the middle of four of them.
+//!
+//! Tested in `tests_patterns`.
+#![tactic(auto)]
+
+mod area;
+mod later;
+mod leaf;
+mod listing;
+
+pub use later::{centre, middle_later};
+pub use leaf::{FourLeaves, Leaf};
