@@ -9,6 +9,7 @@ mod meeting;
 mod moving;
 mod near;
 mod orbit;
+mod periods;
 mod shift;
 mod walk;
 mod watch;

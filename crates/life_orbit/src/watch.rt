@@ -7,25 +7,9 @@ ghost use Rattle.life_orbit.specs.Reach.{IsReach};
 
 use crate::hull::Hull;
 use crate::lanes::{Lane, Span, rounds_along};
-use crate::orbit::{BOUND_LIMIT, Orbit};
+use crate::orbit::Orbit;
+use crate::periods::rounds_together;
 use crate::shift::repeated;
-
-/// After how many periods of each of two sets both stand as they began, for the first time.
-fn rounds_together(first: u32, second: u32) -> (u32, u32)
-    requires first { 1 ≤ first × first ≤ BOUND_LIMIT }
-    requires second { 1 ≤ second × second ≤ BOUND_LIMIT }
-    ensures together { result.0 * first ≡ result.1 * second }
-    ensures first { 1 ≤ result.0 × result.0 ≤ BOUND_LIMIT }
-    ensures second { 1 ≤ result.1 × result.1 ≤ BOUND_LIMIT }
-{
-    for rounds in 1..second {
-        let steps = rounds as u64 * first as u64;
-        if steps % second as u64 == 0 {
-            return (rounds, (steps / second as u64) as u32);
-        }
-    }
-    (second, first)
-}
 
 /// In which rounds two boxes can be near, where they move so far in each: when they can be along both axes. Where both
 /// move as far and are near along both, one round tells of all.
