@@ -55,6 +55,40 @@ const GLIDER_BESIDE: Cells = &[
 // The same in columns that are near.
 const NEAR_BESIDE: Cells = &[(4, 40), (5, 40), (6, 40), (6, 41), (5, 42)];
 
+// It flies to the left and up from far away, to where the first one comes from.
+const FAR_MEETING_GLIDER: Cells = &[
+    (1_000_041, 1_000_042),
+    (1_000_040, 1_000_041),
+    (1_000_042, 1_000_040),
+    (1_000_041, 1_000_040),
+    (1_000_040, 1_000_040),
+];
+
+// The same 20 columns further to the right, where it flies past the first one.
+const FAR_MISSING_GLIDER: Cells = &[
+    (1_000_061, 1_000_042),
+    (1_000_060, 1_000_041),
+    (1_000_062, 1_000_040),
+    (1_000_061, 1_000_040),
+    (1_000_060, 1_000_040),
+];
+
+// Into which the first glider flies.
+const FAR_BLOCK: Cells = &[
+    (1_000_000, 1_000_000),
+    (1_000_001, 1_000_000),
+    (1_000_000, 1_000_001),
+    (1_000_001, 1_000_001),
+];
+
+// Past which it flies.
+const BLOCK_BESIDE_THE_WAY: Cells = &[
+    (1_000_020, 1_000_000),
+    (1_000_021, 1_000_000),
+    (1_000_020, 1_000_001),
+    (1_000_021, 1_000_001),
+];
+
 const PAIRS: &[(Cells, Cells, bool)] = &[
     (BLOCK, FAR_BLINKER, true),
     (BLOCK, NEAR_BLINKER, false),
@@ -66,6 +100,14 @@ const PAIRS: &[(Cells, Cells, bool)] = &[
     (GLIDER, NEXT_BELOW, true),
     (GLIDER, GLIDER_BESIDE, true),
     (GLIDER, NEAR_BESIDE, false),
+];
+
+// Millions of generations pass before these meet or have passed each other, of which a few are looked at.
+const FAR_PAIRS: &[(Cells, Cells, bool)] = &[
+    (GLIDER, FAR_MEETING_GLIDER, false),
+    (GLIDER, FAR_MISSING_GLIDER, true),
+    (GLIDER, FAR_BLOCK, false),
+    (GLIDER, BLOCK_BESIDE_THE_WAY, true),
 ];
 
 fn orbit_of(alloc: Global, cells: &[(i32, i32)]) -> Result<Option<Orbit>, CellFault>
@@ -91,6 +133,15 @@ fn is_apart(alloc: Global, first: Cells, second: Cells) -> Result<Option<bool>, 
 #[test]
 fn pairs_that_stay_apart(rt: HostRuntime) -> Result<(), Fail> {
     for (first, second, apart) in PAIRS {
+        assert!(rt; is_apart(rt.alloc(), first, second)? == Some(*apart));
+        assert!(rt; is_apart(rt.alloc(), second, first)? == Some(*apart));
+    }
+    Ok(())
+}
+
+#[test]
+fn pairs_that_are_far_from_each_other(rt: HostRuntime) -> Result<(), Fail> {
+    for (first, second, apart) in FAR_PAIRS {
         assert!(rt; is_apart(rt.alloc(), first, second)? == Some(*apart));
         assert!(rt; is_apart(rt.alloc(), second, first)? == Some(*apart));
     }
