@@ -7,5 +7,6 @@ pub mod Reaching
 pub mod HullLemmas
 pub mod Divisors
 pub mod Watching
+pub mod Rows
 pub mod Moves
 pub mod MovedCells

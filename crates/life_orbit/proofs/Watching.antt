@@ -48,7 +48,7 @@ still_ahead low high forward back room lost loss k a b enough e =
     let less : k * loss ≤ room = subst (λ g. k * g ≤ room) same enough in
     omega (arith, ints)
 
-further : (x y : ℤ) → y ≤ℤ x → (v : ℕ) × (x ≡ y +ℤ pos v)
+pub further : (x y : ℤ) → y ≤ℤ x → (v : ℕ) × (x ≡ y +ℤ pos v)
 further x y h =
     elim (x -ℤ y) as (λ z. x -ℤ y ≡ z → (v : ℕ) × (x ≡ y +ℤ pos v)) [
       | pos n ↦ λ e. (n, omega (arith, ints))

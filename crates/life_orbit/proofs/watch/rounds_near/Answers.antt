@@ -5,7 +5,8 @@ use Rattle.life_orbit.proofs.watch.rounds_near.Goals as goal
 
 pub returns-in-Some-Some-clause-ahead : goal.returns-in-Some-Some-clause-ahead
 returns-in-Some-Some-clause-ahead c =
-    later (watch_of c.args.hull c.args.by c.args.other_hull c.args.other_by) c.in-Some-Some.columns.from c.in-Some-Some.rows.from c.max.result
+    later (watch_of c.args.hull c.args.by c.args.other_hull c.args.other_by)
+    c.in-Some-Some.columns.from c.in-Some-Some.rows.from c.max.result
     (let which = c.max.ensures in omega arith)
     (ahead_same _ _ (columns c.args.hull c.args.by) (columns c.args.other_hull c.args.other_by) c.in-Some-Some.columns.from
     (word_columns c.args.hull c.args.by (search rules) (search rules) (search rules))
@@ -32,7 +33,8 @@ returns-in-None-Some-clause-ahead c =
 
 pub returns-in-Some-Some-clause-past : goal.returns-in-Some-Some-clause-past
 returns-in-Some-Some-clause-past c =
-    sooner (watch_of c.args.hull c.args.by c.args.other_hull c.args.other_by) c.in-Some-Some.columns.until c.in-Some-Some.rows.until c.min.result
+    sooner (watch_of c.args.hull c.args.by c.args.other_hull c.args.other_by)
+    c.in-Some-Some.columns.until c.in-Some-Some.rows.until c.min.result
     (let which = c.min.ensures in omega arith)
     (past_same _ _ (columns c.args.hull c.args.by) (columns c.args.other_hull c.args.other_by) c.in-Some-Some.columns.until
     (word_columns c.args.hull c.args.by (search rules) (search rules) (search rules))
