@@ -4,7 +4,7 @@ ghost use Rattle.life_cells.specs.Rules.{life};
 
 use life_cells::{CellFault, CellList, Rule};
 use life_orbit::Orbit;
-use std::alloc::Global;
+use std::alloc::{AllocError, Global};
 use std::test::Fail;
 
 /// A list of cells.
@@ -120,7 +120,11 @@ fn orbit_of(alloc: Global, cells: &[(i32, i32)]) -> Result<Option<Orbit>, CellFa
     Ok(Orbit::of(alloc, &Rule::life(), &list, 100)?)
 }
 
-fn is_apart(alloc: Global, first: Cells, second: Cells) -> Result<Option<bool>, CellFault> {
+fn is_apart(
+    alloc: Global,
+    first: &[(i32, i32)],
+    second: &[(i32, i32)],
+) -> Result<Option<bool>, CellFault> {
     let Some(one) = orbit_of(alloc, first)? else {
         return Ok(None);
     };
@@ -128,6 +132,22 @@ fn is_apart(alloc: Global, first: Cells, second: Cells) -> Result<Option<bool>, 
         return Ok(None);
     };
     Ok(Some(one.is_apart_for_ever_from(&other)))
+}
+
+/// A square of 400 blocks, each eight places from the next, from this place on in both directions.
+fn blocks(alloc: Global, start: u8) -> Result<Vec<(i32, i32)>, AllocError> {
+    let mut cells = Vec::new(alloc);
+    for row in 0..20u16 {
+        for column in 0..20u16 {
+            let x = i32::from(start) + 8 * i32::from(column);
+            let y = i32::from(start) + 8 * i32::from(row);
+            cells.push((x, y))?;
+            cells.push((x + 1, y))?;
+            cells.push((x, y + 1))?;
+            cells.push((x + 1, y + 1))?;
+        }
+    }
+    Ok(cells)
 }
 
 #[test]
@@ -145,5 +165,15 @@ fn pairs_that_are_far_from_each_other(rt: HostRuntime) -> Result<(), Fail> {
         assert!(rt; is_apart(rt.alloc(), first, second)? == Some(*apart));
         assert!(rt; is_apart(rt.alloc(), second, first)? == Some(*apart));
     }
+    Ok(())
+}
+
+#[test]
+fn many_blocks_among_many_others(rt: HostRuntime) -> Result<(), Fail> {
+    let cells = blocks(rt.alloc(), 0)?;
+    let between = blocks(rt.alloc(), 4)?;
+    let near = blocks(rt.alloc(), 3)?;
+    assert!(rt; is_apart(rt.alloc(), &cells, &between)? == Some(true));
+    assert!(rt; is_apart(rt.alloc(), &cells, &near)? == Some(false));
     Ok(())
 }
