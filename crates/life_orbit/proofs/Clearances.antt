@@ -13,12 +13,13 @@ use Rattle.life_model.specs.Symmetry.{translate_of}
 use Rattle.life_model.proofs.Generations.{contains-cells}
 use Rattle.life_model.proofs.Cells.{pair, plus-opposite}
 use Rattle.life_model.proofs.Symmetries.{contains-moved}
-use Rattle.life_objects.specs.Apart.{AreApart, AreApartBefore, AreApartForEver, AreNear}
+use Rattle.life_objects.specs.Apart.{AreApart, AreApartForEver, AreNear}
 use Rattle.life_objects.specs.Drift.{multiple_of}
 use Rattle.life_objects.proofs.Moving.{generation-wrapped}
 use Rattle.life_orbit.specs.Clear.{AreClear, IsClearOf}
 use Rattle.life_orbit.specs.Course.{Course, IsCourse}
 use Rattle.life_orbit.specs.Hulls.{AreFar, IsHullOf}
+use Rattle.life_orbit.specs.Passing.{AreApartBetween}
 use Rattle.life_orbit.specs.declared.hull.Hull.{Hull}
 use Rattle.life_orbit.proofs.Lists.{of_all_members, of_member}
 
@@ -143,10 +144,10 @@ apart_at_rest o w rule is_o is_w g h in_g in_h rests other_rests far t =
     (opposite (still (t / w.period) w.displacement other_rests i))) ∙ pair (omega (arith, ints)) (omega (arith, ints))))
     g h in_g in_h far
 
-pub before_more : (R : Rule) (P Q : Generation) (n : ℕ) → AreApartBefore R n P Q →
-    AreApart (generation R P n) (generation R Q n) → AreApartBefore R (n + 1) P Q
-before_more R P Q n before now m h =
+pub between_more : (R : Rule) (P Q : Generation) (k n : ℕ) → AreApartBetween R k n P Q →
+    AreApart (generation R P n) (generation R Q n) → AreApartBetween R k (n + 1) P Q
+between_more R P Q k n so_far now m late h =
     elim (cases_lt m n) [
-      | inl early ↦ before m early
-      | inr late ↦ subst (λ k. AreApart (generation R P k) (generation R Q k)) (let z : n ≡ m = omega arith in z) now
+      | inl early ↦ so_far m late early
+      | inr last ↦ subst (λ t. AreApart (generation R P t) (generation R Q t)) (let z : n ≡ m = omega arith in z) now
     ]

@@ -30,9 +30,17 @@ low_sum l low z y x h k e = omega (arith, ints)
 high_sum : (h high z y x : ℤ) → y ≤ℤ h → z ≤ℤ high → x ≡ y +ℤ z → x ≤ℤ (h +ℤ high)
 high_sum h high z y x j k e = omega (arith, ints)
 
-gap_sum : (low high x y s t u v : ℤ) (g : ℕ) → (high +ℤ pos 3) ≤ℤ (low +ℤ pos g) → low ≤ℤ x → y ≤ℤ high →
-    u ≡ x +ℤ s → v ≡ y +ℤ t → s ≡ t +ℤ pos g → (v +ℤ pos 3) ≤ℤ u
-gap_sum low high x y s t u v g enough h k a b c = omega (arith, ints)
+gap_sum : (low high x y s t u v : ℤ) → ((high +ℤ t) +ℤ pos 3) ≤ℤ (low +ℤ s) → low ≤ℤ x → y ≤ℤ high →
+    u ≡ x +ℤ s → v ≡ y +ℤ t → (v +ℤ pos 3) ≤ℤ u
+gap_sum low high x y s t u v enough h k a b = omega (arith, ints)
+
+gained : (low high s t : ℤ) (g : ℕ) → (high +ℤ pos 3) ≤ℤ (low +ℤ pos g) → s ≡ t +ℤ pos g →
+    ((high +ℤ t) +ℤ pos 3) ≤ℤ (low +ℤ s)
+gained low high s t g enough e = omega (arith, ints)
+
+not_lost : (low high s t : ℤ) (g : ℕ) → ((high +ℤ pos 3) +ℤ pos g) ≤ℤ low → t ≡ s +ℤ pos g →
+    ((high +ℤ t) +ℤ pos 3) ≤ℤ (low +ℤ s)
+not_lost low high s t g enough e = omega (arith, ints)
 
 early : (m a p : ℕ) → 1 ≤ p → m < a * p → m / p ≤ a
 early m a p one h = let less : m / p < a = (div-lt_iff_lt-mul (let z : 0 < p = omega arith in z)).1 h in omega arith
@@ -74,23 +82,46 @@ module _ (f : Cell → ℤ) (axis : IsAxis f) (R : Rule) (P Q : Generation) (p q
   pub whole_second : RecursBy R Q (a * p) (multiple_of b e)
   whole_second = subst (λ n. RecursBy R Q n (multiple_of b e)) (sym same) (RecursBy-times R Q q e s b one_b)
 
-  -- after k rounds each cell of P is at least three places further along the axis than each of Q, for one round
-  pub gap_from : (l h : ℤ) (k v : ℕ) →
-      ((n : ℕ) (c : Cell) → n < p → contains (generation R P n) c ≡ true → l ≤ℤ f c) →
-      ((n : ℕ) (c : Cell) → n < q → contains (generation R Q n) c ≡ true → f c ≤ℤ h) →
-      f (multiple_of a d) ≡ f (multiple_of b e) +ℤ pos v →
-      ((h +ℤ int_max (pos 0) (f (multiple_of b e))) +ℤ pos 3) ≤ℤ ((l +ℤ int_min (pos 0) (f (multiple_of a d))) +ℤ pos (k * v)) →
-      (m : ℕ) → m < a * p → (x y : Cell) → contains (generation R P (k * (a * p) + m)) x ≡ true →
-      contains (generation R Q (k * (a * p) + m)) y ≡ true → (f y +ℤ pos 3) ≤ℤ f x
-  gap_from l h k v left right apart enough m within x y in_P in_Q =
-      let n : ℕ = a * p in
-      let x_there = unmoved (generation R P m) (multiple_of k (multiple_of a d)) x
-      (ap (λ H. contains H x) (sym (rounds_later R P (a * p) (multiple_of a d) whole_first k m)) ∙ in_P) in
-      let y_there = unmoved (generation R Q m) (multiple_of k (multiple_of b e)) y
-      (ap (λ H. contains H y) (sym (rounds_later R Q (a * p) (multiple_of b e) whole_second k m)) ∙ in_Q) in
-      gap_sum _ _ (f (plus x (opposite (multiple_of k (multiple_of a d))))) (f (plus y (opposite (multiple_of k (multiple_of b e)))))
-      (f (multiple_of k (multiple_of a d))) (f (multiple_of k (multiple_of b e))) (f x) (f y) (k * v) enough
-      (bound_left f axis R P p d r a m within _ x_there l left)
-      (bound_right f axis R Q q e s b m (subst (λ z. m < z) same within) _ y_there h right)
-      (before_move f axis x (multiple_of k (multiple_of a d))) (before_move f axis y (multiple_of k (multiple_of b e)))
-      (widens f axis k v (multiple_of a d) (multiple_of b e) apart)
+  module _ (l h : ℤ) (k : ℕ) (left : (n : ℕ) (c : Cell) → n < p → contains (generation R P n) c ≡ true → l ≤ℤ f c)
+      (right : (n : ℕ) (c : Cell) → n < q → contains (generation R Q n) c ≡ true → f c ≤ℤ h)
+      (m : ℕ) (within : m < a * p) (x y : Cell) (in_P : contains (generation R P (k * (a * p) + m)) x ≡ true)
+      (in_Q : contains (generation R Q (k * (a * p) + m)) y ≡ true) where
+    -- how far the two have moved before round k
+    abbrev moved : ℤ
+    moved = f (multiple_of k (multiple_of a d))
+
+    abbrev other_moved : ℤ
+    other_moved = f (multiple_of k (multiple_of b e))
+
+    abbrev low : ℤ
+    low = l +ℤ int_min (pos 0) (f (multiple_of a d))
+
+    abbrev high : ℤ
+    high = h +ℤ int_max (pos 0) (f (multiple_of b e))
+
+    -- in round k each cell of P is as far past each of Q as the ends of their places are
+    gap_in : ((high +ℤ other_moved) +ℤ pos 3) ≤ℤ (low +ℤ moved) → (f y +ℤ pos 3) ≤ℤ f x
+    gap_in enough =
+        let x_there = unmoved (generation R P m) (multiple_of k (multiple_of a d)) x
+        (ap (λ H. contains H x) (sym (rounds_later R P (a * p) (multiple_of a d) whole_first k m)) ∙ in_P) in
+        let y_there = unmoved (generation R Q m) (multiple_of k (multiple_of b e)) y
+        (ap (λ H. contains H y) (sym (rounds_later R Q (a * p) (multiple_of b e) whole_second k m)) ∙ in_Q) in
+        gap_sum low high (f (plus x (opposite (multiple_of k (multiple_of a d)))))
+        (f (plus y (opposite (multiple_of k (multiple_of b e))))) moved other_moved (f x) (f y) enough
+        (bound_left f axis R P p d r a m within _ x_there l left)
+        (bound_right f axis R Q q e s b m (subst (λ z. m < z) same within) _ y_there h right)
+        (before_move f axis x (multiple_of k (multiple_of a d))) (before_move f axis y (multiple_of k (multiple_of b e)))
+
+    -- after k rounds in which P gains on Q
+    pub gap_from : (v : ℕ) → f (multiple_of a d) ≡ f (multiple_of b e) +ℤ pos v →
+        (high +ℤ pos 3) ≤ℤ (low +ℤ pos (k * v)) → (f y +ℤ pos 3) ≤ℤ f x
+    gap_from v apart enough =
+        gap_in (gained low high moved other_moved (k * v) enough
+        (widens f axis k v (multiple_of a d) (multiple_of b e) apart))
+
+    -- after k rounds in which Q gains on P
+    pub gap_until : (v : ℕ) → f (multiple_of b e) ≡ f (multiple_of a d) +ℤ pos v →
+        ((high +ℤ pos 3) +ℤ pos (k * v)) ≤ℤ low → (f y +ℤ pos 3) ≤ℤ f x
+    gap_until v apart enough =
+        gap_in (not_lost low high moved other_moved (k * v) enough
+        (widens f axis k v (multiple_of b e) (multiple_of a d) apart))

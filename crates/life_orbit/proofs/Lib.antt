@@ -5,6 +5,8 @@ pub mod Gaps
 pub mod Clearances
 pub mod Reaching
 pub mod HullLemmas
+pub mod Divisors
 pub mod Watching
+pub mod Rows
 pub mod Moves
 pub mod MovedCells

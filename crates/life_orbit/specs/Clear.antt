@@ -1,6 +1,7 @@
 -- Cells that are not near each other.
-use Rattle.std.specs.Prelude.{List}
+use Rattle.std.specs.Prelude.{◌≡◌, ℤ, ◌≤ℤ◌, Bool, cond, int_lt, List}
 use Rattle.std.specs.List.{All}
+use Rattle.std.specs.Ordering.{int_eq}
 use Rattle.life_model.specs.Cell.{Cell, plus}
 use Rattle.life_objects.specs.Apart.{AreNear}
 
@@ -11,3 +12,11 @@ IsClearOf c ds = All (λ d. AreNear c d → ⊥) ds
 -- no cell of the one list, moved, is near one of the other
 abbrev pub AreClear : List Cell → Cell → List Cell → Type 0
 AreClear cs by ds = All (λ c. IsClearOf (plus c by) ds) cs
+
+-- whether the cell is in a row before that one, or in that row and before the column
+abbrev pub comes_before : ℤ → ℤ → Cell → Bool
+comes_before row column c = cond (int_eq c.1 row) (int_lt c.0 column) (int_lt c.1 row)
+
+-- none of the cells is in the row, from the one column to the other
+abbrev pub IsFree : ℤ → ℤ → ℤ → List Cell → Type 0
+IsFree row left right cs = All (λ c. c.1 ≡ row → left ≤ℤ c.0 → c.0 ≤ℤ right → ⊥) cs

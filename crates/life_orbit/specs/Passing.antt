@@ -1,17 +1,26 @@
--- When what moves further on has passed what stands before it.
-use Rattle.std.specs.Prelude.{◌≡◌, ◌⊎◌, ℕ, ◌*◌, ℤ, pos, ◌+ℤ◌, ◌≤ℤ◌}
+-- When what moves further on has passed what stands before it, and until when it has not come near it.
+use Rattle.std.specs.Prelude.{◌≡◌, ◌⊎◌, ℕ, ◌*◌, ◌<◌, ◌≤◌, ℤ, pos, ◌+ℤ◌, ◌≤ℤ◌}
 use Rattle.std.specs.Int.{int_max, int_min}
 use Rattle.life_model.specs.Cell.{Cell}
+use Rattle.life_model.specs.Evolution.{generation}
+use Rattle.life_model.specs.Generation.{Generation}
+use Rattle.life_model.specs.Rule.{Rule}
+use Rattle.life_objects.specs.Apart.{AreApart}
 use Rattle.life_orbit.specs.declared.hull.Hull.{Hull}
+use Rattle.life_orbit.specs.declared.lanes.Lane.{Lane}
 
--- the first place of what moves on along an axis, the last place of what it passes, how far each moves in a round, and
--- a number of rounds
+-- the first place of the one that is further on along an axis, the last place of the other, how far each moves in a
+-- round, and a number of rounds
 pub record Passing : Type 0 where
   pub first : ℤ
   pub by : ℤ
   pub other_last : ℤ
   pub other_by : ℤ
   pub rounds : ℕ
+
+-- how what is in the one lane passes what is in the other
+abbrev pub passing : Lane → Lane → ℕ → Passing
+passing a b k = record { first = a.first; by = a.by; other_last = b.last; other_by = b.by; rounds = k }
 
 -- What is at `first` or further on moves by `by` in a round, and what is at `other_last` or before it by `other_by`,
 -- which is no more. After the rounds the one is at least three places further on than the other.
@@ -20,46 +29,48 @@ pub record IsPassed (p : Passing) : Type 0 where
   pub passes : (gain : ℕ) → p.by ≡ p.other_by +ℤ pos gain →
       ((p.other_last +ℤ int_max (pos 0) p.other_by) +ℤ pos 3) ≤ℤ ((p.first +ℤ int_min (pos 0) p.by) +ℤ pos (p.rounds * gain))
 
--- the boxes of two sets, how far each set moves in a round, and a number of rounds
+-- The same, where `other_by` is no less. In each round before that number the one is at least three places further on
+-- than the other.
+pub record IsYetAhead (p : Passing) : Type 0 where
+  pub order : p.by ≤ℤ p.other_by
+  pub ahead : (loss k : ℕ) → p.other_by ≡ p.by +ℤ pos loss → k < p.rounds →
+      (((p.other_last +ℤ int_max (pos 0) p.other_by) +ℤ pos 3) +ℤ pos (k * loss)) ≤ℤ (p.first +ℤ int_min (pos 0) p.by)
+
+-- after so many rounds one of the two has passed the other
+abbrev pub IsOnePast : Lane → Lane → ℕ → Type 0
+IsOnePast a b k = IsPassed (passing a b k) ⊎ IsPassed (passing b a k)
+
+-- for so many rounds one of the two is still ahead of the other
+abbrev pub IsOneAhead : Lane → Lane → ℕ → Type 0
+IsOneAhead a b k = IsYetAhead (passing a b k) ⊎ IsYetAhead (passing b a k)
+
+-- the boxes of two sets, and how far each set moves in a round
 pub record Watch : Type 0 where
   pub hull : Hull
   pub by : Cell
   pub other_hull : Hull
   pub other_by : Cell
-  pub rounds : ℕ
 
--- the same, told of the other first
-abbrev pub of_the_other : Watch → Watch
-of_the_other w = record {
-  hull = w.other_hull;
-  by = w.other_by;
-  other_hull = w.hull;
-  other_by = w.by;
-  rounds = w.rounds;
-}
+-- a box that moves so, from left to right
+abbrev pub columns : Hull → Cell → Lane
+columns h d = record { first = h.left; last = h.right; by = d.0 }
 
--- how the one passes the other to the right
-abbrev pub across : Watch → Passing
-across w = record {
-  first = w.hull.left;
-  by = w.by.0;
-  other_last = w.other_hull.right;
-  other_by = w.other_by.0;
-  rounds = w.rounds;
-}
-
--- how the one passes the other downwards
-abbrev pub down : Watch → Passing
-down w = record {
-  first = w.hull.top;
-  by = w.by.1;
-  other_last = w.other_hull.bottom;
-  other_by = w.other_by.1;
-  rounds = w.rounds;
-}
+-- and downwards
+abbrev pub rows : Hull → Cell → Lane
+rows h d = record { first = h.top; last = h.bottom; by = d.1 }
 
 -- After the rounds one of the two has passed the other along an axis, or both move as far, and it is one round.
-abbrev pub IsWatch : Watch → Type 0
-IsWatch w =
-    IsPassed (across w) ⊎ (IsPassed (across (of_the_other w))
-    ⊎ (IsPassed (down w) ⊎ (IsPassed (down (of_the_other w)) ⊎ ((w.by ≡ w.other_by) × (w.rounds ≡ 1)))))
+abbrev pub IsPastAfter : Watch → ℕ → Type 0
+IsPastAfter w k =
+    IsOnePast (columns w.hull w.by) (columns w.other_hull w.other_by) k
+    ⊎ (IsOnePast (rows w.hull w.by) (rows w.other_hull w.other_by) k ⊎ ((w.by ≡ w.other_by) × (k ≡ 1)))
+
+-- In each of the rounds one of the two is still ahead of the other along an axis, or it is none.
+abbrev pub IsAheadBefore : Watch → ℕ → Type 0
+IsAheadBefore w k =
+    IsOneAhead (columns w.hull w.by) (columns w.other_hull w.other_by) k
+    ⊎ (IsOneAhead (rows w.hull w.by) (rows w.other_hull w.other_by) k ⊎ (k ≡ 0))
+
+-- the two are apart in each generation from m on and before n
+abbrev pub AreApartBetween : Rule → ℕ → ℕ → Generation → Generation → Type 0
+AreApartBetween R m n P Q = (t : ℕ) → m ≤ t → t < n → AreApart (generation R P t) (generation R Q t)

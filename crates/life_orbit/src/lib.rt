@@ -3,14 +3,16 @@
 //! Tested in `tests_objects`.
 #![tactic(auto)]
 
-mod horizon;
 mod hull;
+mod lanes;
 mod meeting;
 mod moving;
 mod near;
 mod orbit;
+mod periods;
 mod shift;
 mod walk;
+mod watch;
 
 pub use hull::{Hull, are_far, hull_of};
 pub use orbit::{BOUND_LIMIT, Orbit};

@@ -4,11 +4,11 @@ ghost use Rattle.life_model.specs.Evolution.{generation};
 ghost use Rattle.life_objects.specs.Apart.{AreApart, AreApartForEver};
 ghost use Rattle.life_orbit.specs.Hulls.{IsHullOf};
 
-use crate::horizon::horizon;
 use crate::hull::{Hull, are_far};
 use crate::near::are_clear;
 use crate::orbit::Orbit;
 use crate::shift::offset_at;
+use crate::watch::watch;
 use life_cells::CellList;
 
 /// The phase that a set has after so many generations.
@@ -63,7 +63,8 @@ impl Orbit {
         }
         let hull = self.hull();
         let other_hull = other.hull();
-        for time in 0..horizon(self, hull, other, other_hull) {
+        let span = watch(self, hull, other, other_hull);
+        for time in span.from..span.until {
             if !is_apart_at(self, hull, other, other_hull, time) {
                 return false;
             }

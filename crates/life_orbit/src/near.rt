@@ -1,54 +1,59 @@
 //! Cells that are near each other.
-ghost use Rattle.std.specs.Prelude.{◌↔◌, ◌^◌, IsTrue, pos, neg_ℤ, ◌+ℤ◌, ◌-ℤ◌, ◌≤ℤ◌};
+ghost use Rattle.std.specs.Prelude.{◌≡◌, ◌↔◌, ◌^◌, IsTrue, T, pos, neg_ℤ, ◌≤ℤ◌};
 ghost use Rattle.life_model.specs.Cell.{plus};
-ghost use Rattle.life_objects.specs.Apart.{AreNear};
-ghost use Rattle.life_orbit.specs.Clear.{AreClear, IsClearOf};
+ghost use Rattle.life_model.specs.Generation.{is_rising};
+ghost use Rattle.life_orbit.specs.Clear.{AreClear, IsClearOf, IsFree, comes_before};
 ghost use Rattle.life_orbit.specs.Reach.{IsReach};
 
-/// Whether a place, moved, is within two of another.
-fn is_close(place: i32, by: i128, other: i32) -> bool
-    requires low { neg_ℤ (pos (2 ^ 126)) ≤ℤ by }
-    requires high { by ≤ℤ pos (2 ^ 126) }
-    ensures { IsTrue result ↔
-        (((other -ℤ pos 2) ≤ℤ (place +ℤ by)) × ((place +ℤ by) ≤ℤ (other +ℤ pos 2))) }
+/// Whether a cell stands in a row before that one, or in that row and before the column.
+fn comes_before(cell: (i32, i32), row: i128, column: i128) -> bool
+    ensures { result ≡ comes_before row column cell }
 {
-    let offset = place as i128 + by - other as i128;
-    if offset < -2 {
-        return false;
+    if cell.1 as i128 == row {
+        return (cell.0 as i128) < column;
     }
-    if offset > 2 {
-        return false;
-    }
-    true
+    (cell.1 as i128) < row
 }
 
-/// Whether a cell, moved, is within two of another in both directions.
-fn is_near(cell: (i32, i32), by: (i128, i128), other: (i32, i32)) -> bool
-    requires { IsReach (2 ^ 126) by }
-    ensures { IsTrue result ↔ AreNear (plus cell by) other }
+/// Whether none of the cells, which are in order, stands in a row from one column to another.
+fn is_free(cells: &[(i32, i32)], row: i128, left: i128, right: i128) -> bool
+    requires { T (is_rising cells.now) }
+    ensures { IsTrue result ↔ IsFree row left right cells.now }
 {
-    if !is_close(cell.0, by.0, other.0) {
-        return false;
+    let start = cells.partition_point(|cell| comes_before(*cell, row, left));
+    if start == cells.len() {
+        return true;
     }
-    is_close(cell.1, by.1, other.1)
+    let (x, y) = cells[start];
+    if y as i128 != row {
+        return true;
+    }
+    if x as i128 > right {
+        return true;
+    }
+    false
 }
 
-/// Whether a cell, moved, is near none of the cells.
+/// Whether a cell, moved, is near none of the cells, which are in order: those of five rows are looked up.
 fn is_clear_of(cell: (i32, i32), by: (i128, i128), others: &[(i32, i32)]) -> bool
-    requires { IsReach (2 ^ 126) by }
+    requires reach { IsReach (2 ^ 126) by }
+    requires rising { T (is_rising others.now) }
     ensures { IsTrue result ↔ IsClearOf (plus cell by) others.now }
 {
-    for other in others {
-        if is_near(cell, by, *other) {
+    let column = cell.0 as i128 + by.0;
+    let row = cell.1 as i128 + by.1;
+    for step in 0..5u8 {
+        if !is_free(others, row - 2 + step as i128, column - 2, column + 2) {
             return false;
         }
     }
     true
 }
 
-/// Whether no cell of the first list, moved, is near one of the second.
-pub fn are_clear(cells: &[(i32, i32)], by: (i128, i128), others: &[(i32, i32)]) -> bool
-    requires { IsReach (2 ^ 126) by }
+/// Whether no cell of the first list, moved, is near one of the second, each looked up in the second.
+fn each_is_clear(cells: &[(i32, i32)], by: (i128, i128), others: &[(i32, i32)]) -> bool
+    requires reach { IsReach (2 ^ 126) by }
+    requires rising { T (is_rising others.now) }
     ensures { IsTrue result ↔ AreClear cells.now by others.now }
 {
     for cell in cells {
@@ -57,4 +62,18 @@ pub fn are_clear(cells: &[(i32, i32)], by: (i128, i128), others: &[(i32, i32)]) 
         }
     }
     true
+}
+
+/// Whether no cell of the first list, moved, is near one of the second. Both are in order, and each cell of the shorter
+/// one is looked up in the other.
+pub fn are_clear(cells: &[(i32, i32)], by: (i128, i128), others: &[(i32, i32)]) -> bool
+    requires reach { IsReach (2 ^ 126) by }
+    requires rising { T (is_rising cells.now) }
+    requires other_rising { T (is_rising others.now) }
+    ensures { IsTrue result ↔ AreClear cells.now by others.now }
+{
+    if others.len() < cells.len() {
+        return each_is_clear(others, (-by.0, -by.1), cells);
+    }
+    each_is_clear(cells, by, others)
 }

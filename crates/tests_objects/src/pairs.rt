@@ -4,7 +4,7 @@ ghost use Rattle.life_cells.specs.Rules.{life};
 
 use life_cells::{CellFault, CellList, Rule};
 use life_orbit::Orbit;
-use std::alloc::Global;
+use std::alloc::{AllocError, Global};
 use std::test::Fail;
 
 /// A list of cells.
@@ -55,6 +55,40 @@ const GLIDER_BESIDE: Cells = &[
 // The same in columns that are near.
 const NEAR_BESIDE: Cells = &[(4, 40), (5, 40), (6, 40), (6, 41), (5, 42)];
 
+// It flies to the left and up from far away, to where the first one comes from.
+const FAR_MEETING_GLIDER: Cells = &[
+    (1_000_041, 1_000_042),
+    (1_000_040, 1_000_041),
+    (1_000_042, 1_000_040),
+    (1_000_041, 1_000_040),
+    (1_000_040, 1_000_040),
+];
+
+// The same 20 columns further to the right, where it flies past the first one.
+const FAR_MISSING_GLIDER: Cells = &[
+    (1_000_061, 1_000_042),
+    (1_000_060, 1_000_041),
+    (1_000_062, 1_000_040),
+    (1_000_061, 1_000_040),
+    (1_000_060, 1_000_040),
+];
+
+// Into which the first glider flies.
+const FAR_BLOCK: Cells = &[
+    (1_000_000, 1_000_000),
+    (1_000_001, 1_000_000),
+    (1_000_000, 1_000_001),
+    (1_000_001, 1_000_001),
+];
+
+// Past which it flies.
+const BLOCK_BESIDE_THE_WAY: Cells = &[
+    (1_000_020, 1_000_000),
+    (1_000_021, 1_000_000),
+    (1_000_020, 1_000_001),
+    (1_000_021, 1_000_001),
+];
+
 const PAIRS: &[(Cells, Cells, bool)] = &[
     (BLOCK, FAR_BLINKER, true),
     (BLOCK, NEAR_BLINKER, false),
@@ -68,6 +102,14 @@ const PAIRS: &[(Cells, Cells, bool)] = &[
     (GLIDER, NEAR_BESIDE, false),
 ];
 
+// Millions of generations pass before these meet or have passed each other, of which a few are looked at.
+const FAR_PAIRS: &[(Cells, Cells, bool)] = &[
+    (GLIDER, FAR_MEETING_GLIDER, false),
+    (GLIDER, FAR_MISSING_GLIDER, true),
+    (GLIDER, FAR_BLOCK, false),
+    (GLIDER, BLOCK_BESIDE_THE_WAY, true),
+];
+
 fn orbit_of(alloc: Global, cells: &[(i32, i32)]) -> Result<Option<Orbit>, CellFault>
     ensures { IfOk result (λ found. IfSome found (λ orbit. orbit.rule ≡ life)) }
 {
@@ -78,7 +120,11 @@ fn orbit_of(alloc: Global, cells: &[(i32, i32)]) -> Result<Option<Orbit>, CellFa
     Ok(Orbit::of(alloc, &Rule::life(), &list, 100)?)
 }
 
-fn is_apart(alloc: Global, first: Cells, second: Cells) -> Result<Option<bool>, CellFault> {
+fn is_apart(
+    alloc: Global,
+    first: &[(i32, i32)],
+    second: &[(i32, i32)],
+) -> Result<Option<bool>, CellFault> {
     let Some(one) = orbit_of(alloc, first)? else {
         return Ok(None);
     };
@@ -88,11 +134,46 @@ fn is_apart(alloc: Global, first: Cells, second: Cells) -> Result<Option<bool>, 
     Ok(Some(one.is_apart_for_ever_from(&other)))
 }
 
+/// A square of 400 blocks, each eight places from the next, from this place on in both directions.
+fn blocks(alloc: Global, start: u8) -> Result<Vec<(i32, i32)>, AllocError> {
+    let mut cells = Vec::new(alloc);
+    for row in 0..20u16 {
+        for column in 0..20u16 {
+            let x = i32::from(start) + 8 * i32::from(column);
+            let y = i32::from(start) + 8 * i32::from(row);
+            cells.push((x, y))?;
+            cells.push((x + 1, y))?;
+            cells.push((x, y + 1))?;
+            cells.push((x + 1, y + 1))?;
+        }
+    }
+    Ok(cells)
+}
+
 #[test]
 fn pairs_that_stay_apart(rt: HostRuntime) -> Result<(), Fail> {
     for (first, second, apart) in PAIRS {
         assert!(rt; is_apart(rt.alloc(), first, second)? == Some(*apart));
         assert!(rt; is_apart(rt.alloc(), second, first)? == Some(*apart));
     }
+    Ok(())
+}
+
+#[test]
+fn pairs_that_are_far_from_each_other(rt: HostRuntime) -> Result<(), Fail> {
+    for (first, second, apart) in FAR_PAIRS {
+        assert!(rt; is_apart(rt.alloc(), first, second)? == Some(*apart));
+        assert!(rt; is_apart(rt.alloc(), second, first)? == Some(*apart));
+    }
+    Ok(())
+}
+
+#[test]
+fn many_blocks_among_many_others(rt: HostRuntime) -> Result<(), Fail> {
+    let cells = blocks(rt.alloc(), 0)?;
+    let between = blocks(rt.alloc(), 4)?;
+    let near = blocks(rt.alloc(), 3)?;
+    assert!(rt; is_apart(rt.alloc(), &cells, &between)? == Some(true));
+    assert!(rt; is_apart(rt.alloc(), &cells, &near)? == Some(false));
     Ok(())
 }

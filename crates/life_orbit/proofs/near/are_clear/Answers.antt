@@ -1,16 +1,12 @@
-use Rattle.std.proofs.Common.{refl, sym, true≢false}
-use Rattle.life_model.specs.Cell.{plus}
-use Rattle.life_orbit.specs.Clear.{IsClearOf}
-use Rattle.life_orbit.proofs.Lists.{all_more}
+use Rattle.std.proofs.Common.{arith}
+use Rattle.std.proofs.lemmas.Int.{ints}
+use Rattle.life_orbit.proofs.Rows.{clear_turned}
 use Rattle.life_orbit.proofs.near.are_clear.Goals as goal
 
-pub loop-cell-preserved : goal.loop-cell-preserved
-loop-cell-preserved c =
-    all_more (λ b. IsClearOf (plus b c.args.by) c.args.others.now) c.args.cells.now c.loop-cell.cell-index _
-    c.loop-cell-test.true c.loop-cell.invariant (c.if-not-is_clear_of.ensures.0 refl)
-
-pub returns-then-not-is_clear_of : goal.returns-then-not-is_clear_of
-returns-then-not-is_clear_of c = (
-  λ t. absurd (true≢false (sym t)),
-  λ all. c.if-not-is_clear_of.ensures.1 (all c.loop-cell.cell-index _ c.loop-cell-test.true),
+pub returns-then-others-cells : goal.returns-then-others-cells
+returns-then-others-cells c = (
+  λ t. clear_turned c.args.others.now c.args.cells.now _ c.args.by (omega (arith, ints)) (omega (arith, ints))
+      (c.each_is_clear.ensures.0 t),
+  λ clear. c.each_is_clear.ensures.1
+      (clear_turned c.args.cells.now c.args.others.now c.args.by _ (omega (arith, ints)) (omega (arith, ints)) clear),
 )

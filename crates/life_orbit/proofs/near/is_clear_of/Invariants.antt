@@ -1,9 +1,7 @@
-use Rattle.std.proofs.Common.{ℕ, ◌<◌, slice_index_or}
-use Rattle.life_model.specs.Cell.{Cell, plus}
-use Rattle.life_objects.specs.Apart.{AreNear}
+use Rattle.life_model.specs.Cell.{plus}
+use Rattle.life_orbit.proofs.Rows.{AreFree}
 use Rattle.life_orbit.proofs.near.is_clear_of.Given as goal
 
--- the cell is near none of those before this one
-abbrev pub invariant-loop-other : goal.invariant-loop-other
-invariant-loop-other l =
-    (k : ℕ) (d : Cell) → k < l.other-index → AreNear (plus l.cell l.by) (slice_index_or l.others k d) → ⊥
+-- the rows before this one are free
+abbrev pub invariant-loop-step : goal.invariant-loop-step
+invariant-loop-step l = AreFree (plus l.fn.cell l.fn.by) l.step l.others

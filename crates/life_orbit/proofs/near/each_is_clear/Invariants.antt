@@ -1,7 +1,7 @@
 use Rattle.std.proofs.Common.{ℕ, ◌<◌, slice_index_or}
 use Rattle.life_model.specs.Cell.{Cell, plus}
 use Rattle.life_orbit.specs.Clear.{IsClearOf}
-use Rattle.life_orbit.proofs.near.are_clear.Given as goal
+use Rattle.life_orbit.proofs.near.each_is_clear.Given as goal
 
 -- the cells before this one are near none of the others
 abbrev pub invariant-loop-cell : goal.invariant-loop-cell

@@ -4,7 +4,7 @@ use Rattle.std.proofs.Common.{◌≡◌, pos, ◌+ℤ◌, ◌∙◌, rules, arit
 use Rattle.std.specs.Int.{int_max, int_min}
 use Rattle.std.proofs.lemmas.Int.{ints, to_z-of_z}
 use Rattle.life_orbit.proofs.Watching.{passed_at_once}
-use Rattle.life_orbit.proofs.horizon.stays_past.Goals as goal
+use Rattle.life_orbit.proofs.lanes.stays_past.Goals as goal
 
 pub returns-then-high_end-low_end : goal.returns-then-high_end-low_end
 returns-then-high_end-low_end c =
