@@ -1,4 +1,6 @@
 //! The disk as a shelf.
+//!
+//! Tested in `checks/disk`: names that are not UTF-8, what may not be read, what changes meanwhile, and signals.
 ghost use Rattle.std.specs.Prelude.{◌≡◌, ◌↔◌, ◌<◌, ◌≤◌, length, vec_len, Err, IfErr, IfOk, IfSome, IsErr, IsTrue, MatchResult, OnErr};
 ghost use Rattle.std.specs.Fs.{IsFile, file_type};
 ghost use Rattle.std.specs.Path.{path_buf_bytes, path_join};
