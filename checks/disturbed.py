@@ -1,4 +1,4 @@
-"""What the checks `growths` and `ends` share: the program under the shim `disturb.c`, and what a cut report may be."""
+"""What the checks `growths`, `ends` and `disk` share: the program under the shim `disturb.c`, and what a cut report may be."""
 import os
 import re
 import shutil

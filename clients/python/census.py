@@ -13,10 +13,11 @@ from __future__ import annotations
 import operator
 import os
 import re
+import signal
 import subprocess
 import tempfile
 from dataclasses import dataclass, field, replace
-from typing import Dict, Iterable, Iterator, List, Literal, NoReturn, Optional, Tuple, Union, overload
+from typing import Callable, Dict, Iterable, Iterator, List, Literal, NoReturn, Optional, Tuple, Union, overload
 
 __all__ = [
     "Census", "Pattern", "Row", "read_report",
@@ -35,6 +36,9 @@ Path = Union[str, bytes, "os.PathLike[str]", "os.PathLike[bytes]"]
 class CensusError(Exception):
     """What is wrong: the base of this module's errors. What the system refuses (a program that can't be started, a file of the temporary
     folder that can't be written) is an `OSError` as everywhere, and what is no text or list a `TypeError`.
+
+    It is raised itself where a text or a path has a lone surrogate, a path a NUL, and where this process ignores SIGCHLD, so that the
+    system tells no status of a program that has ended.
 
     `sentence` says it in words. `number` is the fault's number and `place` says where it is, each None where there is none.
     """
@@ -105,7 +109,7 @@ class FolderFault(CensusError):
 
 
 class ReportFault(CensusError):
-    """A report is none that the program writes, or not a whole one. `line` counts from 1."""
+    """A text is no report that the program reads, or not a whole one. `line` counts from 1."""
 
     def __init__(self, sentence: str, line: int) -> None:
         super().__init__(sentence, None, f"line {line}")
@@ -131,7 +135,7 @@ class TimedOut(CensusError):
 
 
 class ProgramFailed(CensusError):
-    """The program refused its command line (`status` 2), or ended in a way that this module does not know.
+    """The program refused its command line (`status` 2), ended in a way that this module does not know, or told what was not asked.
 
     `status` is its exit status, less than 0 where a signal ended it; `stderr` is what it wrote to standard error.
     """
@@ -212,7 +216,7 @@ class Row:
     code: Optional[str] = None
     # the first one with too many cells
     generation: Optional[int] = None
-    # the number of the RLE fault, 1 to 10; `identify` tells place and sentence
+    # the number of the RLE fault, 1 to 10; `identify` tells place and sentence. 0 where the file could not be read (`census run -k`)
     fault: Optional[int] = None
     # each code of its objects with how many have it, in the order of the report
     parts: Optional[Tuple[Tuple[str, int], ...]] = None
@@ -229,7 +233,7 @@ class Census:
     """
 
     def __init__(self, program: Path, *, timeout: Optional[float] = None) -> None:
-        path = os.fsdecode(program)
+        path = _path_of(program)
         # (the program may be called from another folder)
         self.program = os.path.abspath(path) if os.path.dirname(path) else path
         self.timeout = timeout
@@ -240,10 +244,11 @@ class Census:
     def identify(self, rle: Text, *, bound: Optional[int] = None) -> Pattern:
         """Tells of one RLE text what its pattern is and becomes within `bound` generations, 1 to 100,000 (None: 10,000).
 
-        Raises `PatternFault`, `TooLong`, `OutOfMemory`, `TimedOut`, `ProgramFailed`; `OSError` where the program can't be started.
+        Raises `PatternFault`, `TooLong`, `OutOfMemory`, `TimedOut`, `ProgramFailed`, or `CensusError` itself; `OSError` where the program
+        can't be started.
         """
         ran = self._run(["identify", *_option("bound", bound)], _bytes_of(rle))
-        answer = _answers(ran, ["-"])["-"]
+        answer = _answers(ran, ["-"], bound)["-"]
         if isinstance(answer, CensusError):
             raise answer
         return answer
@@ -264,25 +269,29 @@ class Census:
         by several calls in turn. No text, no call.
 
         Where texts have faults, the error of the first is raised; with `return_exceptions` the error of each stands in its place in the
-        list instead: `PatternFault`, `TooLong`, or `ReadFailed` where the text's file was taken away. `OutOfMemory`, `TimedOut`,
-        `ProgramFailed` and `OSError` concern the call as a whole, and are always raised.
+        list instead: `PatternFault`, `TooLong`, `ReadFailed` where the text's file was taken away, or `CensusError` itself where a text has
+        a lone surrogate. `OutOfMemory`, `TimedOut`, `ProgramFailed` and `OSError` concern the call as a whole, and are always raised.
         """
         if isinstance(rles, (str, bytes, bytearray, memoryview)):
             raise TypeError("rles must be a list of texts; identify takes one text")
-        texts = [_bytes_of(rle) for rle in rles]
+        texts = [_text_or_error(rle, index) for index, rle in enumerate(rles)]
+        found: Dict[str, Union[Pattern, CensusError]] = {
+            str(index): text for index, text in enumerate(texts) if isinstance(text, CensusError)
+        }
         options = _option("bound", bound)
-        answers: List[Union[Pattern, CensusError]] = []
-        for names in _batches([str(index) for index in range(len(texts))]):
+        judged = 0
+        for names in _batches([str(index) for index in range(len(texts)) if str(index) not in found]):
             with tempfile.TemporaryDirectory(prefix="census-") as folder:
                 for name in names:
                     with open(os.path.join(folder, name), "wb") as it:
                         it.write(texts[int(name)])
-                found = _answers(self._run(["identify", *options, *names], folder=folder), names)
-            for name in names:
-                answer = found[name]
-                if isinstance(answer, CensusError) and not return_exceptions:
-                    raise answer
-                answers.append(answer)
+                found.update(_answers(self._run(["identify", *options, *names], folder=folder), names, bound))
+            if not return_exceptions:
+                _raise_first([found[str(index)] for index in range(judged, int(names[-1]) + 1)])
+            judged = int(names[-1]) + 1
+        answers = [found[str(index)] for index in range(len(texts))]
+        if not return_exceptions:
+            _raise_first(answers)
         return answers
 
     def table(self, folders: Iterable[Path], *, objects: bool = False, bound: Optional[int] = None, workers: Optional[int] = None,
@@ -294,24 +303,28 @@ class Census:
         4,294,967,295 (None: any number, with `objects` 1,000,000). A text with a fault is a row; `identify` says more of it. Where the
         folders are more than one call can hold, several are made in turn. No folder, no call.
 
-        Raises `FolderFault`, `TooLong`, `ReadFailed`, `OutOfMemory`, `TimedOut`, `ProgramFailed`; `OSError` where the program can't be
-        started. Of several folders it is found by further calls which one is at fault.
+        Raises `FolderFault`, `TooLong`, `ReadFailed`, `OutOfMemory`, `TimedOut`, `ProgramFailed`, or `CensusError` itself; `OSError` where
+        the program can't be started. Of several folders it is found by further calls which one is at fault.
         """
         if isinstance(folders, (str, bytes, os.PathLike)):
             raise TypeError("folders must be a list of folders")
         options = [*_option("bound", bound), *_option("workers", workers), *_option("cells", cells), "--"]
         rows: List[Row] = []
         before = 0
-        for names in _batches([os.fsdecode(folder) for folder in folders]):
+        for names in _batches([_path_of(folder) for folder in folders]):
+            listed = [_names_in(name) for name in names]
             ran = self._run(["objects" if objects else "run", *options, *names])
             if ran.returncode != 0:
                 self._raise_of_folders(ran, names)
-            rows += [replace(row, collection=before + row.collection) for row in _rows_of(ran)]
+            asked = _Asked(names, listed, objects, bound, cells)
+            rows += [replace(row, collection=before + row.collection) for row in _rows_of(ran, asked)]
             before += len(names)
         return rows
 
     def _run(self, words: List[str], given: bytes = b"", folder: Optional[str] = None) -> subprocess.CompletedProcess[bytes]:
         """Calls the program with these words, in this folder."""
+        if signal.getsignal(signal.SIGCHLD) == signal.SIG_IGN:
+            raise CensusError("this process ignores SIGCHLD, and so is told no status of the program: it must be signal.SIG_DFL")
         command = [self.program, *words]
         try:
             return subprocess.run(command, input=given, stdout=subprocess.PIPE, stderr=subprocess.PIPE, cwd=folder, timeout=self.timeout)
@@ -346,13 +359,51 @@ def _option(name: str, value: Optional[int]) -> List[str]:
     return [] if value is None else [f"--{name}={operator.index(value)}"]
 
 
-def _bytes_of(rle: Text) -> bytes:
+def _bytes_of(rle: Text, index: Optional[int] = None) -> bytes:
     """A text as the bytes that the program reads."""
     if isinstance(rle, str):
-        return rle.encode("utf-8", "surrogateescape")
+        try:
+            return rle.encode("utf-8", "surrogateescape")
+        except UnicodeEncodeError as error:
+            place = _place_of_text(index, f"character {error.start}")
+            raise CensusError("the text has a lone surrogate, which is no character", None, place) from None
     if isinstance(rle, (bytes, bytearray, memoryview)):
         return bytes(rle)
     raise TypeError(f"an RLE text must be str or bytes, not {type(rle).__name__}")
+
+
+def _text_or_error(rle: Text, index: int) -> Union[bytes, CensusError]:
+    """The bytes of a text of a list, or what is wrong with it."""
+    try:
+        return _bytes_of(rle, index)
+    except CensusError as error:
+        return error
+
+
+def _raise_first(answers: List[Union[Pattern, CensusError]]) -> None:
+    """Raises the first error among the answers, if there is any."""
+    for answer in answers:
+        if isinstance(answer, CensusError):
+            raise answer
+
+
+def _path_of(path: Path) -> str:
+    """A path that the system can be asked for."""
+    text = os.fsdecode(path)
+    try:
+        if b"\0" not in os.fsencode(text):
+            return text
+    except UnicodeEncodeError:
+        pass
+    raise CensusError("the path has a NUL or a lone surrogate: no file has such a name", None, ascii(text))
+
+
+def _names_in(folder: str) -> Optional[List[bytes]]:
+    """The names in a folder that end in `.rle`, sorted bytewise, or None where it can't be listed."""
+    try:
+        return sorted(name for name in os.listdir(os.fsencode(folder)) if name.endswith(b".rle"))
+    except OSError:
+        return None
 
 
 def _room() -> int:
@@ -417,16 +468,17 @@ def _index_of(name: str) -> Optional[int]:
     return None if name == "-" else int(name)
 
 
-def _answers(ran: subprocess.CompletedProcess[bytes], names: List[str]) -> Dict[str, Union[Pattern, CensusError]]:
-    """What `census identify` has told of each of these files, where `-` is standard input."""
+def _answers(ran: subprocess.CompletedProcess[bytes], names: List[str], bound: Optional[int]) -> Dict[str, Union[Pattern, CensusError]]:
+    """What `census identify` has told of each of these files within the bound, where `-` is standard input."""
     told: List[Tuple[str, Union[Pattern, CensusError]]] = []
     for line in ran.stderr.decode("utf-8", "replace").split("\n"):
         error = _error_of(line)
         if error:
             told.append(error)
     try:
-        blocks = ran.stdout.decode("ascii").rstrip("\n").split("\n\n") if ran.stdout else []
-        told += [_pattern_of(block) for block in blocks]
+        text = ran.stdout.decode("ascii")
+        _demand(not text or text.endswith("\n"))
+        told += [_pattern_of(block, 10000 if bound is None else bound) for block in text[:-1].split("\n\n") if text]
     except ValueError:
         raise _failure(ran) from None
     answers = dict(told)
@@ -444,105 +496,177 @@ def _status_of(answer: Union[Pattern, CensusError]) -> int:
     return 4 if isinstance(answer, ReadFailed) else 1
 
 
-_NUMBER = re.compile(r"0|-?[1-9][0-9]*")
+# the words of which blocks and reports are made
+_RULE = r"B1?2?3?4?5?6?7?8?/S0?1?2?3?4?5?6?7?8?"
+_CODE = r"x[spq][0-9]+_[0-9a-z]+"
+_COUNT = r"(?:0|[1-9][0-9]{0,19})"
+_OFFSET = r"(?:0|-?[1-9][0-9]{0,18})"
+
+_BLOCK = re.compile(rf"""(?:file (?P<file>[0-9]+)\n)?rule (?P<rule>{_RULE})
+population (?P<population>{_COUNT})
+box (?P<width>{_COUNT}) (?P<height>{_COUNT})
+(?:onset (?P<onset>{_COUNT})
+period (?P<period>{_COUNT})
+displacement (?P<dx>{_OFFSET}) (?P<dy>{_OFFSET})
+apgcode (?P<code>{_CODE})|objects (?P<objects>{_COUNT})(?P<parts>(?:\npart {_CODE} {_COUNT})*)|unresolved (?P<bound>{_COUNT}))""")
+_PART = re.compile(rf"part ({_CODE}) ({_COUNT})")
 
 
-def _number(word: str) -> int:
-    if not _NUMBER.fullmatch(word):
-        raise ValueError(word)
-    return int(word)
+def _pattern_of(block: str, bound: int) -> Tuple[str, Pattern]:
+    """The file that a block of lines is of, and what it says; raises ValueError where it is no block for this bound."""
+    found = _BLOCK.fullmatch(block)
+    _demand(found is not None)
+    name, pattern = found["file"] or "-", Pattern(found["rule"], int(found["population"]), (int(found["width"]), int(found["height"])))
+    if found["bound"] is not None:
+        _demand(int(found["bound"]) == bound)
+        return name, replace(pattern, unresolved=bound)
+    if found["objects"] is not None:
+        parts = [(code, int(count)) for code, count in _PART.findall(found["parts"])]
+        objects = dict(parts)
+        _demand(len(objects) == len(parts) and sum(objects.values()) == int(found["objects"]))
+        return name, replace(pattern, objects=objects)
+    onset, period = int(found["onset"]), int(found["period"])
+    _demand(period > 0 and onset + period <= bound)
+    displacement = int(found["dx"]), int(found["dy"])
+    return name, replace(pattern, onset=onset, period=period, displacement=displacement, apgcode=found["code"])
 
 
-def _pair(words: str) -> Tuple[int, int]:
-    first, second = map(_number, words.split(" "))
-    return first, second
+@dataclass(frozen=True)
+class _Asked:
+    """What a report was asked for."""
+
+    folders: List[str]
+    # the names of the patterns of each folder before the call, or None where it could not be listed
+    listed: List[Optional[List[bytes]]]
+    objects: bool
+    bound: Optional[int]
+    cells: Optional[int]
+
+    def fits(self, reading: _Reading) -> bool:
+        """Whether what was read tells of the folders, of their patterns and of each what was asked."""
+        found = list(reading.ended)
+        return len(reading.sizes) == 1 and [collection.name for collection in found] == list(map(os.fsencode, self.folders)) and all(
+            self._fits_folder(folder, listed, collection) for folder, listed, collection in zip(self.folders, self.listed, found)
+        )
+
+    def _fits_folder(self, folder: str, listed: Optional[List[bytes]], collection: _Collection) -> bool:
+        names = [os.fsencode(row.name) for row in collection.lines]
+        if listed != names:
+            # (names may have come and gone since they were listed; a folder that is as it was has the names that it had)
+            if listed == _names_in(folder) or not all(name.endswith(b".rle") for name in names) or sorted(set(names)) != names:
+                return False
+        return all(map(self._fits_row, collection.lines, collection.objects, collection.parts))
+
+    def _fits_row(self, row: Row, objects: int, parts: List[Tuple[str, int]]) -> bool:
+        bound = self.bound if self.bound is not None else 10000 if self.objects else 1000
+        if row.status == "bad":
+            return 1 <= row.fault <= 10
+        if not re.fullmatch(_RULE, row.rule):
+            return False
+        if row.status == "ok":
+            return not self.objects and row.period > 0 and row.onset + row.period <= bound and bool(re.fullmatch(_CODE, row.code))
+        if row.status == "ash":
+            codes = {code for code, _ in parts}
+            is_whole = len(codes) == len(parts) and all(re.fullmatch(_CODE, code) for code in codes)
+            return self.objects and is_whole and sum(count for _, count in parts) == objects
+        if row.status == "large":
+            return (self.objects or self.cells is not None) and row.generation <= bound * (3 if self.objects else 1)
+        return True
 
 
-def _optional(lines: Dict[str, str], name: str) -> Optional[int]:
-    return _number(lines[name]) if name in lines else None
-
-
-def _pattern_of(block: str) -> Tuple[str, Pattern]:
-    """The file that a block of lines `NAME VALUE` is of, and what it says; raises ValueError where it is no such block."""
-    lines: Dict[str, str] = {}
-    objects: Dict[str, int] = {}
-    for line in block.split("\n"):
-        name, _, value = line.partition(" ")
-        if name == "part":
-            code, count = value.split(" ")
-            objects[code] = _number(count)
-        else:
-            lines[name] = value
-    if not {"rule", "population", "box"} <= set(lines) or ("apgcode" in lines) + ("objects" in lines) + ("unresolved" in lines) != 1:
-        raise ValueError(block)
-    if sum(objects.values()) != _number(lines.get("objects", "0")):
-        raise ValueError(block)
-    return lines.get("file", "-"), Pattern(
-        rule=lines["rule"],
-        population=_number(lines["population"]),
-        box=_pair(lines["box"]),
-        onset=_optional(lines, "onset"),
-        period=_optional(lines, "period"),
-        displacement=_pair(lines["displacement"]) if "displacement" in lines else None,
-        apgcode=lines.get("apgcode"),
-        objects=objects if "objects" in lines else None,
-        unresolved=_optional(lines, "unresolved"),
-    )
-
-
-def _rows_of(ran: subprocess.CompletedProcess[bytes]) -> List[Row]:
+def _rows_of(ran: subprocess.CompletedProcess[bytes], asked: _Asked) -> List[Row]:
     """The rows of the report that a call has written."""
     try:
-        return read_report(ran.stdout)
+        reading = _read(ran.stdout)
     except ReportFault as fault:
         raise ProgramFailed(ran.returncode, f"no whole report: {fault}") from fault
+    if not asked.fits(reading):
+        raise ProgramFailed(ran.returncode, "a report that tells of other folders, patterns or questions than were asked of")
+    return reading.rows()
 
 
 # Reports
 
 
-# what stands between the status and the name of a line
-_PARTS_OF_LINES = {
-    "ok": ("rule", "population", "onset", "period", "dx", "dy", "code"),
-    "ash": ("rule", "population", "objects"),
-    "none": ("rule", "population"),
-    "large": ("rule", "population", "generation"),
-    "bad": ("fault",),
-}
-
-
 def read_report(report: bytes) -> List[Row]:
-    """The rows of a whole report of `census run` or `census objects`, by collection and then by pattern.
+    """The rows of a report of `census run` or `census objects`, by collection and then by pattern. Of several reports that stand one after
+    another it is as of the one that `census merge` makes of them: their collections are numbered on.
 
-    The lines of several collections may interleave. Raises `ReportFault` where a line is none that the program writes there.
+    The lines of several collections may interleave. What a report is, is what `census merge` reads: numbers have no leading zeros and fit
+    64 bits, rules and codes are any words, a name is all that is left of a line, and the sums of `part` and `code` lines are not looked at.
+    Raises `ReportFault` at the line at which `census merge` finds the fault.
     """
+    return _read(report).rows()
+
+
+def _read(report: bytes) -> _Reading:
+    """What is read of one report or more."""
     reading = _Reading()
     lines = report.split(b"\n")
     for at, line in enumerate(lines[:-1], 1):
         try:
-            reading.take(os.fsdecode(line))
-        except (ValueError, KeyError, IndexError):
+            reading.take(line)
+        except (ValueError, KeyError):
             raise ReportFault("the line is not one that a report has in this place", at) from None
     if lines[-1] or not reading.has_ended:
         raise ReportFault("the report ends too early", len(lines))
-    return [row for number in sorted(reading.collections) for row in reading.collections[number].rows()]
+    return reading
+
+
+def _demand(is_so: bool) -> None:
+    if not is_so:
+        raise ValueError
+
+
+_IS_COUNT = re.compile(_COUNT.encode())
+_IS_OFFSET = re.compile(_OFFSET.encode())
+
+
+def _count(word: bytes) -> int:
+    """A number of 64 bits."""
+    _demand(_IS_COUNT.fullmatch(word) is not None and int(word) < 1 << 64)
+    return int(word)
+
+
+def _offset(word: bytes) -> int:
+    """A signed number of 64 bits."""
+    _demand(_IS_OFFSET.fullmatch(word) is not None and -1 << 63 <= int(word) < 1 << 63)
+    return int(word)
+
+
+def _text(word: bytes) -> str:
+    """A rule or a code."""
+    _demand(word != b"")
+    return os.fsdecode(word)
+
+
+# what stands between the status and the name of a line
+_FIELDS: Dict[bytes, Dict[str, Callable[[bytes], Union[int, str]]]] = {
+    b"ok": {"rule": _text, "population": _count, "onset": _count, "period": _count, "dx": _offset, "dy": _offset, "code": _text},
+    b"ash": {"rule": _text, "population": _count, "objects": _count},
+    b"none": {"rule": _text, "population": _count},
+    b"large": {"rule": _text, "population": _count, "generation": _count},
+    b"bad": {"fault": _count},
+}
+
+# the most collections of a report, and the most patterns of a collection
+_MOST = 65535
 
 
 class _Collection:
     """What is read of one collection."""
 
-    def __init__(self, size: int, name: str) -> None:
+    def __init__(self, number: int, size: int, name: bytes) -> None:
+        self.number = number
         self.size = size
         self.name = name
         self.lines: List[Row] = []
         # of each line: how many objects it says it has, and which were read
         self.objects: List[int] = []
         self.parts: List[List[Tuple[str, int]]] = []
+        # whether `part` lines of the last line may follow
+        self.takes_parts = False
         self.is_closed = False
-
-    def is_whole(self) -> bool:
-        """Whether the last line has all its parts."""
-        return not self.lines or sum(count for _, count in self.parts[-1]) == self.objects[-1]
 
     def counts(self) -> List[int]:
         """How many lines there are, and of them those resolved, unresolved and refused."""
@@ -550,77 +674,96 @@ class _Collection:
         resolved, unresolved, refused = ("ok", "ash"), ("none", "large"), ("bad",)
         return [len(found), *(sum(status in statuses for status in found) for statuses in (resolved, unresolved, refused))]
 
-    def rows(self) -> List[Row]:
+    def rows(self, before: int) -> List[Row]:
+        """The rows, where so many collections come before those of its report."""
+        number = before + self.number
         return [
-            replace(row, parts=tuple(parts)) if row.status == "ash" else row
+            replace(row, collection=number, parts=tuple(parts) if row.status == "ash" else None)
             for row, parts in zip(self.lines, self.parts)
         ]
 
 
 class _Reading:
-    """What is read of a report. A line that can't stand where it does raises ValueError, KeyError or IndexError."""
+    """What is read of one report or more. A line that can't stand where it does raises ValueError or KeyError."""
 
     def __init__(self) -> None:
+        # those of the report that was begun, by their numbers
         self.collections: Dict[int, _Collection] = {}
+        # those of the reports that have ended, and how many each report has
+        self.ended: List[_Collection] = []
+        self.sizes: List[int] = []
         self.has_ended = False
         self.takes = {
-            "open": self._open, "line": self._line, "part": self._part, "code": self._code, "close": self._close, "end": self._end,
+            b"open": self._open, b"line": self._line, b"part": self._part, b"code": self._code, b"close": self._close, b"end": self._end,
         }
 
-    def take(self, line: str) -> None:
+    def rows(self) -> List[Row]:
+        found: List[Row] = []
+        before, at = 0, 0
+        for size in self.sizes:
+            for collection in self.ended[at : at + size]:
+                found += collection.rows(before)
+            before, at = before + size, at + size
+        return found
+
+    def take(self, line: bytes) -> None:
         """Takes the next line, without its line feed."""
-        kind, _, rest = line.partition(" ")
-        _demand(not self.has_ended)
-        self.takes[kind](rest)
+        kind, _, rest = line.partition(b" ")
+        take = self.takes[kind]
+        self.has_ended = False
+        take(rest)
 
-    def _open(self, rest: str) -> None:
-        number, size, name = rest.split(" ", 2)
-        _demand(_number(number) not in self.collections)
-        self.collections[_number(number)] = _Collection(_number(size), name)
+    def _open(self, rest: bytes) -> None:
+        number, size, name = rest.split(b" ", 2)
+        collection = _Collection(_count(number), _count(size), name)
+        _demand(1 <= collection.number <= _MOST and collection.size <= _MOST and collection.number not in self.collections)
+        self.collections[collection.number] = collection
 
-    def _still_open(self, number: str) -> _Collection:
+    def _still_open(self, number: bytes) -> _Collection:
         """The collection of this number, which must be open."""
-        collection = self.collections[_number(number)]
+        collection = self.collections[_count(number)]
         _demand(not collection.is_closed)
         return collection
 
-    def _line(self, rest: str) -> None:
-        number, pattern, status, rest = rest.split(" ", 3)
+    def _line(self, rest: bytes) -> None:
+        number, pattern, status, rest = rest.split(b" ", 3)
         collection = self._still_open(number)
-        _demand(collection.is_whole() and _number(pattern) == len(collection.lines) + 1 <= collection.size)
-        names = _PARTS_OF_LINES[status]
-        *words, name = rest.split(" ", len(names))
-        _demand(len(words) == len(names))
-        texts = {key: word for key, word in zip(names, words) if key in ("rule", "code")}
-        numbers = {key: _number(word) for key, word in zip(names, words) if key not in texts}
-        collection.objects.append(numbers.pop("objects", 0))
+        _demand(_count(pattern) == len(collection.lines) + 1 <= collection.size)
+        fields = _FIELDS[status]
+        *words, name = rest.split(b" ", len(fields))
+        _demand(len(words) == len(fields))
+        found = {key: read(word) for (key, read), word in zip(fields.items(), words)}
+        collection.objects.append(found.pop("objects", 0))
         collection.parts.append([])
-        collection.lines.append(Row(_number(number), collection.name, _number(pattern), name, status, **texts, **numbers))
+        collection.takes_parts = status == b"ash"
+        folder = os.fsdecode(collection.name)
+        collection.lines.append(Row(collection.number, folder, _count(pattern), os.fsdecode(name), status.decode(), **found))
 
-    def _part(self, rest: str) -> None:
-        number, pattern, code, count = rest.split(" ")
+    def _part(self, rest: bytes) -> None:
+        number, pattern, code, count = rest.split(b" ")
         collection = self._still_open(number)
-        _demand(_number(pattern) == len(collection.lines) and collection.lines[-1].status == "ash")
-        collection.parts[-1].append((code, _number(count)))
+        _demand(collection.takes_parts and _count(pattern) == len(collection.lines))
+        collection.parts[-1].append((_text(code), _count(count)))
 
-    def _code(self, rest: str) -> None:
-        number, _rule, _code, count = rest.split(" ")
-        _demand(len(self._still_open(number).lines) == self._still_open(number).size and _number(count) > 0)
-
-    def _close(self, rest: str) -> None:
-        number, *counts = rest.split(" ")
+    def _code(self, rest: bytes) -> None:
+        number, rule, code, count = rest.split(b" ")
         collection = self._still_open(number)
-        _demand(collection.is_whole() and collection.size == len(collection.lines))
-        _demand([_number(count) for count in counts] == collection.counts())
+        _demand(len(collection.lines) == collection.size and bool(_text(rule) and _text(code)) and _count(count) >= 0)
+        collection.takes_parts = False
+
+    def _close(self, rest: bytes) -> None:
+        number, *counts = rest.split(b" ")
+        collection = self._still_open(number)
+        _demand(collection.size == len(collection.lines) and [_count(count) for count in counts] == collection.counts())
         collection.is_closed = True
 
-    def _end(self, rest: str) -> None:
-        found = list(self.collections.values())
-        _demand(all(collection.is_closed for collection in found))
-        _demand(_pair(rest) == (len(found), sum(collection.size for collection in found)))
+    def _end(self, rest: bytes) -> None:
+        collections, patterns = map(_count, rest.split(b" "))
+        found = [self.collections[number] for number in sorted(self.collections)]
+        # (numbers from 1 on, each once)
+        _demand(collections == len(found) == max(self.collections, default=0) and all(collection.is_closed for collection in found))
+        _demand(patterns == sum(collection.size for collection in found))
+        self.ended += found
+        self.sizes.append(len(found))
+        self.collections = {}
         self.has_ended = True
-
-
-def _demand(is_so: bool) -> None:
-    if not is_so:
-        raise ValueError

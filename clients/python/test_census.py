@@ -8,12 +8,15 @@ import ast
 import doctest
 import os
 import pickle
+import random
 import re
 import stat
 import subprocess
 import sys
 import tempfile
 import unittest
+from concurrent.futures import ThreadPoolExecutor
+from dataclasses import replace
 from unittest import mock
 
 HERE = os.path.dirname(os.path.realpath(__file__))
@@ -114,6 +117,10 @@ class Room(unittest.TestCase):
             it.write(f"#!/bin/sh\n{body}\n")
         os.chmod(path, stat.S_IRWXU)
         return Census(path, **options)
+
+    def told(self, lines):
+        """A program that writes these lines, parted by `;`."""
+        return self.script("".join(f"echo '{line}'\n" for line in lines.split(";")))
 
     def counted(self):
         """The program, and how often it was called so far."""
@@ -275,7 +282,8 @@ class Faults(Room):
 
     def test_out_of_memory(self):
         # the program tells what it can, and then stops
-        body = "echo file 0; echo rule B3/S23; echo population 1; echo box 1 1; echo unresolved 9\necho 'census: out of memory' >&2; exit 3"
+        body = "echo file 0; echo rule B3/S23; echo population 1; echo box 1 1; echo unresolved 10000\n"
+        body += "echo 'census: out of memory' >&2; exit 3"
         for call in (lambda it: it.identify(GLIDER), lambda it: it.identify_many([GLIDER, BLOCK], return_exceptions=True),
                      lambda it: it.table([EXAMPLES])):
             with self.assertRaises(OutOfMemory) as caught:
@@ -295,8 +303,8 @@ class Faults(Room):
         self.assertEqual((caught.exception.status, caught.exception.stderr), (-9, ""))
 
     def test_whole_answer_with_another_status(self):
-        block = "echo rule B3/S23; echo population 1; echo box 1 1; echo unresolved 9"
-        self.assertEqual(self.script(block).identify(GLIDER), Pattern("B3/S23", 1, (1, 1), unresolved=9))
+        block = "echo rule B3/S23; echo population 1; echo box 1 1; echo unresolved 10000"
+        self.assertEqual(self.script(block).identify(GLIDER), Pattern("B3/S23", 1, (1, 1), unresolved=10000))
         for end, error in (("exit 1", ProgramFailed), ("exit 4", ProgramFailed), ("exit 3", OutOfMemory), ("kill -9 $$", ProgramFailed)):
             with self.subTest(end), self.assertRaises(error):
                 self.script(f"{block}; {end}").identify(GLIDER)
@@ -304,14 +312,50 @@ class Faults(Room):
             self.script("echo 'census: -:1:1: words (rle fault 1)' >&2").identify(GLIDER)
 
     def test_no_answer(self):
-        block = "rule B3/S23; population 1; box 1 1; unresolved 9"
-        bodies = ["exit 0", "echo census: write failed >&2; exit 4", "echo hello", "echo; exit 1"]
-        bodies.append("".join(f"echo {line}\n" for line in f"{block}; ; {block}".split(";")))
-        bodies.append("".join(f"echo {line}\n" for line in f"file 7; {block}".split(";")))
-        bodies.append("".join(f"echo {line}\n" for line in "rule B3/S23; population 1; box 1 1; objects 2; part xs4_33 1".split(";")))
-        for body in bodies:
+        head = "rule B3/S23;population 1;box 1 1"
+        block = f"{head};unresolved 9"
+        self.assertEqual(self.told(block).identify(GLIDER, bound=9).unresolved, 9)
+        for body in ("exit 0", "echo census: write failed >&2; exit 4", "echo hello", "echo; exit 1"):
             with self.subTest(body), self.assertRaises(ProgramFailed):
                 self.script(body).identify(GLIDER)
+        blocks = [
+            f"{block};;{block}", f"file 7;{block}", f"{block};", f"{block};unresolved 9", f"unresolved 9;{head}", f"{head};unresolved 8",
+            f"{head};unresolved 09", f"{head.replace('B3/S23', 'B9')};unresolved 9", f"{head};objects 2;part xs4_33 1",
+            f"{head};objects 2;part xs4_33 1;part xs4_33 1", f"{head};onset 9;period 1;displacement 0 0;apgcode xs4_33",
+            f"{head};onset 0;period 0;displacement 0 0;apgcode xs4_33", f"{head};onset 0;period 1;displacement 0 0;apgcode 33", head,
+        ]
+        for block in blocks:
+            with self.subTest(block), self.assertRaises(ProgramFailed):
+                self.told(block).identify(GLIDER, bound=9)
+
+    def test_no_status(self):
+        script = "import signal, sys; signal.signal(signal.SIGCHLD, signal.SIG_IGN); sys.path.insert(0, sys.argv[1])\n"
+        script += "from census import Census, CensusError\n"
+        for call in ("identify('x = 1, y = 1\\no!')", "identify_many(['3q!'])", "table([sys.argv[3]])"):
+            with self.subTest(call):
+                body = f"{script}try:\n    Census(sys.argv[2]).{call}\nexcept CensusError as error:\n    print(error.sentence)\n"
+                words = [sys.executable, "-B", "-c", body, HERE, PROGRAM, f"{EXAMPLES}/spaceships"]
+                ran = subprocess.run(words, stdout=subprocess.PIPE, check=True)
+                self.assertIn(b"SIGCHLD", ran.stdout)
+
+    def test_lone_surrogates(self):
+        with self.assertRaises(CensusError) as caught:
+            self.census.identify("#C \ud800\n3o!")
+        self.assertEqual((caught.exception.place, caught.exception.number), ("character 3", None))
+        texts = [BLOCK, "\udfff", FAULTY]
+        with self.assertRaises(CensusError) as caught:
+            self.census.identify_many(texts)
+        self.assertEqual(caught.exception.place, "rles[1], character 0")
+        found = self.census.identify_many(texts, return_exceptions=True)
+        self.assertEqual((found[0].apgcode, type(found[1]), type(found[2])), ("xs4_33", CensusError, PatternFault))
+        with self.assertRaises(PatternFault):
+            self.census.identify_many(texts[::-1])
+        for path in ("\ud800", "a\0b", b"a\0b"):
+            with self.subTest(path):
+                with self.assertRaises(CensusError):
+                    self.census.table([f"{EXAMPLES}/spaceships", path])
+                with self.assertRaises(CensusError):
+                    Census(path)
 
     def test_no_program(self):
         for path, error in ((f"{self.room}/none", FileNotFoundError), (self.room, PermissionError), (__file__, OSError)):
@@ -548,6 +592,44 @@ class Tables(Room):
         with self.assertRaises(TypeError):
             self.census.table(self.FOLDERS, workers="4")
 
+    def test_report_that_was_not_asked_for(self):
+        folder = self.folder("mine", a=BLOCK, b=BLOCK)
+        one, two = "ok B3/S23 4 0 1 0 0 xs4_33 a.rle", "none B3/S23 4 b.rle"
+        ash = "ash B3/S23 4 1 a.rle;part 1 1 xs4_33 1"
+        whole = f"open 1 2 {folder};line 1 1 {one};line 1 2 {two};close 1 2 1 1 0;end 1 2"
+        self.assertEqual([row.status for row in self.told(whole).table([folder])], ["ok", "none"])
+        parted = whole.replace(one, ash)
+        self.assertEqual([row.parts for row in self.told(parted).table([folder], objects=True)], [(("xs4_33", 1),), None])
+        large = whole.replace(two, "large B3/S23 4 9 b.rle")
+        self.assertEqual(self.told(large).table([folder], cells=1)[1].generation, 9)
+        wrong = [
+            # other patterns, other names, another folder, another number of folders
+            f"open 1 1 {folder};line 1 1 {one};close 1 1 1 0 0;end 1 1",
+            whole.replace("b.rle", "c.rle"),
+            f"open 1 2 {folder};line 1 1 {two};line 1 2 {one};close 1 2 1 1 0;end 1 2",
+            whole.replace("/mine", "/other"),
+            f"{whole};{whole}", "end 0 0",
+            whole.replace("end 1 2", f"open 2 0 {folder};close 2 0 0 0 0;end 2 2"),
+            # other statuses, and what no such line says
+            parted, large, whole.replace(one, "bad 0 a.rle").replace("2 1 1 0", "2 0 1 1"), whole.replace("0 1 0 0 xs4", "0 0 0 0 xs4"),
+            whole.replace("0 1 0 0 xs4", "1000 1 0 0 xs4"), whole.replace("B3/S23", "B3"), whole.replace("xs4_33", "block"),
+        ]
+        for text in wrong:
+            with self.subTest(text), self.assertRaises(ProgramFailed):
+                self.told(text).table([folder])
+        two_objects = parted.replace("4 1 a", "4 2 a")
+        for text in (whole, two_objects, two_objects.replace("a.rle;", "a.rle;part 1 1 xs4_33 1;")):
+            with self.subTest(text), self.assertRaises(ProgramFailed):
+                self.told(text).table([folder], objects=True)
+
+    def test_folder_that_changes(self):
+        folder = self.folder("mine", a=BLOCK)
+        for change in (f"rm {folder}/a.rle", f"cp {folder}/a.rle {folder}/b.rle"):
+            rows = self.script(f"{change}\nexec '{PROGRAM}' \"$@\"").table([folder])
+            self.assertEqual([row.name for row in rows], sorted(os.listdir(folder)))
+            with open(os.path.join(folder, "a.rle"), "w", encoding="utf-8") as it:
+                it.write(BLOCK)
+
     def test_half_a_report(self):
         with self.assertRaises(ProgramFailed) as caught:
             self.script("echo open 1 0 mine").table(["mine"])
@@ -603,10 +685,15 @@ end 2 5
             f"open 1 2 c;line 1 1 {block};close 1 1 1 0 0;end 1 2",
             f"open 1 2 c;line 1 2 {block};line 1 1 {block};close 1 2 2 0 0;end 1 2",
             f"open 1 1 c;line 1 1 {block};line 1 2 {block};close 1 2 2 0 0;end 1 2",
-            "open 1 1 c;line 1 1 ash B3/S23 4 2 a;part 1 1 xs4_33 1;close 1 1 1 0 0;end 1 1",
             f"open 1 1 c;line 1 1 {block};part 1 1 xs4_33 1;close 1 1 1 0 0;end 1 1",
+            "open 1 1 c;line 1 1 ash B3/S23 4 1 a;code 1 B3/S23 xs4_33 1;part 1 1 xs4_33 1;close 1 1 1 0 0;end 1 1",
+            f"open 2 1 c;line 2 1 {block};close 2 1 1 0 0;end 1 1",
+            "open 0 0 c;close 0 0 0 0 0;end 0 0", "open 65536 0 c;close 65536 0 0 0 0;end 1 0", "open 1 65536 c",
+            f"open 1 1 c;line 1 1 {block.replace('4 0 1', '4 -1 1')};close 1 1 1 0 0;end 1 1",
+            f"open 1 1 c;line 1 1 {block.replace('4 0 1', '18446744073709551616 0 1')};close 1 1 1 0 0;end 1 1",
+            f"open 1 1 c;line 1 1 {block.replace('0 0 xs4', '0 9223372036854775808 xs4')};close 1 1 1 0 0;end 1 1",
+            f"open 1 1 c;line 1 1 {block.replace('B3/S23', '')};close 1 1 1 0 0;end 1 1",
             f"open 1 1 c;line 1 1 {block};close 1 1 0 1 0;end 1 1",
-            "end 0 0;end 0 0",
             "end 0 1",
         ]
         for text in reports:
@@ -615,6 +702,17 @@ end 2 5
         for more in (b"x", b"\n", b"open 1 0 a"):
             with self.subTest(more), self.assertRaises(ReportFault):
                 read_report(b"end 0 0\n" + more)
+
+    def test_several_reports(self):
+        self.assertEqual(read_report(b"end 0 0\nend 0 0\n"), [])
+        rows = read_report(self.INTERLEAVED)
+        again = [replace(row, collection=row.collection + 2) for row in rows]
+        self.assertEqual(read_report(self.INTERLEAVED + b"end 0 0\n" + self.INTERLEAVED), rows + again)
+
+    def test_numbers_as_large_as_they_may_be(self):
+        ends = f"{2 ** 64 - 1} {2 ** 64 - 1} {2 ** 64 - 1} {2 ** 63 - 1} {-(2 ** 63)}"
+        row, = read_report(f"open 1 1 \nline 1 1 ok r {ends} c \ncode 1 r c 0\nclose 1 1 1 0 0\nend 1 1\n".encode())
+        self.assertEqual((row.population, row.dx, row.dy, row.code, row.name), (2 ** 64 - 1, 2 ** 63 - 1, -(2 ** 63), "c", ""))
 
     def test_no_patterns(self):
         self.assertEqual(read_report(b"end 0 0\n"), [])
@@ -627,9 +725,9 @@ end 2 5
 
     def test_no_report(self):
         lines = self.INTERLEAVED.split(b"\n")
-        # without any of its lines but those that count codes, or with one twice, it is none
+        # without any of its lines but those that count codes or parts, or with one twice, it is none
         for at, line in enumerate(lines[:-1]):
-            if not line.startswith(b"code"):
+            if not line.startswith((b"code", b"part")):
                 for wrong in (lines[:at] + lines[at + 1:], lines[:at] + [line] + lines[at:]):
                     with self.subTest(line), self.assertRaises(ReportFault):
                         read_report(b"\n".join(wrong))
@@ -641,13 +739,92 @@ end 2 5
             self.assertEqual((caught.exception.line, caught.exception.place), (line, f"line {line}"))
 
 
+class Mutations(unittest.TestCase):
+    """What is a report and what is none, for `read_report` and for `census merge`: reports with some mistakes."""
+
+    COUNT = 2000
+    SEED = os.environ.get("SEED", "reports")
+    NUMBERS = [b"0", b"1", b"2", b"3", b"10", b"00", b"01", b"-1", b"-0", b"+1", b"", b"1.0", b"65535", b"65536", b"9223372036854775807",
+               b"-9223372036854775808", b"9223372036854775808", b"18446744073709551615", b"18446744073709551616", b"\xd9\xa3"]
+    WORDS = [b"ok", b"ash", b"none", b"large", b"bad", b"open", b"line", b"part", b"code", b"close", b"end", b"B3/S23", b"xs4_33", b"\xff",
+             b"a b"]
+
+    def reports(self):
+        """Reports to make mistakes in."""
+        bundle = b"@folder a\n@file 1 2\n" + GLIDER.encode() + b"@file r\n" + R_PENTOMINO.encode() + b"@file \xff\n3o!\n@folder b\n"
+        bundle += b"@folder c d\n@file g\n" + GUN.encode() + b"@file b\n" + BLOCK.encode() + b"\n"
+        made = [["run", "-b60"], ["objects", "-b2000"], ["run", "--cells=5", "-b60"], ["objects", "--cells=20", "-b60"]]
+        found = [subprocess.run([PROGRAM, *words], input=bundle, stdout=subprocess.PIPE, check=True).stdout for words in made]
+        return [Reports.INTERLEAVED, b"end 0 0\n", *found]
+
+    def changed_line(self, line, chance):
+        """A line with a field that is another, is not there, is there twice or has changed places."""
+        fields = line.split(b" ")
+        at = chance.randrange(len(fields))
+        kind = chance.randrange(5)
+        if kind == 0:
+            fields[at] = chance.choice(self.NUMBERS)
+        elif kind == 1:
+            fields[at] = chance.choice(self.WORDS)
+        elif kind == 2:
+            del fields[at]
+        elif kind == 3:
+            fields.insert(at, fields[at])
+        else:
+            other = chance.randrange(len(fields))
+            fields[at], fields[other] = fields[other], fields[at]
+        return b" ".join(fields)
+
+    def mutant(self, reports, chance):
+        """A report with a mistake, if it is one: in a byte, in a field, in the order of the lines, or at its end."""
+        text = chance.choice(reports)
+        kind = chance.randrange(6)
+        if kind == 0:
+            at = chance.randrange(len(text))
+            return text[:at] + bytes([chance.choice(b"\n\n 0123459 -ab\x00\xff")]) * chance.randrange(3) + text[at + chance.randrange(2):]
+        if kind == 1:
+            return text[: chance.randrange(len(text))] + chance.choice([b"", b"\n", b"end 0 0\n"])
+        if kind == 2:
+            return text + chance.choice(reports) + chance.choice([b"", b"", b"\n", b"x", b"open 1 0 a\n"])
+        lines = text.split(b"\n")
+        at, other = chance.randrange(len(lines)), chance.randrange(len(lines))
+        if kind == 3:
+            lines[at] = self.changed_line(lines[at], chance)
+        elif kind == 4:
+            lines[at], lines[other] = lines[other], lines[at]
+        else:
+            lines[at:at + 1] = chance.choice([[], [lines[at]] * 2, [lines[other], lines[at]]])
+        return b"\n".join(lines)
+
+    def differs(self, text):
+        """What is not the same of a text, if anything is."""
+        try:
+            rows, line = read_report(text), None
+        except ReportFault as fault:
+            rows, line = None, fault.line
+        ran = subprocess.run([PROGRAM, "merge"], input=text, stdout=subprocess.PIPE, stderr=subprocess.PIPE, check=False)
+        if line is not None:
+            is_same = (ran.returncode, ran.stderr) == (1, b"census: report fault at line %d\n" % line)
+        else:
+            is_same = (ran.returncode, ran.stderr) == (0, b"") and read_report(ran.stdout) == rows
+        return None if is_same else (text, rows, line, ran)
+
+    def test_as_the_program_reads_them(self):
+        chance = random.Random(self.SEED)
+        reports = self.reports()
+        mutants = reports + [self.mutant(reports, chance) for _ in range(self.COUNT)]
+        with ThreadPoolExecutor(4) as pool:
+            wrong = [it for it in pool.map(self.differs, mutants) if it]
+        self.assertEqual(wrong[:3], [])
+
+
 class Module(unittest.TestCase):
     def test_standard_library_alone(self):
         with open(census.__file__, encoding="utf-8") as it:
             tree = ast.parse(it.read(), feature_version=(3, 8))
         names = {node.module for node in ast.walk(tree) if isinstance(node, ast.ImportFrom)}
         names |= {alias.name for node in ast.walk(tree) if isinstance(node, ast.Import) for alias in node.names}
-        self.assertEqual(names, {"__future__", "dataclasses", "operator", "os", "re", "subprocess", "tempfile", "typing"})
+        self.assertEqual(names, {"__future__", "dataclasses", "operator", "os", "re", "signal", "subprocess", "tempfile", "typing"})
 
     def test_examples(self):
         before = os.getcwd()

@@ -1,4 +1,6 @@
 //! The disk as a shelf.
+//!
+//! Tested in `checks/disk`: names that are not UTF-8, what may not be read, what changes meanwhile, and signals.
 ghost use Rattle.std.specs.Prelude.{◌≡◌, ◌↔◌, ◌<◌, ◌≤◌, length, vec_len, Err, IfErr, IfOk, IfSome, IsErr, IsTrue, MatchResult, OnErr};
 ghost use Rattle.std.specs.Fs.{IsFile, file_type};
 ghost use Rattle.std.specs.Path.{path_buf_bytes, path_join};
@@ -8,12 +10,28 @@ ghost use Rattle.watched.specs.declared.reading.ReadFault.{ReadFault};
 use crate::listing::split_name;
 use crate::shelf::Shelf;
 use std::alloc::Global;
-use std::fs::Metadata;
+use std::fs::{Metadata, OpenFile};
 use std::io::{BufReader, ErrorKind, Read};
 use std::path::{Path, PathBuf};
 use std::rt::Files;
 use std::{fs, io};
 use watched::{ReadFault, Watched, read_all};
+
+/// So many times the system is asked again where a signal interrupts it.
+const TRIES: u32 = 1_000;
+
+// What the system answers, which is asked again where a signal interrupts it.
+fn answered<T: Drop, F: Fn() -> io::Result<T>>(ask: F) -> io::Result<T>
+    requires { F.IsAlwaysCallable ask }
+{
+    for _ in 0..TRIES {
+        match ask() {
+            Err(error) if error.kind() == ErrorKind::Interrupted => {}
+            answer => return answer,
+        }
+    }
+    ask()
+}
 
 // Where the system is out of memory, so is the call.
 fn fault_of(error: io::Error) -> ReadFault
@@ -87,7 +105,14 @@ fn is_own(name: &[u8]) -> bool {
     name.is_empty() || name == b".".as_slice() || name == b"..".as_slice()
 }
 
-// Whether a name in a folder is that of a folder. A link is none, whatever it leads to.
+// Whether a name of which nobody can tell whether it is that of a folder is taken for one, so that the walk tells that it
+// is lost. Reading the folder that it stands in tells that of a name that ends in `.rle`.
+fn is_taken_for_folder(name: &[u8]) -> bool {
+    !name.ends_with(b".rle")
+}
+
+// Whether a name in a folder is that of a folder, or taken for one: a name that is not UTF-8 can't be asked for, and one
+// may be gone. A link is none, whatever it leads to.
 fn is_folder<R: Files>(
     files: &R,
     alloc: Global,
@@ -96,11 +121,33 @@ fn is_folder<R: Files>(
 ) -> Result<bool, ReadFault>
     ensures fault { IfErr result (RefusesList Untold) }
 {
+    if str::from_utf8(name).is_err() {
+        return Ok(is_taken_for_folder(name));
+    }
     let path = path_in(alloc, folder, name)?;
-    match fs::symlink_metadata(files, path) {
+    match answered(|| fs::symlink_metadata(files, path.as_path())) {
         Ok(metadata) => Ok(metadata.is_dir()),
+        Err(error) if error.kind() == ErrorKind::NotFound => Ok(is_taken_for_folder(name)),
         Err(error) => Err(fault_of(error)),
     }
+}
+
+// A regular file that was opened. What stands in its place since it was looked at is refused.
+fn regular_file<F: OpenFile + Drop>(opened: io::Result<F>) -> io::Result<F> {
+    let file = opened?;
+    if answered(|| file.metadata())?.is_file() {
+        Ok(file)
+    } else {
+        Err(io::Error::from(ErrorKind::InvalidInput))
+    }
+}
+
+// The names in a folder, each ended by a byte 0. The list of a folder that is removed meanwhile ends early, so that it is
+// looked whether it is still there.
+fn names_at<R: Files>(files: &R, alloc: Global, path: Path) -> io::Result<Vec<u8>> {
+    let names = list_opened(alloc, answered(|| files.open_dir(path.as_str())))?;
+    answered(|| fs::metadata(files, path))?;
+    Ok(names)
 }
 
 // What the system says of an error.
@@ -123,7 +170,7 @@ impl<R: Files> Shelf for R {
     fn list(&self, alloc: Global, folder: &str) -> Result<Vec<u8>, ReadFault> {
         // A path that ends in a slash is that of a folder, also after a link.
         let path = path_in(alloc, folder, b"")?;
-        list_opened(alloc, self.open_dir(path.as_str())).map_err(fault_of)
+        names_at(self, alloc, path.as_path()).map_err(fault_of)
     }
 
     fn list_folders(&self, alloc: Global, folder: &str) -> Result<Vec<u8>, ReadFault> {
@@ -143,7 +190,7 @@ impl<R: Files> Shelf for R {
 
     fn is_file(&self, alloc: Global, folder: &str, name: &[u8]) -> Result<bool, ReadFault> {
         let path = path_in(alloc, folder, name)?;
-        is_regular(fs::metadata(self, path))
+        is_regular(answered(|| fs::metadata(self, path.as_path())))
     }
 
     fn read(
@@ -154,17 +201,19 @@ impl<R: Files> Shelf for R {
         limit: usize,
     ) -> Result<Vec<u8>, ReadFault> {
         let path = path_in(alloc, folder, name)?;
-        read_opened(alloc, fs::open(self, path), limit)
+        read_opened(alloc, regular_file(fs::open(self, path)), limit)
     }
 
     fn word(&self, alloc: Global, path: &[u8]) -> Option<Vec<u8>> {
         let Ok(path) = path_in(alloc, "", path) else {
             return None;
         };
-        match fs::metadata(self, path.as_path()) {
+        match answered(|| fs::metadata(self, path.as_path())) {
             Err(error) => words_of(alloc, &error),
             Ok(found) if found.is_file() => words_at_opening(alloc, fs::open(self, path)),
-            Ok(found) if found.is_dir() => words_at_opening(alloc, self.open_dir(path.as_str())),
+            Ok(found) if found.is_dir() => {
+                words_at_opening(alloc, answered(|| self.open_dir(path.as_str())))
+            }
             Ok(_) => None,
         }
     }

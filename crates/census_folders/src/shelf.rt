@@ -23,7 +23,8 @@ pub trait Shelf {
             (λ bytes. GivesTold ((tellings self.now).listed folder.now) bytes.items) }
         ensures fault { IfErr result (RefusesList ((tellings self.now).listed folder.now)) };
 
-    /// The names of the folders in a folder, each ended by a byte 0. Links to folders are left out.
+    /// The names of the folders in a folder, each ended by a byte 0. Links to folders are left out. A name that may be that of
+    /// a folder, since the shelf can't look at it, may be among them.
     fn list_folders(&self, alloc: Global, folder: &str) -> Result<Vec<u8>, ReadFault>
         ensures told { IfOk result
             (λ bytes. GivesTold ((tellings self.now).inner folder.now) bytes.items) }

@@ -1,4 +1,6 @@
 //! What is written to a terminal, where no name can steer it.
+ghost use Rattle.std.specs.Prelude.{◌≡◌, None, if◌then◌else◌};
+
 use crate::screen::Screen;
 use arrayvec::ArrayVec;
 use std::io;
@@ -10,9 +12,11 @@ const ROOM: usize = 4096;
 
 const DIGITS: [u8; 16] = *b"0123456789abcdef";
 
-/// A writer that first wipes what a screen tells. Where it is a terminal, each character from U+0080 to U+009F, with which a
-/// terminal can be steered, and each byte that belongs to no character of UTF-8 is written as `\x` and its two hexadecimal
-/// digits; every other byte is written as it is.
+/// A writer that first wipes what a screen tells. Where it is a terminal, each byte that belongs to no character of UTF-8, and
+/// each byte of a character that could steer the terminal, is written as `\x` and its two hexadecimal digits; every other byte
+/// is written as it is. Such characters are the controls from U+0080 to U+009F, those that turn the direction of what is
+/// written (U+061C, U+200E, U+200F, U+202A to U+202E, U+2066 to U+2069), and the separators of lines and paragraphs (U+2028,
+/// U+2029). Where it is no terminal, it holds what the writer that it writes to holds.
 #[derive(Drop)]
 pub struct Shown<'a, W, R> {
     writer: W,
@@ -51,14 +55,26 @@ fn add_escaped<W: Write>(block: &mut Block, writer: &mut W, bytes: &[u8]) -> io:
     Ok(())
 }
 
-// Whether a terminal could take a character as a command, though it is no byte below 128.
+// Whether a terminal could take a character as a command, as the end of a line or as the direction in which to write, though
+// it is no byte below 128.
 fn is_steering(one: char) -> bool {
-    ('\u{80}'..='\u{9f}').contains(&one)
+    matches!(
+        one,
+        '\u{80}'..='\u{9f}'
+            | '\u{61c}'
+            | '\u{200e}'
+            | '\u{200f}'
+            | '\u{2028}'..='\u{202e}'
+            | '\u{2066}'..='\u{2069}'
+    )
 }
 
 impl<'a, W: Write, R: Clock + Eprint> Shown<'a, W, R> {
     /// A writer to a terminal, or, where it is none, one that hands on each byte as it is.
-    pub fn new(writer: W, is_terminal: bool, screen: &'a Screen<'a, R>) -> Self {
+    pub fn new(writer: W, is_terminal: bool, screen: &'a Screen<'a, R>) -> Self
+        ensures terminal { result.is_terminal ≡ is_terminal }
+        ensures contents { W.contents result.writer ≡ W.contents writer }
+    {
         Shown {
             writer,
             is_terminal,
@@ -86,6 +102,8 @@ fn write_escaped<W: Write>(writer: &mut W, bytes: &[u8]) -> io::Result<()> {
 }
 
 impl<'a, W: Write, R: Clock + Eprint> Write for Shown<'a, W, R> {
+    ghost contents = { λ s. if s.is_terminal then None else W.contents s.writer };
+
     fn write(&mut self, bytes: &[u8]) -> io::Result<usize> {
         self.screen.wipe();
         if !self.is_terminal {

@@ -1,7 +1,7 @@
 //! Tests of what the program is given: folders of files, and readers and writers that end, fail, stop or go on without end.
 //!
-//! What the built program reads of folders is in `checks/rows`, and where a read fails or memory is refused in `checks/ends` and
-//! `checks/growths`.
+//! What the built program reads of folders is in `checks/rows` and `checks/disk`, and where a read fails or memory is refused in
+//! `checks/ends` and `checks/growths`.
 #![tactic(auto)]
 
 #[cfg(test)]
