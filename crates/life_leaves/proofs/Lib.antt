@@ -4,3 +4,4 @@ pub mod Local
 pub mod Bands
 pub mod Quarters
 pub mod Listed
+pub mod Quiet

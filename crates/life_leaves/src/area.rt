@@ -1,5 +1,5 @@
 //! Areas of 64 by 64 cells: made of four leaves, one generation later, and the leaf in their middle.
-ghost use Rattle.std.specs.Prelude.{◌≡◌, ℕ, ◌+◌, ◌<◌, ◌≤◌, ◌⊎◌, slice_index};
+ghost use Rattle.std.specs.Prelude.{◌≡◌, ℕ, ◌+◌, ◌<◌, ◌≤◌, ◌⊎◌, true, slice_index};
 ghost use Rattle.std.specs.Int.{bit_at};
 ghost use Rattle.life_model.specs.Cell.{Cell};
 ghost use Rattle.life_model.specs.Evolution.{next};
@@ -11,7 +11,7 @@ ghost use Rattle.life_leaves.specs.Areas.{ShowsWithin};
 ghost use Rattle.life_leaves.specs.Leaves.{leaf_cell, ShowsFour};
 
 use crate::leaf::{FourLeaves, Leaf};
-use life_bits::{Around, Logic, Tile, Window, band};
+use life_bits::{Around, Logic, Tile, Window, band, has_cells};
 
 /// Two rows side by side, as one.
 #[inline(always)]
@@ -71,9 +71,38 @@ pub fn middle(area: &Tile) -> Leaf
     Leaf { rows }
 }
 
+/// Whether eight rows from `top` on, the one above them and the one below have no live cell.
+#[inline(always)]
+fn is_quiet(area: &Tile, top: usize) -> bool
+    requires { top ≤ 56 }
+    ensures { result ≡ true → (y : ℕ) → top ≤ y + 1 → y < top + 9 → y < 64 →
+        slice_index area.now.rows y ≡ 0 }
+{
+    if top > 0 && area.rows[top - 1] != 0 {
+        return false;
+    }
+    if top < 56 && area.rows[top + 8] != 0 {
+        return false;
+    }
+    !has_cells(area, top)
+}
+
+/// Leaves no live cell in eight rows. Every other row stays as it was.
+#[inline(always)]
+fn clear(area: &mut Tile, top: usize)
+    requires { top ≤ 56 }
+    ensures none { (y : ℕ) → top ≤ y → y < top + 8 → slice_index area.new.rows y ≡ 0 }
+    ensures others { (y : ℕ) → (y < top) ⊎ (top + 8 ≤ y) →
+        slice_index area.new.rows y ≡ slice_index area.old.rows y }
+{
+    for y in 0..8 {
+        area.rows[top + y] = 0;
+    }
+}
+
 /// Writes the next generation of an area of which so many rows and columns at each side may be wrong over another area, as if no
 /// cell beyond its edge were live. So one row and one column more at each side may be wrong then. Bands that have no other row
-/// stay as they were.
+/// stay as they were. Eight rows that have no live cell near them are cleared, and not worked out.
 #[inline(always)]
 pub fn advance(logic: &Logic, rim: usize, here: &Tile, there: &mut Tile)
     requires { rim < 32 }
@@ -93,7 +122,11 @@ pub fn advance(logic: &Logic, rim: usize, here: &Tile, there: &mut Tile)
     };
     let from = (rim + 1) / 8;
     for i in from..8 - from {
-        let window = Window::of(here, &around, 8 * i);
-        let _ = band(logic, &window, there);
+        if is_quiet(here, 8 * i) {
+            clear(there, 8 * i);
+        } else {
+            let window = Window::of(here, &around, 8 * i);
+            let _ = band(logic, &window, there);
+        }
     }
 }
