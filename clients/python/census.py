@@ -551,11 +551,12 @@ class _Asked:
 
     def _fits_folder(self, folder: str, listed: Optional[List[bytes]], collection: _Collection) -> bool:
         names = [os.fsencode(row.name) for row in collection.lines]
-        if listed != names:
-            # (names may have come and gone since they were listed; a folder that is as it was has the names that it had)
-            if listed == _names_in(folder) or not all(name.endswith(b".rle") for name in names) or sorted(set(names)) != names:
-                return False
-        return all(map(self._fits_row, collection.lines, collection.objects, collection.parts))
+        is_lawful = all(name.endswith(b".rle") for name in names) and names == sorted(set(names))
+        # (names may have come and gone since they were listed; a folder that is as it was has the names that it had)
+        has_changed = listed is None or listed != _names_in(folder)
+        return is_lawful and (listed == names or has_changed) and all(
+            map(self._fits_row, collection.lines, collection.objects, collection.parts)
+        )
 
     def _fits_row(self, row: Row, objects: int, parts: List[Tuple[str, int]]) -> bool:
         bound = self.bound if self.bound is not None else 10000 if self.objects else 1000

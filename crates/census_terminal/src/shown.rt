@@ -14,9 +14,10 @@ const DIGITS: [u8; 16] = *b"0123456789abcdef";
 
 /// A writer that first wipes what a screen tells. Where it is a terminal, each byte that belongs to no character of UTF-8, and
 /// each byte of a character that could steer the terminal, is written as `\x` and its two hexadecimal digits; every other byte
-/// is written as it is. Such characters are the controls from U+0080 to U+009F, those that turn the direction of what is
-/// written (U+061C, U+200E, U+200F, U+202A to U+202E, U+2066 to U+2069), and the separators of lines and paragraphs (U+2028,
-/// U+2029). Where it is no terminal, it holds what the writer that it writes to holds.
+/// is written as it is. Such characters are the controls below U+0020 but the tab and the line feed, and those from U+007F to
+/// U+009F; those that turn the direction of what is written (U+061C, U+200E, U+200F, U+202A to U+202E, U+2066 to U+2069); and
+/// the separators of lines and paragraphs (U+2028, U+2029). Where it is no terminal, it holds what the writer that it writes to
+/// holds.
 #[derive(Drop)]
 pub struct Shown<'a, W, R> {
     writer: W,
@@ -55,12 +56,14 @@ fn add_escaped<W: Write>(block: &mut Block, writer: &mut W, bytes: &[u8]) -> io:
     Ok(())
 }
 
-// Whether a terminal could take a character as a command, as the end of a line or as the direction in which to write, though
-// it is no byte below 128.
+// Whether a terminal could take a character as a command, or as the direction in which to write, or as the end of a line
+// though it is no line feed.
 fn is_steering(one: char) -> bool {
     matches!(
         one,
-        '\u{80}'..='\u{9f}'
+        '\0'..='\u{8}'
+            | '\u{b}'..='\u{1f}'
+            | '\u{7f}'..='\u{9f}'
             | '\u{61c}'
             | '\u{200e}'
             | '\u{200f}'
