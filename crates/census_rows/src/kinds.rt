@@ -66,7 +66,9 @@ pub struct Said<'a> {
 }
 
 impl<'a> Finding<'a> {
-    pub fn said(&self) -> Said<'a>
+    // (where one of the four is asked for, nothing is made of the others)
+    #[inline(always)]
+    pub(crate) fn said(&self) -> Said<'a>
         ensures word { result.word.now ≡ (said_of self.now).word }
         ensures fields { present result.fields ≡ (said_of self.now).fields }
         ensures class { result.class ≡ (said_of self.now).class }

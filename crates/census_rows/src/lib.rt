@@ -10,7 +10,7 @@ mod read;
 mod row;
 mod write;
 
-pub use kinds::{Class, Field, Label, Said, Value};
+pub use kinds::{Class, Label, Value};
 pub use read::read_row;
 pub use row::{Finding, Outcome, Row};
 pub use write::put_row;

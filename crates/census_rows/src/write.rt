@@ -2,15 +2,23 @@
 ghost use Rattle.std.specs.Prelude.{◌≡◌, ◌∷◌, ◌++◌, [], decimal, if◌then◌else◌};
 ghost use Rattle.std.specs.Fmt.{signed_decimal};
 ghost use Rattle.gathered.specs.Telling.{TellsAfter, sheet};
-ghost use Rattle.census_rows.specs.Kinds.{present, texts_of, value_text};
+ghost use Rattle.census_rows.specs.Kinds.{present, said_of, texts_of, value_text};
 ghost use Rattle.census_rows.specs.Lines.{describes_collection, fields_text, outcome_fields, row_text};
 
 use crate::fields::{put_field, put_number};
 use crate::kinds::{Field, Value};
-use crate::row::{Outcome, Row};
+use crate::row::{Finding, Outcome, Row};
 use gathered::{Block, put};
 use std::io::Write;
 use watched::Watched;
+
+// A signed number.
+fn put_signed<W: Write>(number: &i64, block: &mut Block, writer: &mut Watched<W>)
+    ensures { TellsAfter (32 ∷ signed_decimal number.now)
+        (sheet W.contents block.old writer.old) (sheet W.contents block.new writer.new) }
+{
+    put_number(*number, block, writer);
+}
 
 // What a field has.
 fn put_value<W: Write>(value: &Value, block: &mut Block, writer: &mut Watched<W>)
@@ -19,7 +27,7 @@ fn put_value<W: Write>(value: &Value, block: &mut Block, writer: &mut Watched<W>
 {
     match value {
         Value::Number(number) => put_number(*number, block, writer),
-        Value::Signed(number) => put_number(*number, block, writer),
+        Value::Signed(number) => put_signed(number, block, writer),
         Value::Text(bytes) => put_field(*bytes, block, writer),
     }
 }
@@ -45,27 +53,46 @@ fn put_fields<W: Write>(fields: &[Option<Field>], block: &mut Block, writer: &mu
     }
 }
 
+// The fields of a finding: those of most lines at once.
+fn put_finding<W: Write>(finding: &Finding, block: &mut Block, writer: &mut Watched<W>)
+    ensures { TellsAfter (fields_text (texts_of (said_of finding.now).fields))
+        (sheet W.contents block.old writer.old) (sheet W.contents block.new writer.new) }
+{
+    match finding {
+        Finding::Ok {
+            onset,
+            period,
+            dx,
+            dy,
+            code,
+        } => {
+            put_number(*onset, block, writer);
+            put_number(*period, block, writer);
+            put_signed(dx, block, writer);
+            put_signed(dy, block, writer);
+            put_field(*code, block, writer);
+        }
+        _ => put_fields(&finding.said().fields, block, writer),
+    }
+}
+
 // What was found of a pattern.
 fn put_outcome<W: Write>(outcome: &Outcome, block: &mut Block, writer: &mut Watched<W>)
     ensures { TellsAfter (fields_text (outcome_fields outcome.now))
         (sheet W.contents block.old writer.old) (sheet W.contents block.new writer.new) }
 {
+    put_field(outcome.word(), block, writer);
     match outcome {
         Outcome::Found {
             rule,
             population,
             finding,
         } => {
-            let said = finding.said();
-            put_field(said.word, block, writer);
             put_field(*rule, block, writer);
             put_number(*population, block, writer);
-            put_fields(&said.fields, block, writer);
+            put_finding(finding, block, writer);
         }
-        Outcome::Bad { fault } => {
-            put_field(b"bad", block, writer);
-            put_number(*fault, block, writer);
-        }
+        Outcome::Bad { fault } => put_number(*fault, block, writer),
     }
 }
 
