@@ -1,6 +1,6 @@
 //! What each kind of outcome says.
-ghost use Rattle.std.specs.Prelude.{◌≡◌, ◌∷◌, []};
-ghost use Rattle.census_rows.specs.Kinds.{said_of, said, value_at, present, label_number};
+ghost use Rattle.std.specs.Prelude.{◌≡◌, ◌∷◌, [], Some};
+ghost use Rattle.census_rows.specs.Kinds.{number, signed, text, said_of, said, value_at, present, label_number};
 
 use crate::row::{Finding, Outcome};
 
@@ -65,8 +65,38 @@ pub struct Said<'a> {
     pub has_parts: bool,
 }
 
+#[inline(always)]
+fn number<'a>(label: Label, value: u64) -> Option<Field<'a>>
+    ensures { result ≡ Some (number label value) }
+{
+    Some(Field {
+        label,
+        value: Value::Number(value),
+    })
+}
+
+#[inline(always)]
+fn signed<'a>(label: Label, value: i64) -> Option<Field<'a>>
+    ensures { result ≡ Some (signed label value) }
+{
+    Some(Field {
+        label,
+        value: Value::Signed(value),
+    })
+}
+
+#[inline(always)]
+fn text(label: Label, bytes: &[u8]) -> Option<Field>
+    ensures { result ≡ Some (text label bytes.entry) }
+{
+    Some(Field {
+        label,
+        value: Value::Text(bytes),
+    })
+}
+
 impl<'a> Finding<'a> {
-    // (where one of the four is asked for, nothing is made of the others)
+    // What it says. (It is inlined, so that where one part is asked for the others aren't made.)
     #[inline(always)]
     pub(crate) fn said(&self) -> Said<'a>
         ensures word { result.word.now ≡ (said_of self.now).word }
@@ -84,42 +114,18 @@ impl<'a> Finding<'a> {
             } => Said {
                 word: b"ok",
                 fields: [
-                    Some(Field {
-                        label: Label::Onset,
-                        value: Value::Number(*onset),
-                    }),
-                    Some(Field {
-                        label: Label::Period,
-                        value: Value::Number(*period),
-                    }),
-                    Some(Field {
-                        label: Label::Dx,
-                        value: Value::Signed(*dx),
-                    }),
-                    Some(Field {
-                        label: Label::Dy,
-                        value: Value::Signed(*dy),
-                    }),
-                    Some(Field {
-                        label: Label::Code,
-                        value: Value::Text(*code),
-                    }),
+                    number(Label::Onset, *onset),
+                    number(Label::Period, *period),
+                    signed(Label::Dx, *dx),
+                    signed(Label::Dy, *dy),
+                    text(Label::Code, *code),
                 ],
                 class: Class::Resolved,
                 has_parts: false,
             },
             Finding::Ash { objects } => Said {
                 word: b"ash",
-                fields: [
-                    Some(Field {
-                        label: Label::Objects,
-                        value: Value::Number(*objects),
-                    }),
-                    None,
-                    None,
-                    None,
-                    None,
-                ],
+                fields: [number(Label::Objects, *objects), None, None, None, None],
                 class: Class::Resolved,
                 has_parts: true,
             },
@@ -132,10 +138,7 @@ impl<'a> Finding<'a> {
             Finding::Large { generation } => Said {
                 word: b"large",
                 fields: [
-                    Some(Field {
-                        label: Label::Generation,
-                        value: Value::Number(*generation),
-                    }),
+                    number(Label::Generation, *generation),
                     None,
                     None,
                     None,
