@@ -22,6 +22,7 @@ pub record Said : Type 0 where
   pub class : Class
   pub has_parts : Bool
 
+-- fields with a number, a signed number and a text
 abbrev pub number : Label → ℕ → Field
 number label n = record { label = label; value = Number n }
 
@@ -31,7 +32,7 @@ signed label z = record { label = label; value = Signed z }
 abbrev pub text : Label → Bor (List ℕ) → Field
 text label bytes = record { label = label; value = Text bytes }
 
--- what a kind says after rule and population
+-- what a kind says, without rule and population
 abbrev pub said_of : Finding → Said
 said_of (finding.Ok onset period dx dy code) = record {
   word = codes "ok";
@@ -44,11 +45,13 @@ said_of finding.Unresolved = record { word = codes "none"; fields = []; class = 
 said_of (finding.Large generation) =
     record { word = codes "large"; fields = number label.Generation generation ∷ []; class = Unresolved; has_parts = false }
 
+-- what an outcome says
 abbrev pub said : Outcome → Said
 said (Found rule population found) =
     record (said_of found) { fields = text label.Rule rule ∷ number label.Population population ∷ (said_of found).fields }
 said (Bad fault) = record { word = codes "bad"; fields = number label.Fault fault ∷ []; class = Refused; has_parts = false }
 
+-- the fields that there are
 abbrev pub present : List (Option Field) → List Field
 present [] = []
 present (Nothing ∷ fields) = present fields
@@ -78,6 +81,7 @@ value_text (Number n) = decimal n
 value_text (Signed z) = signed_decimal z
 value_text (Text bytes) = bytes.now
 
+-- the bytes of each field
 abbrev pub texts_of : List Field → List (List ℕ)
 texts_of [] = []
 texts_of (field ∷ fields) = value_text field.value ∷ texts_of fields
