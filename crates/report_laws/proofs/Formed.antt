@@ -7,10 +7,11 @@ use Rattle.census_bundle.specs.Sizes.{count_limit}
 use Rattle.census_format.specs.Lines.{answer_to_entry, answers}
 use Rattle.census_format.specs.Lines as book
 use Rattle.census_format.specs.Objects.{Object}
-use Rattle.census_readback.specs.Shapes.{AreCodes, AreLines, IsSection, any_outcome, is_ash, is_refused, is_resolved, is_unresolved, all_rows, lines_that, patterns_in}
+use Rattle.census_readback.specs.Shapes.{AreCodes, AreLines, IsSection, any_outcome, is_refused, is_resolved, is_unresolved, all_rows, lines_that, patterns_in}
 use Rattle.census_rows.specs.declared.row.Outcome.{Outcome}
 use Rattle.census_rows.specs.declared.row.Row.{Row}
 use Rattle.census_rows.specs.declared.row.Row.TheVariants.{Close}
+use Rattle.census_rows.specs.Kinds.{said}
 use Rattle.life_answer.specs.declared.finding.Answer.{Answer}
 use Rattle.life_answer.specs.declared.finding.Answer.TheVariants.{Found, Refused}
 use Rattle.life_answer.specs.declared.finding.Finding.TheVariants.{Recurs, Unresolved, Large, Ash}
@@ -29,7 +30,7 @@ parts-ordered : (c i : ℕ) (parts : List part.Part) (rest : List Row) → AreLi
 parts-ordered c i [] rest h = h
 parts-ordered c i (p ∷ parts) rest h = (refl, refl, parts-ordered c i parts rest h)
 
-after-ordered : (c i : ℕ) (found : Answer) (rest : List Row) → ((ash : Bool) → AreLines i ash rest) → AreLines i (is_ash (outcome_of found)) (part_rows c i found ++ rest)
+after-ordered : (c i : ℕ) (found : Answer) (rest : List Row) → ((ash : Bool) → AreLines i ash rest) → AreLines i (said (outcome_of found)).has_parts (part_rows c i found ++ rest)
 after-ordered c i (Found rule (Recurs population onset period dx dy code)) rest h = h false
 after-ordered c i (Found rule (Unresolved population)) rest h = h false
 after-ordered c i (Found rule (Large population generation)) rest h = h false
@@ -43,7 +44,7 @@ ordered question c last i ash (x ∷ es) e =
     let rest = all_rows (pattern_rows question c (suc i) es) in
     let next : suc i ≡ i + 1 = omega arith in (
       e,
-      subst (λ k. AreLines k (is_ash (outcome_of found)) (part_rows c i found ++ rest)) e
+      subst (λ k. AreLines k (said (outcome_of found)).has_parts (part_rows c i found ++ rest)) e
           (after-ordered c i found rest (λ after. ordered question c i (suc i) after es next)),
     )
 

@@ -39,11 +39,11 @@ word code some h = (some, solid-plain code h)
 
 outcome-fits : (found : Answer) → IsToldAnswer found → IsCodedAnswer found → IsOutcome (outcome_of found)
 outcome-fits (Found rule (Recurs population onset period dx dy code)) h k =
-    (rule-word rule, h.0, h.1, h.2, h.3, h.4, word code h.5 k)
-outcome-fits (Found rule (Unresolved population)) h k = (rule-word rule, h)
-outcome-fits (Found rule (Large population generation)) h k = (rule-word rule, h.0, h.1)
-outcome-fits (Found rule (Ash population parts)) h k = (rule-word rule, h.0, h.1)
-outcome-fits (Refused number) h k = h
+    (rule-word rule, (h.0, (h.1, (h.2, (h.3, (h.4, (word code h.5 k, tt)))))))
+outcome-fits (Found rule (Unresolved population)) h k = (rule-word rule, (h, tt))
+outcome-fits (Found rule (Large population generation)) h k = (rule-word rule, (h.0, (h.1, tt)))
+outcome-fits (Found rule (Ash population parts)) h k = (rule-word rule, (h.0, (h.1, tt)))
+outcome-fits (Refused number) h k = (h, tt)
 
 parts-fit : (c i : ℕ) (parts : List part.Part) → c < 2 ^ 64 → i < 2 ^ 64 → objects_in parts < 2 ^ 64 → Each IsCodedPart parts → Each IsSolidPart parts
     → Each (IsFit c) (map (part_row c i) parts)

@@ -7,6 +7,7 @@ use Rattle.census_bundle.specs.declared.bundle.Folder.{Folder}
 use Rattle.census_bundle.specs.Tickets.{element_at}
 use Rattle.census_format.specs.Lines.{answer_to_entry, answers, finding_fields, is_refused, is_resolved, is_unresolved}
 use Rattle.census_format.specs.Objects.{Object, objects, same_object, tally}
+use Rattle.census_rows.specs.declared.row.Finding.TheVariants as findings
 use Rattle.census_rows.specs.declared.row.Outcome.{Outcome}
 use Rattle.census_rows.specs.declared.row.Outcome.TheVariants as outcomes
 use Rattle.census_rows.specs.declared.row.Row.{Row}
@@ -27,10 +28,10 @@ abbrev pub lent : List ℕ → Bor (List ℕ)
 lent bytes = record { ref_ptr = (0, 0); now = bytes }
 
 abbrev pub outcome_of : Answer → Outcome
-outcome_of (Found rule (Recurs population onset period dx dy code)) = outcomes.Ok (lent (rule_text rule)) population onset period dx dy (lent code)
-outcome_of (Found rule (Unresolved population)) = outcomes.None (lent (rule_text rule)) population
-outcome_of (Found rule (Large population generation)) = outcomes.Large (lent (rule_text rule)) population generation
-outcome_of (Found rule (Ash population parts)) = outcomes.Ash (lent (rule_text rule)) population (objects_in parts)
+outcome_of (Found rule (Recurs population onset period dx dy code)) = outcomes.Found (lent (rule_text rule)) population (findings.Ok onset period dx dy (lent code))
+outcome_of (Found rule (Unresolved population)) = outcomes.Found (lent (rule_text rule)) population findings.Unresolved
+outcome_of (Found rule (Large population generation)) = outcomes.Found (lent (rule_text rule)) population (findings.Large generation)
+outcome_of (Found rule (Ash population parts)) = outcomes.Found (lent (rule_text rule)) population (findings.Ash (objects_in parts))
 outcome_of (Refused number) = outcomes.Bad number
 
 abbrev pub part_row : ℕ → ℕ → part.Part → Row
