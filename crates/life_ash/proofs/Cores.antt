@@ -31,14 +31,14 @@ module _ (R : Rule) (b : ℕ) (G : Generation) (Ls : List Generation) (whole : u
 
   module _ (parts : List Generation) (ash : IsAsh R b G parts) where
     abbrev IsLiving : Generation → Type 0
-    IsLiving Q = has_cells Q ≡ true → IsPartOfEnd R b G parts ash Q
+    IsLiving Q = has_cells Q ≡ true → IsPartOfEnd R b b G parts ash Q
 
     living_part : (L : Generation) → Contains Ls L → IsLiving (generation R L b)
     living_part L one h =
         let P = part_around R b G parts Ls ash whole stay pairs L one (some_by_test (generation R L b) h) in
         (P.0, P.1, P.2.later b (omega arith))
 
-    of_parts : All (IsPartOfEnd R b G parts ash) (ends R b Ls)
+    of_parts : All (IsPartOfEnd R b b G parts ash) (ends R b Ls)
     of_parts k d h =
         All-filter has_cells IsLiving (generations R Ls b)
         (All-map IsLiving (λ L. generation R L b) Ls
@@ -53,10 +53,10 @@ module _ (R : Rule) (b : ℕ) (G : Generation) (Ls : List Generation) (whole : u
         (Contains-map (λ Q. generation R Q b) Ls L.0 L.1) (test_by_some (generation R L.0 b) L.2.lives))
 
     module _ (placed : All (IsWithin ash_age_limit) (cells G)) where
-      pub ash_by_ends : (os : List Course) → AreEndsOfCourses R b (ends R b Ls) os → IsAsh R b G (sets_of os)
-      ash_by_ends os told = ash_of_ends R b G parts ash placed (ends R b Ls) os told of_parts ends_apart reached
+      pub ash_by_ends : (os : List Course) → AreEndsOfCourses R b b (ends R b Ls) os → IsAsh R b G (sets_of os)
+      ash_by_ends os told = ash_of_ends R b b G parts ash placed (ends R b Ls) os told of_parts ends_apart reached
 
-      pub no_end : (Q : Generation) → Contains (ends R b Ls) Q → ((P : Generation) → IsEnd R b Q P → ⊥) → ⊥
+      pub no_end : (Q : Generation) → Contains (ends R b Ls) Q → ((P : Generation) → IsEnd R b b Q P → ⊥) → ⊥
       no_end Q one none =
-          let P = All-contains (IsPartOfEnd R b G parts ash) (ends R b Ls) Q of_parts one in
-          none P.0 (part_is_end R b G parts ash placed P.0 Q P.1 P.2)
+          let P = All-contains (IsPartOfEnd R b b G parts ash) (ends R b Ls) Q of_parts one in
+          none P.0 (part_is_end R b b G parts ash placed P.0 Q P.1 P.2)

@@ -22,31 +22,31 @@ use Rattle.life_ash.specs.Parts.{AreEndsOfCourses, IsEnd, ash_age_limit, sets_of
 use Rattle.life_ash.proofs.Lists.{Contains-map}
 use Rattle.life_ash.proofs.Places.{subset_within}
 
-module _ (R : Rule) (b : ℕ) (G : Generation) (parts : List Generation) (ash : IsAsh R b G parts) where
-  some_end : (P : Generation) → Contains parts P → (x : Cell) × (contains (generation R P b) x ≡ true)
+module _ (R : Rule) (b ago : ℕ) (G : Generation) (parts : List Generation) (ash : IsAsh R b G parts) where
+  some_end : (P : Generation) → Contains parts P → (x : Cell) × (contains (generation R P ago) x ≡ true)
   some_end P one =
-      elim (nothing_or_some (generation R P b)) [
-        | inl none ↦ absurd (object_lives R b P (object_of R b G parts ash P one) b none)
+      elim (nothing_or_some (generation R P ago)) [
+        | inl none ↦ absurd (object_lives R b P (object_of R b G parts ash P one) ago none)
         | inr x ↦ x
       ]
 
   -- two parts of which some cell becomes the same are one
-  one_end : (P Q : Generation) → Contains parts P → Contains parts Q → generation R P b ≡ generation R Q b → P ≡ Q
+  one_end : (P Q : Generation) → Contains parts P → Contains parts Q → generation R P ago ≡ generation R Q ago → P ≡ Q
   one_end P Q p q same =
       elim (related_or_same (AreApartForEver R) (AreApartForEver-swap R) parts P Q p q ash.apart) [
         | inl far ↦
             let x = some_end P p in
-            absurd (disjoint_from_apart (generation R P b) (generation R Q b) (far b) x.0 x.1
+            absurd (disjoint_from_apart (generation R P ago) (generation R Q ago) (far ago) x.0 x.1
             (ap (λ H. contains H x.0) (sym same) ∙ x.1))
         | inr e ↦ e
       ]
 
   -- a part that becomes this set
   abbrev pub IsPartOfEnd : Generation → Type 0
-  IsPartOfEnd Q = (P : Generation) × Contains parts P × (generation R P b ≡ Q)
+  IsPartOfEnd Q = (P : Generation) × Contains parts P × (generation R P ago ≡ Q)
 
   module _ (placed : All (IsWithin ash_age_limit) (cells G)) where
-    pub part_is_end : (P Q : Generation) → Contains parts P → generation R P b ≡ Q → IsEnd R b Q P
+    pub part_is_end : (P Q : Generation) → Contains parts P → generation R P ago ≡ Q → IsEnd R b ago Q P
     part_is_end P Q one e = record {
       within = subset_within ash_age_limit ash_age_limit (omega arith) P G
           (λ c h. ap (λ H. contains H c) (sym ash.together) ∙ in_list_now R parts P c one h) placed;
@@ -54,16 +54,16 @@ module _ (R : Rule) (b : ℕ) (G : Generation) (parts : List Generation) (ash : 
       end = e;
     }
 
-    module _ (Qs : List Generation) (os : List Course) (told : AreEndsOfCourses R b Qs os) (of_parts : All IsPartOfEnd Qs)
+    module _ (Qs : List Generation) (os : List Course) (told : AreEndsOfCourses R b ago Qs os) (of_parts : All IsPartOfEnd Qs)
         (apart : AllPairs AreApart Qs)
-        (reached : (P : Generation) → Contains parts P → Contains Qs (generation R P b)) where
+        (reached : (P : Generation) → Contains parts P → Contains Qs (generation R P ago)) where
       at : (k : ℕ) (e : Course) (d : Generation) → k < length os →
-          Contains parts (get_or os k e).set × (generation R (get_or os k e).set b ≡ get_or Qs k d)
+          Contains parts (get_or os k e).set × (generation R (get_or os k e).set ago ≡ get_or Qs k d)
       at k e d h =
           let count : length os ≡ length Qs = told.count in
           let P = of_parts k d (omega arith) in
           let same : (get_or os k e).set ≡ P.0 = told.only k e d h P.0 (part_is_end P.0 (get_or Qs k d) P.1 P.2) in
-          (subst (Contains parts) (sym same) P.1, ap (λ H. generation R H b) same ∙ P.2)
+          (subst (Contains parts) (sym same) P.1, ap (λ H. generation R H ago) same ∙ P.2)
 
       known : All (Contains parts) (sets_of os)
       known = All-map (Contains parts) (λ o. o.set) os (λ k e h. (at k e empty h).0)
@@ -80,7 +80,7 @@ module _ (R : Rule) (b : ℕ) (G : Generation) (parts : List Generation) (ash : 
                 let x = some_end (get_or os i e).set p.0 in
                 absurd (disjoint_from_apart (get_or Qs i empty) (get_or Qs j empty) (apart i j empty h (omega arith)) x.0
                 (ap (λ H. contains H x.0) (sym p.1) ∙ x.1)
-                (ap (λ H. contains H x.0) (sym q.1) ∙ ap (λ H. contains (generation R H b) x.0) (sym same) ∙ x.1))
+                (ap (λ H. contains H x.0) (sym q.1) ∙ ap (λ H. contains (generation R H ago) x.0) (sym same) ∙ x.1))
           ])
 
       covers : (P : Generation) → Contains parts P → Contains (sets_of os) P
@@ -90,7 +90,7 @@ module _ (R : Rule) (b : ℕ) (G : Generation) (parts : List Generation) (ash : 
           let there : q.0 < length Qs = q.1 in
           let h : q.0 < length os = omega arith in
           let e : Course = record { rule = R; set = P; period = 0; displacement = origin } in
-          let a = at q.0 e (generation R P b) h in
+          let a = at q.0 e (generation R P ago) h in
           let same : (get_or os q.0 e).set ≡ P = one_end (get_or os q.0 e).set P a.0 one (a.1 ∙ q.2) in
           subst (Contains (sets_of os)) same
           (Contains-map (λ o. o.set) os (get_or os q.0 e) (Contains-get_or os q.0 e h))

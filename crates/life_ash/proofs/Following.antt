@@ -32,31 +32,31 @@ get_or-early (y ∷ ys) x d zero h = refl
 get_or-early (y ∷ ys) x d (suc k) h = get_or-early ys x d k (omega arith)
 
 -- one orbit more, for the next set
-pub only_more : (R : Rule) (b : ℕ) (Qs : List Generation) (os : List Course) (o : Course) →
-    ((k : ℕ) (e : Course) (d : Generation) → k < length os → IsOnlyOne R b (get_or Qs k d) (get_or os k e)) →
-    ((d : Generation) → IsOnlyOne R b (get_or Qs (length os) d) o) → (k : ℕ) (e : Course) (d : Generation) →
-    k < length os + 1 → IsOnlyOne R b (get_or Qs k d) (get_or (os ++ o ∷ []) k e)
-only_more R b Qs os o so_far here k e d h =
+pub only_more : (R : Rule) (b ago : ℕ) (Qs : List Generation) (os : List Course) (o : Course) →
+    ((k : ℕ) (e : Course) (d : Generation) → k < length os → IsOnlyOne R b ago (get_or Qs k d) (get_or os k e)) →
+    ((d : Generation) → IsOnlyOne R b ago (get_or Qs (length os) d) o) → (k : ℕ) (e : Course) (d : Generation) →
+    k < length os + 1 → IsOnlyOne R b ago (get_or Qs k d) (get_or (os ++ o ∷ []) k e)
+only_more R b ago Qs os o so_far here k e d h =
     elim (cases_lt k (length os)) [
-      | inl before ↦ subst (IsOnlyOne R b (get_or Qs k d)) (sym (get_or-early os o e k before)) (so_far k e d before)
+      | inl before ↦ subst (IsOnlyOne R b ago (get_or Qs k d)) (sym (get_or-early os o e k before)) (so_far k e d before)
       | inr after ↦
           let last : k ≡ length os = omega arith in
-          subst (IsOnlyOne R b (get_or Qs k d)) (sym (get_or-last os o e k last))
-          (subst (λ n. IsOnlyOne R b (get_or Qs n d) o) (sym last) (here d))
+          subst (IsOnlyOne R b ago (get_or Qs k d)) (sym (get_or-last os o e k last))
+          (subst (λ n. IsOnlyOne R b ago (get_or Qs n d) o) (sym last) (here d))
     ]
 
 -- the same, where the list has grown by the orbit of the next set
-pub only_next : (R : Rule) (b : ℕ) (Qs : List Generation) (os ps : List Course) (o : Course) (Q : Generation) (i : ℕ) →
+pub only_next : (R : Rule) (b ago : ℕ) (Qs : List Generation) (os ps : List Course) (o : Course) (Q : Generation) (i : ℕ) →
     length os ≡ i → i < length Qs → Q ≡ get_or Qs i Q → ps ≡ os ++ o ∷ [] →
-    ((k : ℕ) (e : Course) (d : Generation) → k < length os → IsOnlyOne R b (get_or Qs k d) (get_or os k e)) →
-    IsOnlyOne R b Q o → (k : ℕ) (e : Course) (d : Generation) → k < length ps →
-    IsOnlyOne R b (get_or Qs k d) (get_or ps k e)
-only_next R b Qs os ps o Q i count below is grown so_far here k e d h =
+    ((k : ℕ) (e : Course) (d : Generation) → k < length os → IsOnlyOne R b ago (get_or Qs k d) (get_or os k e)) →
+    IsOnlyOne R b ago Q o → (k : ℕ) (e : Course) (d : Generation) → k < length ps →
+    IsOnlyOne R b ago (get_or Qs k d) (get_or ps k e)
+only_next R b ago Qs os ps o Q i count below is grown so_far here k e d h =
     let long : length (os ++ o ∷ []) ≡ length os + 1 = length-append os (o ∷ []) in
     let same : length ps ≡ length (os ++ o ∷ []) = ap length grown in
-    subst (λ xs. IsOnlyOne R b (get_or Qs k d) (get_or xs k e)) (sym grown)
-    (only_more R b Qs os o so_far
-    (λ f. subst (λ S. IsOnlyOne R b S o)
+    subst (λ xs. IsOnlyOne R b ago (get_or Qs k d) (get_or xs k e)) (sym grown)
+    (only_more R b ago Qs os o so_far
+    (λ f. subst (λ S. IsOnlyOne R b ago S o)
     (is ∙ get_or_default Qs i Q f below ∙ ap (λ n. get_or Qs n f) (sym count)) here) k e d (omega arith))
 
 -- of a list whose first element is related to each of the rest, any two are related where any two of the rest are

@@ -16,3 +16,5 @@ pub mod Limits
 pub mod Totals
 pub mod Firsts
 pub mod Growing
+pub mod Sooner
+pub mod Ways

@@ -41,20 +41,20 @@ module _ (o : Course) (P : Generation) (ago : ℕ) (one : 1 ≤ ago) (some : 1 �
       ∙ moved_to_before o.rule P o.period o.displacement r ago ((o.period - 1) - (ago - 1) % o.period)
       ((ago - 1) / o.period + 1) o.set (rounds_back ago o.period one some) (omega arith) end
 
-module _ (R : Rule) (b : ℕ) (last P : Generation) (is_end : IsEnd R b last P) where
+module _ (R : Rule) (b ago : ℕ) (last P : Generation) (is_end : IsEnd R b ago last P) where
   pub end_recurs : RecursWithin R b last
   end_recurs = record {
     steps = is_end.recurs.steps;
     by = is_end.recurs.by;
     within = is_end.recurs.within;
     recurs = subst (λ H. RecursBy R H is_end.recurs.steps is_end.recurs.by) is_end.end
-        (RecursBy-later R P is_end.recurs.steps is_end.recurs.by is_end.recurs.recurs b);
+        (RecursBy-later R P is_end.recurs.steps is_end.recurs.by is_end.recurs.recurs ago);
   }
 
   -- P recurs as what it becomes does
   pub end_tells : (n : ℕ) (d : Cell) → RecursBy R last n d → RecursBy R P n d
   end_tells n d r =
-      RecursBy-sooner R P is_end.recurs.steps is_end.recurs.by is_end.recurs.recurs b n d
+      RecursBy-sooner R P is_end.recurs.steps is_end.recurs.by is_end.recurs.recurs ago n d
       (subst (λ H. RecursBy R H n d) (sym is_end.end) r)
 
   -- P goes round as the orbit of what it becomes
@@ -65,5 +65,5 @@ module _ (R : Rule) (b : ℕ) (last P : Generation) (is_end : IsEnd R b last P) 
         (end_tells o.period o.displacement (subst (λ H. RecursBy R H o.period o.displacement) set
         (subst (λ S. RecursBy S o.set o.period o.displacement) rule course.recurs)))
 
-    pub end_reached : generation o.rule P b ≡ o.set
-    end_reached = ap (λ S. generation S P b) rule ∙ is_end.end ∙ sym set
+    pub end_reached : generation o.rule P ago ≡ o.set
+    end_reached = ap (λ S. generation S P ago) rule ∙ is_end.end ∙ sym set

@@ -31,18 +31,18 @@ pub record IsFit (R : Rule) (b : ℕ) (o : Course) : Type 0 where
   pub period : o.period ≤ b
   pub within : IsPlaced o
 
--- P is in the field at age 400,000, recurs within the bound, and becomes the set last after as many generations
-pub record IsEnd (R : Rule) (b : ℕ) (last P : Generation) : Type 0 where
+-- P is in the field at age 400,000, recurs within the bound, and becomes the set last after so many generations
+pub record IsEnd (R : Rule) (b ago : ℕ) (last P : Generation) : Type 0 where
   pub within : All (IsWithin ash_age_limit) (cells P)
   pub recurs : RecursWithin R b P
-  pub end : generation R P b ≡ last
+  pub end : generation R P ago ≡ last
 
 -- Only the set that recurs so may have become the set last.
-abbrev pub IsOnlyOne : Rule → ℕ → Generation → Course → Type 0
-IsOnlyOne R b last o = (P : Generation) → IsEnd R b last P → o.set ≡ P
+abbrev pub IsOnlyOne : Rule → ℕ → ℕ → Generation → Course → Type 0
+IsOnlyOne R b ago last o = (P : Generation) → IsEnd R b ago last P → o.set ≡ P
 
 -- one for each of the sets, in order
-pub record AreEndsOfCourses (R : Rule) (b : ℕ) (ends : List Generation) (courses : List Course) : Type 0 where
+pub record AreEndsOfCourses (R : Rule) (b ago : ℕ) (ends : List Generation) (courses : List Course) : Type 0 where
   pub count : length courses ≡ length ends
   pub only : (k : ℕ) (e : Course) (d : Generation) → k < length courses →
-      IsOnlyOne R b (slice_index_or ends k d) (slice_index_or courses k e)
+      IsOnlyOne R b ago (slice_index_or ends k d) (slice_index_or courses k e)

@@ -2,13 +2,14 @@
 ghost use Rattle.std.specs.Prelude.{◌≡◌, ℕ, ◌≤◌, ◌↔◌, All, IfNone, IfOk, IfSome, IsTrue, List};
 ghost use Rattle.life_model.specs.Generation.{Generation};
 ghost use Rattle.life_objects.specs.Ash.{IsAsh};
+ghost use Rattle.life_ash.specs.Ahead.{IsAshThen};
 ghost use Rattle.life_ash.specs.Later.{courses_after};
 ghost use Rattle.life_orbit.specs.Course.{IsCourse};
 ghost use Rattle.life_ash.specs.Parts.{IsCourseBy, IsFit, IsPlaced, ash_age_limit, sets_of};
 
 use crate::checks::{are_apart, are_together};
 use crate::known::Known;
-use crate::parts::only_parts;
+use crate::parts::{only_parts, parts_before};
 use crate::whole::are_objects;
 use life_cells::Rule;
 use life_orbit::{BOUND_LIMIT, Orbit};
@@ -82,6 +83,29 @@ pub fn is_ash<P: Plane>(
     are_objects::<P>(alloc, parts, rule, bound)
 }
 
+/// The ash that a plane's cells are within the bound of what is known, where they are ash of these parts.
+fn ash_if<P: Plane>(
+    alloc: Global,
+    plane: &P,
+    known: &Known,
+    parts: Vec<Orbit>,
+) -> Result<Option<Ash>, AllocError>
+    requires { All (IsFit known.now.rule known.now.bound) parts.items }
+    ensures some { IfOk result (λ found. IfSome found (λ ash.
+        IsAsh known.now.rule known.now.bound (P.members plane.now) (sets_of ash))) }
+    ensures rule { IfOk result
+        (λ found. IfSome found (λ ash. All (IsCourseBy known.now.rule) ash)) }
+    ensures none { IfOk result (λ found. IfNone found
+        (IsAsh known.now.rule known.now.bound (P.members plane.now) (sets_of parts.items) → ⊥)) }
+{
+    let rule = known.rule();
+    let bound = known.bound();
+    if !is_ash(alloc, plane, parts.as_slice(), &rule, bound)? {
+        return Ok(None);
+    }
+    Ok(Some(Ash::of(parts, 0)))
+}
+
 /// The ash that a plane's cells are within the bound of what is known, where they are ash at all.
 pub fn ash_by<P: Plane>(
     alloc: Global,
@@ -96,15 +120,37 @@ pub fn ash_by<P: Plane>(
     ensures none { IfOk result (λ found. IfNone found ((parts : List Generation) →
         IsAsh known.old.rule known.old.bound (P.members plane.now) parts → ⊥)) }
 {
-    let rule = known.rule();
-    let bound = known.bound();
-    let Some(parts) = only_parts(alloc, plane, known)? else {
-        return Ok(None);
-    };
-    if !is_ash(alloc, plane, parts.as_slice(), &rule, bound)? {
-        return Ok(None);
+    match only_parts(alloc, plane, known)? {
+        Some(parts) => ash_if(alloc, plane, known, parts),
+        None => Ok(None),
     }
-    Ok(Some(Ash::of(parts, 0)))
+}
+
+/// The same of cells that become ash of these parts after so many generations.
+pub fn ash_before<P: Plane>(
+    alloc: Global,
+    plane: &P,
+    known: &mut Known,
+    later: Vec<Orbit>,
+    ago: u32,
+) -> Result<Option<Ash>, AllocError>
+    requires young { P.steps_made plane.now ≤ ash_age_limit }
+    requires ago { ago ≤ ash_age_limit }
+    requires ash { IsAshThen known.old.rule known.old.bound (P.members plane.now) ago later.items }
+    ensures some { IfOk result (λ found. IfSome found (λ ash.
+        IsAsh known.old.rule known.old.bound (P.members plane.now) (sets_of ash))) }
+    ensures rule { IfOk result
+        (λ found. IfSome found (λ ash. All (IsCourseBy known.old.rule) ash)) }
+    ensures none { IfOk result (λ found. IfNone found ((parts : List Generation) →
+        IsAsh known.old.rule known.old.bound (P.members plane.now) parts → ⊥)) }
+{
+    if ago == 0 {
+        return Ok(Some(Ash::of(later, 0)));
+    }
+    match parts_before(alloc, plane, known, later.as_slice(), ago)? {
+        Some(parts) => ash_if(alloc, plane, known, parts),
+        None => Ok(None),
+    }
 }
 
 /// The ash that a plane's cells are within the bound, where they are ash at all.

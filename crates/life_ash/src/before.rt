@@ -11,7 +11,7 @@ ghost use Rattle.life_orbit.specs.Reach.{IsReach};
 ghost use Rattle.life_ash.specs.Parts.{ash_age_limit};
 
 use life_cells::{CellList, PLACE_LIMIT};
-use life_orbit::{BOUND_LIMIT, Orbit, repeated};
+use life_orbit::{Orbit, repeated};
 use std::alloc::{AllocError, Global};
 
 /// The greatest age of a plane whose cells are told as ash.
@@ -62,7 +62,7 @@ fn cells_before(
 
 /// What a set was so many generations ago that comes again as this orbit does, where it was in the field at age 400,000.
 pub fn set_before(alloc: Global, orbit: &Orbit, ago: u32) -> Result<Option<CellList>, AllocError>
-    requires { 1 ≤ ago × ago ≤ BOUND_LIMIT }
+    requires { 1 ≤ ago × ago ≤ ash_age_limit }
     ensures within { IfOk result
         (λ found. IfSome found (λ set. All (IsWithin ash_age_limit) (generations.cells set))) }
     ensures set { IfOk result (λ found. IfSome found (λ set. (P : Generation) →

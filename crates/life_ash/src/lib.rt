@@ -3,9 +3,11 @@
 //! Tested in `tests_objects`, by `life_census`.
 #![tactic(auto)]
 
+mod ahead;
 mod ash_orbits;
 mod before;
 mod checks;
+mod found;
 mod guess;
 mod known;
 mod limit;

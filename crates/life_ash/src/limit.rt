@@ -6,12 +6,12 @@ ghost use Rattle.life_model.specs.Rule.{Rule as ModelRule};
 ghost use Rattle.life_answer.specs.Limited.{IsAllowed, first_past};
 ghost use Rattle.life_objects.specs.Ash.{IsAsh};
 ghost use Rattle.life_ash.specs.Allowed.{AreAllowedBefore};
-ghost use Rattle.life_ash.specs.Parts.{IsCourseBy, sets_of};
+ghost use Rattle.life_ash.specs.Parts.{IsCourseBy, ash_age_limit, sets_of};
 
 use crate::pace::{Pace, STRIDE};
 use crate::sizes::are_few;
 use life_cells::Rule;
-use life_orbit::{BOUND_LIMIT, Orbit};
+use life_orbit::Orbit;
 use life_plane::{AGE_LIMIT, Plane};
 use std::alloc::AllocError;
 
@@ -55,7 +55,7 @@ pub fn few_until<P: Plane>(
     known: u32,
     pace: &mut Pace,
 ) -> Option<u32>
-    requires { age ≤ BOUND_LIMIT }
+    requires { age ≤ ash_age_limit }
     ensures few { IfSome result
         (λ until. (R : ModelRule) (G : Generation) → P.members plane.now ≡ generation R G age →
         AreAllowedBefore R G limit age → AreAllowedBefore R G limit known →

@@ -1,45 +1,64 @@
 //! What becomes of patterns.
-ghost use Rattle.std.specs.Prelude.{◌≡◌, ◌≤◌, All, IfNone, IfOk, IfSome, List};
+ghost use Rattle.std.specs.Prelude.{◌≡◌, ℕ, ◌≤◌, All, IfNone, IfOk, IfSome, List, Option};
+ghost use Rattle.life_model.specs.Evolution.{generation};
 ghost use Rattle.life_model.specs.Generation.{Generation};
+ghost use Rattle.life_model.specs.Rule.{Rule as ModelRule};
 ghost use Rattle.life_model.specs.Generation as generations;
 ghost use Rattle.life_cells.specs.Limits.{IsWithin};
-ghost use Rattle.life_objects.specs.Ash.{HasFallenApart, IsAsh};
-ghost use Rattle.life_orbit.specs.Course.{IsCourse};
-ghost use Rattle.life_ash.specs.Fates.{IsFate};
-ghost use Rattle.life_ash.specs.Parts.{IsCourseBy, IsPlaced, ash_age_limit, sets_of};
+ghost use Rattle.life_objects.specs.Ash.{HasFallenApart};
+ghost use Rattle.life_ash.specs.Allowed.{AreAllowedBefore};
+ghost use Rattle.life_ash.specs.Fates.{IsFate, IsSmallEnough};
+ghost use Rattle.life_ash.specs.Parts.{IsCourseBy, sets_of};
 
-use crate::ash_orbits::{Ash, ash_by};
-use crate::guess::guessed_parts;
+use crate::ahead::{found_past, walk_on};
+use crate::ash_orbits::{Ash, ash_before, ash_by};
+use crate::found::Found;
 use crate::known::Known;
-use crate::limit::{few_until, first_past, first_past_of_ash};
 use crate::pace::Pace;
 use crate::pattern_fate::Fate;
 use life_cells::{CellList, Rule};
-use life_orbit::{BOUND_LIMIT, Orbit};
+use life_orbit::BOUND_LIMIT;
 use life_plane::Plane;
 use std::alloc::{AllocError, Global};
 
-/// Parts of which a plane's cells are ash, where a look at this age is due and finds them.
-fn parts_if_due<P: Plane>(
+/// What becomes of a pattern of which no generation up to three times the bound is past the limit, and of which
+/// generation b is this ash or none.
+fn fate_of(ash: Option<Ash>) -> Fate
+    ensures { (R : ModelRule) (G : Generation) (b : ℕ) (limit : Option ℕ) →
+        IsSmallEnough R G b limit →
+        IfSome ash (λ ash. HasFallenApart R b G (sets_of ash) × All (IsCourseBy R) ash) →
+        IfNone ash ((parts : List Generation) → HasFallenApart R b G parts → ⊥) →
+        IsFate R G b limit result }
+{
+    match ash {
+        Some(ash) => Fate::Ash(ash),
+        None => Fate::Unresolved,
+    }
+}
+
+/// What becomes of a pattern of which a plane has the generation of the bound, where nothing was found on the way there.
+fn fate_past<P: Plane>(
     alloc: Global,
     plane: &P,
     met: &mut Known,
     pace: &mut Pace,
-    age: u32,
-) -> Result<Option<Vec<Orbit>>, AllocError>
-    requires young { P.steps_made plane.now ≤ ash_age_limit }
-    ensures same { met.new ≡ met.old }
-    ensures ash { IfOk result (λ found. IfSome found (λ parts.
-        IsAsh met.old.rule met.old.bound (P.members plane.now) (sets_of parts.items))) }
-    ensures rule { IfOk result
-        (λ found. IfSome found (λ parts. All (IsCourseBy met.old.rule) parts.items)) }
-    ensures placed { IfOk result (λ found. IfSome found (λ parts. All IsPlaced parts.items)) }
-    ensures courses { IfOk result (λ found. IfSome found (λ parts. All IsCourse parts.items)) }
+    limit: Option<u32>,
+) -> Result<Fate, AllocError>
+    requires age { P.steps_made plane.now ≡ met.old.bound }
+    requires later { (G : Generation) ×
+        (P.members plane.now ≡ generation met.old.rule G met.old.bound) ×
+        AreAllowedBefore met.old.rule G limit met.old.bound }
+    ensures { IfOk result (λ fate. (G : Generation) →
+        P.members plane.now ≡ generation met.old.rule G met.old.bound →
+        AreAllowedBefore met.old.rule G limit met.old.bound →
+        IsFate met.old.rule G met.old.bound limit fate) }
 {
-    if !pace.is_due(age) {
-        return Ok(None);
-    }
-    guessed_parts(alloc, plane, met, pace.looks())
+    let bound = met.bound();
+    Ok(match found_past(alloc, plane, met, pace, limit)? {
+        Found::Large { generation } => Fate::Large { generation },
+        Found::Parts { parts, age } => fate_of(ash_before(alloc, plane, met, parts, age - bound)?),
+        Found::Nothing => fate_of(ash_by(alloc, plane, met)?),
+    })
 }
 
 /// What becomes of a pattern within the bound. What it falls apart into is looked for now and then on the way to the
@@ -59,32 +78,19 @@ pub fn fate<P: Plane>(
     let mut plane = P::from_cells(alloc, cells)?;
     let mut pace = Pace::new();
     let mut met = Known::new(alloc, rule, bound);
-    let mut known = 0;
-    for age in 0..bound {
-        let Some(until) = few_until(limit, &plane, age, known, &mut pace) else {
-            return Ok(Fate::Large { generation: age });
-        };
-        known = until;
-        if let Some(parts) = parts_if_due(alloc, &plane, &mut met, &mut pace, age)? {
-            let past = first_past_of_ash(&plane, &parts, rule, limit, 3 * bound - age)?;
-            return Ok(match past {
-                Some(n) => Fate::Large {
-                    generation: age + n,
-                },
-                None => Fate::Ash(Ash::of(parts, bound - age)),
-            });
-        }
-        plane.step(rule)?;
+    match walk_on(
+        alloc,
+        &mut plane,
+        &mut met,
+        &mut pace,
+        limit,
+        bound,
+        3 * bound,
+    )? {
+        Found::Large { generation } => Ok(Fate::Large { generation }),
+        Found::Parts { parts, age } => Ok(Fate::Ash(Ash::of(parts, bound - age))),
+        Found::Nothing => fate_past(alloc, &plane, &mut met, &mut pace, limit),
     }
-    if let Some(n) = first_past(&plane, rule, limit, 2 * bound)? {
-        return Ok(Fate::Large {
-            generation: bound + n,
-        });
-    }
-    Ok(match ash_by(alloc, &plane, &mut met)? {
-        Some(ash) => Fate::Ash(ash),
-        None => Fate::Unresolved,
-    })
 }
 
 /// What a pattern falls apart into within the bound, where it does.

@@ -3,7 +3,7 @@ use Rattle.std.specs.List.{All, AllPairs, Contains}
 use Rattle.std.proofs.lemmas.List.Elements.{All-same}
 use Rattle.std.proofs.lemmas.Option.{IfSome_then}
 use Rattle.std.proofs.lemmas.Result.{IfOk-weaker}
-use Rattle.life_model.specs.Generation.{cells}
+use Rattle.life_model.specs.Generation.{Generation, cells}
 use Rattle.life_cells.specs.Limits.{IsWithin}
 use Rattle.life_objects.specs.Apart.{AreApartFor}
 use Rattle.life_objects.specs.Union.{generations}
@@ -11,7 +11,7 @@ use Rattle.life_objects.specs.Whole.{StaysWhole}
 use Rattle.life_classes.specs.Tracking.{first_sets}
 use Rattle.life_orbit.specs.Kept.{orbit_age_limit}
 use Rattle.life_ash.specs.Living.{has_cells}
-use Rattle.life_ash.specs.Parts.{AreEndsOfCourses, ash_age_limit}
+use Rattle.life_ash.specs.Parts.{AreEndsOfCourses, IsEnd, ash_age_limit}
 use Rattle.life_ash.proofs.Cores.{ash_by_ends, no_end}
 use Rattle.life_ash.proofs.Finding.{none_then}
 use Rattle.life_ash.proofs.Following.{ends_within}
@@ -32,6 +32,7 @@ parts_of-requires g c =
     c.as_slice.ensures.value ∙ c.in_ok-lasts.ensures
     ∙ ap (filter has_cells) {y = generations R Ls b} c.in_ok-classes.ensures.later in
     record {
+      ago = (c.bound-bound.ensures.some, omega arith);
       within = All-same (λ Q. All (IsWithin orbit_age_limit) (cells Q)) _ _ listed
           (ends_within R (g.P.Plane.steps_made c.in_ok-copy.copy) b orbit_age_limit (g.P.Plane.members c.in_ok-copy.copy) Ls
           c.in_ok-classes.ensures.together (omega arith) c.age-age.ensures.within);
@@ -80,7 +81,9 @@ returns-clause-only g c =
     (λ orbits told parts ash. ash_by_ends R b (g.P.Plane.members c.args.plane.now)
     (first_sets c.in_ok-classes.field-0.items) (c.in_ok-classes.ensures.together ∙ c.in_ok-copy.ensures.cells) (stay g c)
     (apart g c) parts ash (placed g c) orbits.items
-    (subst (λ Qs. AreEndsOfCourses R b Qs orbits.items) (listed g c) told)))
+    (subst (λ n. AreEndsOfCourses R b n (ends R b (first_sets c.in_ok-classes.field-0.items)) orbits.items)
+    c.bound-bound.ensures.value
+    (subst (λ Qs. AreEndsOfCourses R b c.bound-bound.result Qs orbits.items) (listed g c) told))))
     c.parts_of.ensures.sets
 
 pub returns-clause-none : goal.returns-clause-none
@@ -92,5 +95,6 @@ returns-clause-none g c =
     (λ no parts ash. no_end R b (g.P.Plane.members c.args.plane.now)
     (first_sets c.in_ok-classes.field-0.items) (c.in_ok-classes.ensures.together ∙ c.in_ok-copy.ensures.cells) (stay g c)
     (apart g c) parts ash (placed g c) no.0
-    (subst (λ Qs. Contains Qs no.0) (listed g c) no.1) no.2))
+    (subst (λ Qs. Contains Qs no.0) (listed g c) no.1)
+    (subst (λ n. (P : Generation) → IsEnd R b n no.0 P → ⊥) c.bound-bound.ensures.value no.2)))
     c.parts_of.ensures.none

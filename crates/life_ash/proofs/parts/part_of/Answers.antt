@@ -14,15 +14,12 @@ use Rattle.life_ash.proofs.Finding.{both_then, none_then, of_none, of_some}
 use Rattle.life_ash.proofs.Turning.{end_goes_round, end_reached, end_recurs}
 use Rattle.life_ash.proofs.parts.part_of.Goals as goal
 
-module _ (t : Terms) (last : Generation) (o : Course) (met : IsMet t o) (set : o.set ≡ last) (n : ℕ) (ago : n ≡ t.bound)
-  where
-    goes_round : (P : Generation) → IsEnd t.rule t.bound last P → RecursBy o.rule P o.period o.displacement
-    goes_round P end = end_goes_round t.rule t.bound last P end o met.rule set met.recurs
+module _ (t : Terms) (ago : ℕ) (last : Generation) (o : Course) (met : IsMet t o) (set : o.set ≡ last) where
+  goes_round : (P : Generation) → IsEnd t.rule t.bound ago last P → RecursBy o.rule P o.period o.displacement
+  goes_round P end = end_goes_round t.rule t.bound ago last P end o met.rule set met.recurs
 
-    reached : (P : Generation) → IsEnd t.rule t.bound last P → generation o.rule P n ≡ o.set
-    reached P end =
-        subst (λ m. generation o.rule P m ≡ o.set) (sym ago)
-        (end_reached t.rule t.bound last P end o met.rule set met.recurs)
+  reached : (P : Generation) → IsEnd t.rule t.bound ago last P → generation o.rule P ago ≡ o.set
+  reached P end = end_reached t.rule t.bound ago last P end o met.rule set met.recurs
 
 -- what recurs so and stood in the field is fit
 fit_then : (t s : Terms) → s ≡ t → (S : Generation) → All (IsWithin ash_age_limit) (cells S) → (part : Course) → IsMet s part →
@@ -39,7 +36,7 @@ returns-in_default-clause-none c P end =
     let t = c.args.known.now in
     of_none c.in_default.is c.in_ok-orbit.ensures.none
     (subst (λ n. RecursWithin t.rule n c.args.last.now) (sym c.bound-bound.ensures.value)
-    (end_recurs t.rule t.bound c.args.last.now P end))
+    (end_recurs t.rule t.bound c.args.ago c.args.last.now P end))
 
 pub returns-in_default-2-clause-none : goal.returns-in_default-2-clause-none
 returns-in_default-2-clause-none c P end =
@@ -48,9 +45,8 @@ returns-in_default-2-clause-none c P end =
     let o = c.in-Some.orbit in
     let met = of_some (IsMet t) c.in-Some.is c.in_ok-orbit.ensures.met in
     let set = of_some (λ (x : Course). x.set ≡ last) c.in-Some.is c.in_ok-orbit.ensures.set in
-    let ago = c.bound-bound.ensures.value in
-    of_none c.in_default-2.is c.in_ok-set.ensures.outside P (goes_round t last o met set c.bound-bound.result ago P end)
-    (reached t last o met set c.bound-bound.result ago P end) end.within
+    of_none c.in_default-2.is c.in_ok-set.ensures.outside P (goes_round t c.args.ago last o met set P end)
+    (reached t c.args.ago last o met set P end) end.within
 
 pub returns-clause-fit : goal.returns-clause-fit
 returns-clause-fit c =
@@ -60,17 +56,16 @@ returns-clause-fit c =
 
 -- what was before is whatever becomes the last set and recurs
 was_before : (c : goal.After-drop-orbit-inside-2) (P : Generation) →
-    IsEnd c.args.known.now.rule c.args.known.now.bound c.args.last.now P → c.in-Some-2.set ≡ P
+    IsEnd c.args.known.now.rule c.args.known.now.bound c.args.ago c.args.last.now P → c.in-Some-2.set ≡ P
 was_before c P end =
     let t = c.args.known.now in
     let last = c.args.last.now in
     let o = c.in-Some.orbit in
     let met = of_some (IsMet t) c.in-Some.is c.in_ok-orbit.ensures.met in
     let set = of_some (λ (x : Course). x.set ≡ last) c.in-Some.is c.in_ok-orbit.ensures.set in
-    let ago = c.bound-bound.ensures.value in
-    of_some (λ S. (Q : Generation) → RecursBy o.rule Q o.period o.displacement → generation o.rule Q c.bound-bound.result ≡ o.set → S ≡ Q)
-    c.in-Some-2.is c.in_ok-set.ensures.set P (goes_round t last o met set c.bound-bound.result ago P end)
-    (reached t last o met set c.bound-bound.result ago P end)
+    of_some (λ S. (Q : Generation) → RecursBy o.rule Q o.period o.displacement → generation o.rule Q c.args.ago ≡ o.set → S ≡ Q)
+    c.in-Some-2.is c.in_ok-set.ensures.set P (goes_round t c.args.ago last o met set P end)
+    (reached t c.args.ago last o met set P end)
 
 pub returns-clause-set : goal.returns-clause-set
 returns-clause-set c =

@@ -12,7 +12,7 @@ pub returns-in-None-clause-none : goal.returns-in-None-clause-none
 returns-in-None-clause-none c =
     let Q = c.last-item.result in
     let i = c.loop-last.last-index in
-    let none = subst (λ (t : Terms). (P : Generation) → IsEnd t.rule t.bound Q P → ⊥) c.loop-last.invariant.same
+    let none = subst (λ (t : Terms). (P : Generation) → IsEnd t.rule t.bound c.args.ago Q P → ⊥) c.loop-last.invariant.same
     (of_none c.in-None.is c.in_ok-part.ensures.none) in
     (Q, (i, c.loop-last-test.true, sym c.last-item.is), none)
 
@@ -32,8 +32,8 @@ loop-last-preserved c =
           (of_some (IsFit met.rule met.bound) c.in-Some.is c.in_ok-part.ensures.fit)));
       same = c.part_of.ensures.same ∙ at.same;
       count = ap length grown ∙ length-append os (o ∷ []) ∙ ap (λ n. n + 1) at.count;
-      only = only_next R b c.args.lasts.now os c.push.new.self.items o Q c.loop-last.last-index at.count
+      only = only_next R b c.args.ago c.args.lasts.now os c.push.new.self.items o Q c.loop-last.last-index at.count
           c.loop-last-test.true c.last-item.is grown at.only
-          (subst (λ (t : Terms). IsOnlyOne t.rule t.bound Q o) at.same
-          (of_some (IsOnlyOne met.rule met.bound Q) c.in-Some.is c.in_ok-part.ensures.set));
+          (subst (λ (t : Terms). IsOnlyOne t.rule t.bound c.args.ago Q o) at.same
+          (of_some (IsOnlyOne met.rule met.bound c.args.ago Q) c.in-Some.is c.in_ok-part.ensures.set));
     }

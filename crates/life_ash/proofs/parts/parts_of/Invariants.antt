@@ -12,5 +12,5 @@ invariant-loop-last l = record {
   same : l.known ≡ l.initial.known;
   count : length l.parts.items ≡ l.last-index;
   only : (k : ℕ) (e : Course) (d : Generation) → k < length l.parts.items →
-      IsOnlyOne l.initial.known.rule l.initial.known.bound (slice_index_or l.lasts k d) (slice_index_or l.parts.items k e);
+      IsOnlyOne l.initial.known.rule l.initial.known.bound l.ago (slice_index_or l.lasts k d) (slice_index_or l.parts.items k e);
 }

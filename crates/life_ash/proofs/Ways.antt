@@ -1,0 +1,70 @@
+-- What is found on the way from the bound on.
+use Rattle.std.proofs.Common.{◌≡◌, ℕ, ◌+◌, ◌*◌, ◌-◌, ◌≤◌, List, Option, None, sym, ap, subst, ◌∙◌, arith}
+use Rattle.life_model.specs.Rule.{Rule}
+use Rattle.life_model.specs.Generation.{Generation}
+use Rattle.life_model.specs.Evolution.{generation}
+use Rattle.life_model.proofs.Recurrences.{generation-add, generation-zero}
+use Rattle.life_objects.specs.Ash.{IsAsh}
+use Rattle.life_objects.specs.Limits.{objects_bound_limit}
+use Rattle.life_orbit.specs.Course.{Course}
+use Rattle.life_ash.specs.Ahead.{IsAshThen, IsFound, IsFoundPast}
+use Rattle.life_ash.specs.Allowed.{AreAllowedBefore}
+use Rattle.life_ash.specs.Fates.{IsSmallEnough}
+use Rattle.life_ash.specs.Met.{Terms}
+use Rattle.life_ash.specs.Parts.{ash_age_limit, sets_of}
+use Rattle.life_ash.specs.declared.found.Found.{Found}
+use Rattle.life_ash.specs.declared.found.Found.TheVariants.{Large, Nothing, Parts}
+use Rattle.life_ash.proofs.Limits.{past_nowhere}
+
+module _ (R : Rule) (b : ℕ) (G : Generation) (limit : Option ℕ) where
+  -- up to three times the bound
+  pub found_first : b ≤ objects_bound_limit → (found : Found) → IsFound R b G limit b (3 * b + 1) (3 * b) found →
+      IsFoundPast R b G limit found
+  found_first short (Parts parts age) h = let most = h.1 in (h.0, omega arith, h.2, h.3)
+  found_first short (Large n) h = h
+  found_first short Nothing h = past_nowhere R G limit (3 * b) h
+
+  -- and further
+  pub found_further : (from end : ℕ) → b ≤ from → end ≤ ash_age_limit → IsSmallEnough R G b limit → (found : Found) →
+      IsFound R b G None from end end found → IsFoundPast R b G limit found
+  found_further from end later few small (Parts parts age) h =
+      let first = h.0 in let most = h.1 in (omega arith, omega arith, small, h.3)
+  found_further from end later few small (Large n) h = absurd cc
+  found_further from end later few small Nothing h = small
+
+-- what is ash at some age is so many generations after generation b
+pub ash_ahead : (R : Rule) (b age : ℕ) (G H : Generation) (parts : List Course) → b ≤ age → H ≡ generation R G b →
+    IsAshThen R b G age parts → IsAshThen R b H (age - b) parts
+ash_ahead R b age G H parts le here then = record {
+  ash = subst (λ S. IsAsh R b S (sets_of parts))
+      (sym (ap (λ S. generation R S (age - b)) here ∙ generation-add R G b (age - b)
+      ∙ ap (generation R G) (let e : b + (age - b) ≡ age = omega arith in e))) then.ash;
+  rule = then.rule;
+  placed = then.placed;
+  courses = then.courses;
+}
+
+-- found from generation 0 on, by what is sought
+pub found_from_start : (t : Terms) (R : Rule) (b : ℕ) (G : Generation) (limit : Option ℕ) (from : ℕ) (H : Generation)
+    (found : Found) → t.rule ≡ R → t.bound ≡ b → H ≡ G → from ≡ 0 →
+    ((K : Generation) → H ≡ generation t.rule K from → AreAllowedBefore t.rule K limit from →
+    IsFound t.rule t.bound K limit from b (3 * b) found) → IsFound R b G limit 0 b (3 * b) found
+found_from_start t R b G limit from H found rule bound cells start told =
+    subst (λ n. IsFound R b G limit n b (3 * b) found) start
+    (subst (λ n. IsFound R n G limit from b (3 * b) found) bound
+    (subst (λ S. IsFound S t.bound G limit from b (3 * b) found) rule
+    (told G (cells ∙ sym (ap (generation t.rule G) start ∙ generation-zero t.rule G)) (λ m h. absurd (omega arith)))))
+
+-- where nothing is found, the plane has the generation of the bound
+pub nothing_from_start : (t s : Terms) (b : ℕ) (G : Generation) (limit : Option ℕ) (from age : ℕ) (H K : Generation) →
+    s ≡ t → t.bound ≡ b → H ≡ G → from ≡ 0 → age ≡ b →
+    ((L : Generation) → H ≡ generation t.rule L from → K ≡ generation t.rule L age) →
+    ((L : Generation) → H ≡ generation t.rule L from → AreAllowedBefore t.rule L limit from →
+    AreAllowedBefore t.rule L limit b) →
+    (K ≡ generation s.rule G s.bound) × AreAllowedBefore s.rule G limit s.bound
+nothing_from_start t s b G limit from age H K same bound cells start ended reached allowed =
+    let first = cells ∙ sym (ap (generation t.rule G) start ∙ generation-zero t.rule G) in
+    subst (λ (u : Terms). (K ≡ generation u.rule G u.bound) × AreAllowedBefore u.rule G limit u.bound) (sym same) (
+      reached G first ∙ ap (generation t.rule G) (ended ∙ sym bound),
+      subst (AreAllowedBefore t.rule G limit) (sym bound) (allowed G first (λ m h. absurd (omega arith))),
+    )

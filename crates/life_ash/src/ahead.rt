@@ -1,0 +1,118 @@
+//! What is found of patterns on their way from generation to generation.
+ghost use Rattle.std.specs.Prelude.{◌≡◌, ◌+◌, ◌≤◌, All, IfOk, IfSome};
+ghost use Rattle.life_model.specs.Evolution.{generation};
+ghost use Rattle.life_model.specs.Generation.{Generation};
+ghost use Rattle.life_objects.specs.Ash.{IsAsh};
+ghost use Rattle.life_orbit.specs.Course.{IsCourse};
+ghost use Rattle.life_ash.specs.Ahead.{HasEnded, IsFound, IsFoundPast};
+ghost use Rattle.life_ash.specs.Allowed.{AreAllowedBefore};
+ghost use Rattle.life_ash.specs.Parts.{IsCourseBy, IsPlaced, ash_age_limit, sets_of};
+
+use crate::found::Found;
+use crate::guess::guessed_parts;
+use crate::known::Known;
+use crate::limit::{few_until, first_past_of_ash};
+use crate::pace::Pace;
+use life_orbit::Orbit;
+use life_plane::{AGE_LIMIT, Plane};
+use std::alloc::{AllocError, Global};
+
+/// How many times as old as the bound a pattern gets before it is no longer looked for ash of a later generation.
+const TIMES: u32 = 4;
+
+/// Parts of which a plane's cells are ash, where a look at this age is due and finds them.
+fn parts_if_due<P: Plane>(
+    alloc: Global,
+    plane: &P,
+    met: &mut Known,
+    pace: &mut Pace,
+    age: u32,
+) -> Result<Option<Vec<Orbit>>, AllocError>
+    requires young { P.steps_made plane.now ≤ ash_age_limit }
+    ensures same { met.new ≡ met.old }
+    ensures ash { IfOk result (λ found. IfSome found (λ parts.
+        IsAsh met.old.rule met.old.bound (P.members plane.now) (sets_of parts.items))) }
+    ensures rule { IfOk result
+        (λ found. IfSome found (λ parts. All (IsCourseBy met.old.rule) parts.items)) }
+    ensures placed { IfOk result (λ found. IfSome found (λ parts. All IsPlaced parts.items)) }
+    ensures courses { IfOk result (λ found. IfSome found (λ parts. All IsCourse parts.items)) }
+{
+    if !pace.is_due(age) {
+        return Ok(None);
+    }
+    guessed_parts(alloc, plane, met, pace.looks())
+}
+
+/// Walks on to an age, and looks now and then whether the plane's cells are ash. No generation that the walk comes to may
+/// have more cells than the limit, and where ash is found none up to the last.
+pub fn walk_on<P: Plane>(
+    alloc: Global,
+    plane: &mut P,
+    met: &mut Known,
+    pace: &mut Pace,
+    limit: Option<u32>,
+    end: u32,
+    last: u32,
+) -> Result<Found, AllocError>
+    requires start { P.steps_made plane.old ≤ end }
+    requires end { end ≤ last + 1 × end ≤ ash_age_limit }
+    requires last { last ≤ AGE_LIMIT }
+    ensures same { met.new ≡ met.old }
+    ensures reached { (G : Generation) →
+        P.members plane.old ≡ generation met.old.rule G (P.steps_made plane.old) →
+        P.members plane.new ≡ generation met.old.rule G (P.steps_made plane.new) }
+    ensures ended { IfOk result (HasEnded end (P.steps_made plane.new)) }
+    ensures found { IfOk result (λ found. (G : Generation) →
+        P.members plane.old ≡ generation met.old.rule G (P.steps_made plane.old) →
+        AreAllowedBefore met.old.rule G limit (P.steps_made plane.old) →
+        IsFound met.old.rule met.old.bound G limit (P.steps_made plane.old) end last found) }
+{
+    let rule = met.rule();
+    let mut known = 0;
+    for age in plane.age()..end {
+        let Some(until) = few_until(limit, plane, age, known, pace) else {
+            return Ok(Found::Large { generation: age });
+        };
+        known = until;
+        if let Some(parts) = parts_if_due(alloc, plane, met, pace, age)? {
+            return Ok(
+                match first_past_of_ash(plane, &parts, &rule, limit, last - age)? {
+                    Some(n) => Found::Large {
+                        generation: age + n,
+                    },
+                    None => Found::Parts { parts, age },
+                },
+            );
+        }
+        plane.step(&rule)?;
+    }
+    Ok(Found::Nothing)
+}
+
+/// Walks on from a plane that is as old as the bound, to three times the bound and further, but no generation after that
+/// is asked for its size. The plane itself stays as it is.
+pub fn found_past<P: Plane>(
+    alloc: Global,
+    plane: &P,
+    met: &mut Known,
+    pace: &mut Pace,
+    limit: Option<u32>,
+) -> Result<Found, AllocError>
+    requires { P.steps_made plane.now ≡ met.old.bound }
+    ensures same { met.new ≡ met.old }
+    ensures found { IfOk result (λ found. (G : Generation) →
+        P.members plane.now ≡ generation met.old.rule G met.old.bound →
+        AreAllowedBefore met.old.rule G limit met.old.bound →
+        IsFoundPast met.old.rule met.old.bound G limit found) }
+{
+    let bound = met.bound();
+    let last = 3 * bound;
+    let mut later = plane.copy()?;
+    match walk_on(alloc, &mut later, met, pace, limit, last + 1, last)? {
+        Found::Nothing => {
+            let end = TIMES * bound;
+            walk_on(alloc, &mut later, met, pace, None, end, end)
+        }
+        found => Ok(found),
+    }
+}
