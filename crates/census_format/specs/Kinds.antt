@@ -1,5 +1,5 @@
 -- What a `line` line says of each kind of outcome.
-use Rattle.std.specs.Prelude.{ℕ, Bool, true, false, Option, None, Some, List, [], ◌∷◌, codes, decimal}
+use Rattle.std.specs.Prelude.{ℕ, Bool, true, false, List, [], ◌∷◌, codes, decimal}
 use Rattle.std.specs.Fmt.{signed_decimal}
 use Rattle.life_answer.specs.declared.finding.Answer.{Answer}
 use Rattle.life_answer.specs.declared.finding.Answer.TheVariants.{Found, Refused}
@@ -8,8 +8,6 @@ use Rattle.life_answer.specs.declared.finding.Outcome.TheVariants.{Recurs, Unres
 use Rattle.life_answer.specs.Parts.{objects_in}
 use Rattle.census_format.specs.declared.kinds.Class.{Class}
 use Rattle.census_format.specs.declared.kinds.Class.TheVariants as class
-use Rattle.census_format.specs.declared.kinds.Value.{Value}
-use Rattle.census_format.specs.declared.kinds.Value.TheVariants.{Number, Signed, Text}
 
 -- the word of a kind of outcome, its fields after rule and population, and how it counts
 pub record Said : Type 0 where
@@ -43,15 +41,3 @@ same_class _ _ = false
 -- whether it counts so
 abbrev pub is_of : Class → Answer → Bool
 is_of class answer = same_class (class_of answer) class
-
--- the bytes of a value
-abbrev pub value_text : Value → List ℕ
-value_text (Number n) = decimal n
-value_text (Signed z) = signed_decimal z
-value_text (Text bytes) = bytes.now
-
--- those of the values that there are
-abbrev pub value_texts : List (Option Value) → List (List ℕ)
-value_texts [] = []
-value_texts (None ∷ values) = value_texts values
-value_texts (Some value ∷ values) = value_text value ∷ value_texts values

@@ -1,6 +1,7 @@
 //! What a `line` line says of each kind of outcome.
 ghost use Rattle.std.specs.Prelude.{◌≡◌};
-ghost use Rattle.census_format.specs.Kinds.{class_of, is_of, said, value_texts};
+ghost use Rattle.census_format.specs.Kinds.{class_of, is_of, said};
+ghost use Rattle.census_format.specs.Values.{value_texts};
 
 use life_answer::{Answer, Outcome};
 

@@ -3,8 +3,8 @@ ghost use Rattle.std.specs.Prelude.{◌≡◌, ◌≤◌, ◌++◌, ℕ, [], ◌
 ghost use Rattle.life_cells.specs.Rules.{rule_text};
 ghost use Rattle.census_bundle.specs.Sizes.{IsWithinCounts};
 ghost use Rattle.census_format.specs.Heads.{line_with_head, line_head};
-ghost use Rattle.census_format.specs.Kinds.{value_text, value_texts};
 ghost use Rattle.census_format.specs.Lines.{fields_text, end_line, finding_fields, open_line, pattern_count};
+ghost use Rattle.census_format.specs.Values.{value_text, value_texts};
 
 use crate::kinds::{Value, say};
 use crate::numbers::{push_count, push_signed};

@@ -1,6 +1,6 @@
 use Rattle.std.proofs.Common.{◌≡◌, ◌++◌, drop}
-use Rattle.census_format.specs.Kinds.{value_texts}
 use Rattle.census_format.specs.Lines.{fields_text}
+use Rattle.census_format.specs.Values.{value_texts}
 use Rattle.census_format.proofs.lines.push_values.Given as goal
 
 abbrev pub invariant-loop-value : goal.invariant-loop-value
