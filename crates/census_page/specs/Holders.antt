@@ -3,20 +3,21 @@ use Rattle.std.specs.Prelude.{ℕ, Bool, ◌&&◌, if◌then◌else◌, Option, 
 use Rattle.std.specs.Cmp.Lexicographic.{pointwise}
 use Rattle.std.specs.Bool.{nat_eq}
 use Rattle.std.specs.Borrow.{Bor}
+use Rattle.census_rows.specs.declared.kinds.Label.TheVariants as label
+use Rattle.census_rows.specs.declared.kinds.Value.{Value}
+use Rattle.census_rows.specs.declared.kinds.Value.TheVariants.{Number, Signed, Text}
 use Rattle.census_rows.specs.declared.row.Outcome.{Outcome}
-use Rattle.census_rows.specs.declared.row.Outcome.TheVariants.{Ok, Ash, None, Large, Bad}
+use Rattle.census_rows.specs.declared.row.Outcome.TheVariants.{Found, Bad}
 use Rattle.census_rows.specs.declared.row.Row.{Row}
 use Rattle.census_rows.specs.declared.row.Row.TheVariants.{Open, Line, Part, Code, Close, End}
+use Rattle.census_rows.specs.Kinds.{said_of, value_at}
 use Rattle.census_page.specs.declared.holder.Holder.{Holder}
 use Rattle.census_page.specs.declared.holder.Naming.{Naming}
 use Rattle.census_page.specs.Escapes.{name_element}
 
 -- the rule and the name of the pattern that has fallen apart last, after a row
 abbrev pub naming_in : Option Naming → Outcome → Bor (List ℕ) → Option Naming
-naming_in naming (Ok rule population onset period dx dy code) name = naming
-naming_in naming (Ash rule population objects) name = Some (record { rule = rule; name = name })
-naming_in naming (None rule population) name = naming
-naming_in naming (Large rule population generation) name = naming
+naming_in naming (Found rule population finding) name = if (said_of finding).has_parts then Some (record { rule = rule; name = name }) else naming
 naming_in naming (Bad fault) name = naming
 
 abbrev pub naming_after : Option Naming → Row → Option Naming
@@ -32,12 +33,15 @@ abbrev pub holder_by_part : Option Naming → Bor (List ℕ) → Option Holder
 holder_by_part Nothing code = Nothing
 holder_by_part (Some naming) code = Some (record { rule = naming.rule; code = code; name = naming.name })
 
+abbrev pub holder_by_code : Bor (List ℕ) → Bor (List ℕ) → Option Value → Option Holder
+holder_by_code rule name Nothing = Nothing
+holder_by_code rule name (Some (Number n)) = Nothing
+holder_by_code rule name (Some (Signed z)) = Nothing
+holder_by_code rule name (Some (Text code)) = Some (record { rule = rule; code = code; name = name })
+
 -- what a row says of the code of a pattern
 abbrev pub holder_in : Outcome → Bor (List ℕ) → Option Holder
-holder_in (Ok rule population onset period dx dy code) name = Some (record { rule = rule; code = code; name = name })
-holder_in (Ash rule population objects) name = Nothing
-holder_in (None rule population) name = Nothing
-holder_in (Large rule population generation) name = Nothing
+holder_in (Found rule population finding) name = holder_by_code rule name (value_at label.Code (said_of finding).fields)
 holder_in (Bad fault) name = Nothing
 
 abbrev pub holder_of : Option Naming → Row → Option Holder

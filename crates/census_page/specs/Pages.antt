@@ -1,10 +1,15 @@
 -- The text of a page.
-use Rattle.std.specs.Prelude.{ℕ, ◌+◌, ◌==◌, Bool, true, false, if◌then◌else◌, None as Nothing, List, [], ◌∷◌, ◌++◌, codes, decimal}
+use Rattle.std.specs.Prelude.{ℕ, ◌+◌, ◌==◌, Bool, true, false, not, if◌then◌else◌, Option, Some, None as Nothing, List, [], ◌∷◌, ◌++◌, codes, decimal}
+use Rattle.census_rows.specs.declared.kinds.Label.TheVariants as label
+use Rattle.census_rows.specs.declared.kinds.Value.{Value}
+use Rattle.census_rows.specs.declared.kinds.Value.TheVariants.{Number}
 use Rattle.census_rows.specs.declared.row.Outcome.{Outcome}
-use Rattle.census_rows.specs.declared.row.Outcome.TheVariants.{Ok, Ash, None, Large, Bad}
+use Rattle.census_rows.specs.declared.row.Outcome.TheVariants.{Found, Bad}
 use Rattle.census_rows.specs.declared.row.Row.{Row}
 use Rattle.census_rows.specs.declared.row.Row.TheVariants.{Open, Line, Part, Code, Close, End}
+use Rattle.census_rows.specs.Kinds.{said_of, value_at}
 use Rattle.census_readback.specs.Grouped.{collections_of}
+use Rattle.census_readback.specs.Shapes.{is_resolved}
 use Rattle.census_page.specs.declared.markup.TheConstants.{LIST_BEGIN, LIST_END, PAGE_BEGIN, PAGE_END, TABLE_BEGIN, TABLE_END}
 use Rattle.census_page.specs.declared.holder.Holder.{Holder}
 use Rattle.census_page.specs.Escapes.{name_element}
@@ -69,24 +74,22 @@ abbrev pub fault_reason : ℕ → List ℕ
 fault_reason fault = if fault == 0 then codes "refused, could not be read" else codes "refused, fault " ++ decimal fault
 
 -- how many cells an unresolved pattern has at first
-abbrev pub unresolved_reason : ℕ → List ℕ
-unresolved_reason population = codes "unresolved, " ++ decimal population ++ codes " cells at first"
+abbrev pub population_reason : ℕ → List ℕ
+population_reason population = codes "unresolved, " ++ decimal population ++ codes " cells at first"
 
--- why a pattern has no code
+-- in which generation it has too many, or else how many it has at first
+abbrev pub unresolved_reason : ℕ → Option Value → List ℕ
+unresolved_reason population (Some (Number generation)) = codes "unresolved, too many cells in generation " ++ decimal generation
+unresolved_reason population _ = population_reason population
+
+-- why a pattern that isn't resolved has no code
 abbrev pub reason : Outcome → List ℕ
-reason (Ok rule population onset period dx dy code) = []
-reason (Ash rule population objects) = []
-reason (None rule population) = unresolved_reason population
-reason (Large rule population generation) = codes "unresolved, too many cells in generation " ++ decimal generation
+reason (Found rule population finding) = unresolved_reason population (value_at label.Generation (said_of finding).fields)
 reason (Bad fault) = fault_reason fault
 
 -- whether a pattern is unresolved or refused
 abbrev pub is_unresolved_or_refused : Outcome → Bool
-is_unresolved_or_refused (Ok rule population onset period dx dy code) = false
-is_unresolved_or_refused (Ash rule population objects) = false
-is_unresolved_or_refused (None rule population) = true
-is_unresolved_or_refused (Large rule population generation) = true
-is_unresolved_or_refused (Bad fault) = true
+is_unresolved_or_refused outcome = not (is_resolved outcome)
 
 -- an item for such a pattern
 abbrev pub stray_item : List ℕ → Outcome → List ℕ

@@ -1,10 +1,10 @@
 //! Which patterns have a code.
 ghost use Rattle.std.specs.Prelude.{◌≡◌, ◌++◌, IfOk, None, OnOk};
 ghost use Rattle.census_readback.specs.Grouped.{rows_lent};
-ghost use Rattle.census_page.specs.Holders.{has_code, holder_by_part, holder_item, holder_items, holder_of, holders_from, naming_after};
+ghost use Rattle.census_page.specs.Holders.{has_code, holder_by_part, holder_in, holder_item, holder_items, holder_of, holders_from, naming_after, naming_in};
 
 use crate::escape::push_told;
-use census_rows::{Outcome, Row};
+use census_rows::{Label, Outcome, Row, Value};
 use std::alloc::{AllocError, Global};
 
 /// A pattern and a code that it has, or one of its parts.
@@ -22,18 +22,26 @@ struct Naming<'a> {
     name: &'a [u8],
 }
 
+// The rule and the name of the pattern that has parts, where this outcome has, and else of the last.
+fn naming_in<'a>(
+    naming: &Option<Naming<'a>>,
+    outcome: &Outcome<'a>,
+    name: &'a [u8],
+) -> Option<Naming<'a>>
+    ensures { result ≡ naming_in naming.now outcome.now name.entry }
+{
+    match outcome {
+        Outcome::Found { rule, .. } if outcome.has_parts() => Some(Naming { rule: *rule, name }),
+        _ => *naming,
+    }
+}
+
 // The rule and the name of the pattern that has fallen apart last, after a row.
 fn naming_after<'a>(naming: &Option<Naming<'a>>, row: &Row<'a>) -> Option<Naming<'a>>
     ensures { result ≡ naming_after naming.now row.now }
 {
     match row {
-        Row::Line { outcome, name, .. } => match outcome {
-            Outcome::Ash { rule, .. } => Some(Naming {
-                rule: *rule,
-                name: *name,
-            }),
-            _ => *naming,
-        },
+        Row::Line { outcome, name, .. } => naming_in(naming, outcome, *name),
         _ => *naming,
     }
 }
@@ -52,19 +60,29 @@ fn holder_by_part<'a>(naming: &Option<Naming<'a>>, code: &'a [u8]) -> Option<Hol
     }
 }
 
+// What an outcome says of the code of a pattern with this name.
+fn holder_in<'a>(outcome: &Outcome<'a>, name: &'a [u8]) -> Option<Holder<'a>>
+    ensures { result ≡ holder_in outcome.now name.entry }
+{
+    match outcome {
+        Outcome::Found { rule, .. } => match outcome.value(Label::Code) {
+            Some(Value::Text(code)) => Some(Holder {
+                rule: *rule,
+                code,
+                name,
+            }),
+            _ => None,
+        },
+        _ => None,
+    }
+}
+
 // What a row says of the code of a pattern.
 fn holder_of<'a>(naming: &Option<Naming<'a>>, row: &Row<'a>) -> Option<Holder<'a>>
     ensures { result ≡ holder_of naming.now row.now }
 {
     match row {
-        Row::Line { outcome, name, .. } => match outcome {
-            Outcome::Ok { rule, code, .. } => Some(Holder {
-                rule: *rule,
-                code: *code,
-                name: *name,
-            }),
-            _ => None,
-        },
+        Row::Line { outcome, name, .. } => holder_in(outcome, *name),
         Row::Part { code, .. } => holder_by_part(naming, *code),
         _ => None,
     }

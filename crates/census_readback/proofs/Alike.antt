@@ -1,26 +1,24 @@
 -- Rows that say the same may stand in the same places.
-use Rattle.std.proofs.Common.{◌≡◌, ℕ, ◌+◌, ◌-◌, ◌&&◌, ◌==◌, nat_lt, nat_le, Option, Some, None as Nothing, List, [], ◌∷◌, ap, ◌∙◌, refl}
+use Rattle.std.proofs.Common.{◌≡◌, ℕ, Bool, ◌+◌, ◌-◌, ◌&&◌, ◌==◌, nat_lt, nat_le, Option, Some, None as Nothing, List, [], ◌∷◌, ap, ◌∙◌, refl}
 use Rattle.std.specs.Prelude.{if◌then◌else◌}
+use Rattle.census_rows.specs.declared.kinds.Class.{Class}
 use Rattle.census_rows.specs.declared.row.Outcome.{Outcome}
-use Rattle.census_rows.specs.declared.row.Outcome.TheVariants.{Ok, Ash, None, Large, Bad}
 use Rattle.census_rows.specs.declared.row.Row.{Row}
 use Rattle.census_rows.specs.declared.row.Row.TheVariants.{Open, Line, Part, Code, Close, End}
+use Rattle.census_rows.specs.Kinds.{said}
 use Rattle.census_rows.specs.Lines.{SameOutcome, SameRow}
 use Rattle.census_readback.specs.declared.place.Place.{Place}
 use Rattle.census_readback.specs.declared.place.Place.TheVariants.{Before, Within, Behind}
 use Rattle.census_readback.specs.declared.place.Tally.{Tally}
-use Rattle.census_readback.specs.Sections.{with_line, next_within, first_place, place_after}
+use Rattle.census_readback.specs.Sections.{counted, with_line, next_within, first_place, place_after}
 use Rattle.census_readback.specs.Steps.{Reading, collection_of, patterns_opened, place_at, gone_on, section_step, end_step, step, first_stray}
 use Rattle.census_readback.specs.Texts.{SameRows}
 use Rattle.census_readback.specs.Limits.{count_limit}
 
 line-same : (t : Tally) (o p : Outcome) → SameOutcome o p → with_line t o ≡ with_line t p
-line-same t (Ok rule population onset period dx dy code) (Ok rule2 population2 onset2 period2 dx2 dy2 code2) h = refl
-line-same t (Ash rule population objects) (Ash rule2 population2 objects2) h = refl
-line-same t (None rule population) (None rule2 population2) h = refl
-line-same t (Large rule population generation) (Large rule2 population2 generation2) h = refl
-line-same t (Bad fault) (Bad fault2) h = refl
-line-same t o p h = absurd h
+line-same t o p h =
+    ap (λ (class : Class). record (counted t class) { read = t.read + 1; ash = (said o).has_parts }) h.1
+    ∙ ap (λ (parts : Bool). record (counted t (said p).class) { read = t.read + 1; ash = parts }) h.2
 
 first-same : (r q : Row) → SameRow r q → first_place r ≡ first_place q
 first-same (Open c n name) (Open c2 n2 name2) h = ap (λ k. first_place (Open c k name)) h.1

@@ -2,17 +2,19 @@
 use Rattle.std.proofs.Common.{◌≡◌, ℕ, ◌+◌, ◌<◌, ◌≤◌, Bool, true, false, ◌&&◌, eqb, ltb, leb, Option, Some, None as Nothing, List, [], ◌∷◌, ◌++◌, ap, ◌∙◌, sym, refl, arith, subst}
 use Rattle.std.specs.Prelude.{if◌then◌else◌}
 use Rattle.std.proofs.lemmas.Bool.{eqb-true, eq-eqb, ltb-true, lt-ltb, leb-true, le-leb}
+use Rattle.census_rows.specs.declared.kinds.Class.{Class}
+use Rattle.census_rows.specs.declared.kinds.Class.TheVariants.{Resolved, Unresolved, Refused}
 use Rattle.census_rows.specs.declared.row.Outcome.{Outcome}
-use Rattle.census_rows.specs.declared.row.Outcome.TheVariants.{Ok, Ash, None, Large, Bad}
 use Rattle.census_rows.specs.declared.row.Row.{Row}
 use Rattle.census_rows.specs.declared.row.Row.TheVariants.{Open, Line, Part, Code, Close, End}
+use Rattle.census_rows.specs.Kinds.{said}
 use Rattle.census_readback.specs.declared.place.Place.{Place}
 use Rattle.census_readback.specs.declared.place.Place.TheVariants.{Before, Within, Behind}
 use Rattle.census_readback.specs.declared.place.Tally.{Tally}
-use Rattle.census_readback.specs.Sections.{with_line, closes}
+use Rattle.census_readback.specs.Sections.{counted, with_line, closes}
 use Rattle.census_readback.specs.Runs.{run}
 use Rattle.census_readback.specs.Steps.{patterns_opened}
-use Rattle.census_readback.specs.Shapes.{is_ash, is_resolved, is_unresolved, is_refused, lines_that, any_outcome, AreLines, AreCodes, IsOpenRow, IsSection}
+use Rattle.census_readback.specs.Shapes.{same_class, is_resolved, is_unresolved, is_refused, lines_that, any_outcome, AreLines, AreCodes, IsOpenRow, IsSection}
 use Rattle.census_readback.specs.Limits.{count_limit}
 
 abbrev one : Bool → ℕ
@@ -29,17 +31,18 @@ pub record Good (t : Tally) : Type 0 where
   pub few : t.patterns ≤ count_limit
 
 -- a tally with one more line
-record Grown (t u : Tally) (o : Outcome) : Type 0 where
+record Grown (t u : Tally) (class : Class) (parts : Bool) : Type 0 where
   good : Good u
   read : u.read ≡ t.read + 1
-  ash : u.ash ≡ is_ash o
+  ash : u.ash ≡ parts
   patterns : u.patterns ≡ t.patterns
-  resolved : u.resolved ≡ t.resolved + one (is_resolved o)
-  unresolved : u.unresolved ≡ t.unresolved + one (is_unresolved o)
-  refused : u.refused ≡ t.refused + one (is_refused o)
+  resolved : u.resolved ≡ t.resolved + one (same_class class Resolved)
+  unresolved : u.unresolved ≡ t.unresolved + one (same_class class Unresolved)
+  refused : u.refused ≡ t.refused + one (same_class class Refused)
 
-grown : (t : Tally) (o : Outcome) → Good t → t.read < t.patterns → Grown t (with_line t o) o
-grown t (Ok rule population onset period dx dy code) g less = record {
+grown-by : (t : Tally) (class : Class) (parts : Bool) → Good t → t.read < t.patterns
+    → Grown t (record (counted t class) { read = t.read + 1; ash = parts }) class parts
+grown-by t Resolved parts g less = record {
   good = record { sum = omega arith; within = omega arith; few = omega arith };
   read = refl;
   ash = refl;
@@ -48,7 +51,7 @@ grown t (Ok rule population onset period dx dy code) g less = record {
   unresolved = omega arith;
   refused = omega arith;
 }
-grown t (Ash rule population objects) g less = record {
+grown-by t Unresolved parts g less = record {
   good = record { sum = omega arith; within = omega arith; few = omega arith };
   read = refl;
   ash = refl;
@@ -57,7 +60,7 @@ grown t (Ash rule population objects) g less = record {
   unresolved = omega arith;
   refused = omega arith;
 }
-grown t (None rule population) g less = record {
+grown-by t Refused parts g less = record {
   good = record { sum = omega arith; within = omega arith; few = omega arith };
   read = refl;
   ash = refl;
@@ -66,24 +69,9 @@ grown t (None rule population) g less = record {
   unresolved = omega arith;
   refused = omega arith;
 }
-grown t (Large rule population generation) g less = record {
-  good = record { sum = omega arith; within = omega arith; few = omega arith };
-  read = refl;
-  ash = refl;
-  patterns = refl;
-  resolved = omega arith;
-  unresolved = omega arith;
-  refused = omega arith;
-}
-grown t (Bad fault) g less = record {
-  good = record { sum = omega arith; within = omega arith; few = omega arith };
-  read = refl;
-  ash = refl;
-  patterns = refl;
-  resolved = omega arith;
-  unresolved = omega arith;
-  refused = omega arith;
-}
+
+grown : (t : Tally) (o : Outcome) → Good t → t.read < t.patterns → Grown t (with_line t o) (said o).class (said o).has_parts
+grown t o g less = grown-by t (said o).class (said o).has_parts g less
 
 -- what may follow within a section
 record Rest (t : Tally) (rows : List Row) : Type 0 where

@@ -1,9 +1,11 @@
 -- The rows of a collection, one after the other.
 use Rattle.std.specs.Prelude.{ℕ, ◌+◌, ◌-◌, ◌^◌, min, Bool, true, false, ◌&&◌, ◌==◌, nat_lt, nat_le, if◌then◌else◌, Option, Some, None as Nothing}
+use Rattle.census_rows.specs.declared.kinds.Class.{Class}
+use Rattle.census_rows.specs.declared.kinds.Class.TheVariants.{Resolved, Unresolved, Refused}
 use Rattle.census_rows.specs.declared.row.Outcome.{Outcome}
-use Rattle.census_rows.specs.declared.row.Outcome.TheVariants.{Ok, Ash, None, Large, Bad}
 use Rattle.census_rows.specs.declared.row.Row.{Row}
 use Rattle.census_rows.specs.declared.row.Row.TheVariants.{Open, Line, Part, Code, Close, End}
+use Rattle.census_rows.specs.Kinds.{said}
 use Rattle.census_readback.specs.declared.place.Place.{Place}
 use Rattle.census_readback.specs.declared.place.Place.TheVariants.{Before, Within, Behind}
 use Rattle.census_readback.specs.declared.place.Tally.{Tally}
@@ -13,13 +15,15 @@ use Rattle.census_readback.specs.Limits.{count_limit}
 abbrev pub next_count : ℕ → ℕ
 next_count n = min (n + 1) (2 ^ 64 - 1)
 
+-- with one more pattern that counts so
+abbrev pub counted : Tally → Class → Tally
+counted t Resolved = record t { resolved = next_count t.resolved }
+counted t Unresolved = record t { unresolved = next_count t.unresolved }
+counted t Refused = record t { refused = next_count t.refused }
+
 -- with the line of one more pattern
 abbrev pub with_line : Tally → Outcome → Tally
-with_line t (Ok rule population onset period dx dy code) = record t { read = t.read + 1; resolved = next_count t.resolved; ash = false }
-with_line t (Ash rule population objects) = record t { read = t.read + 1; resolved = next_count t.resolved; ash = true }
-with_line t (None rule population) = record t { read = t.read + 1; unresolved = next_count t.unresolved; ash = false }
-with_line t (Large rule population generation) = record t { read = t.read + 1; unresolved = next_count t.unresolved; ash = false }
-with_line t (Bad fault) = record t { read = t.read + 1; refused = next_count t.refused; ash = false }
+with_line t outcome = record (counted t (said outcome).class) { read = t.read + 1; ash = (said outcome).has_parts }
 
 -- the numbers of a `close` line: of all patterns, of `ok` and `ash`, of `none` and `large`, and of `bad`
 pub record ClosingNumbers : Type 0 where

@@ -1,39 +1,28 @@
 -- The shape of a report.
 use Rattle.std.specs.Prelude.{ℕ, ◌+◌, ◌<◌, ◌≤◌, ◌^◌, ◌≡◌, ◌==◌, if◌then◌else◌, Bool, true, false, List, [], ◌∷◌, ◌++◌, length, ⊤}
+use Rattle.census_rows.specs.declared.kinds.Class.{Class}
+use Rattle.census_rows.specs.declared.kinds.Class.TheVariants.{Resolved, Unresolved, Refused}
 use Rattle.census_rows.specs.declared.row.Outcome.{Outcome}
-use Rattle.census_rows.specs.declared.row.Outcome.TheVariants.{Ok, Ash, None, Large, Bad}
 use Rattle.census_rows.specs.declared.row.Row.{Row}
 use Rattle.census_rows.specs.declared.row.Row.TheVariants.{Open, Line, Part, Code, Close, End}
+use Rattle.census_rows.specs.Kinds.{said}
 use Rattle.census_readback.specs.Steps.{collection_of, patterns_opened}
 use Rattle.census_readback.specs.Limits.{count_limit}
 
-abbrev pub is_ash : Outcome → Bool
-is_ash (Ok rule population onset period dx dy code) = false
-is_ash (Ash rule population objects) = true
-is_ash (None rule population) = false
-is_ash (Large rule population generation) = false
-is_ash (Bad fault) = false
+abbrev pub same_class : Class → Class → Bool
+same_class Resolved Resolved = true
+same_class Unresolved Unresolved = true
+same_class Refused Refused = true
+same_class _ _ = false
 
 abbrev pub is_resolved : Outcome → Bool
-is_resolved (Ok rule population onset period dx dy code) = true
-is_resolved (Ash rule population objects) = true
-is_resolved (None rule population) = false
-is_resolved (Large rule population generation) = false
-is_resolved (Bad fault) = false
+is_resolved outcome = same_class (said outcome).class Resolved
 
 abbrev pub is_unresolved : Outcome → Bool
-is_unresolved (Ok rule population onset period dx dy code) = false
-is_unresolved (Ash rule population objects) = false
-is_unresolved (None rule population) = true
-is_unresolved (Large rule population generation) = true
-is_unresolved (Bad fault) = false
+is_unresolved outcome = same_class (said outcome).class Unresolved
 
 abbrev pub is_refused : Outcome → Bool
-is_refused (Ok rule population onset period dx dy code) = false
-is_refused (Ash rule population objects) = false
-is_refused (None rule population) = false
-is_refused (Large rule population generation) = false
-is_refused (Bad fault) = true
+is_refused outcome = same_class (said outcome).class Refused
 
 -- the row is a `line` line, of which this is so
 abbrev pub is_line : (Outcome → Bool) → Row → Bool
@@ -53,11 +42,11 @@ abbrev pub any_outcome : Outcome → Bool
 any_outcome outcome = true
 
 -- The `line` lines of the patterns after this one, in order, each with its `part` lines after it. These may follow this
--- pattern too where it is ash.
+-- pattern too where it has parts.
 abbrev pub AreLines : ℕ → Bool → List Row → Type 0
 AreLines last ash [] = ⊤
 AreLines last ash (Open collection patterns name ∷ rows) = ⊥
-AreLines last ash (Line collection pattern outcome name ∷ rows) = (pattern ≡ last + 1) × AreLines (last + 1) (is_ash outcome) rows
+AreLines last ash (Line collection pattern outcome name ∷ rows) = (pattern ≡ last + 1) × AreLines (last + 1) (said outcome).has_parts rows
 AreLines last ash (Part collection pattern code count ∷ rows) = (ash ≡ true) × (pattern ≡ last) × AreLines last ash rows
 AreLines last ash (Code collection rule code count ∷ rows) = ⊥
 AreLines last ash (Close collection patterns resolved unresolved refused ∷ rows) = ⊥

@@ -1,9 +1,9 @@
 //! How far the section of a collection is read.
 ghost use Rattle.std.specs.Prelude.{◌≡◌, ◌<◌};
-ghost use Rattle.census_readback.specs.Sections.{closes, place_after, next_within, with_line};
+ghost use Rattle.census_readback.specs.Sections.{closes, counted, place_after, next_within, with_line};
 
 use crate::limits::COUNT_LIMIT;
-use census_rows::{Outcome, Row};
+use census_rows::{Class, Outcome, Row};
 
 // What was read between the `open` and the `close` line.
 #[derive(Clone, Copy)]
@@ -26,37 +26,35 @@ pub enum Place {
     Behind,
 }
 
+// With one more pattern that counts so.
+fn counted(tally: Tally, class: Class) -> Tally
+    ensures { result ≡ counted tally class }
+{
+    match class {
+        Class::Resolved => Tally {
+            resolved: tally.resolved.saturating_add(1),
+            ..tally
+        },
+        Class::Unresolved => Tally {
+            unresolved: tally.unresolved.saturating_add(1),
+            ..tally
+        },
+        Class::Refused => Tally {
+            refused: tally.refused.saturating_add(1),
+            ..tally
+        },
+    }
+}
+
 // With the line of one more pattern.
 fn with_line(tally: Tally, outcome: &Outcome) -> Tally
     requires { tally.read < tally.patterns }
     ensures { result ≡ with_line tally outcome.now }
 {
-    let read = tally.read + 1;
-    match outcome {
-        Outcome::Ok { .. } => Tally {
-            read,
-            resolved: tally.resolved.saturating_add(1),
-            ash: false,
-            ..tally
-        },
-        Outcome::Ash { .. } => Tally {
-            read,
-            resolved: tally.resolved.saturating_add(1),
-            ash: true,
-            ..tally
-        },
-        Outcome::None { .. } | Outcome::Large { .. } => Tally {
-            read,
-            unresolved: tally.unresolved.saturating_add(1),
-            ash: false,
-            ..tally
-        },
-        Outcome::Bad { .. } => Tally {
-            read,
-            refused: tally.refused.saturating_add(1),
-            ash: false,
-            ..tally
-        },
+    Tally {
+        read: tally.read + 1,
+        ash: outcome.has_parts(),
+        ..counted(tally, outcome.class())
     }
 }
 

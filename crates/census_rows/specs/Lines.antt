@@ -1,11 +1,13 @@
 -- The lines of a report, by themselves.
 use Rattle.std.specs.Prelude.{ℕ, Bool, true, false, FitsSigned, List, [], ◌∷◌, ◌++◌, ◌≡◌, ◌≢◌, ◌<◌, ◌^◌, ⊤, length, codes, decimal}
 use Rattle.std.specs.Int.{w64}
-use Rattle.std.specs.Fmt.{signed_decimal}
+use Rattle.census_rows.specs.declared.kinds.Field.{Field}
+use Rattle.census_rows.specs.declared.kinds.Value.{Value}
+use Rattle.census_rows.specs.declared.kinds.Value.TheVariants.{Number, Signed, Text}
 use Rattle.census_rows.specs.declared.row.Outcome.{Outcome}
-use Rattle.census_rows.specs.declared.row.Outcome.TheVariants.{Ok, Ash, None, Large, Bad}
 use Rattle.census_rows.specs.declared.row.Row.{Row}
 use Rattle.census_rows.specs.declared.row.Row.TheVariants.{Open, Line, Part, Code, Close, End}
+use Rattle.census_rows.specs.Kinds.{Said, said, texts_of}
 
 -- the fields, each with a blank before it
 abbrev pub fields_text : List (List ℕ) → List ℕ
@@ -14,12 +16,7 @@ fields_text (field ∷ fields) = 32 ∷ field ++ fields_text fields
 
 -- what is found of a pattern
 abbrev pub outcome_fields : Outcome → List (List ℕ)
-outcome_fields (Ok rule population onset period dx dy code) =
-    codes "ok" ∷ rule.now ∷ decimal population ∷ decimal onset ∷ decimal period ∷ signed_decimal dx ∷ signed_decimal dy ∷ code.now ∷ []
-outcome_fields (Ash rule population objects) = codes "ash" ∷ rule.now ∷ decimal population ∷ decimal objects ∷ []
-outcome_fields (None rule population) = codes "none" ∷ rule.now ∷ decimal population ∷ []
-outcome_fields (Large rule population generation) = codes "large" ∷ rule.now ∷ decimal population ∷ decimal generation ∷ []
-outcome_fields (Bad fault) = codes "bad" ∷ decimal fault ∷ []
+outcome_fields outcome = (said outcome).word ∷ texts_of (said outcome).fields
 
 -- the bytes of a line, without its LF
 abbrev pub row_text : Row → List ℕ
@@ -55,26 +52,39 @@ abbrev pub EndsField : List ℕ → Type 0
 EndsField [] = ⊤
 EndsField (byte ∷ bytes) = byte ≡ 32
 
+-- a number that fits 64 bits, or a word
+abbrev pub IsValue : Value → Type 0
+IsValue (Number n) = n < 2 ^ 64
+IsValue (Signed z) = FitsSigned w64 z
+IsValue (Text bytes) = IsWord bytes.now
+
+abbrev pub AreFields : List Field → Type 0
+AreFields [] = ⊤
+AreFields (field ∷ fields) = IsValue field.value × AreFields fields
+
+-- two values say the same
+abbrev pub SameValue : Value → Value → Type 0
+SameValue (Number n) (Number m) = n ≡ m
+SameValue (Signed z) (Signed y) = z ≡ y
+SameValue (Text bytes) (Text others) = bytes.now ≡ others.now
+SameValue _ _ = ⊥
+
+abbrev pub SameFields : List Field → List Field → Type 0
+SameFields [] [] = ⊤
+SameFields (field ∷ fields) (other ∷ others) = (field.label ≡ other.label) × SameValue field.value other.value × SameFields fields others
+SameFields _ _ = ⊥
+
+-- the same word with the same fields, which counts alike
+abbrev pub SameSaid : Said → Said → Type 0
+SameSaid s t = (s.word ≡ t.word) × (s.class ≡ t.class) × (s.has_parts ≡ t.has_parts) × SameFields s.fields t.fields
+
 -- what can be found: rule and code are words, and the numbers fit 64 bits
 abbrev pub IsOutcome : Outcome → Type 0
-IsOutcome (Ok rule population onset period dx dy code) =
-    IsWord rule.now × (population < 2 ^ 64) × (onset < 2 ^ 64) × (period < 2 ^ 64) × FitsSigned w64 dx × FitsSigned w64 dy × IsWord code.now
-IsOutcome (Ash rule population objects) = IsWord rule.now × (population < 2 ^ 64) × (objects < 2 ^ 64)
-IsOutcome (None rule population) = IsWord rule.now × (population < 2 ^ 64)
-IsOutcome (Large rule population generation) = IsWord rule.now × (population < 2 ^ 64) × (generation < 2 ^ 64)
-IsOutcome (Bad fault) = fault < 2 ^ 64
+IsOutcome outcome = AreFields (said outcome).fields
 
 -- two outcomes say the same
 abbrev pub SameOutcome : Outcome → Outcome → Type 0
-SameOutcome (Ok rule population onset period dx dy code) (Ok rule2 population2 onset2 period2 dx2 dy2 code2) =
-    (rule.now ≡ rule2.now) × (population ≡ population2) × (onset ≡ onset2) × (period ≡ period2) × (dx ≡ dx2) × (dy ≡ dy2) × (code.now ≡ code2.now)
-SameOutcome (Ash rule population objects) (Ash rule2 population2 objects2) =
-    (rule.now ≡ rule2.now) × (population ≡ population2) × (objects ≡ objects2)
-SameOutcome (None rule population) (None rule2 population2) = (rule.now ≡ rule2.now) × (population ≡ population2)
-SameOutcome (Large rule population generation) (Large rule2 population2 generation2) =
-    (rule.now ≡ rule2.now) × (population ≡ population2) × (generation ≡ generation2)
-SameOutcome (Bad fault) (Bad fault2) = fault ≡ fault2
-SameOutcome _ _ = ⊥
+SameOutcome outcome other = SameSaid (said outcome) (said other)
 
 -- what a line can say; a name may have any bytes
 abbrev pub IsRow : Row → Type 0

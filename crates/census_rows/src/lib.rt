@@ -4,11 +4,13 @@
 #![tactic(auto)]
 
 mod fields;
+mod kinds;
 mod numbers;
 mod read;
 mod row;
 mod write;
 
+pub use kinds::{Class, Label, Value};
 pub use read::read_row;
-pub use row::{Outcome, Row};
+pub use row::{Finding, Outcome, Row};
 pub use write::put_row;

@@ -2,12 +2,14 @@
 ghost use Rattle.std.specs.Prelude.{◌≡◌, ◌==◌, ◌++◌, ◌∷◌, [], ◌<◌, ◌^◌, ℕ, ℤ, List, length, drop, position, true, IsTrue, IfSome, MatchOption, decimal, FitsSigned};
 ghost use Rattle.std.specs.Fmt.{signed_decimal};
 ghost use Rattle.std.specs.Int.{w64};
+ghost use Rattle.census_rows.specs.declared.row.Finding.{Finding};
 ghost use Rattle.census_rows.specs.declared.row.Outcome.{Outcome};
 ghost use Rattle.census_rows.specs.declared.row.Row.{Row};
-ghost use Rattle.census_rows.specs.Lines.{describes_collection, HasNoBlank, IsWord, EndsField, IsOutcome, SameOutcome, IsRow, SameRow, fields_text, outcome_fields, row_text};
+ghost use Rattle.census_rows.specs.Kinds.{said_of, texts_of};
+ghost use Rattle.census_rows.specs.Lines.{AreFields, SameSaid, IsWord, HasNoBlank, describes_collection, EndsField, IsOutcome, SameOutcome, IsRow, SameRow, fields_text, outcome_fields, row_text};
 
 use crate::numbers::{number_of, signed_of};
-use crate::row::{Outcome, Row};
+use crate::row::{Finding, Outcome, Row};
 
 // Where the first blank is.
 fn first_blank(text: &[u8]) -> Option<usize>
@@ -157,40 +159,54 @@ impl<'a> Fields<'a> {
             drop 1 (fields_text (outcome_fields outcome)) ++ after
             → (self.new.whole ≡ true) × SameOutcome result outcome × (self.new.rest.now ≡ after) }
     {
-        if are_same(found, b"ok") {
-            Outcome::Ok {
+        if are_same(found, b"bad") {
+            Outcome::Bad {
+                fault: self.number(),
+            }
+        } else {
+            Outcome::Found {
                 rule: self.word(),
                 population: self.number(),
+                finding: self.finding(found),
+            }
+        }
+    }
+
+    // What was found apart from rule and population, after its word: the fields of each kind.
+    fn finding(&mut self, word: &[u8]) -> Finding<'a>
+        ensures sound { self.new.whole ≡ true → (self.old.whole ≡ true)
+            × (word.now ≡ (said_of result).word) × AreFields (said_of result).fields
+            × (self.old.rest.now
+            ≡ fields_text (texts_of (said_of result).fields) ++ self.new.rest.now)
+            × (EndsField self.old.rest.now → EndsField self.new.rest.now) }
+        ensures all { (finding : Finding) (after : List ℕ) → self.old.whole ≡ true
+            → AreFields (said_of finding).fields → EndsField after
+            → word.now ≡ (said_of finding).word
+            → self.old.rest.now ≡ fields_text (texts_of (said_of finding).fields) ++ after
+            → (self.new.whole ≡ true) × SameSaid (said_of result) (said_of finding)
+            × (self.new.rest.now ≡ after) }
+    {
+        if are_same(word, b"ok") {
+            Finding::Ok {
                 onset: self.number(),
                 period: self.number(),
                 dx: self.signed(),
                 dy: self.signed(),
                 code: self.word(),
             }
-        } else if are_same(found, b"ash") {
-            Outcome::Ash {
-                rule: self.word(),
-                population: self.number(),
+        } else if are_same(word, b"ash") {
+            Finding::Ash {
                 objects: self.number(),
             }
-        } else if are_same(found, b"none") {
-            Outcome::None {
-                rule: self.word(),
-                population: self.number(),
-            }
-        } else if are_same(found, b"large") {
-            Outcome::Large {
-                rule: self.word(),
-                population: self.number(),
+        } else if are_same(word, b"none") {
+            Finding::Unresolved
+        } else if are_same(word, b"large") {
+            Finding::Large {
                 generation: self.number(),
-            }
-        } else if are_same(found, b"bad") {
-            Outcome::Bad {
-                fault: self.number(),
             }
         } else {
             self.whole = false;
-            Outcome::Bad { fault: 0 }
+            Finding::Unresolved
         }
     }
 

@@ -1,12 +1,11 @@
 //! The lines of a report.
 
-/// What a `line` line says of a pattern.
+/// What was found of a pattern, apart from its rule and its population. What each kind says is one
+/// arm of `Finding::said`.
 #[derive(Clone, Copy)]
-pub enum Outcome<'a> {
+pub enum Finding<'a> {
     /// It recurs.
     Ok {
-        rule: &'a [u8],
-        population: u64,
         onset: u64,
         period: u64,
         dx: i64,
@@ -15,20 +14,24 @@ pub enum Outcome<'a> {
     },
     /// It has fallen apart.
     Ash {
-        rule: &'a [u8],
-        population: u64,
         objects: u64,
     },
     /// It does neither within the bound.
-    None {
-        rule: &'a [u8],
-        population: u64,
-    },
+    Unresolved,
     /// A generation has more cells than are allowed.
     Large {
+        generation: u64,
+    },
+}
+
+/// What a `line` line says of a pattern.
+#[derive(Clone, Copy)]
+pub enum Outcome<'a> {
+    /// This was found of it.
+    Found {
         rule: &'a [u8],
         population: u64,
-        generation: u64,
+        finding: Finding<'a>,
     },
     /// Its text has a fault.
     Bad {

@@ -2,29 +2,15 @@
 ghost use Rattle.std.specs.Prelude.{◌≡◌, ◌∷◌, ◌++◌, [], decimal, if◌then◌else◌};
 ghost use Rattle.std.specs.Fmt.{signed_decimal};
 ghost use Rattle.gathered.specs.Telling.{TellsAfter, sheet};
+ghost use Rattle.census_rows.specs.Kinds.{present, said_of, texts_of, value_text};
 ghost use Rattle.census_rows.specs.Lines.{describes_collection, fields_text, outcome_fields, row_text};
 
 use crate::fields::{put_field, put_number};
-use crate::row::{Outcome, Row};
+use crate::kinds::{Field, Value};
+use crate::row::{Finding, Outcome, Row};
 use gathered::{Block, put};
 use std::io::Write;
 use watched::Watched;
-
-// What was found, the pattern's rule and its population.
-fn put_found<W: Write>(
-    found: &[u8],
-    rule: &[u8],
-    population: u64,
-    block: &mut Block,
-    writer: &mut Watched<W>,
-)
-    ensures { TellsAfter (fields_text (found.now ∷ rule.now ∷ decimal population ∷ []))
-        (sheet W.contents block.old writer.old) (sheet W.contents block.new writer.new) }
-{
-    put_field(found, block, writer);
-    put_field(rule, block, writer);
-    put_number(population, block, writer);
-}
 
 // A signed number.
 fn put_signed<W: Write>(number: &i64, block: &mut Block, writer: &mut Watched<W>)
@@ -34,24 +20,60 @@ fn put_signed<W: Write>(number: &i64, block: &mut Block, writer: &mut Watched<W>
     put_number(*number, block, writer);
 }
 
-// Onset, period and displacement.
-fn put_cycle<W: Write>(
-    onset: u64,
-    period: u64,
-    dx: &i64,
-    dy: &i64,
-    block: &mut Block,
-    writer: &mut Watched<W>,
-)
-    ensures { TellsAfter
-        (fields_text
-        (decimal onset ∷ decimal period ∷ signed_decimal dx.now ∷ signed_decimal dy.now ∷ []))
+// What a field has.
+fn put_value<W: Write>(value: &Value, block: &mut Block, writer: &mut Watched<W>)
+    ensures { TellsAfter (32 ∷ value_text value.now)
         (sheet W.contents block.old writer.old) (sheet W.contents block.new writer.new) }
 {
-    put_number(onset, block, writer);
-    put_number(period, block, writer);
-    put_signed(dx, block, writer);
-    put_signed(dy, block, writer);
+    match value {
+        Value::Number(number) => put_number(*number, block, writer),
+        Value::Signed(number) => put_signed(number, block, writer),
+        Value::Text(bytes) => put_field(*bytes, block, writer),
+    }
+}
+
+// A field, where there is one.
+fn put_optional<W: Write>(field: &Option<Field>, block: &mut Block, writer: &mut Watched<W>)
+    ensures { TellsAfter (fields_text (texts_of (present (field.now ∷ []))))
+        (sheet W.contents block.old writer.old) (sheet W.contents block.new writer.new) }
+{
+    match field {
+        Some(field) => put_value(&field.value, block, writer),
+        None => {}
+    }
+}
+
+// The fields that there are.
+fn put_fields<W: Write>(fields: &[Option<Field>], block: &mut Block, writer: &mut Watched<W>)
+    ensures { TellsAfter (fields_text (texts_of (present fields.now)))
+        (sheet W.contents block.old writer.old) (sheet W.contents block.new writer.new) }
+{
+    for field in fields {
+        put_optional(field, block, writer);
+    }
+}
+
+// The fields of a finding: those of most lines at once.
+fn put_finding<W: Write>(finding: &Finding, block: &mut Block, writer: &mut Watched<W>)
+    ensures { TellsAfter (fields_text (texts_of (said_of finding.now).fields))
+        (sheet W.contents block.old writer.old) (sheet W.contents block.new writer.new) }
+{
+    match finding {
+        Finding::Ok {
+            onset,
+            period,
+            dx,
+            dy,
+            code,
+        } => {
+            put_number(*onset, block, writer);
+            put_number(*period, block, writer);
+            put_signed(dx, block, writer);
+            put_signed(dy, block, writer);
+            put_field(*code, block, writer);
+        }
+        _ => put_fields(&finding.said().fields, block, writer),
+    }
 }
 
 // What was found of a pattern.
@@ -59,41 +81,18 @@ fn put_outcome<W: Write>(outcome: &Outcome, block: &mut Block, writer: &mut Watc
     ensures { TellsAfter (fields_text (outcome_fields outcome.now))
         (sheet W.contents block.old writer.old) (sheet W.contents block.new writer.new) }
 {
+    put_field(outcome.word(), block, writer);
     match outcome {
-        Outcome::Ok {
+        Outcome::Found {
             rule,
             population,
-            onset,
-            period,
-            dx,
-            dy,
-            code,
+            finding,
         } => {
-            put_found(b"ok", *rule, *population, block, writer);
-            put_cycle(*onset, *period, dx, dy, block, writer);
-            put_field(*code, block, writer);
+            put_field(*rule, block, writer);
+            put_number(*population, block, writer);
+            put_finding(finding, block, writer);
         }
-        Outcome::Ash {
-            rule,
-            population,
-            objects,
-        } => {
-            put_found(b"ash", *rule, *population, block, writer);
-            put_number(*objects, block, writer);
-        }
-        Outcome::None { rule, population } => put_found(b"none", *rule, *population, block, writer),
-        Outcome::Large {
-            rule,
-            population,
-            generation,
-        } => {
-            put_found(b"large", *rule, *population, block, writer);
-            put_number(*generation, block, writer);
-        }
-        Outcome::Bad { fault } => {
-            put_field(b"bad", block, writer);
-            put_number(*fault, block, writer);
-        }
+        Outcome::Bad { fault } => put_number(*fault, block, writer),
     }
 }
 

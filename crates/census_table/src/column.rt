@@ -1,11 +1,11 @@
 //! The columns of a table.
 ghost use Rattle.std.specs.Prelude.{◌≡◌};
-ghost use Rattle.census_table.specs.Columns.{code_cell, content_in_column, dx_cell, dy_cell, fault_cell, name_of, onset_cell, period_cell, population_cell, rule_cell, status_cell};
+ghost use Rattle.census_table.specs.Columns.{content_in_column, field_content, name_of, value_content};
 ghost use Rattle.census_table.specs.Contents.{content_of};
 
 use crate::cell::Cell;
 use crate::entry::Entry;
-use census_rows::Outcome;
+use census_rows::{Label, Outcome, Value};
 
 /// A column. A row has nothing in it but what stands here.
 #[derive(Clone, Copy)]
@@ -42,93 +42,24 @@ pub enum Column {
     NameHex,
 }
 
-fn status_cell<'a>(outcome: &Outcome<'a>) -> Cell<'a>
-    ensures { content_of result ≡ status_cell outcome.now }
+// What a row has of a field.
+fn cell_of(value: Value) -> Cell
+    ensures { content_of result ≡ value_content value.entry }
 {
-    match outcome {
-        Outcome::Ok { .. } => Cell::Text(b"ok"),
-        Outcome::Ash { .. } => Cell::Text(b"ash"),
-        Outcome::None { .. } => Cell::Text(b"none"),
-        Outcome::Large { .. } => Cell::Text(b"large"),
-        Outcome::Bad { .. } => Cell::Text(b"bad"),
+    match value {
+        Value::Number(number) => Cell::Count(number),
+        Value::Signed(number) => Cell::Shift(number),
+        Value::Text(bytes) => Cell::Text(bytes),
     }
 }
 
-fn rule_cell<'a>(outcome: &Outcome<'a>) -> Cell<'a>
-    ensures { content_of result ≡ rule_cell outcome.now }
+// What a row has of the field with a label.
+fn field_cell<'a>(outcome: &Outcome<'a>, label: Label) -> Cell<'a>
+    ensures { content_of result ≡ field_content outcome.now label }
 {
-    match outcome {
-        Outcome::Ok { rule, .. } => Cell::Text(*rule),
-        Outcome::Ash { rule, .. } => Cell::Text(*rule),
-        Outcome::None { rule, .. } => Cell::Text(*rule),
-        Outcome::Large { rule, .. } => Cell::Text(*rule),
-        Outcome::Bad { .. } => Cell::Empty,
-    }
-}
-
-fn population_cell<'a>(outcome: &Outcome<'a>) -> Cell<'a>
-    ensures { content_of result ≡ population_cell outcome.now }
-{
-    match outcome {
-        Outcome::Ok { population, .. } => Cell::Count(*population),
-        Outcome::Ash { population, .. } => Cell::Count(*population),
-        Outcome::None { population, .. } => Cell::Count(*population),
-        Outcome::Large { population, .. } => Cell::Count(*population),
-        Outcome::Bad { .. } => Cell::Empty,
-    }
-}
-
-fn onset_cell<'a>(outcome: &Outcome<'a>) -> Cell<'a>
-    ensures { content_of result ≡ onset_cell outcome.now }
-{
-    match outcome {
-        Outcome::Ok { onset, .. } => Cell::Count(*onset),
-        _ => Cell::Empty,
-    }
-}
-
-fn period_cell<'a>(outcome: &Outcome<'a>) -> Cell<'a>
-    ensures { content_of result ≡ period_cell outcome.now }
-{
-    match outcome {
-        Outcome::Ok { period, .. } => Cell::Count(*period),
-        _ => Cell::Empty,
-    }
-}
-
-fn dx_cell<'a>(outcome: &Outcome<'a>) -> Cell<'a>
-    ensures { content_of result ≡ dx_cell outcome.now }
-{
-    match outcome {
-        Outcome::Ok { dx, .. } => Cell::Shift(*dx),
-        _ => Cell::Empty,
-    }
-}
-
-fn dy_cell<'a>(outcome: &Outcome<'a>) -> Cell<'a>
-    ensures { content_of result ≡ dy_cell outcome.now }
-{
-    match outcome {
-        Outcome::Ok { dy, .. } => Cell::Shift(*dy),
-        _ => Cell::Empty,
-    }
-}
-
-fn code_cell<'a>(outcome: &Outcome<'a>) -> Cell<'a>
-    ensures { content_of result ≡ code_cell outcome.now }
-{
-    match outcome {
-        Outcome::Ok { code, .. } => Cell::Text(*code),
-        _ => Cell::Empty,
-    }
-}
-
-fn fault_cell<'a>(outcome: &Outcome<'a>) -> Cell<'a>
-    ensures { content_of result ≡ fault_cell outcome.now }
-{
-    match outcome {
-        Outcome::Bad { fault } => Cell::Count(*fault),
-        _ => Cell::Empty,
+    match outcome.value(label) {
+        Some(value) => cell_of(value),
+        None => Cell::Empty,
     }
 }
 
@@ -184,15 +115,15 @@ impl Column {
             Column::CollectionName => Cell::Text(entry.collection_name),
             Column::Pattern => Cell::Count(entry.pattern),
             Column::Name => Cell::Text(entry.name),
-            Column::Status => status_cell(&entry.outcome),
-            Column::Rule => rule_cell(&entry.outcome),
-            Column::Population => population_cell(&entry.outcome),
-            Column::Onset => onset_cell(&entry.outcome),
-            Column::Period => period_cell(&entry.outcome),
-            Column::Dx => dx_cell(&entry.outcome),
-            Column::Dy => dy_cell(&entry.outcome),
-            Column::Code => code_cell(&entry.outcome),
-            Column::Fault => fault_cell(&entry.outcome),
+            Column::Status => Cell::Text(entry.outcome.word()),
+            Column::Rule => field_cell(&entry.outcome, Label::Rule),
+            Column::Population => field_cell(&entry.outcome, Label::Population),
+            Column::Onset => field_cell(&entry.outcome, Label::Onset),
+            Column::Period => field_cell(&entry.outcome, Label::Period),
+            Column::Dx => field_cell(&entry.outcome, Label::Dx),
+            Column::Dy => field_cell(&entry.outcome, Label::Dy),
+            Column::Code => field_cell(&entry.outcome, Label::Code),
+            Column::Fault => field_cell(&entry.outcome, Label::Fault),
             Column::CollectionNameHex => Cell::Hex(entry.collection_name),
             Column::NameHex => Cell::Hex(entry.name),
         }

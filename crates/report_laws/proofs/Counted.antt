@@ -3,8 +3,9 @@ use Rattle.std.proofs.Common.{◌≡◌, ℕ, zero, suc, ◌+◌, ◌<◌, ◌�
 use Rattle.std.proofs.lemmas.Bool.{cases_Bool}
 use Rattle.census_bundle.specs.declared.bundle.Folder.{Folder}
 use Rattle.census_format.specs.Lines.{pattern_count}
-use Rattle.census_readback.specs.Shapes.{AreCodes, AreLines, AreOfCollections, is_ash, patterns_in, rows_of}
+use Rattle.census_readback.specs.Shapes.{AreCodes, AreLines, AreOfCollections, patterns_in, rows_of}
 use Rattle.census_readback.specs.Steps.{collection_of, patterns_opened}
+use Rattle.census_rows.specs.Kinds.{said}
 use Rattle.census_rows.specs.declared.row.Row.{Row}
 use Rattle.census_rows.specs.declared.row.Row.TheVariants.{Open, Line, Part, Code, Close, End}
 
@@ -15,7 +16,7 @@ patterns-append (x ∷ xs) ys = (let inner = patterns-append xs ys in omega (ari
 pub lines-open-none : (last : ℕ) (ash : Bool) (rows : List Row) → AreLines last ash rows → patterns_in rows ≡ 0
 lines-open-none last ash [] h = refl
 lines-open-none last ash (Open c n name ∷ rows) h = absurd h
-lines-open-none last ash (Line c i o name ∷ rows) h = let e = lines-open-none (last + 1) (is_ash o) rows h.1 in omega (arith, e)
+lines-open-none last ash (Line c i o name ∷ rows) h = let e = lines-open-none (last + 1) (said o).has_parts rows h.1 in omega (arith, e)
 lines-open-none last ash (Part c i code k ∷ rows) h = let e = lines-open-none last ash rows h.2 in omega (arith, e)
 lines-open-none last ash (Code c rule code k ∷ rows) h = absurd h
 lines-open-none last ash (Close c n a b d ∷ rows) h = absurd h

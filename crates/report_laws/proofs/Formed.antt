@@ -4,15 +4,16 @@ use Rattle.std.proofs.lemmas.List.Sums.{sum_by-cons}
 use Rattle.census_bundle.specs.declared.bundle.Entry.{Entry}
 use Rattle.census_bundle.specs.declared.bundle.Folder.{Folder}
 use Rattle.census_bundle.specs.Sizes.{count_limit}
-use Rattle.census_format.specs.Kinds.{said, same_class}
+use Rattle.census_format.specs.Kinds as kinds
 use Rattle.census_format.specs.declared.kinds.Class.TheVariants as class
 use Rattle.census_format.specs.Lines.{answer_to_entry, answers}
 use Rattle.census_format.specs.Lines as book
 use Rattle.census_format.specs.Objects.{Object}
-use Rattle.census_readback.specs.Shapes.{AreCodes, AreLines, IsSection, any_outcome, is_ash, is_refused, is_resolved, is_unresolved, all_rows, lines_that, patterns_in}
+use Rattle.census_readback.specs.Shapes.{AreCodes, AreLines, IsSection, any_outcome, is_refused, is_resolved, is_unresolved, all_rows, lines_that, patterns_in}
 use Rattle.census_rows.specs.declared.row.Outcome.{Outcome}
 use Rattle.census_rows.specs.declared.row.Row.{Row}
 use Rattle.census_rows.specs.declared.row.Row.TheVariants.{Close}
+use Rattle.census_rows.specs.Kinds.{said}
 use Rattle.life_answer.specs.declared.finding.Answer.{Answer}
 use Rattle.life_answer.specs.declared.finding.Answer.TheVariants.{Found, Refused}
 use Rattle.life_answer.specs.declared.finding.Outcome as becomes
@@ -35,11 +36,11 @@ parts-ordered c i [] rest h = h
 parts-ordered c i (p ∷ parts) rest h = (refl, refl, parts-ordered c i parts rest h)
 
 outcome-ordered : (c i : ℕ) (rule : Rule) (population : ℕ) (outcome : becomes.Outcome) (rest : List Row) → ((ash : Bool) → AreLines i ash rest)
-    → AreLines i (is_ash (row_outcome rule population outcome)) (map (part_row c i) (parts_found outcome) ++ rest)
+    → AreLines i (said (row_outcome rule population outcome)).has_parts (map (part_row c i) (parts_found outcome) ++ rest)
 outcome-ordered c i rule population (Ash parts) rest h = parts-ordered c i parts rest (h true)
 outcome-ordered c i rule population _ rest h = h false
 
-after-ordered : (c i : ℕ) (found : Answer) (rest : List Row) → ((ash : Bool) → AreLines i ash rest) → AreLines i (is_ash (outcome_of found)) (part_rows c i found ++ rest)
+after-ordered : (c i : ℕ) (found : Answer) (rest : List Row) → ((ash : Bool) → AreLines i ash rest) → AreLines i (said (outcome_of found)).has_parts (part_rows c i found ++ rest)
 after-ordered c i (Found rule finding) rest h = outcome-ordered c i rule finding.population finding.outcome rest h
 after-ordered c i (Refused number) rest h = h false
 
@@ -50,7 +51,7 @@ ordered question c last i ash (x ∷ es) e =
     let rest = all_rows (pattern_rows question c (suc i) es) in
     let next : suc i ≡ i + 1 = omega arith in (
       e,
-      subst (λ k. AreLines k (is_ash (outcome_of found)) (part_rows c i found ++ rest)) e
+      subst (λ k. AreLines k (said (outcome_of found)).has_parts (part_rows c i found ++ rest)) e
           (after-ordered c i found rest (λ after. ordered question c i (suc i) after es next)),
     )
 
@@ -84,7 +85,7 @@ lines-counted kind test same question c i (x ∷ es) =
 -- ---- a section
 
 resolved-outcome : (rule : Rule) (population : ℕ) (outcome : becomes.Outcome)
-    → is_resolved (row_outcome rule population outcome) ≡ same_class (said outcome).class class.Resolved
+    → is_resolved (row_outcome rule population outcome) ≡ kinds.same_class (kinds.said outcome).class class.Resolved
 resolved-outcome rule population (Ash parts) = refl
 resolved-outcome rule population _ = refl
 
@@ -93,7 +94,7 @@ resolved-same (Found rule finding) = resolved-outcome rule finding.population fi
 resolved-same (Refused number) = refl
 
 unresolved-outcome : (rule : Rule) (population : ℕ) (outcome : becomes.Outcome)
-    → is_unresolved (row_outcome rule population outcome) ≡ same_class (said outcome).class class.Unresolved
+    → is_unresolved (row_outcome rule population outcome) ≡ kinds.same_class (kinds.said outcome).class class.Unresolved
 unresolved-outcome rule population (Ash parts) = refl
 unresolved-outcome rule population _ = refl
 
@@ -102,7 +103,7 @@ unresolved-same (Found rule finding) = unresolved-outcome rule finding.populatio
 unresolved-same (Refused number) = refl
 
 refused-outcome : (rule : Rule) (population : ℕ) (outcome : becomes.Outcome)
-    → is_refused (row_outcome rule population outcome) ≡ same_class (said outcome).class class.Refused
+    → is_refused (row_outcome rule population outcome) ≡ kinds.same_class (kinds.said outcome).class class.Refused
 refused-outcome rule population (Ash parts) = refl
 refused-outcome rule population _ = refl
 

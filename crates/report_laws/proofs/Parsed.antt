@@ -6,6 +6,7 @@ use Rattle.std.proofs.lemmas.Bool.{ne_eqb}
 use Rattle.census_merge.specs.Sums.{sums_of}
 use Rattle.census_readback.specs.Steps.{collection_of}
 use Rattle.census_readback.specs.Texts.{HasNoFeed}
+use Rattle.census_rows.specs.declared.row.Finding.TheVariants as findings
 use Rattle.census_rows.specs.declared.row.Outcome.{Outcome}
 use Rattle.census_rows.specs.declared.row.Outcome.TheVariants as outcomes
 use Rattle.census_rows.specs.declared.row.Row.{Row}
@@ -132,22 +133,22 @@ plain-end = solid-plain (codes "end") (solid-checked (codes "end") refl)
 line-parsed : (collection pattern : ℕ) (outcome : Outcome) (name : List ℕ) → IsOutcome outcome
     → parse (codes "line" ++ fields_text (decimal collection ∷ decimal pattern ∷ (outcome_fields outcome ++ name ∷ [])))
     ≡ codes "line" ∷ decimal collection ∷ decimal pattern ∷ (outcome_fields outcome ++ name ∷ [])
-line-parsed c p (outcomes.Ok rule population onset period dx dy code) name h =
+line-parsed c p (outcomes.Found rule population (findings.Ok onset period dx dy code)) name h =
     let dx_plain = solid-plain (signed_decimal dx) (signed-solid dx) in
     let dy_plain = solid-plain (signed_decimal dy) (signed-solid dy) in
     parsed-line (decimal c) (decimal p) (codes "ok") rule.now
     (decimal population ∷ decimal onset ∷ decimal period ∷ signed_decimal dx ∷ signed_decimal dy ∷ code.now ∷ name ∷ [])
-    (plain-line, (number c, (number p, (plain-ok, (h.0.1, (number population, (number onset, (number period, (dx_plain, (dy_plain, (h.6.1, tt)))))))))))
+    (plain-line, (number c, (number p, (plain-ok, (h.0.1, (number population, (number onset, (number period, (dx_plain, (dy_plain, (h.1.1.1.1.1.1.0.1, tt)))))))))))
     refl
-line-parsed c p (outcomes.Ash rule population objects) name h =
+line-parsed c p (outcomes.Found rule population (findings.Ash objects)) name h =
     parsed-line (decimal c) (decimal p) (codes "ash") rule.now (decimal population ∷ decimal objects ∷ name ∷ [])
     (plain-line, (number c, (number p, (plain-ash, (h.0.1, (number population, (number objects, tt)))))))
     refl
-line-parsed c p (outcomes.None rule population) name h =
+line-parsed c p (outcomes.Found rule population findings.Unresolved) name h =
     parsed-line (decimal c) (decimal p) (codes "none") rule.now (decimal population ∷ name ∷ [])
     (plain-line, (number c, (number p, (plain-none, (h.0.1, (number population, tt))))))
     refl
-line-parsed c p (outcomes.Large rule population generation) name h =
+line-parsed c p (outcomes.Found rule population (findings.Large generation)) name h =
     parsed-line (decimal c) (decimal p) (codes "large") rule.now (decimal population ∷ decimal generation ∷ name ∷ [])
     (plain-line, (number c, (number p, (plain-large, (h.0.1, (number population, (number generation, tt)))))))
     refl

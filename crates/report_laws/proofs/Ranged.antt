@@ -42,14 +42,14 @@ word code some h = (some, solid-plain code h)
 row-outcome-fits : (rule : Rule) (population : ℕ) (outcome : becomes.Outcome) → population < 2 ^ 64 → FitsOutcome outcome → IsCoded outcome
     → IsOutcome (row_outcome rule population outcome)
 row-outcome-fits rule population (Recurs onset period dx dy code) few h k =
-    (rule-word rule, few, h.0, h.1, h.2, h.3, word code h.4 k)
-row-outcome-fits rule population Unresolved few h k = (rule-word rule, few)
-row-outcome-fits rule population (Large generation) few h k = (rule-word rule, few, h)
-row-outcome-fits rule population (Ash parts) few h k = (rule-word rule, few, h.0)
+    (rule-word rule, (few, (h.0, (h.1, (h.2, (h.3, (word code h.4 k, tt)))))))
+row-outcome-fits rule population Unresolved few h k = (rule-word rule, (few, tt))
+row-outcome-fits rule population (Large generation) few h k = (rule-word rule, (few, (h, tt)))
+row-outcome-fits rule population (Ash parts) few h k = (rule-word rule, (few, (h.0, tt)))
 
 outcome-fits : (found : Answer) → IsToldAnswer found → IsCodedAnswer found → IsOutcome (outcome_of found)
 outcome-fits (Found rule finding) h k = row-outcome-fits rule finding.population finding.outcome h.0 h.1 k
-outcome-fits (Refused number) h k = h
+outcome-fits (Refused number) h k = (h, tt)
 
 parts-fit : (c i : ℕ) (parts : List part.Part) → c < 2 ^ 64 → i < 2 ^ 64 → objects_in parts < 2 ^ 64 → Each IsCodedPart parts → Each IsSolidPart parts
     → Each (IsFit c) (map (part_row c i) parts)

@@ -8,6 +8,8 @@ use Rattle.census_bundle.specs.Tickets.{element_at}
 use Rattle.census_format.specs.Kinds.{said}
 use Rattle.census_format.specs.Lines.{answer_to_entry, answers, finding_fields, is_refused, is_resolved, is_unresolved}
 use Rattle.census_format.specs.Objects.{Object, objects, same_object, tally}
+use Rattle.census_rows.specs.declared.row.Finding.{Finding}
+use Rattle.census_rows.specs.declared.row.Finding.TheVariants as findings
 use Rattle.census_rows.specs.declared.row.Outcome.{Outcome}
 use Rattle.census_rows.specs.declared.row.Outcome.TheVariants as outcomes
 use Rattle.census_rows.specs.declared.row.Row.{Row}
@@ -30,11 +32,14 @@ use Rattle.report_laws.specs.Telling.{statement_of_row}
 abbrev pub lent : List ℕ → Bor (List ℕ)
 lent bytes = record { ref_ptr = (0, 0); now = bytes }
 
+abbrev pub row_finding : becomes.Outcome → Finding
+row_finding (Recurs onset period dx dy code) = findings.Ok onset period dx dy (lent code)
+row_finding Unresolved = findings.Unresolved
+row_finding (Large generation) = findings.Large generation
+row_finding (Ash parts) = findings.Ash (objects_in parts)
+
 abbrev pub row_outcome : Rule → ℕ → becomes.Outcome → Outcome
-row_outcome rule population (Recurs onset period dx dy code) = outcomes.Ok (lent (rule_text rule)) population onset period dx dy (lent code)
-row_outcome rule population Unresolved = outcomes.None (lent (rule_text rule)) population
-row_outcome rule population (Large generation) = outcomes.Large (lent (rule_text rule)) population generation
-row_outcome rule population (Ash parts) = outcomes.Ash (lent (rule_text rule)) population (objects_in parts)
+row_outcome rule population outcome = outcomes.Found (lent (rule_text rule)) population (row_finding outcome)
 
 abbrev pub outcome_of : Answer → Outcome
 outcome_of (Found rule finding) = row_outcome rule finding.population finding.outcome

@@ -2,7 +2,7 @@
 
 use crate::lines::lines_of;
 use census_readback::{collections, read_report};
-use census_rows::{Outcome, Row};
+use census_rows::{Finding, Outcome, Row};
 use std::alloc::{AllocError, Global};
 
 const RUN: &[u8] = b"open 1 5 demo
@@ -56,7 +56,11 @@ fn reports_are_read_and_written_again(rt: HostRuntime) -> Result<(), AllocError>
 fn is_glider(row: &Row) -> bool {
     match row {
         Row::Line {
-            outcome: Outcome::Ok { dx, dy, code, .. },
+            outcome:
+                Outcome::Found {
+                    finding: Finding::Ok { dx, dy, code, .. },
+                    ..
+                },
             name,
             ..
         } => {

@@ -1,31 +1,33 @@
-use Rattle.std.proofs.Common.{[], ◌∷◌, codes, decimal}
-use Rattle.std.specs.Fmt.{signed_decimal}
-use Rattle.census_rows.proofs.Told.{field_last, field_then, fields_more}
+use Rattle.std.proofs.Common.{◌∷◌, [], codes, decimal, subst}
+use Rattle.gathered.specs.Telling.{TellsAfter, sheet}
+use Rattle.census_rows.specs.Kinds.{said, said_of, texts_of}
+use Rattle.census_rows.proofs.Told.{field_last, field_then}
 use Rattle.census_rows.proofs.write.put_outcome.Goals as goal
 
-pub returns-in-Ok : goal.returns-in-Ok
-returns-in-Ok g c =
-    let o = c.in-Ok in
-    let four = decimal o.onset ∷ decimal o.period ∷ signed_decimal o.dx ∷ signed_decimal o.dy ∷ [] in
+pub returns-in-Found : goal.returns-in-Found
+returns-in-Found g c =
+    let o = c.in-Found in
+    let f = o.finding in
+    let contents = g.W.Write.contents in
+    let s0 = sheet contents c.args.block.now c.args.writer.now in
+    let s1 = sheet contents c.put_field.new.block c.put_field.new.writer in
+    let s2 = sheet contents c.put_field-in-Found.new.block c.put_field-in-Found.new.writer in
+    let s3 = sheet contents c.put_number.new.block c.put_number.new.writer in
+    let s4 = sheet contents c.put_finding.new.block c.put_finding.new.writer in
+    let word = subst (λ word. TellsAfter (32 ∷ word) s0 s1) c.word.ensures c.put_field.ensures in
+    let found = subst (λ outcome. TellsAfter (32 ∷ (said outcome).word) s0 s1) o.is word in
     rw o.is
-    (fields_more (codes "ok" ∷ o.rule.now ∷ decimal o.population ∷ []) (decimal o.onset ∷ decimal o.period ∷ signed_decimal o.dx ∷ signed_decimal o.dy ∷ o.code.now ∷ []) _ _ _ c.put_found.ensures
-    (fields_more four (o.code.now ∷ []) _ _ _ c.put_cycle.ensures (field_last o.code.now _ _ c.put_field.ensures)))
-
-pub returns-in-Ash : goal.returns-in-Ash
-returns-in-Ash g c =
-    let o = c.in-Ash in
-    rw o.is
-    (fields_more (codes "ash" ∷ o.rule.now ∷ decimal o.population ∷ []) (decimal o.objects ∷ []) _ _ _ c.put_found-in-Ash.ensures
-    (field_last (decimal o.objects) _ _ c.put_number.ensures))
-
-pub returns-in-Large : goal.returns-in-Large
-returns-in-Large g c =
-    let o = c.in-Large in
-    rw o.is
-    (fields_more (codes "large" ∷ o.rule.now ∷ decimal o.population ∷ []) (decimal o.generation ∷ []) _ _ _ c.put_found-in-Large.ensures
-    (field_last (decimal o.generation) _ _ c.put_number-in-Large.ensures))
+    (field_then (said_of f).word (o.rule.now ∷ decimal o.population ∷ texts_of (said_of f).fields) s0 s1 s4 found
+    (field_then o.rule.now (decimal o.population ∷ texts_of (said_of f).fields) s1 s2 s4 c.put_field-in-Found.ensures
+    (field_then (decimal o.population) (texts_of (said_of f).fields) s2 s3 s4 c.put_number.ensures c.put_finding.ensures)))
 
 pub returns-in-Bad : goal.returns-in-Bad
 returns-in-Bad g c =
     let o = c.in-Bad in
-    rw o.is (field_then (codes "bad") (decimal o.fault ∷ []) _ _ _ c.put_field-in-Bad.ensures (field_last (decimal o.fault) _ _ c.put_number-in-Bad.ensures))
+    let contents = g.W.Write.contents in
+    let s0 = sheet contents c.args.block.now c.args.writer.now in
+    let s1 = sheet contents c.put_field.new.block c.put_field.new.writer in
+    let s2 = sheet contents c.put_number-in-Bad.new.block c.put_number-in-Bad.new.writer in
+    let word = subst (λ word. TellsAfter (32 ∷ word) s0 s1) c.word.ensures c.put_field.ensures in
+    let found = subst (λ outcome. TellsAfter (32 ∷ (said outcome).word) s0 s1) o.is word in
+    rw o.is (field_then (codes "bad") (decimal o.fault ∷ []) s0 s1 s2 found (field_last (decimal o.fault) s1 s2 c.put_number-in-Bad.ensures))

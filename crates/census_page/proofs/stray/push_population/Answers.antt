@@ -1,6 +1,6 @@
 use Rattle.std.proofs.Common.{codes, ◌++◌, ap, ◌∙◌, append_assoc}
 use Rattle.std.specs.Prelude.{decimal}
-use Rattle.census_page.proofs.stray.push_unresolved.Goals as goal
+use Rattle.census_page.proofs.stray.push_population.Goals as goal
 
 pub returns : goal.returns
 returns c =

@@ -1,0 +1,87 @@
+-- What each kind of outcome says.
+use Rattle.std.specs.Prelude.{ℕ, ℤ, Bool, true, false, Option, Some, None as Nothing, if◌then◌else◌, List, [], ◌∷◌, codes, decimal}
+use Rattle.std.specs.Borrow.{Bor}
+use Rattle.std.specs.Fmt.{signed_decimal}
+use Rattle.std.specs.Bool.{nat_eq}
+use Rattle.census_rows.specs.declared.kinds.Class.{Class}
+use Rattle.census_rows.specs.declared.kinds.Class.TheVariants.{Resolved, Unresolved, Refused}
+use Rattle.census_rows.specs.declared.kinds.Field.{Field}
+use Rattle.census_rows.specs.declared.kinds.Label.{Label}
+use Rattle.census_rows.specs.declared.kinds.Label.TheVariants as label
+use Rattle.census_rows.specs.declared.kinds.Value.{Value}
+use Rattle.census_rows.specs.declared.kinds.Value.TheVariants.{Number, Signed, Text}
+use Rattle.census_rows.specs.declared.row.Finding.{Finding}
+use Rattle.census_rows.specs.declared.row.Finding.TheVariants as finding
+use Rattle.census_rows.specs.declared.row.Outcome.{Outcome}
+use Rattle.census_rows.specs.declared.row.Outcome.TheVariants.{Found, Bad}
+
+-- what a `line` line says of a pattern: a word, the fields after it, how it counts, and whether `part` lines follow it
+pub record Said : Type 0 where
+  pub word : List ℕ
+  pub fields : List Field
+  pub class : Class
+  pub has_parts : Bool
+
+-- fields with a number, a signed number and a text
+abbrev pub number : Label → ℕ → Field
+number label n = record { label = label; value = Number n }
+
+abbrev pub signed : Label → ℤ → Field
+signed label z = record { label = label; value = Signed z }
+
+abbrev pub text : Label → Bor (List ℕ) → Field
+text label bytes = record { label = label; value = Text bytes }
+
+-- what a kind says, without rule and population
+abbrev pub said_of : Finding → Said
+said_of (finding.Ok onset period dx dy code) = record {
+  word = codes "ok";
+  fields = number label.Onset onset ∷ number label.Period period ∷ signed label.Dx dx ∷ signed label.Dy dy ∷ text label.Code code ∷ [];
+  class = Resolved;
+  has_parts = false;
+}
+said_of (finding.Ash objects) = record { word = codes "ash"; fields = number label.Objects objects ∷ []; class = Resolved; has_parts = true }
+said_of finding.Unresolved = record { word = codes "none"; fields = []; class = Unresolved; has_parts = false }
+said_of (finding.Large generation) =
+    record { word = codes "large"; fields = number label.Generation generation ∷ []; class = Unresolved; has_parts = false }
+
+-- what an outcome says
+abbrev pub said : Outcome → Said
+said (Found rule population found) =
+    record (said_of found) { fields = text label.Rule rule ∷ number label.Population population ∷ (said_of found).fields }
+said (Bad fault) = record { word = codes "bad"; fields = number label.Fault fault ∷ []; class = Refused; has_parts = false }
+
+-- the fields that there are
+abbrev pub present : List (Option Field) → List Field
+present [] = []
+present (Nothing ∷ fields) = present fields
+present (Some field ∷ fields) = field ∷ present fields
+
+-- how many labels are declared before one
+abbrev pub label_number : Label → ℕ
+label_number label.Rule = 0
+label_number label.Population = 1
+label_number label.Onset = 2
+label_number label.Period = 3
+label_number label.Dx = 4
+label_number label.Dy = 5
+label_number label.Code = 6
+label_number label.Objects = 7
+label_number label.Generation = 8
+label_number label.Fault = 9
+
+-- what the field with a label has, where there is one
+abbrev pub value_at : Label → List Field → Option Value
+value_at label [] = Nothing
+value_at label (field ∷ fields) = if nat_eq (label_number field.label) (label_number label) then Some field.value else value_at label fields
+
+-- the bytes of a value
+abbrev pub value_text : Value → List ℕ
+value_text (Number n) = decimal n
+value_text (Signed z) = signed_decimal z
+value_text (Text bytes) = bytes.now
+
+-- the bytes of each field
+abbrev pub texts_of : List Field → List (List ℕ)
+texts_of [] = []
+texts_of (field ∷ fields) = value_text field.value ∷ texts_of fields

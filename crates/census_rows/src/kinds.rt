@@ -1,0 +1,236 @@
+//! What each kind of outcome says.
+ghost use Rattle.std.specs.Prelude.{◌≡◌, ◌∷◌, [], Some};
+ghost use Rattle.census_rows.specs.Kinds.{number, signed, text, said_of, said, value_at, present, label_number};
+
+use crate::row::{Finding, Outcome};
+
+/// How an outcome counts in a `close` line.
+#[derive(Clone, Copy)]
+pub enum Class {
+    Resolved,
+    Unresolved,
+    Refused,
+}
+
+/// What a field tells, and so in which column of a table it stands, if in any.
+#[derive(Clone, Copy)]
+pub enum Label {
+    /// Its rule.
+    Rule,
+    /// How many live cells it has.
+    Population,
+    /// The first generation of its cycle.
+    Onset,
+    /// The length of its cycle.
+    Period,
+    /// How far it moves to the right in a period.
+    Dx,
+    /// How far it moves down in a period.
+    Dy,
+    /// Its code.
+    Code,
+    /// How many objects are left.
+    Objects,
+    /// The first generation that has too many cells.
+    Generation,
+    /// The number of its text's fault.
+    Fault,
+}
+
+/// What a field has.
+#[derive(Clone, Copy)]
+pub enum Value<'a> {
+    /// A number.
+    Number(u64),
+    /// A number that may be negative.
+    Signed(i64),
+    /// A rule or a code.
+    Text(&'a [u8]),
+}
+
+/// A field of a `line` line, after its word.
+#[derive(Clone, Copy)]
+pub struct Field<'a> {
+    pub label: Label,
+    pub value: Value<'a>,
+}
+
+/// What a kind says: its word, its fields after rule and population, how it counts, and whether
+/// `part` lines follow it.
+#[derive(Clone, Copy)]
+pub struct Said<'a> {
+    pub word: &'static [u8],
+    pub fields: [Option<Field<'a>>; 5],
+    pub class: Class,
+    pub has_parts: bool,
+}
+
+#[inline(always)]
+fn number<'a>(label: Label, value: u64) -> Option<Field<'a>>
+    ensures { result ≡ Some (number label value) }
+{
+    Some(Field {
+        label,
+        value: Value::Number(value),
+    })
+}
+
+#[inline(always)]
+fn signed<'a>(label: Label, value: i64) -> Option<Field<'a>>
+    ensures { result ≡ Some (signed label value) }
+{
+    Some(Field {
+        label,
+        value: Value::Signed(value),
+    })
+}
+
+#[inline(always)]
+fn text(label: Label, bytes: &[u8]) -> Option<Field>
+    ensures { result ≡ Some (text label bytes.entry) }
+{
+    Some(Field {
+        label,
+        value: Value::Text(bytes),
+    })
+}
+
+impl<'a> Finding<'a> {
+    // What it says. (It is inlined, so that where one part is asked for the others aren't made.)
+    #[inline(always)]
+    pub(crate) fn said(&self) -> Said<'a>
+        ensures word { result.word.now ≡ (said_of self.now).word }
+        ensures fields { present result.fields ≡ (said_of self.now).fields }
+        ensures class { result.class ≡ (said_of self.now).class }
+        ensures has_parts { result.has_parts ≡ (said_of self.now).has_parts }
+    {
+        match self {
+            Finding::Ok {
+                onset,
+                period,
+                dx,
+                dy,
+                code,
+            } => Said {
+                word: b"ok",
+                fields: [
+                    number(Label::Onset, *onset),
+                    number(Label::Period, *period),
+                    signed(Label::Dx, *dx),
+                    signed(Label::Dy, *dy),
+                    text(Label::Code, *code),
+                ],
+                class: Class::Resolved,
+                has_parts: false,
+            },
+            Finding::Ash { objects } => Said {
+                word: b"ash",
+                fields: [number(Label::Objects, *objects), None, None, None, None],
+                class: Class::Resolved,
+                has_parts: true,
+            },
+            Finding::Unresolved => Said {
+                word: b"none",
+                fields: [None, None, None, None, None],
+                class: Class::Unresolved,
+                has_parts: false,
+            },
+            Finding::Large { generation } => Said {
+                word: b"large",
+                fields: [
+                    number(Label::Generation, *generation),
+                    None,
+                    None,
+                    None,
+                    None,
+                ],
+                class: Class::Unresolved,
+                has_parts: false,
+            },
+        }
+    }
+}
+
+impl Label {
+    // How many labels are declared before it.
+    fn number(self) -> u8
+        ensures { result ≡ label_number self }
+    {
+        self as u8
+    }
+}
+
+// What a field has, where there is one with this label.
+fn value_if<'a>(field: &Option<Field<'a>>, label: Label) -> Option<Value<'a>>
+    ensures { result ≡ value_at label (present (field.now ∷ [])) }
+{
+    match field {
+        Some(field) if field.label.number() == label.number() => Some(field.value),
+        _ => None,
+    }
+}
+
+// What the field with a label has, where there is one.
+fn value_in<'a>(fields: &[Option<Field<'a>>], label: Label) -> Option<Value<'a>>
+    ensures { result ≡ value_at label (present fields.now) }
+{
+    for field in fields {
+        if let Some(value) = value_if(field, label) {
+            return Some(value);
+        }
+    }
+    None
+}
+
+impl<'a> Outcome<'a> {
+    /// The word that says which kind it is.
+    pub fn word(&self) -> &'static [u8]
+        ensures { result.now ≡ (said self.now).word }
+    {
+        match self {
+            Outcome::Found { finding, .. } => finding.said().word,
+            Outcome::Bad { .. } => b"bad",
+        }
+    }
+
+    /// What the field with a label has, where there is one.
+    pub fn value(&self, label: Label) -> Option<Value<'a>>
+        ensures { result ≡ value_at label (said self.now).fields }
+    {
+        match self {
+            Outcome::Found {
+                rule,
+                population,
+                finding,
+            } => match label {
+                Label::Rule => Some(Value::Text(*rule)),
+                Label::Population => Some(Value::Number(*population)),
+                _ => value_in(&finding.said().fields, label),
+            },
+            Outcome::Bad { fault } => match label {
+                Label::Fault => Some(Value::Number(*fault)),
+                _ => None,
+            },
+        }
+    }
+
+    /// How it counts.
+    pub fn class(&self) -> Class
+        ensures { result ≡ (said self.now).class }
+    {
+        match self {
+            Outcome::Found { finding, .. } => finding.said().class,
+            Outcome::Bad { .. } => Class::Refused,
+        }
+    }
+
+    /// Whether `part` lines may follow it.
+    pub fn has_parts(&self) -> bool
+        ensures { result ≡ (said self.now).has_parts }
+    {
+        match self {
+            Outcome::Found { finding, .. } => finding.said().has_parts,
+            Outcome::Bad { .. } => false,
+        }
+    }
+}
