@@ -4,12 +4,12 @@ use Rattle.std.proofs.lemmas.List.{length-append, length-replicate, map-append, 
 use Rattle.life_answer.specs.declared.finding.Answer.{Answer}
 use Rattle.life_answer.specs.declared.finding.Answer.TheVariants.{Found}
 use Rattle.life_answer.specs.declared.finding.Finding.{Finding}
-use Rattle.life_answer.specs.declared.finding.Finding.TheVariants.{Ash}
+use Rattle.life_answer.specs.declared.finding.Outcome.TheVariants.{Ash}
 use Rattle.life_answer.specs.declared.part.Part.{Part}
 use Rattle.life_answer.specs.Parts.{objects_in}
 use Rattle.life_model.specs.Rule.{Rule}
 use Rattle.census_format.specs.Lines.{Line, text_of}
-use Rattle.census_format.specs.Objects.{object, objects, part_objects}
+use Rattle.census_format.specs.Objects.{object, objects, outcome_objects, part_objects}
 use Rattle.census_format.proofs.Owning.{text_of-append}
 use Rattle.census_format.proofs.Tallies.{objects-append}
 
@@ -69,9 +69,10 @@ length-part_objects rule (p ∷ ps) =
     omega arith
 
 -- the objects of a pattern that has fallen apart
-pub length-ash : (a : Answer) (rule : Rule) (finding : Finding) (population : ℕ) (parts : List Part) → a ≡ Found rule finding → finding ≡ Ash population parts → length (objects (a ∷ [])) ≡ objects_in parts
-length-ash a rule finding population parts is_found is_ash =
-    ap (λ x. length (objects (x ∷ []))) (is_found ∙ ap (Found rule) is_ash) ∙ ap length (append-nil (part_objects rule parts)) ∙ length-part_objects rule parts
+pub length-ash : (a : Answer) (rule : Rule) (finding : Finding) (parts : List Part) → a ≡ Found rule finding → finding.outcome ≡ Ash parts → length (objects (a ∷ [])) ≡ objects_in parts
+length-ash a rule finding parts is_found is_ash =
+    ap (λ x. length (objects (x ∷ []))) is_found ∙ ap (λ o. length (outcome_objects rule o ++ [])) is_ash
+    ∙ ap length (append-nil (part_objects rule parts)) ∙ length-part_objects rule parts
 
 -- one line more
 pub lines_taken : {A : Type 0} (f : A → Line) (xs : List A) (i : ℕ) (x : A) → slice_get xs i ≡ Some x → text_of (map f (take (i + 1) xs)) ≡ text_of (map f (take i xs)) ++ f x

@@ -1,31 +1,32 @@
 -- The counts of a closing count objects.
-use Rattle.std.proofs.Common.{◌≡◌, ℕ, zero, suc, ◌+◌, ◌<◌, Bool, true, false, cond, ◌||◌, List, [], ◌∷◌, Option, length, map, get_or, Ok, Err, Result, refl, sym, ap, subst, ◌∙◌, arith, Decides, ℤ, zero-add}
+use Rattle.std.proofs.Common.{◌≡◌, ℕ, zero, suc, ◌+◌, ◌<◌, Bool, true, false, cond, ◌||◌, List, [], ◌∷◌, ◌++◌, Option, length, map, get_or, Ok, Err, Result, refl, sym, ap, subst, ◌∙◌, arith, Decides, ℤ, zero-add}
 use Rattle.std.proofs.lemmas.Bool.{false≢true, or_right}
 use Rattle.std.proofs.lemmas.List.Folds.{list_any-append}
 use Rattle.std.proofs.lemmas.List.Elements.{All-map, Contains-append_right}
 use Rattle.std.specs.List.{All, Contains, list_any, count_by}
 use Rattle.census_bundle.specs.declared.bundle.Entry.{Entry}
-use Rattle.life_answer.specs.Answers.{finding_of}
-use Rattle.life_answer.specs.Questions.{answer_to, answer_to_question, finding_to}
+use Rattle.life_answer.specs.Answers.{finding_with, outcome_of}
+use Rattle.life_answer.specs.Questions.{answer_to, answer_to_question, finding_to, outcome_to}
 use Rattle.life_answer.specs.Apgcode.{code_of}
 use Rattle.life_answer.specs.declared.finding.Answer.{Answer}
 use Rattle.life_answer.specs.declared.finding.Answer.TheVariants.{Found, Refused}
 use Rattle.life_answer.specs.declared.finding.Finding.{Finding}
-use Rattle.life_answer.specs.declared.finding.Finding.TheVariants.{Recurs, Unresolved, Large, Ash}
+use Rattle.life_answer.specs.declared.finding.Outcome.{Outcome}
+use Rattle.life_answer.specs.declared.finding.Outcome.TheVariants.{Recurs, Large, Ash}
+use Rattle.life_answer.specs.declared.part.Part.{Part}
 use Rattle.life_answer.specs.declared.question.Question.TheVariants as question
 use Rattle.life_answer.proofs.Codes.{codes_tell_objects}
-use Rattle.life_answer.proofs.Findings.{finding-settled, settles_by_finding}
+use Rattle.life_answer.proofs.Findings.{outcome-settled, settles_by_outcome}
 use Rattle.life_answer.proofs.Limits.{limited-else, limited-same}
 use Rattle.life_answer.proofs.Texts.{answer-found, answer-no_ash}
 use Rattle.life_model.specs.Evolution.{generation}
-use Rattle.life_model.specs.Generation.{size}
 use Rattle.life_model.specs.Recurrence.{AreOneObject, Recurrence, Settles}
 use Rattle.life_model.specs.Rule.{Rule}
 use Rattle.life_text.specs.declared.rle.RleFault.{RleFault}
 use Rattle.life_text.specs.Picture.{Picture, picture_of}
 use Rattle.life_text.specs.Rle.{reading}
 use Rattle.census_format.specs.Lines.{answer_to_entry, answers}
-use Rattle.census_format.specs.Objects.{Object, object, objects, same_object, distinct_elements, tally}
+use Rattle.census_format.specs.Objects.{Object, object, objects, outcome_objects, same_object, distinct_elements, tally}
 use Rattle.census_format.specs.ObjectCounts.{Resolves, settled_cells, settled_object, SettlesInto, CountsObject, CodesCountObjects}
 use Rattle.census_format.specs.ObjectLaws.{one_object, same_itself}
 use Rattle.census_format.proofs.Lost.{found_answer, found_kept, kept_answer}
@@ -43,52 +44,69 @@ answer_by e bound most r kept read = kept_answer (question.Settles bound most) e
 found_parts : (r s : Rule) (f g : Finding) → Found r f ≡ Found s g → (r ≡ s) × (f ≡ g)
 found_parts r s f g e = (cc, cc)
 
-recurs_code : (p o n p' o' n' : ℕ) (x y x' y' : ℤ) (c c' : List ℕ) → Recurs p o n x y c ≡ Recurs p' o' n' x' y' c' → c ≡ c'
-recurs_code p o n p' o' n' x y x' y' c c' e = cc
+recurs_code : (o n o' n' : ℕ) (x y x' y' : ℤ) (c c' : List ℕ) → Recurs o n x y c ≡ Recurs o' n' x' y' c' → c ≡ c'
+recurs_code o n o' n' x y x' y' c c' e = cc
 
-not_large : (p o n : ℕ) (x y : ℤ) (c : List ℕ) (population first : ℕ) → Recurs p o n x y c ≡ Large population first → ⊥
-not_large p o n x y c population first e = cc
+not_large : (o n : ℕ) (x y : ℤ) (c : List ℕ) (first : ℕ) → Recurs o n x y c ≡ Large first → ⊥
+not_large o n x y c first e = cc
 
-said : (bound : ℕ) (most : Option ℕ) (e : Entry) (rule : Rule) (population onset period : ℕ) (dx dy : ℤ) (code : List ℕ) → answer_in bound most e ≡ Found rule (Recurs population onset period dx dy code)
+said : (bound : ℕ) (most : Option ℕ) (e : Entry) (rule : Rule) (finding : Finding) (onset period : ℕ) (dx dy : ℤ) (code : List ℕ)
+    → answer_in bound most e ≡ Found rule finding → finding.outcome ≡ Recurs onset period dx dy code
     → (r : Result Picture RleFault) → picture_of (reading e.text) ≡ r → (s : Resolves bound most e) × (object rule code ≡ settled_object bound most e s)
-said bound most e rule population onset period dx dy code is (Err fault) read =
-    let kept = found_kept (question.Settles bound most) e rule (Recurs population onset period dx dy code) is in
+said bound most e rule finding onset period dx dy code is recurs (Err fault) read =
+    let kept = found_kept (question.Settles bound most) e rule finding is in
     absurd (let fails = sym is ∙ answer_by e bound most (Err fault) kept read in cc)
-said bound most e rule population onset period dx dy code is (Ok pattern) read =
-    let kept = found_kept (question.Settles bound most) e rule (Recurs population onset period dx dy code) is in
-    let parts = found_parts rule pattern.rule (Recurs population onset period dx dy code) (finding_to (question.Settles bound most) pattern.rule pattern.cells) (sym is ∙ answer_by e bound most (Ok pattern) kept read) in
-    let found = limited-else pattern.rule pattern.cells bound most (finding_of pattern.rule pattern.cells bound) (Recurs population onset period dx dy code) (sym parts.1) (not_large population onset period dx dy code) in
+said bound most e rule finding onset period dx dy code is recurs (Ok pattern) read =
+    let R = pattern.rule in
+    let G = pattern.cells in
+    let kept = found_kept (question.Settles bound most) e rule finding is in
+    let parts = found_parts rule R finding (finding_to (question.Settles bound most) R G) (sym is ∙ answer_by e bound most (Ok pattern) kept read) in
+    let becomes : outcome_to (question.Settles bound most) R G ≡ Recurs onset period dx dy code = ap (λ (f : Finding). f.outcome) (sym parts.1) ∙ recurs in
+    let found = limited-else R G bound most (outcome_of R G bound) (Recurs onset period dx dy code) becomes (not_large onset period dx dy code) in
     let recurrence : Recurrence = record { onset = onset; period = period; displacement = (dx, dy) } in
-    let settles : Settles pattern.rule pattern.cells bound recurrence = settles_by_finding pattern.rule pattern.cells bound population onset period dx dy code found.1 in
-    let codes : code ≡ code_of pattern.rule (generation pattern.rule pattern.cells onset) period (dx, dy) = recurs_code _ _ _ _ _ _ _ _ _ _ _ _ (sym found.1 ∙ finding-settled pattern.rule pattern.cells bound recurrence settles) in (
-      record { rule = pattern.rule; cells = pattern.cells; kept = kept; reads = read; recurrence = recurrence; settles = settles; small = found.0 },
-      ap (λ r. object r code) parts.0 ∙ ap (object pattern.rule) codes,
+    let settles : Settles R G bound recurrence = settles_by_outcome R G bound onset period dx dy code found.1 in
+    let codes : code ≡ code_of R (generation R G onset) period (dx, dy) = recurs_code _ _ _ _ _ _ _ _ _ _ (sym found.1 ∙ outcome-settled R G bound recurrence settles) in (
+      record { rule = R; cells = G; kept = kept; reads = read; recurrence = recurrence; settles = settles; small = found.0 },
+      ap (λ r. object r code) parts.0 ∙ ap (object R) codes,
     )
 
 -- and of one that resolves it is said
-to_say : (bound : ℕ) (most : Option ℕ) (e : Entry) (s : Resolves bound most e) → answer_in bound most e ≡ Found s.rule
-    (Recurs (size s.cells) s.recurrence.onset s.recurrence.period s.recurrence.displacement.0 s.recurrence.displacement.1 (settled_object bound most e s).code)
+to_say : (bound : ℕ) (most : Option ℕ) (e : Entry) (s : Resolves bound most e) → answer_in bound most e ≡ Found s.rule (finding_with s.cells
+    (Recurs s.recurrence.onset s.recurrence.period s.recurrence.displacement.0 s.recurrence.displacement.1 (settled_object bound most e s).code))
 to_say bound most e s =
     kept_answer (question.Settles bound most) e s.kept ∙ answer-found (question.Settles bound most) e.text (record { rule = s.rule; cells = s.cells }) s.reads
-    ∙ ap (Found s.rule) (limited-same s.rule s.cells bound most (finding_of s.rule s.cells bound) s.small ∙ finding-settled s.rule s.cells bound s.recurrence s.settles)
+    ∙ ap (λ o. Found s.rule (finding_with s.cells o))
+    (limited-same s.rule s.cells bound most (outcome_of s.rule s.cells bound) s.small ∙ outcome-settled s.rule s.cells bound s.recurrence s.settles)
 
 -- ---- the patterns of an object
 
+-- whether this object is that of the outcome
+shows : Object → Rule → Outcome → Bool
+shows k rule (Recurs onset period dx dy code) = same_object k (object rule code)
+shows k rule _ = false
+
 -- whether this object is said
 says : Object → Answer → Bool
-says k (Found rule (Recurs population onset period dx dy code)) = same_object k (object rule code)
-says k (Found rule (Unresolved population)) = false
-says k (Found rule (Large population first)) = false
-says k (Found rule (Ash population parts)) = false
+says k (Found rule finding) = shows k rule finding.outcome
 says k (Refused number) = false
+
+count_shown : (k : Object) (rule : Rule) (outcome : Outcome) (rest : List Object) → ((parts : List Part) → outcome ≡ Ash parts → ⊥)
+    → count_by (same_object k) (outcome_objects rule outcome ++ rest) ≡ cond (shows k rule outcome) 1 0 + count_by (same_object k) rest
+unfolding shows
+count_shown k rule (Recurs onset period dx dy code) rest apart = count_first (same_object k) (object rule code) rest
+count_shown k rule (Ash parts) rest apart = absurd (apart parts refl)
+count_shown k rule _ rest apart = sym (zero-add (count_by (same_object k) rest))
+
+-- where it is asked which generation comes again, nothing has fallen apart
+no_ash : (bound : ℕ) (most : Option ℕ) (e : Entry) (rule : Rule) (finding : Finding) → answer_in bound most e ≡ Found rule finding
+    → (parts : List Part) → finding.outcome ≡ Ash parts → ⊥
+no_ash bound most e rule finding is parts ash =
+    answer-no_ash e.text bound most rule finding parts (found_answer (question.Settles bound most) e rule finding is) ash
 
 count_said : (bound : ℕ) (most : Option ℕ) (k : Object) (e : Entry) (a : Answer) (rest : List Answer) → answer_in bound most e ≡ a
     → count_by (same_object k) (objects (a ∷ rest)) ≡ cond (says k a) 1 0 + count_by (same_object k) (objects rest)
 unfolding says
-count_said bound most k e (Found rule (Recurs population onset period dx dy code)) rest is = count_first (same_object k) (object rule code) (objects rest)
-count_said bound most k e (Found rule (Unresolved population)) rest is = sym (zero-add (count_by (same_object k) (objects rest)))
-count_said bound most k e (Found rule (Large population first)) rest is = sym (zero-add (count_by (same_object k) (objects rest)))
-count_said bound most k e (Found rule (Ash population parts)) rest is = absurd (answer-no_ash e.text bound most rule population parts (found_answer (question.Settles bound most) e rule (Ash population parts) is))
+count_said bound most k e (Found rule finding) rest is = count_shown k rule finding.outcome (objects rest) (no_ash bound most e rule finding is)
 count_said bound most k e (Refused number) rest is = sym (zero-add (count_by (same_object k) (objects rest)))
 
 count_map : {A B : Type 0} (f : A → B) (p : B → Bool) (xs : List A) → count_by p (map f xs) ≡ count_by (λ x. p (f x)) xs
@@ -118,7 +136,7 @@ module _ (bound : ℕ) (most : Option ℕ) (pattern : Entry) (s : Resolves bound
       record { resolves = r; same_rule = sym rules; one = subst (λ q. AreOneObject R (generation q r.cells r.recurrence.onset) (settled_cells bound most pattern s)) rules (told.0 (sym codes)) }
 
   told_by : (e : Entry) → into e → says (settled_object bound most pattern s) (answer_in bound most e) ≡ true
-  unfolding says
+  unfolding shows says
   told_by e h =
       let r = h.resolves in
       let R = s.rule in
@@ -129,14 +147,17 @@ module _ (bound : ℕ) (most : Option ℕ) (pattern : Entry) (s : Resolves bound
       let same : settled_object bound most e r ≡ settled_object bound most pattern s = ap (λ q. object q (code_of q (generation q r.cells r.recurrence.onset) r.recurrence.period r.recurrence.displacement)) h.same_rule ∙ ap (object R) codes in
       ap (says (settled_object bound most pattern s)) (to_say bound most e r) ∙ ap (same_object (settled_object bound most pattern s)) same ∙ same_itself (settled_object bound most pattern s)
 
+  tells_shown : (e : Entry) (rule : Rule) (finding : Finding) (outcome : Outcome) → answer_in bound most e ≡ Found rule finding → finding.outcome ≡ outcome
+      → shows (settled_object bound most pattern s) rule outcome ≡ true → into e
+  unfolding shows
+  tells_shown e rule finding (Recurs onset period dx dy code) is recurs holds =
+      let r = said bound most e rule finding onset period dx dy code is recurs (picture_of (reading e.text)) refl in
+      one_code e r.0 (one_object (settled_object bound most pattern s) (object rule code) holds ∙ r.1)
+  tells_shown e rule finding _ is becomes fails = absurd (false≢true fails)
+
   tells_by : (e : Entry) (a : Answer) → answer_in bound most e ≡ a → says (settled_object bound most pattern s) a ≡ true → into e
   unfolding says
-  tells_by e (Found rule (Recurs population onset period dx dy code)) is holds =
-      let r = said bound most e rule population onset period dx dy code is (picture_of (reading e.text)) refl in
-      one_code e r.0 (one_object (settled_object bound most pattern s) (object rule code) holds ∙ r.1)
-  tells_by e (Found rule (Unresolved population)) is fails = absurd (false≢true fails)
-  tells_by e (Found rule (Large population first)) is fails = absurd (false≢true fails)
-  tells_by e (Found rule (Ash population parts)) is fails = absurd (false≢true fails)
+  tells_by e (Found rule finding) is holds = tells_shown e rule finding finding.outcome is refl holds
   tells_by e (Refused number) is fails = absurd (false≢true fails)
 
   test_tells : (e : Entry) → Decides (says (settled_object bound most pattern s) (answer_in bound most e)) (into e)
@@ -144,16 +165,21 @@ module _ (bound : ℕ) (most : Option ℕ) (pattern : Entry) (s : Resolves bound
 
 -- ---- the lines
 
-shown_object : (bound : ℕ) (most : Option ℕ) (k : Object) (e : Entry) (a : Answer) (rest : List Answer) → answer_in bound most e ≡ a → list_any (same_object k) (objects (a ∷ rest)) ≡ true
-    → (P : Type 0) → ((r : Resolves bound most e) → k ≡ settled_object bound most e r → P) → (list_any (same_object k) (objects rest) ≡ true → P) → P
-shown_object bound most k e (Found rule (Recurs population onset period dx dy code)) rest is holds P here there =
-    elim (same_object k (object rule code)) as (λ b. same_object k (object rule code) ≡ b → (b || list_any (same_object k) (objects rest)) ≡ true → P) [
-      | true ↦ λ same _. let r = said bound most e rule population onset period dx dy code is (picture_of (reading e.text)) refl in here r.0 (one_object k (object rule code) same ∙ r.1)
+shown_outcome : (bound : ℕ) (most : Option ℕ) (k : Object) (e : Entry) (rule : Rule) (finding : Finding) (outcome : Outcome) (rest : List Object)
+    → answer_in bound most e ≡ Found rule finding → finding.outcome ≡ outcome → list_any (same_object k) (outcome_objects rule outcome ++ rest) ≡ true
+    → (P : Type 0) → ((r : Resolves bound most e) → k ≡ settled_object bound most e r → P) → (list_any (same_object k) rest ≡ true → P) → P
+shown_outcome bound most k e rule finding (Recurs onset period dx dy code) rest is recurs holds P here there =
+    elim (same_object k (object rule code)) as (λ b. same_object k (object rule code) ≡ b → (b || list_any (same_object k) rest) ≡ true → P) [
+      | true ↦ λ same _. let r = said bound most e rule finding onset period dx dy code is recurs (picture_of (reading e.text)) refl in here r.0 (one_object k (object rule code) same ∙ r.1)
       | false ↦ λ _ rest'. there rest'
     ] refl holds
-shown_object bound most k e (Found rule (Unresolved population)) rest is holds P here there = there holds
-shown_object bound most k e (Found rule (Large population first)) rest is holds P here there = there holds
-shown_object bound most k e (Found rule (Ash population parts)) rest is holds P here there = absurd (answer-no_ash e.text bound most rule population parts (found_answer (question.Settles bound most) e rule (Ash population parts) is))
+shown_outcome bound most k e rule finding (Ash parts) rest is ash holds P here there = absurd (no_ash bound most e rule finding is parts ash)
+shown_outcome bound most k e rule finding _ rest is becomes holds P here there = there holds
+
+shown_object : (bound : ℕ) (most : Option ℕ) (k : Object) (e : Entry) (a : Answer) (rest : List Answer) → answer_in bound most e ≡ a → list_any (same_object k) (objects (a ∷ rest)) ≡ true
+    → (P : Type 0) → ((r : Resolves bound most e) → k ≡ settled_object bound most e r → P) → (list_any (same_object k) (objects rest) ≡ true → P) → P
+shown_object bound most k e (Found rule finding) rest is holds P here there =
+    shown_outcome bound most k e rule finding finding.outcome (objects rest) is refl holds P here there
 shown_object bound most k e (Refused number) rest is holds P here there = there holds
 
 record IsFrom (bound : ℕ) (most : Option ℕ) (es : List Entry) (k : Object) : Type 0 where

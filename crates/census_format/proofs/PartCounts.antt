@@ -6,22 +6,23 @@ use Rattle.std.proofs.lemmas.List.Folds.{sum_by-replicate}
 use Rattle.std.proofs.lemmas.List.Sums.{sum_by-append, sum_by-cons}
 use Rattle.std.specs.List.{All, list_any, count_by}
 use Rattle.census_bundle.specs.declared.bundle.Entry.{Entry}
-use Rattle.life_answer.specs.Census.{census_found, census_of}
-use Rattle.life_answer.specs.Limited.{first_past, finding_unless_large, unless_large}
+use Rattle.life_answer.specs.Census.{census_found, census_of, parts_found}
+use Rattle.life_answer.specs.Limited.{first_past, unless_large}
 use Rattle.life_answer.specs.Questions.{answer_to, answer_to_question}
 use Rattle.life_answer.specs.declared.finding.Answer.{Answer}
 use Rattle.life_answer.specs.declared.finding.Answer.TheVariants.{Found, Refused}
 use Rattle.life_answer.specs.declared.finding.Finding.{Finding}
-use Rattle.life_answer.specs.declared.finding.Finding.TheVariants.{Recurs, Unresolved, Large, Ash}
+use Rattle.life_answer.specs.declared.finding.Outcome.{Outcome}
+use Rattle.life_answer.specs.declared.finding.Outcome.TheVariants.{Recurs, Ash}
 use Rattle.life_answer.specs.declared.part.Part.{Part}
 use Rattle.life_answer.specs.declared.question.Question.TheVariants as question
-use Rattle.life_model.specs.Generation.{Generation, size}
+use Rattle.life_model.specs.Generation.{Generation}
 use Rattle.life_model.specs.Rule.{Rule}
 use Rattle.life_text.specs.declared.rle.RleFault.{RleFault}
 use Rattle.life_text.specs.Picture.{Picture, picture_of}
 use Rattle.life_text.specs.Rle.{reading}
 use Rattle.census_format.specs.Lines.{answer_to_entry, answers}
-use Rattle.census_format.specs.Objects.{Object, object, objects, part_objects, same_object, distinct_elements, tally}
+use Rattle.census_format.specs.Objects.{Object, object, objects, outcome_objects, part_objects, same_object, distinct_elements, tally}
 use Rattle.census_format.specs.ObjectLaws.{one_object, same_itself}
 use Rattle.census_format.specs.PartCounts.{parts_as, fallen_as, all_fallen_as, CountsParts, CodesCountParts}
 use Rattle.census_format.proofs.Lost.{found_answer}
@@ -29,33 +30,33 @@ use Rattle.census_format.proofs.Tallies.{count_first, count_none, any_distinct, 
 
 -- ---- where objects are asked for, no pattern is said to come again
 
-module _ (population onset period : ℕ) (dx dy : ℤ) (code : List ℕ) where
-  census_found-apart : (R : Rule) (b cells : ℕ) (o : Option (List Generation)) → census_found R b cells o ≡ Recurs population onset period dx dy code → ⊥
-  census_found-apart R b cells None e = cc
-  census_found-apart R b cells (Some parts) e = cc
+module _ (onset period : ℕ) (dx dy : ℤ) (code : List ℕ) where
+  census_found-apart : (R : Rule) (b : ℕ) (o : Option (List Generation)) → census_found R b o ≡ Recurs onset period dx dy code → ⊥
+  census_found-apart R b None e = cc
+  census_found-apart R b (Some parts) e = cc
 
-  census_of-apart : (R : Rule) (G : Generation) (b : ℕ) → census_of R G b ≡ Recurs population onset period dx dy code → ⊥
+  census_of-apart : (R : Rule) (G : Generation) (b : ℕ) → census_of R G b ≡ Recurs onset period dx dy code → ⊥
   unfolding census_of
-  census_of-apart R G b e = census_found-apart R b (size G) _ e
+  census_of-apart R G b e = census_found-apart R b _ e
 
-  large_apart : (found : Finding) (cells : ℕ) (o : Option ℕ) → (found ≡ Recurs population onset period dx dy code → ⊥) → unless_large found cells o ≡ Recurs population onset period dx dy code → ⊥
-  large_apart found cells None apart e = apart e
-  large_apart found cells (Some n) apart e = cc
-
-  limited_apart : (most : Option ℕ) (R : Rule) (G : Generation) (last : ℕ) (found : Finding) → (found ≡ Recurs population onset period dx dy code → ⊥) → finding_unless_large most R G last found ≡ Recurs population onset period dx dy code → ⊥
-  limited_apart most R G last found apart e = large_apart found (size G) (first_past most R G last) apart e
+  large_apart : (found : Outcome) (o : Option ℕ) → (found ≡ Recurs onset period dx dy code → ⊥) → unless_large found o ≡ Recurs onset period dx dy code → ⊥
+  large_apart found None apart e = apart e
+  large_apart found (Some n) apart e = cc
 
   same_finding : (r s : Rule) (f g : Finding) → Found r f ≡ Found s g → f ≡ g
   same_finding r s f g e = cc
 
-  answer_apart : (bound : ℕ) (most : Option ℕ) (rule : Rule) (r : Result Picture RleFault) → answer_to (question.Objects bound most) r ≡ Found rule (Recurs population onset period dx dy code) → ⊥
-  answer_apart bound most rule (Ok pattern) e =
-      limited_apart most pattern.rule pattern.cells (3 * bound) _ (census_of-apart pattern.rule pattern.cells bound) (same_finding pattern.rule rule _ _ e)
-  answer_apart bound most rule (Err fault) e = cc
+  answer_apart : (bound : ℕ) (most : Option ℕ) (rule : Rule) (finding : Finding) (r : Result Picture RleFault) → answer_to (question.Objects bound most) r ≡ Found rule finding
+      → finding.outcome ≡ Recurs onset period dx dy code → ⊥
+  answer_apart bound most rule finding (Ok pattern) e recurs =
+      large_apart _ (first_past most pattern.rule pattern.cells (3 * bound)) (census_of-apart pattern.rule pattern.cells bound)
+      (ap (λ (f : Finding). f.outcome) (same_finding pattern.rule rule _ _ e) ∙ recurs)
+  answer_apart bound most rule finding (Err fault) e recurs = cc
 
-  no_recurrence : (bound : ℕ) (most : Option ℕ) (text : List ℕ) (rule : Rule) → answer_to_question (question.Objects bound most) text ≡ Found rule (Recurs population onset period dx dy code) → ⊥
+  no_recurrence : (bound : ℕ) (most : Option ℕ) (text : List ℕ) (rule : Rule) (finding : Finding) → answer_to_question (question.Objects bound most) text ≡ Found rule finding
+      → finding.outcome ≡ Recurs onset period dx dy code → ⊥
   unfolding answer_to_question
-  no_recurrence bound most text rule e = answer_apart bound most rule (picture_of (reading text)) e
+  no_recurrence bound most text rule finding e recurs = answer_apart bound most rule finding (picture_of (reading text)) e recurs
 
 -- ---- the objects with a rule and a code
 
@@ -76,6 +77,13 @@ count_parts k rule (part ∷ parts) =
     ∙ ap (λ n. n + count_by (same_object k) (part_objects rule parts)) (count_replicate (same_object k) part.count (object rule part.code))
     ∙ ap (λ n. cond (same_object k (object rule part.code)) part.count 0 + n) (count_parts k rule parts)
 
+count_outcome : (k : Object) (rule : Rule) (outcome : Outcome) (rest : List Object) → ((onset period : ℕ) (dx dy : ℤ) (code : List ℕ) → outcome ≡ Recurs onset period dx dy code → ⊥)
+    → count_by (same_object k) (outcome_objects rule outcome ++ rest) ≡ parts_as k rule (parts_found outcome) + count_by (same_object k) rest
+count_outcome k rule (Recurs onset period dx dy code) rest apart = absurd (apart onset period dx dy code refl)
+count_outcome k rule (Ash parts) rest apart =
+    count_append (same_object k) (part_objects rule parts) rest ∙ ap (λ n. n + count_by (same_object k) rest) (count_parts k rule parts)
+count_outcome k rule _ rest apart = sym (zero-add (count_by (same_object k) rest))
+
 module _ (bound : ℕ) (most : Option ℕ) where
   abbrev answer_in : Entry → Answer
   answer_in e = answer_to_entry (question.Objects bound most) e
@@ -84,11 +92,9 @@ module _ (bound : ℕ) (most : Option ℕ) where
   all_objects es = objects (answers (question.Objects bound most) es)
 
   count_answer : (k : Object) (e : Entry) (a : Answer) (rest : List Answer) → answer_in e ≡ a → count_by (same_object k) (objects (a ∷ rest)) ≡ fallen_as k a + count_by (same_object k) (objects rest)
-  count_answer k e (Found rule (Recurs population onset period dx dy code)) rest is = absurd (no_recurrence population onset period dx dy code bound most e.text rule (found_answer (question.Objects bound most) e rule (Recurs population onset period dx dy code) is))
-  count_answer k e (Found rule (Unresolved population)) rest is = sym (zero-add (count_by (same_object k) (objects rest)))
-  count_answer k e (Found rule (Large population first)) rest is = sym (zero-add (count_by (same_object k) (objects rest)))
-  count_answer k e (Found rule (Ash population parts)) rest is =
-      count_append (same_object k) (part_objects rule parts) (objects rest) ∙ ap (λ n. n + count_by (same_object k) (objects rest)) (count_parts k rule parts)
+  count_answer k e (Found rule finding) rest is =
+      count_outcome k rule finding.outcome (objects rest)
+      (λ onset period dx dy code recurs. no_recurrence onset period dx dy code bound most e.text rule finding (found_answer (question.Objects bound most) e rule finding is) recurs)
   count_answer k e (Refused number) rest is = sym (zero-add (count_by (same_object k) (objects rest)))
 
   count_all : (k : Object) (es : List Entry) → count_by (same_object k) (all_objects es) ≡ all_fallen_as bound most es k

@@ -6,14 +6,15 @@ use Rattle.std.specs.List.{list_any, count_by}
 use Rattle.std.specs.Map.{lookup}
 use Rattle.std.specs.Option.{unwrap_or}
 use Rattle.indexmap.specs.IndexMap.{insert_entry}
-use Rattle.std.specs.Prelude.{ℤ}
 use Rattle.life_answer.specs.declared.finding.Answer.{Answer}
 use Rattle.life_answer.specs.declared.finding.Answer.TheVariants.{Found, Refused}
 use Rattle.life_answer.specs.declared.finding.Finding.{Finding}
-use Rattle.life_answer.specs.declared.finding.Finding.TheVariants.{Recurs, Unresolved, Large, Ash}
+use Rattle.life_answer.specs.declared.finding.Outcome.{Outcome}
+use Rattle.life_answer.specs.declared.finding.Outcome.TheVariants.{Recurs, Ash}
 use Rattle.life_answer.specs.declared.part.Part.{Part}
+use Rattle.std.specs.Prelude.{ℤ}
 use Rattle.life_model.specs.Rule.{Rule}
-use Rattle.census_format.specs.Objects.{Object, distinct_elements, tally, object, objects, part_objects, same_object}
+use Rattle.census_format.specs.Objects.{Object, distinct_elements, tally, objects, outcome_objects, same_object}
 
 count_push : {A : Type 0} (p : A → Bool) (xs : List A) (x : A) → count_by p (xs ++ x ∷ []) ≡ count_by p xs + cond (p x) 1 0
 count_push p xs x = sum_by-append (λ y. cond (p y) 1 0) xs (x ∷ []) ∙ ap (λ n. count_by p xs + n) (zero-add (cond (p x) 1 0))
@@ -220,32 +221,28 @@ module _ {A : Type 0} (same : A → A → Bool) (exact : (x y : A) → same x y 
 
 pub objects-append : (xs ys : List Answer) → objects (xs ++ ys) ≡ objects xs ++ objects ys
 objects-append [] ys = refl
-objects-append (Found rule (Recurs population onset period dx dy code) ∷ xs) ys = ap (λ ks. object rule code ∷ ks) (objects-append xs ys)
-objects-append (Found rule (Unresolved population) ∷ xs) ys = objects-append xs ys
-objects-append (Found rule (Large population generation) ∷ xs) ys = objects-append xs ys
-objects-append (Found rule (Ash population parts) ∷ xs) ys =
-    ap (λ ks. part_objects rule parts ++ ks) (objects-append xs ys) ∙ sym (append_assoc (part_objects rule parts) (objects xs) (objects ys))
+objects-append (Found rule finding ∷ xs) ys =
+    ap (λ ks. outcome_objects rule finding.outcome ++ ks) (objects-append xs ys)
+    ∙ sym (append_assoc (outcome_objects rule finding.outcome) (objects xs) (objects ys))
 objects-append (Refused number ∷ xs) ys = objects-append xs ys
 
--- one more answer, which is not resolved
+-- an outcome of another kind has no objects
+pub no_objects : (rule : Rule) (outcome : Outcome) → ((onset period : ℕ) (dx dy : ℤ) (code : List ℕ) → outcome ≡ Recurs onset period dx dy code → ⊥)
+    → ((parts : List Part) → outcome ≡ Ash parts → ⊥) → outcome_objects rule outcome ≡ []
+no_objects rule (Recurs onset period dx dy code) comes falls = absurd (comes onset period dx dy code refl)
+no_objects rule (Ash parts) comes falls = absurd (falls parts refl)
+no_objects rule _ comes falls = refl
+
+-- one more answer, which has no objects
 pub none_more : (es : List (Object × ℕ)) (before : List Answer) (a : Answer) → objects (a ∷ []) ≡ [] → es ≡ tally same_object (objects before) → es ≡ tally same_object (objects (before ++ a ∷ []))
 none_more es before a none is = is ∙ ap (tally same_object) (sym (objects-append before (a ∷ []) ∙ ap (λ ks. objects before ++ ks) none ∙ append-nil (objects before)))
 
--- one more answer, which comes again
-pub one_more : (before : List Answer) (a : Answer) (rule : Rule) (finding : Finding) (population onset period : ℕ) (dx dy : ℤ) (code shown : List ℕ)
-    → a ≡ Found rule finding → finding ≡ Recurs population onset period dx dy code → shown ≡ code
-    → tally same_object (objects before ++ object rule shown ∷ []) ≡ tally same_object (objects (before ++ a ∷ []))
-one_more before a rule finding population onset period dx dy code shown is_found is_recurs is_code =
-    ap (λ bytes. tally same_object (objects before ++ object rule bytes ∷ [])) is_code
-    ∙ ap (λ x. tally same_object (objects before ++ objects (x ∷ []))) (sym (is_found ∙ ap (Found rule) is_recurs))
-    ∙ ap (tally same_object) (sym (objects-append before (a ∷ [])))
-
--- one more answer, which has fallen apart
-pub parts_more : (before : List Answer) (a : Answer) (rule : Rule) (finding : Finding) (population : ℕ) (parts shown : List Part)
-    → a ≡ Found rule finding → finding ≡ Ash population parts → shown ≡ parts
-    → tally same_object (objects before ++ part_objects rule shown) ≡ tally same_object (objects (before ++ a ∷ []))
-parts_more before a rule finding population parts shown is_found is_ash is_shown =
-    ap (λ ps. tally same_object (objects before ++ part_objects rule ps)) is_shown
-    ∙ ap (λ ks. tally same_object (objects before ++ ks)) (sym (append-nil (part_objects rule parts)))
-    ∙ ap (λ x. tally same_object (objects before ++ objects (x ∷ []))) (sym (is_found ∙ ap (Found rule) is_ash))
+-- one more answer, which has these objects
+pub some_more : (before : List Answer) (a : Answer) (rule : Rule) (finding : Finding) (outcome : Outcome)
+    → a ≡ Found rule finding → finding.outcome ≡ outcome
+    → tally same_object (objects before ++ outcome_objects rule outcome) ≡ tally same_object (objects (before ++ a ∷ []))
+some_more before a rule finding outcome is_found is =
+    ap (λ o. tally same_object (objects before ++ outcome_objects rule o)) (sym is)
+    ∙ ap (λ ks. tally same_object (objects before ++ ks)) (sym (append-nil (outcome_objects rule finding.outcome)))
+    ∙ ap (λ x. tally same_object (objects before ++ objects (x ∷ []))) (sym is_found)
     ∙ ap (tally same_object) (sym (objects-append before (a ∷ [])))

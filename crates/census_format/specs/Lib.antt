@@ -1,3 +1,5 @@
+pub mod Kinds
+pub mod Values
 pub mod Lines
 pub mod Heads
 pub mod Objects

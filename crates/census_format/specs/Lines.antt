@@ -1,16 +1,16 @@
 -- The lines of a report.
-use Rattle.std.specs.Prelude.{ℕ, suc, ◌+◌, List, [], ◌∷◌, ◌++◌, Bool, true, false, length, codes, decimal, map, count_by, if◌then◌else◌}
-use Rattle.std.specs.Fmt.{signed_decimal}
+use Rattle.std.specs.Prelude.{ℕ, suc, ◌+◌, List, [], ◌∷◌, ◌++◌, Bool, length, codes, decimal, map, count_by, if◌then◌else◌}
 use Rattle.census_bundle.specs.declared.bundle.Entry.{Entry}
 use Rattle.census_bundle.specs.declared.bundle.Folder.{Folder}
 use Rattle.life_answer.specs.Questions.{answer_to_question}
 use Rattle.life_answer.specs.declared.finding.Answer.{Answer}
 use Rattle.life_answer.specs.declared.finding.Answer.TheVariants.{Found, Refused}
-use Rattle.life_answer.specs.declared.finding.Finding.TheVariants.{Recurs, Unresolved, Large, Ash}
+use Rattle.life_answer.specs.Census.{parts_found}
 use Rattle.life_answer.specs.declared.part.Part.{Part}
 use Rattle.life_answer.specs.declared.question.Question.{Question}
-use Rattle.life_answer.specs.Parts.{objects_in}
 use Rattle.life_cells.specs.Rules.{rule_text}
+use Rattle.census_format.specs.Kinds.{is_of, said}
+use Rattle.census_format.specs.declared.kinds.Class.TheVariants as class
 
 -- the bytes of a line, or those of the lines of one pattern, which stand together
 abbrev pub Line : Type 0
@@ -34,15 +34,11 @@ text_of (l ∷ ls) = l ++ text_of ls
 unfoldable pub open_line : ℕ → Folder → Line
 open_line c f = line (codes "open") (decimal c ∷ decimal (length f.entries) ∷ f.name ∷ [])
 
--- What is found of a pattern. `ok`: the rule, the population of generation 0, the onset, the period, the displacement
--- and the code. `ash`: the rule, the population and how many objects. `none`: the rule and the population. `large`:
--- the rule, the population and the first generation that has too many cells. `bad`: the number of the text's fault, or 0.
+-- What is found of a pattern: the word of its outcome, the rule, the population of generation 0, and what more is said
+-- of the outcome. `bad`: the number of the text's fault, or 0.
 abbrev pub finding_fields : Answer → List (List ℕ)
-finding_fields (Found rule (Recurs population onset period dx dy code)) =
-    codes "ok" ∷ rule_text rule ∷ decimal population ∷ decimal onset ∷ decimal period ∷ signed_decimal dx ∷ signed_decimal dy ∷ code ∷ []
-finding_fields (Found rule (Unresolved population)) = codes "none" ∷ rule_text rule ∷ decimal population ∷ []
-finding_fields (Found rule (Large population generation)) = codes "large" ∷ rule_text rule ∷ decimal population ∷ decimal generation ∷ []
-finding_fields (Found rule (Ash population parts)) = codes "ash" ∷ rule_text rule ∷ decimal population ∷ decimal (objects_in parts) ∷ []
+finding_fields (Found rule finding) =
+    (said finding.outcome).word ∷ rule_text rule ∷ decimal finding.population ∷ (said finding.outcome).fields
 finding_fields (Refused number) = codes "bad" ∷ decimal number ∷ []
 
 -- what is found of a pattern, and its name
@@ -59,10 +55,7 @@ part_line c i part = line (codes "part") (decimal c ∷ decimal i ∷ part.code 
 
 -- the `part` lines of a pattern of which this was found
 abbrev pub part_lines : ℕ → ℕ → Answer → List Line
-part_lines c i (Found rule (Recurs population onset period dx dy code)) = []
-part_lines c i (Found rule (Unresolved population)) = []
-part_lines c i (Found rule (Large population generation)) = []
-part_lines c i (Found rule (Ash population parts)) = map (part_line c i) parts
+part_lines c i (Found rule finding) = map (part_line c i) (parts_found finding.outcome)
 part_lines c i (Refused number) = []
 
 -- what is found of an entry: one whose text is lost is refused under the number 0, which no fault of a text has
@@ -83,23 +76,17 @@ pattern_lines question c i (e ∷ es) = pattern_text question c i e ∷ pattern_
 abbrev pub answers : Question → List Entry → List Answer
 answers question es = map (answer_to_entry question) es
 
+-- it comes again or has fallen apart
 abbrev pub is_resolved : Answer → Bool
-is_resolved (Found rule (Recurs population onset period dx dy code)) = true
-is_resolved (Found rule (Unresolved population)) = false
-is_resolved (Found rule (Large population generation)) = false
-is_resolved (Found rule (Ash population parts)) = true
-is_resolved (Refused number) = false
+is_resolved = is_of class.Resolved
 
+-- it does neither within the bound
 abbrev pub is_unresolved : Answer → Bool
-is_unresolved (Found rule (Recurs population onset period dx dy code)) = false
-is_unresolved (Found rule (Unresolved population)) = true
-is_unresolved (Found rule (Large population generation)) = true
-is_unresolved (Found rule (Ash population parts)) = false
-is_unresolved (Refused number) = false
+is_unresolved = is_of class.Unresolved
 
+-- it is lost, or its text has a fault
 abbrev pub is_refused : Answer → Bool
-is_refused (Found rule finding) = false
-is_refused (Refused number) = true
+is_refused = is_of class.Refused
 
 -- `close`, the collection, how many patterns it has, and of how many of them it is said `ok` or `ash`,
 -- `none` or `large`, and `bad`

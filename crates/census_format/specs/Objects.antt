@@ -4,7 +4,8 @@ use Rattle.std.specs.Cmp.Lexicographic.{pointwise}
 use Rattle.census_bundle.specs.declared.bundle.Folder.{Folder}
 use Rattle.life_answer.specs.declared.finding.Answer.{Answer}
 use Rattle.life_answer.specs.declared.finding.Answer.TheVariants.{Found, Refused}
-use Rattle.life_answer.specs.declared.finding.Finding.TheVariants.{Recurs, Unresolved, Large, Ash}
+use Rattle.life_answer.specs.declared.finding.Outcome.{Outcome}
+use Rattle.life_answer.specs.declared.finding.Outcome.TheVariants.{Recurs, Ash}
 use Rattle.life_answer.specs.declared.part.Part.{Part}
 use Rattle.life_cells.specs.Rules.{rule_text}
 use Rattle.life_model.specs.Rule.{Rule}
@@ -31,13 +32,16 @@ abbrev pub part_objects : Rule → List Part → List Object
 part_objects rule [] = []
 part_objects rule (part ∷ parts) = replicate part.count (object rule part.code) ++ part_objects rule parts
 
+-- the objects that this is the outcome of
+abbrev pub outcome_objects : Rule → Outcome → List Object
+outcome_objects rule (Recurs onset period dx dy code) = object rule code ∷ []
+outcome_objects rule (Ash parts) = part_objects rule parts
+outcome_objects rule _ = []
+
 -- what the resolved ones among these are, in their order
 abbrev pub objects : List Answer → List Object
 objects [] = []
-objects (Found rule (Recurs population onset period dx dy code) ∷ found) = object rule code ∷ objects found
-objects (Found rule (Unresolved population) ∷ found) = objects found
-objects (Found rule (Large population generation) ∷ found) = objects found
-objects (Found rule (Ash population parts) ∷ found) = part_objects rule parts ++ objects found
+objects (Found rule finding ∷ found) = outcome_objects rule finding.outcome ++ objects found
 objects (Refused number ∷ found) = objects found
 
 -- each of these once, in the order of first appearance

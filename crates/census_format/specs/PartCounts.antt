@@ -4,7 +4,7 @@ use Rattle.std.specs.List.{All, sum_by}
 use Rattle.census_bundle.specs.declared.bundle.Entry.{Entry}
 use Rattle.life_answer.specs.declared.finding.Answer.{Answer}
 use Rattle.life_answer.specs.declared.finding.Answer.TheVariants.{Found, Refused}
-use Rattle.life_answer.specs.declared.finding.Finding.TheVariants.{Recurs, Unresolved, Large, Ash}
+use Rattle.life_answer.specs.Census.{parts_found}
 use Rattle.life_answer.specs.declared.part.Part.{Part}
 use Rattle.life_answer.specs.declared.question.Question.TheVariants as question
 use Rattle.life_model.specs.Rule.{Rule}
@@ -18,10 +18,7 @@ parts_as k rule (part ∷ parts) = (if same_object k (object rule part.code) the
 
 -- how many objects with this rule and code a pattern of which this was found has fallen apart into
 abbrev pub fallen_as : Object → Answer → ℕ
-fallen_as k (Found rule (Recurs population onset period dx dy code)) = 0
-fallen_as k (Found rule (Unresolved population)) = 0
-fallen_as k (Found rule (Large population generation)) = 0
-fallen_as k (Found rule (Ash population parts)) = parts_as k rule parts
+fallen_as k (Found rule finding) = parts_as k rule (parts_found finding.outcome)
 fallen_as k (Refused number) = 0
 
 -- how many objects with this rule and code these patterns have fallen apart into in all

@@ -2,17 +2,19 @@
 ghost use Rattle.std.specs.Prelude.{◌≡◌, ◌<◌, ◌++◌, ◌^◌, [], ◌∷◌, List, length, map, replicate, OnOk, IfOk, count_by};
 ghost use Rattle.life_answer.specs.declared.finding.Answer as found;
 ghost use Rattle.life_answer.specs.Parts.{objects_in};
-ghost use Rattle.census_format.specs.Lines.{answers, close_line, is_refused, is_resolved, is_unresolved, text_of};
+ghost use Rattle.census_format.specs.Kinds.{is_of};
+ghost use Rattle.census_format.specs.Lines.{answers, close_line, text_of};
 ghost use Rattle.census_format.specs.Objects as codes;
 ghost use Rattle.census_format.specs.Objects.{code_line, object, objects, part_objects, same_object, tally};
 ghost use Rattle.census_format.specs.Reports.{closing};
 ghost use Rattle.census_format.specs.Tallying.{HasTally};
 
+use crate::kinds::{Class, is_of};
 use crate::lines::{push_field, push_rule};
 use crate::numbers::push_count;
 use census_bundle::Folder;
 use indexmap::IndexMap;
-use life_answer::{Answer, Finding, Part, Question};
+use life_answer::{Answer, Outcome, Part, Question};
 use life_cells::Rule;
 use std::alloc::{AllocError, Global};
 use std::hash::{Hash, Hasher};
@@ -127,18 +129,14 @@ fn count_answer<'a>(
     ensures few { OnOk result (length (objects (answer.now ∷ [])) < 2 ^ 32) }
 {
     match answer {
-        Answer::Found { rule, finding } => match finding {
-            Finding::Recurs { code, .. } => count_object(
+        Answer::Found { rule, finding } => match &finding.outcome {
+            Outcome::Recurs { code, .. } => count_object(
                 counts,
                 Object::of(*rule, code.as_slice()),
                 1,
             ),
-            Finding::Unresolved { .. } => Ok(()),
-            Finding::Large { .. } => Ok(()),
-            Finding::Ash {
-                population: _,
-                parts,
-            } => count_parts(counts, rule, parts.as_slice()),
+            Outcome::Ash { parts } => count_parts(counts, rule, parts.as_slice()),
+            _ => Ok(()),
         },
         Answer::Refused(_) => Ok(()),
     }
@@ -185,68 +183,14 @@ fn push_codes(text: &mut Vec<u8>, c: u32, counts: &IndexMap<Object, u64>) -> Res
     Ok(())
 }
 
-// Whether it is said `ok` or `ash` of this.
-fn is_resolved(answer: &Answer) -> bool
-    ensures { result ≡ is_resolved answer.now }
-{
-    match answer {
-        Answer::Found { finding, .. } => match finding {
-            Finding::Recurs { .. } => true,
-            Finding::Unresolved { .. } => false,
-            Finding::Large { .. } => false,
-            Finding::Ash { .. } => true,
-        },
-        Answer::Refused(_) => false,
-    }
-}
-
-// Whether it is said `none` or `large` of this.
-fn is_unresolved(answer: &Answer) -> bool
-    ensures { result ≡ is_unresolved answer.now }
-{
-    match answer {
-        Answer::Found { finding, .. } => match finding {
-            Finding::Recurs { .. } => false,
-            Finding::Unresolved { .. } => true,
-            Finding::Large { .. } => true,
-            Finding::Ash { .. } => false,
-        },
-        Answer::Refused(_) => false,
-    }
-}
-
-// Whether it is said `bad` of this.
-fn is_refused(answer: &Answer) -> bool
-    ensures { result ≡ is_refused answer.now }
-{
-    match answer {
-        Answer::Found { .. } => false,
-        Answer::Refused(_) => true,
-    }
-}
-
-fn count_resolved(answers: &[&Answer]) -> usize
-    ensures { result ≡ count_by is_resolved (map (λ a. a.now) answers.now) }
+// How many of these count so.
+fn count_of(answers: &[&Answer], class: Class) -> usize
+    ensures { result ≡ count_by (is_of class) (map (λ a. a.now) answers.now) }
 {
     answers
         .iter()
-        .filter(|answer| is_resolved(**answer))
+        .filter(|answer| is_of(class, **answer))
         .count()
-}
-
-fn count_unresolved(answers: &[&Answer]) -> usize
-    ensures { result ≡ count_by is_unresolved (map (λ a. a.now) answers.now) }
-{
-    answers
-        .iter()
-        .filter(|answer| is_unresolved(**answer))
-        .count()
-}
-
-fn count_refused(answers: &[&Answer]) -> usize
-    ensures { result ≡ count_by is_refused (map (λ a. a.now) answers.now) }
-{
-    answers.iter().filter(|answer| is_refused(**answer)).count()
 }
 
 // The line that closes a section.
@@ -264,9 +208,9 @@ fn push_close(
     text.extend_from_slice(b"close")?;
     push_count(text, u64::from(c))?;
     push_count(text, folder.entries.as_slice().len() as u64)?;
-    push_count(text, count_resolved(found) as u64)?;
-    push_count(text, count_unresolved(found) as u64)?;
-    push_count(text, count_refused(found) as u64)?;
+    push_count(text, count_of(found, Class::Resolved) as u64)?;
+    push_count(text, count_of(found, Class::Unresolved) as u64)?;
+    push_count(text, count_of(found, Class::Refused) as u64)?;
     text.push(b'\n')?;
     Ok(())
 }

@@ -1,15 +1,15 @@
 //! The lines of a report.
 ghost use Rattle.std.specs.Prelude.{◌≡◌, ◌≤◌, ◌++◌, ℕ, [], ◌∷◌, List, length, OnOk, decimal};
-ghost use Rattle.std.specs.Fmt.{signed_decimal};
 ghost use Rattle.life_cells.specs.Rules.{rule_text};
 ghost use Rattle.census_bundle.specs.Sizes.{IsWithinCounts};
 ghost use Rattle.census_format.specs.Heads.{line_with_head, line_head};
 ghost use Rattle.census_format.specs.Lines.{fields_text, end_line, finding_fields, open_line, pattern_count};
+ghost use Rattle.census_format.specs.Values.{value_text, value_texts};
 
+use crate::kinds::{Value, say};
 use crate::numbers::{push_count, push_signed};
-use crate::parts::count_objects;
 use census_bundle::{Bundle, Entry, Folder, Ticket};
-use life_answer::{Answer, Finding};
+use life_answer::Answer;
 use life_cells::Rule;
 use std::alloc::AllocError;
 
@@ -44,41 +44,29 @@ pub fn push_open(text: &mut Vec<u8>, c: u32, folder: &Folder) -> Result<(), Allo
     Ok(())
 }
 
-// A word, a rule and how many live cells generation 0 has.
+// A blank and a value.
 #[inline(always)]
-fn push_population(
-    text: &mut Vec<u8>,
-    word: &[u8],
-    rule: &Rule,
-    population: u64,
-) -> Result<(), AllocError>
-    ensures { OnOk result
-        (text.new.items ≡
-        text.old.items ++ fields_text (word.now ∷ rule_text rule.now ∷ decimal population ∷ [])) }
+fn push_value(text: &mut Vec<u8>, value: &Value) -> Result<(), AllocError>
+    ensures { OnOk result (text.new.items ≡ text.old.items ++ 32 ∷ value_text value.now) }
 {
-    push_field(text, word)?;
-    push_rule(text, rule)?;
-    push_count(text, population)
+    match value {
+        Value::Number(number) => push_count(text, *number),
+        Value::Signed(number) => push_signed(text, *number),
+        Value::Text(bytes) => push_field(text, *bytes),
+    }
 }
 
-// When a pattern recurs, and how it has moved then.
-fn push_recurrence(
-    text: &mut Vec<u8>,
-    onset: u32,
-    period: u32,
-    dx: &i32,
-    dy: &i32,
-) -> Result<(), AllocError>
-    ensures { OnOk result
-        (text.new.items ≡
-        text.old.items ++
-        fields_text
-        (decimal onset ∷ decimal period ∷ signed_decimal dx.now ∷ signed_decimal dy.now ∷ [])) }
+// The values that there are.
+#[inline(always)]
+fn push_values(text: &mut Vec<u8>, values: &[Option<Value>]) -> Result<(), AllocError>
+    ensures { OnOk result (text.new.items ≡ text.old.items ++ fields_text (value_texts values.now)) }
 {
-    push_count(text, u64::from(onset))?;
-    push_count(text, u64::from(period))?;
-    push_signed(text, *dx)?;
-    push_signed(text, *dy)
+    for value in values {
+        if let Some(value) = value {
+            push_value(text, value)?;
+        }
+    }
+    Ok(())
 }
 
 // What was found of a pattern.
@@ -87,34 +75,13 @@ fn push_finding(text: &mut Vec<u8>, answer: &Answer) -> Result<(), AllocError>
         (text.new.items ≡ text.old.items ++ fields_text (finding_fields answer.now)) }
 {
     match answer {
-        Answer::Found { rule, finding } => match finding {
-            Finding::Recurs {
-                population,
-                onset,
-                period,
-                dx,
-                dy,
-                code,
-            } => {
-                push_population(text, b"ok", rule, *population)?;
-                push_recurrence(text, *onset, *period, dx, dy)?;
-                push_field(text, code.as_slice())
-            }
-            Finding::Unresolved { population } => {
-                push_population(text, b"none", rule, *population)
-            }
-            Finding::Large {
-                population,
-                generation,
-            } => {
-                push_population(text, b"large", rule, *population)?;
-                push_count(text, u64::from(*generation))
-            }
-            Finding::Ash { population, parts } => {
-                push_population(text, b"ash", rule, *population)?;
-                push_count(text, count_objects(parts.as_slice()))
-            }
-        },
+        Answer::Found { rule, finding } => {
+            let said = say(&finding.outcome);
+            push_field(text, said.word)?;
+            push_rule(text, rule)?;
+            push_count(text, finding.population)?;
+            push_values(text, &said.values)
+        }
         Answer::Refused(number) => {
             push_field(text, b"bad")?;
             push_count(text, u64::from(*number))

@@ -1,26 +1,13 @@
 //! The objects of a pattern that has fallen apart, and its `part` lines.
-ghost use Rattle.std.specs.Prelude.{◌≡◌, ◌<◌, ◌^◌, ◌++◌, OnOk, map};
-ghost use Rattle.life_answer.specs.Parts.{objects_in};
+ghost use Rattle.std.specs.Prelude.{◌≡◌, ◌++◌, OnOk, map};
 ghost use Rattle.census_format.specs.Heads.{line_tail};
 ghost use Rattle.census_format.specs.Lines.{part_line, text_of};
 
 use crate::lines::push_field;
 use crate::numbers::push_count;
 use census_bundle::Ticket;
-use life_answer::{Answer, Finding, Part};
+use life_answer::{Answer, Part};
 use std::alloc::AllocError;
-
-/// How many objects these are in all.
-pub fn count_objects(parts: &[Part]) -> u64
-    requires { objects_in parts.now < 2 ^ 32 }
-    ensures { result ≡ objects_in parts.now }
-{
-    let mut count = 0u64;
-    for part in parts {
-        count += part.count;
-    }
-    count
-}
 
 // The line of those parts that are one object.
 #[tactic(auto, unfolding(crate::specs::Lines::part_line))]
@@ -56,15 +43,7 @@ pub fn push_tail(text: &mut Vec<u8>, ticket: Ticket, answer: &Answer) -> Result<
         (text.new.items ≡ text.old.items ++ line_tail ticket answer.now) }
 {
     match answer {
-        Answer::Found { rule: _, finding } => match finding {
-            Finding::Recurs { .. } => Ok(()),
-            Finding::Unresolved { .. } => Ok(()),
-            Finding::Large { .. } => Ok(()),
-            Finding::Ash {
-                population: _,
-                parts,
-            } => push_parts(text, ticket, parts.as_slice()),
-        },
+        Answer::Found { finding, .. } => push_parts(text, ticket, finding.outcome.parts()),
         Answer::Refused(_) => Ok(()),
     }
 }

@@ -1,11 +1,11 @@
--- What is found of a set is its onset, period and displacement, where it settles, and none where it doesn't.
+-- What becomes of a set is its onset, period and displacement, where it settles, and none where it doesn't.
 use Rattle.std.proofs.Common.{◌≡◌, ℕ, zero, suc, ◌+◌, ◌-◌, ◌<◌, ◌≤◌, ◌⊎◌, inl, inr, Bool, true, false, cond, Decides, Option, Some, None, is_some, sym, refl, ap, subst, ◌∙◌, true≢false, ℤ, List, [], arith}
 use Rattle.std.proofs.lemmas.Slice.Eq.{slice_eq-Decides}
 use Rattle.std.proofs.lemmas.Bool.{cases_lt}
 use Rattle.std.proofs.lemmas.Bool.Decides.{Decides-like}
 use Rattle.life_model.specs.Cell.{origin, plus, opposite}
 use Rattle.life_model.specs.Rule.{Rule}
-use Rattle.life_model.specs.Generation.{Generation, cells, from_list, size, empty}
+use Rattle.life_model.specs.Generation.{Generation, cells, from_list, empty}
 use Rattle.life_model.specs.Evolution.{generation}
 use Rattle.life_model.specs.Symmetry.{normal, translate_of, corner, corner_of}
 use Rattle.life_model.specs.Recurrence.{SettlesAt, Recurrence, Settles}
@@ -13,10 +13,10 @@ use Rattle.life_model.proofs.Cells.{same_cell-is, pair}
 use Rattle.life_model.proofs.Generations.{from_list-cells, cells-from_list}
 use Rattle.life_model.proofs.Moves.{moved-empty}
 use Rattle.life_model.proofs.Recurrences.{shape, way, move_from_shape, settles_from_shape, recurs_from_shape, shape_from_move, shape_from_recurs, Settles-one, Settles-other_bound, onset-period-least}
-use Rattle.life_answer.specs.declared.finding.Finding.TheVariants.{Recurs, Unresolved, Large, Ash}
+use Rattle.life_answer.specs.declared.finding.Outcome.TheVariants.{Recurs, Unresolved, Large, Ash}
 use Rattle.life_answer.specs.declared.part.Part.{Part}
 use Rattle.life_answer.specs.Recurrence.{same_shape, first_from, comes_again, first_return, first_onset}
-use Rattle.life_answer.specs.Answers.{recurrence_finding, finding_at, finding_from, finding_of}
+use Rattle.life_answer.specs.Answers.{recurrence_outcome, outcome_at, outcome_from, outcome_of}
 
 -- ---- one shape
 
@@ -145,15 +145,15 @@ module _ (R : Rule) (G : Generation) where
     pub record IsSettled : Type 0 where
       pub recurrence : Recurrence
       pub settles : Settles R G b recurrence
-      pub found : finding_of R G b ≡ recurrence_finding R G recurrence
+      pub found : outcome_of R G b ≡ recurrence_outcome R G recurrence
 
     pub record IsUnsettled : Type 0 where
       pub nowhere : (g : ℕ) → SettlesAt R G b g → ⊥
-      pub found : finding_of R G b ≡ Unresolved (size G)
+      pub found : outcome_of R G b ≡ Unresolved
 
-    found_by : (o : Option ℕ) → first_onset R G b ≡ o → finding_of R G b ≡ finding_from R G b o
-    unfolding finding_of
-    found_by o e = ap (finding_from R G b) e
+    found_by : (o : Option ℕ) → first_onset R G b ≡ o → outcome_of R G b ≡ outcome_from R G b o
+    unfolding outcome_of
+    found_by o e = ap (outcome_from R G b) e
 
     return_of : (g : ℕ) (r : Option ℕ) → is_some r ≡ true → (n : ℕ) × (r ≡ Some n)
     return_of g None e = absurd (true≢false (sym e))
@@ -175,78 +175,78 @@ module _ (R : Rule) (G : Generation) where
           recurrence = record { onset = g; period = n.0; displacement = way R G g n.0 };
           settles = settles_by_first g n.0 (λ h k. no_return h (first.before h (omega arith) k)) (omega arith)
               (first_from-found (comes_again R G g) (b - g) 1 n.0 n.1);
-          found = found_by (Some g) e ∙ ap (finding_at R G g) n.1;
+          found = found_by (Some g) e ∙ ap (outcome_at R G g) n.1;
         })
 
     pub settled_or_not : IsSettled ⊎ IsUnsettled
     settled_or_not = onset_cases (first_onset R G b) refl
 
-    pub finding-settled : (r : Recurrence) → Settles R G b r → finding_of R G b ≡ recurrence_finding R G r
-    finding-settled r s =
+    pub outcome-settled : (r : Recurrence) → Settles R G b r → outcome_of R G b ≡ recurrence_outcome R G r
+    outcome-settled r s =
         elim settled_or_not [
-          | inl found ↦ found.found ∙ ap (recurrence_finding R G) (Settles-one R G b b found.recurrence r found.settles s)
+          | inl found ↦ found.found ∙ ap (recurrence_outcome R G) (Settles-one R G b b found.recurrence r found.settles s)
           | inr none ↦ absurd (none.nowhere r.onset s.settles)
         ]
 
-    pub finding-nowhere : ((g : ℕ) → SettlesAt R G b g → ⊥) → finding_of R G b ≡ Unresolved (size G)
-    finding-nowhere none =
+    pub outcome-nowhere : ((g : ℕ) → SettlesAt R G b g → ⊥) → outcome_of R G b ≡ Unresolved
+    outcome-nowhere none =
         elim settled_or_not [
           | inl found ↦ absurd (none found.recurrence.onset found.settles.settles)
           | inr not ↦ not.found
         ]
 
-    settled_apart : (r : Recurrence) (n : ℕ) → recurrence_finding R G r ≡ Unresolved n → ⊥
-    settled_apart r n e = cc
+    settled_apart : (r : Recurrence) → recurrence_outcome R G r ≡ Unresolved → ⊥
+    settled_apart r e = cc
 
-    pub nowhere_by_finding : (n g : ℕ) → finding_of R G b ≡ Unresolved n → SettlesAt R G b g → ⊥
-    nowhere_by_finding n g e s =
+    pub nowhere_by_outcome : (g : ℕ) → outcome_of R G b ≡ Unresolved → SettlesAt R G b g → ⊥
+    nowhere_by_outcome g e s =
         elim settled_or_not [
-          | inl found ↦ settled_apart found.recurrence n (sym found.found ∙ e)
+          | inl found ↦ settled_apart found.recurrence (sym found.found ∙ e)
           | inr not ↦ not.nowhere g s
         ]
 
-    settles_same : (r : Recurrence) (population onset period : ℕ) (dx dy : ℤ) (code : List ℕ) → recurrence_finding R G r ≡ Recurs population onset period dx dy code
+    settles_same : (r : Recurrence) (onset period : ℕ) (dx dy : ℤ) (code : List ℕ) → recurrence_outcome R G r ≡ Recurs onset period dx dy code
         → Settles R G b r → Settles R G b (record { onset = onset; period = period; displacement = (dx, dy) })
-    settles_same r population onset period dx dy code e s =
+    settles_same r onset period dx dy code e s =
         let onsets : r.onset ≡ onset = cc in
         let periods : r.period ≡ period = cc in
         let left : r.displacement.0 ≡ dx = cc in
         let down : r.displacement.1 ≡ dy = cc in
         subst (Settles R G b) (λ i. record { onset = onsets i; period = periods i; displacement = pair left down i }) s
 
-    pub settles_by_finding : (population onset period : ℕ) (dx dy : ℤ) (code : List ℕ) → finding_of R G b ≡ Recurs population onset period dx dy code
+    pub settles_by_outcome : (onset period : ℕ) (dx dy : ℤ) (code : List ℕ) → outcome_of R G b ≡ Recurs onset period dx dy code
         → Settles R G b (record { onset = onset; period = period; displacement = (dx, dy) })
-    settles_by_finding population onset period dx dy code e =
+    settles_by_outcome onset period dx dy code e =
         elim settled_or_not [
-          | inl found ↦ settles_same found.recurrence population onset period dx dy code (sym found.found ∙ e) found.settles
-          | inr not ↦ absurd (let apart : Unresolved (size G) ≡ Recurs population onset period dx dy code = sym not.found ∙ e in cc)
+          | inl found ↦ settles_same found.recurrence onset period dx dy code (sym found.found ∙ e) found.settles
+          | inr not ↦ absurd (let apart : Unresolved ≡ Recurs onset period dx dy code = sym not.found ∙ e in cc)
         ]
 
-    ash_apart_settled : (r : Recurrence) (n : ℕ) (parts : List Part) → recurrence_finding R G r ≡ Ash n parts → ⊥
-    ash_apart_settled r n parts e = cc
+    ash_apart_settled : (r : Recurrence) (parts : List Part) → recurrence_outcome R G r ≡ Ash parts → ⊥
+    ash_apart_settled r parts e = cc
 
     -- no such finding is an ash
-    pub finding-no_ash : (population : ℕ) (parts : List Part) → finding_of R G b ≡ Ash population parts → ⊥
-    finding-no_ash population parts e =
+    pub outcome-no_ash : (parts : List Part) → outcome_of R G b ≡ Ash parts → ⊥
+    outcome-no_ash parts e =
         elim settled_or_not [
-          | inl found ↦ ash_apart_settled found.recurrence population parts (sym found.found ∙ e)
-          | inr not ↦ (let apart : Unresolved (size G) ≡ Ash population parts = sym not.found ∙ e in cc)
+          | inl found ↦ ash_apart_settled found.recurrence parts (sym found.found ∙ e)
+          | inr not ↦ (let apart : Unresolved ≡ Ash parts = sym not.found ∙ e in cc)
         ]
 
-    large_apart_settled : (r : Recurrence) (n m : ℕ) → recurrence_finding R G r ≡ Large n m → ⊥
-    large_apart_settled r n m e = cc
+    large_apart_settled : (r : Recurrence) (m : ℕ) → recurrence_outcome R G r ≡ Large m → ⊥
+    large_apart_settled r m e = cc
 
     -- nor is it that a generation is too large
-    pub finding-no_large : (population first : ℕ) → finding_of R G b ≡ Large population first → ⊥
-    finding-no_large population first e =
+    pub outcome-no_large : (first : ℕ) → outcome_of R G b ≡ Large first → ⊥
+    outcome-no_large first e =
         elim settled_or_not [
-          | inl found ↦ large_apart_settled found.recurrence population first (sym found.found ∙ e)
-          | inr not ↦ (let apart : Unresolved (size G) ≡ Large population first = sym not.found ∙ e in cc)
+          | inl found ↦ large_apart_settled found.recurrence first (sym found.found ∙ e)
+          | inr not ↦ (let apart : Unresolved ≡ Large first = sym not.found ∙ e in cc)
         ]
 
-  pub finding-more : (b c : ℕ) (r : Recurrence) → Settles R G b r → r.onset + r.period ≤ c → finding_of R G c ≡ finding_of R G b
-  finding-more b c r s h = finding-settled c r (Settles-other_bound R G b r s c h) ∙ sym (finding-settled b r s)
+  pub outcome-more : (b c : ℕ) (r : Recurrence) → Settles R G b r → r.onset + r.period ≤ c → outcome_of R G c ≡ outcome_of R G b
+  outcome-more b c r s h = outcome-settled c r (Settles-other_bound R G b r s c h) ∙ sym (outcome-settled b r s)
 
-  pub finding-less : (b c : ℕ) (r : Recurrence) → Settles R G b r → c < r.onset + r.period → finding_of R G c ≡ Unresolved (size G)
-  finding-less b c r s h =
-      finding-nowhere c (λ g t. let enough : r.onset + r.period ≤ c = onset-period-least R G b r s c g t in let no : ⊥ = omega arith in no)
+  pub outcome-less : (b c : ℕ) (r : Recurrence) → Settles R G b r → c < r.onset + r.period → outcome_of R G c ≡ Unresolved
+  outcome-less b c r s h =
+      outcome-nowhere c (λ g t. let enough : r.onset + r.period ≤ c = onset-period-least R G b r s c g t in let no : ⊥ = omega arith in no)

@@ -3,9 +3,9 @@ use Rattle.std.proofs.Common.{◌≡◌, ◌↔◌, ℕ, suc, ◌<◌, ◌≤◌
 use Rattle.life_model.specs.Rule.{Rule}
 use Rattle.life_model.specs.Generation.{Generation, size}
 use Rattle.life_model.specs.Evolution.{generation}
-use Rattle.life_answer.specs.declared.finding.Finding.{Finding}
-use Rattle.life_answer.specs.declared.finding.Finding.TheVariants.{Large}
-use Rattle.life_answer.specs.Limited.{StaysWithin, first_larger, first_past, finding_unless_large, unless_large}
+use Rattle.life_answer.specs.declared.finding.Outcome.{Outcome}
+use Rattle.life_answer.specs.declared.finding.Outcome.TheVariants.{Large}
+use Rattle.life_answer.specs.Limited.{StaysWithin, first_larger, first_past, outcome_unless_large, unless_large}
 use Rattle.life_answer.proofs.Findings.{first_from-first, first_from-found, first_from-none, first_from-nowhere}
 
 module _ (R : Rule) (G : Generation) (last : ℕ) where
@@ -34,17 +34,17 @@ module _ (R : Rule) (G : Generation) (last : ℕ) where
   stays_within (Some most) none n within = all_smaller most none n within
 
   -- of a pattern that stays within its limit the same is found as without one
-  pub limited-same : (limit : Option ℕ) (found : Finding) → StaysWithin limit R G last → finding_unless_large limit R G last found ≡ found
-  limited-same limit found small = ap (unless_large found (size G)) (none_past limit small)
+  pub limited-same : (limit : Option ℕ) (found : Outcome) → StaysWithin limit R G last → outcome_unless_large limit R G last found ≡ found
+  limited-same limit found small = ap (unless_large found) (none_past limit small)
 
   -- where something else is found than that it is too large, it stays within its limit
-  pub limited-else : (limit : Option ℕ) (found other : Finding) → finding_unless_large limit R G last found ≡ other
-      → ((population first : ℕ) → other ≡ Large population first → ⊥) → StaysWithin limit R G last × (found ≡ other)
+  pub limited-else : (limit : Option ℕ) (found other : Outcome) → outcome_unless_large limit R G last found ≡ other
+      → ((first : ℕ) → other ≡ Large first → ⊥) → StaysWithin limit R G last × (found ≡ other)
   limited-else limit found other is differs = small_else (first_past limit R G last) refl is
     where
-      small_else : (o : Option ℕ) → first_past limit R G last ≡ o → unless_large found (size G) o ≡ other → StaysWithin limit R G last × (found ≡ other)
+      small_else : (o : Option ℕ) → first_past limit R G last ≡ o → unless_large found o ≡ other → StaysWithin limit R G last × (found ≡ other)
       small_else None e same = (stays_within limit e, same)
-      small_else (Some n) e same = absurd (differs (size G) n (sym same))
+      small_else (Some n) e same = absurd (differs n (sym same))
 
   larger : (most n : ℕ) → IsFirstLarger most n → first_larger R G most last ≡ Some n
   unfolding first_larger

@@ -5,7 +5,7 @@ use Rattle.std.specs.List.{list_all}
 use Rattle.texts.specs.Bytes.{is_blank, after_one_of}
 use Rattle.life_cells.specs.Rules.{life}
 use Rattle.life_model.specs.Rule.{Rule}
-use Rattle.life_model.specs.Generation.{Generation, size}
+use Rattle.life_model.specs.Generation.{Generation}
 use Rattle.life_cells.specs.declared.rule.RuleFault.{RuleFault}
 use Rattle.life_cells.specs.declared.rule.RuleFault.TheVariants.{NotLifeLike, HasB0}
 use Rattle.life_text.specs.declared.rle.RleFault.{RleFault}
@@ -15,16 +15,17 @@ use Rattle.texts.specs.Faults.{fault_if}
 use Rattle.life_text.specs.Rle.{Meaning, Token, reading, refusal, fault_of, with_body, unless_fault, first_fault, token_fault, header_rule, line_rule, rule_behind, named_rule, rule_or_fault, rule_fault}
 use Rattle.life_text.specs.Picture.{Picture, picture_of}
 use Rattle.life_answer.specs.declared.finding.Finding.{Finding}
-use Rattle.life_answer.specs.declared.finding.Finding.TheVariants.{Ash}
+use Rattle.life_answer.specs.declared.finding.Outcome.{Outcome}
+use Rattle.life_answer.specs.declared.finding.Outcome.TheVariants.{Ash}
 use Rattle.life_answer.specs.declared.finding.Answer.{Answer}
 use Rattle.life_answer.specs.declared.finding.Answer.TheVariants.{Found, Refused}
 use Rattle.life_answer.specs.declared.part.Part.{Part}
-use Rattle.life_answer.specs.Answers.{finding_of, fault_number}
-use Rattle.life_answer.specs.Limited.{first_past, finding_unless_large, unless_large}
+use Rattle.life_answer.specs.Answers.{outcome_of, fault_number}
+use Rattle.life_answer.specs.Limited.{first_past, outcome_unless_large, unless_large}
 use Rattle.life_answer.specs.Questions.{answer_to, answer_to_question, finding_to}
 use Rattle.life_answer.specs.declared.question.Question.{Question}
 use Rattle.life_answer.specs.declared.question.Question.TheVariants.{Settles}
-use Rattle.life_answer.proofs.Findings.{finding-no_ash}
+use Rattle.life_answer.proofs.Findings.{outcome-no_ash}
 
 pub answer-found : (q : Question) (text : List ℕ) (pattern : Picture) → picture_of (reading text) ≡ Ok pattern → answer_to_question q text ≡ Found pattern.rule (finding_to q pattern.rule pattern.cells)
 unfolding answer_to_question
@@ -139,24 +140,25 @@ answer-numbered q text number e =
 same_finding : (r s : Rule) (f g : Finding) → Found r f ≡ Found s g → f ≡ g
 same_finding r s f g e = cc
 
-large_no_ash : (found : Finding) (size : ℕ) (o : Option ℕ) (population : ℕ) (parts : List Part) → (found ≡ Ash population parts → ⊥)
-    → unless_large found size o ≡ Ash population parts → ⊥
-large_no_ash found size None population parts none e = none e
-large_no_ash found size (Some n) population parts none e = cc
+large_no_ash : (found : Outcome) (o : Option ℕ) (parts : List Part) → (found ≡ Ash parts → ⊥)
+    → unless_large found o ≡ Ash parts → ⊥
+large_no_ash found None parts none e = none e
+large_no_ash found (Some n) parts none e = cc
 
-limited_no_ash : (cells : Option ℕ) (R : Rule) (G : Generation) (b population : ℕ) (parts : List Part)
-    → finding_unless_large cells R G b (finding_of R G b) ≡ Ash population parts → ⊥
-limited_no_ash cells R G b population parts e =
-    large_no_ash (finding_of R G b) (size G) (first_past cells R G b) population parts (finding-no_ash R G b population parts) e
+limited_no_ash : (cells : Option ℕ) (R : Rule) (G : Generation) (b : ℕ) (parts : List Part)
+    → outcome_unless_large cells R G b (outcome_of R G b) ≡ Ash parts → ⊥
+limited_no_ash cells R G b parts e =
+    large_no_ash (outcome_of R G b) (first_past cells R G b) parts (outcome-no_ash R G b parts) e
 
-no_ash_by : (b : ℕ) (cells : Option ℕ) (r : Result Picture RleFault) (rule : Rule) (population : ℕ) (parts : List Part)
-    → answer_to (Settles b cells) r ≡ Found rule (Ash population parts) → ⊥
-no_ash_by b cells (Ok pattern) rule population parts e =
-    limited_no_ash cells pattern.rule pattern.cells b population parts (same_finding pattern.rule rule _ _ e)
-no_ash_by b cells (Err fault) rule population parts e = cc
+no_ash_by : (b : ℕ) (cells : Option ℕ) (r : Result Picture RleFault) (rule : Rule) (finding : Finding) (parts : List Part)
+    → answer_to (Settles b cells) r ≡ Found rule finding → finding.outcome ≡ Ash parts → ⊥
+no_ash_by b cells (Ok pattern) rule finding parts e ash =
+    limited_no_ash cells pattern.rule pattern.cells b parts
+    (ap (λ (f : Finding). f.outcome) (same_finding pattern.rule rule _ _ e) ∙ ash)
+no_ash_by b cells (Err fault) rule finding parts e ash = cc
 
 -- where the question is which generation comes again, no answer is an ash
-pub answer-no_ash : (text : List ℕ) (b : ℕ) (cells : Option ℕ) (rule : Rule) (population : ℕ) (parts : List Part)
-    → answer_to_question (Settles b cells) text ≡ Found rule (Ash population parts) → ⊥
+pub answer-no_ash : (text : List ℕ) (b : ℕ) (cells : Option ℕ) (rule : Rule) (finding : Finding) (parts : List Part)
+    → answer_to_question (Settles b cells) text ≡ Found rule finding → finding.outcome ≡ Ash parts → ⊥
 unfolding answer_to_question
-answer-no_ash text b cells rule population parts e = no_ash_by b cells (picture_of (reading text)) rule population parts e
+answer-no_ash text b cells rule finding parts e ash = no_ash_by b cells (picture_of (reading text)) rule finding parts e ash

@@ -7,32 +7,40 @@ use Rattle.life_model.specs.Recurrence.{Recurrence}
 use Rattle.life_text.specs.declared.rle.RleFault.{RleFault}
 use Rattle.life_text.specs.declared.rle.RleFault.TheVariants.{NoHeader, BadHeader, RuleNotLifeLike, RuleHasB0, ManyStates, BadChar, BadRun, TooFar, TooMany, NoEnd, Memory}
 use Rattle.life_answer.specs.declared.finding.Finding.{Finding}
-use Rattle.life_answer.specs.declared.finding.Finding.TheVariants.{Recurs, Unresolved}
+use Rattle.life_answer.specs.declared.finding.Outcome.{Outcome}
+use Rattle.life_answer.specs.declared.finding.Outcome.TheVariants.{Recurs, Unresolved}
 use Rattle.life_answer.specs.Apgcode.{code_of}
 use Rattle.life_answer.specs.Recurrence.{first_onset, first_return, corners_apart}
 
--- The finding of a set that settles: the population is that of the set itself, and the code that of its generation at
--- the onset.
-abbrev pub recurrence_finding : Rule → Generation → Recurrence → Finding
-recurrence_finding R G r =
-    Recurs (size G) r.onset r.period r.displacement.0 r.displacement.1 (code_of R (generation R G r.onset) r.period r.displacement)
+-- The outcome of a set that settles: the code is that of its generation at the onset.
+abbrev pub recurrence_outcome : Rule → Generation → Recurrence → Outcome
+recurrence_outcome R G r =
+    Recurs r.onset r.period r.displacement.0 r.displacement.1 (code_of R (generation R G r.onset) r.period r.displacement)
 
-abbrev pub finding_at : Rule → Generation → ℕ → Option ℕ → Finding
-finding_at R G onset None = Unresolved (size G)
-finding_at R G onset (Some period) =
-    recurrence_finding R G (record {
+abbrev pub outcome_at : Rule → Generation → ℕ → Option ℕ → Outcome
+outcome_at R G onset None = Unresolved
+outcome_at R G onset (Some period) =
+    recurrence_outcome R G (record {
       onset = onset;
       period = period;
       displacement = corners_apart (generation R G onset) (generation R G (onset + period));
     })
 
-abbrev pub finding_from : Rule → Generation → ℕ → Option ℕ → Finding
-finding_from R G b None = Unresolved (size G)
-finding_from R G b (Some onset) = finding_at R G onset (first_return R G b onset)
+abbrev pub outcome_from : Rule → Generation → ℕ → Option ℕ → Outcome
+outcome_from R G b None = Unresolved
+outcome_from R G b (Some onset) = outcome_at R G onset (first_return R G b onset)
+
+-- what becomes of a set within the bound
+unfoldable pub outcome_of : Rule → Generation → ℕ → Outcome
+outcome_of R G b = outcome_from R G b (first_onset R G b)
+
+-- this is found of a set where that becomes of it
+abbrev pub finding_with : Generation → Outcome → Finding
+finding_with G outcome = record { population = size G; outcome = outcome }
 
 -- what is found of a set within the bound
-unfoldable pub finding_of : Rule → Generation → ℕ → Finding
-finding_of R G b = finding_from R G b (first_onset R G b)
+abbrev pub finding_of : Rule → Generation → ℕ → Finding
+finding_of R G b = finding_with G (outcome_of R G b)
 
 -- the number that reports print
 abbrev pub fault_number : RleFault → ℕ

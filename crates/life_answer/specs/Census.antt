@@ -1,29 +1,33 @@
 -- What a pattern falls apart into, counted by codes.
 use Rattle.std.specs.Prelude.{ℕ, List, [], Option, Some, None, map}
 use Rattle.life_model.specs.Rule.{Rule}
-use Rattle.life_model.specs.Generation.{Generation, size}
+use Rattle.life_model.specs.Generation.{Generation}
 use Rattle.life_model.specs.Evolution.{generation}
 use Rattle.life_decided.specs.Decided.{ash_of}
-use Rattle.life_answer.specs.Answers.{finding_of}
+use Rattle.life_answer.specs.Answers.{outcome_of}
 use Rattle.life_answer.specs.Parts.{counted_codes}
-use Rattle.life_answer.specs.declared.finding.Finding.{Finding}
-use Rattle.life_answer.specs.declared.finding.Finding.TheVariants.{Ash, Large, Recurs, Unresolved}
+use Rattle.life_answer.specs.declared.part.Part.{Part}
+use Rattle.life_answer.specs.declared.finding.Outcome.{Outcome}
+use Rattle.life_answer.specs.declared.finding.Outcome.TheVariants.{Ash, Recurs, Unresolved}
 
 -- the code that was found, or no byte
-abbrev pub code_found : Finding → List ℕ
-code_found (Recurs population onset period dx dy code) = code
-code_found (Unresolved population) = []
-code_found (Large population generation) = []
-code_found (Ash population parts) = []
+abbrev pub code_found : Outcome → List ℕ
+code_found (Recurs onset period dx dy code) = code
+code_found _ = []
+
+-- the parts that were found, or none
+abbrev pub parts_found : Outcome → List Part
+parts_found (Ash parts) = parts
+parts_found _ = []
 
 -- the code that is found of a part alone
 abbrev pub part_code : Rule → ℕ → Generation → List ℕ
-part_code R b P = code_found (finding_of R P b)
+part_code R b P = code_found (outcome_of R P b)
 
-abbrev pub census_found : Rule → ℕ → ℕ → Option (List Generation) → Finding
-census_found R b population None = Unresolved population
-census_found R b population (Some parts) = Ash population (counted_codes (map (part_code R b) parts))
+abbrev pub census_found : Rule → ℕ → Option (List Generation) → Outcome
+census_found R b None = Unresolved
+census_found R b (Some parts) = Ash (counted_codes (map (part_code R b) parts))
 
--- What is found of a set that is to fall apart within b: the objects into which generation b falls apart, where it does.
-unfoldable pub census_of : Rule → Generation → ℕ → Finding
-census_of R G b = census_found R b (size G) (ash_of R b (generation R G b))
+-- What becomes of a set that is to fall apart within b: the objects into which generation b falls apart, where it does.
+unfoldable pub census_of : Rule → Generation → ℕ → Outcome
+census_of R G b = census_found R b (ash_of R b (generation R G b))

@@ -1,11 +1,11 @@
--- What is found of a pattern of which no generation may have more than some number of cells.
+-- What becomes of a pattern of which no generation may have more than some number of cells.
 use Rattle.std.specs.Prelude.{◌≤◌, ℕ, suc, Option, Some, None, nat_lt}
 use Rattle.life_model.specs.Rule.{Rule}
 use Rattle.life_model.specs.Generation.{Generation, size}
 use Rattle.life_model.specs.Evolution.{generation}
 use Rattle.life_answer.specs.Recurrence.{first_from}
-use Rattle.life_answer.specs.declared.finding.Finding.{Finding}
-use Rattle.life_answer.specs.declared.finding.Finding.TheVariants.{Large}
+use Rattle.life_answer.specs.declared.finding.Outcome.{Outcome}
+use Rattle.life_answer.specs.declared.finding.Outcome.TheVariants.{Large}
 
 -- the first generation from 0 to the last that has more cells than so many
 unfoldable pub first_larger : Rule → Generation → ℕ → ℕ → Option ℕ
@@ -16,14 +16,14 @@ abbrev pub first_past : Option ℕ → Rule → Generation → ℕ → Option �
 first_past None R G last = None
 first_past (Some most) R G last = first_larger R G most last
 
--- what was found, unless a generation is too large
-abbrev pub unless_large : Finding → ℕ → Option ℕ → Finding
-unless_large found population None = found
-unless_large found population (Some n) = Large population n
+-- an outcome, unless a generation is too large
+abbrev pub unless_large : Outcome → Option ℕ → Outcome
+unless_large outcome None = outcome
+unless_large outcome (Some n) = Large n
 
--- What was found, unless a generation from 0 to the last has more cells than it may have.
-abbrev pub finding_unless_large : Option ℕ → Rule → Generation → ℕ → Finding → Finding
-finding_unless_large limit R G last found = unless_large found (size G) (first_past limit R G last)
+-- An outcome, unless a generation from 0 to the last has more cells than it may have.
+abbrev pub outcome_unless_large : Option ℕ → Rule → Generation → ℕ → Outcome → Outcome
+outcome_unless_large limit R G last outcome = unless_large outcome (first_past limit R G last)
 
 -- so many cells are allowed
 abbrev pub IsAllowed : Option ℕ → ℕ → Type 0

@@ -11,11 +11,12 @@ use Rattle.life_answer.specs.contracts.question.Question as question_row
 use Rattle.life_answer.specs.declared.finding.Answer.{Answer}
 use Rattle.life_answer.specs.declared.finding.Answer.TheVariants.{Found, Refused}
 use Rattle.life_answer.specs.declared.finding.Finding.{Finding}
+use Rattle.life_answer.specs.declared.finding.Outcome.{Outcome}
 use Rattle.life_answer.specs.declared.question.Question.{Question}
 use Rattle.life_answer.specs.declared.question.Question.TheVariants.{Objects, Settles}
-use Rattle.life_answer.specs.Answers.{fault_number, finding_of}
+use Rattle.life_answer.specs.Answers.{fault_number, finding_with, outcome_of}
 use Rattle.life_answer.specs.Census.{census_of}
-use Rattle.life_answer.specs.Limited.{finding_unless_large}
+use Rattle.life_answer.specs.Limited.{outcome_unless_large}
 
 -- the bound within which is asked
 abbrev pub bound_of : Question → ℕ
@@ -35,10 +36,14 @@ greatest_bound (Objects bound cells) = objects_bound_limit
 abbrev pub IsAnswered : Question → Type 0
 IsAnswered question = (1 ≤ bound_of question) × (bound_of question ≤ greatest_bound question)
 
+-- what becomes of a set
+abbrev pub outcome_to : Question → Rule → Generation → Outcome
+outcome_to (Settles bound cells) R G = outcome_unless_large cells R G bound (outcome_of R G bound)
+outcome_to (Objects bound cells) R G = outcome_unless_large cells R G (3 * bound) (census_of R G bound)
+
 -- what is found of a set
 abbrev pub finding_to : Question → Rule → Generation → Finding
-finding_to (Settles bound cells) R G = finding_unless_large cells R G bound (finding_of R G bound)
-finding_to (Objects bound cells) R G = finding_unless_large cells R G (3 * bound) (census_of R G bound)
+finding_to question R G = finding_with G (outcome_to question R G)
 
 abbrev pub answer_to : Question → Result Picture RleFault → Answer
 answer_to question (Ok pattern) = Found pattern.rule (finding_to question pattern.rule pattern.cells)

@@ -1,15 +1,26 @@
 //! What is found of a pattern and of a text.
+ghost use Rattle.std.specs.Prelude.{◌≡◌};
+ghost use Rattle.life_answer.specs.Census.{parts_found};
+
 use crate::code::Code;
+use crate::part::Part;
 use crate::parts::Parts;
 use life_cells::Rule;
 
 /// What is found of a pattern within a bound.
 #[derive(Drop)]
-pub enum Finding {
+pub struct Finding {
+    /// How many live cells generation 0 has.
+    pub population: u64,
+    /// What becomes of it.
+    pub outcome: Outcome,
+}
+
+/// What becomes of a pattern within a bound.
+#[derive(Drop)]
+pub enum Outcome {
     /// It comes again, moved as a whole.
     Recurs {
-        /// How many live cells generation 0 has.
-        population: u64,
         /// The first generation that comes again within the bound.
         onset: u32,
         /// After how many generations that one first comes again.
@@ -22,24 +33,29 @@ pub enum Finding {
         code: Code,
     },
     /// No generation comes again within the bound.
-    Unresolved {
-        /// How many live cells generation 0 has.
-        population: u64,
-    },
+    Unresolved,
     /// Some generation has more cells than it may have.
     Large {
-        /// How many live cells generation 0 has.
-        population: u64,
         /// The first such generation.
         generation: u32,
     },
     /// It has fallen apart into objects.
     Ash {
-        /// How many live cells generation 0 has.
-        population: u64,
         /// The objects.
         parts: Parts,
     },
+}
+
+impl Outcome {
+    /// The objects that it has fallen apart into, or none.
+    pub fn parts(&self) -> &[Part]
+        ensures { result.now ≡ parts_found self.now }
+    {
+        match self {
+            Outcome::Ash { parts } => parts.as_slice(),
+            _ => &[],
+        }
+    }
 }
 
 /// What is found of an RLE text within a bound.

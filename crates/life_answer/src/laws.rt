@@ -7,9 +7,10 @@ ghost use Rattle.life_model.specs.Rule.{Rule};
 ghost use Rattle.life_text.specs.declared.rle.RleFault.{RleFault};
 ghost use Rattle.life_text.specs.Picture.{Picture, picture_of};
 ghost use Rattle.life_text.specs.Rle.{reading, refusal};
-ghost use Rattle.life_answer.specs.Answers.{fault_number, finding_of, recurrence_finding};
+ghost use Rattle.life_answer.specs.Answers.{fault_number, finding_of};
 ghost use Rattle.life_answer.specs.Apgcode.{code_of};
-ghost use Rattle.life_answer.specs.declared.finding.Finding.TheVariants.{Ash, Recurs, Unresolved};
+ghost use Rattle.life_answer.specs.declared.finding.Finding.{Finding};
+ghost use Rattle.life_answer.specs.declared.finding.Outcome.TheVariants.{Ash, Recurs, Unresolved};
 ghost use Rattle.life_answer.specs.declared.finding.Answer.TheVariants.{Found, Refused};
 ghost use Rattle.life_answer.specs.declared.part.Part.{Part};
 ghost use Rattle.life_answer.specs.Limited.{StaysWithin, first_past};
@@ -23,21 +24,23 @@ ghost use Rattle.std.specs.List.Sorted.{IsPermutation};
 /// displacement, and the code of the generation at the onset. And only of such a set is it found.
 pub fn a_settled_set_recurs()
     ensures found { (R : Rule) (G : Generation) (b : ℕ) (r : Recurrence) → Settles R G b r →
-        finding_of R G b ≡
-        Recurs (size G) r.onset r.period r.displacement.0 r.displacement.1
-        (code_of R (generation R G r.onset) r.period r.displacement) }
-    ensures only { (R : Rule) (G : Generation) (b population onset period : ℕ) (dx dy : ℤ)
+        finding_of R G b ≡ record {
+          population = size G;
+          outcome = Recurs r.onset r.period r.displacement.0 r.displacement.1
+              (code_of R (generation R G r.onset) r.period r.displacement);
+        } }
+    ensures only { (R : Rule) (G : Generation) (b onset period : ℕ) (dx dy : ℤ)
         (code : List ℕ) →
-        finding_of R G b ≡ Recurs population onset period dx dy code →
+        (finding_of R G b).outcome ≡ Recurs onset period dx dy code →
         Settles R G b (record { onset = onset; period = period; displacement = (dx, dy) }) }
 {}
 
 /// A set is unresolved exactly where none of its generations comes again within the bound.
 pub fn an_unresolved_set_settles_nowhere()
     ensures found { (R : Rule) (G : Generation) (b : ℕ) → ((g : ℕ) → SettlesAt R G b g → ⊥) →
-        finding_of R G b ≡ Unresolved (size G) }
-    ensures only { (R : Rule) (G : Generation) (b population g : ℕ) →
-        finding_of R G b ≡ Unresolved population → SettlesAt R G b g → ⊥ }
+        finding_of R G b ≡ record { population = size G; outcome = Unresolved } }
+    ensures only { (R : Rule) (G : Generation) (b g : ℕ) →
+        (finding_of R G b).outcome ≡ Unresolved → SettlesAt R G b g → ⊥ }
 {}
 
 /// A set that settles within a bound has the same finding within every bound that its onset and its period together
@@ -46,7 +49,7 @@ pub fn one_finding()
     ensures more { (R : Rule) (G : Generation) (b c : ℕ) (r : Recurrence) → Settles R G b r →
         r.onset + r.period ≤ c → finding_of R G c ≡ finding_of R G b }
     ensures less { (R : Rule) (G : Generation) (b c : ℕ) (r : Recurrence) → Settles R G b r →
-        c < r.onset + r.period → finding_of R G c ≡ Unresolved (size G) }
+        c < r.onset + r.period → finding_of R G c ≡ record { population = size G; outcome = Unresolved } }
 {}
 
 /// The answer to a text is the finding of the pattern that it means, or the number of its fault, which is 1 to 10.
@@ -65,9 +68,10 @@ pub fn a_text_is_found_or_refused()
 
 /// Where it is asked which generation comes again, no answer is that a pattern has fallen apart.
 pub fn what_comes_again_is_no_ash()
-    ensures { (text : List ℕ) (b : ℕ) (cells : Option ℕ) (rule : Rule) (population : ℕ)
+    ensures { (text : List ℕ) (b : ℕ) (cells : Option ℕ) (rule : Rule) (finding : Finding)
         (parts : List Part) →
-        answer_to_question (AsksSettling b cells) text ≡ Found rule (Ash population parts) → ⊥ }
+        answer_to_question (AsksSettling b cells) text ≡ Found rule finding →
+        finding.outcome ≡ Ash parts → ⊥ }
 {}
 
 /// The first generation past a limit is the first that has more cells than allowed, and there is none exactly where all

@@ -13,7 +13,7 @@ mod question;
 mod refusal;
 
 pub use code::Code;
-pub use finding::{Answer, Finding};
+pub use finding::{Answer, Finding, Outcome};
 pub use laws::{
     a_settled_set_recurs, a_text_is_found_or_refused, an_unresolved_set_settles_nowhere,
     codes_tell_objects, counts_know_no_order, one_finding, the_first_generation_past_the_limit,

@@ -5,7 +5,7 @@ use Rattle.std.proofs.lemmas.List.Elements.{All-cons, All-head, All-tail}
 use Rattle.std.proofs.lemmas.List.Sorted.{IsPermutation-map}
 use Rattle.life_model.specs.Cell.{Cell}
 use Rattle.life_model.specs.Rule.{Rule}
-use Rattle.life_model.specs.Generation.{Generation, empty, size}
+use Rattle.life_model.specs.Generation.{Generation, empty}
 use Rattle.life_model.specs.Evolution.{generation}
 use Rattle.life_model.specs.Recurrence.{AreOneObject, Recurrence, RecursBy}
 use Rattle.life_model.specs.Symmetry.{Same, normal, image_under}
@@ -17,7 +17,7 @@ use Rattle.life_decided.proofs.Deciding.{none_if_no_ash}
 use Rattle.life_decided.proofs.Lasting.{parts_found}
 use Rattle.life_answer.specs.Apgcode.{code_of}
 use Rattle.life_answer.specs.Parts.{counted_codes}
-use Rattle.life_answer.specs.declared.finding.Finding.TheVariants.{Ash, Unresolved}
+use Rattle.life_answer.specs.declared.finding.Outcome.TheVariants.{Ash, Unresolved}
 use Rattle.life_answer.proofs.Codes.{codes_tell_objects}
 use Rattle.life_answer.proofs.Tallying.{counted_permutation}
 use Rattle.life_orbit.specs.Course.{Course, IsCourse}
@@ -99,20 +99,20 @@ codes_of_parts R b n (o ∷ os) of courses parts =
 
 module _ (R : Rule) (b : ℕ) (G : Generation) where
   pub census_some : (n : ℕ) (os : List Course) → All (IsCourseBy R) os → All IsCourse os →
-      HasFallenApart R b G (sets_of (courses_after n os)) → census_of R G b ≡ Ash (size G) (counted_codes (map course_code os))
+      HasFallenApart R b G (sets_of (courses_after n os)) → census_of R G b ≡ Ash (counted_codes (map course_code os))
   unfolding census_of
   census_some n os of courses fallen =
       let sets = sets_of (courses_after n os) in
       let found = parts_found R b (generation R G b) sets fallen in
-      ap (census_found R b (size G)) found.1
-      ∙ ap (Ash (size G))
+      ap (census_found R b) found.1
+      ∙ ap Ash
       (sym (counted_permutation (map (part_code R b) sets) (map (part_code R b) found.0)
       (IsPermutation-map (part_code R b) sets found.0 found.2))
       ∙ ap counted_codes (codes_of_parts R b n os of courses fallen.objects))
 
-  pub census_none : ((parts : List Generation) → HasFallenApart R b G parts → ⊥) → census_of R G b ≡ Unresolved (size G)
+  pub census_none : ((parts : List Generation) → HasFallenApart R b G parts → ⊥) → census_of R G b ≡ Unresolved
   unfolding census_of
-  census_none none = ap (census_found R b (size G)) (none_if_no_ash R b (generation R G b) none)
+  census_none none = ap (census_found R b) (none_if_no_ash R b (generation R G b) none)
 
 pub of_sooner : (R : Rule) (n : ℕ) (os : List Course) → All (IsCourseBy R) (courses_after n os) → All (IsCourseBy R) os
 of_sooner R n [] of = of

@@ -11,7 +11,7 @@ use Rattle.life_model.specs.Symmetry.{translate_of}
 use Rattle.life_model.proofs.Recurrences.{generation-zero}
 use Rattle.life_answer.specs.Apgcode.{code_of}
 use Rattle.life_answer.specs.Parts.{counted_codes, with_code}
-use Rattle.life_answer.proofs.Findings.{finding-settled}
+use Rattle.life_answer.proofs.Findings.{outcome-settled}
 use Rattle.life_orbit.specs.Course.{Course, IsCourse}
 use Rattle.life_answer.specs.Census.{code_found, part_code}
 use Rattle.life_census.specs.Courses.{course_code}
@@ -55,5 +55,5 @@ module _ (o : Course) (b : ℕ) (course : IsCourse o) (within : o.period ≤ b) 
 
   pub code_alone : part_code o.rule b o.set ≡ course_code o
   code_alone =
-      ap code_found (finding-settled o.rule o.set b (recurrence_of o) settles)
+      ap code_found (outcome-settled o.rule o.set b (recurrence_of o) settles)
       ∙ ap (λ G. code_of o.rule G o.period o.displacement) start

@@ -6,7 +6,7 @@ ghost use Rattle.life_answer.specs.Questions.{finding_to};
 ghost use Rattle.life_answer.specs.declared.question.Question.TheVariants.{Objects};
 
 use crate::parts::parts_of;
-use life_answer::Finding;
+use life_answer::{Finding, Outcome};
 use life_ash::{Fate, fate};
 use life_cells::{CellList, Rule};
 use life_orbit::BOUND_LIMIT;
@@ -28,15 +28,15 @@ pub fn census<P: Plane>(
     ensures { IfOk result (λ found. found ≡ finding_to (Objects bound limit) rule.now cells.now) }
 {
     let population = cells.len() as u64;
-    Ok(match fate::<P>(alloc, rule, cells, bound, limit)? {
-        Fate::Ash(ash) => Finding::Ash {
-            population,
+    let outcome = match fate::<P>(alloc, rule, cells, bound, limit)? {
+        Fate::Ash(ash) => Outcome::Ash {
             parts: parts_of(alloc, ash.orbits())?,
         },
-        Fate::Unresolved => Finding::Unresolved { population },
-        Fate::Large { generation } => Finding::Large {
-            population,
-            generation,
-        },
+        Fate::Unresolved => Outcome::Unresolved,
+        Fate::Large { generation } => Outcome::Large { generation },
+    };
+    Ok(Finding {
+        population,
+        outcome,
     })
 }

@@ -7,11 +7,11 @@ use Rattle.life_model.specs.Evolution.{generation}
 use Rattle.life_model.specs.Recurrence.{Recurrence, Settles}
 use Rattle.life_model.proofs.Orbits.{along}
 use Rattle.life_model.proofs.Recurrences.{shape, shape-follows, shape_from_recurs, onset-period-le}
-use Rattle.life_answer.specs.declared.finding.Finding.{Finding}
-use Rattle.life_answer.specs.declared.finding.Finding.TheVariants.{Large, Unresolved}
-use Rattle.life_answer.specs.Answers.{finding_of}
-use Rattle.life_answer.specs.Limited.{IsAllowed, StaysWithin, first_past, finding_unless_large, unless_large}
-use Rattle.life_answer.proofs.Findings.{finding-more, finding-nowhere, nowhere_by_finding, settled_or_not}
+use Rattle.life_answer.specs.declared.finding.Outcome.{Outcome}
+use Rattle.life_answer.specs.declared.finding.Outcome.TheVariants.{Large, Unresolved}
+use Rattle.life_answer.specs.Answers.{outcome_of}
+use Rattle.life_answer.specs.Limited.{IsAllowed, StaysWithin, first_past, outcome_unless_large, unless_large}
+use Rattle.life_answer.proofs.Findings.{outcome-more, settled_or_not}
 use Rattle.life_answer.proofs.Limits.{first_past-is, limited-else, limited-same}
 use Rattle.life_answer.proofs.Sizes.{size_by_shape}
 
@@ -26,23 +26,23 @@ module _ (R : Rule) (G : Generation) where
       (first_past-is R G bound most n).1 (omega arith, first.1, first.2)
 
   -- a set that is too large within some bound is so within any greater one
-  pub large_beyond : (limit : Option ℕ) (last bound : ℕ) (large found : Finding) → last ≤ bound
-      → ((other : Finding) → finding_unless_large limit R G last other ≡ large) → finding_unless_large limit R G bound found ≡ large
+  pub large_beyond : (limit : Option ℕ) (last bound : ℕ) (large found : Outcome) → last ≤ bound
+      → ((other : Outcome) → outcome_unless_large limit R G last other ≡ large) → outcome_unless_large limit R G bound found ≡ large
   large_beyond limit last bound large found h all = by_first (first_past limit R G last) refl
     where
-      by_first : (o : Option ℕ) → first_past limit R G last ≡ o → finding_unless_large limit R G bound found ≡ large
+      by_first : (o : Option ℕ) → first_past limit R G last ≡ o → outcome_unless_large limit R G bound found ≡ large
       by_first None e =
-          let one : Unresolved 0 ≡ large = ap (unless_large (Unresolved 0) (size G)) (sym e) ∙ all (Unresolved 0) in
-          let two : Large 0 0 ≡ large = ap (unless_large (Large 0 0) (size G)) (sym e) ∙ all (Large 0 0) in
+          let one : Unresolved ≡ large = ap (unless_large Unresolved) (sym e) ∙ all Unresolved in
+          let two : Large 0 ≡ large = ap (unless_large (Large 0)) (sym e) ∙ all (Large 0) in
           absurd cc
       by_first (Some n) e =
-          ap (unless_large found (size G)) (past_beyond limit last bound n h e ∙ sym e) ∙ all found
+          ap (unless_large found) (past_beyond limit last bound n h e ∙ sym e) ∙ all found
 
   -- a set of which nothing is found in place of what is found without a limit stays within it
-  pub stays : (limit : Option ℕ) (last : ℕ) → ((other : Finding) → finding_unless_large limit R G last other ≡ other)
+  pub stays : (limit : Option ℕ) (last : ℕ) → ((other : Outcome) → outcome_unless_large limit R G last other ≡ other)
       → StaysWithin limit R G last
   stays limit last all =
-      (limited-else R G last limit (Unresolved 0) (Unresolved 0) (all (Unresolved 0)) (λ population first e. cc)).0
+      (limited-else R G last limit Unresolved Unresolved (all Unresolved) (λ first e. cc)).0
 
   module _ (b : ℕ) (r : Recurrence) (s : Settles R G b r) where
     abbrev o : ℕ
@@ -78,22 +78,17 @@ module _ (R : Rule) (G : Generation) where
       stays_beyond : (c : ℕ) → StaysWithin limit R G c
       stays_beyond c n h = allowed_before (n + 1) n (omega arith)
 
-      settled_beyond : (c : ℕ) → b ≤ c → finding_unless_large limit R G c (finding_of R G c) ≡ finding_of R G b
+      settled_beyond : (c : ℕ) → b ≤ c → outcome_unless_large limit R G c (outcome_of R G c) ≡ outcome_of R G b
       settled_beyond c h =
           let whole : o + p ≤ b = onset-period-le R G b r s in
-          limited-same R G c limit (finding_of R G c) (stays_beyond c) ∙ finding-more R G b c r s (omega arith)
+          limited-same R G c limit (outcome_of R G c) (stays_beyond c) ∙ outcome-more R G b c r s (omega arith)
 
   -- what is found of a set that stays within its limit is found within any greater bound, unless it is unresolved
   pub found_beyond : (limit : Option ℕ) (b c : ℕ) → StaysWithin limit R G b
-      → (finding_of R G b ≡ Unresolved (size G) → ⊥) → b ≤ c
-      → finding_unless_large limit R G c (finding_of R G c) ≡ finding_of R G b
+      → (outcome_of R G b ≡ Unresolved → ⊥) → b ≤ c
+      → outcome_unless_large limit R G c (outcome_of R G c) ≡ outcome_of R G b
   found_beyond limit b c small resolved h =
       elim (settled_or_not R G b) [
         | inl found ↦ settled_beyond b found.recurrence found.settles limit small c h
         | inr not ↦ absurd (resolved not.found)
       ]
-
-  -- a set that is found unresolved is found so with its own population
-  pub unresolved_from : (b population : ℕ) → finding_of R G b ≡ Unresolved population
-      → finding_of R G b ≡ Unresolved (size G)
-  unresolved_from b population e = finding-nowhere R G b (λ g. nowhere_by_finding R G b population g e)

@@ -1,32 +1,39 @@
 -- Equal codes tell one object.
-use Rattle.std.proofs.Common.{◌≡◌, ℕ, ℤ, List, Bool, Decides, sym, ◌∙◌}
+use Rattle.std.proofs.Common.{◌≡◌, ℕ, ℤ, inl, inr, List, Bool, Decides, sym, ◌∙◌}
 use Rattle.life_model.specs.Rule.{Rule}
 use Rattle.life_model.specs.Generation.{Generation}
 use Rattle.life_model.specs.Recurrence.{Recurrence, SettlesAt}
-use Rattle.life_answer.specs.declared.finding.Finding.TheVariants.{Recurs, Unresolved}
+use Rattle.life_answer.specs.declared.finding.Outcome.{Outcome}
+use Rattle.life_answer.specs.declared.finding.Outcome.TheVariants.{Recurs}
 use Rattle.life_answer.specs.Apgcode.{code_of}
 use Rattle.life_model.specs.Evolution.{generation}
-use Rattle.life_answer.specs.Answers.{finding_of, recurrence_finding}
-use Rattle.life_answer.proofs.Findings.{finding-settled, settles_by_finding, nowhere_by_finding}
+use Rattle.life_answer.specs.Answers.{outcome_of, recurrence_outcome}
+use Rattle.life_answer.proofs.Findings.{outcome-settled, settled_or_not, settles_by_outcome}
 use Rattle.life_answer.proofs.Codes.{codes_tell_objects}
 use Rattle.life_find.specs.Objects.{SettlesIntoCode, TellsObject}
 
-code_found : (R : Rule) (G : Generation) (b population onset period : ℕ) (dx dy : ℤ) (code : List ℕ) → Recurs population onset period dx dy code ≡ recurrence_finding R G (record { onset = onset; period = period; displacement = (dx, dy) })
+code_found : (R : Rule) (G : Generation) (b onset period : ℕ) (dx dy : ℤ) (code : List ℕ) → Recurs onset period dx dy code ≡ recurrence_outcome R G (record { onset = onset; period = period; displacement = (dx, dy) })
     → code ≡ code_of R (generation R G onset) period (dx, dy)
-code_found R G b population onset period dx dy code e = cc
+code_found R G b onset period dx dy code e = cc
 
-pub HasCode_by_finding : (R : Rule) (G : Generation) (b population onset period : ℕ) (dx dy : ℤ) (code : List ℕ) → Recurs population onset period dx dy code ≡ finding_of R G b → SettlesIntoCode R G b code
-HasCode_by_finding R G b population onset period dx dy code e =
+pub HasCode_by_outcome : (R : Rule) (G : Generation) (b onset period : ℕ) (dx dy : ℤ) (code : List ℕ) → Recurs onset period dx dy code ≡ outcome_of R G b → SettlesIntoCode R G b code
+HasCode_by_outcome R G b onset period dx dy code e =
     let r : Recurrence = record { onset = onset; period = period; displacement = (dx, dy) } in
-    let s = settles_by_finding R G b population onset period dx dy code (sym e) in
+    let s = settles_by_outcome R G b onset period dx dy code (sym e) in
     record {
       recurrence = r;
       settles = s;
-      coded = code_found R G b population onset period dx dy code (e ∙ finding-settled R G b r s);
+      coded = code_found R G b onset period dx dy code (e ∙ outcome-settled R G b r s);
     }
 
-pub nowhere_found : (R : Rule) (G : Generation) (b population : ℕ) → Unresolved population ≡ finding_of R G b → (g : ℕ) → SettlesAt R G b g → ⊥
-nowhere_found R G b population e g s = nowhere_by_finding R G b population g (sym e) s
+-- a set that becomes anything else settles nowhere
+pub nowhere_found : (R : Rule) (G : Generation) (b : ℕ) (outcome : Outcome) → outcome ≡ outcome_of R G b
+    → ((onset period : ℕ) (dx dy : ℤ) (code : List ℕ) → outcome ≡ Recurs onset period dx dy code → ⊥) → (g : ℕ) → SettlesAt R G b g → ⊥
+nowhere_found R G b outcome e differs g s =
+    elim (settled_or_not R G b) [
+      | inl found ↦ differs _ _ _ _ _ (e ∙ found.found)
+      | inr not ↦ not.nowhere g s
+    ]
 
 pub TellsObject_by_codes : (R : Rule) (F S : Generation) (b : ℕ) (one other : List ℕ) (same : Bool) → SettlesIntoCode R F b one → SettlesIntoCode R S b other → Decides same (one ≡ other) → TellsObject R F S b same
 TellsObject_by_codes R F S b one other same f s decides =

@@ -2,16 +2,19 @@
 use Rattle.std.specs.Prelude.{ℕ, Bool, true, false}
 use Rattle.life_answer.specs.declared.finding.Answer.{Answer}
 use Rattle.life_answer.specs.declared.finding.Answer.TheVariants.{Found, Refused}
-use Rattle.life_answer.specs.declared.finding.Finding.TheVariants.{Ash, Large, Recurs, Unresolved}
+use Rattle.life_answer.specs.declared.finding.Outcome.{Outcome}
+use Rattle.life_answer.specs.declared.finding.Outcome.TheVariants.{Unresolved}
 
 -- the bound within which is looked at most, where what is found is to be known soon
 abbrev pub soon_reach : ℕ
 soon_reach = 128
 
+-- whether more generations may tell what these did not
+abbrev pub leaves_open : Outcome → Bool
+leaves_open Unresolved = true
+leaves_open _ = false
+
 -- whether nothing was found within a bound, so that more may be within a greater one
 abbrev pub is_open : Answer → Bool
-is_open (Found rule (Recurs population onset period dx dy code)) = false
-is_open (Found rule (Unresolved population)) = true
-is_open (Found rule (Large population generation)) = false
-is_open (Found rule (Ash population parts)) = false
+is_open (Found rule finding) = leaves_open finding.outcome
 is_open (Refused number) = false

@@ -2,9 +2,9 @@
 ghost use Rattle.std.specs.Prelude.{◌≡◌, ◌≤◌, All, IfOk};
 ghost use Rattle.life_model.specs.Generation as generation;
 ghost use Rattle.life_cells.specs.Limits.{IsWithin};
-ghost use Rattle.life_answer.specs.Answers.{finding_of};
-ghost use Rattle.life_answer.specs.Questions.{finding_to};
-ghost use Rattle.life_answer.specs.declared.finding.Finding.TheVariants.{Recurs};
+ghost use Rattle.life_answer.specs.Answers.{finding_of, outcome_of};
+ghost use Rattle.life_answer.specs.Questions.{finding_to, outcome_to};
+ghost use Rattle.life_answer.specs.declared.finding.Outcome.TheVariants.{Recurs};
 ghost use Rattle.life_answer.specs.declared.question.Question.TheVariants.{Settles};
 
 use crate::apgcode::code_of;
@@ -13,16 +13,16 @@ use crate::limit::BOUND_LIMIT;
 use crate::recurrence::Recurrence;
 use crate::rounds::found_early;
 use crate::search::settling;
-use life_answer::{Code, Finding};
+use life_answer::{Code, Finding, Outcome};
 use life_cells::{CellList, Rule};
 use life_plane::Plane;
 use life_text::Pattern;
 use std::alloc::{AllocError, Global};
 
-/// The finding of a pattern that settles.
-fn recurs(population: u64, recurrence: Recurrence, code: Code) -> Finding
+/// What becomes of a pattern that settles.
+fn recurs(recurrence: Recurrence, code: Code) -> Outcome
     ensures { result ≡
-        Recurs population recurrence.onset recurrence.period recurrence.displacement.0
+        Recurs recurrence.onset recurrence.period recurrence.displacement.0
         recurrence.displacement.1 code }
 {
     let Recurrence {
@@ -31,8 +31,7 @@ fn recurs(population: u64, recurrence: Recurrence, code: Code) -> Finding
         displacement,
     } = recurrence;
     let (dx, dy) = displacement;
-    Finding::Recurs {
-        population,
+    Outcome::Recurs {
         onset,
         period,
         dx,
@@ -41,28 +40,42 @@ fn recurs(population: u64, recurrence: Recurrence, code: Code) -> Finding
     }
 }
 
-/// What is found of cells that a plane at age 0 holds.
-fn find_on<P: Plane>(
+/// What becomes of cells that a plane at age 0 holds.
+fn outcome_on<P: Plane>(
     alloc: Global,
     plane: &mut P,
     rule: &Rule,
     cells: &CellList,
     bound: u32,
-) -> Result<Finding, AllocError>
+) -> Result<Outcome, AllocError>
     requires fits { All (IsWithin 0) (generation.cells cells.now) }
     requires bound { 1 ≤ bound × bound ≤ BOUND_LIMIT }
     requires cells { cells.now ≡ P.members plane.old }
     requires new { P.steps_made plane.old ≡ 0 }
-    ensures { IfOk result (λ found. found ≡ finding_of rule.now cells.now bound) }
+    ensures { IfOk result (λ outcome. outcome ≡ outcome_of rule.now cells.now bound) }
 {
-    let population = cells.len() as u64;
     match settling(alloc, plane, cells, rule, bound)? {
-        None => Ok(Finding::Unresolved { population }),
+        None => Ok(Outcome::Unresolved),
         Some(recurrence) => {
             let code = code_of(alloc, cells, plane, rule, &recurrence)?;
-            Ok(recurs(population, recurrence, code))
+            Ok(recurs(recurrence, code))
         }
     }
+}
+
+/// What becomes of cells whose places are from 0 to 1,048,575.
+pub fn outcome_of<P: Plane>(
+    alloc: Global,
+    rule: &Rule,
+    cells: &CellList,
+    bound: u32,
+) -> Result<Outcome, AllocError>
+    requires fits { All (IsWithin 0) (generation.cells cells.now) }
+    requires bound { 1 ≤ bound × bound ≤ BOUND_LIMIT }
+    ensures { IfOk result (λ outcome. outcome ≡ outcome_of rule.now cells.now bound) }
+{
+    let mut plane = P::from_cells(alloc, cells)?;
+    outcome_on(alloc, &mut plane, rule, cells, bound)
 }
 
 /// What is found of cells whose places are from 0 to 1,048,575.
@@ -76,8 +89,12 @@ pub fn find_cells<P: Plane>(
     requires bound { 1 ≤ bound × bound ≤ BOUND_LIMIT }
     ensures { IfOk result (λ found. found ≡ finding_of rule.now cells.now bound) }
 {
-    let mut plane = P::from_cells(alloc, cells)?;
-    find_on(alloc, &mut plane, rule, cells, bound)
+    let population = cells.len() as u64;
+    let outcome = outcome_of::<P>(alloc, rule, cells, bound)?;
+    Ok(Finding {
+        population,
+        outcome,
+    })
 }
 
 /// What is found of a pattern within the bound, over planes of any kind: its population, and where some generation up to
@@ -91,9 +108,31 @@ pub fn find<P: Plane>(alloc: Global, pattern: &Pattern, bound: u32) -> Result<Fi
     find_cells::<P>(alloc, &pattern.rule(), pattern.cells(), bound)
 }
 
-/// The same, unless some generation from 0 to the bound has more cells than it may have. Where there is such a limit,
-/// the generations are looked at in rounds, the first few alone in the first one, and all those up to the bound only
-/// where no round before tells what is found.
+/// What becomes of cells, unless some generation from 0 to the bound has more cells than it may have.
+fn outcome_limited<P: Plane>(
+    alloc: Global,
+    rule: &Rule,
+    cells: &CellList,
+    bound: u32,
+    limit: Option<u32>,
+) -> Result<Outcome, AllocError>
+    requires fits { All (IsWithin 0) (generation.cells cells.now) }
+    requires bound { 1 ≤ bound × bound ≤ BOUND_LIMIT }
+    ensures { IfOk result
+        (λ outcome. outcome ≡ outcome_to (Settles bound limit) rule.now cells.now) }
+{
+    if let Some(outcome) = found_early::<P>(alloc, rule, cells, bound, limit)? {
+        return Ok(outcome);
+    }
+    if let Some(large) = too_large::<P>(alloc, rule, cells, limit, bound)? {
+        return Ok(large);
+    }
+    outcome_of::<P>(alloc, rule, cells, bound)
+}
+
+/// The same as `find`, unless some generation from 0 to the bound has more cells than it may have. Where there is such a
+/// limit, the generations are looked at in rounds, the first few alone in the first one, and all those up to the bound
+/// only where no round before tells what is found.
 pub fn find_limited<P: Plane>(
     alloc: Global,
     pattern: &Pattern,
@@ -104,12 +143,9 @@ pub fn find_limited<P: Plane>(
     ensures { IfOk result
         (λ found. found ≡ finding_to (Settles bound limit) pattern.now.rule pattern.now.cells) }
 {
-    let rule = pattern.rule();
-    if let Some(found) = found_early::<P>(alloc, &rule, pattern.cells(), bound, limit)? {
-        return Ok(found);
-    }
-    if let Some(large) = too_large::<P>(alloc, &rule, pattern.cells(), limit, bound)? {
-        return Ok(large);
-    }
-    find::<P>(alloc, pattern, bound)
+    let cells = pattern.cells();
+    Ok(Finding {
+        population: cells.len() as u64,
+        outcome: outcome_limited::<P>(alloc, &pattern.rule(), cells, bound, limit)?,
+    })
 }

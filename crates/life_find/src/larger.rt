@@ -2,10 +2,10 @@
 ghost use Rattle.std.specs.Prelude.{◌≡◌, ◌<◌, All, IfNone, IfOk, IfSome};
 ghost use Rattle.life_model.specs.Generation as generations;
 ghost use Rattle.life_cells.specs.Limits.{IsWithin};
-ghost use Rattle.life_answer.specs.Limited.{first_larger, finding_unless_large};
-ghost use Rattle.life_answer.specs.declared.finding.Finding.{Finding as Found};
+ghost use Rattle.life_answer.specs.Limited.{first_larger, outcome_unless_large};
+ghost use Rattle.life_answer.specs.declared.finding.Outcome.{Outcome as Becomes};
 
-use life_answer::Finding;
+use life_answer::Outcome;
 use life_cells::{CellList, Rule};
 use life_plane::{AGE_LIMIT, Plane};
 use std::alloc::{AllocError, Global};
@@ -35,7 +35,7 @@ pub fn first_larger<P: Plane>(
     Ok(None)
 }
 
-/// What is found of cells of which some generation up to the last has more than it may have, whatever else would be found of
+/// What becomes of cells of which some generation up to the last has more than it may have, whatever else would become of
 /// them. Where any number is allowed, no generation is looked at.
 pub fn too_large<P: Plane>(
     alloc: Global,
@@ -43,16 +43,16 @@ pub fn too_large<P: Plane>(
     cells: &CellList,
     limit: Option<u32>,
     last: u32,
-) -> Result<Option<Finding>, AllocError>
+) -> Result<Option<Outcome>, AllocError>
     requires fits { All (IsWithin 0) (generations.cells cells.now) }
     requires last { last < AGE_LIMIT }
     ensures large { IfOk result
         (λ answer. IfSome answer
-        (λ large. (found : Found) →
-        finding_unless_large limit rule.now cells.now last found ≡ large)) }
+        (λ large. (other : Becomes) →
+        outcome_unless_large limit rule.now cells.now last other ≡ large)) }
     ensures small { IfOk result
         (λ answer. IfNone answer
-        ((found : Found) → finding_unless_large limit rule.now cells.now last found ≡ found)) }
+        ((other : Becomes) → outcome_unless_large limit rule.now cells.now last other ≡ other)) }
 {
     let Some(most) = limit else {
         return Ok(None);
@@ -60,9 +60,5 @@ pub fn too_large<P: Plane>(
     let Some(generation) = first_larger::<P>(alloc, rule, cells, most, last)? else {
         return Ok(None);
     };
-    let population = cells.len() as u64;
-    Ok(Some(Finding::Large {
-        population,
-        generation,
-    }))
+    Ok(Some(Outcome::Large { generation }))
 }

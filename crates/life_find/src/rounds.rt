@@ -2,14 +2,14 @@
 ghost use Rattle.std.specs.Prelude.{◌≡◌, ℕ, ◌≤◌, All, IfNone, IfOk, IfSome};
 ghost use Rattle.life_model.specs.Generation as generations;
 ghost use Rattle.life_cells.specs.Limits.{IsWithin};
-ghost use Rattle.life_answer.specs.Questions.{finding_to};
-ghost use Rattle.life_answer.specs.declared.finding.Finding.TheVariants.{Unresolved};
+ghost use Rattle.life_answer.specs.Questions.{outcome_to};
+ghost use Rattle.life_answer.specs.declared.finding.Outcome.TheVariants.{Unresolved};
 ghost use Rattle.life_answer.specs.declared.question.Question.TheVariants.{Settles};
 
-use crate::finding::find_cells;
+use crate::finding::outcome_of;
 use crate::larger::too_large;
 use crate::limit::BOUND_LIMIT;
-use life_answer::Finding;
+use life_answer::Outcome;
 use life_cells::{CellList, Rule};
 use life_plane::Plane;
 use std::alloc::{AllocError, Global};
@@ -20,7 +20,7 @@ const FIRST_REACH: u32 = 16;
 /// How many times as far as the one before it a round goes.
 const REACH_GROWTH: u32 = 4;
 
-/// What is found of cells, whose generations may have no more cells than the limit, within every bound from the reach
+/// What becomes of cells, whose generations may have no more cells than the limit, within every bound from the reach
 /// on: that a generation up to the reach is too large, or where none is, how they come again within the reach. `None`
 /// where they do neither.
 fn found_to<P: Plane>(
@@ -29,25 +29,24 @@ fn found_to<P: Plane>(
     cells: &CellList,
     limit: Option<u32>,
     reach: u32,
-) -> Result<Option<Finding>, AllocError>
+) -> Result<Option<Outcome>, AllocError>
     requires fits { All (IsWithin 0) (generations.cells cells.now) }
     requires reach { 1 ≤ reach × reach ≤ BOUND_LIMIT }
     ensures found { IfOk result (λ answer. IfSome answer (λ found. (bound : ℕ) → reach ≤ bound →
-        finding_to (Settles bound limit) rule.now cells.now ≡ found)) }
+        outcome_to (Settles bound limit) rule.now cells.now ≡ found)) }
     ensures open { IfOk result (λ answer. IfNone answer (
-        finding_to (Settles reach limit) rule.now cells.now ≡
-        Unresolved (generations.size cells.now))) }
+        outcome_to (Settles reach limit) rule.now cells.now ≡ Unresolved)) }
 {
     if let Some(large) = too_large::<P>(alloc, rule, cells, limit, reach)? {
         return Ok(Some(large));
     }
-    match find_cells::<P>(alloc, rule, cells, reach)? {
-        Finding::Unresolved { .. } => Ok(None),
+    match outcome_of::<P>(alloc, rule, cells, reach)? {
+        Outcome::Unresolved => Ok(None),
         found => Ok(Some(found)),
     }
 }
 
-/// What is found of cells within the bound, where there is a limit and their first generations tell it. They are looked
+/// What becomes of cells within the bound, where there is a limit and their first generations tell it. They are looked
 /// at in rounds, each of which begins again and goes four times as far as the one before it, and none further than a
 /// fourth of the bound: so all rounds together look at no more than a third as many generations as a search up to the
 /// bound may.
@@ -57,11 +56,11 @@ pub fn found_early<P: Plane>(
     cells: &CellList,
     bound: u32,
     limit: Option<u32>,
-) -> Result<Option<Finding>, AllocError>
+) -> Result<Option<Outcome>, AllocError>
     requires fits { All (IsWithin 0) (generations.cells cells.now) }
     requires bound { 1 ≤ bound × bound ≤ BOUND_LIMIT }
     ensures { IfOk result (λ answer. IfSome answer (λ found.
-        finding_to (Settles bound limit) rule.now cells.now ≡ found)) }
+        outcome_to (Settles bound limit) rule.now cells.now ≡ found)) }
 {
     if limit.is_none() {
         return Ok(None);

@@ -5,9 +5,9 @@ ghost use Rattle.life_model.specs.Recurrence.{SettlesAt};
 ghost use Rattle.life_cells.specs.Limits.{IsWithin};
 ghost use Rattle.life_find.specs.Objects.{SettlesIntoCode, TellsObject};
 
-use crate::finding::find_cells;
+use crate::finding::outcome_of;
 use crate::limit::BOUND_LIMIT;
-use life_answer::{Code, Finding};
+use life_answer::{Code, Outcome};
 use life_board::Board;
 use life_cells::{CellList, Rule};
 use life_plane::Plane;
@@ -27,11 +27,9 @@ fn settled_code<P: Plane>(
     ensures unsettled { IfOk result
         (λ answer. IfNone answer ((g : ℕ) → SettlesAt rule.now cells.now bound g → ⊥)) }
 {
-    match find_cells::<P>(alloc, rule, cells, bound)? {
-        Finding::Recurs { code, .. } => Ok(Some(code)),
-        Finding::Unresolved { .. } => Ok(None),
-        Finding::Large { .. } => unreachable!(),
-        Finding::Ash { .. } => unreachable!(),
+    match outcome_of::<P>(alloc, rule, cells, bound)? {
+        Outcome::Recurs { code, .. } => Ok(Some(code)),
+        _ => Ok(None),
     }
 }
 

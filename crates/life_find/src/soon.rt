@@ -6,7 +6,7 @@ ghost use Rattle.life_find.specs.Soon.{is_open, soon_reach};
 
 use crate::answering::answer;
 use crate::limit::BOUND_LIMIT;
-use life_answer::{Answer, Finding};
+use life_answer::{Answer, Outcome};
 use std::alloc::{AllocError, Global};
 
 /// The greatest bound within which no generation past 256 is looked at, as a search goes up to twice its bound.
@@ -17,9 +17,9 @@ fn is_open(answer: &Answer) -> bool
     ensures { result ≡ is_open answer.now }
 {
     match answer {
-        Answer::Found { rule: _, finding } => match finding {
-            Finding::Unresolved { .. } => true,
-            Finding::Recurs { .. } | Finding::Large { .. } | Finding::Ash { .. } => false,
+        Answer::Found { finding, .. } => match finding.outcome {
+            Outcome::Unresolved => true,
+            _ => false,
         },
         Answer::Refused(_) => false,
     }

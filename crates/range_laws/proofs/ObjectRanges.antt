@@ -9,18 +9,18 @@ use Rattle.census_bundle.specs.Sizes.{IsWithinCounts, count_limit}
 use Rattle.census_bundle.specs.declared.bundle.Entry.{Entry}
 use Rattle.census_bundle.specs.declared.bundle.Folder.{Folder}
 use Rattle.census_format.specs.Lines.{answer_to_entry, answers}
-use Rattle.census_format.specs.Objects.{objects, part_objects}
+use Rattle.census_format.specs.Objects.{objects, outcome_objects}
 use Rattle.census_format.proofs.AshParts.{length-part_objects}
 use Rattle.life_answer.specs.Answers.{fault_number}
 use Rattle.life_answer.specs.Apgcode.{bodies, code_of, prefix}
-use Rattle.life_answer.specs.Census.{census_found, census_of, code_found, part_code}
+use Rattle.life_answer.specs.Census.{census_found, census_of, code_found, part_code, parts_found}
 use Rattle.life_answer.specs.Limited.{first_past, unless_large}
 use Rattle.life_answer.specs.Parts.{with_code_by_order, counted_codes, objects_in, with_code}
 use Rattle.life_answer.specs.Questions.{IsAnswered, answer_to, answer_to_question, finding_to}
 use Rattle.life_answer.specs.declared.finding.Answer.{Answer}
 use Rattle.life_answer.specs.declared.finding.Answer.TheVariants.{Found, Refused}
-use Rattle.life_answer.specs.declared.finding.Finding.{Finding}
-use Rattle.life_answer.specs.declared.finding.Finding.TheVariants.{Recurs, Unresolved, Large, Ash}
+use Rattle.life_answer.specs.declared.finding.Outcome.{Outcome}
+use Rattle.life_answer.specs.declared.finding.Outcome.TheVariants.{Recurs, Ash}
 use Rattle.life_answer.specs.declared.part.Part.{Part}
 use Rattle.life_answer.specs.declared.question.Question.{Question}
 use Rattle.life_answer.specs.declared.question.Question.TheVariants.{Objects}
@@ -49,7 +49,7 @@ use Rattle.life_text.specs.declared.rle.RleFault.{RleFault}
 use Rattle.life_text.specs.declared.rle.RleFault.TheVariants.{NoHeader, BadHeader, RuleNotLifeLike, RuleHasB0, ManyStates, BadChar, BadRun, TooFar, TooMany, NoEnd, Memory}
 use Rattle.life_text.proofs.PictureLemmas.{placed_rises, placed_within}
 use Rattle.life_text.proofs.RisingLemmas.{meaning_rises}
-use Rattle.report_laws.specs.Ranges.{FitsReport, InRange, IsCodedPart, IsToldAnswer, IsToldFolder}
+use Rattle.report_laws.specs.Ranges.{FitsOutcome, InRange, IsCodedPart, IsToldAnswer, IsToldFolder}
 use Rattle.range_laws.proofs.CellCounts.{few_cells, few_parts}
 use Rattle.report_laws.proofs.Solid.{each-map}
 
@@ -114,27 +114,18 @@ counted-some (code ∷ all) parts h k = counted-some all (with_code code parts) 
 
 -- ---- what is found of a set
 
--- the finding can be told, and is of at most 2^48 objects
-abbrev IsRanged : Finding → Type 0
-IsRanged (Recurs population onset period dx dy code) = FitsReport (Recurs population onset period dx dy code)
-IsRanged (Unresolved population) = FitsReport (Unresolved population)
-IsRanged (Large population generation) = FitsReport (Large population generation)
-IsRanged (Ash population parts) = FitsReport (Ash population parts) × (objects_in parts ≤ 2 ^ 48)
+-- the outcome can be told, and is of at most 2^48 objects
+abbrev IsRanged : Outcome → Type 0
+IsRanged outcome = FitsOutcome outcome × (objects_in (parts_found outcome) ≤ 2 ^ 48)
 
 abbrev IsRangedAnswer : Answer → Type 0
-IsRangedAnswer (Found rule finding) = IsRanged finding
+IsRangedAnswer (Found rule finding) = (finding.population < 2 ^ 64) × IsRanged finding.outcome
 IsRangedAnswer (Refused number) = number < 2 ^ 64
 
-ranged-told : (finding : Finding) → IsRanged finding → FitsReport finding
-ranged-told (Recurs population onset period dx dy code) h = h
-ranged-told (Unresolved population) h = h
-ranged-told (Large population generation) h = h
-ranged-told (Ash population parts) h = h.0
-
-unless-ranged : (found : Finding) (population : ℕ) (large : Option ℕ) → IsRanged found → population < 2 ^ 64
-    → ((n : ℕ) → large ≡ Some n → n < 2 ^ 64) → IsRanged (unless_large found population large)
-unless-ranged found population None h few early = h
-unless-ranged found population (Some n) h few early = (few, early n refl)
+unless-ranged : (found : Outcome) (large : Option ℕ) → IsRanged found
+    → ((n : ℕ) → large ≡ Some n → n < 2 ^ 64) → IsRanged (unless_large found large)
+unless-ranged found None h early = h
+unless-ranged found (Some n) h early = (early n refl, omega arith)
 
 module _ (R : Rule) (G : Generation) (b : ℕ) (few : b ≤ objects_bound_limit) (within : All (IsWithin 0) (cells G)) where
   abbrev last : Generation
@@ -151,7 +142,7 @@ module _ (R : Rule) (G : Generation) (b : ℕ) (few : b ≤ objects_bound_limit)
       omega arith
 
   ash-ranged : (parts : List Generation) → ash_of R b last ≡ Some parts
-      → IsRanged (Ash (size G) (counted_codes (map (part_code R b) parts)))
+      → IsRanged (Ash (counted_codes (map (part_code R b) parts)))
   ash-ranged parts e =
       let ash = ash_if_found R b last parts e in
       let all = map (part_code R b) parts in
@@ -160,20 +151,20 @@ module _ (R : Rule) (G : Generation) (b : ℕ) (few : b ≤ objects_bound_limit)
       let long : length all ≡ length parts = length-map parts (part_code R b) in
       let small : objects_in (counted_codes all) ≤ 2 ^ 48 = omega arith in
       let fits : objects_in (counted_codes all) < 2 ^ 64 = omega arith in
-      ((population_fits, fits, counted-some all [] (parts-some R b parts ash.objects) tt), small)
+      ((fits, counted-some all [] (parts-some R b parts ash.objects) tt), small)
 
-  found-ranged : (o : Option (List Generation)) → ash_of R b last ≡ o → IsRanged (census_found R b (size G) o)
-  found-ranged None e = population_fits
+  found-ranged : (o : Option (List Generation)) → ash_of R b last ≡ o → IsRanged (census_found R b o)
+  found-ranged None e = (tt, omega arith)
   found-ranged (Some parts) e = ash-ranged parts e
 
   census-ranged : IsRanged (census_of R G b)
   unfolding census_of
   census-ranged = found-ranged (ash_of R b last) refl
 
-  finding-ranged : (limit : Option ℕ) → IsRanged (finding_to (Objects b limit) R G)
+  finding-ranged : (limit : Option ℕ) → IsRangedAnswer (Found R (finding_to (Objects b limit) R G))
   finding-ranged limit =
-      unless-ranged (census_of R G b) (size G) (first_past limit R G (3 * b)) census-ranged population_fits
-      (λ n past. let early : n ≤ 3 * b = past_within R G limit (3 * b) n past in omega arith)
+      (population_fits, unless-ranged (census_of R G b) (first_past limit R G (3 * b)) census-ranged
+      (λ n past. let early : n ≤ 3 * b = past_within R G limit (3 * b) n past in omega arith))
 
 -- ---- what is found of a text
 
@@ -222,7 +213,7 @@ module _ (bound : ℕ) (limit : Option ℕ) (answered : IsAnswered (Objects boun
       ]
 
 answer-told : (found : Answer) → IsRangedAnswer found → IsToldAnswer found
-answer-told (Found rule finding) h = ranged-told finding h
+answer-told (Found rule finding) h = (h.0, h.1.0)
 answer-told (Refused number) h = h
 
 pub objects_are_told : (bound : ℕ) (limit : Option ℕ) (text : List ℕ) → IsAnswered (Objects bound limit)
@@ -232,17 +223,17 @@ objects_are_told bound limit text answered =
 
 -- ---- what is found of a bundle's patterns
 
+few-parts : (rule : Rule) (outcome : Outcome) → objects_in (parts_found outcome) ≤ 2 ^ 48 → length (outcome_objects rule outcome) ≤ 2 ^ 48
+few-parts rule (Recurs onset period dx dy code) h = omega arith
+few-parts rule (Ash parts) h = let each = length-part_objects rule parts in omega (arith, each, h)
+few-parts rule _ h = omega arith
+
 few-objects : (found : List Answer) → Each IsRangedAnswer found → length (objects found) ≤ 2 ^ 48 * length found
 few-objects [] h = omega arith
-few-objects (Found rule (Recurs population onset period dx dy code) ∷ found) h =
-    let rest = few-objects found h.1 in omega arith
-few-objects (Found rule (Unresolved population) ∷ found) h = let rest = few-objects found h.1 in omega arith
-few-objects (Found rule (Large population generation) ∷ found) h = let rest = few-objects found h.1 in omega arith
-few-objects (Found rule (Ash population parts) ∷ found) h =
+few-objects (Found rule finding ∷ found) h =
     let rest = few-objects found h.1 in
-    let here : objects_in parts ≤ 2 ^ 48 = h.0.1 in
-    let long = length-append (part_objects rule parts) (objects found) in
-    let each = length-part_objects rule parts in
+    let here = few-parts rule finding.outcome h.0.1.1 in
+    let long = length-append (outcome_objects rule finding.outcome) (objects found) in
     omega arith
 few-objects (Refused number ∷ found) h = let rest = few-objects found h.1 in omega arith
 

@@ -2,23 +2,24 @@
 use Rattle.std.proofs.Common.{◌≡◌, ℕ, suc, ◌+◌, ◌<◌, ◌≤◌, ◌^◌, true, false, cond, ⊎_elim, Option, Some, None, Result, Ok, Err, List, [], ◌∷◌, ◌++◌, length, slice_get, sym, refl, arith, subst}
 use Rattle.std.specs.Prelude.{⊤}
 use Rattle.std.specs.List.{AllByRecursion as Each}
-use Rattle.std.proofs.lemmas.List.{length-map}
+use Rattle.std.proofs.lemmas.List.{length-append, length-map}
 use Rattle.census_bundle.specs.Sizes.{IsWithinCounts, count_limit}
 use Rattle.census_bundle.specs.declared.bundle.Entry.{Entry}
 use Rattle.census_bundle.specs.declared.bundle.Folder.{Folder}
 use Rattle.census_format.specs.Lines.{answer_to_entry, answers}
-use Rattle.census_format.specs.Objects.{objects}
+use Rattle.census_format.specs.Objects.{objects, outcome_objects}
 use Rattle.life_answer.proofs.Findings.{settled_or_not}
 use Rattle.life_answer.proofs.Limits.{first_past-is}
 use Rattle.life_answer.proofs.Texts.{answer-no_ash}
-use Rattle.life_answer.specs.Answers.{fault_number, finding_of, recurrence_finding}
+use Rattle.life_answer.specs.Answers.{fault_number, outcome_of, recurrence_outcome}
 use Rattle.life_answer.specs.Apgcode.{bodies, code_of, prefix}
-use Rattle.life_answer.specs.Limited.{first_past, finding_unless_large, unless_large}
+use Rattle.life_answer.specs.Limited.{first_past, outcome_unless_large, unless_large}
 use Rattle.life_answer.specs.Questions.{IsAnswered, answer_to, answer_to_question, settles_bound_limit}
 use Rattle.life_answer.specs.declared.finding.Answer.{Answer}
 use Rattle.life_answer.specs.declared.finding.Answer.TheVariants.{Found, Refused}
 use Rattle.life_answer.specs.declared.finding.Finding.{Finding}
-use Rattle.life_answer.specs.declared.finding.Finding.TheVariants.{Recurs, Unresolved, Large, Ash}
+use Rattle.life_answer.specs.declared.finding.Outcome.{Outcome}
+use Rattle.life_answer.specs.declared.finding.Outcome.TheVariants.{Recurs, Ash}
 use Rattle.life_answer.specs.declared.question.Question.TheVariants.{Settles}
 use Rattle.life_model.proofs.Recurrences.{onset-period-least}
 use Rattle.life_model.specs.Cell.{Cell}
@@ -31,7 +32,7 @@ use Rattle.life_text.specs.Picture.{Picture, picture_of}
 use Rattle.life_text.specs.Rle.{reading}
 use Rattle.life_text.specs.declared.rle.RleFault.{RleFault}
 use Rattle.life_text.specs.declared.rle.RleFault.TheVariants.{NoHeader, BadHeader, RuleNotLifeLike, RuleHasB0, ManyStates, BadChar, BadRun, TooFar, TooMany, NoEnd, Memory}
-use Rattle.report_laws.specs.Ranges.{FitsReport, InRange, IsToldAnswer, IsToldFolder}
+use Rattle.report_laws.specs.Ranges.{FitsOutcome, InRange, IsToldAnswer, IsToldFolder}
 use Rattle.report_laws.proofs.Solid.{each-map}
 use Rattle.range_laws.proofs.Standing.{IsTextual, IsTextualPicture, Stands, generation-stands, moved-fits, text-textual}
 
@@ -62,28 +63,33 @@ fault-small Memory = omega arith
 -- ---- objects
 
 -- it is not found that a pattern has fallen apart
+abbrev IsWhole : Outcome → Type 0
+IsWhole (Ash parts) = ⊥
+IsWhole _ = ⊤
+
 abbrev IsWholeAnswer : Answer → Type 0
-IsWholeAnswer (Found rule (Recurs population onset period dx dy code)) = ⊤
-IsWholeAnswer (Found rule (Unresolved population)) = ⊤
-IsWholeAnswer (Found rule (Large population generation)) = ⊤
-IsWholeAnswer (Found rule (Ash population parts)) = ⊥
+IsWholeAnswer (Found rule finding) = IsWhole finding.outcome
 IsWholeAnswer (Refused number) = ⊤
+
+whole-outcome : (rule : Rule) (outcome : Outcome) → IsWhole outcome → length (outcome_objects rule outcome) ≤ 1
+whole-outcome rule (Recurs onset period dx dy code) h = omega arith
+whole-outcome rule (Ash parts) h = absurd h
+whole-outcome rule _ h = omega arith
 
 -- patterns that have not fallen apart are at most one object each
 whole-objects : (found : List Answer) → Each IsWholeAnswer found → length (objects found) ≤ length found
 whole-objects [] h = omega arith
-whole-objects (Found rule (Recurs population onset period dx dy code) ∷ found) h =
+whole-objects (Found rule finding ∷ found) h =
     let most = whole-objects found h.1 in
-    omega (arith, most)
-whole-objects (Found rule (Unresolved population) ∷ found) h = let most = whole-objects found h.1 in omega (arith, most)
-whole-objects (Found rule (Large population generation) ∷ found) h = let most = whole-objects found h.1 in omega (arith, most)
-whole-objects (Found rule (Ash population parts) ∷ found) h = absurd h.0
+    let one = whole-outcome rule finding.outcome h.0 in
+    let all = length-append (outcome_objects rule finding.outcome) (objects found) in
+    omega (arith, most, one, all)
 whole-objects (Refused number ∷ found) h = let most = whole-objects found h.1 in omega (arith, most)
 
 -- ---- what is found of a set
 
 module _ (R : Rule) (G : Generation) (b : ℕ) (textual : IsTextual G) where
-  settled-told : (r : Recurrence) → b ≤ settles_bound_limit → IsSettling R G b r → FitsReport (recurrence_finding R G r)
+  settled-told : (r : Recurrence) → b ≤ settles_bound_limit → IsSettling R G b r → FitsOutcome (recurrence_outcome R G r)
   settled-told r low s =
       let onset = r.onset in
       let period = r.period in
@@ -95,23 +101,23 @@ module _ (R : Rule) (G : Generation) (b : ℕ) (textual : IsTextual G) where
       let soon : period + (onset + 0) ≤ 4000000 = omega (arith, both, low) in
       let fits = moved-fits (onset + 0) (period + (onset + 0)) (generation R G onset) r.displacement young soon here again s.unmoved in
       let code = code-some R (generation R G onset) period r.displacement in
-      (textual.few, omega (arith, both, low), omega (arith, both, low), fits.0, fits.1, code)
+      (omega (arith, both, low), omega (arith, both, low), fits.0, fits.1, code)
 
-  pub found-told : b ≤ settles_bound_limit → FitsReport (finding_of R G b)
+  pub found-told : b ≤ settles_bound_limit → FitsOutcome (outcome_of R G b)
   found-told low = ⊎_elim
-      (λ some. subst FitsReport (sym some.found) (settled-told some.recurrence low some.settles))
-      (λ none. subst FitsReport (sym none.found) textual.few)
+      (λ some. subst FitsOutcome (sym some.found) (settled-told some.recurrence low some.settles))
+      (λ none. subst FitsOutcome (sym none.found) tt)
       (settled_or_not R G b)
 
 -- where what is found can be told, so can it where a generation may be too large
-module _ (R : Rule) (G : Generation) (last : ℕ) (few : size G < 2 ^ 64) (short : last < 2 ^ 64)
-    (found : Finding) (told : FitsReport found) where
+module _ (R : Rule) (G : Generation) (last : ℕ) (short : last < 2 ^ 64)
+    (found : Outcome) (told : FitsOutcome found) where
   past-told : (most : ℕ) (large : Option ℕ) → first_past (Some most) R G last ≡ large
-      → FitsReport (unless_large found (size G) large)
+      → FitsOutcome (unless_large found large)
   past-told most None e = told
-  past-told most (Some n) e = let first = (first_past-is R G last most n).0 e in (few, omega (arith, first.0, short))
+  past-told most (Some n) e = let first = (first_past-is R G last most n).0 e in omega (arith, first.0, short)
 
-  pub limited-told : (limit : Option ℕ) → FitsReport (finding_unless_large limit R G last found)
+  pub limited-told : (limit : Option ℕ) → FitsOutcome (outcome_unless_large limit R G last found)
   limited-told None = told
   limited-told (Some most) = past-told most (first_past (Some most) R G last) refl
 
@@ -122,7 +128,7 @@ module _ (bound : ℕ) (cells : Option ℕ) (answered : IsAnswered (Settles boun
   picture-told (Ok pattern) textual =
       let told = found-told pattern.rule pattern.cells bound textual answered.1 in
       let short : bound < 2 ^ 64 = omega (arith, answered.1) in
-      limited-told pattern.rule pattern.cells bound textual.few short (finding_of pattern.rule pattern.cells bound) told cells
+      (textual.few, limited-told pattern.rule pattern.cells bound short (outcome_of pattern.rule pattern.cells bound) told cells)
   picture-told (Err fault) textual = fault-small fault
 
   pub settled-is-told : (text : List ℕ) → IsToldAnswer (answer_to_question (Settles bound cells) text)
@@ -140,11 +146,13 @@ module _ (bound : ℕ) (cells : Option ℕ) (answered : IsAnswered (Settles boun
       ]
 
   -- no pattern has fallen apart
+  whole-by : (text : List ℕ) (rule : Rule) (finding : Finding) (outcome : Outcome) → answer_to_question (Settles bound cells) text ≡ Found rule finding
+      → finding.outcome ≡ outcome → IsWhole outcome
+  whole-by text rule finding (Ash parts) e ash = answer-no_ash text bound cells rule finding parts e ash
+  whole-by text rule finding _ e becomes = tt
+
   answer-whole : (text : List ℕ) (found : Answer) → answer_to_question (Settles bound cells) text ≡ found → IsWholeAnswer found
-  answer-whole text (Found rule (Recurs population onset period dx dy code)) e = tt
-  answer-whole text (Found rule (Unresolved population)) e = tt
-  answer-whole text (Found rule (Large population generation)) e = tt
-  answer-whole text (Found rule (Ash population parts)) e = answer-no_ash text bound cells rule population parts e
+  answer-whole text (Found rule finding) e = whole-by text rule finding finding.outcome e refl
   answer-whole text (Refused number) e = tt
 
   entry-whole : (e : Entry) → IsWholeAnswer (answer_to_entry (Settles bound cells) e)

@@ -6,22 +6,22 @@ use Rattle.std.specs.declared.cmp.Ordering.{Ordering}
 use Rattle.std.specs.declared.cmp.Ordering.TheVariants.{Less, Equal, Greater}
 use Rattle.census_bundle.specs.declared.bundle.Entry.{Entry}
 use Rattle.census_format.specs.Lines.{answer_to_entry, answers}
-use Rattle.census_format.specs.Objects.{Object, distinct_elements, object, objects, part_objects, tally}
-use Rattle.life_answer.specs.Answers.{finding_at, finding_from, finding_of}
-use Rattle.life_answer.specs.Census.{census_found, census_of, code_found, part_code}
+use Rattle.census_format.specs.Objects.{Object, distinct_elements, object, objects, outcome_objects, part_objects, tally}
+use Rattle.life_answer.specs.Answers.{outcome_at, outcome_from, outcome_of}
+use Rattle.life_answer.specs.Census.{census_found, census_of, code_found, part_code, parts_found}
 use Rattle.life_answer.specs.Limited.{unless_large}
 use Rattle.life_answer.specs.Parts.{with_code_by_order, with_code}
-use Rattle.life_answer.specs.Questions.{answer_to, answer_to_question, finding_to}
+use Rattle.life_answer.specs.Questions.{answer_to, answer_to_question, outcome_to}
 use Rattle.life_answer.specs.declared.finding.Answer.{Answer}
 use Rattle.life_answer.specs.declared.finding.Answer.TheVariants.{Found, Refused}
-use Rattle.life_answer.specs.declared.finding.Finding.{Finding}
-use Rattle.life_answer.specs.declared.finding.Finding.TheVariants.{Recurs, Unresolved, Large, Ash}
+use Rattle.life_answer.specs.declared.finding.Outcome.{Outcome}
+use Rattle.life_answer.specs.declared.finding.Outcome.TheVariants.{Recurs, Ash}
 use Rattle.life_answer.specs.declared.part.Part.{Part}
 use Rattle.life_answer.specs.declared.question.Question.{Question}
 use Rattle.life_answer.specs.declared.question.Question.TheVariants.{Objects, Settles}
 use Rattle.life_decided.specs.Decided.{ash_of}
 use Rattle.life_model.specs.Evolution.{generation}
-use Rattle.life_model.specs.Generation.{Generation, size}
+use Rattle.life_model.specs.Generation.{Generation}
 use Rattle.life_model.specs.Rule.{Rule}
 use Rattle.life_shape.specs.TextOrder.{shorter_cmp}
 use Rattle.life_text.specs.Picture.{Picture}
@@ -31,33 +31,35 @@ use Rattle.report_laws.proofs.Solid.{IsSolid, code-solid, each-append, each-filt
 abbrev pub IsSolidPart : Part → Type 0
 IsSolidPart part = IsSolid part.code
 
-abbrev pub IsCoded : Finding → Type 0
-IsCoded (Recurs population onset period dx dy code) = IsSolid code
-IsCoded (Unresolved population) = ⊤
-IsCoded (Large population generation) = ⊤
-IsCoded (Ash population parts) = Each IsSolidPart parts
+-- the codes of an outcome have no blank
+abbrev pub IsCoded : Outcome → Type 0
+IsCoded (Recurs onset period dx dy code) = IsSolid code
+IsCoded (Ash parts) = Each IsSolidPart parts
+IsCoded _ = ⊤
+
+pub parts-solid : (outcome : Outcome) → IsCoded outcome → Each IsSolidPart (parts_found outcome)
+parts-solid (Ash parts) h = h
+parts-solid _ h = tt
 
 abbrev pub IsCodedAnswer : Answer → Type 0
-IsCodedAnswer (Found rule finding) = IsCoded finding
+IsCodedAnswer (Found rule finding) = IsCoded finding.outcome
 IsCodedAnswer (Refused number) = ⊤
 
-at-coded : (R : Rule) (G : Generation) (onset : ℕ) (period : Option ℕ) → IsCoded (finding_at R G onset period)
+at-coded : (R : Rule) (G : Generation) (onset : ℕ) (period : Option ℕ) → IsCoded (outcome_at R G onset period)
 at-coded R G onset None = tt
 at-coded R G onset (Some period) = code-solid R _ period _
 
-from-coded : (R : Rule) (G : Generation) (b : ℕ) (onset : Option ℕ) → IsCoded (finding_from R G b onset)
+from-coded : (R : Rule) (G : Generation) (b : ℕ) (onset : Option ℕ) → IsCoded (outcome_from R G b onset)
 from-coded R G b None = tt
 from-coded R G b (Some onset) = at-coded R G onset _
 
-finding-coded : (R : Rule) (G : Generation) (b : ℕ) → IsCoded (finding_of R G b)
-unfolding finding_of
-finding-coded R G b = from-coded R G b _
+outcome-coded : (R : Rule) (G : Generation) (b : ℕ) → IsCoded (outcome_of R G b)
+unfolding outcome_of
+outcome-coded R G b = from-coded R G b _
 
-found-solid : (found : Finding) → IsCoded found → IsSolid (code_found found)
-found-solid (Recurs population onset period dx dy code) h = h
-found-solid (Unresolved population) h = tt
-found-solid (Large population generation) h = tt
-found-solid (Ash population parts) h = tt
+found-solid : (outcome : Outcome) → IsCoded outcome → IsSolid (code_found outcome)
+found-solid (Recurs onset period dx dy code) h = h
+found-solid _ h = tt
 
 beside-solid : (order : Ordering) (code : List ℕ) (part : Part) (parts rest : List Part)
     → IsSolid code → Each IsSolidPart (part ∷ parts) → Each IsSolidPart rest → Each IsSolidPart (with_code_by_order order code part parts rest)
@@ -75,25 +77,25 @@ counted-solid : (codes : List (List ℕ)) (parts : List Part) → Each IsSolid c
 counted-solid [] parts h k = k
 counted-solid (code ∷ codes) parts h k = counted-solid codes (with_code code parts) h.1 (with-solid code parts h.0 k)
 
-census-found-coded : (R : Rule) (b population : ℕ) (parts : Option (List Generation)) → IsCoded (census_found R b population parts)
-census-found-coded R b population None = tt
-census-found-coded R b population (Some parts) =
-    counted-solid (map (part_code R b) parts) [] (each-map IsSolid (part_code R b) (λ P. found-solid (finding_of R P b) (finding-coded R P b)) parts) tt
+census-found-coded : (R : Rule) (b : ℕ) (parts : Option (List Generation)) → IsCoded (census_found R b parts)
+census-found-coded R b None = tt
+census-found-coded R b (Some parts) =
+    counted-solid (map (part_code R b) parts) [] (each-map IsSolid (part_code R b) (λ P. found-solid (outcome_of R P b) (outcome-coded R P b)) parts) tt
 
 census-coded : (R : Rule) (G : Generation) (b : ℕ) → IsCoded (census_of R G b)
 unfolding census_of
-census-coded R G b = census-found-coded R b (size G) (ash_of R b (generation R G b))
+census-coded R G b = census-found-coded R b (ash_of R b (generation R G b))
 
-unless-coded : (found : Finding) (population : ℕ) (large : Option ℕ) → IsCoded found → IsCoded (unless_large found population large)
-unless-coded found population None h = h
-unless-coded found population (Some n) h = tt
+unless-coded : (outcome : Outcome) (large : Option ℕ) → IsCoded outcome → IsCoded (unless_large outcome large)
+unless-coded outcome None h = h
+unless-coded outcome (Some n) h = tt
 
-finding-to-coded : (question : Question) (R : Rule) (G : Generation) → IsCoded (finding_to question R G)
-finding-to-coded (Settles bound cells) R G = unless-coded (finding_of R G bound) _ _ (finding-coded R G bound)
-finding-to-coded (Objects bound cells) R G = unless-coded (census_of R G bound) _ _ (census-coded R G bound)
+outcome-to-coded : (question : Question) (R : Rule) (G : Generation) → IsCoded (outcome_to question R G)
+outcome-to-coded (Settles bound cells) R G = unless-coded (outcome_of R G bound) _ (outcome-coded R G bound)
+outcome-to-coded (Objects bound cells) R G = unless-coded (census_of R G bound) _ (census-coded R G bound)
 
 answer-to-coded : (question : Question) (read : Result Picture RleFault) → IsCodedAnswer (answer_to question read)
-answer-to-coded question (Ok pattern) = finding-to-coded question pattern.rule pattern.cells
+answer-to-coded question (Ok pattern) = outcome-to-coded question pattern.rule pattern.cells
 answer-to-coded question (Err fault) = tt
 
 question-coded : (question : Question) (text : List ℕ) → IsCodedAnswer (answer_to_question question text)
@@ -117,13 +119,15 @@ parts-coded rule (part ∷ parts) h =
     each-append IsSolidObject (replicate part.count (object rule part.code)) (part_objects rule parts)
     (each-replicate IsSolidObject part.count (object rule part.code) h.0) (parts-coded rule parts h.1)
 
+outcome-objects-coded : (rule : Rule) (outcome : Outcome) → IsCoded outcome → Each IsSolidObject (outcome_objects rule outcome)
+outcome-objects-coded rule (Recurs onset period dx dy code) h = (h, tt)
+outcome-objects-coded rule (Ash parts) h = parts-coded rule parts h
+outcome-objects-coded rule _ h = tt
+
 objects-coded : (found : List Answer) → Each IsCodedAnswer found → Each IsSolidObject (objects found)
 objects-coded [] h = tt
-objects-coded (Found rule (Recurs population onset period dx dy code) ∷ found) h = (h.0, objects-coded found h.1)
-objects-coded (Found rule (Unresolved population) ∷ found) h = objects-coded found h.1
-objects-coded (Found rule (Large population generation) ∷ found) h = objects-coded found h.1
-objects-coded (Found rule (Ash population parts) ∷ found) h =
-    each-append IsSolidObject (part_objects rule parts) (objects found) (parts-coded rule parts h.0) (objects-coded found h.1)
+objects-coded (Found rule finding ∷ found) h =
+    each-append IsSolidObject (outcome_objects rule finding.outcome) (objects found) (outcome-objects-coded rule finding.outcome h.0) (objects-coded found h.1)
 objects-coded (Refused number ∷ found) h = objects-coded found h.1
 
 pub distinct-each : {A : Type 0} (P : A → Type 0) (same : A → A → Bool) (xs : List A) → Each P xs → Each P (distinct_elements same xs)

@@ -4,6 +4,8 @@ use Rattle.std.proofs.lemmas.List.Sums.{sum_by-cons}
 use Rattle.census_bundle.specs.declared.bundle.Entry.{Entry}
 use Rattle.census_bundle.specs.declared.bundle.Folder.{Folder}
 use Rattle.census_bundle.specs.Sizes.{count_limit}
+use Rattle.census_format.specs.Kinds as kinds
+use Rattle.census_format.specs.declared.kinds.Class.TheVariants as class
 use Rattle.census_format.specs.Lines.{answer_to_entry, answers}
 use Rattle.census_format.specs.Lines as book
 use Rattle.census_format.specs.Objects.{Object}
@@ -14,11 +16,14 @@ use Rattle.census_rows.specs.declared.row.Row.TheVariants.{Close}
 use Rattle.census_rows.specs.Kinds.{said}
 use Rattle.life_answer.specs.declared.finding.Answer.{Answer}
 use Rattle.life_answer.specs.declared.finding.Answer.TheVariants.{Found, Refused}
-use Rattle.life_answer.specs.declared.finding.Finding.TheVariants.{Recurs, Unresolved, Large, Ash}
+use Rattle.life_answer.specs.declared.finding.Outcome as becomes
+use Rattle.life_answer.specs.declared.finding.Outcome.TheVariants.{Ash}
+use Rattle.life_answer.specs.Census.{parts_found}
 use Rattle.life_answer.specs.declared.part.Part as part
 use Rattle.life_answer.specs.declared.question.Question.{Question}
+use Rattle.life_model.specs.Rule.{Rule}
 use Rattle.report_laws.proofs.Counted.{codes-open-none, lines-open-none, patterns-append}
-use Rattle.report_laws.proofs.Rowed.{close_row, code_rows, counted_in, open_row, outcome_of, part_row, part_rows, pattern_rows, section_rows}
+use Rattle.report_laws.proofs.Rowed.{close_row, code_rows, counted_in, open_row, outcome_of, part_row, part_rows, pattern_rows, row_outcome, section_rows}
 
 joined-append : (xs ys : List (List Row)) → all_rows (xs ++ ys) ≡ all_rows xs ++ all_rows ys
 joined-append [] ys = refl
@@ -30,11 +35,13 @@ parts-ordered : (c i : ℕ) (parts : List part.Part) (rest : List Row) → AreLi
 parts-ordered c i [] rest h = h
 parts-ordered c i (p ∷ parts) rest h = (refl, refl, parts-ordered c i parts rest h)
 
+outcome-ordered : (c i : ℕ) (rule : Rule) (population : ℕ) (outcome : becomes.Outcome) (rest : List Row) → ((ash : Bool) → AreLines i ash rest)
+    → AreLines i (said (row_outcome rule population outcome)).has_parts (map (part_row c i) (parts_found outcome) ++ rest)
+outcome-ordered c i rule population (Ash parts) rest h = parts-ordered c i parts rest (h true)
+outcome-ordered c i rule population _ rest h = h false
+
 after-ordered : (c i : ℕ) (found : Answer) (rest : List Row) → ((ash : Bool) → AreLines i ash rest) → AreLines i (said (outcome_of found)).has_parts (part_rows c i found ++ rest)
-after-ordered c i (Found rule (Recurs population onset period dx dy code)) rest h = h false
-after-ordered c i (Found rule (Unresolved population)) rest h = h false
-after-ordered c i (Found rule (Large population generation)) rest h = h false
-after-ordered c i (Found rule (Ash population parts)) rest h = parts-ordered c i parts rest (h true)
+after-ordered c i (Found rule finding) rest h = outcome-ordered c i rule finding.population finding.outcome rest h
 after-ordered c i (Refused number) rest h = h false
 
 ordered : (question : Question) (c last i : ℕ) (ash : Bool) (es : List Entry) → i ≡ last + 1 → AreLines last ash (all_rows (pattern_rows question c i es))
@@ -59,10 +66,7 @@ parts-none kind c i [] = refl
 parts-none kind c i (p ∷ parts) = let e = parts-none kind c i parts in omega (arith, e)
 
 no-lines : (kind : Outcome → Bool) (c i : ℕ) (found : Answer) → lines_that kind (part_rows c i found) ≡ 0
-no-lines kind c i (Found rule (Recurs population onset period dx dy code)) = refl
-no-lines kind c i (Found rule (Unresolved population)) = refl
-no-lines kind c i (Found rule (Large population generation)) = refl
-no-lines kind c i (Found rule (Ash population parts)) = parts-none kind c i parts
+no-lines kind c i (Found rule finding) = parts-none kind c i (parts_found finding.outcome)
 no-lines kind c i (Refused number) = refl
 
 lines-counted : (kind : Outcome → Bool) (test : Answer → Bool) → ((found : Answer) → kind (outcome_of found) ≡ test found) → (question : Question) (c i : ℕ) (es : List Entry)
@@ -80,25 +84,31 @@ lines-counted kind test same question c i (x ∷ es) =
 
 -- ---- a section
 
+resolved-outcome : (rule : Rule) (population : ℕ) (outcome : becomes.Outcome)
+    → is_resolved (row_outcome rule population outcome) ≡ kinds.same_class (kinds.said outcome).class class.Resolved
+resolved-outcome rule population (Ash parts) = refl
+resolved-outcome rule population _ = refl
+
 resolved-same : (found : Answer) → is_resolved (outcome_of found) ≡ book.is_resolved found
-resolved-same (Found rule (Recurs population onset period dx dy code)) = refl
-resolved-same (Found rule (Unresolved population)) = refl
-resolved-same (Found rule (Large population generation)) = refl
-resolved-same (Found rule (Ash population parts)) = refl
+resolved-same (Found rule finding) = resolved-outcome rule finding.population finding.outcome
 resolved-same (Refused number) = refl
 
+unresolved-outcome : (rule : Rule) (population : ℕ) (outcome : becomes.Outcome)
+    → is_unresolved (row_outcome rule population outcome) ≡ kinds.same_class (kinds.said outcome).class class.Unresolved
+unresolved-outcome rule population (Ash parts) = refl
+unresolved-outcome rule population _ = refl
+
 unresolved-same : (found : Answer) → is_unresolved (outcome_of found) ≡ book.is_unresolved found
-unresolved-same (Found rule (Recurs population onset period dx dy code)) = refl
-unresolved-same (Found rule (Unresolved population)) = refl
-unresolved-same (Found rule (Large population generation)) = refl
-unresolved-same (Found rule (Ash population parts)) = refl
+unresolved-same (Found rule finding) = unresolved-outcome rule finding.population finding.outcome
 unresolved-same (Refused number) = refl
 
+refused-outcome : (rule : Rule) (population : ℕ) (outcome : becomes.Outcome)
+    → is_refused (row_outcome rule population outcome) ≡ kinds.same_class (kinds.said outcome).class class.Refused
+refused-outcome rule population (Ash parts) = refl
+refused-outcome rule population _ = refl
+
 refused-same : (found : Answer) → is_refused (outcome_of found) ≡ book.is_refused found
-refused-same (Found rule (Recurs population onset period dx dy code)) = refl
-refused-same (Found rule (Unresolved population)) = refl
-refused-same (Found rule (Large population generation)) = refl
-refused-same (Found rule (Ash population parts)) = refl
+refused-same (Found rule finding) = refused-outcome rule finding.population finding.outcome
 refused-same (Refused number) = refl
 
 all-counted : (question : Question) (es : List Entry) → count_by (λ found. true) (answers question es) ≡ length es

@@ -10,7 +10,7 @@ use Rattle.census_format.specs.Objects.{Object, code_line, code_lines, objects, 
 use Rattle.census_format.specs.Reports.{closing, folder_section, section, section_of}
 use Rattle.life_answer.specs.declared.finding.Answer.{Answer}
 use Rattle.life_answer.specs.declared.finding.Answer.TheVariants.{Found, Refused}
-use Rattle.life_answer.specs.declared.finding.Finding.TheVariants.{Recurs, Unresolved, Large, Ash}
+use Rattle.life_answer.specs.Census.{parts_found}
 use Rattle.life_answer.specs.declared.part.Part.{Part}
 use Rattle.life_answer.specs.declared.question.Question.{Question}
 use Rattle.report_laws.specs.Said.{Said, statement, said_answer, said_by, said_close, said_code, said_of, said_open, said_part, said_parts, said_patterns, said_section}
@@ -62,10 +62,7 @@ parts-are c i (part ∷ parts) =
     ap (λ l. l ∷ map (said_line c) (map (said_part i) parts)) (part-is c i part) ∙ ap (λ ls. part_line c i part ∷ ls) (parts-are c i parts)
 
 answer-parts : (c i : ℕ) (found : Answer) → map (said_line c) (said_parts i found) ≡ part_lines c i found
-answer-parts c i (Found rule (Recurs population onset period dx dy code)) = refl
-answer-parts c i (Found rule (Unresolved population)) = refl
-answer-parts c i (Found rule (Large population generation)) = refl
-answer-parts c i (Found rule (Ash population parts)) = parts-are c i parts
+answer-parts c i (Found rule finding) = parts-are c i (parts_found finding.outcome)
 answer-parts c i (Refused number) = refl
 
 entry-is : (question : Question) (c i : ℕ) (e : Entry) → group_line c (said_answer i (answer_to_entry question e) e.name) ≡ pattern_text question c i e

@@ -7,18 +7,22 @@ use Rattle.census_bundle.specs.declared.bundle.Entry.{Entry}
 use Rattle.census_bundle.specs.declared.bundle.Folder.{Folder}
 use Rattle.census_bundle.specs.Names.{HasLawfulNames, IsNamedEntry, IsNamedFolder, is_name, is_name_byte}
 use Rattle.census_bundle.specs.Sizes.{IsWithinCounts, count_limit}
+use Rattle.census_format.specs.Kinds.{said}
 use Rattle.census_format.specs.Lines.{answer_fields, answer_to_entry, answers, is_refused, is_resolved, is_unresolved, pattern_count}
 use Rattle.census_format.specs.Objects.{Object, objects, same_object, tally}
 use Rattle.census_readback.specs.Texts.{HasNoFeed}
 use Rattle.life_answer.specs.declared.finding.Answer.{Answer}
 use Rattle.life_answer.specs.declared.finding.Answer.TheVariants.{Found, Refused}
-use Rattle.life_answer.specs.declared.finding.Finding.TheVariants.{Recurs, Unresolved, Large, Ash}
+use Rattle.life_answer.specs.declared.finding.Outcome.{Outcome}
+use Rattle.life_answer.specs.declared.finding.Outcome.TheVariants.{Recurs, Unresolved, Large, Ash}
 use Rattle.life_answer.specs.declared.part.Part.{Part}
 use Rattle.life_answer.specs.declared.question.Question.{Question}
 use Rattle.life_answer.specs.Parts.{objects_in}
+use Rattle.life_answer.specs.Census.{parts_found}
 use Rattle.life_cells.specs.Rules.{rule_text}
+use Rattle.life_model.specs.Rule.{Rule}
 use Rattle.report_laws.specs.Said.{statement, said_by, said_close, said_code, said_of, said_open, said_part, said_parts, said_patterns, said_section}
-use Rattle.report_laws.proofs.Coded.{IsCodedAnswer, IsSolidObject, IsSolidPart, entry-coded, tally-coded}
+use Rattle.report_laws.proofs.Coded.{IsCoded, IsCodedAnswer, IsSolidObject, IsSolidPart, entry-coded, parts-solid, tally-coded}
 use Rattle.report_laws.proofs.Parsed.{IsParsed, said-line, said-short, solid-flat}
 use Rattle.report_laws.proofs.Solid.{decimal-solid, each-append, rule-solid, signed-solid, solid-checked}
 
@@ -71,30 +75,32 @@ close-parsed found count =
     (decimal-solid count, (decimal-solid (count_by is_resolved found), (decimal-solid (count_by is_unresolved found), number-flat (count_by is_refused found))))
     (λ some. refl) refl
 
-answer-parsed : (i : ℕ) (found : Answer) (name : List ℕ) → IsCodedAnswer found → HasNoFeed name
-    → IsParsed (statement (codes "line") (decimal i ∷ answer_fields found name))
-answer-parsed i (Found rule (Recurs population onset period dx dy code)) name h k =
+outcome-parsed : (i : ℕ) (rule : Rule) (population : ℕ) (outcome : Outcome) (name : List ℕ) → IsCoded outcome → HasNoFeed name
+    → IsParsed (statement (codes "line") (decimal i ∷ (said outcome).word ∷ rule_text rule ∷ decimal population ∷ ((said outcome).fields ++ name ∷ [])))
+outcome-parsed i rule population (Recurs onset period dx dy code) name h k =
     said-line (decimal i) (codes "ok") (rule_text rule) (decimal population ∷ decimal onset ∷ decimal period ∷ signed_decimal dx ∷ signed_decimal dy ∷ code ∷ name ∷ [])
     (decimal-solid i, (solid-checked (codes "ok") refl, (rule-solid rule, (decimal-solid population, (decimal-solid onset, (decimal-solid period, (signed-solid dx, (signed-solid dy, (h, k)))))))))
     refl
-answer-parsed i (Found rule (Unresolved population)) name h k =
+outcome-parsed i rule population Unresolved name h k =
     said-line (decimal i) (codes "none") (rule_text rule) (decimal population ∷ name ∷ [])
     (decimal-solid i, (solid-checked (codes "none") refl, (rule-solid rule, (decimal-solid population, k)))) refl
-answer-parsed i (Found rule (Large population generation)) name h k =
+outcome-parsed i rule population (Large generation) name h k =
     said-line (decimal i) (codes "large") (rule_text rule) (decimal population ∷ decimal generation ∷ name ∷ [])
     (decimal-solid i, (solid-checked (codes "large") refl, (rule-solid rule, (decimal-solid population, (decimal-solid generation, k))))) refl
-answer-parsed i (Found rule (Ash population parts)) name h k =
+outcome-parsed i rule population (Ash parts) name h k =
     said-line (decimal i) (codes "ash") (rule_text rule) (decimal population ∷ decimal (objects_in parts) ∷ name ∷ [])
     (decimal-solid i, (solid-checked (codes "ash") refl, (rule-solid rule, (decimal-solid population, (decimal-solid (objects_in parts), k))))) refl
+
+answer-parsed : (i : ℕ) (found : Answer) (name : List ℕ) → IsCodedAnswer found → HasNoFeed name
+    → IsParsed (statement (codes "line") (decimal i ∷ answer_fields found name))
+answer-parsed i (Found rule finding) name h k = outcome-parsed i rule finding.population finding.outcome name h k
 answer-parsed i (Refused number) name h k =
     said-line (decimal i) (codes "bad") (decimal number) (name ∷ [])
     (decimal-solid i, (solid-checked (codes "bad") refl, (decimal-solid number, k))) refl
 
 parts-parsed : (i : ℕ) (found : Answer) → IsCodedAnswer found → Each IsParsed (said_parts i found)
-parts-parsed i (Found rule (Recurs population onset period dx dy code)) h = tt
-parts-parsed i (Found rule (Unresolved population)) h = tt
-parts-parsed i (Found rule (Large population generation)) h = tt
-parts-parsed i (Found rule (Ash population parts)) h = map-each IsSolidPart IsParsed (said_part i) (part-parsed i) parts h
+parts-parsed i (Found rule finding) h =
+    map-each IsSolidPart IsParsed (said_part i) (part-parsed i) (parts_found finding.outcome) (parts-solid finding.outcome h)
 parts-parsed i (Refused number) h = tt
 
 patterns-parsed : (question : Question) (i : ℕ) (es : List Entry) → Each IsNamedEntry es → Each (Each IsParsed) (said_patterns question i es)

@@ -8,23 +8,25 @@ use Rattle.census_bundle.specs.Sizes.{IsWithinCounts, count_limit}
 use Rattle.census_bundle.specs.declared.bundle.Entry.{Entry}
 use Rattle.census_bundle.specs.declared.bundle.Folder.{Folder}
 use Rattle.census_format.specs.Lines.{answer_to_entry, answers, is_refused, is_resolved, is_unresolved}
-use Rattle.census_format.specs.Objects.{Object, distinct_elements, object, objects, part_objects, same_object}
+use Rattle.census_format.specs.Objects.{Object, distinct_elements, object, objects, outcome_objects, part_objects, same_object}
 use Rattle.census_merge.specs.Sums.{sums_of}
 use Rattle.census_readback.specs.Steps.{collection_of}
 use Rattle.census_rows.specs.declared.row.Row.{Row}
 use Rattle.census_rows.specs.Lines.{IsOutcome, IsRow, IsWord}
 use Rattle.life_answer.specs.declared.finding.Answer.{Answer}
 use Rattle.life_answer.specs.declared.finding.Answer.TheVariants.{Found, Refused}
-use Rattle.life_answer.specs.declared.finding.Finding.TheVariants.{Recurs, Unresolved, Large, Ash}
+use Rattle.life_answer.specs.declared.finding.Outcome as becomes
+use Rattle.life_answer.specs.declared.finding.Outcome.TheVariants.{Recurs, Unresolved, Large, Ash}
 use Rattle.life_answer.specs.declared.part.Part as part
 use Rattle.life_answer.specs.declared.question.Question.{Question}
 use Rattle.life_answer.specs.Parts.{objects_in}
+use Rattle.life_answer.specs.Census.{parts_found}
 use Rattle.life_cells.specs.Rules.{rule_text}
 use Rattle.life_model.specs.Rule.{Rule}
-use Rattle.report_laws.specs.Ranges.{InRange, IsCodedPart, IsToldAnswer, IsToldFolder}
-use Rattle.report_laws.proofs.Coded.{IsCodedAnswer, IsSolidObject, IsSolidPart, counted-each, distinct-each, entry-coded, tally-coded}
+use Rattle.report_laws.specs.Ranges.{FitsOutcome, InRange, IsCodedPart, IsToldAnswer, IsToldFolder}
+use Rattle.report_laws.proofs.Coded.{IsCoded, IsCodedAnswer, IsSolidObject, IsSolidPart, counted-each, distinct-each, entry-coded, tally-coded}
 use Rattle.report_laws.proofs.Parsed.{solid-plain}
-use Rattle.report_laws.proofs.Rowed.{close_row, code_rows, counted_in, optional_rows, outcome_of, part_row, part_rows, pattern_rows, rows_by, section_rows}
+use Rattle.report_laws.proofs.Rowed.{close_row, code_rows, counted_in, optional_rows, outcome_of, part_row, part_rows, pattern_rows, row_outcome, rows_by, section_rows}
 use Rattle.report_laws.proofs.Solid.{IsSolid, each-append, each-replicate, rule-solid}
 
 -- a row of the collection c, with numbers in range
@@ -37,12 +39,16 @@ rule-word rule = (omega arith, solid-plain (rule_text rule) (rule-solid rule))
 word : (code : List ℕ) → 0 < length code → IsSolid code → IsWord code
 word code some h = (some, solid-plain code h)
 
+row-outcome-fits : (rule : Rule) (population : ℕ) (outcome : becomes.Outcome) → population < 2 ^ 64 → FitsOutcome outcome → IsCoded outcome
+    → IsOutcome (row_outcome rule population outcome)
+row-outcome-fits rule population (Recurs onset period dx dy code) few h k =
+    (rule-word rule, (few, (h.0, (h.1, (h.2, (h.3, (word code h.4 k, tt)))))))
+row-outcome-fits rule population Unresolved few h k = (rule-word rule, (few, tt))
+row-outcome-fits rule population (Large generation) few h k = (rule-word rule, (few, (h, tt)))
+row-outcome-fits rule population (Ash parts) few h k = (rule-word rule, (few, (h.0, tt)))
+
 outcome-fits : (found : Answer) → IsToldAnswer found → IsCodedAnswer found → IsOutcome (outcome_of found)
-outcome-fits (Found rule (Recurs population onset period dx dy code)) h k =
-    (rule-word rule, (h.0, (h.1, (h.2, (h.3, (h.4, (word code h.5 k, tt)))))))
-outcome-fits (Found rule (Unresolved population)) h k = (rule-word rule, (h, tt))
-outcome-fits (Found rule (Large population generation)) h k = (rule-word rule, (h.0, (h.1, tt)))
-outcome-fits (Found rule (Ash population parts)) h k = (rule-word rule, (h.0, (h.1, tt)))
+outcome-fits (Found rule finding) h k = row-outcome-fits rule finding.population finding.outcome h.0 h.1 k
 outcome-fits (Refused number) h k = (h, tt)
 
 parts-fit : (c i : ℕ) (parts : List part.Part) → c < 2 ^ 64 → i < 2 ^ 64 → objects_in parts < 2 ^ 64 → Each IsCodedPart parts → Each IsSolidPart parts
@@ -53,11 +59,13 @@ parts-fit c i (p ∷ parts) a b few some h =
     let more : objects_in parts < 2 ^ 64 = omega (arith, few) in
     ((refl, refl, (a, b, word p.code some.0 h.0, here)), parts-fit c i parts a b more some.1 h.1)
 
+found-fit : (c i : ℕ) (outcome : becomes.Outcome) → c < 2 ^ 64 → i < 2 ^ 64 → FitsOutcome outcome → IsCoded outcome
+    → Each (IsFit c) (map (part_row c i) (parts_found outcome))
+found-fit c i (Ash parts) a b h k = parts-fit c i parts a b h.0 h.1 k
+found-fit c i _ a b h k = tt
+
 after-fit : (c i : ℕ) (found : Answer) → c < 2 ^ 64 → i < 2 ^ 64 → IsToldAnswer found → IsCodedAnswer found → Each (IsFit c) (part_rows c i found)
-after-fit c i (Found rule (Recurs population onset period dx dy code)) a b h k = tt
-after-fit c i (Found rule (Unresolved population)) a b h k = tt
-after-fit c i (Found rule (Large population generation)) a b h k = tt
-after-fit c i (Found rule (Ash population parts)) a b h k = parts-fit c i parts a b h.1 h.2 k
+after-fit c i (Found rule finding) a b h k = found-fit c i finding.outcome a b h.1 k
 after-fit c i (Refused number) a b h k = tt
 
 patterns-fit : (question : Question) (c i : ℕ) (es : List Entry) → c < 2 ^ 64 → i + length es < 2 ^ 64 → Each IsToldAnswer (answers question es)
@@ -80,13 +88,15 @@ parts-some rule (p ∷ parts) h =
     each-append HasObjectCode (replicate p.count (object rule p.code)) (part_objects rule parts)
     (each-replicate HasObjectCode p.count (object rule p.code) h.0) (parts-some rule parts h.1)
 
+outcome-some : (rule : Rule) (outcome : becomes.Outcome) → FitsOutcome outcome → Each HasObjectCode (outcome_objects rule outcome)
+outcome-some rule (Recurs onset period dx dy code) h = (h.4, tt)
+outcome-some rule (Ash parts) h = parts-some rule parts h.1
+outcome-some rule _ h = tt
+
 objects-some : (found : List Answer) → Each IsToldAnswer found → Each HasObjectCode (objects found)
 objects-some [] h = tt
-objects-some (Found rule (Recurs population onset period dx dy code) ∷ found) h = (h.0.5, objects-some found h.1)
-objects-some (Found rule (Unresolved population) ∷ found) h = objects-some found h.1
-objects-some (Found rule (Large population generation) ∷ found) h = objects-some found h.1
-objects-some (Found rule (Ash population parts) ∷ found) h =
-    each-append HasObjectCode (part_objects rule parts) (objects found) (parts-some rule parts h.0.2) (objects-some found h.1)
+objects-some (Found rule finding ∷ found) h =
+    each-append HasObjectCode (outcome_objects rule finding.outcome) (objects found) (outcome-some rule finding.outcome h.0.1) (objects-some found h.1)
 objects-some (Refused number ∷ found) h = objects-some found h.1
 
 counts-fit : (all xs : List Object) → length all < 2 ^ 64 → Each (λ (x : Object × ℕ). x.1 < 2 ^ 64) (map (λ x. (x, count_by (same_object x) all)) xs)

@@ -5,8 +5,10 @@ use Rattle.std.proofs.lemmas.List.{map-append}
 use Rattle.census_bundle.specs.declared.bundle.Entry.{Entry}
 use Rattle.census_bundle.specs.declared.bundle.Folder.{Folder}
 use Rattle.census_bundle.specs.Tickets.{element_at}
+use Rattle.census_format.specs.Kinds.{said}
 use Rattle.census_format.specs.Lines.{answer_to_entry, answers, finding_fields, is_refused, is_resolved, is_unresolved}
 use Rattle.census_format.specs.Objects.{Object, objects, same_object, tally}
+use Rattle.census_rows.specs.declared.row.Finding.{Finding}
 use Rattle.census_rows.specs.declared.row.Finding.TheVariants as findings
 use Rattle.census_rows.specs.declared.row.Outcome.{Outcome}
 use Rattle.census_rows.specs.declared.row.Outcome.TheVariants as outcomes
@@ -15,11 +17,14 @@ use Rattle.census_rows.specs.declared.row.Row.TheVariants.{Open, Line, Part, Cod
 use Rattle.census_rows.specs.Lines.{outcome_fields}
 use Rattle.life_answer.specs.declared.finding.Answer.{Answer}
 use Rattle.life_answer.specs.declared.finding.Answer.TheVariants.{Found, Refused}
-use Rattle.life_answer.specs.declared.finding.Finding.TheVariants.{Recurs, Unresolved, Large, Ash}
+use Rattle.life_answer.specs.declared.finding.Outcome as becomes
+use Rattle.life_answer.specs.declared.finding.Outcome.TheVariants.{Recurs, Unresolved, Large, Ash}
 use Rattle.life_answer.specs.declared.part.Part as part
 use Rattle.life_answer.specs.declared.question.Question.{Question}
 use Rattle.life_answer.specs.Parts.{objects_in}
+use Rattle.life_answer.specs.Census.{parts_found}
 use Rattle.life_cells.specs.Rules.{rule_text}
+use Rattle.life_model.specs.Rule.{Rule}
 use Rattle.report_laws.specs.Said.{statement, said_answer, said_by, said_close, said_code, said_of, said_part, said_parts, said_patterns, said_section}
 use Rattle.report_laws.specs.Telling.{statement_of_row}
 
@@ -27,21 +32,24 @@ use Rattle.report_laws.specs.Telling.{statement_of_row}
 abbrev pub lent : List ℕ → Bor (List ℕ)
 lent bytes = record { ref_ptr = (0, 0); now = bytes }
 
+abbrev pub row_finding : becomes.Outcome → Finding
+row_finding (Recurs onset period dx dy code) = findings.Ok onset period dx dy (lent code)
+row_finding Unresolved = findings.Unresolved
+row_finding (Large generation) = findings.Large generation
+row_finding (Ash parts) = findings.Ash (objects_in parts)
+
+abbrev pub row_outcome : Rule → ℕ → becomes.Outcome → Outcome
+row_outcome rule population outcome = outcomes.Found (lent (rule_text rule)) population (row_finding outcome)
+
 abbrev pub outcome_of : Answer → Outcome
-outcome_of (Found rule (Recurs population onset period dx dy code)) = outcomes.Found (lent (rule_text rule)) population (findings.Ok onset period dx dy (lent code))
-outcome_of (Found rule (Unresolved population)) = outcomes.Found (lent (rule_text rule)) population findings.Unresolved
-outcome_of (Found rule (Large population generation)) = outcomes.Found (lent (rule_text rule)) population (findings.Large generation)
-outcome_of (Found rule (Ash population parts)) = outcomes.Found (lent (rule_text rule)) population (findings.Ash (objects_in parts))
+outcome_of (Found rule finding) = row_outcome rule finding.population finding.outcome
 outcome_of (Refused number) = outcomes.Bad number
 
 abbrev pub part_row : ℕ → ℕ → part.Part → Row
 part_row c i p = Part c i (lent p.code) p.count
 
 abbrev pub part_rows : ℕ → ℕ → Answer → List Row
-part_rows c i (Found rule (Recurs population onset period dx dy code)) = []
-part_rows c i (Found rule (Unresolved population)) = []
-part_rows c i (Found rule (Large population generation)) = []
-part_rows c i (Found rule (Ash population parts)) = map (part_row c i) parts
+part_rows c i (Found rule finding) = map (part_row c i) (parts_found finding.outcome)
 part_rows c i (Refused number) = []
 
 abbrev pub answer_rows : ℕ → ℕ → Answer → List ℕ → List Row
@@ -83,11 +91,13 @@ rows_by b question c = optional_rows question c (element_at b c)
 
 -- ---- what they say
 
+says-outcome : (rule : Rule) (population : ℕ) (outcome : becomes.Outcome)
+    → outcome_fields (row_outcome rule population outcome) ≡ (said outcome).word ∷ rule_text rule ∷ decimal population ∷ (said outcome).fields
+says-outcome rule population (Ash parts) = refl
+says-outcome rule population _ = refl
+
 says-found : (found : Answer) → outcome_fields (outcome_of found) ≡ finding_fields found
-says-found (Found rule (Recurs population onset period dx dy code)) = refl
-says-found (Found rule (Unresolved population)) = refl
-says-found (Found rule (Large population generation)) = refl
-says-found (Found rule (Ash population parts)) = refl
+says-found (Found rule finding) = says-outcome rule finding.population finding.outcome
 says-found (Refused number) = refl
 
 says-each : (c i : ℕ) (parts : List part.Part) → map statement_of_row (map (part_row c i) parts) ≡ map (said_part i) parts
@@ -95,10 +105,7 @@ says-each c i [] = refl
 says-each c i (p ∷ parts) = ap (λ ss. said_part i p ∷ ss) (says-each c i parts)
 
 says-parts : (c i : ℕ) (found : Answer) → map statement_of_row (part_rows c i found) ≡ said_parts i found
-says-parts c i (Found rule (Recurs population onset period dx dy code)) = refl
-says-parts c i (Found rule (Unresolved population)) = refl
-says-parts c i (Found rule (Large population generation)) = refl
-says-parts c i (Found rule (Ash population parts)) = says-each c i parts
+says-parts c i (Found rule finding) = says-each c i (parts_found finding.outcome)
 says-parts c i (Refused number) = refl
 
 says-answer : (c i : ℕ) (found : Answer) (name : List ℕ) → map statement_of_row (answer_rows c i found name) ≡ said_answer i found name

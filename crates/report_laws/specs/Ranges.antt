@@ -1,5 +1,5 @@
 -- Numbers that a line can tell.
-use Rattle.std.specs.Prelude.{ℕ, FitsSigned, List, ◌<◌, ◌^◌, length}
+use Rattle.std.specs.Prelude.{⊤, ℕ, FitsSigned, List, ◌<◌, ◌^◌, length}
 use Rattle.std.specs.Int.{w64}
 use Rattle.std.specs.List.{AllByRecursion as Each}
 use Rattle.census_bundle.specs.declared.bundle.Folder.{Folder}
@@ -11,7 +11,8 @@ use Rattle.life_answer.specs.Parts.{objects_in}
 use Rattle.life_answer.specs.declared.finding.Answer.{Answer}
 use Rattle.life_answer.specs.declared.finding.Answer.TheVariants.{Found, Refused}
 use Rattle.life_answer.specs.declared.finding.Finding.{Finding}
-use Rattle.life_answer.specs.declared.finding.Finding.TheVariants.{Recurs, Unresolved, Large, Ash}
+use Rattle.life_answer.specs.declared.finding.Outcome.{Outcome}
+use Rattle.life_answer.specs.declared.finding.Outcome.TheVariants.{Recurs, Unresolved, Large, Ash}
 use Rattle.life_answer.specs.declared.part.Part.{Part}
 use Rattle.life_answer.specs.declared.question.Question.{Question}
 
@@ -19,13 +20,17 @@ use Rattle.life_answer.specs.declared.question.Question.{Question}
 abbrev pub IsCodedPart : Part → Type 0
 IsCodedPart part = 0 < length part.code
 
+-- the numbers of an outcome fit 64 bits, and each object has a code
+abbrev pub FitsOutcome : Outcome → Type 0
+FitsOutcome (Recurs onset period dx dy code) =
+    (onset < 2 ^ 64) × (period < 2 ^ 64) × FitsSigned w64 dx × FitsSigned w64 dy × (0 < length code)
+FitsOutcome (Ash parts) = (objects_in parts < 2 ^ 64) × Each IsCodedPart parts
+FitsOutcome (Large generation) = generation < 2 ^ 64
+FitsOutcome Unresolved = ⊤
+
 -- the numbers found fit 64 bits, and each object has a code
 abbrev pub FitsReport : Finding → Type 0
-FitsReport (Recurs population onset period dx dy code) =
-    (population < 2 ^ 64) × (onset < 2 ^ 64) × (period < 2 ^ 64) × FitsSigned w64 dx × FitsSigned w64 dy × (0 < length code)
-FitsReport (Unresolved population) = population < 2 ^ 64
-FitsReport (Large population generation) = (population < 2 ^ 64) × (generation < 2 ^ 64)
-FitsReport (Ash population parts) = (population < 2 ^ 64) × (objects_in parts < 2 ^ 64) × Each IsCodedPart parts
+FitsReport finding = (finding.population < 2 ^ 64) × FitsOutcome finding.outcome
 
 abbrev pub IsToldAnswer : Answer → Type 0
 IsToldAnswer (Found rule finding) = FitsReport finding

@@ -5,9 +5,9 @@ use Rattle.census_bundle.specs.declared.bundle.Folder.{Folder}
 use Rattle.census_bundle.specs.Tickets.{element_at}
 use Rattle.census_format.specs.Lines.{answer_fields, answer_to_entry, answers, is_refused, is_resolved, is_unresolved}
 use Rattle.census_format.specs.Objects.{Object, objects, same_object, tally}
+use Rattle.life_answer.specs.Census.{parts_found}
 use Rattle.life_answer.specs.declared.finding.Answer.{Answer}
 use Rattle.life_answer.specs.declared.finding.Answer.TheVariants.{Found, Refused}
-use Rattle.life_answer.specs.declared.finding.Finding.TheVariants.{Recurs, Unresolved, Large, Ash}
 use Rattle.life_answer.specs.declared.part.Part.{Part}
 use Rattle.life_answer.specs.declared.question.Question.{Question}
 use Rattle.life_cells.specs.Rules.{rule_text}
@@ -28,10 +28,7 @@ said_part i part = statement (codes "part") (decimal i ∷ part.code ∷ decimal
 
 -- the `part` lines of a pattern of which this was found
 abbrev pub said_parts : ℕ → Answer → List Said
-said_parts i (Found rule (Recurs population onset period dx dy code)) = []
-said_parts i (Found rule (Unresolved population)) = []
-said_parts i (Found rule (Large population generation)) = []
-said_parts i (Found rule (Ash population parts)) = map (said_part i) parts
+said_parts i (Found rule finding) = map (said_part i) (parts_found finding.outcome)
 said_parts i (Refused number) = []
 
 -- the line of a pattern of which this was found, and its `part` lines

@@ -1,5 +1,5 @@
 //! Patterns of Life whose ash is known, and the codes of its parts.
-use life_answer::Finding;
+use life_answer::{Finding, Outcome};
 use life_cells::{CellList, Rule};
 use life_census::census;
 use life_plane::ListPlane;
@@ -68,9 +68,9 @@ const CASES: &[Case] = &[
 
 // Whether a finding has these parts.
 fn has_parts(finding: &Finding, expected: Option<&[(&str, u64)]>) -> bool {
-    match (finding, expected) {
-        (Finding::Unresolved { .. }, None) => true,
-        (Finding::Ash { parts, .. }, Some(expected)) => {
+    match (&finding.outcome, expected) {
+        (Outcome::Unresolved, None) => true,
+        (Outcome::Ash { parts }, Some(expected)) => {
             let parts = parts.as_slice();
             for (part, (code, count)) in parts.iter().zip(expected) {
                 if part.code.as_slice() != code.as_bytes() || part.count != *count {

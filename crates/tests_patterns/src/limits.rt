@@ -2,7 +2,7 @@
 //! that grows.
 ghost use Rattle.std.specs.Prelude.{◌≤◌};
 
-use life_answer::{Answer, Finding};
+use life_answer::{Answer, Finding, Outcome};
 use life_find::{BOUND_LIMIT, answer_soon, find_limited};
 use life_plane::{ListPlane, Plane};
 use life_text::read_rle;
@@ -27,25 +27,19 @@ struct Example {
 impl Example {
     // Whether this was found.
     fn is_found(&self, finding: &Finding) -> bool {
-        match finding {
-            Finding::Recurs {
-                population,
+        if finding.population != self.population {
+            return false;
+        }
+        match &finding.outcome {
+            Outcome::Recurs {
                 onset,
                 period,
                 code,
                 ..
-            } => {
-                let found = (*onset, *period, code.as_slice());
-                *population == self.population && self.settled == Some(found)
-            }
-            Finding::Large {
-                population,
-                generation,
-            } => *population == self.population && self.large == Some(*generation),
-            Finding::Unresolved { population } => {
-                *population == self.population && self.settled.is_none() && self.large.is_none()
-            }
-            Finding::Ash { .. } => false,
+            } => self.settled == Some((*onset, *period, code.as_slice())),
+            Outcome::Large { generation } => self.large == Some(*generation),
+            Outcome::Unresolved => self.settled.is_none() && self.large.is_none(),
+            Outcome::Ash { .. } => false,
         }
     }
 }

@@ -1,6 +1,6 @@
 //! What is found of patterns: over planes of either kind, and as the answer to their texts.
 
-use life_answer::{Answer, Finding};
+use life_answer::{Answer, Finding, Outcome};
 use life_board::Board;
 use life_cells::Rule;
 use life_find::{BOUND_LIMIT, answer, find};
@@ -26,22 +26,19 @@ struct Example {
 impl Example {
     // Whether this was found.
     fn is_found(&self, finding: &Finding) -> bool {
-        match finding {
-            Finding::Recurs {
-                population,
+        if finding.population != self.population {
+            return false;
+        }
+        match &finding.outcome {
+            Outcome::Recurs {
                 onset,
                 period,
                 dx,
                 dy,
                 code,
-            } => {
-                let found = (*onset, *period, (*dx, *dy), code.as_slice());
-                *population == self.population && self.settled == Some(found)
-            }
-            Finding::Unresolved { population } => {
-                *population == self.population && self.settled.is_none()
-            }
-            Finding::Large { .. } | Finding::Ash { .. } => false,
+            } => self.settled == Some((*onset, *period, (*dx, *dy), code.as_slice())),
+            Outcome::Unresolved => self.settled.is_none(),
+            _ => false,
         }
     }
 }

@@ -4,13 +4,13 @@ use Rattle.life_model.specs.Recurrence.{Recurrence}
 use Rattle.life_model.proofs.Recurrences.{onset-period-le}
 use Rattle.life_find.proofs.Found.{unresolved-found, recurs-found}
 use Rattle.life_codes.proofs.Phases.{code_by_shape}
-use Rattle.life_find.proofs.finding.find_on.Goals as goal
+use Rattle.life_find.proofs.finding.outcome_on.Goals as goal
 
 pub returns-in-None : goal.returns-in-None
 returns-in-None g c =
     let G = c.args.cells.now in
     let none = rw c.in-None.is at c.in_ok-settling.ensures.none in
-    unresolved-found c.args.rule.now G G refl c.args.bound c.len-population.result c.len-population.ensures none
+    unresolved-found c.args.rule.now G G refl c.args.bound none
 
 pub code_of-requires-clause-young : goal.code_of-requires-clause-young
 code_of-requires-clause-young g c =
@@ -35,7 +35,7 @@ returns-in_ok-code-in-Some g c =
     let settles = rw c.in-Some.is at c.in_ok-settling.ensures.found in
     let same = rw c.in-Some.is at c.in_ok-settling.ensures.shape in
     c.recurs.ensures
-    ∙ recurs-found R G G refl c.args.bound c.len-population.result c.len-population.ensures recurrence (generation R G r.onset) c.in_ok-code-in-Some.code settles refl
+    ∙ recurs-found R G G refl c.args.bound recurrence (generation R G r.onset) c.in_ok-code-in-Some.code settles refl
     (c.in_ok-code-in-Some.ensures ∙ code_by_shape R (g.P.Plane.members c.settling.new.runner) (generation R G r.onset) r.period r.displacement same)
 
 pub code_of-requires-clause-shape : goal.code_of-requires-clause-shape
