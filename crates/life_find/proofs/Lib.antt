@@ -9,3 +9,4 @@ pub mod Beyond
 pub mod SameObjects
 pub mod LaterAnswers
 pub mod Halves
+pub mod Narrow

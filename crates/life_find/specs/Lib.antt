@@ -3,3 +3,4 @@ pub mod Quiet
 pub mod Search
 pub mod Objects
 pub mod Soon
+pub mod Spans
