@@ -1,0 +1,16 @@
+//! The plane that leaps: a set of cells as squares of squares that remember what their middles become.
+//!
+//! Tested in `tests_patterns`.
+#![tactic(auto)]
+
+mod building;
+mod chains;
+mod centre;
+mod later;
+mod listing;
+mod plane;
+mod square;
+mod store;
+
+pub use plane::LeapPlane;
+pub use store::NoLeap;
