@@ -1,0 +1,17 @@
+use Rattle.std.proofs.Common.{◌≡◌, ℕ, pos, ◌+◌, ◌*◌, ◌<◌, ◌≤◌}
+use Rattle.life_model.specs.Rule.{Rule}
+use Rattle.life_model.specs.Cell.{Cell, plus}
+use Rattle.life_model.specs.Generation.{Generation}
+use Rattle.life_model.specs.Evolution.{next}
+use Rattle.life_bits.specs.Area.{tile_cell}
+use Rattle.life_bits.specs.Logics.{IsLogicOf}
+use Rattle.kernel_laws.specs.Rows.{state}
+use Rattle.life_leaves.specs.Areas.{ShowsWithin}
+use Rattle.life_leaves.proofs.area.advance.Given as goal
+
+abbrev pub invariant-loop-i : goal.invariant-loop-i
+invariant-loop-i l = record {
+  done : (rule : Rule) → IsLogicOf l.logic rule → (G : Generation) (place : Cell) (rim : ℕ) → ShowsWithin rim l.here G place →
+      (x y : ℕ) → rim + 1 ≤ x → x + (rim + 1) < 64 → rim + 1 ≤ y → y + (rim + 1) < 64 → y < 8 * l.i →
+      tile_cell l.there x y ≡ state (next rule G) (plus place (pos x, pos y));
+}
