@@ -12,6 +12,11 @@ use Rattle.life_leaps.specs.declared.square.Quarters.{Quarters}
 use Rattle.life_leaps.specs.declared.square.Square.{Square}
 use Rattle.life_leaps.specs.Squares.{View, half, width, beyond, OnQuarters, Shows, ShowsQuarters, IsAt, AreAt, jump, IsLater, IsMiddle, IsRight, IsKept, AreRight, Extends, Grows}
 
+pub either : (a b : ℕ) → (a < b) ⊎ (b ≤ a)
+either a zero = inr (omega arith)
+either zero (suc b) = inl (omega arith)
+either (suc a) (suc b) = ⊎_elim (λ (h : a < b). inl (omega arith)) (λ (h : b ≤ a). inr (omega arith)) (either a b)
+
 pub beyond-beyond : (p : Cell) (a b c d : ℕ) → beyond (beyond p a b) c d ≡ beyond p (a + c) (b + d)
 beyond-beyond p a b c d = pair (omega (arith, ints)) (omega (arith, ints))
 

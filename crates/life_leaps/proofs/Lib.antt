@@ -1,1 +1,4 @@
 pub mod Growth
+pub mod RowLemmas
+pub mod Appended
+pub mod StoreLemmas

@@ -1,2 +1,5 @@
+pub mod Places
 pub mod Squares
 pub mod Stores
+pub mod Rows
+pub mod Cells

@@ -6,6 +6,7 @@ use Rattle.life_model.specs.Generation.{Generation}
 use Rattle.life_model.specs.Evolution.{generation}
 use Rattle.life_leaves.specs.declared.leaf.Leaf.{Leaf}
 use Rattle.life_leaves.specs.Leaves.{leaf_cell, ShowsLeaf}
+use Rattle.life_leaps.specs.Places.{empty_at}
 use Rattle.life_leaps.specs.declared.square.Quarters.{Quarters}
 use Rattle.life_leaps.specs.declared.square.Square.{Square}
 
@@ -75,10 +76,6 @@ pub record IsMiddle (rule : Rule) (t : ℕ) (v : View) (n : ℕ) (quarters : Qua
 abbrev pub IsRight : Rule → ℕ → View → Square → Type 0
 IsRight rule exponent v square = (later : ℕ) → square.later ≡ Some later → IsMiddle rule (jump exponent square.level) v square.level square.quarters v later
 
--- the place of the empty square of a level
-abbrev pub empty_at : ℕ → ℕ
-empty_at n = n - 1
-
 -- what a store keeps
 pub record IsKept (v : View) : Type 0 where
   pub leaf : (x y : ℕ) → leaf_cell (v.leaf 0) x y ≡ 0
@@ -105,3 +102,13 @@ pub record Grows (rule : Rule) (exponent : ℕ) (v w : View) : Type 0 where
   pub kept : IsKept w
   pub extends : Extends v w
   pub right : AreRight rule exponent v → AreRight rule exponent w
+
+-- what squares remember whose quarters have a level or a greater one is forgotten, and all else is as it was
+pub record Forgets (least : ℕ) (v w : View) : Type 0 where
+  pub leaf : (i : ℕ) → w.leaf i ≡ v.leaf i
+  pub leaves : w.leaves ≡ v.leaves
+  pub squares : w.squares ≡ v.squares
+  pub quarters : (i : ℕ) → (w.square i).quarters ≡ (v.square i).quarters
+  pub level : (i : ℕ) → (w.square i).level ≡ (v.square i).level
+  pub forgotten : (i : ℕ) → least ≤ (v.square i).level → (w.square i).later ≡ None
+  pub later : (i : ℕ) → (v.square i).level < least → (w.square i).later ≡ (v.square i).later

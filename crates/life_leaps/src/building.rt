@@ -19,28 +19,66 @@ fn leaf_of(left: i32, top: i32, cells: &[(i32, i32)]) -> Leaf {
 }
 
 /// The cells that stand west of a column.
-fn west_of(alloc: Global, cells: &[(i32, i32)], middle: i32) -> Result<Vec<(i32, i32)>, AllocError> {
-    cells.iter().copied().filter(|cell| cell.0 < middle).collect(alloc)
+fn west_of(
+    alloc: Global,
+    cells: &[(i32, i32)],
+    middle: i32,
+) -> Result<Vec<(i32, i32)>, AllocError> {
+    cells
+        .iter()
+        .copied()
+        .filter(|cell| cell.0 < middle)
+        .collect(alloc)
 }
 
 /// The cells that do not stand west of a column.
-fn east_from(alloc: Global, cells: &[(i32, i32)], middle: i32) -> Result<Vec<(i32, i32)>, AllocError> {
-    cells.iter().copied().filter(|cell| middle <= cell.0).collect(alloc)
+fn east_from(
+    alloc: Global,
+    cells: &[(i32, i32)],
+    middle: i32,
+) -> Result<Vec<(i32, i32)>, AllocError> {
+    cells
+        .iter()
+        .copied()
+        .filter(|cell| middle <= cell.0)
+        .collect(alloc)
 }
 
 /// The cells that stand north of a row.
-fn north_of(alloc: Global, cells: &[(i32, i32)], middle: i32) -> Result<Vec<(i32, i32)>, AllocError> {
-    cells.iter().copied().filter(|cell| cell.1 < middle).collect(alloc)
+fn north_of(
+    alloc: Global,
+    cells: &[(i32, i32)],
+    middle: i32,
+) -> Result<Vec<(i32, i32)>, AllocError> {
+    cells
+        .iter()
+        .copied()
+        .filter(|cell| cell.1 < middle)
+        .collect(alloc)
 }
 
 /// The cells that do not stand north of a row.
-fn south_from(alloc: Global, cells: &[(i32, i32)], middle: i32) -> Result<Vec<(i32, i32)>, AllocError> {
-    cells.iter().copied().filter(|cell| middle <= cell.1).collect(alloc)
+fn south_from(
+    alloc: Global,
+    cells: &[(i32, i32)],
+    middle: i32,
+) -> Result<Vec<(i32, i32)>, AllocError> {
+    cells
+        .iter()
+        .copied()
+        .filter(|cell| middle <= cell.1)
+        .collect(alloc)
 }
 
 impl Store {
     /// The square of a level at (left, top) with these cells, which all stand in it.
-    pub fn build(&mut self, level: u32, left: i32, top: i32, cells: &[(i32, i32)]) -> Result<u32, AllocError> {
+    pub fn build(
+        &mut self,
+        level: u32,
+        left: i32,
+        top: i32,
+        cells: &[(i32, i32)],
+    ) -> Result<u32, AllocError> {
         if cells.is_empty() {
             return Ok(empty_place(level));
         }
@@ -57,6 +95,14 @@ impl Store {
         let south = south_from(alloc, cells, y)?;
         let south_west = self.build(below, left, y, &west_of(alloc, &south, x)?)?;
         let south_east = self.build(below, x, y, &east_from(alloc, &south, x)?)?;
-        self.square(below, &Quarters { north_west, north_east, south_west, south_east })
+        self.square(
+            below,
+            &Quarters {
+                north_west,
+                north_east,
+                south_west,
+                south_east,
+            },
+        )
     }
 }

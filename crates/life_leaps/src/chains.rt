@@ -1,11 +1,12 @@
 //! Places of a list, found by what stands there.
+ghost use Rattle.std.specs.Prelude.{◌<◌};
 
 use std::alloc::{AllocError, Global};
 
-/// So many chains there are at first. Their number is a power of two.
+/// So many chains there are at first.
 const FIRST_CHAINS: usize = 64;
 
-/// Places of a list in chains, one for each remainder of a mixed number. Whatever they hold, a chain goes to lower places and ends
+/// Places of a list in chains, each for a part of all mixed numbers. Whatever they hold, a chain goes to lower places and ends
 /// with 0; what stands at a place is to be looked at before it is used.
 #[derive(Drop)]
 pub struct Chains {
@@ -36,7 +37,8 @@ impl Chains {
 
     /// Which chain has the places of a mixed number.
     fn chain_of(&self, mixed: u64) -> usize {
-        mixed as usize & self.heads.len().saturating_sub(1)
+        let chains = self.heads.len() as u64;
+        ((mixed >> 32).wrapping_mul(chains) >> 32) as usize
     }
 
     /// The first place of a mixed number.
@@ -48,7 +50,9 @@ impl Chains {
     }
 
     /// The place that follows one in its chain.
-    pub fn after(&self, place: u32) -> u32 {
+    pub fn after(&self, place: u32) -> u32
+        ensures { 0 < place → result < place }
+    {
         match self.nexts.get(place as usize) {
             Some(next) if *next < place => *next,
             _ => 0,

@@ -4,11 +4,12 @@
 #![tactic(auto)]
 
 mod building;
-mod chains;
 mod centre;
+mod chains;
 mod later;
 mod listing;
 mod plane;
+mod rows;
 mod square;
 mod store;
 

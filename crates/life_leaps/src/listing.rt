@@ -7,7 +7,12 @@ use life_leaves::Leaf;
 use life_slots::push_row;
 use std::alloc::AllocError;
 
-fn push_leaf(cells: &mut Vec<(i32, i32)>, left: i32, top: i32, leaf: &Leaf) -> Result<(), AllocError> {
+fn push_leaf(
+    cells: &mut Vec<(i32, i32)>,
+    left: i32,
+    top: i32,
+    leaf: &Leaf,
+) -> Result<(), AllocError> {
     for y in 0..32 {
         push_row(cells, left, top + y as i32, u64::from(leaf.rows[y]))?;
     }
@@ -16,7 +21,14 @@ fn push_leaf(cells: &mut Vec<(i32, i32)>, left: i32, top: i32, leaf: &Leaf) -> R
 
 impl Store {
     /// Appends the cells of a square of a level at (left, top).
-    pub fn push_cells(&self, cells: &mut Vec<(i32, i32)>, level: u32, left: i32, top: i32, place: u32) -> Result<(), AllocError> {
+    pub fn push_cells(
+        &self,
+        cells: &mut Vec<(i32, i32)>,
+        level: u32,
+        left: i32,
+        top: i32,
+        place: u32,
+    ) -> Result<(), AllocError> {
         if place == empty_place(level) {
             return Ok(());
         }

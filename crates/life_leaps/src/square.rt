@@ -1,5 +1,8 @@
 //! Squares of cells.
 
+ghost use Rattle.std.specs.Prelude.{◌≡◌, ◌-◌, ◌↔◌, None, IsTrue};
+ghost use Rattle.life_leaps.specs.Places.{empty_at};
+
 /// The level of the square that a plane keeps its cells in: 2^24 by 2^24 cells.
 pub const ROOT_LEVEL: u32 = 19;
 
@@ -26,14 +29,29 @@ pub struct Square {
 }
 
 impl Square {
+    /// The square with these quarters of a level, of which nothing is remembered.
+    pub fn new(level: u32, quarters: &Quarters) -> Square
+        ensures { result ≡ record { quarters = quarters.now; level = level; later = None } }
+    {
+        Square {
+            quarters: *quarters,
+            level,
+            later: None,
+        }
+    }
+
     /// Whether these are the quarters, and of this level.
-    pub fn is_made_of(&self, level: u32, quarters: &Quarters) -> bool {
+    pub fn is_made_of(&self, level: u32, quarters: &Quarters) -> bool
+        ensures { IsTrue result → (self.now.level ≡ level) × (self.now.quarters ≡ quarters.now) }
+    {
         self.level == level && self.quarters == *quarters
     }
 }
 
 /// The place of the square of a level without a live cell.
-pub fn empty_place(level: u32) -> u32 {
+pub fn empty_place(level: u32) -> u32
+    ensures { result ≡ empty_at level }
+{
     level.saturating_sub(1)
 }
 
@@ -41,7 +59,8 @@ pub fn empty_place(level: u32) -> u32 {
 pub fn mix_quarters(level: u32, quarters: &Quarters) -> u64 {
     let north = u64::from(quarters.north_west) | u64::from(quarters.north_east) << 32;
     let south = u64::from(quarters.south_west) | u64::from(quarters.south_east) << 32;
-    let mixed = north.wrapping_mul(0x9e37_79b9_7f4a_7c15) ^ south.rotate_left(29) ^ u64::from(level);
-    let more = mixed.wrapping_mul(0xd6e8_feb8_6659_fd93);
-    more ^ (more >> 32)
+    let mixed = north.wrapping_mul(0x9e37_79b9_7f4a_7c15)
+        ^ south.rotate_left(29)
+        ^ u64::from(level);
+    mixed.wrapping_mul(0xd6e8_feb8_6659_fd93)
 }
