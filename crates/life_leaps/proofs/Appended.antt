@@ -48,14 +48,14 @@ kept-extends v w kept e fresh =
       none = λ n h. e.quarters n (omega arith) ∙ kept.none n h;
       many = omega arith;
       quarters = λ i h.
-      ⊎_elim
-      (λ (old : i < v.squares).
-      let at : AreAt w (v.square i).level (v.square i).quarters = are_at-extends v w e _ _ (kept.quarters i old) in
-      let P : ℕ → Type 0 = λ n. AreAt w n (w.square i).quarters in
-      let Q : Quarters → Type 0 = λ q. AreAt w (v.square i).level q in
-      subst P (sym (e.level i old)) (subst Q (sym (e.quarters i old)) at))
-      (λ (new : v.squares ≤ i). fresh i new h)
-      (either i v.squares);
+          ⊎_elim
+          (λ (old : i < v.squares).
+          let at : AreAt w (v.square i).level (v.square i).quarters = are_at-extends v w e _ _ (kept.quarters i old) in
+          let P : ℕ → Type 0 = λ n. AreAt w n (w.square i).quarters in
+          let Q : Quarters → Type 0 = λ q. AreAt w (v.square i).level q in
+          subst P (sym (e.level i old)) (subst Q (sym (e.quarters i old)) at))
+          (λ (new : v.squares ≤ i). fresh i new h)
+          (either i v.squares);
     }
 
 pub leaf-added : (rule : Rule) (e : ℕ) (ls : List Leaf) (qs : List Square) (l : Leaf) → IsKept (listed ls qs) → Grows rule e (listed ls qs) (listed (ls ++ l ∷ []) qs)
@@ -88,18 +88,18 @@ square-added rule e ls qs q kept at none =
     ap (λ j. slice_index_or (qs ++ q ∷ []) j no_square) same ∙ at_end qs q no_square in
     record {
       kept = kept-extends _ _ kept ext (λ i h k.
-        let P : Square → Type 0 = λ s. AreAt (listed ls (qs ++ q ∷ [])) s.level s.quarters in
-        subst P (sym (last i h k)) (are_at-extends _ _ ext q.level q.quarters at));
+          let P : Square → Type 0 = λ s. AreAt (listed ls (qs ++ q ∷ [])) s.level s.quarters in
+          subst P (sym (last i h k)) (are_at-extends _ _ ext q.level q.quarters at));
       extends = ext;
       right = right-grown rule e _ _ kept ext (λ i h later is.
-        ⊎_elim
-        (λ (old : i < length qs). inl (old, ap (λ (s : Square). s.later) (sym (before_end qs q no_square i old)) ∙ is))
-        (λ (new : length qs ≤ i).
-        let a : slice_index_or (qs ++ q ∷ []) i no_square ≡ q = last i new h in
-        let b : q.later ≡ Some later = ap (λ (s : Square). s.later) (sym a) ∙ is in
-        let c : None ≡ Some later = sym none ∙ b in
-        absurd cc)
-        (either i (length qs)));
+          ⊎_elim
+          (λ (old : i < length qs). inl (old, ap (λ (s : Square). s.later) (sym (before_end qs q no_square i old)) ∙ is))
+          (λ (new : length qs ≤ i).
+          let a : slice_index_or (qs ++ q ∷ []) i no_square ≡ q = last i new h in
+          let b : q.later ≡ Some later = ap (λ (s : Square). s.later) (sym a) ∙ is in
+          let c : None ≡ Some later = sym none ∙ b in
+          absurd cc)
+          (either i (length qs)));
     }
 
 pub later-noted : (rule : Rule) (e : ℕ) (ls : List Leaf) (qs : List Square) (place later : ℕ) (q : Square) → IsKept (listed ls qs) → place < length qs →
@@ -115,37 +115,37 @@ later-noted rule e ls qs place later q kept inside same_quarters same_level note
       leaf = λ i h. refl;
       leaves = omega arith;
       quarters = λ i h.
-      ⊎_elim
-      (λ (is : place ≡ i). ap (λ j. (slice_index_or (set qs place q) j no_square).quarters) (sym is) ∙ ap (λ (s : Square). s.quarters) here ∙ same_quarters ∙ ap (λ j. (slice_index_or qs j no_square).quarters) is)
-      (λ (other : place ≡ i → ⊥). ap (λ (s : Square). s.quarters) (set_else qs q no_square place i other))
-      (cases_eq place i);
+          ⊎_elim
+          (λ (is : place ≡ i). ap (λ j. (slice_index_or (set qs place q) j no_square).quarters) (sym is) ∙ ap (λ (s : Square). s.quarters) here ∙ same_quarters ∙ ap (λ j. (slice_index_or qs j no_square).quarters) is)
+          (λ (other : place ≡ i → ⊥). ap (λ (s : Square). s.quarters) (set_else qs q no_square place i other))
+          (cases_eq place i);
       level = λ i h.
-      ⊎_elim
-      (λ (is : place ≡ i). ap (λ j. (slice_index_or (set qs place q) j no_square).level) (sym is) ∙ ap (λ (s : Square). s.level) here ∙ same_level ∙ ap (λ j. (slice_index_or qs j no_square).level) is)
-      (λ (other : place ≡ i → ⊥). ap (λ (s : Square). s.level) (set_else qs q no_square place i other))
-      (cases_eq place i);
+          ⊎_elim
+          (λ (is : place ≡ i). ap (λ j. (slice_index_or (set qs place q) j no_square).level) (sym is) ∙ ap (λ (s : Square). s.level) here ∙ same_level ∙ ap (λ j. (slice_index_or qs j no_square).level) is)
+          (λ (other : place ≡ i → ⊥). ap (λ (s : Square). s.level) (set_else qs q no_square place i other))
+          (cases_eq place i);
       squares = omega arith;
     } in
     record {
       kept = kept-extends _ _ kept ext (λ i h k. absurd (omega arith));
       extends = ext;
       right = right-grown rule e _ _ kept ext (λ i h l is.
-        ⊎_elim
-        (λ (same : place ≡ i).
-        let a : slice_index_or (set qs place q) i no_square ≡ q = ap (λ j. slice_index_or (set qs place q) j no_square) (sym same) ∙ here in
-        let b : q.later ≡ Some l = ap (λ (s : Square). s.later) (sym a) ∙ is in
-        let c : later ≡ l = some_is (sym noted ∙ b) in
-        let at : AreAt (listed ls qs) q.level q.quarters =
-        (let P : ℕ → Type 0 = λ n. AreAt (listed ls qs) n q.quarters in
-        let Q : Quarters → Type 0 = λ r. AreAt (listed ls qs) ((listed ls qs).square place).level r in
-        subst P (sym same_level) (subst Q (sym same_quarters) (kept.quarters place inside))) in
-        let m : IsMiddle rule (jump e q.level) (listed ls (set qs place q)) q.level q.quarters (listed ls (set qs place q)) later =
-        middle-extends rule _ (listed ls qs) (listed ls (set qs place q)) q.level q.quarters later kept ext at middle in
-        let P : Square → Type 0 = λ s. IsMiddle rule (jump e s.level) (listed ls (set qs place q)) s.level s.quarters (listed ls (set qs place q)) l in
-        let Q : ℕ → Type 0 = λ k. IsMiddle rule (jump e q.level) (listed ls (set qs place q)) q.level q.quarters (listed ls (set qs place q)) k in
-        inr (subst P (sym a) (subst Q c m)))
-        (λ (other : place ≡ i → ⊥). inl (omega arith, ap (λ (s : Square). s.later) (sym (set_else qs q no_square place i other)) ∙ is))
-        (cases_eq place i));
+          ⊎_elim
+          (λ (same : place ≡ i).
+          let a : slice_index_or (set qs place q) i no_square ≡ q = ap (λ j. slice_index_or (set qs place q) j no_square) (sym same) ∙ here in
+          let b : q.later ≡ Some l = ap (λ (s : Square). s.later) (sym a) ∙ is in
+          let c : later ≡ l = some_is (sym noted ∙ b) in
+          let at : AreAt (listed ls qs) q.level q.quarters =
+          (let P : ℕ → Type 0 = λ n. AreAt (listed ls qs) n q.quarters in
+          let Q : Quarters → Type 0 = λ r. AreAt (listed ls qs) ((listed ls qs).square place).level r in
+          subst P (sym same_level) (subst Q (sym same_quarters) (kept.quarters place inside))) in
+          let m : IsMiddle rule (jump e q.level) (listed ls (set qs place q)) q.level q.quarters (listed ls (set qs place q)) later =
+          middle-extends rule _ (listed ls qs) (listed ls (set qs place q)) q.level q.quarters later kept ext at middle in
+          let P : Square → Type 0 = λ s. IsMiddle rule (jump e s.level) (listed ls (set qs place q)) s.level s.quarters (listed ls (set qs place q)) l in
+          let Q : ℕ → Type 0 = λ k. IsMiddle rule (jump e q.level) (listed ls (set qs place q)) q.level q.quarters (listed ls (set qs place q)) k in
+          inr (subst P (sym a) (subst Q c m)))
+          (λ (other : place ≡ i → ⊥). inl (omega arith, ap (λ (s : Square). s.later) (sym (set_else qs q no_square place i other)) ∙ is))
+          (cases_eq place i));
     }
   where
     some_is : {a b : ℕ} → Some a ≡ Some b → a ≡ b

@@ -70,6 +70,7 @@ rest-sum e n =
   where
     pow-double : (k : ℕ) → 2 ^ suc k ≡ 2 ^ k + 2 ^ k
     pow-double k = grind arith
+
     cc_sum : (j r s x y : ℕ) → j ≡ x → s ≡ y → r ≡ j → y ≡ x + x → j + r ≡ s
     cc_sum j r s x y a b c d = omega arith
 
@@ -126,8 +127,8 @@ made_at v n a b c d e f g h = record { north_west = e; north_east = f; south_wes
 
 -- three middles of two rows of four
 module _ (rule : Rule) (t : ℕ) (n : ℕ) (u v w x : View) (kept_u : IsKept u) (kept_v : IsKept v) (kept_w : IsKept w)
-  (one : Extends u v) (two : Extends v w) (three : Extends w x) (north south : FourInRow)
-  (at_north : AreFourAt u n north) (at_south : AreFourAt u n south) where
+    (one : Extends u v) (two : Extends v w) (three : Extends w x) (north south : FourInRow)
+    (at_north : AreFourAt u n north) (at_south : AreFourAt u n south) where
   pub three-from : (west middle east : ℕ) →
       IsMiddle rule t u n (made north.first north.second south.first south.second) v west →
       IsMiddle rule t v n (made north.second north.third south.second south.third) w middle →
@@ -167,8 +168,8 @@ module _ (rule : Rule) (t : ℕ) (n : ℕ) (u v w x : View) (kept_u : IsKept u) 
 
 -- two middles of two rows of three
 module _ (rule : Rule) (t : ℕ) (n : ℕ) (u v w : View) (kept_u : IsKept u) (kept_v : IsKept v)
-  (one : Extends u v) (two : Extends v w) (north south : ThreeInRow)
-  (at_north : AreThreeAt u n north) (at_south : AreThreeAt u n south) where
+    (one : Extends u v) (two : Extends v w) (north south : ThreeInRow)
+    (at_north : AreThreeAt u n north) (at_south : AreThreeAt u n south) where
   pub two-from : (west east : ℕ) →
       IsMiddle rule t u n (made north.west north.middle south.west south.middle) v west →
       IsMiddle rule t v n (made north.middle north.east south.middle south.east) w east →
@@ -254,9 +255,9 @@ same_rows rule t u v n a b c d three e f h =
 
 -- the middle of a square, of sixteen squares
 module _ (rule : Rule) (e n : ℕ) (u v w x y z o : View)
-  (kept_u : IsKept u) (kept_v : IsKept v) (kept_w : IsKept w) (kept_x : IsKept x) (kept_y : IsKept y) (kept_z : IsKept z)
-  (one : Extends u v) (two : Extends v w) (three : Extends w x) (four : Extends x y) (five : Extends y z) (six : Extends z o)
-  (q : Quarters) (at : AreAt u (suc n) q) where
+    (kept_u : IsKept u) (kept_v : IsKept v) (kept_w : IsKept w) (kept_x : IsKept x) (kept_y : IsKept y) (kept_z : IsKept z)
+    (one : Extends u v) (two : Extends v w) (three : Extends w x) (four : Extends x y) (five : Extends y z) (six : Extends z o)
+    (q : Quarters) (at : AreAt u (suc n) q) where
   abbrev pub row_one : FourInRow
   row_one = upper_of (u.square q.north_west).quarters (u.square q.north_east).quarters
 
@@ -322,11 +323,11 @@ module _ (rule : Rule) (e n : ℕ) (u v w x y z o : View)
   two_moved v row G p q e s = let P : Cell → Type 0 = λ c. ShowsTwoInRow v n row G c in subst P e s
 
   module _ (t rest_of : ℕ) (sum : t + rest_of ≡ jump e (suc n)) (north between south : ThreeInRow) (upper lower : TwoInRow)
-    (m1 : AreThreeLater rule t u n row_one row_two v north)
-    (m2 : AreThreeLater rule t v n row_two row_three w between)
-    (m3 : AreThreeLater rule t w n row_three row_four x south)
-    (m4 : AreTwoLater rule rest_of x n north between y upper)
-    (m5 : AreTwoLater rule rest_of y n between south z lower) where
+      (m1 : AreThreeLater rule t u n row_one row_two v north)
+      (m2 : AreThreeLater rule t v n row_two row_three w between)
+      (m3 : AreThreeLater rule t w n row_three row_four x south)
+      (m4 : AreTwoLater rule rest_of x n north between y upper)
+      (m5 : AreTwoLater rule rest_of y n between south z lower) where
     pub sixteen-at : AreAt z n (made upper.west upper.east lower.west lower.east)
     sixteen-at = made_at z n _ _ _ _ (at-extends y z five n _ m4.at.west) (at-extends y z five n _ m4.at.east) m5.at.west m5.at.east
 
@@ -383,11 +384,11 @@ module _ (rule : Rule) (e n : ℕ) (u v w x y z o : View)
     sixteen i at_i is = record {
       at = at_i;
       shows = λ G p s.
-        let all : Shows o (suc n) i (generation rule (generation rule G t) rest_of) (beyond p wide wide) = from_made o n i _ _ _ is (all_shown G p s) in
-        let P : ℕ → Type 0 = λ k. Shows o (suc n) i (generation rule G k) (beyond p wide wide) in
-        let Q : ℕ → Type 0 = λ k. Shows o (suc n) i (generation rule G (jump e (suc n))) (beyond p k k) in
-        let R : Generation → Type 0 = λ K. Shows o (suc n) i K (beyond p wide wide) in
-        subst Q (sym (half-suc n)) (subst P sum (subst R (generation-add rule G t rest_of) all));
+          let all : Shows o (suc n) i (generation rule (generation rule G t) rest_of) (beyond p wide wide) = from_made o n i _ _ _ is (all_shown G p s) in
+          let P : ℕ → Type 0 = λ k. Shows o (suc n) i (generation rule G k) (beyond p wide wide) in
+          let Q : ℕ → Type 0 = λ k. Shows o (suc n) i (generation rule G (jump e (suc n))) (beyond p k k) in
+          let R : Generation → Type 0 = λ K. Shows o (suc n) i K (beyond p wide wide) in
+          subst Q (sym (half-suc n)) (subst P sum (subst R (generation-add rule G t rest_of) all));
     }
 
 -- the middle of a square, as it is
@@ -405,18 +406,18 @@ module _ (n : ℕ) (u : View) (kept : IsKept u) (q : Quarters) (at : AreAt u (su
   centre-shows rule v grown i at_i is = record {
     at = at_i;
     shows = λ G p s.
-      let twice : half (suc n) ≡ 2 * half n = half-suc n in
-      let a : ShowsQuarters u n (u.square q.north_west).quarters G p = as_made u n _ G _ s.north_west in
-      let b : ShowsQuarters u n (u.square q.north_east).quarters G (beyond p (width (suc n)) 0) = as_made u n _ G _ s.north_east in
-      let c : ShowsQuarters u n (u.square q.south_west).quarters G (beyond p 0 (width (suc n))) = as_made u n _ G _ s.south_west in
-      let d : ShowsQuarters u n (u.square q.south_east).quarters G (beyond p (width (suc n)) (width (suc n))) = as_made u n _ G _ s.south_east in
-      let m : ShowsQuarters u n centre_quarters G (beyond p (half (suc n)) (half (suc n))) = record {
-        north_west = moved u n _ G _ _ (pair (omega (arith, ints)) (omega (arith, ints))) a.south_east;
-        north_east = moved u n _ G _ _ (pair (omega (arith, ints)) (omega (arith, ints))) b.south_west;
-        south_west = moved u n _ G _ _ (pair (omega (arith, ints)) (omega (arith, ints))) c.north_east;
-        south_east = moved u n _ G _ _ (pair (omega (arith, ints)) (omega (arith, ints))) d.north_west;
-      } in
-      from_made v n i _ G _ is (four_forth u v kept grown G n _ centre-at _ m);
+        let twice : half (suc n) ≡ 2 * half n = half-suc n in
+        let a : ShowsQuarters u n (u.square q.north_west).quarters G p = as_made u n _ G _ s.north_west in
+        let b : ShowsQuarters u n (u.square q.north_east).quarters G (beyond p (width (suc n)) 0) = as_made u n _ G _ s.north_east in
+        let c : ShowsQuarters u n (u.square q.south_west).quarters G (beyond p 0 (width (suc n))) = as_made u n _ G _ s.south_west in
+        let d : ShowsQuarters u n (u.square q.south_east).quarters G (beyond p (width (suc n)) (width (suc n))) = as_made u n _ G _ s.south_east in
+        let m : ShowsQuarters u n centre_quarters G (beyond p (half (suc n)) (half (suc n))) = record {
+          north_west = moved u n _ G _ _ (pair (omega (arith, ints)) (omega (arith, ints))) a.south_east;
+          north_east = moved u n _ G _ _ (pair (omega (arith, ints)) (omega (arith, ints))) b.south_west;
+          south_west = moved u n _ G _ _ (pair (omega (arith, ints)) (omega (arith, ints))) c.north_east;
+          south_east = moved u n _ G _ _ (pair (omega (arith, ints)) (omega (arith, ints))) d.north_west;
+        } in
+        from_made v n i _ G _ is (four_forth u v kept grown G n _ centre-at _ m);
   }
 
 -- rows of quarters
@@ -439,3 +440,11 @@ pub lower-at : (u : View) → IsKept u → (n a b : ℕ) → IsAt u (suc n) a �
 lower-at u kept n a b at_a at_b x y row e f g =
     let P : FourInRow → Type 0 = λ r. AreFourAt u n r in
     subst P (sym (lower-is u a b x y row e f g)) (lower_row-at u kept n a b at_a at_b)
+
+pub few_below : (r : ℕ) → r ≤ 4 → 2 ^ r ≤ 16
+few_below zero h = omega arith
+few_below (suc zero) h = omega arith
+few_below (suc (suc zero)) h = omega arith
+few_below (suc (suc (suc zero))) h = omega arith
+few_below (suc (suc (suc (suc zero)))) h = omega arith
+few_below (suc (suc (suc (suc (suc n))))) h = absurd (omega arith)

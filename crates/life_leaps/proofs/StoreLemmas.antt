@@ -77,11 +77,11 @@ unfolding Shows half
 leaf-middle rule t v w q leaf i inside is shows = record {
   at = inside;
   shows = λ G p s.
-    let P : Leaf → Type 0 = λ l. ShowsLeaf l (generation rule G t) (plus p (pos 16, pos 16)) in
-    subst P (sym is) (shows G p s.north_west s.north_east s.south_west s.south_east);
+      let P : Leaf → Type 0 = λ l. ShowsLeaf l (generation rule G t) (plus p (pos 16, pos 16)) in
+      subst P (sym is) (shows G p s.north_west s.north_east s.south_west s.south_east);
 }
 
-any_default : {A : Type 0} → (xs : List A) (i : ℕ) (d e : A) → i < length xs → slice_index_or xs i d ≡ slice_index_or xs i e
+pub any_default : {A : Type 0} → (xs : List A) (i : ℕ) (d e : A) → i < length xs → slice_index_or xs i d ≡ slice_index_or xs i e
 any_default [] i d e h = absurd (omega arith)
 any_default (x ∷ xs) zero d e h = refl
 any_default (x ∷ xs) (suc i) d e h = any_default xs i d e (omega arith)

@@ -3,3 +3,6 @@ pub mod Squares
 pub mod Stores
 pub mod Rows
 pub mod Cells
+pub mod Sites
+pub mod Leapers
+pub mod Planes

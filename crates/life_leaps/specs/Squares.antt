@@ -110,5 +110,5 @@ pub record Forgets (least : ℕ) (v w : View) : Type 0 where
   pub squares : w.squares ≡ v.squares
   pub quarters : (i : ℕ) → (w.square i).quarters ≡ (v.square i).quarters
   pub level : (i : ℕ) → (w.square i).level ≡ (v.square i).level
-  pub forgotten : (i : ℕ) → least ≤ (v.square i).level → (w.square i).later ≡ None
+  pub forgotten : (i : ℕ) → i < v.squares → least ≤ (v.square i).level → (w.square i).later ≡ None
   pub later : (i : ℕ) → (v.square i).level < least → (w.square i).later ≡ (v.square i).later

@@ -3,6 +3,7 @@ use Rattle.std.specs.Prelude.{◌≡◌, ℕ, List, [], length, slice_index_or, 
 use Rattle.life_leaves.specs.declared.leaf.Leaf.{Leaf}
 use Rattle.life_leaps.specs.declared.square.Square.{Square}
 use Rattle.life_leaps.specs.declared.store.Store.{Store}
+use Rattle.life_leaps.specs.Places.{empty_at}
 use Rattle.life_leaps.specs.Squares.{View}
 
 abbrev pub no_leaf : Leaf
@@ -10,6 +11,10 @@ no_leaf = record { rows = [] }
 
 abbrev pub no_square : Square
 no_square = record { quarters = record { north_west = 0; north_east = 0; south_west = 0; south_east = 0 }; level = 0; later = None }
+
+-- the empty square that has quarters of a level
+abbrev pub empty_square : ℕ → Square
+empty_square n = record { quarters = record { north_west = empty_at n; north_east = empty_at n; south_west = empty_at n; south_east = empty_at n }; level = n; later = None }
 
 -- leaves and squares by their places in lists
 abbrev pub listed : List Leaf → List Square → View

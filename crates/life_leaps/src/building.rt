@@ -1,108 +1,95 @@
 //! Squares of given cells.
+ghost use Rattle.std.specs.Prelude.{◌≡◌, ◌↔◌, ℕ, ℤ, pos, suc, ◌+◌, ◌<◌, ◌≤◌, Bool, IsTrue, IfOk, List, if◌then◌else◌};
+ghost use Rattle.life_model.specs.Cell.{Cell};
+ghost use Rattle.life_model.specs.Generation.{from_list};
+ghost use Rattle.life_model.specs.Rule.{Rule};
+ghost use Rattle.life_leaves.specs.Leaves.{ShowsLeaf};
+ghost use Rattle.life_leaps.specs.Squares.{Grows, IsAt, IsKept, Shows, beyond, width};
+ghost use Rattle.life_leaps.specs.Stores.{view};
+ghost use Rattle.life_leaps.specs.Cells.{IsInside, IsListed};
+ghost use Rattle.life_leaps.specs.Sites.{IsPartOf, IsSite, corner};
 
+use crate::site::Site;
 use crate::square::{Quarters, empty_place};
 use crate::store::Store;
 use life_leaves::Leaf;
 use std::alloc::{AllocError, Global};
 
-/// How wide a square of a level is.
-pub fn width(level: u32) -> i32 {
-    32 << level
+/// Cells of a list, among them all that stand in a square.
+fn part_of(alloc: Global, cells: &[(i32, i32)], site: &Site) -> Result<Vec<(i32, i32)>, AllocError>
+    requires { IsSite site.now }
+    ensures { IfOk result (λ part. IsPartOf cells.now site.now part.items) }
+{
+    let mut part = Vec::new(alloc);
+    for cell in cells {
+        if let Some(_) = site.place_of(*cell) {
+            part.push(*cell)?;
+        }
+    }
+    Ok(part)
 }
 
-fn leaf_of(left: i32, top: i32, cells: &[(i32, i32)]) -> Leaf {
+/// The leaf with those cells of a list that stand in it.
+fn leaf_of(cells: &[(i32, i32)], site: &Site) -> Leaf
+    requires site { IsSite site.now }
+    requires leaf { site.now.level ≡ 0 }
+    ensures { ShowsLeaf result (from_list cells.now) (corner site.now) }
+{
     let mut leaf = Leaf::empty();
     for cell in cells {
-        leaf.set((cell.0 - left) as u32, (cell.1 - top) as u32);
+        if let Some((x, y)) = site.place_of(*cell) {
+            leaf.set(x, y);
+        }
     }
     leaf
 }
 
-/// The cells that stand west of a column.
-fn west_of(
-    alloc: Global,
-    cells: &[(i32, i32)],
-    middle: i32,
-) -> Result<Vec<(i32, i32)>, AllocError> {
-    cells
-        .iter()
-        .copied()
-        .filter(|cell| cell.0 < middle)
-        .collect(alloc)
-}
-
-/// The cells that do not stand west of a column.
-fn east_from(
-    alloc: Global,
-    cells: &[(i32, i32)],
-    middle: i32,
-) -> Result<Vec<(i32, i32)>, AllocError> {
-    cells
-        .iter()
-        .copied()
-        .filter(|cell| middle <= cell.0)
-        .collect(alloc)
-}
-
-/// The cells that stand north of a row.
-fn north_of(
-    alloc: Global,
-    cells: &[(i32, i32)],
-    middle: i32,
-) -> Result<Vec<(i32, i32)>, AllocError> {
-    cells
-        .iter()
-        .copied()
-        .filter(|cell| cell.1 < middle)
-        .collect(alloc)
-}
-
-/// The cells that do not stand north of a row.
-fn south_from(
-    alloc: Global,
-    cells: &[(i32, i32)],
-    middle: i32,
-) -> Result<Vec<(i32, i32)>, AllocError> {
-    cells
-        .iter()
-        .copied()
-        .filter(|cell| middle <= cell.1)
-        .collect(alloc)
-}
-
 impl Store {
-    /// The square of a level at (left, top) with these cells, which all stand in it.
-    pub fn build(
-        &mut self,
-        level: u32,
-        left: i32,
-        top: i32,
-        cells: &[(i32, i32)],
-    ) -> Result<u32, AllocError> {
-        if cells.is_empty() {
-            return Ok(empty_place(level));
-        }
-        if level == 0 {
-            return self.leaf(&leaf_of(left, top, cells));
-        }
-        let below = level - 1;
+    /// The same, of those cells alone.
+    #[cycle(build)]
+    fn build_part(&mut self, site: &Site, cells: &[(i32, i32)]) -> Result<u32, AllocError>
+        requires kept { IsKept (view self.old) }
+        requires site { IsSite site.now }
+        ensures grows { (rule : Rule) (e : ℕ) → Grows rule e (view self.old) (view self.new) }
+        ensures at { IfOk result (λ i. IsAt (view self.new) site.now.level i) }
+        ensures shows { IfOk result (λ i.
+            Shows (view self.new) site.now.level i (from_list cells.now) (corner site.now)) }
+    {
         let alloc = *self.squares.allocator();
-        let x = left + width(below);
-        let y = top + width(below);
-        let north = north_of(alloc, cells, y)?;
-        let north_west = self.build(below, left, top, &west_of(alloc, &north, x)?)?;
-        let north_east = self.build(below, x, top, &east_from(alloc, &north, x)?)?;
-        let south = south_from(alloc, cells, y)?;
-        let south_west = self.build(below, left, y, &west_of(alloc, &south, x)?)?;
-        let south_east = self.build(below, x, y, &east_from(alloc, &south, x)?)?;
-        self.square(
-            below,
-            &Quarters {
-                north_west,
-                north_east,
-                south_west,
-                south_east,
-            },
-        )
+        let part = part_of(alloc, cells, site)?;
+        let place = self.build(site, &part)?;
+        Ok(place)
+    }
+
+    /// The square at a site with those cells of a list that stand in it.
+    #[cycle(build)]
+    pub fn build(&mut self, site: &Site, cells: &[(i32, i32)]) -> Result<u32, AllocError>
+        requires kept { IsKept (view self.old) }
+        requires site { IsSite site.now }
+        ensures grows { (rule : Rule) (e : ℕ) → Grows rule e (view self.old) (view self.new) }
+        ensures at { IfOk result (λ i. IsAt (view self.new) site.now.level i) }
+        ensures shows { IfOk result (λ i.
+            Shows (view self.new) site.now.level i (from_list cells.now) (corner site.now)) }
+    {
+        if cells.is_empty() {
+            return Ok(empty_place(site.level));
+        }
+        if site.level == 0 {
+            let leaf = self.leaf(&leaf_of(cells, site))?;
+            return Ok(leaf);
+        }
+        let sites = site.quarters();
+        let north_west = self.build_part(&sites.north_west, cells)?;
+        let north_east = self.build_part(&sites.north_east, cells)?;
+        let south_west = self.build_part(&sites.south_west, cells)?;
+        let south_east = self.build_part(&sites.south_east, cells)?;
+        let made = Quarters {
+            north_west,
+            north_east,
+            south_west,
+            south_east,
+        };
+        let place = self.square(site.level - 1, &made)?;
+        Ok(place)
     }
 }

@@ -7,9 +7,12 @@ mod building;
 mod centre;
 mod chains;
 mod later;
+mod leaping;
 mod listing;
+mod padding;
 mod plane;
 mod rows;
+mod site;
 mod square;
 mod store;
 

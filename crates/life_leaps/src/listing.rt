@@ -1,47 +1,66 @@
 //! The cells of squares as a list.
+ghost use Rattle.std.specs.Prelude.{◌≡◌, ◌||◌, OnOk};
+ghost use Rattle.std.specs.List.{list_any};
+ghost use Rattle.life_model.specs.Cell.{Cell, same_cell};
+ghost use Rattle.life_leaps.specs.Squares.{IsAt, IsKept};
+ghost use Rattle.life_leaps.specs.Stores.{view};
+ghost use Rattle.life_leaps.specs.Cells.{cells_of, rows_cells};
+ghost use Rattle.life_leaps.specs.Sites.{IsSite, corner};
 
-use crate::building::width;
+use crate::site::Site;
 use crate::square::empty_place;
 use crate::store::Store;
 use life_leaves::Leaf;
 use life_slots::push_row;
 use std::alloc::AllocError;
 
-fn push_leaf(
-    cells: &mut Vec<(i32, i32)>,
-    left: i32,
-    top: i32,
-    leaf: &Leaf,
-) -> Result<(), AllocError> {
+/// Appends the live cells of a leaf.
+fn push_leaf(cells: &mut Vec<(i32, i32)>, site: &Site, leaf: &Leaf) -> Result<(), AllocError>
+    requires site { IsSite site.now }
+    requires level { site.now.level ≡ 0 }
+    ensures { OnOk result ((q : Cell) → list_any (same_cell q) cells.new.items ≡
+        (list_any (same_cell q) cells.old.items
+        || list_any (same_cell q) (rows_cells site.now.left site.now.top leaf.now.rows 32))) }
+{
     for y in 0..32 {
-        push_row(cells, left, top + y as i32, u64::from(leaf.rows[y]))?;
+        push_row(
+            cells,
+            site.left,
+            site.top + y as i32,
+            u64::from(leaf.rows[y]),
+        )?;
     }
     Ok(())
 }
 
 impl Store {
-    /// Appends the cells of a square of a level at (left, top).
+    /// Appends the live cells of a square at a site.
     pub fn push_cells(
         &self,
         cells: &mut Vec<(i32, i32)>,
-        level: u32,
-        left: i32,
-        top: i32,
+        site: &Site,
         place: u32,
-    ) -> Result<(), AllocError> {
-        if place == empty_place(level) {
+    ) -> Result<(), AllocError>
+        requires kept { IsKept (view self.now) }
+        requires site { IsSite site.now }
+        requires at { IsAt (view self.now) site.now.level place }
+        ensures { OnOk result ((q : Cell) → list_any (same_cell q) cells.new.items ≡
+            (list_any (same_cell q) cells.old.items
+            || list_any (same_cell q) (cells_of (view self.now) site.now.level place (corner site.now)))) }
+    {
+        if place == empty_place(site.level) {
             return Ok(());
         }
-        if level == 0 {
-            return push_leaf(cells, left, top, &self.leaves[place as usize]);
+        if site.level == 0 {
+            push_leaf(cells, site, &self.leaves[place as usize])?;
+            return Ok(());
         }
-        let below = level - 1;
         let quarters = self.quarters(place);
-        let middle_x = left + width(below);
-        let middle_y = top + width(below);
-        self.push_cells(cells, below, left, top, quarters.north_west)?;
-        self.push_cells(cells, below, middle_x, top, quarters.north_east)?;
-        self.push_cells(cells, below, left, middle_y, quarters.south_west)?;
-        self.push_cells(cells, below, middle_x, middle_y, quarters.south_east)
+        let sites = site.quarters();
+        self.push_cells(cells, &sites.north_west, quarters.north_west)?;
+        self.push_cells(cells, &sites.north_east, quarters.north_east)?;
+        self.push_cells(cells, &sites.south_west, quarters.south_west)?;
+        self.push_cells(cells, &sites.south_east, quarters.south_east)?;
+        Ok(())
     }
 }

@@ -1,179 +1,81 @@
 //! The plane that leaps.
+ghost use Rattle.std.specs.Prelude.{◌≡◌, ℕ, ◌+◌, ◌^◌, ◌≤◌, All, IfOk, OnOk, OnErr};
+ghost use Rattle.life_model.specs.Evolution.{generation};
+ghost use Rattle.life_model.specs.Generation as sets;
+ghost use Rattle.life_cells.specs.Limits.{IsWithin, age_limit};
+ghost use Rattle.life_leaps.specs.Planes.{members, rule_of, steps_made};
 
-use crate::building::width;
-use crate::rows::Step;
-use crate::square::{Quarters, ROOT_LEVEL, empty_place};
-use crate::store::{NoLeap, Store};
-use life_bits::Logic;
-use life_cells::{CellList, Rule, put_in_order};
+use crate::leaping::Leaper;
+use crate::store::NoLeap;
+use life_cells::{CellList, Rule};
 use std::alloc::{AllocError, Global};
+use std::marker::Model;
 
-/// The place of the first column and of the first row of the square that has all cells.
-const FIRST_PLACE: i32 = -8_388_608;
-
-/// A finite set of live cells, kept as squares that remember what they become.
+/// A finite set of live cells, kept as squares that remember what they become, how many steps it has made, and its rule. What
+/// squares it has made it keeps until it is dropped.
 #[derive(Drop)]
 pub struct LeapPlane {
-    alloc: Global,
-    store: Store,
-    step: Step,
-    root: u32,
-    age: u32,
+    leaper: Leaper,
+}
+
+impl Model for LeapPlane {
+    ghost use Rattle.life_leaps.specs.Planes.{Seen, coded_seen};
+    ghost use Rattle.life_leaps.specs.Leapers.{IsLeaper, cells_in};
+
+    ghost Value = { Seen };
+
+    ghost coded = { coded_seen };
+
+    ghost view = { λ p. ((cells_in p.leaper, p.leaper.age), p.leaper.step.rule) };
+
+    ghost invariant = { λ p. IsLeaper p.leaper };
 }
 
 impl LeapPlane {
     /// The plane of these cells at some age, at which their places may be, and by a rule.
-    pub fn at_age(
-        alloc: Global,
-        rule: &Rule,
-        list: &CellList,
-        age: u32,
-    ) -> Result<Self, AllocError> {
-        let mut store = Store::new(alloc)?;
-        let root = store.build(ROOT_LEVEL, FIRST_PLACE, FIRST_PLACE, list.as_slice())?;
-        let step = Step {
-            rule: *rule,
-            logic: Logic::of(rule),
-            exponent: 0,
-            work: 0,
-        };
-        Ok(LeapPlane {
-            alloc,
-            store,
-            step,
-            root,
-            age,
-        })
+    pub fn at_age(alloc: Global, rule: &Rule, list: &CellList, age: u32) -> Result<Self, AllocError>
+        requires age { age ≤ age_limit }
+        requires within { All (IsWithin age) (sets.cells list.now) }
+        ensures cells { IfOk result (λ p. members p ≡ list.now) }
+        ensures age { IfOk result (λ p. steps_made p ≡ age) }
+        ensures rule { IfOk result (λ p. rule_of p ≡ rule.now) }
+    {
+        let leaper = Leaper::at_age(alloc, rule, list, age)?;
+        Ok(LeapPlane { leaper })
     }
 
-    fn padded(&mut self) -> Result<u32, AllocError> {
-        let whole = self.store.quarters(self.root);
-        let empty = empty_place(ROOT_LEVEL - 1);
-        let north_west = self.store.square(
-            ROOT_LEVEL - 1,
-            &Quarters {
-                north_west: empty,
-                north_east: empty,
-                south_west: empty,
-                south_east: whole.north_west,
-            },
-        )?;
-        let north_east = self.store.square(
-            ROOT_LEVEL - 1,
-            &Quarters {
-                north_west: empty,
-                north_east: empty,
-                south_west: whole.north_east,
-                south_east: empty,
-            },
-        )?;
-        let south_west = self.store.square(
-            ROOT_LEVEL - 1,
-            &Quarters {
-                north_west: empty,
-                north_east: whole.south_west,
-                south_west: empty,
-                south_east: empty,
-            },
-        )?;
-        let south_east = self.store.square(
-            ROOT_LEVEL - 1,
-            &Quarters {
-                north_west: whole.south_east,
-                north_east: empty,
-                south_west: empty,
-                south_east: empty,
-            },
-        )?;
-        self.store.square(
-            ROOT_LEVEL,
-            &Quarters {
-                north_west,
-                north_east,
-                south_west,
-                south_east,
-            },
-        )
-    }
-
-    /// Makes 2^exponent generations. After an `Err` the cells and the age are what they were.
-    pub fn leap(&mut self, exponent: u32, work: u64) -> Result<(), NoLeap> {
-        self.store
-            .forget(exponent.min(self.step.exponent).saturating_sub(4));
-        self.step.exponent = exponent;
-        self.step.work = self.store.work.saturating_add(work);
-        let wide = self.padded()?;
-        let step = self.step;
-        self.root = self.store.later(&step, ROOT_LEVEL, wide)?;
-        self.age += 1 << exponent;
+    /// Makes 2^exponent generations, for about so much work: a unit is a band of eight rows of 64 cells. After an `Err` the cells
+    /// and the age are what they were.
+    pub fn leap(&mut self, exponent: u32, work: u64) -> Result<(), NoLeap>
+        requires { steps_made self.old + 2 ^ exponent ≤ age_limit }
+        ensures cells { OnOk result (members self.new ≡
+            generation (rule_of self.old) (members self.old) (2 ^ exponent)) }
+        ensures age { OnOk result (steps_made self.new ≡ steps_made self.old + 2 ^ exponent) }
+        ensures rule { rule_of self.new ≡ rule_of self.old }
+        ensures unchanged { OnErr result
+            ((members self.new ≡ members self.old) × (steps_made self.new ≡ steps_made self.old)) }
+    {
+        self.leaper.leap(exponent, work)?;
         Ok(())
     }
 
     /// The live cells in order.
-    pub fn cells(&self) -> Result<CellList, AllocError> {
-        let mut cells = Vec::new(self.alloc);
-        self.store.push_cells(&mut cells, ROOT_LEVEL, FIRST_PLACE, FIRST_PLACE, self.root)?;
-        put_in_order(&mut cells);
-        Ok(CellList::from_ordered(cells))
+    pub fn cells(&self) -> Result<CellList, AllocError>
+        ensures { IfOk result (λ list. list ≡ members self.now) }
+    {
+        self.leaper.cells()
     }
 
-    /// How many steps it has made.
-    pub fn age(&self) -> u32 {
-        self.age
+    /// How many steps it has made. No cell is further from the places of age 0 than that.
+    pub fn age(&self) -> u32
+        ensures age { result ≡ steps_made self.now }
+        ensures within { All (IsWithin (steps_made self.now)) (sets.cells (members self.now)) }
+    {
+        self.leaper.age
     }
 
-    /// How much it has worked.
+    /// How much it has worked since it was made.
     pub fn work(&self) -> u64 {
-        self.store.work
-    }
-}
-
-#[cfg(test)]
-mod tests {
-    use super::*;
-    use life_plane::{ListPlane, Plane};
-    use std::process::Abort;
-    use std::test::Fail;
-
-    fn compare(
-        rt: &impl Abort,
-        alloc: Global,
-        rule: &Rule,
-        cells: &[(i32, i32)],
-        exponents: &[u32],
-    ) -> Result<(), Fail> {
-        let list = CellList::of(alloc, cells)?;
-        let mut slow = ListPlane::at_age(alloc, &list, 0)?;
-        let mut quick = LeapPlane::at_age(alloc, rule, &list, 0)?;
-        for exponent in exponents {
-            for _ in 0..(1 << *exponent) {
-                slow.step(rule)?;
-            }
-            quick.leap(*exponent, 1_000_000_000)?;
-            let a = slow.cells()?;
-            let b = quick.cells()?;
-            assert!(rt; a.as_slice() == b.as_slice());
-        }
-        Ok(())
-    }
-
-    #[test]
-    fn agree(rt: HostRuntime) -> Result<(), Fail> {
-        let life = Rule::life();
-        compare(
-            &rt,
-            rt.alloc(),
-            &life,
-            &[(1, 0), (2, 1), (0, 2), (1, 2), (2, 2)],
-            &[0, 0],
-        )?;
-        compare(
-            &rt,
-            rt.alloc(),
-            &life,
-            &[(1, 0), (2, 1), (0, 2), (1, 2), (2, 2)],
-            &[5, 2],
-        )?;
-        Ok(())
+        self.leaper.store.work
     }
 }

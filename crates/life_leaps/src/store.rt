@@ -121,7 +121,8 @@ impl Store {
     fn chain_squares(&mut self) -> Result<(), AllocError>
         ensures { HasSame self.old self.new }
     {
-        self.square_chains.clear(self.squares.len().saturating_mul(2))?;
+        self.square_chains
+            .clear(self.squares.len().saturating_mul(2))?;
         for (place, square) in self.squares.iter().enumerate() {
             let mixed = mix_quarters(square.level, &square.quarters);
             self.square_chains.put(place_of(place)?, mixed)?;
@@ -258,9 +259,9 @@ impl Store {
     pub fn forget(&mut self, level: u32)
         ensures { Forgets level (view self.old) (view self.new) }
     {
-        for square in self.squares.iter_mut() {
-            if level <= square.level {
-                square.later = None;
+        for place in 0..self.squares.len() {
+            if level <= self.squares[place].level {
+                self.squares[place].later = None;
             }
         }
     }

@@ -1,5 +1,5 @@
 -- The middles of squares some generations later.
-use Rattle.std.proofs.Common.{◌≡◌, ℕ, suc, ◌+◌, ◌*◌, ◌<◌, ◌≤◌, ◌∙◌, sym, refl, ap, subst, Some, arith}
+use Rattle.std.proofs.Common.{◌≡◌, ℕ, suc, ◌+◌, ◌*◌, ◌^◌, ◌<◌, ◌≤◌, ◌∙◌, sym, refl, ap, subst, Some, arith}
 use Rattle.life_leaps.specs.declared.square.Quarters.{Quarters}
 use Rattle.life_leaps.specs.declared.square.Square.{Square}
 use Rattle.life_leaps.specs.Squares.{View, AreAt, IsAt, IsKept, IsMiddle, Extends, Grows, jump}
@@ -7,7 +7,7 @@ use Rattle.life_leaps.specs.Stores.{view}
 use Rattle.life_leaps.specs.Rows.{AreFourAt, AreThreeAt, AreThreeLater, AreTwoLater, rest}
 use Rattle.life_leaps.proofs.Growth.{at-extends, are_at-extends, extends-trans, grows-trans, middle-before, middle-later, quarters_at}
 use Rattle.life_leaps.proofs.StoreLemmas.{grows-same, grows-noted, ready-grown, remembered}
-use Rattle.life_leaps.proofs.RowLemmas.{rest-yes, rest-no, three-from, two-from, made, made_at, four_at, three_at, upper_of, lower_of, same_rows, rest-sum, upper-is, lower-is, upper-at, lower-at, sixteen}
+use Rattle.life_leaps.proofs.RowLemmas.{rest-yes, rest-no, three-from, two-from, made, made_at, four_at, three_at, upper_of, lower_of, same_rows, rest-sum, upper-is, lower-is, upper-at, lower-at, sixteen, few_below}
 use Rattle.life_leaps.proofs.store.Store.+later.Goals as goal
 
 pub later-returns-in-Some-clause-middle : goal.later-returns-in-Some-clause-middle
@@ -48,10 +48,13 @@ pub middle_made-returns-in_err-place-clause-grows : goal.middle_made-returns-in_
 middle_made-returns-in_err-place-clause-grows t c = c.in_err-place.ensures.grows _ _
 
 pub middle_made-later-requires : goal.middle_made-later-requires
-middle_made-later-requires t c =
-    (omega arith, (
-      ready-grown c.args.step.now (view c.args.self.now) (view c.square.new.self) c.requires.ready (c.in_ok-place.ensures.grows _ _),
-      c.in_ok-place.ensures.at))
+middle_made-later-requires t c = (
+  omega arith,
+  (
+    ready-grown c.args.step.now (view c.args.self.now) (view c.square.new.self) c.requires.ready (c.in_ok-place.ensures.grows _ _),
+    c.in_ok-place.ensures.at,
+  ),
+)
 
 pub middle_made-returns-clause-grows : goal.middle_made-returns-clause-grows
 middle_made-returns-clause-grows t c =
@@ -61,19 +64,25 @@ pub three_later-returns-in_err-middle-clause-grows : goal.three_later-returns-in
 three_later-returns-in_err-middle-clause-grows t c = grows-trans _ _ _ _ _ c.in_ok-west.ensures.grows c.in_err-middle.ensures.grows
 
 pub three_later-middle_made-requires-2 : goal.three_later-middle_made-requires-2
-three_later-middle_made-requires-2 t c =
-    (omega arith, (
-      ready-grown c.args.step.now (view c.args.self.now) _ c.requires.ready c.in_ok-west.ensures.grows,
-      are_at-extends (view c.args.self.now) _ c.in_ok-west.ensures.grows.extends c.args.level _
-        (made_at (view c.args.self.now) c.args.level _ _ _ _ c.requires.north.second c.requires.north.third c.requires.south.second c.requires.south.third)))
+three_later-middle_made-requires-2 t c = (
+  omega arith,
+  (
+    ready-grown c.args.step.now (view c.args.self.now) _ c.requires.ready c.in_ok-west.ensures.grows,
+    are_at-extends (view c.args.self.now) _ c.in_ok-west.ensures.grows.extends c.args.level _
+        (made_at (view c.args.self.now) c.args.level _ _ _ _ c.requires.north.second c.requires.north.third c.requires.south.second c.requires.south.third),
+  ),
+)
 
 pub three_later-middle_made-requires-3 : goal.three_later-middle_made-requires-3
 three_later-middle_made-requires-3 t c =
-    let g = grows-trans _ _ _ _ _ c.in_ok-west.ensures.grows c.in_ok-middle.ensures.grows in
-    (omega arith, (
-      ready-grown c.args.step.now (view c.args.self.now) _ c.requires.ready g,
-      are_at-extends (view c.args.self.now) _ g.extends c.args.level _
-        (made_at (view c.args.self.now) c.args.level _ _ _ _ c.requires.north.third c.requires.north.fourth c.requires.south.third c.requires.south.fourth)))
+    let g = grows-trans _ _ _ _ _ c.in_ok-west.ensures.grows c.in_ok-middle.ensures.grows in (
+      omega arith,
+      (
+        ready-grown c.args.step.now (view c.args.self.now) _ c.requires.ready g,
+        are_at-extends (view c.args.self.now) _ g.extends c.args.level _
+            (made_at (view c.args.self.now) c.args.level _ _ _ _ c.requires.north.third c.requires.north.fourth c.requires.south.third c.requires.south.fourth),
+      ),
+    )
 
 pub three_later-returns-in_err-east-clause-grows : goal.three_later-returns-in_err-east-clause-grows
 three_later-returns-in_err-east-clause-grows t c =
@@ -92,11 +101,14 @@ three_later-returns-clause-three t c =
     c.in_ok-west.ensures.middle c.in_ok-middle.ensures.middle c.in_ok-east.ensures.middle
 
 pub two_later-middle_after-requires-2 : goal.two_later-middle_after-requires-2
-two_later-middle_after-requires-2 t c =
-    (omega arith, (
-      ready-grown c.args.step.now (view c.args.self.now) _ c.requires.ready c.in_ok-west.ensures.grows,
-      are_at-extends (view c.args.self.now) _ c.in_ok-west.ensures.grows.extends c.args.level _
-        (made_at (view c.args.self.now) c.args.level _ _ _ _ c.requires.north.middle c.requires.north.east c.requires.south.middle c.requires.south.east)))
+two_later-middle_after-requires-2 t c = (
+  omega arith,
+  (
+    ready-grown c.args.step.now (view c.args.self.now) _ c.requires.ready c.in_ok-west.ensures.grows,
+    are_at-extends (view c.args.self.now) _ c.in_ok-west.ensures.grows.extends c.args.level _
+        (made_at (view c.args.self.now) c.args.level _ _ _ _ c.requires.north.middle c.requires.north.east c.requires.south.middle c.requires.south.east),
+  ),
+)
 
 pub two_later-returns-in_err-east-clause-grows : goal.two_later-returns-in_err-east-clause-grows
 two_later-returns-in_err-east-clause-grows t c = grows-trans _ _ _ _ _ c.in_ok-west.ensures.grows c.in_err-east.ensures.grows
@@ -114,30 +126,45 @@ two_later-returns-clause-two t c =
 
 pub middle_of_squares-three_later-requires : goal.middle_of_squares-three_later-requires
 middle_of_squares-three_later-requires t c =
-    let u : View = view c.args.self.now in
-    (omega arith, (
-      c.requires.ready,
-      (upper-at (view c.args.self.now) c.requires.ready.kept c.args.level _ _ c.requires.at.north_west c.requires.at.north_east _ _ _ c.northern-first.ensures c.quarters-north_west.ensures c.quarters-north_east.ensures,
-      lower-at (view c.args.self.now) c.requires.ready.kept c.args.level _ _ c.requires.at.north_west c.requires.at.north_east _ _ _ c.southern-second.ensures c.quarters-north_west.ensures c.quarters-north_east.ensures)))
+    let u : View = view c.args.self.now in (
+      omega arith,
+      (
+        c.requires.ready,
+        (
+          upper-at (view c.args.self.now) c.requires.ready.kept c.args.level _ _ c.requires.at.north_west c.requires.at.north_east _ _ _ c.northern-first.ensures c.quarters-north_west.ensures c.quarters-north_east.ensures,
+          lower-at (view c.args.self.now) c.requires.ready.kept c.args.level _ _ c.requires.at.north_west c.requires.at.north_east _ _ _ c.southern-second.ensures c.quarters-north_west.ensures c.quarters-north_east.ensures,
+        ),
+      ),
+    )
 
 pub middle_of_squares-three_later-requires-2 : goal.middle_of_squares-three_later-requires-2
 middle_of_squares-three_later-requires-2 t c =
-    let g = c.in_ok-north.ensures.grows in
-    (omega arith, (
-      ready-grown c.args.step.now (view c.args.self.now) _ c.requires.ready g,
-      (four_at (view c.args.self.now) _ g.extends c.args.level _ (lower-at (view c.args.self.now) c.requires.ready.kept c.args.level _ _ c.requires.at.north_west c.requires.at.north_east _ _ _ c.southern-second.ensures c.quarters-north_west.ensures c.quarters-north_east.ensures),
-      four_at (view c.args.self.now) _ g.extends c.args.level _ (upper-at (view c.args.self.now) c.requires.ready.kept c.args.level _ _ c.requires.at.south_west c.requires.at.south_east _ _ _ c.northern-third.ensures c.quarters-south_west.ensures c.quarters-south_east.ensures))))
+    let g = c.in_ok-north.ensures.grows in (
+      omega arith,
+      (
+        ready-grown c.args.step.now (view c.args.self.now) _ c.requires.ready g,
+        (
+          four_at (view c.args.self.now) _ g.extends c.args.level _ (lower-at (view c.args.self.now) c.requires.ready.kept c.args.level _ _ c.requires.at.north_west c.requires.at.north_east _ _ _ c.southern-second.ensures c.quarters-north_west.ensures c.quarters-north_east.ensures),
+          four_at (view c.args.self.now) _ g.extends c.args.level _ (upper-at (view c.args.self.now) c.requires.ready.kept c.args.level _ _ c.requires.at.south_west c.requires.at.south_east _ _ _ c.northern-third.ensures c.quarters-south_west.ensures c.quarters-south_east.ensures),
+        ),
+      ),
+    )
 
 pub middle_of_squares-returns-in_err-between-clause-grows : goal.middle_of_squares-returns-in_err-between-clause-grows
 middle_of_squares-returns-in_err-between-clause-grows t c = grows-trans _ _ _ _ _ c.in_ok-north.ensures.grows c.in_err-between.ensures.grows
 
 pub middle_of_squares-three_later-requires-3 : goal.middle_of_squares-three_later-requires-3
 middle_of_squares-three_later-requires-3 t c =
-    let g = grows-trans _ _ _ _ _ c.in_ok-north.ensures.grows c.in_ok-between.ensures.grows in
-    (omega arith, (
-      ready-grown c.args.step.now (view c.args.self.now) _ c.requires.ready g,
-      (four_at (view c.args.self.now) _ g.extends c.args.level _ (upper-at (view c.args.self.now) c.requires.ready.kept c.args.level _ _ c.requires.at.south_west c.requires.at.south_east _ _ _ c.northern-third.ensures c.quarters-south_west.ensures c.quarters-south_east.ensures),
-      four_at (view c.args.self.now) _ g.extends c.args.level _ (lower-at (view c.args.self.now) c.requires.ready.kept c.args.level _ _ c.requires.at.south_west c.requires.at.south_east _ _ _ c.southern-fourth.ensures c.quarters-south_west.ensures c.quarters-south_east.ensures))))
+    let g = grows-trans _ _ _ _ _ c.in_ok-north.ensures.grows c.in_ok-between.ensures.grows in (
+      omega arith,
+      (
+        ready-grown c.args.step.now (view c.args.self.now) _ c.requires.ready g,
+        (
+          four_at (view c.args.self.now) _ g.extends c.args.level _ (upper-at (view c.args.self.now) c.requires.ready.kept c.args.level _ _ c.requires.at.south_west c.requires.at.south_east _ _ _ c.northern-third.ensures c.quarters-south_west.ensures c.quarters-south_east.ensures),
+          four_at (view c.args.self.now) _ g.extends c.args.level _ (lower-at (view c.args.self.now) c.requires.ready.kept c.args.level _ _ c.requires.at.south_west c.requires.at.south_east _ _ _ c.southern-fourth.ensures c.quarters-south_west.ensures c.quarters-south_east.ensures),
+        ),
+      ),
+    )
 
 pub middle_of_squares-returns-in_err-south-clause-grows : goal.middle_of_squares-returns-in_err-south-clause-grows
 middle_of_squares-returns-in_err-south-clause-grows t c =
@@ -146,11 +173,16 @@ middle_of_squares-returns-in_err-south-clause-grows t c =
 pub middle_of_squares-two_later-requires : goal.middle_of_squares-two_later-requires
 middle_of_squares-two_later-requires t c =
     let g = grows-trans _ _ _ _ _ (grows-trans _ _ _ _ _ c.in_ok-north.ensures.grows c.in_ok-between.ensures.grows) c.in_ok-south.ensures.grows in
-    let h = grows-trans _ _ _ _ _ c.in_ok-between.ensures.grows c.in_ok-south.ensures.grows in
-    (omega arith, (
-      ready-grown c.args.step.now (view c.args.self.now) _ c.requires.ready g,
-      (three_at _ _ h.extends c.args.level _ c.in_ok-north.ensures.three.at,
-      three_at _ _ c.in_ok-south.ensures.grows.extends c.args.level _ c.in_ok-between.ensures.three.at)))
+    let h = grows-trans _ _ _ _ _ c.in_ok-between.ensures.grows c.in_ok-south.ensures.grows in (
+      omega arith,
+      (
+        ready-grown c.args.step.now (view c.args.self.now) _ c.requires.ready g,
+        (
+          three_at _ _ h.extends c.args.level _ c.in_ok-north.ensures.three.at,
+          three_at _ _ c.in_ok-south.ensures.grows.extends c.args.level _ c.in_ok-between.ensures.three.at,
+        ),
+      ),
+    )
 
 pub middle_of_squares-returns-in_err-upper-clause-grows : goal.middle_of_squares-returns-in_err-upper-clause-grows
 middle_of_squares-returns-in_err-upper-clause-grows t c =
@@ -159,11 +191,16 @@ middle_of_squares-returns-in_err-upper-clause-grows t c =
 pub middle_of_squares-two_later-requires-2 : goal.middle_of_squares-two_later-requires-2
 middle_of_squares-two_later-requires-2 t c =
     let g = grows-trans _ _ _ _ _ (grows-trans _ _ _ _ _ (grows-trans _ _ _ _ _ c.in_ok-north.ensures.grows c.in_ok-between.ensures.grows) c.in_ok-south.ensures.grows) c.in_ok-upper.ensures.grows in
-    let h = grows-trans _ _ _ _ _ c.in_ok-south.ensures.grows c.in_ok-upper.ensures.grows in
-    (omega arith, (
-      ready-grown c.args.step.now (view c.args.self.now) _ c.requires.ready g,
-      (three_at _ _ h.extends c.args.level _ c.in_ok-between.ensures.three.at,
-      three_at _ _ c.in_ok-upper.ensures.grows.extends c.args.level _ c.in_ok-south.ensures.three.at)))
+    let h = grows-trans _ _ _ _ _ c.in_ok-south.ensures.grows c.in_ok-upper.ensures.grows in (
+      omega arith,
+      (
+        ready-grown c.args.step.now (view c.args.self.now) _ c.requires.ready g,
+        (
+          three_at _ _ h.extends c.args.level _ c.in_ok-between.ensures.three.at,
+          three_at _ _ c.in_ok-upper.ensures.grows.extends c.args.level _ c.in_ok-south.ensures.three.at,
+        ),
+      ),
+    )
 
 pub middle_of_squares-returns-in_err-lower-clause-grows : goal.middle_of_squares-returns-in_err-lower-clause-grows
 middle_of_squares-returns-in_err-lower-clause-grows t c =
@@ -213,3 +250,8 @@ middle_made-returns-clause-middle t c =
     middle-before _ _ (view c.args.self.now) (view c.square.new.self) (view c.later.new.self) c.args.level c.args.quarters.now c.in_ok-later.later c.requires.ready.kept
     (c.in_ok-place.ensures.grows c.args.step.now.rule c.args.step.now.exponent).extends c.requires.at
     (subst P c.in_ok-place.ensures.is c.in_ok-later.ensures.middle)
+
+pub middle_of-middle_of_leaves-requires-clause-few : goal.middle_of-middle_of_leaves-requires-clause-few
+middle_of-middle_of_leaves-requires-clause-few t c =
+    let h : 2 ^ c.min-generations.result ≤ 16 = few_below c.min-generations.result (omega arith) in
+    omega (arith, h)
