@@ -1,7 +1,7 @@
 -- The cells of a part, one after another.
-use Rattle.std.proofs.Common.{◌≡◌, ℕ, pos, ◌<◌, ◌+◌, ◌∙◌, sym, refl, ap, subst, length, get_or, take, List, ◌++◌, ◌∷◌, [], arith}
+use Rattle.std.proofs.Common.{pos, ◌<◌, ◌+◌, ◌∙◌, sym, ap, subst, length, take, List, arith}
 use Rattle.life_model.specs.Cell.{Cell}
-use Rattle.life_leaps.specs.Sites.{IsPartOf, corner}
+use Rattle.life_leaps.specs.Sites.{IsPartOf}
 use Rattle.life_leaps.proofs.BuildLemmas.{part_passed, part_taken}
 use Rattle.life_leaps.proofs.building.part_of.Goals as goal
 use Rattle.life_leaps.proofs.building.part_of.Goals.{in-Some+in_ok-push, in_default}

@@ -1,5 +1,5 @@
 -- The rows of a leaf, one after another.
-use Rattle.std.proofs.Common.{◌≡◌, ℤ, pos, ◌+ℤ◌, ◌≤ℤ◌, ◌++◌, ◌∙◌, reverse, sym, to_z, of_z, w32, arith}
+use Rattle.std.proofs.Common.{◌≡◌, pos, ◌+ℤ◌, ◌≤ℤ◌, ◌++◌, ◌∙◌, reverse, to_z, of_z, w32, arith}
 use Rattle.std.proofs.lemmas.Int.{ints}
 use Rattle.life_slots.specs.Cells.{row_cells}
 use Rattle.life_leaps.specs.Squares.{width}

@@ -1,12 +1,10 @@
 -- The cells of the square that has all, in order.
-use Rattle.std.proofs.Common.{◌≡◌, ◌||◌, ◌∙◌, sym, refl, ap, List}
+use Rattle.std.proofs.Common.{◌||◌, ◌∙◌}
 use Rattle.std.specs.List.{list_any}
 use Rattle.life_model.specs.Cell.{same_cell}
-use Rattle.life_model.specs.Generation.{from_list}
 use Rattle.life_leaps.specs.Stores.{view}
 use Rattle.life_leaps.specs.Sites.{corner}
 use Rattle.life_leaps.specs.Cells.{cells_of}
-use Rattle.life_leaps.specs.Leapers.{cells_in}
 use Rattle.life_leaps.proofs.Begun.{listed_all, listed_places}
 use Rattle.life_leaps.proofs.leaping.Leaper.cells.Goals as goal
 

@@ -1,15 +1,12 @@
 -- The leap, and what is as it was where it is refused.
-use Rattle.std.proofs.Common.{◌≡◌, ℕ, suc, ◌+◌, ◌*◌, ◌^◌, ◌%◌, ◌≤◌, ◌<◌, true, ◌∙◌, sym, refl, ap, subst, Result, Ok, Err, OnErr, arith}
-use Rattle.life_model.specs.Cell.{Cell}
-use Rattle.life_model.specs.Rule.{Rule}
-use Rattle.life_model.specs.Generation.{Generation, contains, from_list}
+use Rattle.std.proofs.Common.{◌≡◌, ◌+◌, ◌*◌, ◌^◌, ◌%◌, ◌≤◌, ◌∙◌, refl, ap, Result, Ok, Err, OnErr, arith}
+use Rattle.life_model.specs.Generation.{from_list}
 use Rattle.life_model.specs.Evolution.{generation}
-use Rattle.life_cells.specs.Limits.{IsWithin, age_limit}
-use Rattle.life_leaps.specs.Squares.{Grows}
+use Rattle.life_cells.specs.Limits.{age_limit}
 use Rattle.life_leaps.specs.Stores.{view}
 use Rattle.life_leaps.specs.Sites.{root_corner, root_level}
 use Rattle.life_leaps.specs.Cells.{cells_of}
-use Rattle.life_leaps.specs.Leapers.{IsLeaper, cells_in}
+use Rattle.life_leaps.specs.Leapers.{cells_in}
 use Rattle.life_leaps.proofs.Growth.{grows-trans}
 use Rattle.life_leaps.proofs.StoreLemmas.{ready-grown}
 use Rattle.life_leaps.proofs.LeapLemmas.{grown-cells, grown-kept, leapt-cells, leapt-kept, small_exponent, power_fits}

@@ -1,5 +1,5 @@
 -- The quarters, half as wide.
-use Rattle.std.proofs.Common.{◌≡◌, ℕ, suc, ℤ, pos, ◌+ℤ◌, ◌-◌, ◌*◌, ◌/◌, ◌≤◌, ◌≤ℤ◌, arith}
+use Rattle.std.proofs.Common.{◌≡◌, suc, pos, ◌+ℤ◌, ◌-◌, ◌*◌, ◌/◌, ◌≤ℤ◌, arith}
 use Rattle.std.proofs.lemmas.Int.{ints}
 use Rattle.life_leaps.specs.Squares.{width}
 use Rattle.life_leaps.specs.Sites.{first_place}

@@ -1,8 +1,8 @@
 -- Squares of the cells of lists.
-use Rattle.std.proofs.Common.{◌≡◌, ℕ, suc, ◌+◌, ◌-◌, ◌*◌, ◌<◌, ◌≤◌, ◌∙◌, sym, refl, ap, subst, List, [], arith}
+use Rattle.std.proofs.Common.{◌≡◌, ◌-◌, sym, refl, ap, subst, List, arith}
 use Rattle.life_model.specs.Cell.{Cell}
 use Rattle.life_model.specs.Generation.{from_list}
-use Rattle.life_leaps.specs.Squares.{View, width, IsAt, Shows}
+use Rattle.life_leaps.specs.Squares.{width}
 use Rattle.life_leaps.specs.Stores.{view}
 use Rattle.life_leaps.specs.Sites.{IsPartOf, corner}
 use Rattle.life_leaps.proofs.Growth.{at-extends, extends-trans, grows-trans}

@@ -1,13 +1,13 @@
 -- The middles of squares some generations later.
-use Rattle.std.proofs.Common.{◌≡◌, ℕ, suc, ◌+◌, ◌*◌, ◌^◌, ◌<◌, ◌≤◌, ◌∙◌, sym, refl, ap, subst, Some, arith}
+use Rattle.std.proofs.Common.{◌≡◌, ℕ, ◌^◌, ◌≤◌, ◌∙◌, sym, ap, subst, arith}
 use Rattle.life_leaps.specs.declared.square.Quarters.{Quarters}
 use Rattle.life_leaps.specs.declared.square.Square.{Square}
-use Rattle.life_leaps.specs.Squares.{View, AreAt, IsAt, IsKept, IsMiddle, Extends, Grows, jump}
+use Rattle.life_leaps.specs.Squares.{View, IsMiddle, Grows, jump}
 use Rattle.life_leaps.specs.Stores.{view}
-use Rattle.life_leaps.specs.Rows.{AreFourAt, AreThreeAt, AreThreeLater, AreTwoLater, rest}
-use Rattle.life_leaps.proofs.Growth.{at-extends, are_at-extends, extends-trans, grows-trans, middle-before, middle-later, quarters_at}
-use Rattle.life_leaps.proofs.StoreLemmas.{grows-same, grows-noted, ready-grown, remembered}
-use Rattle.life_leaps.proofs.RowLemmas.{rest-yes, rest-no, three-from, two-from, made, made_at, four_at, three_at, upper_of, lower_of, same_rows, rest-sum, upper-is, lower-is, upper-at, lower-at, sixteen, few_below}
+use Rattle.life_leaps.specs.Rows.{rest}
+use Rattle.life_leaps.proofs.Growth.{at-extends, are_at-extends, grows-trans, middle-before, middle-later}
+use Rattle.life_leaps.proofs.StoreLemmas.{grows-noted, ready-grown, remembered}
+use Rattle.life_leaps.proofs.RowLemmas.{rest-no, three-from, two-from, made_at, four_at, three_at, same_rows, rest-sum, upper-is, lower-is, upper-at, lower-at, sixteen, few_below}
 use Rattle.life_leaps.proofs.store.Store.+later.Goals as goal
 
 pub later-returns-in-Some-clause-middle : goal.later-returns-in-Some-clause-middle

@@ -1,5 +1,5 @@
 -- Each call goes to a lower level, or at one level down the list of these.
-use Rattle.std.proofs.Common.{ℕ, ◌+◌, ◌*◌}
+use Rattle.std.proofs.Common.{◌+◌, ◌*◌}
 use Rattle.life_leaps.proofs.store.Store.+later.Given as goal
 
 abbrev pub decreases-middle_of : goal.decreases-middle_of

@@ -1,5 +1,5 @@
 -- The cells of squares, quarter by quarter.
-use Rattle.std.proofs.Common.{◌≡◌, ℕ, suc, ◌-◌, ◌||◌, ◌≤◌, ◌<◌, ◌∙◌, sym, refl, ap, subst, List, arith}
+use Rattle.std.proofs.Common.{◌≡◌, ◌-◌, ◌∙◌, sym, ap, arith}
 use Rattle.life_leaps.specs.Squares.{View, beyond, width}
 use Rattle.life_leaps.specs.Stores.{no_leaf, view}
 use Rattle.life_leaps.specs.Sites.{corner}

@@ -1,6 +1,6 @@
 -- Squares that are made of squares one level down.
 use Rattle.std.proofs.Common.{◌≡◌, ℕ, suc, ◌-◌, subst, arith}
-use Rattle.life_leaps.specs.Squares.{AreAt, IsMiddle}
+use Rattle.life_leaps.specs.Squares.{IsMiddle}
 use Rattle.life_leaps.specs.Stores.{view}
 use Rattle.life_leaps.proofs.store.Store.centre.Goals as goal
 

@@ -1,5 +1,5 @@
 -- The four inner quarters of the quarters.
-use Rattle.std.proofs.Common.{◌≡◌, ◌∙◌, ap, sym, subst}
+use Rattle.std.proofs.Common.{◌∙◌, sym, subst}
 use Rattle.life_leaps.specs.declared.square.Quarters.{Quarters}
 use Rattle.life_leaps.specs.Stores.{view}
 use Rattle.life_leaps.specs.Squares.{AreAt}

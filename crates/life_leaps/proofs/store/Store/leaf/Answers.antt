@@ -1,5 +1,5 @@
 -- A leaf at the end of the list.
-use Rattle.std.proofs.Common.{◌≡◌, ◌∙◌, ap, ◌++◌, ◌∷◌, []}
+use Rattle.std.proofs.Common.{◌∙◌, ap, ◌++◌, ◌∷◌, []}
 use Rattle.life_leaps.proofs.StoreLemmas.{grows-same, grows-leaf}
 use Rattle.life_leaps.proofs.store.Store.leaf.Goals as goal
 

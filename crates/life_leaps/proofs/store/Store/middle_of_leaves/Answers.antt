@@ -1,7 +1,4 @@
 -- The middle of four leaves as a square of the list.
-use Rattle.std.proofs.Common.{◌≡◌, ◌∙◌, ap, sym, subst}
-use Rattle.life_leaves.specs.declared.leaf.Leaf.{Leaf}
-use Rattle.life_leaves.specs.Leaves.{ShowsLeaf}
 use Rattle.life_leaps.specs.Stores.{view}
 use Rattle.life_leaps.proofs.StoreLemmas.{leaf-middle, shown}
 use Rattle.life_leaps.proofs.store.Store.middle_of_leaves.Goals as goal

@@ -1,10 +1,8 @@
 -- The five squares that have the cells in their middle.
-use Rattle.std.proofs.Common.{◌≡◌, ℕ, suc, ◌∙◌, sym, refl, ap, arith}
-use Rattle.life_leaps.specs.declared.square.Quarters.{Quarters}
-use Rattle.life_leaps.specs.Squares.{View, AreAt, IsAt, IsKept, Extends, Grows}
+use Rattle.std.proofs.Common.{◌∙◌}
 use Rattle.life_leaps.specs.Stores.{view}
 use Rattle.life_leaps.proofs.Growth.{at-extends, extends-trans, grows-trans}
-use Rattle.life_leaps.proofs.RowLemmas.{made, made_at}
+use Rattle.life_leaps.proofs.RowLemmas.{made_at}
 use Rattle.life_leaps.proofs.Padded.{no_rule, empty_here, whole_at, padded-shows}
 use Rattle.life_leaps.proofs.store.Store.padded.Goals as goal
 

@@ -1,5 +1,5 @@
 -- A square at the end of the list.
-use Rattle.std.proofs.Common.{◌≡◌, ◌∙◌, ap, ◌++◌, ◌∷◌, []}
+use Rattle.std.proofs.Common.{◌∙◌, ◌++◌, ◌∷◌, []}
 use Rattle.life_leaps.proofs.StoreLemmas.{grows-same, grows-square}
 use Rattle.life_leaps.proofs.store.Store.square.Goals as goal
 
