@@ -30,6 +30,13 @@ impl Model for Board {
     ghost invariant = { λ p. IsKind p.kind };
 }
 
+impl Board {
+    /// How many bands of eight rows the next step works out, which is what it takes of time. Nothing rests on it.
+    pub fn active_bands(&self) -> u64 {
+        self.kind.active_bands()
+    }
+}
+
 impl Plane for Board {
     ghost members = { λ p. p.0 };
 

@@ -144,6 +144,14 @@ impl Kind {
         }
     }
 
+    /// How many bands of eight rows the next step works out. Nothing rests on it.
+    pub fn active_bands(&self) -> u64 {
+        match self {
+            Kind::Small(square) => square.end.saturating_sub(square.first) as u64 / 8 + 1,
+            Kind::Large(plane) => plane.active_bands(),
+        }
+    }
+
     /// How many steps it has made.
     pub fn age(&self) -> u32
         requires { IsKind self.now }

@@ -59,6 +59,15 @@ impl TilePlane {
         self.store.slots.len()
     }
 
+    /// How many bands of eight rows the next step works out, which is what it takes of time. Nothing rests on it.
+    pub fn active_bands(&self) -> u64 {
+        let mut count = 0u64;
+        for bands in &self.store.active {
+            count = count.saturating_add(u64::from(bands.bits.count_ones()));
+        }
+        count
+    }
+
     /// Makes the store anew where it has many slots, most of them without a live cell.
     fn compact(&mut self) -> Result<(), AllocError>
         ensures { self.new ≡ self.old }
