@@ -2,11 +2,11 @@
 ghost use Rattle.std.specs.Prelude.{◌≡◌, ◌≤◌, IfOk, Ok};
 ghost use Rattle.life_text.specs.Picture.{picture_of};
 ghost use Rattle.life_text.specs.Rle.{reading};
-ghost use Rattle.life_answer.specs.Answers.{finding_of};
+ghost use Rattle.life_answer.specs.Answers.{outcome_of};
 ghost use Rattle.life_answer.specs.Census.{census_of};
 ghost use Rattle.census_blocks.specs.Known.{known_parts, known_of, known_recurrence};
 
-use life_answer::{Answer, Code, Finding, Parts};
+use life_answer::{Answer, Code, Outcome, Parts};
 use life_orbit::BOUND_LIMIT;
 use life_text::Pattern;
 use std::alloc::{AllocError, Global};
@@ -33,13 +33,12 @@ pub enum Known {
     Unresolved,
 }
 
-// What is known of a pattern that settles, by what is found of it.
-fn known_recurrence(finding: Finding) -> Option<Known>
-    ensures { result ≡ known_recurrence finding }
+// What is known of a pattern that settles, by what becomes of it.
+fn known_recurrence(outcome: Outcome) -> Option<Known>
+    ensures { result ≡ known_recurrence outcome }
 {
-    match finding {
-        Finding::Recurs {
-            population: _,
+    match outcome {
+        Outcome::Recurs {
             onset,
             period,
             dx,
@@ -57,14 +56,11 @@ fn known_recurrence(finding: Finding) -> Option<Known>
 }
 
 // What is known of a pattern that doesn't settle, by the objects that are found of it.
-fn known_parts(finding: Finding) -> Known
-    ensures { result ≡ known_parts finding }
+fn known_parts(outcome: Outcome) -> Known
+    ensures { result ≡ known_parts outcome }
 {
-    match finding {
-        Finding::Ash {
-            population: _,
-            parts,
-        } => Known::Apart(parts),
+    match outcome {
+        Outcome::Ash { parts } => Known::Apart(parts),
         _ => Known::Unresolved,
     }
 }
@@ -79,10 +75,10 @@ fn settling(
     requires bound { 1 ≤ bound × bound ≤ BOUND_LIMIT }
     requires meant { picture_of (reading text.now) ≡ Ok pattern.now }
     ensures { IfOk result
-        (λ known. known ≡ known_recurrence (finding_of pattern.now.rule pattern.now.cells bound)) }
+        (λ known. known ≡ known_recurrence (outcome_of pattern.now.rule pattern.now.cells bound)) }
 {
     match life_find::answer(alloc, text, bound, None)? {
-        Answer::Found { rule: _, finding } => Ok(known_recurrence(finding)),
+        Answer::Found { finding, .. } => Ok(known_recurrence(finding.outcome)),
         Answer::Refused(_) => Ok(None),
     }
 }
@@ -100,7 +96,7 @@ fn falling_apart(
         (λ known. known ≡ known_parts (census_of pattern.now.rule pattern.now.cells bound)) }
 {
     match life_census::answer(alloc, text, bound, None)? {
-        Answer::Found { rule: _, finding } => Ok(known_parts(finding)),
+        Answer::Found { finding, .. } => Ok(known_parts(finding.outcome)),
         Answer::Refused(_) => Ok(Known::Unresolved),
     }
 }

@@ -2,7 +2,8 @@
 ghost use Rattle.std.specs.Prelude.{◌≡◌, ◌<◌, ◌^◌};
 ghost use Rattle.census_crew.specs.Tallying.{tally_with, no_tally};
 
-use life_answer::{Answer, Finding};
+use census_format::{Class, class_of};
+use life_answer::Answer;
 
 /// What a run counts.
 #[derive(Clone, Copy, Debug, PartialEq, Eq)]
@@ -49,13 +50,10 @@ impl Tally {
     {
         let mut counted = self;
         counted.patterns += 1;
-        match answer {
-            Answer::Found { rule: _, finding } => match finding {
-                Finding::Recurs { .. } => counted.resolved += 1,
-                Finding::Unresolved { .. } | Finding::Large { .. } => counted.unresolved += 1,
-                Finding::Ash { .. } => counted.resolved += 1,
-            },
-            Answer::Refused(_) => counted.refused += 1,
+        match class_of(answer) {
+            Class::Resolved => counted.resolved += 1,
+            Class::Unresolved => counted.unresolved += 1,
+            Class::Refused => counted.refused += 1,
         }
         counted
     }

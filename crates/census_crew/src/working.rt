@@ -7,7 +7,7 @@ use census_book::Done;
 use census_bundle::Bundle;
 use census_feed::Hand;
 use crossbeam_channel::Sender;
-use life_answer::{Answer, Finding, Question};
+use life_answer::{Answer, Outcome, Question};
 use std::alloc::Global;
 use std::hint::spin_loop;
 use std::sync::{Mutex, Wait};
@@ -39,9 +39,9 @@ const QUICK: u32 = 64;
 // Whether this was found by quick work, as the next of a collection is then likely to be too.
 fn was_quick(answer: &Answer) -> bool {
     match answer {
-        Answer::Found { finding, .. } => match finding {
-            Finding::Recurs { onset, period, .. } => *onset <= QUICK && *period <= QUICK,
-            Finding::Unresolved { .. } | Finding::Large { .. } | Finding::Ash { .. } => false,
+        Answer::Found { finding, .. } => match &finding.outcome {
+            Outcome::Recurs { onset, period, .. } => *onset <= QUICK && *period <= QUICK,
+            _ => false,
         },
         Answer::Refused(_) => true,
     }

@@ -4,11 +4,12 @@ use Rattle.std.specs.List.Sorted.{IsPermutation}
 use Rattle.census_bundle.specs.declared.bundle.Entry.{Entry}
 use Rattle.life_answer.specs.Census.{census_found, census_of, part_code}
 use Rattle.life_answer.specs.Parts.{counted_codes}
-use Rattle.life_answer.specs.Questions.{answer_to, answer_to_question, finding_to}
+use Rattle.life_answer.specs.Questions.{answer_to, answer_to_question, finding_to, outcome_to}
+use Rattle.life_answer.specs.Answers.{finding_with}
 use Rattle.life_answer.specs.declared.finding.Answer.{Answer}
 use Rattle.life_answer.specs.declared.finding.Answer.TheVariants.{Found}
 use Rattle.life_answer.specs.declared.finding.Finding.{Finding}
-use Rattle.life_answer.specs.declared.finding.Finding.TheVariants.{Ash, Large}
+use Rattle.life_answer.specs.declared.finding.Outcome.TheVariants.{Ash, Large}
 use Rattle.life_answer.specs.declared.part.Part.{Part}
 use Rattle.life_answer.specs.declared.question.Question.TheVariants.{Objects}
 use Rattle.life_answer.proofs.Limits.{limited-else, limited-same}
@@ -17,7 +18,7 @@ use Rattle.life_decided.specs.Decided.{ash_of}
 use Rattle.life_decided.proofs.Deciding.{ash_if_found}
 use Rattle.life_decided.proofs.Lasting.{parts_found}
 use Rattle.life_model.specs.Evolution.{generation}
-use Rattle.life_model.specs.Generation.{Generation, size}
+use Rattle.life_model.specs.Generation.{Generation}
 use Rattle.life_model.specs.Rule.{Rule}
 use Rattle.life_text.specs.declared.rle.RleFault.{RleFault}
 use Rattle.life_text.specs.Picture.{Picture, picture_of}
@@ -29,25 +30,25 @@ use Rattle.census_laws.specs.Fallen.{FallsApart}
 -- ---- what is found of a set that falls apart
 
 census_some : (R : Rule) (G : Generation) (b : ℕ) (found : List Generation) → ash_of R b (generation R G b) ≡ Some found
-    → census_of R G b ≡ Ash (size G) (counted_codes (map (part_code R b) found))
+    → census_of R G b ≡ Ash (counted_codes (map (part_code R b) found))
 unfolding census_of
-census_some R G b found e = ap (census_found R b (size G)) e
+census_some R G b found e = ap (census_found R b) e
 
-some_found : (R : Rule) (b population cells : ℕ) (parts : List Part) (o : Option (List Generation))
-    → census_found R b cells o ≡ Ash population parts → (found : List Generation) × (o ≡ Some found)
-some_found R b population cells parts None e = absurd cc
-some_found R b population cells parts (Some found) e = (found, refl)
+some_found : (R : Rule) (b : ℕ) (parts : List Part) (o : Option (List Generation))
+    → census_found R b o ≡ Ash parts → (found : List Generation) × (o ≡ Some found)
+some_found R b parts None e = absurd cc
+some_found R b parts (Some found) e = (found, refl)
 
-ash_found : (R : Rule) (G : Generation) (b population : ℕ) (parts : List Part) → census_of R G b ≡ Ash population parts
+ash_found : (R : Rule) (G : Generation) (b : ℕ) (parts : List Part) → census_of R G b ≡ Ash parts
     → (found : List Generation) × (ash_of R b (generation R G b) ≡ Some found)
 unfolding census_of
-ash_found R G b population parts e = some_found R b population (size G) parts (ash_of R b (generation R G b)) e
+ash_found R G b parts e = some_found R b parts (ash_of R b (generation R G b)) e
 
 same_finding : (r s : Rule) (f g : Finding) → Found r f ≡ Found s g → f ≡ g
 same_finding r s f g e = cc
 
-not_large : (p : ℕ) (parts : List Part) (population first : ℕ) → Ash p parts ≡ Large population first → ⊥
-not_large p parts population first e = cc
+not_large : (parts : List Part) (first : ℕ) → Ash parts ≡ Large first → ⊥
+not_large parts first e = cc
 
 module _ (bound : ℕ) (most : Option ℕ) (e : Entry) where
   abbrev pub answer_in : Answer
@@ -59,7 +60,7 @@ module _ (bound : ℕ) (most : Option ℕ) (e : Entry) where
   pub record IsSaid (f : FallsApart bound most e) : Type 0 where
     pub found : List Generation
     pub order : IsPermutation f.parts found
-    pub is : answer_in ≡ Found f.rule (Ash (size f.cells) (counted_codes (map (part_code f.rule bound) found)))
+    pub is : answer_in ≡ Found f.rule (finding_with f.cells (Ash (counted_codes (map (part_code f.rule bound) found))))
 
   pub to_say : (f : FallsApart bound most e) → IsSaid f
   to_say f =
@@ -69,7 +70,7 @@ module _ (bound : ℕ) (most : Option ℕ) (e : Entry) where
         order = parts.2;
         is = kept_answer (Objects bound most) e f.kept
             ∙ answer-found (Objects bound most) e.text (record { rule = f.rule; cells = f.cells }) f.reads
-            ∙ ap (Found f.rule)
+            ∙ ap (λ o. Found f.rule (finding_with f.cells o))
             (limited-same f.rule f.cells (3 * bound) most (census_of f.rule f.cells bound) f.small
             ∙ census_some f.rule f.cells bound parts.0 parts.1);
       }
@@ -81,19 +82,19 @@ module _ (bound : ℕ) (most : Option ℕ) (e : Entry) where
   unfolding answer_to_question
   answer_by kept r read = kept_answer (Objects bound most) e kept ∙ ap (answer_to (Objects bound most)) read
 
-  said_by : (rule : Rule) (population : ℕ) (parts : List Part) → answer_in ≡ Found rule (Ash population parts)
+  said_by : (rule : Rule) (finding : Finding) (parts : List Part) → answer_in ≡ Found rule finding → finding.outcome ≡ Ash parts
       → (r : Result Picture RleFault) → picture_of (reading e.text) ≡ r → FallsApart bound most e
-  said_by rule population parts is (Err fault) read =
-      let kept = found_kept (Objects bound most) e rule (Ash population parts) is in
+  said_by rule finding parts is ash (Err fault) read =
+      let kept = found_kept (Objects bound most) e rule finding is in
       absurd (let fails = sym is ∙ answer_by kept (Err fault) read in cc)
-  said_by rule population parts is (Ok pattern) read =
+  said_by rule finding parts is ash (Ok pattern) read =
       let R = pattern.rule in
       let G = pattern.cells in
-      let ash = Ash population parts in
-      let kept = found_kept (Objects bound most) e rule ash is in
-      let same = same_finding rule R ash (finding_to (Objects bound most) R G) (sym is ∙ answer_by kept (Ok pattern) read) in
-      let small = limited-else R G (3 * bound) most (census_of R G bound) ash (sym same) (not_large population parts) in
-      let found = ash_found R G bound population parts small.1 in
+      let kept = found_kept (Objects bound most) e rule finding is in
+      let same = same_finding rule R finding (finding_to (Objects bound most) R G) (sym is ∙ answer_by kept (Ok pattern) read) in
+      let becomes : outcome_to (Objects bound most) R G ≡ Ash parts = ap (λ (f : Finding). f.outcome) (sym same) ∙ ash in
+      let small = limited-else R G (3 * bound) most (census_of R G bound) (Ash parts) becomes (not_large parts) in
+      let found = ash_found R G bound parts small.1 in
       record {
         rule = R;
         cells = G;
@@ -104,6 +105,6 @@ module _ (bound : ℕ) (most : Option ℕ) (e : Entry) where
         small = small.0;
       }
 
-  pub said : (rule : Rule) (population : ℕ) (parts : List Part) → answer_in ≡ Found rule (Ash population parts)
+  pub said : (rule : Rule) (finding : Finding) (parts : List Part) → answer_in ≡ Found rule finding → finding.outcome ≡ Ash parts
       → FallsApart bound most e
-  said rule population parts is = said_by rule population parts is (picture_of (reading e.text)) refl
+  said rule finding parts is ash = said_by rule finding parts is ash (picture_of (reading e.text)) refl

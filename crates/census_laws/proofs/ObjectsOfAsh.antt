@@ -5,17 +5,19 @@ use Rattle.std.specs.List.{All, Contains, count_by}
 use Rattle.std.proofs.lemmas.List.Elements.{All-contains}
 use Rattle.std.proofs.lemmas.List.Sorted.{sum_by-IsPermutation}
 use Rattle.census_bundle.specs.declared.bundle.Entry.{Entry}
-use Rattle.life_answer.specs.Census.{part_code}
+use Rattle.life_answer.specs.Census.{part_code, parts_found}
 use Rattle.life_answer.specs.declared.finding.Answer.{Answer}
 use Rattle.life_answer.specs.declared.finding.Answer.TheVariants.{Found, Refused}
-use Rattle.life_answer.specs.declared.finding.Finding.TheVariants.{Recurs, Unresolved, Large, Ash}
+use Rattle.life_answer.specs.declared.finding.Finding.{Finding}
+use Rattle.life_answer.specs.declared.finding.Outcome.{Outcome}
+use Rattle.life_answer.specs.declared.finding.Outcome.TheVariants.{Ash}
 use Rattle.life_model.specs.Generation.{Generation}
 use Rattle.life_model.specs.Recurrence.{AreOneObject}
 use Rattle.life_model.specs.Rule.{Rule}
 use Rattle.life_objects.specs.Ash.{IsObject}
 use Rattle.census_format.specs.Objects.{Object, object, same_object}
 use Rattle.census_format.specs.ObjectLaws.{one_object, same_itself}
-use Rattle.census_format.specs.PartCounts.{fallen_as, CountsParts}
+use Rattle.census_format.specs.PartCounts.{fallen_as, parts_as, CountsParts}
 use Rattle.census_format.proofs.PartCounts.{codes_count_parts}
 use Rattle.census_laws.specs.Fallen.{FallsApart, AreCounted, CountsIn}
 use Rattle.census_laws.specs.ObjectsOfAsh.{IsCoded, CountsPartsOfObject, code_counts, PartsHaveOneLine, CodesCountObjectsOfAsh}
@@ -57,13 +59,16 @@ module _ (bound : ℕ) (most : Option ℕ) where
       let p = passing (λ Q. same_object k (told f.rule bound Q)) f.parts (omega (arith, same, some)) in
       record { fallen = f; part = p.one; of_it = p.among; is = one_object k (told f.rule bound p.one) p.passes }
 
+  from_outcome : (k : Object) (e : Entry) (rule : Rule) (finding : Finding) (outcome : Outcome)
+      → answer_in bound most e ≡ Found rule finding → finding.outcome ≡ outcome → 1 ≤ parts_as k rule (parts_found outcome)
+      → 1 ≤ number k e → IsFrom k e
+  from_outcome k e rule finding (Ash parts) is ash more some =
+      from_fallen k e (said bound most e rule finding parts is ash) some
+  from_outcome k e rule finding _ is becomes none some = absurd (omega arith)
+
   from_answer : (k : Object) (e : Entry) (a : Answer) → answer_in bound most e ≡ a → 1 ≤ fallen_as k a
       → 1 ≤ number k e → IsFrom k e
-  from_answer k e (Found rule (Recurs population onset period dx dy code)) is none some = absurd (omega arith)
-  from_answer k e (Found rule (Unresolved population)) is none some = absurd (omega arith)
-  from_answer k e (Found rule (Large population first)) is none some = absurd (omega arith)
-  from_answer k e (Found rule (Ash population parts)) is more some =
-      from_fallen k e (said bound most e rule population parts is) some
+  from_answer k e (Found rule finding) is more some = from_outcome k e rule finding finding.outcome is refl more some
   from_answer k e (Refused fault) is none some = absurd (omega arith)
 
   from : (k : Object) (e : Entry) → 1 ≤ number k e → IsFrom k e

@@ -3,7 +3,7 @@ use Rattle.std.proofs.Common.{◌≡◌, ◌↔◌, ℕ, ◌+◌, ◌≤◌, inl
 use Rattle.life_answer.specs.Apgcode.{code_of}
 use Rattle.life_answer.specs.Census.{code_found, part_code}
 use Rattle.life_answer.proofs.Codes.{codes_tell_objects}
-use Rattle.life_answer.proofs.Findings.{finding-settled, settled_or_not}
+use Rattle.life_answer.proofs.Findings.{outcome-settled, settled_or_not}
 use Rattle.life_model.specs.Cell.{Cell}
 use Rattle.life_model.specs.Evolution.{generation}
 use Rattle.life_model.specs.Generation.{Generation}
@@ -50,7 +50,7 @@ module _ (R : Rule) (b : ℕ) where
   pub part_code-is : (P : Generation) (period : ℕ) (d : Cell) →
       Settles R P b (record { onset = 0; period = period; displacement = d }) → part_code R b P ≡ code_of R P period d
   part_code-is P period d s =
-      ap code_found (finding-settled R P b (record { onset = 0; period = period; displacement = d }) s) ∙ ap (λ G. code_of R G period d) (generation-zero R P)
+      ap code_found (outcome-settled R P b (record { onset = 0; period = period; displacement = d }) s) ∙ ap (λ G. code_of R G period d) (generation-zero R P)
 
   -- parts have one code exactly where they are one object
   pub part_codes_tell : (P Q : Generation) → Recurs P → Recurs Q →

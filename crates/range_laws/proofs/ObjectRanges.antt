@@ -162,9 +162,11 @@ module _ (R : Rule) (G : Generation) (b : ℕ) (few : b ≤ objects_bound_limit)
   census-ranged = found-ranged (ash_of R b last) refl
 
   finding-ranged : (limit : Option ℕ) → IsRangedAnswer (Found R (finding_to (Objects b limit) R G))
-  finding-ranged limit =
-      (population_fits, unless-ranged (census_of R G b) (first_past limit R G (3 * b)) census-ranged
-      (λ n past. let early : n ≤ 3 * b = past_within R G limit (3 * b) n past in omega arith))
+  finding-ranged limit = (
+    population_fits,
+    unless-ranged (census_of R G b) (first_past limit R G (3 * b)) census-ranged
+        (λ n past. let early : n ≤ 3 * b = past_within R G limit (3 * b) n past in omega arith),
+  )
 
 -- ---- what is found of a text
 

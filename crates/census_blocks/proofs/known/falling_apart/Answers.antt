@@ -1,5 +1,6 @@
 use Rattle.std.proofs.Common.{None, ap, ◌∙◌}
 use Rattle.life_answer.specs.declared.question.Question.TheVariants.{Objects}
+use Rattle.life_answer.specs.declared.finding.Finding.{Finding}
 use Rattle.census_blocks.specs.Known.{known_parts}
 use Rattle.census_blocks.proofs.Meant.{found, not_refused}
 use Rattle.census_blocks.proofs.known.falling_apart.Goals as goal
@@ -7,7 +8,7 @@ use Rattle.census_blocks.proofs.known.falling_apart.Goals as goal
 pub returns-in-Found : goal.returns-in-Found
 returns-in-Found c =
     c.known_parts.ensures
-    ∙ ap known_parts (found (Objects c.args.bound None) c.args.text.now c.args.pattern.now _ _ _ c.in_ok-finding.ensures.answer c.requires.meant c.in-Found.is)
+    ∙ ap (λ (f : Finding). known_parts f.outcome) (found (Objects c.args.bound None) c.args.text.now c.args.pattern.now _ _ _ c.in_ok-finding.ensures.answer c.requires.meant c.in-Found.is)
 
 pub returns-in-Refused : goal.returns-in-Refused
 returns-in-Refused c =
