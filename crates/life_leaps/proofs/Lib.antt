@@ -1,0 +1,13 @@
+pub mod Growth
+pub mod RowLemmas
+pub mod Appended
+pub mod StoreLemmas
+pub mod CellLemmas
+pub mod LeapLemmas
+pub mod Forgotten
+pub mod BuildLemmas
+pub mod Padded
+pub mod SiteLemmas
+pub mod ListLemmas
+pub mod Placed
+pub mod Begun

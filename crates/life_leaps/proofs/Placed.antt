@@ -1,0 +1,33 @@
+-- Where the cells of sets stand.
+use Rattle.std.proofs.Common.{◌≡◌, ℕ, ◌≤◌, inl, inr, true, List, [], ◌∷◌, All, sym, subst, ap, ◌∙◌, true≢false}
+use Rattle.std.specs.List.{list_any}
+use Rattle.std.proofs.lemmas.List.Elements.{All-head, All-tail}
+use Rattle.life_model.specs.Cell.{Cell, same_cell}
+use Rattle.life_model.specs.Generation.{Generation, cells, contains, from_list}
+use Rattle.life_model.proofs.Cells.{same_cell-is}
+use Rattle.life_model.proofs.Generations.{contains-cells, contains-from_list, same_members}
+use Rattle.life_cells.specs.Limits.{IsPlace, IsWithin, age_limit}
+use Rattle.life_plane.proofs.Later.{place_from_within}
+use Rattle.life_slots.proofs.Inserted.{all_listed}
+use Rattle.life_slots.proofs.Orders.{either_true}
+
+of_member : (P : Cell → Type 0) (xs : List Cell) → All P xs → (c : Cell) → list_any (same_cell c) xs ≡ true → P c
+of_member P [] all c h = absurd (true≢false (sym h))
+of_member P (x ∷ xs) all c h =
+    elim (either_true (same_cell c x) (list_any (same_cell c) xs) h) [
+      | inl same ↦ subst P (sym ((same_cell-is c x).0 same)) (All-head P x xs all)
+      | inr later ↦ of_member P xs (All-tail P x xs all) c later
+    ]
+
+pub member_within : (age : ℕ) (G : Generation) → All (IsWithin age) (cells G) → (c : Cell) → contains G c ≡ true → IsWithin age c
+member_within age G all c h = of_member (IsWithin age) (cells G) all c (sym (contains-cells G c) ∙ h)
+
+pub all_within : (age : ℕ) (G : Generation) → ((c : Cell) → contains G c ≡ true → IsWithin age c) → All (IsWithin age) (cells G)
+all_within age G each = all_listed (IsWithin age) G (cells G) (contains-cells G) each
+
+pub listed_same : (items cs : List Cell) → ((q : Cell) → list_any (same_cell q) items ≡ list_any (same_cell q) cs) → from_list items ≡ from_list cs
+listed_same items cs same = same_members (from_list items) (from_list cs) (λ q. contains-from_list items q ∙ same q ∙ sym (contains-from_list cs q))
+
+pub all_places : (age : ℕ) (G : Generation) (items : List Cell) → from_list items ≡ G → age ≤ age_limit → ((c : Cell) → contains G c ≡ true → IsWithin age c) → All IsPlace items
+all_places age G items is young each =
+    all_listed IsPlace G items (λ q. sym (ap (λ H. contains H q) is) ∙ contains-from_list items q) (λ q live. place_from_within age q young (each q live))

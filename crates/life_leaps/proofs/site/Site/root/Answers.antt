@@ -1,0 +1,19 @@
+-- The width of the square that has all cells of a plane.
+use Rattle.std.proofs.Common.{◌≡◌, sym, arith}
+use Rattle.std.proofs.lemmas.Int.{ints}
+use Rattle.life_leaps.specs.Squares.{width}
+use Rattle.life_leaps.specs.Sites.{root_level}
+use Rattle.life_leaps.proofs.LeapLemmas.{root-wide}
+use Rattle.life_leaps.proofs.site.Site.root.Goals as goal
+
+pub returns-clause-site : goal.returns-clause-site
+returns-clause-site c =
+    let e : width root_level ≡ 16777216 = root-wide in
+    record {
+      level = omega arith;
+      wide = sym root-wide;
+      west = omega (arith, ints);
+      east = omega (arith, ints);
+      north = omega (arith, ints);
+      south = omega (arith, ints);
+    }

@@ -1,0 +1,9 @@
+-- Each call goes one level down, or to the cells of one part.
+use Rattle.std.proofs.Common.{◌+◌, ◌*◌}
+use Rattle.life_leaps.proofs.store.Store.+build.Given as goal
+
+abbrev pub decreases-build : goal.decreases-build
+decreases-build l = 2 * l.site.now.level
+
+abbrev pub decreases-build_part : goal.decreases-build_part
+decreases-build_part l = 2 * l.site.now.level + 1

@@ -1,0 +1,95 @@
+//! Squares of given cells.
+ghost use Rattle.std.specs.Prelude.{◌≡◌, ◌↔◌, ℕ, ℤ, pos, suc, ◌+◌, ◌<◌, ◌≤◌, Bool, IsTrue, IfOk, List, if◌then◌else◌};
+ghost use Rattle.life_model.specs.Cell.{Cell};
+ghost use Rattle.life_model.specs.Generation.{from_list};
+ghost use Rattle.life_model.specs.Rule.{Rule};
+ghost use Rattle.life_leaves.specs.Leaves.{ShowsLeaf};
+ghost use Rattle.life_leaps.specs.Squares.{Grows, IsAt, IsKept, Shows, beyond, width};
+ghost use Rattle.life_leaps.specs.Stores.{view};
+ghost use Rattle.life_leaps.specs.Cells.{IsInside, IsListed};
+ghost use Rattle.life_leaps.specs.Sites.{IsPartOf, IsSite, corner};
+
+use crate::site::Site;
+use crate::square::{Quarters, empty_place};
+use crate::store::Store;
+use life_leaves::Leaf;
+use std::alloc::{AllocError, Global};
+
+/// Cells of a list, among them all that stand in a square.
+fn part_of(alloc: Global, cells: &[(i32, i32)], site: &Site) -> Result<Vec<(i32, i32)>, AllocError>
+    requires { IsSite site.now }
+    ensures { IfOk result (λ part. IsPartOf cells.now site.now part.items) }
+{
+    let mut part = Vec::new(alloc);
+    for cell in cells {
+        if let Some(_) = site.place_of(*cell) {
+            part.push(*cell)?;
+        }
+    }
+    Ok(part)
+}
+
+/// The leaf with those cells of a list that stand in it.
+fn leaf_of(cells: &[(i32, i32)], site: &Site) -> Leaf
+    requires site { IsSite site.now }
+    requires leaf { site.now.level ≡ 0 }
+    ensures { ShowsLeaf result (from_list cells.now) (corner site.now) }
+{
+    let mut leaf = Leaf::empty();
+    for cell in cells {
+        if let Some((x, y)) = site.place_of(*cell) {
+            leaf.set(x, y);
+        }
+    }
+    leaf
+}
+
+impl Store {
+    /// The same, of those cells alone.
+    #[cycle(build)]
+    fn build_part(&mut self, site: &Site, cells: &[(i32, i32)]) -> Result<u32, AllocError>
+        requires kept { IsKept (view self.old) }
+        requires site { IsSite site.now }
+        ensures grows { (rule : Rule) (e : ℕ) → Grows rule e (view self.old) (view self.new) }
+        ensures at { IfOk result (λ i. IsAt (view self.new) site.now.level i) }
+        ensures shows { IfOk result (λ i.
+            Shows (view self.new) site.now.level i (from_list cells.now) (corner site.now)) }
+    {
+        let alloc = *self.squares.allocator();
+        let part = part_of(alloc, cells, site)?;
+        let place = self.build(site, &part)?;
+        Ok(place)
+    }
+
+    /// The square at a site with those cells of a list that stand in it.
+    #[cycle(build)]
+    pub fn build(&mut self, site: &Site, cells: &[(i32, i32)]) -> Result<u32, AllocError>
+        requires kept { IsKept (view self.old) }
+        requires site { IsSite site.now }
+        ensures grows { (rule : Rule) (e : ℕ) → Grows rule e (view self.old) (view self.new) }
+        ensures at { IfOk result (λ i. IsAt (view self.new) site.now.level i) }
+        ensures shows { IfOk result (λ i.
+            Shows (view self.new) site.now.level i (from_list cells.now) (corner site.now)) }
+    {
+        if cells.is_empty() {
+            return Ok(empty_place(site.level));
+        }
+        if site.level == 0 {
+            let leaf = self.leaf(&leaf_of(cells, site))?;
+            return Ok(leaf);
+        }
+        let sites = site.quarters();
+        let north_west = self.build_part(&sites.north_west, cells)?;
+        let north_east = self.build_part(&sites.north_east, cells)?;
+        let south_west = self.build_part(&sites.south_west, cells)?;
+        let south_east = self.build_part(&sites.south_east, cells)?;
+        let made = Quarters {
+            north_west,
+            north_east,
+            south_west,
+            south_east,
+        };
+        let place = self.square(site.level - 1, &made)?;
+        Ok(place)
+    }
+}

@@ -1,0 +1,19 @@
+//! The plane that leaps: a set of cells as squares of squares that remember what their middles become. No square is
+//! given back before the plane is dropped.
+#![tactic(auto)]
+
+mod building;
+mod centre;
+mod chains;
+mod later;
+mod leaping;
+mod listing;
+mod padding;
+mod plane;
+mod rows;
+mod site;
+mod square;
+mod store;
+
+pub use plane::LeapPlane;
+pub use store::NoLeap;

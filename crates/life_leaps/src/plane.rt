@@ -1,0 +1,81 @@
+//! The plane that leaps.
+ghost use Rattle.std.specs.Prelude.{◌≡◌, ℕ, ◌+◌, ◌^◌, ◌≤◌, All, IfOk, OnOk, OnErr};
+ghost use Rattle.life_model.specs.Evolution.{generation};
+ghost use Rattle.life_model.specs.Generation as sets;
+ghost use Rattle.life_cells.specs.Limits.{IsWithin, age_limit};
+ghost use Rattle.life_leaps.specs.Planes.{members, rule_of, steps_made};
+
+use crate::leaping::Leaper;
+use crate::store::NoLeap;
+use life_cells::{CellList, Rule};
+use std::alloc::{AllocError, Global};
+use std::marker::Model;
+
+/// A finite set of live cells, kept as squares that remember what they become, how many steps it has made, and its rule. What
+/// squares it has made it keeps until it is dropped.
+#[derive(Drop)]
+pub struct LeapPlane {
+    leaper: Leaper,
+}
+
+impl Model for LeapPlane {
+    ghost use Rattle.life_leaps.specs.Planes.{Seen, coded_seen};
+    ghost use Rattle.life_leaps.specs.Leapers.{IsLeaper, cells_in};
+
+    ghost Value = { Seen };
+
+    ghost coded = { coded_seen };
+
+    ghost view = { λ p. ((cells_in p.leaper, p.leaper.age), p.leaper.step.rule) };
+
+    ghost invariant = { λ p. IsLeaper p.leaper };
+}
+
+impl LeapPlane {
+    /// The plane of these cells at some age, at which their places may be, and by a rule.
+    pub fn at_age(alloc: Global, rule: &Rule, list: &CellList, age: u32) -> Result<Self, AllocError>
+        requires age { age ≤ age_limit }
+        requires within { All (IsWithin age) (sets.cells list.now) }
+        ensures cells { IfOk result (λ p. members p ≡ list.now) }
+        ensures age { IfOk result (λ p. steps_made p ≡ age) }
+        ensures rule { IfOk result (λ p. rule_of p ≡ rule.now) }
+    {
+        let leaper = Leaper::at_age(alloc, rule, list, age)?;
+        Ok(LeapPlane { leaper })
+    }
+
+    /// Makes 2^exponent generations, for about so much work: a unit is a band of eight rows of 64 cells. After an `Err` the
+    /// cells and the age are what they were.
+    pub fn leap(&mut self, exponent: u32, work: u64) -> Result<(), NoLeap>
+        requires { steps_made self.old + 2 ^ exponent ≤ age_limit }
+        ensures cells { OnOk result (members self.new ≡
+            generation (rule_of self.old) (members self.old) (2 ^ exponent)) }
+        ensures age { OnOk result (steps_made self.new ≡ steps_made self.old + 2 ^ exponent) }
+        ensures rule { rule_of self.new ≡ rule_of self.old }
+        ensures unchanged { OnErr result
+            ((members self.new ≡ members self.old) × (steps_made self.new ≡ steps_made self.old)) }
+    {
+        self.leaper.leap(exponent, work)?;
+        Ok(())
+    }
+
+    /// The live cells in order.
+    pub fn cells(&self) -> Result<CellList, AllocError>
+        ensures { IfOk result (λ list. list ≡ members self.now) }
+    {
+        self.leaper.cells()
+    }
+
+    /// How many steps it has made. No cell is further from the places of age 0 than that.
+    pub fn age(&self) -> u32
+        ensures age { result ≡ steps_made self.now }
+        ensures within { All (IsWithin (steps_made self.now)) (sets.cells (members self.now)) }
+    {
+        self.leaper.age
+    }
+
+    /// How much it has worked since it was made.
+    pub fn work(&self) -> u64 {
+        self.leaper.store.work
+    }
+}
