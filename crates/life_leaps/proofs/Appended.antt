@@ -1,5 +1,5 @@
 -- Stores that grow by a leaf, by a square or by what a square remembers.
-use Rattle.std.proofs.Common.{◌≡◌, ℕ, zero, suc, ◌+◌, ◌<◌, ◌≤◌, ◌⊎◌, inl, inr, ⊎_elim, List, [], ◌∷◌, ◌++◌, length, slice_index_or, Option, Some, None, sym, refl, subst, ap, ◌∙◌, arith}
+use Rattle.std.proofs.Common.{◌≡◌, ℕ, zero, suc, ◌+◌, ◌<◌, ◌≤◌, inl, inr, ⊎_elim, List, [], ◌∷◌, ◌++◌, length, slice_index_or, Some, None, sym, refl, subst, ap, ◌∙◌, arith}
 use Rattle.std.proofs.lemmas.Grind.{common_steps}
 use Rattle.std.proofs.lemmas.Bool.{cases_eq}
 use Rattle.std.proofs.Math.ListN.{set}
@@ -8,9 +8,9 @@ use Rattle.life_leaves.specs.declared.leaf.Leaf.{Leaf}
 use Rattle.life_leaves.specs.Leaves.{leaf_cell}
 use Rattle.life_leaps.specs.declared.square.Quarters.{Quarters}
 use Rattle.life_leaps.specs.declared.square.Square.{Square}
-use Rattle.life_leaps.specs.Squares.{View, IsAt, AreAt, jump, IsMiddle, IsKept, AreRight, Extends, Grows}
+use Rattle.life_leaps.specs.Squares.{View, AreAt, jump, IsMiddle, IsKept, Extends, Grows}
 use Rattle.life_leaps.specs.Stores.{listed, no_leaf, no_square}
-use Rattle.life_leaps.proofs.Growth.{either, at-extends, are_at-extends, extends-self, middle-extends, right-grown, Remembers, grows-self}
+use Rattle.life_leaps.proofs.Growth.{either, are_at-extends, middle-extends, right-grown}
 
 before_end : {A : Type 0} → (xs : List A) (x d : A) (i : ℕ) → i < length xs → slice_index_or (xs ++ x ∷ []) i d ≡ slice_index_or xs i d
 before_end [] x d i h = absurd (omega arith)

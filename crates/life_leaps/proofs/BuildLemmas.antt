@@ -1,24 +1,22 @@
 -- Cells of lists put into squares.
-use Rattle.std.proofs.Common.{◌≡◌, ◌≢◌, ℕ, zero, suc, ℤ, pos, negsuc, ◌+ℤ◌, ◌-ℤ◌, ◌≤ℤ◌, ◌<ℤ◌, ◌+◌, ◌<◌, ◌≤◌, ◌⊎◌, inl, inr, ⊎_elim, Bool, true, false, ◌==◌, eqb-true, ◌||◌, List, [], ◌∷◌, ◌++◌, length, take, get_or, slice_index_or, sym, refl, subst, ap, ◌∙◌, arith}
+use Rattle.std.proofs.Common.{◌≡◌, ◌≢◌, ℕ, zero, suc, pos, ◌+ℤ◌, ◌+◌, ◌<◌, ◌≤◌, ◌⊎◌, inl, inr, ⊎_elim, true, false, ◌==◌, eqb-true, ◌||◌, List, [], ◌∷◌, ◌++◌, length, take, get_or, sym, refl, subst, ap, ◌∙◌, arith}
 use Rattle.std.proofs.lemmas.Bool.{cases_eq}
 use Rattle.std.proofs.lemmas.Int.{ints}
 use Rattle.std.proofs.lemmas.List.{take_more}
-use Rattle.std.specs.List.{list_any}
-use Rattle.life_model.specs.Cell.{Cell, plus, same_cell}
+use Rattle.life_model.specs.Cell.{Cell, same_cell}
 use Rattle.life_model.specs.Generation.{Generation, contains, from_list, insert}
 use Rattle.life_model.proofs.Cells.{pair, same_cell-is}
-use Rattle.life_model.proofs.Generations.{contains-insert, contains-empty, contains-from_list}
+use Rattle.life_model.proofs.Generations.{contains-insert, contains-empty}
 use Rattle.life_bits.specs.Flags.{as_bit}
 use Rattle.kernel_laws.specs.Rows.{state}
 use Rattle.life_slots.proofs.Members.{Has, has_head, has_none, has_front, has_back, has_parts, has_cases}
 use Rattle.life_slots.proofs.Inserted.{list_more}
-use Rattle.life_slots.proofs.Orders.{true_or_false}
 use Rattle.life_leaves.specs.declared.leaf.Leaf.{Leaf}
 use Rattle.life_leaves.specs.Leaves.{leaf_cell, ShowsLeaf}
 use Rattle.life_leaps.specs.declared.site.Site.{Site}
 use Rattle.life_leaps.specs.Squares.{View, half, width, beyond, Shows, IsAt, IsKept, Extends}
 use Rattle.life_leaps.specs.Cells.{IsInside, IsListed}
-use Rattle.life_leaps.specs.Sites.{IsPartOf, IsQuarterOf, IsSite, corner}
+use Rattle.life_leaps.specs.Sites.{IsPartOf, IsQuarterOf, corner}
 use Rattle.life_leaps.proofs.RowLemmas.{moved, made, from_made}
 use Rattle.life_leaps.proofs.CellLemmas.{agree, both_ways, from_has, shows_none, to_has}
 use Rattle.life_leaps.proofs.Growth.{forth}

@@ -1,15 +1,13 @@
 -- The cells that a square shows, and the one set that it shows and that has no others.
-use Rattle.std.proofs.Common.{◌≡◌, ℕ, zero, suc, ℤ, pos, ◌+ℤ◌, ◌+◌, ◌-◌, ◌*◌, ◌<◌, ◌≤◌, ◌⊎◌, inl, inr, ⊎_elim, Bool, true, false, List, [], ◌∷◌, ◌++◌, slice_index, sym, refl, subst, ap, ◌∙◌, arith}
+use Rattle.std.proofs.Common.{◌≡◌, ℕ, zero, suc, ℤ, pos, ◌+ℤ◌, ◌+◌, ◌-◌, ◌*◌, ◌<◌, ◌≤◌, ◌⊎◌, inl, inr, ⊎_elim, Bool, true, false, List, ◌++◌, slice_index, sym, refl, subst, ap, ◌∙◌, arith}
 use Rattle.std.proofs.lemmas.Int.{ints}
 use Rattle.std.proofs.lemmas.Nat.Bits.{bit_at-lt}
 use Rattle.std.proofs.lemmas.Bool.{cases_eq}
-use Rattle.std.specs.Int.{bit_at}
-use Rattle.life_model.specs.Cell.{Cell, plus}
+use Rattle.life_model.specs.Cell.{Cell}
 use Rattle.life_model.specs.Generation.{Generation, contains, from_list}
 use Rattle.life_model.proofs.Cells.{pair}
 use Rattle.life_model.proofs.Generations.{contains-from_list, same_members}
 use Rattle.life_bits.specs.Flags.{as_bit}
-use Rattle.kernel_laws.specs.Rows.{state}
 use Rattle.life_slots.specs.Cells.{row_cells}
 use Rattle.life_slots.proofs.Members.{Has, has_none, has_front, has_back, has_parts, RowHas, row_has, row_in}
 use Rattle.life_slots.proofs.Orders.{true_or_false}
@@ -18,10 +16,10 @@ use Rattle.life_leaves.specs.declared.leaf.Leaf.{Leaf}
 use Rattle.life_leaves.specs.Leaves.{leaf_cell, ShowsLeaf}
 use Rattle.life_leaps.specs.declared.square.Quarters.{Quarters}
 use Rattle.life_leaps.specs.Places.{empty_at}
-use Rattle.life_leaps.specs.Squares.{View, half, width, beyond, OnQuarters, Shows, ShowsQuarters, IsKept}
+use Rattle.life_leaps.specs.Squares.{View, half, width, beyond, Shows, ShowsQuarters, IsKept}
 use Rattle.life_leaps.specs.Cells.{cells_of, rows_cells, IsInside}
 use Rattle.life_leaps.proofs.Growth.{either}
-use Rattle.life_leaps.proofs.RowLemmas.{moved, half-suc, from_made, as_made}
+use Rattle.life_leaps.proofs.RowLemmas.{half-suc, from_made}
 
 -- ---- places in squares
 

@@ -1,5 +1,5 @@
 -- Stores that forget, and the first store.
-use Rattle.std.proofs.Common.{◌≡◌, ℕ, zero, suc, ◌+◌, ◌-◌, ◌^◌, ◌<◌, ◌≤◌, ◌⊎◌, inl, inr, ⊎_elim, min, List, [], ◌∷◌, length, slice_index_or, Option, Some, None, sym, refl, subst, ap, ◌∙◌, arith}
+use Rattle.std.proofs.Common.{◌≡◌, ℕ, zero, suc, ◌+◌, ◌^◌, ◌<◌, ◌≤◌, ⊎_elim, min, List, length, slice_index_or, Some, None, sym, subst, ap, ◌∙◌, arith}
 use Rattle.life_model.specs.Rule.{Rule}
 use Rattle.life_leaves.specs.declared.leaf.Leaf.{Leaf}
 use Rattle.life_leaves.specs.Leaves.{leaf_cell}

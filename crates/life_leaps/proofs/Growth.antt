@@ -1,7 +1,7 @@
 -- What a store shows at its places it shows for ever.
-use Rattle.std.proofs.Common.{◌≡◌, ℕ, zero, suc, ℤ, pos, ◌+ℤ◌, ◌+◌, ◌*◌, ◌<◌, ◌≤◌, ◌⊎◌, inl, inr, ⊎_elim, Option, Some, None, sym, refl, subst, ap, ◌∙◌, arith}
+use Rattle.std.proofs.Common.{◌≡◌, ℕ, zero, suc, ◌+◌, ◌<◌, ◌≤◌, ◌⊎◌, inl, inr, ⊎_elim, Some, sym, refl, subst, ◌∙◌, arith}
 use Rattle.std.proofs.lemmas.Int.{ints}
-use Rattle.life_model.specs.Cell.{Cell, plus}
+use Rattle.life_model.specs.Cell.{Cell}
 use Rattle.life_model.specs.Rule.{Rule}
 use Rattle.life_model.specs.Generation.{Generation}
 use Rattle.life_model.specs.Evolution.{generation}
@@ -9,8 +9,7 @@ use Rattle.life_model.proofs.Cells.{pair}
 use Rattle.life_leaves.specs.declared.leaf.Leaf.{Leaf}
 use Rattle.life_leaves.specs.Leaves.{ShowsLeaf}
 use Rattle.life_leaps.specs.declared.square.Quarters.{Quarters}
-use Rattle.life_leaps.specs.declared.square.Square.{Square}
-use Rattle.life_leaps.specs.Squares.{View, half, width, beyond, OnQuarters, Shows, ShowsQuarters, IsAt, AreAt, jump, IsLater, IsMiddle, IsRight, IsKept, AreRight, Extends, Grows}
+use Rattle.life_leaps.specs.Squares.{View, width, beyond, OnQuarters, Shows, ShowsQuarters, IsAt, AreAt, jump, IsMiddle, IsKept, AreRight, Extends, Grows}
 
 pub either : (a b : ℕ) → (a < b) ⊎ (b ≤ a)
 either a zero = inr (omega arith)

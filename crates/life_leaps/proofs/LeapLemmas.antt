@@ -1,13 +1,13 @@
 -- Leaps of a set that one square shows.
-use Rattle.std.proofs.Common.{◌≡◌, ℕ, zero, suc, ℤ, pos, negsuc, neg_ℤ, ◌+ℤ◌, ◌≤ℤ◌, ◌<ℤ◌, ◌+◌, ◌-◌, ◌*◌, ◌^◌, ◌%◌, ◌<◌, ◌≤◌, ◌⊎◌, inl, inr, ⊎_elim, min, Bool, true, false, All, sym, refl, subst, ap, ◌∙◌, arith}
+use Rattle.std.proofs.Common.{◌≡◌, ℕ, zero, suc, ℤ, pos, negsuc, neg_ℤ, ◌+ℤ◌, ◌≤ℤ◌, ◌<ℤ◌, ◌+◌, ◌-◌, ◌*◌, ◌^◌, ◌%◌, ◌<◌, ◌≤◌, ◌⊎◌, inl, inr, ⊎_elim, min, true, false, sym, refl, subst, ap, ◌∙◌, arith}
 use Rattle.std.proofs.lemmas.Int.{ints}
-use Rattle.life_model.specs.Cell.{Cell, plus, IsNear}
+use Rattle.life_model.specs.Cell.{Cell, IsNear}
 use Rattle.life_model.specs.Rule.{Rule}
 use Rattle.life_model.specs.Generation.{Generation, contains, from_list, cells}
 use Rattle.life_model.specs.Evolution.{generation, next}
 use Rattle.life_model.proofs.Cells.{pair}
 use Rattle.life_model.proofs.Near.{next_near}
-use Rattle.life_cells.specs.Limits.{IsPlace, IsWithin, age_limit}
+use Rattle.life_cells.specs.Limits.{IsWithin, age_limit}
 use Rattle.life_slots.proofs.Orders.{true_or_false}
 use Rattle.life_leaps.specs.declared.leaping.Leaper.{Leaper}
 use Rattle.life_leaps.specs.declared.store.Store.{Store}
@@ -15,14 +15,14 @@ use Rattle.life_leaps.specs.Leapers.{IsLeaper, cells_in}
 use Rattle.life_leaps.specs.Stores.{view}
 use Rattle.life_leaps.specs.declared.square.Quarters.{Quarters}
 use Rattle.life_leaps.specs.Places.{empty_at}
-use Rattle.life_leaps.specs.Squares.{View, half, width, beyond, Shows, ShowsQuarters, IsAt, AreAt, jump, IsMiddle, IsKept, Extends, Forgets, Grows}
+use Rattle.life_leaps.specs.Squares.{View, half, width, beyond, Shows, ShowsQuarters, IsAt, jump, IsMiddle, IsKept, Extends, Forgets, Grows}
 use Rattle.life_leaps.specs.Cells.{cells_of, IsInside}
-use Rattle.life_leaps.specs.Sites.{first_place, root_corner, root_level, wide_corner}
+use Rattle.life_leaps.specs.Sites.{root_corner, root_level, wide_corner}
 use Rattle.std.proofs.lemmas.Nat.{pow-add}
 use Rattle.life_leaps.proofs.Forgotten.{forgets-extends, forgets-kept, forgets-right}
-use Rattle.life_leaps.proofs.Growth.{either, forth, at-extends, extends-trans, quarters_at}
-use Rattle.life_leaps.proofs.RowLemmas.{moved, via, swapped, half-suc, from_made, as_made, made}
-use Rattle.life_leaps.proofs.CellLemmas.{agree, one, known, shows_cells, shows_none, cells_inside, to_has, Overlap, overlap, inside_zero, inside_quarter}
+use Rattle.life_leaps.proofs.Growth.{either, forth, at-extends}
+use Rattle.life_leaps.proofs.RowLemmas.{moved, half-suc, from_made, as_made, made}
+use Rattle.life_leaps.proofs.CellLemmas.{known, shows_cells, shows_none, cells_inside, to_has}
 
 -- ---- a store that grows
 

@@ -1,5 +1,5 @@
 -- The cells of squares in lists.
-use Rattle.std.proofs.Common.{◌≡◌, ℕ, zero, suc, ℤ, pos, ◌+ℤ◌, ◌+◌, ◌^◌, ◌<◌, ◌≤◌, ◌⊎◌, ⊎_elim, Bool, true, false, ◌||◌, List, [], ◌∷◌, ◌++◌, reverse, slice_index, sym, refl, subst, ap, ◌∙◌, arith, add-one}
+use Rattle.std.proofs.Common.{◌≡◌, ℕ, suc, ℤ, pos, ◌+ℤ◌, ◌+◌, ◌^◌, ◌<◌, ◌≤◌, ⊎_elim, Bool, true, false, ◌||◌, List, ◌++◌, reverse, slice_index, sym, refl, subst, ap, ◌∙◌, arith, add-one}
 use Rattle.std.specs.Int.{bit_at}
 use Rattle.std.specs.List.{list_any}
 use Rattle.std.proofs.lemmas.List.Folds.{list_any-append}
@@ -7,15 +7,15 @@ use Rattle.std.proofs.lemmas.Nat.Bits.{bit_at_above}
 use Rattle.std.proofs.lemmas.Int.{ints}
 use Rattle.life_model.proofs.Cells.{pair}
 use Rattle.life_leaves.specs.declared.leaf.Leaf.{Leaf}
-use Rattle.life_model.specs.Cell.{Cell, plus, same_cell}
-use Rattle.life_model.specs.Generation.{Generation, contains, from_list, empty}
+use Rattle.life_model.specs.Cell.{Cell, same_cell}
+use Rattle.life_model.specs.Generation.{contains, from_list, empty}
 use Rattle.life_model.proofs.Generations.{contains-empty}
 use Rattle.life_model.proofs.Tests.{list_any-reverse}
 use Rattle.life_slots.specs.Cells.{row_cells}
-use Rattle.life_slots.proofs.Members.{Has, RowHas, row_has, row_in}
+use Rattle.life_slots.proofs.Members.{RowHas, row_has, row_in}
 use Rattle.life_slots.proofs.Orders.{true_or_false}
 use Rattle.life_leaps.specs.Places.{empty_at}
-use Rattle.life_leaps.specs.Squares.{View, beyond, width, IsAt, IsKept, Shows}
+use Rattle.life_leaps.specs.Squares.{View, beyond, width, IsAt, IsKept}
 use Rattle.life_leaps.specs.Cells.{cells_of, rows_cells, IsInside, IsListed}
 use Rattle.life_leaps.proofs.Growth.{either}
 use Rattle.life_leaps.proofs.CellLemmas.{both_ways, cells_inside, from_has, one, shows_cells, shows_none}

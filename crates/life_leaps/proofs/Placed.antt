@@ -1,11 +1,11 @@
 -- Where the cells of sets stand.
-use Rattle.std.proofs.Common.{◌≡◌, ℕ, ◌≤◌, ◌⊎◌, inl, inr, Bool, true, false, ◌||◌, List, [], ◌∷◌, All, sym, subst, ap, ◌∙◌, true≢false}
+use Rattle.std.proofs.Common.{◌≡◌, ℕ, ◌≤◌, inl, inr, true, List, [], ◌∷◌, All, sym, subst, ap, ◌∙◌, true≢false}
 use Rattle.std.specs.List.{list_any}
 use Rattle.std.proofs.lemmas.List.Elements.{All-head, All-tail}
 use Rattle.life_model.specs.Cell.{Cell, same_cell}
 use Rattle.life_model.specs.Generation.{Generation, cells, contains, from_list}
 use Rattle.life_model.proofs.Cells.{same_cell-is}
-use Rattle.life_model.proofs.Generations.{contains-cells, contains-from_list, from_list-cells, same_members}
+use Rattle.life_model.proofs.Generations.{contains-cells, contains-from_list, same_members}
 use Rattle.life_cells.specs.Limits.{IsPlace, IsWithin, age_limit}
 use Rattle.life_plane.proofs.Later.{place_from_within}
 use Rattle.life_slots.proofs.Inserted.{all_listed}

@@ -1,8 +1,8 @@
 -- Squares side by side.
-use Rattle.std.proofs.Common.{◌≡◌, ℕ, zero, suc, ℤ, pos, ◌+ℤ◌, ◌+◌, ◌*◌, ◌^◌, ◌<◌, ◌≤◌, ◌⊎◌, inl, inr, ⊎_elim, min, Bool, true, false, cond, nat_lt, Option, Some, None, sym, refl, subst, ap, ◌∙◌, arith}
+use Rattle.std.proofs.Common.{◌≡◌, ℕ, zero, suc, ◌+◌, ◌*◌, ◌^◌, ◌<◌, ◌≤◌, ⊎_elim, min, sym, refl, subst, ap, ◌∙◌, arith}
 use Rattle.std.proofs.lemmas.Int.{ints}
 use Rattle.std.proofs.lemmas.Bool.Decides.{nat_tests}
-use Rattle.life_model.specs.Cell.{Cell, plus}
+use Rattle.life_model.specs.Cell.{Cell}
 use Rattle.life_model.specs.Rule.{Rule}
 use Rattle.life_model.specs.Generation.{Generation}
 use Rattle.life_model.specs.Evolution.{generation}
@@ -12,9 +12,9 @@ use Rattle.life_leaps.specs.declared.square.Quarters.{Quarters}
 use Rattle.life_leaps.specs.declared.rows.FourInRow.{FourInRow}
 use Rattle.life_leaps.specs.declared.rows.ThreeInRow.{ThreeInRow}
 use Rattle.life_leaps.specs.declared.rows.TwoInRow.{TwoInRow}
-use Rattle.life_leaps.specs.Squares.{View, half, width, beyond, OnQuarters, Shows, ShowsQuarters, IsAt, AreAt, jump, IsLater, IsMiddle, IsKept, Extends}
+use Rattle.life_leaps.specs.Squares.{View, half, width, beyond, Shows, ShowsQuarters, IsAt, AreAt, jump, IsMiddle, IsKept, Extends}
 use Rattle.life_leaps.specs.Rows.{AreFourAt, AreThreeAt, AreTwoAt, ShowsFourInRow, ShowsThreeInRow, ShowsTwoInRow, AreThreeLater, AreTwoLater, rest}
-use Rattle.life_leaps.proofs.Growth.{either, forth, back, four_forth, at-extends, are_at-extends, extends-trans, quarters_at, middle-later, middle-before}
+use Rattle.life_leaps.proofs.Growth.{either, forth, four_forth, at-extends, extends-trans, quarters_at, middle-later, middle-before}
 
 -- the same at an equal place
 pub moved : (v : View) (n i : ℕ) (G : Generation) (p q : Cell) → p ≡ q → Shows v n i G p → Shows v n i G q

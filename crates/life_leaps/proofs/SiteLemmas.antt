@@ -1,11 +1,10 @@
 -- Where the quarters of squares stand.
-use Rattle.std.proofs.Common.{◌≡◌, ℕ, zero, suc, ℤ, pos, ◌+ℤ◌, ◌≤ℤ◌, ◌+◌, ◌*◌, ◌/◌, ◌<◌, ◌≤◌, sym, refl, subst, ap, ◌∙◌, arith}
+use Rattle.std.proofs.Common.{◌≡◌, ℕ, suc, pos, ◌+ℤ◌, ◌≤ℤ◌, ◌*◌, ◌/◌, ◌≤◌, subst, ap, arith}
 use Rattle.std.proofs.lemmas.Int.{ints}
-use Rattle.life_model.specs.Cell.{Cell, plus}
 use Rattle.life_model.proofs.Cells.{pair}
 use Rattle.life_leaps.specs.declared.site.Site.{Site}
-use Rattle.life_leaps.specs.Squares.{half, width, beyond}
-use Rattle.life_leaps.specs.Sites.{IsQuarterOf, IsSite, corner, first_place}
+use Rattle.life_leaps.specs.Squares.{width}
+use Rattle.life_leaps.specs.Sites.{IsQuarterOf, IsSite, first_place}
 use Rattle.life_leaps.proofs.RowLemmas.{half-suc}
 
 pub width_is : (site : Site) → (n : ℕ) → suc n ≡ site.level → width site.level ≡ 2 * width n

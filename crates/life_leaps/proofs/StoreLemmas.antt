@@ -1,5 +1,5 @@
 -- Stores that grow.
-use Rattle.std.proofs.Common.{◌≡◌, ℕ, zero, suc, pos, ◌+◌, ◌<◌, ◌≤◌, List, [], ◌∷◌, ◌++◌, length, slice_index_or, Option, Some, None, sym, refl, subst, ap, ◌∙◌, arith}
+use Rattle.std.proofs.Common.{◌≡◌, ℕ, zero, suc, pos, ◌<◌, ◌≤◌, List, [], ◌∷◌, ◌++◌, length, slice_index_or, Some, None, sym, refl, subst, ◌∙◌, arith}
 use Rattle.std.proofs.Math.ListN.{set}
 use Rattle.life_model.specs.Cell.{Cell, plus}
 use Rattle.life_model.specs.Rule.{Rule}
@@ -8,13 +8,12 @@ use Rattle.life_model.specs.Evolution.{generation}
 use Rattle.life_leaves.specs.declared.leaf.Leaf.{Leaf}
 use Rattle.life_leaves.specs.Leaves.{ShowsLeaf}
 use Rattle.life_leaps.specs.declared.square.Quarters.{Quarters}
-use Rattle.life_leaps.specs.declared.square.Square.{Square}
 use Rattle.life_leaps.specs.declared.rows.Step.{Step}
 use Rattle.life_leaps.specs.declared.store.Store.{Store}
-use Rattle.life_leaps.specs.Squares.{View, half, Shows, IsAt, AreAt, jump, IsMiddle, IsKept, AreRight, Extends, Grows}
-use Rattle.life_leaps.specs.Stores.{listed, view, no_leaf, no_square}
+use Rattle.life_leaps.specs.Squares.{View, half, Shows, IsAt, AreAt, jump, IsMiddle, IsKept, AreRight, Grows}
+use Rattle.life_leaps.specs.Stores.{listed, view, no_leaf}
 use Rattle.life_leaps.specs.Rows.{IsReady}
-use Rattle.life_leaps.proofs.Growth.{are_at-extends, quarters_at, middle-later, middle-before, middle-after, grows-self, grows-trans}
+use Rattle.life_leaps.proofs.Growth.{quarters_at, middle-after, grows-self}
 use Rattle.life_leaps.proofs.Appended.{leaf-added, square-added, later-noted}
 
 pub grows-same : (rule : Rule) (e : ℕ) (s t : Store) → IsKept (view s) → t.leaves.items ≡ s.leaves.items → t.squares.items ≡ s.squares.items → Grows rule e (view s) (view t)

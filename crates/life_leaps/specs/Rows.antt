@@ -1,5 +1,5 @@
 -- Squares of one level in a row, and what a store makes of a leap.
-use Rattle.std.specs.Prelude.{◌≡◌, ℕ, zero, suc, pos, ◌+◌, ◌*◌, ◌<◌, nat_lt, if◌then◌else◌, Option, Some, None}
+use Rattle.std.specs.Prelude.{ℕ, ◌+◌, ◌*◌, nat_lt, if◌then◌else◌}
 use Rattle.life_model.specs.Cell.{Cell}
 use Rattle.life_model.specs.Rule.{Rule}
 use Rattle.life_model.specs.Generation.{Generation}
@@ -9,7 +9,6 @@ use Rattle.life_leaps.specs.declared.rows.FourInRow.{FourInRow}
 use Rattle.life_leaps.specs.declared.rows.ThreeInRow.{ThreeInRow}
 use Rattle.life_leaps.specs.declared.rows.TwoInRow.{TwoInRow}
 use Rattle.life_leaps.specs.declared.rows.Step.{Step}
-use Rattle.life_leaps.specs.declared.square.Quarters.{Quarters}
 use Rattle.life_leaps.specs.Squares.{View, half, width, beyond, Shows, IsAt, jump, IsKept, AreRight}
 
 pub record AreFourAt (v : View) (n : ℕ) (row : FourInRow) : Type 0 where

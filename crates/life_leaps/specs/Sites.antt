@@ -1,5 +1,5 @@
 -- Where squares stand.
-use Rattle.std.specs.Prelude.{◌≡◌, ℕ, suc, ℤ, pos, neg_ℤ, ◌+ℤ◌, ◌<◌, ◌≤◌, ◌≤ℤ◌, ◌<ℤ◌, true, List}
+use Rattle.std.specs.Prelude.{◌≡◌, ℕ, suc, ℤ, pos, neg_ℤ, ◌+ℤ◌, ◌<◌, ◌≤◌, ◌≤ℤ◌, List}
 use Rattle.life_model.specs.Cell.{Cell}
 use Rattle.life_leaps.specs.declared.site.Site.{Site}
 use Rattle.life_leaps.specs.declared.site.Sites.{Sites}

@@ -70,8 +70,8 @@ impl Store {
         requires ready { IsReady step.now (view self.old) }
         requires at { AreAt (view self.old) (suc level) quarters.now }
         ensures grows { Grows step.now.rule step.now.exponent (view self.old) (view self.new) }
-        ensures middle { IfOk result (λ i. IsMiddle step.now.rule (jump step.now.exponent (suc level))
-            (view self.old) (suc level) quarters.now (view self.new) i) }
+        ensures middle { IfOk result (λ i. IsMiddle step.now.rule
+            (jump step.now.exponent (suc level)) (view self.old) (suc level) quarters.now (view self.new) i) }
     {
         let north_west = self.quarters(quarters.north_west);
         let north_east = self.quarters(quarters.north_east);
@@ -109,8 +109,8 @@ impl Store {
         requires north { AreFourAt (view self.old) level north.now }
         requires south { AreFourAt (view self.old) level south.now }
         ensures grows { Grows step.now.rule step.now.exponent (view self.old) (view self.new) }
-        ensures three { IfOk result (λ three. AreThreeLater step.now.rule (jump step.now.exponent level)
-            (view self.old) level north.now south.now (view self.new) three) }
+        ensures three { IfOk result (λ three. AreThreeLater step.now.rule
+            (jump step.now.exponent level) (view self.old) level north.now south.now (view self.new) three) }
     {
         let one = Quarters {
             north_west: north.first,

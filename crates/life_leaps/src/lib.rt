@@ -1,6 +1,5 @@
-//! The plane that leaps: a set of cells as squares of squares that remember what their middles become.
-//!
-//! Tested in `tests_patterns`.
+//! The plane that leaps: a set of cells as squares of squares that remember what their middles become. No square is
+//! given back before the plane is dropped.
 #![tactic(auto)]
 
 mod building;

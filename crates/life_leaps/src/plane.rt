@@ -44,8 +44,8 @@ impl LeapPlane {
         Ok(LeapPlane { leaper })
     }
 
-    /// Makes 2^exponent generations, for about so much work: a unit is a band of eight rows of 64 cells. After an `Err` the cells
-    /// and the age are what they were.
+    /// Makes 2^exponent generations, for about so much work: a unit is a band of eight rows of 64 cells. After an `Err` the
+    /// cells and the age are what they were.
     pub fn leap(&mut self, exponent: u32, work: u64) -> Result<(), NoLeap>
         requires { steps_made self.old + 2 ^ exponent ≤ age_limit }
         ensures cells { OnOk result (members self.new ≡

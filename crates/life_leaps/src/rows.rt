@@ -5,8 +5,8 @@ use crate::square::Quarters;
 use life_bits::Logic;
 use life_cells::Rule;
 
-/// What a store works out: the middle of each square 2^exponent generations later, where it is wide enough for that, and else as
-/// many generations later as it is.
+/// What a store works out: the middle of each square 2^exponent generations later, where it is wide enough for that, and else
+/// as many generations later as it is.
 #[derive(Clone, Copy)]
 pub struct Step {
     pub rule: Rule,
@@ -42,7 +42,12 @@ pub struct TwoInRow {
 
 /// The northern quarters of two squares side by side.
 pub fn northern(west: Quarters, east: Quarters) -> FourInRow
-    ensures { result ≡ record { first = west.north_west; second = west.north_east; third = east.north_west; fourth = east.north_east } }
+    ensures { result ≡ record {
+      first = west.north_west;
+      second = west.north_east;
+      third = east.north_west;
+      fourth = east.north_east;
+    } }
 {
     FourInRow {
         first: west.north_west,
@@ -54,7 +59,12 @@ pub fn northern(west: Quarters, east: Quarters) -> FourInRow
 
 /// The southern quarters of two squares side by side.
 pub fn southern(west: Quarters, east: Quarters) -> FourInRow
-    ensures { result ≡ record { first = west.south_west; second = west.south_east; third = east.south_west; fourth = east.south_east } }
+    ensures { result ≡ record {
+      first = west.south_west;
+      second = west.south_east;
+      third = east.south_west;
+      fourth = east.south_east;
+    } }
 {
     FourInRow {
         first: west.south_west,

@@ -42,8 +42,8 @@ fn place_of(len: usize) -> Result<u32, AllocError>
     u32::try_from(len).map_err(|_| AllocError)
 }
 
-/// Leaves, and squares of all other levels in one list: the empty squares first, one of each level, and each other one behind its
-/// quarters.
+/// Leaves, and squares of all other levels in one list: the empty squares first, one of each level, and each other one behind
+/// its quarters.
 #[derive(Drop)]
 pub struct Store {
     pub leaves: Vec<Leaf>,

@@ -1,5 +1,4 @@
 -- The squares of the cells of a list.
-use Rattle.std.proofs.Common.{◌≡◌, ℕ, sym, refl, ap}
 use Rattle.life_leaps.specs.Stores.{view}
 use Rattle.life_leaps.specs.Sites.{corner}
 use Rattle.life_leaps.proofs.Begun.{at_root, begun-cells, begun-kept}
