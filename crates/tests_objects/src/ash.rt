@@ -4,6 +4,7 @@ use life_cells::{CellList, Rule};
 use life_census::census;
 use life_plane::ListPlane;
 use std::alloc::{AllocError, Global};
+use std::process::Abort;
 use std::test::Fail;
 
 // A glider that goes away from a block.
@@ -51,6 +52,83 @@ const LIGHTS: &[(i32, i32)] = &[
     (3, 10),
 ];
 
+// A glider that vanishes with a block, and a block far off.
+const VANISHING: &[(i32, i32)] = &[
+    (1, 0),
+    (2, 1),
+    (0, 2),
+    (1, 2),
+    (2, 2),
+    (20, 20),
+    (21, 20),
+    (20, 21),
+    (21, 21),
+    (40, 2),
+    (41, 2),
+    (40, 3),
+    (41, 3),
+];
+
+// A glider that makes a honey farm of a block, and a block far off.
+const FARMING: &[(i32, i32)] = &[
+    (1, 0),
+    (2, 1),
+    (0, 2),
+    (1, 2),
+    (2, 2),
+    (24, 20),
+    (25, 20),
+    (24, 21),
+    (25, 21),
+    (40, 2),
+    (41, 2),
+    (40, 3),
+    (41, 3),
+];
+
+// The R-pentomino, which is ash from generation 1,103 on.
+const PENTOMINO: &[(i32, i32)] = &[(1, 0), (2, 0), (0, 1), (1, 1), (1, 2)];
+
+// The gun of period 30, which never is.
+const GUN: &[(i32, i32)] = &[
+    (24, 0),
+    (22, 1),
+    (24, 1),
+    (12, 2),
+    (13, 2),
+    (20, 2),
+    (21, 2),
+    (34, 2),
+    (35, 2),
+    (11, 3),
+    (15, 3),
+    (20, 3),
+    (21, 3),
+    (34, 3),
+    (35, 3),
+    (0, 4),
+    (1, 4),
+    (10, 4),
+    (16, 4),
+    (20, 4),
+    (21, 4),
+    (0, 5),
+    (1, 5),
+    (10, 5),
+    (14, 5),
+    (16, 5),
+    (17, 5),
+    (22, 5),
+    (24, 5),
+    (10, 6),
+    (16, 6),
+    (24, 6),
+    (11, 7),
+    (15, 7),
+    (12, 8),
+    (13, 8),
+];
+
 /// Cells, a bound, and how many parts have each code where there is ash.
 type Case = (
     &'static [(i32, i32)],
@@ -83,16 +161,64 @@ fn has_parts(finding: &Finding, expected: Option<&[(&str, u64)]>) -> bool {
     }
 }
 
-#[test]
-fn patterns_have_their_ash(rt: HostRuntime) -> Result<(), Fail> {
-    for (cells, bound, expected) in CASES {
-        let list = CellList::of(rt.alloc(), cells)?;
+// Patterns that become ash soon after the bound, or have become it just then.
+const CASES_ABOUT_THE_BOUND: &[Case] = &[
+    (VANISHING, 60, None),
+    (VANISHING, 69, None),
+    (VANISHING, 70, Some(&[("xs4_33", 1)])),
+    (FARMING, 80, None),
+    (FARMING, 101, None),
+    (FARMING, 102, Some(&[("xs4_33", 1), ("xs6_696", 4)])),
+];
+
+const CASES_OF_THE_PENTOMINO: &[Case] = &[
+    (PENTOMINO, 500, None),
+    (
+        PENTOMINO,
+        1103,
+        Some(&[
+            ("xp2_7", 4),
+            ("xs4_33", 8),
+            ("xq4_153", 6),
+            ("xs5_253", 1),
+            ("xs6_356", 1),
+            ("xs6_696", 4),
+            ("xs7_2596", 1),
+        ]),
+    ),
+];
+
+const CASES_OF_THE_GUN: &[Case] = &[(GUN, 300, None)];
+
+fn have_their_ash(rt: &impl Abort, alloc: Global, cases: &[Case]) -> Result<(), Fail> {
+    for (cells, bound, expected) in cases {
+        let list = CellList::of(alloc, cells)?;
         assert!(rt; list.fits());
         assert!(rt; 1 <= *bound && *bound <= 100_000);
-        let found = census::<ListPlane>(rt.alloc(), &Rule::life(), &list, *bound, None)?;
+        let found = census::<ListPlane>(alloc, &Rule::life(), &list, *bound, None)?;
         assert!(rt; has_parts(&found, *expected));
     }
     Ok(())
+}
+
+#[test]
+fn patterns_have_their_ash(rt: HostRuntime) -> Result<(), Fail> {
+    have_their_ash(&rt, rt.alloc(), CASES)
+}
+
+#[test]
+fn later_ash_tells_of_the_bound(rt: HostRuntime) -> Result<(), Fail> {
+    have_their_ash(&rt, rt.alloc(), CASES_ABOUT_THE_BOUND)
+}
+
+#[test]
+fn the_pentomino_has_its_ash(rt: HostRuntime) -> Result<(), Fail> {
+    have_their_ash(&rt, rt.alloc(), CASES_OF_THE_PENTOMINO)
+}
+
+#[test]
+fn the_gun_has_none(rt: HostRuntime) -> Result<(), Fail> {
+    have_their_ash(&rt, rt.alloc(), CASES_OF_THE_GUN)
 }
 
 /// What stands among the blocks of a grid, a bound, and how many parts have each code where there is ash.
