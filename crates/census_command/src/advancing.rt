@@ -6,14 +6,13 @@ ghost use Rattle.census_errors.specs.Errors.{advance_error_of_text};
 ghost use Rattle.census_errors.specs.Files.{file_of};
 ghost use Rattle.census_command.specs.Streams.{HasSoundStreams};
 
-use crate::evolving::evolved;
 use crate::streams::Streams;
 use census_bundle::INPUT_LIMIT;
 use census_errors::{AdvanceError, file_of};
 use census_faults::{spot_of_text, text_fault};
 use census_folders::Shelf;
 use census_identify::read_file;
-use life_board::Board;
+use life_advance::generation_of;
 use life_plane::AGE_LIMIT;
 use life_text::{RleFault, read_rle, write_rle};
 use std::alloc::Global;
@@ -46,9 +45,10 @@ fn advanced_text(alloc: Global, text: &[u8], generations: u32) -> Result<Vec<u8>
         Ok(pattern) => pattern,
         Err(fault) => return Err(refused(text, fault)),
     };
-    let cells = evolved::<Board>(alloc, &pattern, generations)?;
+    let rule = pattern.rule();
+    let cells = generation_of(alloc, &rule, pattern.cells(), generations)?;
     let mut written = Vec::new(alloc);
-    write_rle(&pattern.rule(), &cells, &mut written)?;
+    write_rle(&rule, &cells, &mut written)?;
     Ok(written)
 }
 

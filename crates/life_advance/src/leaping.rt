@@ -1,0 +1,122 @@
+//! Leaps of a plane of squares.
+ghost use Rattle.std.specs.Prelude.{◌≡◌, ◌+◌, ◌<◌, ◌≤◌, ◌^◌, All, IfSome};
+ghost use Rattle.life_model.specs.Generation as sets;
+ghost use Rattle.life_cells.specs.Limits.{IsWithin};
+ghost use Rattle.life_advance.specs.Later.{IsLater};
+ghost use Rattle.life_leaps.specs.Planes.{rule_of, steps_made};
+
+use crate::effort::Effort;
+use life_board::Board;
+use life_cells::{CellList, Rule};
+use life_leaps::LeapPlane;
+use life_plane::{AGE_LIMIT, Plane};
+use std::alloc::Global;
+
+/// The exponent of the greatest power of two that divides a number.
+fn exponent_of(number: u32) -> u32
+    requires { 1 ≤ number }
+    ensures { 2 ^ result ≤ number }
+{
+    let mut power = 1u64;
+    for exponent in 0..31 {
+        if u64::from(number) % (2 * power) != 0 {
+            return exponent;
+        }
+        power *= 2;
+    }
+    0
+}
+
+/// Leaps until an age, as far as so much work goes and memory is there.
+fn leap_on(plane: &mut LeapPlane, until: u32, work: u64)
+    requires until { until ≤ AGE_LIMIT }
+    requires young { steps_made plane.old ≤ until }
+    ensures rule { rule_of plane.new ≡ rule_of plane.old }
+    ensures within { steps_made plane.new ≤ until }
+    ensures later { IsLater (rule_of plane.old) plane.old.0 plane.new.0 }
+{
+    let end = plane.work().saturating_add(work);
+    'leaps: for _ in plane.age()..until {
+        if plane.age() == until {
+            return;
+        }
+        let exponent = exponent_of(until - plane.age());
+        let left = end.saturating_sub(plane.work());
+        match plane.leap(exponent, left) {
+            Ok(()) => {}
+            Err(_) => return,
+        }
+    }
+}
+
+/// Cells in order, and their age.
+#[derive(Drop)]
+pub struct Landing {
+    pub cells: CellList,
+    pub age: u32,
+}
+
+/// The cells of a board in squares, where there is memory.
+fn squares_of(alloc: Global, board: &Board, rule: &Rule) -> Option<LeapPlane>
+    requires { board.now.1 ≤ AGE_LIMIT }
+    ensures board { IfSome result (λ plane. plane.0 ≡ board.now) }
+    ensures rule { IfSome result (λ plane. rule_of plane ≡ rule.now) }
+{
+    let age = board.age();
+    let Ok(cells) = board.cells() else {
+        return None;
+    };
+    match LeapPlane::at_age(alloc, rule, &cells, age) {
+        Ok(plane) => Some(plane),
+        Err(_) => None,
+    }
+}
+
+/// Where a plane of squares has come to, where there is memory for its cells.
+fn landing_of(plane: &LeapPlane) -> Option<Landing>
+    ensures is { IfSome result (λ landing. (landing.cells, landing.age) ≡ plane.now.0) }
+    ensures fits { IfSome result
+        (λ landing. All (IsWithin landing.age) (sets.cells landing.cells)) }
+{
+    let age = plane.age();
+    match plane.cells() {
+        Ok(cells) => Some(Landing { cells, age }),
+        Err(_) => None,
+    }
+}
+
+/// The cells of a plane some generations later, no later than at an age, where leaps get further with the work that they are
+/// given and with the memory that there is.
+pub fn leapt(
+    alloc: Global,
+    board: &Board,
+    rule: &Rule,
+    until: u32,
+    effort: &mut Effort,
+) -> Option<Landing>
+    requires until { until ≤ AGE_LIMIT }
+    requires young { board.now.1 < until }
+    ensures within { IfSome result (λ landing. landing.age ≤ until) }
+    ensures further { IfSome result (λ landing. board.now.1 < landing.age) }
+    ensures later { IfSome result
+        (λ landing. IsLater rule.now board.now (landing.cells, landing.age)) }
+    ensures fits { IfSome result
+        (λ landing. All (IsWithin landing.age) (sets.cells landing.cells)) }
+{
+    let age = board.age();
+    let cells = board.population();
+    let work = effort.trial(until - age, cells);
+    if work == 0 {
+        effort.add_trial(0, 0, 0);
+        return None;
+    }
+    let Some(mut plane) = squares_of(alloc, board, rule) else {
+        return None;
+    };
+    leap_on(&mut plane, until, work);
+    effort.add_trial(plane.work(), plane.age() - age, cells);
+    if plane.age() == age {
+        return None;
+    }
+    landing_of(&plane)
+}

@@ -1,0 +1,11 @@
+//! Later generations of a pattern, by steps in tiles and by leaps, as work shows.
+//!
+//! Tested in `tests_patterns`.
+#![tactic(auto)]
+
+mod advancing;
+mod effort;
+mod leaping;
+mod walking;
+
+pub use advancing::generation_of;
