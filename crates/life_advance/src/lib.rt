@@ -1,6 +1,6 @@
 //! Later generations of a pattern, by steps in tiles and by leaps, as work shows.
 //!
-//! Tested in `tests_patterns`.
+//! Tested in `tests_leaps`.
 #![tactic(auto)]
 
 mod advancing;

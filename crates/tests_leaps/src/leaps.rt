@@ -1,0 +1,91 @@
+//! The plane that leaps, and generations that are made by steps and by leaps.
+
+use life_advance::generation_of;
+use life_cells::{CellList, Rule};
+use life_leaps::LeapPlane;
+use std::test::Fail;
+
+// A glider that moves to the right and down by one cell in four generations.
+const GLIDER: &[(i32, i32)] = &[(1, 0), (2, 1), (0, 2), (1, 2), (2, 2)];
+
+// The same after 4,096 generations.
+const GLIDER_1024: &[(i32, i32)] = &[
+    (1025, 1024),
+    (1026, 1025),
+    (1024, 1026),
+    (1025, 1026),
+    (1026, 1026),
+];
+
+// Gosper's glider gun, which has 36 cells and sends out a glider of five every 30 generations.
+const GUN: &[(i32, i32)] = &[
+    (24, 0),
+    (22, 1),
+    (24, 1),
+    (12, 2),
+    (13, 2),
+    (20, 2),
+    (21, 2),
+    (34, 2),
+    (35, 2),
+    (11, 3),
+    (15, 3),
+    (20, 3),
+    (21, 3),
+    (34, 3),
+    (35, 3),
+    (0, 4),
+    (1, 4),
+    (10, 4),
+    (16, 4),
+    (20, 4),
+    (21, 4),
+    (0, 5),
+    (1, 5),
+    (10, 5),
+    (14, 5),
+    (16, 5),
+    (17, 5),
+    (22, 5),
+    (24, 5),
+    (10, 6),
+    (16, 6),
+    (24, 6),
+    (11, 7),
+    (15, 7),
+    (12, 8),
+    (13, 8),
+];
+
+#[test]
+fn a_glider_leaps(rt: HostRuntime) -> Result<(), Fail> {
+    let list = CellList::of(rt.alloc(), GLIDER)?;
+    assert!(rt; list.fits());
+    let mut plane = LeapPlane::at_age(rt.alloc(), &Rule::life(), &list, 0)?;
+    assert!(rt; plane.age() == 0);
+    plane.leap(12, 1_000_000)?;
+    let cells = plane.cells()?;
+    assert!(rt; cells.as_slice() == GLIDER_1024 && plane.age() == 4_096);
+    Ok(())
+}
+
+#[test]
+fn a_leap_without_work_is_refused(rt: HostRuntime) -> Result<(), Fail> {
+    let list = CellList::of(rt.alloc(), GLIDER)?;
+    assert!(rt; list.fits());
+    let mut plane = LeapPlane::at_age(rt.alloc(), &Rule::life(), &list, 0)?;
+    assert!(rt; plane.age() == 0);
+    assert!(rt; plane.leap(12, 0).is_err());
+    let cells = plane.cells()?;
+    assert!(rt; cells.as_slice() == GLIDER && plane.age() == 0);
+    Ok(())
+}
+
+#[test]
+fn a_gun_sends_out_gliders(rt: HostRuntime) -> Result<(), Fail> {
+    let list = CellList::of(rt.alloc(), GUN)?;
+    assert!(rt; list.fits());
+    let later = generation_of(rt.alloc(), &Rule::life(), &list, 6_000)?;
+    assert!(rt; later.len() == 36 + 5 * 200);
+    Ok(())
+}
