@@ -56,11 +56,10 @@ fn reports_are_read_and_written_again(rt: HostRuntime) -> Result<(), AllocError>
 fn is_glider(row: &Row) -> bool {
     match row {
         Row::Line {
-            outcome:
-                Outcome::Found {
-                    finding: Finding::Ok { dx, dy, code, .. },
-                    ..
-                },
+            outcome: Outcome::Found {
+                finding: Finding::Ok { dx, dy, code, .. },
+                ..
+            },
             name,
             ..
         } => {
