@@ -1,4 +1,4 @@
-"""Tests of census.py with the released program, or the one that the environment's CENSUS names.
+"""Tests of the client with the released program, or the one that the environment's CENSUS names.
 
     python3 test_census.py
 
@@ -24,8 +24,8 @@ ROOT = os.path.realpath(os.path.join(HERE, "..", ".."))
 sys.path.insert(0, HERE)
 import census
 from census import (
-    Census, CensusError, FolderFault, OutOfMemory, Pattern, PatternFault, ProgramFailed, ReadFailed, ReportFault, TimedOut, TooLong,
-    read_report,
+    Census, CensusError, CodeFault, FolderFault, OutOfMemory, Pattern, PatternFault, ProgramFailed, ReadFailed, ReportFault, RuleFault, TimedOut,
+    TooLong, read_report,
 )
 
 PROGRAM = os.path.realpath(os.environ.get("CENSUS", f"{ROOT}/release/census"))
@@ -816,6 +816,67 @@ class Mutations(unittest.TestCase):
         with ThreadPoolExecutor(4) as pool:
             wrong = [it for it in pool.map(self.differs, mutants) if it]
         self.assertEqual(wrong[:3], [])
+
+
+class LaterAndDrawn(Room):
+    """`advance` and `draw`."""
+
+    def test_a_blinker_turns(self):
+        self.assertEqual(self.census.advance(BLINKER, 1), "x = 1, y = 3, rule = B3/S23\no$o$o!\n")
+        self.assertEqual(self.census.advance(BLINKER.encode(), 1_000_000), BLINKER)
+
+    def test_a_text_with_a_fault(self):
+        with self.assertRaises(PatternFault) as raised:
+            self.census.advance("x = 3, y = 1\n3q!", 1)
+        fault = raised.exception
+        self.assertEqual((fault.number, fault.line, fault.column, fault.at), (5, 2, 2, 14))
+        with self.assertRaises(PatternFault) as raised:
+            self.census.advance("", 1)
+        self.assertEqual((raised.exception.number, raised.exception.at), (1, None))
+
+    def test_generations_out_of_range(self):
+        for generations in (-1, 4_194_305):
+            with self.assertRaises(ProgramFailed) as raised:
+                self.census.advance(BLINKER, generations)
+            self.assertEqual(raised.exception.status, 2)
+        with self.assertRaises(TypeError):
+            self.census.advance(BLINKER, 1.0)
+
+    def test_a_code_is_drawn(self):
+        self.assertEqual(self.census.draw("xq4_153"), "x = 3, y = 3, rule = B3/S23\n3o$2bo$bo!\n")
+        self.assertEqual(self.census.draw("33", "B36/S23"), "x = 2, y = 2, rule = B36/S23\n2o$2o!\n")
+        self.assertEqual(self.census.draw("xs0_0"), "x = 0, y = 0, rule = B3/S23\n!\n")
+
+    def test_a_code_with_a_fault(self):
+        for code, number, place in (("xs4_", 1, "byte 4"), ("xs4_3!", 2, "byte 5"), ("xs4_3\n", 2, "byte 5"), ("--help", 2, "byte 0")):
+            with self.subTest(code), self.assertRaises(CodeFault) as raised:
+                self.census.draw(code)
+            self.assertEqual((raised.exception.number, raised.exception.place), (number, place))
+
+    def test_a_rule_with_a_fault(self):
+        for rule, number in (("HighLife", 1), ("B03/S23", 2), ("", 1), ("-h", 1)):
+            with self.subTest(rule), self.assertRaises(RuleFault) as raised:
+                self.census.draw("33", rule)
+            self.assertEqual(raised.exception.number, number)
+
+    def test_a_program_that_lies(self):
+        for body in ("echo no text", "exit 1", "echo 'census: rle fault 5' >&2; exit 1", "printf 'x = 1, y = 1, rule = B3/S23\\no!'"):
+            with self.subTest(body), self.assertRaises(ProgramFailed):
+                self.script(body).advance(BLINKER, 1)
+            with self.subTest(body), self.assertRaises(ProgramFailed):
+                self.script(body).draw("33")
+        with self.assertRaises(OutOfMemory):
+            self.script("exit 3").draw("33")
+
+    def test_run_and_objects_are_tables(self):
+        folders = [f"{EXAMPLES}/spaceships", f"{EXAMPLES}/methuselahs"]
+        self.assertEqual(self.census.run(folders, bound=100), self.census.table(folders, bound=100))
+        self.assertEqual(self.census.objects(folders, bound=200), self.census.table(folders, objects=True, bound=200))
+
+    def test_the_program_on_the_path(self):
+        os.symlink(PROGRAM, os.path.join(self.room, "census"))
+        with mock.patch.dict(os.environ, {"PATH": self.room}):
+            self.assertEqual(Census().identify(BLOCK).apgcode, "xs4_33")
 
 
 class Module(unittest.TestCase):

@@ -21,7 +21,7 @@ from typing import Callable, Dict, Iterable, Iterator, List, Literal, NoReturn, 
 
 __all__ = [
     "Census", "Pattern", "Row", "read_report",
-    "CensusError", "PatternFault", "FolderFault", "TooLong", "ReadFailed", "ReportFault", "OutOfMemory", "TimedOut", "ProgramFailed",
+    "CensusError", "PatternFault", "CodeFault", "RuleFault", "FolderFault", "TooLong", "ReadFailed", "ReportFault", "OutOfMemory", "TimedOut", "ProgramFailed",
 ]
 
 # one RLE text
@@ -69,6 +69,14 @@ class PatternFault(CensusError):
         self.column = column
         self.at = at
         self.index = index
+
+
+class CodeFault(CensusError):
+    """A code that means no pattern: `number` is 1 to 4, and `place` says at which byte of the code."""
+
+
+class RuleFault(CensusError):
+    """A rule that `draw` was given is none: `number` 1, it is not Life-like; 2, it has births on 0."""
 
 
 class TooLong(CensusError):
@@ -226,13 +234,13 @@ class Row:
 
 
 class Census:
-    """The program `census`, by its path, or by a name that the system finds on the PATH.
+    """The program `census`, by its path, or by a name that the system finds on the PATH; without a name, `census` there.
 
     `timeout` is how many seconds each call of it may take, or None for any. Some patterns grow without end, and take long where the bound
     is great. Each call of a method starts the program anew, so that a `Census` may be used by several threads at once.
     """
 
-    def __init__(self, program: Path, *, timeout: Optional[float] = None) -> None:
+    def __init__(self, program: Path = "census", *, timeout: Optional[float] = None) -> None:
         path = _path_of(program)
         # (the program may be called from another folder)
         self.program = os.path.abspath(path) if os.path.dirname(path) else path
@@ -320,6 +328,36 @@ class Census:
             rows += [replace(row, collection=before + row.collection) for row in _rows_of(ran, asked)]
             before += len(names)
         return rows
+
+    def run(self, folders: Iterable[Path], *, bound: Optional[int] = None, workers: Optional[int] = None, cells: Optional[int] = None
+            ) -> List[Row]:
+        """`table` of what comes again: the report of `census run`."""
+        return self.table(folders, bound=bound, workers=workers, cells=cells)
+
+    def objects(self, folders: Iterable[Path], *, bound: Optional[int] = None, workers: Optional[int] = None, cells: Optional[int] = None
+                ) -> List[Row]:
+        """`table` of objects that are left: the report of `census objects`."""
+        return self.table(folders, objects=True, bound=bound, workers=workers, cells=cells)
+
+    def advance(self, rle: Text, generations: int) -> str:
+        """The RLE text of a later generation of an RLE text's pattern, `generations` 0 to 4,194,304.
+
+        Raises what `identify` raises.
+        """
+        ran = self._run(["advance", "--explain", "--", str(operator.index(generations)), "-"], _bytes_of(rle))
+        if ran.returncode == 1:
+            raise _fault_of_text(ran)
+        return _text_of(ran)
+
+    def draw(self, code: str, rule: str = "B3/S23") -> str:
+        """The RLE text of the pattern that a code names, or the part of a code after its first `_`, under a rule.
+
+        Raises `CodeFault`, `RuleFault`, `OutOfMemory`, `TimedOut`, `ProgramFailed`, or `CensusError` itself.
+        """
+        ran = self._run(["draw", "--explain", f"--rule={_path_of(rule)}", "--", _path_of(code)])
+        if ran.returncode == 1:
+            raise _fault_of_words(ran)
+        return _text_of(ran)
 
     def _run(self, words: List[str], given: bytes = b"", folder: Optional[str] = None) -> subprocess.CompletedProcess[bytes]:
         """Calls the program with these words, in this folder."""
@@ -445,6 +483,50 @@ def _failure(ran: subprocess.CompletedProcess[bytes]) -> CensusError:
     if ran.returncode == 3:
         return OutOfMemory()
     return ProgramFailed(ran.returncode, ran.stderr.decode("utf-8", "replace"))
+
+
+def _text_of(ran: subprocess.CompletedProcess[bytes]) -> str:
+    """The RLE text that a call has written."""
+    if ran.returncode != 0:
+        raise _failure(ran)
+    text = ran.stdout.decode("ascii", "replace")
+    if not re.fullmatch(r"x = [0-9]+, y = [0-9]+, rule = B[1-8]*/S[0-8]*\n[0-9bo$\n]*!\n", text):
+        raise ProgramFailed(ran.returncode, "what it wrote is no RLE text")
+    return text
+
+
+def _told_lines(ran: subprocess.CompletedProcess[bytes]) -> List[str]:
+    """The two lines on standard error of a fault that is explained; `ProgramFailed` where there are others."""
+    lines = ran.stderr.decode("utf-8", "replace").split("\n")
+    if ran.stdout or len(lines) != 3 or lines[2] or not lines[1].startswith("  "):
+        raise _failure(ran)
+    return lines[:2]
+
+
+def _fault_of_text(ran: subprocess.CompletedProcess[bytes]) -> CensusError:
+    """Why an RLE text was refused."""
+    if _first_line(ran) == "census: input too long":
+        return TooLong()
+    line, told = _told_lines(ran)
+    fault = re.fullmatch(r"census: rle fault ([0-9]+)(?: at ([0-9]+))?", line)
+    where = re.fullmatch(r"  ([0-9]+):([0-9]+): (.*)", told)
+    if not fault or not where:
+        return _failure(ran)
+    at = fault.group(2)
+    return PatternFault(where.group(3), int(fault.group(1)), int(where.group(1)), int(where.group(2)), None if at is None else int(at))
+
+
+def _fault_of_words(ran: subprocess.CompletedProcess[bytes]) -> CensusError:
+    """Why a code or a rule was refused."""
+    line, told = _told_lines(ran)
+    code = re.fullmatch(r"census: code fault ([0-9]+)(?: at [0-9]+)?", line)
+    rule = re.fullmatch(r"census: rule fault ([0-9]+)", line)
+    where = re.fullmatch(r"  1:([0-9]+): (.*)", told)
+    if code and where:
+        return CodeFault(where.group(2), int(code.group(1)), f"byte {int(where.group(1)) - 1}")
+    if rule:
+        return RuleFault(told.strip(), int(rule.group(1)))
+    return _failure(ran)
 
 
 _FAULT = re.compile(r"census: ([0-9]+|-):([0-9]+):([0-9]+): (.*) \(rle fault ([0-9]+)(?: at ([0-9]+))?\)")
