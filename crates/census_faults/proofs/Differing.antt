@@ -9,10 +9,12 @@ use Rattle.census_bundle.specs.declared.fault.BundleFault.{BundleFault}
 use Rattle.census_bundle.specs.declared.fault.BundleFault.TheVariants as bundle
 use Rattle.census_bundle.specs.declared.bundle.AddFault.{AddFault}
 use Rattle.census_bundle.specs.declared.bundle.AddFault.TheVariants as add
+use Rattle.life_faults.specs.declared.files.FileKind.{FileKind}
+use Rattle.life_faults.specs.declared.files.FileKind.TheVariants as files
 use Rattle.life_faults.specs.declared.kinds.RuleKind.{RuleKind}
 use Rattle.life_faults.specs.declared.kinds.RuleKind.TheVariants as kinds
 use Rattle.census_faults.specs.declared.fault.Fault.{Fault}
-use Rattle.census_faults.specs.declared.fault.Fault.TheVariants.{Text, Rule, Bundle, Folder, Code, Generation, Report, TooLong, Read, FileForFolder, Write, Arguments, Words, Memory}
+use Rattle.census_faults.specs.declared.fault.Fault.TheVariants.{Text, File, Rule, Bundle, Folder, Code, Generation, Report, TooLong, Read, FileForFolder, Write, Arguments, Words, Memory}
 use Rattle.census_faults.specs.Faults.{canonical_fault}
 use Rattle.census_faults.specs.Sentences.{FaultsDiffer, sentence_of}
 
@@ -24,7 +26,12 @@ told_among (f ∷ rest) words = if bytes_eq words (sentence_of f) then f else to
 -- each fault once
 abbrev all_faults : List Fault
 all_faults =
-    Text rle.NoHeader ∷
+    File files.Gzip ∷
+    File files.Macrocell ∷
+    File files.OldLife ∷
+    File files.Plaintext ∷
+    File files.ByteOrderMark ∷
+    File files.Other ∷
     Text rle.BadHeader ∷
     Text rle.RuleHasB0 ∷
     Text (rle.ManyStates 0) ∷
@@ -35,6 +42,7 @@ all_faults =
     Text rle.NoEnd ∷
     Rule kinds.Named ∷
     Rule kinds.Bounded ∷
+    Rule kinds.History ∷
     Rule kinds.Generations ∷
     Rule kinds.LargerThanLife ∷
     Rule kinds.NonTotalistic ∷
@@ -78,9 +86,18 @@ text_tells (rle.TooMany at) = refl
 text_tells rle.NoEnd = refl
 text_tells rle.Memory = refl
 
+file_tells : (kind : FileKind) → told_by (sentence_of (File kind)) ≡ canonical_fault (File kind)
+file_tells files.Gzip = refl
+file_tells files.Macrocell = refl
+file_tells files.OldLife = refl
+file_tells files.Plaintext = refl
+file_tells files.ByteOrderMark = refl
+file_tells files.Other = refl
+
 rule_tells : (fault : RuleKind) → told_by (sentence_of (Rule fault)) ≡ canonical_fault (Rule fault)
 rule_tells kinds.Named = refl
 rule_tells kinds.Bounded = refl
+rule_tells kinds.History = refl
 rule_tells kinds.Generations = refl
 rule_tells kinds.LargerThanLife = refl
 rule_tells kinds.NonTotalistic = refl
@@ -110,6 +127,7 @@ code_tells code.Memory = refl
 
 fault_tells : (fault : Fault) → told_by (sentence_of fault) ≡ canonical_fault fault
 fault_tells (Text fault) = text_tells fault
+fault_tells (File kind) = file_tells kind
 fault_tells (Rule kind) = rule_tells kind
 fault_tells (Bundle fault) = bundle_tells fault
 fault_tells (Folder fault) = folder_tells fault

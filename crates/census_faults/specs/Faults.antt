@@ -10,10 +10,12 @@ use Rattle.census_bundle.specs.declared.fault.BundleFault.{BundleFault}
 use Rattle.census_bundle.specs.declared.fault.BundleFault.TheVariants as bundles
 use Rattle.census_bundle.specs.declared.bundle.AddFault.{AddFault}
 use Rattle.census_bundle.specs.declared.bundle.AddFault.TheVariants as adds
+use Rattle.life_faults.specs.declared.files.FileKind.TheVariants as files
 use Rattle.life_faults.specs.declared.kinds.RuleKind.TheVariants as kinds
+use Rattle.life_faults.specs.Files.{file_kind}
 use Rattle.life_faults.specs.Rules.{rule_in_header, rule_kind}
 use Rattle.census_faults.specs.declared.fault.Fault.{Fault}
-use Rattle.census_faults.specs.declared.fault.Fault.TheVariants.{Text, Rule, Bundle, Folder, Code, Generation, Report, TooLong, Read, FileForFolder, Write, Arguments, Words, Memory}
+use Rattle.census_faults.specs.declared.fault.Fault.TheVariants.{Text, File, Rule, Bundle, Folder, Code, Generation, Report, TooLong, Read, FileForFolder, Write, Arguments, Words, Memory}
 
 -- # Of texts and rules
 
@@ -23,6 +25,7 @@ header_fault None = Text rle.RuleNotLifeLike
 header_fault (Some rule) = Rule (rule_kind rule)
 
 abbrev pub text_fault : List ℕ → RleFault → Fault
+text_fault text rle.NoHeader = File (file_kind text)
 text_fault text rle.RuleNotLifeLike = header_fault (rule_in_header text)
 text_fault text fault = Text fault
 
@@ -32,9 +35,9 @@ rule_fault rule rules.HasB0 = Text rle.RuleHasB0
 
 -- # One fault under several names
 
--- out of memory is one fault, wherever it comes; a rule that isn't Life-like, of which no more is known, is of no other kind; and where a fault stands is no part of it
+-- out of memory is one fault, wherever it comes; a rule that isn't Life-like, or a text without a header line, of which no more is known, is of no other kind; and where a fault stands is no part of it
 abbrev pub same_of_text : RleFault → Fault
-same_of_text rle.NoHeader = Text rle.NoHeader
+same_of_text rle.NoHeader = File files.Other
 same_of_text rle.BadHeader = Text rle.BadHeader
 same_of_text rle.RuleNotLifeLike = Rule kinds.Other
 same_of_text rle.RuleHasB0 = Text rle.RuleHasB0
@@ -70,6 +73,7 @@ same_of_code codes.Memory = Memory
 -- the one fault that these name
 abbrev pub canonical_fault : Fault → Fault
 canonical_fault (Text fault) = same_of_text fault
+canonical_fault (File kind) = File kind
 canonical_fault (Rule kind) = Rule kind
 canonical_fault (Bundle fault) = same_of_bundle fault
 canonical_fault (Folder fault) = same_of_folder fault

@@ -9,7 +9,7 @@ use Rattle.census_bundle.specs.declared.bundle.AddFault.{AddFault}
 use Rattle.census_bundle.specs.declared.bundle.AddFault.TheVariants as add
 use Rattle.life_faults.specs.Sentences as texts
 use Rattle.census_faults.specs.declared.fault.Fault.{Fault}
-use Rattle.census_faults.specs.declared.fault.Fault.TheVariants.{Text, Rule, Bundle, Folder, Code, Generation, Report, TooLong, Read, FileForFolder, Write, Arguments, Words, Memory}
+use Rattle.census_faults.specs.declared.fault.Fault.TheVariants.{Text, File, Rule, Bundle, Folder, Code, Generation, Report, TooLong, Read, FileForFolder, Write, Arguments, Words, Memory}
 use Rattle.census_faults.specs.Faults.{canonical_fault}
 
 abbrev pub bundle_sentence : BundleFault → List ℕ
@@ -33,9 +33,10 @@ code_sentence (code.CutRun at) = codes "a `y` has no count in a code: a digit or
 code_sentence (code.TooFar at) = codes "a live cell of the code is too far out: its column and its row, counted from 0, must be at most 1048575"
 code_sentence code.Memory = texts.sentence_of rle.Memory
 
--- those of texts and of rules are told as everywhere
+-- those of texts, of other files and of rules are told as everywhere
 abbrev pub sentence_of : Fault → List ℕ
 sentence_of (Text fault) = texts.sentence_of fault
+sentence_of (File kind) = texts.file_sentence_of kind
 sentence_of (Rule kind) = texts.rule_sentence_of kind
 sentence_of (Bundle fault) = bundle_sentence fault
 sentence_of (Folder fault) = folder_sentence fault

@@ -6,7 +6,7 @@ ghost use Rattle.census_faults.specs.Sentences.{sentence_of};
 
 use census_bundle::{AddFault, BundleFault};
 use life_cells::RuleFault;
-use life_faults::{RuleKind, rule_in_header, rule_kind};
+use life_faults::{FileKind, RuleKind, file_kind, rule_in_header, rule_kind};
 use life_shape::CodeFault;
 use life_text::RleFault;
 
@@ -15,6 +15,8 @@ use life_text::RleFault;
 pub enum Fault {
     /// An RLE text has this fault.
     Text(RleFault),
+    /// A text has no header line, but is of this kind.
+    File(FileKind),
     /// A rule is not Life-like, but of this kind.
     Rule(RuleKind),
     /// A bundle text has this fault.
@@ -43,13 +45,15 @@ pub enum Fault {
     Memory,
 }
 
-/// The fault of an RLE text. Where the rule is not Life-like, it is the kind of the rule that the header names.
+/// The fault of an RLE text. Where it has no header line, it is what the text is instead, and where the rule is not
+/// Life-like, the kind of the rule that the header names.
 pub fn text_fault(text: &[u8], fault: RleFault) -> Fault
     ensures value { result ≡ text_fault text.now fault }
     // Its sentence is the one that is told of the text elsewhere.
     ensures words { sentence_of result ≡ words_of text.now fault }
 {
     match fault {
+        RleFault::NoHeader => Fault::File(file_kind(text)),
         RleFault::RuleNotLifeLike => match rule_in_header(text) {
             Some(rule) => Fault::Rule(rule_kind(rule)),
             None => Fault::Text(fault),

@@ -4,7 +4,7 @@ ghost use Rattle.census_faults.specs.Sentences.{FaultsDiffer, bundle_sentence, c
 
 use crate::fault::Fault;
 use census_bundle::{AddFault, BundleFault};
-use life_faults::{rule_sentence, sentence as text_sentence};
+use life_faults::{file_sentence, rule_sentence, sentence as text_sentence};
 use life_shape::CodeFault;
 use life_text::RleFault;
 
@@ -65,6 +65,7 @@ pub fn sentence(fault: Fault) -> &'static str
 {
     match fault {
         Fault::Text(fault) => text_sentence(fault),
+        Fault::File(kind) => file_sentence(kind),
         Fault::Rule(kind) => rule_sentence(kind),
         Fault::Bundle(fault) => bundle_sentence(fault),
         Fault::Folder(fault) => folder_sentence(fault),
@@ -88,7 +89,8 @@ pub fn sentence(fault: Fault) -> &'static str
 }
 
 /// What tells a fault tells which it is. Two faults with one sentence are one: they differ at most in where they stand,
-/// or both are out of memory, or both are a rule that is not Life-like and of no kind that has a name.
+/// or both are out of memory, or both are a rule that is not Life-like, or a text without a header line, and of no kind
+/// that has a name.
 pub fn faults_differ()
     ensures { FaultsDiffer }
 {}

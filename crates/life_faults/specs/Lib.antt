@@ -1,4 +1,5 @@
 pub mod Places
+pub mod Files
 pub mod Rules
 pub mod Sentences
 pub mod Lines

@@ -1,11 +1,11 @@
 -- The rule text of a header, and which kind of rule it names.
-use Rattle.std.specs.Prelude.{ℕ, Bool, ◌&&◌, ◌||◌, not, false, List, [], ◌∷◌, Option, Some, codes, ◌==◌, if◌then◌else◌}
-use Rattle.std.specs.List.{list_all, list_any, after_last}
+use Rattle.std.specs.Prelude.{ℕ, Bool, ◌&&◌, ◌||◌, not, false, List, [], ◌∷◌, Option, Some, codes, ◌==◌, nat_eq, if◌then◌else◌}
+use Rattle.std.specs.List.{list_all, list_any, after_last, ends_with}
 use Rattle.texts.specs.Bytes.{is_in, is_digit, is_letter, is_blank, without_ends, ◌>>=◌}
 use Rattle.life_text.specs.Rle.{after_sizes, after_rule_name, header_line}
 use Rattle.life_faults.specs.Places.{times_in}
 use Rattle.life_faults.specs.declared.kinds.RuleKind.{RuleKind}
-use Rattle.life_faults.specs.declared.kinds.RuleKind.TheVariants.{Named, Bounded, Generations, LargerThanLife, NonTotalistic, Blank, Other}
+use Rattle.life_faults.specs.declared.kinds.RuleKind.TheVariants.{Named, Bounded, History, Generations, LargerThanLife, NonTotalistic, Blank, Other}
 
 -- the rule text of a header line, without the blanks at its ends
 abbrev pub rule_in_line : List ℕ → Option (List ℕ)
@@ -16,6 +16,12 @@ rule_in_line line = do
 
 abbrev pub rule_in_header : List ℕ → Option (List ℕ)
 rule_in_header text = rule_in_line (header_line text)
+
+-- # States for the history of a cell
+
+-- a rule whose name ends in `History` or `Super`, as `LifeHistory`
+abbrev pub has_history : List ℕ → Bool
+has_history rule = ends_with nat_eq rule (codes "History") || ends_with nat_eq rule (codes "Super")
 
 -- # Larger than Life
 
@@ -86,8 +92,9 @@ is_rule_name rule = has_word_behind 47 rule && (not (is_in rule 47) && not (is_m
 abbrev pub rule_kind : List ℕ → RuleKind
 rule_kind rule =
     if is_in rule 58 then Bounded else
+    (if has_history rule then History else
     (if is_larger rule then LargerThanLife else
     (if is_generations rule then Generations else
     (if is_non_totalistic rule then NonTotalistic else
     (if is_rule_name rule then Named else
-    (if list_any is_blank rule then Blank else Other)))))
+    (if list_any is_blank rule then Blank else Other))))))

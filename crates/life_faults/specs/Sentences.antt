@@ -2,9 +2,12 @@
 use Rattle.std.specs.Prelude.{◌≡◌, ℕ, List, Option, Some, None, codes}
 use Rattle.life_text.specs.declared.rle.RleFault.{RleFault}
 use Rattle.life_text.specs.declared.rle.RleFault.TheVariants.{NoHeader, BadHeader, RuleNotLifeLike, RuleHasB0, ManyStates, BadChar, BadRun, TooFar, TooMany, NoEnd, Memory}
+use Rattle.life_faults.specs.Files.{file_kind}
 use Rattle.life_faults.specs.Rules.{rule_in_header, rule_kind}
+use Rattle.life_faults.specs.declared.files.FileKind.{FileKind}
+use Rattle.life_faults.specs.declared.files.FileKind.TheVariants.{Gzip, Macrocell, OldLife, Plaintext, ByteOrderMark, Other as OtherFile}
 use Rattle.life_faults.specs.declared.kinds.RuleKind.{RuleKind}
-use Rattle.life_faults.specs.declared.kinds.RuleKind.TheVariants.{Named, Bounded, Generations, LargerThanLife, NonTotalistic, Blank, Other}
+use Rattle.life_faults.specs.declared.kinds.RuleKind.TheVariants.{Named, Bounded, History, Generations, LargerThanLife, NonTotalistic, Blank, Other}
 
 -- what is wrong, and what would be right
 abbrev pub sentence_of : RleFault → List ℕ
@@ -24,21 +27,31 @@ sentence_of Memory = codes "memory ran out: what was given may be right, but mor
 abbrev pub rule_sentence_of : RuleKind → List ℕ
 rule_sentence_of Named = codes "the rule is given by a name: it must be a Life-like rule that is written out, as `B3/S23`"
 rule_sentence_of Bounded = codes "the rule has a bounded grid: it must end before the `:`, since patterns live on the unbounded plane here"
+rule_sentence_of History = codes "the rule has more states than two, as LifeHistory has: it must be Life-like, with two states, as `B3/S23`"
 rule_sentence_of Generations = codes "the rule is one of Generations, with a number of states: it must be Life-like, with two states, as `B3/S23`"
 rule_sentence_of LargerThanLife = codes "the rule is one of Larger than Life, with a range: it must be Life-like, with the eight nearest neighbours, as `B3/S23`"
 rule_sentence_of NonTotalistic = codes "the rule is isotropic non-totalistic, with letters for arrangements: it must count live neighbours alone, as `B3/S23`"
 rule_sentence_of Blank = codes "the rule has a blank inside: it must be written without blanks, as `B3/S23`"
 rule_sentence_of Other = codes "the rule has no Life-like form: it must be written as `B3/S23`, `S23/B3` or `23/3`, with digits from 0 to 8"
 
+-- the same for each kind of text that has no header line
+abbrev pub file_sentence_of : FileKind → List ℕ
+file_sentence_of Gzip = codes "the text is compressed by gzip: it must be unpacked first, as `gunzip` does"
+file_sentence_of Macrocell = codes "the text is a macrocell file: it must be in the format RLE, in which Golly can save it"
+file_sentence_of OldLife = codes "the text is in the format Life 1.05 or Life 1.06: it must be in the format RLE, in which Golly can save it"
+file_sentence_of Plaintext = codes "the text is a drawing in plaintext, with `.` and `O`: it must be in the format RLE, in which Golly can save it"
+file_sentence_of ByteOrderMark = codes "a byte order mark stands before the first line: the text must begin without it"
+file_sentence_of OtherFile = sentence_of NoHeader
+
 -- the sentence for the rule of a header
 abbrev pub sentence_of_rule : Option (List ℕ) → List ℕ
 sentence_of_rule None = sentence_of RuleNotLifeLike
 sentence_of_rule (Some rule) = rule_sentence_of (rule_kind rule)
 
--- the sentence for a fault of a text, which says of a rule that is not Life-like which kind it is
+-- the sentence for a fault of a text, which says what a text without a header line is, and of a rule that is not Life-like which kind it is
 abbrev pub words_of : List ℕ → RleFault → List ℕ
 words_of text RuleNotLifeLike = sentence_of_rule (rule_in_header text)
-words_of text NoHeader = sentence_of NoHeader
+words_of text NoHeader = file_sentence_of (file_kind text)
 words_of text BadHeader = sentence_of BadHeader
 words_of text RuleHasB0 = sentence_of RuleHasB0
 words_of text (ManyStates at) = sentence_of (ManyStates at)
@@ -72,6 +85,10 @@ SentencesDiffer = (f g : RleFault) → sentence_of f ≡ sentence_of g → witho
 -- kinds of rules with one sentence are one
 abbrev pub RuleSentencesDiffer : Type 0
 RuleSentencesDiffer = (k l : RuleKind) → rule_sentence_of k ≡ rule_sentence_of l → k ≡ l
+
+-- kinds of texts without a header line with one sentence are one
+abbrev pub FileSentencesDiffer : Type 0
+FileSentencesDiffer = (k l : FileKind) → file_sentence_of k ≡ file_sentence_of l → k ≡ l
 
 -- whatever the texts: faults that are told by one sentence differ in their byte at most
 abbrev pub WordsDiffer : Type 0

@@ -2,7 +2,7 @@
 ghost use Rattle.std.specs.Prelude.{◌≡◌};
 ghost use Rattle.std.specs.List.{list_all, list_any};
 ghost use Rattle.texts.specs.Bytes.{is_blank, is_digit};
-ghost use Rattle.life_faults.specs.Rules.{begins_with_range, has_arrangement_behind, has_word_behind, is_arrangement, is_generations, is_in_numbers, is_isotropic, is_larger, is_map, is_non_totalistic, is_number, is_rule_name, is_states, rule_kind};
+ghost use Rattle.life_faults.specs.Rules.{begins_with_range, has_arrangement_behind, has_history, has_word_behind, is_arrangement, is_generations, is_in_numbers, is_isotropic, is_larger, is_map, is_non_totalistic, is_number, is_rule_name, is_states, rule_kind};
 
 use crate::bytes::{behind_last, count_of};
 use life_text::{is_blank, is_digit, is_letter};
@@ -14,6 +14,8 @@ pub enum RuleKind {
     Named,
     /// A rule on a bounded grid, which has `:`, as `B3/S23:T100,100`.
     Bounded,
+    /// A rule with states for what a cell has been, as `LifeHistory` or `LifeSuper`.
+    History,
     /// A rule with a number of states, as `B2/S/C3` or `23/3/4`.
     Generations,
     /// A rule with a range, as `R5,C0,M1,S34..58,B34..45,NM`.
@@ -24,6 +26,13 @@ pub enum RuleKind {
     Blank,
     /// None of these.
     Other,
+}
+
+// Whether a rule's name ends in `History` or `Super`.
+fn has_history(rule: &[u8]) -> bool
+    ensures { result ≡ has_history rule.now }
+{
+    rule.ends_with(b"History") || rule.ends_with(b"Super")
 }
 
 // Whether a text begins with `R` and a digit.
@@ -165,6 +174,7 @@ fn has_blank(text: &[u8]) -> bool
 /// Which kind of rule a text names that is no Life-like rule. The first of these that holds says it:
 ///
 /// - `Bounded`: `:` stands in it.
+/// - `History`: it ends in `History` or `Super`.
 /// - `LargerThanLife`: it begins with `R` and a digit and has a comma, or is five numbers with commas between.
 /// - `Generations`: it has two `/`, and after the second a number, before which `C` or `G` may stand.
 /// - `NonTotalistic`: it is made of `0` to `8`, `/`, `-`, `B`, `S`, `b`, `s` and the letters of arrangements, and one of
@@ -176,6 +186,8 @@ pub fn rule_kind(rule: &[u8]) -> RuleKind
 {
     if rule.contains(&b':') {
         RuleKind::Bounded
+    } else if has_history(rule) {
+        RuleKind::History
     } else if is_larger(rule) {
         RuleKind::LargerThanLife
     } else if is_generations(rule) {

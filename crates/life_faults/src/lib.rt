@@ -4,6 +4,7 @@
 #![tactic(auto)]
 
 mod bytes;
+mod files;
 mod header;
 mod kinds;
 mod line;
@@ -11,10 +12,13 @@ mod places;
 mod sentences;
 mod told;
 
+pub use files::{FileKind, file_kind};
 pub use header::{header_place, rule_in_header};
 pub use kinds::{RuleKind, rule_kind};
 pub use life_text::RleFault;
 pub use line::{line_and_column, place_of};
 pub use places::Place;
-pub use sentences::{refused_rules_are_told, rule_sentence, sentence, sentences_differ, words_of};
+pub use sentences::{
+    file_sentence, refused_rules_are_told, rule_sentence, sentence, sentences_differ, words_of,
+};
 pub use told::{fault_line, sentence_line};

@@ -1,8 +1,9 @@
 //! The sentence for each fault.
 ghost use Rattle.std.specs.Prelude.{◌≡◌, ◌<◌, length};
 ghost use Rattle.life_faults.specs.Refused.{RefusedRulesAreTold};
-ghost use Rattle.life_faults.specs.Sentences.{RuleSentencesDiffer, SentencesDiffer, WordsDiffer, rule_sentence_of, sentence_of, words_of};
+ghost use Rattle.life_faults.specs.Sentences.{FileSentencesDiffer, RuleSentencesDiffer, SentencesDiffer, WordsDiffer, file_sentence_of, rule_sentence_of, sentence_of, words_of};
 
+use crate::files::{FileKind, file_kind};
 use crate::header::rule_in_header;
 use crate::kinds::{RuleKind, rule_kind};
 use life_text::RleFault;
@@ -47,6 +48,8 @@ pub fn rule_sentence(kind: RuleKind) -> &'static str
             "the rule is given by a name: it must be a Life-like rule that is written out, as `B3/S23`",
         RuleKind::Bounded =>
             "the rule has a bounded grid: it must end before the `:`, since patterns live on the unbounded plane here",
+        RuleKind::History =>
+            "the rule has more states than two, as LifeHistory has: it must be Life-like, with two states, as `B3/S23`",
         RuleKind::Generations =>
             "the rule is one of Generations, with a number of states: it must be Life-like, with two states, as `B3/S23`",
         RuleKind::LargerThanLife =>
@@ -60,11 +63,33 @@ pub fn rule_sentence(kind: RuleKind) -> &'static str
     }
 }
 
-/// The sentence for a fault of a text. Where the rule is not Life-like, it says of which kind the header's rule is.
+/// The sentence for a kind of text that has no header line: what it is, and what would be right.
+pub fn file_sentence(kind: FileKind) -> &'static str
+    ensures sentence { result.now ≡ file_sentence_of kind }
+    ensures told { 0 < length result.now }
+{
+    match kind {
+        FileKind::Gzip =>
+            "the text is compressed by gzip: it must be unpacked first, as `gunzip` does",
+        FileKind::Macrocell =>
+            "the text is a macrocell file: it must be in the format RLE, in which Golly can save it",
+        FileKind::OldLife =>
+            "the text is in the format Life 1.05 or Life 1.06: it must be in the format RLE, in which Golly can save it",
+        FileKind::Plaintext =>
+            "the text is a drawing in plaintext, with `.` and `O`: it must be in the format RLE, in which Golly can save it",
+        FileKind::ByteOrderMark =>
+            "a byte order mark stands before the first line: the text must begin without it",
+        FileKind::Other => sentence(RleFault::NoHeader),
+    }
+}
+
+/// The sentence for a fault of a text. Where there is no header line, it says what the text is, and where the rule is not
+/// Life-like, of which kind the header's rule is.
 pub fn words_of(text: &[u8], fault: RleFault) -> &'static str
     ensures { result.now ≡ words_of text.now fault }
 {
     match fault {
+        RleFault::NoHeader => file_sentence(file_kind(text)),
         RleFault::RuleNotLifeLike => match rule_in_header(text) {
             Some(rule) => rule_sentence(rule_kind(rule)),
             None => sentence(fault),
@@ -73,11 +98,12 @@ pub fn words_of(text: &[u8], fault: RleFault) -> &'static str
     }
 }
 
-/// What tells a fault tells which it is. Faults with one sentence differ in their byte at most, kinds of rules with one
-/// sentence are one, and so it is with what is told of faults of whatever texts.
+/// What tells a fault tells which it is. Faults with one sentence differ in their byte at most, kinds of rules and of texts
+/// without a header line with one sentence are one, and so it is with what is told of faults of whatever texts.
 pub fn sentences_differ()
     ensures faults { SentencesDiffer }
     ensures rules { RuleSentencesDiffer }
+    ensures files { FileSentencesDiffer }
     ensures words { WordsDiffer }
 {}
 

@@ -30,6 +30,26 @@ const HEADERS: &[Told] = &[
         b"1:1: there is no header line: the first line that is neither blank nor a comment must begin with `x`, as in `x = 3, y = 3` (rle fault 1)",
     ),
     (
+        b"\x1f\x8b\x08\x00",
+        b"1:1: the text is compressed by gzip: it must be unpacked first, as `gunzip` does (rle fault 1)",
+    ),
+    (
+        b"[M2] (golly 3.3)\n#R B3/S23\n",
+        b"1:1: the text is a macrocell file: it must be in the format RLE, in which Golly can save it (rle fault 1)",
+    ),
+    (
+        b"#Life 1.06\n0 -1\n1 0\n",
+        b"2:1: the text is in the format Life 1.05 or Life 1.06: it must be in the format RLE, in which Golly can save it (rle fault 1)",
+    ),
+    (
+        b"!Name: Glider\n.O\n..O\nOOO\n",
+        b"1:1: the text is a drawing in plaintext, with `.` and `O`: it must be in the format RLE, in which Golly can save it (rle fault 1)",
+    ),
+    (
+        b"\xef\xbb\xbfx = 3, y = 1\n3o!\n",
+        b"1:1: a byte order mark stands before the first line: the text must begin without it (rle fault 1)",
+    ),
+    (
         b"x = 3, y\n3o!\n",
         b"1:1: the header line is malformed: it must have the form `x = 3, y = 3` or `x = 3, y = 3, rule = B3/S23` (rle fault 2)",
     ),
@@ -52,6 +72,10 @@ const RULES: &[Told] = &[
     (
         b"x = 1, y = 1, rule = B3/S23:T100,100\no!",
         b"1:1: the rule has a bounded grid: it must end before the `:`, since patterns live on the unbounded plane here (rle fault 3)",
+    ),
+    (
+        b"x = 1, y = 1, rule = LifeHistory\no!",
+        b"1:1: the rule has more states than two, as LifeHistory has: it must be Life-like, with two states, as `B3/S23` (rle fault 3)",
     ),
     (
         b"x = 1, y = 1, rule = B2/S/3\no!",
@@ -141,6 +165,10 @@ const KINDS: &[(&[&[u8]], RuleKind)] = &[
     (
         &[b"B3/S23:T100,100", b"B3/S23:P30,20", b"B2/S/C3:K8,8*"],
         RuleKind::Bounded,
+    ),
+    (
+        &[b"LifeHistory", b"B3/S23History", b"LifeSuper"],
+        RuleKind::History,
     ),
     (
         &[

@@ -6,7 +6,7 @@ use census_faults::{
     spot_of_code, spot_of_text, text_fault,
 };
 use life_cells::RuleFault;
-use life_faults::{Place, RuleKind};
+use life_faults::{FileKind, Place, RuleKind};
 use life_shape::CodeFault;
 use life_text::RleFault;
 use std::test::Fail;
@@ -111,6 +111,8 @@ fn faults_have_their_spots(rt: HostRuntime) {
     let unlike = RleFault::RuleNotLifeLike;
     assert!(rt; matches!(text_fault(NAMED, unlike), Fault::Rule(RuleKind::Named)));
     assert!(rt; is_at(spot_of_text(NAMED, &unlike), 2, 2));
+    let macrocell = text_fault(b"[M2]", RleFault::NoHeader);
+    assert!(rt; matches!(macrocell, Fault::File(FileKind::Macrocell)));
     let generations = rule_fault(b"B2/S/C3", RuleFault::NotLifeLike);
     assert!(rt; matches!(generations, Fault::Rule(RuleKind::Generations)));
     let births = rule_fault(b"B0/S", RuleFault::HasB0);
