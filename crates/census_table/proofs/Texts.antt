@@ -6,9 +6,7 @@ use Rattle.census_rows.specs.declared.row.Row.{Row}
 use Rattle.census_readback.specs.Grouped.{sections_lent, rows_lent}
 use Rattle.census_table.specs.Entries.{all_entries, entry_before, entry_of_row, lines_under, section_entries}
 use Rattle.csv.specs.Writing.{default_writer, row_text}
-use Rattle.serde_json.specs.Data.{object}
-use Rattle.serde_json.specs.Written.{compact_text}
-use Rattle.census_table.specs.Tables.{csv_records, entry_fields, entry_members, head_text, json_text, rows_text, table_text}
+use Rattle.census_table.specs.Tables.{csv_records, entry_fields, head_text, json_line, json_text, rows_text, table_text}
 use Rattle.census_table.specs.declared.entry.Entry.{Entry}
 use Rattle.census_table.specs.declared.table.Format.{Format}
 use Rattle.census_table.specs.declared.table.Format.TheVariants.{Csv, Json}
@@ -20,7 +18,7 @@ rows-append Csv (x ∷ xs) ys =
     ap (λ t. row ++ t) (rows-append Csv xs ys) ∙ sym (append_assoc row (csv_records xs) (csv_records ys))
 rows-append Json [] ys = refl
 rows-append Json (x ∷ xs) ys =
-    let row = compact_text (object (entry_members x)) ++ 10 ∷ [] in
+    let row = json_line x in
     ap (λ t. row ++ t) (rows-append Json xs ys) ∙ sym (append_assoc row (json_text xs) (json_text ys))
 
 pub whole-table : (format : Format) (entries : List Entry) → table_text format entries ≡ head_text format ++ rows_text format entries

@@ -1,5 +1,7 @@
 -- The texts of tables.
-use Rattle.std.specs.Prelude.{ℕ, List, [], ◌∷◌, ◌++◌, map}
+use Rattle.std.specs.Prelude.{ℕ, List, [], ◌∷◌, ◌++◌, codes, length, map}
+use Rattle.bstr.specs.Find.{matches}
+use Rattle.bstr.specs.Text.{replaced_at}
 use Rattle.csv.specs.Writing.{default_writer, row_text}
 use Rattle.serde_json.specs.Data.{Members, no_members, object, put}
 use Rattle.serde_json.specs.Written.{compact_text}
@@ -35,10 +37,24 @@ with_columns entry (column ∷ others) members = with_columns entry others (put 
 abbrev pub entry_members : Entry → Members
 entry_members entry = with_columns entry columns no_members
 
--- an object and an LF for each pattern, as `serde_json` writes it without blanks
+-- the bytes, with each place where these stand taken by others
+abbrev pub replaced : List ℕ → List ℕ → List ℕ → List ℕ
+replaced old new bytes = replaced_at bytes (length old) new 0 (matches bytes old 0)
+
+-- JSON in which what other programs may take for the end of a line, U+0085, U+2028 and U+2029, is written as an escape
+abbrev pub with_line_ends_escaped : List ℕ → List ℕ
+with_line_ends_escaped json =
+    replaced (226 ∷ 128 ∷ 169 ∷ []) (codes "\\u2029")
+    (replaced (226 ∷ 128 ∷ 168 ∷ []) (codes "\\u2028") (replaced (194 ∷ 133 ∷ []) (codes "\\u0085") json))
+
+-- an object, as `serde_json` writes it without blanks, and an LF
+abbrev pub json_line : Entry → List ℕ
+json_line entry = with_line_ends_escaped (compact_text (object (entry_members entry))) ++ 10 ∷ []
+
+-- one for each pattern
 abbrev pub json_text : List Entry → List ℕ
 json_text [] = []
-json_text (entry ∷ entries) = (compact_text (object (entry_members entry)) ++ 10 ∷ []) ++ json_text entries
+json_text (entry ∷ entries) = json_line entry ++ json_text entries
 
 -- what a table has before its rows
 abbrev pub head_text : Format → List ℕ

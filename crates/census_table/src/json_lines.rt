@@ -3,10 +3,11 @@ ghost use Rattle.std.specs.Prelude.{◌≡◌, ◌∷◌, [], ◌++◌, IfOk, On
 ghost use Rattle.serde_json.specs.Data.{object};
 ghost use Rattle.serde_json.specs.View.{members_view, view};
 ghost use Rattle.serde_json.specs.Written.{compact_text};
-ghost use Rattle.census_table.specs.Tables.{json_text, entry_members, with_columns};
+ghost use Rattle.census_table.specs.Tables.{json_line, json_text, entry_members, with_columns, with_line_ends_escaped};
 
 use crate::column::Column;
 use crate::entry::Entry;
+use bstr::ByteSlice;
 use serde_json::{Map, Value, put};
 use std::alloc::{AllocError, Global};
 
@@ -36,13 +37,23 @@ fn object_of(alloc: Global, entry: &Entry) -> Result<Value, AllocError>
     Ok(Value::Object(members))
 }
 
+// JSON in which no byte or character but LF ends a line, for programs that know more line ends.
+fn with_line_ends_escaped(alloc: Global, json: &[u8]) -> Result<Vec<u8>, AllocError>
+    ensures { IfOk result (λ escaped. escaped.items ≡ with_line_ends_escaped json.now) }
+{
+    let json = json.replace(alloc, b"\xc2\x85", b"\\u0085")?;
+    let json = json.as_slice().replace(alloc, b"\xe2\x80\xa8", b"\\u2028")?;
+    json.as_slice().replace(alloc, b"\xe2\x80\xa9", b"\\u2029")
+}
+
 // Adds the line of a pattern.
 fn push_line(alloc: Global, text: &mut Vec<u8>, entry: &Entry) -> Result<(), AllocError>
     ensures { OnOk result (text.new.items
-        ≡ text.old.items ++ (compact_text (object (entry_members entry.now)) ++ 10 ∷ [])) }
+        ≡ text.old.items ++ json_line entry.now) }
 {
     let value = object_of(alloc, entry)?;
-    let line = value.to_vec(alloc)?;
+    let json = value.to_vec(alloc)?;
+    let line = with_line_ends_escaped(alloc, json.as_slice())?;
     text.extend_from_slice(line.as_slice())?;
     text.push(b'\n')?;
     Ok(())
