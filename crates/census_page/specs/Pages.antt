@@ -10,10 +10,10 @@ use Rattle.census_rows.specs.declared.row.Row.TheVariants.{Open, Line, Part, Cod
 use Rattle.census_rows.specs.Kinds.{said_of, value_at}
 use Rattle.census_readback.specs.Grouped.{collections_of}
 use Rattle.census_readback.specs.Shapes.{is_resolved}
-use Rattle.census_page.specs.declared.markup.TheConstants.{LIST_BEGIN, LIST_END, PAGE_BEGIN, PAGE_END, TABLE_BEGIN, TABLE_END}
 use Rattle.census_page.specs.declared.holder.Holder.{Holder}
 use Rattle.census_page.specs.Escapes.{name_element}
 use Rattle.census_page.specs.Holders.{holder_items, holders_from}
+use Rattle.census_page.specs.Markup.{list_begin, list_end, page_begin, page_end, table_begin, table_end}
 use Rattle.census_page.specs.Pictures.{picture}
 
 -- the name of a collection
@@ -113,10 +113,10 @@ framed_text before [] after = []
 framed_text before (byte ∷ bytes) after = before ++ (byte ∷ bytes) ++ after
 
 abbrev pub code_table : List Row → List ℕ
-code_table rows = framed_text TABLE_BEGIN.now (code_rows (holders_from Nothing rows) rows) TABLE_END.now
+code_table rows = framed_text table_begin (code_rows (holders_from Nothing rows) rows) table_end
 
 abbrev pub stray_list : List Row → List ℕ
-stray_list rows = framed_text LIST_BEGIN.now (stray_rows rows) LIST_END.now
+stray_list rows = framed_text list_begin (stray_rows rows) list_end
 
 -- a collection
 abbrev pub section_text : List Row → List ℕ
@@ -128,7 +128,7 @@ sections_text (rows ∷ sections) = section_text rows ++ sections_text sections
 
 -- the page of reports
 abbrev pub page_of : List Row → List ℕ
-page_of rows = PAGE_BEGIN.now ++ sections_text (collections_of [] rows) ++ PAGE_END.now
+page_of rows = page_begin ++ sections_text (collections_of [] rows) ++ page_end
 
 -- how many `code` rows there are
 abbrev pub is_code : Row → Bool

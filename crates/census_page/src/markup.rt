@@ -1,7 +1,12 @@
 //! What stands in every page.
+ghost use Rattle.std.specs.Prelude.{◌≡◌};
+ghost use Rattle.census_page.specs.Markup.{list_begin, list_end, page_begin, page_end, table_begin, table_end};
 
 /// The page before its collections. All style stands here: nothing is asked of any other place.
-pub const PAGE_BEGIN: &[u8] = b"<!DOCTYPE html>
+pub fn page_begin() -> &'static [u8]
+    ensures { result.now ≡ page_begin }
+{
+    b"<!DOCTYPE html>
 <html lang=\"en\">
 <head>
 <meta charset=\"utf-8\">
@@ -31,29 +36,50 @@ td:nth-child(4)::before{content:\"Count \"}
 </head>
 <body>
 <h1>Census</h1>
-";
+"
+}
 
 /// The page after its collections.
-pub const PAGE_END: &[u8] = b"</body>
+pub fn page_end() -> &'static [u8]
+    ensures { result.now ≡ page_end }
+{
+    b"</body>
 </html>
-";
+"
+}
 
 /// A table of codes before its rows.
-pub const TABLE_BEGIN: &[u8] = b"<table>
+pub fn table_begin() -> &'static [u8]
+    ensures { result.now ≡ table_begin }
+{
+    b"<table>
 <thead><tr><th>Picture</th><th>Rule</th><th>Code</th><th>Count</th><th>Patterns</th></tr></thead>
 <tbody>
-";
+"
+}
 
 /// A table of codes after its rows.
-pub const TABLE_END: &[u8] = b"</tbody>
+pub fn table_end() -> &'static [u8]
+    ensures { result.now ≡ table_end }
+{
+    b"</tbody>
 </table>
-";
+"
+}
 
 /// A list of patterns that have no code before its items.
-pub const LIST_BEGIN: &[u8] = b"<h3>Unresolved or refused</h3>
+pub fn list_begin() -> &'static [u8]
+    ensures { result.now ≡ list_begin }
+{
+    b"<h3>Unresolved or refused</h3>
 <ul>
-";
+"
+}
 
 /// A list of patterns that have no code after its items.
-pub const LIST_END: &[u8] = b"</ul>
-";
+pub fn list_end() -> &'static [u8]
+    ensures { result.now ≡ list_end }
+{
+    b"</ul>
+"
+}

@@ -8,7 +8,7 @@ ghost use Rattle.census_page.specs.Pages.{code_table, codes_in, collection_name,
 use crate::code_row::push_code_rows;
 use crate::escape::{push_number, push_told};
 use crate::holder::{Holder, holders};
-use crate::markup::{LIST_BEGIN, LIST_END, PAGE_BEGIN, PAGE_END, TABLE_BEGIN, TABLE_END};
+use crate::markup::{list_begin, list_end, page_begin, page_end, table_begin, table_end};
 use crate::stray::push_stray;
 use census_readback::collections;
 use census_rows::Row;
@@ -124,7 +124,7 @@ fn push_code_table(alloc: Global, text: &mut Vec<u8>, rows: &[&Row]) -> Result<(
     let holders = holders(alloc, rows)?;
     let mut inner = Vec::new(alloc);
     push_code_rows(alloc, &mut inner, holders.as_slice(), rows)?;
-    push_framed(text, TABLE_BEGIN, inner.as_slice(), TABLE_END)
+    push_framed(text, table_begin(), inner.as_slice(), table_end())
 }
 
 // Adds the list of a collection's unresolved and refused patterns.
@@ -133,7 +133,7 @@ fn push_stray_list(alloc: Global, text: &mut Vec<u8>, rows: &[&Row]) -> Result<(
 {
     let mut inner = Vec::new(alloc);
     push_stray_rows(alloc, &mut inner, rows)?;
-    push_framed(text, LIST_BEGIN, inner.as_slice(), LIST_END)
+    push_framed(text, list_begin(), inner.as_slice(), list_end())
 }
 
 // Adds a collection.
@@ -173,9 +173,9 @@ pub fn page(alloc: Global, rows: &[Row]) -> Result<Vec<u8>, AllocError>
 {
     let sections = collections(alloc, rows)?;
     let mut text = Vec::new(alloc);
-    text.extend_from_slice(PAGE_BEGIN)?;
+    text.extend_from_slice(page_begin())?;
     push_sections(alloc, &mut text, sections.as_slice())?;
-    text.extend_from_slice(PAGE_END)?;
+    text.extend_from_slice(page_end())?;
     Ok(text)
 }
 
