@@ -1,0 +1,223 @@
+-- Growth lasts: of each engine its core is left, and the debris becomes more.
+use Rattle.std.proofs.Common.{◌≡◌, ℕ, ◌+◌, ◌-◌, ◌≤◌, List, [], ◌∷◌, ◌++◌, length, sym, refl, ap, subst, ◌∙◌, arith}
+use Rattle.std.specs.List.{All, AllPairs, AllZip}
+use Rattle.std.proofs.lemmas.List.Elements.{All-cons, All-head, All-nil, All-tail, length_all_zip}
+use Rattle.std.proofs.lemmas.List.Kept.{AllPairs-cons}
+use Rattle.life_model.specs.Rule.{Rule}
+use Rattle.life_model.specs.Generation.{Generation, empty}
+use Rattle.life_model.specs.Evolution.{generation}
+use Rattle.life_model.proofs.Recurrences.{generation-add}
+use Rattle.life_objects.specs.Apart.{AreApartForEver}
+use Rattle.life_objects.specs.Union.{union, union_of, generations}
+use Rattle.life_objects.proofs.Ashes.{AreApartForEver-later}
+use Rattle.life_objects.proofs.Lists.{AllPairs-head, AllPairs-nil, AllPairs-tail}
+use Rattle.life_objects.proofs.OneList.{apart_from_list}
+use Rattle.life_objects.proofs.Times.{AreApartForEver-swap, generation-empty, generation-union_ever}
+use Rattle.life_objects.proofs.Unions.{union-comm, union-empty}
+use Rattle.life_growth.specs.Engine.{FallsApart, IsEngine, IsEngineWithin, Way}
+use Rattle.life_growth.specs.Growth.{IsGrowth}
+use Rattle.life_growth.specs.Onward.{debris_after, endless, onward}
+use Rattle.life_growth.specs.Told.{AreToldAlike}
+use Rattle.life_growth.proofs.Emitting.{IsEngine-wider, all_told_alike-wider, phases_are_told_alike, steady_ashes, steady_ashes-are}
+use Rattle.life_growth.proofs.Endless.{core_first, goes_on}
+use Rattle.life_growth.proofs.Growing.{apart_from_empty, becomes, core_apart, debris_settles, remains, union-assoc}
+use Rattle.life_growth.proofs.OneWay.{IsEngine-phase}
+use Rattle.life_growth.proofs.Parts.{IsPart, apart_part, both_apart, apart_from_both, part_apart}
+use Rattle.life_growth.proofs.Settling.{FallsApart-wider, settles_empty, settles_later, settles_together}
+
+module _ (R : Rule) (b n : ℕ) where
+  -- n generations on each engine has become its core and what has left it
+  pub record Shed (Es : List Generation) : Type 0 where
+    pub cores : List Generation
+    pub left : Generation
+    pub each : All (IsEngineWithin R b) cores
+    pub alike : AllZip (AreToldAlike R b b) Es cores
+    pub pairs : AllPairs (AreApartForEver R) cores
+    pub from_left : All (AreApartForEver R left) cores
+    pub settles : FallsApart R b left
+    pub together : union left (union_of cores) ≡ generation R (union_of Es) n
+    pub apart : (X : Generation) → AreApartForEver R X (generation R (union_of Es) n) →
+        AreApartForEver R X left × All (AreApartForEver R X) cores
+
+  union-middle : (A B C D : Generation) → union (union A B) (union C D) ≡ union (union C A) (union B D)
+  union-middle A B C D =
+      sym (union-assoc (union A B) C D) ∙ ap (λ H. union H D) (union-assoc A B C ∙ ap (union A) (union-comm B C)
+      ∙ sym (union-assoc A C B) ∙ ap (λ H. union H B) (union-comm A C)) ∙ union-assoc (union C A) B D
+
+  module _ (E : Generation) (way : Way) (engine : IsEngine R b E way) where
+    abbrev core : Generation
+    core = (endless way).core n
+
+    abbrev debris : Generation
+    debris = debris_after R way n
+
+    pub engine_becomes : generation R E n ≡ union core debris
+    engine_becomes =
+        ap (λ H. generation R H n) (sym engine.start ∙ sym (core_first R b E way engine 0 (omega arith)))
+        ∙ becomes R b (endless way) (goes_on R b E way engine) n
+
+    pub core_from_debris : AreApartForEver R core debris
+    core_from_debris = core_apart R b (endless way) (goes_on R b E way engine) n
+
+    pub debris_falls_apart : FallsApart R b debris
+    debris_falls_apart = (
+      remains R b (endless way) (goes_on R b E way engine) (steady_ashes R b E way engine) n,
+      debris_settles R b (endless way) (goes_on R b E way engine) (steady_ashes R b E way engine)
+          (steady_ashes-are R b E way engine) n,
+    )
+
+    pub core_part : IsPart R core (generation R E n)
+    core_part = record { rest = debris; together = sym engine_becomes; apart = core_from_debris }
+
+    pub debris_part : IsPart R debris (generation R E n)
+    debris_part = record {
+      rest = core;
+      together = union-comm debris core ∙ sym engine_becomes;
+      apart = AreApartForEver-swap R core debris core_from_debris;
+    }
+
+    module _ (Es : List Generation) (shed : Shed Es) (far : AreApartForEver R E (union_of Es)) where
+      abbrev later : Generation
+      later = generation R (union_of Es) n
+
+      engine_from_others : AreApartForEver R (generation R E n) later
+      engine_from_others = AreApartForEver-later R n E (union_of Es) far
+
+      abbrev core_from : AreApartForEver R core shed.left × All (AreApartForEver R core) shed.cores
+      core_from = shed.apart core (part_apart R core (generation R E n) later core_part engine_from_others)
+
+      abbrev debris_from : AreApartForEver R debris shed.left × All (AreApartForEver R debris) shed.cores
+      debris_from = shed.apart debris (part_apart R debris (generation R E n) later debris_part engine_from_others)
+
+      core_from_left : AreApartForEver R (union debris shed.left) core
+      core_from_left =
+          both_apart R debris shed.left core (AreApartForEver-swap R core debris core_from_debris)
+          (AreApartForEver-swap R core shed.left core_from.0) debris_from.0
+
+      cores_from_left : All (AreApartForEver R (union debris shed.left)) shed.cores
+      cores_from_left k d h =
+          both_apart R debris shed.left _ (debris_from.1 k d h) (shed.from_left k d h) debris_from.0
+
+      pub shed_more : Shed (E ∷ Es)
+      shed_more = record {
+        cores = core ∷ shed.cores;
+        left = union debris shed.left;
+        each = All-cons (IsEngineWithin R b) core shed.cores (onward way n, IsEngine-phase R b E way engine n) shed.each;
+        alike = (phases_are_told_alike R b E way engine n, shed.alike);
+        pairs = AllPairs-cons (AreApartForEver R) core shed.cores core_from.1 shed.pairs;
+        from_left = All-cons (AreApartForEver R (union debris shed.left)) core shed.cores core_from_left cores_from_left;
+        settles =
+            let one = debris_falls_apart in (
+              one.0 ++ shed.settles.0,
+              settles_together R b debris shed.left one.0 shed.settles.0 debris_from.0 one.1 shed.settles.1,
+            );
+        together =
+            union-middle debris shed.left core (union_of shed.cores)
+            ∙ (λ i. union (sym engine_becomes i) (shed.together i))
+            ∙ sym (generation-union_ever R n E (union_of Es) far);
+        apart = λ X away.
+            let split = generation-union_ever R n E (union_of Es) far in
+            let from : AreApartForEver R X (union (generation R E n) later) = subst (AreApartForEver R X) split away in
+            let from_engine : AreApartForEver R X (generation R E n) =
+            apart_part R (generation R E n) (union (generation R E n) later) X
+            (record { rest = later; together = refl; apart = engine_from_others }) from in
+            let from_others : AreApartForEver R X later =
+            apart_part R later (union (generation R E n) later) X
+            (record {
+              rest = generation R E n;
+              together = union-comm later (generation R E n);
+              apart = AreApartForEver-swap R (generation R E n) later engine_from_others;
+            }) from in
+            let more = shed.apart X from_others in (
+              apart_from_both R X debris shed.left
+                  (apart_part R debris (generation R E n) X debris_part from_engine) more.0 debris_from.0,
+              All-cons (AreApartForEver R X) core shed.cores
+                  (apart_part R core (generation R E n) X core_part from_engine) more.1,
+            );
+      }
+
+  pub all_shed : (Es : List Generation) → AllPairs (AreApartForEver R) Es → All (IsEngineWithin R b) Es → Shed Es
+  all_shed [] pairs each = record {
+    cores = [];
+    left = empty;
+    each = All-nil (IsEngineWithin R b);
+    alike = tt;
+    pairs = AllPairs-nil (AreApartForEver R);
+    from_left = All-nil (AreApartForEver R empty);
+    settles = ([], settles_empty R b);
+    together = union-empty empty ∙ sym (generation-empty R n);
+    apart = λ X away. (apart_from_empty R X, All-nil (AreApartForEver R X));
+  }
+  all_shed (E ∷ Es) pairs each =
+      let engine = All-head (IsEngineWithin R b) E Es each in
+      let fewer = AllPairs-tail (AreApartForEver R) E Es pairs in
+      shed_more E engine.0 engine.1 Es (all_shed Es fewer (All-tail (IsEngineWithin R b) E Es each))
+      (apart_from_list R E Es (AllPairs-head (AreApartForEver R) E Es pairs) fewer)
+
+  no_element : (Es : List Generation) → length Es ≡ 0 → Es ≡ []
+  no_element [] e = refl
+  no_element (E ∷ Es) e = absurd (omega arith)
+
+  module _ (G : Generation) (engines : List Generation) (debris : Generation) (growth : IsGrowth R b G engines debris) where
+    abbrev pairs : AllPairs (AreApartForEver R) engines
+    pairs = AllPairs-tail (AreApartForEver R) debris engines growth.apart
+
+    pub shed : Shed engines
+    shed = all_shed engines pairs growth.each
+
+    debris_from_engines : AreApartForEver R debris (union_of engines)
+    debris_from_engines =
+        apart_from_list R debris engines (AllPairs-head (AreApartForEver R) debris engines growth.apart) pairs
+
+    abbrev old : Generation
+    old = generation R debris n
+
+    old_from : AreApartForEver R old shed.left × All (AreApartForEver R old) shed.cores
+    old_from = shed.apart old (AreApartForEver-later R n debris (union_of engines) debris_from_engines)
+
+    pub growth_later : IsGrowth R b (generation R G n) shed.cores (union old shed.left)
+    growth_later = record {
+      some = λ none.
+          growth.some (no_element engines (length_all_zip (AreToldAlike R b b) engines shed.cores shed.alike
+          ∙ ap length none));
+      together =
+          union-assoc old shed.left (union_of shed.cores) ∙ ap (union old) shed.together
+          ∙ sym (generation-union_ever R n debris (union_of engines) debris_from_engines)
+          ∙ ap (λ H. generation R H n) growth.together;
+      apart = AllPairs-cons (AreApartForEver R) (union old shed.left) shed.cores
+          (λ k d h. both_apart R old shed.left _ (old_from.1 k d h) (shed.from_left k d h) old_from.0) shed.pairs;
+      each = shed.each;
+      settles = (
+        generations R growth.settles.0 n ++ shed.settles.0,
+        settles_together R b old shed.left (generations R growth.settles.0 n) shed.settles.0 old_from.0
+            (settles_later R b n debris growth.settles.0 growth.settles.1) shed.settles.1,
+      );
+    }
+
+module _ (R : Rule) where
+  pub IsGrowth-wider : (b c : ℕ) (G : Generation) (engines : List Generation) (debris : Generation) → b ≤ c →
+      IsGrowth R b G engines debris → IsGrowth R c G engines debris
+  IsGrowth-wider b c G engines debris le growth = record {
+    some = growth.some;
+    together = growth.together;
+    apart = growth.apart;
+    each = λ k d h. let engine = growth.each k d h in (engine.0, IsEngine-wider R b c _ engine.0 le engine.1);
+    settles = FallsApart-wider R b c debris le growth.settles;
+  }
+
+  pub growth_sooner : (b c g : ℕ) (G : Generation) (engines : List Generation) (debris : Generation) →
+      IsGrowth R b (generation R G g) engines debris → g ≤ c → b ≤ c →
+      (Fs : List Generation) × (T : Generation) × IsGrowth R c (generation R G c) Fs T
+      × AllZip (AreToldAlike R b c) engines Fs
+  growth_sooner b c g G engines debris growth early le =
+      let n : ℕ = c - g in
+      let H = generation R G g in
+      let more = shed R b n H engines debris growth in
+      let T = union (generation R debris n) more.left in (
+        more.cores,
+        T,
+        subst (λ K. IsGrowth R c K more.cores T)
+            (generation-add R G g n ∙ ap (generation R G) (let e : g + n ≡ c = omega arith in e))
+            (IsGrowth-wider b c (generation R H n) more.cores T le (growth_later R b n H engines debris growth)),
+        all_told_alike-wider R b c engines more.cores le more.alike,
+      )

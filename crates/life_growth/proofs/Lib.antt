@@ -1,0 +1,12 @@
+pub mod Sizes
+pub mod Parts
+pub mod Bounds
+pub mod Settling
+pub mod Endless
+pub mod Growing
+pub mod OneWay
+pub mod Alike
+pub mod Emitting
+pub mod OneGrowth
+pub mod Lasting
+pub mod Velocities
