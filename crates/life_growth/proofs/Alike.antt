@@ -107,7 +107,7 @@ module _ (R : Rule) where
 -- ---- sums over steps
 
 -- f of each number below n, added
-pub sum_to : (ℕ → ℕ) → ℕ → ℕ
+unfoldable pub sum_to : (ℕ → ℕ) → ℕ → ℕ
 sum_to f zero = 0
 sum_to f (suc n) = sum_to f n + f n
 

@@ -53,7 +53,7 @@ module _ (R : Rule) where
 
     module _ (kind : Generation → Bool) (fits : IsKind R kind) where
       -- how many of a kind leave at each step
-      pub number : ℕ → ℕ
+      unfoldable pub number : ℕ → ℕ
       number n = count_by kind (steady_ashes n)
 
       pub number_again : (n : ℕ) → number (n + way.period) ≡ number n

@@ -99,7 +99,7 @@ module _ (R : Rule) where
     -- ---- what has left falls apart
 
     -- the parts of what left in the first n steps, n steps on
-    pub remains : (ℕ → List Generation) → ℕ → List Generation
+    unfoldable pub remains : (ℕ → List Generation) → ℕ → List Generation
     remains ashes zero = []
     remains ashes (suc n) = generations R (remains ashes n) 1 ++ ashes n
 

@@ -1,13 +1,14 @@
 -- Growth lasts: of each engine its core is left, and the debris becomes more.
 use Rattle.std.proofs.Common.{◌≡◌, ℕ, ◌+◌, ◌-◌, ◌≤◌, List, [], ◌∷◌, ◌++◌, length, sym, refl, ap, subst, ◌∙◌, arith}
-use Rattle.std.specs.List.{All, AllPairs, AllZip}
-use Rattle.std.proofs.lemmas.List.Elements.{All-cons, All-head, All-nil, All-tail, length_all_zip}
+use Rattle.std.specs.List.{All, AllPairs, AllZip, Contains}
+use Rattle.std.proofs.lemmas.List.Elements.{All-contains_itself, All-weaker, All-cons, All-head, All-nil, All-tail, length_all_zip}
 use Rattle.std.proofs.lemmas.List.Kept.{AllPairs-cons}
 use Rattle.life_model.specs.Rule.{Rule}
 use Rattle.life_model.specs.Generation.{Generation, empty}
 use Rattle.life_model.specs.Evolution.{generation}
 use Rattle.life_model.proofs.Recurrences.{generation-add}
 use Rattle.life_objects.specs.Apart.{AreApartForEver}
+use Rattle.life_objects.specs.Ash.{HasFallenApart}
 use Rattle.life_objects.specs.Union.{union, union_of, generations}
 use Rattle.life_objects.proofs.Ashes.{AreApartForEver-later}
 use Rattle.life_objects.proofs.Lists.{AllPairs-head, AllPairs-nil, AllPairs-tail}
@@ -16,28 +17,39 @@ use Rattle.life_objects.proofs.Times.{AreApartForEver-swap, generation-empty, ge
 use Rattle.life_objects.proofs.Unions.{union-comm, union-empty}
 use Rattle.life_growth.specs.Engine.{FallsApart, IsEngine, IsEngineWithin, Way}
 use Rattle.life_growth.specs.Growth.{IsGrowth}
-use Rattle.life_growth.specs.Onward.{debris_after, endless, onward}
+use Rattle.life_growth.specs.Onward.{IsCoreAfter, IsDebrisAfter, debris_after, endless, onward}
 use Rattle.life_growth.specs.Told.{AreToldAlike}
 use Rattle.life_growth.proofs.Emitting.{IsEngine-wider, all_told_alike-wider, phases_are_told_alike, steady_ashes, steady_ashes-are}
 use Rattle.life_growth.proofs.Endless.{core_first, goes_on}
 use Rattle.life_growth.proofs.Growing.{apart_from_empty, becomes, core_apart, debris_settles, remains, union-assoc}
+use Rattle.life_growth.proofs.OneGrowth.{IsPart-list}
 use Rattle.life_growth.proofs.OneWay.{IsEngine-phase}
 use Rattle.life_growth.proofs.Parts.{IsPart, apart_part, both_apart, apart_from_both, part_apart}
 use Rattle.life_growth.proofs.Settling.{FallsApart-wider, settles_empty, settles_later, settles_together}
+
+module _ (R : Rule) where
+  pub apart_from_each : (X : Generation) (Ps : List Generation) → AreApartForEver R X (union_of Ps) →
+      AllPairs (AreApartForEver R) Ps → All (AreApartForEver R X) Ps
+  apart_from_each X Ps far pairs =
+      All-weaker (Contains Ps) (AreApartForEver R X)
+      (λ P one. apart_part R P (union_of Ps) X (IsPart-list R Ps pairs P one) far) Ps (All-contains_itself Ps)
 
 module _ (R : Rule) (b n : ℕ) where
   -- n generations on each engine has become its core and what has left it
   pub record Shed (Es : List Generation) : Type 0 where
     pub cores : List Generation
-    pub left : Generation
+    pub lefts : List Generation
     pub each : All (IsEngineWithin R b) cores
     pub alike : AllZip (AreToldAlike R b b) Es cores
+    pub are_cores : AllZip (IsCoreAfter R b n) Es cores
+    pub are_debris : AllZip (IsDebrisAfter R b n) Es lefts
     pub pairs : AllPairs (AreApartForEver R) cores
-    pub from_left : All (AreApartForEver R left) cores
-    pub settles : FallsApart R b left
-    pub together : union left (union_of cores) ≡ generation R (union_of Es) n
+    pub left_pairs : AllPairs (AreApartForEver R) lefts
+    pub from_left : All (AreApartForEver R (union_of lefts)) cores
+    pub settles : FallsApart R b (union_of lefts)
+    pub together : union (union_of lefts) (union_of cores) ≡ generation R (union_of Es) n
     pub apart : (X : Generation) → AreApartForEver R X (generation R (union_of Es) n) →
-        AreApartForEver R X left × All (AreApartForEver R X) cores
+        AreApartForEver R X (union_of lefts) × All (AreApartForEver R X) cores
 
   union-middle : (A B C D : Generation) → union (union A B) (union C D) ≡ union (union C A) (union B D)
   union-middle A B C D =
@@ -83,36 +95,41 @@ module _ (R : Rule) (b n : ℕ) where
       engine_from_others : AreApartForEver R (generation R E n) later
       engine_from_others = AreApartForEver-later R n E (union_of Es) far
 
-      abbrev core_from : AreApartForEver R core shed.left × All (AreApartForEver R core) shed.cores
+      abbrev core_from : AreApartForEver R core (union_of shed.lefts) × All (AreApartForEver R core) shed.cores
       core_from = shed.apart core (part_apart R core (generation R E n) later core_part engine_from_others)
 
-      abbrev debris_from : AreApartForEver R debris shed.left × All (AreApartForEver R debris) shed.cores
+      abbrev debris_from : AreApartForEver R debris (union_of shed.lefts) × All (AreApartForEver R debris) shed.cores
       debris_from = shed.apart debris (part_apart R debris (generation R E n) later debris_part engine_from_others)
 
-      core_from_left : AreApartForEver R (union debris shed.left) core
+      core_from_left : AreApartForEver R (union debris (union_of shed.lefts)) core
       core_from_left =
-          both_apart R debris shed.left core (AreApartForEver-swap R core debris core_from_debris)
-          (AreApartForEver-swap R core shed.left core_from.0) debris_from.0
+          both_apart R debris (union_of shed.lefts) core (AreApartForEver-swap R core debris core_from_debris)
+          (AreApartForEver-swap R core (union_of shed.lefts) core_from.0) debris_from.0
 
-      cores_from_left : All (AreApartForEver R (union debris shed.left)) shed.cores
+      cores_from_left : All (AreApartForEver R (union debris (union_of shed.lefts))) shed.cores
       cores_from_left k d h =
-          both_apart R debris shed.left _ (debris_from.1 k d h) (shed.from_left k d h) debris_from.0
+          both_apart R debris (union_of shed.lefts) _ (debris_from.1 k d h) (shed.from_left k d h) debris_from.0
 
       pub shed_more : Shed (E ∷ Es)
       shed_more = record {
         cores = core ∷ shed.cores;
-        left = union debris shed.left;
+        lefts = debris ∷ shed.lefts;
         each = All-cons (IsEngineWithin R b) core shed.cores (onward way n, IsEngine-phase R b E way engine n) shed.each;
         alike = (phases_are_told_alike R b E way engine n, shed.alike);
+        are_cores = ((way, engine, refl), shed.are_cores);
+        are_debris = ((way, engine, refl), shed.are_debris);
         pairs = AllPairs-cons (AreApartForEver R) core shed.cores core_from.1 shed.pairs;
-        from_left = All-cons (AreApartForEver R (union debris shed.left)) core shed.cores core_from_left cores_from_left;
+        left_pairs =
+            AllPairs-cons (AreApartForEver R) debris shed.lefts
+            (apart_from_each R debris shed.lefts debris_from.0 shed.left_pairs) shed.left_pairs;
+        from_left = All-cons (AreApartForEver R (union debris (union_of shed.lefts))) core shed.cores core_from_left cores_from_left;
         settles =
             let one = debris_falls_apart in (
               one.0 ++ shed.settles.0,
-              settles_together R b debris shed.left one.0 shed.settles.0 debris_from.0 one.1 shed.settles.1,
+              settles_together R b debris (union_of shed.lefts) one.0 shed.settles.0 debris_from.0 one.1 shed.settles.1,
             );
         together =
-            union-middle debris shed.left core (union_of shed.cores)
+            union-middle debris (union_of shed.lefts) core (union_of shed.cores)
             ∙ (λ i. union (sym engine_becomes i) (shed.together i))
             ∙ sym (generation-union_ever R n E (union_of Es) far);
         apart = λ X away.
@@ -129,7 +146,7 @@ module _ (R : Rule) (b n : ℕ) where
               apart = AreApartForEver-swap R (generation R E n) later engine_from_others;
             }) from in
             let more = shed.apart X from_others in (
-              apart_from_both R X debris shed.left
+              apart_from_both R X debris (union_of shed.lefts)
                   (apart_part R debris (generation R E n) X debris_part from_engine) more.0 debris_from.0,
               All-cons (AreApartForEver R X) core shed.cores
                   (apart_part R core (generation R E n) X core_part from_engine) more.1,
@@ -139,10 +156,13 @@ module _ (R : Rule) (b n : ℕ) where
   pub all_shed : (Es : List Generation) → AllPairs (AreApartForEver R) Es → All (IsEngineWithin R b) Es → Shed Es
   all_shed [] pairs each = record {
     cores = [];
-    left = empty;
+    lefts = [];
     each = All-nil (IsEngineWithin R b);
     alike = tt;
+    are_cores = tt;
+    are_debris = tt;
     pairs = AllPairs-nil (AreApartForEver R);
+    left_pairs = AllPairs-nil (AreApartForEver R);
     from_left = All-nil (AreApartForEver R empty);
     settles = ([], settles_empty R b);
     together = union-empty empty ∙ sym (generation-empty R n);
@@ -153,6 +173,22 @@ module _ (R : Rule) (b n : ℕ) where
       let fewer = AllPairs-tail (AreApartForEver R) E Es pairs in
       shed_more E engine.0 engine.1 Es (all_shed Es fewer (All-tail (IsEngineWithin R b) E Es each))
       (apart_from_list R E Es (AllPairs-head (AreApartForEver R) E Es pairs) fewer)
+
+  -- which parts the debris falls apart into
+  pub all_shed-none : (pairs : AllPairs (AreApartForEver R) []) (each : All (IsEngineWithin R b) []) →
+      (all_shed [] pairs each).settles.0 ≡ []
+  unfolding all_shed
+  all_shed-none pairs each = refl
+
+  pub all_shed-more : (E : Generation) (Es : List Generation) (pairs : AllPairs (AreApartForEver R) (E ∷ Es))
+      (each : All (IsEngineWithin R b) (E ∷ Es)) →
+      (all_shed (E ∷ Es) pairs each).settles.0
+      ≡ remains R b (endless (All-head (IsEngineWithin R b) E Es each).0)
+      (goes_on R b E (All-head (IsEngineWithin R b) E Es each).0 (All-head (IsEngineWithin R b) E Es each).1)
+      (steady_ashes R b E (All-head (IsEngineWithin R b) E Es each).0 (All-head (IsEngineWithin R b) E Es each).1) n
+      ++ (all_shed Es (AllPairs-tail (AreApartForEver R) E Es pairs) (All-tail (IsEngineWithin R b) E Es each)).settles.0
+  unfolding all_shed shed_more debris_falls_apart
+  all_shed-more E Es pairs each = refl
 
   no_element : (Es : List Generation) → length Es ≡ 0 → Es ≡ []
   no_element [] e = refl
@@ -172,26 +208,41 @@ module _ (R : Rule) (b n : ℕ) where
     abbrev old : Generation
     old = generation R debris n
 
-    old_from : AreApartForEver R old shed.left × All (AreApartForEver R old) shed.cores
+    old_from : AreApartForEver R old (union_of shed.lefts) × All (AreApartForEver R old) shed.cores
     old_from = shed.apart old (AreApartForEver-later R n debris (union_of engines) debris_from_engines)
 
-    pub growth_later : IsGrowth R b (generation R G n) shed.cores (union old shed.left)
+    pub debris_parts_apart : AllPairs (AreApartForEver R) (old ∷ shed.lefts)
+    debris_parts_apart =
+        AllPairs-cons (AreApartForEver R) old shed.lefts (apart_from_each R old shed.lefts old_from.0 shed.left_pairs)
+        shed.left_pairs
+
+    pub ash_later : List Generation
+    ash_later = generations R growth.settles.0 n ++ shed.settles.0
+
+    pub ash_later-parts :
+        ash_later ≡ generations R growth.settles.0 n ++ (all_shed engines pairs growth.each).settles.0
+    unfolding ash_later shed
+    ash_later-parts = refl
+
+    pub ash_later-is : HasFallenApart R b (union_of (old ∷ shed.lefts)) ash_later
+    unfolding ash_later
+    ash_later-is =
+        settles_together R b old (union_of shed.lefts) (generations R growth.settles.0 n) shed.settles.0 old_from.0
+        (settles_later R b n debris growth.settles.0 growth.settles.1) shed.settles.1
+
+    pub growth_later : IsGrowth R b (generation R G n) shed.cores (union old (union_of shed.lefts))
     growth_later = record {
       some = λ none.
           growth.some (no_element engines (length_all_zip (AreToldAlike R b b) engines shed.cores shed.alike
           ∙ ap length none));
       together =
-          union-assoc old shed.left (union_of shed.cores) ∙ ap (union old) shed.together
+          union-assoc old (union_of shed.lefts) (union_of shed.cores) ∙ ap (union old) shed.together
           ∙ sym (generation-union_ever R n debris (union_of engines) debris_from_engines)
           ∙ ap (λ H. generation R H n) growth.together;
-      apart = AllPairs-cons (AreApartForEver R) (union old shed.left) shed.cores
-          (λ k d h. both_apart R old shed.left _ (old_from.1 k d h) (shed.from_left k d h) old_from.0) shed.pairs;
+      apart = AllPairs-cons (AreApartForEver R) (union old (union_of shed.lefts)) shed.cores
+          (λ k d h. both_apart R old (union_of shed.lefts) _ (old_from.1 k d h) (shed.from_left k d h) old_from.0) shed.pairs;
       each = shed.each;
-      settles = (
-        generations R growth.settles.0 n ++ shed.settles.0,
-        settles_together R b old shed.left (generations R growth.settles.0 n) shed.settles.0 old_from.0
-            (settles_later R b n debris growth.settles.0 growth.settles.1) shed.settles.1,
-      );
+      settles = (ash_later, ash_later-is);
     }
 
 module _ (R : Rule) where
@@ -213,7 +264,7 @@ module _ (R : Rule) where
       let n : ℕ = c - g in
       let H = generation R G g in
       let more = shed R b n H engines debris growth in
-      let T = union (generation R debris n) more.left in (
+      let T = union (generation R debris n) (union_of more.lefts) in (
         more.cores,
         T,
         subst (λ K. IsGrowth R c K more.cores T)

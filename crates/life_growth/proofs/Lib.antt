@@ -10,3 +10,4 @@ pub mod Emitting
 pub mod OneGrowth
 pub mod Lasting
 pub mod Velocities
+pub mod Counting

@@ -1,5 +1,5 @@
 -- What is told of an engine: period, displacement, and how many objects of each kind it emits.
-use Rattle.std.specs.Prelude.{◌≡◌, ℕ, Bool, List, count_by}
+use Rattle.std.specs.Prelude.{◌≡◌, ℕ, ◌*◌, Bool, List, count_by, sum_by}
 use Rattle.life_model.specs.Cell.{Cell}
 use Rattle.life_model.specs.Generation.{Generation}
 use Rattle.life_model.specs.Rule.{Rule}
@@ -24,3 +24,11 @@ pub record AreToldAlike (R : Rule) (b c : ℕ) (E F : Generation) : Type 0 where
   pub periods : way.period ≡ other.period
   pub displacements : way.displacement ≡ other.displacement
   pub emitted : (Ps Qs : List Generation) → Emits R b way Ps → Emits R c other Qs → AreAlike R Ps Qs
+
+-- m generations are so many periods of E, in each of which it emits these objects
+abbrev pub EmitsOver : Rule → ℕ → ℕ → Generation → ℕ × List Generation → Type 0
+EmitsOver R b m E row = (way : Way) × IsEngine R b E way × (m ≡ row.0 * way.period) × Emits R b way row.1
+
+-- how many objects of a kind engines emit that go through so many periods each
+abbrev pub emitted_by : (Generation → Bool) → List (ℕ × List Generation) → ℕ
+emitted_by kind rows = sum_by (λ row. row.0 * count_by kind row.1) rows

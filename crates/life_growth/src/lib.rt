@@ -2,8 +2,8 @@
 //! contracts of functions that do nothing.
 #![tactic(auto)]
 
-ghost use Rattle.std.specs.Prelude.{◌≡◌, ◌≢◌, ℕ, suc, ◌+◌, ◌-◌, ◌<◌, ◌≤◌, List, [], ◌∷◌, ◌++◌, Contains};
-ghost use Rattle.std.specs.List.{AllZip};
+ghost use Rattle.std.specs.Prelude.{◌≡◌, ◌≢◌, ℕ, suc, ◌+◌, ◌-◌, ◌<◌, ◌≤◌, List, [], ◌∷◌, ◌++◌, Bool, Contains, count_by};
+ghost use Rattle.std.specs.List.{AllPairs, AllZip};
 ghost use Rattle.std.specs.List.Sorted.{IsPermutation};
 ghost use Rattle.life_model.specs.Cell.{Cell, origin};
 ghost use Rattle.life_model.specs.Evolution.{generation, next};
@@ -14,12 +14,12 @@ ghost use Rattle.life_model.specs.Symmetry.{translate_of};
 ghost use Rattle.life_objects.specs.Apart.{AreApartForEver};
 ghost use Rattle.life_objects.specs.Ash.{HasFallenApart};
 ghost use Rattle.life_objects.specs.Drift.{multiple_of};
-ghost use Rattle.life_objects.specs.Union.{generations, union};
+ghost use Rattle.life_objects.specs.Union.{generations, union, union_of};
 ghost use Rattle.life_growth.specs.Engine.{Emits, FallsApart, IsEngine, Way};
 ghost use Rattle.life_growth.specs.Growth.{HasComeToGrowth, IsGrowth};
-ghost use Rattle.life_growth.specs.Onward.{debris_after, endless, onward};
+ghost use Rattle.life_growth.specs.Onward.{IsCoreAfter, IsDebrisAfter, debris_after, endless, onward};
 ghost use Rattle.life_growth.specs.Population.{HasBound, HasNoBound};
-ghost use Rattle.life_growth.specs.Told.{AreAlike, AreToldAlike};
+ghost use Rattle.life_growth.specs.Told.{AreAlike, AreToldAlike, EmitsOver, IsKind, emitted_by};
 ghost use Rattle.life_growth.specs.Unsplit.{IsUnsplit, Leaves};
 
 /// What is unsplit within a bound is so within each greater one, and no two sets that stay apart for ever make it up.
@@ -139,13 +139,16 @@ pub fn a_pattern_has_one_growth()
         Contains Fs E × AreToldAlike R b c E E }
 {}
 
-/// Growth lasts: what grows does so in each later generation, with engines of which the same is told. So what has come
-/// to growth at a generation no later than b has within b, and within each greater bound.
+/// Growth lasts: what grows does so in each later generation. Its engines are then their cores, of which the same is
+/// told, and its debris is what the debris has become and what has left each engine, which stay apart for ever. So what
+/// has come to growth at a generation no later than b has within b, and within each greater bound.
 pub fn growth_lasts()
     ensures later { (R : Rule) (b n : ℕ) (G : Generation) (Es : List Generation) (S : Generation) →
         IsGrowth R b G Es S →
-        (Fs : List Generation) × (T : Generation) × IsGrowth R b (generation R G n) Fs T
-        × AllZip (AreToldAlike R b b) Es Fs }
+        (Fs : List Generation) × (Ds : List Generation)
+        × IsGrowth R b (generation R G n) Fs (union_of (generation R S n ∷ Ds))
+        × AllZip (IsCoreAfter R b n) Es Fs × AllZip (IsDebrisAfter R b n) Es Ds
+        × AllPairs (AreApartForEver R) (generation R S n ∷ Ds) × AllZip (AreToldAlike R b b) Es Fs }
     ensures sooner { (R : Rule) (b c g : ℕ) (G : Generation) (Es : List Generation) (S : Generation) →
         IsGrowth R b (generation R G g) Es S → g ≤ c → b ≤ c →
         (Fs : List Generation) × (T : Generation) × HasComeToGrowth R c G Fs T
@@ -167,4 +170,15 @@ pub fn nothing_emitted_moves_with_the_engine()
     ensures gun { (R : Rule) (b c n q : ℕ) (E P : Generation) (way : Way) (e : Cell) (parts : List Generation) →
         IsEngine R b E way → n < way.period → HasFallenApart R c (way.left n) parts →
         Contains parts P → RecursBy R P q e → way.displacement ≡ origin → e ≢ origin }
+{}
+
+/// What has fallen apart of a growing pattern's debris rises steadily. Over some generations that are so many periods of
+/// each engine, the number of objects of a kind rises by exactly what the engines emit of that kind in these periods.
+pub fn debris_rises_steadily()
+    ensures { (R : Rule) (b m n : ℕ) (G S T U : Generation) (Es Fs Hs : List Generation) (parts others : List Generation)
+        (rows : List (ℕ × List Generation)) (kind : Generation → Bool) → IsGrowth R b G Es S →
+        IsGrowth R b (generation R G n) Fs T →
+        IsGrowth R b (generation R G (n + m)) Hs U → HasFallenApart R b T parts →
+        HasFallenApart R b U others → AllZip (EmitsOver R b m) Es rows → IsKind R kind →
+        count_by kind others ≡ count_by kind parts + emitted_by kind rows }
 {}
