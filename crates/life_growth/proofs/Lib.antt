@@ -11,3 +11,4 @@ pub mod OneGrowth
 pub mod Lasting
 pub mod Velocities
 pub mod Counting
+pub mod Classes

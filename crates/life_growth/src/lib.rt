@@ -2,7 +2,7 @@
 //! contracts of functions that do nothing.
 #![tactic(auto)]
 
-ghost use Rattle.std.specs.Prelude.{◌≡◌, ◌≢◌, ℕ, suc, ◌+◌, ◌-◌, ◌<◌, ◌≤◌, List, [], ◌∷◌, ◌++◌, Bool, Contains, count_by};
+ghost use Rattle.std.specs.Prelude.{◌≡◌, ◌≢◌, ℕ, suc, ◌+◌, ◌-◌, ◌<◌, ◌≤◌, List, [], ◌∷◌, ◌++◌, ◌↔◌, Bool, Contains, count_by};
 ghost use Rattle.std.specs.List.{AllPairs, AllZip};
 ghost use Rattle.std.specs.List.Sorted.{IsPermutation};
 ghost use Rattle.life_model.specs.Cell.{Cell, origin};
@@ -14,13 +14,13 @@ ghost use Rattle.life_model.specs.Symmetry.{translate_of};
 ghost use Rattle.life_objects.specs.Apart.{AreApartForEver};
 ghost use Rattle.life_objects.specs.Ash.{HasFallenApart};
 ghost use Rattle.life_objects.specs.Drift.{multiple_of};
-ghost use Rattle.life_objects.specs.Union.{generations, union, union_of};
+ghost use Rattle.life_objects.specs.Union.{IsSubsetOf, generations, union, union_of};
 ghost use Rattle.life_growth.specs.Engine.{Emits, FallsApart, IsEngine, Way};
 ghost use Rattle.life_growth.specs.Growth.{HasComeToGrowth, IsGrowth};
 ghost use Rattle.life_growth.specs.Onward.{IsCoreAfter, IsDebrisAfter, debris_after, endless, onward};
 ghost use Rattle.life_growth.specs.Population.{HasBound, HasNoBound};
 ghost use Rattle.life_growth.specs.Told.{AreAlike, AreToldAlike, EmitsOver, IsKind, emitted_by};
-ghost use Rattle.life_growth.specs.Unsplit.{IsUnsplit, Leaves};
+ghost use Rattle.life_growth.specs.Unsplit.{AreClasses, IsUnsplit, Leaves};
 
 /// What is unsplit within a bound is so within each greater one, and no two sets that stay apart for ever make it up.
 pub fn what_is_unsplit_stays_so()
@@ -181,4 +181,28 @@ pub fn debris_rises_steadily()
         IsGrowth R b (generation R G (n + m)) Hs U → HasFallenApart R b T parts →
         HasFallenApart R b U others → AllZip (EmitsOver R b m) Es rows → IsKind R kind →
         count_by kind others ≡ count_by kind parts + emitted_by kind rows }
+{}
+
+/// The sets that no split tears and that stay apart for a bound tell what is unsplit: there is one such set alone. The
+/// core of the next generation is one of those of that generation, and the others have left. Each engine of a growth is
+/// one of those of the pattern.
+pub fn classes_tell_cores_and_engines()
+    ensures unsplit { (R : Rule) (b : ℕ) (P : Generation) (Ps : List Generation) → AreClasses R b P Ps →
+        IsUnsplit R b P ↔ (Ps ≡ P ∷ []) }
+    ensures core { (R : Rule) (b : ℕ) (P A L : Generation) (Ps : List Generation) → Leaves R P A L →
+        IsUnsplit R b A → AreClasses R b (next R P) Ps →
+        Contains Ps A }
+    ensures others { (R : Rule) (b : ℕ) (P A L C : Generation) (Ps : List Generation) → Leaves R P A L →
+        IsUnsplit R b A → AreClasses R b (next R P) Ps →
+        Contains Ps C → C ≢ A → IsSubsetOf C L }
+    ensures engine { (R : Rule) (b : ℕ) (G E S : Generation) (Es Ps : List Generation) → IsGrowth R b G Es S →
+        AreClasses R b G Ps → Contains Es E → Contains Ps E }
+{}
+
+/// What is an engine, within whichever bound, and stays apart for ever from the rest of a pattern that grows, is one of
+/// its engines.
+pub fn what_runs_apart_is_an_engine_of_the_growth()
+    ensures { (R : Rule) (b c : ℕ) (G E S others : Generation) (Es : List Generation) (way : Way) →
+        IsGrowth R b G Es S →
+        IsEngine R c E way → AreApartForEver R E others → union E others ≡ G → Contains Es E }
 {}
