@@ -101,6 +101,17 @@ module _ (way : Way) (later : 1 ≤ way.period) (sets : ℕ → Generation) wher
       at_product (suc (n / p)) (n % p) (n + p) (mod-lt n later) (omega arith)
       ∙ sym (moved-moved (sets (n % p)) (multiple_of (n / p) d) d)
 
+  pub at_first_or_last : sets p ≡ translate_of (sets 0) d → (n : ℕ) → n ≤ p → at_step way sets n ≡ sets n
+  at_first_or_last again n h =
+      elim (cases_lt n p) [
+        | inl before ↦ at_first n before
+        | inr not_before ↦
+            let last : n ≡ 0 + p = omega arith in
+            let back : p ≡ n = omega arith in
+            ap (at_step way sets) last ∙ at_again 0 ∙ ap (λ H. translate_of H d) (at_first 0 later) ∙ sym again
+            ∙ ap sets back
+      ]
+
   -- after the last step of a period the first set comes again
   pub at_next : (n : ℕ) → sets p ≡ translate_of (sets 0) d →
       at_step way sets (suc n) ≡ translate_of (sets (suc (n % p))) (multiple_of (n / p) d)
@@ -122,16 +133,7 @@ module _ (R : Rule) (b : ℕ) (E : Generation) (way : Way) (engine : IsEngine R 
   comes_again = engine.again ∙ ap (λ H. translate_of H way.displacement) (sym engine.start)
 
   pub core_first : (n : ℕ) → n ≤ way.period → (endless way).core n ≡ way.core n
-  core_first n h =
-      elim (cases_lt n way.period) [
-        | inl before ↦ at_first way engine.later way.core n before
-        | inr not_before ↦
-            let last : n ≡ 0 + way.period = omega arith in
-            let back : way.period ≡ n = omega arith in
-            ap (at_step way way.core) last ∙ at_again way engine.later way.core 0
-            ∙ ap (λ H. translate_of H way.displacement) (at_first way engine.later way.core 0 engine.later)
-            ∙ sym comes_again ∙ ap way.core back
-      ]
+  core_first n h = at_first_or_last way engine.later way.core comes_again n h
 
   pub left_first : (n : ℕ) → n < way.period → (endless way).left n ≡ way.left n
   left_first n h = at_first way engine.later way.left n h

@@ -12,3 +12,4 @@ pub mod Lasting
 pub mod Velocities
 pub mod Counting
 pub mod Classes
+pub mod Pieces

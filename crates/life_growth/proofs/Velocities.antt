@@ -36,14 +36,14 @@ module _ (R : Rule) where
     abbrev too : GoesOn R b from
     too = GoesOn-from R b way on (suc n)
 
-    core_then : (m : ℕ) → IsPart R (from.core m) (generation R (from.core 0) m)
+    pub core_then : (m : ℕ) → IsPart R (from.core m) (generation R (from.core 0) m)
     core_then m = record {
       rest = gathered R from.left m;
       together = sym (becomes R b from too m);
       apart = core_apart R b from too m;
     }
 
-    left_then : (m : ℕ) → AreApartForEver R (from.left m) (generation R (way.left n) (m + 1))
+    pub left_then : (m : ℕ) → AreApartForEver R (from.left m) (generation R (way.left n) (m + 1))
     left_then m =
         let first : AreApartForEver R (from.core 0) (way.left n) =
         subst (λ k. AreApartForEver R (way.core k) (way.left n)) (let e : suc n ≡ suc n + 0 = omega arith in e)

@@ -17,7 +17,7 @@ ghost use Rattle.life_objects.specs.Drift.{multiple_of};
 ghost use Rattle.life_objects.specs.Union.{IsSubsetOf, generations, union, union_of};
 ghost use Rattle.life_growth.specs.Engine.{Emits, FallsApart, IsEngine, Way};
 ghost use Rattle.life_growth.specs.Growth.{HasComeToGrowth, IsGrowth};
-ghost use Rattle.life_growth.specs.Onward.{IsCoreAfter, IsDebrisAfter, debris_after, endless, onward};
+ghost use Rattle.life_growth.specs.Onward.{AreNeverNear, IsCoreAfter, IsDebrisAfter, IsNeverNear, LeavesCores, LeavesLefts, debris_after, endless, onward};
 ghost use Rattle.life_growth.specs.Population.{HasBound, HasNoBound};
 ghost use Rattle.life_growth.specs.Told.{AreAlike, AreToldAlike, EmitsOver, IsKind, emitted_by};
 ghost use Rattle.life_growth.specs.Unsplit.{AreClasses, IsUnsplit, Leaves};
@@ -205,4 +205,25 @@ pub fn what_runs_apart_is_an_engine_of_the_growth()
     ensures { (R : Rule) (b c : ℕ) (G E S others : Generation) (Es : List Generation) (way : Way) →
         IsGrowth R b G Es S →
         IsEngine R c E way → AreApartForEver R E others → union E others ≡ G → Contains Es E }
+{}
+
+/// Whether what leaves does so for ever is told by what it and the cores become, each alone: it does so where what left
+/// at a step of the first period is never near a later core or what leaves later; and of an engine it never is.
+pub fn what_never_comes_near_leaves_for_ever()
+    ensures leaves { (R : Rule) (way : Way) → 1 ≤ way.period →
+        way.core way.period ≡ translate_of (way.core 0) way.displacement →
+        ((n : ℕ) → n < way.period → union (way.core (suc n)) (way.left n) ≡ next R (way.core n)) →
+        LeavesCores R way → LeavesLefts R way → (n : ℕ) → n < way.period →
+        Leaves R (way.core n) (way.core (suc n)) (way.left n) }
+    ensures otherwise { (R : Rule) (b : ℕ) (E : Generation) (way : Way) → IsEngine R b E way →
+        LeavesCores R way × LeavesLefts R way }
+{}
+
+/// An engine stays apart for ever from a set exactly where neither its core nor what has left it is ever near what the
+/// set becomes; and from another engine where neither is ever near that one's core or what has left that one.
+pub fn what_never_comes_near_an_engine_stays_apart()
+    ensures set { (R : Rule) (b : ℕ) (E X : Generation) (way : Way) → IsEngine R b E way →
+        AreApartForEver R E X ↔ IsNeverNear R way X }
+    ensures engines { (R : Rule) (b c : ℕ) (E F : Generation) (way other : Way) → IsEngine R b E way →
+        IsEngine R c F other → AreApartForEver R E F ↔ AreNeverNear R way other }
 {}
