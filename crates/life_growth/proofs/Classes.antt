@@ -23,7 +23,7 @@ use Rattle.life_growth.proofs.OneGrowth.{IsPart-growth, IsUnsplit-engine, cell_o
 use Rattle.life_growth.proofs.Parts.{IsPart, disjoint_now, in_one, part_within}
 
 module _ (R : Rule) (b : ℕ) where
-  some_in_union : (P Q : Generation) → P ≢ empty → union P Q ≢ empty
+  pub some_in_union : (P Q : Generation) → P ≢ empty → union P Q ≢ empty
   some_in_union P Q some gone =
       elim (nothing_or_some P) [
         | inl none ↦ some none

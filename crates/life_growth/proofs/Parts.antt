@@ -118,11 +118,14 @@ module _ (R : Rule) where
         ]
 
   -- what is left besides one set is one
-  pub rest_is_one : (P Q S : Generation) → AreApartForEver R P Q → AreApartForEver R P S → union P Q ≡ union P S → Q ≡ S
-  rest_is_one P Q S q s same =
-      let to : (Q S : Generation) → AreApartForEver R P Q → union P Q ≡ union P S → IsSubsetOf Q S =
+  pub rest_is_disjoint : (P Q S : Generation) → AreDisjoint P Q → AreDisjoint P S → union P Q ≡ union P S → Q ≡ S
+  rest_is_disjoint P Q S q s same =
+      let to : (Q S : Generation) → AreDisjoint P Q → union P Q ≡ union P S → IsSubsetOf Q S =
       λ Q S far same c h. elim (in_union P S c (ap (λ H. contains H c) (sym same) ∙ in_second P Q c h)) [
-        | inl x ↦ absurd (disjoint_now P Q far c x h)
+        | inl x ↦ absurd (far c x h)
         | inr y ↦ y
       ] in
       within_each_other Q S (to Q S q same) (to S Q s (sym same))
+
+  pub rest_is_one : (P Q S : Generation) → AreApartForEver R P Q → AreApartForEver R P S → union P Q ≡ union P S → Q ≡ S
+  rest_is_one P Q S q s same = rest_is_disjoint P Q S (disjoint_now P Q q) (disjoint_now P S s) same

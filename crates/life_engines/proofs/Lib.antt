@@ -1,0 +1,4 @@
+pub mod Lists
+pub mod Classes
+pub mod Tracks
+pub mod Ways
