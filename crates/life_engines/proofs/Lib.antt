@@ -2,3 +2,4 @@ pub mod Lists
 pub mod Classes
 pub mod Tracks
 pub mod Ways
+pub mod Growths

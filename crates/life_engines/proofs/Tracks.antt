@@ -25,7 +25,7 @@ use Rattle.life_engines.proofs.Lists.{Contains-flat_map, of_flat_map, of_map}
 
 -- ---- a set of a list, and the others
 
-union-swap : (A P B : Generation) → union A (union P B) ≡ union P (union A B)
+pub union-swap : (A P B : Generation) → union A (union P B) ≡ union P (union A B)
 union-swap A P B = sym (union-assoc A P B) ∙ ap (λ H. union H B) (union-comm A P) ∙ union-assoc P A B
 
 abbrev with_first : Generation → Step → Step
@@ -107,7 +107,7 @@ module _ (R : Rule) (b : ℕ) where
         settles = falls_by_test R b s.1 kept.1;
       }
 
-  disjoint_at_once : (P Q : Generation) → AreApartFor R b P Q → AreDisjoint P Q
+  pub disjoint_at_once : (P Q : Generation) → AreApartFor R b P Q → AreDisjoint P Q
   unfolding generation
   disjoint_at_once P Q far = disjoint_from_apart P Q (far 0 (omega arith))
 

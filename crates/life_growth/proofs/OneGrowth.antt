@@ -159,7 +159,7 @@ module _ (R : Rule) where
         omega arith,
   )
 
-  some_element : (Es : List Generation) → Es ≢ [] → (E : Generation) × Contains Es E
+  pub some_element : (Es : List Generation) → Es ≢ [] → (E : Generation) × Contains Es E
   some_element [] some = absurd (some refl)
   some_element (E ∷ Es) some = (E, Contains-head E Es)
 
