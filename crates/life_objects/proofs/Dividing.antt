@@ -23,7 +23,7 @@ module _ (R : Rule) (b : ℕ) where
   pub AreApartFor-swap : (P Q : Generation) → AreApartFor R b P Q → AreApartFor R b Q P
   AreApartFor-swap P Q far n h = AreApart-swap (generation R P n) (generation R Q n) (far n h)
 
-  apart_from_rest : (P : Generation) (Qs : List Generation) → All (AreApartFor R b P) Qs →
+  pub apart_from_rest : (P : Generation) (Qs : List Generation) → All (AreApartFor R b P) Qs →
       AllPairs (AreApartFor R b) Qs →
       AreApartFor R b P (union_of Qs)
   apart_from_rest P Qs far pairs n h =

@@ -110,7 +110,7 @@ pub within_each_other : (P Q : Generation) → IsSubsetOf P Q → IsSubsetOf Q P
 within_each_other P Q to back = same_members P Q (λ c. same_tests _ _ (to c) (back c))
 
 module _ (R : Rule) (b : ℕ) (G A B : Generation) (split : IsSplit R b G A B) where
-  split_disjoint : AreDisjoint A B
+  pub split_disjoint : AreDisjoint A B
   unfolding generation
   split_disjoint = disjoint_from_apart A B (split.apart 0 (omega arith))
 

@@ -1,0 +1,5 @@
+pub mod Lists
+pub mod Classes
+pub mod Tracks
+pub mod Ways
+pub mod Growths

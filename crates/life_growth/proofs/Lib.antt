@@ -1,0 +1,15 @@
+pub mod Sizes
+pub mod Parts
+pub mod Bounds
+pub mod Settling
+pub mod Endless
+pub mod Growing
+pub mod OneWay
+pub mod Alike
+pub mod Emitting
+pub mod OneGrowth
+pub mod Lasting
+pub mod Velocities
+pub mod Counting
+pub mod Classes
+pub mod Pieces

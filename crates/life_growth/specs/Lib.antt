@@ -1,0 +1,6 @@
+pub mod Unsplit
+pub mod Engine
+pub mod Growth
+pub mod Population
+pub mod Onward
+pub mod Told

@@ -1,0 +1,34 @@
+-- What is told of an engine: period, displacement, and how many objects of each kind it emits.
+use Rattle.std.specs.Prelude.{◌≡◌, ℕ, ◌*◌, Bool, List, count_by, sum_by}
+use Rattle.life_model.specs.Cell.{Cell}
+use Rattle.life_model.specs.Generation.{Generation}
+use Rattle.life_model.specs.Rule.{Rule}
+use Rattle.life_model.specs.Recurrence.{AreOneObject, RecursBy}
+use Rattle.life_growth.specs.Engine.{Emits, IsEngine, Way}
+
+-- sets that come again are of this kind or not by which object they are, as where the kind is to have some code
+abbrev pub IsKind : Rule → (Generation → Bool) → Type 0
+IsKind R kind =
+    (P Q : Generation) (m n : ℕ) (d e : Cell) → RecursBy R P m d → RecursBy R Q n e → AreOneObject R P Q → kind P ≡ kind Q
+
+-- of each kind there are as many in the one list as in the other
+abbrev pub AreAlike : Rule → List Generation → List Generation → Type 0
+AreAlike R Ps Qs = (kind : Generation → Bool) → IsKind R kind → count_by kind Ps ≡ count_by kind Qs
+
+-- the same is told of two engines
+pub record AreToldAlike (R : Rule) (b c : ℕ) (E F : Generation) : Type 0 where
+  pub way : Way
+  pub other : Way
+  pub engine : IsEngine R b E way
+  pub too : IsEngine R c F other
+  pub periods : way.period ≡ other.period
+  pub displacements : way.displacement ≡ other.displacement
+  pub emitted : (Ps Qs : List Generation) → Emits R b way Ps → Emits R c other Qs → AreAlike R Ps Qs
+
+-- m generations are so many periods of E, in each of which it emits these objects
+abbrev pub EmitsOver : Rule → ℕ → ℕ → Generation → ℕ × List Generation → Type 0
+EmitsOver R b m E row = (way : Way) × IsEngine R b E way × (m ≡ row.0 * way.period) × Emits R b way row.1
+
+-- how many objects of a kind engines emit that go through so many periods each
+abbrev pub emitted_by : (Generation → Bool) → List (ℕ × List Generation) → ℕ
+emitted_by kind rows = sum_by (λ row. row.0 * count_by kind row.1) rows
