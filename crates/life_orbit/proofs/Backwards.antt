@@ -1,18 +1,21 @@
 -- Two sets that recur, some generations ago.
 use Rattle.std.proofs.Common.{◌≡◌, ℕ, ℤ, pos, neg_ℤ, ◌+ℤ◌, ◌≤ℤ◌, ◌+◌, ◌-◌, ◌*◌, ◌/◌, ◌%◌, ◌<◌, ◌≤◌, true, inl, inr}
-use Rattle.std.proofs.Common.{sym, refl, ap, subst, ◌∙◌, div-add-mod', mod-lt, mul-le-mul_left, mul-le-mul_right, arith}
+use Rattle.std.proofs.Common.{length, sym, refl, ap, subst, ◌∙◌, div-add-mod', mod-lt, mul-le-mul_left, mul-le-mul_right, arith}
 use Rattle.std.specs.Int.{int_max, int_min}
 use Rattle.std.proofs.lemmas.Bool.{cases_lt}
 use Rattle.std.proofs.lemmas.Int.{ints, clamps}
 use Rattle.std.proofs.Math.Nat.{div-lt_iff_lt-mul}
 use Rattle.life_model.specs.Cell.{Cell, opposite, plus}
 use Rattle.life_model.specs.Evolution.{generation}
-use Rattle.life_model.specs.Generation.{Generation, contains}
+use Rattle.life_model.specs.Generation.{Generation, cells, contains, size}
 use Rattle.life_model.specs.Recurrence.{RecursBy}
 use Rattle.life_model.specs.Rule.{Rule}
 use Rattle.life_model.specs.Symmetry.{translate_of}
 use Rattle.life_model.proofs.Cells.{pair, plus-opposite}
+use Rattle.life_model.proofs.Generations.{size-cells}
+use Rattle.life_model.proofs.Lists.{cells-moved}
 use Rattle.life_model.proofs.Recurrences.{generation-add}
+use Rattle.std.proofs.lemmas.List.{length-map}
 use Rattle.life_model.proofs.Symmetries.{contains-moved}
 use Rattle.life_objects.specs.Apart.{AreApart, AreApartForEver, AreNear}
 use Rattle.life_objects.specs.Drift.{multiple_of}
@@ -50,7 +53,7 @@ rounds_back n p one some =
 
 module _ (o : Course) (P : Generation) (ago : ℕ) (one : 1 ≤ ago) (is : IsCourse o) (past : IsPast ago o P) where
   -- what it was is a phase, moved back
-  phase_then : (by : Cell) → by ≡ multiple_of ((ago - 1) / o.period + 1) o.displacement →
+  pub phase_then : (by : Cell) → by ≡ multiple_of ((ago - 1) / o.period + 1) o.displacement →
       P ≡ translate_of (generation o.rule o.set ((o.period - 1) - (ago - 1) % o.period)) (opposite by)
   phase_then by e =
       sym ((λ i. translate_of (generation o.rule o.set ((o.period - 1) - (ago - 1) % o.period)) (opposite (e i)))
@@ -469,3 +472,15 @@ between_back R P Q t high so_far here n late before =
       | inl more ↦ so_far n (let h : t + 1 ≤ n = omega arith in h) before
       | inr most ↦ subst (λ m. AreApart (generation R P m) (generation R Q m)) (let e : t ≡ n = omega arith in e) here
     ]
+
+-- a set that is moved keeps its number of cells
+size-moved : (G : Generation) (d : Cell) → size (translate_of G d) ≡ size G
+size-moved G d =
+    size-cells (translate_of G d) ∙ ap length (cells-moved G d) ∙ length-map (cells G) (λ c. plus c d) ∙ sym (size-cells G)
+
+pub size_then : (o : Course) (P : Generation) (ago : ℕ) → 1 ≤ ago → IsCourse o → IsPast ago o P →
+    size (generation o.rule o.set ((o.period - 1) - (ago - 1) % o.period)) ≡ size P
+size_then o P ago one is past =
+    sym (ap size (phase_then o P ago one is past (multiple_of ((ago - 1) / o.period + 1) o.displacement) refl)
+    ∙ size-moved (generation o.rule o.set ((o.period - 1) - (ago - 1) % o.period))
+    (opposite (multiple_of ((ago - 1) / o.period + 1) o.displacement)))

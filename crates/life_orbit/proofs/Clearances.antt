@@ -130,7 +130,7 @@ module _ (o w : Course) (rule : o.rule ≡ w.rule) (is_o : IsCourse o) (is_w : I
       (in_h (t % w.period) d (mod-lt t is_w.recurs.later) in_Q) near)
 
 -- what moves nowhere is nowhere else after any number of moves
-still : (k : ℕ) (d : Cell) → d ≡ origin → multiple_of k d ≡ origin
+pub still : (k : ℕ) (d : Cell) → d ≡ origin → multiple_of k d ≡ origin
 still zero d rests = refl
 still (suc k) d rests = (λ i. plus (still k d rests i) (rests i)) ∙ pair (omega (arith, ints)) (omega (arith, ints))
 

@@ -10,6 +10,7 @@ ghost use Rattle.life_orbit.specs.Passing.{AreApartBetween};
 ghost use Rattle.life_orbit.specs.Past.{AreApartSince, IsPast};
 ghost use Rattle.life_orbit.specs.Reach.{IsReach};
 
+use crate::ago::{phase_ago, shift_since};
 use crate::hull::are_far;
 use crate::lanes::Span;
 use crate::near::are_clear;
@@ -17,28 +18,6 @@ use crate::orbit::Orbit;
 use crate::periods::rounds_together;
 use crate::shift::repeated;
 use crate::watch::rounds_near;
-use life_cells::CellList;
-
-/// The phase that a set had so many generations ago, wherever it stood.
-fn phase_ago(orbit: &Orbit, ago: u32) -> &CellList
-    requires { 1 ≤ ago }
-    ensures { result.now ≡ generation orbit.now.rule orbit.now.set
-        ((orbit.now.period - 1) - (ago - 1) % orbit.now.period) }
-{
-    let period = orbit.period();
-    orbit.phase(period - 1 - (ago - 1) % period)
-}
-
-/// How far a set has come in whole periods, of which the first began with the phase of so many generations ago.
-fn shift_since(orbit: &Orbit, ago: u32) -> (i128, i128)
-    requires { 1 ≤ ago }
-    ensures value { result ≡ multiple_of ((ago - 1) / orbit.now.period + 1) orbit.now.displacement }
-    ensures reach { IsReach (2 ^ 64) result }
-    ensures recurs { IsCourse orbit.now }
-{
-    let rounds = (ago - 1) / orbit.period();
-    repeated(rounds as u128 + 1, orbit.displacement())
-}
 
 /// How much further than the first of two moves the second is.
 fn further(here: (i128, i128), there: (i128, i128)) -> (i128, i128)

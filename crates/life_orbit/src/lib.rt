@@ -3,6 +3,7 @@
 //! Tested in `tests_objects`.
 #![tactic(auto)]
 
+mod ago;
 mod back;
 mod hull;
 mod lanes;
