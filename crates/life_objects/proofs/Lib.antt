@@ -16,3 +16,4 @@ pub mod Staying
 pub mod Dividing
 pub mod Cores
 pub mod Drifting
+pub mod Beginning

@@ -3,6 +3,7 @@ use Rattle.std.proofs.Common.{◌≡◌, ◌≢◌, ℕ, zero, suc, ◌+◌, ◌
 use Rattle.std.proofs.Common.{sym, refl, ap, subst, ◌∙◌, arith}
 use Rattle.std.specs.List.{All, AllPairs, Contains, remove}
 use Rattle.std.specs.List.Sorted.{IsPermutation}
+use Rattle.std.proofs.lemmas.List.{get_or-map, length-map}
 use Rattle.std.proofs.lemmas.List.Edits.{length-remove, get_or-remove_below, get_or-remove_above}
 use Rattle.std.proofs.lemmas.List.Elements.{All-contains, All-map, at_from_Contains}
 use Rattle.std.proofs.lemmas.List.Kept.{AllPairs-cons}
@@ -31,6 +32,14 @@ AllPairs-map R f [] all = AllPairs-nil R
 AllPairs-map R f (x ∷ xs) all =
     AllPairs-cons R (f x) (map f xs) (All-map (R (f x)) f xs (AllPairs-head (λ a b. R (f a) (f b)) x xs all))
     (AllPairs-map R f xs (AllPairs-tail (λ a b. R (f a) (f b)) x xs all))
+
+pub AllPairs-unmap : {X Y : Type 0} (R : Y → Y → Type 0) (f : X → Y) (xs : List X) → AllPairs R (map f xs) →
+    AllPairs (λ x y. R (f x) (f y)) xs
+AllPairs-unmap R f xs all i j d before within =
+    let early : i < length xs = omega arith in
+    subst (λ y. R y (f (get_or xs j d))) (get_or-map f xs i d (f d) early)
+    (subst (R (get_or (map f xs) i (f d))) (get_or-map f xs j d (f d) within)
+    (all i j (f d) before (omega (arith, length-map xs f))))
 
 -- xs is x and the rest, and x is related to each of the rest
 pub record IsSetAside {X : Type 0} (R : X → X → Type 0) (xs : List X) (x : X) : Type 0 where

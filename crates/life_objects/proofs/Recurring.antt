@@ -21,7 +21,7 @@ moved_back A e =
     ∙ ap (translate_of A) (let z : plus e (opposite e) ≡ origin = pair (omega (arith, ints)) (omega (arith, ints)) in z)
     ∙ moved-origin A
 
-same_unmoved : (A B : Generation) (e : Cell) → translate_of A e ≡ translate_of B e → A ≡ B
+pub same_unmoved : (A B : Generation) (e : Cell) → translate_of A e ≡ translate_of B e → A ≡ B
 same_unmoved A B e same = sym (moved_back A e) ∙ ap (λ H. translate_of H (opposite e)) same ∙ moved_back B e
 
 moves_swap : (A : Generation) (d e : Cell) → translate_of (translate_of A d) e ≡ translate_of (translate_of A e) d
@@ -63,6 +63,13 @@ module _ (R : Rule) where
       again = generation-add R P n p ∙ ap (generation R P) (let e : n + p ≡ p + n = omega arith in e)
           ∙ sym (generation-add R P p n) ∙ ap (λ H. generation R H n) r.again ∙ generation-moved R P d n;
     }
+
+  -- where it is moved, a set comes again as it does
+  pub RecursBy-moved : (P : Generation) (n : ℕ) (d e : Cell) → RecursBy R P n d → RecursBy R (translate_of P e) n d
+  RecursBy-moved P n d e r = record {
+    later = r.later;
+    again = generation-moved R P e n ∙ ap (λ H. translate_of H e) r.again ∙ moves_swap P d e;
+  }
 
   -- how a moved set comes again, the set itself does
   pub RecursBy-unmoved : (P : Generation) (n : ℕ) (d e : Cell) → RecursBy R (translate_of P e) n d → RecursBy R P n d

@@ -5,3 +5,4 @@ pub mod Ash
 pub mod Whole
 pub mod Drift
 pub mod Limits
+pub mod Onset

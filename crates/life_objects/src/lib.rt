@@ -16,6 +16,7 @@ ghost use Rattle.life_model.specs.Rule.{Rule};
 ghost use Rattle.life_objects.specs.Apart.{AreApart, AreApartBefore, AreApartFor, AreApartForEver, AreDisjoint};
 ghost use Rattle.life_objects.specs.Ash.{HasFallenApart, IsAsh};
 ghost use Rattle.life_objects.specs.Drift.{IsBelow, IsRightOf, multiple_of};
+ghost use Rattle.life_objects.specs.Onset.{AreBefore, HasAsh, IsAshOnset, IsMadeOf, Recurs};
 ghost use Rattle.life_objects.specs.Piece.{IsOnePiece, IsUndivided, LivesThrough};
 ghost use Rattle.life_objects.specs.Union.{generations, union, union_of};
 ghost use Rattle.life_objects.specs.Whole.{IsCore, StaysWhole};
@@ -183,4 +184,38 @@ pub fn what_lives_on_tells_the_parts()
         union_of Ls ≡ G → All (StaysWhole R b G) Ls → AllPairs (AreApartFor R b) Ls →
         Contains Ls L →
         LivesThrough R b L → (P : Generation) × Contains parts P × IsCore R b L P }
+{}
+
+/// What comes again and again has always been there: for each number of generations there are sets that come again and
+/// become these after so many, and each set that comes again is told by what it becomes.
+pub fn what_recurs_has_a_past()
+    ensures some { (R : Rule) (n : ℕ) (laters : List Generation) → All (Recurs R) laters →
+        (sets : List Generation) × AreBefore R n laters sets }
+    ensures one { (R : Rule) (n : ℕ) (P Q : Generation) → Recurs R P → Recurs R Q →
+        generation R P n ≡ generation R Q n → P ≡ Q }
+{}
+
+/// Where a later generation g is ash, generation t is ash exactly where it is what the parts were then, and these stay
+/// apart from t on.
+pub fn parts_tell_when_ash_began()
+    ensures { (R : Rule) (b g t : ℕ) (G : Generation) (parts sets : List Generation) → t ≤ g →
+        IsAsh R b (generation R G g) parts → AreBefore R (g - t) parts sets →
+        HasAsh R b (generation R G t) ↔ IsMadeOf R (generation R G t) sets }
+{}
+
+/// From the onset of its ash on each generation of a pattern is ash, and what has fallen apart within b has its onset by
+/// then.
+pub fn ash_goes_on_from_its_onset()
+    ensures later { (R : Rule) (b t n : ℕ) (G : Generation) → IsAshOnset R b G t → t ≤ n →
+        HasAsh R b (generation R G n) }
+    ensures by_then { (R : Rule) (b t : ℕ) (G : Generation) (parts : List Generation) →
+        IsAshOnset R b G t → HasFallenApart R b G parts → t ≤ b }
+{}
+
+/// A pattern's ash has one onset, whatever the bounds, and within each greater bound it is the same.
+pub fn ash_has_one_onset()
+    ensures one { (R : Rule) (b c s t : ℕ) (G : Generation) → IsAshOnset R b G s →
+        IsAshOnset R c G t → s ≡ t }
+    ensures wider { (R : Rule) (b c t : ℕ) (G : Generation) → b ≤ c → IsAshOnset R b G t →
+        IsAshOnset R c G t }
 {}

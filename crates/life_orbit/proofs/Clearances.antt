@@ -61,12 +61,12 @@ near_forth c d s t h = record {
 }
 
 -- two moved sets are apart where the one, moved as far as it is from the other, is apart from that
-apart_forth : (P Q : Generation) (s t : Cell) → AreApartBy P (plus s (opposite t)) Q → AreApart (translate_of P s) (translate_of Q t)
+pub apart_forth : (P Q : Generation) (s t : Cell) → AreApartBy P (plus s (opposite t)) Q → AreApart (translate_of P s) (translate_of Q t)
 apart_forth P Q s t apart c d in_P in_Q near =
     apart (plus c (opposite s)) (plus d (opposite t)) (sym (contains-moved P s c) ∙ in_P)
     (sym (contains-moved Q t d) ∙ in_Q) (near_back c d s t near)
 
-apart_back : (P Q : Generation) (s t : Cell) → AreApart (translate_of P s) (translate_of Q t) → AreApartBy P (plus s (opposite t)) Q
+pub apart_back : (P Q : Generation) (s t : Cell) → AreApart (translate_of P s) (translate_of Q t) → AreApartBy P (plus s (opposite t)) Q
 apart_back P Q s t apart c d in_P in_Q near =
     apart (plus c s) (plus d t) (contains-moved P s (plus c s) ∙ ap (contains P) (plus-opposite c s) ∙ in_P)
     (contains-moved Q t (plus d t) ∙ ap (contains Q) (plus-opposite d t) ∙ in_Q) (near_forth c d s t near)
@@ -130,7 +130,7 @@ module _ (o w : Course) (rule : o.rule ≡ w.rule) (is_o : IsCourse o) (is_w : I
       (in_h (t % w.period) d (mod-lt t is_w.recurs.later) in_Q) near)
 
 -- what moves nowhere is nowhere else after any number of moves
-still : (k : ℕ) (d : Cell) → d ≡ origin → multiple_of k d ≡ origin
+pub still : (k : ℕ) (d : Cell) → d ≡ origin → multiple_of k d ≡ origin
 still zero d rests = refl
 still (suc k) d rests = (λ i. plus (still k d rests i) (rests i)) ∙ pair (omega (arith, ints)) (omega (arith, ints))
 

@@ -7,6 +7,7 @@ pub mod Reaching
 pub mod HullLemmas
 pub mod Divisors
 pub mod Watching
+pub mod Backwards
 pub mod Rows
 pub mod Moves
 pub mod MovedCells

@@ -133,7 +133,7 @@ pub record IsPair (R : Rule) (P Q : Generation) (p q a b : ℕ) (d e : Cell) : T
   pub some : 1 ≤ a
   pub others : 1 ≤ b
 
-IsPair-swap : (R : Rule) (P Q : Generation) (p q a b : ℕ) (d e : Cell) → IsPair R P Q p q a b d e →
+pub IsPair-swap : (R : Rule) (P Q : Generation) (p q a b : ℕ) (d e : Cell) → IsPair R P Q p q a b d e →
     IsPair R Q P q p b a e d
 IsPair-swap R P Q p q a b d e pair = record {
   first = pair.second;
@@ -145,13 +145,13 @@ IsPair-swap R P Q p q a b d e pair = record {
 
 -- ---- a gap that does not close before a round
 
-near_across : (c d : Cell) → AreNear c d → c.0 ≤ℤ (d.0 +ℤ pos 2)
+pub near_across : (c d : Cell) → AreNear c d → c.0 ≤ℤ (d.0 +ℤ pos 2)
 near_across c d near = near.right
 
-near_down : (c d : Cell) → AreNear c d → c.1 ≤ℤ (d.1 +ℤ pos 2)
+pub near_down : (c d : Cell) → AreNear c d → c.1 ≤ℤ (d.1 +ℤ pos 2)
 near_down c d near = near.below
 
-no_gap : (x y : ℤ) → (y +ℤ pos 3) ≤ℤ x → x ≤ℤ (y +ℤ pos 2) → ⊥
+pub no_gap : (x y : ℤ) → (y +ℤ pos 3) ≤ℤ x → x ≤ℤ (y +ℤ pos 2) → ⊥
 no_gap x y gap near = omega (arith, ints)
 
 no_time : (t k n : ℕ) → k ≡ 0 → t < k * n → ⊥

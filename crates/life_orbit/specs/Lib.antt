@@ -4,3 +4,4 @@ pub mod Reach
 pub mod Hulls
 pub mod Clear
 pub mod Passing
+pub mod Past

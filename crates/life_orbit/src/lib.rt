@@ -3,6 +3,8 @@
 //! Tested in `tests_objects`.
 #![tactic(auto)]
 
+mod ago;
+mod back;
 mod hull;
 mod lanes;
 mod meeting;

@@ -13,7 +13,7 @@ use crate::shift::repeated;
 
 /// In which rounds two boxes can be near, where they move so far in each: when they can be along both axes. Where both
 /// move as far and are near along both, one round tells of all.
-fn rounds_near(hull: Hull, by: (i128, i128), other_hull: Hull, other_by: (i128, i128)) -> Span
+pub fn rounds_near(hull: Hull, by: (i128, i128), other_hull: Hull, other_by: (i128, i128)) -> Span
     requires reach { IsReach (2 ^ 49) by }
     requires other_reach { IsReach (2 ^ 49) other_by }
     ensures ahead { IsAheadBefore (record {

@@ -1,0 +1,4 @@
+pub mod Pasts
+pub mod Sinces
+pub mod Counts
+pub mod Onsets

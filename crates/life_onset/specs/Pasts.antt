@@ -1,0 +1,30 @@
+-- What sets were that recur.
+use Rattle.std.specs.Prelude.{◌≡◌, ℕ, ◌+◌, ◌-◌, ◌*◌, List, [], ◌∷◌, map}
+use Rattle.life_model.specs.Cell.{opposite}
+use Rattle.life_model.specs.Evolution.{generation}
+use Rattle.life_model.specs.Generation.{Generation, size}
+use Rattle.life_model.specs.Rule.{Rule}
+use Rattle.life_model.specs.Symmetry.{translate_of}
+use Rattle.life_objects.specs.Drift.{multiple_of}
+use Rattle.life_orbit.specs.Course.{Course}
+
+-- the sets that recur so
+abbrev pub sets_of : List Course → List Generation
+sets_of courses = map (λ o. o.set) courses
+
+-- it recurs by this rule
+abbrev pub IsCourseBy : Rule → Course → Type 0
+IsCourseBy R o = o.rule ≡ R
+
+-- what a set was n generations ago that has always come again so: n periods ago, and from there so far on
+abbrev pub past_of : ℕ → Course → Generation
+past_of n o = translate_of (generation o.rule o.set (n * o.period - n)) (opposite (multiple_of n o.displacement))
+
+-- what each set was then
+abbrev pub pasts : ℕ → List Course → List Generation
+pasts n courses = map (past_of n) courses
+
+-- how many cells sets have together, counted one by one
+abbrev pub total : List Generation → ℕ
+total [] = 0
+total (P ∷ Ps) = size P + total Ps

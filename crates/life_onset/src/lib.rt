@@ -1,0 +1,10 @@
+//! From which generation on a pattern is ash, where a later generation is ash of known parts.
+//!
+//! Tested in `tests_objects`.
+#![tactic(auto)]
+
+mod pattern;
+mod since;
+mod together;
+
+pub use pattern::onset;
