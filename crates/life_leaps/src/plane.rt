@@ -12,7 +12,7 @@ use std::alloc::{AllocError, Global};
 use std::marker::Model;
 
 /// A finite set of live cells, kept as squares that remember what they become, how many steps it has made, and its rule. What
-/// squares it has made it keeps until it is dropped.
+/// squares it has made it keeps until it collects.
 #[derive(Drop)]
 pub struct LeapPlane {
     leaper: Leaper,
@@ -56,6 +56,15 @@ impl LeapPlane {
             ((members self.new ≡ members self.old) × (steps_made self.new ≡ steps_made self.old)) }
     {
         self.leaper.leap(exponent, work)?;
+        Ok(())
+    }
+
+    /// Gives back the memory of all squares but those that show the cells now, and forgets what was worked out. After an `Err`
+    /// all is as it was.
+    pub fn collect(&mut self) -> Result<(), AllocError>
+        ensures { self.new ≡ self.old }
+    {
+        self.leaper.collect()?;
         Ok(())
     }
 
