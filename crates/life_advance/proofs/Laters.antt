@@ -1,5 +1,5 @@
 -- Cells some generations later, and those after them.
-use Rattle.std.proofs.Common.{◌≡◌, ℕ, zero, suc, ◌+◌, ◌≤◌, sym, refl, ap, subst, ◌∙◌, arith}
+use Rattle.std.proofs.Common.{◌≡◌, ℕ, ◌+◌, sym, ap, ◌∙◌, arith}
 use Rattle.life_model.specs.Rule.{Rule}
 use Rattle.life_model.specs.Generation.{Generation}
 use Rattle.life_model.specs.Evolution.{generation, next}
@@ -34,3 +34,8 @@ later_at R G b n l e =
 
 pub later_same : (R : Rule) (a b c : Generation × ℕ) → IsLater R a b → c.0 ≡ b.0 → c.1 ≡ b.1 → IsLater R a c
 later_same R a b c l cells age = record { steps = l.steps; age = age ∙ l.age; cells = cells ∙ l.cells }
+
+-- a plane that has the cells and the age of another one
+pub later_kept : (R : Rule) (a b c : (Generation × ℕ) × Rule) → b ≡ a → c.0.0 ≡ b.0.0 → c.0.1 ≡ b.0.1 → IsLater R a.0 c.0
+later_kept R a b c same cells age =
+    later_same R a.0 a.0 c.0 (later_now R a.0) (cells ∙ ap (λ (p : (Generation × ℕ) × Rule). p.0.0) same) (age ∙ ap (λ (p : (Generation × ℕ) × Rule). p.0.1) same)

@@ -36,6 +36,22 @@ pub struct Effort {
     rate: u64,
 }
 
+/// How much a trial may work, in bands of leaves.
+#[derive(Clone, Copy)]
+pub struct Trial {
+    pub work: u64,
+    /// So much more for each generation that it makes, twice.
+    rate: u64,
+}
+
+impl Trial {
+    /// How much a trial may still work that worked so much and made so many generations.
+    pub fn left(&self, worked: u64, generations: u32) -> u64 {
+        let saved = self.rate.saturating_mul(u64::from(generations)) / 2;
+        self.work.saturating_add(saved).saturating_sub(worked)
+    }
+}
+
 impl Effort {
     /// Nothing was worked.
     pub fn new() -> Effort {
@@ -59,13 +75,17 @@ impl Effort {
         self.next_trial <= self.steps && left % wait_of(age) == 0
     }
 
-    /// How much a trial may work, in bands of leaves, with so many generations to come and so many cells.
-    pub fn trial(&self, left: u32, cells: u64) -> u64 {
+    /// How much a trial may work, with so many generations to come and so many cells. What the generations would take that it
+    /// makes it may work besides.
+    pub fn trial(&self, left: u32, cells: u64) -> Trial {
         let to_come = self.rate.saturating_mul(u64::from(left));
         let part = self.steps.saturating_add(to_come) / 10 * 3;
         let most = part.min(self.steps);
         let lost = self.lost.saturating_add(cells.saturating_mul(CELL_WORK));
-        most.saturating_sub(lost) / 2
+        Trial {
+            work: most.saturating_sub(lost) / 2,
+            rate: self.rate,
+        }
     }
 
     /// Counts a trial that worked so many bands of leaves, made so many generations, and was given up.

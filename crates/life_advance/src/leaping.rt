@@ -5,46 +5,83 @@ ghost use Rattle.life_cells.specs.Limits.{IsWithin};
 ghost use Rattle.life_advance.specs.Later.{IsLater};
 ghost use Rattle.life_leaps.specs.Planes.{rule_of, steps_made};
 
-use crate::effort::Effort;
+use crate::effort::{Effort, Trial};
 use life_board::Board;
 use life_cells::{CellList, Rule};
-use life_leaps::LeapPlane;
+use life_leaps::{LeapPlane, NoLeap};
 use life_plane::{AGE_LIMIT, Plane};
 use std::alloc::Global;
 
-/// The exponent of the greatest power of two that divides a number.
-fn exponent_of(number: u32) -> u32
+/// More tries of leaps than there are generations to make, since some are refused memory.
+const MORE_TRIES: u32 = 32;
+
+/// The greatest exponent, of those up to one, whose power of two divides a number.
+fn exponent_of(number: u32, greatest: u32) -> u32
     requires { 1 ≤ number }
     ensures { 2 ^ result ≤ number }
 {
     let mut power = 1u64;
-    for exponent in 0..31 {
+    for exponent in 0..greatest {
         if u64::from(number) % (2 * power) != 0 {
             return exponent;
         }
         power *= 2;
     }
-    0
+    greatest
 }
 
-/// Leaps until an age, as far as so much work goes and memory is there.
-fn leap_on(plane: &mut LeapPlane, until: u32, work: u64)
+/// Gives back the squares that the cells do not need, where squares take much memory.
+fn make_room(plane: &mut LeapPlane)
+    ensures { plane.new ≡ plane.old }
+{
+    if plane.is_half_full() {
+        let _ = plane.collect();
+    }
+}
+
+/// Makes a leap towards an age, for so much work at most, and none longer than 2^greatest generations. Where memory is refused
+/// for it, the next is to be shorter. Whether to go on.
+fn leap_once(plane: &mut LeapPlane, until: u32, work: u64, greatest: &mut u32) -> bool
+    requires until { until ≤ AGE_LIMIT }
+    requires young { steps_made plane.old < until }
+    ensures rule { rule_of plane.new ≡ rule_of plane.old }
+    ensures within { steps_made plane.new ≤ until }
+    ensures later { IsLater (rule_of plane.old) plane.old.0 plane.new.0 }
+{
+    make_room(plane);
+    let exponent = exponent_of(until - plane.age(), *greatest);
+    match plane.leap(exponent, work) {
+        Ok(()) => true,
+        Err(NoLeap::Work) => false,
+        Err(NoLeap::Memory) => {
+            if exponent == 0 || plane.collect().is_err() {
+                return false;
+            }
+            *greatest = exponent - 1;
+            true
+        }
+    }
+}
+
+/// Leaps until an age, as far as the work of a trial goes and memory is there.
+fn leap_on(plane: &mut LeapPlane, until: u32, trial: &Trial)
     requires until { until ≤ AGE_LIMIT }
     requires young { steps_made plane.old ≤ until }
     ensures rule { rule_of plane.new ≡ rule_of plane.old }
     ensures within { steps_made plane.new ≤ until }
     ensures later { IsLater (rule_of plane.old) plane.old.0 plane.new.0 }
 {
-    let end = plane.work().saturating_add(work);
-    'leaps: for _ in plane.age()..until {
+    let begun = plane.work();
+    let start = plane.age();
+    let mut greatest = 31;
+    'leaps: for _ in 0..(until - start).saturating_add(MORE_TRIES) {
         if plane.age() == until {
             return;
         }
-        let exponent = exponent_of(until - plane.age());
-        let left = end.saturating_sub(plane.work());
-        match plane.leap(exponent, left) {
-            Ok(()) => {}
-            Err(_) => return,
+        let worked = plane.work().saturating_sub(begun);
+        let made = plane.age().saturating_sub(start);
+        if !leap_once(plane, until, trial.left(worked, made), &mut greatest) {
+            return;
         }
     }
 }
@@ -105,15 +142,15 @@ pub fn leapt(
 {
     let age = board.age();
     let cells = board.population();
-    let work = effort.trial(until - age, cells);
-    if work == 0 {
+    let trial = effort.trial(until - age, cells);
+    if trial.work == 0 {
         effort.add_trial(0, 0, 0);
         return None;
     }
     let Some(mut plane) = squares_of(alloc, board, rule) else {
         return None;
     };
-    leap_on(&mut plane, until, work);
+    leap_on(&mut plane, until, &trial);
     effort.add_trial(plane.work(), plane.age() - age, cells);
     if plane.age() == age {
         return None;

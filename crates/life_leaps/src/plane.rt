@@ -59,6 +59,11 @@ impl LeapPlane {
         Ok(())
     }
 
+    /// Whether squares take half of the memory that they may take. Leaps are refused once they take all.
+    pub fn is_half_full(&self) -> bool {
+        self.leaper.store.is_half_full()
+    }
+
     /// Gives back the memory of all squares but those that show the cells now, and forgets what was worked out. After an `Err`
     /// all is as it was.
     pub fn collect(&mut self) -> Result<(), AllocError>
