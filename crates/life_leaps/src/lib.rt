@@ -11,6 +11,7 @@ mod leaping;
 mod listing;
 mod padding;
 mod plane;
+mod putting;
 mod rows;
 mod site;
 mod square;

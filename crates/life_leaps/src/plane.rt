@@ -44,6 +44,21 @@ impl LeapPlane {
         Ok(LeapPlane { leaper })
     }
 
+    /// Puts the cells of a list in the place of all cells, at some age, at which their places may be. What was worked out is kept,
+    /// and so is the rule. After an `Err` the cells and the age are what they were.
+    pub fn put(&mut self, list: &CellList, age: u32) -> Result<(), AllocError>
+        requires age { age ≤ age_limit }
+        requires within { All (IsWithin age) (sets.cells list.now) }
+        ensures cells { OnOk result (members self.new ≡ list.now) }
+        ensures age { OnOk result (steps_made self.new ≡ age) }
+        ensures rule { rule_of self.new ≡ rule_of self.old }
+        ensures unchanged { OnErr result
+            ((members self.new ≡ members self.old) × (steps_made self.new ≡ steps_made self.old)) }
+    {
+        self.leaper.put(list, age)?;
+        Ok(())
+    }
+
     /// Makes 2^exponent generations, for about so much work: a unit is a band of eight rows of 64 cells. After an `Err` the
     /// cells and the age are what they were.
     pub fn leap(&mut self, exponent: u32, work: u64) -> Result<(), NoLeap>
