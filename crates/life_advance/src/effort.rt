@@ -14,8 +14,8 @@ const BAND_WORK: u64 = 3;
 /// What a step takes beside its bands.
 const STEP_WORK: u64 = 2;
 
-/// What it takes to put a cell into squares and back into tiles.
-const CELL_WORK: u64 = 12;
+/// What it takes to put a cell into squares, and as much again to put it back into tiles.
+const CELL_WORK: u64 = 6;
 
 /// The active bands are counted once in so many steps.
 pub const SAMPLE: u32 = 16;
@@ -34,6 +34,38 @@ pub struct Effort {
     next_trial: u64,
     /// The work of a step when it was last counted.
     rate: u64,
+}
+
+/// A trial of leaps at an age.
+#[derive(Clone, Copy)]
+pub struct Trial {
+    age: u32,
+    /// How much it may work, in bands of leaves.
+    pub work: u64,
+    /// The work of a step.
+    rate: u64,
+    /// The work of changing over to squares, and of changing back.
+    over: u64,
+    back: u64,
+}
+
+impl Trial {
+    /// How much it may still work when it has worked so much and come to an age. It may work what the steps until there would.
+    pub fn left(&self, worked: u64, age: u32) -> u64 {
+        let saved = self.saved(age) / 2;
+        self.work.saturating_add(saved).saturating_sub(worked)
+    }
+
+    /// Whether it may work more than it costs to change over.
+    pub fn is_worthwhile(&self) -> bool {
+        self.work > self.over.saturating_add(self.back) / 2
+    }
+
+    /// The work of the steps until an age that it has come to.
+    fn saved(&self, age: u32) -> u64 {
+        let generations = age.saturating_sub(self.age);
+        self.rate.saturating_mul(u64::from(generations))
+    }
 }
 
 impl Effort {
@@ -59,23 +91,32 @@ impl Effort {
         self.next_trial <= self.steps && left % wait_of(age) == 0
     }
 
-    /// How much a trial may work, in bands of leaves, with so many generations to come and so many cells.
-    pub fn trial(&self, left: u32, cells: u64) -> u64 {
+    /// A trial at an age, with so many generations to come and so many cells, of squares that are there or are to be made.
+    pub fn trial(&self, age: u32, left: u32, cells: u64, is_begun: bool) -> Trial {
         let to_come = self.rate.saturating_mul(u64::from(left));
         let part = self.steps.saturating_add(to_come) / 10 * 3;
-        let most = part.min(self.steps);
-        let lost = self.lost.saturating_add(cells.saturating_mul(CELL_WORK));
-        most.saturating_sub(lost) / 2
+        let back = cells.saturating_mul(CELL_WORK);
+        let over = if is_begun { 0 } else { back };
+        let lost = self.lost.saturating_add(over).saturating_add(back);
+        Trial {
+            age,
+            work: part.min(self.steps).saturating_sub(lost) / 2,
+            rate: self.rate,
+            over,
+            back,
+        }
     }
 
-    /// Counts a trial that worked so many bands of leaves, made so many generations, and was given up.
-    pub fn add_trial(&mut self, bands: u64, generations: u32, cells: u64) {
-        let spent = bands
-            .saturating_mul(2)
-            .saturating_add(cells.saturating_mul(CELL_WORK));
-        let saved = self.rate.saturating_mul(u64::from(generations));
-        self.lost = self.lost.saturating_add(spent).saturating_sub(saved);
+    /// Says when the next trial is due after one.
+    pub fn put_off(&mut self) {
         self.next_trial = self.steps.saturating_add(self.steps / 2).max(FIRST_TRIAL);
+    }
+
+    /// Counts a trial that has worked so many bands of leaves and come to an age.
+    pub fn add_trial(&mut self, trial: &Trial, bands: u64, age: u32) {
+        let back = if age > trial.age { trial.back } else { 0 };
+        let spent = bands.saturating_mul(2).saturating_add(trial.over).saturating_add(back);
+        self.lost = self.lost.saturating_add(spent).saturating_sub(trial.saved(age));
     }
 }
 

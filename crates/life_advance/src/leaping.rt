@@ -1,50 +1,90 @@
 //! Leaps of a plane of squares.
-ghost use Rattle.std.specs.Prelude.{◌≡◌, ◌+◌, ◌<◌, ◌≤◌, ◌^◌, All, IfSome};
+ghost use Rattle.std.specs.Prelude.{◌≡◌, ◌+◌, ◌<◌, ◌≤◌, ◌^◌, All, IfNone, IfSome};
 ghost use Rattle.life_model.specs.Generation as sets;
 ghost use Rattle.life_cells.specs.Limits.{IsWithin};
-ghost use Rattle.life_advance.specs.Later.{IsLater};
+ghost use Rattle.life_advance.specs.Later.{IsLater, Trails};
 ghost use Rattle.life_leaps.specs.Planes.{rule_of, steps_made};
 
-use crate::effort::Effort;
+use crate::effort::{Effort, Trial};
 use life_board::Board;
 use life_cells::{CellList, Rule};
-use life_leaps::LeapPlane;
+use life_leaps::{LeapPlane, NoLeap};
 use life_plane::{AGE_LIMIT, Plane};
 use std::alloc::Global;
 
-/// The exponent of the greatest power of two that divides a number.
-fn exponent_of(number: u32) -> u32
+/// More tries of leaps than there are generations to make, since some are refused memory.
+const MORE_TRIES: u32 = 32;
+
+/// The greatest exponent, of those up to one, whose power of two divides a number.
+fn exponent_of(number: u32, greatest: u32) -> u32
     requires { 1 ≤ number }
     ensures { 2 ^ result ≤ number }
 {
     let mut power = 1u64;
-    for exponent in 0..31 {
+    for exponent in 0..greatest {
         if u64::from(number) % (2 * power) != 0 {
             return exponent;
         }
         power *= 2;
     }
-    0
+    greatest
 }
 
-/// Leaps until an age, as far as so much work goes and memory is there.
-fn leap_on(plane: &mut LeapPlane, until: u32, work: u64)
+/// The greatest power of two that divides a number.
+fn next_leap(number: u32) -> u32 {
+    number & number.wrapping_neg()
+}
+
+/// Gives back the squares that the cells do not need, where squares take much memory.
+fn make_room(plane: &mut LeapPlane)
+    ensures { plane.new ≡ plane.old }
+{
+    if plane.is_half_full() {
+        let _ = plane.collect();
+    }
+}
+
+/// Makes a leap towards an age, for so much work at most, and none longer than 2^greatest generations. Where memory is refused
+/// for it, the next is to be shorter. Whether to go on.
+fn leap_once(plane: &mut LeapPlane, until: u32, work: u64, greatest: &mut u32) -> bool
+    requires until { until ≤ AGE_LIMIT }
+    requires young { steps_made plane.old < until }
+    ensures rule { rule_of plane.new ≡ rule_of plane.old }
+    ensures within { steps_made plane.new ≤ until }
+    ensures later { IsLater (rule_of plane.old) plane.old.0 plane.new.0 }
+{
+    make_room(plane);
+    let exponent = exponent_of(until - plane.age(), *greatest);
+    match plane.leap(exponent, work) {
+        Ok(()) => true,
+        Err(NoLeap::Work) => false,
+        Err(NoLeap::Memory) => {
+            if exponent == 0 || plane.collect().is_err() {
+                return false;
+            }
+            *greatest = exponent - 1;
+            true
+        }
+    }
+}
+
+/// Leaps until an age, as far as the work of a trial goes and memory is there.
+fn leap_on(plane: &mut LeapPlane, until: u32, trial: &Trial)
     requires until { until ≤ AGE_LIMIT }
     requires young { steps_made plane.old ≤ until }
     ensures rule { rule_of plane.new ≡ rule_of plane.old }
     ensures within { steps_made plane.new ≤ until }
     ensures later { IsLater (rule_of plane.old) plane.old.0 plane.new.0 }
 {
-    let end = plane.work().saturating_add(work);
-    'leaps: for _ in plane.age()..until {
+    let begun = plane.work();
+    let mut greatest = 31;
+    'leaps: for _ in 0..(until - plane.age()).saturating_add(MORE_TRIES) {
         if plane.age() == until {
             return;
         }
-        let exponent = exponent_of(until - plane.age());
-        let left = end.saturating_sub(plane.work());
-        match plane.leap(exponent, left) {
-            Ok(()) => {}
-            Err(_) => return,
+        let worked = plane.work().saturating_sub(begun);
+        if !leap_once(plane, until, trial.left(worked, plane.age()), &mut greatest) {
+            return;
         }
     }
 }
@@ -85,10 +125,51 @@ fn landing_of(plane: &LeapPlane) -> Option<Landing>
     }
 }
 
-/// The cells of a plane some generations later, no later than at an age, where leaps get further with the work that they are
-/// given and with the memory that there is.
+/// Whether the next leap of a plane that there is comes further than to an age.
+fn lands_beyond(plane: &Option<LeapPlane>, age: u32, until: u32) -> bool {
+    match plane {
+        Some(plane) => {
+            let left = until.saturating_sub(plane.age());
+            left > 0 && plane.age().saturating_add(next_leap(left)) > age
+        }
+        None => false,
+    }
+}
+
+/// The plane that leaps go on with: the one that is there, where it is not behind, and else one with the cells of a board, where
+/// there is memory.
+fn plane_for(
+    alloc: Global,
+    held: Option<LeapPlane>,
+    board: &Board,
+    rule: &Rule,
+    is_begun: bool,
+) -> Option<LeapPlane>
+    requires young { board.now.1 ≤ AGE_LIMIT }
+    requires held { Trails rule.now held board.now }
+    ensures { Trails rule.now result board.now }
+{
+    let Some(mut plane) = held else {
+        return squares_of(alloc, board, rule);
+    };
+    if is_begun {
+        return Some(plane);
+    }
+    let age = board.age();
+    let Ok(cells) = board.cells() else {
+        return None;
+    };
+    match plane.put(&cells, age) {
+        Ok(()) => Some(plane),
+        Err(_) => None,
+    }
+}
+
+/// The cells of a board some generations later, no later than at an age, where leaps get further with the work that they are
+/// given and with the memory that there is. The plane that leaps is kept.
 pub fn leapt(
     alloc: Global,
+    kept: &mut Option<LeapPlane>,
     board: &Board,
     rule: &Rule,
     until: u32,
@@ -96,6 +177,10 @@ pub fn leapt(
 ) -> Option<Landing>
     requires until { until ≤ AGE_LIMIT }
     requires young { board.now.1 < until }
+    requires kept { Trails rule.now kept.old board.now }
+    ensures kept { IfNone result (Trails rule.now kept.new board.now) }
+    ensures landed { IfSome result
+        (λ landing. Trails rule.now kept.new (landing.cells, landing.age)) }
     ensures within { IfSome result (λ landing. landing.age ≤ until) }
     ensures further { IfSome result (λ landing. board.now.1 < landing.age) }
     ensures later { IfSome result
@@ -104,19 +189,22 @@ pub fn leapt(
         (λ landing. All (IsWithin landing.age) (sets.cells landing.cells)) }
 {
     let age = board.age();
-    let cells = board.population();
-    let work = effort.trial(until - age, cells);
-    if work == 0 {
-        effort.add_trial(0, 0, 0);
+    let is_begun = lands_beyond(kept, age, until);
+    let trial = effort.trial(age, until - age, board.population(), is_begun);
+    effort.put_off();
+    if !trial.is_worthwhile() {
         return None;
     }
-    let Some(mut plane) = squares_of(alloc, board, rule) else {
-        return None;
-    };
-    leap_on(&mut plane, until, work);
-    effort.add_trial(plane.work(), plane.age() - age, cells);
-    if plane.age() == age {
+    let held = kept.take();
+    let mut plane = plane_for(alloc, held, board, rule, is_begun)?;
+    let begun = plane.work();
+    leap_on(&mut plane, until, &trial);
+    effort.add_trial(&trial, plane.work().saturating_sub(begun), plane.age());
+    if plane.age() <= age {
+        *kept = Some(plane);
         return None;
     }
-    landing_of(&plane)
+    let landing = landing_of(&plane)?;
+    *kept = Some(plane);
+    Some(landing)
 }

@@ -25,13 +25,13 @@ length_more : {A : Type 0} → (xs : List A) (x : A) → length (xs ++ x ∷ [])
 length_more [] x = refl
 length_more (y ∷ ys) x = let e : length (ys ++ x ∷ []) ≡ length ys + 1 = length_more ys x in omega arith
 
-set_at : {A : Type 0} → (xs : List A) (x d : A) (i : ℕ) → i < length xs → slice_index_or (set xs i x) i d ≡ x
+pub set_at : {A : Type 0} → (xs : List A) (x d : A) (i : ℕ) → i < length xs → slice_index_or (set xs i x) i d ≡ x
 set_at xs x d i h = grind (arith, common_steps)
 
-set_else : {A : Type 0} → (xs : List A) (x d : A) (i j : ℕ) → (i ≡ j → ⊥) → slice_index_or (set xs i x) j d ≡ slice_index_or xs j d
+pub set_else : {A : Type 0} → (xs : List A) (x d : A) (i j : ℕ) → (i ≡ j → ⊥) → slice_index_or (set xs i x) j d ≡ slice_index_or xs j d
 set_else xs x d i j h = grind (arith, common_steps)
 
-length_set : {A : Type 0} → (xs : List A) (x : A) (i : ℕ) → length (set xs i x) ≡ length xs
+pub length_set : {A : Type 0} → (xs : List A) (x : A) (i : ℕ) → length (set xs i x) ≡ length xs
 length_set xs x i = grind (arith, common_steps)
 
 -- a store is kept where what is new in it is made of squares

@@ -11,3 +11,4 @@ pub mod SiteLemmas
 pub mod ListLemmas
 pub mod Placed
 pub mod Begun
+pub mod CopyLemmas

@@ -6,3 +6,4 @@ pub mod Cells
 pub mod Sites
 pub mod Leapers
 pub mod Planes
+pub mod Copies

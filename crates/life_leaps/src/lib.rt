@@ -1,15 +1,17 @@
-//! The plane that leaps: a set of cells as squares of squares that remember what their middles become. No square is
-//! given back before the plane is dropped.
+//! The plane that leaps: a set of cells as squares of squares that remember what their middles become. Squares
+//! are given back when the plane collects or is dropped.
 #![tactic(auto)]
 
 mod building;
 mod centre;
 mod chains;
+mod collecting;
 mod later;
 mod leaping;
 mod listing;
 mod padding;
 mod plane;
+mod putting;
 mod rows;
 mod site;
 mod square;

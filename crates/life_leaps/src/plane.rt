@@ -12,7 +12,7 @@ use std::alloc::{AllocError, Global};
 use std::marker::Model;
 
 /// A finite set of live cells, kept as squares that remember what they become, how many steps it has made, and its rule. What
-/// squares it has made it keeps until it is dropped.
+/// squares it has made it keeps until it collects.
 #[derive(Drop)]
 pub struct LeapPlane {
     leaper: Leaper,
@@ -44,6 +44,21 @@ impl LeapPlane {
         Ok(LeapPlane { leaper })
     }
 
+    /// Puts the cells of a list in the place of all cells, at some age, at which their places may be. What was worked out is kept,
+    /// and so is the rule. After an `Err` the cells and the age are what they were.
+    pub fn put(&mut self, list: &CellList, age: u32) -> Result<(), AllocError>
+        requires age { age ≤ age_limit }
+        requires within { All (IsWithin age) (sets.cells list.now) }
+        ensures cells { OnOk result (members self.new ≡ list.now) }
+        ensures age { OnOk result (steps_made self.new ≡ age) }
+        ensures rule { rule_of self.new ≡ rule_of self.old }
+        ensures unchanged { OnErr result
+            ((members self.new ≡ members self.old) × (steps_made self.new ≡ steps_made self.old)) }
+    {
+        self.leaper.put(list, age)?;
+        Ok(())
+    }
+
     /// Makes 2^exponent generations, for about so much work: a unit is a band of eight rows of 64 cells. After an `Err` the
     /// cells and the age are what they were.
     pub fn leap(&mut self, exponent: u32, work: u64) -> Result<(), NoLeap>
@@ -56,6 +71,20 @@ impl LeapPlane {
             ((members self.new ≡ members self.old) × (steps_made self.new ≡ steps_made self.old)) }
     {
         self.leaper.leap(exponent, work)?;
+        Ok(())
+    }
+
+    /// Whether squares take half of the memory that they may take. Leaps are refused once they take all.
+    pub fn is_half_full(&self) -> bool {
+        self.leaper.store.is_half_full()
+    }
+
+    /// Gives back the memory of all squares but those that show the cells now, and forgets what was worked out. After an `Err`
+    /// all is as it was.
+    pub fn collect(&mut self) -> Result<(), AllocError>
+        ensures { self.new ≡ self.old }
+    {
+        self.leaper.collect()?;
         Ok(())
     }
 

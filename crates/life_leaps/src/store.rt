@@ -94,6 +94,11 @@ impl Store {
         Ok(store)
     }
 
+    /// Whether half of the memory is taken that squares may take.
+    pub fn is_half_full(&self) -> bool {
+        self.taken >= PIECES / 2
+    }
+
     /// Takes memory, where so much is left.
     fn take(&mut self, pieces: u64) -> Result<(), AllocError>
         requires { pieces ≤ 4 }

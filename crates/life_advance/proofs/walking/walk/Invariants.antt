@@ -1,4 +1,4 @@
-use Rattle.std.proofs.Common.{◌≡◌, ◌≤◌}
+use Rattle.std.proofs.Common.{◌≡◌}
 use Rattle.life_advance.specs.Later.{IsLater}
 use Rattle.life_advance.proofs.walking.walk.Given as goal
 

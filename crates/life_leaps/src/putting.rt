@@ -1,0 +1,33 @@
+//! Other cells for a plane that leaps.
+ghost use Rattle.std.specs.Prelude.{◌≡◌, ◌≤◌, All, OnOk, OnErr};
+ghost use Rattle.life_model.specs.Generation as sets;
+ghost use Rattle.life_cells.specs.Limits.{IsWithin, age_limit};
+
+use crate::leaping::Leaper;
+use crate::site::Site;
+use life_cells::CellList;
+use std::alloc::AllocError;
+
+impl Leaper {
+    ghost use Rattle.life_leaps.specs.Leapers.{IsLeaper, cells_in};
+
+    /// Puts the cells of a list in the place of all cells, at some age, at which their places may be. What squares remember they
+    /// go on to remember. After an `Err` the cells and the age are what they were.
+    pub fn put(&mut self, list: &CellList, age: u32) -> Result<(), AllocError>
+        requires kept { IsLeaper self.old }
+        requires age { age ≤ age_limit }
+        requires within { All (IsWithin age) (sets.cells list.now) }
+        ensures kept { IsLeaper self.new }
+        ensures cells { OnOk result (cells_in self.new ≡ list.now) }
+        ensures age { OnOk result (self.new.age ≡ age) }
+        ensures rule { self.new.step.rule ≡ self.old.step.rule }
+        ensures unchanged { OnErr result
+            ((cells_in self.new ≡ cells_in self.old) × (self.new.age ≡ self.old.age)) }
+    {
+        let site = Site::root();
+        let root = self.store.build(&site, list.as_slice())?;
+        self.root = root;
+        self.age = age;
+        Ok(())
+    }
+}
