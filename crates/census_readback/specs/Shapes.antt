@@ -1,28 +1,11 @@
 -- The shape of a report.
 use Rattle.std.specs.Prelude.{ℕ, ◌+◌, ◌<◌, ◌≤◌, ◌^◌, ◌≡◌, ◌==◌, if◌then◌else◌, Bool, true, false, List, [], ◌∷◌, ◌++◌, length, ⊤}
-use Rattle.census_rows.specs.declared.kinds.Class.{Class}
-use Rattle.census_rows.specs.declared.kinds.Class.TheVariants.{Resolved, Unresolved, Refused}
 use Rattle.census_rows.specs.declared.row.Outcome.{Outcome}
 use Rattle.census_rows.specs.declared.row.Row.{Row}
 use Rattle.census_rows.specs.declared.row.Row.TheVariants.{Open, Line, Part, Code, Close, End}
-use Rattle.census_rows.specs.Kinds.{said}
+use Rattle.census_rows.specs.Kinds.{is_refused, is_resolved, is_unresolved, said}
 use Rattle.census_readback.specs.Steps.{collection_of, patterns_opened}
 use Rattle.census_readback.specs.Limits.{count_limit}
-
-abbrev pub same_class : Class → Class → Bool
-same_class Resolved Resolved = true
-same_class Unresolved Unresolved = true
-same_class Refused Refused = true
-same_class _ _ = false
-
-abbrev pub is_resolved : Outcome → Bool
-is_resolved outcome = same_class (said outcome).class Resolved
-
-abbrev pub is_unresolved : Outcome → Bool
-is_unresolved outcome = same_class (said outcome).class Unresolved
-
-abbrev pub is_refused : Outcome → Bool
-is_refused outcome = same_class (said outcome).class Refused
 
 -- the row is a `line` line, of which this is so
 abbrev pub is_line : (Outcome → Bool) → Row → Bool
