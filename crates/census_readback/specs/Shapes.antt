@@ -9,12 +9,8 @@ use Rattle.census_readback.specs.Limits.{count_limit}
 
 -- the row is a `line` line, of which this is so
 abbrev pub is_line : (Outcome → Bool) → Row → Bool
-is_line kind (Open collection patterns name) = false
 is_line kind (Line collection pattern outcome name) = kind outcome
-is_line kind (Part collection pattern code count) = false
-is_line kind (Code collection rule code count) = false
-is_line kind (Close collection patterns resolved unresolved refused) = false
-is_line kind (End collections patterns) = false
+is_line kind _ = false
 
 -- how many `line` lines of this kind there are
 abbrev pub lines_that : (Outcome → Bool) → List Row → ℕ
@@ -28,29 +24,18 @@ any_outcome outcome = true
 -- pattern too where it has parts.
 abbrev pub AreLines : ℕ → Bool → List Row → Type 0
 AreLines last ash [] = ⊤
-AreLines last ash (Open collection patterns name ∷ rows) = ⊥
 AreLines last ash (Line collection pattern outcome name ∷ rows) = (pattern ≡ last + 1) × AreLines (last + 1) (said outcome).has_parts rows
 AreLines last ash (Part collection pattern code count ∷ rows) = (ash ≡ true) × (pattern ≡ last) × AreLines last ash rows
-AreLines last ash (Code collection rule code count ∷ rows) = ⊥
-AreLines last ash (Close collection patterns resolved unresolved refused ∷ rows) = ⊥
-AreLines last ash (End collections patterns ∷ rows) = ⊥
+AreLines last ash _ = ⊥
 
 abbrev pub IsOpenRow : Row → Type 0
 IsOpenRow (Open collection patterns name) = ⊤
-IsOpenRow (Line collection pattern outcome name) = ⊥
-IsOpenRow (Part collection pattern code count) = ⊥
-IsOpenRow (Code collection rule code count) = ⊥
-IsOpenRow (Close collection patterns resolved unresolved refused) = ⊥
-IsOpenRow (End collections patterns) = ⊥
+IsOpenRow _ = ⊥
 
 abbrev pub AreCodes : List Row → Type 0
 AreCodes [] = ⊤
-AreCodes (Open collection patterns name ∷ rows) = ⊥
-AreCodes (Line collection pattern outcome name ∷ rows) = ⊥
-AreCodes (Part collection pattern code count ∷ rows) = ⊥
 AreCodes (Code collection rule code count ∷ rows) = AreCodes rows
-AreCodes (Close collection patterns resolved unresolved refused ∷ rows) = ⊥
-AreCodes (End collections patterns ∷ rows) = ⊥
+AreCodes _ = ⊥
 
 -- The rows of a collection: `open`, the lines of its patterns, `code` lines, and `close`, which has the numbers of all
 -- lines, of `ok` and `ash`, of `none` and `large`, and of `bad` lines.
