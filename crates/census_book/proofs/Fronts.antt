@@ -9,7 +9,7 @@ use Rattle.census_bundle.specs.declared.ticket.Ticket.{Ticket}
 use Rattle.census_bundle.specs.Tickets.{Tickets, no_tickets, element_at, entry_at, with_ticket, has_ticket, ticket}
 use Rattle.census_book.specs.Front.{FolderRun, IsFront, IsNextOpen, run_at}
 use Rattle.census_book.specs.Collecting.{Belongs, IsLeastMissing}
-use Rattle.census_format.specs.Lines.{end_line, text_of}
+use Rattle.census_format.specs.Lines.{end_line, groups_text}
 use Rattle.census_format.specs.Reports.{run_of, has_all, end_if, folder_out, text_released, folder_text_released}
 use Rattle.census_book.proofs.TicketSets.{has_other, has_kept}
 use Rattle.census_book.proofs.Runs.{run_same, run_before, run_within}
@@ -18,6 +18,7 @@ use Rattle.census_bundle.specs.Sizes.{IsWithinCounts, count_limit}
 use Rattle.census_book.proofs.Releases.{all_each, all_not, run_none, folder_at, not_whole}
 use Rattle.census_book.proofs.Texts.{ticket_in}
 use Rattle.census_format.proofs.Owning.{eqb_same, eqb_apart}
+use Rattle.census_rows.specs.Lines.{text_of}
 use Rattle.life_answer.specs.declared.question.Question.{Question}
 
 -- the runs are those of these tickets, and the first open collection was looked for from one before which all are whole
@@ -148,7 +149,7 @@ front_after b question taken runs first next t m worked n front belongs new here
     behind
 
 -- where no collection is open, the last line
-pub end_when : (b : List Folder) (taken : Tickets) (runs : List ℕ) (first : ℕ) → IsFront b taken runs first → first ≡ length b → end_line b ≡ end_if (has_all b taken) b
+pub end_when : (b : List Folder) (taken : Tickets) (runs : List ℕ) (first : ℕ) → IsFront b taken runs first → first ≡ length b → text_of (end_line b) ≡ end_if (has_all b taken) b
 end_when b taken runs first front is = ap (λ x. end_if x b) (sym (all_front b taken runs first front is))
 
 pub no_end_when : (b : List Folder) (taken : Tickets) (runs : List ℕ) (first : ℕ) → IsFront b taken runs first → (first ≡ length b → ⊥) → [] ≡ end_if (has_all b taken) b
@@ -156,12 +157,12 @@ no_end_when b taken runs first front apart = ap (λ x. end_if x b) (sym (part_fr
 
 -- the text that a result releases
 pub released_text : (b : List Folder) (question : Question) (taken : Tickets) (t : Ticket) (f : Folder) (k m : ℕ) (text ended : List ℕ) → element_at b t.folder ≡ Some f → k ≡ run_of taken t.folder f → m ≡ run_of (with_ticket taken t) t.folder f
-    → ended ≡ end_if (has_all b (with_ticket taken t)) b → text ≡ text_of (folder_out question t.folder f k m) ++ ended → text ≡ text_released b question taken t
+    → ended ≡ end_if (has_all b (with_ticket taken t)) b → text ≡ groups_text (folder_out question t.folder f k m) ++ ended → text ≡ text_released b question taken t
 released_text b question taken t f k m text ended at is_k is_m is_ended is =
     let after = with_ticket taken t in
-    is ∙ ap (λ x. text_of (folder_out question t.folder f k m) ++ x) is_ended
-    ∙ ap (λ n. text_of (folder_out question t.folder f n m) ++ end_if (has_all b after) b) is_k
-    ∙ ap (λ n. text_of (folder_out question t.folder f (run_of taken t.folder f) n) ++ end_if (has_all b after) b) is_m
+    is ∙ ap (λ x. groups_text (folder_out question t.folder f k m) ++ x) is_ended
+    ∙ ap (λ n. groups_text (folder_out question t.folder f n m) ++ end_if (has_all b after) b) is_k
+    ∙ ap (λ n. groups_text (folder_out question t.folder f (run_of taken t.folder f) n) ++ end_if (has_all b after) b) is_m
     ∙ ap (λ o. folder_text_released question o taken t ++ end_if (has_all b after) b) (sym at)
 
 pub same_folder : (o : Option Folder) (f g : Folder) → o ≡ Some f → o ≡ Some g → f ≡ g

@@ -8,9 +8,10 @@ use Rattle.census_book.specs.Work.{Work}
 use Rattle.census_book.specs.Collecting.{Belongs, HasCollection, IsResult, IsResultOf}
 use Rattle.census_book.proofs.TicketSets.{new_ticket}
 use Rattle.census_format.specs.Heads.{line_with_head, line_head, line_tail}
-use Rattle.census_format.specs.Lines.{answer_to_entry, pattern_text}
+use Rattle.census_format.specs.Lines.{answer_to_entry, pattern_rows}
 use Rattle.census_format.proofs.Fields.{headed_line}
 use Rattle.census_format.proofs.Lost.{same_answer}
+use Rattle.census_rows.specs.Lines.{text_of}
 use Rattle.life_answer.specs.declared.question.Question.{Question}
 
 -- two options of which one is there where the other is
@@ -60,7 +61,7 @@ result_answer b question c n f e w is at here =
 
 -- a result's head and tail make the lines of the pattern of its ticket's number
 pub result_line : (b : List Folder) (question : Question) (c n : ℕ) (f : Folder) (e : Entry) (w : Work) (head tail : List ℕ) → IsResult b question (ticket c n) w → element_at b c ≡ Some f → element_at f.entries n ≡ Some e
-    → head ≡ line_head w.ticket (answer_to_entry w.question w.entry) → tail ≡ line_tail w.ticket (answer_to_entry w.question w.entry) → line_with_head head e tail ≡ pattern_text question c n e
+    → head ≡ line_head w.ticket (answer_to_entry w.question w.entry) → tail ≡ line_tail w.ticket (answer_to_entry w.question w.entry) → line_with_head head e tail ≡ text_of (pattern_rows question c n e)
 result_line b question c n f e w head tail is at here head_is tail_is =
     let found = result_answer b question c n f e w is at here in
     let own = ticket c n in

@@ -10,12 +10,13 @@ use Rattle.census_bundle.specs.declared.bundle.Entry.{Entry}
 use Rattle.census_bundle.specs.declared.bundle.Folder.{Folder}
 use Rattle.census_bundle.specs.declared.ticket.Ticket.{Ticket}
 use Rattle.census_bundle.specs.Tickets.{Tickets, ticket, ticket_cmp, no_tickets, with_ticket, has_ticket, element_at, entry_in, IsTicketOf, HasAllTickets}
-use Rattle.census_format.specs.Lines.{Line, text_of, open_line, end_line, pattern_lines, pattern_count}
+use Rattle.census_format.specs.Lines.{Group, groups_text, open_line, end_line, pattern_lines, pattern_count}
 use Rattle.census_format.specs.Reports.{IsReport, IsReportFront, text_at_start, text_released, folder_text_released, folder_out, lines_of, owned_text, closing, closing_if, end_if, opening, run_of, run_from, all_from, has_all, section_of, folder_section}
 use Rattle.census_book.specs.Released.{IsReleased, lines_released, shown_of, shown_lines}
 use Rattle.census_book.proofs.TicketSets.{has_other, has_kept}
 use Rattle.census_book.proofs.Runs.{run_grows, run_same, run_whole, run_all}
 use Rattle.census_format.proofs.Owning.{own, gathered, given, eqb_same, eqb_apart, lines_of-append, lines_of-own, lines_of-other, owned_text-append, owned_text-own, lines_of-gathered}
+use Rattle.census_rows.specs.Lines.{text_of}
 use Rattle.life_answer.specs.declared.question.Question.{Question}
 
 -- cases on a number's test
@@ -96,7 +97,7 @@ shown_all question c f k whole =
     ∙ ap (λ xs. open_line c f ∷ (xs ++ closing question c f)) (ap (λ m. take m ls) n ∙ take-length ls)
 
 -- the lines of a collection that are not shown yet
-hidden_lines : Question → ℕ → Folder → ℕ → List Line
+hidden_lines : Question → ℕ → Folder → ℕ → List Group
 hidden_lines question c f k = drop k (pattern_lines question c 1 f.entries) ++ cond (eqb k (length f.entries)) [] (closing question c f)
 
 shown_and_hidden : (question : Question) (c : ℕ) (f : Folder) (k : ℕ) → shown_lines question c f k ++ hidden_lines question c f k ≡ folder_section question c f
@@ -115,11 +116,11 @@ shown_and_hidden question c f k =
     ∙ ap (λ xs. open_line c f ∷ (xs ++ (drop k ls ++ closing question c f))) (append-nil (take k ls))
     ∙ ap (λ xs. open_line c f ∷ xs) (sym (append_assoc (take k ls) (drop k ls) (closing question c f)) ∙ ap (λ xs. xs ++ closing question c f) (take-append-drop k ls)))
   where
-    drop_whole : (xs : List Line) → drop (length xs) xs ≡ []
+    drop_whole : (xs : List Group) → drop (length xs) xs ≡ []
     drop_whole [] = refl
     drop_whole (x ∷ xs) = drop_whole xs
 
-abbrev opened : Question → ℕ → Folder → List Line
+abbrev opened : Question → ℕ → Folder → List Group
 opened question c f = open_line c f ∷ closing_if (eqb 0 (length f.entries)) question c f
 
 pub run_none : (c i : ℕ) (es : List Entry) → run_from (λ j. has_ticket no_tickets (ticket c j)) i es ≡ 0
@@ -133,7 +134,7 @@ opened_shown question d (Some f) = ap (shown_lines question d f) (sym (run_none 
 opening_owned : (question : Question) (c : ℕ) (fs : List Folder) → opening question c fs ≡ owned_text (gathered (opened question) c fs)
 opening_owned question c [] = refl
 opening_owned question c (f ∷ fs) =
-    ap (λ xs. (open_line c f ++ text_of (closing_if (eqb 0 (length f.entries)) question c f)) ++ xs) (opening_owned question (suc c) fs)
+    ap (λ xs. (text_of (open_line c f) ++ groups_text (closing_if (eqb 0 (length f.entries)) question c f)) ++ xs) (opening_owned question (suc c) fs)
     ∙ ap (λ xs. xs ++ owned_text (gathered (opened question) (suc c) fs)) (sym (owned_text-own c (opened question c f)))
     ∙ sym (owned_text-append (own c (opened question c f)) (gathered (opened question) (suc c) fs))
 
@@ -150,7 +151,7 @@ none_all c (f ∷ fs) =
 
 pub released_start : (b : List Folder) (question : Question) → IsReleased b question no_tickets (text_at_start b question)
 released_start b question = record {
-  lines = gathered (opened question) 1 b;
+  groups = gathered (opened question) 1 b;
   sections = λ d. lines_of-gathered (opened question) d b ∙ opened_shown question d (element_at b d);
   whole = ap (λ xs. xs ++ end_if (eqb (pattern_count b) 0) b) (opening_owned question 1 b) ∙ ap (λ x. owned_text (gathered (opened question) 1 b) ++ end_if x b) (sym (none_all 1 b));
 }
@@ -177,30 +178,30 @@ released_more b question taken text t released of not =
     let part : k ≡ length f.entries → ⊥ = not_whole taken f t of.0 at.2 not in
     let more = folder_out question c f k m in
     let parted : has_all b taken ≡ false = not_all_with b taken c f at.1 part in
-    let given_out : text_released b question taken t ≡ text_of more ++ end_if (has_all b after) b = ap (λ o. folder_text_released question o taken t ++ end_if (has_all b after) b) at.1 in
+    let given_out : text_released b question taken t ≡ groups_text more ++ end_if (has_all b after) b = ap (λ o. folder_text_released question o taken t ++ end_if (has_all b after) b) at.1 in
     record {
-      lines = released.lines ++ own c more;
+      groups = released.groups ++ own c more;
       sections = λ d.
           cases _ c d (λ same.
-          lines_of-append d released.lines (own c more)
-          ∙ ap (λ xs. lines_of d released.lines ++ xs) (lines_of-own c d more same)
+          lines_of-append d released.groups (own c more)
+          ∙ ap (λ xs. lines_of d released.groups ++ xs) (lines_of-own c d more same)
           ∙ ap (λ xs. xs ++ more) (released.sections d)
           ∙ ap (λ n. lines_released b question taken n ++ more) (sym same)
           ∙ ap (λ o. shown_of question c o taken ++ more) at.1
           ∙ shown_step question c f k m grows part
           ∙ ap (λ o. shown_of question c o after) (sym at.1)
           ∙ ap (λ n. lines_released b question after n) same) (λ other.
-          lines_of-append d released.lines (own c more)
-          ∙ ap (λ xs. lines_of d released.lines ++ xs) (lines_of-other c d more other)
-          ∙ append-nil (lines_of d released.lines)
+          lines_of-append d released.groups (own c more)
+          ∙ ap (λ xs. lines_of d released.groups ++ xs) (lines_of-other c d more other)
+          ∙ append-nil (lines_of d released.groups)
           ∙ released.sections d
           ∙ shown_other question d taken t (element_at b d) other);
       whole =
-          ap (λ xs. xs ++ text_released b question taken t) (released.whole ∙ ap (λ x. owned_text released.lines ++ end_if x b) parted ∙ append-nil (owned_text released.lines))
-          ∙ ap (λ xs. owned_text released.lines ++ xs) given_out
-          ∙ sym (append_assoc (owned_text released.lines) (text_of more) (end_if (has_all b after) b))
-          ∙ ap (λ xs. (owned_text released.lines ++ xs) ++ end_if (has_all b after) b) (sym (owned_text-own c more))
-          ∙ ap (λ xs. xs ++ end_if (has_all b after) b) (sym (owned_text-append released.lines (own c more)));
+          ap (λ xs. xs ++ text_released b question taken t) (released.whole ∙ ap (λ x. owned_text released.groups ++ end_if x b) parted ∙ append-nil (owned_text released.groups))
+          ∙ ap (λ xs. owned_text released.groups ++ xs) given_out
+          ∙ sym (append_assoc (owned_text released.groups) (groups_text more) (end_if (has_all b after) b))
+          ∙ ap (λ xs. (owned_text released.groups ++ xs) ++ end_if (has_all b after) b) (sym (owned_text-own c more))
+          ∙ ap (λ xs. xs ++ end_if (has_all b after) b) (sym (owned_text-append released.groups (own c more)));
     }
 
 pub entry_here : (es : List Entry) (k : ℕ) → k < length es → (e : Entry) × (slice_get es k ≡ Some e)
@@ -218,9 +219,9 @@ whole_at b taken (suc j) f all at = all_at taken (suc j) 1 j b f (omega arith) a
 
 report_when : (b : List Folder) (question : Question) (taken : Tickets) (text : List ℕ) → IsReleased b question taken text → has_all b taken ≡ true → IsReport b question text
 report_when b question taken text released all = record {
-  lines = released.lines;
+  groups = released.groups;
   sections = λ d. released.sections d ∙ section_shown question d taken (element_at b d) (λ f at. whole_at b taken d f all at);
-  whole = released.whole ∙ ap (λ x. owned_text released.lines ++ end_if x b) all;
+  whole = released.whole ∙ ap (λ x. owned_text released.groups ++ end_if x b) all;
 }
 
 completed : (question : Question) (d : ℕ) (taken : Tickets) (o : Option Folder) → shown_of question d o taken ++ given (λ c f. hidden_lines question c f (run_of taken c f)) d o ≡ section_of question d o
@@ -245,21 +246,21 @@ released_front b question taken text rest released =
       | true ↦ λ all. record { rest = rest; report = report_when b question taken (text ++ rest) released all }
       | false ↦ λ part.
           let hidden = gathered (λ c f. hidden_lines question c f (run_of taken c f)) 1 b in
-          let shown_text : text ++ rest ≡ owned_text released.lines = released.whole ∙ ap (λ x. owned_text released.lines ++ end_if x b) part ∙ append-nil (owned_text released.lines) in
+          let shown_text : text ++ rest ≡ owned_text released.groups = released.whole ∙ ap (λ x. owned_text released.groups ++ end_if x b) part ∙ append-nil (owned_text released.groups) in
           record {
-            rest = rest ++ (owned_text hidden ++ end_line b);
+            rest = rest ++ (owned_text hidden ++ text_of (end_line b));
             report = record {
-              lines = released.lines ++ hidden;
+              groups = released.groups ++ hidden;
               sections = λ d.
-                  lines_of-append d released.lines hidden
+                  lines_of-append d released.groups hidden
                   ∙ ap (λ xs. xs ++ lines_of d hidden) (released.sections d)
                   ∙ ap (λ xs. lines_released b question taken d ++ xs) (lines_of-gathered (λ c f. hidden_lines question c f (run_of taken c f)) d b)
                   ∙ completed question d taken (element_at b d);
               whole =
-                  sym (append_assoc text rest (owned_text hidden ++ end_line b))
-                  ∙ ap (λ xs. xs ++ (owned_text hidden ++ end_line b)) shown_text
-                  ∙ sym (append_assoc (owned_text released.lines) (owned_text hidden) (end_line b))
-                  ∙ ap (λ xs. xs ++ end_line b) (sym (owned_text-append released.lines hidden));
+                  sym (append_assoc text rest (owned_text hidden ++ text_of (end_line b)))
+                  ∙ ap (λ xs. xs ++ (owned_text hidden ++ text_of (end_line b))) shown_text
+                  ∙ sym (append_assoc (owned_text released.groups) (owned_text hidden) (text_of (end_line b)))
+                  ∙ ap (λ xs. xs ++ text_of (end_line b)) (sym (owned_text-append released.groups hidden));
             };
           }
     ] refl

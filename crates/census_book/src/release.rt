@@ -2,7 +2,7 @@
 ghost use Rattle.std.specs.Prelude.{◌≡◌, ◌≤◌, ◌<◌, ◌++◌, ◌-◌, ◌+◌, ℕ, true, false, [], ◌∷◌, length, take, drop, map, OnOk, IfOk, Some};
 ghost use Rattle.census_bundle.specs.Sizes.{IsWithinCounts, count_limit};
 ghost use Rattle.census_bundle.specs.Tickets.{has_ticket, element_at, ticket};
-ghost use Rattle.census_format.specs.Lines.{answers, end_line, pattern_lines, pattern_count, text_of};
+ghost use Rattle.census_format.specs.Lines.{answers, end_line, pattern_lines, pattern_count, groups_text};
 ghost use Rattle.census_book.specs.Collecting.{IsResultOf};
 ghost use Rattle.census_book.specs.Front.{IsFront, IsRelease};
 ghost use Rattle.census_format.specs.Reports.{folder_out, run_of, text_at_start};
@@ -54,7 +54,7 @@ fn push_patterns(
     ensures { OnOk result
         (text.new.items ≡
         text.old.items ++
-        text_of (take (m - k)
+        groups_text (take (m - k)
         (drop k (pattern_lines arrival.now.question c 1 folder.now.entries)))) }
 {
     let entries = folder.entries.as_slice();
@@ -138,7 +138,7 @@ fn push_folder(
     requires within { m ≤ length folder.now.entries }
     ensures { OnOk result
         (text.new.items ≡
-        text.old.items ++ text_of (folder_out arrival.now.question c folder.now k m)) }
+        text.old.items ++ groups_text (folder_out arrival.now.question c folder.now k m)) }
 {
     push_patterns(text, arrival, c, folder, k, m)?;
     if m == folder.entries.as_slice().len() {

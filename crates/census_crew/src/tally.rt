@@ -2,7 +2,8 @@
 ghost use Rattle.std.specs.Prelude.{◌≡◌, ◌<◌, ◌^◌};
 ghost use Rattle.census_crew.specs.Tallying.{tally_with, no_tally};
 
-use census_format::{Class, class_of};
+use census_format::class_of;
+use census_rows::Class;
 use life_answer::Answer;
 
 /// What a run counts.

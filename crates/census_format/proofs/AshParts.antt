@@ -8,9 +8,10 @@ use Rattle.life_answer.specs.declared.finding.Outcome.TheVariants.{Ash}
 use Rattle.life_answer.specs.declared.part.Part.{Part}
 use Rattle.life_answer.specs.Parts.{objects_in}
 use Rattle.life_model.specs.Rule.{Rule}
-use Rattle.census_format.specs.Lines.{Line, text_of}
+use Rattle.census_rows.specs.declared.row.Row.{Row}
+use Rattle.census_rows.specs.Lines.{line_of, text_of}
+use Rattle.census_rows.proofs.Texts.{text-append}
 use Rattle.census_format.specs.Objects.{object, objects, outcome_objects, part_objects}
-use Rattle.census_format.proofs.Owning.{text_of-append}
 use Rattle.census_format.proofs.Tallies.{objects-append}
 
 take_more : {A : Type 0} (xs : List A) (i : ℕ) (x : A) → slice_get xs i ≡ Some x → take (i + 1) xs ≡ take i xs ++ x ∷ []
@@ -75,10 +76,10 @@ length-ash a rule finding parts is_found is_ash =
     ∙ ap length (append-nil (part_objects rule parts)) ∙ length-part_objects rule parts
 
 -- one line more
-pub lines_taken : {A : Type 0} (f : A → Line) (xs : List A) (i : ℕ) (x : A) → slice_get xs i ≡ Some x → text_of (map f (take (i + 1) xs)) ≡ text_of (map f (take i xs)) ++ f x
+pub lines_taken : {A : Type 0} (f : A → Row) (xs : List A) (i : ℕ) (x : A) → slice_get xs i ≡ Some x → text_of (map f (take (i + 1) xs)) ≡ text_of (map f (take i xs)) ++ line_of (f x)
 lines_taken f xs i x at =
     ap text_of (map_taken f xs i x at)
-    ∙ text_of-append (map f (take i xs)) (f x ∷ []) ∙ ap (λ t. text_of (map f (take i xs)) ++ t) (append-nil (f x))
+    ∙ text-append (map f (take i xs)) (f x ∷ []) ∙ ap (λ t. text_of (map f (take i xs)) ++ t) (append-nil (line_of (f x)))
 
 -- one answer more
 pub objects_more : (before now : List Answer) (a : Answer) (n : ℕ) → now ≡ before ++ a ∷ [] → length (objects before) ≤ n → length (objects (a ∷ [])) ≤ 4294967296 → length (objects now) ≤ n + 4294967296

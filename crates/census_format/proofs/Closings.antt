@@ -4,20 +4,23 @@ use Rattle.census_bundle.specs.declared.bundle.Folder.{Folder}
 use Rattle.life_answer.specs.declared.finding.Answer.{Answer}
 use Rattle.life_answer.specs.declared.question.Question.{Question}
 use Rattle.census_format.specs.Objects.{code_line, code_lines, objects, same_object, tally}
-use Rattle.census_format.specs.Lines.{answers, close_line, pattern_count, text_of}
+use Rattle.census_format.specs.Lines.{answers, close_line, groups_text, pattern_count}
+use Rattle.census_rows.specs.Lines.{text_of}
 use Rattle.census_format.specs.Reports.{closing}
-use Rattle.census_format.proofs.Owning.{text_of-append}
+use Rattle.census_format.proofs.Owning.{groups_text-append}
 
 -- what ends a section is its `code` lines and its last line
-pub closing_text : (question : Question) (c : ℕ) (f : Folder) → text_of (closing question c f) ≡ text_of (code_lines question c f) ++ close_line question c f
+pub closing_text : (question : Question) (c : ℕ) (f : Folder) → groups_text (closing question c f) ≡ groups_text (code_lines question c f) ++ text_of (close_line question c f)
 unfolding closing
-closing_text question c f = text_of-append (code_lines question c f) (close_line question c f ∷ []) ∙ ap (λ t. text_of (code_lines question c f) ++ t) (append-nil (close_line question c f))
+closing_text question c f =
+    groups_text-append (code_lines question c f) (close_line question c f ∷ [])
+    ∙ ap (λ t. groups_text (code_lines question c f) ++ t) (append-nil (text_of (close_line question c f)))
 
 pub ended : (question : Question) (c : ℕ) (f : Folder) (found : List Answer) (t₀ t₁ t₂ : List ℕ) → found ≡ answers question f.entries
-    → t₁ ≡ t₀ ++ text_of (map (λ e. code_line c e.0 e.1) (tally same_object (objects found))) → t₂ ≡ t₁ ++ close_line question c f → t₂ ≡ t₀ ++ text_of (closing question c f)
+    → t₁ ≡ t₀ ++ groups_text (map (λ e. code_line c e.0 e.1) (tally same_object (objects found))) → t₂ ≡ t₁ ++ text_of (close_line question c f) → t₂ ≡ t₀ ++ groups_text (closing question c f)
 ended question c f found t₀ t₁ t₂ is one two =
-    two ∙ ap (λ t. t ++ close_line question c f) (one ∙ ap (λ xs. t₀ ++ text_of (map (λ e. code_line c e.0 e.1) (tally same_object (objects xs)))) is)
-    ∙ append_assoc t₀ (text_of (code_lines question c f)) (close_line question c f)
+    two ∙ ap (λ t. t ++ text_of (close_line question c f)) (one ∙ ap (λ xs. t₀ ++ groups_text (map (λ e. code_line c e.0 e.1) (tally same_object (objects xs)))) is)
+    ∙ append_assoc t₀ (groups_text (code_lines question c f)) (text_of (close_line question c f))
     ∙ ap (λ t. t₀ ++ t) (sym (closing_text question c f))
 
 pub count_at : (i : ℕ) (fs : List Folder) (f : Folder) → slice_get fs i ≡ Some f → pattern_count (drop i fs) ≡ length f.entries + pattern_count (drop (i + 1) fs)

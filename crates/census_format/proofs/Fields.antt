@@ -4,12 +4,11 @@ use Rattle.std.specs.Prelude.{codes, decimal}
 use Rattle.census_bundle.specs.declared.bundle.Entry.{Entry}
 use Rattle.census_bundle.specs.Tickets.{ticket}
 use Rattle.census_format.specs.Heads.{line_with_head, line_head, line_tail}
-use Rattle.census_format.specs.Lines.{answer_to_entry, fields_text, finding_fields, part_lines, pattern_line, pattern_text, text_of}
+use Rattle.census_format.specs.Found.{outcome_of}
+use Rattle.census_format.specs.Lines.{answer_to_entry, part_rows, pattern_rows}
+use Rattle.census_rows.specs.Lines.{fields_text, outcome_fields, text_of}
+use Rattle.census_rows.proofs.Behind.{behind-append}
 use Rattle.life_answer.specs.declared.question.Question.{Question}
-
-pub behind-append : (xs ys : List (List ℕ)) → fields_text (xs ++ ys) ≡ fields_text xs ++ fields_text ys
-behind-append [] ys = refl
-behind-append (x ∷ xs) ys = ap (λ t. 32 ∷ (x ++ t)) (behind-append xs ys) ∙ ap (λ t. 32 ∷ t) (sym (append_assoc x (fields_text xs) (fields_text ys)))
 
 -- a word and fields, and then one more field
 one_more : (word name : List ℕ) (xs : List (List ℕ)) → word ++ fields_text xs ++ 32 ∷ name ≡ word ++ fields_text (xs ++ name ∷ [])
@@ -19,8 +18,9 @@ one_more word name xs =
     ∙ ap (λ r. word ++ r) (sym (behind-append xs (name ∷ [])))
 
 -- a pattern's lines are its head, its name and its tail
-pub headed_line : (question : Question) (c i : ℕ) (e : Entry) → line_with_head (line_head (ticket c i) (answer_to_entry question e)) e (line_tail (ticket c i) (answer_to_entry question e)) ≡ pattern_text question c i e
-unfolding line_head line_tail pattern_line pattern_text
+pub headed_line : (question : Question) (c i : ℕ) (e : Entry)
+    → line_with_head (line_head (ticket c i) (answer_to_entry question e)) e (line_tail (ticket c i) (answer_to_entry question e)) ≡ text_of (pattern_rows question c i e)
+unfolding line_head line_tail pattern_rows
 headed_line question c i e =
     let found = answer_to_entry question e in
-    ap (λ text. (text ++ codes "\n") ++ text_of (part_lines c i found)) (one_more (codes "line") e.name (decimal c ∷ decimal i ∷ finding_fields found))
+    ap (λ text. (text ++ codes "\n") ++ text_of (part_rows c i found)) (one_more (codes "line") e.name (decimal c ∷ decimal i ∷ outcome_fields (outcome_of found)))

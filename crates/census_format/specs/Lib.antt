@@ -1,5 +1,4 @@
-pub mod Kinds
-pub mod Values
+pub mod Found
 pub mod Lines
 pub mod Heads
 pub mod Objects

@@ -1,5 +1,5 @@
 -- The objects of a collection, and its `code` lines.
-use Rattle.std.specs.Prelude.{ℕ, List, [], ◌∷◌, ◌++◌, replicate, Bool, not, ◌&&◌, ◌==◌, nat_eq, codes, decimal, map, filter, count_by}
+use Rattle.std.specs.Prelude.{ℕ, List, [], ◌∷◌, ◌++◌, replicate, Bool, not, ◌&&◌, ◌==◌, nat_eq, map, filter, count_by}
 use Rattle.std.specs.Cmp.Lexicographic.{pointwise}
 use Rattle.census_bundle.specs.declared.bundle.Folder.{Folder}
 use Rattle.life_answer.specs.declared.finding.Answer.{Answer}
@@ -9,7 +9,9 @@ use Rattle.life_answer.specs.declared.finding.Outcome.TheVariants.{Recurs, Ash}
 use Rattle.life_answer.specs.declared.part.Part.{Part}
 use Rattle.life_cells.specs.Rules.{rule_text}
 use Rattle.life_model.specs.Rule.{Rule}
-use Rattle.census_format.specs.Lines.{Line, line, answers}
+use Rattle.census_rows.specs.declared.row.Row.TheVariants.{Code}
+use Rattle.census_format.specs.Found.{lent}
+use Rattle.census_format.specs.Lines.{Group, answers}
 use Rattle.life_answer.specs.declared.question.Question.{Question}
 
 -- a rule, and the code of an object under it
@@ -53,10 +55,10 @@ distinct_elements same (x ∷ xs) = x ∷ filter (λ y. not (same x y)) (distinc
 abbrev pub tally : {A : Type 0} → (A → A → Bool) → List A → List (A × ℕ)
 tally same xs = map (λ x. (x, count_by (same x) xs)) (distinct_elements same xs)
 
--- `code`, the collection, a rule and a code, and a number
-unfoldable pub code_line : ℕ → Object → ℕ → Line
-code_line c k count = line (codes "code") (decimal c ∷ rule_text k.rule ∷ k.code ∷ decimal count ∷ [])
+-- the collection, a rule and a code, and a number
+unfoldable pub code_line : ℕ → Object → ℕ → Group
+code_line c k count = Code c (lent (rule_text k.rule)) (lent k.code) count ∷ []
 
--- the `code` lines of a collection
-abbrev pub code_lines : Question → ℕ → Folder → List Line
+-- the `code` rows of a collection
+abbrev pub code_lines : Question → ℕ → Folder → List Group
 code_lines question c f = map (λ e. code_line c e.0 e.1) (tally same_object (objects (answers question f.entries)))

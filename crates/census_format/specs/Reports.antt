@@ -4,46 +4,47 @@ use Rattle.census_bundle.specs.declared.ticket.Ticket.{Ticket}
 use Rattle.census_bundle.specs.declared.bundle.Folder.{Folder}
 use Rattle.census_bundle.specs.declared.bundle.Entry.{Entry}
 use Rattle.census_bundle.specs.Tickets.{Tickets, ticket, with_ticket, has_ticket, element_at}
-use Rattle.census_format.specs.Lines.{Line, text_of, open_line, pattern_lines, close_line, pattern_count, end_line}
+use Rattle.census_format.specs.Lines.{Group, groups_text, open_line, pattern_lines, close_line, pattern_count, end_line}
+use Rattle.census_rows.specs.Lines.{text_of}
 use Rattle.census_format.specs.Objects.{code_lines}
 use Rattle.life_answer.specs.declared.question.Question.{Question}
 
 -- what ends a section
-unfoldable pub closing : Question → ℕ → Folder → List Line
+unfoldable pub closing : Question → ℕ → Folder → List Group
 closing question c f = code_lines question c f ++ close_line question c f ∷ []
 
 -- the lines of a collection
-abbrev pub folder_section : Question → ℕ → Folder → List Line
+abbrev pub folder_section : Question → ℕ → Folder → List Group
 folder_section question c f = open_line c f ∷ (pattern_lines question c 1 f.entries ++ closing question c f)
 
-abbrev pub section_of : Question → ℕ → Option Folder → List Line
+abbrev pub section_of : Question → ℕ → Option Folder → List Group
 section_of question c None = []
 section_of question c (Some f) = folder_section question c f
 
-abbrev pub section : List Folder → Question → ℕ → List Line
+abbrev pub section : List Folder → Question → ℕ → List Group
 section b question c = section_of question c (element_at b c)
 
--- a line and the collection that it belongs to
+-- rows that stand together, and the collection that they belong to
 pub record Owned : Type 0 where
   pub owner : ℕ
-  pub line : Line
+  pub group : Group
 
--- the lines that belong to the collection c, in their order
-abbrev pub lines_of : ℕ → List Owned → List Line
+-- those that belong to the collection c, in their order
+abbrev pub lines_of : ℕ → List Owned → List Group
 lines_of c [] = []
-lines_of c (l ∷ ls) = if l.owner == c then (l.line ∷ lines_of c ls) else lines_of c ls
+lines_of c (l ∷ ls) = if l.owner == c then (l.group ∷ lines_of c ls) else lines_of c ls
 
--- the bytes of all lines
+-- the bytes of all
 abbrev pub owned_text : List Owned → List ℕ
 owned_text [] = []
-owned_text (l ∷ ls) = l.line ++ owned_text ls
+owned_text (l ∷ ls) = text_of l.group ++ owned_text ls
 
--- The text is the sections of all collections, interleaved line by line, and then the end line. The lines of one pattern
--- stay together.
+-- The text is the rows of the sections of all collections, interleaved line by line, and then the `end` row. The rows of one
+-- pattern stay together.
 pub record IsReport (b : List Folder) (question : Question) (text : List ℕ) : Type 0 where
-  pub lines : List Owned
-  pub sections : (c : ℕ) → lines_of c lines ≡ section b question c
-  pub whole : text ≡ owned_text lines ++ end_line b
+  pub groups : List Owned
+  pub sections : (c : ℕ) → lines_of c groups ≡ section b question c
+  pub whole : text ≡ owned_text groups ++ text_of (end_line b)
 
 -- the text begins a report
 pub record IsReportFront (b : List Folder) (question : Question) (text : List ℕ) : Type 0 where
@@ -69,28 +70,29 @@ abbrev pub has_all : List Folder → Tickets → Bool
 has_all b taken = all_from taken 1 b
 
 abbrev pub end_if : Bool → List Folder → List ℕ
-end_if whole b = if whole then end_line b else []
+end_if whole b = if whole then text_of (end_line b) else []
 
 -- the closing lines where the collection has arrived whole
-abbrev pub closing_if : Bool → Question → ℕ → Folder → List Line
+abbrev pub closing_if : Bool → Question → ℕ → Folder → List Group
 closing_if whole question c f = if whole then closing question c f else []
 
 abbrev pub opening : Question → ℕ → List Folder → List ℕ
 opening question c [] = []
-opening question c (f ∷ fs) = open_line c f ++ text_of (closing_if (0 == length f.entries) question c f) ++ opening question (suc c) fs
+opening question c (f ∷ fs) =
+    text_of (open_line c f) ++ groups_text (closing_if (0 == length f.entries) question c f) ++ opening question (suc c) fs
 
 -- what is released before any ticket is taken
 abbrev pub text_at_start : List Folder → Question → List ℕ
 text_at_start b question = opening question 1 b ++ end_if (pattern_count b == 0) b
 
 -- the lines of a collection that taking one of its tickets releases, where its run grows from k to m
-abbrev pub folder_out : Question → ℕ → Folder → ℕ → ℕ → List Line
+abbrev pub folder_out : Question → ℕ → Folder → ℕ → ℕ → List Group
 folder_out question c f k m =
     take (m - k) (drop k (pattern_lines question c 1 f.entries)) ++ closing_if (m == length f.entries) question c f
 
 abbrev pub folder_text_released : Question → Option Folder → Tickets → Ticket → List ℕ
 folder_text_released question None taken t = []
-folder_text_released question (Some f) taken t = text_of (folder_out question t.folder f (run_of taken t.folder f) (run_of (with_ticket taken t) t.folder f))
+folder_text_released question (Some f) taken t = groups_text (folder_out question t.folder f (run_of taken t.folder f) (run_of (with_ticket taken t) t.folder f))
 
 -- what taking a ticket releases, where these were taken before
 abbrev pub text_released : List Folder → Question → Tickets → Ticket → List ℕ

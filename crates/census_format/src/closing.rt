@@ -2,17 +2,18 @@
 ghost use Rattle.std.specs.Prelude.{◌≡◌, ◌<◌, ◌++◌, ◌^◌, [], ◌∷◌, List, length, map, replicate, OnOk, IfOk, count_by};
 ghost use Rattle.life_answer.specs.declared.finding.Answer as found;
 ghost use Rattle.life_answer.specs.Parts.{objects_in};
-ghost use Rattle.census_format.specs.Kinds.{is_of};
-ghost use Rattle.census_format.specs.Lines.{answers, close_line, text_of};
+ghost use Rattle.census_format.specs.Found.{is_of};
+ghost use Rattle.census_format.specs.Lines.{answers, close_line, groups_text};
 ghost use Rattle.census_format.specs.Objects as codes;
 ghost use Rattle.census_format.specs.Objects.{code_line, object, objects, part_objects, same_object, tally};
 ghost use Rattle.census_format.specs.Reports.{closing};
 ghost use Rattle.census_format.specs.Tallying.{HasTally};
+ghost use Rattle.census_rows.specs.Lines.{text_of};
 
-use crate::kinds::{Class, is_of};
-use crate::lines::{push_field, push_rule};
-use crate::numbers::push_count;
+use crate::found::is_of;
+use crate::lines::push_rule;
 use census_bundle::Folder;
+use census_rows::{Class, push_count, push_field};
 use indexmap::IndexMap;
 use life_answer::{Answer, Outcome, Part, Question};
 use life_cells::Rule;
@@ -160,7 +161,7 @@ fn tally_of<'a>(
 
 #[tactic(auto, unfolding(crate::specs::Objects::code_line))]
 fn push_code(text: &mut Vec<u8>, c: u32, object: &Object, count: u64) -> Result<(), AllocError>
-    ensures { OnOk result (text.new.items ≡ text.old.items ++ code_line c object.now count) }
+    ensures { OnOk result (text.new.items ≡ text.old.items ++ text_of (code_line c object.now count)) }
 {
     text.extend_from_slice(b"code")?;
     push_count(text, u64::from(c))?;
@@ -175,7 +176,7 @@ fn push_code(text: &mut Vec<u8>, c: u32, object: &Object, count: u64) -> Result<
 fn push_codes(text: &mut Vec<u8>, c: u32, counts: &IndexMap<Object, u64>) -> Result<(), AllocError>
     ensures { OnOk result
         (text.new.items ≡
-        text.old.items ++ text_of (map (λ e. code_line c e.0 e.1) counts.now.entries)) }
+        text.old.items ++ groups_text (map (λ e. code_line c e.0 e.1) counts.now.entries)) }
 {
     for (object, count) in counts.iter() {
         push_code(text, c, object, *count)?;
@@ -203,7 +204,7 @@ fn push_close(
     found: &[&Answer],
 ) -> Result<(), AllocError>
     requires { map (λ a. a.now) found.now ≡ answers question folder.now.entries }
-    ensures { OnOk result (text.new.items ≡ text.old.items ++ close_line question c folder.now) }
+    ensures { OnOk result (text.new.items ≡ text.old.items ++ text_of (close_line question c folder.now)) }
 {
     text.extend_from_slice(b"close")?;
     push_count(text, u64::from(c))?;
@@ -226,7 +227,7 @@ fn push_objects(
     ensures { OnOk result
         (text.new.items ≡
         text.old.items ++
-        text_of (map (λ e. code_line c e.0 e.1)
+        groups_text (map (λ e. code_line c e.0 e.1)
         (tally same_object (objects (map (λ a. a.now) found.now))))) }
 {
     let counts = tally_of(alloc, found)?;
@@ -245,7 +246,7 @@ pub fn push_closing(
     requires few { length found.now < 2 ^ 30 }
     requires found { map (λ a. a.now) found.now ≡ answers question folder.now.entries }
     ensures { OnOk result
-        (text.new.items ≡ text.old.items ++ text_of (closing question c folder.now)) }
+        (text.new.items ≡ text.old.items ++ groups_text (closing question c folder.now)) }
 {
     push_objects(alloc, text, c, found)?;
     push_close(text, question, c, folder, found)?;

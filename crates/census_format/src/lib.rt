@@ -5,14 +5,12 @@
 
 mod closing;
 mod codes;
-mod kinds;
+mod found;
 mod lines;
-mod numbers;
 mod parts;
 
 pub use closing::push_closing;
 pub use codes::{codes_count_objects, codes_count_parts};
-pub use kinds::{Class, class_of};
+pub use found::class_of;
 pub use lines::{push_end, push_head, push_open, push_pattern};
-pub use numbers::push_number;
 pub use parts::push_tail;

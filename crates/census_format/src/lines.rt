@@ -3,25 +3,16 @@ ghost use Rattle.std.specs.Prelude.{◌≡◌, ◌≤◌, ◌++◌, ℕ, [], ◌
 ghost use Rattle.life_cells.specs.Rules.{rule_text};
 ghost use Rattle.census_bundle.specs.Sizes.{IsWithinCounts};
 ghost use Rattle.census_format.specs.Heads.{line_with_head, line_head};
-ghost use Rattle.census_format.specs.Lines.{fields_text, end_line, finding_fields, open_line, pattern_count};
-ghost use Rattle.census_format.specs.Values.{value_text, value_texts};
+ghost use Rattle.census_format.specs.Found.{outcome_of};
+ghost use Rattle.census_format.specs.Lines.{end_line, open_line, pattern_count};
+ghost use Rattle.census_rows.specs.Lines.{fields_text, outcome_fields, text_of};
 
-use crate::kinds::{Value, say};
-use crate::numbers::{push_count, push_signed};
+use crate::found::finding_of;
 use census_bundle::{Bundle, Entry, Folder, Ticket};
+use census_rows::{push_count, push_field, push_finding};
 use life_answer::Answer;
 use life_cells::Rule;
 use std::alloc::AllocError;
-
-/// A blank and these bytes.
-#[inline(always)]
-pub fn push_field(text: &mut Vec<u8>, field: &[u8]) -> Result<(), AllocError>
-    ensures { OnOk result (text.new.items ≡ text.old.items ++ 32 ∷ field.now) }
-{
-    text.push(b' ')?;
-    text.extend_from_slice(field)?;
-    Ok(())
-}
 
 /// A blank and a rule.
 pub fn push_rule(text: &mut Vec<u8>, rule: &Rule) -> Result<(), AllocError>
@@ -34,7 +25,7 @@ pub fn push_rule(text: &mut Vec<u8>, rule: &Rule) -> Result<(), AllocError>
 /// The line that opens a section.
 #[tactic(auto, unfolding(crate::specs::Lines::open_line))]
 pub fn push_open(text: &mut Vec<u8>, c: u32, folder: &Folder) -> Result<(), AllocError>
-    ensures { OnOk result (text.new.items ≡ text.old.items ++ open_line c folder.now) }
+    ensures { OnOk result (text.new.items ≡ text.old.items ++ text_of (open_line c folder.now)) }
 {
     text.extend_from_slice(b"open")?;
     push_count(text, u64::from(c))?;
@@ -44,43 +35,19 @@ pub fn push_open(text: &mut Vec<u8>, c: u32, folder: &Folder) -> Result<(), Allo
     Ok(())
 }
 
-// A blank and a value.
-#[inline(always)]
-fn push_value(text: &mut Vec<u8>, value: &Value) -> Result<(), AllocError>
-    ensures { OnOk result (text.new.items ≡ text.old.items ++ 32 ∷ value_text value.now) }
-{
-    match value {
-        Value::Number(number) => push_count(text, *number),
-        Value::Signed(number) => push_signed(text, *number),
-        Value::Text(bytes) => push_field(text, *bytes),
-    }
-}
-
-// The values that there are.
-#[inline(always)]
-fn push_values(text: &mut Vec<u8>, values: &[Option<Value>]) -> Result<(), AllocError>
-    ensures { OnOk result (text.new.items ≡ text.old.items ++ fields_text (value_texts values.now)) }
-{
-    for value in values {
-        if let Some(value) = value {
-            push_value(text, value)?;
-        }
-    }
-    Ok(())
-}
-
 // What was found of a pattern.
-fn push_finding(text: &mut Vec<u8>, answer: &Answer) -> Result<(), AllocError>
+fn push_outcome(text: &mut Vec<u8>, answer: &Answer) -> Result<(), AllocError>
     ensures { OnOk result
-        (text.new.items ≡ text.old.items ++ fields_text (finding_fields answer.now)) }
+        (text.new.items ≡
+        text.old.items ++ fields_text (outcome_fields (outcome_of answer.now))) }
 {
     match answer {
         Answer::Found { rule, finding } => {
-            let said = say(&finding.outcome);
-            push_field(text, said.word)?;
+            let found = finding_of(&finding.outcome);
+            push_field(text, found.word())?;
             push_rule(text, rule)?;
             push_count(text, finding.population)?;
-            push_values(text, &said.values)
+            push_finding(text, &found)
         }
         Answer::Refused(number) => {
             push_field(text, b"bad")?;
@@ -98,7 +65,7 @@ pub fn push_head(text: &mut Vec<u8>, ticket: Ticket, answer: &Answer) -> Result<
     text.extend_from_slice(b"line")?;
     push_count(text, u64::from(ticket.folder))?;
     push_count(text, u64::from(ticket.number))?;
-    push_finding(text, answer)
+    push_outcome(text, answer)
 }
 
 /// The lines of a pattern, which begin with this head and end with this tail.
@@ -136,7 +103,7 @@ fn count_patterns(folders: &[Folder]) -> u64
 #[tactic(auto, unfolding(crate::specs::Lines::end_line))]
 pub fn push_end(text: &mut Vec<u8>, folders: &[Folder]) -> Result<(), AllocError>
     requires { IsWithinCounts folders.now }
-    ensures { OnOk result (text.new.items ≡ text.old.items ++ end_line folders.now) }
+    ensures { OnOk result (text.new.items ≡ text.old.items ++ text_of (end_line folders.now)) }
 {
     text.extend_from_slice(b"end")?;
     push_count(text, folders.len() as u64)?;

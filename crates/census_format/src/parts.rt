@@ -1,19 +1,18 @@
 //! The objects of a pattern that has fallen apart, and its `part` lines.
 ghost use Rattle.std.specs.Prelude.{◌≡◌, ◌++◌, OnOk, map};
 ghost use Rattle.census_format.specs.Heads.{line_tail};
-ghost use Rattle.census_format.specs.Lines.{part_line, text_of};
+ghost use Rattle.census_format.specs.Lines.{part_row};
+ghost use Rattle.census_rows.specs.Lines.{line_of, text_of};
 
-use crate::lines::push_field;
-use crate::numbers::push_count;
 use census_bundle::Ticket;
+use census_rows::{push_count, push_field};
 use life_answer::{Answer, Part};
 use std::alloc::AllocError;
 
 // The line of those parts that are one object.
-#[tactic(auto, unfolding(crate::specs::Lines::part_line))]
 fn push_part(text: &mut Vec<u8>, ticket: Ticket, part: &Part) -> Result<(), AllocError>
     ensures { OnOk result
-        (text.new.items ≡ text.old.items ++ part_line ticket.folder ticket.number part.now) }
+        (text.new.items ≡ text.old.items ++ line_of (part_row ticket.folder ticket.number part.now)) }
 {
     text.extend_from_slice(b"part")?;
     push_count(text, u64::from(ticket.folder))?;
@@ -28,7 +27,7 @@ fn push_part(text: &mut Vec<u8>, ticket: Ticket, part: &Part) -> Result<(), Allo
 fn push_parts(text: &mut Vec<u8>, ticket: Ticket, parts: &[Part]) -> Result<(), AllocError>
     ensures { OnOk result
         (text.new.items ≡
-        text.old.items ++ text_of (map (part_line ticket.folder ticket.number) parts.now)) }
+        text.old.items ++ text_of (map (part_row ticket.folder ticket.number) parts.now)) }
 {
     for part in parts {
         push_part(text, ticket, part)?;

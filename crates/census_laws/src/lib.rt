@@ -4,8 +4,9 @@
 
 ghost use Rattle.std.specs.Prelude.{◌≡◌, ◌↔◌, ◌++◌, [], ◌∷◌, ℕ, List};
 ghost use Rattle.census_bundle.specs.declared.bundle.Folder.{Folder};
-ghost use Rattle.census_format.specs.Lines.{end_line, text_of};
+ghost use Rattle.census_format.specs.Lines.{end_line, groups_text};
 ghost use Rattle.census_format.specs.Reports.{IsReport, folder_section};
+ghost use Rattle.census_rows.specs.Lines.{text_of};
 ghost use Rattle.census_laws.specs.ObjectsOfAsh.{CodesCountObjectsOfAsh};
 ghost use Rattle.life_answer.specs.declared.question.Question.{Question};
 
@@ -20,5 +21,5 @@ pub fn codes_count_objects_of_ash()
 /// Of one collection there is one report: its lines in their order, and the end line.
 pub fn one_collection_has_one_report()
     ensures { (f : Folder) (question : Question) (text : List ℕ) → IsReport (f ∷ []) question text
-        ↔ (text ≡ text_of (folder_section question 1 f) ++ end_line (f ∷ [])) }
+        ↔ (text ≡ groups_text (folder_section question 1 f) ++ text_of (end_line (f ∷ []))) }
 {}

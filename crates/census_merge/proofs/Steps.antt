@@ -5,8 +5,8 @@ use Rattle.gathered.specs.Telling.{Sheet, TellsAfter}
 use Rattle.gathered.proofs.Telling.{tells_failed, tells_more, tells_none}
 use Rattle.census_rows.specs.declared.row.Row.{Row}
 use Rattle.census_rows.specs.declared.row.Row.TheVariants.{End}
-use Rattle.census_readback.specs.Texts.{line_of, text_of}
-use Rattle.census_readback.proofs.Rows.{text-append}
+use Rattle.census_rows.specs.Lines.{line_of, text_of}
+use Rattle.census_rows.proofs.Texts.{text-append}
 use Rattle.census_readback.specs.Limits.{count_limit}
 use Rattle.census_merge.specs.declared.report_sums.Sums.{Sums}
 use Rattle.census_merge.specs.Sums.{first_excess, no_sums, sums_plus, sums_in, sums_of, with_more}

@@ -11,12 +11,8 @@ no_sums = record { collections = 0; patterns = 0 }
 
 -- those of the report that a row ends
 abbrev pub sums_of : Row → Option Sums
-sums_of (Open collection patterns name) = Nothing
-sums_of (Line collection pattern outcome name) = Nothing
-sums_of (Part collection pattern code count) = Nothing
-sums_of (Code collection rule code count) = Nothing
-sums_of (Close collection patterns resolved unresolved refused) = Nothing
 sums_of (End collections patterns) = Some (record { collections = collections; patterns = patterns })
+sums_of _ = Nothing
 
 abbrev pub sums_plus : Sums → Sums → Sums
 sums_plus s more = record { collections = s.collections + more.collections; patterns = s.patterns + more.patterns }

@@ -7,7 +7,7 @@
 ghost use Rattle.std.specs.Prelude.{◌≡◌, MatchResult, Some, None};
 ghost use Rattle.gathered.specs.Telling.{TellsAfter, sheet};
 ghost use Rattle.census_readback.specs.Shapes.{AreReports};
-ghost use Rattle.census_readback.specs.Texts.{line_of, text_of};
+ghost use Rattle.census_rows.specs.Lines.{line_of, text_of};
 ghost use Rattle.census_merge.specs.Merged.{merged_rows};
 ghost use Rattle.census_merge.specs.Sums.{first_excess, no_sums, sums_in};
 

@@ -7,9 +7,8 @@ use Rattle.census_rows.specs.declared.row.Outcome.{Outcome}
 use Rattle.census_rows.specs.declared.row.Outcome.TheVariants.{Found, Bad}
 use Rattle.census_rows.specs.declared.row.Row.{Row}
 use Rattle.census_rows.specs.declared.row.Row.TheVariants.{Open, Line, Part, Code, Close, End}
-use Rattle.census_rows.specs.Kinds.{said_of, value_at}
+use Rattle.census_rows.specs.Kinds.{said_of, value_at, is_resolved}
 use Rattle.census_readback.specs.Grouped.{collections_of}
-use Rattle.census_readback.specs.Shapes.{is_resolved}
 use Rattle.census_page.specs.declared.holder.Holder.{Holder}
 use Rattle.census_page.specs.Escapes.{name_element}
 use Rattle.census_page.specs.Holders.{holder_items, holders_from}

@@ -3,8 +3,8 @@ use Rattle.std.proofs.Common.{◌≡◌, ℕ, List, [], ◌∷◌, ◌++◌, tak
 use Rattle.std.specs.Prelude.{position}
 use Rattle.std.proofs.Common.{take-append-drop}
 use Rattle.census_rows.specs.declared.row.Row.{Row}
-use Rattle.census_rows.specs.Lines.{row_text}
-use Rattle.census_readback.specs.Texts.{HasNoFeed, IsLine, line_of}
+use Rattle.census_rows.specs.Lines.{row_text, line_of}
+use Rattle.census_readback.specs.Texts.{HasNoFeed, IsLine}
 use Rattle.census_readback.proofs.Feeds.{some-feed, no-feed, no-line, one-line}
 
 pub cut-front : (text front : List ℕ) (at : ℕ) → position (λ b. eqb b 10) text ≡ Some at → front ≡ take at text → HasNoFeed front

@@ -2,8 +2,8 @@
 use Rattle.std.proofs.Common.{◌≡◌, ◌≢◌, ℕ, List, [], ◌∷◌, ◌++◌, append_assoc, ◌∙◌, sym, refl}
 use Rattle.std.proofs.lemmas.List.{append-nil}
 use Rattle.census_rows.specs.declared.row.Row.{Row}
-use Rattle.census_rows.specs.Lines.{SameRow, row_text}
-use Rattle.census_readback.specs.Texts.{AllLines, IsLine, IsStuck, SameRows, line_of, text_of}
+use Rattle.census_rows.specs.Lines.{SameRow, row_text, line_of, text_of}
+use Rattle.census_readback.specs.Texts.{AllLines, IsLine, IsStuck, SameRows}
 
 -- of these rows, which stand before a text, those that were read and those that were not
 pub record Reached (rows : List Row) (after : List ℕ) (done : List Row) (rest : List ℕ) : Type 0 where

@@ -2,11 +2,9 @@
 use Rattle.std.proofs.Common.{◌≡◌, ℕ, List, [], ◌∷◌, ◌++◌, append_assoc, ap, ◌∙◌, sym, refl}
 use Rattle.std.proofs.lemmas.List.{append-nil}
 use Rattle.census_rows.specs.declared.row.Row.{Row}
-use Rattle.census_readback.specs.Texts.{AllLines, IsLine, line_of, text_of}
-
-pub text-append : (xs ys : List Row) → text_of (xs ++ ys) ≡ text_of xs ++ text_of ys
-text-append [] ys = refl
-text-append (x ∷ xs) ys = ap (λ w. line_of x ++ w) (text-append xs ys) ∙ sym (append_assoc (line_of x) (text_of xs) (text_of ys))
+use Rattle.census_rows.proofs.Texts.{text-append}
+use Rattle.census_readback.specs.Texts.{AllLines, IsLine}
+use Rattle.census_rows.specs.Lines.{line_of, text_of}
 
 -- one row more, read from what was left
 pub text-more : (xs : List Row) (x : Row) (text rest after : List ℕ) → text ≡ text_of xs ++ rest → rest ≡ line_of x ++ after → text ≡ text_of (xs ++ x ∷ []) ++ after

@@ -7,14 +7,14 @@ use Rattle.census_rows.specs.declared.kinds.Class.TheVariants.{Resolved, Unresol
 use Rattle.census_rows.specs.declared.row.Outcome.{Outcome}
 use Rattle.census_rows.specs.declared.row.Row.{Row}
 use Rattle.census_rows.specs.declared.row.Row.TheVariants.{Open, Line, Part, Code, Close, End}
-use Rattle.census_rows.specs.Kinds.{said}
+use Rattle.census_rows.specs.Kinds.{said, same_class, is_resolved, is_unresolved, is_refused}
 use Rattle.census_readback.specs.declared.place.Place.{Place}
 use Rattle.census_readback.specs.declared.place.Place.TheVariants.{Before, Within, Behind}
 use Rattle.census_readback.specs.declared.place.Tally.{Tally}
 use Rattle.census_readback.specs.Sections.{counted, with_line, closes}
 use Rattle.census_readback.specs.Runs.{run}
 use Rattle.census_readback.specs.Steps.{patterns_opened}
-use Rattle.census_readback.specs.Shapes.{same_class, is_resolved, is_unresolved, is_refused, lines_that, any_outcome, AreLines, AreCodes, IsOpenRow, IsSection}
+use Rattle.census_readback.specs.Shapes.{lines_that, any_outcome, AreLines, AreCodes, IsOpenRow, IsSection}
 use Rattle.census_readback.specs.Limits.{count_limit}
 
 abbrev one : Bool → ℕ

@@ -3,7 +3,8 @@ use Rattle.std.specs.Prelude.{ℕ, ◌+◌, ◌≡◌, ◌≢◌, ◌++◌, List
 use Rattle.census_rows.specs.declared.row.Row.{Row}
 use Rattle.census_readback.specs.Shapes.{AreReports}
 use Rattle.census_readback.specs.Steps.{initial_reading, first_stray}
-use Rattle.census_readback.specs.Texts.{AllLines, IsStuck, text_of}
+use Rattle.census_readback.specs.Texts.{AllLines, IsStuck}
+use Rattle.census_rows.specs.Lines.{text_of}
 
 -- the text is a report of these rows, or several
 pub record ReadsAsReports (rows : List Row) (text : List ℕ) : Type 0 where

@@ -39,24 +39,19 @@ closes t n =
 
 -- between `open` and `close`: the lines of the patterns in order, `part` lines after an `ash` line, then `code` lines
 abbrev pub next_within : Tally → Row → Option Place
-next_within t (Open collection patterns name) = Nothing
 next_within t (Line collection pattern outcome name) =
     if nat_lt t.read t.patterns && (pattern == t.read + 1) then Some (Within (with_line t outcome)) else Nothing
 next_within t (Part collection pattern code count) = if t.ash && (pattern == t.read) then Some (Within t) else Nothing
 next_within t (Code collection rule code count) = if t.read == t.patterns then Some (Within (record t { ash = false })) else Nothing
 next_within t (Close collection patterns resolved unresolved refused) =
     if closes t (record { patterns = patterns; resolved = resolved; unresolved = unresolved; refused = refused }) then Some Behind else Nothing
-next_within t (End collections patterns) = Nothing
+next_within t _ = Nothing
 
 -- before all others `open`
 abbrev pub first_place : Row → Option Place
 first_place (Open collection patterns name) =
     if nat_le patterns count_limit then Some (Within (record { patterns = patterns; read = 0; resolved = 0; unresolved = 0; refused = 0; ash = false })) else Nothing
-first_place (Line collection pattern outcome name) = Nothing
-first_place (Part collection pattern code count) = Nothing
-first_place (Code collection rule code count) = Nothing
-first_place (Close collection patterns resolved unresolved refused) = Nothing
-first_place (End collections patterns) = Nothing
+first_place _ = Nothing
 
 -- the place after a row of the collection, where it may stand here; after `close` nothing stands
 abbrev pub place_after : Place → Row → Option Place

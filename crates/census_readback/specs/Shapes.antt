@@ -1,37 +1,16 @@
 -- The shape of a report.
 use Rattle.std.specs.Prelude.{ℕ, ◌+◌, ◌<◌, ◌≤◌, ◌^◌, ◌≡◌, ◌==◌, if◌then◌else◌, Bool, true, false, List, [], ◌∷◌, ◌++◌, length, ⊤}
-use Rattle.census_rows.specs.declared.kinds.Class.{Class}
-use Rattle.census_rows.specs.declared.kinds.Class.TheVariants.{Resolved, Unresolved, Refused}
 use Rattle.census_rows.specs.declared.row.Outcome.{Outcome}
 use Rattle.census_rows.specs.declared.row.Row.{Row}
 use Rattle.census_rows.specs.declared.row.Row.TheVariants.{Open, Line, Part, Code, Close, End}
-use Rattle.census_rows.specs.Kinds.{said}
+use Rattle.census_rows.specs.Kinds.{is_refused, is_resolved, is_unresolved, said}
 use Rattle.census_readback.specs.Steps.{collection_of, patterns_opened}
 use Rattle.census_readback.specs.Limits.{count_limit}
 
-abbrev pub same_class : Class → Class → Bool
-same_class Resolved Resolved = true
-same_class Unresolved Unresolved = true
-same_class Refused Refused = true
-same_class _ _ = false
-
-abbrev pub is_resolved : Outcome → Bool
-is_resolved outcome = same_class (said outcome).class Resolved
-
-abbrev pub is_unresolved : Outcome → Bool
-is_unresolved outcome = same_class (said outcome).class Unresolved
-
-abbrev pub is_refused : Outcome → Bool
-is_refused outcome = same_class (said outcome).class Refused
-
 -- the row is a `line` line, of which this is so
 abbrev pub is_line : (Outcome → Bool) → Row → Bool
-is_line kind (Open collection patterns name) = false
 is_line kind (Line collection pattern outcome name) = kind outcome
-is_line kind (Part collection pattern code count) = false
-is_line kind (Code collection rule code count) = false
-is_line kind (Close collection patterns resolved unresolved refused) = false
-is_line kind (End collections patterns) = false
+is_line kind _ = false
 
 -- how many `line` lines of this kind there are
 abbrev pub lines_that : (Outcome → Bool) → List Row → ℕ
@@ -45,29 +24,18 @@ any_outcome outcome = true
 -- pattern too where it has parts.
 abbrev pub AreLines : ℕ → Bool → List Row → Type 0
 AreLines last ash [] = ⊤
-AreLines last ash (Open collection patterns name ∷ rows) = ⊥
 AreLines last ash (Line collection pattern outcome name ∷ rows) = (pattern ≡ last + 1) × AreLines (last + 1) (said outcome).has_parts rows
 AreLines last ash (Part collection pattern code count ∷ rows) = (ash ≡ true) × (pattern ≡ last) × AreLines last ash rows
-AreLines last ash (Code collection rule code count ∷ rows) = ⊥
-AreLines last ash (Close collection patterns resolved unresolved refused ∷ rows) = ⊥
-AreLines last ash (End collections patterns ∷ rows) = ⊥
+AreLines last ash _ = ⊥
 
 abbrev pub IsOpenRow : Row → Type 0
 IsOpenRow (Open collection patterns name) = ⊤
-IsOpenRow (Line collection pattern outcome name) = ⊥
-IsOpenRow (Part collection pattern code count) = ⊥
-IsOpenRow (Code collection rule code count) = ⊥
-IsOpenRow (Close collection patterns resolved unresolved refused) = ⊥
-IsOpenRow (End collections patterns) = ⊥
+IsOpenRow _ = ⊥
 
 abbrev pub AreCodes : List Row → Type 0
 AreCodes [] = ⊤
-AreCodes (Open collection patterns name ∷ rows) = ⊥
-AreCodes (Line collection pattern outcome name ∷ rows) = ⊥
-AreCodes (Part collection pattern code count ∷ rows) = ⊥
 AreCodes (Code collection rule code count ∷ rows) = AreCodes rows
-AreCodes (Close collection patterns resolved unresolved refused ∷ rows) = ⊥
-AreCodes (End collections patterns ∷ rows) = ⊥
+AreCodes _ = ⊥
 
 -- The rows of a collection: `open`, the lines of its patterns, `code` lines, and `close`, which has the numbers of all
 -- lines, of `ok` and `ash`, of `none` and `large`, and of `bad` lines.

@@ -21,11 +21,7 @@ collection_of (End collections patterns) = 0
 -- how many patterns a row opens
 abbrev pub patterns_opened : Row → ℕ
 patterns_opened (Open collection patterns name) = patterns
-patterns_opened (Line collection pattern outcome name) = 0
-patterns_opened (Part collection pattern code count) = 0
-patterns_opened (Code collection rule code count) = 0
-patterns_opened (Close collection patterns resolved unresolved refused) = 0
-patterns_opened (End collections patterns) = 0
+patterns_opened _ = 0
 
 abbrev pub is_behind : Place → Bool
 is_behind Before = false

@@ -1,16 +1,7 @@
 -- The lines of a text.
 use Rattle.std.specs.Prelude.{ℕ, List, [], ◌∷◌, ◌++◌, ◌≢◌, ⊤}
 use Rattle.census_rows.specs.declared.row.Row.{Row}
-use Rattle.census_rows.specs.Lines.{IsRow, SameRow, row_text}
-
--- a row's line, with its LF
-abbrev pub line_of : Row → List ℕ
-line_of row = row_text row ++ 10 ∷ []
-
--- the rows' lines, one after the other
-abbrev pub text_of : List Row → List ℕ
-text_of [] = []
-text_of (row ∷ rows) = line_of row ++ text_of rows
+use Rattle.census_rows.specs.Lines.{IsRow, SameRow, line_of, row_text}
 
 -- no byte is LF
 abbrev pub HasNoFeed : List ℕ → Type 0

@@ -1,8 +1,8 @@
 //! The rows at the start of a text.
 ghost use Rattle.std.specs.Prelude.{◌≡◌, ◌==◌, ◌++◌, ◌<◌, ℕ, List, length, position, IfOk, IfSome, MatchOption};
 ghost use Rattle.census_rows.specs.declared.row.Row.{Row};
-ghost use Rattle.census_rows.specs.Lines.{SameRow};
-ghost use Rattle.census_readback.specs.Texts.{AllLines, IsLine, IsStuck, SameRows, line_of, text_of};
+ghost use Rattle.census_rows.specs.Lines.{SameRow, line_of, text_of};
+ghost use Rattle.census_readback.specs.Texts.{AllLines, IsLine, IsStuck, SameRows};
 
 use census_rows::{Row, read_row};
 use std::alloc::{AllocError, Global};

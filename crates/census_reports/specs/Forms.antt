@@ -1,7 +1,7 @@
 -- What is made of reports.
 use Rattle.std.specs.Prelude.{◌≡◌, ℕ, List, Some, None}
 use Rattle.census_rows.specs.declared.row.Row.{Row}
-use Rattle.census_readback.specs.Texts.{text_of}
+use Rattle.census_rows.specs.Lines.{text_of}
 use Rattle.census_merge.specs.Merged.{merged_rows}
 use Rattle.census_merge.specs.Sums.{first_excess, no_sums}
 use Rattle.census_page.specs.Pages.{page_of}

@@ -3,7 +3,7 @@ ghost use Rattle.std.specs.Prelude.{◌≡◌, List, MatchResult, None};
 ghost use Rattle.census_rows.specs.declared.row.Row.{Row};
 ghost use Rattle.census_identify.specs.Streams.{PutsPrefix, Writes, sink};
 ghost use Rattle.census_readback.specs.Shapes.{AreReports};
-ghost use Rattle.census_readback.specs.Texts.{text_of};
+ghost use Rattle.census_rows.specs.Lines.{text_of};
 ghost use Rattle.census_merge.specs.Merged.{merged_rows};
 ghost use Rattle.census_merge.specs.Sums.{first_excess, no_sums};
 ghost use Rattle.census_table.specs.Entries.{entries_of};

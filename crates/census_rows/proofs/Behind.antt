@@ -26,3 +26,7 @@ ends-behind (f ∷ fs) r h = refl
 pub none-left : (xs : List ℕ) → length xs ≡ 0 → xs ≡ []
 none-left [] h = refl
 none-left (x ∷ xs) h = absurd (let e : suc (length xs) ≡ 0 = h in omega arith)
+
+-- some fields, and then more
+pub fields-then : (xs ys : List (List ℕ)) (x y : List ℕ) → x ≡ fields_text xs ++ y → y ≡ fields_text ys → x ≡ fields_text (xs ++ ys)
+fields-then xs ys x y e h = e ∙ ap (λ w. fields_text xs ++ w) h ∙ sym (behind-append xs ys)

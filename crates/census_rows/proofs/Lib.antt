@@ -2,3 +2,4 @@ pub mod Behind
 pub mod Blanks
 pub mod FirstWords
 pub mod Told
+pub mod Texts

@@ -51,6 +51,24 @@ said (Found rule population found) =
     record (said_of found) { fields = text label.Rule rule ∷ number label.Population population ∷ (said_of found).fields }
 said (Bad fault) = record { word = codes "bad"; fields = number label.Fault fault ∷ []; class = Refused; has_parts = false }
 
+abbrev pub same_class : Class → Class → Bool
+same_class Resolved Resolved = true
+same_class Unresolved Unresolved = true
+same_class Refused Refused = true
+same_class _ _ = false
+
+-- it comes again or has fallen apart
+abbrev pub is_resolved : Outcome → Bool
+is_resolved outcome = same_class (said outcome).class Resolved
+
+-- it does neither within the bound, or has too many cells
+abbrev pub is_unresolved : Outcome → Bool
+is_unresolved outcome = same_class (said outcome).class Unresolved
+
+-- it is lost, or its text has a fault
+abbrev pub is_refused : Outcome → Bool
+is_refused outcome = same_class (said outcome).class Refused
+
 -- the fields that there are
 abbrev pub present : List (Option Field) → List Field
 present [] = []

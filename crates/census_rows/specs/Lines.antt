@@ -18,16 +18,40 @@ fields_text (field ∷ fields) = 32 ∷ field ++ fields_text fields
 abbrev pub outcome_fields : Outcome → List (List ℕ)
 outcome_fields outcome = (said outcome).word ∷ texts_of (said outcome).fields
 
+-- How a line is spelled: its word, its number, which is that of its collection (of `end` how many there are), and its other
+-- fields.
+pub record Spelling : Type 0 where
+  pub word : List ℕ
+  pub number : ℕ
+  pub fields : List (List ℕ)
+
+abbrev pub spelled : List ℕ → ℕ → List (List ℕ) → Spelling
+spelled word number fields = record { word = word; number = number; fields = fields }
+
+abbrev pub spelling : Row → Spelling
+spelling (Open collection patterns name) = spelled (codes "open") collection (decimal patterns ∷ name.now ∷ [])
+spelling (Line collection pattern outcome name) = spelled (codes "line") collection (decimal pattern ∷ (outcome_fields outcome ++ name.now ∷ []))
+spelling (Part collection pattern code count) = spelled (codes "part") collection (decimal pattern ∷ code.now ∷ decimal count ∷ [])
+spelling (Code collection rule code count) = spelled (codes "code") collection (rule.now ∷ code.now ∷ decimal count ∷ [])
+spelling (Close collection patterns resolved unresolved refused) =
+    spelled (codes "close") collection (decimal patterns ∷ decimal resolved ∷ decimal unresolved ∷ decimal refused ∷ [])
+spelling (End collections patterns) = spelled (codes "end") collections (decimal patterns ∷ [])
+
 -- the bytes of a line, without its LF
+abbrev pub spelling_text : Spelling → List ℕ
+spelling_text s = s.word ++ fields_text (decimal s.number ∷ s.fields)
+
 abbrev pub row_text : Row → List ℕ
-row_text (Open collection patterns name) = codes "open" ++ fields_text (decimal collection ∷ decimal patterns ∷ name.now ∷ [])
-row_text (Line collection pattern outcome name) =
-    codes "line" ++ fields_text (decimal collection ∷ decimal pattern ∷ []) ++ fields_text (outcome_fields outcome) ++ fields_text (name.now ∷ [])
-row_text (Part collection pattern code count) = codes "part" ++ fields_text (decimal collection ∷ decimal pattern ∷ code.now ∷ decimal count ∷ [])
-row_text (Code collection rule code count) = codes "code" ++ fields_text (decimal collection ∷ rule.now ∷ code.now ∷ decimal count ∷ [])
-row_text (Close collection patterns resolved unresolved refused) =
-    codes "close" ++ fields_text (decimal collection ∷ decimal patterns ∷ decimal resolved ∷ decimal unresolved ∷ decimal refused ∷ [])
-row_text (End collections patterns) = codes "end" ++ fields_text (decimal collections ∷ decimal patterns ∷ [])
+row_text row = spelling_text (spelling row)
+
+-- with its LF
+abbrev pub line_of : Row → List ℕ
+line_of row = row_text row ++ codes "\n"
+
+-- the rows' lines, one after the other
+abbrev pub text_of : List Row → List ℕ
+text_of [] = []
+text_of (row ∷ rows) = line_of row ++ text_of rows
 
 -- whether a row describes a collection: that it begins, how often an object is in it, or what became of all its patterns
 abbrev pub describes_collection : Row → Bool

@@ -4,11 +4,14 @@ ghost use Rattle.census_rows.specs.Kinds.{number, signed, text, said_of, said, v
 
 use crate::row::{Finding, Outcome};
 
-/// How an outcome counts in a `close` line.
-#[derive(Clone, Copy)]
+/// How a pattern counts in the line that closes its collection.
+#[derive(Clone, Copy, Debug, PartialEq, Eq)]
 pub enum Class {
+    /// It comes again or has fallen apart.
     Resolved,
+    /// It does neither within the bound, or has too many cells.
     Unresolved,
+    /// It is lost, or its text has a fault.
     Refused,
 }
 
@@ -151,6 +154,24 @@ impl<'a> Finding<'a> {
     }
 }
 
+impl<'a> Finding<'a> {
+    /// The word that says which kind it is.
+    #[inline(always)]
+    pub fn word(&self) -> &'static [u8]
+        ensures { result.now ≡ (said_of self.now).word }
+    {
+        self.said().word
+    }
+
+    /// How it counts.
+    #[inline(always)]
+    pub fn class(&self) -> Class
+        ensures { result ≡ (said_of self.now).class }
+    {
+        self.said().class
+    }
+}
+
 impl Label {
     // How many labels are declared before it.
     fn number(self) -> u8
@@ -188,7 +209,7 @@ impl<'a> Outcome<'a> {
         ensures { result.now ≡ (said self.now).word }
     {
         match self {
-            Outcome::Found { finding, .. } => finding.said().word,
+            Outcome::Found { finding, .. } => finding.word(),
             Outcome::Bad { .. } => b"bad",
         }
     }
@@ -219,7 +240,7 @@ impl<'a> Outcome<'a> {
         ensures { result ≡ (said self.now).class }
     {
         match self {
-            Outcome::Found { finding, .. } => finding.said().class,
+            Outcome::Found { finding, .. } => finding.class(),
             Outcome::Bad { .. } => Class::Refused,
         }
     }

@@ -6,11 +6,13 @@
 mod fields;
 mod kinds;
 mod numbers;
+mod push;
 mod read;
 mod row;
 mod write;
 
 pub use kinds::{Class, Label, Value};
+pub use push::{push_count, push_field, push_finding};
 pub use read::read_row;
 pub use row::{Finding, Outcome, Row};
 pub use write::put_row;

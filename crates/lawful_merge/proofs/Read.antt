@@ -7,8 +7,9 @@ use Rattle.census_folders.specs.Told.{Told}
 use Rattle.census_rows.specs.declared.row.Row.{Row}
 use Rattle.census_readback.specs.Reports.{ReadsAsReports}
 use Rattle.census_readback.specs.Shapes.{all_rows}
-use Rattle.census_readback.specs.Texts.{AllLines, text_of}
-use Rattle.census_readback.proofs.Rows.{text-append}
+use Rattle.census_readback.specs.Texts.{AllLines}
+use Rattle.census_rows.specs.Lines.{text_of}
+use Rattle.census_rows.proofs.Texts.{text-append}
 use Rattle.census_merge.specs.Merged.{merged_rows}
 use Rattle.census_reports.specs.Outcomes.{WritesReports}
 use Rattle.census_reports.specs.Rows.{AreRowsOf}

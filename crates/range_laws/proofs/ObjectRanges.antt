@@ -125,7 +125,7 @@ IsRangedAnswer (Refused number) = number < 2 ^ 64
 unless-ranged : (found : Outcome) (large : Option ℕ) → IsRanged found
     → ((n : ℕ) → large ≡ Some n → n < 2 ^ 64) → IsRanged (unless_large found large)
 unless-ranged found None h early = h
-unless-ranged found (Some n) h early = (early n refl, omega arith)
+unless-ranged found (Some n) h early = (((early n refl, tt), tt), omega arith)
 
 module _ (R : Rule) (G : Generation) (b : ℕ) (few : b ≤ objects_bound_limit) (within : All (IsWithin 0) (cells G)) where
   abbrev last : Generation
@@ -151,10 +151,10 @@ module _ (R : Rule) (G : Generation) (b : ℕ) (few : b ≤ objects_bound_limit)
       let long : length all ≡ length parts = length-map parts (part_code R b) in
       let small : objects_in (counted_codes all) ≤ 2 ^ 48 = omega arith in
       let fits : objects_in (counted_codes all) < 2 ^ 64 = omega arith in
-      ((fits, counted-some all [] (parts-some R b parts ash.objects) tt), small)
+      (((fits, tt), counted-some all [] (parts-some R b parts ash.objects) tt), small)
 
   found-ranged : (o : Option (List Generation)) → ash_of R b last ≡ o → IsRanged (census_found R b o)
-  found-ranged None e = (tt, omega arith)
+  found-ranged None e = ((tt, tt), omega arith)
   found-ranged (Some parts) e = ash-ranged parts e
 
   census-ranged : IsRanged (census_of R G b)

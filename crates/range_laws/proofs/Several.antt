@@ -4,11 +4,12 @@ use Rattle.census_bundle.specs.declared.bundle.Folder.{Folder}
 use Rattle.census_format.specs.Reports.{IsReport}
 use Rattle.census_readback.specs.Reports.{ReadsAsReports}
 use Rattle.census_readback.specs.Shapes.{AreReports, AreWhole, all_rows}
-use Rattle.census_readback.specs.Texts.{AllLines, text_of}
+use Rattle.census_readback.specs.Texts.{AllLines}
+use Rattle.census_rows.specs.Lines.{text_of}
 use Rattle.census_rows.specs.declared.row.Row.{Row}
 use Rattle.life_answer.specs.declared.question.Question.{Question}
 use Rattle.report_laws.proofs.ReadBack.{merged-report}
-use Rattle.report_laws.proofs.Texts.{text-append}
+use Rattle.census_rows.proofs.Texts.{text-append}
 use Rattle.range_laws.specs.Merging.{AreMade}
 use Rattle.report_laws.specs.Joining.{AreBundles, EachIsReport, IsBundle, texts}
 use Rattle.report_laws.specs.Ranges.{Readable}

@@ -4,7 +4,7 @@ use Rattle.census_bundle.specs.declared.bundle.Folder.{Folder}
 use Rattle.census_format.specs.Reports.{IsReport}
 use Rattle.census_merge.specs.Merged.{merged_rows}
 use Rattle.census_readback.specs.Reports.{ReadsAsReports}
-use Rattle.census_readback.specs.Texts.{text_of}
+use Rattle.census_rows.specs.Lines.{text_of}
 use Rattle.census_rows.specs.declared.row.Row.{Row}
 use Rattle.life_answer.specs.declared.question.Question.{Question}
 use Rattle.report_laws.specs.Joining.{bundles, texts}

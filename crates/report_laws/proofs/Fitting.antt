@@ -1,5 +1,6 @@
 -- Reports of bundles that fit together are merged.
-use Rattle.std.proofs.Common.{◌≡◌, ℕ, ◌+◌, ◌-◌, ◌*◌, ◌<◌, ◌≤◌, ◌^◌, ◌&&◌, cond, leb, Option, Some, None as Nothing, List, [], ◌∷◌, ◌++◌, ap, ◌∙◌, refl, arith, length, length-append, append_assoc}
+use Rattle.std.proofs.Common.{◌≡◌, ℕ, ◌+◌, ◌-◌, ◌*◌, ◌<◌, ◌≤◌, ◌^◌, ◌&&◌, cond, leb, Option, Some, None as Nothing, List, [], ◌∷◌, ◌++◌, ap, ◌∙◌, refl, arith, length, length-append}
+use Rattle.std.specs.List.{AllByRecursion as Each}
 use Rattle.std.proofs.lemmas.Bool.{le-leb}
 use Rattle.census_bundle.specs.declared.bundle.Folder.{Folder}
 use Rattle.census_bundle.specs.Sizes.{count_limit}
@@ -11,9 +12,10 @@ use Rattle.census_rows.specs.declared.row.Row.{Row}
 use Rattle.census_rows.specs.declared.row.Row.TheVariants.{End}
 use Rattle.life_answer.specs.declared.question.Question.{Question}
 use Rattle.report_laws.specs.Joining.{AreBundles, EachTells, bundles}
-use Rattle.report_laws.specs.Telling.{AreGroups, AreOwned, Group, TellsBundle, rows_in}
-use Rattle.report_laws.proofs.Joined.{count-append}
+use Rattle.report_laws.specs.Telling.{TellsBundle}
+use Rattle.report_laws.proofs.Joined.{body-lasting, count-append, then-others}
 use Rattle.report_laws.proofs.Named.{few-in}
+use Rattle.report_laws.proofs.Shifted.{IsLasting}
 
 abbrev going_on : ℕ → Sums → List Row → Option Sums → Option ℕ
 going_on report s rows after = elim after [ Nothing ↦ Some report | Some all ↦ first_excess (report + 1) all rows ]
@@ -21,15 +23,9 @@ going_on report s rows after = elim after [ Nothing ↦ Some report | Some all �
 abbrev looked_at : ℕ → Sums → List Row → Option Sums → Option ℕ
 looked_at report s rows ended = elim ended [ Nothing ↦ first_excess report s rows | Some more ↦ going_on report s rows (with_more s more) ]
 
-excess-rows : (report : ℕ) (s : Sums) (c : ℕ) (rows rest : List Row) → AreOwned c rows → first_excess report s (rows ++ rest) ≡ first_excess report s rest
-excess-rows report s c [] rest h = refl
-excess-rows report s c (row ∷ rows) rest h = ap (looked_at report s (rows ++ rest)) h.1 ∙ excess-rows report s c rows rest h.2
-
-excess-groups : (report : ℕ) (s : Sums) (groups : List Group) (rest : List Row) → AreGroups groups → first_excess report s (rows_in groups ++ rest) ≡ first_excess report s rest
-excess-groups report s [] rest h = refl
-excess-groups report s (g ∷ groups) rest h =
-    ap (first_excess report s) (append_assoc g.rows (rows_in groups) rest) ∙ excess-rows report s g.owner g.rows (rows_in groups ++ rest) h.0
-    ∙ excess-groups report s groups rest h.1
+excess-rows : (report : ℕ) (s : Sums) (rows rest : List Row) → Each IsLasting rows → first_excess report s (rows ++ rest) ≡ first_excess report s rest
+excess-rows report s [] rest h = refl
+excess-rows report s (row ∷ rows) rest h = ap (looked_at report s (rows ++ rest)) h.0 ∙ excess-rows report s rows rest h.1
 
 abbrev sums : List Folder → Sums
 sums b = record { collections = length b; patterns = pattern_count b }
@@ -52,9 +48,7 @@ none-too-many question report s (b ∷ parts) (rows ∷ reports) h few small =
     let last = End (length b) (pattern_count b) in
     let lengths = length-append b (bundles parts) in
     let counts = count-append b (bundles parts) in
-    let all : rows ++ others ≡ rows_in t.groups ++ last ∷ others =
-    ap (λ w. w ++ others) t.whole ∙ append_assoc (rows_in t.groups) (last ∷ []) others in
-    ap (first_excess report s) all ∙ excess-groups report s t.groups (last ∷ others) t.owned
+    ap (first_excess report s) (then-others b question rows others t) ∙ excess-rows report s t.body (last ∷ others) (body-lasting b question rows t).0
     ∙ ap (going_on report s others) (within s b (omega arith) (omega arith))
     ∙ none-too-many question (report + 1) (sums_plus s (sums b)) parts reports h.1 (omega arith) (omega arith)
 

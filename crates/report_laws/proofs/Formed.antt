@@ -4,16 +4,16 @@ use Rattle.std.proofs.lemmas.List.Sums.{sum_by-cons}
 use Rattle.census_bundle.specs.declared.bundle.Entry.{Entry}
 use Rattle.census_bundle.specs.declared.bundle.Folder.{Folder}
 use Rattle.census_bundle.specs.Sizes.{count_limit}
-use Rattle.census_format.specs.Kinds as kinds
-use Rattle.census_format.specs.declared.kinds.Class.TheVariants as class
-use Rattle.census_format.specs.Lines.{answer_to_entry, answers}
+use Rattle.census_format.specs.Found.{outcome_of}
+use Rattle.census_format.specs.Lines.{answer_to_entry, answers, part_row, part_rows, pattern_lines, pattern_rows}
 use Rattle.census_format.specs.Lines as book
-use Rattle.census_format.specs.Objects.{Object}
-use Rattle.census_readback.specs.Shapes.{AreCodes, AreLines, IsSection, any_outcome, is_refused, is_resolved, is_unresolved, all_rows, lines_that, patterns_in}
+use Rattle.census_format.specs.Objects.{Object, code_line}
+use Rattle.census_format.specs.Reports.{folder_section}
+use Rattle.census_readback.specs.Shapes.{AreCodes, AreLines, IsSection, any_outcome, all_rows, lines_that, patterns_in}
 use Rattle.census_rows.specs.declared.row.Outcome.{Outcome}
 use Rattle.census_rows.specs.declared.row.Row.{Row}
 use Rattle.census_rows.specs.declared.row.Row.TheVariants.{Close}
-use Rattle.census_rows.specs.Kinds.{said}
+use Rattle.census_rows.specs.Kinds.{is_refused, is_resolved, is_unresolved, said}
 use Rattle.life_answer.specs.declared.finding.Answer.{Answer}
 use Rattle.life_answer.specs.declared.finding.Answer.TheVariants.{Found, Refused}
 use Rattle.life_answer.specs.declared.finding.Outcome as becomes
@@ -23,7 +23,7 @@ use Rattle.life_answer.specs.declared.part.Part as part
 use Rattle.life_answer.specs.declared.question.Question.{Question}
 use Rattle.life_model.specs.Rule.{Rule}
 use Rattle.report_laws.proofs.Counted.{codes-open-none, lines-open-none, patterns-append}
-use Rattle.report_laws.proofs.Rowed.{close_row, code_rows, counted_in, open_row, outcome_of, part_row, part_rows, pattern_rows, row_outcome, section_rows}
+use Rattle.report_laws.proofs.Rowed.{close_row, code_groups, counted_in, open_row, row_outcome, section-is}
 
 joined-append : (xs ys : List (List Row)) → all_rows (xs ++ ys) ≡ all_rows xs ++ all_rows ys
 joined-append [] ys = refl
@@ -44,11 +44,12 @@ after-ordered : (c i : ℕ) (found : Answer) (rest : List Row) → ((ash : Bool)
 after-ordered c i (Found rule finding) rest h = outcome-ordered c i rule finding.population finding.outcome rest h
 after-ordered c i (Refused number) rest h = h false
 
-ordered : (question : Question) (c last i : ℕ) (ash : Bool) (es : List Entry) → i ≡ last + 1 → AreLines last ash (all_rows (pattern_rows question c i es))
+ordered : (question : Question) (c last i : ℕ) (ash : Bool) (es : List Entry) → i ≡ last + 1 → AreLines last ash (all_rows (pattern_lines question c i es))
+unfolding pattern_rows
 ordered question c last i ash [] e = tt
 ordered question c last i ash (x ∷ es) e =
     let found = answer_to_entry question x in
-    let rest = all_rows (pattern_rows question c (suc i) es) in
+    let rest = all_rows (pattern_lines question c (suc i) es) in
     let next : suc i ≡ i + 1 = omega arith in (
       e,
       subst (λ k. AreLines k (said (outcome_of found)).has_parts (part_rows c i found ++ rest)) e
@@ -70,46 +71,20 @@ no-lines kind c i (Found rule finding) = parts-none kind c i (parts_found findin
 no-lines kind c i (Refused number) = refl
 
 lines-counted : (kind : Outcome → Bool) (test : Answer → Bool) → ((found : Answer) → kind (outcome_of found) ≡ test found) → (question : Question) (c i : ℕ) (es : List Entry)
-    → lines_that kind (all_rows (pattern_rows question c i es)) ≡ count_by test (answers question es)
+    → lines_that kind (all_rows (pattern_lines question c i es)) ≡ count_by test (answers question es)
+unfolding pattern_rows
 lines-counted kind test same question c i [] = refl
 lines-counted kind test same question c i (x ∷ es) =
     let found = answer_to_entry question x in
-    let apart = lines-append kind (part_rows c i found) (all_rows (pattern_rows question c (suc i) es)) in
+    let apart = lines-append kind (part_rows c i found) (all_rows (pattern_lines question c (suc i) es)) in
     let none = no-lines kind c i found in
     let rest = lines-counted kind test same question c (suc i) es in
-    let after : lines_that kind (part_rows c i found ++ all_rows (pattern_rows question c (suc i) es)) ≡ count_by test (answers question es) = omega (arith, apart, none, rest) in
-    ap (λ v. cond v 1 0 + lines_that kind (part_rows c i found ++ all_rows (pattern_rows question c (suc i) es))) (same found)
+    let after : lines_that kind (part_rows c i found ++ all_rows (pattern_lines question c (suc i) es)) ≡ count_by test (answers question es) = omega (arith, apart, none, rest) in
+    ap (λ v. cond v 1 0 + lines_that kind (part_rows c i found ++ all_rows (pattern_lines question c (suc i) es))) (same found)
     ∙ ap (λ n. cond (test found) 1 0 + n) after
     ∙ sym (sum_by-cons (λ found. cond (test found) 1 0) found (answers question es))
 
 -- ---- a section
-
-resolved-outcome : (rule : Rule) (population : ℕ) (outcome : becomes.Outcome)
-    → is_resolved (row_outcome rule population outcome) ≡ kinds.same_class (kinds.said outcome).class class.Resolved
-resolved-outcome rule population (Ash parts) = refl
-resolved-outcome rule population _ = refl
-
-resolved-same : (found : Answer) → is_resolved (outcome_of found) ≡ book.is_resolved found
-resolved-same (Found rule finding) = resolved-outcome rule finding.population finding.outcome
-resolved-same (Refused number) = refl
-
-unresolved-outcome : (rule : Rule) (population : ℕ) (outcome : becomes.Outcome)
-    → is_unresolved (row_outcome rule population outcome) ≡ kinds.same_class (kinds.said outcome).class class.Unresolved
-unresolved-outcome rule population (Ash parts) = refl
-unresolved-outcome rule population _ = refl
-
-unresolved-same : (found : Answer) → is_unresolved (outcome_of found) ≡ book.is_unresolved found
-unresolved-same (Found rule finding) = unresolved-outcome rule finding.population finding.outcome
-unresolved-same (Refused number) = refl
-
-refused-outcome : (rule : Rule) (population : ℕ) (outcome : becomes.Outcome)
-    → is_refused (row_outcome rule population outcome) ≡ kinds.same_class (kinds.said outcome).class class.Refused
-refused-outcome rule population (Ash parts) = refl
-refused-outcome rule population _ = refl
-
-refused-same : (found : Answer) → is_refused (outcome_of found) ≡ book.is_refused found
-refused-same (Found rule finding) = refused-outcome rule finding.population finding.outcome
-refused-same (Refused number) = refl
 
 all-counted : (question : Question) (es : List Entry) → count_by (λ found. true) (answers question es) ≡ length es
 all-counted question [] = refl
@@ -118,16 +93,17 @@ all-counted question (x ∷ es) =
     let rest = all-counted question es in
     omega (arith, first, rest)
 
-codes-are : (c : ℕ) (counted : List (Object × ℕ)) → AreCodes (all_rows (code_rows c counted))
+codes-are : (c : ℕ) (counted : List (Object × ℕ)) → AreCodes (all_rows (code_groups c counted))
+unfolding code_line
 codes-are c [] = tt
 codes-are c (x ∷ counted) = codes-are c counted
 
 module _ (question : Question) (c : ℕ) (f : Folder) where
   abbrev the_lines : List Row
-  the_lines = all_rows (pattern_rows question c 1 f.entries)
+  the_lines = all_rows (pattern_lines question c 1 f.entries)
 
   abbrev the_codes : List Row
-  the_codes = all_rows (code_rows c (counted_in question f))
+  the_codes = all_rows (code_groups c (counted_in question f))
 
   abbrev the_close : Row
   the_close = close_row c (answers question f.entries) (length f.entries)
@@ -135,24 +111,25 @@ module _ (question : Question) (c : ℕ) (f : Folder) where
   count-any : lines_that any_outcome the_lines ≡ length f.entries
   count-any = lines-counted any_outcome (λ found. true) (λ found. refl) question c 1 f.entries ∙ all-counted question f.entries
 
-  written : all_rows (section_rows question c f) ≡ open_row c f ∷ (the_lines ++ (the_codes ++ the_close ∷ []))
+  written : all_rows (folder_section question c f) ≡ open_row c f ∷ (the_lines ++ (the_codes ++ the_close ∷ []))
   written =
-      ap (λ w. open_row c f ∷ w)
-      (joined-append (pattern_rows question c 1 f.entries) (code_rows c (counted_in question f) ++ (the_close ∷ []) ∷ [])
-      ∙ ap (λ w. the_lines ++ w) (joined-append (code_rows c (counted_in question f)) ((the_close ∷ []) ∷ [])))
+      ap all_rows (section-is question c f)
+      ∙ ap (λ w. open_row c f ∷ w)
+      (joined-append (pattern_lines question c 1 f.entries) (code_groups c (counted_in question f) ++ (the_close ∷ []) ∷ [])
+      ∙ ap (λ w. the_lines ++ w) (joined-append (code_groups c (counted_in question f)) ((the_close ∷ []) ∷ [])))
 
   closed : the_close ≡ Close c (lines_that any_outcome the_lines) (lines_that is_resolved the_lines) (lines_that is_unresolved the_lines) (lines_that is_refused the_lines)
   closed =
       let all = sym count-any in
-      let resolved = sym (lines-counted is_resolved book.is_resolved resolved-same question c 1 f.entries) in
-      let unresolved = sym (lines-counted is_unresolved book.is_unresolved unresolved-same question c 1 f.entries) in
-      let refused = sym (lines-counted is_refused book.is_refused refused-same question c 1 f.entries) in
+      let resolved = sym (lines-counted is_resolved book.is_resolved (λ found. refl) question c 1 f.entries) in
+      let unresolved = sym (lines-counted is_unresolved book.is_unresolved (λ found. refl) question c 1 f.entries) in
+      let refused = sym (lines-counted is_refused book.is_refused (λ found. refl) question c 1 f.entries) in
       λ i. Close c (all i) (resolved i) (unresolved i) (refused i)
 
   lines-are : AreLines 0 false the_lines
   lines-are = ordered question c 0 1 false f.entries refl
 
-  pub section-formed : length f.entries ≤ count_limit → IsSection (all_rows (section_rows question c f))
+  pub section-formed : length f.entries ≤ count_limit → IsSection (all_rows (folder_section question c f))
   section-formed few = record {
     first = open_row c f;
     lines = the_lines;
@@ -166,7 +143,7 @@ module _ (question : Question) (c : ℕ) (f : Folder) where
     few = (let e = count-any in omega (arith, e, few));
   }
 
-  pub section-opens : patterns_in (all_rows (section_rows question c f)) ≡ length f.entries
+  pub section-opens : patterns_in (all_rows (folder_section question c f)) ≡ length f.entries
   section-opens =
       let rest = patterns-append the_lines (the_codes ++ the_close ∷ []) in
       let ends = patterns-append the_codes (the_close ∷ []) in

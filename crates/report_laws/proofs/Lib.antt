@@ -1,4 +1,3 @@
-pub mod Lines
 pub mod Texts
 pub mod Shifted
 pub mod Joined
@@ -10,7 +9,7 @@ pub mod Named
 pub mod ReadBack
 pub mod Fitting
 pub mod Rowed
-pub mod Laid
+pub mod Grouped
 pub mod Counted
 pub mod Formed
 pub mod Ranged

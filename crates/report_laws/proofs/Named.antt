@@ -1,5 +1,5 @@
--- What is said of a bundle with lawful names can be cut from its lines.
-use Rattle.std.proofs.Common.{◌≡◌, ℕ, zero, suc, ◌*◌, ◌-◌, ◌<◌, ◌≤◌, ◌^◌, ◌⊎◌, inl, inr, ⊎_elim, Bool, true, false, ◌&&◌, Some, All, List, [], ◌∷◌, ◌++◌, map, length, codes, count_by, decimal, slice_get, ap, ◌∙◌, sym, refl, arith, eq-zero-or-pos}
+-- The rows of a bundle with lawful names can be cut from their lines.
+use Rattle.std.proofs.Common.{◌≡◌, ℕ, zero, suc, ◌*◌, ◌-◌, ◌<◌, ◌≤◌, ◌^◌, ⊎_elim, Bool, true, false, ◌&&◌, Some, All, List, [], ◌∷◌, ◌++◌, map, length, codes, count_by, decimal, slice_get, ap, ◌∙◌, sym, subst, refl, arith, eq-zero-or-pos}
 use Rattle.std.specs.Fmt.{signed_decimal}
 use Rattle.std.specs.List.{AllByRecursion as Each, list_all}
 use Rattle.std.proofs.lemmas.Option.{slice_get_past}
@@ -7,9 +7,13 @@ use Rattle.census_bundle.specs.declared.bundle.Entry.{Entry}
 use Rattle.census_bundle.specs.declared.bundle.Folder.{Folder}
 use Rattle.census_bundle.specs.Names.{HasLawfulNames, IsNamedEntry, IsNamedFolder, is_name, is_name_byte}
 use Rattle.census_bundle.specs.Sizes.{IsWithinCounts, count_limit}
-use Rattle.census_format.specs.Kinds.{said}
-use Rattle.census_format.specs.Lines.{answer_fields, answer_to_entry, answers, is_refused, is_resolved, is_unresolved, pattern_count}
-use Rattle.census_format.specs.Objects.{Object, objects, same_object, tally}
+use Rattle.census_format.specs.Found.{lent}
+use Rattle.census_format.specs.Lines.{answer_to_entry, answers, is_refused, is_resolved, is_unresolved, part_row, part_rows, pattern_count, pattern_lines, pattern_row, pattern_rows}
+use Rattle.census_format.specs.Objects.{Object, same_object}
+use Rattle.census_format.specs.Reports.{folder_section, section, section_of}
+use Rattle.census_rows.specs.declared.row.Row.{Row}
+use Rattle.census_rows.specs.declared.row.Row.TheVariants.{Line}
+use Rattle.census_rows.specs.Lines.{spelling}
 use Rattle.census_readback.specs.Texts.{HasNoFeed}
 use Rattle.life_answer.specs.declared.finding.Answer.{Answer}
 use Rattle.life_answer.specs.declared.finding.Answer.TheVariants.{Found, Refused}
@@ -21,9 +25,10 @@ use Rattle.life_answer.specs.Parts.{objects_in}
 use Rattle.life_answer.specs.Census.{parts_found}
 use Rattle.life_cells.specs.Rules.{rule_text}
 use Rattle.life_model.specs.Rule.{Rule}
-use Rattle.report_laws.specs.Said.{statement, said_by, said_close, said_code, said_of, said_open, said_part, said_parts, said_patterns, said_section}
+use Rattle.report_laws.specs.Joining.{IsBundle}
+use Rattle.report_laws.proofs.Rowed.{close_row, code-is, code_groups, code_row, counted_in, open_row, row_outcome, section-is}
 use Rattle.report_laws.proofs.Coded.{IsCoded, IsCodedAnswer, IsSolidObject, IsSolidPart, entry-coded, parts-solid, tally-coded}
-use Rattle.report_laws.proofs.Parsed.{IsParsed, said-line, said-short, solid-flat}
+use Rattle.report_laws.proofs.Parsed.{IsParsed, long-parsed, short-parsed, solid-flat}
 use Rattle.report_laws.proofs.Solid.{decimal-solid, each-append, rule-solid, signed-solid, solid-checked}
 
 -- ---- names
@@ -45,7 +50,7 @@ pub each-of : {X : Type 0} (P : X → Type 0) (xs : List X) → All P xs → Eac
 each-of P [] h = tt
 each-of P (x ∷ xs) h = (h 0 x (omega arith), each-of P xs (λ k d less. h (suc k) d (omega arith)))
 
--- ---- what is said
+-- ---- rows
 
 map-each : {X Y : Type 0} (P : X → Type 0) (Q : Y → Type 0) (f : X → Y) → ((x : X) → P x → Q (f x)) → (xs : List X) → Each P xs → Each Q (map f xs)
 map-each P Q f h [] all = tt
@@ -54,91 +59,94 @@ map-each P Q f h (x ∷ xs) all = (h x all.0, map-each P Q f h xs all.1)
 number-flat : (n : ℕ) → HasNoFeed (decimal n)
 number-flat n = solid-flat (decimal n) (decimal-solid n)
 
-open-parsed : (f : Folder) → HasNoFeed f.name → IsParsed (said_open f)
-open-parsed f h =
-    said-short (codes "open") (decimal (length f.entries)) (f.name ∷ []) (solid-checked (codes "open") refl) (decimal-solid (length f.entries), h) (λ found. refl) refl
+-- the row can be cut from its line, and its number fits 64 bits
+abbrev pub IsCut : Row → Type 0
+IsCut row = IsParsed (spelling row) × ((spelling row).number < 2 ^ 64)
 
-part-parsed : (i : ℕ) (part : Part) → IsSolidPart part → IsParsed (said_part i part)
-part-parsed i part h =
-    said-short (codes "part") (decimal i) (part.code ∷ decimal part.count ∷ []) (solid-checked (codes "part") refl)
-    (decimal-solid i, (h, number-flat part.count)) (λ found. refl) refl
+open-cut : (c : ℕ) (f : Folder) → HasNoFeed f.name → IsParsed (spelling (open_row c f))
+open-cut c f h = short-parsed (codes "open") c (decimal (length f.entries)) (f.name ∷ []) (solid-checked (codes "open") refl) (decimal-solid (length f.entries), h) (λ found. refl)
 
-code-parsed : (counted : Object × ℕ) → IsSolidObject counted.0 → IsParsed (said_code counted)
-code-parsed counted h =
-    said-short (codes "code") (rule_text counted.0.rule) (counted.0.code ∷ decimal counted.1 ∷ []) (solid-checked (codes "code") refl)
-    (rule-solid counted.0.rule, (h, number-flat counted.1)) (λ found. refl) refl
+part-cut : (c i : ℕ) (part : Part) → IsSolidPart part → IsParsed (spelling (part_row c i part))
+part-cut c i part h =
+    short-parsed (codes "part") c (decimal i) (part.code ∷ decimal part.count ∷ []) (solid-checked (codes "part") refl)
+    (decimal-solid i, (h, number-flat part.count)) (λ found. refl)
 
-close-parsed : (found : List Answer) (count : ℕ) → IsParsed (said_close found count)
-close-parsed found count =
-    said-short (codes "close") (decimal count) (decimal (count_by is_resolved found) ∷ decimal (count_by is_unresolved found) ∷ decimal (count_by is_refused found) ∷ [])
+code-cut : (c : ℕ) (counted : Object × ℕ) → IsSolidObject counted.0 → IsParsed (spelling (code_row c counted))
+code-cut c counted h =
+    short-parsed (codes "code") c (rule_text counted.0.rule) (counted.0.code ∷ decimal counted.1 ∷ []) (solid-checked (codes "code") refl)
+    (rule-solid counted.0.rule, (h, number-flat counted.1)) (λ found. refl)
+
+close-cut : (c : ℕ) (found : List Answer) (count : ℕ) → IsParsed (spelling (close_row c found count))
+close-cut c found count =
+    short-parsed (codes "close") c (decimal count) (decimal (count_by is_resolved found) ∷ decimal (count_by is_unresolved found) ∷ decimal (count_by is_refused found) ∷ [])
     (solid-checked (codes "close") refl)
     (decimal-solid count, (decimal-solid (count_by is_resolved found), (decimal-solid (count_by is_unresolved found), number-flat (count_by is_refused found))))
-    (λ some. refl) refl
+    (λ some. refl)
 
-outcome-parsed : (i : ℕ) (rule : Rule) (population : ℕ) (outcome : Outcome) (name : List ℕ) → IsCoded outcome → HasNoFeed name
-    → IsParsed (statement (codes "line") (decimal i ∷ (said outcome).word ∷ rule_text rule ∷ decimal population ∷ ((said outcome).fields ++ name ∷ [])))
-outcome-parsed i rule population (Recurs onset period dx dy code) name h k =
-    said-line (decimal i) (codes "ok") (rule_text rule) (decimal population ∷ decimal onset ∷ decimal period ∷ signed_decimal dx ∷ signed_decimal dy ∷ code ∷ name ∷ [])
+outcome-cut : (c i : ℕ) (rule : Rule) (population : ℕ) (outcome : Outcome) (name : List ℕ) → IsCoded outcome → HasNoFeed name
+    → IsParsed (spelling (Line c i (row_outcome rule population outcome) (lent name)))
+outcome-cut c i rule population (Recurs onset period dx dy code) name h k =
+    long-parsed c (decimal i) (codes "ok") (rule_text rule) (decimal population ∷ decimal onset ∷ decimal period ∷ signed_decimal dx ∷ signed_decimal dy ∷ code ∷ name ∷ [])
     (decimal-solid i, (solid-checked (codes "ok") refl, (rule-solid rule, (decimal-solid population, (decimal-solid onset, (decimal-solid period, (signed-solid dx, (signed-solid dy, (h, k)))))))))
     refl
-outcome-parsed i rule population Unresolved name h k =
-    said-line (decimal i) (codes "none") (rule_text rule) (decimal population ∷ name ∷ [])
+outcome-cut c i rule population Unresolved name h k =
+    long-parsed c (decimal i) (codes "none") (rule_text rule) (decimal population ∷ name ∷ [])
     (decimal-solid i, (solid-checked (codes "none") refl, (rule-solid rule, (decimal-solid population, k)))) refl
-outcome-parsed i rule population (Large generation) name h k =
-    said-line (decimal i) (codes "large") (rule_text rule) (decimal population ∷ decimal generation ∷ name ∷ [])
+outcome-cut c i rule population (Large generation) name h k =
+    long-parsed c (decimal i) (codes "large") (rule_text rule) (decimal population ∷ decimal generation ∷ name ∷ [])
     (decimal-solid i, (solid-checked (codes "large") refl, (rule-solid rule, (decimal-solid population, (decimal-solid generation, k))))) refl
-outcome-parsed i rule population (Ash parts) name h k =
-    said-line (decimal i) (codes "ash") (rule_text rule) (decimal population ∷ decimal (objects_in parts) ∷ name ∷ [])
+outcome-cut c i rule population (Ash parts) name h k =
+    long-parsed c (decimal i) (codes "ash") (rule_text rule) (decimal population ∷ decimal (objects_in parts) ∷ name ∷ [])
     (decimal-solid i, (solid-checked (codes "ash") refl, (rule-solid rule, (decimal-solid population, (decimal-solid (objects_in parts), k))))) refl
 
-answer-parsed : (i : ℕ) (found : Answer) (name : List ℕ) → IsCodedAnswer found → HasNoFeed name
-    → IsParsed (statement (codes "line") (decimal i ∷ answer_fields found name))
-answer-parsed i (Found rule finding) name h k = outcome-parsed i rule finding.population finding.outcome name h k
-answer-parsed i (Refused number) name h k =
-    said-line (decimal i) (codes "bad") (decimal number) (name ∷ [])
+answer-cut : (c i : ℕ) (found : Answer) (name : List ℕ) → IsCodedAnswer found → HasNoFeed name → IsParsed (spelling (pattern_row c i found name))
+answer-cut c i (Found rule finding) name h k = outcome-cut c i rule finding.population finding.outcome name h k
+answer-cut c i (Refused number) name h k =
+    long-parsed c (decimal i) (codes "bad") (decimal number) (name ∷ [])
     (decimal-solid i, (solid-checked (codes "bad") refl, (decimal-solid number, k))) refl
 
-parts-parsed : (i : ℕ) (found : Answer) → IsCodedAnswer found → Each IsParsed (said_parts i found)
-parts-parsed i (Found rule finding) h =
-    map-each IsSolidPart IsParsed (said_part i) (part-parsed i) (parts_found finding.outcome) (parts-solid finding.outcome h)
-parts-parsed i (Refused number) h = tt
+parts-cut : (c i : ℕ) (found : Answer) → c < 2 ^ 64 → IsCodedAnswer found → Each IsCut (part_rows c i found)
+parts-cut c i (Found rule finding) few h =
+    map-each IsSolidPart IsCut (part_row c i) (λ part k. (part-cut c i part k, few)) (parts_found finding.outcome) (parts-solid finding.outcome h)
+parts-cut c i (Refused number) few h = tt
 
-patterns-parsed : (question : Question) (i : ℕ) (es : List Entry) → Each IsNamedEntry es → Each (Each IsParsed) (said_patterns question i es)
-patterns-parsed question i [] h = tt
-patterns-parsed question i (e ∷ es) h =
+patterns-cut : (question : Question) (c i : ℕ) (es : List Entry) → c < 2 ^ 64 → Each IsNamedEntry es → Each (Each IsCut) (pattern_lines question c i es)
+unfolding pattern_rows
+patterns-cut question c i [] few h = tt
+patterns-cut question c i (e ∷ es) few h =
     let found = answer_to_entry question e in
     let coded = entry-coded question e in
-    ((answer-parsed i found e.name coded (name-flat e.name h.0.name), parts-parsed i found coded), patterns-parsed question (suc i) es h.1)
+    (((answer-cut c i found e.name coded (name-flat e.name h.0.name), few), parts-cut c i found few coded), patterns-cut question c (suc i) es few h.1)
 
-section-parsed : (question : Question) (f : Folder) → IsNamedFolder f → Each (Each IsParsed) (said_section question f)
-section-parsed question f h =
-    let counted = tally same_object (objects (answers question f.entries)) in
-    let coded = map (λ (x : Object × ℕ). said_code x ∷ []) counted in
-    let last = (said_close (answers question f.entries) (length f.entries) ∷ []) ∷ [] in
-    let ends = each-append (Each IsParsed) coded last
-    (map-each (λ (x : Object × ℕ). IsSolidObject x.0) (Each IsParsed) (λ (x : Object × ℕ). said_code x ∷ []) (λ x k. (code-parsed x k, tt)) counted (tally-coded same_object question f.entries))
-    ((close-parsed (answers question f.entries) (length f.entries), tt), tt) in (
-      (open-parsed f (name-flat f.name h.name), tt),
-      each-append (Each IsParsed) (said_patterns question 1 f.entries) (coded ++ last) (patterns-parsed question 1 f.entries (each-of IsNamedEntry f.entries h.entries)) ends,
+codes-cut : (c : ℕ) (counted : List (Object × ℕ)) → c < 2 ^ 64 → Each (λ (x : Object × ℕ). IsSolidObject x.0) counted → Each (Each IsCut) (code_groups c counted)
+codes-cut c [] few h = tt
+codes-cut c (x ∷ counted) few h = (subst (Each IsCut) (sym (code-is c x)) ((code-cut c x h.0, few), tt), codes-cut c counted few h.1)
+
+section-cut : (question : Question) (c : ℕ) (f : Folder) → c < 2 ^ 64 → IsNamedFolder f → Each (Each IsCut) (folder_section question c f)
+section-cut question c f few h =
+    let coded = code_groups c (counted_in question f) in
+    let last = (close_row c (answers question f.entries) (length f.entries) ∷ []) ∷ [] in
+    let ends = each-append (Each IsCut) coded last (codes-cut c (counted_in question f) few (tally-coded same_object question f.entries))
+    (((close-cut c (answers question f.entries) (length f.entries), few), tt), tt) in
+    subst (Each (Each IsCut)) (sym (section-is question c f)) (
+      ((open-cut c f (name-flat f.name h.name), few), tt),
+      each-append (Each IsCut) (pattern_lines question c 1 f.entries) (coded ++ last) (patterns-cut question c 1 f.entries few (each-of IsNamedEntry f.entries h.entries)) ends,
     )
 
-at-parsed : (question : Question) (b : List Folder) (k : ℕ) → Each IsNamedFolder b → Each (Each IsParsed) (said_of question (slice_get b k))
-at-parsed question [] k h = tt
-at-parsed question (f ∷ b) zero h = section-parsed question f h.0
-at-parsed question (f ∷ b) (suc k) h = at-parsed question b k h.1
+at-cut : (question : Question) (c : ℕ) (b : List Folder) (k : ℕ) → c < 2 ^ 64 → Each IsNamedFolder b → Each (Each IsCut) (section_of question c (slice_get b k))
+at-cut question c [] k few h = tt
+at-cut question c (f ∷ b) zero few h = section-cut question c f few h.0
+at-cut question c (f ∷ b) (suc k) few h = at-cut question c b k few h.1
 
-pub by-parsed : (question : Question) (b : List Folder) → HasLawfulNames b → (c : ℕ) → Each (Each IsParsed) (said_by b question c)
-by-parsed question b h zero = tt
-by-parsed question b h (suc k) = at-parsed question b k (each-of IsNamedFolder b h.folders)
+-- the rows of each collection can be cut from their lines
+pub sections-cut : (question : Question) (b : List Folder) → IsBundle b → (c : ℕ) → Each (Each IsCut) (section b question c)
+sections-cut question b h zero = tt
+sections-cut question b h (suc k) = ⊎_elim
+    (λ none. subst (λ o. Each (Each IsCut) (section_of question (suc k) o)) (sym (slice_get_past b k (omega arith))) tt)
+    (λ some. at-cut question (suc k) b k (omega (arith, h.0.folders)) (each-of IsNamedFolder b h.1.folders))
+    (eq-zero-or-pos (length b - k))
 
 -- ---- numbers
-
-pub few-collections : (question : Question) (b : List Folder) → IsWithinCounts b → (c : ℕ) → (said_by b question c ≡ []) ⊎ (c < 2 ^ 64)
-few-collections question b h zero = inl refl
-few-collections question b h (suc k) = ⊎_elim
-    (λ none. inl (ap (said_of question) (slice_get_past b k (omega arith))))
-    (λ some. inr (omega (arith, h.folders)))
-    (eq-zero-or-pos (length b - k))
 
 pub few-in : (b : List Folder) → ((k : ℕ) (f : Folder) → slice_get b k ≡ Some f → length f.entries ≤ count_limit) → pattern_count b ≤ count_limit * length b
 few-in [] h = omega arith

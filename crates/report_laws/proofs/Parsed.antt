@@ -1,21 +1,16 @@
 -- Lines cut into their fields.
-use Rattle.std.proofs.Common.{◌≡◌, ℕ, zero, suc, false, cond, eqb, None as Nothing, List, [], ◌∷◌, ◌++◌, length, codes, decimal, bytes_eq, ap, ◌∙◌, refl, arith, append-nil}
+use Rattle.std.proofs.Common.{◌≡◌, ℕ, zero, suc, cond, eqb, List, [], ◌∷◌, ◌++◌, length, codes, decimal, bytes_eq, ap, ◌∙◌, refl, arith, append-nil}
 use Rattle.std.specs.Prelude.{⊤}
 use Rattle.std.specs.Fmt.{signed_decimal}
 use Rattle.std.proofs.lemmas.Bool.{ne_eqb}
-use Rattle.census_merge.specs.Sums.{sums_of}
-use Rattle.census_readback.specs.Steps.{collection_of}
 use Rattle.census_readback.specs.Texts.{HasNoFeed}
 use Rattle.census_rows.specs.declared.row.Finding.TheVariants as findings
 use Rattle.census_rows.specs.declared.row.Outcome.{Outcome}
 use Rattle.census_rows.specs.declared.row.Outcome.TheVariants as outcomes
 use Rattle.census_rows.specs.declared.row.Row.{Row}
 use Rattle.census_rows.specs.declared.row.Row.TheVariants.{Open, Line, Part, Code, Close, End}
-use Rattle.census_rows.specs.Lines.{HasNoBlank, IsOutcome, IsRow, fields_text, outcome_fields, row_text}
-use Rattle.report_laws.specs.Said.{Said, statement}
-use Rattle.report_laws.specs.Telling.{statement_of_row}
+use Rattle.census_rows.specs.Lines.{HasNoBlank, IsOutcome, IsRow, Spelling, fields_text, outcome_fields, row_text, spelled, spelling, spelling_text}
 use Rattle.report_laws.proofs.Solid.{IsSolid, decimal-solid, signed-solid, solid-checked}
-use Rattle.report_laws.proofs.Texts.{row-said}
 
 -- the bytes before the first blank, and those after it
 abbrev first : List ℕ → List ℕ
@@ -157,29 +152,24 @@ line-parsed c p (outcomes.Bad fault) name h =
     (plain-line, (number c, (number p, (plain-bad, (number fault, tt)))))
     refl
 
-pub row-parsed : (row : Row) → sums_of row ≡ Nothing → IsRow row → parse (row_text row) ≡ (statement_of_row row).word ∷ decimal (collection_of row) ∷ (statement_of_row row).fields
-row-parsed (Open collection patterns name) e h =
+pub row-parsed : (row : Row) → IsRow row → parse (row_text row) ≡ (spelling row).word ∷ decimal (spelling row).number ∷ (spelling row).fields
+row-parsed (Open collection patterns name) h =
     parsed-short (codes "open") (decimal collection) (decimal patterns ∷ name.now ∷ [])
     (plain-open, (number collection, (number patterns, tt))) (λ found. refl)
-row-parsed (Line collection pattern outcome name) e h =
-    ap parse (row-said (Line collection pattern outcome name) refl) ∙ line-parsed collection pattern outcome name.now h.2
-row-parsed (Part collection pattern code count) e h =
+row-parsed (Line collection pattern outcome name) h = line-parsed collection pattern outcome name.now h.2
+row-parsed (Part collection pattern code count) h =
     parsed-short (codes "part") (decimal collection) (decimal pattern ∷ code.now ∷ decimal count ∷ [])
     (plain-part, (number collection, (number pattern, (h.2.1, tt)))) (λ found. refl)
-row-parsed (Code collection rule code count) e h =
+row-parsed (Code collection rule code count) h =
     parsed-short (codes "code") (decimal collection) (rule.now ∷ code.now ∷ decimal count ∷ [])
     (plain-code, (number collection, (h.1.1, (h.2.1, tt)))) (λ found. refl)
-row-parsed (Close collection patterns resolved unresolved refused) e h =
+row-parsed (Close collection patterns resolved unresolved refused) h =
     parsed-short (codes "close") (decimal collection) (decimal patterns ∷ decimal resolved ∷ decimal unresolved ∷ decimal refused ∷ [])
     (plain-close, (number collection, (number patterns, (number resolved, (number unresolved, tt))))) (λ found. refl)
-row-parsed (End collections patterns) e h = absurd (cc)
+row-parsed (End collections patterns) h =
+    parsed-short (codes "end") (decimal collections) (decimal patterns ∷ []) (plain-end, (number collections, tt)) (λ found. refl)
 
-pub end-parsed : (collections patterns : ℕ) → parse (codes "end" ++ fields_text (decimal collections ∷ decimal patterns ∷ [])) ≡ codes "end" ∷ decimal collections ∷ decimal patterns ∷ []
-end-parsed collections patterns =
-    parsed-short (codes "end") (decimal collections) (decimal patterns ∷ [])
-    (plain-end, (number collections, tt)) (λ found. refl)
-
--- ---- lines that are said
+-- ---- lines of a bundle
 
 pub solid-flat : (bytes : List ℕ) → IsSolid bytes → HasNoFeed bytes
 solid-flat [] h = tt
@@ -205,31 +195,27 @@ fields-flat [] k = tt
 fields-flat (f ∷ []) k = (λ e. omega arith, flat-append f [] k tt)
 fields-flat (f ∷ g ∷ fields) k = (λ e. omega arith, flat-append f (fields_text (g ∷ fields)) (solid-flat f k.0) (fields-flat (g ∷ fields) k.1))
 
--- What is said can be cut from its line, under whatever number.
-pub record IsParsed (s : Said) : Type 0 where
-  pub parsed : (c : ℕ) → parse (s.word ++ fields_text (decimal c ∷ s.fields)) ≡ s.word ∷ decimal c ∷ s.fields
-  pub lasting : bytes_eq s.word (codes "end") ≡ false
-  pub flat : (c : ℕ) → HasNoFeed (s.word ++ fields_text (decimal c ∷ s.fields))
+-- The fields can be cut from the line, which is one line.
+pub record IsParsed (s : Spelling) : Type 0 where
+  pub parsed : parse (spelling_text s) ≡ s.word ∷ decimal s.number ∷ s.fields
+  pub flat : HasNoFeed (spelling_text s)
 
-pub said-short : (word f : List ℕ) (fields : List (List ℕ)) → IsSolid word → AreFields (f ∷ fields)
-    → ((found : List ℕ) → size word found ≡ suc (suc (length fields))) → bytes_eq word (codes "end") ≡ false → IsParsed (statement word (f ∷ fields))
-said-short word f fields h k sized lasting = record {
-  parsed = λ c. parsed-short word (decimal c) (f ∷ fields) (fields-plain word (decimal c ∷ f ∷ fields) h (decimal-solid c, k)) sized;
-  lasting = lasting;
-  flat = λ c. flat-append word (fields_text (decimal c ∷ f ∷ fields)) (solid-flat word h) (fields-flat (decimal c ∷ f ∷ fields) (decimal-solid c, k));
+pub short-parsed : (word : List ℕ) (c : ℕ) (f : List ℕ) (fields : List (List ℕ)) → IsSolid word → AreFields (f ∷ fields)
+    → ((found : List ℕ) → size word found ≡ suc (suc (length fields))) → IsParsed (spelled word c (f ∷ fields))
+short-parsed word c f fields h k sized = record {
+  parsed = parsed-short word (decimal c) (f ∷ fields) (fields-plain word (decimal c ∷ f ∷ fields) h (decimal-solid c, k)) sized;
+  flat = flat-append word (fields_text (decimal c ∷ f ∷ fields)) (solid-flat word h) (fields-flat (decimal c ∷ f ∷ fields) (decimal-solid c, k));
 }
 
-pub said-line : (i found g : List ℕ) (fields : List (List ℕ)) → AreFields (i ∷ found ∷ g ∷ fields)
-    → line_size found ≡ suc (length (i ∷ found ∷ g ∷ fields)) → IsParsed (statement (codes "line") (i ∷ found ∷ g ∷ fields))
-said-line i found g fields k sized =
+pub long-parsed : (c : ℕ) (i found g : List ℕ) (fields : List (List ℕ)) → AreFields (i ∷ found ∷ g ∷ fields)
+    → line_size found ≡ suc (length (i ∷ found ∷ g ∷ fields)) → IsParsed (spelled (codes "line") c (i ∷ found ∷ g ∷ fields))
+long-parsed c i found g fields k sized =
     let h = solid-checked (codes "line") refl in
     record {
-      parsed = λ c. parsed-line (decimal c) i found g fields (fields-plain (codes "line") (decimal c ∷ i ∷ found ∷ g ∷ fields) h (decimal-solid c, k)) sized;
-      lasting = refl;
-      flat = λ c. flat-append (codes "line") (fields_text (decimal c ∷ i ∷ found ∷ g ∷ fields)) (solid-flat (codes "line") h) (fields-flat (decimal c ∷ i ∷ found ∷ g ∷ fields) (decimal-solid c, k));
+      parsed = parsed-line (decimal c) i found g fields (fields-plain (codes "line") (decimal c ∷ i ∷ found ∷ g ∷ fields) h (decimal-solid c, k)) sized;
+      flat = flat-append (codes "line") (fields_text (decimal c ∷ i ∷ found ∷ g ∷ fields)) (solid-flat (codes "line") h) (fields-flat (decimal c ∷ i ∷ found ∷ g ∷ fields) (decimal-solid c, k));
     }
 
-pub end-flat : (collections patterns : ℕ) → HasNoFeed (codes "end" ++ fields_text (decimal collections ∷ decimal patterns ∷ []))
-end-flat collections patterns =
-    flat-append (codes "end") (fields_text (decimal collections ∷ decimal patterns ∷ [])) (solid-flat (codes "end") (solid-checked (codes "end") refl))
-    (fields-flat (decimal collections ∷ decimal patterns ∷ []) (decimal-solid collections, solid-flat (decimal patterns) (decimal-solid patterns)))
+pub end-cut : (collections patterns : ℕ) → IsParsed (spelling (End collections patterns))
+end-cut collections patterns =
+    short-parsed (codes "end") collections (decimal patterns) [] (solid-checked (codes "end") refl) (solid-flat (decimal patterns) (decimal-solid patterns)) (λ found. refl)

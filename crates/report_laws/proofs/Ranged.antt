@@ -7,8 +7,10 @@ use Rattle.std.proofs.lemmas.Option.{slice_get_past}
 use Rattle.census_bundle.specs.Sizes.{IsWithinCounts, count_limit}
 use Rattle.census_bundle.specs.declared.bundle.Entry.{Entry}
 use Rattle.census_bundle.specs.declared.bundle.Folder.{Folder}
-use Rattle.census_format.specs.Lines.{answer_to_entry, answers, is_refused, is_resolved, is_unresolved}
-use Rattle.census_format.specs.Objects.{Object, distinct_elements, object, objects, outcome_objects, part_objects, same_object}
+use Rattle.census_format.specs.Found.{outcome_of}
+use Rattle.census_format.specs.Lines.{answer_to_entry, answers, is_refused, is_resolved, is_unresolved, part_row, part_rows, pattern_lines, pattern_rows}
+use Rattle.census_format.specs.Objects.{Object, code_line, distinct_elements, object, objects, outcome_objects, part_objects, same_object}
+use Rattle.census_format.specs.Reports.{folder_section, section, section_of}
 use Rattle.census_merge.specs.Sums.{sums_of}
 use Rattle.census_readback.specs.Steps.{collection_of}
 use Rattle.census_rows.specs.declared.row.Row.{Row}
@@ -26,7 +28,7 @@ use Rattle.life_model.specs.Rule.{Rule}
 use Rattle.report_laws.specs.Ranges.{FitsOutcome, InRange, IsCodedPart, IsToldAnswer, IsToldFolder}
 use Rattle.report_laws.proofs.Coded.{IsCoded, IsCodedAnswer, IsSolidObject, IsSolidPart, counted-each, distinct-each, entry-coded, tally-coded}
 use Rattle.report_laws.proofs.Parsed.{solid-plain}
-use Rattle.report_laws.proofs.Rowed.{close_row, code_rows, counted_in, optional_rows, outcome_of, part_row, part_rows, pattern_rows, row_outcome, rows_by, section_rows}
+use Rattle.report_laws.proofs.Rowed.{close_row, code_groups, counted_in, row_outcome, section-is}
 use Rattle.report_laws.proofs.Solid.{IsSolid, each-append, each-replicate, rule-solid}
 
 -- a row of the collection c, with numbers in range
@@ -42,10 +44,10 @@ word code some h = (some, solid-plain code h)
 row-outcome-fits : (rule : Rule) (population : ℕ) (outcome : becomes.Outcome) → population < 2 ^ 64 → FitsOutcome outcome → IsCoded outcome
     → IsOutcome (row_outcome rule population outcome)
 row-outcome-fits rule population (Recurs onset period dx dy code) few h k =
-    (rule-word rule, (few, (h.0, (h.1, (h.2, (h.3, (word code h.4 k, tt)))))))
+    (rule-word rule, (few, (h.0.0, (h.0.1.0, (h.0.1.1.0, (h.0.1.1.1.0, (word code h.0.1.1.1.1.0 k, tt)))))))
 row-outcome-fits rule population Unresolved few h k = (rule-word rule, (few, tt))
-row-outcome-fits rule population (Large generation) few h k = (rule-word rule, (few, (h, tt)))
-row-outcome-fits rule population (Ash parts) few h k = (rule-word rule, (few, (h.0, tt)))
+row-outcome-fits rule population (Large generation) few h k = (rule-word rule, (few, (h.0.0, tt)))
+row-outcome-fits rule population (Ash parts) few h k = (rule-word rule, (few, (h.0.0, tt)))
 
 outcome-fits : (found : Answer) → IsToldAnswer found → IsCodedAnswer found → IsOutcome (outcome_of found)
 outcome-fits (Found rule finding) h k = row-outcome-fits rule finding.population finding.outcome h.0 h.1 k
@@ -61,7 +63,7 @@ parts-fit c i (p ∷ parts) a b few some h =
 
 found-fit : (c i : ℕ) (outcome : becomes.Outcome) → c < 2 ^ 64 → i < 2 ^ 64 → FitsOutcome outcome → IsCoded outcome
     → Each (IsFit c) (map (part_row c i) (parts_found outcome))
-found-fit c i (Ash parts) a b h k = parts-fit c i parts a b h.0 h.1 k
+found-fit c i (Ash parts) a b h k = parts-fit c i parts a b h.0.0 h.1 k
 found-fit c i _ a b h k = tt
 
 after-fit : (c i : ℕ) (found : Answer) → c < 2 ^ 64 → i < 2 ^ 64 → IsToldAnswer found → IsCodedAnswer found → Each (IsFit c) (part_rows c i found)
@@ -69,7 +71,8 @@ after-fit c i (Found rule finding) a b h k = found-fit c i finding.outcome a b h
 after-fit c i (Refused number) a b h k = tt
 
 patterns-fit : (question : Question) (c i : ℕ) (es : List Entry) → c < 2 ^ 64 → i + length es < 2 ^ 64 → Each IsToldAnswer (answers question es)
-    → Each (Each (IsFit c)) (pattern_rows question c i es)
+    → Each (Each (IsFit c)) (pattern_lines question c i es)
+unfolding pattern_rows
 patterns-fit question c i [] a b h = tt
 patterns-fit question c i (e ∷ es) a b h =
     let found = answer_to_entry question e in
@@ -89,7 +92,7 @@ parts-some rule (p ∷ parts) h =
     (each-replicate HasObjectCode p.count (object rule p.code) h.0) (parts-some rule parts h.1)
 
 outcome-some : (rule : Rule) (outcome : becomes.Outcome) → FitsOutcome outcome → Each HasObjectCode (outcome_objects rule outcome)
-outcome-some rule (Recurs onset period dx dy code) h = (h.4, tt)
+outcome-some rule (Recurs onset period dx dy code) h = (h.0.1.1.1.1.0, tt)
 outcome-some rule (Ash parts) h = parts-some rule parts h.1
 outcome-some rule _ h = tt
 
@@ -104,7 +107,8 @@ counts-fit all [] few = tt
 counts-fit all (x ∷ xs) few = (let most = count_by-le-length (same_object x) all in omega (arith, most, few), counts-fit all xs few)
 
 codes-fit : (c : ℕ) (ones : List (Object × ℕ)) → c < 2 ^ 64 → Each (λ (x : Object × ℕ). IsSolidObject x.0) ones
-    → Each (λ (x : Object × ℕ). HasObjectCode x.0) ones → Each (λ (x : Object × ℕ). x.1 < 2 ^ 64) ones → Each (Each (IsFit c)) (code_rows c ones)
+    → Each (λ (x : Object × ℕ). HasObjectCode x.0) ones → Each (λ (x : Object × ℕ). x.1 < 2 ^ 64) ones → Each (Each (IsFit c)) (code_groups c ones)
+unfolding code_line
 codes-fit c [] a h k few = tt
 codes-fit c (x ∷ ones) a h k few =
     (((refl, refl, (a, rule-word x.0.rule, word x.0.code k.0 h.0, few.0)), tt), codes-fit c ones a h.1 k.1 few.1)
@@ -116,31 +120,32 @@ few-that test question es few =
     omega (arith, most, all, few)
 
 section-fit : (question : Question) (c : ℕ) (f : Folder) → c < 2 ^ 64 → length f.entries ≤ count_limit → IsToldFolder question f
-    → Each (Each (IsFit c)) (section_rows question c f)
+    → Each (Each (IsFit c)) (folder_section question c f)
 section-fit question c f a few h =
     let all = objects (answers question f.entries) in
-    let coded = code_rows c (counted_in question f) in
+    let coded = code_groups c (counted_in question f) in
     let last = (close_row c (answers question f.entries) (length f.entries) ∷ []) ∷ [] in
     let size : length f.entries < 2 ^ 64 = omega (arith, few) in
     let counted = codes-fit c (counted_in question f) a (tally-coded same_object question f.entries)
     (counted-each HasObjectCode (λ x. count_by (same_object x) all) (distinct_elements same_object all) (distinct-each HasObjectCode same_object all (objects-some (answers question f.entries) h.0)))
     (counts-fit all (distinct_elements same_object all) h.1) in
     let closes : Each (Each (IsFit c)) last =
-    (((refl, refl, (a, size, few-that is_resolved question f.entries few, few-that is_unresolved question f.entries few, few-that is_refused question f.entries few)), tt), tt) in (
+    (((refl, refl, (a, size, few-that is_resolved question f.entries few, few-that is_unresolved question f.entries few, few-that is_refused question f.entries few)), tt), tt) in
+    subst (Each (Each (IsFit c))) (sym (section-is question c f)) (
       ((refl, refl, (a, size)), tt),
-      each-append (Each (IsFit c)) (pattern_rows question c 1 f.entries) (coded ++ last) (patterns-fit question c 1 f.entries a (omega (arith, few)) h.0)
+      each-append (Each (IsFit c)) (pattern_lines question c 1 f.entries) (coded ++ last) (patterns-fit question c 1 f.entries a (omega (arith, few)) h.0)
           (each-append (Each (IsFit c)) coded last counted closes),
     )
 
 at-fit : (question : Question) (c : ℕ) (b : List Folder) (k : ℕ) → c < 2 ^ 64 → ((j : ℕ) (f : Folder) → slice_get b j ≡ Some f → length f.entries ≤ count_limit)
-    → Each (IsToldFolder question) b → Each (Each (IsFit c)) (optional_rows question c (slice_get b k))
+    → Each (IsToldFolder question) b → Each (Each (IsFit c)) (section_of question c (slice_get b k))
 at-fit question c [] k a few h = tt
 at-fit question c (f ∷ b) zero a few h = section-fit question c f a (few 0 f refl) h.0
 at-fit question c (f ∷ b) (suc k) a few h = at-fit question c b k a (λ j g. few (suc j) g) h.1
 
-pub rows-fit : (question : Question) (b : List Folder) → IsWithinCounts b → InRange b question → (c : ℕ) → Each (Each (IsFit c)) (rows_by b question c)
+pub rows-fit : (question : Question) (b : List Folder) → IsWithinCounts b → InRange b question → (c : ℕ) → Each (Each (IsFit c)) (section b question c)
 rows-fit question b small h zero = tt
 rows-fit question b small h (suc k) = ⊎_elim
-    (λ none. subst (λ o. Each (Each (IsFit (suc k))) (optional_rows question (suc k) o)) (sym (slice_get_past b k (omega arith))) tt)
+    (λ none. subst (λ o. Each (Each (IsFit (suc k))) (section_of question (suc k) o)) (sym (slice_get_past b k (omega arith))) tt)
     (λ some. at-fit question (suc k) b k (omega (arith, small.folders)) small.entries h)
     (eq-zero-or-pos (length b - k))

@@ -8,20 +8,20 @@ use Rattle.census_merge.specs.Merged.{merged_rows}
 use Rattle.census_merge.specs.Sums.{first_excess, no_sums}
 use Rattle.census_readback.specs.Reports.{ReadsAsReports}
 use Rattle.census_readback.specs.Shapes.{all_rows}
-use Rattle.census_readback.specs.Texts.{AllLines, text_of}
+use Rattle.census_readback.specs.Texts.{AllLines}
 use Rattle.census_rows.specs.declared.row.Row.{Row}
 use Rattle.census_rows.specs.declared.row.Row.TheVariants.{End}
-use Rattle.census_rows.specs.Lines.{row_text}
+use Rattle.census_rows.specs.Lines.{line_of, row_text, text_of}
 use Rattle.life_answer.specs.declared.question.Question.{Question}
 use Rattle.report_laws.specs.Joining.{AreBundles, EachIsReport, EachTells, IsBundle, bundles, texts}
-use Rattle.report_laws.specs.Said.{said_by}
 use Rattle.report_laws.specs.Telling.{TellsBundle, rows_in}
-use Rattle.report_laws.proofs.Cut.{cut-end, cut-lines, isnt-empty}
+use Rattle.report_laws.proofs.Cut.{cut-end, cut-rows, isnt-empty}
 use Rattle.report_laws.proofs.Fitting.{fitting}
 use Rattle.report_laws.proofs.Joined.{joined-tell}
-use Rattle.report_laws.proofs.Lines.{end-is, lines-said}
-use Rattle.report_laws.proofs.Named.{by-parsed, few-collections, few-patterns}
-use Rattle.report_laws.proofs.Texts.{told-report}
+use Rattle.report_laws.proofs.Grouped.{in-sections}
+use Rattle.report_laws.proofs.Named.{IsCut, few-patterns, sections-cut}
+use Rattle.report_laws.proofs.Rowed.{end-is}
+use Rattle.report_laws.proofs.Texts.{owned-rows, told-report}
 
 record ReportCut (b : List Folder) (question : Question) (rows : List Row) (more : List ℕ) : Type 0 where
   told : List Row
@@ -34,25 +34,21 @@ record ReportCut (b : List Folder) (question : Question) (rows : List Row) (more
 cut-report : (b : List Folder) (question : Question) (text : List ℕ) (rows : List Row) (more : List ℕ) → IsBundle b → IsReport b question text → AllLines rows
     → text_of rows ≡ text ++ more → ReportCut b question rows more
 cut-report b question text rows more bundle report each e =
-    let all = said_by b question in
-    let start = cut-lines report.lines all
-    (record {
-      sections = λ c. report.sections c ∙ sym (lines-said b question c);
-      parsed = by-parsed question b bundle.1;
-      small = few-collections question b bundle.0;
-    }) rows (end_line b ++ more) each
-    (e ∙ ap (λ w. w ++ more) report.whole ∙ append_assoc (owned_text report.lines) (end_line b) more) in
-    let few : length b < 2 ^ 64 = omega (arith, bundle.0.folders) in
-    let last = cut-end (length b) (pattern_count b) start.rest more few (few-patterns b bundle.0) start.lines
-    (start.left ∙ ap (λ w. w ++ more) (sym (end-is b))) in
+    let told = rows_in report.groups in
     let end = End (length b) (pattern_count b) in
+    let last : text_of (end_line b) ≡ line_of end = ap text_of (end-is b) ∙ append-nil (line_of end) in
+    let start = cut-rows told (in-sections (λ c row. IsCut row) IsCut (λ c row h. h) b question report.groups report.sections (sections-cut question b bundle)) rows (text_of (end_line b) ++ more) each
+    (e ∙ ap (λ w. w ++ more) report.whole ∙ append_assoc (owned_text report.groups) (text_of (end_line b)) more
+    ∙ ap (λ w. w ++ (text_of (end_line b) ++ more)) (owned-rows report.groups)) in
+    let few : length b < 2 ^ 64 = omega (arith, bundle.0.folders) in
+    let ended = cut-end (length b) (pattern_count b) start.rest more few (few-patterns b bundle.0) start.lines (start.left ∙ ap (λ w. w ++ more) last) in
     record {
-      told = rows_in start.groups ++ end ∷ [];
-      rest = last.rest;
-      whole = start.whole ∙ ap (λ w. rows_in start.groups ++ w) last.whole ∙ sym (append_assoc (rows_in start.groups) (end ∷ []) last.rest);
-      tells = record { groups = start.groups; owned = start.owned; sections = start.sections; whole = refl };
-      lines = last.lines;
-      left = last.left;
+      told = start.body ++ end ∷ [];
+      rest = ended.rest;
+      whole = start.whole ∙ ap (λ w. start.body ++ w) ended.whole ∙ sym (append_assoc start.body (end ∷ []) ended.rest);
+      tells = record { groups = report.groups; sections = report.sections; body = start.body; spelled = start.spelled; whole = ap (λ w. start.body ++ w) (sym (end-is b)) };
+      lines = ended.lines;
+      left = ended.left;
     }
 
 none-left : (rows : List Row) → text_of rows ≡ [] → rows ≡ []
@@ -66,8 +62,9 @@ read-tells b question text rows bundle report read =
     let all : rows ≡ one.told = one.whole ∙ ap (λ w. one.told ++ w) (none-left one.rest one.left) ∙ append-nil one.told in
     record {
       groups = one.tells.groups;
-      owned = one.tells.owned;
       sections = one.tells.sections;
+      body = one.tells.body;
+      spelled = one.tells.spelled;
       whole = all ∙ one.tells.whole;
     }
 
@@ -98,8 +95,9 @@ merged-report question parts reports rows small h read =
     (let tells = joined-tell question parts all.reports all.tell in
     record {
       groups = tells.groups;
-      owned = tells.owned;
       sections = tells.sections;
+      body = tells.body;
+      spelled = tells.spelled;
       whole = ap merged_rows all.whole ∙ tells.whole;
     })
 

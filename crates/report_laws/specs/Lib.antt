@@ -1,4 +1,3 @@
-pub mod Said
 pub mod Telling
 pub mod Joining
 pub mod Ranges

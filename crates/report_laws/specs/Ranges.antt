@@ -1,18 +1,22 @@
 -- Numbers that a line can tell.
-use Rattle.std.specs.Prelude.{⊤, ℕ, FitsSigned, List, ◌<◌, ◌^◌, length}
+use Rattle.std.specs.Prelude.{ℕ, FitsSigned, List, ◌<◌, ◌^◌, length}
 use Rattle.std.specs.Int.{w64}
 use Rattle.std.specs.List.{AllByRecursion as Each}
 use Rattle.census_bundle.specs.declared.bundle.Folder.{Folder}
+use Rattle.census_format.specs.Found.{finding_of}
 use Rattle.census_format.specs.Lines.{answers}
 use Rattle.census_format.specs.Objects.{objects}
 use Rattle.census_readback.specs.Reports.{ReadsAsReports}
+use Rattle.census_rows.specs.declared.kinds.Field.{Field}
+use Rattle.census_rows.specs.declared.kinds.Value.{Value}
+use Rattle.census_rows.specs.declared.kinds.Value.TheVariants.{Number, Signed, Text}
 use Rattle.census_rows.specs.declared.row.Row.{Row}
-use Rattle.life_answer.specs.Parts.{objects_in}
+use Rattle.census_rows.specs.Kinds.{said_of}
+use Rattle.life_answer.specs.Census.{parts_found}
 use Rattle.life_answer.specs.declared.finding.Answer.{Answer}
 use Rattle.life_answer.specs.declared.finding.Answer.TheVariants.{Found, Refused}
 use Rattle.life_answer.specs.declared.finding.Finding.{Finding}
 use Rattle.life_answer.specs.declared.finding.Outcome.{Outcome}
-use Rattle.life_answer.specs.declared.finding.Outcome.TheVariants.{Recurs, Unresolved, Large, Ash}
 use Rattle.life_answer.specs.declared.part.Part.{Part}
 use Rattle.life_answer.specs.declared.question.Question.{Question}
 
@@ -20,13 +24,15 @@ use Rattle.life_answer.specs.declared.question.Question.{Question}
 abbrev pub IsCodedPart : Part → Type 0
 IsCodedPart part = 0 < length part.code
 
+-- a number that fits 64 bits, or a text with a byte
+abbrev pub FitsValue : Value → Type 0
+FitsValue (Number n) = n < 2 ^ 64
+FitsValue (Signed z) = FitsSigned w64 z
+FitsValue (Text bytes) = 0 < length bytes.now
+
 -- the numbers of an outcome fit 64 bits, and each object has a code
 abbrev pub FitsOutcome : Outcome → Type 0
-FitsOutcome (Recurs onset period dx dy code) =
-    (onset < 2 ^ 64) × (period < 2 ^ 64) × FitsSigned w64 dx × FitsSigned w64 dy × (0 < length code)
-FitsOutcome (Ash parts) = (objects_in parts < 2 ^ 64) × Each IsCodedPart parts
-FitsOutcome (Large generation) = generation < 2 ^ 64
-FitsOutcome Unresolved = ⊤
+FitsOutcome outcome = Each (λ (field : Field). FitsValue field.value) (said_of (finding_of outcome)).fields × Each IsCodedPart (parts_found outcome)
 
 -- the numbers found fit 64 bits, and each object has a code
 abbrev pub FitsReport : Finding → Type 0

@@ -10,7 +10,7 @@ ghost use Rattle.census_merge.specs.Merged.{merged_rows};
 ghost use Rattle.census_merge.specs.Sums.{first_excess, no_sums};
 ghost use Rattle.census_readback.specs.Reports.{ReadsAsReports};
 ghost use Rattle.census_readback.specs.Shapes.{all_rows};
-ghost use Rattle.census_readback.specs.Texts.{text_of};
+ghost use Rattle.census_rows.specs.Lines.{text_of};
 ghost use Rattle.census_rows.specs.declared.row.Row.{Row};
 ghost use Rattle.life_answer.specs.declared.question.Question.{Question};
 ghost use Rattle.report_laws.specs.Joining.{AreBundles, EachIsReport, EachTells, IsBundle, bundles, texts};

@@ -3,8 +3,9 @@ use Rattle.census_bundle.specs.declared.bundle.Folder.{Folder}
 use Rattle.census_bundle.specs.declared.ticket.Ticket.{Ticket}
 use Rattle.census_bundle.specs.Tickets.{has_ticket, ticket, element_at, with_ticket}
 use Rattle.census_book.specs.Front.{IsNextOpen}
-use Rattle.census_format.specs.Lines.{text_of, end_line}
+use Rattle.census_format.specs.Lines.{groups_text, end_line}
 use Rattle.census_format.specs.Reports.{run_of, folder_out}
+use Rattle.census_rows.specs.Lines.{text_of}
 use Rattle.census_book.proofs.Runs.{run_within}
 use Rattle.census_book.proofs.Fronts.{run_read, same_folder, run_kept, front_after, end_when, no_end_when, released_text}
 use Rattle.census_book.proofs.release.released.Goals as goal
@@ -52,13 +53,13 @@ returns c =
     let come : (g : Folder) → element_at b t.folder ≡ Some g → c.run_count-m.result ≡ run_of (with_ticket taken t) t.folder g = λ g is. m ∙ ap (run_of (with_ticket taken t) t.folder) (same_folder _ f g at is) in
     let next : IsNextOpen b runs (record { folder = t.folder; run = c.run_count-m.result }) c.args.front.now.first_open c.next_open-first_open.result = rw (folders, c.deref.ensures.value, own) at c.next_open-first_open.ensures in
     let front = front_after b c.args.results.now.question taken runs c.args.front.now.first_open c.next_open-first_open.result t c.run_count-m.result _ _ c.requires.front c.requires.belongs c.requires.new come next in
-    let lines : c.push_folder.new.text.items ≡ [] ++ text_of (folder_out c.args.results.now.question t.folder f c.index.result.now c.run_count-m.result) = rw (c.clear.ensures.items, c.new-arrival.ensures, own) at c.in_ok-push_folder.ensures in
+    let lines : c.push_folder.new.text.items ≡ [] ++ groups_text (folder_out c.args.results.now.question t.folder f c.index.result.now c.run_count-m.result) = rw (c.clear.ensures.items, c.new-arrival.ensures, own) at c.in_ok-push_folder.ensures in
     record {
       released =
           elim c.if-first_open-folders.branch [
             | then-first_open-folders+in_ok-push_end w ↦
-                released_text b c.args.results.now.question taken t f c.index.result.now c.run_count-m.result _ (end_line b) at k m (end_when b _ _ _ front (w.if-first_open-folders.true ∙ ap length folders))
-                (ap (λ v. v.items) w.text-is ∙ w.in_ok-push_end.ensures ∙ ap (λ fs. c.push_folder.new.text.items ++ end_line fs) folders ∙ ap (λ x. x ++ end_line b) lines)
+                released_text b c.args.results.now.question taken t f c.index.result.now c.run_count-m.result _ (text_of (end_line b)) at k m (end_when b _ _ _ front (w.if-first_open-folders.true ∙ ap length folders))
+                (ap (λ v. v.items) w.text-is ∙ w.in_ok-push_end.ensures ∙ ap (λ fs. c.push_folder.new.text.items ++ text_of (end_line fs)) folders ∙ ap (λ x. x ++ text_of (end_line b)) lines)
             | else-first_open-folders w ↦
                 released_text b c.args.results.now.question taken t f c.index.result.now c.run_count-m.result _ [] at k m (no_end_when b _ _ _ front (λ e. w.if-first_open-folders.false (e ∙ sym (ap length folders))))
                 (ap (λ v. v.items) w.text-is ∙ lines ∙ sym (append-nil _))

@@ -1,6 +1,7 @@
 use Rattle.std.proofs.Common.{◌≡◌, ◌++◌, map, take}
-use Rattle.census_format.specs.Lines.{part_line, text_of}
+use Rattle.census_format.specs.Lines.{part_row}
+use Rattle.census_rows.specs.Lines.{text_of}
 use Rattle.census_format.proofs.parts.push_parts.Given as goal
 
 abbrev pub invariant-loop-part : goal.invariant-loop-part
-invariant-loop-part l = l.text.items ≡ l.fn.text.items ++ text_of (map (part_line l.ticket.folder l.ticket.number) (take l.part-index l.parts))
+invariant-loop-part l = l.text.items ≡ l.fn.text.items ++ text_of (map (part_row l.ticket.folder l.ticket.number) (take l.part-index l.parts))

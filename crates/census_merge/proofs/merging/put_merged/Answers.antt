@@ -1,6 +1,6 @@
 use Rattle.std.proofs.Common.{◌∙◌, refl, subst, sym}
 use Rattle.gathered.specs.Telling.{TellsAfter, sheet}
-use Rattle.census_readback.specs.Texts.{line_of}
+use Rattle.census_rows.specs.Lines.{line_of}
 use Rattle.census_merge.proofs.Few.{few-at, few-reports}
 use Rattle.census_merge.proofs.Steps.{all_put, row_put, stopped_put}
 use Rattle.census_merge.proofs.merging.put_merged.Goals as goal

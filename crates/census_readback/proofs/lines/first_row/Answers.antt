@@ -1,8 +1,8 @@
 use Rattle.std.proofs.Common.{◌≡◌, ◌-◌, ◌++◌, ◌∷◌, ◌∙◌, ap, sym, ℕ, List, [], drop, take, length, append_assoc, arith, eqb, Some, None}
 use Rattle.std.specs.Prelude.{position}
 use Rattle.std.proofs.lemmas.Slice.{between_to_end}
-use Rattle.census_rows.specs.Lines.{row_text}
-use Rattle.census_readback.specs.Texts.{HasNoFeed, line_of}
+use Rattle.census_rows.specs.Lines.{row_text, line_of}
+use Rattle.census_readback.specs.Texts.{HasNoFeed}
 use Rattle.census_readback.proofs.Cuts.{cut-front, cut-whole, cut-line, uncut}
 use Rattle.census_readback.proofs.lines.first_row.Goals as goal
 

@@ -1,6 +1,7 @@
 use Rattle.std.proofs.Common.{◌≡◌, ◌++◌, ℕ, List, length}
 use Rattle.census_rows.specs.declared.row.Row.{Row}
-use Rattle.census_readback.specs.Texts.{AllLines, IsStuck, text_of}
+use Rattle.census_readback.specs.Texts.{AllLines, IsStuck}
+use Rattle.census_rows.specs.Lines.{text_of}
 use Rattle.census_readback.proofs.Reached.{Reached}
 use Rattle.census_readback.proofs.lines.read_rows.Given as goal
 

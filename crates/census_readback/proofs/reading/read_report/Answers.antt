@@ -3,7 +3,7 @@ use Rattle.std.proofs.lemmas.Bool.{eqb-true}
 use Rattle.std.proofs.lemmas.Grind.{common_steps}
 use Rattle.std.proofs.lemmas.List.{append-nil}
 use Rattle.census_rows.specs.declared.row.Row.{Row}
-use Rattle.census_readback.specs.Texts.{text_of}
+use Rattle.census_rows.specs.Lines.{text_of}
 use Rattle.census_readback.specs.Steps.{initial_reading, first_stray}
 use Rattle.census_readback.proofs.Alike.{stray-same}
 use Rattle.census_readback.proofs.Interleaved.{reports-sound, reports-complete}

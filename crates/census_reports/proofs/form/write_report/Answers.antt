@@ -1,6 +1,6 @@
 use Rattle.gathered.specs.Telling.{sheet}
 use Rattle.census_merge.specs.Merged.{merged_rows}
-use Rattle.census_readback.specs.Texts.{text_of}
+use Rattle.census_rows.specs.Lines.{text_of}
 use Rattle.census_reports.proofs.Told.{told_whole}
 use Rattle.census_reports.proofs.form.write_report.Goals as goal
 

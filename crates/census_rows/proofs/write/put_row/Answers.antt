@@ -1,23 +1,20 @@
 use Rattle.std.proofs.Common.{◌≡◌, ℕ, List, [], ◌∷◌, ◌++◌, Bor, codes, decimal, refl}
 use Rattle.std.specs.Prelude.{if◌then◌else◌}
-use Rattle.gathered.proofs.Telling.{tells_more}
 use Rattle.census_rows.specs.declared.row.Outcome.{Outcome}
 use Rattle.census_rows.specs.declared.row.Row.{Row}
 use Rattle.census_rows.specs.declared.row.Row.TheVariants.{Open, Line, Part, Code, Close, End}
-use Rattle.census_rows.specs.Lines.{describes_collection, fields_text, outcome_fields, row_text}
-use Rattle.census_rows.proofs.Told.{field_last, field_then, fields_behind}
+use Rattle.census_rows.specs.Lines.{describes_collection, outcome_fields, row_text}
+use Rattle.census_rows.proofs.Told.{field_last, field_then, fields_behind, fields_more}
 use Rattle.census_rows.proofs.write.put_row.Goals as goal
 
 pub returns-in-Line : goal.returns-in-Line
 returns-in-Line g c =
     let o = c.in-Line in
     let two = decimal o.collection ∷ decimal o.pattern ∷ [] in
-    let found = fields_text (outcome_fields o.outcome) in
-    let front = codes "line" ++ fields_text two in
+    let found = outcome_fields o.outcome in
     rw o.is
-    (tells_more (front ++ found) (fields_text (o.name.now ∷ [])) _ _ _
-    (tells_more front found _ _ _ c.put_start.ensures c.put_outcome.ensures)
-    (field_last o.name.now _ _ c.put_field.ensures))
+    (fields_behind (codes "line") two (found ++ o.name.now ∷ []) _ _ _ c.put_start.ensures
+    (fields_more found (o.name.now ∷ []) _ _ _ c.put_outcome.ensures (field_last o.name.now _ _ c.put_field.ensures)))
 
 pub returns-in-Part : goal.returns-in-Part
 returns-in-Part g c =

@@ -1,6 +1,6 @@
 use Rattle.std.proofs.Common.{◌∙◌, ◌∷◌, ◌++◌, sym, ap}
 use Rattle.std.proofs.lemmas.Fmt.{decimal_digit}
-use Rattle.census_format.proofs.numbers.push_digit.Goals as goal
+use Rattle.census_rows.proofs.push.push_digit.Goals as goal
 
 pub returns : goal.returns
 returns c =

@@ -1,0 +1,39 @@
+-- What was found of a pattern, as the rows of a report have it.
+use Rattle.std.specs.Prelude.{ℕ, Bool, List}
+use Rattle.std.specs.Borrow.{Bor}
+use Rattle.life_answer.specs.declared.finding.Answer.{Answer}
+use Rattle.life_answer.specs.declared.finding.Answer.TheVariants.{Found, Refused}
+use Rattle.life_answer.specs.declared.finding.Outcome.{Outcome}
+use Rattle.life_answer.specs.declared.finding.Outcome.TheVariants.{Recurs, Unresolved, Large, Ash}
+use Rattle.life_answer.specs.Parts.{objects_in}
+use Rattle.life_cells.specs.Rules.{rule_text}
+use Rattle.census_rows.specs.declared.kinds.Class.{Class}
+use Rattle.census_rows.specs.declared.row.Finding as row
+use Rattle.census_rows.specs.declared.row.Finding.TheVariants as finding
+use Rattle.census_rows.specs.declared.row.Outcome as rows
+use Rattle.census_rows.specs.declared.row.Outcome.TheVariants as outcome
+use Rattle.census_rows.specs.Kinds.{said, same_class}
+
+-- these bytes, wherever they stand
+abbrev pub lent : List ℕ → Bor (List ℕ)
+lent bytes = record { ref_ptr = (0, 0); now = bytes }
+
+-- what was found, one line for each kind
+abbrev pub finding_of : Outcome → row.Finding
+finding_of (Recurs onset period dx dy code) = finding.Ok onset period dx dy (lent code)
+finding_of (Ash parts) = finding.Ash (objects_in parts)
+finding_of Unresolved = finding.Unresolved
+finding_of (Large generation) = finding.Large generation
+
+-- with the rule and the population of generation 0; where the text is refused, the number of its fault, or 0
+abbrev pub outcome_of : Answer → rows.Outcome
+outcome_of (Found rule found) = outcome.Found (lent (rule_text rule)) found.population (finding_of found.outcome)
+outcome_of (Refused number) = outcome.Bad number
+
+-- how a pattern of which this was found counts
+abbrev pub class_of : Answer → Class
+class_of answer = (said (outcome_of answer)).class
+
+-- whether it counts so
+abbrev pub is_of : Class → Answer → Bool
+is_of class answer = same_class (class_of answer) class
