@@ -1,5 +1,5 @@
 -- The classes of one generation become those of the next.
-use Rattle.std.proofs.Common.{◌≡◌, ℕ, zero, suc, ◌==◌, Bool, true, false, ◌&&◌, List, inl, inr, sym, refl, ap, ◌∙◌, eqb-true, eq-eqb}
+use Rattle.std.proofs.Common.{◌≡◌, ℕ, suc, ◌==◌, Bool, true, false, ◌&&◌, List, inl, inr, sym, ap, ◌∙◌, eqb-true, eq-eqb}
 use Rattle.std.specs.List.{Contains, list_any}
 use Rattle.std.specs.Cmp as cmp
 use Rattle.std.proofs.lemmas.Bool.{cases_Bool, cases_eq, and_from, and_parts, both_ways, false_from_ne_true, true_from_ne_false}
@@ -169,9 +169,14 @@ module _ (R : Rule) (P : Generation) (Qs : List Generation) (n : ℕ) (are : Are
         | inr place ↦
             let bearing_group : bears R G colour (colour g.0) x ≡ true =
             same_group x place Q one g.0 g.1 ∙ sym (next-born R (generation R Q n) x (not_here x place Q one)) ∙ h in
-            let at : IsAround G x g.0 = record { live = are.within Q one g.0 g.1; near = near } in
-            ((fair x place).born (colour g.0) bearing_group, (g.0, g.1,
-            bearing n x colour place (islands x place) (tied_within x place) (fair x place) g.0 at bearing_group))
+            let at : IsAround G x g.0 = record { live = are.within Q one g.0 g.1; near = near } in (
+              (fair x place).born (colour g.0) bearing_group,
+              (
+                g.0,
+                g.1,
+                bearing n x colour place (islands x place) (tied_within x place) (fair x place) g.0 at bearing_group,
+              ),
+            )
       ]
 
   -- what is made of all is made of one of the sets
@@ -185,9 +190,12 @@ module _ (R : Rule) (P : Generation) (Qs : List Generation) (n : ℕ) (are : Are
         | inr place ↦
             let k = (fair x place).borne h in
             let s = of_bearing R G colour x k.0 k.1 in
-            let q = are.cover s.0 s.1.live in
-            (q.0, q.1, next-born R (generation R q.0 n) x (not_here x place q.0 q.1)
-            ∙ sym (same_group x place q.0 q.1 s.0 q.2) ∙ ap (λ l. bears R G colour l x) s.2 ∙ k.1)
+            let q = are.cover s.0 s.1.live in (
+              q.0,
+              q.1,
+              next-born R (generation R q.0 n) x (not_here x place q.0 q.1)
+                  ∙ sym (same_group x place q.0 q.1 s.0 q.2) ∙ ap (λ l. bears R G colour l x) s.2 ∙ k.1,
+            )
       ]
 
   -- sets that share a cell are one

@@ -1,5 +1,5 @@
 -- What is tied is there.
-use Rattle.std.proofs.Common.{◌≡◌, ℕ, suc, ◌+◌, true, sym, ap, ◌∙◌, arith}
+use Rattle.std.proofs.Common.{◌≡◌, ℕ, ◌+◌, sym, ap, ◌∙◌, arith}
 use Rattle.life_model.specs.Cell.{Cell, plus}
 use Rattle.life_model.specs.Rule.{Rule}
 use Rattle.life_model.specs.Generation.{Generation, contains}

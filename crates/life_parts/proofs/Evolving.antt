@@ -1,7 +1,6 @@
 -- Independent parts evolve alone.
 use Rattle.std.proofs.Common.{◌≡◌, ℕ, zero, suc, true, List, get_or, sym, ap, ◌∙◌, arith}
-use Rattle.std.specs.List.{All, AllPairs, Contains}
-use Rattle.std.proofs.lemmas.Bool.{or_cases}
+use Rattle.std.specs.List.{AllPairs, Contains}
 use Rattle.std.specs.Cmp as cmp
 use Rattle.std.proofs.lemmas.List.Elements.{All-contains, Contains-get_or}
 use Rattle.life_model.specs.Cell.{Cell}
@@ -13,7 +12,7 @@ use Rattle.life_model.proofs.Recurrences.{generation-zero}
 use Rattle.life_objects.specs.Apart.{AreDisjoint}
 use Rattle.life_objects.specs.Union.{generations, union_of}
 use Rattle.life_objects.proofs.Many.{pairs_then}
-use Rattle.life_objects.proofs.Members.{found_in, found_now, in_list, in_list_now}
+use Rattle.life_objects.proofs.Members.{found_in, found_now, in_list}
 use Rattle.life_parts.specs.Parts.{AreIndependentParts, IsIndependentPart}
 use Rattle.life_parts.specs.Ties.{AreTied, IsIn, itself, swapped, through}
 use Rattle.life_parts.proofs.Classed.{AreClassesAt, classes_then, made_of, same_sets}
@@ -77,7 +76,7 @@ module _ (R : Rule) (P : Generation) (Qs : List Generation) where
         once i j d h k b.0 (in_at_first R A b.0 (first.whole A one a.0 b.0 a.1 tie)) (in_at_first R B b.0 b.1))
 
   module _ (are : AreIndependentParts R P Qs) where
-    part_of : (Q : Generation) → Contains Qs Q → IsIndependentPart R P Q
+    pub part_of : (Q : Generation) → Contains Qs Q → IsIndependentPart R P Q
     part_of Q one = All-contains (IsIndependentPart R P) Qs Q are.parts one
 
     pub first_classes : AreClassesAt R P Qs 0

@@ -3,3 +3,10 @@ pub mod Ends
 pub mod Firsts
 pub mod Classed
 pub mod Evolving
+pub mod Along
+pub mod Repeats
+pub mod Shifts
+pub mod Recurring
+pub mod Lasting
+pub mod Lists
+pub mod Turned

@@ -1,5 +1,5 @@
 -- The independent parts of a set: the classes of its cells that belong together.
-use Rattle.std.specs.Prelude.{◌≡◌, ◌≢◌, ℕ, true, List}
+use Rattle.std.specs.Prelude.{◌≡◌, ◌≢◌, true, List}
 use Rattle.std.specs.List.{All, AllPairs}
 use Rattle.life_model.specs.Cell.{Cell}
 use Rattle.life_model.specs.Rule.{Rule}

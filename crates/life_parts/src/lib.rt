@@ -2,12 +2,16 @@
 //! the contracts of functions that do nothing.
 #![tactic(auto)]
 
-ghost use Rattle.std.specs.Prelude.{◌≡◌, ◌↔◌, ℕ, true, List, AllPairs, Contains};
+ghost use Rattle.std.specs.Prelude.{◌≡◌, ◌↔◌, ℕ, ◌*◌, ◌≤◌, true, List, [], ◌∷◌, length, map, AllPairs, Contains};
+ghost use Rattle.std.specs.List.Sorted.{IsPermutation};
 ghost use Rattle.life_model.specs.Cell.{Cell};
 ghost use Rattle.life_model.specs.Generation.{Generation, contains};
 ghost use Rattle.life_model.specs.Evolution.{generation};
+ghost use Rattle.life_model.specs.Recurrence.{RecursBy};
 ghost use Rattle.life_model.specs.Rule.{Rule};
+ghost use Rattle.life_model.specs.Symmetry.{Orientation, image_under, translate_of};
 ghost use Rattle.life_objects.specs.Apart.{AreDisjoint};
+ghost use Rattle.life_objects.specs.Drift.{multiple_of};
 ghost use Rattle.life_objects.specs.Union.{generations, union_of};
 ghost use Rattle.life_parts.specs.Parts.{AreIndependentParts};
 ghost use Rattle.life_parts.specs.Ties.{AreTied};
@@ -22,4 +26,39 @@ pub fn each_part_evolves_alone()
     ensures cells { (R : Rule) (P Q : Generation) (Qs : List Generation) (n : ℕ) (c x : Cell) →
         AreIndependentParts R P Qs → Contains Qs Q → contains Q c ≡ true →
         (contains (generation R Q n) x ≡ true) ↔ AreTied R P 0 c n x }
+{}
+
+/// Each independent part of a set that comes again comes again too, with the same velocity, after no more of the set's
+/// periods than there are parts.
+pub fn each_part_comes_again()
+    ensures { (R : Rule) (P Q : Generation) (Qs : List Generation) (p : ℕ) (d : Cell) →
+        RecursBy R P p d → AreIndependentParts R P Qs → Contains Qs Q →
+        (k : ℕ) × (1 ≤ k) × (k ≤ length Qs) × RecursBy R Q (k * p) (multiple_of k d) }
+{}
+
+/// A set has one list of independent parts but for their order.
+pub fn a_set_has_one_list_of_independent_parts()
+    ensures { (R : Rule) (P : Generation) (Qs others : List Generation) →
+        AreIndependentParts R P Qs → AreIndependentParts R P others → IsPermutation Qs others }
+{}
+
+/// The independent parts of each later generation of a set that comes again are what its parts have become, and those of
+/// a set that is moved or turned are its parts, so moved or turned.
+pub fn phase_and_place_do_not_matter()
+    ensures later { (R : Rule) (P : Generation) (Qs : List Generation) (p k : ℕ) (d : Cell) →
+        RecursBy R P p d → AreIndependentParts R P Qs →
+        AreIndependentParts R (generation R P k) (generations R Qs k) }
+    ensures moved { (R : Rule) (P : Generation) (Qs : List Generation) (d : Cell) →
+        AreIndependentParts R P Qs →
+        AreIndependentParts R (translate_of P d) (map (λ Q. translate_of Q d) Qs) }
+    ensures turned { (R : Rule) (P : Generation) (Qs : List Generation) (m : Orientation) →
+        AreIndependentParts R P Qs →
+        AreIndependentParts R (image_under P m) (map (λ Q. image_under Q m) Qs) }
+{}
+
+/// An independent part of a set that comes again has one independent part, itself.
+pub fn a_part_is_one_by_itself()
+    ensures { (R : Rule) (P Q : Generation) (Qs : List Generation) (p : ℕ) (d : Cell) →
+        RecursBy R P p d → AreIndependentParts R P Qs → Contains Qs Q →
+        AreIndependentParts R Q (Q ∷ []) }
 {}

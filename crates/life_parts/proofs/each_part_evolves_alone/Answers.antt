@@ -1,4 +1,4 @@
-use Rattle.life_parts.proofs.Evolving.{at_first, disjoint_later, first_classes, in_at_first, together_later, tied_later, whole_later}
+use Rattle.life_parts.proofs.Evolving.{at_first, disjoint_later, first_classes, together_later, tied_later, whole_later}
 use Rattle.life_parts.proofs.each_part_evolves_alone.Goals as goal
 
 pub returns : goal.returns
