@@ -1,15 +1,16 @@
 -- Ties go along with moves, with the eight maps and with time.
-use Rattle.std.proofs.Common.{◌≡◌, ℕ, suc, ◌+◌, ◌==◌, ◌&&◌, sym, ap, subst, ◌∙◌, arith}
+use Rattle.std.proofs.Common.{◌≡◌, ℕ, suc, ◌+◌, sym, ap, subst, ◌∙◌, arith}
 use Rattle.std.proofs.lemmas.Int.{ints}
 use Rattle.life_model.specs.Cell.{Cell, IsNear, plus, opposite}
 use Rattle.life_model.specs.Rule.{Rule, born}
 use Rattle.life_model.specs.Generation.{Generation, contains}
-use Rattle.life_model.specs.Evolution.{count_at, generation, next}
+use Rattle.life_model.specs.Evolution.{generation}
 use Rattle.life_model.specs.Recurrence.{RecursBy}
 use Rattle.life_model.specs.Symmetry.{image, translate_of}
 use Rattle.life_model.proofs.Cells.{plus-swap}
 use Rattle.life_model.proofs.Symmetries.{KeepNeighbours, contains-image, plus_keeps}
-use Rattle.life_parts.specs.Groups.{ColoursIslands, IsAround, IsFair, bears, in_group}
+use Rattle.life_parts.specs.Groups.{IsAround, bears}
+use Rattle.life_parts.proofs.Mapped.{IsMapped, around_here, around_there, bears_there, fair_here, fair_there, islands_there}
 use Rattle.life_parts.specs.Ties.{AreTied, IsIn, itself, swapped, through, touching, staying, bearing, meeting, meeting_born, before}
 
 -- Generation n of P' is generation n + s of P, mapped.
@@ -30,9 +31,8 @@ module _ (R : Rule) (P P' : Generation) (s : ℕ) (forth back : Cell → Cell) (
   here : (n : ℕ) (c : Cell) → contains (generation R P' n) (forth c) ≡ contains (generation R P (n + s)) c
   here n c = sym (there n (forth c)) ∙ ap (contains (generation R P (n + s))) (goes.keeps.inverse.there c)
 
-  later : (n : ℕ) → generation R P (suc n + s) ≡ next R (generation R P (n + s))
-  unfolding generation
-  later n = ap (generation R P) (let e : suc n + s ≡ suc (n + s) = omega arith in e)
+  mapped : (n : ℕ) → IsMapped (generation R P (n + s)) (generation R P' n) forth back
+  mapped n = record { keeps = goes.keeps; near_forth = goes.near_forth; near_back = goes.near_back; is = goes.along n }
 
   module _ (n : ℕ) (x : Cell) (colour : Cell → ℕ) where
     abbrev G : Generation
@@ -44,52 +44,13 @@ module _ (R : Rule) (P P' : Generation) (s : ℕ) (forth back : Cell → Cell) (
     abbrev colour_back : Cell → ℕ
     colour_back c = colour (forth c)
 
-    group_there : (k : ℕ) (y : Cell) → in_group G colour_back k (back y) ≡ in_group G' colour k y
-    group_there k y = λ i. there n y i && (colour (goes.keeps.inverse.here y i) == k)
-
-    bears_there : (k : ℕ) → bears R G colour_back k (back x) ≡ bears R G' colour k x
-    bears_there k =
-        ap (born R) (sym (goes.keeps.neighbours (in_group G colour_back k) (back x))
-        ∙ (λ i. count_at (λ q. group_there k q i) (goes.keeps.inverse.here x i)))
-
-    next_there : contains (next R G) (back x) ≡ contains (next R G') x
-    unfolding generation
-    next_there = ap (λ H. contains H (back x)) (sym (later n)) ∙ there (suc n) x
-
-    islands_there : ColoursIslands G' colour → ColoursIslands G colour_back
-    islands_there islands c d h k near =
-        islands (forth c) (forth d) (here n c ∙ h) (here n d ∙ k) (goes.near_forth c d near)
-
-    around_there : (c : Cell) → IsAround G' x c → IsAround G (back x) (back c)
-    around_there c at = record { live = there n c ∙ at.live; near = goes.near_back c x at.near }
-
-    around_here : (c : Cell) → IsAround G (back x) c → IsAround G' x (forth c)
-    around_here c at = record {
-      live = here n c ∙ at.live;
-      near = subst (IsNear (forth c)) (goes.keeps.inverse.here x) (goes.near_forth c (back x) at.near);
-    }
-
-    fair_there : IsFair R G' colour x → IsFair R G colour_back (back x)
-    fair_there fair = record {
-      borne = λ h. let k = fair.borne (sym next_there ∙ h) in (k.0, bears_there k.0 ∙ k.1);
-      born = λ k h. next_there ∙ fair.born k (sym (bears_there k) ∙ h);
-      one = λ k l h g. fair.one k l (sym (bears_there k) ∙ h) (sym (bears_there l) ∙ g);
-    }
-
-    fair_here : IsFair R G colour_back (back x) → IsFair R G' colour x
-    fair_here fair = record {
-      borne = λ h. let k = fair.borne (next_there ∙ h) in (k.0, sym (bears_there k.0) ∙ k.1);
-      born = λ k h. sym next_there ∙ fair.born k (bears_there k ∙ h);
-      one = λ k l h g. fair.one k l (bears_there k ∙ h) (bears_there l ∙ g);
-    }
-
     within_there : ((c d : Cell) → IsAround G' x c → IsAround G' x d → colour c ≡ colour d →
         AreTied R P (n + s) (back c) (n + s) (back d)) → (c d : Cell) → IsAround G (back x) c →
         IsAround G (back x) d → colour_back c ≡ colour_back d → AreTied R P (n + s) c (n + s) d
     within_there within c d at too e =
         subst (λ z. AreTied R P (n + s) c (n + s) z) (goes.keeps.inverse.there d)
         (subst (λ z. AreTied R P (n + s) z (n + s) (back (forth d))) (goes.keeps.inverse.there c)
-        (within (forth c) (forth d) (around_here c at) (around_here d too) e))
+        (within (forth c) (forth d) (around_here R G G' forth back (mapped n) x colour c at) (around_here R G G' forth back (mapped n) x colour d too) e))
 
   in_next : (n : ℕ) (c : Cell) → IsIn R P' (suc n) c → IsIn R P (suc (n + s)) (back c)
   in_next n c h =
@@ -110,21 +71,21 @@ module _ (R : Rule) (P P' : Generation) (s : ℕ) (forth back : Cell → Cell) (
       to_next n (back c) (back c) (staying (n + s) (back c) (there n c ∙ h) (in_next n c k))
   tied_along n m c e (bearing _ _ colour place islands within fair _ at h) =
       to_next n (back c) (back e)
-      (bearing (n + s) (back e) (colour_back n e colour) (there n e ∙ place) (islands_there n e colour islands)
+      (bearing (n + s) (back e) (colour_back n e colour) (there n e ∙ place) (islands_there R (generation R P (n + s)) (generation R P' n) forth back (mapped n) e colour islands)
       (within_there n e colour (λ a b at too same. tied_along n n a b (within a b at too same)))
-      (fair_there n e colour fair) (back c) (around_there n e colour c at)
+      (fair_there R (generation R P (n + s)) (generation R P' n) forth back (mapped n) e colour fair) (back c) (around_there R (generation R P (n + s)) (generation R P' n) forth back (mapped n) e colour c at)
       (ap (λ k. bears R (generation R P (n + s)) (colour_back n e colour) k (back e)) (ap colour (goes.keeps.inverse.here c))
-      ∙ bears_there n e colour (colour c) ∙ h))
+      ∙ bears_there R (generation R P (n + s)) (generation R P' n) forth back (mapped n) e colour (colour c) ∙ h))
   tied_along n m c e (meeting _ x colour place islands within unfair _ _ at too) =
-      meeting (n + s) (back x) (colour_back n x colour) (there n x ∙ place) (islands_there n x colour islands)
+      meeting (n + s) (back x) (colour_back n x colour) (there n x ∙ place) (islands_there R (generation R P (n + s)) (generation R P' n) forth back (mapped n) x colour islands)
       (within_there n x colour (λ a b at too same. tied_along n n a b (within a b at too same)))
-      (λ fair. unfair (fair_here n x colour fair)) (back c) (back e) (around_there n x colour c at)
-      (around_there n x colour e too)
+      (λ fair. unfair (fair_here R (generation R P (n + s)) (generation R P' n) forth back (mapped n) x colour fair)) (back c) (back e) (around_there R (generation R P (n + s)) (generation R P' n) forth back (mapped n) x colour c at)
+      (around_there R (generation R P (n + s)) (generation R P' n) forth back (mapped n) x colour e too)
   tied_along n m c e (meeting_born _ _ colour place islands within unfair _ at born) =
       to_next n (back c) (back e)
-      (meeting_born (n + s) (back e) (colour_back n e colour) (there n e ∙ place) (islands_there n e colour islands)
+      (meeting_born (n + s) (back e) (colour_back n e colour) (there n e ∙ place) (islands_there R (generation R P (n + s)) (generation R P' n) forth back (mapped n) e colour islands)
       (within_there n e colour (λ a b at too same. tied_along n n a b (within a b at too same)))
-      (λ fair. unfair (fair_here n e colour fair)) (back c) (around_there n e colour c at) (in_next n e born))
+      (λ fair. unfair (fair_here R (generation R P (n + s)) (generation R P' n) forth back (mapped n) e colour fair)) (back c) (around_there R (generation R P (n + s)) (generation R P' n) forth back (mapped n) e colour c at) (in_next n e born))
   tied_along n m c e (before p d r _ _ _ _ t) =
       let w = goes.again p d r in
       let u : AreTied R P ((n + p) + s) (back (plus c d)) ((m + p) + s) (back (plus e d)) =
@@ -136,7 +97,7 @@ module _ (R : Rule) (P P' : Generation) (s : ℕ) (forth back : Cell → Cell) (
       (subst (λ k. AreTied R P k (back (plus c d)) ((m + p) + s) (back (plus e d))) (let q : (n + p) + s ≡ (n + s) + p = omega arith in q) u))) in
       before p w.0 w.1 (n + s) (m + s) (back c) (back e) v
 
-near_moved : (c d v : Cell) → IsNear c d → IsNear (plus c v) (plus d v)
+pub near_moved : (c d v : Cell) → IsNear c d → IsNear (plus c v) (plus d v)
 near_moved c d v h = record {
   left = omega (arith, ints);
   right = omega (arith, ints);

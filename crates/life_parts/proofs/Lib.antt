@@ -3,6 +3,7 @@ pub mod Ends
 pub mod Firsts
 pub mod Classed
 pub mod Evolving
+pub mod Mapped
 pub mod Along
 pub mod Repeats
 pub mod Shifts
@@ -10,3 +11,8 @@ pub mod Recurring
 pub mod Lasting
 pub mod Lists
 pub mod Turned
+pub mod Apart
+pub mod Rounds
+pub mod Holding
+pub mod Deciding
+pub mod Tracing

@@ -2,10 +2,11 @@
 //! the contracts of functions that do nothing.
 #![tactic(auto)]
 
-ghost use Rattle.std.specs.Prelude.{◌≡◌, ◌↔◌, ℕ, ◌*◌, ◌≤◌, true, List, [], ◌∷◌, length, map, AllPairs, Contains};
+ghost use Rattle.std.specs.Prelude.{◌≡◌, ◌≢◌, ◌↔◌, ℕ, ◌*◌, ◌<◌, ◌≤◌, true, List, [], ◌∷◌, length, map};
+ghost use Rattle.std.specs.Prelude.{All, AllPairs, Contains};
 ghost use Rattle.std.specs.List.Sorted.{IsPermutation};
-ghost use Rattle.life_model.specs.Cell.{Cell};
-ghost use Rattle.life_model.specs.Generation.{Generation, contains};
+ghost use Rattle.life_model.specs.Cell.{Cell, plus};
+ghost use Rattle.life_model.specs.Generation.{Generation, contains, empty};
 ghost use Rattle.life_model.specs.Evolution.{generation};
 ghost use Rattle.life_model.specs.Recurrence.{RecursBy};
 ghost use Rattle.life_model.specs.Rule.{Rule};
@@ -13,6 +14,7 @@ ghost use Rattle.life_model.specs.Symmetry.{Orientation, image_under, translate_
 ghost use Rattle.life_objects.specs.Apart.{AreDisjoint};
 ghost use Rattle.life_objects.specs.Drift.{multiple_of};
 ghost use Rattle.life_objects.specs.Union.{generations, union_of};
+ghost use Rattle.life_parts.specs.Apart.{AreHeldApart, HaveBoth};
 ghost use Rattle.life_parts.specs.Parts.{AreIndependentParts};
 ghost use Rattle.life_parts.specs.Ties.{AreTied};
 
@@ -61,4 +63,17 @@ pub fn a_part_is_one_by_itself()
     ensures { (R : Rule) (P Q : Generation) (Qs : List Generation) (p : ℕ) (d : Cell) →
         RecursBy R P p d → AreIndependentParts R P Qs → Contains Qs Q →
         AreIndependentParts R Q (Q ∷ []) }
+{}
+
+/// Disjoint sets that make up a set which comes again are its independent parts where each is tied within itself, they
+/// are held apart in each generation of its first period, and what is one of them a period later was one at first.
+pub fn one_period_decides_the_parts()
+    ensures { (R : Rule) (P : Generation) (Qs : List Generation) (p : ℕ) (d : Cell) →
+        RecursBy R P p d → ((n : ℕ) (e : Cell) → RecursBy R P n e → p ≤ n) →
+        union_of Qs ≡ P → AllPairs AreDisjoint Qs → All (λ Q. Q ≢ empty) Qs →
+        All (λ Q. (c e : Cell) → contains Q c ≡ true → contains Q e ≡ true → AreTied R P 0 c 0 e) Qs →
+        ((n : ℕ) → n < p → AreHeldApart R (generation R P n) (generations R Qs n)) →
+        ((Q : Generation) → Contains Qs Q → (c e : Cell) →
+        contains (generation R Q p) (plus c d) ≡ true → contains (generation R Q p) (plus e d) ≡ true →
+        HaveBoth Qs c e) → AreIndependentParts R P Qs }
 {}
