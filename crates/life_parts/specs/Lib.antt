@@ -1,0 +1,4 @@
+pub mod Groups
+pub mod Ties
+pub mod Parts
+pub mod Apart

@@ -1,0 +1,79 @@
+//! The independent parts of a set of cells that evolves by a Life-like rule: definitions in `specs/`, and their laws as
+//! the contracts of functions that do nothing.
+#![tactic(auto)]
+
+ghost use Rattle.std.specs.Prelude.{◌≡◌, ◌≢◌, ◌↔◌, ℕ, ◌*◌, ◌<◌, ◌≤◌, true, List, [], ◌∷◌, length, map};
+ghost use Rattle.std.specs.Prelude.{All, AllPairs, Contains};
+ghost use Rattle.std.specs.List.Sorted.{IsPermutation};
+ghost use Rattle.life_model.specs.Cell.{Cell, plus};
+ghost use Rattle.life_model.specs.Generation.{Generation, contains, empty};
+ghost use Rattle.life_model.specs.Evolution.{generation};
+ghost use Rattle.life_model.specs.Recurrence.{RecursBy};
+ghost use Rattle.life_model.specs.Rule.{Rule};
+ghost use Rattle.life_model.specs.Symmetry.{Orientation, image_under, translate_of};
+ghost use Rattle.life_objects.specs.Apart.{AreDisjoint};
+ghost use Rattle.life_objects.specs.Drift.{multiple_of};
+ghost use Rattle.life_objects.specs.Union.{generations, union_of};
+ghost use Rattle.life_parts.specs.Apart.{AreHeldApart, HaveBoth};
+ghost use Rattle.life_parts.specs.Parts.{AreIndependentParts};
+ghost use Rattle.life_parts.specs.Ties.{AreTied};
+
+/// The independent parts of a set evolve as if each were alone: each generation of the set is that generation of its
+/// parts, no two of which share a cell, and a part's generation has just the cells that are tied to the part.
+pub fn each_part_evolves_alone()
+    ensures together { (R : Rule) (P : Generation) (Qs : List Generation) (n : ℕ) →
+        AreIndependentParts R P Qs → generation R P n ≡ union_of (generations R Qs n) }
+    ensures disjoint { (R : Rule) (P : Generation) (Qs : List Generation) (n : ℕ) →
+        AreIndependentParts R P Qs → AllPairs AreDisjoint (generations R Qs n) }
+    ensures cells { (R : Rule) (P Q : Generation) (Qs : List Generation) (n : ℕ) (c x : Cell) →
+        AreIndependentParts R P Qs → Contains Qs Q → contains Q c ≡ true →
+        (contains (generation R Q n) x ≡ true) ↔ AreTied R P 0 c n x }
+{}
+
+/// Each independent part of a set that comes again comes again too, with the same velocity, after no more of the set's
+/// periods than there are parts.
+pub fn each_part_comes_again()
+    ensures { (R : Rule) (P Q : Generation) (Qs : List Generation) (p : ℕ) (d : Cell) →
+        RecursBy R P p d → AreIndependentParts R P Qs → Contains Qs Q →
+        (k : ℕ) × (1 ≤ k) × (k ≤ length Qs) × RecursBy R Q (k * p) (multiple_of k d) }
+{}
+
+/// A set has one list of independent parts but for their order.
+pub fn a_set_has_one_list_of_independent_parts()
+    ensures { (R : Rule) (P : Generation) (Qs others : List Generation) →
+        AreIndependentParts R P Qs → AreIndependentParts R P others → IsPermutation Qs others }
+{}
+
+/// The independent parts of each later generation of a set that comes again are what its parts have become, and those of
+/// a set that is moved or turned are its parts, so moved or turned.
+pub fn phase_and_place_do_not_matter()
+    ensures later { (R : Rule) (P : Generation) (Qs : List Generation) (p k : ℕ) (d : Cell) →
+        RecursBy R P p d → AreIndependentParts R P Qs →
+        AreIndependentParts R (generation R P k) (generations R Qs k) }
+    ensures moved { (R : Rule) (P : Generation) (Qs : List Generation) (d : Cell) →
+        AreIndependentParts R P Qs →
+        AreIndependentParts R (translate_of P d) (map (λ Q. translate_of Q d) Qs) }
+    ensures turned { (R : Rule) (P : Generation) (Qs : List Generation) (m : Orientation) →
+        AreIndependentParts R P Qs →
+        AreIndependentParts R (image_under P m) (map (λ Q. image_under Q m) Qs) }
+{}
+
+/// An independent part of a set that comes again has one independent part, itself.
+pub fn a_part_is_one_by_itself()
+    ensures { (R : Rule) (P Q : Generation) (Qs : List Generation) (p : ℕ) (d : Cell) →
+        RecursBy R P p d → AreIndependentParts R P Qs → Contains Qs Q →
+        AreIndependentParts R Q (Q ∷ []) }
+{}
+
+/// Disjoint sets that make up a set which comes again are its independent parts where each is tied within itself, they
+/// are held apart in each generation of its first period, and what is one of them a period later was one at first.
+pub fn one_period_decides_the_parts()
+    ensures { (R : Rule) (P : Generation) (Qs : List Generation) (p : ℕ) (d : Cell) →
+        RecursBy R P p d → ((n : ℕ) (e : Cell) → RecursBy R P n e → p ≤ n) →
+        union_of Qs ≡ P → AllPairs AreDisjoint Qs → All (λ Q. Q ≢ empty) Qs →
+        All (λ Q. (c e : Cell) → contains Q c ≡ true → contains Q e ≡ true → AreTied R P 0 c 0 e) Qs →
+        ((n : ℕ) → n < p → AreHeldApart R (generation R P n) (generations R Qs n)) →
+        ((Q : Generation) → Contains Qs Q → (c e : Cell) →
+        contains (generation R Q p) (plus c d) ≡ true → contains (generation R Q p) (plus e d) ≡ true →
+        HaveBoth Qs c e) → AreIndependentParts R P Qs }
+{}
