@@ -5,6 +5,7 @@
 mod building;
 mod centre;
 mod chains;
+mod far;
 mod later;
 mod leaping;
 mod listing;
@@ -15,5 +16,6 @@ mod site;
 mod square;
 mod store;
 
+pub use far::Side;
 pub use plane::LeapPlane;
 pub use store::NoLeap;
