@@ -12,7 +12,7 @@ use Rattle.life_leaps.specs.Planes.{farthest_age}
 use Rattle.life_slots.proofs.Inserted.{all_listed}
 use Rattle.life_slots.proofs.Orders.{either_true}
 
-of_member : (P : Cell → Type 0) (xs : List Cell) → All P xs → (c : Cell) → list_any (same_cell c) xs ≡ true → P c
+pub of_member : (P : Cell → Type 0) (xs : List Cell) → All P xs → (c : Cell) → list_any (same_cell c) xs ≡ true → P c
 of_member P [] all c h = absurd (true≢false (sym h))
 of_member P (x ∷ xs) all c h =
     elim (either_true (same_cell c x) (list_any (same_cell c) xs) h) [
@@ -30,7 +30,7 @@ pub listed_same : (items cs : List Cell) → ((q : Cell) → list_any (same_cell
 listed_same items cs same = same_members (from_list items) (from_list cs) (λ q. contains-from_list items q ∙ same q ∙ sym (contains-from_list cs q))
 
 -- every place of a plane is one of a list of cells
-place_from_within : (a : ℕ) (c : Cell) → a ≤ farthest_age → IsWithin a c → IsPlace c
+pub place_from_within : (a : ℕ) (c : Cell) → a ≤ farthest_age → IsWithin a c → IsPlace c
 place_from_within a c k h = record { left = omega (arith, ints); right = omega (arith, ints); above = omega (arith, ints); below = omega (arith, ints) }
 
 pub all_places : (age : ℕ) (G : Generation) (items : List Cell) → from_list items ≡ G → age ≤ farthest_age → ((c : Cell) → contains G c ≡ true → IsWithin age c) → All IsPlace items

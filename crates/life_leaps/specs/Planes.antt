@@ -23,4 +23,4 @@ rule_of p = p.1
 
 -- the greatest age that a plane that leaps may reach
 abbrev pub farthest_age : ℕ
-farthest_age = 8388608
+farthest_age = 15728640

@@ -2,7 +2,7 @@
 ghost use Rattle.std.specs.Prelude.{◌≡◌, ℕ, ◌+◌, ◌^◌, ◌<◌, ◌≤◌, true, min, All, IfNone, IfOk, IfSome, OnOk, OnErr};
 ghost use Rattle.life_model.specs.Evolution.{generation};
 ghost use Rattle.life_model.specs.Generation as sets;
-ghost use Rattle.life_cells.specs.Limits.{IsWithin};
+ghost use Rattle.life_cells.specs.Limits.{IsPlace, IsWithin};
 ghost use Rattle.life_leaps.specs.Planes.{farthest_age};
 
 use crate::far::{Side, Spot};
@@ -123,6 +123,7 @@ impl Leaper {
     pub fn far_cell(&self, side: Side) -> Option<(i32, i32)>
         requires { IsLeaper self.now }
         ensures member { IfSome result (λ c. sets.contains (cells_in self.now) c ≡ true) }
+        ensures place { IfSome result IsPlace }
         ensures none { IfNone result (cells_in self.now ≡ sets.empty) }
     {
         let spot = Spot {

@@ -2,7 +2,7 @@
 ghost use Rattle.std.specs.Prelude.{◌≡◌, ℕ, ◌+◌, ◌^◌, ◌≤◌, true, All, IfNone, IfOk, IfSome, OnOk, OnErr};
 ghost use Rattle.life_model.specs.Evolution.{generation};
 ghost use Rattle.life_model.specs.Generation as sets;
-ghost use Rattle.life_cells.specs.Limits.{IsWithin};
+ghost use Rattle.life_cells.specs.Limits.{IsPlace, IsWithin};
 ghost use Rattle.life_leaps.specs.Planes.{farthest_age, members, rule_of, steps_made};
 
 use crate::far::Side;
@@ -70,6 +70,7 @@ impl LeapPlane {
     /// A live cell far to a side: no leaf, of 32 by 32 cells, that has live ones stands further. `None` where none is live.
     pub fn far_cell(&self, side: Side) -> Option<(i32, i32)>
         ensures member { IfSome result (λ c. sets.contains (members self.now) c ≡ true) }
+        ensures place { IfSome result IsPlace }
         ensures none { IfNone result (members self.now ≡ sets.empty) }
     {
         self.leaper.far_cell(side)

@@ -90,9 +90,9 @@ fn a_gun_sends_out_gliders(rt: HostRuntime) -> Result<(), Fail> {
     Ok(())
 }
 
-// The greatest age that a plane may reach: a glider has moved by a fourth of it.
+// The glider moves by a fourth of that in both directions.
 #[test]
-fn a_glider_leaps_to_the_greatest_age(rt: HostRuntime) -> Result<(), Fail> {
+fn a_glider_leaps_by_millions(rt: HostRuntime) -> Result<(), Fail> {
     let list = CellList::of(rt.alloc(), GLIDER)?;
     assert!(rt; list.fits());
     let mut plane = LeapPlane::at_age(rt.alloc(), &Rule::life(), &list, 0)?;
