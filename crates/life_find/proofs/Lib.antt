@@ -9,4 +9,3 @@ pub mod Beyond
 pub mod SameObjects
 pub mod LaterAnswers
 pub mod Halves
-pub mod Narrow

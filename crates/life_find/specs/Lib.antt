@@ -3,4 +3,3 @@ pub mod Quiet
 pub mod Search
 pub mod Objects
 pub mod Soon
-pub mod Spans

@@ -14,6 +14,7 @@ use crate::lookout::Lookout;
 use crate::recurrence::Recurrence;
 use life_cells::{CellList, Rule};
 use life_plane::{AGE_LIMIT, Plane};
+use life_width::outgrows;
 use std::alloc::{AllocError, Global};
 
 /// How many generations are compared with the first one: most known oscillators and spaceships have no longer period.
@@ -88,45 +89,57 @@ fn run_to_return<P: Plane>(
     Ok(None)
 }
 
-/// A generation that comes again so soon that this shows up to the bound. Each generation stands beside the one that is the
-/// greatest power of two before it, and the first few beside the first.
+/// What is known of a generation that comes again, where the generations up to the bound tell it: one that does, or that within
+/// the bound none does, as the cells grow too far apart. Each generation stands beside the one that is the greatest power of two
+/// before it, and the first few beside the first.
 fn find_return_within<P: Plane>(
+    alloc: Global,
     runner: &mut P,
     cells: &CellList,
     rule: &Rule,
     bound: u32,
     fingerprints: &mut Vec<Fingerprint>,
-) -> Result<Option<Recurrence>, AllocError>
+) -> Result<Option<Option<Recurrence>>, AllocError>
     requires bound { 1 ≤ bound × bound ≤ BOUND_LIMIT }
     requires cells { cells.now ≡ P.members runner.old }
     requires new { P.steps_made runner.old ≡ 0 }
     requires none { fingerprints.old.items ≡ [] }
     ensures found { IfOk result
-        (λ answer. IfSome answer
-        (λ r. IsReturn rule.now (generation rule.now cells.now r.onset) r.period r.displacement)) }
-    ensures within { IfOk result (λ answer. IfSome answer (λ r. r.onset + r.period ≤ bound)) }
+        (λ known. IfSome known (λ answer. IfSome answer
+        (λ r. IsReturn rule.now (generation rule.now cells.now r.onset) r.period r.displacement))) }
+    ensures onset { IfOk result
+        (λ known. IfSome known (λ answer. IfSome answer (λ r. r.onset ≤ bound))) }
+    ensures period { IfOk result
+        (λ known. IfSome known (λ answer. IfSome answer (λ r. r.period ≤ bound))) }
     ensures seen { IfOk result
-        (λ answer. IfSome answer
-        (λ r. P.members runner.new ≡ generation rule.now cells.now (r.onset + r.period))) }
+        (λ known. IfSome known (λ answer. IfSome answer
+        (λ r. P.members runner.new ≡ generation rule.now cells.now (r.onset + r.period)))) }
     ensures seen_age { IfOk result
-        (λ answer. IfSome answer (λ r. P.steps_made runner.new ≡ r.onset + r.period)) }
+        (λ known. IfSome known (λ answer. IfSome answer
+        (λ r. P.steps_made runner.new ≡ r.onset + r.period))) }
+    ensures none { IfOk result
+        (λ known. IfSome known (λ answer. IfNone answer
+        ((g : ℕ) → SettlesAt rule.now cells.now bound g → ⊥))) }
     ensures there { IfOk result
-        (λ answer. IfNone answer (P.members runner.new ≡ generation rule.now cells.now bound)) }
-    ensures age { IfOk result (λ answer. IfNone answer (P.steps_made runner.new ≡ bound)) }
+        (λ known. IfNone known (P.members runner.new ≡ generation rule.now cells.now bound)) }
+    ensures age { IfOk result (λ known. IfNone known (P.steps_made runner.new ≡ bound)) }
     ensures count { IfOk result
-        (λ answer. IfNone answer (length fingerprints.new.items ≡ bound)) }
+        (λ known. IfNone known (length fingerprints.new.items ≡ bound)) }
     ensures fingerprints { OnOk result (AreFingerprints rule.now cells.now fingerprints.new.items) }
 {
     let mut onset = FIRST_LEAD.min(bound);
     if let Some((period, displacement)) = run_to_return(runner, cells, rule, onset, fingerprints)? {
-        return Ok(Some(Recurrence {
+        return Ok(Some(Some(Recurrence {
             onset: 0,
             period,
             displacement,
-        }));
+        })));
     }
     'anchors: while onset < bound {
         let anchor = runner.cells()?;
+        if outgrows(alloc, rule, cells, &anchor, runner.age(), bound) {
+            return Ok(Some(None));
+        }
         let steps = onset.min(bound - onset);
         if let Some((period, displacement)) = run_to_return(
             runner,
@@ -135,11 +148,11 @@ fn find_return_within<P: Plane>(
             steps,
             fingerprints,
         )? {
-            return Ok(Some(Recurrence {
+            return Ok(Some(Some(Recurrence {
                 onset,
                 period,
                 displacement,
-            }));
+            })));
         }
         onset += steps;
     }
@@ -174,8 +187,8 @@ pub fn find_return<P: Plane>(
     ensures none { IfOk result
         (λ answer. IfNone answer ((g : ℕ) → SettlesAt rule.now cells.now bound g → ⊥)) }
 {
-    if let Some(seen) = find_return_within(runner, cells, rule, bound, fingerprints)? {
-        return Ok(Some(seen));
+    if let Some(known) = find_return_within(alloc, runner, cells, rule, bound, fingerprints)? {
+        return Ok(known);
     }
     let anchor = runner.cells()?;
     let marked = fingerprint_of(&anchor);

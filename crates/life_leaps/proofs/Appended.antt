@@ -38,7 +38,7 @@ length_set xs x i = grind (arith, common_steps)
 pub kept-extends : (v w : View) → IsKept v → Extends v w → ((i : ℕ) → v.squares ≤ i → i < w.squares → AreAt w (w.square i).level (w.square i).quarters) → IsKept w
 kept-extends v w kept e fresh =
     let fewer : v.squares ≤ w.squares = e.squares in
-    let many : 20 ≤ v.squares = kept.many in
+    let many : 21 ≤ v.squares = kept.many in
     let some : 0 < v.leaves = kept.some in
     let leaves : v.leaves ≤ w.leaves = e.leaves in
     record {

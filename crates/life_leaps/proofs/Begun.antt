@@ -4,7 +4,8 @@ use Rattle.std.specs.List.{list_any}
 use Rattle.life_model.specs.Cell.{Cell, same_cell}
 use Rattle.life_model.specs.Generation.{Generation, cells, contains, from_list}
 use Rattle.life_model.proofs.Generations.{from_list-cells}
-use Rattle.life_cells.specs.Limits.{IsPlace, IsWithin, age_limit}
+use Rattle.life_cells.specs.Limits.{IsPlace, IsWithin}
+use Rattle.life_leaps.specs.Planes.{farthest_age}
 use Rattle.life_leaps.specs.declared.leaping.Leaper.{Leaper}
 use Rattle.life_leaps.specs.Squares.{View, IsAt, Shows}
 use Rattle.life_leaps.specs.Stores.{view}
@@ -23,7 +24,7 @@ pub at_site : (v : View) (n i : ℕ) → n ≡ root_level → IsAt v root_level 
 at_site v n i e h = let P : ℕ → Type 0 = λ k. IsAt v k i in subst P (sym e) h
 
 pub begun-cells : (l : Leaper) (n : ℕ) (p : Cell) (G : Generation) (cs : List Cell) → n ≡ root_level → p ≡ root_corner → cs ≡ cells G →
-    Shows (view l.store) n l.root (from_list cs) p → l.age ≤ age_limit → All (IsWithin l.age) (cells G) → cells_in l ≡ G
+    Shows (view l.store) n l.root (from_list cs) p → l.age ≤ farthest_age → All (IsWithin l.age) (cells G) → cells_in l ≡ G
 unfolding cells_in
 begun-cells l n p G cs level place is shows young within =
     let same : from_list cs ≡ G = ap from_list is ∙ from_list-cells G in
@@ -34,7 +35,7 @@ begun-cells l n p G cs level place is shows young within =
     (λ c live. inside_root l.age young c (member_within l.age G within c live)))
 
 pub begun-kept : (l : Leaper) (G : Generation) → IsReady l.step (view l.store) → IsAt (view l.store) root_level l.root → cells_in l ≡ G →
-    l.age ≤ age_limit → All (IsWithin l.age) (cells G) → IsLeaper l
+    l.age ≤ farthest_age → All (IsWithin l.age) (cells G) → IsLeaper l
 begun-kept l G ready at is young within = record {
   ready = ready;
   at = at;

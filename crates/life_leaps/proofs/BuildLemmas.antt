@@ -163,18 +163,18 @@ four_here w n m i cs site a b c d e is one two three four =
     }))
 
 -- no cell
-pub nothing_shown : (v : View) → IsKept v → (n i : ℕ) → n ≤ 20 → i ≡ empty_at n → (cs : List Cell) → cs ≡ [] → (p : Cell) → Shows v n i (from_list cs) p
+pub nothing_shown : (v : View) → IsKept v → (n i : ℕ) → n ≤ 21 → i ≡ empty_at n → (cs : List Cell) → cs ≡ [] → (p : Cell) → Shows v n i (from_list cs) p
 nothing_shown v kept n i few is cs none p =
     let P : ℕ → Type 0 = λ k. Shows v n k (from_list cs) p in
     let Q : List Cell → Type 0 = λ l. Shows v n (empty_at n) (from_list l) p in
     subst P (sym is) (subst Q (sym none) (shows_none v kept n few (from_list []) p (λ q h. contains-empty q)))
 
-pub empty_is_at : (v : View) → IsKept v → (n i : ℕ) → n ≤ 20 → i ≡ empty_at n → IsAt v n i
+pub empty_is_at : (v : View) → IsKept v → (n i : ℕ) → n ≤ 21 → i ≡ empty_at n → IsAt v n i
 empty_is_at v kept zero i few is =
     let some : 0 < v.leaves = kept.some in
     omega arith
 empty_is_at v kept (suc n) i few is =
-    let many : 20 ≤ v.squares = kept.many in
+    let many : 21 ≤ v.squares = kept.many in
     let e : i ≡ n = omega arith in
     let P : ℕ → Type 0 = λ k. IsAt v (suc n) k in
     subst P (sym e) (omega arith, kept.empty n (omega arith))

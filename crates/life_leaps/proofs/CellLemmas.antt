@@ -294,11 +294,11 @@ known v n i G p s inside =
     (true_or_false (contains G q)))
 
 -- the empty squares
-pub shows_none : (v : View) → IsKept v → (n : ℕ) → n ≤ 20 → (G : Generation) (p : Cell) → ((q : Cell) → IsInside n p q → contains G q ≡ false) → Shows v n (empty_at n) G p
+pub shows_none : (v : View) → IsKept v → (n : ℕ) → n ≤ 21 → (G : Generation) (p : Cell) → ((q : Cell) → IsInside n p q → contains G q ≡ false) → Shows v n (empty_at n) G p
 unfolding Shows half
 shows_none v kept zero h G p none = λ x y wide high. kept.leaf x y ∙ sym (ap as_bit (none _ (record { x = x; y = y; wide = wide; high = high; is = refl })))
 shows_none v kept (suc n) h G p none =
-    let less : n < 20 = omega arith in
+    let less : n < 21 = omega arith in
     let at : empty_at (suc n) ≡ n = omega arith in
     let sub : (q : Cell) (a b : ℕ) → a ≤ width n → b ≤ width n → IsInside n (beyond p a b) q → contains G q ≡ false = λ q a b k l i. none q (inside_quarter n p q a b k l i) in
     let e : Quarters = record { north_west = empty_at n; north_east = empty_at n; south_west = empty_at n; south_east = empty_at n } in

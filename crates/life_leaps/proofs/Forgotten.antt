@@ -51,8 +51,8 @@ forgets-right rule e f least v w kept forgets right alike i h later is =
 -- ---- the first store
 
 module _ (ls : List Leaf) (qs : List Square) (some : 0 < length ls) (leaf : (x y : ℕ) → leaf_cell (slice_index_or ls 0 no_leaf) x y ≡ 0)
-    (len : length qs ≡ 20) (each : (i : ℕ) → i < 20 → slice_index_or qs i no_square ≡ empty_square i) where
-  empty-at : (n : ℕ) → n < 20 → IsAt (listed ls qs) n (empty_at n)
+    (len : length qs ≡ 21) (each : (i : ℕ) → i < 21 → slice_index_or qs i no_square ≡ empty_square i) where
+  empty-at : (n : ℕ) → n < 21 → IsAt (listed ls qs) n (empty_at n)
   empty-at zero h = let e : empty_at 0 ≡ 0 = omega arith in omega arith
   empty-at (suc n) h =
       let e : empty_at (suc n) ≡ n = omega arith in
@@ -67,7 +67,7 @@ module _ (ls : List Leaf) (qs : List Square) (some : 0 < length ls) (leaf : (x y
     none = λ n h. ap (λ (s : Square). s.quarters) (each n h);
     many = omega arith;
     quarters = λ i h.
-        let inside : i < 20 = omega arith in
+        let inside : i < 21 = omega arith in
         let P : Square → Type 0 = λ s. AreAt (listed ls qs) s.level s.quarters in
         subst P (sym (each i inside)) (record { north_west = empty-at i inside; north_east = empty-at i inside; south_west = empty-at i inside; south_east = empty-at i inside });
   }

@@ -7,7 +7,8 @@ use Rattle.life_model.specs.Generation.{Generation, contains, from_list, cells}
 use Rattle.life_model.specs.Evolution.{generation, next}
 use Rattle.life_model.proofs.Cells.{pair}
 use Rattle.life_model.proofs.Near.{next_near}
-use Rattle.life_cells.specs.Limits.{IsWithin, age_limit}
+use Rattle.life_cells.specs.Limits.{IsWithin}
+use Rattle.life_leaps.specs.Planes.{farthest_age}
 use Rattle.life_slots.proofs.Orders.{true_or_false}
 use Rattle.life_leaps.specs.declared.leaping.Leaper.{Leaper}
 use Rattle.life_leaps.specs.declared.store.Store.{Store}
@@ -55,36 +56,36 @@ within_generation rule G age (suc t) before q live =
     let e : suc (t + age) ≡ suc t + age = omega arith in
     subst P e (within_next rule (generation rule G t) (t + age) (λ c h. within_generation rule G age t before c h) q live)
 
-offset : (d : ℤ) → pos 0 ≤ℤ d → d <ℤ pos 16777216 → (x : ℕ) × (x < 16777216) × (d ≡ pos x)
+offset : (d : ℤ) → pos 0 ≤ℤ d → d <ℤ pos 33554432 → (x : ℕ) × (x < 33554432) × (d ≡ pos x)
 offset (pos n) low high = (n, omega (arith, ints), refl)
 offset (negsuc n) low high = absurd (omega (arith, ints))
 
-pub root-wide : width root_level ≡ 16777216
+pub root-wide : width root_level ≡ 33554432
 unfolding half
 root-wide = refl
 
-pub inside_root : (age : ℕ) → age ≤ age_limit → (q : Cell) → IsWithin age q → IsInside root_level root_corner q
+pub inside_root : (age : ℕ) → age ≤ farthest_age → (q : Cell) → IsWithin age q → IsInside root_level root_corner q
 inside_root age young q h =
     let left : neg_ℤ (pos age) ≤ℤ q.0 = h.left in
     let right : q.0 ≤ℤ pos (1048575 + age) = h.right in
     let above : neg_ℤ (pos age) ≤ℤ q.1 = h.above in
     let below : q.1 ≤ℤ pos (1048575 + age) = h.below in
-    let x = offset (q.0 +ℤ pos 8388608) (omega (arith, ints)) (omega (arith, ints)) in
-    let y = offset (q.1 +ℤ pos 8388608) (omega (arith, ints)) (omega (arith, ints)) in
-    let x_is : (q.0 +ℤ pos 8388608) ≡ pos x.0 = x.2 in
-    let y_is : (q.1 +ℤ pos 8388608) ≡ pos y.0 = y.2 in
+    let x = offset (q.0 +ℤ pos 16777216) (omega (arith, ints)) (omega (arith, ints)) in
+    let y = offset (q.1 +ℤ pos 16777216) (omega (arith, ints)) (omega (arith, ints)) in
+    let x_is : (q.0 +ℤ pos 16777216) ≡ pos x.0 = x.2 in
+    let y_is : (q.1 +ℤ pos 16777216) ≡ pos y.0 = y.2 in
     record {
       x = x.0;
       y = y.0;
-      wide = let a : x.0 < 16777216 = x.1 in let e : width root_level ≡ 16777216 = root-wide in omega arith;
-      high = let a : y.0 < 16777216 = y.1 in let e : width root_level ≡ 16777216 = root-wide in omega arith;
+      wide = let a : x.0 < 33554432 = x.1 in let e : width root_level ≡ 33554432 = root-wide in omega arith;
+      high = let a : y.0 < 33554432 = y.1 in let e : width root_level ≡ 33554432 = root-wide in omega arith;
       is = pair (omega (arith, ints)) (omega (arith, ints));
     }
 
 -- ---- the same cells in a square twice as wide
 
 -- one row or column around the middle
-module _ (v : View) (kept : IsKept v) (n : ℕ) (few : suc n ≤ 20) (G : Generation) (w : Cell)
+module _ (v : View) (kept : IsKept v) (n : ℕ) (few : suc n ≤ 21) (G : Generation) (w : Cell)
     (inside : (q : Cell) → contains G q ≡ true → IsInside (suc n) (beyond w (width n) (width n)) q) where
   -- a quarter of a quarter in which no cell of the set stands
   pub void : (a b : ℕ) → ((a + width n ≤ width n) ⊎ (3 * width n ≤ a)) ⊎ ((b + width n ≤ width n) ⊎ (3 * width n ≤ b)) → Shows v n (empty_at n) G (beyond w a b)
@@ -165,18 +166,18 @@ module _ (v : View) (kept : IsKept v) (n : ℕ) (few : suc n ≤ 20) (G : Genera
 
 -- ---- the leap
 
-root-half : half root_level ≡ 8388608
+root-half : half root_level ≡ 16777216
 unfolding half
 root-half = refl
 
-root-middle : beyond (neg_ℤ (pos 16777216), neg_ℤ (pos 16777216)) (half root_level) (half root_level) ≡ root_corner
-root-middle = let h : half root_level ≡ 8388608 = root-half in pair (omega (arith, ints)) (omega (arith, ints))
+root-middle : beyond (neg_ℤ (pos 33554432), neg_ℤ (pos 33554432)) (half root_level) (half root_level) ≡ root_corner
+root-middle = let h : half root_level ≡ 16777216 = root-half in pair (omega (arith, ints)) (omega (arith, ints))
 
 -- what the middle of the wide square becomes is all that the set becomes
 pub leapt : (rule : Rule) (v w : View) (q : Quarters) (wide root : ℕ) (G : Generation) (p : Cell) (t age : ℕ) →
-    p ≡ (neg_ℤ (pos 16777216), neg_ℤ (pos 16777216)) → (v.square wide).quarters ≡ q →
+    p ≡ (neg_ℤ (pos 33554432), neg_ℤ (pos 33554432)) → (v.square wide).quarters ≡ q →
     Shows v (suc root_level) wide G p → IsMiddle rule t v root_level q w root →
-    ((c : Cell) → contains G c ≡ true → IsWithin age c) → t + age ≤ age_limit →
+    ((c : Cell) → contains G c ≡ true → IsWithin age c) → t + age ≤ farthest_age →
     from_list (cells_of w root_level root root_corner) ≡ generation rule G t
 leapt rule v w q wide root G p t age place is shows middle within young =
     let P : Quarters → Type 0 = λ r. ShowsQuarters v root_level r G p in
@@ -201,16 +202,16 @@ grown-kept l kept store grows = record {
 }
 
 -- a power of two that an age allows
-pub small_exponent : (n age : ℕ) → age + 2 ^ n ≤ age_limit → n ≤ 22
+pub small_exponent : (n age : ℕ) → age + 2 ^ n ≤ farthest_age → n ≤ 23
 small_exponent n age h =
     ⊎_elim
-    (λ (low : n < 23). omega arith)
-    (λ (high : 23 ≤ n).
-    let rest : n ≡ (n - 23) + 23 = omega arith in
-    let e : 2 ^ n ≡ 2 ^ (n - 23) * 2 ^ 23 = ap (λ k. 2 ^ k) rest ∙ pow-add 2 (n - 23) 23 in
-    let one : 1 ≤ 2 ^ (n - 23) = pow-one (n - 23) in
+    (λ (low : n < 24). omega arith)
+    (λ (high : 24 ≤ n).
+    let rest : n ≡ (n - 24) + 24 = omega arith in
+    let e : 2 ^ n ≡ 2 ^ (n - 24) * 2 ^ 24 = ap (λ k. 2 ^ k) rest ∙ pow-add 2 (n - 24) 24 in
+    let one : 1 ≤ 2 ^ (n - 24) = pow-one (n - 24) in
     absurd (omega arith))
-    (either n 23)
+    (either n 24)
   where
     pow-twice : (k : ℕ) → 2 ^ suc k ≡ 2 * 2 ^ k
     pow-twice k = grind arith
@@ -246,11 +247,11 @@ pub leapt-cells : (l : Leaper) → IsLeaper l → (s r : Store) (q : Quarters) (
     ((G : Generation) → Shows (view l.store) root_level l.root G root_corner → ((c : Cell) → contains G c ≡ true → IsInside root_level root_corner c) → Shows (view s) (suc root_level) wide G wide_corner) →
     ((view s).square wide).quarters ≡ q →
     IsMiddle l.step.rule (jump l.step.exponent root_level) (view s) root_level q (view r) root →
-    l.step.exponent ≡ exponent → l.age + 2 ^ exponent ≤ age_limit →
+    l.step.exponent ≡ exponent → l.age + 2 ^ exponent ≤ farthest_age →
     from_list (cells_of (view r) root_level root root_corner) ≡ generation l.step.rule (cells_in l) (2 ^ exponent)
 unfolding cells_in
 leapt-cells l kept s r q wide root exponent shows is middle e young =
-    let small : exponent ≤ 22 = small_exponent exponent l.age young in
+    let small : exponent ≤ 23 = small_exponent exponent l.age young in
     let least : min l.step.exponent (root_level + 4) ≡ exponent = omega arith in
     let t : jump l.step.exponent root_level ≡ 2 ^ exponent = ap (λ k. 2 ^ k) least in
     let P : ℕ → Type 0 = λ k. IsMiddle l.step.rule k (view s) root_level q (view r) root in
@@ -258,12 +259,12 @@ leapt-cells l kept s r q wide root exponent shows is middle e young =
     (shows (cells_in l) (shows_cells (view l.store) root_level l.root root_corner) (λ c live. cells_inside (view l.store) root_level l.root root_corner c (to_has _ c live)))
     (subst P t middle) kept.within (omega arith)
 
-pub power_fits : (n age : ℕ) → age + 2 ^ n ≤ age_limit → 1 * 2 ^ n % 4294967296 ≡ 2 ^ n
+pub power_fits : (n age : ℕ) → age + 2 ^ n ≤ farthest_age → 1 * 2 ^ n % 4294967296 ≡ 2 ^ n
 power_fits n age h = omega arith
 
 -- a leaper after a leap
 pub leapt-kept : (l : Leaper) → IsLeaper l → (r : Store) (root age t : ℕ) → Grows l.step.rule l.step.exponent (view l.store) (view r) → IsAt (view r) root_level root →
-    from_list (cells_of (view r) root_level root root_corner) ≡ generation l.step.rule (cells_in l) t → age ≡ l.age + t → l.age + t ≤ age_limit →
+    from_list (cells_of (view r) root_level root root_corner) ≡ generation l.step.rule (cells_in l) t → age ≡ l.age + t → l.age + t ≤ farthest_age →
     IsLeaper (record l { store = r; root = root; age = age })
 unfolding cells_in
 leapt-kept l kept r root age t grows at cells is young = record {

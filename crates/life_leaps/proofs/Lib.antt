@@ -4,6 +4,7 @@ pub mod Appended
 pub mod StoreLemmas
 pub mod CellLemmas
 pub mod LeapLemmas
+pub mod FarLemmas
 pub mod Forgotten
 pub mod BuildLemmas
 pub mod Padded

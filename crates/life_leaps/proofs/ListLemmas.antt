@@ -73,7 +73,7 @@ unfolding rows_cells
 rows_none first left top rows q = or_false (list_any (same_cell q) first)
 
 -- the empty squares have no cell
-pub none_listed : (v : View) → IsKept v → (n : ℕ) → n ≤ 20 → (p q : Cell) → list_any (same_cell q) (cells_of v n (empty_at n) p) ≡ false
+pub none_listed : (v : View) → IsKept v → (n : ℕ) → n ≤ 21 → (p q : Cell) → list_any (same_cell q) (cells_of v n (empty_at n) p) ≡ false
 none_listed v kept n few p q =
     ⊎_elim
     (λ (live : list_any (same_cell q) (cells_of v n (empty_at n) p) ≡ true).
@@ -88,7 +88,7 @@ none_listed v kept n few p q =
     (true_or_false (list_any (same_cell q) (cells_of v n (empty_at n) p)))
 
 -- an empty square adds none
-pub none_added : (v : View) → IsKept v → (n i : ℕ) → n ≤ 20 → i ≡ empty_at n → (p : Cell) (first : List Cell) (q : Cell) →
+pub none_added : (v : View) → IsKept v → (n i : ℕ) → n ≤ 21 → i ≡ empty_at n → (p : Cell) (first : List Cell) (q : Cell) →
     list_any (same_cell q) first ≡ (list_any (same_cell q) first || list_any (same_cell q) (cells_of v n i p))
 none_added v kept n i few is p first q =
     or_false (list_any (same_cell q) first)

@@ -18,41 +18,41 @@ use Rattle.life_leaps.proofs.LeapLemmas.{all-padded}
 pub no_rule : Rule
 no_rule = record { birth = 0; survival = 0 }
 
-pub empty_here : (v : View) → IsKept v → (i : ℕ) → i ≡ empty_at 18 → IsAt v 18 i
+pub empty_here : (v : View) → IsKept v → (i : ℕ) → i ≡ empty_at 19 → IsAt v 19 i
 empty_here v kept i is =
-    let many : 20 ≤ v.squares = kept.many in
-    let P : ℕ → Type 0 = λ k. IsAt v 18 k in
-    subst P (sym is) (omega arith, kept.empty 17 (omega arith))
+    let many : 21 ≤ v.squares = kept.many in
+    let P : ℕ → Type 0 = λ k. IsAt v 19 k in
+    subst P (sym is) (omega arith, kept.empty 18 (omega arith))
 
-pub whole_at : (u v : View) → IsKept u → Extends u v → (root : ℕ) → IsAt u root_level root → (q : Quarters) → q ≡ (u.square root).quarters → AreAt v 18 q
+pub whole_at : (u v : View) → IsKept u → Extends u v → (root : ℕ) → IsAt u root_level root → (q : Quarters) → q ≡ (u.square root).quarters → AreAt v 19 q
 whole_at u v kept ext root at q is =
-    let P : Quarters → Type 0 = λ r. AreAt v 18 r in
-    subst P (sym is) (are_at-extends u v ext 18 _ (quarters_at u kept 18 root at))
+    let P : Quarters → Type 0 = λ r. AreAt v 19 r in
+    subst P (sym is) (are_at-extends u v ext 19 _ (quarters_at u kept 19 root at))
 
-pub same_four : (e : ℕ) → e ≡ empty_at 18 → (f : ℕ → Quarters) (r : Quarters) → r ≡ f e → r ≡ f (empty_at 18)
+pub same_four : (e : ℕ) → e ≡ empty_at 19 → (f : ℕ → Quarters) (r : Quarters) → r ≡ f e → r ≡ f (empty_at 19)
 same_four e is f r eq = eq ∙ ap f is
 
 module _ (u z : View) (kept_u : IsKept u) (kept_z : IsKept z) (ext : Extends u z) (root : ℕ) (at : IsAt u root_level root) (q : Quarters) (q_is : q ≡ (u.square root).quarters)
-    (e : ℕ) (e_is : e ≡ empty_at 18) (a b c d i : ℕ)
+    (e : ℕ) (e_is : e ≡ empty_at 19) (a b c d i : ℕ)
     (one : (z.square a).quarters ≡ made e e e q.north_west) (two : (z.square b).quarters ≡ made e e q.north_east e)
     (three : (z.square c).quarters ≡ made e q.south_west e e) (four : (z.square d).quarters ≡ made q.south_east e e e)
     (all : (z.square i).quarters ≡ made a b c d) where
-  width_is : width 18 ≡ 8388608
+  width_is : width 19 ≡ 16777216
   unfolding half
   width_is = refl
 
-  place : beyond wide_corner (width 18) (width 18) ≡ root_corner
-  place = let h : width 18 ≡ 8388608 = width_is in pair (omega (arith, ints)) (omega (arith, ints))
+  place : beyond wide_corner (width 19) (width 19) ≡ root_corner
+  place = let h : width 19 ≡ 16777216 = width_is in pair (omega (arith, ints)) (omega (arith, ints))
 
   pub padded-shows : (G : Generation) → Shows u root_level root G root_corner → ((c : Cell) → contains G c ≡ true → IsInside root_level root_corner c) →
       Shows z (suc root_level) i G wide_corner
   padded-shows G shows inside =
-      let P : Cell → Type 0 = λ w. ShowsQuarters z 18 q G w in
-      let Q : Quarters → Type 0 = λ r. ShowsQuarters u 18 r G root_corner in
-      let R : (c : Cell) → Cell → Type 0 = λ c w. IsInside 19 w c in
-      let s : ShowsQuarters u 18 q G root_corner = subst Q (sym q_is) (as_made u 18 root G root_corner shows) in
-      all-padded z kept_z 18 (omega arith) G wide_corner (λ c live. subst (R c) (sym place) (inside c live)) q
-      (subst P (sym place) (four_forth u z kept_u ext G 18 q (whole_at u u kept_u (self u) root at q q_is) root_corner s))
+      let P : Cell → Type 0 = λ w. ShowsQuarters z 19 q G w in
+      let Q : Quarters → Type 0 = λ r. ShowsQuarters u 19 r G root_corner in
+      let R : (c : Cell) → Cell → Type 0 = λ c w. IsInside 20 w c in
+      let s : ShowsQuarters u 19 q G root_corner = subst Q (sym q_is) (as_made u 19 root G root_corner shows) in
+      all-padded z kept_z 19 (omega arith) G wide_corner (λ c live. subst (R c) (sym place) (inside c live)) q
+      (subst P (sym place) (four_forth u z kept_u ext G 19 q (whole_at u u kept_u (self u) root at q q_is) root_corner s))
       a b c d i
       (same_four e e_is (λ k. made k k k q.north_west) _ one)
       (same_four e e_is (λ k. made k k q.north_east k) _ two)

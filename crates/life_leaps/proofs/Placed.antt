@@ -1,17 +1,18 @@
 -- Where the cells of sets stand.
-use Rattle.std.proofs.Common.{◌≡◌, ℕ, ◌≤◌, inl, inr, true, List, [], ◌∷◌, All, sym, subst, ap, ◌∙◌, true≢false}
+use Rattle.std.proofs.Common.{◌≡◌, ℕ, ◌≤◌, inl, inr, true, List, [], ◌∷◌, All, sym, subst, ap, ◌∙◌, true≢false, arith}
 use Rattle.std.specs.List.{list_any}
+use Rattle.std.proofs.lemmas.Int.{ints}
 use Rattle.std.proofs.lemmas.List.Elements.{All-head, All-tail}
 use Rattle.life_model.specs.Cell.{Cell, same_cell}
 use Rattle.life_model.specs.Generation.{Generation, cells, contains, from_list}
 use Rattle.life_model.proofs.Cells.{same_cell-is}
 use Rattle.life_model.proofs.Generations.{contains-cells, contains-from_list, same_members}
-use Rattle.life_cells.specs.Limits.{IsPlace, IsWithin, age_limit}
-use Rattle.life_plane.proofs.Later.{place_from_within}
+use Rattle.life_cells.specs.Limits.{IsPlace, IsWithin}
+use Rattle.life_leaps.specs.Planes.{farthest_age}
 use Rattle.life_slots.proofs.Inserted.{all_listed}
 use Rattle.life_slots.proofs.Orders.{either_true}
 
-of_member : (P : Cell → Type 0) (xs : List Cell) → All P xs → (c : Cell) → list_any (same_cell c) xs ≡ true → P c
+pub of_member : (P : Cell → Type 0) (xs : List Cell) → All P xs → (c : Cell) → list_any (same_cell c) xs ≡ true → P c
 of_member P [] all c h = absurd (true≢false (sym h))
 of_member P (x ∷ xs) all c h =
     elim (either_true (same_cell c x) (list_any (same_cell c) xs) h) [
@@ -28,6 +29,10 @@ all_within age G each = all_listed (IsWithin age) G (cells G) (contains-cells G)
 pub listed_same : (items cs : List Cell) → ((q : Cell) → list_any (same_cell q) items ≡ list_any (same_cell q) cs) → from_list items ≡ from_list cs
 listed_same items cs same = same_members (from_list items) (from_list cs) (λ q. contains-from_list items q ∙ same q ∙ sym (contains-from_list cs q))
 
-pub all_places : (age : ℕ) (G : Generation) (items : List Cell) → from_list items ≡ G → age ≤ age_limit → ((c : Cell) → contains G c ≡ true → IsWithin age c) → All IsPlace items
+-- every place of a plane is one of a list of cells
+pub place_from_within : (a : ℕ) (c : Cell) → a ≤ farthest_age → IsWithin a c → IsPlace c
+place_from_within a c k h = record { left = omega (arith, ints); right = omega (arith, ints); above = omega (arith, ints); below = omega (arith, ints) }
+
+pub all_places : (age : ℕ) (G : Generation) (items : List Cell) → from_list items ≡ G → age ≤ farthest_age → ((c : Cell) → contains G c ≡ true → IsWithin age c) → All IsPlace items
 all_places age G items is young each =
     all_listed IsPlace G items (λ q. sym (ap (λ H. contains H q) is) ∙ contains-from_list items q) (λ q live. place_from_within age q young (each q live))

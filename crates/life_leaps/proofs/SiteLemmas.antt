@@ -20,11 +20,11 @@ pub quarter_is : (site quarter : Site) (x y : ℕ) → IsSite site → suc quart
     quarter.left ≡ (site.left +ℤ pos x) → quarter.top ≡ (site.top +ℤ pos y) → x ≤ width quarter.level → y ≤ width quarter.level → IsQuarterOf site quarter x y
 quarter_is site quarter x y is level wide left top x_few y_few =
     let b : width site.level ≡ 2 * width quarter.level = width_is site quarter.level level in
-    let l : site.level ≤ 19 = is.level in
+    let l : site.level ≤ 20 = is.level in
     let west : first_place ≤ℤ site.left = is.west in
     let north : first_place ≤ℤ site.top = is.north in
-    let east : (site.left +ℤ pos (width site.level)) ≤ℤ pos 8388608 = is.east in
-    let south : (site.top +ℤ pos (width site.level)) ≤ℤ pos 8388608 = is.south in
+    let east : (site.left +ℤ pos (width site.level)) ≤ℤ pos 16777216 = is.east in
+    let south : (site.top +ℤ pos (width site.level)) ≤ℤ pos 16777216 = is.south in
     record {
       placed = record {
         level = omega arith;

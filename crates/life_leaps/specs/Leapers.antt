@@ -2,7 +2,8 @@
 use Rattle.std.specs.Prelude.{◌≡◌, ◌≤◌, true}
 use Rattle.life_model.specs.Cell.{Cell}
 use Rattle.life_model.specs.Generation.{Generation, contains, from_list}
-use Rattle.life_cells.specs.Limits.{IsWithin, age_limit}
+use Rattle.life_cells.specs.Limits.{IsWithin}
+use Rattle.life_leaps.specs.Planes.{farthest_age}
 use Rattle.life_leaps.specs.declared.leaping.Leaper.{Leaper}
 use Rattle.life_leaps.specs.Squares.{IsAt}
 use Rattle.life_leaps.specs.Stores.{view}
@@ -17,5 +18,5 @@ cells_in l = from_list (cells_of (view l.store) root_level l.root root_corner)
 pub record IsLeaper (l : Leaper) : Type 0 where
   pub ready : IsReady l.step (view l.store)
   pub at : IsAt (view l.store) root_level l.root
-  pub young : l.age ≤ age_limit
+  pub young : l.age ≤ farthest_age
   pub within : (q : Cell) → contains (cells_in l) q ≡ true → IsWithin l.age q

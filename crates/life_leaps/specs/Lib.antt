@@ -4,6 +4,7 @@ pub mod Stores
 pub mod Rows
 pub mod Cells
 pub mod Sites
+pub mod Spots
 pub mod Leapers
 pub mod Planes
 pub mod Copies

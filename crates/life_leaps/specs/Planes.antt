@@ -20,3 +20,7 @@ steps_made p = p.0.1
 
 abbrev pub rule_of : Seen → Rule
 rule_of p = p.1
+
+-- the greatest age that a plane that leaps may reach
+abbrev pub farthest_age : ℕ
+farthest_age = 15728640

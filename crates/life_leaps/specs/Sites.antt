@@ -8,17 +8,17 @@ use Rattle.life_leaps.specs.Cells.{IsInside, IsListed}
 
 -- the level of the square that has all cells of a plane, and where it begins
 abbrev pub root_level : ℕ
-root_level = 19
+root_level = 20
 
 abbrev pub first_place : ℤ
-first_place = neg_ℤ (pos 8388608)
+first_place = neg_ℤ (pos 16777216)
 
 abbrev pub root_corner : Cell
 root_corner = (first_place, first_place)
 
 -- where the square begins that has that one in its middle
 abbrev pub wide_corner : Cell
-wide_corner = (neg_ℤ (pos 16777216), neg_ℤ (pos 16777216))
+wide_corner = (neg_ℤ (pos 33554432), neg_ℤ (pos 33554432))
 
 abbrev pub corner : Site → Cell
 corner site = (site.left, site.top)
@@ -28,9 +28,9 @@ pub record IsSite (site : Site) : Type 0 where
   pub level : site.level ≤ root_level
   pub wide : site.wide ≡ width site.level
   pub west : first_place ≤ℤ site.left
-  pub east : (site.left +ℤ pos (width site.level)) ≤ℤ pos 8388608
+  pub east : (site.left +ℤ pos (width site.level)) ≤ℤ pos 16777216
   pub north : first_place ≤ℤ site.top
-  pub south : (site.top +ℤ pos (width site.level)) ≤ℤ pos 8388608
+  pub south : (site.top +ℤ pos (width site.level)) ≤ℤ pos 16777216
 
 -- a cell stands in a column and a row of the square at a place
 pub record IsPlaceIn (site : Site) (c : Cell) (place : ℕ × ℕ) : Type 0 where

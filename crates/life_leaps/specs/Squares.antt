@@ -80,9 +80,9 @@ IsRight rule exponent v square = (later : ℕ) → square.later ≡ Some later �
 pub record IsKept (v : View) : Type 0 where
   pub leaf : (x y : ℕ) → leaf_cell (v.leaf 0) x y ≡ 0
   pub some : 0 < v.leaves
-  pub empty : (n : ℕ) → n < 20 → (v.square n).level ≡ n
-  pub none : (n : ℕ) → n < 20 → (v.square n).quarters ≡ record { north_west = empty_at n; north_east = empty_at n; south_west = empty_at n; south_east = empty_at n }
-  pub many : 20 ≤ v.squares
+  pub empty : (n : ℕ) → n < 21 → (v.square n).level ≡ n
+  pub none : (n : ℕ) → n < 21 → (v.square n).quarters ≡ record { north_west = empty_at n; north_east = empty_at n; south_west = empty_at n; south_east = empty_at n }
+  pub many : 21 ≤ v.squares
   pub quarters : (i : ℕ) → i < v.squares → AreAt v (v.square i).level (v.square i).quarters
 
 -- all that is remembered is right

@@ -1,9 +1,11 @@
 //! Leaps of a set of cells.
-ghost use Rattle.std.specs.Prelude.{◌≡◌, ℕ, ◌+◌, ◌^◌, ◌<◌, ◌≤◌, min, All, IfOk, OnOk, OnErr};
+ghost use Rattle.std.specs.Prelude.{◌≡◌, ℕ, ◌+◌, ◌^◌, ◌<◌, ◌≤◌, true, min, All, IfNone, IfOk, IfSome, OnOk, OnErr};
 ghost use Rattle.life_model.specs.Evolution.{generation};
 ghost use Rattle.life_model.specs.Generation as sets;
-ghost use Rattle.life_cells.specs.Limits.{IsWithin, age_limit};
+ghost use Rattle.life_cells.specs.Limits.{IsPlace, IsWithin};
+ghost use Rattle.life_leaps.specs.Planes.{farthest_age};
 
+use crate::far::{Side, Spot};
 use crate::rows::Step;
 use crate::site::Site;
 use crate::square::ROOT_LEVEL;
@@ -44,7 +46,7 @@ impl Leaper {
         list: &CellList,
         age: u32,
     ) -> Result<Leaper, AllocError>
-        requires age { age ≤ age_limit }
+        requires age { age ≤ farthest_age }
         requires within { All (IsWithin age) (sets.cells list.now) }
         ensures kept { IfOk result IsLeaper }
         ensures cells { IfOk result (λ l. cells_in l ≡ list.now) }
@@ -87,7 +89,7 @@ impl Leaper {
     /// Makes 2^exponent generations. After an `Err` the cells and the age are what they were.
     pub fn leap(&mut self, exponent: u32, work: u64) -> Result<(), NoLeap>
         requires kept { IsLeaper self.old }
-        requires age { self.old.age + 2 ^ exponent ≤ age_limit }
+        requires age { self.old.age + 2 ^ exponent ≤ farthest_age }
         ensures kept { IsLeaper self.new }
         ensures cells { OnOk result (cells_in self.new ≡
             generation self.old.step.rule (cells_in self.old) (2 ^ exponent)) }
@@ -115,5 +117,19 @@ impl Leaper {
         self.store.push_cells(&mut cells, &site, self.root)?;
         put_in_order(&mut cells);
         Ok(CellList::from_ordered(cells))
+    }
+
+    /// A live cell far to a side. `None` where none is live.
+    pub fn far_cell(&self, side: Side) -> Option<(i32, i32)>
+        requires { IsLeaper self.now }
+        ensures member { IfSome result (λ c. sets.contains (cells_in self.now) c ≡ true) }
+        ensures place { IfSome result IsPlace }
+        ensures none { IfNone result (cells_in self.now ≡ sets.empty) }
+    {
+        let spot = Spot {
+            site: Site::root(),
+            place: self.root,
+        };
+        self.store.far_cell(side, &spot)
     }
 }

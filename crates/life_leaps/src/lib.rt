@@ -6,6 +6,7 @@ mod building;
 mod centre;
 mod chains;
 mod collecting;
+mod far;
 mod later;
 mod leaping;
 mod listing;
@@ -17,5 +18,6 @@ mod site;
 mod square;
 mod store;
 
+pub use far::Side;
 pub use plane::LeapPlane;
 pub use store::NoLeap;

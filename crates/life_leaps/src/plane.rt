@@ -1,10 +1,11 @@
 //! The plane that leaps.
-ghost use Rattle.std.specs.Prelude.{◌≡◌, ℕ, ◌+◌, ◌^◌, ◌≤◌, All, IfOk, OnOk, OnErr};
+ghost use Rattle.std.specs.Prelude.{◌≡◌, ℕ, ◌+◌, ◌^◌, ◌≤◌, true, All, IfNone, IfOk, IfSome, OnOk, OnErr};
 ghost use Rattle.life_model.specs.Evolution.{generation};
 ghost use Rattle.life_model.specs.Generation as sets;
-ghost use Rattle.life_cells.specs.Limits.{IsWithin, age_limit};
-ghost use Rattle.life_leaps.specs.Planes.{members, rule_of, steps_made};
+ghost use Rattle.life_cells.specs.Limits.{IsPlace, IsWithin};
+ghost use Rattle.life_leaps.specs.Planes.{farthest_age, members, rule_of, steps_made};
 
+use crate::far::Side;
 use crate::leaping::Leaper;
 use crate::store::NoLeap;
 use life_cells::{CellList, Rule};
@@ -34,7 +35,7 @@ impl Model for LeapPlane {
 impl LeapPlane {
     /// The plane of these cells at some age, at which their places may be, and by a rule.
     pub fn at_age(alloc: Global, rule: &Rule, list: &CellList, age: u32) -> Result<Self, AllocError>
-        requires age { age ≤ age_limit }
+        requires age { age ≤ farthest_age }
         requires within { All (IsWithin age) (sets.cells list.now) }
         ensures cells { IfOk result (λ p. members p ≡ list.now) }
         ensures age { IfOk result (λ p. steps_made p ≡ age) }
@@ -62,7 +63,7 @@ impl LeapPlane {
     /// Makes 2^exponent generations, for about so much work: a unit is a band of eight rows of 64 cells. After an `Err` the
     /// cells and the age are what they were.
     pub fn leap(&mut self, exponent: u32, work: u64) -> Result<(), NoLeap>
-        requires { steps_made self.old + 2 ^ exponent ≤ age_limit }
+        requires { steps_made self.old + 2 ^ exponent ≤ farthest_age }
         ensures cells { OnOk result (members self.new ≡
             generation (rule_of self.old) (members self.old) (2 ^ exponent)) }
         ensures age { OnOk result (steps_made self.new ≡ steps_made self.old + 2 ^ exponent) }
@@ -93,6 +94,15 @@ impl LeapPlane {
         ensures { IfOk result (λ list. list ≡ members self.now) }
     {
         self.leaper.cells()
+    }
+
+    /// A live cell far to a side: no leaf, of 32 by 32 cells, that has live ones stands further. `None` where none is live.
+    pub fn far_cell(&self, side: Side) -> Option<(i32, i32)>
+        ensures member { IfSome result (λ c. sets.contains (members self.now) c ≡ true) }
+        ensures place { IfSome result IsPlace }
+        ensures none { IfNone result (members self.now ≡ sets.empty) }
+    {
+        self.leaper.far_cell(side)
     }
 
     /// How many steps it has made. No cell is further from the places of age 0 than that.

@@ -6,10 +6,10 @@ ghost use Rattle.life_leaps.specs.Sites.{AreQuartersOf, IsPlaceIn, IsSite, corne
 use crate::square::ROOT_LEVEL;
 
 /// The first column and the first row of the square that has all cells of a plane.
-const FIRST_PLACE: i32 = -8_388_608;
+const FIRST_PLACE: i32 = -16_777_216;
 
 /// How wide that square is.
-const ROOT_WIDTH: u32 = 16_777_216;
+const ROOT_WIDTH: u32 = 33_554_432;
 
 /// The place of a square of a level.
 #[derive(Clone, Copy)]
@@ -32,8 +32,8 @@ pub struct Sites {
 /// Which of so many columns from a column on this one is. The same for rows.
 fn column_of(z: i32, from: i32, wide: u32) -> Option<u32>
     requires first { first_place ≤ℤ from }
-    requires last { (from +ℤ pos wide) ≤ℤ pos 8388608 }
-    requires wide { wide ≤ 16777216 }
+    requires last { (from +ℤ pos wide) ≤ℤ pos 16777216 }
+    requires wide { wide ≤ 33554432 }
     ensures { MatchOption result ((x : ℕ) → x < wide → z ≡ (from +ℤ pos x) → ⊥)
         (λ x. (x < wide) × (z ≡ (from +ℤ pos x))) }
 {

@@ -3,11 +3,11 @@
 ghost use Rattle.std.specs.Prelude.{◌≡◌, ◌-◌, ◌↔◌, None, IsTrue};
 ghost use Rattle.life_leaps.specs.Places.{empty_at};
 
-/// The level of the square that a plane keeps its cells in: 2^24 by 2^24 cells.
-pub const ROOT_LEVEL: u32 = 19;
+/// The level of the square that a plane keeps its cells in: 2^25 by 2^25 cells.
+pub const ROOT_LEVEL: u32 = 20;
 
 /// The greatest level of a square.
-pub const TOP_LEVEL: u32 = 20;
+pub const TOP_LEVEL: u32 = 21;
 
 /// The four quarters of a square, as their places in the list of leaves or of squares.
 #[derive(Clone, Copy, PartialEq, Eq, Debug)]

@@ -2,7 +2,7 @@
 
 use life_advance::generation_of;
 use life_cells::{CellList, Rule};
-use life_leaps::LeapPlane;
+use life_leaps::{LeapPlane, Side};
 use std::test::Fail;
 
 // A glider that moves to the right and down by one cell in four generations.
@@ -87,5 +87,41 @@ fn a_gun_sends_out_gliders(rt: HostRuntime) -> Result<(), Fail> {
     assert!(rt; list.fits());
     let later = generation_of(rt.alloc(), &Rule::life(), &list, 6_000)?;
     assert!(rt; later.len() == 36 + 5 * 200);
+    Ok(())
+}
+
+// The glider moves by a fourth of that in both directions.
+#[test]
+fn a_glider_leaps_by_millions(rt: HostRuntime) -> Result<(), Fail> {
+    let list = CellList::of(rt.alloc(), GLIDER)?;
+    assert!(rt; list.fits());
+    let mut plane = LeapPlane::at_age(rt.alloc(), &Rule::life(), &list, 0)?;
+    assert!(rt; plane.age() == 0);
+    plane.leap(23, 1_000_000)?;
+    let cells = plane.cells()?;
+    assert!(rt; cells.len() == 5 && plane.age() == 8_388_608);
+    assert!(rt; cells.as_slice()[0] == (2_097_153, 2_097_152));
+    assert!(rt; plane.far_cell(Side::West) == plane.far_cell(Side::South));
+    Ok(())
+}
+
+// The gun stands in two leaves, one of columns 0 to 31 and one of columns 32 to 63. The first live cell of each by rows is
+// found.
+#[test]
+fn cells_far_to_each_side(rt: HostRuntime) -> Result<(), Fail> {
+    let list = CellList::of(rt.alloc(), GUN)?;
+    assert!(rt; list.fits());
+    let plane = LeapPlane::at_age(rt.alloc(), &Rule::life(), &list, 0)?;
+    assert!(rt; plane.far_cell(Side::West) == Some((24, 0)));
+    assert!(rt; plane.far_cell(Side::East) == Some((34, 2)));
+    Ok(())
+}
+
+#[test]
+fn no_cell_is_far(rt: HostRuntime) -> Result<(), Fail> {
+    let list = CellList::of(rt.alloc(), &[])?;
+    assert!(rt; list.fits());
+    let plane = LeapPlane::at_age(rt.alloc(), &Rule::life(), &list, 0)?;
+    assert!(rt; plane.far_cell(Side::North).is_none());
     Ok(())
 }

@@ -19,15 +19,15 @@ loop-lead-init g c =
     let G = c.args.cells.now in
     let b = c.args.bound in
     let list = c.find_return_within.new.fingerprints.items in
-    let there = rw c.in_default.is at c.in_ok-seen.ensures.there in
-    let age = rw c.in_default.is at c.in_ok-seen.ensures.age in
+    let there = rw c.in_default.is at c.in_ok-known.ensures.there in
+    let age = rw c.in_default.is at c.in_ok-known.ensures.age in
     let more = c.push.new.self.items in
-    let before : length list ≡ b = rw c.in_default.is at c.in_ok-seen.ensures.count in
+    let before : length list ≡ b = rw c.in_default.is at c.in_ok-known.ensures.count in
     let marked : IsFingerprint (generation R G b) c.fingerprint_of-marked.result =
     subst (λ H. IsFingerprint H c.fingerprint_of-marked.result) (c.in_ok-anchor.ensures.cells ∙ there) c.fingerprint_of-marked.ensures in
     let count : length more ≡ b + 1 = length-more R G list more c.fingerprint_of-marked.result b c.in_ok-push.ensures.items before in
     let are : AreFingerprints R G more =
-    AreFingerprints-more R G list more c.fingerprint_of-marked.result b c.in_ok-push.ensures.items before c.in_ok-seen.ensures.fingerprints marked in
+    AreFingerprints-more R G list more c.fingerprint_of-marked.result b c.in_ok-push.ensures.items before c.in_ok-known.ensures.fingerprints marked in
     let here : b ≡ b + 0 = omega arith in
     record {
       there = there ∙ ap (generation R G) here;
@@ -49,7 +49,7 @@ pub look-requires-clause-quiet : goal.look-requires-clause-quiet
 look-requires-clause-quiet g c =
     let R = c.args.rule.now in
     let H = generation R c.args.cells.now c.args.bound in
-    let here : c.in_ok-anchor.anchor ≡ H = c.in_ok-anchor.ensures.cells ∙ rw c.in_default.is at c.in_ok-seen.ensures.there in (
+    let here : c.in_ok-anchor.anchor ≡ H = c.in_ok-anchor.ensures.cells ∙ rw c.in_default.is at c.in_ok-known.ensures.there in (
       R,
       subst (λ A. IsQuiet R A (g.P.Plane.members c.step.new.self) c.loop-lead.lookout.quiet) (sym here)
           (subst (λ F. IsQuiet R H F c.loop-lead.lookout.quiet) (sym c.in_ok-step.ensures.cells) c.loop-lead.invariant.quiet),
@@ -64,7 +64,7 @@ returns-in-Some-offset-clause-found g c =
     let H = generation R G b in
     let d = c.in-Some-offset.displacement in
     let at = c.loop-lead.invariant in
-    let here : c.in_ok-anchor.anchor ≡ H = c.in_ok-anchor.ensures.cells ∙ rw c.in_default.is at c.in_ok-seen.ensures.there in
+    let here : c.in_ok-anchor.anchor ≡ H = c.in_ok-anchor.ensures.cells ∙ rw c.in_default.is at c.in_ok-known.ensures.there in
     let there : g.P.Plane.members c.step.new.self ≡ generation R H (n + 1) =
     c.in_ok-step.ensures.cells ∙ ap (next R) (at.there ∙ sym (generation-add R G b n)) ∙ sym (generation-next R H n) in
     let offset = rw c.in-Some-offset.is at c.in_ok-sight.ensures.offset in
@@ -100,7 +100,7 @@ loop-lead-preserved g c =
     let before = c.loop-lead.fingerprints.items in
     let after = c.push-in-loop-lead.new.self.items in
     let later : age + 1 ≡ b + (n + 1) = omega arith in
-    let here : c.in_ok-anchor.anchor ≡ H = c.in_ok-anchor.ensures.cells ∙ rw c.in_default.is at c.in_ok-seen.ensures.there in
+    let here : c.in_ok-anchor.anchor ≡ H = c.in_ok-anchor.ensures.cells ∙ rw c.in_default.is at c.in_ok-known.ensures.there in
     let there : g.P.Plane.members c.step.new.self ≡ generation R G (age + 1) =
     c.in_ok-step.ensures.cells ∙ ap (next R) at.there ∙ sym (generation-next R G age) in
     let again : g.P.Plane.members c.step.new.self ≡ generation R H (n + 1) = there ∙ ap (generation R G) later ∙ sym (generation-add R G b (n + 1)) in

@@ -14,8 +14,8 @@ pub loop-y-preserved : goal.loop-y-preserved
 loop-y-preserved c =
     let west : first_place ≤ℤ c.args.site.now.left = c.requires.site.west in
     let north : first_place ≤ℤ c.args.site.now.top = c.requires.site.north in
-    let east : (c.args.site.now.left +ℤ pos (width c.args.site.now.level)) ≤ℤ pos 8388608 = c.requires.site.east in
-    let south : (c.args.site.now.top +ℤ pos (width c.args.site.now.level)) ≤ℤ pos 8388608 = c.requires.site.south in
+    let east : (c.args.site.now.left +ℤ pos (width c.args.site.now.level)) ≤ℤ pos 16777216 = c.requires.site.east in
+    let south : (c.args.site.now.top +ℤ pos (width c.args.site.now.level)) ≤ℤ pos 16777216 = c.requires.site.south in
     let left_is : to_z w32 (of_z w32 c.args.site.now.left) ≡ c.args.site.now.left = omega (arith, ints) in
     let top_is : to_z w32 (of_z w32 (to_z w32 (of_z w32 c.args.site.now.top) +ℤ to_z w32 c.loop-y.y)) ≡ (c.args.site.now.top +ℤ pos c.loop-y.y) = omega (arith, ints) in
     row_pushed c.args.cells.now.items c.loop-y.cells.items c.push_row.new.cells.items c.args.site.now.left c.args.site.now.top c.args.leaf.now.rows c.loop-y.y c.from.result

@@ -2,7 +2,7 @@
 use Rattle.std.proofs.Common.{◌≡◌, ◌+◌, ◌*◌, ◌^◌, ◌%◌, ◌≤◌, ◌∙◌, refl, ap, Result, Ok, Err, OnErr, arith}
 use Rattle.life_model.specs.Generation.{from_list}
 use Rattle.life_model.specs.Evolution.{generation}
-use Rattle.life_cells.specs.Limits.{age_limit}
+use Rattle.life_leaps.specs.Planes.{farthest_age}
 use Rattle.life_leaps.specs.Stores.{view}
 use Rattle.life_leaps.specs.Sites.{root_corner, root_level}
 use Rattle.life_leaps.specs.Cells.{cells_of}
@@ -46,14 +46,14 @@ overflow_shl-self c = let h = small_exponent c.args.exponent c.args.self.now.age
 pub returns-clause-cells : goal.returns-clause-cells
 unfolding cells_in
 returns-clause-cells c =
-    let young : c.prepare.new.self.age + 2 ^ c.args.exponent ≤ age_limit = (let h = c.requires.age in let e = c.prepare.ensures.age in omega (arith, h, e)) in
+    let young : c.prepare.new.self.age + 2 ^ c.args.exponent ≤ farthest_age = (let h = c.requires.age in let e = c.prepare.ensures.age in omega (arith, h, e)) in
     leapt-cells c.prepare.new.self c.prepare.ensures.kept c.padded.new.self c.later.new.self _ c.in_ok-wide.wide c.in_ok-root.root c.args.exponent
     c.in_ok-wide.ensures.shows refl c.in_ok-root.ensures.middle c.prepare.ensures.exponent young
     ∙ (λ i. generation (c.prepare.ensures.rule i) (c.prepare.ensures.cells i) (2 ^ c.args.exponent))
 
 pub returns-clause-kept : goal.returns-clause-kept
 returns-clause-kept c =
-    let young : c.prepare.new.self.age + 2 ^ c.args.exponent ≤ age_limit = (let h = c.requires.age in let e = c.prepare.ensures.age in omega (arith, h, e)) in
+    let young : c.prepare.new.self.age + 2 ^ c.args.exponent ≤ farthest_age = (let h = c.requires.age in let e = c.prepare.ensures.age in omega (arith, h, e)) in
     let fits : 1 * 2 ^ c.args.exponent % 4294967296 ≡ 2 ^ c.args.exponent = power_fits c.args.exponent c.prepare.new.self.age young in
     let cells : from_list (cells_of (view c.later.new.self) root_level c.in_ok-root.root root_corner) ≡ generation c.prepare.new.self.step.rule (cells_in c.prepare.new.self) (2 ^ c.args.exponent) =
     leapt-cells c.prepare.new.self c.prepare.ensures.kept c.padded.new.self c.later.new.self _ c.in_ok-wide.wide c.in_ok-root.root c.args.exponent

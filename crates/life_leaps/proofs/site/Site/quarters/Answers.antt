@@ -15,8 +15,8 @@ returns c =
     let all : width c.args.self.now.level ≡ 2 * width (c.args.self.now.level - 1) = width_is c.args.self.now (c.args.self.now.level - 1) level in
     let west : first_place ≤ℤ c.args.self.now.left = c.requires.site.west in
     let north : first_place ≤ℤ c.args.self.now.top = c.requires.site.north in
-    let east : (c.args.self.now.left +ℤ pos (width c.args.self.now.level)) ≤ℤ pos 8388608 = c.requires.site.east in
-    let south : (c.args.self.now.top +ℤ pos (width c.args.self.now.level)) ≤ℤ pos 8388608 = c.requires.site.south in
+    let east : (c.args.self.now.left +ℤ pos (width c.args.self.now.level)) ≤ℤ pos 16777216 = c.requires.site.east in
+    let south : (c.args.self.now.top +ℤ pos (width c.args.self.now.level)) ≤ℤ pos 16777216 = c.requires.site.south in
     record {
       north_west = quarter_is c.args.self.now _ 0 0 c.requires.site level half (omega (arith, ints)) (omega (arith, ints)) (omega arith) (omega arith);
       north_east = quarter_is c.args.self.now _ _ 0 c.requires.site level half (omega (arith, ints)) (omega (arith, ints)) (omega arith) (omega arith);

@@ -8,7 +8,7 @@ use Rattle.life_leaps.proofs.site.Site.root.Goals as goal
 
 pub returns-clause-site : goal.returns-clause-site
 returns-clause-site c =
-    let e : width root_level ≡ 16777216 = root-wide in
+    let e : width root_level ≡ 33554432 = root-wide in
     record {
       level = omega arith;
       wide = sym root-wide;

@@ -12,7 +12,7 @@ square-requires-2-clause-kept c = (c.in_ok-north_west.ensures.grows no_rule 0).k
 pub square-requires-2-clause-at : goal.square-requires-2-clause-at
 square-requires-2-clause-at c =
     let g = c.in_ok-north_west.ensures.grows no_rule 0 in
-    made_at _ 18 _ _ _ _
+    made_at _ 19 _ _ _ _
     (empty_here _ g.kept _ c.empty_place-empty.ensures) (empty_here _ g.kept _ c.empty_place-empty.ensures)
     (whole_at (view c.args.self.now) _ c.requires.kept g.extends c.args.root c.requires.at _ c.quarters-whole.ensures).north_east
     (empty_here _ g.kept _ c.empty_place-empty.ensures)
@@ -26,7 +26,7 @@ square-requires-3-clause-kept c = (c.in_ok-north_east.ensures.grows no_rule 0).k
 pub square-requires-3-clause-at : goal.square-requires-3-clause-at
 square-requires-3-clause-at c =
     let g = grows-trans _ _ _ _ _ (c.in_ok-north_west.ensures.grows no_rule 0) (c.in_ok-north_east.ensures.grows no_rule 0) in
-    made_at _ 18 _ _ _ _
+    made_at _ 19 _ _ _ _
     (empty_here _ g.kept _ c.empty_place-empty.ensures)
     (whole_at (view c.args.self.now) _ c.requires.kept g.extends c.args.root c.requires.at _ c.quarters-whole.ensures).south_west
     (empty_here _ g.kept _ c.empty_place-empty.ensures) (empty_here _ g.kept _ c.empty_place-empty.ensures)
@@ -41,7 +41,7 @@ square-requires-4-clause-kept c = (c.in_ok-south_west.ensures.grows no_rule 0).k
 pub square-requires-4-clause-at : goal.square-requires-4-clause-at
 square-requires-4-clause-at c =
     let g = grows-trans _ _ _ _ _ (grows-trans _ _ _ _ _ (c.in_ok-north_west.ensures.grows no_rule 0) (c.in_ok-north_east.ensures.grows no_rule 0)) (c.in_ok-south_west.ensures.grows no_rule 0) in
-    made_at _ 18 _ _ _ _
+    made_at _ 19 _ _ _ _
     (whole_at (view c.args.self.now) _ c.requires.kept g.extends c.args.root c.requires.at _ c.quarters-whole.ensures).south_east
     (empty_here _ g.kept _ c.empty_place-empty.ensures) (empty_here _ g.kept _ c.empty_place-empty.ensures) (empty_here _ g.kept _ c.empty_place-empty.ensures)
 
@@ -60,10 +60,10 @@ square-requires-5-clause-at c =
     let g4 = c.in_ok-south_east.ensures.grows no_rule 0 in
     let g34 = extends-trans _ _ _ g3.extends g4.extends in
     let g234 = extends-trans _ _ _ g2.extends g34 in
-    made_at _ 19 _ _ _ _
-    (at-extends _ _ g234 19 _ c.in_ok-north_west.ensures.at)
-    (at-extends _ _ g34 19 _ c.in_ok-north_east.ensures.at)
-    (at-extends _ _ g4.extends 19 _ c.in_ok-south_west.ensures.at)
+    made_at _ 20 _ _ _ _
+    (at-extends _ _ g234 20 _ c.in_ok-north_west.ensures.at)
+    (at-extends _ _ g34 20 _ c.in_ok-north_east.ensures.at)
+    (at-extends _ _ g4.extends 20 _ c.in_ok-south_west.ensures.at)
     c.in_ok-south_east.ensures.at
 
 pub returns-in_err-wide-clause-grows : goal.returns-in_err-wide-clause-grows

@@ -1,5 +1,5 @@
 -- What settles within a bound never gets wider than it is at first by more than twice the bound.
-use Rattle.std.proofs.Common.{◌≡◌, ℕ, zero, suc, ℤ, pos, neg_ℤ, ◌+◌, ◌-◌, ◌*◌, ◌<◌, ◌≤◌, ◌⊎◌, inl, inr, ◌+ℤ◌, ◌≤ℤ◌, true, sym, refl, ap, subst, ◌∙◌, arith}
+use Rattle.std.proofs.Common.{◌≡◌, ℕ, zero, suc, ℤ, pos, ◌+◌, ◌-◌, ◌*◌, ◌≤◌, inl, inr, ◌+ℤ◌, ◌≤ℤ◌, true, sym, ap, subst, ◌∙◌, arith}
 use Rattle.std.proofs.lemmas.Bool.{cases_lt}
 use Rattle.std.proofs.lemmas.Int.{ints}
 use Rattle.life_model.specs.Cell.{Cell, plus, opposite, IsNear}
@@ -7,7 +7,7 @@ use Rattle.life_model.specs.Rule.{Rule}
 use Rattle.life_model.specs.Generation.{Generation, contains}
 use Rattle.life_model.specs.Evolution.{next, generation}
 use Rattle.life_model.specs.Recurrence.{SettlesAt}
-use Rattle.life_find.specs.Spans.{SpansColumns, SpansRows}
+use Rattle.life_width.specs.Spans.{SpansColumns, SpansRows}
 use Rattle.life_model.specs.Symmetry.{translate_of}
 use Rattle.life_model.proofs.Near.{next_near}
 use Rattle.life_model.proofs.Orbits.{along}

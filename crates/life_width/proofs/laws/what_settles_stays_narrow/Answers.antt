@@ -1,5 +1,5 @@
-use Rattle.life_find.proofs.Narrow.{columns_stay, rows_stay}
-use Rattle.life_find.proofs.laws.what_settles_stays_narrow.Goals as goal
+use Rattle.life_width.proofs.Narrow.{columns_stay, rows_stay}
+use Rattle.life_width.proofs.laws.what_settles_stays_narrow.Goals as goal
 
 pub returns-clause-columns : goal.returns-clause-columns
 returns-clause-columns c = λ R G bound g n t. columns_stay R G bound g n t
