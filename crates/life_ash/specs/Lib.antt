@@ -1,6 +1,5 @@
 pub mod Living
 pub mod Parts
-pub mod Spans
 pub mod Later
 pub mod Fates
 pub mod Allowed

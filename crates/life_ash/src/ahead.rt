@@ -6,7 +6,8 @@ ghost use Rattle.life_objects.specs.Ash.{IsAsh};
 ghost use Rattle.life_orbit.specs.Course.{IsCourse};
 ghost use Rattle.life_ash.specs.Ahead.{HasEnded, IsFound, IsFoundPast};
 ghost use Rattle.life_ash.specs.Allowed.{AreAllowedBefore};
-ghost use Rattle.life_ash.specs.Parts.{IsCourseBy, IsPlaced, ash_age_limit, sets_of};
+ghost use Rattle.life_apart.specs.Sets.{IsCourseBy, sets_of};
+ghost use Rattle.life_ash.specs.Parts.{IsPlaced, ash_age_limit};
 
 use crate::found::Found;
 use crate::guess::guessed_parts;

@@ -5,12 +5,13 @@ ghost use Rattle.life_objects.specs.Ash.{IsAsh};
 ghost use Rattle.life_ash.specs.Ahead.{IsAshThen};
 ghost use Rattle.life_ash.specs.Later.{courses_after};
 ghost use Rattle.life_orbit.specs.Course.{IsCourse};
-ghost use Rattle.life_ash.specs.Parts.{IsCourseBy, IsFit, IsPlaced, ash_age_limit, sets_of};
+ghost use Rattle.life_apart.specs.Sets.{IsCourseBy, sets_of};
+ghost use Rattle.life_ash.specs.Parts.{IsFit, IsPlaced, ash_age_limit};
 
-use crate::checks::{are_apart, are_together};
 use crate::known::Known;
 use crate::parts::{only_parts, parts_before};
 use crate::whole::are_objects;
+use life_apart::{are_apart, are_together};
 use life_cells::Rule;
 use life_orbit::{BOUND_LIMIT, Orbit};
 use life_plane::Plane;

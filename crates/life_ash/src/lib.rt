@@ -6,7 +6,6 @@
 mod ahead;
 mod ash_orbits;
 mod before;
-mod checks;
 mod found;
 mod guess;
 mod known;
@@ -17,8 +16,6 @@ mod parts;
 mod pattern;
 mod pattern_fate;
 mod sizes;
-mod span;
-mod sweep;
 mod whole;
 
 pub use ash_orbits::{Ash, ash_of, is_ash};

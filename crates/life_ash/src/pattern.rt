@@ -8,7 +8,7 @@ ghost use Rattle.life_cells.specs.Limits.{IsWithin};
 ghost use Rattle.life_objects.specs.Ash.{HasFallenApart};
 ghost use Rattle.life_ash.specs.Allowed.{AreAllowedBefore};
 ghost use Rattle.life_ash.specs.Fates.{IsFate, IsSmallEnough};
-ghost use Rattle.life_ash.specs.Parts.{IsCourseBy, sets_of};
+ghost use Rattle.life_apart.specs.Sets.{IsCourseBy, sets_of};
 
 use crate::ahead::{found_past, walk_on};
 use crate::ash_orbits::{Ash, ash_before, ash_by};

@@ -4,7 +4,8 @@ ghost use Rattle.life_model.specs.Generation as generations;
 ghost use Rattle.life_cells.specs.Limits.{IsWithin};
 ghost use Rattle.life_objects.specs.Ash.{IsObject};
 ghost use Rattle.life_objects.specs.Piece.{IsOnePiece, IsUndivided};
-ghost use Rattle.life_ash.specs.Parts.{IsFit, sets_of};
+ghost use Rattle.life_apart.specs.Sets.{sets_of};
+ghost use Rattle.life_ash.specs.Parts.{IsFit};
 
 use life_cells::{CellList, Rule};
 use life_orbit::{BOUND_LIMIT, Orbit};
