@@ -5,3 +5,4 @@ pub mod Fates
 pub mod Allowed
 pub mod Met
 pub mod Ahead
+pub mod Telling

@@ -6,6 +6,7 @@
 mod ahead;
 mod ash_orbits;
 mod before;
+mod far;
 mod found;
 mod guess;
 mod known;
@@ -16,6 +17,7 @@ mod parts;
 mod pattern;
 mod pattern_fate;
 mod sizes;
+mod told;
 mod whole;
 
 pub use ash_orbits::{Ash, ash_of, is_ash};

@@ -30,7 +30,7 @@ union_of-IsPermutation Ps Qs order = same_members _ _ (λ c.
 
 module _ (R : Rule) where
   -- a set that is apart for ever from each of a list, of which any two are too, is so from their union
-  apart_from_list : (P : Generation) (Qs : List Generation) → All (AreApartForEver R P) Qs →
+  pub apart_from_list : (P : Generation) (Qs : List Generation) → All (AreApartForEver R P) Qs →
       AllPairs (AreApartForEver R) Qs → AreApartForEver R P (union_of Qs)
   apart_from_list P Qs far pairs n =
       subst (AreApart (generation R P n)) (sym (list_ever R n Qs pairs))
