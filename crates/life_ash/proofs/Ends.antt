@@ -18,7 +18,8 @@ use Rattle.life_objects.proofs.Members.{found_now, in_list_now}
 use Rattle.life_objects.proofs.Sides.{within_each_other}
 use Rattle.life_objects.proofs.Times.{AreApartForEver-swap}
 use Rattle.life_orbit.specs.Course.{Course}
-use Rattle.life_ash.specs.Parts.{AreEndsOfCourses, IsEnd, ash_age_limit, sets_of}
+use Rattle.life_apart.specs.Sets.{sets_of}
+use Rattle.life_ash.specs.Parts.{AreEndsOfCourses, IsEnd, ash_age_limit}
 use Rattle.life_ash.proofs.Lists.{Contains-map}
 use Rattle.life_ash.proofs.Places.{subset_within}
 

@@ -11,7 +11,7 @@ use Rattle.life_objects.specs.Union.{generations}
 use Rattle.life_objects.proofs.Ashes.{IsAsh-until}
 use Rattle.life_orbit.specs.Course.{Course}
 use Rattle.life_ash.specs.Later.{courses_after, course_after}
-use Rattle.life_ash.specs.Parts.{IsCourseBy, sets_of}
+use Rattle.life_apart.specs.Sets.{IsCourseBy, sets_of}
 
 module _ (R : Rule) where
   sets_later : (n : ℕ) (os : List Course) → All (IsCourseBy R) os → sets_of (courses_after n os) ≡ generations R (sets_of os) n

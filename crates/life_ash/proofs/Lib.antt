@@ -6,10 +6,6 @@ pub mod Survivors
 pub mod Ends
 pub mod Cores
 pub mod Following
-pub mod Together
-pub mod Pairs
-pub mod Bands
-pub mod Sweeping
 pub mod Objects
 pub mod Later
 pub mod Limits

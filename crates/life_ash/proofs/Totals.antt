@@ -15,7 +15,7 @@ use Rattle.life_objects.proofs.Many.{list_ever}
 use Rattle.life_objects.proofs.Moving.{generation-wrapped}
 use Rattle.life_orbit.specs.Course.{Course, IsCourse}
 use Rattle.life_ash.specs.Later.{total_later}
-use Rattle.life_ash.specs.Parts.{IsCourseBy, sets_of}
+use Rattle.life_apart.specs.Sets.{IsCourseBy, sets_of}
 
 -- no generation of a set that recurs is larger than each of those over one period
 pub largest_by_period : (o : Course) → IsCourse o → (most : ℕ) →

@@ -11,7 +11,8 @@ use Rattle.life_ash.specs.Ahead.{IsAshThen, IsFound, IsFoundPast}
 use Rattle.life_ash.specs.Allowed.{AreAllowedBefore}
 use Rattle.life_ash.specs.Fates.{IsSmallEnough}
 use Rattle.life_ash.specs.Met.{Terms}
-use Rattle.life_ash.specs.Parts.{ash_age_limit, sets_of}
+use Rattle.life_apart.specs.Sets.{sets_of}
+use Rattle.life_ash.specs.Parts.{ash_age_limit}
 use Rattle.life_ash.specs.declared.found.Found.{Found}
 use Rattle.life_ash.specs.declared.found.Found.TheVariants.{Large, Nothing, Parts}
 use Rattle.life_ash.proofs.Limits.{past_nowhere}

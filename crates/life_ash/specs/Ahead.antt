@@ -9,7 +9,8 @@ use Rattle.life_objects.specs.Ash.{IsAsh}
 use Rattle.life_orbit.specs.Course.{Course, IsCourse}
 use Rattle.life_ash.specs.Allowed.{AreAllowedBefore}
 use Rattle.life_ash.specs.Fates.{IsSmallEnough}
-use Rattle.life_ash.specs.Parts.{IsCourseBy, IsPlaced, ash_age_limit, sets_of}
+use Rattle.life_apart.specs.Sets.{IsCourseBy, sets_of}
+use Rattle.life_ash.specs.Parts.{IsPlaced, ash_age_limit}
 use Rattle.life_ash.specs.declared.found.Found.{Found}
 use Rattle.life_ash.specs.declared.found.Found.TheVariants.{Large, Nothing, Parts}
 

@@ -5,7 +5,7 @@ use Rattle.life_model.specs.Generation.{Generation}
 use Rattle.life_model.specs.Rule.{Rule}
 use Rattle.life_objects.specs.Ash.{HasFallenApart}
 use Rattle.life_answer.specs.Limited.{first_past}
-use Rattle.life_ash.specs.Parts.{IsCourseBy, sets_of}
+use Rattle.life_apart.specs.Sets.{IsCourseBy, sets_of}
 use Rattle.life_ash.specs.declared.pattern_fate.Fate.{Fate}
 use Rattle.life_ash.specs.declared.pattern_fate.Fate.TheVariants.{Ash, Large, Unresolved}
 

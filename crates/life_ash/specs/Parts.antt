@@ -1,5 +1,5 @@
 -- What the parts of ash must be.
-use Rattle.std.specs.Prelude.{◌≡◌, ℕ, ◌<◌, ◌≤◌, List, length, map, slice_index_or}
+use Rattle.std.specs.Prelude.{◌≡◌, ℕ, ◌<◌, ◌≤◌, List, length, slice_index_or}
 use Rattle.std.specs.List.{All}
 use Rattle.life_model.specs.Evolution.{generation}
 use Rattle.life_model.specs.Generation.{Generation, cells}
@@ -11,14 +11,6 @@ use Rattle.life_orbit.specs.Course.{Course, IsCourse}
 -- the greatest age of a plane whose cells are told as ash
 abbrev pub ash_age_limit : ℕ
 ash_age_limit = 400000
-
--- the sets that recur so
-abbrev pub sets_of : List Course → List Generation
-sets_of courses = map (λ o. o.set) courses
-
--- it recurs by this rule
-abbrev pub IsCourseBy : Rule → Course → Type 0
-IsCourseBy R o = o.rule ≡ R
 
 -- it stands in the field at age 400,000
 abbrev pub IsPlaced : Course → Type 0

@@ -6,7 +6,8 @@ ghost use Rattle.life_objects.specs.Ash.{IsAsh};
 ghost use Rattle.life_orbit.specs.Course.{IsCourse};
 ghost use Rattle.life_ash.specs.Ahead.{HasEnded, IsFound, IsFoundPast};
 ghost use Rattle.life_ash.specs.Allowed.{AreAllowedBefore};
-ghost use Rattle.life_ash.specs.Parts.{IsCourseBy, IsPlaced, ash_age_limit, sets_of};
+ghost use Rattle.life_apart.specs.Sets.{IsCourseBy, sets_of};
+ghost use Rattle.life_ash.specs.Parts.{IsPlaced, ash_age_limit};
 
 use crate::found::Found;
 use crate::guess::guessed_parts;
@@ -17,11 +18,8 @@ use life_orbit::Orbit;
 use life_plane::{AGE_LIMIT, Plane};
 use std::alloc::{AllocError, Global};
 
-/// How many times as old as the bound a pattern gets before it is no longer looked for ash of a later generation.
-const TIMES: u32 = 4;
-
 /// Parts of which a plane's cells are ash, where a look at this age is due and finds them.
-fn parts_if_due<P: Plane>(
+pub fn parts_if_due<P: Plane>(
     alloc: Global,
     plane: &P,
     met: &mut Known,
@@ -89,8 +87,7 @@ pub fn walk_on<P: Plane>(
     Ok(Found::Nothing)
 }
 
-/// Walks on from a plane that is as old as the bound, to three times the bound and further, but no generation after that
-/// is asked for its size. The plane itself stays as it is.
+/// Walks on from a plane that is as old as the bound, to three times the bound. The plane itself stays as it is.
 pub fn found_past<P: Plane>(
     alloc: Global,
     plane: &P,
@@ -105,14 +102,7 @@ pub fn found_past<P: Plane>(
         AreAllowedBefore met.old.rule G limit met.old.bound →
         IsFoundPast met.old.rule met.old.bound G limit found) }
 {
-    let bound = met.bound();
-    let last = 3 * bound;
+    let last = 3 * met.bound();
     let mut later = plane.copy()?;
-    match walk_on(alloc, &mut later, met, pace, limit, last + 1, last)? {
-        Found::Nothing => {
-            let end = TIMES * bound;
-            walk_on(alloc, &mut later, met, pace, None, end, end)
-        }
-        found => Ok(found),
-    }
+    walk_on(alloc, &mut later, met, pace, limit, last + 1, last)
 }

@@ -4,7 +4,8 @@ ghost use Rattle.life_model.specs.Generation as generations;
 ghost use Rattle.life_cells.specs.Limits.{IsWithin};
 ghost use Rattle.life_objects.specs.Ash.{IsAsh};
 ghost use Rattle.life_orbit.specs.Course.{IsCourse};
-ghost use Rattle.life_ash.specs.Parts.{IsCourseBy, IsFit, IsPlaced, ash_age_limit, sets_of};
+ghost use Rattle.life_apart.specs.Sets.{IsCourseBy, sets_of};
+ghost use Rattle.life_ash.specs.Parts.{IsFit, IsPlaced, ash_age_limit};
 
 use crate::ash_orbits::is_ash;
 use crate::known::Known;

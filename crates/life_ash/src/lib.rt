@@ -6,7 +6,7 @@
 mod ahead;
 mod ash_orbits;
 mod before;
-mod checks;
+mod far;
 mod found;
 mod guess;
 mod known;
@@ -17,8 +17,7 @@ mod parts;
 mod pattern;
 mod pattern_fate;
 mod sizes;
-mod span;
-mod sweep;
+mod told;
 mod whole;
 
 pub use ash_orbits::{Ash, ash_of, is_ash};

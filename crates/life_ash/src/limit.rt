@@ -6,7 +6,8 @@ ghost use Rattle.life_model.specs.Rule.{Rule as ModelRule};
 ghost use Rattle.life_answer.specs.Limited.{IsAllowed, first_past};
 ghost use Rattle.life_objects.specs.Ash.{IsAsh};
 ghost use Rattle.life_ash.specs.Allowed.{AreAllowedBefore};
-ghost use Rattle.life_ash.specs.Parts.{IsCourseBy, ash_age_limit, sets_of};
+ghost use Rattle.life_apart.specs.Sets.{IsCourseBy, sets_of};
+ghost use Rattle.life_ash.specs.Parts.{ash_age_limit};
 
 use crate::pace::{Pace, STRIDE};
 use crate::sizes::are_few;

@@ -7,7 +7,8 @@ ghost use Rattle.std.specs.List.{Contains};
 ghost use Rattle.life_cells.specs.Limits.{IsWithin};
 ghost use Rattle.life_objects.specs.Ash.{IsAsh};
 ghost use Rattle.life_orbit.specs.Kept.{orbit_age_limit};
-ghost use Rattle.life_ash.specs.Parts.{AreEndsOfCourses, IsEnd, IsFit, IsPlaced, ash_age_limit, sets_of};
+ghost use Rattle.life_apart.specs.Sets.{sets_of};
+ghost use Rattle.life_ash.specs.Parts.{AreEndsOfCourses, IsEnd, IsFit, IsPlaced, ash_age_limit};
 
 use crate::before::set_before;
 use crate::known::Known;

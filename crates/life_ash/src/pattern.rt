@@ -8,10 +8,10 @@ ghost use Rattle.life_cells.specs.Limits.{IsWithin};
 ghost use Rattle.life_objects.specs.Ash.{HasFallenApart};
 ghost use Rattle.life_ash.specs.Allowed.{AreAllowedBefore};
 ghost use Rattle.life_ash.specs.Fates.{IsFate, IsSmallEnough};
-ghost use Rattle.life_ash.specs.Parts.{IsCourseBy, sets_of};
+ghost use Rattle.life_apart.specs.Sets.{IsCourseBy, sets_of};
 
 use crate::ahead::{found_past, walk_on};
-use crate::ash_orbits::{Ash, ash_before, ash_by};
+use crate::ash_orbits::{Ash, ash_before, ash_told};
 use crate::found::Found;
 use crate::known::Known;
 use crate::pace::Pace;
@@ -57,7 +57,7 @@ fn fate_past<P: Plane>(
     Ok(match found_past(alloc, plane, met, pace, limit)? {
         Found::Large { generation } => Fate::Large { generation },
         Found::Parts { parts, age } => fate_of(ash_before(alloc, plane, met, parts, age - bound)?),
-        Found::Nothing => fate_of(ash_by(alloc, plane, met)?),
+        Found::Nothing => fate_of(ash_told(alloc, plane, met, pace)?),
     })
 }
 

@@ -4,7 +4,8 @@ ghost use Rattle.life_model.specs.Generation as generations;
 ghost use Rattle.life_cells.specs.Limits.{IsWithin};
 ghost use Rattle.life_objects.specs.Ash.{IsObject};
 ghost use Rattle.life_objects.specs.Piece.{IsOnePiece, IsUndivided};
-ghost use Rattle.life_ash.specs.Parts.{IsFit, sets_of};
+ghost use Rattle.life_apart.specs.Sets.{sets_of};
+ghost use Rattle.life_ash.specs.Parts.{IsFit};
 
 use life_cells::{CellList, Rule};
 use life_orbit::{BOUND_LIMIT, Orbit};
@@ -30,7 +31,9 @@ fn is_undivided<P: Plane>(
     life_classes::is_undivided(alloc, plane, rule, bound)
 }
 
-/// Whether no generation of a set that recurs is divided.
+/// Whether no generation of a set that recurs is divided. A generation that is undivided within some generations tells
+/// that the one before it is within one more, so mostly a few phases tell of all: the last of as many as may be is looked
+/// at, and where that doesn't tell, of half as many.
 fn is_one_piece<P: Plane>(
     alloc: Global,
     orbit: &Orbit,
@@ -41,9 +44,17 @@ fn is_one_piece<P: Plane>(
     requires fit { IsFit rule.now bound orbit.now }
     ensures { IfOk result (λ is. IsTrue is ↔ IsOnePiece rule.now bound orbit.now.set) }
 {
-    for phase in 0..orbit.period() {
-        if !is_undivided::<P>(alloc, orbit.phase(phase), rule, bound)? {
+    let mut end = orbit.period();
+    let mut step = end;
+    while 0 < end {
+        step = step.min(end);
+        let phase = orbit.phase(end - 1);
+        if is_undivided::<P>(alloc, phase, rule, bound - (step - 1))? {
+            end -= step;
+        } else if step == 1 {
             return Ok(false);
+        } else {
+            step /= 2;
         }
     }
     Ok(true)

@@ -22,7 +22,7 @@ use Rattle.life_answer.proofs.Codes.{codes_tell_objects}
 use Rattle.life_answer.proofs.Tallying.{counted_permutation}
 use Rattle.life_orbit.specs.Course.{Course, IsCourse}
 use Rattle.life_ash.specs.Later.{courses_after, course_after}
-use Rattle.life_ash.specs.Parts.{IsCourseBy, sets_of}
+use Rattle.life_apart.specs.Sets.{IsCourseBy, sets_of}
 use Rattle.life_answer.specs.Census.{census_found, census_of, part_code}
 use Rattle.life_census.specs.Courses.{course_code}
 use Rattle.life_census.proofs.PartCodes.{code_alone, settles}

@@ -7,7 +7,7 @@ use Rattle.life_answer.specs.Limited.{IsAllowed, first_past}
 use Rattle.life_objects.specs.Ash.{IsAsh}
 use Rattle.life_ash.specs.Ahead.{IsFound}
 use Rattle.life_ash.specs.Met.{Terms}
-use Rattle.life_ash.specs.Parts.{IsCourseBy, sets_of}
+use Rattle.life_apart.specs.Sets.{IsCourseBy, sets_of}
 use Rattle.life_ash.proofs.Limits.{past_here, past_later, past_nowhere_later, past_within}
 use Rattle.life_ash.proofs.ahead.walk_on.Goals as goal
 use Rattle.life_ash.proofs.ahead.walk_on.Goals.{in-Some-3, in-None}

@@ -1,7 +1,8 @@
 use Rattle.std.proofs.Common.{sym, subst}
 use Rattle.std.proofs.lemmas.List.Elements.{All-same, All-weaker}
 use Rattle.life_objects.specs.Ash.{IsAsh}
-use Rattle.life_ash.specs.Parts.{IsCourseBy, IsFit, sets_of}
+use Rattle.life_apart.specs.Sets.{IsCourseBy, sets_of}
+use Rattle.life_ash.specs.Parts.{IsFit}
 use Rattle.life_ash.proofs.Later.{ash_now, of_later}
 use Rattle.life_ash.proofs.ash_orbits.ash_if.Goals as goal
 

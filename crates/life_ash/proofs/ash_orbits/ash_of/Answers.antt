@@ -2,7 +2,7 @@ use Rattle.std.proofs.Common.{IfNone, IfOk, IfSome, List, subst}
 use Rattle.std.specs.List.{All}
 use Rattle.life_model.specs.Generation.{Generation}
 use Rattle.life_objects.specs.Ash.{IsAsh}
-use Rattle.life_ash.specs.Parts.{IsCourseBy, sets_of}
+use Rattle.life_apart.specs.Sets.{IsCourseBy, sets_of}
 use Rattle.life_ash.proofs.ash_orbits.ash_of.Goals as goal
 
 pub returns-clause-some : goal.returns-clause-some

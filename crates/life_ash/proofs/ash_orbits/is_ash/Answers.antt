@@ -1,7 +1,8 @@
 use Rattle.std.proofs.Common.{refl, sym, ◌∙◌, true≢false}
 use Rattle.std.proofs.lemmas.List.Elements.{All-weaker}
 use Rattle.std.proofs.lemmas.Result.{IfOk-weaker}
-use Rattle.life_ash.specs.Parts.{IsCourseBy, IsFit}
+use Rattle.life_apart.specs.Sets.{IsCourseBy}
+use Rattle.life_ash.specs.Parts.{IsFit}
 use Rattle.life_ash.proofs.ash_orbits.is_ash.Goals as goal
 
 pub are_apart-requires : goal.are_apart-requires

@@ -1,5 +1,5 @@
 use Rattle.std.proofs.Common.{◌≡◌, take}
-use Rattle.life_ash.specs.Parts.{sets_of}
+use Rattle.life_apart.specs.Sets.{sets_of}
 use Rattle.life_ash.proofs.parts.sets.Given as goal
 
 abbrev pub invariant-loop-orbit : goal.invariant-loop-orbit

@@ -5,7 +5,7 @@ use Rattle.life_objects.specs.Ash.{HasFallenApart}
 use Rattle.life_ash.specs.Ahead.{HasEnded, IsFound}
 use Rattle.life_ash.specs.Fates.{IsFate}
 use Rattle.life_ash.specs.Met.{Terms}
-use Rattle.life_ash.specs.Parts.{IsCourseBy, sets_of}
+use Rattle.life_apart.specs.Sets.{IsCourseBy, sets_of}
 use Rattle.life_ash.proofs.Later.{ash_until, of_later}
 use Rattle.life_ash.proofs.Ways.{found_from_start, nothing_from_start}
 use Rattle.life_ash.proofs.pattern.fate.Goals as goal

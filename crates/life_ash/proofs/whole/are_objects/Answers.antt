@@ -1,6 +1,6 @@
 use Rattle.std.proofs.Common.{refl, sym, subst, ◌∙◌, true≢false, arith}
 use Rattle.life_objects.specs.Ash.{IsObject}
-use Rattle.life_ash.proofs.Pairs.{at_each, of_each}
+use Rattle.life_apart.proofs.Pairs.{at_each, of_each}
 use Rattle.life_ash.proofs.whole.are_objects.Goals as goal
 
 pub returns-then-not-branch : goal.returns-then-not-branch

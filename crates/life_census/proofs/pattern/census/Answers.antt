@@ -8,7 +8,7 @@ use Rattle.life_answer.specs.declared.question.Question.TheVariants.{Objects}
 use Rattle.life_answer.specs.declared.finding.Outcome.{Outcome}
 use Rattle.life_answer.specs.declared.finding.Outcome.TheVariants.{Ash}
 use Rattle.life_ash.specs.Fates.{IsFate}
-use Rattle.life_ash.specs.Parts.{IsCourseBy, sets_of}
+use Rattle.life_apart.specs.Sets.{IsCourseBy, sets_of}
 use Rattle.life_census.proofs.LaterParts.{census_none, census_some, of_sooner}
 use Rattle.life_census.proofs.pattern.census.Goals as goal
 use Rattle.life_census.proofs.pattern.census.Goals.{in-Ash+in_ok-parts_of-in-Ash, in-Large, in-Unresolved}

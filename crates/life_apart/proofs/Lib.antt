@@ -1,0 +1,4 @@
+pub mod Together
+pub mod Pairs
+pub mod Bands
+pub mod Sweeping

@@ -1,0 +1,13 @@
+-- The sets of orbits.
+use Rattle.std.specs.Prelude.{◌≡◌, List, map}
+use Rattle.life_model.specs.Generation.{Generation}
+use Rattle.life_model.specs.Rule.{Rule}
+use Rattle.life_orbit.specs.Course.{Course}
+
+-- the sets that recur so
+abbrev pub sets_of : List Course → List Generation
+sets_of courses = map (λ o. o.set) courses
+
+-- it recurs by this rule
+abbrev pub IsCourseBy : Rule → Course → Type 0
+IsCourseBy R o = o.rule ≡ R

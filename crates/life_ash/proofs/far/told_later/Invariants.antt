@@ -1,0 +1,17 @@
+use Rattle.std.proofs.Common.{◌≡◌, ◌+◌, ◌-◌, ◌*◌, ◌≤◌, length}
+use Rattle.life_model.specs.Evolution.{generation}
+use Rattle.life_tally.specs.Totals.{AreTotals, total}
+use Rattle.life_ash.proofs.far.told_later.Given as goal
+
+-- so many generations after the bound all cells are counted, and before each stretch they were
+abbrev pub invariant-loop-age : goal.invariant-loop-age
+invariant-loop-age g l = record {
+  aged : g.P.Plane.steps_made l.later ≡ l.age;
+  past : l.initial.met.bound ≤ l.age;
+  same : l.met ≡ l.initial.met;
+  members : g.P.Plane.members l.later
+      ≡ generation l.initial.met.rule (g.P.Plane.members l.fn.plane) (l.age - l.initial.met.bound);
+  counted : l.total ≡ total l.initial.met.rule (g.P.Plane.members l.fn.plane) (l.age - l.initial.met.bound);
+  totals : AreTotals l.initial.met.rule l.initial.met.bound (g.P.Plane.members l.fn.plane) l.totals.items;
+  stretch : length l.totals.items * l.initial.met.bound ≡ (l.age - l.initial.met.bound) + l.left;
+}

@@ -1,0 +1,81 @@
+//! Walks far past the bound, for what later generations tell of its own.
+ghost use Rattle.std.specs.Prelude.{◌≡◌, ◌+◌, ◌*◌, ◌≤◌, IfOk, IfSome};
+ghost use Rattle.life_model.specs.Generation.{size};
+ghost use Rattle.life_ash.specs.Parts.{ash_age_limit};
+ghost use Rattle.life_ash.specs.Telling.{IsTold};
+
+use crate::ahead::parts_if_due;
+use crate::known::Known;
+use crate::pace::Pace;
+use crate::told::Told;
+use life_plane::Plane;
+use life_tally::is_uneven;
+use std::alloc::{AllocError, Global};
+
+/// How many times as old as the bound a pattern gets at most.
+const TIMES: u32 = 16;
+
+/// The greatest age of a plane whose cells are told as ash.
+const LAST: u32 = 400_000;
+
+/// The greatest age to which a walk goes, where the bound is this.
+fn last_age(bound: u32) -> u32
+    requires { 1 ≤ bound }
+    ensures { result ≤ ash_age_limit }
+{
+    LAST.min(bound.saturating_mul(TIMES))
+}
+
+/// A total, and the cells of one more generation, where that is no larger than can be counted. The pace notes how many these are.
+fn counted<P: Plane>(total: u64, plane: &P, pace: &mut Pace, age: u32) -> Option<u64>
+    ensures { IfSome result (λ sum. sum ≡ total + size (P.members plane.now)) }
+{
+    let population = plane.population();
+    pace.count(age, population);
+    total.checked_add(population)
+}
+
+/// Walks on from a plane that is as old as the bound. A stretch of as many generations as is the bound has many more cells
+/// than another only where there is no ash, so the cells are counted. After three times the bound it is looked now and
+/// then whether they are ash.
+pub fn told_later<P: Plane>(
+    alloc: Global,
+    plane: &P,
+    met: &mut Known,
+    pace: &mut Pace,
+) -> Result<Told, AllocError>
+    requires { P.steps_made plane.now ≡ met.old.bound }
+    ensures same { met.new ≡ met.old }
+    ensures told { IfOk result (IsTold met.old.rule met.old.bound (P.members plane.now)) }
+{
+    let rule = met.rule();
+    let bound = met.bound();
+    let mut later = plane.copy()?;
+    let mut totals = Vec::new(alloc);
+    let mut total = 0;
+    let mut left = 0;
+    for age in bound..last_age(bound) + 1 {
+        if left == 0 {
+            totals.push(total)?;
+            if is_uneven(totals.as_slice()) {
+                return Ok(Told::Never);
+            }
+            left = bound;
+        }
+        if 3 * bound < age {
+            if let Some(parts) = parts_if_due(alloc, &later, met, pace, age)? {
+                return Ok(Told::Parts {
+                    parts,
+                    ago: age - bound,
+                });
+            }
+        }
+        let Some(sum) = counted(total, &later, pace, age) else {
+            return Ok(Told::Nothing);
+        };
+        total = sum;
+        left -= 1;
+        later.step(&rule)?;
+    }
+    Ok(Told::Nothing)
+}

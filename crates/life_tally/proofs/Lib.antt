@@ -1,0 +1,5 @@
+pub mod Sums
+pub mod Unions
+pub mod Even
+pub mod Measures
+pub mod Stretches

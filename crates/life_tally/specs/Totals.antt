@@ -1,0 +1,30 @@
+-- How many cells a set's generations have, counted over stretches of so many generations.
+use Rattle.std.specs.Prelude.{◌≡◌, ℕ, zero, suc, ◌+◌, ◌-◌, ◌*◌, ◌<◌, List, length, slice_index_or}
+use Rattle.life_model.specs.Evolution.{generation}
+use Rattle.life_model.specs.Generation.{Generation, size}
+use Rattle.life_model.specs.Rule.{Rule}
+
+-- f 0, f 1 and so on, the first n of them added up
+abbrev pub sum_to : (ℕ → ℕ) → ℕ → ℕ
+sum_to f zero = 0
+sum_to f (suc n) = sum_to f n + f n
+
+-- how many cells the first n generations have, counted one by one
+abbrev pub total : Rule → Generation → ℕ → ℕ
+total R G n = sum_to (λ m. size (generation R G m)) n
+
+-- the totals before each stretch of b generations
+abbrev pub AreTotals : Rule → ℕ → Generation → List ℕ → Type 0
+AreTotals R b G totals = (j d : ℕ) → j < length totals → slice_index_or totals j d ≡ total R G (j * b)
+
+-- Some stretches, so many in turn, have more cells than as many others and one more of their length could have, if what
+-- they count came again within a stretch.
+pub record IsUneven (totals : List ℕ) : Type 0 where
+  pub count : ℕ
+  pub lesser : ℕ
+  pub greater : ℕ
+  pub has_lesser : lesser + count < length totals
+  pub has_greater : greater + count < length totals
+  pub more : (d : ℕ) →
+      (count + 1) * (slice_index_or totals (lesser + count) d - slice_index_or totals lesser d)
+      < count * (slice_index_or totals (greater + count) d - slice_index_or totals greater d)
