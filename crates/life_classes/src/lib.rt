@@ -5,6 +5,7 @@
 
 mod chains;
 mod class;
+mod following;
 mod gathering;
 mod joining;
 mod meeting;

@@ -6,8 +6,9 @@ ghost use Rattle.life_objects.specs.Union.{generations, union_of};
 ghost use Rattle.life_objects.specs.Whole.{StaysWhole};
 ghost use Rattle.life_classes.specs.Tracking.{AreApartNow, LeadTo, class_of_cell, first_sets, last_sets};
 
-use crate::chains::chains;
+use crate::chains::{as_one, chains};
 use crate::class::Class;
+use crate::following::follow_on;
 use crate::joining::all_joined;
 use crate::stepping::stepped;
 use life_cells::Rule;
@@ -20,6 +21,9 @@ pub fn first_classes(alloc: Global, cells: &[(i32, i32)]) -> Result<Vec<Class>, 
     ensures tracked { IfOk result (λ all. LeadTo (map class_of_cell cells.now) all.items) }
     ensures apart { IfOk result (λ all. AreApartNow all.items) }
 {
+    if cells.len() > 0 && follow_on(cells) {
+        return Ok(vec![in alloc; as_one(alloc, cells)?]?);
+    }
     all_joined(alloc, chains(alloc, cells)?)
 }
 
