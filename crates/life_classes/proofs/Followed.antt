@@ -1,5 +1,5 @@
 -- Cells each of which is near one before it are one class.
-use Rattle.std.proofs.Common.{◌≡◌, ℕ, ◌<◌, true, false, ◌||◌, Bool, List, [], ◌∷◌, length, get_or, map}
+use Rattle.std.proofs.Common.{◌≡◌, ◌<◌, true, false, ◌||◌, Bool, List, [], ◌∷◌, length, get_or, map}
 use Rattle.std.proofs.Common.{refl, sym, ap, subst, ◌∙◌, arith}
 use Rattle.std.proofs.lemmas.List.{get_or-map, length-map}
 use Rattle.life_model.specs.Cell.{Cell, origin}

@@ -53,3 +53,30 @@ pub fn classes<P: Plane>(
     }
     Ok(classes)
 }
+
+/// The same of a plane that stays as it is. It is copied only where a generation is made.
+pub fn classes_of<P: Plane>(
+    alloc: Global,
+    plane: &P,
+    rule: &Rule,
+    bound: u32,
+) -> Result<Vec<Class>, AllocError>
+    requires young { P.steps_made plane.now + bound ≤ AGE_LIMIT }
+    ensures together { IfOk result
+        (λ all. union_of (first_sets all.items) ≡ P.members plane.now) }
+    ensures whole { IfOk result
+        (λ all. All (StaysWhole rule.now bound (P.members plane.now)) (first_sets all.items)) }
+    ensures apart { IfOk result
+        (λ all. AllPairs (AreApartFor rule.now bound) (first_sets all.items)) }
+    ensures later { IfOk result
+        (λ all. last_sets all.items ≡ generations rule.now (first_sets all.items) bound) }
+{
+    if bound == 0 {
+        let cells = plane.cells()?;
+        let all = first_classes(alloc, cells.as_slice())?;
+        return Ok(all);
+    }
+    let copy = plane.copy()?;
+    let all = classes(alloc, copy, rule, bound)?;
+    Ok(all)
+}

@@ -1,6 +1,6 @@
-use Rattle.std.proofs.Common.{◌<◌, [], ◌∷◌, length, map, sym, ap, subst, ◌∙◌, arith}
+use Rattle.std.proofs.Common.{[], ◌∷◌, map, sym, ap, subst, ◌∙◌, arith}
 use Rattle.std.proofs.lemmas.Result.{IfOk-weaker}
-use Rattle.life_classes.specs.Tracking.{LeadTo, at_first, class_of_cell}
+use Rattle.life_classes.specs.Tracking.{LeadTo, class_of_cell}
 use Rattle.life_classes.proofs.Followed.{lead_followed}
 use Rattle.life_classes.proofs.Merging.{in_turn}
 use Rattle.life_classes.proofs.splitting.first_classes.Goals as goal

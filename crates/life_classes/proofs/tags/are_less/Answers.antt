@@ -1,4 +1,4 @@
-use Rattle.std.proofs.Common.{◌-◌, pos, ◌<ℤ◌, get_or, sym, subst, arith}
+use Rattle.std.proofs.Common.{◌-◌, pos, ◌<ℤ◌, sym, subst, arith}
 use Rattle.std.proofs.lemmas.Int.{ints}
 use Rattle.std.proofs.lemmas.List.{get_or_default}
 use Rattle.life_classes.specs.declared.tags.Tag.{Tag}

@@ -1,5 +1,4 @@
 use Rattle.std.proofs.Common.{int_lt, rules, arith}
-use Rattle.std.proofs.lemmas.Int.{ints}
 use Rattle.std.proofs.lemmas.List.Sorted.{IsPartitionPoint-from_clause}
 use Rattle.life_classes.proofs.Lookups.{less_by_test, parted_at}
 use Rattle.life_classes.proofs.tags.place_from.Goals as goal
