@@ -9,7 +9,7 @@ ghost use Rattle.life_ash.specs.Parts.{IsFit, IsPlaced, ash_age_limit};
 
 use crate::ash_orbits::is_ash;
 use crate::known::Known;
-use life_classes::{Class, classes};
+use life_classes::{Class, classes_of};
 use life_orbit::Orbit;
 use life_plane::Plane;
 use std::alloc::{AllocError, Global};
@@ -90,9 +90,9 @@ fn parts_by_effort<P: Plane>(
     let bound = known.bound();
     let followed = bound.min(effort.followed);
     let tried = bound.min(effort.recurs.max(1));
-    let copy = plane.copy()?;
-    let _age = copy.age();
-    let all = classes(alloc, copy, &rule, followed)?;
+    // (at its age no cell is too far out)
+    let _age = plane.age();
+    let all = classes_of(alloc, plane, &rule, followed)?;
     let Some(parts) = orbits_of(alloc, known, all.as_slice(), tried)? else {
         return Ok(None);
     };

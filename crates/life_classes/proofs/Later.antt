@@ -5,8 +5,9 @@ use Rattle.std.specs.List.{All, AllPairs, Contains}
 use Rattle.std.proofs.lemmas.Bool.{cases_lt}
 use Rattle.std.proofs.lemmas.List.{get_or-map, length-map}
 use Rattle.std.proofs.lemmas.List.Elements.{All-head, All-tail, All-map}
+use Rattle.life_model.specs.Cell.{Cell}
 use Rattle.life_model.specs.Rule.{Rule}
-use Rattle.life_model.specs.Generation.{Generation, keep}
+use Rattle.life_model.specs.Generation.{Generation, cells, keep}
 use Rattle.life_model.specs.Evolution.{generation, next}
 use Rattle.life_model.proofs.Recurrences.{generation-next}
 use Rattle.life_objects.specs.Apart.{AreApart, AreApartBefore, AreApartFor}
@@ -16,7 +17,9 @@ use Rattle.life_objects.proofs.Lists.{AllPairs-map, AllPairs-weaker}
 use Rattle.life_objects.proofs.Many.{generation-union_of, pairs_then}
 use Rattle.life_classes.specs.declared.class.Class.{Class}
 use Rattle.life_classes.specs.Nearness.{reaches}
-use Rattle.life_classes.specs.Tracking.{AreApartNow, AreTracked, first_sets, last_sets, moved_on}
+use Rattle.life_classes.specs.Tracking.{AreApartNow, AreTracked, LeadTo, class_of_cell, first_sets, last_sets, moved_on}
+use Rattle.life_classes.proofs.Beginning.{alone_tracked}
+use Rattle.life_classes.proofs.Merging.{led}
 use Rattle.life_classes.proofs.Owners.{next_by_touch}
 
 firsts-moved_on : (H : Generation) (cs : List Class) → first_sets (map (moved_on H) cs) ≡ first_sets cs
@@ -84,3 +87,12 @@ module _ (R : Rule) (b n : ℕ) (G : Generation) (cs : List Class) (t : AreTrack
     later =
         All-map (λ c. c.last ≡ generation R c.first (n + 1)) (moved_on H) cs (later_at H is);
   }
+
+-- ---- before the first generation
+
+-- classes into which the cells of G, each a class of its own, are joined
+pub tracked_at_first : (R : Rule) (b : ℕ) (G : Generation) (cs : List Cell) (ds : List Class) → cs ≡ cells G →
+    LeadTo (map class_of_cell cs) ds → AreTracked R b 0 G ds
+tracked_at_first R b G cs ds is leads =
+    led (map class_of_cell cs) ds leads R b 0 G (omega arith)
+    (subst (λ xs. AreTracked R b 0 G (map class_of_cell xs)) (sym is) (alone_tracked R b G))

@@ -11,6 +11,7 @@ pub mod Aparting
 pub mod Later
 pub mod Few
 pub mod NextToNext
+pub mod Followed
 pub mod OnTrue
 pub mod Permuted
 pub mod Groups

@@ -1,5 +1,5 @@
 -- Cells that are looked up among those of all classes.
-use Rattle.std.proofs.Common.{◌≡◌, ◌⊎◌, ℕ, ◌+◌, ◌-◌, ◌<◌, ◌≤◌, ◌^◌, ℤ, pos, ◌+ℤ◌, ◌<ℤ◌, ◌≤ℤ◌, List, [], ◌∷◌, ◌++◌, length, get_or, map, take, drop, append_assoc}
+use Rattle.std.proofs.Common.{◌≡◌, ◌⊎◌, ℕ, ◌+◌, ◌-◌, ◌<◌, ◌≤◌, ℤ, pos, ◌+ℤ◌, ◌<ℤ◌, ◌≤ℤ◌, List, [], ◌∷◌, ◌++◌, length, get_or, map, take, drop, append_assoc}
 use Rattle.std.proofs.Common.{true, false, inl, inr, refl, sym, ap, subst, ◌∙◌, true≢false, arith, Ordering, Less, Equal, Greater, int_cmp, int_lt, length-drop, get_or-drop}
 use Rattle.std.specs.Cmp.{int_ranks}
 use Rattle.std.specs.List.{All, Contains}
@@ -21,7 +21,7 @@ use Rattle.life_objects.proofs.Distances.{AreNear-swap}
 use Rattle.life_classes.specs.declared.class.Class.{Class}
 use Rattle.life_classes.specs.declared.tags.Tag.{Tag}
 use Rattle.life_classes.specs.Nearness.{lists_cell}
-use Rattle.life_classes.specs.Tags.{AreOfOneClass, AreOfUpTo, AreRisingTags, AreTags, IsAlone, place_number, tag_of}
+use Rattle.life_classes.specs.Tags.{AreLess, AreOfOneClass, AreOfUpTo, AreRisingTags, AreTags, IsAlone, place_number, tag_of}
 use Rattle.life_classes.specs.Tracking.{AreApartNow}
 
 by_rank : (r : Ordering) (x y : ℤ) → MatchOrdering r (x <ℤ y) (x ≡ y) (y <ℤ x) → (x ≤ℤ y) ⊎ (y <ℤ x)
@@ -85,15 +85,17 @@ rising_from_sorted ts sorted i j d before within =
 not_rising : (x y t : ℤ) → x ≤ℤ y → int_lt y t ≡ true → int_lt x t ≡ true
 not_rising x y t h e = grind (arith, ints)
 
-not_below : (x t : ℤ) → int_lt x t ≡ true → t ≤ℤ x → ⊥
-not_below x t e h = grind (arith, ints)
+not_below : (x t : ℤ) → x <ℤ t → t ≤ℤ x → ⊥
+not_below x t e h = omega (arith, ints)
+
+pub less_by_test : (x t : ℤ) → int_lt x t ≡ true → x <ℤ t
+less_by_test x t e = grind (arith, ints)
 
 pub parted_at : (ts : List Tag) (low : ℤ) → AreRisingTags ts → IsPartitionedBy (λ t. int_lt t.number low) ts
 parted_at ts low rising i j d k l e = not_rising _ _ low (rising i j d k l) e
 
 pub kept_from : (ts : List Tag) (low high : ℤ) (s place : ℕ) →
-    ((k : ℕ) (d : Tag) → k < s → k < length ts → int_lt (get_or ts k d).number low ≡ true) →
-    AreOfUpTo high place (drop s ts) → All (λ t. low ≤ℤ t.number → t.number ≤ℤ high → t.place ≡ place) ts
+    AreLess ts s low → AreOfUpTo high place (drop s ts) → All (λ t. low ≤ℤ t.number → t.number ≤ℤ high → t.place ≡ place) ts
 kept_from ts low high s place first all k d h from to = elim (cases_lt k s) [
   | inl before ↦ absurd (not_below (get_or ts k d).number low (first k d before h) from)
   | inr after ↦

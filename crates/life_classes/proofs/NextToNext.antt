@@ -26,7 +26,7 @@ first_listed : (c : Cell) (cs : List Cell) → contains (from_list (c ∷ cs)) c
 first_listed c cs =
     contains-from_list (c ∷ cs) c ∙ ap (λ b. b || list_any (same_cell c) cs) ((same_cell-is c c).1 refl)
 
-near_next : (c d : Cell) (ds : List Cell) → are_within 2 c d ≡ true →
+pub near_next : (c d : Cell) (ds : List Cell) → are_within 2 c d ≡ true →
     ¬ AreApart (from_list (c ∷ [])) (from_list (d ∷ ds))
 near_next c d ds h far =
     let w = within_by_test 2 c d h in

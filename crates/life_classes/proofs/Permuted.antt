@@ -1,5 +1,5 @@
 -- Lists in another order: pairs of elements, unions of sets, and classes.
-use Rattle.std.proofs.Common.{◌≡◌, ◌≢◌, ◌⊎◌, ℕ, ◌<◌, List, ◌++◌, length, get_or, map, true, Bool}
+use Rattle.std.proofs.Common.{◌≡◌, ◌≢◌, ◌⊎◌, ℕ, ◌<◌, List, ◌++◌, length, get_or, true, Bool}
 use Rattle.std.proofs.Common.{inl, inr, refl, sym, ap, subst, ◌∙◌, arith}
 use Rattle.std.specs.List.{AllPairs, list_any, swap}
 use Rattle.std.specs.List.Sorted.{IsPermutation}

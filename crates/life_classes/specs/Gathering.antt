@@ -1,5 +1,5 @@
 -- Classes that hang together.
-use Rattle.std.specs.Prelude.{ℕ, ◌+◌, ◌-◌, ◌<◌, ◌≤◌, Bool, true, false, List, length, get_or, map, take, drop}
+use Rattle.std.specs.Prelude.{ℕ, ◌-◌, ◌<◌, ◌≤◌, Bool, true, false, List, length, get_or, map, take, drop}
 use Rattle.life_model.specs.Generation.{Generation}
 use Rattle.life_objects.specs.Apart.{AreApart}
 use Rattle.life_classes.specs.declared.class.Class.{Class}

@@ -24,3 +24,13 @@ lists_cell cs c = list_any (same_cell c) cs
 abbrev pub IsChain : List Cell → Type 0
 IsChain cs =
     (k j : ℕ) (d : Cell) → j ≡ k + 1 → j < length cs → are_within 2 (get_or cs k d) (get_or cs j d) ≡ true
+
+-- a cell that stands before the one in place n is near it
+pub record IsNearOneBefore (cs : List Cell) (n : ℕ) : Type 0 where
+  pub by : ℕ
+  pub before : by < n
+  pub near : (d : Cell) → are_within 2 (get_or cs by d) (get_or cs n d) ≡ true
+
+-- each of the cells but the first is near one before it
+abbrev pub FollowOn : List Cell → Type 0
+FollowOn cs = (n : ℕ) → 0 < n → n < length cs → IsNearOneBefore cs n

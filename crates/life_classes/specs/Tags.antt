@@ -1,5 +1,5 @@
 -- The cells of classes in order, each with the place of its class.
-use Rattle.std.specs.Prelude.{◌≡◌, ℕ, ◌+◌, ◌<◌, ◌≤◌, ◌^◌, ℤ, pos, neg_ℤ, ◌+ℤ◌, ◌*ℤ◌, ◌≤ℤ◌, true, List, length, get_or}
+use Rattle.std.specs.Prelude.{◌≡◌, ℕ, ◌+◌, ◌<◌, ◌≤◌, ◌^◌, ℤ, pos, neg_ℤ, ◌+ℤ◌, ◌*ℤ◌, ◌<ℤ◌, ◌≤ℤ◌, true, List, length, get_or}
 use Rattle.std.specs.List.{All, Contains}
 use Rattle.life_model.specs.Cell.{Cell}
 use Rattle.life_model.specs.Generation.{contains}
@@ -26,6 +26,10 @@ AreTags cs ts = (i : ℕ) (d : Class) (c : Cell) → i < length cs → contains 
 -- no number is less than one that stands before it
 abbrev pub AreRisingTags : List Tag → Type 0
 AreRisingTags ts = (i j : ℕ) (d : Tag) → i ≤ j → j < length ts → (get_or ts i d).number ≤ℤ (get_or ts j d).number
+
+-- those before place n have numbers that are less
+abbrev pub AreLess : List Tag → ℕ → ℤ → Type 0
+AreLess ts n low = (k : ℕ) (d : Tag) → k < n → k < length ts → (get_or ts k d).number <ℤ low
 
 -- those with a number up to this one are of one class
 abbrev pub AreOfUpTo : ℤ → ℕ → List Tag → Type 0

@@ -40,7 +40,7 @@ fn set_of(alloc: Global, cells: &[(i32, i32)]) -> Result<CellList, AllocError>
 }
 
 /// Some cells as one class.
-fn as_one(alloc: Global, cells: &[(i32, i32)]) -> Result<Class, AllocError>
+pub fn as_one(alloc: Global, cells: &[(i32, i32)]) -> Result<Class, AllocError>
     requires { All IsPlace cells.now }
     ensures { IfOk result (λ class. class ≡ at_first cells.now) }
 {

@@ -5,6 +5,7 @@
 
 mod chains;
 mod class;
+mod following;
 mod gathering;
 mod joining;
 mod meeting;
@@ -16,5 +17,5 @@ mod tags;
 mod undivided;
 
 pub use class::Class;
-pub use splitting::{classes, first_classes};
+pub use splitting::{classes, classes_of, first_classes};
 pub use undivided::{hold_together, is_undivided};

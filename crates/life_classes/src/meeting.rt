@@ -1,9 +1,9 @@
 //! Which classes hang together, as far as can be told: a guess, which is tested where it is used.
-ghost use Rattle.std.specs.Prelude.{◌-◌, ◌^◌, ◌≤ℤ◌, pos};
+ghost use Rattle.std.specs.Prelude.{◌^◌, ◌≤◌, ◌≤ℤ◌, IfOk, length, neg_ℤ, pos};
 ghost use Rattle.life_classes.specs.Tags.{AreRisingTags};
 
 use crate::class::Class;
-use crate::tags::{ROW, Tag, place_number, tags_from};
+use crate::tags::{ROW, Tag, place_from, place_number};
 use std::alloc::{AllocError, Global};
 
 /// When a class is met, and when the one was that it is near. Those that hang together are met one after another.
@@ -51,16 +51,43 @@ impl Meeting {
         Ok(())
     }
 
-    /// Meets the classes that have a cell with a number from this one to four more.
-    fn meet_near(&mut self, tags: &[Tag], low: i64, from: usize) -> Result<(), AllocError>
-        requires rising { AreRisingTags tags.now }
-        requires small { low ≤ℤ pos (2 ^ 63 - 5) }
+    /// Meets the classes of the tags from a place on whose numbers are up to this one. Tells the place after these.
+    fn meet_up_to(
+        &mut self,
+        tags: &[Tag],
+        start: usize,
+        high: i64,
+        from: usize,
+    ) -> Result<usize, AllocError>
+        requires { start ≤ length tags.now }
+        ensures { IfOk result (λ end. end ≤ length tags.now) }
     {
-        for tag in tags_from(tags, low) {
-            if tag.number > low + 4 {
-                break;
+        for n in start..tags.len() {
+            if tags[n].number > high {
+                return Ok(n);
             }
-            self.meet(tag.place, from)?;
+            self.meet(tags[n].place, from)?;
+        }
+        Ok(tags.len())
+    }
+
+    /// Meets the classes that have a cell with a number from so much more than that of a cell of a class to four more,
+    /// where this class was met as the FROM-th. Each tag is looked at once.
+    fn meet_row(
+        &mut self,
+        tags: &[Tag],
+        class: &Class,
+        more: i64,
+        from: usize,
+    ) -> Result<(), AllocError>
+        requires rising { AreRisingTags tags.now }
+        requires low { neg_ℤ (pos (2 ^ 33)) ≤ℤ more }
+        requires high { more ≤ℤ pos (2 ^ 33) }
+    {
+        let mut at = 0;
+        for cell in class.last.as_slice() {
+            let low = place_number(*cell) + more;
+            at = self.meet_up_to(tags, place_from(tags, at, low), low + 4, from)?;
         }
         Ok(())
     }
@@ -69,15 +96,11 @@ impl Meeting {
     fn meet_around(&mut self, tags: &[Tag], class: &Class, from: usize) -> Result<(), AllocError>
         requires { AreRisingTags tags.now }
     {
-        for cell in class.last.as_slice() {
-            let number = place_number(*cell);
-            self.meet_near(tags, number - 2 * ROW - 2, from)?;
-            self.meet_near(tags, number - ROW - 2, from)?;
-            self.meet_near(tags, number - 2, from)?;
-            self.meet_near(tags, number + ROW - 2, from)?;
-            self.meet_near(tags, number + 2 * ROW - 2, from)?;
-        }
-        Ok(())
+        self.meet_row(tags, class, -2 * ROW - 2, from)?;
+        self.meet_row(tags, class, -ROW - 2, from)?;
+        self.meet_row(tags, class, -2, from)?;
+        self.meet_row(tags, class, ROW - 2, from)?;
+        self.meet_row(tags, class, 2 * ROW - 2, from)
     }
 
     /// The first class from a place on that is not met.

@@ -6,8 +6,9 @@ ghost use Rattle.life_objects.specs.Union.{generations, union_of};
 ghost use Rattle.life_objects.specs.Whole.{StaysWhole};
 ghost use Rattle.life_classes.specs.Tracking.{AreApartNow, LeadTo, class_of_cell, first_sets, last_sets};
 
-use crate::chains::chains;
+use crate::chains::{as_one, chains};
 use crate::class::Class;
+use crate::following::follow_on;
 use crate::joining::all_joined;
 use crate::stepping::stepped;
 use life_cells::Rule;
@@ -20,6 +21,9 @@ pub fn first_classes(alloc: Global, cells: &[(i32, i32)]) -> Result<Vec<Class>, 
     ensures tracked { IfOk result (λ all. LeadTo (map class_of_cell cells.now) all.items) }
     ensures apart { IfOk result (λ all. AreApartNow all.items) }
 {
+    if cells.len() > 0 && follow_on(cells) {
+        return Ok(vec![in alloc; as_one(alloc, cells)?]?);
+    }
     all_joined(alloc, chains(alloc, cells)?)
 }
 
@@ -48,4 +52,31 @@ pub fn classes<P: Plane>(
         classes = all_joined(alloc, stepped(alloc, classes, &plane.cells()?)?)?;
     }
     Ok(classes)
+}
+
+/// The same of a plane that stays as it is. It is copied only where a generation is made.
+pub fn classes_of<P: Plane>(
+    alloc: Global,
+    plane: &P,
+    rule: &Rule,
+    bound: u32,
+) -> Result<Vec<Class>, AllocError>
+    requires young { P.steps_made plane.now + bound ≤ AGE_LIMIT }
+    ensures together { IfOk result
+        (λ all. union_of (first_sets all.items) ≡ P.members plane.now) }
+    ensures whole { IfOk result
+        (λ all. All (StaysWhole rule.now bound (P.members plane.now)) (first_sets all.items)) }
+    ensures apart { IfOk result
+        (λ all. AllPairs (AreApartFor rule.now bound) (first_sets all.items)) }
+    ensures later { IfOk result
+        (λ all. last_sets all.items ≡ generations rule.now (first_sets all.items) bound) }
+{
+    if bound == 0 {
+        let cells = plane.cells()?;
+        let all = first_classes(alloc, cells.as_slice())?;
+        return Ok(all);
+    }
+    let copy = plane.copy()?;
+    let all = classes(alloc, copy, rule, bound)?;
+    Ok(all)
 }

@@ -1,9 +1,9 @@
 //! The cells of classes in order, each with the place of its class.
-ghost use Rattle.std.specs.Prelude.{◌≡◌, ◌-◌, ℕ, ℤ, ◌+ℤ◌, ◌≤ℤ◌, ◌+◌, ◌^◌, neg_ℤ, pos, ◌++◌, All, List, IfOk, OnOk, map};
+ghost use Rattle.std.specs.Prelude.{◌≡◌, ◌-◌, ◌≤◌, ℕ, ℤ, ◌+ℤ◌, ◌≤ℤ◌, ◌+◌, ◌^◌, neg_ℤ, pos, ◌++◌, All, List, IfOk, OnOk, length, map};
 ghost use Rattle.std.specs.Bool.{OnTrue};
 ghost use Rattle.life_model.specs.Generation as generations;
 ghost use Rattle.life_classes.specs.declared.class.Class.{Class as ModelClass};
-ghost use Rattle.life_classes.specs.Tags.{AreOfOneClass, AreOfUpTo, AreRisingTags, AreTags, IsAlone, IsNumbered, place_number, tag_of};
+ghost use Rattle.life_classes.specs.Tags.{AreLess, AreOfOneClass, AreOfUpTo, AreRisingTags, AreTags, IsAlone, IsNumbered, place_number, tag_of};
 ghost use Rattle.life_classes.specs.Tracking.{AreApartNow};
 
 use crate::class::Class;
@@ -18,6 +18,14 @@ pub const ROW: i64 = 2_147_483_648;
 pub struct Tag {
     pub number: i64,
     pub place: usize,
+}
+
+/// Where tags were found that may be near the last one, in its row and in the two below it.
+#[derive(Drop)]
+struct Cursors {
+    here: usize,
+    below: usize,
+    further: usize,
 }
 
 /// A number that rises along each row and from row to row.
@@ -58,15 +66,58 @@ pub fn tags_in_order(alloc: Global, classes: &[Class]) -> Result<Vec<Tag>, Alloc
     Ok(tags)
 }
 
-/// The tags from the first on whose number is not less.
-pub fn tags_from(tags: &[Tag], low: i64) -> &[Tag]
-    requires { AreRisingTags tags.now }
-    ensures rising { AreRisingTags result.now }
-    ensures kept { (high : ℤ) (place : ℕ) → AreOfUpTo high place result.now →
-        All (λ t. low ≤ℤ t.number → t.number ≤ℤ high → t.place ≡ place) tags.now }
+/// So many tags are passed one by one before they are halved.
+const STEPS: usize = 8;
+
+/// The place of the first tag from one on whose number is not less.
+pub fn place_from(tags: &[Tag], from: usize, low: i64) -> usize
+    requires rising { AreRisingTags tags.now }
+    requires within { from ≤ length tags.now }
+    ensures within { result ≤ length tags.now }
+    ensures less { AreLess tags.now from low → AreLess tags.now result low }
 {
-    let start = tags.partition_point(|tag| tag.number < low);
-    &tags[start..]
+    let end = tags.len().min(from.saturating_add(STEPS));
+    for at in from..end {
+        if tags[at].number >= low {
+            return at;
+        }
+    }
+    let halved = tags.partition_point(|tag| tag.number < low);
+    if halved < end {
+        return end;
+    }
+    halved
+}
+
+/// Whether each tag before a place has a number that is less.
+fn are_less(tags: &[Tag], place: usize, low: i64) -> bool
+    requires { AreRisingTags tags.now }
+    ensures within { OnTrue result (place ≤ length tags.now) }
+    ensures less { OnTrue result (AreLess tags.now place low) }
+{
+    if place == 0 {
+        return true;
+    }
+    if tags.len() < place {
+        return false;
+    }
+    if tags[place - 1].number < low {
+        return true;
+    }
+    false
+}
+
+/// The place of the first tag whose number is not less. It is looked for from a place on that may be near it, and mostly
+/// is where tags are asked for in order.
+fn start_from(tags: &[Tag], near: usize, low: i64) -> usize
+    requires { AreRisingTags tags.now }
+    ensures within { result ≤ length tags.now }
+    ensures less { AreLess tags.now result low }
+{
+    if are_less(tags, near, low) {
+        return place_from(tags, near, low);
+    }
+    place_from(tags, 0, low)
 }
 
 /// Whether those tags with a number up to this one are all of one class.
@@ -86,27 +137,30 @@ fn are_of_up_to(tags: &[Tag], high: i64, place: usize) -> bool
 }
 
 /// Whether those tags with a number from this one to four more are all of one class.
-fn are_of(tags: &[Tag], low: i64, place: usize) -> bool
+fn are_of(tags: &[Tag], low: i64, place: usize, cursor: &mut usize) -> bool
     requires rising { AreRisingTags tags.now }
     requires small { low ≤ℤ pos (2 ^ 63 - 5) }
     ensures { OnTrue result (AreOfOneClass low place tags.now) }
 {
-    are_of_up_to(tags_from(tags, low), low + 4, place)
+    let start = start_from(tags, *cursor, low);
+    *cursor = start;
+    are_of_up_to(&tags[start..], low + 4, place)
 }
 
 /// Whether no cell of another class is near a cell, in its row and in the two below it.
-fn is_alone(tags: &[Tag], tag: Tag) -> bool
+fn is_alone(tags: &[Tag], tag: Tag, cursors: &mut Cursors) -> bool
     requires rising { AreRisingTags tags.now }
     requires numbered { IsNumbered tag }
     ensures { OnTrue result (IsAlone tag tags.now) }
 {
-    if !are_of(tags, tag.number - 2, tag.place) {
+    if !are_of(tags, tag.number - 2, tag.place, &mut cursors.here) {
         return false;
     }
-    if !are_of(tags, tag.number + ROW - 2, tag.place) {
+    if !are_of(tags, tag.number + ROW - 2, tag.place, &mut cursors.below) {
         return false;
     }
-    are_of(tags, tag.number + 2 * ROW - 2, tag.place)
+    let further = tag.number + 2 * ROW - 2;
+    are_of(tags, further, tag.place, &mut cursors.further)
 }
 
 /// Whether no cell is near one of another class. Each is looked up among those that may be near it.
@@ -116,8 +170,13 @@ pub fn stand_apart(tags: &[Tag]) -> bool
     ensures { OnTrue result
         ((classes : List ModelClass) → AreTags classes tags.now → AreApartNow classes) }
 {
+    let mut cursors = Cursors {
+        here: 0,
+        below: 0,
+        further: 0,
+    };
     for tag in tags {
-        if !is_alone(tags, *tag) {
+        if !is_alone(tags, *tag, &mut cursors) {
             return false;
         }
     }

@@ -5,8 +5,9 @@ ghost use Rattle.life_model.specs.Generation as generations;
 ghost use Rattle.life_cells.specs.Limits.{IsWithin, age_limit};
 ghost use Rattle.life_plane.specs.Offsets.{AreNotTranslates, IsOffset};
 
+use life_board::Board;
 use life_cells::{CellList, Rule};
-use life_plane::{next_cells, offset_between};
+use life_plane::{AGE_LIMIT, Plane, offset_between};
 use std::alloc::{AllocError, Global};
 
 /// The same set again.
@@ -24,7 +25,10 @@ pub fn next_list(alloc: Global, rule: &Rule, cells: &CellList) -> Result<CellLis
         (λ later. (a : ℕ) → All (IsWithin a) (generations.cells cells.now) →
         All (IsWithin (a + 1)) (generations.cells later)) }
 {
-    Ok(CellList::from_ordered(next_cells(alloc, rule, cells.as_slice())?))
+    let mut plane = Board::at_age(alloc, cells, AGE_LIMIT - 1)?;
+    plane.step(rule)?;
+    let later = plane.cells()?;
+    Ok(later)
 }
 
 /// How far the second set is from the first, where it is the first moved as a whole. No cell is moved by nothing.

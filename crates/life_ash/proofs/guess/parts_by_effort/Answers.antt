@@ -10,6 +10,6 @@ use Rattle.life_ash.specs.Parts.{ash_age_limit}
 pub orbits_of-requires-clause-within : goal.orbits_of-requires-clause-within
 orbits_of-requires-clause-within g c =
     All-same (λ x. All (IsWithin ash_age_limit) (cells x.first)) _ _ c.as_slice.ensures.value
-    (firsts_within c.rule-rule.result (g.P.Plane.steps_made c.in_ok-copy.copy) ash_age_limit
-    (g.P.Plane.members c.in_ok-copy.copy) c.in_ok-all.all.items c.in_ok-all.ensures.together
-    (omega (arith, c.in_ok-copy.ensures.age)) c.age-age.ensures.within)
+    (firsts_within c.rule-rule.result (g.P.Plane.steps_made c.args.plane.now) ash_age_limit
+    (g.P.Plane.members c.args.plane.now) c.in_ok-all.all.items c.in_ok-all.ensures.together
+    (omega arith) c.age-age.ensures.within)

@@ -1,4 +1,4 @@
-use Rattle.std.proofs.Common.{◌-◌, ◌<◌, [], ◌∷◌, ◌++◌, drop, length, length-drop, map, take, sym, ap, subst, arith}
+use Rattle.std.proofs.Common.{◌-◌, [], ◌∷◌, ◌++◌, drop, length-drop, map, take, sym, subst, arith}
 use Rattle.std.proofs.lemmas.List.{length-map, length-take-le}
 use Rattle.life_classes.specs.Gathering.{classes_between}
 use Rattle.life_classes.specs.Tracking.{LeadTo, class_of_cell, at_first}

@@ -1,6 +1,6 @@
-use Rattle.std.proofs.Common.{◌≡◌, ap, map, ◌∙◌, take, flat_map, length, arith}
+use Rattle.std.proofs.Common.{ap, map, ◌∙◌, take}
 use Rattle.std.proofs.lemmas.List.{take_all}
-use Rattle.life_model.specs.Generation.{cells, from_list}
+use Rattle.life_model.specs.Generation.{from_list}
 use Rattle.life_objects.specs.Union.{union_of}
 use Rattle.life_classes.specs.Gathering.{classes_of, set_on_side}
 use Rattle.life_classes.proofs.Groups.{union_from_cells}

@@ -1,4 +1,4 @@
-use Rattle.std.proofs.Common.{◌≡◌, ◌+◌, length, arith}
+use Rattle.std.proofs.Common.{length, arith}
 use Rattle.std.proofs.lemmas.List.{length-map}
 use Rattle.life_classes.specs.declared.gathering.Ranked.{Ranked}
 use Rattle.life_classes.specs.Gathering.{classes_of}

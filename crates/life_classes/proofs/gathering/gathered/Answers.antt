@@ -1,4 +1,4 @@
-use Rattle.std.proofs.Common.{◌++◌, drop, false, length, map, true, sym, ap, subst, ◌∙◌, arith}
+use Rattle.std.proofs.Common.{◌++◌, drop, false, map, true, sym, ap, subst, ◌∙◌, arith}
 use Rattle.std.proofs.lemmas.List.{length-map}
 use Rattle.life_objects.specs.Union.{union_of}
 use Rattle.life_classes.specs.declared.gathering.Ranked.{Ranked}

@@ -1,4 +1,4 @@
-use Rattle.std.proofs.Common.{◌≡◌, get_or, sym, subst, ◌∙◌, arith}
+use Rattle.std.proofs.Common.{get_or, sym, subst, ◌∙◌, arith}
 use Rattle.std.proofs.lemmas.List.{get_or-map}
 use Rattle.life_objects.specs.Apart.{AreApart}
 use Rattle.life_classes.specs.declared.class.Class.{Class}

@@ -5,9 +5,8 @@ use Rattle.life_model.specs.Evolution.{generation, next}
 use Rattle.life_model.proofs.Recurrences.{generation-zero, generation-next}
 use Rattle.life_objects.specs.Union.{generations}
 use Rattle.life_objects.specs.Whole.{StaysWhole}
-use Rattle.life_classes.specs.Tracking.{AreTracked, class_of_cell, first_sets, moved_on}
-use Rattle.life_classes.proofs.Beginning.{alone_tracked}
-use Rattle.life_classes.proofs.Later.{end_apart, lasts_then, moved_on_tracked}
+use Rattle.life_classes.specs.Tracking.{AreTracked, first_sets, moved_on}
+use Rattle.life_classes.proofs.Later.{end_apart, lasts_then, moved_on_tracked, tracked_at_first}
 use Rattle.life_classes.proofs.Merging.{led}
 use Rattle.life_classes.proofs.splitting.classes.Goals as goal
 
@@ -19,10 +18,8 @@ loop-init g c =
       members = sym (generation-zero R G);
       aged = sym (add-zero _);
       tracked =
-          led (map class_of_cell c.as_slice-2.result.now) c.in_ok-classes.classes.items c.in_ok-classes.ensures.tracked R
-          c.args.bound 0 G (omega arith)
-          (subst (λ cs. AreTracked R c.args.bound 0 G (map class_of_cell cs))
-          (sym (c.as_slice-2.ensures.cells ∙ ap cells c.in_ok-cells.ensures.cells)) (alone_tracked R c.args.bound G));
+          tracked_at_first R c.args.bound G c.as_slice-2.result.now c.in_ok-classes.classes.items
+          (c.as_slice-2.ensures.cells ∙ ap cells c.in_ok-cells.ensures.cells) c.in_ok-classes.ensures.tracked;
       apart = c.in_ok-classes.ensures.apart;
     }
 

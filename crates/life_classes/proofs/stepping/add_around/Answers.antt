@@ -1,6 +1,5 @@
 use Rattle.std.proofs.Common.{◌≡◌, ◌++◌, true, arith, rules, FitsSigned, w32}
 use Rattle.std.proofs.Common.{inl, inr}
-use Rattle.std.specs.List.{All}
 use Rattle.std.proofs.lemmas.Int.{ints}
 use Rattle.std.proofs.lemmas.List.Elements.{All-same}
 use Rattle.life_model.specs.Generation.{contains}

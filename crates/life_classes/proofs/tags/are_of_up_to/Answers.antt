@@ -1,4 +1,4 @@
-use Rattle.std.proofs.Common.{pos, inl, inr, ap, get_or, arith}
+use Rattle.std.proofs.Common.{pos, inl, inr, ap, arith}
 use Rattle.std.proofs.lemmas.Bool.{cases_lt}
 use Rattle.std.proofs.lemmas.Int.{ints}
 use Rattle.std.proofs.lemmas.List.{get_or_default}

@@ -1,5 +1,4 @@
 use Rattle.std.proofs.Common.{◌+◌, ◌++◌, ◌∙◌, ap, map, sym, subst, rules}
-use Rattle.std.specs.List.{All}
 use Rattle.std.proofs.lemmas.List.Sorted.{All-permutation, answers_always}
 use Rattle.life_model.specs.Generation.{cells}
 use Rattle.life_classes.specs.declared.class.Class.{Class}

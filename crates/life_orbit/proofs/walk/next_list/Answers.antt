@@ -1,27 +1,16 @@
-use Rattle.std.proofs.Common.{◌+◌, ◌-◌, ◌∙◌, ap, arith}
-use Rattle.std.proofs.lemmas.List.Elements.{All-same, All-weaker}
+use Rattle.std.proofs.Common.{◌+◌, sym, ap, ◌∙◌}
 use Rattle.life_model.specs.Evolution.{next}
-use Rattle.life_model.specs.Generation.{cells, from_list}
-use Rattle.life_model.proofs.Generations.{cells-from_list, from_list-cells}
-use Rattle.life_cells.specs.Limits.{IsPlace, IsWithin, age_limit}
-use Rattle.life_plane.proofs.Later.{place_from_within}
+use Rattle.life_model.specs.Generation.{cells}
+use Rattle.life_model.proofs.Generations.{contains-cells}
+use Rattle.life_cells.specs.Limits.{IsWithin}
+use Rattle.life_board.proofs.Nexts.{within_next}
+use Rattle.life_orbit.proofs.Lists.{of_all_members, of_member}
 use Rattle.life_orbit.proofs.walk.next_list.Goals as goal
-
-pub from_ordered-requires-clause-placed : goal.from_ordered-requires-clause-placed
-from_ordered-requires-clause-placed c =
-    let listed = All-same (IsWithin (age_limit - 1)) _ _ c.as_slice.ensures.cells c.requires in
-    All-weaker (IsWithin age_limit) IsPlace (λ b h. place_from_within age_limit b (omega arith) h)
-    c.in_ok-next_cells.field-0.items (c.in_ok-next_cells.ensures.within (age_limit - 1) listed)
-
-pub returns-clause-next : goal.returns-clause-next
-returns-clause-next c =
-    c.from_ordered.ensures ∙ c.in_ok-next_cells.ensures.next
-    ∙ ap (next c.args.rule.now) (ap from_list c.as_slice.ensures.cells ∙ from_list-cells c.args.cells.now)
 
 pub returns-clause-within : goal.returns-clause-within
 returns-clause-within c a all =
-    let listed = All-same (IsWithin a) _ _ c.as_slice.ensures.cells all in
-    All-same (IsWithin (a + 1)) _ _
-    (ap cells c.from_ordered.ensures
-    ∙ cells-from_list c.in_ok-next_cells.field-0.items c.in_ok-next_cells.ensures.rising)
-    (c.in_ok-next_cells.ensures.within a listed)
+    let is = c.in_ok-later.ensures.cells ∙ c.in_ok-step.ensures.cells ∙ ap (next c.args.rule.now) c.in_ok-plane.ensures.cells in
+    of_all_members (IsWithin (a + 1)) (cells c.in_ok-later.later) (λ q h.
+        within_next c.args.rule.now c.args.cells.now c.in_ok-later.later a is
+        (λ g there. of_member (IsWithin a) (cells c.args.cells.now) all g (sym (contains-cells c.args.cells.now g) ∙ there))
+        q (contains-cells c.in_ok-later.later q ∙ h))
