@@ -22,7 +22,7 @@ use Rattle.life_objects.proofs.Moving.{AreApart-moved, union-moved}
 use Rattle.life_model.proofs.Symmetries.{next-moved}
 use Rattle.life_objects.proofs.Unions.{in_first, union-empty}
 use Rattle.life_growth.specs.Engine.{IsEngine, Way}
-use Rattle.life_growth.specs.Onward.{AreNeverNear, IsNeverNear, LeavesCores, LeavesLefts, at_step, endless, gathered}
+use Rattle.life_growth.specs.Onward.{AreNeverNear, IsNeverNear, LeavesCores, LeavesLefts, at_step, endless, accumulated}
 use Rattle.life_growth.specs.Unsplit.{Leaves}
 use Rattle.life_growth.proofs.Endless.{GoesOn, at_again, at_first, at_first_or_last, at_next, core_first, goes_on, left_first}
 use Rattle.life_growth.proofs.Growing.{becomes, core_apart, generation-one, left_part, union-assoc}
@@ -311,7 +311,7 @@ module _ (R : Rule) where
         ap (λ H. contains H c) (sym (generation-add R core 1 m) ∙ ap (λ H. generation R H m) (generation-one R core))
         ∙ of_next in
         let part : IsPart R core (generation R first n) = record {
-          rest = gathered R (endless way).left n;
+          rest = accumulated R (endless way).left n;
           together = sym (becomes R b (endless way) on n);
           apart = core_apart R b (endless way) on n;
         } in
