@@ -21,7 +21,8 @@ use Rattle.life_objects.proofs.Unions.{in_union}
 use Rattle.life_objects.proofs.Ashes.{object_of}
 use Rattle.life_objects.proofs.Members.{found_in, found_now}
 use Rattle.life_objects.proofs.Many.{list_ever}
-use Rattle.life_objects.proofs.Moving.{generation-times, generation-wrapped}
+use Rattle.life_objects.proofs.Moving.{AreApart-moved, generation-times, generation-wrapped}
+use Rattle.life_objects.proofs.Recurring.{moved_back}
 use Rattle.life_objects.proofs.OneList.{in_whole}
 use Rattle.life_objects.proofs.Distances.{AreNear-swap}
 use Rattle.life_growth.specs.Engine.{IsEngine, Way}
@@ -470,3 +471,37 @@ module _ (R : Rule) (a b : ℕ) (E : Generation) (way : Way) (engine : IsEngine 
 
   pub engine_is_made : IsMadeOf R E (IsEngineThing R b way ashes)
   engine_is_made = record { each = engine_each; all = engine_all }
+
+-- ---- only how far the one has gone beyond the other counts
+
+there_and_back : (P : Generation) (d e : Cell) →
+    translate_of (translate_of P e) (opposite d) ≡ translate_of P (plus e (opposite d))
+there_and_back P d e = moved-moved P e (opposite d)
+
+apart_by_way : (P Q : Generation) (d e : Cell) → AreApart P (translate_of Q (plus e (opposite d))) →
+    AreApart (translate_of P d) (translate_of Q e)
+apart_by_way P Q d e far =
+    subst (AreApart (translate_of P d))
+    (moved-moved Q (plus e (opposite d)) d
+    ∙ ap (translate_of Q) (let z : plus (plus e (opposite d)) d ≡ e = pair (omega (arith, ints)) (omega (arith, ints)) in z))
+    (AreApart-moved P (translate_of Q (plus e (opposite d))) d far)
+
+way_by_apart : (P Q : Generation) (d e : Cell) → AreApart (translate_of P d) (translate_of Q e) →
+    AreApart P (translate_of Q (plus e (opposite d)))
+way_by_apart P Q d e far =
+    subst (λ H. AreApart H (translate_of Q (plus e (opposite d)))) (moved_back P d)
+    (subst (AreApart (translate_of (translate_of P d) (opposite d))) (there_and_back Q d e)
+    (AreApart-moved (translate_of P d) (translate_of Q e) (opposite d) far))
+
+module _ (A B : Thing) where
+  -- as often as each way is made, by how far the other stands beyond the one
+  abbrev pub StayApartByWay : Type 0
+  StayApartByWay =
+      (k l : List ℕ) → time_then A k ≡ time_then B l →
+      AreApart A.set (translate_of B.set (plus (move_of B.ways l) (opposite (move_of A.ways k))))
+
+  pub never_meet_by_way : StayApartByWay → NeverMeet A B
+  never_meet_by_way far k l e = apart_by_way A.set B.set (move_of A.ways k) (move_of B.ways l) (far k l e)
+
+  pub way_by_never_meet : NeverMeet A B → StayApartByWay
+  way_by_never_meet never k l e = way_by_apart A.set B.set (move_of A.ways k) (move_of B.ways l) (never k l e)

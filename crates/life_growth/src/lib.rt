@@ -5,13 +5,13 @@
 ghost use Rattle.std.specs.Prelude.{◌≡◌, ◌≢◌, ℕ, suc, ◌+◌, ◌-◌, ◌<◌, ◌≤◌, List, [], ◌∷◌, ◌++◌, ◌↔◌, Bool, Contains, count_by};
 ghost use Rattle.std.specs.List.{AllPairs, AllZip};
 ghost use Rattle.std.specs.List.Sorted.{IsPermutation};
-ghost use Rattle.life_model.specs.Cell.{Cell, origin};
+ghost use Rattle.life_model.specs.Cell.{Cell, opposite, origin, plus};
 ghost use Rattle.life_model.specs.Evolution.{generation, next};
 ghost use Rattle.life_model.specs.Generation.{Generation, empty};
 ghost use Rattle.life_model.specs.Recurrence.{RecursBy};
 ghost use Rattle.life_model.specs.Rule.{Rule};
 ghost use Rattle.life_model.specs.Symmetry.{translate_of};
-ghost use Rattle.life_objects.specs.Apart.{AreApartForEver};
+ghost use Rattle.life_objects.specs.Apart.{AreApart, AreApartForEver};
 ghost use Rattle.life_objects.specs.Ash.{HasFallenApart};
 ghost use Rattle.life_objects.specs.Drift.{multiple_of};
 ghost use Rattle.life_objects.specs.Union.{IsSubsetOf, generations, union, union_of};
@@ -19,7 +19,7 @@ ghost use Rattle.life_growth.specs.Engine.{Emits, FallsApart, IsEngine, Way};
 ghost use Rattle.life_growth.specs.Growth.{HasComeToGrowth, IsGrowth};
 ghost use Rattle.life_growth.specs.Onward.{AreNeverNear, IsCoreAfter, IsDebrisAfter, IsNeverNear, LeavesCores, LeavesLefts, debris_after, endless, onward};
 ghost use Rattle.life_growth.specs.Population.{HasBound, HasNoBound};
-ghost use Rattle.life_growth.specs.Things.{IsEngineThing, IsMadeOf, IsSettledThing, NeverMeet, NeverMeetAgain, Thing};
+ghost use Rattle.life_growth.specs.Things.{IsEngineThing, IsMadeOf, IsSettledThing, NeverMeet, NeverMeetAgain, Thing, move_of, time_then};
 ghost use Rattle.life_growth.specs.Told.{AreAlike, AreToldAlike, EmitsOver, IsKind, emitted_by};
 ghost use Rattle.life_growth.specs.Unsplit.{AreClasses, IsUnsplit, Leaves};
 
@@ -263,4 +263,12 @@ pub fn things_tell_what_leaves_for_ever()
     ensures { (R : Rule) (b : ℕ) (way : Way) (ashes : ℕ → List Generation) → 1 ≤ way.period →
         ((n : ℕ) → n < way.period → HasFallenApart R b (way.left n) (ashes n)) →
         (LeavesCores R way × LeavesLefts R way) ↔ NeverMeetAgain R b way ashes }
+{}
+
+/// Whether two things meet is told by how far the moves of the one go beyond those of the other, at the times at which
+/// both stand.
+pub fn only_the_way_between_two_things_counts()
+    ensures { (A B : Thing) → NeverMeet A B ↔ ((k l : List ℕ) →
+        time_then A k ≡ time_then B l →
+        AreApart A.set (translate_of B.set (plus (move_of B.ways l) (opposite (move_of A.ways k))))) }
 {}
