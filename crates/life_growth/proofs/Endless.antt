@@ -86,7 +86,7 @@ module _ (way : Way) (later : 1 ≤ way.period) (sets : ℕ → Generation) wher
   abbrev d : Cell
   d = way.displacement
 
-  at_product : (q r n : ℕ) → r < p → n ≡ q * p + r → at_step way sets n ≡ translate_of (sets r) (multiple_of q d)
+  pub at_product : (q r n : ℕ) → r < p → n ≡ q * p + r → at_step way sets n ≡ translate_of (sets r) (multiple_of q d)
   at_product q r n h e =
       let left : n % p ≡ r = ap (λ k. k % p) e ∙ mod-mul-add q p r h in
       let times : n / p ≡ q = ap (λ k. k / p) e ∙ div-mul-add q p r h in

@@ -13,7 +13,7 @@ use Rattle.life_objects.proofs.Ashes.{AreApartForEver-later}
 use Rattle.life_objects.proofs.Times.{AreApartForEver-swap, generation-empty}
 use Rattle.life_objects.proofs.Unions.{contains-union, in_empty, union-comm, union-empty}
 use Rattle.life_growth.specs.Engine.{Way}
-use Rattle.life_growth.specs.Onward.{gathered}
+use Rattle.life_growth.specs.Onward.{accumulated}
 use Rattle.life_growth.specs.Population.{HasNoBound}
 use Rattle.life_growth.specs.Unsplit.{Leaves}
 use Rattle.life_growth.proofs.Bounds.{size-union_ever}
@@ -62,7 +62,7 @@ module _ (R : Rule) where
 
   module _ (b : ℕ) (way : Way) (on : GoesOn R b way) where
     abbrev debris : ℕ → Generation
-    debris n = gathered R way.left n
+    debris n = accumulated R way.left n
 
     module _ (n : ℕ) (far : AreApartForEver R (way.core n) (debris n)) where
       old_apart : AreApartForEver R (next R (way.core n)) (next R (debris n))
@@ -80,7 +80,7 @@ module _ (R : Rule) where
           (left_part (way.core n) (way.core (suc n)) (way.left n) (on.leaves n)) old_apart)
 
     pub core_apart : (n : ℕ) → AreApartForEver R (way.core n) (debris n)
-    unfolding gathered
+    unfolding accumulated
     core_apart zero = apart_from_empty (way.core 0)
     core_apart (suc n) =
         apart_from_both R (way.core (suc n)) (next R (debris n)) (way.left n) (core_from_old n (core_apart n))
@@ -88,7 +88,7 @@ module _ (R : Rule) where
 
     -- generation n is the core and what has left it
     pub becomes : (n : ℕ) → generation R (way.core 0) n ≡ union (way.core n) (debris n)
-    unfolding gathered generation
+    unfolding accumulated generation
     becomes zero = sym (union-empty (way.core 0))
     becomes (suc n) =
         ap (next R) (becomes n) ∙ next-union_ever (way.core n) (debris n) (core_apart n)
@@ -105,7 +105,7 @@ module _ (R : Rule) where
 
     pub debris_settles : (ashes : ℕ → List Generation) → ((n : ℕ) → HasFallenApart R b (way.left n) (ashes n)) → (n : ℕ) →
         HasFallenApart R b (debris n) (remains ashes n)
-    unfolding gathered remains
+    unfolding accumulated remains
     debris_settles ashes fallen zero = settles_empty R b
     debris_settles ashes fallen (suc n) =
         settles_together R b (next R (debris n)) (way.left n) (generations R (remains ashes n) 1) (ashes n)
@@ -120,7 +120,7 @@ module _ (R : Rule) where
 
     more_debris : (n m : ℕ) → size (generation R (debris (suc n)) m) ≡
         size (generation R (debris n) (suc m)) + size (generation R (way.left n) m)
-    unfolding gathered
+    unfolding accumulated
     more_debris n m =
         size-union_ever R (next R (debris n)) (way.left n) m (old_from_left n (core_apart n))
         ∙ ap (λ H. size (generation R H m) + size (generation R (way.left n) m)) (sym (generation-one (debris n)))

@@ -13,3 +13,4 @@ pub mod Velocities
 pub mod Counting
 pub mod Classes
 pub mod Pieces
+pub mod Things

@@ -22,7 +22,7 @@ use Rattle.life_objects.proofs.Moving.{AreApart-moved, union-moved}
 use Rattle.life_model.proofs.Symmetries.{next-moved}
 use Rattle.life_objects.proofs.Unions.{in_first, union-empty}
 use Rattle.life_growth.specs.Engine.{IsEngine, Way}
-use Rattle.life_growth.specs.Onward.{AreNeverNear, IsNeverNear, LeavesCores, LeavesLefts, at_step, endless, gathered}
+use Rattle.life_growth.specs.Onward.{AreNeverNear, IsNeverNear, LeavesCores, LeavesLefts, at_step, endless, accumulated}
 use Rattle.life_growth.specs.Unsplit.{Leaves}
 use Rattle.life_growth.proofs.Endless.{GoesOn, at_again, at_first, at_first_or_last, at_next, core_first, goes_on, left_first}
 use Rattle.life_growth.proofs.Growing.{becomes, core_apart, generation-one, left_part, union-assoc}
@@ -261,7 +261,7 @@ module _ (R : Rule) where
     abbrev on : GoesOn R b (endless way)
     on = goes_on R b E way engine
 
-    cores_then : (n m : ℕ) → AreApart ((endless way).core (suc (n + m))) (generation R ((endless way).left n) m)
+    pub cores_then : (n m : ℕ) → AreApart ((endless way).core (suc (n + m))) (generation R ((endless way).left n) m)
     cores_then n m =
         let far : AreApartForEver R ((endless way).core (suc n)) ((endless way).left n) = (on.leaves n).apart in
         let part = core_then R b (endless way) on n m in
@@ -270,7 +270,7 @@ module _ (R : Rule) where
         ∙ part_within R _ _ part c (ap (λ i. contains ((endless way).core i) c)
         (let e : suc n + m ≡ suc (n + m) = omega arith in e) ∙ h)) k near
 
-    lefts_then : (n k m : ℕ) → 1 ≤ k →
+    pub lefts_then : (n k m : ℕ) → 1 ≤ k →
         AreApart (generation R ((endless way).left n) (k + m)) (generation R ((endless way).left (n + k)) m)
     lefts_then n k m h =
         let far = left_then R b (endless way) on n (k - 1) in
@@ -292,14 +292,14 @@ module _ (R : Rule) where
         subst (λ H. AreApart (generation R H (k + m)) (generation R ((endless way).left (n + k)) m))
         (left_first R b E way engine n h) (lefts_then n k m l)
 
-    starts : (endless way).core 0 ≡ E
+    pub starts : (endless way).core 0 ≡ E
     starts = core_first R b E way engine 0 (omega arith) ∙ engine.start
 
-    core_in : (n : ℕ) (c : Cell) → contains ((endless way).core n) c ≡ true →
+    pub core_in : (n : ℕ) (c : Cell) → contains ((endless way).core n) c ≡ true →
         contains (generation R ((endless way).core 0) n) c ≡ true
     core_in n c h = ap (λ H. contains H c) (becomes R b (endless way) on n) ∙ in_first _ _ c h
 
-    left_in : (n m : ℕ) (c : Cell) → contains (generation R ((endless way).left n) m) c ≡ true →
+    pub left_in : (n m : ℕ) (c : Cell) → contains (generation R ((endless way).left n) m) c ≡ true →
         contains (generation R ((endless way).core 0) (suc n + m)) c ≡ true
     left_in n m c h =
         let core = (endless way).core n in
@@ -311,7 +311,7 @@ module _ (R : Rule) where
         ap (λ H. contains H c) (sym (generation-add R core 1 m) ∙ ap (λ H. generation R H m) (generation-one R core))
         ∙ of_next in
         let part : IsPart R core (generation R first n) = record {
-          rest = gathered R (endless way).left n;
+          rest = accumulated R (endless way).left n;
           together = sym (becomes R b (endless way) on n);
           apart = core_apart R b (endless way) on n;
         } in

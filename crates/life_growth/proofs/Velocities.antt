@@ -20,7 +20,7 @@ use Rattle.life_objects.proofs.Ashes.{AreApartForEver-later, object_of}
 use Rattle.life_objects.proofs.Moving.{generation-times}
 use Rattle.life_objects.proofs.Times.{disjoint_ever}
 use Rattle.life_growth.specs.Engine.{IsEngine, Way}
-use Rattle.life_growth.specs.Onward.{endless, gathered}
+use Rattle.life_growth.specs.Onward.{endless, accumulated}
 use Rattle.life_growth.proofs.Endless.{GoesOn, GoesOn-from, from_step, goes_on, left_first, left_times}
 use Rattle.life_growth.proofs.Growing.{becomes, core_apart, left_part, next_apart}
 use Rattle.life_growth.proofs.Parts.{IsPart, part_apart, part_within, part_within_later}
@@ -38,7 +38,7 @@ module _ (R : Rule) where
 
     pub core_then : (m : ℕ) → IsPart R (from.core m) (generation R (from.core 0) m)
     core_then m = record {
-      rest = gathered R from.left m;
+      rest = accumulated R from.left m;
       together = sym (becomes R b from too m);
       apart = core_apart R b from too m;
     }

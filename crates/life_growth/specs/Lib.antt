@@ -4,3 +4,4 @@ pub mod Growth
 pub mod Population
 pub mod Onward
 pub mod Told
+pub mod Things

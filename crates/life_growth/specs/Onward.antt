@@ -32,13 +32,13 @@ onward way n = record {
 }
 
 -- what has become in n steps of the sets that were added, one in each step
-unfoldable pub gathered : Rule → (ℕ → Generation) → ℕ → Generation
-gathered R added zero = empty
-gathered R added (suc n) = union (next R (gathered R added n)) (added n)
+unfoldable pub accumulated : Rule → (ℕ → Generation) → ℕ → Generation
+accumulated R added zero = empty
+accumulated R added (suc n) = union (next R (accumulated R added n)) (added n)
 
 -- what has become in n steps of all that has left an engine
 abbrev pub debris_after : Rule → Way → ℕ → Generation
-debris_after R way n = gathered R (endless way).left n
+debris_after R way n = accumulated R (endless way).left n
 
 -- F is the core of the engine E after n steps
 abbrev pub IsCoreAfter : Rule → ℕ → ℕ → Generation → Generation → Type 0

@@ -5,13 +5,13 @@
 ghost use Rattle.std.specs.Prelude.{◌≡◌, ◌≢◌, ℕ, suc, ◌+◌, ◌-◌, ◌<◌, ◌≤◌, List, [], ◌∷◌, ◌++◌, ◌↔◌, Bool, Contains, count_by};
 ghost use Rattle.std.specs.List.{AllPairs, AllZip};
 ghost use Rattle.std.specs.List.Sorted.{IsPermutation};
-ghost use Rattle.life_model.specs.Cell.{Cell, origin};
+ghost use Rattle.life_model.specs.Cell.{Cell, opposite, origin, plus};
 ghost use Rattle.life_model.specs.Evolution.{generation, next};
 ghost use Rattle.life_model.specs.Generation.{Generation, empty};
 ghost use Rattle.life_model.specs.Recurrence.{RecursBy};
 ghost use Rattle.life_model.specs.Rule.{Rule};
 ghost use Rattle.life_model.specs.Symmetry.{translate_of};
-ghost use Rattle.life_objects.specs.Apart.{AreApartForEver};
+ghost use Rattle.life_objects.specs.Apart.{AreApart, AreApartForEver};
 ghost use Rattle.life_objects.specs.Ash.{HasFallenApart};
 ghost use Rattle.life_objects.specs.Drift.{multiple_of};
 ghost use Rattle.life_objects.specs.Union.{IsSubsetOf, generations, union, union_of};
@@ -19,6 +19,7 @@ ghost use Rattle.life_growth.specs.Engine.{Emits, FallsApart, IsEngine, Way};
 ghost use Rattle.life_growth.specs.Growth.{HasComeToGrowth, IsGrowth};
 ghost use Rattle.life_growth.specs.Onward.{AreNeverNear, IsCoreAfter, IsDebrisAfter, IsNeverNear, LeavesCores, LeavesLefts, debris_after, endless, onward};
 ghost use Rattle.life_growth.specs.Population.{HasBound, HasNoBound};
+ghost use Rattle.life_growth.specs.Things.{IsEngineThing, IsMadeOf, IsSettledThing, NeverMeet, NeverMeetAgain, Thing, move_of, time_then};
 ghost use Rattle.life_growth.specs.Told.{AreAlike, AreToldAlike, EmitsOver, IsKind, emitted_by};
 ghost use Rattle.life_growth.specs.Unsplit.{AreClasses, IsUnsplit, Leaves};
 
@@ -226,4 +227,48 @@ pub fn what_never_comes_near_an_engine_stays_apart()
         AreApartForEver R E X ↔ IsNeverNear R way X }
     ensures engines { (R : Rule) (b c : ℕ) (E F : Generation) (way other : Way) → IsEngine R b E way →
         IsEngine R c F other → AreApartForEver R E F ↔ AreNeverNear R way other }
+{}
+
+/// What falls apart, and an engine, is at each time all that its things have there: what falls apart its first
+/// generations and the phases of its parts, which come again and again, and an engine its cores and the things of what
+/// leaves, which come again after each period too.
+pub fn a_growth_is_made_of_things()
+    ensures settled { (R : Rule) (b : ℕ) (P : Generation) (parts : List Generation) →
+        HasFallenApart R b P parts → IsMadeOf R P (IsSettledThing R b P parts) }
+    ensures engine { (R : Rule) (b c : ℕ) (E : Generation) (way : Way) (ashes : ℕ → List Generation) →
+        IsEngine R b E way →
+        ((n : ℕ) → n < way.period → HasFallenApart R c (way.left n) (ashes n)) →
+        IsMadeOf R E (IsEngineThing R c way ashes) }
+{}
+
+/// Two engines, or an engine and what falls apart, stay apart for ever exactly where the things of the one and the things
+/// of the other never meet.
+pub fn things_tell_what_stays_apart()
+    ensures engines { (R : Rule) (b c : ℕ) (E F : Generation) (way other : Way) (ashes others : ℕ → List Generation) →
+        IsEngine R b E way → IsEngine R c F other →
+        ((n : ℕ) → n < way.period → HasFallenApart R b (way.left n) (ashes n)) →
+        ((n : ℕ) → n < other.period → HasFallenApart R c (other.left n) (others n)) →
+        AreApartForEver R E F ↔ ((A B : Thing) → IsEngineThing R b way ashes A →
+        IsEngineThing R c other others B → NeverMeet A B) }
+    ensures debris { (R : Rule) (b c : ℕ) (E S : Generation) (way : Way) (ashes : ℕ → List Generation)
+        (parts : List Generation) → IsEngine R b E way → HasFallenApart R c S parts →
+        ((n : ℕ) → n < way.period → HasFallenApart R b (way.left n) (ashes n)) →
+        AreApartForEver R S E ↔ ((A B : Thing) → IsSettledThing R c S parts A →
+        IsEngineThing R b way ashes B → NeverMeet A B) }
+{}
+
+/// What leaves the cores of a way that comes back never comes near them, or what leaves later, exactly where its things
+/// never meet them again, nor the things of what leaves later.
+pub fn things_tell_what_leaves_for_ever()
+    ensures { (R : Rule) (b : ℕ) (way : Way) (ashes : ℕ → List Generation) → 1 ≤ way.period →
+        ((n : ℕ) → n < way.period → HasFallenApart R b (way.left n) (ashes n)) →
+        (LeavesCores R way × LeavesLefts R way) ↔ NeverMeetAgain R b way ashes }
+{}
+
+/// Whether two things meet is told by how far the moves of the one go beyond those of the other, at the times at which
+/// both stand.
+pub fn only_the_way_between_two_things_counts()
+    ensures { (A B : Thing) → NeverMeet A B ↔ ((k l : List ℕ) →
+        time_then A k ≡ time_then B l →
+        AreApart A.set (translate_of B.set (plus (move_of B.ways l) (opposite (move_of A.ways k))))) }
 {}

@@ -1,0 +1,97 @@
+-- All that a growth has for ever is a finite number of things in space and time.
+use Rattle.std.specs.Prelude.{◌≡◌, ℕ, suc, ◌+◌, ◌*◌, ◌<◌, ◌≤◌, ◌⊎◌, true, List, [], ◌∷◌}
+use Rattle.std.specs.List.{Contains}
+use Rattle.life_model.specs.Cell.{Cell, origin, plus}
+use Rattle.life_model.specs.Generation.{Generation, contains}
+use Rattle.life_model.specs.Rule.{Rule}
+use Rattle.life_model.specs.Evolution.{generation}
+use Rattle.life_model.specs.Recurrence.{RecursBy}
+use Rattle.life_model.specs.Symmetry.{translate_of}
+use Rattle.life_objects.specs.Apart.{AreApart}
+use Rattle.life_objects.specs.Drift.{multiple_of}
+use Rattle.life_objects.specs.Union.{IsSubsetOf}
+use Rattle.life_growth.specs.Engine.{Way}
+
+-- A set that stands at a time, and again after each of its ways, made as often as may be. A way takes some generations
+-- and is a move.
+pub record Thing : Type 0 where
+  pub time : ℕ
+  pub set : Generation
+  pub ways : List (ℕ × Cell)
+
+-- how many generations the ways take, and how far they go, each made so often
+abbrev pub time_of : List (ℕ × Cell) → List ℕ → ℕ
+time_of [] often = 0
+time_of (w ∷ ways) [] = 0
+time_of (w ∷ ways) (k ∷ often) = k * w.0 + time_of ways often
+
+abbrev pub move_of : List (ℕ × Cell) → List ℕ → Cell
+move_of [] often = origin
+move_of (w ∷ ways) [] = origin
+move_of (w ∷ ways) (k ∷ often) = plus (multiple_of k w.1) (move_of ways often)
+
+-- when and where a thing stands, its ways made so often
+abbrev pub time_then : Thing → List ℕ → ℕ
+time_then thing often = thing.time + time_of thing.ways often
+
+abbrev pub set_then : Thing → List ℕ → Generation
+set_then thing often = translate_of thing.set (move_of thing.ways often)
+
+-- at no time at which both stand is the one near the other
+abbrev pub NeverMeet : Thing → Thing → Type 0
+NeverMeet A B = (k l : List ℕ) → time_then A k ≡ time_then B l → AreApart (set_then A k) (set_then B l)
+
+-- Each generation of P is all that such things have at that time.
+pub record IsMadeOf (R : Rule) (P : Generation) (IsThing : Thing → Type 0) : Type 0 where
+  pub each : (thing : Thing) → IsThing thing → (often : List ℕ) →
+      IsSubsetOf (set_then thing often) (generation R P (time_then thing often))
+  pub all : (t : ℕ) (c : Cell) → contains (generation R P t) c ≡ true →
+      (thing : Thing) × IsThing thing × (often : List ℕ) × (time_then thing often ≡ t) ×
+      (contains (set_then thing often) c ≡ true)
+
+-- a thing of what falls apart into these parts: one of its first b generations, or a phase of a part
+abbrev pub IsSettledThing : Rule → ℕ → Generation → List Generation → Thing → Type 0
+IsSettledThing R b P parts thing =
+    ((m : ℕ) × (m < b) × (thing ≡ record { time = m; set = generation R P m; ways = [] }))
+    ⊎ ((part : Generation) × Contains parts part × (q : ℕ) × (e : Cell) × (m : ℕ) × RecursBy R part q e × (m < q) ×
+    (thing ≡ record { time = b + m; set = generation R part m; ways = (q, e) ∷ [] }))
+
+-- the core of an engine at a step of its first period
+abbrev pub core_thing : Way → ℕ → Thing
+core_thing way n = record { time = n; set = way.core n; ways = (way.period, way.displacement) ∷ [] }
+
+-- a thing of what leaves at a step, as it is then, once or again after each period
+abbrev pub left_once : ℕ → Thing → Thing
+left_once n thing = record { time = suc n + thing.time; set = thing.set; ways = thing.ways }
+
+abbrev pub left_thing : Way → ℕ → Thing → Thing
+left_thing way n thing = record {
+  time = suc n + thing.time;
+  set = thing.set;
+  ways = (way.period, way.displacement) ∷ thing.ways;
+}
+
+-- the same, a period later
+abbrev pub a_period_later : Way → Thing → Thing
+a_period_later way thing = record {
+  time = thing.time + way.period;
+  set = translate_of thing.set way.displacement;
+  ways = thing.ways;
+}
+
+-- a thing of an engine, with the parts of the ash of what leaves at each step: a core, or a thing of what leaves
+abbrev pub IsEngineThing : Rule → ℕ → Way → (ℕ → List Generation) → Thing → Type 0
+IsEngineThing R b way ashes thing =
+    ((n : ℕ) × (n < way.period) × (thing ≡ core_thing way n))
+    ⊎ ((n : ℕ) × (n < way.period) × (it : Thing) × IsSettledThing R b (way.left n) (ashes n) it ×
+    (thing ≡ left_thing way n it))
+
+-- What leaves an engine never meets a core, nor what leaves later.
+pub record NeverMeetAgain (R : Rule) (b : ℕ) (way : Way) (ashes : ℕ → List Generation) : Type 0 where
+  pub cores : (n k : ℕ) (it : Thing) → n < way.period → k < way.period → IsSettledThing R b (way.left n) (ashes n) it →
+      NeverMeet (left_once n it) (core_thing way k)
+  pub later : (n k : ℕ) (it other : Thing) → n < k → k < way.period → IsSettledThing R b (way.left n) (ashes n) it →
+      IsSettledThing R b (way.left k) (ashes k) other → NeverMeet (left_once n it) (left_thing way k other)
+  pub again : (n k : ℕ) (it other : Thing) → n < way.period → k ≤ n → IsSettledThing R b (way.left n) (ashes n) it →
+      IsSettledThing R b (way.left k) (ashes k) other →
+      NeverMeet (left_once n it) (a_period_later way (left_thing way k other))
