@@ -1,7 +1,7 @@
 -- How many collections and patterns several reports have.
 use Rattle.std.specs.Prelude.{ℕ, ◌+◌, ◌-◌, ◌^◌, ◌&&◌, nat_le, if◌then◌else◌, Option, Some, None as Nothing, List, [], ◌∷◌}
 use Rattle.census_rows.specs.declared.row.Row.{Row}
-use Rattle.census_rows.specs.declared.row.Row.TheVariants.{Open, Line, Part, Code, Close, End}
+use Rattle.census_rows.specs.declared.row.Row.TheVariants.{End}
 use Rattle.census_readback.specs.Limits.{count_limit}
 use Rattle.census_merge.specs.declared.report_sums.Sums.{Sums}
 
