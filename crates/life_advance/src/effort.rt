@@ -116,8 +116,14 @@ impl Effort {
     /// Counts a trial that has worked so many bands of leaves and come to an age.
     pub fn add_trial(&mut self, trial: &Trial, bands: u64, age: u32) {
         let back = if age > trial.age { trial.back } else { 0 };
-        let spent = bands.saturating_mul(2).saturating_add(trial.over).saturating_add(back);
-        self.lost = self.lost.saturating_add(spent).saturating_sub(trial.saved(age));
+        let spent = bands
+            .saturating_mul(2)
+            .saturating_add(trial.over)
+            .saturating_add(back);
+        self.lost = self
+            .lost
+            .saturating_add(spent)
+            .saturating_sub(trial.saved(age));
     }
 }
 
