@@ -1,6 +1,6 @@
 -- One cell more that stands in the square.
 use Rattle.std.proofs.Common.{pos, ◌<◌, length, arith}
-use Rattle.life_leaps.proofs.BuildLemmas.{inside_more, inside_so_far}
+use Rattle.life_leaps.proofs.BuildLemmas.{inside_more}
 use Rattle.life_leaps.proofs.building.are_in.Goals as goal
 
 pub loop-cell-preserved : goal.loop-cell-preserved
