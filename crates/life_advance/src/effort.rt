@@ -1,8 +1,9 @@
 //! How much work is given to steps and to leaps. It chooses what is tried next, and nothing rests on it.
 //!
 //! Work is counted in half bands of eight rows of 32 cells, some 12 ns. Steps go on while leaps have not paid: before each trial
-//! of leaps the work of all steps, done and to come, is guessed, and a trial may take a part of it. So where steps are better
-//! little is lost, and where leaps are better by far a trial soon has enough.
+//! of leaps the work of all steps, done and to come, is guessed. Trials may take a quarter of it in all, and no more than twice
+//! what steps have worked. So where steps are better little is lost, and where leaps are better by far a trial soon has enough:
+//! one that is given up is gone on with, from where it came to, while its next leap lands beyond the steps.
 ghost use Rattle.std.specs.Prelude.{◌≤◌};
 
 /// So much work of steps before leaps are tried.
@@ -56,9 +57,9 @@ impl Trial {
         self.work.saturating_add(saved).saturating_sub(worked)
     }
 
-    /// Whether it may work more than it costs to change over.
+    /// Whether it may work at least half as much as it costs to change over.
     pub fn is_worthwhile(&self) -> bool {
-        self.work > self.over.saturating_add(self.back) / 2
+        self.work > self.over.saturating_add(self.back) / 4
     }
 
     /// The work of the steps until an age that it has come to.
@@ -94,13 +95,13 @@ impl Effort {
     /// A trial at an age, with so many generations to come and so many cells, of squares that are there or are to be made.
     pub fn trial(&self, age: u32, left: u32, cells: u64, is_begun: bool) -> Trial {
         let to_come = self.rate.saturating_mul(u64::from(left));
-        let part = self.steps.saturating_add(to_come) / 10 * 3;
+        let part = self.steps.saturating_add(to_come) / 4;
         let back = cells.saturating_mul(CELL_WORK);
         let over = if is_begun { 0 } else { back };
         let lost = self.lost.saturating_add(over).saturating_add(back);
         Trial {
             age,
-            work: part.min(self.steps).saturating_sub(lost) / 2,
+            work: part.min(self.steps.saturating_mul(2)).saturating_sub(lost) / 2,
             rate: self.rate,
             over,
             back,
@@ -115,8 +116,14 @@ impl Effort {
     /// Counts a trial that has worked so many bands of leaves and come to an age.
     pub fn add_trial(&mut self, trial: &Trial, bands: u64, age: u32) {
         let back = if age > trial.age { trial.back } else { 0 };
-        let spent = bands.saturating_mul(2).saturating_add(trial.over).saturating_add(back);
-        self.lost = self.lost.saturating_add(spent).saturating_sub(trial.saved(age));
+        let spent = bands
+            .saturating_mul(2)
+            .saturating_add(trial.over)
+            .saturating_add(back);
+        self.lost = self
+            .lost
+            .saturating_add(spent)
+            .saturating_sub(trial.saved(age));
     }
 }
 

@@ -11,14 +11,15 @@ use Rattle.life_bits.specs.Flags.{as_bit}
 use Rattle.kernel_laws.specs.Rows.{state}
 use Rattle.life_slots.proofs.Members.{Has, has_head, has_none, has_front, has_back, has_parts, has_cases}
 use Rattle.life_slots.proofs.Inserted.{list_more}
+use Rattle.life_slots.proofs.Orders.{true_or_false}
 use Rattle.life_leaves.specs.declared.leaf.Leaf.{Leaf}
 use Rattle.life_leaves.specs.Leaves.{leaf_cell, ShowsLeaf}
 use Rattle.life_leaps.specs.declared.site.Site.{Site}
 use Rattle.life_leaps.specs.Squares.{View, half, width, beyond, Shows, IsAt, IsKept, Extends}
 use Rattle.life_leaps.specs.Cells.{IsInside, IsListed}
-use Rattle.life_leaps.specs.Sites.{IsPartOf, IsQuarterOf, corner}
+use Rattle.life_leaps.specs.Sites.{AreInside, IsPartOf, IsQuarterOf, corner}
 use Rattle.life_leaps.proofs.RowLemmas.{moved, made, from_made}
-use Rattle.life_leaps.proofs.CellLemmas.{agree, both_ways, from_has, shows_none, to_has}
+use Rattle.life_leaps.proofs.CellLemmas.{Overlap, agree, both_ways, from_has, overlap, shows_none, to_has}
 use Rattle.life_leaps.proofs.Growth.{forth}
 use Rattle.life_leaps.specs.Places.{empty_at}
 
@@ -191,3 +192,31 @@ leaf_here v n i leaf G p e inside is shows =
 pub empty_list : (cs : List Cell) → true ≡ (length cs == 0) → cs ≡ []
 empty_list [] h = refl
 empty_list (c ∷ cs) h = let e : length (c ∷ cs) ≡ 0 = eqb-true (length (c ∷ cs)) 0 (sym h) in absurd (omega arith)
+
+-- ---- all cells in one quarter
+
+pub inside_so_far : (cs : List Cell) (site : Site) → AreInside site (take 0 cs)
+inside_so_far [] site q h = absurd (has_none q (listed_has [] q h))
+inside_so_far (c ∷ cs) site q h = absurd (has_none q (listed_has [] q h))
+
+pub inside_more : (cs : List Cell) (site : Site) (i : ℕ) (d : Cell) → i < length cs → AreInside site (take i cs) → IsInside site.level (corner site) (get_or cs i d) → AreInside site (take (i + 1) cs)
+inside_more cs site i d h before here =
+    let e : take (i + 1) cs ≡ take i cs ++ get_or cs i d ∷ [] = take_more cs i d h in
+    let P : List Cell → Type 0 = λ l. AreInside site l in
+    subst P (sym e) (λ q l. ⊎_elim
+        (λ a. before q (has_listed _ q a))
+        (λ (f : q ≡ get_or cs i d). let Q : Cell → Type 0 = λ x. IsInside site.level (corner site) x in subst Q (sym f) here)
+        (last_is (take i cs) (get_or cs i d) q (listed_has _ q l)))
+
+-- a square of the level beside it has none of them
+pub none_beside : (v : View) → IsKept v → (n i : ℕ) → n ≤ 20 → i ≡ empty_at n → (cs : List Cell) (p : Cell) (a b : ℕ) → (width n ≤ a) ⊎ (width n ≤ b) →
+    ((q : Cell) → IsListed cs q → IsInside n (beyond p 0 0) q) → Shows v n i (from_list cs) (beyond p a b)
+none_beside v kept n i few is cs p a b beside first =
+    let P : ℕ → Type 0 = λ k. Shows v n k (from_list cs) (beyond p a b) in
+    subst P (sym is) (shows_none v kept n few (from_list cs) (beyond p a b) (λ q inside.
+        ⊎_elim
+        (λ (live : contains (from_list cs) q ≡ true).
+        let both : Overlap n 0 0 a b = overlap n p q 0 0 a b (first q (has_listed cs q (to_has cs q live))) inside in
+        ⊎_elim (λ (h : width n ≤ a). absurd (omega (arith, both.east))) (λ (h : width n ≤ b). absurd (omega (arith, both.south))) beside)
+        (λ (dead : contains (from_list cs) q ≡ false). dead)
+        (true_or_false (contains (from_list cs) q))))

@@ -54,3 +54,7 @@ pub record AreQuartersOf (site : Site) (sites : Sites) : Type 0 where
 pub record IsPartOf (cells : List Cell) (site : Site) (part : List Cell) : Type 0 where
   pub listed : (q : Cell) → IsListed part q → IsListed cells q
   pub all : (q : Cell) → IsListed cells q → IsInside site.level (corner site) q → IsListed part q
+
+-- all cells of a list stand in a square
+abbrev pub AreInside : Site → List Cell → Type 0
+AreInside site cells = (q : Cell) → IsListed cells q → IsInside site.level (corner site) q

@@ -7,9 +7,9 @@ ghost use Rattle.life_leaves.specs.Leaves.{ShowsLeaf};
 ghost use Rattle.life_leaps.specs.Squares.{Grows, IsAt, IsKept, Shows, beyond, width};
 ghost use Rattle.life_leaps.specs.Stores.{view};
 ghost use Rattle.life_leaps.specs.Cells.{IsInside, IsListed};
-ghost use Rattle.life_leaps.specs.Sites.{IsPartOf, IsSite, corner};
+ghost use Rattle.life_leaps.specs.Sites.{AreInside, AreQuartersOf, IsPartOf, IsSite, corner};
 
-use crate::site::Site;
+use crate::site::{Site, Sites};
 use crate::square::{Quarters, empty_place};
 use crate::store::Store;
 use life_leaves::Leaf;
@@ -44,7 +44,49 @@ fn leaf_of(cells: &[(i32, i32)], site: &Site) -> Leaf
     leaf
 }
 
+/// Whether all cells of a list stand in a square.
+fn are_in(cells: &[(i32, i32)], site: &Site) -> bool
+    requires { IsSite site.now }
+    ensures { IsTrue result → AreInside site.now cells.now }
+{
+    for cell in cells {
+        let Some(_) = site.place_of(*cell) else {
+            return false;
+        };
+    }
+    true
+}
+
 impl Store {
+    /// The same, of cells that all stand in the first quarter.
+    #[cycle(build)]
+    fn build_first(
+        &mut self,
+        site: &Site,
+        sites: &Sites,
+        cells: &[(i32, i32)],
+    ) -> Result<u32, AllocError>
+        requires kept { IsKept (view self.old) }
+        requires site { IsSite site.now }
+        requires sites { AreQuartersOf site.now sites.now }
+        requires first { AreInside sites.now.north_west cells.now }
+        ensures grows { (rule : Rule) (e : ℕ) → Grows rule e (view self.old) (view self.new) }
+        ensures at { IfOk result (λ i. IsAt (view self.new) site.now.level i) }
+        ensures shows { IfOk result (λ i.
+            Shows (view self.new) site.now.level i (from_list cells.now) (corner site.now)) }
+    {
+        let north_west = self.build(&sites.north_west, cells)?;
+        let empty = empty_place(sites.north_west.level);
+        let made = Quarters {
+            north_west,
+            north_east: empty,
+            south_west: empty,
+            south_east: empty,
+        };
+        let place = self.square(sites.north_west.level, &made)?;
+        Ok(place)
+    }
+
     /// The same, of those cells alone.
     #[cycle(build)]
     fn build_part(&mut self, site: &Site, cells: &[(i32, i32)]) -> Result<u32, AllocError>
@@ -79,6 +121,10 @@ impl Store {
             return Ok(leaf);
         }
         let sites = site.quarters();
+        if are_in(cells, &sites.north_west) {
+            let first = self.build_first(site, &sites, cells)?;
+            return Ok(first);
+        }
         let north_west = self.build_part(&sites.north_west, cells)?;
         let north_east = self.build_part(&sites.north_east, cells)?;
         let south_west = self.build_part(&sites.south_west, cells)?;

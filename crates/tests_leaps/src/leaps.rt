@@ -70,6 +70,35 @@ fn a_glider_leaps(rt: HostRuntime) -> Result<(), Fail> {
 }
 
 #[test]
+fn a_glider_stays_where_squares_are_given_back(rt: HostRuntime) -> Result<(), Fail> {
+    let list = CellList::of(rt.alloc(), GLIDER)?;
+    assert!(rt; list.fits());
+    let mut plane = LeapPlane::at_age(rt.alloc(), &Rule::life(), &list, 0)?;
+    assert!(rt; plane.age() == 0);
+    plane.leap(11, 1_000_000)?;
+    assert!(rt; plane.age() == 2_048);
+    plane.collect()?;
+    plane.leap(11, 1_000_000)?;
+    let cells = plane.cells()?;
+    assert!(rt; cells.as_slice() == GLIDER_1024 && plane.age() == 4_096 && !plane.is_half_full());
+    Ok(())
+}
+
+#[test]
+fn a_plane_takes_other_cells(rt: HostRuntime) -> Result<(), Fail> {
+    let list = CellList::of(rt.alloc(), GLIDER)?;
+    let gun = CellList::of(rt.alloc(), GUN)?;
+    assert!(rt; list.fits() && gun.fits());
+    let mut plane = LeapPlane::at_age(rt.alloc(), &Rule::life(), &gun, 0)?;
+    plane.put(&list, 0)?;
+    assert!(rt; plane.age() == 0);
+    plane.leap(12, 1_000_000)?;
+    let cells = plane.cells()?;
+    assert!(rt; cells.as_slice() == GLIDER_1024 && plane.age() == 4_096);
+    Ok(())
+}
+
+#[test]
 fn a_leap_without_work_is_refused(rt: HostRuntime) -> Result<(), Fail> {
     let list = CellList::of(rt.alloc(), GLIDER)?;
     assert!(rt; list.fits());

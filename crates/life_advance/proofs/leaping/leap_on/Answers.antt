@@ -9,9 +9,11 @@ leaps-init c = (c.requires.young, refl, later_now _ _)
 pub leaps-preserved : goal.leaps-preserved
 leaps-preserved c =
     let made = c.leap_once.ensures in
-    let before = c.leaps.invariant in
-    (made.within, made.rule ∙ before.1,
-    later_still _ _ _ _ before.2 (subst (λ R. IsLater R c.leaps.plane.0 c.leap_once.new.plane.0) before.1 made.later))
+    let before = c.leaps.invariant in (
+      made.within,
+      made.rule ∙ before.1,
+      later_still _ _ _ _ before.2 (subst (λ R. IsLater R c.leaps.plane.0 c.leap_once.new.plane.0) before.1 made.later),
+    )
 
 pub returns-then-not-leap_once-clause-later : goal.returns-then-not-leap_once-clause-later
 returns-then-not-leap_once-clause-later c =

@@ -19,5 +19,5 @@ returns-in-Ok-put c =
     let held = subst (λ o. Trails c.args.rule.now o c.args.board.now) c.in-Some.is c.requires.held in
     let made = c.in-Ok-put.ensures in
     let same = later_same c.args.rule.now c.put.new.self.0 c.put.new.self.0 c.args.board.now (later_now _ _)
-        (sym (made.cells ∙ c.in-Ok.ensures.cells)) (sym (made.age ∙ c.age-age.ensures.age)) in
+    (sym (made.cells ∙ c.in-Ok.ensures.cells)) (sym (made.age ∙ c.age-age.ensures.age)) in
     (made.rule ∙ held.0, same)

@@ -1,14 +1,15 @@
 -- Squares of the cells of lists.
-use Rattle.std.proofs.Common.{◌≡◌, ◌-◌, sym, refl, ap, subst, List, arith}
+use Rattle.std.proofs.Common.{◌≡◌, ◌-◌, ◌≤◌, ℕ, inl, inr, sym, refl, ap, subst, List, arith}
 use Rattle.life_model.specs.Cell.{Cell}
 use Rattle.life_model.specs.Generation.{from_list}
-use Rattle.life_leaps.specs.Squares.{width}
+use Rattle.life_leaps.specs.Squares.{beyond, width}
+use Rattle.life_leaps.specs.Cells.{IsInside, IsListed}
 use Rattle.life_leaps.specs.Stores.{view}
 use Rattle.life_leaps.specs.Sites.{IsPartOf, corner}
 use Rattle.life_leaps.proofs.Growth.{at-extends, extends-trans, grows-trans}
 use Rattle.life_leaps.proofs.RowLemmas.{made_at}
 use Rattle.life_leaps.proofs.Padded.{no_rule}
-use Rattle.life_leaps.proofs.BuildLemmas.{at_level, empty_list, four_here, leaf_here, nothing_shown, part_shows, quarter_here}
+use Rattle.life_leaps.proofs.BuildLemmas.{at_level, empty_is_at, empty_list, four_here, leaf_here, none_beside, nothing_shown, part_shows, quarter_here}
 use Rattle.life_leaps.proofs.store.Store.+build.Goals as goal
 
 pub build_part-returns-clause-shows : goal.build_part-returns-clause-shows
@@ -93,3 +94,36 @@ build-returns-clause-shows t c =
     (quarter_here (view c.build_part-2.new.self) (view c.square.new.self) g2.kept e345 (c.args.site.now.level - 1) _ c.args.cells.now c.args.site.now c.quarters-sites.result.north_east _ _ (width (c.args.site.now.level - 1)) 0 c.quarters-sites.ensures.north_east ne c.in_ok-north_east.ensures.at c.in_ok-north_east.ensures.shows (ap width ne) refl)
     (quarter_here (view c.build_part-3.new.self) (view c.square.new.self) g3.kept e45 (c.args.site.now.level - 1) _ c.args.cells.now c.args.site.now c.quarters-sites.result.south_west _ _ 0 (width (c.args.site.now.level - 1)) c.quarters-sites.ensures.south_west sw c.in_ok-south_west.ensures.at c.in_ok-south_west.ensures.shows refl (ap width sw))
     (quarter_here (view c.build_part-4.new.self) (view c.square.new.self) g4.kept e5 (c.args.site.now.level - 1) _ c.args.cells.now c.args.site.now c.quarters-sites.result.south_east _ _ (width (c.args.site.now.level - 1)) (width (c.args.site.now.level - 1)) c.quarters-sites.ensures.south_east se c.in_ok-south_east.ensures.at c.in_ok-south_east.ensures.shows (ap width se) (ap width se))
+
+-- all cells in the first quarter
+pub build_first-square-requires-clause-kept : goal.build_first-square-requires-clause-kept
+build_first-square-requires-clause-kept t c = (c.in_ok-north_west.ensures.grows no_rule 0).kept
+
+pub build_first-square-requires-clause-at : goal.build_first-square-requires-clause-at
+build_first-square-requires-clause-at t c =
+    let kept = (c.in_ok-north_west.ensures.grows no_rule 0).kept in
+    let few : c.args.sites.now.north_west.level ≤ 20 = (let h = c.requires.sites.north_west.placed.level in omega (arith, h)) in
+    let empty = empty_is_at (view c.build.new.self) kept c.args.sites.now.north_west.level c.empty_place-empty.result few c.empty_place-empty.ensures in
+    made_at (view c.build.new.self) c.args.sites.now.north_west.level _ _ _ _ c.in_ok-north_west.ensures.at empty empty empty
+
+pub build_first-returns-in_err-place-clause-grows : goal.build_first-returns-in_err-place-clause-grows
+build_first-returns-in_err-place-clause-grows t c = λ rule e. grows-trans rule e _ _ _ (c.in_ok-north_west.ensures.grows rule e) (c.in_err-place.ensures.grows rule e)
+
+pub build_first-returns-clause-grows : goal.build_first-returns-clause-grows
+build_first-returns-clause-grows t c = λ rule e. grows-trans rule e _ _ _ (c.in_ok-north_west.ensures.grows rule e) (c.in_ok-place.ensures.grows rule e)
+
+pub build_first-returns-clause-shows : goal.build_first-returns-clause-shows
+build_first-returns-clause-shows t c =
+    let n : ℕ = c.args.sites.now.north_west.level in
+    let first_is = c.requires.sites.north_west in
+    let g = c.in_ok-north_west.ensures.grows no_rule 0 in
+    let h = c.in_ok-place.ensures.grows no_rule 0 in
+    let few : c.args.sites.now.north_west.level ≤ 20 = (let l = c.requires.sites.north_west.placed.level in omega (arith, l)) in
+    let first : (q : Cell) → IsListed c.args.cells.now q → IsInside c.args.sites.now.north_west.level (beyond (corner c.args.site.now) 0 0) q =
+    λ q l. subst (λ p. IsInside c.args.sites.now.north_west.level p q) first_is.corner (c.requires.first q l) in
+    let none = none_beside (view c.square.new.self) h.kept c.args.sites.now.north_west.level c.empty_place-empty.result few c.empty_place-empty.ensures c.args.cells.now (corner c.args.site.now) in
+    four_here (view c.square.new.self) c.args.sites.now.north_west.level c.args.site.now.level c.in_ok-place.place c.args.cells.now c.args.site.now _ _ _ _ first_is.level c.in_ok-place.ensures.is
+    (quarter_here (view c.build.new.self) (view c.square.new.self) g.kept h.extends c.args.sites.now.north_west.level _ c.args.cells.now c.args.site.now c.args.sites.now.north_west 0 0 0 0 first_is refl c.in_ok-north_west.ensures.at c.in_ok-north_west.ensures.shows refl refl)
+    (none (width c.args.sites.now.north_west.level) 0 (inl (omega arith)) first)
+    (none 0 (width c.args.sites.now.north_west.level) (inr (omega arith)) first)
+    (none (width c.args.sites.now.north_west.level) (width c.args.sites.now.north_west.level) (inl (omega arith)) first)

@@ -1,9 +1,12 @@
 -- Each call goes one level down, or to the cells of one part.
-use Rattle.std.proofs.Common.{◌+◌, ◌*◌}
+use Rattle.std.proofs.Common.{◌+◌, ◌-◌, ◌*◌}
 use Rattle.life_leaps.proofs.store.Store.+build.Given as goal
 
 abbrev pub decreases-build : goal.decreases-build
-decreases-build l = 2 * l.site.now.level
+decreases-build l = 3 * l.site.now.level
 
 abbrev pub decreases-build_part : goal.decreases-build_part
-decreases-build_part l = 2 * l.site.now.level + 1
+decreases-build_part l = 3 * l.site.now.level + 1
+
+abbrev pub decreases-build_first : goal.decreases-build_first
+decreases-build_first l = 3 * l.site.now.level - 1
