@@ -33,7 +33,7 @@ AreApart-moved P Q e far c d h k near =
     far (plus c (opposite e)) (plus d (opposite e)) (sym (contains-moved P e c) ∙ h) (sym (contains-moved Q e d) ∙ k)
     (near_moved c d (opposite e) near)
 
-union-moved : (A B : Generation) (e : Cell) → translate_of (union A B) e ≡ union (translate_of A e) (translate_of B e)
+pub union-moved : (A B : Generation) (e : Cell) → translate_of (union A B) e ≡ union (translate_of A e) (translate_of B e)
 union-moved A B e = same_members _ _ (λ c.
     contains-moved (union A B) e c ∙ contains-union A B (plus c (opposite e))
     ∙ (λ i. sym (contains-moved A e c) i || sym (contains-moved B e c) i)
@@ -46,7 +46,7 @@ one_product : (k p : ℕ) → 1 ≤ k → 1 ≤ p → 1 ≤ k * p
 one_product k p h l = let more : k * 1 ≤ k * p = mul-le-mul_left k l in omega arith
 
 module _ (R : Rule) where
-  apart_moved_at : (n : ℕ) (A B : Generation) (e : Cell) → AreApart (generation R A n) (generation R B n) →
+  pub apart_moved_at : (n : ℕ) (A B : Generation) (e : Cell) → AreApart (generation R A n) (generation R B n) →
       AreApart (generation R (translate_of A e) n) (generation R (translate_of B e) n)
   apart_moved_at n A B e far =
       subst (λ H. AreApart H (generation R (translate_of B e) n)) (sym (generation-moved R A e n))
