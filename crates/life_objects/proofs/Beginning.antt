@@ -36,7 +36,7 @@ mapped_from f (x ∷ xs) y one =
       | inr later ↦ let found = mapped_from f xs y later in (found.0, Contains-later x found.0 xs found.1, found.2)
     ]
 
-mapped_to : {X Y : Type 0} (f : X → Y) (xs : List X) (x : X) → Contains xs x → Contains (map f xs) (f x)
+pub mapped_to : {X Y : Type 0} (f : X → Y) (xs : List X) (x : X) → Contains xs x → Contains (map f xs) (f x)
 mapped_to f [] x one = let none : one.0 < 0 = one.1 in absurd (omega arith)
 mapped_to f (y ∷ ys) x one =
     elim (head_or_later y x ys one.0 one.1 one.2) [

@@ -17,3 +17,4 @@ pub mod Dividing
 pub mod Cores
 pub mod Drifting
 pub mod Beginning
+pub mod Settling

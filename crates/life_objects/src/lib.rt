@@ -11,7 +11,7 @@ ghost use Rattle.std.specs.List.Sorted.{IsPermutation};
 ghost use Rattle.life_model.specs.Cell.{Cell};
 ghost use Rattle.life_model.specs.Evolution.{generation, next};
 ghost use Rattle.life_model.specs.Generation.{Generation, contains, empty, from_list};
-ghost use Rattle.life_model.specs.Recurrence.{RecursBy};
+ghost use Rattle.life_model.specs.Recurrence.{RecursBy, Recurrence, Settles};
 ghost use Rattle.life_model.specs.Rule.{Rule};
 ghost use Rattle.life_objects.specs.Apart.{AreApart, AreApartBefore, AreApartFor, AreApartForEver, AreDisjoint};
 ghost use Rattle.life_objects.specs.Ash.{HasFallenApart, IsAsh};
@@ -218,4 +218,10 @@ pub fn ash_has_one_onset()
         IsAshOnset R c G t → s ≡ t }
     ensures wider { (R : Rule) (b c t : ℕ) (G : Generation) → b ≤ c → IsAshOnset R b G t →
         IsAshOnset R c G t }
+{}
+
+/// Where a pattern settles and has fallen apart, the first generation that comes again is the first that is ash.
+pub fn settling_and_ash_have_one_onset()
+    ensures { (R : Rule) (b c t : ℕ) (G : Generation) (r : Recurrence) → Settles R G b r →
+        IsAshOnset R c G t → r.onset ≡ t }
 {}
