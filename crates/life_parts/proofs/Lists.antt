@@ -34,6 +34,23 @@ some_cell Q some = elim (nothing_or_some Q) [ inl none ↦ absurd (some none) | 
 pub is_some : (Q : Generation) (a : Cell) → contains Q a ≡ true → Q ≢ empty
 is_some Q a h none = in_empty a (ap (λ H. contains H a) (sym none) ∙ h)
 
+-- a set that is tied within is its one part
+pub one_part : (R : Rule) (P : Generation) → P ≢ empty →
+    ((c e : Cell) → contains P c ≡ true → contains P e ≡ true → AreTied R P 0 c 0 e) → AreIndependentParts R P (P ∷ [])
+one_part R P some tied = record {
+  together = union-empty P;
+  parts = All-cons (IsIndependentPart R P) P [] (record {
+    nonempty = some;
+    within = λ c h. h;
+    tied = tied;
+    whole = λ c e h t. in_at_first R P e (both_in R P 0 0 c e t).1;
+  }) (All-nil (IsIndependentPart R P));
+  once = λ i j x h k. absurd (omega arith);
+}
+
+pub no_part : (R : Rule) → AreIndependentParts R empty []
+no_part R = record { together = refl; parts = All-nil (IsIndependentPart R empty); once = λ i j x h k. absurd (omega arith) }
+
 module _ (R : Rule) (P : Generation) (Qs : List Generation) (are : AreIndependentParts R P Qs) where
   pub part_recurs : (p : ℕ) (d : Cell) → RecursBy R P p d → (Q : Generation) → Contains Qs Q →
       (k : ℕ) × (1 ≤ k) × (k ≤ length Qs) × RecursBy R Q (k * p) (multiple_of k d)
@@ -45,17 +62,8 @@ module _ (R : Rule) (P : Generation) (Qs : List Generation) (are : AreIndependen
       AreIndependentParts R Q (Q ∷ [])
   part_is_one p d r Q one =
       let part = part_of R P Qs are Q one in
-      record {
-        together = union-empty Q;
-        parts = All-cons (IsIndependentPart R Q) Q [] (record {
-          nonempty = part.nonempty;
-          within = λ c h. h;
-          tied = λ c e h k.
-              tied_alone R P Qs (first_classes R P Qs are) p d r 0 0 c e (part.tied c e h k) Q one (at_first R Q c h);
-          whole = λ c e h t. in_at_first R Q e (both_in R Q 0 0 c e t).1;
-        }) (All-nil (IsIndependentPart R Q));
-        once = λ i j x h k. absurd (omega arith);
-      }
+      one_part R Q part.nonempty (λ c e h k.
+      tied_alone R P Qs (first_classes R P Qs are) p d r 0 0 c e (part.tied c e h k) Q one (at_first R Q c h))
 
   module _ (p : ℕ) (d : Cell) (r : RecursBy R P p d) (k : ℕ) where
     later_part : (Q : Generation) → Contains Qs Q → IsIndependentPart R (generation R P k) (generation R Q k)

@@ -65,6 +65,14 @@ pub fn a_part_is_one_by_itself()
         AreIndependentParts R Q (Q ∷ []) }
 {}
 
+/// A set with a cell whose cells are all tied has one independent part, itself, and the empty set has none.
+pub fn what_is_tied_is_one_part()
+    ensures one { (R : Rule) (P : Generation) → P ≢ empty →
+        ((c e : Cell) → contains P c ≡ true → contains P e ≡ true → AreTied R P 0 c 0 e) →
+        AreIndependentParts R P (P ∷ []) }
+    ensures none { (R : Rule) → AreIndependentParts R empty [] }
+{}
+
 /// Disjoint sets that make up a set which comes again are its independent parts where each is tied within itself, they
 /// are held apart in each generation of its first period, and what is one of them a period later was one at first.
 pub fn one_period_decides_the_parts()
