@@ -1,5 +1,5 @@
 -- Rows cut by the lines that they are written as.
-use Rattle.std.proofs.Common.{◌≡◌, ℕ, ◌<◌, ◌^◌, List, [], ◌∷◌, ◌++◌, map, codes, decimal, bytes_eq, true, false, ap, ◌∙◌, sym, refl, arith, append_assoc}
+use Rattle.std.proofs.Common.{◌≡◌, ℕ, ◌<◌, ◌^◌, List, [], ◌∷◌, ◌++◌, map, codes, decimal, bytes_eq, true, false, ap, ◌∙◌, sym, refl, append_assoc}
 use Rattle.std.specs.List.{AllByRecursion as Each}
 use Rattle.std.proofs.lemmas.Fmt.{decimal_injective}
 use Rattle.census_readback.specs.Texts.{AllLines, HasNoFeed}

@@ -3,7 +3,6 @@ use Rattle.std.proofs.Common.{◌≡◌, ℕ, true, false, cond, eqb, List, [], 
 use Rattle.std.specs.List.{AllByRecursion as Each}
 use Rattle.std.proofs.lemmas.Bool.{eq-eqb, eqb-true}
 use Rattle.census_bundle.specs.declared.bundle.Folder.{Folder}
-use Rattle.census_format.specs.Lines.{Group}
 use Rattle.census_format.specs.Reports.{Owned, lines_of, section}
 use Rattle.census_readback.specs.Shapes.{all_rows, rows_of}
 use Rattle.census_readback.specs.Steps.{collection_of}

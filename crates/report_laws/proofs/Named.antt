@@ -5,7 +5,7 @@ use Rattle.std.specs.List.{AllByRecursion as Each, list_all}
 use Rattle.std.proofs.lemmas.Option.{slice_get_past}
 use Rattle.census_bundle.specs.declared.bundle.Entry.{Entry}
 use Rattle.census_bundle.specs.declared.bundle.Folder.{Folder}
-use Rattle.census_bundle.specs.Names.{HasLawfulNames, IsNamedEntry, IsNamedFolder, is_name, is_name_byte}
+use Rattle.census_bundle.specs.Names.{IsNamedEntry, IsNamedFolder, is_name, is_name_byte}
 use Rattle.census_bundle.specs.Sizes.{IsWithinCounts, count_limit}
 use Rattle.census_format.specs.Found.{lent}
 use Rattle.census_format.specs.Lines.{answer_to_entry, answers, is_refused, is_resolved, is_unresolved, part_row, part_rows, pattern_count, pattern_lines, pattern_row, pattern_rows}

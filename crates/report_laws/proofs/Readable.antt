@@ -1,5 +1,5 @@
 -- Lawful reports with numbers in range are read back.
-use Rattle.std.proofs.Common.{◌≡◌, ℕ, zero, suc, ◌-◌, ◌<◌, ◌≤◌, ◌^◌, ⊎_elim, eq-zero-or-pos, None as Nothing, Option, Some, List, [], ◌∷◌, ◌++◌, map, length, slice_get, ap, ◌∙◌, sym, refl, arith, subst, append-nil}
+use Rattle.std.proofs.Common.{◌≡◌, ℕ, zero, suc, ◌-◌, ◌<◌, ◌≤◌, ◌^◌, ⊎_elim, eq-zero-or-pos, None as Nothing, Option, Some, List, [], ◌∷◌, ◌++◌, length, slice_get, ap, ◌∙◌, sym, refl, arith, subst, append-nil}
 use Rattle.std.specs.List.{AllByRecursion as Each}
 use Rattle.std.proofs.lemmas.Option.{slice_get_past}
 use Rattle.census_bundle.specs.declared.bundle.Folder.{Folder}

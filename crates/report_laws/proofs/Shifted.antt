@@ -8,7 +8,7 @@ use Rattle.census_bundle.specs.declared.bundle.Entry.{Entry}
 use Rattle.census_bundle.specs.declared.bundle.Folder.{Folder}
 use Rattle.census_format.specs.Lines.{Group, answer_to_entry, answers, part_row, part_rows, pattern_lines, pattern_row, pattern_rows}
 use Rattle.census_format.specs.Objects.{Object, code_line}
-use Rattle.census_format.specs.Reports.{Owned, folder_section, lines_of, section_of}
+use Rattle.census_format.specs.Reports.{Owned, lines_of, section_of}
 use Rattle.census_merge.specs.declared.report_sums.Sums.{Sums}
 use Rattle.census_merge.specs.Sums.{sums_plus, sums_in, sums_of}
 use Rattle.census_merge.specs.Merged.{numbered_on, renumbered_row}
