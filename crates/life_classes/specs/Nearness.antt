@@ -20,11 +20,6 @@ sets_are_near P Q = list_any (reaches 2 Q) (cells P)
 abbrev pub lists_cell : List Cell → Cell → Bool
 lists_cell cs c = list_any (same_cell c) cs
 
--- each of the cells is near the one before it
-abbrev pub IsChain : List Cell → Type 0
-IsChain cs =
-    (k j : ℕ) (d : Cell) → j ≡ k + 1 → j < length cs → are_within 2 (get_or cs k d) (get_or cs j d) ≡ true
-
 -- a cell that stands before the one in place n is near it
 pub record IsNearOneBefore (cs : List Cell) (n : ℕ) : Type 0 where
   pub by : ℕ

@@ -14,7 +14,7 @@ returns c =
     let long = length-drop s ts in
     let same : take (length ts - s) (drop s ts) ≡ drop s ts = take_all _ _ (omega arith) in
     on_true c.are_of_up_to.result _ (λ t k d h from to.
-        let fits = c.ranges.low in
-        let small = c.requires.small in
-        kept_from ts _ _ s c.args.place c.start_from-start.ensures.less
-        (subst (AreOfUpTo _ c.args.place) same (rw t at c.are_of_up_to.ensures)) k d h (omega (arith, ints)) (omega (arith, ints)))
+    let fits = c.ranges.low in
+    let small = c.requires.small in
+    kept_from ts _ _ s c.args.place c.start_from-start.ensures.less
+    (subst (AreOfUpTo _ c.args.place) same (rw t at c.are_of_up_to.ensures)) k d h (omega (arith, ints)) (omega (arith, ints)))

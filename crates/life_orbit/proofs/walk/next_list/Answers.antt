@@ -11,6 +11,6 @@ pub returns-clause-within : goal.returns-clause-within
 returns-clause-within c a all =
     let is = c.in_ok-later.ensures.cells ∙ c.in_ok-step.ensures.cells ∙ ap (next c.args.rule.now) c.in_ok-plane.ensures.cells in
     of_all_members (IsWithin (a + 1)) (cells c.in_ok-later.later) (λ q h.
-        within_next c.args.rule.now c.args.cells.now c.in_ok-later.later a is
-        (λ g there. of_member (IsWithin a) (cells c.args.cells.now) all g (sym (contains-cells c.args.cells.now g) ∙ there))
-        q (contains-cells c.in_ok-later.later q ∙ h))
+    within_next c.args.rule.now c.args.cells.now c.in_ok-later.later a is
+    (λ g there. of_member (IsWithin a) (cells c.args.cells.now) all g (sym (contains-cells c.args.cells.now g) ∙ there))
+    q (contains-cells c.in_ok-later.later q ∙ h))
