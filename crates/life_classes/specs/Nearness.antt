@@ -1,5 +1,5 @@
 -- Which cells a set reaches.
-use Rattle.std.specs.Prelude.{◌≡◌, ℕ, ◌+◌, ◌<◌, ◌-ℤ◌, Bool, ◌&&◌, true, List, length, get_or, nat_le, unsigned_abs}
+use Rattle.std.specs.Prelude.{◌≡◌, ℕ, ◌<◌, ◌-ℤ◌, Bool, ◌&&◌, true, List, length, get_or, nat_le, unsigned_abs}
 use Rattle.std.specs.List.{list_any}
 use Rattle.life_model.specs.Cell.{Cell, same_cell}
 use Rattle.life_model.specs.Generation.{Generation, cells}

@@ -1,4 +1,4 @@
-use Rattle.std.proofs.Common.{◌≡◌, ◌≤◌, length, take}
+use Rattle.std.proofs.Common.{◌≡◌, take}
 use Rattle.life_classes.specs.Pieces.{cells_of}
 use Rattle.life_classes.proofs.pieces.with_marks.Given as goal
 
