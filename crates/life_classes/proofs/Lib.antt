@@ -10,7 +10,6 @@ pub mod Leading
 pub mod Aparting
 pub mod Later
 pub mod Few
-pub mod NextToNext
 pub mod Followed
 pub mod OnTrue
 pub mod Permuted

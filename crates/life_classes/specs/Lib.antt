@@ -2,3 +2,4 @@ pub mod Nearness
 pub mod Tracking
 pub mod Tags
 pub mod Gathering
+pub mod Pieces

@@ -1,5 +1,5 @@
 -- Which cells a set reaches.
-use Rattle.std.specs.Prelude.{◌≡◌, ℕ, ◌+◌, ◌<◌, ◌-ℤ◌, Bool, ◌&&◌, true, List, length, get_or, nat_le, unsigned_abs}
+use Rattle.std.specs.Prelude.{◌≡◌, ℕ, ◌<◌, ◌-ℤ◌, Bool, ◌&&◌, true, List, length, get_or, nat_le, unsigned_abs}
 use Rattle.std.specs.List.{list_any}
 use Rattle.life_model.specs.Cell.{Cell, same_cell}
 use Rattle.life_model.specs.Generation.{Generation, cells}
@@ -19,11 +19,6 @@ sets_are_near P Q = list_any (reaches 2 Q) (cells P)
 -- whether a cell is listed
 abbrev pub lists_cell : List Cell → Cell → Bool
 lists_cell cs c = list_any (same_cell c) cs
-
--- each of the cells is near the one before it
-abbrev pub IsChain : List Cell → Type 0
-IsChain cs =
-    (k j : ℕ) (d : Cell) → j ≡ k + 1 → j < length cs → are_within 2 (get_or cs k d) (get_or cs j d) ≡ true
 
 -- a cell that stands before the one in place n is near it
 pub record IsNearOneBefore (cs : List Cell) (n : ℕ) : Type 0 where

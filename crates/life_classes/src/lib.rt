@@ -3,13 +3,13 @@
 //! Tested in `tests_objects`.
 #![tactic(auto)]
 
-mod chains;
 mod class;
 mod following;
 mod gathering;
 mod joining;
 mod meeting;
 mod nearness;
+mod pieces;
 mod rows;
 mod splitting;
 mod stepping;

@@ -6,10 +6,10 @@ ghost use Rattle.life_objects.specs.Union.{generations, union_of};
 ghost use Rattle.life_objects.specs.Whole.{StaysWhole};
 ghost use Rattle.life_classes.specs.Tracking.{AreApartNow, LeadTo, class_of_cell, first_sets, last_sets};
 
-use crate::chains::{as_one, chains};
 use crate::class::Class;
 use crate::following::follow_on;
 use crate::joining::all_joined;
+use crate::pieces::{as_one, pieces};
 use crate::stepping::stepped;
 use life_cells::Rule;
 use life_plane::{AGE_LIMIT, Plane};
@@ -24,7 +24,7 @@ pub fn first_classes(alloc: Global, cells: &[(i32, i32)]) -> Result<Vec<Class>, 
     if cells.len() > 0 && follow_on(cells) {
         return Ok(vec![in alloc; as_one(alloc, cells)?]?);
     }
-    all_joined(alloc, chains(alloc, cells)?)
+    all_joined(alloc, pieces(alloc, cells)?)
 }
 
 /// The classes of a plane's cells that stay apart for so many generations, torn as finely as can be: however the cells

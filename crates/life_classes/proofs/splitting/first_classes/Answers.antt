@@ -15,6 +15,6 @@ returns-then-follow_on-clause-tracked c =
 
 pub returns-clause-tracked : goal.returns-clause-tracked
 returns-clause-tracked c =
-    let runs = c.in_ok-chains.field-0.items in
+    let runs = c.in_ok-pieces.field-0.items in
     IfOk-weaker c.all_joined.result (λ all. LeadTo runs all.items) (λ all. LeadTo (map class_of_cell c.args.cells.now) all.items)
-    (λ all h. in_turn (map class_of_cell c.args.cells.now) runs all.items c.in_ok-chains.ensures h) c.all_joined.ensures.tracked
+    (λ all h. in_turn (map class_of_cell c.args.cells.now) runs all.items c.in_ok-pieces.ensures h) c.all_joined.ensures.tracked

@@ -1,6 +1,6 @@
 use Rattle.std.proofs.Common.{◌-◌, ◌≤◌, ◌++◌, drop, length, map}
 use Rattle.life_classes.specs.Tracking.{LeadTo, class_of_cell}
-use Rattle.life_classes.proofs.chains.chains.Given as goal
+use Rattle.life_classes.proofs.pieces.as_pieces.Given as goal
 
 abbrev pub invariant-loop-start : goal.invariant-loop-start
 invariant-loop-start l = record {

@@ -3,19 +3,19 @@ use Rattle.std.proofs.lemmas.List.{length-map, length-take-le}
 use Rattle.life_classes.specs.Gathering.{classes_between}
 use Rattle.life_classes.specs.Tracking.{LeadTo, class_of_cell, at_first}
 use Rattle.life_classes.proofs.Groups.{lead_piece, lead_whole, piece_of}
-use Rattle.life_classes.proofs.NextToNext.{lead_cells}
-use Rattle.life_classes.proofs.chains.chains.Goals as goal
+use Rattle.life_classes.proofs.Followed.{lead_followed}
+use Rattle.life_classes.proofs.pieces.as_pieces.Goals as goal
 
 pub loop-start-preserved : goal.loop-start-preserved
 loop-start-preserved c =
     let cells = c.args.cells.now in
     let cs = map class_of_cell cells in
     let start = c.loop-start.start in
-    let end = c.end_of_chain-end.result in
+    let end = c.end_of_piece-end.result in
     let done = c.loop-start.classes.items in
     let one = c.in_ok-as_one.field-0 in
-    let above = c.end_of_chain-end.ensures.above in
-    let within = c.end_of_chain-end.ensures.within in
+    let above = c.end_of_piece-end.ensures.above in
+    let within = c.end_of_piece-end.ensures.within in
     let long = length-map cells class_of_cell in
     let piece = take (end - start) (drop start cells) in
     let count = length-take-le (end - start) (drop start cells) (omega (arith, length-drop start cells)) in
@@ -26,7 +26,7 @@ loop-start-preserved c =
           (lead_piece cs cs done start end one above (omega arith) c.loop-start.invariant.tracked
           (subst (λ d. LeadTo (classes_between start end cs) (d ∷ [])) (sym c.in_ok-as_one.ensures)
           (subst (λ ds. LeadTo ds (at_first piece ∷ [])) (piece_of class_of_cell cells start end)
-          (lead_cells piece (omega arith) c.end_of_chain-end.ensures.chain))));
+          (lead_followed piece (omega arith) c.end_of_piece-end.ensures.followed))));
     }
 
 pub returns : goal.returns

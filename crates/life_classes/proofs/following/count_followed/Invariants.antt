@@ -1,6 +1,6 @@
 use Rattle.std.proofs.Common.{ℕ, ◌<◌}
 use Rattle.life_classes.specs.Nearness.{IsNearOneBefore}
-use Rattle.life_classes.proofs.following.follow_on.Given as goal
+use Rattle.life_classes.proofs.following.count_followed.Given as goal
 
 -- those looked at are near one before them
 abbrev pub invariant-loop-n : goal.invariant-loop-n
