@@ -17,13 +17,13 @@ use std::alloc::Global;
 const FAR: u32 = 23;
 
 /// After so many generations it is first asked how far apart the cells grow.
-const FIRST_ASKED: u32 = 4_096;
+const FIRST_ASKED: u32 = 2_048;
 
 /// After so many it is last asked.
 const LAST_ASKED: u32 = 1_048_576;
 
 /// How many cells make a leap as dear as a band of eight rows of 64 cells in each generation before it.
-const CELLS_OF_WORK: u64 = 32;
+const CELLS_OF_WORK: u64 = 16;
 
 /// A generation far after this one, where the memory that there is makes one and some work: about a part of that of the
 /// generations before.
@@ -72,7 +72,7 @@ fn is_higher(plane: &LeapPlane, most: i64) -> bool
 }
 
 /// Whether cells are seen to grow further apart than they may where a generation comes again within a bound, as those of a later
-/// generation show, of this age. A far generation is made of these, by leaps. It is not asked before age 4,096, and nothing is
+/// generation show, of this age. A far generation is made of these, by leaps. It is not asked before age 2,048, and nothing is
 /// known where the leaps would be too much work, where memory is refused, and where the cells of the far generation are near
 /// enough.
 pub fn outgrows(

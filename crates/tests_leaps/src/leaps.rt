@@ -3,6 +3,8 @@
 use life_advance::generation_of;
 use life_cells::{CellList, Rule};
 use life_leaps::{LeapPlane, Side};
+use life_width::outgrows;
+use std::alloc::Global;
 use std::test::Fail;
 
 // A glider that moves to the right and down by one cell in four generations.
@@ -15,6 +17,15 @@ const GLIDER_1024: &[(i32, i32)] = &[
     (1024, 1026),
     (1025, 1026),
     (1026, 1026),
+];
+
+// And after 8,388,608.
+const GLIDER_FAR: &[(i32, i32)] = &[
+    (2_097_153, 2_097_152),
+    (2_097_154, 2_097_153),
+    (2_097_152, 2_097_154),
+    (2_097_153, 2_097_154),
+    (2_097_154, 2_097_154),
 ];
 
 // Gosper's glider gun, which has 36 cells and sends out a glider of five every 30 generations.
@@ -128,8 +139,7 @@ fn a_glider_leaps_by_millions(rt: HostRuntime) -> Result<(), Fail> {
     assert!(rt; plane.age() == 0);
     plane.leap(23, 1_000_000)?;
     let cells = plane.cells()?;
-    assert!(rt; cells.len() == 5 && plane.age() == 8_388_608);
-    assert!(rt; cells.as_slice()[0] == (2_097_153, 2_097_152));
+    assert!(rt; cells.as_slice() == GLIDER_FAR && plane.age() == 8_388_608);
     assert!(rt; plane.far_cell(Side::West) == plane.far_cell(Side::South));
     Ok(())
 }
@@ -152,5 +162,26 @@ fn no_cell_is_far(rt: HostRuntime) -> Result<(), Fail> {
     assert!(rt; list.fits());
     let plane = LeapPlane::at_age(rt.alloc(), &Rule::life(), &list, 0)?;
     assert!(rt; plane.far_cell(Side::North).is_none());
+    Ok(())
+}
+
+// Whether cells are seen to outgrow what comes again within 1,000,000 generations, by their generation 4,096.
+fn is_outgrown(alloc: Global, cells: &[(i32, i32)]) -> Result<bool, Fail> {
+    let list = CellList::of(alloc, cells)?;
+    if !list.fits() {
+        return Ok(false);
+    }
+    let rule = Rule::life();
+    let mut plane = LeapPlane::at_age(alloc, &rule, &list, 0)?;
+    plane.leap(12, 1_000_000)?;
+    let later = plane.cells()?;
+    Ok(outgrows(alloc, &rule, &list, &later, plane.age(), 1_000_000))
+}
+
+// The gun sends gliders to one side, and comes again nowhere. The glider moves as far and stays as wide.
+#[test]
+fn a_gun_outgrows_what_comes_again(rt: HostRuntime) -> Result<(), Fail> {
+    assert!(rt; is_outgrown(rt.alloc(), GUN)?);
+    assert!(rt; !is_outgrown(rt.alloc(), GLIDER)?);
     Ok(())
 }
