@@ -25,7 +25,7 @@ pub record AreApartCourses (R : Rule) (os : List Course) : Type 0 where
   pub courses : All IsCourse os
   pub apart : AllPairs (AreApartForEver R) (sets_of os)
 
--- No two of the sets are apart for ever from a generation before t on, or any two are.
+-- From no generation before t on are any two of the sets apart for ever.
 abbrev pub IsNeeded : Rule → ℕ → List Course → ℕ → Type 0
 IsNeeded R age os t = (n : ℕ) → AreApartFrom R (pasts age os) n → t ≤ n
 

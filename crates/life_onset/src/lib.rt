@@ -1,6 +1,6 @@
 //! From which generation on a pattern is ash, where a later generation is ash of known parts.
 //!
-//! Tested in `tests_objects`.
+//! Tested in `tests_onset`.
 #![tactic(auto)]
 
 mod pattern;
