@@ -204,9 +204,9 @@ inside_more cs site i d h before here =
     let e : take (i + 1) cs ≡ take i cs ++ get_or cs i d ∷ [] = take_more cs i d h in
     let P : List Cell → Type 0 = λ l. AreInside site l in
     subst P (sym e) (λ q l. ⊎_elim
-        (λ a. before q (has_listed _ q a))
-        (λ (f : q ≡ get_or cs i d). let Q : Cell → Type 0 = λ x. IsInside site.level (corner site) x in subst Q (sym f) here)
-        (last_is (take i cs) (get_or cs i d) q (listed_has _ q l)))
+    (λ a. before q (has_listed _ q a))
+    (λ (f : q ≡ get_or cs i d). let Q : Cell → Type 0 = λ x. IsInside site.level (corner site) x in subst Q (sym f) here)
+    (last_is (take i cs) (get_or cs i d) q (listed_has _ q l)))
 
 -- a square of the level beside it has none of them
 pub none_beside : (v : View) → IsKept v → (n i : ℕ) → n ≤ 20 → i ≡ empty_at n → (cs : List Cell) (p : Cell) (a b : ℕ) → (width n ≤ a) ⊎ (width n ≤ b) →
@@ -214,9 +214,9 @@ pub none_beside : (v : View) → IsKept v → (n i : ℕ) → n ≤ 20 → i ≡
 none_beside v kept n i few is cs p a b beside first =
     let P : ℕ → Type 0 = λ k. Shows v n k (from_list cs) (beyond p a b) in
     subst P (sym is) (shows_none v kept n few (from_list cs) (beyond p a b) (λ q inside.
-        ⊎_elim
-        (λ (live : contains (from_list cs) q ≡ true).
-        let both : Overlap n 0 0 a b = overlap n p q 0 0 a b (first q (has_listed cs q (to_has cs q live))) inside in
-        ⊎_elim (λ (h : width n ≤ a). absurd (omega (arith, both.east))) (λ (h : width n ≤ b). absurd (omega (arith, both.south))) beside)
-        (λ (dead : contains (from_list cs) q ≡ false). dead)
-        (true_or_false (contains (from_list cs) q))))
+    ⊎_elim
+    (λ (live : contains (from_list cs) q ≡ true).
+    let both : Overlap n 0 0 a b = overlap n p q 0 0 a b (first q (has_listed cs q (to_has cs q live))) inside in
+    ⊎_elim (λ (h : width n ≤ a). absurd (omega (arith, both.east))) (λ (h : width n ≤ b). absurd (omega (arith, both.south))) beside)
+    (λ (dead : contains (from_list cs) q ≡ false). dead)
+    (true_or_false (contains (from_list cs) q))))
