@@ -1,0 +1,10 @@
+use Rattle.std.proofs.Common.{◌≡◌}
+use Rattle.life_model.specs.Evolution.{generation}
+use Rattle.tests_onset.proofs.patterns.onset_by.Given as goal
+
+-- the plane is the generation of its age
+abbrev pub invariant-loop : goal.invariant-loop
+invariant-loop g l = record {
+  members : g.P.Plane.members l.plane ≡ generation l.rule l.cells l.counter;
+  aged : g.P.Plane.steps_made l.plane ≡ l.counter;
+}

@@ -1,0 +1,5 @@
+//! Tests of the onset of ash.
+#![tactic(auto)]
+
+#[cfg(test)]
+mod patterns;
