@@ -12,7 +12,6 @@ mod guess;
 mod known;
 mod limit;
 mod living;
-mod pace;
 mod parts;
 mod pattern;
 mod pattern_fate;
