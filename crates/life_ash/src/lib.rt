@@ -3,6 +3,7 @@
 //! Tested in `tests_objects`, by `life_census`.
 #![tactic(auto)]
 
+mod again;
 mod ahead;
 mod ash_orbits;
 mod before;
