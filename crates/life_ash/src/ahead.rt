@@ -13,9 +13,9 @@ use crate::found::Found;
 use crate::guess::guessed_parts;
 use crate::known::Known;
 use crate::limit::{few_until, first_past_of_ash};
-use crate::pace::Pace;
 use life_orbit::Orbit;
 use life_plane::{AGE_LIMIT, Plane};
+use life_tally::Pace;
 use std::alloc::{AllocError, Global};
 
 /// Parts of which a plane's cells are ash, where a look at this age is due and finds them.

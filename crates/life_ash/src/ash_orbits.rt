@@ -10,7 +10,6 @@ ghost use Rattle.life_ash.specs.Parts.{IsFit, IsPlaced, ash_age_limit};
 
 use crate::far::told_later;
 use crate::known::Known;
-use crate::pace::Pace;
 use crate::parts::{only_parts, parts_before};
 use crate::told::Told;
 use crate::whole::are_objects;
@@ -18,6 +17,7 @@ use life_apart::{are_apart, are_together};
 use life_cells::Rule;
 use life_orbit::{BOUND_LIMIT, Orbit};
 use life_plane::Plane;
+use life_tally::Pace;
 use std::alloc::{AllocError, Global};
 use std::marker::Model;
 

@@ -6,10 +6,9 @@ ghost use Rattle.life_ash.specs.Telling.{IsTold};
 
 use crate::ahead::parts_if_due;
 use crate::known::Known;
-use crate::pace::Pace;
 use crate::told::Told;
 use life_plane::Plane;
-use life_tally::is_uneven;
+use life_tally::{Pace, is_uneven};
 use std::alloc::{AllocError, Global};
 
 /// How many times as old as the bound a pattern gets at most.

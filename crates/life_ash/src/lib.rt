@@ -3,6 +3,7 @@
 //! Tested in `tests_objects`, by `life_census`.
 #![tactic(auto)]
 
+mod again;
 mod ahead;
 mod ash_orbits;
 mod before;
@@ -12,7 +13,6 @@ mod guess;
 mod known;
 mod limit;
 mod living;
-mod pace;
 mod parts;
 mod pattern;
 mod pattern_fate;

@@ -9,11 +9,11 @@ ghost use Rattle.life_ash.specs.Allowed.{AreAllowedBefore};
 ghost use Rattle.life_apart.specs.Sets.{IsCourseBy, sets_of};
 ghost use Rattle.life_ash.specs.Parts.{ash_age_limit};
 
-use crate::pace::{Pace, STRIDE};
 use crate::sizes::are_few;
 use life_cells::Rule;
 use life_orbit::Orbit;
 use life_plane::{AGE_LIMIT, Plane};
+use life_tally::{Pace, STRIDE};
 use std::alloc::AllocError;
 
 /// Whether so many cells are allowed.

@@ -10,6 +10,7 @@ ghost use Rattle.life_orbit.specs.Kept.{orbit_age_limit};
 ghost use Rattle.life_apart.specs.Sets.{sets_of};
 ghost use Rattle.life_ash.specs.Parts.{AreEndsOfCourses, IsEnd, IsFit, IsPlaced, ash_age_limit};
 
+use crate::again::comes_again;
 use crate::before::set_before;
 use crate::known::Known;
 use crate::living::living;
@@ -46,8 +47,8 @@ fn part_of(
     known.orbit_of(alloc, &set, bound)
 }
 
-/// The only sets that may have become these ones.
-fn parts_of(
+/// The only sets that may have become these ones. Of what does not come again no generations are kept.
+fn parts_of<P: Plane>(
     alloc: Global,
     known: &mut Known,
     lasts: &[CellList],
@@ -64,8 +65,13 @@ fn parts_of(
     ensures none { IfOk result (λ found. IfNone found ((last : Generation) × Contains lasts.now last
         × ((P : Generation) → IsEnd known.old.rule known.old.bound ago last P → ⊥))) }
 {
+    let rule = known.rule();
+    let bound = known.bound();
     let mut parts = Vec::new(alloc);
     for last in lasts {
+        if !comes_again::<P>(alloc, last, &rule, bound)? {
+            return Ok(None);
+        }
         match part_of(alloc, known, last, ago)? {
             Some(part) => parts.push(part)?,
             None => return Ok(None),
@@ -97,7 +103,7 @@ pub fn only_parts<P: Plane>(
     // (at its age no cell is too far out)
     let age = copy.age();
     let lasts = living(alloc, classes(alloc, copy, &rule, bound)?)?;
-    parts_of(alloc, known, lasts.as_slice(), bound)
+    parts_of::<P>(alloc, known, lasts.as_slice(), bound)
 }
 
 /// The sets of orbits.
@@ -139,5 +145,5 @@ pub fn parts_before<P: Plane>(
     // (at its age no cell is too far out)
     let _age = plane.age();
     let lasts = sets(alloc, later)?;
-    parts_of(alloc, known, lasts.as_slice(), ago)
+    parts_of::<P>(alloc, known, lasts.as_slice(), ago)
 }

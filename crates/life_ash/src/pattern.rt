@@ -14,11 +14,11 @@ use crate::ahead::{found_past, walk_on};
 use crate::ash_orbits::{Ash, ash_before, ash_told};
 use crate::found::Found;
 use crate::known::Known;
-use crate::pace::Pace;
 use crate::pattern_fate::Fate;
 use life_cells::{CellList, Rule};
 use life_orbit::BOUND_LIMIT;
 use life_plane::Plane;
+use life_tally::Pace;
 use std::alloc::{AllocError, Global};
 
 /// What becomes of a pattern of which no generation up to three times the bound is past the limit, and of which

@@ -1,8 +1,10 @@
-//! How many cells the generations of a set have over long stretches, and that it is told by them that the set is no ash.
+//! What is told by how many cells generations have: when they have repeated for a while, and that a set is no ash.
 //!
 //! Tested in `tests_objects`, by `life_census`.
 #![tactic(auto)]
 
+mod pace;
 mod uneven;
 
+pub use pace::{Pace, STRIDE};
 pub use uneven::is_uneven;

@@ -129,6 +129,25 @@ const GUN: &[(i32, i32)] = &[
     (13, 8),
 ];
 
+// Five cells that grow for ever under B2/S.
+const GROWING: &[(i32, i32)] = &[(0, 0), (1, 0), (1, 1), (2, 1), (0, 2)];
+
+// The replicator of B36/S23, which has copies of itself every 12 generations.
+const REPLICATOR: &[(i32, i32)] = &[
+    (2, 0),
+    (3, 0),
+    (4, 0),
+    (1, 1),
+    (4, 1),
+    (0, 2),
+    (4, 2),
+    (0, 3),
+    (3, 3),
+    (0, 4),
+    (1, 4),
+    (2, 4),
+];
+
 /// Cells, a bound, and how many parts have each code where there is ash.
 type Case = (
     &'static [(i32, i32)],
@@ -190,15 +209,28 @@ const CASES_OF_THE_PENTOMINO: &[Case] = &[
 
 const CASES_OF_THE_GUN: &[Case] = &[(GUN, 300, None)];
 
-fn have_their_ash(rt: &impl Abort, alloc: Global, cases: &[Case]) -> Result<(), Fail> {
+const CASES_OF_GROWTH: &[Case] = &[(GROWING, 4, None), (GROWING, 20, None)];
+
+const CASES_OF_THE_REPLICATOR: &[Case] = &[(REPLICATOR, 12, None), (REPLICATOR, 48, None)];
+
+fn have_their_ash_under(
+    rt: &impl Abort,
+    alloc: Global,
+    rule: &Rule,
+    cases: &[Case],
+) -> Result<(), Fail> {
     for (cells, bound, expected) in cases {
         let list = CellList::of(alloc, cells)?;
         assert!(rt; list.fits());
         assert!(rt; 1 <= *bound && *bound <= 100_000);
-        let found = census::<ListPlane>(alloc, &Rule::life(), &list, *bound, None)?;
+        let found = census::<ListPlane>(alloc, rule, &list, *bound, None)?;
         assert!(rt; has_parts(&found, *expected));
     }
     Ok(())
+}
+
+fn have_their_ash(rt: &impl Abort, alloc: Global, cases: &[Case]) -> Result<(), Fail> {
+    have_their_ash_under(rt, alloc, &Rule::life(), cases)
 }
 
 #[test]
@@ -219,6 +251,17 @@ fn the_pentomino_has_its_ash(rt: HostRuntime) -> Result<(), Fail> {
 #[test]
 fn the_gun_has_none(rt: HostRuntime) -> Result<(), Fail> {
     have_their_ash(&rt, rt.alloc(), CASES_OF_THE_GUN)
+}
+
+#[test]
+fn what_grows_has_none(rt: HostRuntime) -> Result<(), Fail> {
+    have_their_ash_under(&rt, rt.alloc(), &Rule::parse(b"B2/S")?, CASES_OF_GROWTH)?;
+    have_their_ash_under(
+        &rt,
+        rt.alloc(),
+        &Rule::parse(b"B36/S23")?,
+        CASES_OF_THE_REPLICATOR,
+    )
 }
 
 /// What stands among the blocks of a grid, a bound, and how many parts have each code where there is ash.

@@ -15,4 +15,6 @@ mod pairs;
 #[cfg(test)]
 mod sentences;
 #[cfg(test)]
+mod stretches;
+#[cfg(test)]
 mod words;

@@ -7,7 +7,7 @@ use Rattle.life_ash.proofs.parts.parts_of.Given as goal
 
 -- one for each set so far, in order; and what is known has its rule and its bound still
 abbrev pub invariant-loop-last : goal.invariant-loop-last
-invariant-loop-last l = record {
+invariant-loop-last g l = record {
   fit : All (IsFit l.initial.known.rule l.initial.known.bound) l.parts.items;
   same : l.known ≡ l.initial.known;
   count : length l.parts.items ≡ l.last-index;
