@@ -209,7 +209,7 @@ inside_more cs site i d h before here =
     (last_is (take i cs) (get_or cs i d) q (listed_has _ q l)))
 
 -- a square of the level beside it has none of them
-pub none_beside : (v : View) → IsKept v → (n i : ℕ) → n ≤ 20 → i ≡ empty_at n → (cs : List Cell) (p : Cell) (a b : ℕ) → (width n ≤ a) ⊎ (width n ≤ b) →
+pub none_beside : (v : View) → IsKept v → (n i : ℕ) → n ≤ 21 → i ≡ empty_at n → (cs : List Cell) (p : Cell) (a b : ℕ) → (width n ≤ a) ⊎ (width n ≤ b) →
     ((q : Cell) → IsListed cs q → IsInside n (beyond p 0 0) q) → Shows v n i (from_list cs) (beyond p a b)
 none_beside v kept n i few is cs p a b beside first =
     let P : ℕ → Type 0 = λ k. Shows v n k (from_list cs) (beyond p a b) in

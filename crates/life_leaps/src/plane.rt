@@ -48,7 +48,7 @@ impl LeapPlane {
     /// Puts the cells of a list in the place of all cells, at some age, at which their places may be. What was worked out is kept,
     /// and so is the rule. After an `Err` the cells and the age are what they were.
     pub fn put(&mut self, list: &CellList, age: u32) -> Result<(), AllocError>
-        requires age { age ≤ age_limit }
+        requires age { age ≤ farthest_age }
         requires within { All (IsWithin age) (sets.cells list.now) }
         ensures cells { OnOk result (members self.new ≡ list.now) }
         ensures age { OnOk result (steps_made self.new ≡ age) }

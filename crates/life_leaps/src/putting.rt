@@ -1,7 +1,8 @@
 //! Other cells for a plane that leaps.
 ghost use Rattle.std.specs.Prelude.{◌≡◌, ◌≤◌, All, OnOk, OnErr};
 ghost use Rattle.life_model.specs.Generation as sets;
-ghost use Rattle.life_cells.specs.Limits.{IsWithin, age_limit};
+ghost use Rattle.life_cells.specs.Limits.{IsWithin};
+ghost use Rattle.life_leaps.specs.Planes.{farthest_age};
 
 use crate::leaping::Leaper;
 use crate::site::Site;
@@ -15,7 +16,7 @@ impl Leaper {
     /// go on to remember. After an `Err` the cells and the age are what they were.
     pub fn put(&mut self, list: &CellList, age: u32) -> Result<(), AllocError>
         requires kept { IsLeaper self.old }
-        requires age { age ≤ age_limit }
+        requires age { age ≤ farthest_age }
         requires within { All (IsWithin age) (sets.cells list.now) }
         ensures kept { IsLeaper self.new }
         ensures cells { OnOk result (cells_in self.new ≡ list.now) }

@@ -102,7 +102,7 @@ build_first-square-requires-clause-kept t c = (c.in_ok-north_west.ensures.grows 
 pub build_first-square-requires-clause-at : goal.build_first-square-requires-clause-at
 build_first-square-requires-clause-at t c =
     let kept = (c.in_ok-north_west.ensures.grows no_rule 0).kept in
-    let few : c.args.sites.now.north_west.level ≤ 20 = (let h = c.requires.sites.north_west.placed.level in omega (arith, h)) in
+    let few : c.args.sites.now.north_west.level ≤ 21 = (let h = c.requires.sites.north_west.placed.level in omega (arith, h)) in
     let empty = empty_is_at (view c.build.new.self) kept c.args.sites.now.north_west.level c.empty_place-empty.result few c.empty_place-empty.ensures in
     made_at (view c.build.new.self) c.args.sites.now.north_west.level _ _ _ _ c.in_ok-north_west.ensures.at empty empty empty
 
@@ -118,7 +118,7 @@ build_first-returns-clause-shows t c =
     let first_is = c.requires.sites.north_west in
     let g = c.in_ok-north_west.ensures.grows no_rule 0 in
     let h = c.in_ok-place.ensures.grows no_rule 0 in
-    let few : c.args.sites.now.north_west.level ≤ 20 = (let l = c.requires.sites.north_west.placed.level in omega (arith, l)) in
+    let few : c.args.sites.now.north_west.level ≤ 21 = (let l = c.requires.sites.north_west.placed.level in omega (arith, l)) in
     let first : (q : Cell) → IsListed c.args.cells.now q → IsInside c.args.sites.now.north_west.level (beyond (corner c.args.site.now) 0 0) q =
     λ q l. subst (λ p. IsInside c.args.sites.now.north_west.level p q) first_is.corner (c.requires.first q l) in
     let none = none_beside (view c.square.new.self) h.kept c.args.sites.now.north_west.level c.empty_place-empty.result few c.empty_place-empty.ensures c.args.cells.now (corner c.args.site.now) in
