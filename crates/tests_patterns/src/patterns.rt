@@ -98,6 +98,32 @@ const EXAMPLES: &[Example] = &[
     },
 ];
 
+// Gosper's glider gun, which never comes again, and two gliders, moving towards each other, of which nothing is left at
+// generation 6,048.
+const LONG_EXAMPLES: &[Example] = &[
+    Example {
+        text: b"x = 36, y = 9
+24bo$22bobo$12b2o6b2o12b2o$11bo3bo4b2o12b2o$2o8bo5bo3b2o$2o8bo3bob2o4bobo$10bo5bo7bo$11bo3bo$12b2o!",
+        bound: 1_000_000,
+        population: 36,
+        settled: None,
+    },
+    Example {
+        text: b"x = 3025, y = 3025
+bo$2bo$3o3020$3022b3o$3022bo$3023bo!",
+        bound: 1_000_000,
+        population: 10,
+        settled: Some((6_048, 1, (0, 0), b"xs0_0")),
+    },
+    Example {
+        text: b"x = 3025, y = 3025
+bo$2bo$3o3020$3022b3o$3022bo$3023bo!",
+        bound: 6_048,
+        population: 10,
+        settled: None,
+    },
+];
+
 // Planes of one kind give what is known of each pattern.
 fn check<P: Plane>(rt: &impl Abort, alloc: Global) -> Result<(), Fail> {
     for example in EXAMPLES {
@@ -124,18 +150,28 @@ fn patterns_are_found_on_the_board(rt: HostRuntime) -> Result<(), Fail> {
     check::<Board>(&rt, rt.alloc())
 }
 
-#[test]
-fn texts_are_answered(rt: HostRuntime) -> Result<(), Fail> {
-    for example in EXAMPLES {
+// The texts of these examples are answered by what is known of them.
+fn check_answers(rt: &impl Abort, alloc: Global, examples: &[Example]) -> Result<(), Fail> {
+    for example in examples {
         let bound = example.bound;
         assert!(rt; 1 <= bound && bound <= BOUND_LIMIT);
-        let answered = match &answer(rt.alloc(), example.text, bound, None)? {
+        let answered = match &answer(alloc, example.text, bound, None)? {
             Answer::Found { rule, finding } => *rule == Rule::life() && example.is_found(finding),
             Answer::Refused(_) => false,
         };
         assert!(rt; answered);
     }
     Ok(())
+}
+
+#[test]
+fn texts_are_answered(rt: HostRuntime) -> Result<(), Fail> {
+    check_answers(&rt, rt.alloc(), EXAMPLES)
+}
+
+#[test]
+fn texts_that_take_long_are_answered(rt: HostRuntime) -> Result<(), Fail> {
+    check_answers(&rt, rt.alloc(), LONG_EXAMPLES)
 }
 
 #[test]
