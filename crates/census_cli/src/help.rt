@@ -212,7 +212,8 @@ pub const TABLE: &str = with_statuses!(
     "\
 The columns: collection, collection_name, pattern, name, status (ok, ash, none,
 large or bad), rule, population, onset, period, dx, dy, code, fault; where a
-name is no UTF-8, its bytes in hex in collection_name_hex or name_hex.
+name is no UTF-8, its bytes in hex in collection_name_hex or name_hex; then
+objects of what is ash, and generation, the first that is too large.
 
 Example: census table --csv census.txt >census.csv
          census run soups | census table --json

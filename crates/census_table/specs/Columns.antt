@@ -13,7 +13,7 @@ use Rattle.census_table.specs.Contents.{Content, nothing, count, shift, text, he
 
 -- all columns, in their order
 abbrev pub columns : List Column
-columns = column.Collection ∷ column.CollectionName ∷ column.Pattern ∷ column.Name ∷ column.Status ∷ column.Rule ∷ column.Population ∷ column.Onset ∷ column.Period ∷ column.Dx ∷ column.Dy ∷ column.Code ∷ column.Fault ∷ column.CollectionNameHex ∷ column.NameHex ∷ []
+columns = column.Collection ∷ column.CollectionName ∷ column.Pattern ∷ column.Name ∷ column.Status ∷ column.Rule ∷ column.Population ∷ column.Onset ∷ column.Period ∷ column.Dx ∷ column.Dy ∷ column.Code ∷ column.Fault ∷ column.CollectionNameHex ∷ column.NameHex ∷ column.Objects ∷ column.Generation ∷ []
 
 -- what a column is called
 abbrev pub name_of : Column → List ℕ
@@ -32,6 +32,8 @@ name_of column.Code = codes "code"
 name_of column.Fault = codes "fault"
 name_of column.CollectionNameHex = codes "collection_name_hex"
 name_of column.NameHex = codes "name_hex"
+name_of column.Objects = codes "objects"
+name_of column.Generation = codes "generation"
 
 abbrev pub value_content : Value → Content
 value_content (Number n) = count n
@@ -63,3 +65,5 @@ content_in_column column.Code entry = field_content entry.outcome label.Code
 content_in_column column.Fault entry = field_content entry.outcome label.Fault
 content_in_column column.CollectionNameHex entry = hex entry.collection_name.now
 content_in_column column.NameHex entry = hex entry.name.now
+content_in_column column.Objects entry = field_content entry.outcome label.Objects
+content_in_column column.Generation entry = field_content entry.outcome label.Generation

@@ -40,6 +40,10 @@ pub enum Column {
     CollectionNameHex,
     /// The bytes of the pattern's name in hex, where it is not UTF-8.
     NameHex,
+    /// How many objects it has left, where it is `ash`.
+    Objects,
+    /// The first generation with too many cells, where it is `large`.
+    Generation,
 }
 
 // What a row has of a field.
@@ -65,7 +69,7 @@ fn field_cell<'a>(outcome: &Outcome<'a>, label: Label) -> Cell<'a>
 
 impl Column {
     /// All columns, in their order.
-    pub const ALL: [Column; 15] = [
+    pub const ALL: [Column; 17] = [
         Column::Collection,
         Column::CollectionName,
         Column::Pattern,
@@ -81,6 +85,8 @@ impl Column {
         Column::Fault,
         Column::CollectionNameHex,
         Column::NameHex,
+        Column::Objects,
+        Column::Generation,
     ];
 
     /// What the column is called: lowercase letters and `_`.
@@ -103,6 +109,8 @@ impl Column {
             Column::Fault => "fault",
             Column::CollectionNameHex => "collection_name_hex",
             Column::NameHex => "name_hex",
+            Column::Objects => "objects",
+            Column::Generation => "generation",
         }
     }
 
@@ -126,6 +134,8 @@ impl Column {
             Column::Fault => field_cell(&entry.outcome, Label::Fault),
             Column::CollectionNameHex => Cell::Hex(entry.collection_name),
             Column::NameHex => Cell::Hex(entry.name),
+            Column::Objects => field_cell(&entry.outcome, Label::Objects),
+            Column::Generation => field_cell(&entry.outcome, Label::Generation),
         }
     }
 }
