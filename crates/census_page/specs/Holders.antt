@@ -9,7 +9,7 @@ use Rattle.census_rows.specs.declared.kinds.Value.TheVariants.{Number, Signed, T
 use Rattle.census_rows.specs.declared.row.Outcome.{Outcome}
 use Rattle.census_rows.specs.declared.row.Outcome.TheVariants.{Found, Bad}
 use Rattle.census_rows.specs.declared.row.Row.{Row}
-use Rattle.census_rows.specs.declared.row.Row.TheVariants.{Open, Line, Part, Code, Close, End}
+use Rattle.census_rows.specs.declared.row.Row.TheVariants.{Line, Part}
 use Rattle.census_rows.specs.Kinds.{said_of, value_at}
 use Rattle.census_page.specs.declared.holder.Holder.{Holder}
 use Rattle.census_page.specs.declared.holder.Naming.{Naming}
@@ -21,12 +21,8 @@ naming_in naming (Found rule population finding) name = if (said_of finding).has
 naming_in naming (Bad fault) name = naming
 
 abbrev pub naming_after : Option Naming → Row → Option Naming
-naming_after naming (Open collection patterns name) = naming
 naming_after naming (Line collection pattern outcome name) = naming_in naming outcome name
-naming_after naming (Part collection pattern code count) = naming
-naming_after naming (Code collection rule code count) = naming
-naming_after naming (Close collection patterns resolved unresolved refused) = naming
-naming_after naming (End collections patterns) = naming
+naming_after naming _ = naming
 
 -- a pattern that has this code among those of its parts
 abbrev pub holder_by_part : Option Naming → Bor (List ℕ) → Option Holder
@@ -45,12 +41,9 @@ holder_in (Found rule population finding) name = holder_by_code rule name (value
 holder_in (Bad fault) name = Nothing
 
 abbrev pub holder_of : Option Naming → Row → Option Holder
-holder_of naming (Open collection patterns name) = Nothing
 holder_of naming (Line collection pattern outcome name) = holder_in outcome name
 holder_of naming (Part collection pattern code count) = holder_by_part naming code
-holder_of naming (Code collection rule code count) = Nothing
-holder_of naming (Close collection patterns resolved unresolved refused) = Nothing
-holder_of naming (End collections patterns) = Nothing
+holder_of naming _ = Nothing
 
 abbrev pub holder_before : Option Holder → List Holder → List Holder
 holder_before Nothing holders = holders

@@ -6,7 +6,7 @@ use Rattle.census_rows.specs.declared.kinds.Value.TheVariants.{Number}
 use Rattle.census_rows.specs.declared.row.Outcome.{Outcome}
 use Rattle.census_rows.specs.declared.row.Outcome.TheVariants.{Found, Bad}
 use Rattle.census_rows.specs.declared.row.Row.{Row}
-use Rattle.census_rows.specs.declared.row.Row.TheVariants.{Open, Line, Part, Code, Close, End}
+use Rattle.census_rows.specs.declared.row.Row.TheVariants.{Open, Line, Code, Close}
 use Rattle.census_rows.specs.Kinds.{said_of, value_at, is_resolved}
 use Rattle.census_readback.specs.Grouped.{collections_of}
 use Rattle.census_page.specs.declared.holder.Holder.{Holder}
@@ -34,12 +34,9 @@ counts_text counts =
 -- what a row says of its collection as a whole
 abbrev pub heading : Row → List ℕ
 heading (Open collection patterns name) = collection_name name.now
-heading (Line collection pattern outcome name) = []
-heading (Part collection pattern code count) = []
-heading (Code collection rule code count) = []
 heading (Close collection patterns resolved unresolved refused) =
     counts_text (record { patterns = patterns; resolved = resolved; unresolved = unresolved; refused = refused })
-heading (End collections patterns) = []
+heading _ = []
 
 abbrev pub headings : List Row → List ℕ
 headings [] = []
@@ -57,12 +54,8 @@ place_cells holders rule code count =
 
 -- the row of a table that tells of a code
 abbrev pub code_row : List Holder → Row → List ℕ
-code_row holders (Open collection patterns name) = []
-code_row holders (Line collection pattern outcome name) = []
-code_row holders (Part collection pattern code count) = []
 code_row holders (Code collection rule code count) = object_cells rule.now code.now ++ place_cells holders rule.now code.now count
-code_row holders (Close collection patterns resolved unresolved refused) = []
-code_row holders (End collections patterns) = []
+code_row holders _ = []
 
 abbrev pub code_rows : List Holder → List Row → List ℕ
 code_rows holders [] = []
@@ -95,12 +88,8 @@ abbrev pub stray_item : List ℕ → Outcome → List ℕ
 stray_item name outcome = if is_unresolved_or_refused outcome then codes "<li>" ++ name_element name ++ codes ": " ++ reason outcome ++ codes "</li>\n" else []
 
 abbrev pub stray_row : Row → List ℕ
-stray_row (Open collection patterns name) = []
 stray_row (Line collection pattern outcome name) = stray_item name.now outcome
-stray_row (Part collection pattern code count) = []
-stray_row (Code collection rule code count) = []
-stray_row (Close collection patterns resolved unresolved refused) = []
-stray_row (End collections patterns) = []
+stray_row _ = []
 
 abbrev pub stray_rows : List Row → List ℕ
 stray_rows [] = []
@@ -131,12 +120,8 @@ page_of rows = page_begin ++ sections_text (collections_of [] rows) ++ page_end
 
 -- how many `code` rows there are
 abbrev pub is_code : Row → Bool
-is_code (Open collection patterns name) = false
-is_code (Line collection pattern outcome name) = false
-is_code (Part collection pattern code count) = false
 is_code (Code collection rule code count) = true
-is_code (Close collection patterns resolved unresolved refused) = false
-is_code (End collections patterns) = false
+is_code _ = false
 
 abbrev pub codes_in : List Row → ℕ
 codes_in [] = 0

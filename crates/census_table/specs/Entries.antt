@@ -19,12 +19,8 @@ entry_for number (End collections patterns) pattern outcome name = None
 
 -- what a row says of a pattern, in the collection that another row opens and that has this number
 abbrev pub entry_of_row : ℕ → Row → Row → Option Entry
-entry_of_row number heading (Open collection patterns name) = None
 entry_of_row number heading (Line collection pattern outcome name) = entry_for number heading pattern outcome name
-entry_of_row number heading (Part collection pattern code count) = None
-entry_of_row number heading (Code collection rule code count) = None
-entry_of_row number heading (Close collection patterns resolved unresolved refused) = None
-entry_of_row number heading (End collections patterns) = None
+entry_of_row number heading _ = None
 
 abbrev pub entry_before : Option Entry → List Entry → List Entry
 entry_before None entries = entries
