@@ -100,14 +100,11 @@ RefusesText shelf (Some path) before after =
 abbrev pub RefusesInput : Tellings → Request → State → State → Type 0
 RefusesInput shelf (Run bound workers cells input recursive keep_going folders) before after = RefusesCollections shelf (source_of (record { limit = input; recursive = recursive; keep_going = keep_going; words = map (λ s. s.now) folders.items })) before after
 RefusesInput shelf (Objects bound workers cells input recursive keep_going folders) before after = RefusesCollections shelf (source_of (record { limit = input; recursive = recursive; keep_going = keep_going; words = map (λ s. s.now) folders.items })) before after
-RefusesInput shelf (Identify bound files) before after = ⊥
 RefusesInput shelf (Advance generations file) before after = RefusesText shelf (file_of (option_map (λ s. s.now) file)) before after
 RefusesInput shelf (Draw code rule) before after =
     ((fault : RuleFault) × (rule_of rule.now ≡ Err fault))
     ⊎ ((fault : CodeFault) × (wechsler.refusal (body_of code.now) ≡ Some fault))
-RefusesInput shelf (Merge reports) before after = ⊥
-RefusesInput shelf (Table format reports) before after = ⊥
-RefusesInput shelf (Page reports) before after = ⊥
+RefusesInput shelf _ before after = ⊥
 
 -- The words ask for something whose input is refused.
 pub record IsFaulty (shelf : Tellings) (words : List (List ℕ)) (before after : State) : Type 0 where
@@ -158,12 +155,8 @@ MissesSource shelf (Kept limit recursive words) = ⊥
 abbrev pub StopsAtFolder : Tellings → Request → Type 0
 StopsAtFolder shelf (Run bound workers cells input recursive keep_going folders) = MissesSource shelf (source_of (record { limit = input; recursive = recursive; keep_going = keep_going; words = map (λ s. s.now) folders.items }))
 StopsAtFolder shelf (Objects bound workers cells input recursive keep_going folders) = MissesSource shelf (source_of (record { limit = input; recursive = recursive; keep_going = keep_going; words = map (λ s. s.now) folders.items }))
-StopsAtFolder shelf (Identify bound files) = ⊥
 StopsAtFolder shelf (Advance generations file) = MissesFile shelf (file_of (option_map (λ s. s.now) file))
-StopsAtFolder shelf (Draw code rule) = ⊥
-StopsAtFolder shelf (Merge reports) = ⊥
-StopsAtFolder shelf (Table format reports) = ⊥
-StopsAtFolder shelf (Page reports) = ⊥
+StopsAtFolder shelf _ = ⊥
 
 -- The words ask for a census of folders, one of which could not be listed or has a file that could not be read, or for a
 -- generation of a file that could not be read.

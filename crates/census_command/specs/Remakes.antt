@@ -33,9 +33,7 @@ both_streams s = record {
 -- One report of lawful reports of bundles is a lawful report of the bundles, one after another.
 abbrev pub KeepsLaw : Form → (List ℕ → Told) → List (List ℕ) → State → State → Type 0
 KeepsLaw form.Merged held files before after = MergesLawfully held files (both_streams before) (both_streams after)
-KeepsLaw form.Csv held files before after = Unit {0}
-KeepsLaw form.Json held files before after = Unit {0}
-KeepsLaw form.Page held files before after = Unit {0}
+KeepsLaw _ held files before after = Unit {0}
 
 -- What is made of the reports of these files was written, and nothing was told.
 pub record RemakesWhole (held : List ℕ → Told) (form : Form) (files : List (List ℕ)) (status : ℕ)

@@ -20,10 +20,7 @@ IsLawful (Run bound workers cells input recursive keep_going folders) = ((1 ≤ 
 IsLawful (Objects bound workers cells input recursive keep_going folders) = ((1 ≤ bound) × (bound ≤ objects_bound_limit)) × ((1 ≤ workers) × (workers ≤ worker_limit))
 IsLawful (Identify bound files) = (1 ≤ bound) × (bound ≤ objects_bound_limit)
 IsLawful (Advance generations file) = generations ≤ generation_limit
-IsLawful (Draw code rule) = Unit {0}
-IsLawful (Merge reports) = Unit {0}
-IsLawful (Table format reports) = Unit {0}
-IsLawful (Page reports) = Unit {0}
+IsLawful _ = Unit {0}
 
 -- the first thing that can't be read ends it
 abbrev pub EndsAtFirst : Request → Type 0
@@ -33,19 +30,14 @@ EndsAtFirst request = Unit {0}
 
 -- nothing is to be made of reports
 abbrev pub MakesNothing : Request → Type 0
-MakesNothing (Merge reports) = ⊥
-MakesNothing (Table format reports) = ⊥
-MakesNothing (Page reports) = ⊥
 MakesNothing request = Unit {0}
+MakesNothing _ = ⊥
 
 -- neither what patterns are is asked for, nor what is made of reports, nor to go on past what can't be read, which have
 -- outcomes of their own
 abbrev pub IsDone : Request → Type 0
-IsDone (Identify bound files) = ⊥
-IsDone (Merge reports) = ⊥
-IsDone (Table format reports) = ⊥
-IsDone (Page reports) = ⊥
 IsDone request = EndsAtFirst request
+IsDone _ = ⊥
 
 -- What is asked for was done, and these lines are said beside it, where faults are explained.
 abbrev pub Does : Tellings → Request → Bool → List ℕ → State → State → Type 0
@@ -53,24 +45,18 @@ Does shelf (Run bound workers cells input recursive keep_going folders) explain 
     Runs shelf (source_of (record { limit = input; recursive = recursive; keep_going = keep_going; words = map (λ s. s.now) folders.items })) (question.Settles bound cells) explain lines before after
 Does shelf (Objects bound workers cells input recursive keep_going folders) explain lines before after =
     Runs shelf (source_of (record { limit = input; recursive = recursive; keep_going = keep_going; words = map (λ s. s.now) folders.items })) (question.Objects bound (Some cells)) explain lines before after
-Does shelf (Identify bound files) explain lines before after = ⊥
 Does shelf (Advance generations file) explain lines before after =
     (lines ≡ []) × AdvancesFrom shelf (file_of (option_map (λ s. s.now) file)) generations before after
 Does shelf (Draw code rule) explain lines before after = (lines ≡ []) × Draws (record { code = code.now; rule = rule.now }) before after
-Does shelf (Merge reports) explain lines before after = ⊥
-Does shelf (Table format reports) explain lines before after = ⊥
-Does shelf (Page reports) explain lines before after = ⊥
+Does shelf _ explain lines before after = ⊥
 
 -- it was done as far as the writer took it
 abbrev pub DoesInPart : Tellings → Request → State → State → Type 0
 DoesInPart shelf (Run bound workers cells input recursive keep_going folders) before after = RunsInPart shelf (source_of (record { limit = input; recursive = recursive; keep_going = keep_going; words = map (λ s. s.now) folders.items })) (question.Settles bound cells) before after
 DoesInPart shelf (Objects bound workers cells input recursive keep_going folders) before after = RunsInPart shelf (source_of (record { limit = input; recursive = recursive; keep_going = keep_going; words = map (λ s. s.now) folders.items })) (question.Objects bound (Some cells)) before after
-DoesInPart shelf (Identify bound files) before after = ⊥
 DoesInPart shelf (Advance generations file) before after = AdvancesFromInPart shelf (file_of (option_map (λ s. s.now) file)) generations before after
 DoesInPart shelf (Draw code rule) before after = DrawsInPart (record { code = code.now; rule = rule.now }) before after
-DoesInPart shelf (Merge reports) before after = ⊥
-DoesInPart shelf (Table format reports) before after = ⊥
-DoesInPart shelf (Page reports) before after = ⊥
+DoesInPart shelf _ before after = ⊥
 
 -- it was not done whole, for this error
 abbrev pub Fails : CommandError → Tellings → Request → State → State → Type 0

@@ -37,9 +37,7 @@ table_in format.Json = Json
 -- a report with which there are too many collections for one report
 abbrev pub Exceeds : Form → List Row → ℕ → Type 0
 Exceeds Merged rows report = first_excess 1 no_sums rows ≡ Some report
-Exceeds Csv rows report = ⊥
-Exceeds Json rows report = ⊥
-Exceeds Page rows report = ⊥
+Exceeds _ rows report = ⊥
 
 -- why nothing is written of rows, or only a prefix of a table
 abbrev pub RefusesRows : ReportsError → Form → List Row → Type 0
