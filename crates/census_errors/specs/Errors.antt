@@ -85,10 +85,12 @@ draw_status draw.Memory = 3
 draw_status draw.Write = 4
 
 abbrev pub run_status : RunError → ℕ
+run_status (run.Bundle fault) = 1
+run_status (run.Folder fault) = 1
+run_status run.TooLong = 1
 run_status (run.Memory ticket) = 3
 run_status run.Read = 4
 run_status run.Write = 4
-run_status _ = 1
 
 abbrev pub status_of : CommandError → ℕ
 status_of (Run error) = run_status error

@@ -11,7 +11,9 @@ error_of_read reads.TooLong = TooLong
 error_of_read reads.Memory = Memory
 
 abbrev pub status_of : ReportsError → ℕ
+status_of (Fault text line) = 1
+status_of (TooMany report) = 1
+status_of TooLong = 1
 status_of Memory = 3
 status_of Read = 4
 status_of Write = 4
-status_of _ = 1
