@@ -30,14 +30,19 @@ EndsAtFirst request = Unit {0}
 
 -- nothing is to be made of reports
 abbrev pub MakesNothing : Request → Type 0
+MakesNothing (Merge reports) = ⊥
+MakesNothing (Table format reports) = ⊥
+MakesNothing (Page reports) = ⊥
 MakesNothing request = Unit {0}
-MakesNothing _ = ⊥
 
 -- neither what patterns are is asked for, nor what is made of reports, nor to go on past what can't be read, which have
 -- outcomes of their own
 abbrev pub IsDone : Request → Type 0
+IsDone (Identify bound files) = ⊥
+IsDone (Merge reports) = ⊥
+IsDone (Table format reports) = ⊥
+IsDone (Page reports) = ⊥
 IsDone request = EndsAtFirst request
-IsDone _ = ⊥
 
 -- What is asked for was done, and these lines are said beside it, where faults are explained.
 abbrev pub Does : Tellings → Request → Bool → List ℕ → State → State → Type 0

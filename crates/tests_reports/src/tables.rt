@@ -78,7 +78,7 @@ fn patterns_are_told_as_tables(rt: HostRuntime) -> Result<(), AllocError> {
     assert!(rt; json.as_slice() == JSON.as_bytes());
     let csv = table(rt.alloc(), Format::Csv, b"end 0 0\n")?;
     let json = table(rt.alloc(), Format::Json, b"end 0 0\n")?;
-    assert!(rt; csv.len() == 122 && json.is_empty());
+    assert!(rt; csv.len() == 141 && json.is_empty());
     Ok(())
 }
 
@@ -97,10 +97,10 @@ fn collections_are_numbered_on(rt: HostRuntime) -> Result<(), AllocError> {
 fn many_patterns_of_one_collection(rt: HostRuntime) -> Result<(), Fail> {
     let alloc = rt.alloc();
     let mut report = String::from_str(alloc, "open 1 700 x\n")?;
-    let mut wanted = String::from_str(alloc, &CSV[..122])?;
+    let mut wanted = String::from_str(alloc, &CSV[..141])?;
     for pattern in 1..=700 {
         write!(report, "line 1 {} none B3/S23 5 p\n", pattern)?;
-        write!(wanted, "1,x,{},p,none,B3/S23,5,,,,,,,,\n", pattern)?;
+        write!(wanted, "1,x,{},p,none,B3/S23,5,,,,,,,,,,\n", pattern)?;
     }
     report.push_str("close 1 700 0 700 0\nend 1 700\n")?;
     let csv = table(alloc, Format::Csv, report.as_bytes())?;
