@@ -16,3 +16,5 @@ pub mod Rounds
 pub mod Holding
 pub mod Deciding
 pub mod Tracing
+pub mod Over
+pub mod Both

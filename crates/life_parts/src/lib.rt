@@ -2,7 +2,7 @@
 //! the contracts of functions that do nothing.
 #![tactic(auto)]
 
-ghost use Rattle.std.specs.Prelude.{◌≡◌, ◌≢◌, ◌↔◌, ℕ, ◌*◌, ◌<◌, ◌≤◌, true, List, [], ◌∷◌, length, map};
+ghost use Rattle.std.specs.Prelude.{◌≡◌, ◌≢◌, ◌↔◌, ℕ, ◌*◌, ◌<◌, ◌≤◌, true, List, [], ◌∷◌, ◌++◌, length, map};
 ghost use Rattle.std.specs.Prelude.{All, AllPairs, Contains};
 ghost use Rattle.std.specs.List.Sorted.{IsPermutation};
 ghost use Rattle.life_model.specs.Cell.{Cell, plus};
@@ -11,9 +11,10 @@ ghost use Rattle.life_model.specs.Evolution.{generation};
 ghost use Rattle.life_model.specs.Recurrence.{RecursBy};
 ghost use Rattle.life_model.specs.Rule.{Rule};
 ghost use Rattle.life_model.specs.Symmetry.{Orientation, image_under, translate_of};
-ghost use Rattle.life_objects.specs.Apart.{AreDisjoint};
+ghost use Rattle.life_objects.specs.Apart.{AreApartForEver, AreDisjoint};
 ghost use Rattle.life_objects.specs.Drift.{multiple_of};
-ghost use Rattle.life_objects.specs.Union.{generations, union_of};
+ghost use Rattle.life_objects.specs.Onset.{Recurs};
+ghost use Rattle.life_objects.specs.Union.{generations, union, union_of};
 ghost use Rattle.life_parts.specs.Apart.{AreHeldApart, HaveBoth};
 ghost use Rattle.life_parts.specs.Parts.{AreIndependentParts};
 ghost use Rattle.life_parts.specs.Ties.{AreTied};
@@ -84,4 +85,13 @@ pub fn one_period_decides_the_parts()
         ((Q : Generation) → Contains Qs Q → (c e : Cell) →
         contains (generation R Q p) (plus c d) ≡ true → contains (generation R Q p) (plus e d) ≡ true →
         HaveBoth Qs c e) → AreIndependentParts R P Qs }
+{}
+
+/// The independent parts of two sets that keep apart for ever, each of which comes again, as their union does, are
+/// those of both.
+pub fn parts_of_what_keeps_apart_are_those_of_both()
+    ensures { (R : Rule) (P Q : Generation) (Ps Qs : List Generation) →
+        Recurs R P → Recurs R Q → Recurs R (union P Q) → AreApartForEver R P Q →
+        AreIndependentParts R P Ps → AreIndependentParts R Q Qs →
+        AreIndependentParts R (union P Q) (Ps ++ Qs) }
 {}
