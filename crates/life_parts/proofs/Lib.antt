@@ -18,3 +18,4 @@ pub mod Deciding
 pub mod Tracing
 pub mod Over
 pub mod Both
+pub mod Each

@@ -16,7 +16,7 @@ ghost use Rattle.life_objects.specs.Drift.{multiple_of};
 ghost use Rattle.life_objects.specs.Onset.{Recurs};
 ghost use Rattle.life_objects.specs.Union.{generations, union, union_of};
 ghost use Rattle.life_parts.specs.Apart.{AreHeldApart, HaveBoth};
-ghost use Rattle.life_parts.specs.Parts.{AreIndependentParts};
+ghost use Rattle.life_parts.specs.Parts.{AreIndependentParts, ArePartsOfEach, joined};
 ghost use Rattle.life_parts.specs.Ties.{AreTied};
 
 /// The independent parts of a set evolve as if each were alone: each generation of the set is that generation of its
@@ -94,4 +94,12 @@ pub fn parts_of_what_keeps_apart_are_those_of_both()
         Recurs R P → Recurs R Q → Recurs R (union P Q) → AreApartForEver R P Q →
         AreIndependentParts R P Ps → AreIndependentParts R Q Qs →
         AreIndependentParts R (union P Q) (Ps ++ Qs) }
+{}
+
+/// The independent parts of the union of a list of sets that keep apart for ever, each of which comes again, as their
+/// union does, are those of each set, in their order.
+pub fn parts_of_many_that_keep_apart_are_those_of_each()
+    ensures { (R : Rule) (Ps : List Generation) (lists : List (List Generation)) →
+        All (Recurs R) Ps → Recurs R (union_of Ps) → AllPairs (AreApartForEver R) Ps →
+        ArePartsOfEach R Ps lists → AreIndependentParts R (union_of Ps) (joined lists) }
 {}
