@@ -19,3 +19,4 @@ pub mod Tracing
 pub mod Over
 pub mod Both
 pub mod Each
+pub mod Ashes

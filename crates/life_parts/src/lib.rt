@@ -12,6 +12,7 @@ ghost use Rattle.life_model.specs.Recurrence.{RecursBy};
 ghost use Rattle.life_model.specs.Rule.{Rule};
 ghost use Rattle.life_model.specs.Symmetry.{Orientation, image_under, translate_of};
 ghost use Rattle.life_objects.specs.Apart.{AreApartForEver, AreDisjoint};
+ghost use Rattle.life_objects.specs.Ash.{IsAsh};
 ghost use Rattle.life_objects.specs.Drift.{multiple_of};
 ghost use Rattle.life_objects.specs.Onset.{Recurs};
 ghost use Rattle.life_objects.specs.Union.{generations, union, union_of};
@@ -102,4 +103,18 @@ pub fn parts_of_many_that_keep_apart_are_those_of_each()
     ensures { (R : Rule) (Ps : List Generation) (lists : List (List Generation)) →
         All (Recurs R) Ps → Recurs R (union_of Ps) → AllPairs (AreApartForEver R) Ps →
         ArePartsOfEach R Ps lists → AreIndependentParts R (union_of Ps) (joined lists) }
+{}
+
+/// The independent parts of the objects of ash last: in each later generation they are what they have become, and are
+/// those of its objects, but for their order, whatever the bounds.
+pub fn parts_of_ash_last()
+    ensures later { (R : Rule) (b n : ℕ) (G : Generation) (objects : List Generation)
+        (lists : List (List Generation)) →
+        IsAsh R b G objects → ArePartsOfEach R objects lists →
+        ArePartsOfEach R (generations R objects n) (map (λ Qs. generations R Qs n) lists) }
+    ensures same { (R : Rule) (b c n : ℕ) (G : Generation) (objects others : List Generation)
+        (lists laters : List (List Generation)) →
+        IsAsh R b G objects → ArePartsOfEach R objects lists →
+        IsAsh R c (generation R G n) others → ArePartsOfEach R others laters →
+        IsPermutation (generations R (joined lists) n) (joined laters) }
 {}
