@@ -1,21 +1,26 @@
 -- The independent parts of the objects of ash.
-use Rattle.std.proofs.Common.{◌≡◌, ℕ, List, [], ◌∷◌, ◌++◌, map, get_or, sym, refl, ap, subst, ◌∙◌, arith}
-use Rattle.std.specs.List.{Contains}
+use Rattle.std.proofs.Common.{◌≡◌, ℕ, ◌*◌, cond, List, [], ◌∷◌, ◌++◌, map, get_or, refl, sym, ap, subst, ◌∙◌, arith}
+use Rattle.std.specs.List.{All, Contains}
 use Rattle.std.specs.List.Sorted.{IsPermutation}
 use Rattle.std.proofs.lemmas.List.{map-append}
-use Rattle.std.proofs.lemmas.List.Elements.{Contains-get_or}
+use Rattle.std.proofs.lemmas.List.Elements.{All-contains_itself, All-weaker, Contains-get_or}
+use Rattle.std.proofs.lemmas.List.Sorted.{sum_by-IsPermutation}
 use Rattle.life_model.specs.Rule.{Rule}
 use Rattle.life_model.specs.Generation.{Generation, contains}
 use Rattle.life_model.specs.Evolution.{generation}
 use Rattle.life_objects.specs.Ash.{IsAsh, IsObject}
+use Rattle.life_objects.specs.Drift.{multiple_of}
+use Rattle.life_objects.specs.Kinds.{AreAlike}
+use Rattle.life_objects.specs.Onset.{Recurs}
 use Rattle.life_objects.specs.Union.{generations}
 use Rattle.life_objects.proofs.Ashes.{IsAsh-later, object_of}
 use Rattle.life_objects.proofs.Lists.{AllDiffer, Contains-head, Contains-later, same_elements}
 use Rattle.life_objects.proofs.OneList as one_ash
+use Rattle.life_objects.proofs.Phases.{count_later}
 use Rattle.life_parts.specs.Parts.{ArePartsOfEach, joined}
 use Rattle.life_parts.proofs.Each.{from_joined, joined_once, parts_listed}
 use Rattle.life_parts.proofs.Evolving.{part_of}
-use Rattle.life_parts.proofs.Lists.{later_parts, part_of_both, some_cell}
+use Rattle.life_parts.proofs.Lists.{later_parts, part_of_both, part_recurs, some_cell}
 
 module _ (R : Rule) where
   -- what the parts of each set have become
@@ -78,3 +83,24 @@ module _ (R : Rule) where
       subst (λ l. IsPermutation l (joined laters)) (joined_later lists n)
       (one_list_of_parts b c (generation R G n) (generations R objects n) others (all_later lists n) laters
       (IsAsh-later R b G objects ash n) (parts_later b G objects lists ash each n) too theirs)
+
+  parts_recur : (objects : List Generation) (lists : List (List Generation)) → ArePartsOfEach R objects lists →
+      ((P : Generation) → Contains objects P → Recurs R P) → All (Recurs R) (joined lists)
+  parts_recur objects lists each again =
+      All-weaker (Contains (joined lists)) (Recurs R) (λ Q in_joined.
+      let one = from_joined R objects lists each Q in_joined in
+      let all = again one.set one.listed in
+      let r = part_recurs R one.set one.parts one.are all.steps all.by all.recurs Q one.one in
+      record { steps = r.0 * all.steps; by = multiple_of r.0 all.by; recurs = r.3 })
+      (joined lists) (All-contains_itself (joined lists))
+
+  pub told_alike : (b c n : ℕ) (G : Generation) (objects others : List Generation)
+      (lists laters : List (List Generation)) → IsAsh R b G objects → ArePartsOfEach R objects lists →
+      IsAsh R c (generation R G n) others → ArePartsOfEach R others laters → AreAlike R (joined lists) (joined laters)
+  told_alike b c n G objects others lists laters ash each too theirs kind fits =
+      sym (count_later R kind fits n (joined lists)
+      (parts_recur objects lists each (λ P one.
+      let object = object_of R b G objects ash P one in
+      record { steps = object.recurs.steps; by = object.recurs.by; recurs = object.recurs.recurs })))
+      ∙ sym (sum_by-IsPermutation (λ (Q : Generation). cond (kind Q) 1 0) (generations R (joined lists) n) (joined laters)
+      (one_list_later b c n G objects others lists laters ash each too theirs))

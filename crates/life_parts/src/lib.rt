@@ -8,12 +8,13 @@ ghost use Rattle.std.specs.List.Sorted.{IsPermutation};
 ghost use Rattle.life_model.specs.Cell.{Cell, plus};
 ghost use Rattle.life_model.specs.Generation.{Generation, contains, empty};
 ghost use Rattle.life_model.specs.Evolution.{generation};
-ghost use Rattle.life_model.specs.Recurrence.{RecursBy};
+ghost use Rattle.life_model.specs.Recurrence.{AreOneObject, RecursBy};
 ghost use Rattle.life_model.specs.Rule.{Rule};
 ghost use Rattle.life_model.specs.Symmetry.{Orientation, image_under, translate_of};
 ghost use Rattle.life_objects.specs.Apart.{AreApartForEver, AreDisjoint};
 ghost use Rattle.life_objects.specs.Ash.{IsAsh};
 ghost use Rattle.life_objects.specs.Drift.{multiple_of};
+ghost use Rattle.life_objects.specs.Kinds.{AreAlike};
 ghost use Rattle.life_objects.specs.Onset.{Recurs};
 ghost use Rattle.life_objects.specs.Union.{generations, union, union_of};
 ghost use Rattle.life_parts.specs.Apart.{AreHeldApart, HaveBoth};
@@ -117,4 +118,17 @@ pub fn parts_of_ash_last()
         IsAsh R b G objects → ArePartsOfEach R objects lists →
         IsAsh R c (generation R G n) others → ArePartsOfEach R others laters →
         IsPermutation (generations R (joined lists) n) (joined laters) }
+{}
+
+/// Each independent part of a set that comes again is one object with each of its phases, so of each kind the ash of a
+/// later generation has as many parts, whatever the bounds.
+pub fn phases_of_parts_are_of_one_kind()
+    ensures phase { (R : Rule) (P Q : Generation) (Qs : List Generation) (p n : ℕ) (d : Cell) →
+        RecursBy R P p d → AreIndependentParts R P Qs → Contains Qs Q →
+        Recurs R Q × AreOneObject R Q (generation R Q n) }
+    ensures ash { (R : Rule) (b c n : ℕ) (G : Generation) (objects others : List Generation)
+        (lists laters : List (List Generation)) →
+        IsAsh R b G objects → ArePartsOfEach R objects lists →
+        IsAsh R c (generation R G n) others → ArePartsOfEach R others laters →
+        AreAlike R (joined lists) (joined laters) }
 {}
