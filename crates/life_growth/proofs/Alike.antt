@@ -2,47 +2,30 @@
 use Rattle.std.proofs.Common.{◌≡◌, ℕ, zero, suc, ◌+◌, ◌-◌, ◌≤◌, ◌<◌, Bool, cond, List, [], ◌∷◌, ◌++◌, count_by, inl, inr, sym, refl, ap, ◌∙◌, arith}
 use Rattle.std.specs.List.{All}
 use Rattle.std.proofs.lemmas.Bool.{cases_lt}
-use Rattle.std.proofs.lemmas.List.Elements.{All-head, All-tail}
+use Rattle.std.proofs.lemmas.List.Elements.{All-head, All-tail, All-weaker}
 use Rattle.std.proofs.lemmas.List.Sums.{sum_by-append, sum_by-cons}
 use Rattle.std.proofs.lemmas.List.Sorted.{sum_by-IsPermutation}
-use Rattle.life_model.specs.Cell.{Cell, origin}
+use Rattle.life_model.specs.Cell.{Cell}
 use Rattle.life_model.specs.Rule.{Rule}
 use Rattle.life_model.specs.Generation.{Generation}
 use Rattle.life_model.specs.Evolution.{generation}
-use Rattle.life_model.specs.Symmetry.{Same, image_under, translate_of}
-use Rattle.life_model.proofs.Generations.{same_members}
-use Rattle.life_model.proofs.Moves.{moved-origin}
+use Rattle.life_model.specs.Symmetry.{Same, translate_of}
 use Rattle.life_model.proofs.Recurrences.{generation-zero}
-use Rattle.life_model.proofs.Symmetries.{contains-turned}
 use Rattle.life_objects.specs.Ash.{HasFallenApart, IsObject}
+use Rattle.life_objects.specs.Onset.{Recurs}
 use Rattle.life_objects.specs.Union.{generations}
 use Rattle.life_objects.proofs.Ashes.{IsAsh-bound}
+use Rattle.life_objects.proofs.Phases as phases
+use Rattle.life_objects.proofs.Phases.{turned-same}
 use Rattle.life_objects.proofs.OneList.{one_list}
-use Rattle.life_objects.proofs.Recurring.{RecursBy-later}
 use Rattle.life_growth.specs.Engine.{joined}
-use Rattle.life_growth.specs.Told.{AreAlike, IsKind}
+use Rattle.life_objects.specs.Kinds.{AreAlike, IsKind}
 use Rattle.life_growth.proofs.Settling.{RecursBy-moved, all_moved, settles_later, settles_moved}
-
-pub turned-same : (P : Generation) → image_under P Same ≡ P
-turned-same P = same_members _ _ (λ c. contains-turned P Same c)
 
 pub count_by-append : {X : Type 0} (p : X → Bool) (xs ys : List X) → count_by p (xs ++ ys) ≡ count_by p xs + count_by p ys
 count_by-append {X} p xs ys = sum_by-append (λ (x : X). cond (p x) 1 0) xs ys
 
 module _ (R : Rule) (kind : Generation → Bool) (fits : IsKind R kind) where
-  kind_later : (b n : ℕ) (P : Generation) → IsObject R b P → kind (generation R P n) ≡ kind P
-  kind_later b n P object =
-      let r = object.recurs in
-      sym (fits P (generation R P n) r.steps r.steps r.by r.by r.recurs (RecursBy-later R P r.steps r.by r.recurs n)
-      (record {
-        first_phase = n;
-        second_phase = 0;
-        map = Same;
-        by = origin;
-        same = generation-zero R (generation R P n) ∙ sym (moved-origin (generation R P n))
-            ∙ ap (λ H. translate_of H origin) (sym (turned-same (generation R P n)));
-      }))
-
   kind_moved : (b : ℕ) (d : Cell) (P : Generation) → IsObject R b P → kind (translate_of P d) ≡ kind P
   kind_moved b d P object =
       let r = object.recurs in
@@ -58,12 +41,10 @@ module _ (R : Rule) (kind : Generation → Bool) (fits : IsKind R kind) where
 
   pub count_later : (b n : ℕ) (Ps : List Generation) → All (IsObject R b) Ps →
       count_by kind (generations R Ps n) ≡ count_by kind Ps
-  count_later b n [] objects = refl
-  count_later b n (P ∷ Ps) objects =
-      sum_by-cons (λ (Q : Generation). cond (kind Q) 1 0) (generation R P n) (generations R Ps n)
-      ∙ (λ i. cond (kind_later b n P (All-head (IsObject R b) P Ps objects) i) 1 0
-      + count_later b n Ps (All-tail (IsObject R b) P Ps objects) i)
-      ∙ sym (sum_by-cons (λ (Q : Generation). cond (kind Q) 1 0) P Ps)
+  count_later b n Ps objects =
+      phases.count_later R kind fits n Ps
+      (All-weaker (IsObject R b) (Recurs R)
+      (λ P object. record { steps = object.recurs.steps; by = object.recurs.by; recurs = object.recurs.recurs }) Ps objects)
 
   pub count_moved : (b : ℕ) (d : Cell) (Ps : List Generation) → All (IsObject R b) Ps →
       count_by kind (all_moved Ps d) ≡ count_by kind Ps

@@ -13,7 +13,8 @@ use Rattle.life_objects.proofs.Lists.{AllPairs-tail}
 use Rattle.life_growth.specs.Engine.{IsEngine, IsEngineWithin, Way}
 use Rattle.life_growth.specs.Growth.{IsGrowth}
 use Rattle.life_growth.specs.Onward.{endless}
-use Rattle.life_growth.specs.Told.{EmitsOver, IsKind, emitted_by}
+use Rattle.life_objects.specs.Kinds.{IsKind}
+use Rattle.life_growth.specs.Told.{EmitsOver, emitted_by}
 use Rattle.life_growth.proofs.Alike.{ashes_are_alike, count_by-append, count_later, sum_to, sum_to-period}
 use Rattle.life_growth.proofs.Emitting.{emits_some, emitted_alike, emitted_number, number, number_again, steady_ashes, steady_ashes-are}
 use Rattle.life_growth.proofs.Endless.{goes_on}

@@ -6,7 +6,8 @@ use Rattle.life_model.specs.Generation.{Generation}
 use Rattle.life_objects.specs.Ash.{HasFallenApart}
 use Rattle.life_growth.specs.Engine.{Emits, IsEngine, Way, joined}
 use Rattle.life_growth.specs.Onward.{endless, onward}
-use Rattle.life_growth.specs.Told.{AreAlike, AreToldAlike, IsKind}
+use Rattle.life_objects.specs.Kinds.{AreAlike, IsKind}
+use Rattle.life_growth.specs.Told.{AreToldAlike}
 use Rattle.life_growth.proofs.Alike.{ashes_are_alike, count_joined, moved_ashes_are_alike, sum_to, sum_to-alike, sum_to-period}
 use Rattle.life_growth.proofs.Endless.{GoesOn, IsUnsplit-wider, goes_on, left_first}
 use Rattle.life_growth.proofs.OneWay.{IsEngine-phase, displacements_are_one, first_lefts_are_one, periods_are_one}

@@ -1,15 +1,13 @@
 -- What falls apart: unions, later generations, greater bounds and moves of it.
-use Rattle.std.proofs.Common.{◌≡◌, ◌≢◌, ℕ, ◌+◌, ◌-◌, ◌≤◌, ◌||◌, List, [], ◌∷◌, ◌++◌, map, inl, inr, sym, ap, subst, ◌∙◌, arith}
+use Rattle.std.proofs.Common.{◌≡◌, ◌≢◌, ℕ, ◌+◌, ◌-◌, ◌≤◌, List, [], ◌∷◌, ◌++◌, map, inl, inr, sym, ap, subst, ◌∙◌, arith}
 use Rattle.std.specs.List.{Contains}
 use Rattle.std.proofs.lemmas.List.Elements.{All-append, All-map, All-weaker}
-use Rattle.std.proofs.lemmas.List.Folds.{list_any-append}
 use Rattle.life_model.specs.Cell.{Cell, opposite}
 use Rattle.life_model.specs.Rule.{Rule}
 use Rattle.life_model.specs.Generation.{Generation, contains, empty}
 use Rattle.life_model.specs.Evolution.{generation, next}
 use Rattle.life_model.specs.Recurrence.{RecursBy}
 use Rattle.life_model.specs.Symmetry.{translate_of}
-use Rattle.life_model.proofs.Generations.{same_members}
 use Rattle.life_model.proofs.Moves.{moved-empty, nothing_or_some}
 use Rattle.life_model.proofs.Recurrences.{generation-add, generation-next, generation-zero}
 use Rattle.life_model.proofs.Symmetries.{generation-moved}
@@ -18,22 +16,15 @@ use Rattle.life_objects.specs.Ash.{HasFallenApart, IsAsh, IsObject}
 use Rattle.life_objects.specs.Piece.{IsUndivided, LivesThrough}
 use Rattle.life_objects.specs.Union.{generations, union, union_of}
 use Rattle.life_objects.proofs.Ashes.{AreApartForEver-later, IsAsh-bound, IsAsh-empty, IsAsh-later, object_lives, object_of}
-use Rattle.life_objects.proofs.Lists.{AllPairs-map, AllPairs-weaker}
+use Rattle.life_objects.proofs.Lists.{AllPairs-append, AllPairs-map, AllPairs-weaker}
 use Rattle.life_objects.proofs.Members.{found_now}
 use Rattle.life_objects.proofs.Moving.{IsUndivided-moved, apart_moved_at, union-moved}
 use Rattle.life_objects.proofs.OneList.{apart_from_rest, in_whole, rest_of, with_rest}
 use Rattle.life_objects.proofs.Recurring.{RecursBy-unmoved, moved_back}
 use Rattle.life_objects.proofs.Times.{generation-empty, generation-union_ever}
-use Rattle.life_objects.proofs.Unions.{contains-union, contains-union_of, in_empty}
+use Rattle.life_objects.proofs.Unions.{in_empty, union_of-append}
 use Rattle.life_growth.specs.Engine.{FallsApart}
 use Rattle.life_growth.proofs.Parts.{IsPart, apart_part, part_apart}
-use Rattle.life_growth.proofs.Sizes.{AllPairs-append}
-
-pub union_of-append : (Ps Qs : List Generation) → union_of (Ps ++ Qs) ≡ union (union_of Ps) (union_of Qs)
-union_of-append Ps Qs = same_members _ _ (λ c.
-    contains-union_of (Ps ++ Qs) c ∙ list_any-append (λ P. contains P c) Ps Qs
-    ∙ (λ i. sym (contains-union_of Ps c) i || sym (contains-union_of Qs c) i)
-    ∙ sym (contains-union (union_of Ps) (union_of Qs) c))
 
 -- each set, moved by d
 abbrev pub all_moved : List Generation → Cell → List Generation

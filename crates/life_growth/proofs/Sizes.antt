@@ -1,12 +1,12 @@
 -- How many cells the union of two sets has that share none.
 use Rattle.std.proofs.Common.{◌≡◌, ◌≢◌, ◌+◌, ◌<◌, ◌≤◌, Bool, true, false, ◌&&◌, T, List, [], ◌∷◌, ◌++◌, length, inl, inr, sym, ap, subst, ◌∙◌, true≢false, arith}
-use Rattle.std.specs.List.{All, AllPairs, Contains, list_any}
+use Rattle.std.specs.List.{All, Contains, list_any}
 use Rattle.std.specs.List.Sorted.{IsPermutation}
 use Rattle.std.specs.Ordering.{is_lt}
 use Rattle.std.specs.Cmp as cmp
 use Rattle.std.proofs.lemmas.Bool.{or_cases, or_left, or_right}
 use Rattle.std.proofs.lemmas.List.{length-append, length-map}
-use Rattle.std.proofs.lemmas.List.Elements.{All-nil, All-cons, All-append, All-weaker, All-contains_itself, Contains-append_cases, Contains-append_left, Contains-append_right}
+use Rattle.std.proofs.lemmas.List.Elements.{All-nil, All-cons, Contains-append_cases, Contains-append_left, Contains-append_right}
 use Rattle.std.proofs.lemmas.List.Kept.{AllPairs-cons}
 use Rattle.std.proofs.lemmas.List.Sorted.{length_permutation}
 use Rattle.life_model.specs.Cell.{Cell, cell_cmp, same_cell, plus}
@@ -18,18 +18,8 @@ use Rattle.life_model.proofs.Lists.{cells-moved}
 use Rattle.life_model.proofs.Moves.{nothing_or_some}
 use Rattle.life_objects.specs.Apart.{AreDisjoint}
 use Rattle.life_objects.specs.Union.{union}
-use Rattle.life_objects.proofs.Lists.{AllDiffer, AllPairs-nil, AllPairs-head, AllPairs-tail, Contains-head, Contains-later, head_or_later, same_elements}
+use Rattle.life_objects.proofs.Lists.{AllDiffer, AllPairs-append, AllPairs-nil, Contains-head, Contains-later, head_or_later, same_elements}
 use Rattle.life_objects.proofs.Unions.{in_union, in_first, in_second}
-
-pub AllPairs-append : {X : Type 0} (S : X → X → Type 0) (xs ys : List X) → AllPairs S xs → AllPairs S ys →
-    ((x y : X) → Contains xs x → Contains ys y → S x y) → AllPairs S (xs ++ ys)
-AllPairs-append S [] ys left right across = right
-AllPairs-append S (x ∷ xs) ys left right across =
-    AllPairs-cons S x (xs ++ ys)
-    (All-append (S x) xs ys (AllPairs-head S x xs left)
-    (All-weaker (Contains ys) (S x) (λ y one. across x y (Contains-head x xs) one) ys (All-contains_itself ys)))
-    (AllPairs-append S xs ys (AllPairs-tail S x xs left) right
-    (λ z y one two. across z y (Contains-later x z xs one) two))
 
 -- ---- the cells of a set, as a list
 

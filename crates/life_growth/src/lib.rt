@@ -14,13 +14,14 @@ ghost use Rattle.life_model.specs.Symmetry.{translate_of};
 ghost use Rattle.life_objects.specs.Apart.{AreApart, AreApartForEver};
 ghost use Rattle.life_objects.specs.Ash.{HasFallenApart};
 ghost use Rattle.life_objects.specs.Drift.{multiple_of};
+ghost use Rattle.life_objects.specs.Kinds.{AreAlike, IsKind};
 ghost use Rattle.life_objects.specs.Union.{IsSubsetOf, generations, union, union_of};
 ghost use Rattle.life_growth.specs.Engine.{Emits, FallsApart, IsEngine, Way};
 ghost use Rattle.life_growth.specs.Growth.{HasComeToGrowth, IsGrowth};
 ghost use Rattle.life_growth.specs.Onward.{AreNeverNear, IsCoreAfter, IsDebrisAfter, IsNeverNear, LeavesCores, LeavesLefts, debris_after, endless, onward};
 ghost use Rattle.life_growth.specs.Population.{HasBound, HasNoBound};
 ghost use Rattle.life_growth.specs.Things.{IsEngineThing, IsMadeOf, IsSettledThing, NeverMeet, NeverMeetAgain, Thing, move_of, time_then};
-ghost use Rattle.life_growth.specs.Told.{AreAlike, AreToldAlike, EmitsOver, IsKind, emitted_by};
+ghost use Rattle.life_growth.specs.Told.{AreToldAlike, EmitsOver, emitted_by};
 ghost use Rattle.life_growth.specs.Unsplit.{AreClasses, IsUnsplit, Leaves};
 
 /// What is unsplit within a bound is so within each greater one, and no two sets that stay apart for ever make it up.

@@ -18,3 +18,4 @@ pub mod Cores
 pub mod Drifting
 pub mod Beginning
 pub mod Settling
+pub mod Phases

@@ -1,11 +1,11 @@
 -- Lists of which any two elements are related, and lists with the same elements.
-use Rattle.std.proofs.Common.{◌≡◌, ◌≢◌, ℕ, zero, suc, ◌+◌, ◌<◌, List, [], ◌∷◌, length, get_or, map, ◌⊎◌, inl, inr}
+use Rattle.std.proofs.Common.{◌≡◌, ◌≢◌, ℕ, zero, suc, ◌+◌, ◌<◌, List, [], ◌∷◌, ◌++◌, length, get_or, map, ◌⊎◌, inl, inr}
 use Rattle.std.proofs.Common.{sym, refl, ap, subst, ◌∙◌, arith}
 use Rattle.std.specs.List.{All, AllPairs, Contains, remove}
 use Rattle.std.specs.List.Sorted.{IsPermutation}
 use Rattle.std.proofs.lemmas.List.{get_or-map, length-map}
 use Rattle.std.proofs.lemmas.List.Edits.{length-remove, get_or-remove_below, get_or-remove_above}
-use Rattle.std.proofs.lemmas.List.Elements.{All-contains, All-map, at_from_Contains}
+use Rattle.std.proofs.lemmas.List.Elements.{All-append, All-contains, All-contains_itself, All-map, All-weaker, at_from_Contains}
 use Rattle.std.proofs.lemmas.List.Kept.{AllPairs-cons}
 use Rattle.std.proofs.lemmas.List.Quantifiers.{all_pairs_remove}
 use Rattle.std.proofs.lemmas.List.Sorted.{IsPermutation-refl, IsPermutation-sym, IsPermutation-cons}
@@ -133,3 +133,14 @@ module _ {X : Type 0} where
       (λ z h. not_the_head x z xs (back z (Contains-permutation (x ∷ zs) ys z there (Contains-later x z zs h)))
       (All-contains (λ y. x ≢ y) zs z aside.related h))))
       there
+
+-- in two lists, one after the other, any two are related where they are in each and across
+pub AllPairs-append : {X : Type 0} (S : X → X → Type 0) (xs ys : List X) → AllPairs S xs → AllPairs S ys →
+    ((x y : X) → Contains xs x → Contains ys y → S x y) → AllPairs S (xs ++ ys)
+AllPairs-append S [] ys left right across = right
+AllPairs-append S (x ∷ xs) ys left right across =
+    AllPairs-cons S x (xs ++ ys)
+    (All-append (S x) xs ys (AllPairs-head S x xs left)
+    (All-weaker (Contains ys) (S x) (λ y one. across x y (Contains-head x xs) one) ys (All-contains_itself ys)))
+    (AllPairs-append S xs ys (AllPairs-tail S x xs left) right
+    (λ z y one two. across z y (Contains-later x z xs one) two))

@@ -151,7 +151,7 @@ module _ (R : Rule) (G P : Generation) (whole : (n : ℕ) (c : Cell) → contain
         pair (omega (arith, ints)) (omega (arith, ints)),
       )
 
-  one_move : e ≡ d
+  pub one_move : e ≡ d
   one_move =
       let found = bounded G in
       let n = found.0 in

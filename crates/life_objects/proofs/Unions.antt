@@ -19,6 +19,12 @@ pub contains-union_of : (Ps : List Generation) (c : Cell) → contains (union_of
 contains-union_of [] c = contains-empty c
 contains-union_of (P ∷ Ps) c = contains-union P (union_of Ps) c ∙ ap (λ b. contains P c || b) (contains-union_of Ps c)
 
+pub union_of-append : (Ps Qs : List Generation) → union_of (Ps ++ Qs) ≡ union (union_of Ps) (union_of Qs)
+union_of-append Ps Qs = same_members _ _ (λ c.
+    contains-union_of (Ps ++ Qs) c ∙ list_any-append (λ P. contains P c) Ps Qs
+    ∙ (λ i. sym (contains-union_of Ps c) i || sym (contains-union_of Qs c) i)
+    ∙ sym (contains-union (union_of Ps) (union_of Qs) c))
+
 pub union-comm : (P Q : Generation) → union P Q ≡ union Q P
 union-comm P Q = same_members _ _ (λ c.
     contains-union P Q c ∙ or-comm (contains P c) (contains Q c) ∙ sym (contains-union Q P c))

@@ -6,3 +6,4 @@ pub mod Whole
 pub mod Drift
 pub mod Limits
 pub mod Onset
+pub mod Kinds

@@ -16,3 +16,7 @@ pub mod Rounds
 pub mod Holding
 pub mod Deciding
 pub mod Tracing
+pub mod Over
+pub mod Both
+pub mod Each
+pub mod Ashes

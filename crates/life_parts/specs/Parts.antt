@@ -1,6 +1,6 @@
 -- The independent parts of a set: the classes of its cells that belong together.
 use Rattle.std.specs.Prelude.{◌≡◌, ◌≢◌, true, List}
-use Rattle.std.specs.List.{All, AllPairs}
+use Rattle.std.specs.List.{All, AllPairs, AllZip, flat_map}
 use Rattle.life_model.specs.Cell.{Cell}
 use Rattle.life_model.specs.Rule.{Rule}
 use Rattle.life_model.specs.Generation.{Generation, contains, empty}
@@ -20,3 +20,11 @@ pub record AreIndependentParts (R : Rule) (P : Generation) (Qs : List Generation
   pub together : union_of Qs ≡ P
   pub parts : All (IsIndependentPart R P) Qs
   pub once : AllPairs AreDisjoint Qs
+
+-- Each list is the independent parts of the set in its place.
+abbrev pub ArePartsOfEach : Rule → List Generation → List (List Generation) → Type 0
+ArePartsOfEach R Ps lists = AllZip (AreIndependentParts R) Ps lists
+
+-- the lists, one after the other
+abbrev pub joined : List (List Generation) → List Generation
+joined lists = flat_map (λ Qs. Qs) lists

@@ -2,20 +2,23 @@
 //! the contracts of functions that do nothing.
 #![tactic(auto)]
 
-ghost use Rattle.std.specs.Prelude.{◌≡◌, ◌≢◌, ◌↔◌, ℕ, ◌*◌, ◌<◌, ◌≤◌, true, List, [], ◌∷◌, length, map};
+ghost use Rattle.std.specs.Prelude.{◌≡◌, ◌≢◌, ◌↔◌, ℕ, ◌*◌, ◌<◌, ◌≤◌, true, List, [], ◌∷◌, ◌++◌, length, map};
 ghost use Rattle.std.specs.Prelude.{All, AllPairs, Contains};
 ghost use Rattle.std.specs.List.Sorted.{IsPermutation};
 ghost use Rattle.life_model.specs.Cell.{Cell, plus};
 ghost use Rattle.life_model.specs.Generation.{Generation, contains, empty};
 ghost use Rattle.life_model.specs.Evolution.{generation};
-ghost use Rattle.life_model.specs.Recurrence.{RecursBy};
+ghost use Rattle.life_model.specs.Recurrence.{AreOneObject, RecursBy};
 ghost use Rattle.life_model.specs.Rule.{Rule};
 ghost use Rattle.life_model.specs.Symmetry.{Orientation, image_under, translate_of};
-ghost use Rattle.life_objects.specs.Apart.{AreDisjoint};
+ghost use Rattle.life_objects.specs.Apart.{AreApartForEver, AreDisjoint};
+ghost use Rattle.life_objects.specs.Ash.{IsAsh};
 ghost use Rattle.life_objects.specs.Drift.{multiple_of};
-ghost use Rattle.life_objects.specs.Union.{generations, union_of};
+ghost use Rattle.life_objects.specs.Kinds.{AreAlike};
+ghost use Rattle.life_objects.specs.Onset.{Recurs};
+ghost use Rattle.life_objects.specs.Union.{generations, union, union_of};
 ghost use Rattle.life_parts.specs.Apart.{AreHeldApart, HaveBoth};
-ghost use Rattle.life_parts.specs.Parts.{AreIndependentParts};
+ghost use Rattle.life_parts.specs.Parts.{AreIndependentParts, ArePartsOfEach, joined};
 ghost use Rattle.life_parts.specs.Ties.{AreTied};
 
 /// The independent parts of a set evolve as if each were alone: each generation of the set is that generation of its
@@ -84,4 +87,48 @@ pub fn one_period_decides_the_parts()
         ((Q : Generation) → Contains Qs Q → (c e : Cell) →
         contains (generation R Q p) (plus c d) ≡ true → contains (generation R Q p) (plus e d) ≡ true →
         HaveBoth Qs c e) → AreIndependentParts R P Qs }
+{}
+
+/// The independent parts of two sets that keep apart for ever, each of which comes again, as their union does, are
+/// those of both.
+pub fn parts_of_what_keeps_apart_are_those_of_both()
+    ensures { (R : Rule) (P Q : Generation) (Ps Qs : List Generation) →
+        Recurs R P → Recurs R Q → Recurs R (union P Q) → AreApartForEver R P Q →
+        AreIndependentParts R P Ps → AreIndependentParts R Q Qs →
+        AreIndependentParts R (union P Q) (Ps ++ Qs) }
+{}
+
+/// The independent parts of the union of a list of sets that keep apart for ever, each of which comes again, as their
+/// union does, are those of each set, in their order.
+pub fn parts_of_many_that_keep_apart_are_those_of_each()
+    ensures { (R : Rule) (Ps : List Generation) (lists : List (List Generation)) →
+        All (Recurs R) Ps → Recurs R (union_of Ps) → AllPairs (AreApartForEver R) Ps →
+        ArePartsOfEach R Ps lists → AreIndependentParts R (union_of Ps) (joined lists) }
+{}
+
+/// The independent parts of the objects of ash last: in each later generation they are what they have become, and are
+/// those of its objects, but for their order, whatever the bounds.
+pub fn parts_of_ash_last()
+    ensures later { (R : Rule) (b n : ℕ) (G : Generation) (objects : List Generation)
+        (lists : List (List Generation)) →
+        IsAsh R b G objects → ArePartsOfEach R objects lists →
+        ArePartsOfEach R (generations R objects n) (map (λ Qs. generations R Qs n) lists) }
+    ensures same { (R : Rule) (b c n : ℕ) (G : Generation) (objects others : List Generation)
+        (lists laters : List (List Generation)) →
+        IsAsh R b G objects → ArePartsOfEach R objects lists →
+        IsAsh R c (generation R G n) others → ArePartsOfEach R others laters →
+        IsPermutation (generations R (joined lists) n) (joined laters) }
+{}
+
+/// Each independent part of a set that comes again is one object with each of its phases, so of each kind the ash of a
+/// later generation has as many parts, whatever the bounds.
+pub fn phases_of_parts_are_of_one_kind()
+    ensures phase { (R : Rule) (P Q : Generation) (Qs : List Generation) (p n : ℕ) (d : Cell) →
+        RecursBy R P p d → AreIndependentParts R P Qs → Contains Qs Q →
+        Recurs R Q × AreOneObject R Q (generation R Q n) }
+    ensures ash { (R : Rule) (b c n : ℕ) (G : Generation) (objects others : List Generation)
+        (lists laters : List (List Generation)) →
+        IsAsh R b G objects → ArePartsOfEach R objects lists →
+        IsAsh R c (generation R G n) others → ArePartsOfEach R others laters →
+        AreAlike R (joined lists) (joined laters) }
 {}

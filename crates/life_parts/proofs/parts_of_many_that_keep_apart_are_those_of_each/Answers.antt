@@ -1,0 +1,5 @@
+use Rattle.life_parts.proofs.Each.{parts_of_all}
+use Rattle.life_parts.proofs.parts_of_many_that_keep_apart_are_those_of_each.Goals as goal
+
+pub returns : goal.returns
+returns c = parts_of_all
