@@ -210,6 +210,10 @@ module _ (R : Rule) (P : Generation) (Qs : List Generation) (p : ℕ) (d : Cell)
       sym (cell_again q f Q A.0 A.2 m e)
       ∙ tied_to_one (n + q) (m + q) (plus c f) (plus e f) t A.0 A.1 (cell_again q f Q A.0 A.2 n c ∙ k)
 
+  -- cells of P that are tied are of one set
+  pub have_both_tied : (c e : Cell) → AreTied R P 0 c 0 e → HaveBoth Qs c e
+  have_both_tied c e t Q one h = in_at_first R Q e (tied_to_one 0 0 c e t Q one (at_first R Q c h))
+
   module _ (tied : All (λ Q. (c e : Cell) → contains Q c ≡ true → contains Q e ≡ true → AreTied R P 0 c 0 e) Qs) where
     pub decided : AreIndependentParts R P Qs
     decided = record {
@@ -221,7 +225,7 @@ module _ (R : Rule) (P : Generation) (Qs : List Generation) (p : ℕ) (d : Cell)
             nonempty = some i x h;
             within = λ c k. in_at_first R P c (split_first.within Q one c (at_first R Q c k));
             tied = tied i x h;
-            whole = λ c e k t. in_at_first R Q e (tied_to_one 0 0 c e t Q one (at_first R Q c k));
+            whole = λ c e k t. have_both_tied c e t Q one k;
           };
       once = once;
     }

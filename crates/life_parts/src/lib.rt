@@ -132,3 +132,16 @@ pub fn phases_of_parts_are_of_one_kind()
         IsAsh R c (generation R G n) others → ArePartsOfEach R others laters →
         AreAlike R (joined lists) (joined laters) }
 {}
+
+/// Sets that are held apart in each generation of a set's first period, of which what is one a period later was one at
+/// first, split no independent part: they are made of whole ones.
+pub fn what_is_held_apart_splits_no_part()
+    ensures { (R : Rule) (P Q : Generation) (Qs others : List Generation) (p : ℕ) (d c e : Cell) →
+        RecursBy R P p d → ((n : ℕ) (f : Cell) → RecursBy R P n f → p ≤ n) →
+        union_of others ≡ P → AllPairs AreDisjoint others → All (λ A. A ≢ empty) others →
+        ((n : ℕ) → n < p → AreHeldApart R (generation R P n) (generations R others n)) →
+        ((A : Generation) → Contains others A → (x y : Cell) →
+        contains (generation R A p) (plus x d) ≡ true → contains (generation R A p) (plus y d) ≡ true →
+        HaveBoth others x y) → AreIndependentParts R P Qs → Contains Qs Q →
+        contains Q c ≡ true → contains Q e ≡ true → HaveBoth others c e }
+{}
