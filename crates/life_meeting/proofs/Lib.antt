@@ -1,2 +1,5 @@
 mod Steps
 mod Meeting
+mod Reach
+mod Blocks
+mod Sums
