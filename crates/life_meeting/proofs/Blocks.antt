@@ -8,8 +8,11 @@ use Rattle.life_objects.proofs.Lists.{Contains-head, Contains-later, head_or_lat
 use Rattle.life_decided.proofs.Kept.{Contains-filter, of_filter}
 use Rattle.life_decided.proofs.Tests.{abs_small}
 use Rattle.life_meeting.specs.Sums.{Step, and_then, common, enough_steps, rest_after, returning, size, sizes, stay, sum_of, sums_within, times}
-use Rattle.life_meeting.proofs.Steps.{IsWithin}
 use Rattle.life_meeting.proofs.Reach.{IsSum, Within, none_by, none_sum, stay-then, step_is, sum_then, then-assoc, then-stay, times-add, within_by, within_none, within_one, within_sum, within_then, within_times, within_upto}
+
+-- a number whose size is at most r
+abbrev IsWithin : ℕ → ℤ → Type 0
+IsWithin r x = (neg_ℤ (pos r) ≤ℤ x) × (x ≤ℤ pos r)
 
 times-times : (n q : ℕ) (u : Step) → times (n * q) u ≡ times n (times q u)
 times-times zero q u = ap (λ k. times k u) (let z : zero * q ≡ zero = omega arith in z)

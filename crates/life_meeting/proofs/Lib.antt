@@ -1,5 +1,4 @@
-mod Steps
-mod Meeting
 mod Reach
 mod Blocks
 mod Sums
+mod Meeting

@@ -1,219 +1,182 @@
--- Things with one way each meet soon or never.
-use Rattle.std.proofs.Common.{◌≡◌, ℕ, zero, suc, ℤ, pos, neg_ℤ, ◌+ℤ◌, ◌≤ℤ◌, ◌+◌, ◌-◌, ◌*◌, ◌<◌, ◌≤◌, List, [], ◌∷◌, inl, inr, sym, refl, ap, subst, ◌∙◌, mul-le-mul_left, arith}
-use Rattle.std.proofs.Common.{Ordering, Less, Equal, Greater, int_cmp, ◌<ℤ◌}
-use Rattle.std.specs.Cmp.{int_ranks}
-use Rattle.std.specs.Ordering.{MatchOrdering}
-use Rattle.std.specs.Prelude.{◌⊎◌, true, not, ◌&&◌, nat_eq, unsigned_abs}
-use Rattle.std.proofs.lemmas.Bool.{and_from, cases_Bool, cases_lt, eqb-true, eq-eqb}
+-- Whether two things meet is told by a search.
+use Rattle.std.proofs.Common.{◌≡◌, ℕ, zero, suc, ℤ, pos, negsuc, neg_ℤ, ◌+ℤ◌, ◌-ℤ◌, ◌≤ℤ◌, ◌+◌, ◌*◌, ◌<◌, ◌≤◌, Bool, true, List, [], ◌∷◌, ◌++◌, map, inl, inr, sym, refl, ap, subst, ◌∙◌, arith}
+use Rattle.std.specs.Prelude.{not, ◌&&◌, nat_le, unsigned_abs}
+use Rattle.std.specs.List.{Contains, list_all, list_any}
+use Rattle.std.proofs.lemmas.Bool.{and_from, leb-true}
 use Rattle.std.proofs.lemmas.Int.{ints}
-use Rattle.life_model.specs.Cell.{Cell, opposite, origin, plus}
+use Rattle.life_model.specs.Cell.{Cell, opposite, origin, plus, same_cell}
 use Rattle.life_model.specs.Generation.{Generation, cells, contains}
 use Rattle.life_model.specs.Symmetry.{translate_of}
-use Rattle.life_model.proofs.Cells.{pair}
+use Rattle.life_model.proofs.Cells.{pair, same_cell-is}
 use Rattle.life_model.proofs.Generations.{contains-cells}
 use Rattle.life_model.proofs.Symmetries.{contains-moved}
-use Rattle.life_objects.specs.Apart.{AreApart, AreNear}
+use Rattle.life_objects.specs.Apart.{AreNear}
 use Rattle.life_objects.specs.Drift.{multiple_of}
-use Rattle.life_decided.specs.Tests.{each_below, meet}
-use Rattle.life_decided.proofs.Tests.{apart_by_test, both, each_below_by, each_below_tells, not_true, test_by_apart, true_not}
+use Rattle.life_objects.proofs.Lists.{Contains-head, Contains-later, head_or_later}
+use Rattle.life_engines.proofs.Lists.{Contains-flat_map, of_flat_map, of_map}
+use Rattle.life_decided.proofs.Tests.{abs_small, both, not_true, true_not}
 use Rattle.life_growth.specs.Things.{NeverMeet, Thing, move_of, set_then, time_of, time_then}
-use Rattle.life_meeting.specs.Meeting.{distance, distances, enough, meet_after, never_meet, often_before, one_way, rounds}
-use Rattle.life_meeting.proofs.Steps.{IsWithin, listed_within, multiple-rounds, multiple_within, parts_x, parts_y}
+use Rattle.life_meeting.specs.Meeting.{near_by, nearness, never_meet, step_back, step_of, step_to, steps_between}
+use Rattle.life_meeting.specs.Sums.{Step, and_then, is_sum, stay, sum_of, times}
+use Rattle.life_meeting.proofs.Reach.{any_by, any_tells, mapped, step_is, step_pair, stay-then, then-assoc}
+use Rattle.life_meeting.proofs.Sums.{numbers_by_search, search_by_numbers}
 
--- ---- the first of the numbers
+-- ---- each element
 
-abbrev first : List ℕ → ℕ
-first [] = 0
-first (k ∷ often) = k
-
-module _ (p q a b : ℕ) (some : 1 ≤ p) (too : 1 ≤ q) where
-  -- What is left of two numbers when both are made less by as many rounds as can be.
-  pub record Rounds (i k : ℕ) : Type 0 where
-    pub n : ℕ
-    pub i' : ℕ
-    pub k' : ℕ
-    pub one : i ≡ i' + n * q
-    pub two : k ≡ k' + n * p
-    pub less : (i' < q) ⊎ (k' < p)
-
-  in_rounds : (fuel i k : ℕ) → i ≤ fuel → Rounds i k
-  in_rounds zero i k h =
-      record { n = 0; i' = i; k' = k; one = omega arith; two = omega arith; less = inl (omega arith) }
-  in_rounds (suc fuel) i k h =
-      elim (cases_lt i q) [
-        | inl less ↦
-            record { n = 0; i' = i; k' = k; one = omega arith; two = omega arith; less = inl less }
-        | inr more ↦
-            elim (cases_lt k p) [
-              | inl less ↦
-                  record { n = 0; i' = i; k' = k; one = omega arith; two = omega arith; less = inr less }
-              | inr enough ↦
-                  let rest = in_rounds fuel (i - q) (k - p) (omega arith) in
-                  let n : ℕ = rest.n in
-                  let e : i - q ≡ rest.i' + n * q = rest.one in
-                  let f : k - p ≡ rest.k' + n * p = rest.two in
-                  record { n = suc n; i' = rest.i'; k' = rest.k'; one = omega arith; two = omega arith; less = rest.less }
-            ]
+module _ {X : Type 0} (p : X → Bool) where
+  all_tells : (xs : List X) (x : X) → list_all p xs ≡ true → Contains xs x → p x ≡ true
+  all_tells [] x h one = let none : one.0 < 0 = one.1 in absurd (omega arith)
+  all_tells (y ∷ ys) x h one =
+      let parts = both (p y) (list_all p ys) h in
+      elim (head_or_later y x ys one.0 one.1 one.2) [
+        | inl e ↦ ap p (sym e) ∙ parts.0
+        | inr later ↦ all_tells ys x parts.1 later
       ]
 
-  module _ (i k : ℕ) (e : a + i * p ≡ b + k * q) (r : Rounds i k) where
-    abbrev few : ℕ
-    few = a + b + p * q
+  all_by : (xs : List X) → ((x : X) → Contains xs x → p x ≡ true) → list_all p xs ≡ true
+  all_by [] each = refl
+  all_by (x ∷ xs) each =
+      and_from (p x) (list_all p xs) (each x (Contains-head x xs))
+      (all_by xs (λ y of. each y (Contains-later x y xs of)))
 
-    pub still_together : a + r.i' * p ≡ b + r.k' * q
-    still_together =
-        let n : ℕ = r.n in
-        let one : i ≡ r.i' + n * q = r.one in
-        let two : k ≡ r.k' + n * p = r.two in
-        let x : i * p ≡ r.i' * p + n * (p * q) = ap (λ m. m * p) one ∙ (omega arith) in
-        let y : k * q ≡ r.k' * q + n * (p * q) = ap (λ m. m * q) two ∙ (omega arith) in
-        omega arith
+listed : (P : Generation) (c : Cell) → contains P c ≡ true → Contains (cells P) c
+listed P c h =
+    let q = any_tells (same_cell c) (cells P) (sym (contains-cells P c) ∙ h) in
+    subst (Contains (cells P)) (sym ((same_cell-is c q.0).0 q.2)) q.1
 
-    pub few_left : (r.i' ≤ few) × (r.k' ≤ few)
-    few_left =
-        let i' : ℕ = r.i' in
-        let k' : ℕ = r.k' in
-        let same : a + i' * p ≡ b + k' * q = still_together in
-        let x : i' ≤ i' * p = omega (arith, mul-le-mul_left i' some) in
-        let y : k' ≤ k' * q = omega (arith, mul-le-mul_left k' too) in
-        elim r.less [
-          | inl less ↦
-              let z : p * suc i' ≤ p * q = mul-le-mul_left p less in
-              (omega arith, omega arith)
-          | inr less ↦
-              let z : q * suc k' ≤ q * p = mul-le-mul_left q less in
-              (omega arith, omega arith)
-        ]
+of_listed : (P : Generation) (c : Cell) → Contains (cells P) c → contains P c ≡ true
+of_listed P c h = contains-cells P c ∙ any_by (same_cell c) (cells P) c h ((same_cell-is c c).1 refl)
 
--- ---- how many rounds
+-- ---- places near a cell
 
-which_way : (r : Ordering) (x y : ℤ) → MatchOrdering r (x <ℤ y) (x ≡ y) (y <ℤ x) →
-    (((x +ℤ pos 1) ≤ℤ y) ⊎ ((y +ℤ pos 1) ≤ℤ x)) ⊎ (x ≡ y)
-which_way Less x y h = inl (inl (omega (arith, ints)))
-which_way Equal x y h = inr h
-which_way Greater x y h = inl (inr (omega (arith, ints)))
+near_number : (x : ℤ) → neg_ℤ (pos 2) ≤ℤ x → x ≤ℤ pos 2 → Contains near_by x
+near_number (pos zero) h k = (2, omega arith, refl)
+near_number (pos (suc zero)) h k = (3, omega arith, refl)
+near_number (pos (suc (suc zero))) h k = (4, omega arith, refl)
+near_number (pos (suc (suc (suc n)))) h k = absurd (omega (arith, ints))
+near_number (negsuc zero) h k = (1, omega arith, refl)
+near_number (negsuc (suc zero)) h k = (0, omega arith, refl)
+near_number (negsuc (suc (suc n))) h k = absurd (omega (arith, ints))
 
-apart_or_one : (x y : ℤ) → (((x +ℤ pos 1) ≤ℤ y) ⊎ ((y +ℤ pos 1) ≤ℤ x)) ⊎ (x ≡ y)
-apart_or_one x y = which_way (int_cmp x y) x y (int_ranks x y)
+of_near_number : (x : ℤ) → Contains near_by x → (neg_ℤ (pos 2) ≤ℤ x) × (x ≤ℤ pos 2)
+of_near_number x one =
+    abs_small x 2 (leb-true (unsigned_abs x) 2 (all_tells (λ y. nat_le (unsigned_abs y) 2) near_by x refl one))
 
-module _ (a b : ℕ) (P Q : Generation) (w v : ℕ × Cell) (some : 1 ≤ w.0) (too : 1 ≤ v.0) where
-  abbrev A : Thing
-  A = one_way a P w
+near_place : (o : Cell) → Contains near_by o.0 → Contains near_by o.1 → Contains nearness o
+near_place o one two =
+    Contains-flat_map (λ x. map (λ y. (x, y)) near_by) near_by o.0 o one (mapped (λ y. (o.0, y)) near_by o.1 two)
 
-  abbrev B : Thing
-  B = one_way b Q v
+of_near_place : (o : Cell) → Contains nearness o → Contains near_by o.0 × Contains near_by o.1
+of_near_place o one =
+    let q = of_flat_map (λ x. map (λ y. (x, y)) near_by) near_by o one in
+    let r = of_map (λ y. (q.0, y)) near_by o q.2 in
+    (subst (Contains near_by) (ap (λ c. c.0) r.2) q.1, subst (Contains near_by) (ap (λ c. c.1) r.2) r.1)
 
-  abbrev N : ℕ
-  N = often_before a w b v
+-- ---- steps and ways
 
-  abbrev M : ℕ
-  M = rounds a P w b Q v
+times_way : (k : ℕ) (w : ℕ × Cell) → times k (step_of w) ≡ (pos (k * w.0), multiple_of k w.1)
+times_way zero w = step_pair (let z : 0 ≡ zero * w.0 = omega arith in ap pos z) refl
+times_way (suc k) w =
+    ap (λ u. and_then u (step_of w)) (times_way k w)
+    ∙ step_pair (let z : k * w.0 + w.0 ≡ suc k * w.0 = omega arith in omega (arith, ints)) refl
 
-  -- whether they meet after so many of each
-  abbrev Meet : ℕ → ℕ → Type 0
-  Meet i k = (a + i * w.0 ≡ b + k * v.0) ×
-      (AreApart (translate_of P (multiple_of i w.1)) (translate_of Q (multiple_of k v.1)) → ⊥)
+times_back : (k : ℕ) (w : ℕ × Cell) → times k (step_back w) ≡ (neg_ℤ (pos (k * w.0)), opposite (multiple_of k w.1))
+times_back zero w =
+    step_pair (let z : 0 ≡ zero * w.0 = omega arith in omega (arith, ints)) (pair (omega (arith, ints)) (omega (arith, ints)))
+times_back (suc k) w =
+    ap (λ u. and_then u (step_back w)) (times_back k w)
+    ∙ step_pair (let z : k * w.0 + w.0 ≡ suc k * w.0 = omega arith in omega (arith, ints))
+    (pair (omega (arith, ints)) (omega (arith, ints)))
 
-  time_first : (o : ℕ) (x : ℕ × Cell) (k : List ℕ) → o + time_of (x ∷ []) k ≡ o + first k * x.0
-  time_first o x [] = omega arith
-  time_first o x (k ∷ often) = omega arith
+abbrev forth : List (ℕ × Cell) → List ℕ → Step
+forth ws k = (pos (time_of ws k), move_of ws k)
 
-  move_first : (x : ℕ × Cell) (k : List ℕ) → move_of (x ∷ []) k ≡ multiple_of (first k) x.1
-  move_first x [] = refl
-  move_first x (k ∷ often) = pair (omega (arith, ints)) (omega (arith, ints))
+abbrev back : List (ℕ × Cell) → List ℕ → Step
+back vs l = (neg_ℤ (pos (time_of vs l)), opposite (move_of vs l))
 
-  -- ---- the search finds all
+sum_back : (vs : List (ℕ × Cell)) (l : List ℕ) → sum_of (map step_back vs) l ≡ back vs l
+sum_back [] l = step_is stay (back [] l) (omega (arith, ints)) (omega (arith, ints)) (omega (arith, ints))
+sum_back (v ∷ vs) [] = step_is stay (back (v ∷ vs) []) (omega (arith, ints)) (omega (arith, ints)) (omega (arith, ints))
+sum_back (v ∷ vs) (i ∷ l) =
+    ap (λ u. and_then u (sum_of (map step_back vs) l)) (times_back i v)
+    ∙ ap (and_then (neg_ℤ (pos (i * v.0)), opposite (multiple_of i v.1))) (sum_back vs l)
+    ∙ step_is (and_then (neg_ℤ (pos (i * v.0)), opposite (multiple_of i v.1)) (back vs l)) (back (v ∷ vs) (i ∷ l))
+    (omega (arith, ints)) (omega (arith, ints)) (omega (arith, ints))
 
-  tells_two : never_meet a P w b Q v ≡ true → (i k : ℕ) → i < enough a P w b Q v → k < enough a P w b Q v →
-      meet_after A B (i ∷ []) (k ∷ []) ≡ true → ⊥
-  unfolding never_meet
-  tells_two h i k less fewer =
-      not_true (meet_after A B (i ∷ []) (k ∷ []))
-      (each_below_tells (λ m. not (meet_after A B (i ∷ []) (m ∷ []))) (enough a P w b Q v) k
-      (each_below_tells (λ l. each_below (λ m. not (meet_after A B (l ∷ []) (m ∷ []))) (enough a P w b Q v))
-      (enough a P w b Q v) i h less) fewer)
+one_more_way : (i : ℕ) (w : ℕ × Cell) (ws : List (ℕ × Cell)) (k : List ℕ) (u x : Step) → u ≡ and_then (forth ws k) x →
+    and_then (times i (step_of w)) u ≡ and_then (forth (w ∷ ws) (i ∷ k)) x
+one_more_way i w ws k u x e =
+    ap (λ v. and_then v u) (times_way i w) ∙ ap (and_then (pos (i * w.0), multiple_of i w.1)) e
+    ∙ step_is (and_then (pos (i * w.0), multiple_of i w.1) (and_then (forth ws k) x)) (and_then (forth (w ∷ ws) (i ∷ k)) x)
+    (omega (arith, ints)) (omega (arith, ints)) (omega (arith, ints))
 
-  tells : never_meet a P w b Q v ≡ true → (i k : ℕ) → i < enough a P w b Q v → k < enough a P w b Q v →
-      a + i * w.0 ≡ b + k * v.0 → AreApart (translate_of P (multiple_of i w.1)) (translate_of Q (multiple_of k v.1))
-  tells h i k less fewer e =
-      subst (λ c. AreApart (translate_of P c) (translate_of Q (multiple_of k v.1))) (move_first w (i ∷ []))
-      (subst (λ c. AreApart (set_then A (i ∷ [])) (translate_of Q c)) (move_first v (k ∷ []))
-      (apart_by_test (set_then A (i ∷ [])) (set_then B (k ∷ [])) (λ met.
-      tells_two h i k less fewer
-      (and_from (nat_eq (time_then A (i ∷ [])) (time_then B (k ∷ []))) (meet (set_then A (i ∷ [])) (set_then B (k ∷ [])))
-      (eq-eqb (time_then A (i ∷ [])) (time_then B (k ∷ []))
-      (time_first a w (i ∷ []) ∙ e ∙ sym (time_first b v (k ∷ [])))) met))))
+no_way : (x : Step) (k : List ℕ) → x ≡ and_then (forth [] k) x
+no_way x k = step_is x (and_then (forth [] k) x) (omega (arith, ints)) (omega (arith, ints)) (omega (arith, ints))
 
-  pub search_by_never : NeverMeet A B → never_meet a P w b Q v ≡ true
-  unfolding never_meet
-  search_by_never never =
-      each_below_by (λ l. each_below (λ m. not (meet_after A B (l ∷ []) (m ∷ []))) (enough a P w b Q v))
-      (enough a P w b Q v) (λ i less.
-      each_below_by (λ m. not (meet_after A B (i ∷ []) (m ∷ []))) (enough a P w b Q v) (λ k fewer.
-      true_not (meet_after A B (i ∷ []) (k ∷ [])) (λ met.
-      let parts = both (nat_eq (time_then A (i ∷ [])) (time_then B (k ∷ [])))
-      (meet (set_then A (i ∷ [])) (set_then B (k ∷ []))) met in
-      test_by_apart (set_then A (i ∷ [])) (set_then B (k ∷ []))
-      (never (i ∷ []) (k ∷ []) (eqb-true (time_then A (i ∷ [])) (time_then B (k ∷ [])) parts.0)) parts.1)))
+ways_unmade : (w : ℕ × Cell) (ws : List (ℕ × Cell)) (x : Step) → and_then (forth ws []) x ≡ and_then (forth (w ∷ ws) []) x
+ways_unmade w [] x = refl
+ways_unmade w (v ∷ ws) x = refl
 
-  -- ---- they meet soon or never
+back_none : (vs : List (ℕ × Cell)) → back vs [] ≡ stay
+back_none [] = refl
+back_none (v ∷ vs) = refl
 
-  module _ (h : never_meet a P w b Q v ≡ true) (i k : ℕ) (same : a + i * w.0 ≡ b + k * v.0)
-      (r : Rounds w.0 v.0 a b some too i k) (c d : Cell) (in_P : contains P c ≡ true) (in_Q : contains Q d ≡ true)
-      (near : AreNear (plus c (multiple_of i w.1)) (plus d (multiple_of k v.1))) where
-    abbrev D : Cell
-    D = multiple_of v.0 w.1
+joined : (ws vs : List (ℕ × Cell)) (k l : List ℕ) →
+    (often : List ℕ) × (sum_of (map step_of ws ++ map step_back vs) often ≡ and_then (forth ws k) (back vs l))
+joined [] vs k l = (l, sum_back vs l ∙ no_way (back vs l) k)
+joined (w ∷ ws) vs [] l =
+    let q = joined ws vs [] l in (0 ∷ q.0, stay-then (sum_of (map step_of ws ++ map step_back vs) q.0) ∙ q.1 ∙ ways_unmade w ws (back vs l))
+joined (w ∷ ws) vs (i ∷ k) l =
+    let q = joined ws vs k l in
+    (i ∷ q.0, one_more_way i w ws k (sum_of (map step_of ws ++ map step_back vs) q.0) (back vs l) q.1)
 
-    abbrev E : Cell
-    E = multiple_of w.0 v.1
+parted : (ws vs : List (ℕ × Cell)) (often : List ℕ) →
+    (k l : List ℕ) × (sum_of (map step_of ws ++ map step_back vs) often ≡ and_then (forth ws k) (back vs l))
+parted [] vs often = ([], often, sum_back vs often ∙ no_way (back vs often) [])
+parted (w ∷ ws) vs [] = ([], [], sym (ap (and_then (forth (w ∷ ws) [])) (back_none vs)))
+parted (w ∷ ws) vs (i ∷ often) =
+    let q = parted ws vs often in
+    (i ∷ q.0, q.1, one_more_way i w ws q.0 (sum_of (map step_of ws ++ map step_back vs) often) (back vs q.1) q.2)
 
-    left : (r.i' ≤ N) × (r.k' ≤ N)
-    left = few_left w.0 v.0 a b some too i k same r
+-- ---- meetings
 
-    -- they meet after few rounds
-    not_after_few : r.n ≤ M → ⊥
-    not_after_few few =
-        let i' : ℕ = r.i' in
-        let k' : ℕ = r.k' in
-        let n : ℕ = r.n in
-        let one : i ≡ i' + n * v.0 = r.one in
-        let two : k ≡ k' + n * w.0 = r.two in
-        let x : v.0 * n ≤ v.0 * M = mul-le-mul_left v.0 few in
-        let y : w.0 * n ≤ w.0 * M = mul-le-mul_left w.0 few in
-        let l = left.0 in
-        let m = left.1 in
-        tells h i k (omega arith) (omega arith) same (plus c (multiple_of i w.1)) (plus d (multiple_of k v.1))
-        (contains-moved P (multiple_of i w.1) (plus c (multiple_of i w.1)) ∙ ap (contains P) (pair (omega (arith, ints)) (omega (arith, ints))) ∙ in_P)
-        (contains-moved Q (multiple_of k v.1) (plus d (multiple_of k v.1)) ∙ ap (contains Q) (pair (omega (arith, ints)) (omega (arith, ints))) ∙ in_Q)
-        near
+module _ (A B : Thing) where
+  abbrev us : List Step
+  us = steps_between A B
 
-    first_moved : multiple_of i w.1 ≡ plus (multiple_of r.i' w.1) (multiple_of r.n D)
-    first_moved = ap (λ m. multiple_of m w.1) r.one ∙ multiple-rounds r.i' r.n v.0 w.1
+  abbrev meets : Cell → Cell → Cell → Bool
+  meets c d o = not (is_sum us (step_to A B c d o))
 
-    second_moved : multiple_of k v.1 ≡ plus (multiple_of r.k' v.1) (multiple_of r.n E)
-    second_moved = ap (λ m. multiple_of m v.1) r.two ∙ multiple-rounds r.k' r.n w.0 v.1
+  module _ (c d o : Cell) (k l : List ℕ) where
+    abbrev m : Cell
+    m = move_of A.ways k
 
-    abbrev u : Cell
-    u = plus (multiple_of r.i' w.1) (multiple_of r.n D)
+    abbrev n : Cell
+    n = move_of B.ways l
 
-    abbrev t : Cell
-    t = plus (multiple_of r.k' v.1) (multiple_of r.n E)
+    to_place : time_then A k ≡ time_then B l → plus (plus d n) o ≡ plus c m →
+        and_then (forth A.ways k) (back B.ways l) ≡ step_to A B c d o
+    to_place e same =
+        let x = ap (λ u. u.0) same in
+        let y = ap (λ u. u.1) same in
+        step_is (and_then (forth A.ways k) (back B.ways l)) (step_to A B c d o) (omega (arith, ints)) (omega (arith, ints))
+        (omega (arith, ints))
 
-    near_so : AreNear (plus c u) (plus d t)
-    near_so =
-        subst (λ m. AreNear (plus c m) (plus d t)) first_moved
-        (subst (λ m. AreNear (plus c (multiple_of i w.1)) (plus d m)) second_moved near)
+    times_by : and_then (forth A.ways k) (back B.ways l) ≡ step_to A B c d o → time_then A k ≡ time_then B l
+    times_by e = let t = ap (λ u. u.0) e in omega (arith, ints)
 
-    -- they would meet without any round
-    near_before : multiple_of r.n D ≡ multiple_of r.n E →
-        AreNear (plus c (multiple_of r.i' w.1)) (plus d (multiple_of r.k' v.1))
-    near_before e =
-        let x = ap (λ m. m.0) e in
-        let y = ap (λ m. m.1) e in
-        let left = near_so.left in
-        let right = near_so.right in
-        let above = near_so.above in
-        let below = near_so.below in
+    near_by_step : and_then (forth A.ways k) (back B.ways l) ≡ step_to A B c d o → Contains nearness o →
+        AreNear (plus c m) (plus d n)
+    near_by_step e of =
+        let x = ap (λ u. u.1.0) e in
+        let y = ap (λ u. u.1.1) e in
+        let places = of_near_place o of in
+        let wide = of_near_number o.0 places.0 in
+        let high = of_near_number o.1 places.1 in
+        let a = wide.0 in
+        let b = wide.1 in
+        let f = high.0 in
+        let g = high.1 in
         record {
           left = omega (arith, ints);
           right = omega (arith, ints);
@@ -221,94 +184,47 @@ module _ (a b : ℕ) (P Q : Generation) (w v : ℕ × Cell) (some : 1 ≤ w.0) (
           below = omega (arith, ints);
         }
 
-    not_side_by_side : D ≡ E → ⊥
-    not_side_by_side e =
-        let i' : ℕ = r.i' in
-        let k' : ℕ = r.k' in
-        let l : i' ≤ N = left.0 in
-        let m : k' ≤ N = left.1 in
-        tells h i' k' (omega arith) (omega arith) (still_together w.0 v.0 a b some too i k same r)
-        (plus c (multiple_of i' w.1)) (plus d (multiple_of k' v.1))
-        (contains-moved P (multiple_of i' w.1) (plus c (multiple_of i' w.1)) ∙ ap (contains P) (pair (omega (arith, ints)) (omega (arith, ints))) ∙ in_P)
-        (contains-moved Q (multiple_of k' v.1) (plus d (multiple_of k' v.1)) ∙ ap (contains Q) (pair (omega (arith, ints)) (omega (arith, ints))) ∙ in_Q)
-        (near_before (ap (multiple_of r.n) e))
+  pub never_by_search : never_meet A B ≡ true → NeverMeet A B
+  unfolding never_meet
+  never_by_search h k l e g f in_g in_f near =
+      let m : Cell = move_of A.ways k in
+      let n : Cell = move_of B.ways l in
+      let c : Cell = plus g (opposite m) in
+      let d : Cell = plus f (opposite n) in
+      let o : Cell = plus g (opposite f) in
+      let left = near.left in
+      let right = near.right in
+      let above = near.above in
+      let below = near.below in
+      let q = joined A.ways B.ways k l in
+      let at : and_then (forth A.ways k) (back B.ways l) ≡ step_to A B c d o =
+      to_place c d o k l e (pair (omega (arith, ints)) (omega (arith, ints))) in
+      not_true (is_sum us (step_to A B c d o))
+      (all_tells (meets c d) nearness o
+      (all_tells (λ d. list_all (meets c d) nearness) (cells B.set) d
+      (all_tells (λ c. list_all (λ d. list_all (meets c d) nearness) (cells B.set)) (cells A.set) c h
+      (listed A.set c (sym (contains-moved A.set m g) ∙ in_g)))
+      (listed B.set d (sym (contains-moved B.set n f) ∙ in_f)))
+      (near_place o (near_number o.0 (omega (arith, ints)) (omega (arith, ints)))
+      (near_number o.1 (omega (arith, ints)) (omega (arith, ints)))))
+      (search_by_numbers us (step_to A B c d o) (q.0, q.1 ∙ at))
 
-    c_within : IsWithin (distances (cells P)) c.0 × IsWithin (distances (cells P)) c.1
-    c_within = listed_within (cells P) c (sym (contains-cells P c) ∙ in_P)
+  moved_there : (P : Generation) (c m : Cell) → Contains (cells P) c → contains (translate_of P m) (plus c m) ≡ true
+  moved_there P c m of =
+      contains-moved P m (plus c m) ∙ ap (contains P) (pair (omega (arith, ints)) (omega (arith, ints))) ∙ of_listed P c of
 
-    d_within : IsWithin (distances (cells Q)) d.0 × IsWithin (distances (cells Q)) d.1
-    d_within = listed_within (cells Q) d (sym (contains-cells Q d) ∙ in_Q)
-
-    first_within : IsWithin (N * distance w.1) (multiple_of r.i' w.1).0 × IsWithin (N * distance w.1) (multiple_of r.i' w.1).1
-    first_within = multiple_within r.i' N w.1 left.0
-
-    second_within : IsWithin (N * distance v.1) (multiple_of r.k' v.1).0 × IsWithin (N * distance v.1) (multiple_of r.k' v.1).1
-    second_within = multiple_within r.k' N v.1 left.1
-
-    all_within : (n : ℕ) →
-        n ≤ distances (cells P) + distances (cells Q) + N * distance w.1 + N * distance v.1 + 2 → n ≤ M
-    all_within n few = omega arith
-
-    few_x : (x y x' y' far late : ℤ) (n : ℕ) → IsWithin (distances (cells P)) x → IsWithin (distances (cells Q)) y →
-        IsWithin (N * distance w.1) x' → IsWithin (N * distance v.1) y' →
-        ((far +ℤ pos n) ≤ℤ late × ((y +ℤ (y' +ℤ late)) ≤ℤ ((x +ℤ (x' +ℤ far)) +ℤ pos 2)))
-        ⊎ ((late +ℤ pos n) ≤ℤ far × ((x +ℤ (x' +ℤ far)) ≤ℤ ((y +ℤ (y' +ℤ late)) +ℤ pos 2))) → n ≤ M
-    few_x x y x' y' far late n f g h k which =
-        let a1 = f.0 in
-        let a2 = f.1 in
-        let b1 = g.0 in
-        let b2 = g.1 in
-        let c1 = h.0 in
-        let c2 = h.1 in
-        let d1 = k.0 in
-        let d2 = k.1 in
-        elim which [
-          | inl so ↦ let one = so.0 in let two = so.1 in all_within n (omega (arith, ints))
-          | inr so ↦ let one = so.0 in let two = so.1 in all_within n (omega (arith, ints))
-        ]
-
-    few_across : ((D.0 +ℤ pos 1) ≤ℤ E.0) ⊎ ((E.0 +ℤ pos 1) ≤ℤ D.0) → r.n ≤ M
-    few_across which =
-        few_x c.0 d.0 (multiple_of r.i' w.1).0 (multiple_of r.k' v.1).0 (multiple_of r.n D).0 (multiple_of r.n E).0 r.n
-        c_within.0 d_within.0 first_within.0 second_within.0
-        (elim which [
-          | inl less ↦ let close = near_so.left in inl (parts_x r.n D E less, omega (arith, ints))
-          | inr more ↦ let close = near_so.right in inr (parts_x r.n E D more, omega (arith, ints))
-        ])
-
-    few_along : ((D.1 +ℤ pos 1) ≤ℤ E.1) ⊎ ((E.1 +ℤ pos 1) ≤ℤ D.1) → r.n ≤ M
-    few_along which =
-        few_x c.1 d.1 (multiple_of r.i' w.1).1 (multiple_of r.k' v.1).1 (multiple_of r.n D).1 (multiple_of r.n E).1 r.n
-        c_within.1 d_within.1 first_within.1 second_within.1
-        (elim which [
-          | inl less ↦ let close = near_so.above in inl (parts_y r.n D E less, omega (arith, ints))
-          | inr more ↦ let close = near_so.below in inr (parts_y r.n E D more, omega (arith, ints))
-        ])
-
-    never_near : ⊥
-    never_near =
-        elim (apart_or_one D.0 E.0) [
-          | inl across ↦ not_after_few (few_across across)
-          | inr x ↦
-              elim (apart_or_one D.1 E.1) [
-                | inl along ↦ not_after_few (few_along along)
-                | inr y ↦ not_side_by_side (pair x y)
-              ]
-        ]
-
-  pub never_by_search : never_meet a P w b Q v ≡ true → NeverMeet A B
-  never_by_search h often others e g f in_g in_f near =
-      let i : ℕ = first often in
-      let k : ℕ = first others in
-      let c : Cell = plus g (opposite (multiple_of i w.1)) in
-      let d : Cell = plus f (opposite (multiple_of k v.1)) in
-      let same : a + i * w.0 ≡ b + k * v.0 = sym (time_first a w often) ∙ e ∙ time_first b v others in
-      let there : contains (translate_of P (multiple_of i w.1)) g ≡ true =
-      ap (λ m. contains (translate_of P m) g) (sym (move_first w often)) ∙ in_g in
-      let too_there : contains (translate_of Q (multiple_of k v.1)) f ≡ true =
-      ap (λ m. contains (translate_of Q m) f) (sym (move_first v others)) ∙ in_f in
-      let x : g ≡ plus c (multiple_of i w.1) = pair (omega (arith, ints)) (omega (arith, ints)) in
-      let y : f ≡ plus d (multiple_of k v.1) = pair (omega (arith, ints)) (omega (arith, ints)) in
-      never_near h i k same (in_rounds w.0 v.0 a b some too i i k (omega arith)) c d
-      (sym (contains-moved P (multiple_of i w.1) g) ∙ there) (sym (contains-moved Q (multiple_of k v.1) f) ∙ too_there)
-      (subst (λ m. AreNear m (plus d (multiple_of k v.1))) x (subst (AreNear g) y near))
+  pub search_by_never : NeverMeet A B → never_meet A B ≡ true
+  unfolding never_meet
+  search_by_never never =
+      all_by (λ c. list_all (λ d. list_all (meets c d) nearness) (cells B.set)) (cells A.set) (λ c in_A.
+      all_by (λ d. list_all (meets c d) nearness) (cells B.set) (λ d in_B.
+      all_by (meets c d) nearness (λ o of.
+      true_not (is_sum us (step_to A B c d o)) (λ found.
+      let q = numbers_by_search us (step_to A B c d o) found in
+      let r = parted A.ways B.ways q.0 in
+      let k : List ℕ = r.0 in
+      let l : List ℕ = r.1 in
+      let e : and_then (forth A.ways k) (back B.ways l) ≡ step_to A B c d o = sym r.2 ∙ q.1 in
+      never k l (times_by c d o k l e) (plus c (move_of A.ways k)) (plus d (move_of B.ways l))
+      (moved_there A.set c (move_of A.ways k) in_A) (moved_there B.set d (move_of B.ways l) in_B)
+      (near_by_step c d o k l e of)))))

@@ -1,40 +1,35 @@
--- Whether two things with one way each ever meet, by a search.
-use Rattle.std.specs.Prelude.{ℕ, suc, ◌+◌, ◌*◌, Bool, not, ◌&&◌, nat_eq, unsigned_abs, List, [], ◌∷◌}
-use Rattle.life_model.specs.Cell.{Cell}
-use Rattle.life_model.specs.Generation.{Generation, cells}
-use Rattle.life_decided.specs.Tests.{each_below, meet}
-use Rattle.life_growth.specs.Things.{Thing, set_then, time_then}
+-- Whether two things in space and time ever meet, by a search.
+use Rattle.std.specs.Prelude.{ℕ, ℤ, pos, neg_ℤ, ◌+ℤ◌, ◌-ℤ◌, Bool, not, List, [], ◌∷◌, ◌++◌, map, flat_map}
+use Rattle.std.specs.List.{list_all}
+use Rattle.life_model.specs.Cell.{Cell, opposite}
+use Rattle.life_model.specs.Generation.{cells}
+use Rattle.life_growth.specs.Things.{Thing}
+use Rattle.life_meeting.specs.Sums.{Step, is_sum}
 
--- a thing with one way
-abbrev pub one_way : ℕ → Generation → ℕ × Cell → Thing
-one_way a P w = record { time = a; set = P; ways = w ∷ [] }
+-- a way as a step, and as a step back
+abbrev pub step_of : ℕ × Cell → Step
+step_of w = (pos w.0, w.1)
 
--- whether two things meet, their ways made so often
-abbrev pub meet_after : Thing → Thing → List ℕ → List ℕ → Bool
-meet_after A B k l = nat_eq (time_then A k) (time_then B l) && meet (set_then A k) (set_then B l)
+abbrev pub step_back : ℕ × Cell → Step
+step_back w = (neg_ℤ (pos w.0), opposite w.1)
 
--- how far a cell is from the origin, and all cells of a list together
-abbrev pub distance : Cell → ℕ
-distance c = unsigned_abs c.0 + unsigned_abs c.1
+abbrev pub steps_between : Thing → Thing → List Step
+steps_between A B = map step_of A.ways ++ map step_back B.ways
 
-abbrev pub distances : List Cell → ℕ
-distances [] = 0
-distances (c ∷ cs) = distance c + distances cs
+-- how far a cell may be from another that it is near, in each direction and in both
+abbrev pub near_by : List ℤ
+near_by = neg_ℤ (pos 2) ∷ neg_ℤ (pos 1) ∷ pos 0 ∷ pos 1 ∷ pos 2 ∷ []
 
--- how often the ways are made at most before both have been made for as many generations as the two periods multiplied
-abbrev pub often_before : ℕ → ℕ × Cell → ℕ → ℕ × Cell → ℕ
-often_before a w b v = a + b + w.0 * v.0
+abbrev pub nearness : List Cell
+nearness = flat_map (λ x. map (λ y. (x, y)) near_by) near_by
 
--- how often they are made for so many generations at most, where that moves the one against the other, and they meet
-abbrev pub rounds : ℕ → Generation → ℕ × Cell → ℕ → Generation → ℕ × Cell → ℕ
-rounds a P w b Q v =
-    distances (cells P) + distances (cells Q) + often_before a w b v * (distance w.1 + distance v.1) + 2
+-- the step that brings cell c of A to the place that is o away from cell d of B
+abbrev pub step_to : Thing → Thing → Cell → Cell → Cell → Step
+step_to A B c d o = (pos B.time -ℤ pos A.time, ((d.0 +ℤ o.0) -ℤ c.0, (d.1 +ℤ o.1) -ℤ c.1))
 
--- Whether two things with one way each never meet. If they meet, they do so with each way made less often than this.
-abbrev pub enough : ℕ → Generation → ℕ × Cell → ℕ → Generation → ℕ × Cell → ℕ
-enough a P w b Q v = suc (often_before a w b v + rounds a P w b Q v * (w.0 + v.0))
-
-unfoldable pub never_meet : ℕ → Generation → ℕ × Cell → ℕ → Generation → ℕ × Cell → Bool
-never_meet a P w b Q v =
-    each_below (λ i. each_below (λ k. not (meet_after (one_way a P w) (one_way b Q v) (i ∷ []) (k ∷ [])))
-    (enough a P w b Q v)) (enough a P w b Q v)
+-- whether no cell of A comes to a place near a cell of B, by the ways of A and back by those of B
+unfoldable pub never_meet : Thing → Thing → Bool
+never_meet A B =
+    list_all (λ c.
+    list_all (λ d. list_all (λ o. not (is_sum (steps_between A B) (step_to A B c d o))) nearness) (cells B.set))
+    (cells A.set)
