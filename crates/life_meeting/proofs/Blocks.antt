@@ -1,5 +1,5 @@
 -- What comes back to 0 in a coordinate is taken out of a sum, so that few steps are left.
-use Rattle.std.proofs.Common.{◌≡◌, ℕ, zero, suc, ℤ, pos, negsuc, neg_ℤ, ◌+ℤ◌, ◌≤ℤ◌, ◌+◌, ◌-◌, ◌*◌, ◌/◌, ◌%◌, ◌<◌, ◌≤◌, Bool, true, List, [], ◌∷◌, inl, inr, sym, refl, ap, subst, ◌∙◌, mul-le-mul_left, mod-lt, div-add-mod', arith}
+use Rattle.std.proofs.Common.{◌≡◌, ℕ, zero, suc, ℤ, pos, negsuc, neg_ℤ, ◌+ℤ◌, ◌≤ℤ◌, ◌+◌, ◌*◌, ◌/◌, ◌%◌, ◌<◌, ◌≤◌, List, [], ◌∷◌, inl, inr, sym, refl, ap, subst, ◌∙◌, mul-le-mul_left, mod-lt, div-add-mod', arith}
 use Rattle.std.specs.Prelude.{unsigned_abs, ◌⊎◌, length, nat_eq}
 use Rattle.std.specs.List.{Contains}
 use Rattle.std.proofs.lemmas.Bool.{eqb-true, eq-eqb}
@@ -7,8 +7,8 @@ use Rattle.std.proofs.lemmas.Int.{ints}
 use Rattle.life_objects.proofs.Lists.{Contains-head, Contains-later, head_or_later}
 use Rattle.life_decided.proofs.Kept.{Contains-filter, of_filter}
 use Rattle.life_decided.proofs.Tests.{abs_small}
-use Rattle.life_meeting.specs.Sums.{Step, and_then, common, enough_steps, rest_after, returning, size, sizes, stay, sum_of, sums_within, times}
-use Rattle.life_meeting.proofs.Reach.{IsSum, Within, none_by, none_sum, stay-then, step_is, sum_then, then-assoc, then-stay, times-add, within_by, within_none, within_one, within_sum, within_then, within_times, within_upto}
+use Rattle.life_meeting.specs.Sums.{Step, and_then, common, enough_steps, returning, size, sizes, stay, sum_of, sums_within, times}
+use Rattle.life_meeting.proofs.Reach.{IsSum, Within, none_by, none_sum, stay-then, step_is, sum_then, then-assoc, then-stay, times-add, within_by, within_none, within_one, within_sum, within_times, within_upto}
 
 -- a number whose size is at most r
 abbrev IsWithin : ℕ → ℤ → Type 0
@@ -36,9 +36,11 @@ one_more : (us : List Step) (often : List ℕ) (u : Step) → Contains us u →
 one_more [] often u one = let none : one.0 < 0 = one.1 in absurd (omega arith)
 one_more (v ∷ us) [] u one =
     elim (head_or_later v u us one.0 one.1 one.2) [
-      | inl e ↦
-          (suc zero ∷ [], swapped stay v (sum_of us []) ∙ ap (λ c. and_then (and_then stay c) v) (no_numbers us)
-          ∙ ap (λ c. and_then c v) (then-stay stay) ∙ ap (and_then stay) e)
+      | inl e ↦ (
+        suc zero ∷ [],
+        swapped stay v (sum_of us []) ∙ ap (λ c. and_then (and_then stay c) v) (no_numbers us)
+            ∙ ap (λ c. and_then c v) (then-stay stay) ∙ ap (and_then stay) e,
+      )
       | inr later ↦
           let q = one_more us [] u later in
           (0 ∷ q.0, stay-then (sum_of us q.0) ∙ q.1 ∙ ap (λ c. and_then c u) (no_numbers us))
@@ -92,14 +94,17 @@ module _ (f : Step → ℤ) where
   cofactor [] u one = let none : one.0 < 0 = one.1 in absurd (omega arith)
   cofactor (v ∷ us) u one =
       elim (head_or_later v u us one.0 one.1 one.2) [
-        | inl e ↦
-            (common f us, ap (λ w. common f us * size (f w)) (sym e)
-            ∙ (let z : common f us * size (f v) ≡ size (f v) * common f us = omega arith in z))
+        | inl e ↦ (
+          common f us,
+          ap (λ w. common f us * size (f w)) (sym e)
+              ∙ (let z : common f us * size (f v) ≡ size (f v) * common f us = omega arith in z),
+        )
         | inr later ↦
-            let c = cofactor us u later in
-            (size (f v) * c.0,
-            (let z : size (f v) * c.0 * size (f u) ≡ size (f v) * (c.0 * size (f u)) = omega arith in z)
-            ∙ ap (λ m. size (f v) * m) c.1)
+            let c = cofactor us u later in (
+              size (f v) * c.0,
+              (let z : size (f v) * c.0 * size (f u) ≡ size (f v) * (c.0 * size (f u)) = omega arith in z)
+                  ∙ ap (λ m. size (f v) * m) c.1,
+            )
       ]
 
   size_listed : (us : List Step) (u : Step) → Contains us u → unsigned_abs (f u) ≤ sizes f us
@@ -339,9 +344,11 @@ module _ (f : Step → ℤ) (add : (u v : Step) → f (and_then u v) ≡ (f u +�
                 few = within_upto us (length vs * M) (length (v ∷ vs) * M) d.y d.few (omega arith);
                 up = d.up;
                 down = d.down;
-                back = sum_then (returning f us) d.z (times k v) d.back
-                    (k * 1, within_times (returning f us) k 1 v
-                    (within_one (returning f us) v (returning_by 1 v (within_one us v of) (omega arith) none)));
+                back = sum_then (returning f us) d.z (times k v) d.back (
+                  k * 1,
+                  within_times (returning f us) k 1 v
+                      (within_one (returning f us) v (returning_by 1 v (within_one us v of) (omega arith) none)),
+                );
                 same = to_back (times k v) d.y d.p d.n d.z ∙ ap (and_then (times k v)) d.same;
               }
           | inr some ↦

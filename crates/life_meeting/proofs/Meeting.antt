@@ -1,10 +1,10 @@
 -- Whether two things meet is told by a search.
-use Rattle.std.proofs.Common.{◌≡◌, ℕ, zero, suc, ℤ, pos, negsuc, neg_ℤ, ◌+ℤ◌, ◌-ℤ◌, ◌≤ℤ◌, ◌+◌, ◌*◌, ◌<◌, ◌≤◌, Bool, true, List, [], ◌∷◌, ◌++◌, map, inl, inr, sym, refl, ap, subst, ◌∙◌, arith}
-use Rattle.std.specs.Prelude.{not, ◌&&◌, nat_le, unsigned_abs}
-use Rattle.std.specs.List.{Contains, list_all, list_any}
+use Rattle.std.proofs.Common.{◌≡◌, ℕ, zero, suc, ℤ, pos, negsuc, neg_ℤ, ◌≤ℤ◌, ◌+◌, ◌*◌, ◌<◌, Bool, true, List, [], ◌∷◌, ◌++◌, map, inl, inr, sym, refl, ap, subst, ◌∙◌, arith}
+use Rattle.std.specs.Prelude.{not, nat_le, unsigned_abs}
+use Rattle.std.specs.List.{Contains, list_all}
 use Rattle.std.proofs.lemmas.Bool.{and_from, leb-true}
 use Rattle.std.proofs.lemmas.Int.{ints}
-use Rattle.life_model.specs.Cell.{Cell, opposite, origin, plus, same_cell}
+use Rattle.life_model.specs.Cell.{Cell, opposite, plus, same_cell}
 use Rattle.life_model.specs.Generation.{Generation, cells, contains}
 use Rattle.life_model.specs.Symmetry.{translate_of}
 use Rattle.life_model.proofs.Cells.{pair, same_cell-is}
@@ -15,10 +15,10 @@ use Rattle.life_objects.specs.Drift.{multiple_of}
 use Rattle.life_objects.proofs.Lists.{Contains-head, Contains-later, head_or_later}
 use Rattle.life_engines.proofs.Lists.{Contains-flat_map, of_flat_map, of_map}
 use Rattle.life_decided.proofs.Tests.{abs_small, both, not_true, true_not}
-use Rattle.life_growth.specs.Things.{NeverMeet, Thing, move_of, set_then, time_of, time_then}
+use Rattle.life_growth.specs.Things.{NeverMeet, Thing, move_of, time_of, time_then}
 use Rattle.life_meeting.specs.Meeting.{near_by, nearness, never_meet, step_back, step_of, step_to, steps_between}
 use Rattle.life_meeting.specs.Sums.{Step, and_then, is_sum, stay, sum_of, times}
-use Rattle.life_meeting.proofs.Reach.{any_by, any_tells, mapped, step_is, step_pair, stay-then, then-assoc}
+use Rattle.life_meeting.proofs.Reach.{any_by, any_tells, mapped, step_is, step_pair, stay-then}
 use Rattle.life_meeting.proofs.Sums.{numbers_by_search, search_by_numbers}
 
 -- ---- each element

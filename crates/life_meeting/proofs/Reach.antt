@@ -1,14 +1,14 @@
 -- Sums of at most so many steps.
-use Rattle.std.proofs.Common.{◌≡◌, ℕ, zero, suc, ℤ, pos, neg_ℤ, ◌+ℤ◌, ◌≤ℤ◌, ◌+◌, ◌-◌, ◌*◌, ◌<◌, ◌≤◌, Bool, true, List, [], ◌∷◌, map, inl, inr, sym, refl, ap, subst, ◌∙◌, mul-le-mul_left, arith}
-use Rattle.std.specs.Prelude.{unsigned_abs, ◌||◌, ◌⊎◌, length}
+use Rattle.std.proofs.Common.{◌≡◌, ℕ, zero, suc, ℤ, ◌+◌, ◌-◌, ◌*◌, ◌<◌, ◌≤◌, Bool, true, List, [], ◌∷◌, map, inl, inr, sym, ap, subst, ◌∙◌, arith}
+use Rattle.std.specs.Prelude.{◌⊎◌}
 use Rattle.std.specs.List.{Contains, list_any}
 use Rattle.std.proofs.lemmas.Bool.{false≢true, or_cases, or_left, or_right}
 use Rattle.std.proofs.lemmas.Int.{ints}
-use Rattle.life_model.specs.Cell.{Cell, origin, plus}
+use Rattle.life_model.specs.Cell.{Cell}
 use Rattle.life_model.proofs.Cells.{pair}
 use Rattle.life_objects.proofs.Lists.{Contains-head, Contains-later, head_or_later}
 use Rattle.life_engines.proofs.Lists.{Contains-flat_map, of_flat_map, of_map}
-use Rattle.life_meeting.specs.Sums.{Step, and_then, common, rest_after, size, sizes, stay, sum_of, sums_within, times}
+use Rattle.life_meeting.specs.Sums.{Step, and_then, stay, sums_within, times}
 
 module _ {X : Type 0} where
   pub any_tells : (p : X → Bool) (xs : List X) → list_any p xs ≡ true → (x : X) × Contains xs x × (p x ≡ true)

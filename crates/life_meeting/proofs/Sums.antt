@@ -1,6 +1,6 @@
 -- Whether a step is a sum of steps is told by a search.
-use Rattle.std.proofs.Common.{◌≡◌, ℕ, zero, suc, ℤ, pos, ◌+ℤ◌, ◌+◌, ◌*◌, ◌<◌, ◌≤◌, true, List, [], ◌∷◌, sym, refl, ap, subst, ◌∙◌, arith}
-use Rattle.std.specs.Prelude.{unsigned_abs, nat_eq}
+use Rattle.std.proofs.Common.{◌≡◌, ℕ, ℤ, pos, ◌+ℤ◌, ◌+◌, ◌*◌, true, List, [], ◌∷◌, sym, refl, ap, subst, ◌∙◌, arith}
+use Rattle.std.specs.Prelude.{unsigned_abs}
 use Rattle.std.specs.List.{Contains, list_any}
 use Rattle.std.proofs.lemmas.Bool.{eqb-true, eq-eqb}
 use Rattle.std.proofs.lemmas.Int.{ints}
@@ -70,11 +70,12 @@ module _ (f : Step → ℤ) (add : (u v : Step) → f (and_then u v) ≡ (f u +�
       let q = numbers_of us sum.0 c sum.1 in
       let r = few_and_back f add nil us q.0 in
       let there : Within us (enough_steps f us c) r.0 =
-      subst (λ x. Within us (enough_steps f us x) r.0) q.1 r.2 in
-      (r.1,
-      subst (Contains (rests f us c)) (rest-then c r.0 r.1 (r.4 ∙ q.1))
-      (mapped (rest_after c) (sums_within us (enough_steps f us c)) r.0 there),
-      r.3)
+      subst (λ x. Within us (enough_steps f us x) r.0) q.1 r.2 in (
+        r.1,
+        subst (Contains (rests f us c)) (rest-then c r.0 r.1 (r.4 ∙ q.1))
+            (mapped (rest_after c) (sums_within us (enough_steps f us c)) r.0 there),
+        r.3,
+      )
 
 time_add : (u v : Step) → time (and_then u v) ≡ (time u +ℤ time v)
 time_add u v = refl
