@@ -2,3 +2,4 @@ mod Reach
 mod Blocks
 mod Sums
 mod Meeting
+mod Apart

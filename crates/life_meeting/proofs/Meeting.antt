@@ -24,7 +24,7 @@ use Rattle.life_meeting.proofs.Sums.{numbers_by_search, search_by_numbers}
 -- ---- each element
 
 module _ {X : Type 0} (p : X → Bool) where
-  all_tells : (xs : List X) (x : X) → list_all p xs ≡ true → Contains xs x → p x ≡ true
+  pub all_tells : (xs : List X) (x : X) → list_all p xs ≡ true → Contains xs x → p x ≡ true
   all_tells [] x h one = let none : one.0 < 0 = one.1 in absurd (omega arith)
   all_tells (y ∷ ys) x h one =
       let parts = both (p y) (list_all p ys) h in
@@ -33,7 +33,7 @@ module _ {X : Type 0} (p : X → Bool) where
         | inr later ↦ all_tells ys x parts.1 later
       ]
 
-  all_by : (xs : List X) → ((x : X) → Contains xs x → p x ≡ true) → list_all p xs ≡ true
+  pub all_by : (xs : List X) → ((x : X) → Contains xs x → p x ≡ true) → list_all p xs ≡ true
   all_by [] each = refl
   all_by (x ∷ xs) each =
       and_from (p x) (list_all p xs) (each x (Contains-head x xs))

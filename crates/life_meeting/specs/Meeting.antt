@@ -33,3 +33,7 @@ never_meet A B =
     list_all (λ c.
     list_all (λ d. list_all (λ o. not (is_sum (steps_between A B) (step_to A B c d o))) nearness) (cells B.set))
     (cells A.set)
+
+-- whether no thing of the one list ever meets one of the other
+unfoldable pub all_never_meet : List Thing → List Thing → Bool
+all_never_meet As Bs = list_all (λ A. list_all (never_meet A) Bs) As

@@ -2,9 +2,12 @@
 //! the contracts of functions that do nothing are the laws that the search is right.
 #![tactic(auto)]
 
-ghost use Rattle.std.specs.Prelude.{◌≡◌, ℕ, ◌↔◌, true, List};
-ghost use Rattle.life_growth.specs.Things.{NeverMeet, Thing};
-ghost use Rattle.life_meeting.specs.Meeting.{never_meet};
+ghost use Rattle.std.specs.Prelude.{◌≡◌, ℕ, ◌↔◌, true, List, Contains};
+ghost use Rattle.life_model.specs.Generation.{Generation};
+ghost use Rattle.life_model.specs.Rule.{Rule};
+ghost use Rattle.life_objects.specs.Apart.{AreApartForEver};
+ghost use Rattle.life_growth.specs.Things.{IsMadeOf, NeverMeet, Thing};
+ghost use Rattle.life_meeting.specs.Meeting.{all_never_meet, never_meet};
 ghost use Rattle.life_meeting.specs.Sums.{Step, is_sum, sum_of};
 
 /// Whether a step is a sum of given steps, each made as often as may be, is told by a search.
@@ -15,4 +18,10 @@ pub fn sums_of_steps_are_found()
 /// Whether two things ever meet is told by a search.
 pub fn meetings_are_found()
     ensures { (A B : Thing) → (never_meet A B ≡ true) ↔ NeverMeet A B }
+{}
+
+/// Whether two sets stay apart for ever is told by a search, where each is made of finitely many things.
+pub fn listed_things_tell_what_stays_apart()
+    ensures { (R : Rule) (P Q : Generation) (As Bs : List Thing) → IsMadeOf R P (Contains As) →
+        IsMadeOf R Q (Contains Bs) → (all_never_meet As Bs ≡ true) ↔ AreApartForEver R P Q }
 {}
