@@ -3,3 +3,4 @@ mod Blocks
 mod Sums
 mod Meeting
 mod Apart
+mod Listed

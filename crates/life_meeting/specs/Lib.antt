@@ -1,2 +1,3 @@
-pub mod Meeting
 pub mod Sums
+pub mod Meeting
+pub mod Listed
