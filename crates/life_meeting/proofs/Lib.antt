@@ -4,3 +4,4 @@ mod Sums
 mod Meeting
 mod Apart
 mod Listed
+mod Engines

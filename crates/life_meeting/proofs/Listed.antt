@@ -29,7 +29,7 @@ use Rattle.life_growth.proofs.Things.{settled_is_made}
 use Rattle.life_meeting.specs.Listed.{first_thing, numbers_below, part_thing, settled_things}
 use Rattle.life_meeting.proofs.Reach.{mapped}
 
-listed_below : (n m : ℕ) → m < n → Contains (numbers_below n) m
+pub listed_below : (n m : ℕ) → m < n → Contains (numbers_below n) m
 listed_below zero m h = absurd (omega arith)
 listed_below (suc n) m h =
     elim (cases_lt m n) [
@@ -38,7 +38,7 @@ listed_below (suc n) m h =
           subst (Contains (n ∷ numbers_below n)) (let z : n ≡ m = omega arith in z) (Contains-head n (numbers_below n))
     ]
 
-of_below : (n m : ℕ) → Contains (numbers_below n) m → m < n
+pub of_below : (n m : ℕ) → Contains (numbers_below n) m → m < n
 of_below zero m one = let none : one.0 < 0 = one.1 in absurd (omega arith)
 of_below (suc n) m one =
     elim (head_or_later n m (numbers_below n) one.0 one.1 one.2) [
@@ -50,7 +50,7 @@ module _ (R : Rule) (b : ℕ) (P : Generation) (parts : List Generation) where
   abbrev things_of : Generation → List Thing
   things_of part = map (part_thing R b part) (numbers_below (period R b part))
 
-  settled_by_listed : HasFallenApart R b P parts → (thing : Thing) → Contains (settled_things R b P parts) thing →
+  pub settled_by_listed : HasFallenApart R b P parts → (thing : Thing) → Contains (settled_things R b P parts) thing →
       IsSettledThing R b P parts thing
   unfolding settled_things
   settled_by_listed fallen thing one =
@@ -84,7 +84,7 @@ module _ (R : Rule) (b : ℕ) (P : Generation) (parts : List Generation) where
   moved_none A d =
       ap (translate_of A) (let z : plus d origin ≡ d = pair (omega (arith, ints)) (omega (arith, ints)) in z)
 
-  listed_all : HasFallenApart R b P parts → (t : ℕ) (c : Cell) → contains (generation R P t) c ≡ true →
+  pub listed_all : HasFallenApart R b P parts → (t : ℕ) (c : Cell) → contains (generation R P t) c ≡ true →
       (thing : Thing) × Contains (settled_things R b P parts) thing × (often : List ℕ) × (time_then thing often ≡ t) ×
       (contains (set_then thing often) c ≡ true)
   listed_all fallen t c h =

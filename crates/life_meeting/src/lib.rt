@@ -2,11 +2,14 @@
 //! the contracts of functions that do nothing are the laws that the search is right.
 #![tactic(auto)]
 
-ghost use Rattle.std.specs.Prelude.{◌≡◌, ℕ, ◌↔◌, true, List, Contains};
+ghost use Rattle.std.specs.Prelude.{◌≡◌, ℕ, ◌↔◌, true, List, Contains, ◌<◌};
 ghost use Rattle.life_model.specs.Generation.{Generation};
 ghost use Rattle.life_model.specs.Rule.{Rule};
 ghost use Rattle.life_objects.specs.Apart.{AreApartForEver};
 ghost use Rattle.life_growth.specs.Things.{IsMadeOf, NeverMeet, Thing};
+ghost use Rattle.life_growth.specs.Engine.{IsEngine, Way};
+ghost use Rattle.life_objects.specs.Ash.{HasFallenApart};
+ghost use Rattle.life_meeting.specs.Listed.{engine_things, settled_things};
 ghost use Rattle.life_meeting.specs.Meeting.{all_never_meet, never_meet};
 ghost use Rattle.life_meeting.specs.Sums.{Step, is_sum, sum_of};
 
@@ -24,4 +27,13 @@ pub fn meetings_are_found()
 pub fn listed_things_tell_what_stays_apart()
     ensures { (R : Rule) (P Q : Generation) (As Bs : List Thing) → IsMadeOf R P (Contains As) →
         IsMadeOf R Q (Contains Bs) → (all_never_meet As Bs ≡ true) ↔ AreApartForEver R P Q }
+{}
+
+/// What falls apart, and an engine, is made of finitely many things, which are listed.
+pub fn things_are_listed()
+    ensures settled { (R : Rule) (b : ℕ) (P : Generation) (parts : List Generation) → HasFallenApart R b P parts →
+        IsMadeOf R P (Contains (settled_things R b P parts)) }
+    ensures engine { (R : Rule) (b c : ℕ) (E : Generation) (way : Way) (ashes : ℕ → List Generation) →
+        IsEngine R b E way → ((n : ℕ) → n < way.period → HasFallenApart R c (way.left n) (ashes n)) →
+        IsMadeOf R E (Contains (engine_things R c way ashes)) }
 {}
