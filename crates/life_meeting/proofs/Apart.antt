@@ -1,12 +1,10 @@
 -- Sets that are made of finitely many things stay apart for ever where these never meet.
-use Rattle.std.proofs.Common.{◌≡◌, ℕ, true, List, sym, ap, subst, ◌∙◌}
+use Rattle.std.proofs.Common.{◌≡◌, true, List}
 use Rattle.std.specs.List.{Contains, list_all}
-use Rattle.life_model.specs.Cell.{Cell}
 use Rattle.life_model.specs.Rule.{Rule}
-use Rattle.life_model.specs.Generation.{Generation, contains}
-use Rattle.life_model.specs.Evolution.{generation}
-use Rattle.life_objects.specs.Apart.{AreApart, AreApartForEver}
-use Rattle.life_growth.specs.Things.{IsMadeOf, NeverMeet, Thing, set_then, time_then}
+use Rattle.life_model.specs.Generation.{Generation}
+use Rattle.life_objects.specs.Apart.{AreApartForEver}
+use Rattle.life_growth.specs.Things.{IsMadeOf, NeverMeet, Thing}
 use Rattle.life_growth.proofs.Things.{apart_by_things, things_by_apart}
 use Rattle.life_meeting.specs.Meeting.{all_never_meet, never_meet}
 use Rattle.life_meeting.proofs.Meeting.{all_by, all_tells, never_by_search, search_by_never}

@@ -1,21 +1,21 @@
 -- The listed things are all things.
-use Rattle.std.proofs.Common.{◌≡◌, ℕ, zero, suc, ◌+◌, ◌-◌, ◌*◌, ◌%◌, ◌/◌, ◌<◌, ◌≤◌, true, List, [], ◌∷◌, ◌++◌, map, flat_map, inl, inr, sym, refl, ap, subst, ◌∙◌, mod-lt, div-add-mod', arith}
+use Rattle.std.proofs.Common.{◌≡◌, ℕ, zero, suc, ◌+◌, ◌-◌, ◌*◌, ◌%◌, ◌/◌, ◌<◌, true, List, [], ◌∷◌, map, flat_map, inl, inr, sym, ap, subst, ◌∙◌, mod-lt, div-add-mod', arith}
 use Rattle.std.specs.List.{Contains}
 use Rattle.std.proofs.lemmas.Bool.{cases_lt}
 use Rattle.std.proofs.lemmas.Int.{ints}
 use Rattle.std.proofs.lemmas.List.Elements.{Contains-append_cases, Contains-append_left, Contains-append_right}
-use Rattle.life_model.specs.Cell.{Cell, opposite, origin, plus}
+use Rattle.life_model.specs.Cell.{Cell, origin, plus}
 use Rattle.life_model.specs.Rule.{Rule}
 use Rattle.life_model.specs.Generation.{Generation, contains}
 use Rattle.life_model.specs.Evolution.{generation}
 use Rattle.life_model.specs.Symmetry.{translate_of}
 use Rattle.life_model.specs.Recurrence.{RecursBy}
 use Rattle.life_model.proofs.Cells.{pair}
-use Rattle.life_model.proofs.Moves.{moved-moved, moved-origin}
+use Rattle.life_model.proofs.Moves.{moved-origin}
 use Rattle.life_model.proofs.Recurrences.{generation-add}
 use Rattle.life_objects.specs.Ash.{HasFallenApart}
 use Rattle.life_objects.specs.Drift.{multiple_of}
-use Rattle.life_objects.specs.Union.{IsSubsetOf, generations, union_of}
+use Rattle.life_objects.specs.Union.{generations, union_of}
 use Rattle.life_objects.proofs.Ashes.{object_of}
 use Rattle.life_objects.proofs.Lists.{Contains-head, Contains-later, head_or_later}
 use Rattle.life_objects.proofs.Many.{list_ever}
@@ -62,8 +62,16 @@ module _ (R : Rule) (b : ℕ) (P : Generation) (parts : List Generation) where
             let q = of_flat_map things_of parts thing later in
             let r = of_map (part_thing R b q.0) (numbers_below (period R b q.0)) thing q.2 in
             let object = object_of R b (generation R P b) parts fallen q.0 q.1 in
-            inr (q.0, q.1, period R b q.0, corner_offset R q.0 (period R b q.0), r.0,
-            recurs R q.0 b (period_found R q.0 b object.recurs), of_below (period R b q.0) r.0 r.1, sym r.2)
+            inr (
+              q.0,
+              q.1,
+              period R b q.0,
+              corner_offset R q.0 (period R b q.0),
+              r.0,
+              recurs R q.0 b (period_found R q.0 b object.recurs),
+              of_below (period R b q.0) r.0 r.1,
+              sym r.2,
+            )
       ]
 
   listed_early : (m : ℕ) → m < b → Contains (settled_things R b P parts) (first_thing R P m)
