@@ -21,7 +21,7 @@ use Rattle.life_meeting.specs.Listed.{engine_things, numbers_below, settled_thin
 use Rattle.life_meeting.proofs.Listed.{listed_all, listed_below, of_below, settled_by_listed}
 use Rattle.life_meeting.proofs.Reach.{mapped}
 
-moved_in_turn : (A : Generation) (d e : Cell) → translate_of A (plus d e) ≡ translate_of (translate_of A e) d
+pub moved_in_turn : (A : Generation) (d e : Cell) → translate_of A (plus d e) ≡ translate_of (translate_of A e) d
 moved_in_turn A d e =
     ap (translate_of A) (let z : plus d e ≡ plus e d = pair (omega (arith, ints)) (omega (arith, ints)) in z)
     ∙ sym (moved-moved A e d)

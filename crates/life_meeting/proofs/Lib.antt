@@ -5,3 +5,4 @@ mod Meeting
 mod Apart
 mod Listed
 mod Engines
+mod Again

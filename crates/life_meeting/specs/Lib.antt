@@ -1,3 +1,4 @@
 pub mod Sums
 pub mod Meeting
 pub mod Listed
+pub mod Again

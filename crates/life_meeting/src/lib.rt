@@ -6,9 +6,10 @@ ghost use Rattle.std.specs.Prelude.{◌≡◌, ℕ, ◌↔◌, true, List, Conta
 ghost use Rattle.life_model.specs.Generation.{Generation};
 ghost use Rattle.life_model.specs.Rule.{Rule};
 ghost use Rattle.life_objects.specs.Apart.{AreApartForEver};
-ghost use Rattle.life_growth.specs.Things.{IsMadeOf, NeverMeet, Thing};
+ghost use Rattle.life_growth.specs.Things.{IsMadeOf, NeverMeet, NeverMeetAgain, Thing};
 ghost use Rattle.life_growth.specs.Engine.{IsEngine, Way};
 ghost use Rattle.life_objects.specs.Ash.{HasFallenApart};
+ghost use Rattle.life_meeting.specs.Again.{never_meet_again};
 ghost use Rattle.life_meeting.specs.Listed.{engine_things, settled_things};
 ghost use Rattle.life_meeting.specs.Meeting.{all_never_meet, never_meet};
 ghost use Rattle.life_meeting.specs.Sums.{Step, is_sum, sum_of};
@@ -36,4 +37,11 @@ pub fn things_are_listed()
     ensures engine { (R : Rule) (b c : ℕ) (E : Generation) (way : Way) (ashes : ℕ → List Generation) →
         IsEngine R b E way → ((n : ℕ) → n < way.period → HasFallenApart R c (way.left n) (ashes n)) →
         IsMadeOf R E (Contains (engine_things R c way ashes)) }
+{}
+
+/// Whether what leaves an engine never meets a core again, nor what leaves later, is told by a search.
+pub fn what_meets_again_is_found()
+    ensures { (R : Rule) (b : ℕ) (way : Way) (ashes : ℕ → List Generation) →
+        ((n : ℕ) → n < way.period → HasFallenApart R b (way.left n) (ashes n)) →
+        (never_meet_again R b way ashes ≡ true) ↔ NeverMeetAgain R b way ashes }
 {}
