@@ -6,3 +6,4 @@ mod Apart
 mod Listed
 mod Engines
 mod Again
+mod IsEngine

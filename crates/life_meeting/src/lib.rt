@@ -7,9 +7,10 @@ ghost use Rattle.life_model.specs.Generation.{Generation};
 ghost use Rattle.life_model.specs.Rule.{Rule};
 ghost use Rattle.life_objects.specs.Apart.{AreApartForEver};
 ghost use Rattle.life_growth.specs.Things.{IsMadeOf, NeverMeet, NeverMeetAgain, Thing};
-ghost use Rattle.life_growth.specs.Engine.{IsEngine, Way};
+ghost use Rattle.life_growth.specs.Engine.{IsEngine, IsEngineWithin, Way};
 ghost use Rattle.life_objects.specs.Ash.{HasFallenApart};
 ghost use Rattle.life_meeting.specs.Again.{never_meet_again};
+ghost use Rattle.life_meeting.specs.Engines.{is_engine};
 ghost use Rattle.life_meeting.specs.Listed.{engine_things, settled_things};
 ghost use Rattle.life_meeting.specs.Meeting.{all_never_meet, never_meet};
 ghost use Rattle.life_meeting.specs.Sums.{Step, is_sum, sum_of};
@@ -44,4 +45,9 @@ pub fn what_meets_again_is_found()
     ensures { (R : Rule) (b : ℕ) (way : Way) (ashes : ℕ → List Generation) →
         ((n : ℕ) → n < way.period → HasFallenApart R b (way.left n) (ashes n)) →
         (never_meet_again R b way ashes ≡ true) ↔ NeverMeetAgain R b way ashes }
+{}
+
+/// Whether a set is an engine within a bound is told by a search.
+pub fn engines_are_decided()
+    ensures { (R : Rule) (b : ℕ) (E : Generation) → (is_engine R b E ≡ true) ↔ IsEngineWithin R b E }
 {}
