@@ -1,0 +1,5 @@
+pub mod Sums
+pub mod Meeting
+pub mod Listed
+pub mod Again
+pub mod Engines
