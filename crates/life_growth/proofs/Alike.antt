@@ -43,8 +43,7 @@ module _ (R : Rule) (kind : Generation → Bool) (fits : IsKind R kind) where
       count_by kind (generations R Ps n) ≡ count_by kind Ps
   count_later b n Ps objects =
       phases.count_later R kind fits n Ps
-      (All-weaker (IsObject R b) (Recurs R)
-      (λ P object. record { steps = object.recurs.steps; by = object.recurs.by; recurs = object.recurs.recurs }) Ps objects)
+      (All-weaker (IsObject R b) (Recurs R) (phases.object_recurs R b) Ps objects)
 
   pub count_moved : (b : ℕ) (d : Cell) (Ps : List Generation) → All (IsObject R b) Ps →
       count_by kind (all_moved Ps d) ≡ count_by kind Ps

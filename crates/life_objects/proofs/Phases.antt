@@ -3,7 +3,7 @@ use Rattle.std.proofs.Common.{◌≡◌, ℕ, ◌+◌, Bool, cond, List, [], ◌
 use Rattle.std.specs.List.{All}
 use Rattle.std.proofs.lemmas.List.Elements.{All-head, All-tail}
 use Rattle.std.proofs.lemmas.List.Sums.{sum_by-cons}
-use Rattle.life_model.specs.Cell.{Cell, origin}
+use Rattle.life_model.specs.Cell.{origin}
 use Rattle.life_model.specs.Rule.{Rule}
 use Rattle.life_model.specs.Generation.{Generation}
 use Rattle.life_model.specs.Evolution.{generation}
@@ -13,6 +13,7 @@ use Rattle.life_model.proofs.Generations.{same_members}
 use Rattle.life_model.proofs.Moves.{moved-origin}
 use Rattle.life_model.proofs.Recurrences.{generation-zero}
 use Rattle.life_model.proofs.Symmetries.{contains-turned}
+use Rattle.life_objects.specs.Ash.{IsObject}
 use Rattle.life_objects.specs.Kinds.{IsKind}
 use Rattle.life_objects.specs.Onset.{Recurs}
 use Rattle.life_objects.specs.Union.{generations}
@@ -20,6 +21,14 @@ use Rattle.life_objects.proofs.Recurring.{RecursBy-later}
 
 pub turned-same : (P : Generation) → image_under P Same ≡ P
 turned-same P = same_members _ _ (λ c. contains-turned P Same c)
+
+-- an object comes again
+pub object_recurs : (R : Rule) (b : ℕ) (P : Generation) → IsObject R b P → Recurs R P
+object_recurs R b P object = record {
+  steps = object.recurs.steps;
+  by = object.recurs.by;
+  recurs = object.recurs.recurs;
+}
 
 pub phase_is_one : (R : Rule) (P : Generation) (n : ℕ) → AreOneObject R P (generation R P n)
 phase_is_one R P n = record {

@@ -16,9 +16,9 @@ use Rattle.life_objects.specs.Union.{generations}
 use Rattle.life_objects.proofs.Ashes.{IsAsh-later, object_of}
 use Rattle.life_objects.proofs.Lists.{AllDiffer, Contains-head, Contains-later, same_elements}
 use Rattle.life_objects.proofs.OneList as one_ash
-use Rattle.life_objects.proofs.Phases.{count_later}
-use Rattle.life_parts.specs.Parts.{ArePartsOfEach, joined}
-use Rattle.life_parts.proofs.Each.{from_joined, joined_once, parts_listed}
+use Rattle.life_objects.proofs.Phases.{count_later, object_recurs}
+use Rattle.life_parts.specs.Parts.{AreIndependentParts, ArePartsOfEach, joined}
+use Rattle.life_parts.proofs.Each.{from_joined, joined_once, parts_listed, parts_of_all}
 use Rattle.life_parts.proofs.Evolving.{part_of}
 use Rattle.life_parts.proofs.Lists.{later_parts, part_of_both, part_recurs, some_cell}
 
@@ -99,8 +99,14 @@ module _ (R : Rule) where
       IsAsh R c (generation R G n) others → ArePartsOfEach R others laters → AreAlike R (joined lists) (joined laters)
   told_alike b c n G objects others lists laters ash each too theirs kind fits =
       sym (count_later R kind fits n (joined lists)
-      (parts_recur objects lists each (λ P one.
-      let object = object_of R b G objects ash P one in
-      record { steps = object.recurs.steps; by = object.recurs.by; recurs = object.recurs.recurs })))
+      (parts_recur objects lists each (λ P one. object_recurs R b P (object_of R b G objects ash P one))))
       ∙ sym (sum_by-IsPermutation (λ (Q : Generation). cond (kind Q) 1 0) (generations R (joined lists) n) (joined laters)
       (one_list_later b c n G objects others lists laters ash each too theirs))
+
+  pub parts_of_whole_ash : (b : ℕ) (G : Generation) (objects : List Generation) (lists : List (List Generation)) →
+      IsAsh R b G objects → Recurs R G → ArePartsOfEach R objects lists → AreIndependentParts R G (joined lists)
+  parts_of_whole_ash b G objects lists ash again each =
+      subst (λ H. AreIndependentParts R H (joined lists)) ash.together
+      (parts_of_all R objects lists
+      (All-weaker (IsObject R b) (Recurs R) (object_recurs R b) objects ash.objects)
+      (subst (Recurs R) (sym ash.together) again) ash.apart each)

@@ -99,11 +99,13 @@ pub fn parts_of_what_keeps_apart_are_those_of_both()
 {}
 
 /// The independent parts of the union of a list of sets that keep apart for ever, each of which comes again, as their
-/// union does, are those of each set, in their order.
+/// union does, are those of each set, in their order; so those of ash that comes again are those of its objects.
 pub fn parts_of_many_that_keep_apart_are_those_of_each()
-    ensures { (R : Rule) (Ps : List Generation) (lists : List (List Generation)) →
+    ensures sets { (R : Rule) (Ps : List Generation) (lists : List (List Generation)) →
         All (Recurs R) Ps → Recurs R (union_of Ps) → AllPairs (AreApartForEver R) Ps →
         ArePartsOfEach R Ps lists → AreIndependentParts R (union_of Ps) (joined lists) }
+    ensures ash { (R : Rule) (b : ℕ) (G : Generation) (objects : List Generation) (lists : List (List Generation)) →
+        IsAsh R b G objects → Recurs R G → ArePartsOfEach R objects lists → AreIndependentParts R G (joined lists) }
 {}
 
 /// The independent parts of the objects of ash last: in each later generation they are what they have become, and are
