@@ -16,7 +16,7 @@ use Rattle.life_classes.specs.Nearness.{FollowOn, IsNearOneBefore, are_within}
 use Rattle.life_classes.specs.Tracking.{LeadTo, class_of_cell, at_first}
 use Rattle.life_classes.proofs.Beginning.{contains-one}
 use Rattle.life_classes.proofs.Groups.{lead_group}
-use Rattle.life_classes.proofs.Reaches.{within_by_test}
+use Rattle.life_classes.proofs.Reached.{within_by_test}
 
 first_listed : (c : Cell) (cs : List Cell) → contains (from_list (c ∷ cs)) c ≡ true
 first_listed c cs =

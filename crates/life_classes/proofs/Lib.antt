@@ -1,5 +1,5 @@
 pub mod Orders
-pub mod Reaches
+pub mod Reached
 pub mod RowsRise
 pub mod Kept
 pub mod Owners

@@ -17,7 +17,7 @@ use Rattle.life_objects.proofs.Members.{in_list_now}
 use Rattle.life_objects.proofs.Sides.{within_each_other}
 use Rattle.life_objects.proofs.Unions.{in_union, in_first, in_second}
 use Rattle.life_classes.specs.Nearness.{reaches}
-use Rattle.life_classes.proofs.Reaches.{touched_by, touching}
+use Rattle.life_classes.proofs.Reached.{touched_by, touching}
 
 module _ (R : Rule) where
   module _ (Q : Generation) (Qs : List Generation) (far : AllPairs AreApart (Q ∷ Qs)) where

@@ -16,7 +16,7 @@ use std::alloc::{AllocError, Global};
 const FEW: usize = 16;
 
 /// The cells of two sets together.
-fn union(alloc: Global, one: &CellList, other: &CellList) -> Result<CellList, AllocError>
+pub fn union(alloc: Global, one: &CellList, other: &CellList) -> Result<CellList, AllocError>
     ensures { IfOk result (λ list. list ≡ union one.now other.now) }
 {
     let mut items = one.as_slice().to_vec(alloc)?;

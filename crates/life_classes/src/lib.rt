@@ -17,5 +17,7 @@ mod tags;
 mod undivided;
 
 pub use class::Class;
+pub use joining::union;
+pub use nearness::reaches;
 pub use splitting::{classes, classes_of, first_classes};
 pub use undivided::{hold_together, is_undivided};

@@ -5,7 +5,7 @@ use Rattle.life_classes.specs.declared.class.Class.{Class}
 use Rattle.life_classes.specs.declared.gathering.Ranked.{Ranked}
 use Rattle.life_classes.specs.Gathering.{classes_of}
 use Rattle.life_classes.proofs.OnTrue.{on_true}
-use Rattle.life_classes.proofs.Reaches.{near_by_test}
+use Rattle.life_classes.proofs.Reached.{near_by_test}
 use Rattle.life_classes.proofs.gathering.is_led.Goals as goal
 
 pub returns : goal.returns

@@ -7,7 +7,7 @@ use Rattle.life_classes.proofs.Aparting.{LastsApart, StandsApartUpTo, apart_at_e
 use Rattle.life_classes.proofs.Aparting.{still_apart}
 use Rattle.life_classes.proofs.Leading.{lead_end, lead_gathered}
 use Rattle.life_classes.proofs.Merging.{in_turn}
-use Rattle.life_classes.proofs.Reaches.{apart_by_test, near_by_test}
+use Rattle.life_classes.proofs.Reached.{apart_by_test, near_by_test}
 use Rattle.life_classes.proofs.joining.add.Goals as goal
 
 pub loop-n-preserved-then-sets_are_near : goal.loop-n-preserved-then-sets_are_near

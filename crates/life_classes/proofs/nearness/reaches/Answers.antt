@@ -2,7 +2,7 @@ use Rattle.std.proofs.Common.{ap, ◌∙◌, arith, rules, FitsSigned, w32}
 use Rattle.std.specs.List.{list_any}
 use Rattle.std.proofs.lemmas.Int.{ints}
 use Rattle.life_classes.specs.Nearness.{are_within}
-use Rattle.life_classes.proofs.Reaches.{row_within}
+use Rattle.life_classes.proofs.Reached.{row_within}
 use Rattle.life_classes.proofs.RowsRise.{any_by_filter}
 use Rattle.life_classes.proofs.nearness.reaches.Goals as goal
 

@@ -2,7 +2,7 @@ use Rattle.std.proofs.Common.{sym, ap, ◌∙◌, arith, rules, FitsSigned, w64}
 use Rattle.std.specs.List.{list_any}
 use Rattle.std.proofs.lemmas.Int.{ints}
 use Rattle.life_classes.specs.Nearness.{reaches}
-use Rattle.life_classes.proofs.Reaches.{none_passes, reaches_itself}
+use Rattle.life_classes.proofs.Reached.{none_passes, reaches_itself}
 use Rattle.life_classes.proofs.RowsRise.{any_by_filter}
 use Rattle.life_classes.proofs.nearness.sets_are_near.Goals as goal
 

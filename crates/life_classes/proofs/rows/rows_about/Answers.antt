@@ -5,7 +5,7 @@ use borrow.Author.Tests.{eqb-true}
 use Rattle.life_model.specs.Cell.{Cell, origin, same_cell}
 use Rattle.life_model.specs.Generation.{contains}
 use Rattle.life_model.proofs.Generations.{contains-cells}
-use Rattle.life_classes.proofs.Reaches.{reached_by}
+use Rattle.life_classes.proofs.Reached.{reached_by}
 use Rattle.life_classes.proofs.RowsRise.{between, some_listed}
 use Rattle.life_classes.proofs.rows.rows_about.Goals as goal
 use Rattle.life_classes.proofs.rows.rows_about.Goals.{After-as_slice-cells}

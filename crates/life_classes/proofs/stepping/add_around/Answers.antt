@@ -7,7 +7,7 @@ use Rattle.life_cells.specs.Limits.{IsPlace}
 use Rattle.life_classes.proofs.Around.{all_of_four, has_first, has_second, has_third, in_window, still_has}
 use Rattle.life_classes.proofs.Beginning.{listed}
 use Rattle.life_classes.proofs.Lookups.{either}
-use Rattle.life_classes.proofs.Reaches.{within_by_test}
+use Rattle.life_classes.proofs.Reached.{within_by_test}
 use Rattle.life_classes.proofs.stepping.add_around.Goals as goal
 
 pub returns-clause-kept : goal.returns-clause-kept
