@@ -1,5 +1,5 @@
 -- Sets that are held apart in each generation of a period are the classes of what is tied.
-use Rattle.std.proofs.Common.{◌≡◌, ℕ, suc, ◌<◌, true, false, List, [], ◌∷◌, inl, inr, sym, ap, subst, ◌∙◌, arith}
+use Rattle.std.proofs.Common.{◌≡◌, ℕ, suc, ◌<◌, true, false, List, [], ◌∷◌, map, inl, inr, sym, ap, ◌∙◌, arith}
 use Rattle.std.specs.Cmp as cmp
 use Rattle.std.specs.List.{Contains}
 use Rattle.std.proofs.lemmas.Bool.{cases_Bool, both_ways, false_from_ne_true}
@@ -9,6 +9,7 @@ use Rattle.life_model.specs.Generation.{Generation, contains}
 use Rattle.life_model.specs.Evolution.{count_at, generation, next}
 use Rattle.life_model.proofs.Near.{next_near}
 use Rattle.life_objects.specs.Union.{generations}
+use Rattle.life_objects.proofs.Beginning.{mapped_to}
 use Rattle.life_objects.proofs.Lists.{Contains-head, Contains-later, head_or_later}
 use Rattle.life_parts.specs.Apart.{AreHeldApart, HaveBoth}
 use Rattle.life_parts.specs.Groups.{ColoursIslands, IsAround, IsFair, bears, in_group}
@@ -17,23 +18,22 @@ use Rattle.life_parts.proofs.Around.{count_at-alike, near_swapped, next-born, ne
 use Rattle.life_parts.proofs.Classed.{of_bearing, of_group, one_group_is_fair, to_group}
 use Rattle.life_parts.proofs.Firsts.{first_of_both, first_with, same_first}
 
+pub from_map : (f : Generation → Generation) (Qs : List Generation) (H : Generation) → Contains (map f Qs) H →
+    (Q : Generation) × Contains Qs Q × (f Q ≡ H)
+from_map f [] H one = let none : one.0 < 0 = one.1 in absurd (omega arith)
+from_map f (A ∷ Qs) H one =
+    elim (head_or_later (f A) H (map f Qs) one.0 one.1 one.2) [
+      | inl e ↦ (A, Contains-head A Qs, e)
+      | inr later ↦ let q = from_map f Qs H later in (q.0, Contains-later A q.0 Qs q.1, q.2)
+    ]
+
 module _ (R : Rule) (n : ℕ) where
   pub to_later : (Qs : List Generation) (Q : Generation) → Contains Qs Q → Contains (generations R Qs n) (generation R Q n)
-  to_later [] Q one = let none : one.0 < 0 = one.1 in absurd (omega arith)
-  to_later (A ∷ Qs) Q one =
-      elim (head_or_later A Q Qs one.0 one.1 one.2) [
-        | inl e ↦ subst (λ B. Contains (generations R (A ∷ Qs) n) (generation R B n)) e (Contains-head (generation R A n) (generations R Qs n))
-        | inr later ↦ Contains-later (generation R A n) (generation R Q n) (generations R Qs n) (to_later Qs Q later)
-      ]
+  to_later Qs Q one = mapped_to (λ A. generation R A n) Qs Q one
 
   pub from_later : (Qs : List Generation) (H : Generation) → Contains (generations R Qs n) H →
       (Q : Generation) × Contains Qs Q × (generation R Q n ≡ H)
-  from_later [] H one = let none : one.0 < 0 = one.1 in absurd (omega arith)
-  from_later (A ∷ Qs) H one =
-      elim (head_or_later (generation R A n) H (generations R Qs n) one.0 one.1 one.2) [
-        | inl e ↦ (A, Contains-head A Qs, e)
-        | inr later ↦ let q = from_later Qs H later in (q.0, Contains-later A q.0 Qs q.1, q.2)
-      ]
+  from_later Qs H one = from_map (λ A. generation R A n) Qs H one
 
 -- The sets' generations n make up generation n of P without overlap.
 pub record AreSplitAt (R : Rule) (P : Generation) (Qs : List Generation) (n : ℕ) : Type 0 where
@@ -41,11 +41,7 @@ pub record AreSplitAt (R : Rule) (P : Generation) (Qs : List Generation) (n : �
   pub within : (Q : Generation) → Contains Qs Q → (c : Cell) → IsIn R Q n c → IsIn R P n c
   pub one : (A B : Generation) → Contains Qs A → Contains Qs B → (c : Cell) → IsIn R A n c → IsIn R B n c → A ≡ B
 
-module _ (R : Rule) (P : Generation) (Qs : List Generation) (n : ℕ) (split : AreSplitAt R P Qs n)
-    (held : AreHeldApart R (generation R P n) (generations R Qs n)) where
-  abbrev G : Generation
-  G = generation R P n
-
+module _ (R : Rule) (P : Generation) (Qs : List Generation) (n : ℕ) (split : AreSplitAt R P Qs n) where
   abbrev Hs : List Generation
   Hs = generations R Qs n
 
@@ -79,10 +75,18 @@ module _ (R : Rule) (P : Generation) (Qs : List Generation) (n : ℕ) (split : A
       let both = first_of_both R n Qs c d (split.cover c h) (split.cover d k) e in
       both_by_set both.0 both.1 c d both.2 both.3
 
+module _ (R : Rule) (P : Generation) (Qs : List Generation) (n : ℕ) (split : AreSplitAt R P Qs n)
+    (held : AreHeldApart R (generation R P n) (generations R Qs n)) where
+  abbrev G : Generation
+  G = generation R P n
+
+  abbrev shade : Cell → ℕ
+  shade = first_with R n Qs
+
   module _ (x : Cell) where
     module _ (here : contains G x ≡ true) where
       pub of_near : (Q : Generation) → Contains Qs Q → (c : Cell) → IsIn R Q n c → IsNear c x → IsIn R Q n x
-      of_near Q one c h near = have_both c x (held.islands c x (split.within Q one c h) here near) Q one h
+      of_near Q one c h near = have_both R P Qs n split c x (held.islands c x (split.within Q one c h) here near) Q one h
 
       pub same_next : (Q : Generation) → Contains Qs Q → IsIn R Q n x → contains (next R (generation R Q n)) x ≡ contains (next R G) x
       same_next Q one h =
@@ -90,32 +94,32 @@ module _ (R : Rule) (P : Generation) (Qs : List Generation) (n : ℕ) (split : A
           ∙ ap (stays R) (count_at-alike (contains (generation R Q n)) (contains G) x (λ y near.
           cmp.both_ways (contains (generation R Q n) y) (contains G y)
           (split.within Q one y)
-          (λ k. have_both x y (held.islands x y here k (near_swapped y x near)) Q one h)))
+          (λ k. have_both R P Qs n split x y (held.islands x y here k (near_swapped y x near)) Q one h)))
           ∙ sym (next-stays R G x here)
 
     module _ (place : contains G x ≡ false) where
-      pub islands : ColoursIslands G colour
-      islands c d h k near = colour_of_both c d h k (held.islands c d h k near)
+      pub islands : ColoursIslands G shade
+      islands c d h k near = colour_of_both R P Qs n split c d h k (held.islands c d h k near)
 
-      within_sets : (c d : Cell) → IsAround G x c → IsAround G x d → colour c ≡ colour d → HaveBoth Hs c d
-      within_sets c d at too e = both_by_colour c d at.live too.live e
+      within_sets : (c d : Cell) → IsAround G x c → IsAround G x d → shade c ≡ shade d → HaveBoth (generations R Qs n) c d
+      within_sets c d at too e = both_by_colour R P Qs n split c d at.live too.live e
 
-      pub fair : IsFair R G colour x
+      pub fair : IsFair R G shade x
       fair =
           elim (held.places x place) [
-            | inl whole ↦ one_group_is_fair R G colour x place (λ c d at too. colour_of_both c d at.live too.live (whole c d at too))
-            | inr each ↦ (each colour islands within_sets).0
+            | inl whole ↦ one_group_is_fair R G shade x place (λ c d at too. colour_of_both R P Qs n split c d at.live too.live (whole c d at too))
+            | inr each ↦ (each shade islands within_sets).0
           ]
 
       same_group : (Q : Generation) → Contains Qs Q → (g : Cell) → IsIn R Q n g →
-          bears R G colour (colour g) x ≡ born R (count_at (contains (generation R Q n)) x)
+          bears R G shade (shade g) x ≡ born R (count_at (contains (generation R Q n)) x)
       same_group Q one g h =
-          ap (born R) (count_at-alike (in_group G colour (colour g)) (contains (generation R Q n)) x (λ y near.
-          cmp.both_ways (in_group G colour (colour g) y) (contains (generation R Q n) y)
-          (λ k. let b = of_group G colour (colour g) y k in
-          have_both g y (both_by_colour g y (split.within Q one g h) b.0 (sym b.1)) Q one h)
-          (λ k. to_group G colour (colour g) y (split.within Q one y k)
-          (colour_of_both y g (split.within Q one y k) (split.within Q one g h) (both_by_set Q one y g k h)))))
+          ap (born R) (count_at-alike (in_group G shade (shade g)) (contains (generation R Q n)) x (λ y near.
+          cmp.both_ways (in_group G shade (shade g) y) (contains (generation R Q n) y)
+          (λ k. let b = of_group G shade (shade g) y k in
+          have_both R P Qs n split g y (both_by_colour R P Qs n split g y (split.within Q one g h) b.0 (sym b.1)) Q one h)
+          (λ k. to_group G shade (shade g) y (split.within Q one y k)
+          (colour_of_both R P Qs n split y g (split.within Q one y k) (split.within Q one g h) (both_by_set R P Qs n split Q one y g k h)))))
 
       pub not_here : (Q : Generation) → Contains Qs Q → contains (generation R Q n) x ≡ false
       not_here Q one = false_from_ne_true (contains (generation R Q n) x) (λ h. both_ways (contains G x) place (split.within Q one x h))
@@ -125,7 +129,7 @@ module _ (R : Rule) (P : Generation) (Qs : List Generation) (n : ℕ) (split : A
     pub cell : Cell
     pub has : IsIn R Q n cell
     pub near : IsNear cell x
-    pub bearing : contains G x ≡ false → bears R G colour (colour cell) x ≡ true
+    pub bearing : contains G x ≡ false → bears R G shade (shade cell) x ≡ true
 
   pub comes_from : (Q : Generation) → Contains Qs Q → (x : Cell) → IsIn R Q (suc n) x → ComesFrom Q x
   unfolding generation
@@ -148,19 +152,19 @@ module _ (R : Rule) (P : Generation) (Qs : List Generation) (n : ℕ) (split : A
               (q.0, q.1, same_next x here q.0 q.1 q.2 ∙ h)
           | inr place ↦
               let k = (fair x place).borne h in
-              let s = of_bearing R G colour x k.0 k.1 in
+              let s = of_bearing R G shade x k.0 k.1 in
               let q = split.cover s.0 s.1.live in (
                 q.0,
                 q.1,
                 next-born R (generation R q.0 n) x (not_here x place q.0 q.1)
-                    ∙ sym (same_group x place q.0 q.1 s.0 q.2) ∙ ap (λ l. bears R G colour l x) s.2 ∙ k.1,
+                    ∙ sym (same_group x place q.0 q.1 s.0 q.2) ∙ ap (λ l. bears R G shade l x) s.2 ∙ k.1,
               )
         ];
     within = λ Q one x h.
         let g = comes_from Q one x h in
         elim (cases_Bool (contains G x)) [
           | inl here ↦ sym (same_next x here Q one (of_near x here Q one g.cell g.has g.near)) ∙ h
-          | inr place ↦ (fair x place).born (colour g.cell) (g.bearing place)
+          | inr place ↦ (fair x place).born (shade g.cell) (g.bearing place)
         ];
     one = λ A B first second x h k.
         let a = comes_from A first x h in
@@ -168,8 +172,8 @@ module _ (R : Rule) (P : Generation) (Qs : List Generation) (n : ℕ) (split : A
         elim (cases_Bool (contains G x)) [
           | inl here ↦ split.one A B first second x (of_near x here A first a.cell a.has a.near) (of_near x here B second b.cell b.has b.near)
           | inr place ↦
-              let e = (fair x place).one (colour a.cell) (colour b.cell) (a.bearing place) (b.bearing place) in
+              let e = (fair x place).one (shade a.cell) (shade b.cell) (a.bearing place) (b.bearing place) in
               split.one A B first second b.cell
-              (have_both a.cell b.cell (both_by_colour a.cell b.cell (split.within A first a.cell a.has) (split.within B second b.cell b.has) e) A first a.has) b.has
+              (have_both R P Qs n split a.cell b.cell (both_by_colour R P Qs n split a.cell b.cell (split.within A first a.cell a.has) (split.within B second b.cell b.has) e) A first a.has) b.has
         ];
   }

@@ -1,32 +1,28 @@
 -- Sets that are tied within and held apart for a period are the independent parts.
-use Rattle.std.proofs.Common.{◌≡◌, ◌≢◌, ℕ, zero, suc, ◌+◌, ◌-◌, ◌*◌, ◌/◌, ◌<◌, ◌≤◌, true, false, List, get_or, inl, inr, sym, ap, subst, ◌∙◌, arith}
-use Rattle.std.specs.Cmp as cmp
+use Rattle.std.proofs.Common.{◌≡◌, ◌≢◌, ℕ, zero, suc, ◌+◌, ◌-◌, ◌*◌, ◌/◌, ◌<◌, ◌≤◌, true, List, get_or, inl, inr, sym, refl, ap, subst, ◌∙◌, arith}
 use Rattle.std.specs.List.{All, AllPairs, Contains}
 use Rattle.std.proofs.lemmas.Bool.{cases_lt}
 use Rattle.std.proofs.lemmas.List.Elements.{Contains-get_or}
 use Rattle.life_model.specs.Cell.{Cell, plus}
-use Rattle.life_model.specs.Rule.{Rule, born}
+use Rattle.life_model.specs.Rule.{Rule}
 use Rattle.life_model.specs.Generation.{Generation, contains, empty}
-use Rattle.life_model.specs.Evolution.{generation, next}
+use Rattle.life_model.specs.Evolution.{generation}
 use Rattle.life_model.specs.Recurrence.{RecursBy}
 use Rattle.life_model.specs.Symmetry.{translate_of}
-use Rattle.life_model.proofs.Cells.{plus-opposite}
 use Rattle.life_model.proofs.Moves.{moved-moved, moved-origin, nothing_or_some}
 use Rattle.life_model.proofs.Recurrences.{generation-add, generation-zero}
-use Rattle.life_model.proofs.Symmetries.{contains-moved, generation-moved}
+use Rattle.life_model.proofs.Symmetries.{generation-moved}
 use Rattle.life_objects.specs.Apart.{AreDisjoint}
 use Rattle.life_objects.specs.Drift.{multiple_of}
 use Rattle.life_objects.specs.Union.{generations, union_of}
 use Rattle.life_objects.proofs.Lists.{AllDiffer, related_or_same}
 use Rattle.life_objects.proofs.Members.{found_now, in_list_now}
-use Rattle.life_parts.specs.Apart.{AreHeldApart, AreOfOneSet, HaveBoth}
-use Rattle.life_parts.specs.Groups.{IsAround}
+use Rattle.life_parts.specs.Apart.{AreHeldApart, HaveBoth}
 use Rattle.life_parts.specs.Parts.{AreIndependentParts}
-use Rattle.life_parts.specs.Ties.{AreTied, IsIn, itself, swapped, through, touching, staying, bearing, meeting, meeting_born, before}
-use Rattle.life_parts.proofs.Around.{count_at-alike, next-born}
-use Rattle.life_parts.proofs.Apart.{AreSplitAt, from_later, have_both, not_here, same_next, split_next, to_later}
-use Rattle.life_parts.proofs.Ends.{both_in}
+use Rattle.life_parts.specs.Ties.{AreTied, IsIn}
+use Rattle.life_parts.proofs.Apart.{AreSplitAt, split_next}
 use Rattle.life_parts.proofs.Evolving.{at_first, in_at_first}
+use Rattle.life_parts.proofs.Following.{AreSplitAndHeld, ReachBack, tied_to_one}
 use Rattle.life_parts.proofs.Holding.{held_later}
 use Rattle.life_parts.proofs.Rounds.{came_by, comes_to, which_multiple}
 
@@ -63,15 +59,11 @@ module _ (R : Rule) (P : Generation) (Qs : List Generation) (p : ℕ) (d : Cell)
   split_soon zero h = split_first
   split_soon (suc n) h = split_next R P Qs n (split_soon n (omega arith)) (held n (omega arith))
 
-  pub record AreSplitAndHeld (n : ℕ) : Type 0 where
-    pub split : AreSplitAt R P Qs n
-    pub apart : AreHeldApart R (generation R P n) (generations R Qs n)
-
-  after : (m : ℕ) → ((n : ℕ) → n < m → AreSplitAndHeld n) → AreSplitAt R P Qs m
+  after : (m : ℕ) → ((n : ℕ) → n < m → AreSplitAndHeld R P Qs n) → AreSplitAt R P Qs m
   after zero earlier = split_first
   after (suc n) earlier = let e = earlier n (omega arith) in split_next R P Qs n e.split e.apart
 
-  held_after : (m : ℕ) → ((n : ℕ) → n < m → AreSplitAndHeld n) → AreHeldApart R (generation R P m) (generations R Qs m)
+  held_after : (m : ℕ) → ((n : ℕ) → n < m → AreSplitAndHeld R P Qs n) → AreHeldApart R (generation R P m) (generations R Qs m)
   held_after m earlier =
       elim (cases_lt m p) [
         | inl soon ↦ held m soon
@@ -85,17 +77,17 @@ module _ (R : Rule) (P : Generation) (Qs : List Generation) (p : ℕ) (d : Cell)
             (λ Q listed c h. came_by R P Qs p d r split_soon some differ home Q listed k c h))
       ]
 
-  upto : (m n : ℕ) → n < m → AreSplitAndHeld n
+  upto : (m n : ℕ) → n < m → AreSplitAndHeld R P Qs n
   upto zero n h = absurd (omega arith)
   upto (suc m) n h =
       elim (cases_lt n m) [
         | inl less ↦ upto m n less
         | inr no_less ↦
             let same : m ≡ n = omega arith in
-            subst AreSplitAndHeld same (record { split = after m (upto m); apart = held_after m (upto m) })
+            subst (AreSplitAndHeld R P Qs) same (record { split = after m (upto m); apart = held_after m (upto m) })
       ]
 
-  at : (n : ℕ) → AreSplitAndHeld n
+  at : (n : ℕ) → AreSplitAndHeld R P Qs n
   at n = upto (suc n) n (omega arith)
 
   moved_again : (k : ℕ) (Q B A : Generation) → generation R B (k * p) ≡ translate_of Q (multiple_of k d) →
@@ -129,90 +121,18 @@ module _ (R : Rule) (P : Generation) (Qs : List Generation) (p : ℕ) (d : Cell)
       let A = comes_to_later (q / p) Q one in
       (A.0, A.1, ap (generation R A.0) w.0 ∙ A.2 ∙ ap (translate_of Q) (sym w.1))
 
-  cell_again : (q : ℕ) (f : Cell) (Q A : Generation) → generation R A q ≡ translate_of Q f → (n : ℕ) (c : Cell) →
-      contains (generation R A (n + q)) (plus c f) ≡ contains (generation R Q n) c
-  cell_again q f Q A same n c =
-      ap (λ H. contains H (plus c f)) (ap (generation R A) (let e : n + q ≡ q + n = omega arith in e) ∙ sym (generation-add R A q n)
-      ∙ ap (λ H. generation R H n) same ∙ generation-moved R Q f n)
-      ∙ contains-moved (generation R Q n) f (plus c f) ∙ ap (contains (generation R Q n)) (plus-opposite c f)
-
-  module _ (n : ℕ) where
-    abbrev G : Generation
-    G = generation R P n
-
-    abbrev Hs : List Generation
-    Hs = generations R Qs n
-
-    stays_with : (c : Cell) → IsIn R P n c → IsIn R P (suc n) c → (Q : Generation) → Contains Qs Q → IsIn R Q n c → IsIn R Q (suc n) c
-    unfolding generation
-    stays_with c h l Q one k = same_next R P Qs n (at n).split (at n).apart c h Q one k ∙ l
-
-    -- what is born where all around is of one set is born of that set
-    born_of_one : (x : Cell) → contains G x ≡ false → AreOfOneSet G Hs x → (c : Cell) → IsAround G x c → (Q : Generation) →
-        Contains Qs Q → IsIn R Q n c → contains (next R G) x ≡ true → IsIn R Q (suc n) x
-    unfolding generation
-    born_of_one x place whole c around Q one k h =
-        next-born R (generation R Q n) x (not_here R P Qs n (at n).split (at n).apart x place Q one)
-        ∙ ap (born R) (count_at-alike (contains (generation R Q n)) (contains G) x (λ y near.
-        cmp.both_ways (contains (generation R Q n) y) (contains G y)
-        ((at n).split.within Q one y)
-        (λ l. have_both R P Qs n (at n).split (at n).apart c y (whole c y around (record { live = l; near = near })) Q one k)))
-        ∙ sym (next-born R G x place) ∙ h
-
-    in_next : (x : Cell) → IsIn R P (suc n) x → contains (next R G) x ≡ true
-    unfolding generation
-    in_next x h = h
-
-    of_next : (Q : Generation) (x : Cell) → contains (next R (generation R Q n)) x ≡ true → IsIn R Q (suc n) x
-    unfolding generation
-    of_next Q x h = h
-
-    both_by_each : (c e : Cell) → ((Q : Generation) → Contains Qs Q → IsIn R Q n c → IsIn R Q n e) → HaveBoth Hs c e
-    both_by_each c e each H listed h =
-        let q = from_later R n Qs H listed in
-        ap (λ B. contains B e) (sym q.2) ∙ each q.0 q.1 (ap (λ B. contains B c) q.2 ∙ h)
-
-  tied_to_one : (n m : ℕ) (c e : Cell) → AreTied R P n c m e → (Q : Generation) → Contains Qs Q → IsIn R Q n c → IsIn R Q m e
-  tied_to_one n m c e (itself _ _ h) Q one k = k
-  tied_to_one n m c e (swapped _ _ _ _ t) Q one k =
-      let b = both_in R P m n e c t in
-      let A = (at m).split.cover e b.0 in
-      let in_A = tied_to_one m n e c t A.0 A.1 A.2 in
-      let same : A.0 ≡ Q = (at n).split.one A.0 Q A.1 one c in_A k in
-      ap (λ H. contains (generation R H m) e) (sym same) ∙ A.2
-  tied_to_one n m c e (through _ k _ _ f _ t u) Q one h = tied_to_one k m f e u Q one (tied_to_one n k c f t Q one h)
-  tied_to_one n m c e (touching _ _ _ h l near) Q one k =
-      have_both R P Qs n (at n).split (at n).apart c e ((at n).apart.islands c e h l near) Q one k
-  tied_to_one n m c e (staying _ _ h l) Q one k = stays_with n c h l Q one k
-  tied_to_one n m c e (bearing _ _ colour place islands within fair _ around h) Q one k =
-      let sets : (a b : Cell) → IsAround (generation R P n) e a → IsAround (generation R P n) e b → colour a ≡ colour b → HaveBoth (generations R Qs n) a b =
-      λ a b y z same. both_by_each n a b (λ A two g. tied_to_one n n a b (within a b y z same) A two g) in
-      elim ((at n).apart.places e place) [
-        | inl whole ↦ born_of_one n e place whole c around Q one k (fair.born (colour c) h)
-        | inr each ↦ of_next n Q e ((each colour islands sets).1 c around h (generation R Q n) (to_later R n Qs Q one) k)
-      ]
-  tied_to_one n m c e (meeting _ x colour place islands within unfair _ _ around too) Q one k =
-      let sets : (a b : Cell) → IsAround (generation R P n) x a → IsAround (generation R P n) x b → colour a ≡ colour b → HaveBoth (generations R Qs n) a b =
-      λ a b y z same. both_by_each n a b (λ A two g. tied_to_one n n a b (within a b y z same) A two g) in
-      elim ((at n).apart.places x place) [
-        | inl whole ↦ have_both R P Qs n (at n).split (at n).apart c e (whole c e around too) Q one k
-        | inr each ↦ absurd (unfair (each colour islands sets).0)
-      ]
-  tied_to_one n m c e (meeting_born _ _ colour place islands within unfair _ around h) Q one k =
-      let sets : (a b : Cell) → IsAround (generation R P n) e a → IsAround (generation R P n) e b → colour a ≡ colour b → HaveBoth (generations R Qs n) a b =
-      λ a b y z same. both_by_each n a b (λ A two g. tied_to_one n n a b (within a b y z same) A two g) in
-      elim ((at n).apart.places e place) [
-        | inl whole ↦ born_of_one n e place whole c around Q one k (in_next n e h)
-        | inr each ↦ absurd (unfair (each colour islands sets).0)
-      ]
-  tied_to_one n m c e (before q f s _ _ _ _ t) Q one k =
-      let A = comes_to_again q f s Q one in
-      sym (cell_again q f Q A.0 A.2 m e)
-      ∙ tied_to_one (n + q) (m + q) (plus c f) (plus e f) t A.0 A.1 (cell_again q f Q A.0 A.2 n c ∙ k)
+  -- these sets reach back for ever
+  reach_back : ReachBack R P (λ K others. others ≡ Qs)
+  reach_back = record {
+    less = λ K L others h same. same;
+    at = λ K others same n. subst (λ As. AreSplitAndHeld R P As n) (sym same) (at n);
+    back = λ K q f s others same. (Qs, refl, λ Q one. comes_to_again q f s Q (subst (λ As. Contains As Q) same one));
+  }
 
   -- cells of P that are tied are of one set
   pub have_both_tied : (c e : Cell) → AreTied R P 0 c 0 e → HaveBoth Qs c e
-  have_both_tied c e t Q one h = in_at_first R Q e (tied_to_one 0 0 c e t Q one (at_first R Q c h))
+  have_both_tied c e t Q one h =
+      in_at_first R Q e ((tied_to_one R P (λ K others. others ≡ Qs) reach_back 0 0 c e t).1 Qs refl Q one (at_first R Q c h))
 
   module _ (tied : All (λ Q. (c e : Cell) → contains Q c ≡ true → contains Q e ≡ true → AreTied R P 0 c 0 e) Qs) where
     pub decided : AreIndependentParts R P Qs

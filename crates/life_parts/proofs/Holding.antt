@@ -79,7 +79,7 @@ module _ (R : Rule) (P : Generation) (Qs : List Generation) (p : ℕ) (d : Cell)
       let q = later.cover c h in
       let a = came_by q.0 q.1 c q.2 in
       let in_e : IsIn R q.0 (k + p) e = both (generation R q.0 (k + p)) (to_later R (k + p) Qs q.0 q.1) q.2 in
-      both_by_set R P Qs k split held a.0 a.1 (back c) (back e) (sym (in_A q.0 a.0 a.2 c) ∙ q.2) (sym (in_A q.0 a.0 a.2 e) ∙ in_e)
+      both_by_set R P Qs k split a.0 a.1 (back c) (back e) (sym (in_A q.0 a.0 a.2 c) ∙ q.2) (sym (in_A q.0 a.0 a.2 e) ∙ in_e)
 
   each_later : (x : Cell) → IsEachFair R G Hs (back x) → IsEachFair R G' Hs' x
   each_later x each colour islands within =

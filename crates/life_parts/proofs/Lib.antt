@@ -14,6 +14,8 @@ pub mod Turned
 pub mod Apart
 pub mod Rounds
 pub mod Holding
+pub mod Ring
+pub mod Following
 pub mod Deciding
 pub mod Tracing
 pub mod Over
