@@ -15,7 +15,12 @@ pub mod Apart
 pub mod Rounds
 pub mod Holding
 pub mod Ring
+pub mod Numbers
 pub mod Following
+pub mod Corners
+pub mod Parted
+pub mod Splitting
+pub mod Finest
 pub mod Deciding
 pub mod Tracing
 pub mod Over

@@ -2,3 +2,5 @@ pub mod Groups
 pub mod Ties
 pub mod Parts
 pub mod Apart
+pub mod Splittings
+pub mod Forks

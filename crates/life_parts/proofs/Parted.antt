@@ -1,0 +1,203 @@
+-- A place where something is parted that holds back a birth is a fork.
+use Rattle.std.proofs.Common.{◌≡◌, ℕ, ◌+◌, ℤ, pos, neg_ℤ, ◌+ℤ◌, ◌-ℤ◌, ◌≤ℤ◌, Bool, true, false, cond, [], ◌∷◌, inl, inr, ap, arith}
+use Rattle.std.proofs.lemmas.Bool.{both_ways}
+use Rattle.std.proofs.lemmas.Int.{ints}
+use Rattle.std.specs.Cmp as cmp
+use lib.Signed.{le_z_yes}
+use Rattle.life_model.specs.Cell.{Cell, IsNear, plus}
+use Rattle.life_model.specs.Evolution.{count_at}
+use Rattle.life_model.specs.Generation.{Generation, contains}
+use Rattle.life_model.specs.Symmetry.{Orientation, Same, FlipX, FlipY, Half, Swap, SwapFlipX, SwapFlipY, SwapHalf}
+use Rattle.life_parts.specs.Forks.{IsFork, beside}
+use Rattle.life_parts.specs.Groups.{ColoursIslands}
+use Rattle.life_parts.proofs.Around.{near_swapped}
+use Rattle.life_parts.proofs.Corners.{IsParted, IsRing, IsRow, corner, no_side, turned_ring}
+use Rattle.life_parts.proofs.Numbers.{one}
+use Rattle.life_parts.proofs.Ring.{IsSmall, each_near, near_by_step}
+
+Close : ℤ → ℤ → Type 0
+Close a b = ((b -ℤ pos 1) ≤ℤ a) × (a ≤ℤ (b +ℤ pos 1))
+
+near_steps : (x : Cell) (a b c d : ℤ) → Close a c → Close b d → IsNear (plus x (a, b)) (plus x (c, d))
+unfolding Close
+near_steps x a b c d h k = record { left = omega (arith, ints); right = omega (arith, ints); above = omega (arith, ints); below = omega (arith, ints) }
+
+close_self : (a : ℤ) → Close a a
+unfolding Close
+close_self a = (omega (arith, ints), omega (arith, ints))
+
+close_none : (a : ℤ) → IsSmall a → Close a (pos 0)
+unfolding Close
+close_none a h = (omega (arith, ints), omega (arith, ints))
+
+none_close : (a : ℤ) → IsSmall a → Close (pos 0) a
+unfolding Close
+none_close a h = (omega (arith, ints), omega (arith, ints))
+
+small_neg : (a : ℤ) → IsSmall a → IsSmall (neg_ℤ a)
+small_neg a h = (omega (arith, ints), omega (arith, ints))
+
+-- the ring that begins at a corner
+ring_from : (x : Cell) (p q : ℤ) → IsSmall p → IsSmall q → IsRing x (plus x (p, q)) (plus x (pos 0, q)) (plus x (neg_ℤ p, q))
+    (plus x (neg_ℤ p, pos 0)) (plus x (neg_ℤ p, neg_ℤ q)) (plus x (pos 0, neg_ℤ q)) (plus x (p, neg_ℤ q)) (plus x (p, pos 0))
+ring_from x p q h k =
+    let none : IsSmall (pos 0) = (le_z_yes tt, le_z_yes tt) in
+    let l = small_neg p h in
+    let m = small_neg q k in
+    let z = pos 0 in
+    let o = neg_ℤ p in
+    let r = neg_ℤ q in
+    record {
+      at_a = near_by_step x p q h k;
+      at_b = near_by_step x z q none k;
+      at_c = near_by_step x o q l k;
+      at_d = near_by_step x o z l none;
+      at_e = near_by_step x o r l m;
+      at_f = near_by_step x z r none m;
+      at_g = near_by_step x p r h m;
+      at_h = near_by_step x p z h none;
+      ab = near_steps x p q z q (close_none p h) (close_self q);
+      bc = near_steps x z q o q (none_close o l) (close_self q);
+      cd = near_steps x o q o z (close_self o) (close_none q k);
+      de = near_steps x o z o r (close_self o) (none_close r m);
+      df = near_steps x o z z r (close_none o l) (none_close r m);
+      ef = near_steps x o r z r (close_none o l) (close_self r);
+      fg = near_steps x z r p r (none_close p h) (close_self r);
+      gh = near_steps x p r p z (close_self p) (close_none r m);
+      ha = near_steps x p z p q (close_self p) (none_close q k);
+    }
+
+-- the two sides beside a corner touch, and each touches the side opposite the other
+sides_near : (x : Cell) (p q : ℤ) → IsSmall p → IsSmall q → IsNear (plus x (p, pos 0)) (plus x (pos 0, q))
+sides_near x p q h k = near_steps x p (pos 0) (pos 0) q (close_none p h) (none_close q k)
+
+module _ (G : Generation) (H K : Cell → Bool) (x : Cell) (parted : IsParted (contains G) H K x) where
+  -- what is of the group, what is of the set alone, and what is of neither
+  shade : Cell → ℕ
+  shade y = cond (H y) (cond (K y) 0 1) 2
+
+  shades_islands : ColoursIslands G shade
+  unfolding shade
+  shades_islands c d live too near =
+      let back = near_swapped c d near in
+      let set : H c ≡ H d =
+      cmp.both_ways (H c) (H d) (λ h. parted.whole c d near h too) (λ h. parted.whole d c back h live) in
+      let group : K c ≡ K d =
+      cmp.both_ways (K c) (K d) (λ h. parted.group c d near h too) (λ h. parted.group d c back h live) in
+      λ i. cond (set i) (cond (group i) 0 1) 2
+
+  module _ (m : Orientation) (r : IsRow (contains G) H K (beside x m (neg_ℤ (pos 1), neg_ℤ (pos 1))) (beside x m (pos 0, neg_ℤ (pos 1)))
+      (beside x m (pos 1, neg_ℤ (pos 1))) (beside x m (pos 1, pos 0)) (beside x m (pos 1, pos 1)) (beside x m (pos 0, pos 1))
+      (beside x m (neg_ℤ (pos 1), pos 1)) (beside x m (neg_ℤ (pos 1), pos 0))) where
+    shade_of_other : shade (beside x m (neg_ℤ (pos 1), neg_ℤ (pos 1))) ≡ 2
+    unfolding shade
+    shade_of_other = ap (λ b. cond b (cond (K (beside x m (neg_ℤ (pos 1), neg_ℤ (pos 1)))) 0 1) 2) r.other
+
+    shade_of_row : shade (beside x m (pos 1, pos 0)) ≡ 0
+    unfolding shade
+    shade_of_row = λ i. cond (r.side i) (cond (r.of_group i) 0 1) 2
+
+    shade_of_second : shade (beside x m (neg_ℤ (pos 1), pos 1)) ≡ 1
+    unfolding shade
+    shade_of_second = λ i. cond (r.of_set i) (cond (r.no_group i) 0 1) 2
+
+    fork_by : IsFork G x
+    fork_by = record {
+      turned = m;
+      dead = parted.dead;
+      live = λ i. r.first i ∷ r.gap i ∷ r.above i ∷ r.last_gap i ∷ r.middle i ∷ r.second i ∷ r.next_gap i ∷ r.below i ∷ [];
+      colour = shade;
+      islands = shades_islands;
+      first = λ same. let k = shade_of_other in let l = shade_of_row in absurd (omega (arith, same));
+      second = λ same. let k = shade_of_second in let l = shade_of_row in absurd (omega (arith, same));
+      singles = λ same. let k = shade_of_other in let l = shade_of_second in absurd (omega (arith, same));
+    }
+
+  minus : IsSmall (neg_ℤ (pos 1))
+  minus = (le_z_yes tt, le_z_yes tt)
+
+  plain : IsSmall (pos 1)
+  plain = (le_z_yes tt, le_z_yes tt)
+
+  -- where what isn't of the set is at a corner, there is a fork
+  abbrev Forks : Cell → Type 0
+  Forks y = contains G y ≡ true → H y ≡ false → IsFork G x
+
+  module _ (p q : ℤ) (h : IsSmall p) (k : IsSmall q) where
+    abbrev all_of : (Cell → Bool) → ℕ
+    all_of test =
+        one (test (plus x (p, q))) + one (test (plus x (pos 0, q))) + one (test (plus x (neg_ℤ p, q)))
+        + one (test (plus x (neg_ℤ p, pos 0))) + one (test (plus x (neg_ℤ p, neg_ℤ q))) + one (test (plus x (pos 0, neg_ℤ q)))
+        + one (test (plus x (p, neg_ℤ q))) + one (test (plus x (p, pos 0)))
+
+    abbrev Row : Type 0
+    Row = IsRow (contains G) H K (plus x (p, q)) (plus x (pos 0, q)) (plus x (neg_ℤ p, q))
+        (plus x (neg_ℤ p, pos 0)) (plus x (neg_ℤ p, neg_ℤ q)) (plus x (pos 0, neg_ℤ q)) (plus x (p, neg_ℤ q)) (plus x (p, pos 0))
+
+    abbrev Column : Type 0
+    Column = IsRow (contains G) H K (plus x (p, q)) (plus x (p, pos 0)) (plus x (p, neg_ℤ q)) (plus x (pos 0, neg_ℤ q))
+        (plus x (neg_ℤ p, neg_ℤ q)) (plus x (neg_ℤ p, pos 0)) (plus x (neg_ℤ p, q)) (plus x (pos 0, q))
+
+    module _ (three : all_of K ≡ 3) (not_three : all_of H ≡ 3 → ⊥) where
+      at_corner : (Row → IsFork G x) → (Column → IsFork G x) → Forks (plus x (p, q))
+      at_corner by_row by_column live other =
+          elim (corner (contains G) H K x parted (plus x (p, q)) (plus x (pos 0, q)) (plus x (neg_ℤ p, q))
+          (plus x (neg_ℤ p, pos 0)) (plus x (neg_ℤ p, neg_ℤ q)) (plus x (pos 0, neg_ℤ q)) (plus x (p, neg_ℤ q)) (plus x (p, pos 0))
+          (ring_from x p q h k) live other three not_three) [
+            | inl row ↦ by_row row
+            | inr column ↦ by_column column
+          ]
+
+      at_side : Forks (plus x (pos 0, q))
+      at_side live other =
+          absurd (no_side (contains G) H K x parted (plus x (p, q)) (plus x (pos 0, q)) (plus x (neg_ℤ p, q))
+          (plus x (neg_ℤ p, pos 0)) (plus x (neg_ℤ p, neg_ℤ q)) (plus x (pos 0, neg_ℤ q)) (plus x (p, neg_ℤ q)) (plus x (p, pos 0))
+          (ring_from x p q h k) (sides_near x (neg_ℤ p) q (small_neg p h) k) (sides_near x p q h k) live other three not_three)
+
+      at_other_side : Forks (plus x (p, pos 0))
+      at_other_side live other =
+          absurd (no_side (contains G) H K x parted (plus x (p, q)) (plus x (p, pos 0)) (plus x (p, neg_ℤ q)) (plus x (pos 0, neg_ℤ q))
+          (plus x (neg_ℤ p, neg_ℤ q)) (plus x (neg_ℤ p, pos 0)) (plus x (neg_ℤ p, q)) (plus x (pos 0, q))
+          (turned_ring x (plus x (p, q)) (plus x (pos 0, q)) (plus x (neg_ℤ p, q))
+          (plus x (neg_ℤ p, pos 0)) (plus x (neg_ℤ p, neg_ℤ q)) (plus x (pos 0, neg_ℤ q)) (plus x (p, neg_ℤ q)) (plus x (p, pos 0))
+          (ring_from x p q h k))
+          (near_swapped (plus x (p, pos 0)) (plus x (pos 0, neg_ℤ q)) (sides_near x p (neg_ℤ q) h (small_neg q k)))
+          (near_swapped (plus x (p, pos 0)) (plus x (pos 0, q)) (sides_near x p q h k)) live other
+          (let t = three in omega arith) (λ e. not_three (omega (arith, e))))
+
+  -- Where a cell around the place isn't of the set, there is a fork.
+  pub fork_where_parted : (y : Cell) → IsNear y x → Forks y
+  fork_where_parted =
+      let three : count_at K x ≡ 3 = parted.three in
+      let less : ℤ = neg_ℤ (pos 1) in
+      let more : ℤ = pos 1 in
+      let first : all_of less less minus minus K ≡ 3 = omega arith in
+      let second : all_of more less plain minus K ≡ 3 = omega arith in
+      let third : all_of less more minus plain K ≡ 3 = omega arith in
+      let fourth : all_of more more plain plain K ≡ 3 = omega arith in
+      let no_first : all_of less less minus minus H ≡ 3 → ⊥ = λ e. parted.not_three (omega (arith, e)) in
+      let no_second : all_of more less plain minus H ≡ 3 → ⊥ = λ e. parted.not_three (omega (arith, e)) in
+      let no_third : all_of less more minus plain H ≡ 3 → ⊥ = λ e. parted.not_three (omega (arith, e)) in
+      let no_fourth : all_of more more plain plain H ≡ 3 → ⊥ = λ e. parted.not_three (omega (arith, e)) in
+      each_near x Forks (λ live other. absurd (both_ways (contains G x) parted.dead live)) (
+        at_corner less less minus minus first no_first (fork_by Same) (fork_by Swap),
+        (
+          at_side less less minus minus first no_first,
+          (
+            at_corner more less plain minus second no_second (fork_by FlipX) (fork_by SwapFlipX),
+            (
+              at_other_side less less minus minus first no_first,
+              (
+                at_other_side more less plain minus second no_second,
+                (
+                  at_corner less more minus plain third no_third (fork_by FlipY) (fork_by SwapFlipY),
+                  (
+                    at_side less more minus plain third no_third,
+                    (at_corner more more plain plain fourth no_fourth (fork_by Half) (fork_by SwapHalf), tt),
+                  ),
+                ),
+              ),
+            ),
+          ),
+        ),
+      )

@@ -1,0 +1,34 @@
+-- Places where either of two islands may hold back the birth that a third would make.
+use Rattle.std.specs.Prelude.{◌≡◌, ◌≢◌, ◌==◌, ◌≤◌, ℕ, pos, neg_ℤ, Bool, true, false, List, [], ◌∷◌, map}
+use Rattle.life_model.specs.Cell.{Cell, plus, steps}
+use Rattle.life_model.specs.Rule.{Rule, born}
+use Rattle.life_model.specs.Generation.{Generation, contains}
+use Rattle.life_model.specs.Symmetry.{Orientation, turn}
+use Rattle.life_parts.specs.Groups.{ColoursIslands}
+
+-- of the numbers of neighbours, 3 alone is among the births
+abbrev pub HasBirthsAtThreeAlone : Rule → Type 0
+HasBirthsAtThreeAlone R = (n : ℕ) → n ≤ 8 → born R n ≡ (n == 3)
+
+-- what is live around a fork, row by row: three cells on its right, and the two corners on its left
+abbrev pub fork : List Bool
+fork =
+    true ∷ false ∷ true
+    ∷ false ∷ true
+    ∷ true ∷ false ∷ true ∷ []
+
+-- the cell that one of the eight maps makes of the step from x
+abbrev pub beside : Cell → Orientation → Cell → Cell
+beside x m step = plus x (turn m step)
+
+-- x is dead, and around it, but for one of the eight maps, a fork is live: three cells in a row and two single cells, which
+-- are of three islands.
+pub record IsFork (G : Generation) (x : Cell) : Type 0 where
+  pub turned : Orientation
+  pub dead : contains G x ≡ false
+  pub live : map (λ step. contains G (beside x turned step)) steps ≡ fork
+  pub colour : Cell → ℕ
+  pub islands : ColoursIslands G colour
+  pub first : colour (beside x turned (neg_ℤ (pos 1), neg_ℤ (pos 1))) ≢ colour (beside x turned (pos 1, pos 0))
+  pub second : colour (beside x turned (neg_ℤ (pos 1), pos 1)) ≢ colour (beside x turned (pos 1, pos 0))
+  pub singles : colour (beside x turned (neg_ℤ (pos 1), neg_ℤ (pos 1))) ≢ colour (beside x turned (neg_ℤ (pos 1), pos 1))
