@@ -75,61 +75,68 @@ module _ (R : Rule) (P : Generation) (Qs : List Generation) (n : ℕ) (split : A
       let both = first_of_both R n Qs c d (split.cover c h) (split.cover d k) e in
       both_by_set both.0 both.1 c d both.2 both.3
 
+  pub not_here : (x : Cell) → contains (generation R P n) x ≡ false → (Q : Generation) → Contains Qs Q →
+      contains (generation R Q n) x ≡ false
+  not_here x place Q one =
+      false_from_ne_true (contains (generation R Q n) x) (λ h. both_ways (contains (generation R P n) x) place (split.within Q one x h))
+
 module _ (R : Rule) (P : Generation) (Qs : List Generation) (n : ℕ) (split : AreSplitAt R P Qs n)
-    (held : AreHeldApart R (generation R P n) (generations R Qs n)) where
+    (whole : (c d : Cell) → IsIn R P n c → IsIn R P n d → IsNear c d → HaveBoth (generations R Qs n) c d) where
   abbrev G : Generation
   G = generation R P n
+
+  module _ (x : Cell) (here : contains G x ≡ true) where
+    pub of_near : (Q : Generation) → Contains Qs Q → (c : Cell) → IsIn R Q n c → IsNear c x → IsIn R Q n x
+    of_near Q one c h near = have_both R P Qs n split c x (whole c x (split.within Q one c h) here near) Q one h
+
+    pub same_next : (Q : Generation) → Contains Qs Q → IsIn R Q n x → contains (next R (generation R Q n)) x ≡ contains (next R G) x
+    same_next Q one h =
+        next-stays R (generation R Q n) x h
+        ∙ ap (stays R) (count_at-alike (contains (generation R Q n)) (contains G) x (λ y near.
+        cmp.both_ways (contains (generation R Q n) y) (contains G y)
+        (split.within Q one y)
+        (λ k. have_both R P Qs n split x y (whole x y here k (near_swapped y x near)) Q one h)))
+        ∙ sym (next-stays R G x here)
+
+module _ (R : Rule) (P : Generation) (Qs : List Generation) (n : ℕ) (split : AreSplitAt R P Qs n)
+    (held : AreHeldApart R (generation R P n) (generations R Qs n)) where
+  abbrev F : Generation
+  F = generation R P n
 
   abbrev shade : Cell → ℕ
   shade = first_with R n Qs
 
   module _ (x : Cell) where
-    module _ (here : contains G x ≡ true) where
-      pub of_near : (Q : Generation) → Contains Qs Q → (c : Cell) → IsIn R Q n c → IsNear c x → IsIn R Q n x
-      of_near Q one c h near = have_both R P Qs n split c x (held.islands c x (split.within Q one c h) here near) Q one h
-
-      pub same_next : (Q : Generation) → Contains Qs Q → IsIn R Q n x → contains (next R (generation R Q n)) x ≡ contains (next R G) x
-      same_next Q one h =
-          next-stays R (generation R Q n) x h
-          ∙ ap (stays R) (count_at-alike (contains (generation R Q n)) (contains G) x (λ y near.
-          cmp.both_ways (contains (generation R Q n) y) (contains G y)
-          (split.within Q one y)
-          (λ k. have_both R P Qs n split x y (held.islands x y here k (near_swapped y x near)) Q one h)))
-          ∙ sym (next-stays R G x here)
-
-    module _ (place : contains G x ≡ false) where
-      pub islands : ColoursIslands G shade
+    module _ (place : contains F x ≡ false) where
+      pub islands : ColoursIslands F shade
       islands c d h k near = colour_of_both R P Qs n split c d h k (held.islands c d h k near)
 
-      within_sets : (c d : Cell) → IsAround G x c → IsAround G x d → shade c ≡ shade d → HaveBoth (generations R Qs n) c d
+      within_sets : (c d : Cell) → IsAround F x c → IsAround F x d → shade c ≡ shade d → HaveBoth (generations R Qs n) c d
       within_sets c d at too e = both_by_colour R P Qs n split c d at.live too.live e
 
-      pub fair : IsFair R G shade x
+      pub fair : IsFair R F shade x
       fair =
           elim (held.places x place) [
-            | inl whole ↦ one_group_is_fair R G shade x place (λ c d at too. colour_of_both R P Qs n split c d at.live too.live (whole c d at too))
+            | inl whole ↦ one_group_is_fair R F shade x place (λ c d at too. colour_of_both R P Qs n split c d at.live too.live (whole c d at too))
             | inr each ↦ (each shade islands within_sets).0
           ]
 
       same_group : (Q : Generation) → Contains Qs Q → (g : Cell) → IsIn R Q n g →
-          bears R G shade (shade g) x ≡ born R (count_at (contains (generation R Q n)) x)
+          bears R F shade (shade g) x ≡ born R (count_at (contains (generation R Q n)) x)
       same_group Q one g h =
-          ap (born R) (count_at-alike (in_group G shade (shade g)) (contains (generation R Q n)) x (λ y near.
-          cmp.both_ways (in_group G shade (shade g) y) (contains (generation R Q n) y)
-          (λ k. let b = of_group G shade (shade g) y k in
+          ap (born R) (count_at-alike (in_group F shade (shade g)) (contains (generation R Q n)) x (λ y near.
+          cmp.both_ways (in_group F shade (shade g) y) (contains (generation R Q n) y)
+          (λ k. let b = of_group F shade (shade g) y k in
           have_both R P Qs n split g y (both_by_colour R P Qs n split g y (split.within Q one g h) b.0 (sym b.1)) Q one h)
-          (λ k. to_group G shade (shade g) y (split.within Q one y k)
+          (λ k. to_group F shade (shade g) y (split.within Q one y k)
           (colour_of_both R P Qs n split y g (split.within Q one y k) (split.within Q one g h) (both_by_set R P Qs n split Q one y g k h)))))
-
-      pub not_here : (Q : Generation) → Contains Qs Q → contains (generation R Q n) x ≡ false
-      not_here Q one = false_from_ne_true (contains (generation R Q n) x) (λ h. both_ways (contains G x) place (split.within Q one x h))
 
   -- a cell of a set's next generation, and one of the set near it whose group bears it or with which it stays
   pub record ComesFrom (Q : Generation) (x : Cell) : Type 0 where
     pub cell : Cell
     pub has : IsIn R Q n cell
     pub near : IsNear cell x
-    pub bearing : contains G x ≡ false → bears R G shade (shade cell) x ≡ true
+    pub bearing : contains F x ≡ false → bears R F shade (shade cell) x ≡ true
 
   pub comes_from : (Q : Generation) → Contains Qs Q → (x : Cell) → IsIn R Q (suc n) x → ComesFrom Q x
   unfolding generation
@@ -139,38 +146,38 @@ module _ (R : Rule) (P : Generation) (Qs : List Generation) (n : ℕ) (split : A
         cell = g.0;
         has = g.1;
         near = near_swapped x g.0 g.2;
-        bearing = λ place. same_group x place Q one g.0 g.1 ∙ sym (next-born R (generation R Q n) x (not_here x place Q one)) ∙ h;
+        bearing = λ place. same_group x place Q one g.0 g.1 ∙ sym (next-born R (generation R Q n) x (not_here R P Qs n split x place Q one)) ∙ h;
       }
 
   pub split_next : AreSplitAt R P Qs (suc n)
   unfolding generation
   split_next = record {
     cover = λ x h.
-        elim (cases_Bool (contains G x)) [
+        elim (cases_Bool (contains F x)) [
           | inl here ↦
               let q = split.cover x here in
-              (q.0, q.1, same_next x here q.0 q.1 q.2 ∙ h)
+              (q.0, q.1, same_next R P Qs n split held.islands x here q.0 q.1 q.2 ∙ h)
           | inr place ↦
               let k = (fair x place).borne h in
-              let s = of_bearing R G shade x k.0 k.1 in
+              let s = of_bearing R F shade x k.0 k.1 in
               let q = split.cover s.0 s.1.live in (
                 q.0,
                 q.1,
-                next-born R (generation R q.0 n) x (not_here x place q.0 q.1)
-                    ∙ sym (same_group x place q.0 q.1 s.0 q.2) ∙ ap (λ l. bears R G shade l x) s.2 ∙ k.1,
+                next-born R (generation R q.0 n) x (not_here R P Qs n split x place q.0 q.1)
+                    ∙ sym (same_group x place q.0 q.1 s.0 q.2) ∙ ap (λ l. bears R F shade l x) s.2 ∙ k.1,
               )
         ];
     within = λ Q one x h.
         let g = comes_from Q one x h in
-        elim (cases_Bool (contains G x)) [
-          | inl here ↦ sym (same_next x here Q one (of_near x here Q one g.cell g.has g.near)) ∙ h
+        elim (cases_Bool (contains F x)) [
+          | inl here ↦ sym (same_next R P Qs n split held.islands x here Q one (of_near R P Qs n split held.islands x here Q one g.cell g.has g.near)) ∙ h
           | inr place ↦ (fair x place).born (shade g.cell) (g.bearing place)
         ];
     one = λ A B first second x h k.
         let a = comes_from A first x h in
         let b = comes_from B second x k in
-        elim (cases_Bool (contains G x)) [
-          | inl here ↦ split.one A B first second x (of_near x here A first a.cell a.has a.near) (of_near x here B second b.cell b.has b.near)
+        elim (cases_Bool (contains F x)) [
+          | inl here ↦ split.one A B first second x (of_near R P Qs n split held.islands x here A first a.cell a.has a.near) (of_near R P Qs n split held.islands x here B second b.cell b.has b.near)
           | inr place ↦
               let e = (fair x place).one (shade a.cell) (shade b.cell) (a.bearing place) (b.bearing place) in
               split.one A B first second b.cell

@@ -39,7 +39,10 @@ pub record IsParted (G H K : Cell → Bool) (x : Cell) : Type 0 where
 
 -- a ring of cells around a place: a corner of what is not of the set, a row opposite, of the group, and a corner of the set
 -- that is not of the group
-pub record IsRow (G H K : Cell → Bool) (a b c d e f g h : Cell) : Type 0 where
+pub record IsRow (G H K : Cell → Bool) (x a b c d e f g h : Cell) : Type 0 where
+  pub at_first : IsNear a x
+  pub at_middle : IsNear d x
+  pub at_second : IsNear g x
   pub first : G a ≡ true
   pub gap : G b ≡ false
   pub above : G c ≡ true
@@ -126,7 +129,7 @@ module _ (G H K : Cell → Bool) (x : Cell) (parted : IsParted G H K x) where
     out_h : H h ≡ false
     out_h = outside h a first other ring.ha
 
-    row : H d ≡ true → H f ≡ false → IsRow G H K a b c d e f g h
+    row : H d ≡ true → H f ≡ false → IsRow G H K x a b c d e f g h
     row side none =
         let n = one_side (one (G c)) (one (G d)) (one (G e)) (one (H c)) (one (H d)) (one (H e)) (one (H f)) (one (H g))
         (one (K c)) (one (K d)) (one (K e)) (one (K f)) (one (K g)) (at_most_one (H c)) (at_most_one (H d)) (at_most_one (H e))
@@ -136,6 +139,9 @@ module _ (G H K : Cell → Bool) (x : Cell) (parted : IsParted G H K x) where
         let in_e : H e ≡ true = is_true (H e) (let q : one (H e) ≡ 1 = n.2 in omega arith) in
         let in_g : H g ≡ true = is_true (H g) (let q : one (H g) ≡ 1 = n.3 in omega arith) in
         record {
+          at_first = ring.at_a;
+          at_middle = ring.at_d;
+          at_second = ring.at_g;
           first = first;
           gap = gap_at c b in_c out_b (near_swapped b c ring.bc);
           above = parted.within c in_c;
@@ -198,7 +204,7 @@ module _ (G H K : Cell → Bool) (x : Cell) (parted : IsParted G H K x) where
           | inr not ↦ omega (arith, not)
         ]
 
-    pub corner : IsRow G H K a b c d e f g h ⊎ IsRow G H K a h g f e d c b
+    pub corner : IsRow G H K x a b c d e f g h ⊎ IsRow G H K x a h g f e d c b
     corner =
         elim (cases_Bool (H d)) [
           | inl side ↦ elim (cases_Bool (H f)) [

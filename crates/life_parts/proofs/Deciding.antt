@@ -22,7 +22,7 @@ use Rattle.life_parts.specs.Parts.{AreIndependentParts}
 use Rattle.life_parts.specs.Ties.{AreTied, IsIn}
 use Rattle.life_parts.proofs.Apart.{AreSplitAt, split_next}
 use Rattle.life_parts.proofs.Evolving.{at_first, in_at_first}
-use Rattle.life_parts.proofs.Following.{AreSplitAndHeld, ReachBack, tied_to_one}
+use Rattle.life_parts.proofs.Following.{AreFollowed, ReachBack, tied_to_one, tied_without}
 use Rattle.life_parts.proofs.Holding.{held_later}
 use Rattle.life_parts.proofs.Rounds.{came_by, comes_to, which_multiple}
 
@@ -59,11 +59,15 @@ module _ (R : Rule) (P : Generation) (Qs : List Generation) (p : ℕ) (d : Cell)
   split_soon zero h = split_first
   split_soon (suc n) h = split_next R P Qs n (split_soon n (omega arith)) (held n (omega arith))
 
-  after : (m : ℕ) → ((n : ℕ) → n < m → AreSplitAndHeld R P Qs n) → AreSplitAt R P Qs m
+  pub record AreSplitAndHeld (n : ℕ) : Type 0 where
+    pub split : AreSplitAt R P Qs n
+    pub apart : AreHeldApart R (generation R P n) (generations R Qs n)
+
+  after : (m : ℕ) → ((n : ℕ) → n < m → AreSplitAndHeld n) → AreSplitAt R P Qs m
   after zero earlier = split_first
   after (suc n) earlier = let e = earlier n (omega arith) in split_next R P Qs n e.split e.apart
 
-  held_after : (m : ℕ) → ((n : ℕ) → n < m → AreSplitAndHeld R P Qs n) → AreHeldApart R (generation R P m) (generations R Qs m)
+  held_after : (m : ℕ) → ((n : ℕ) → n < m → AreSplitAndHeld n) → AreHeldApart R (generation R P m) (generations R Qs m)
   held_after m earlier =
       elim (cases_lt m p) [
         | inl soon ↦ held m soon
@@ -77,17 +81,17 @@ module _ (R : Rule) (P : Generation) (Qs : List Generation) (p : ℕ) (d : Cell)
             (λ Q listed c h. came_by R P Qs p d r split_soon some differ home Q listed k c h))
       ]
 
-  upto : (m n : ℕ) → n < m → AreSplitAndHeld R P Qs n
+  upto : (m n : ℕ) → n < m → AreSplitAndHeld n
   upto zero n h = absurd (omega arith)
   upto (suc m) n h =
       elim (cases_lt n m) [
         | inl less ↦ upto m n less
         | inr no_less ↦
             let same : m ≡ n = omega arith in
-            subst (AreSplitAndHeld R P Qs) same (record { split = after m (upto m); apart = held_after m (upto m) })
+            subst AreSplitAndHeld same (record { split = after m (upto m); apart = held_after m (upto m) })
       ]
 
-  at : (n : ℕ) → AreSplitAndHeld R P Qs n
+  at : (n : ℕ) → AreSplitAndHeld n
   at n = upto (suc n) n (omega arith)
 
   moved_again : (k : ℕ) (Q B A : Generation) → generation R B (k * p) ≡ translate_of Q (multiple_of k d) →
@@ -121,18 +125,37 @@ module _ (R : Rule) (P : Generation) (Qs : List Generation) (p : ℕ) (d : Cell)
       let A = comes_to_later (q / p) Q one in
       (A.0, A.1, ap (generation R A.0) w.0 ∙ A.2 ∙ ap (translate_of Q) (sym w.1))
 
+  -- no groups are passed over
+  abbrev Passed : Generation → (Cell → ℕ) → Cell → Type 0
+  Passed G colour x = ⊥
+
+  followed : (n : ℕ) → AreFollowed R P Passed Qs n
+  followed n = record {
+    split = (at n).split;
+    islands = (at n).apart.islands;
+    places = λ x place. elim ((at n).apart.places x place) [
+      | inl whole ↦ inl whole
+      | inr each ↦ inr (λ colour islands within any. each colour islands within)
+    ];
+  }
+
   -- these sets reach back for ever
-  reach_back : ReachBack R P (λ K others. others ≡ Qs)
+  reach_back : ReachBack R P Passed (λ K others. others ≡ Qs)
   reach_back = record {
     less = λ K L others h same. same;
-    at = λ K others same n. subst (λ As. AreSplitAndHeld R P As n) (sym same) (at n);
+    at = λ K others same n. subst (λ As. AreFollowed R P Passed As n) (sym same) (followed n);
     back = λ K q f s others same. (Qs, refl, λ Q one. comes_to_again q f s Q (subst (λ As. Contains As Q) same one));
   }
 
+  tied_to_the_one : (c e : Cell) → AreTied R P 0 c 0 e → (Q : Generation) → Contains Qs Q → IsIn R Q 0 c → IsIn R Q 0 e
+  tied_to_the_one c e t =
+      let u = tied_without R P Passed (λ n x colour. inr (λ no. no)) (λ n x colour islands no c d at too. absurd no)
+      (λ n x colour no h. no) 0 0 c e t in
+      (tied_to_one R P Passed (λ K others. others ≡ Qs) reach_back 0 0 c e u).1 Qs refl
+
   -- cells of P that are tied are of one set
   pub have_both_tied : (c e : Cell) → AreTied R P 0 c 0 e → HaveBoth Qs c e
-  have_both_tied c e t Q one h =
-      in_at_first R Q e ((tied_to_one R P (λ K others. others ≡ Qs) reach_back 0 0 c e t).1 Qs refl Q one (at_first R Q c h))
+  have_both_tied c e t Q one h = in_at_first R Q e (tied_to_the_one c e t Q one (at_first R Q c h))
 
   module _ (tied : All (λ Q. (c e : Cell) → contains Q c ≡ true → contains Q e ≡ true → AreTied R P 0 c 0 e) Qs) where
     pub decided : AreIndependentParts R P Qs

@@ -1,12 +1,12 @@
 -- No splitting is finer than the independent parts.
-use Rattle.std.proofs.Common.{◌≡◌, ℕ, suc, ◌+◌, ◌-◌, ◌*◌, ◌<◌, ◌≤◌, List, [], ◌∷◌, map, get_or, sym, ap, subst, ◌∙◌, arith}
+use Rattle.std.proofs.Common.{◌≡◌, ℕ, suc, ◌+◌, ◌-◌, ◌*◌, ◌<◌, ◌≤◌, true, List, [], ◌∷◌, map, get_or, sym, ap, subst, ◌∙◌, arith}
 use Rattle.std.proofs.lemmas.Int.{ints}
 use Rattle.std.specs.List.{AllPairs, Contains}
 use Rattle.std.proofs.lemmas.List.Elements.{Contains-get_or}
 use Rattle.life_model.specs.Cell.{Cell, opposite, plus}
 use Rattle.life_model.specs.Rule.{Rule}
 use Rattle.life_model.specs.Generation.{Generation, contains}
-use Rattle.life_model.specs.Evolution.{generation}
+use Rattle.life_model.specs.Evolution.{generation, next}
 use Rattle.life_model.specs.Recurrence.{RecursBy}
 use Rattle.life_model.specs.Symmetry.{translate_of}
 use Rattle.life_model.proofs.Cells.{pair}
@@ -22,19 +22,21 @@ use Rattle.life_objects.proofs.Lists.{AllPairs-map, AllPairs-unmap, AllPairs-wea
 use Rattle.life_objects.proofs.Many.{pairs_then}
 use Rattle.life_objects.proofs.Moving.{RecursBy-times, union-moved}
 use Rattle.life_objects.proofs.Recurring.{moved_back}
-use Rattle.life_parts.specs.Forks.{HasBirthsAtThreeAlone, IsFork}
+use Rattle.life_parts.specs.Forks.{AreForksTied, HasBirthsAtThreeAlone, IsForkOf}
 use Rattle.life_parts.specs.Parts.{AreIndependentParts}
 use Rattle.life_parts.specs.Splittings.{AreSplit, AreSplitThroughout, AreUntouching}
 use Rattle.life_parts.specs.Ties.{AreTied, IsIn, touching}
+use Rattle.life_parts.specs.Without.{AreTiedWithout}
 use Rattle.life_parts.proofs.Along.{near_moved}
 use Rattle.life_parts.proofs.Apart.{from_map}
 use Rattle.life_parts.proofs.Classed.{AreClassesAt}
 use Rattle.life_parts.proofs.Ends.{contains-later}
 use Rattle.life_parts.proofs.Evolving.{at_first, classes_at, disjoint_later, first_classes, part_of, together_later}
-use Rattle.life_parts.proofs.Following.{ComeFrom, ReachBack, tied_to_one}
+use Rattle.life_parts.proofs.Following.{ComeFrom, ReachBack, tied_to_one, tied_without}
+use Rattle.life_parts.proofs.Forking.{fork_or_not, no_birth}
 use Rattle.life_parts.proofs.Lists.{some_cell}
 use Rattle.life_parts.proofs.Recurring.{moved_set}
-use Rattle.life_parts.proofs.Splitting.{held, split_at}
+use Rattle.life_parts.proofs.Splitting.{followed}
 
 untouching_moved : (A B : Generation) (v : Cell) → AreUntouching A B → AreUntouching (translate_of A v) (translate_of B v)
 untouching_moved A B v far c d h k near =
@@ -84,7 +86,7 @@ pub record HasPast (R : Rule) (P : Generation) (K : ℕ) (Qs : List Generation) 
   pub recurs : RecursBy R P steps by
   pub sets : List Generation
   pub split : AreSplit R P sets
-  pub become : ComeFrom R P steps by sets Qs
+  pub become : ComeFrom R steps by sets Qs
 
 moved_by : (A : Generation) (c d e : Cell) → plus c d ≡ e → translate_of (translate_of A c) d ≡ translate_of A e
 moved_by A c d e same = moved-moved A c d ∙ ap (translate_of A) same
@@ -153,7 +155,7 @@ module _ (R : Rule) (P : Generation) (K q : ℕ) (f : Cell) (s : RecursBy R P q 
         (B.0, B.1, sym (before_then B.0) ∙ ap (λ H. translate_of H w) B.2);
   }
 
-  pub come_from_before : ComeFrom R P q f befores Qs
+  pub come_from_before : ComeFrom R q f befores Qs
   come_from_before Q one =
       let B = past.become Q one in (
         then R j v B.0,
@@ -164,9 +166,8 @@ module _ (R : Rule) (P : Generation) (K q : ℕ) (f : Cell) (s : RecursBy R P q 
             ∙ moved_by Q g v f (pair (omega (arith, ints)) (omega (arith, ints))),
       )
 
-module _ (R : Rule) (births : HasBirthsAtThreeAlone R) (P : Generation)
-    (no_forks : (n : ℕ) (x : Cell) → IsFork (generation R P n) x → ⊥) where
-  reach : ReachBack R P (HasPast R P)
+module _ (R : Rule) (births : HasBirthsAtThreeAlone R) (P : Generation) where
+  reach : ReachBack R P IsForkOf (HasPast R P)
   reach = record {
     less = λ K L Qs h past. record {
       later = past.later;
@@ -178,17 +179,20 @@ module _ (R : Rule) (births : HasBirthsAtThreeAlone R) (P : Generation)
       split = past.split;
       become = past.become;
     };
-    at = λ K Qs past n. record {
-      split = split_at R P Qs past.later n;
-      apart = held R births P Qs past.later n (λ x fork. absurd (no_forks n x fork));
-    };
+    at = λ K Qs past n. followed R births P Qs past.later n;
     back = λ K q f s Qs past. (map (then R (past.steps - q) (plus f (opposite past.by))) past.sets, before_splits R P K q f s Qs past, come_from_before R P K q f s Qs past);
   }
 
-  pub not_split : (p : ℕ) (d : Cell) → RecursBy R P p d → (Qs : List Generation) → AreSplitThroughout R P Qs →
-      (n m : ℕ) (c e : Cell) → AreTied R P n c m e → (Q : Generation) → Contains Qs Q → IsIn R Q n c → IsIn R Q m e
-  not_split p d r Qs split n m c e t =
-      let one = tied_to_one R P (HasPast R P) reach n m c e t in
+  in_next : (n : ℕ) (x : Cell) → IsIn R P (suc n) x → contains (next R (generation R P n)) x ≡ true
+  unfolding generation
+  in_next n x h = h
+
+  -- what is tied where forks are passed over is of one set
+  not_split_without : (p : ℕ) (d : Cell) → RecursBy R P p d → (Qs : List Generation) → AreSplitThroughout R P Qs →
+      (n m : ℕ) (c e : Cell) → AreTiedWithout R P IsForkOf n c m e → (Q : Generation) → Contains Qs Q → IsIn R Q n c →
+      IsIn R Q m e
+  not_split_without p d r Qs split n m c e t =
+      let one = tied_to_one R P IsForkOf (HasPast R P) reach n m c e t in
       let K = one.0 in
       let long : suc K ≤ 0 + suc K * p = far_enough 0 (suc K) p r.later in
       let many = RecursBy-times R P p d r (suc K) (omega arith) in
@@ -203,6 +207,15 @@ module _ (R : Rule) (births : HasBirthsAtThreeAlone R) (P : Generation)
         split = befores.1;
         become = befores.2;
       })
+
+  pub not_split : AreForksTied R P → (p : ℕ) (d : Cell) → RecursBy R P p d → (Qs : List Generation) →
+      AreSplitThroughout R P Qs → (n m : ℕ) (c e : Cell) → AreTied R P n c m e → (Q : Generation) → Contains Qs Q →
+      IsIn R Q n c → IsIn R Q m e
+  not_split forks p d r Qs split n m c e t =
+      not_split_without p d r Qs split n m c e
+      (tied_without R P IsForkOf (λ k x colour. fork_or_not (generation R P k) colour x)
+      (λ k x colour islands is a b at too. forks k x (record { colour = colour; islands = islands; is = is }) a b at too)
+      (λ k x colour is h. no_birth (generation R P k) colour x R births is (in_next k x h)) n m c e t)
 
 -- ---- the independent parts are such a splitting
 
@@ -229,7 +242,7 @@ module _ (R : Rule) (P : Generation) (Qs : List Generation) (are : AreIndependen
   }
 
   -- a part, moved, is what a part has become when the set comes again
-  parts_again : (k : ℕ) (d : Cell) → RecursBy R P k d → ComeFrom R P k d Qs Qs
+  parts_again : (k : ℕ) (d : Cell) → RecursBy R P k d → ComeFrom R k d Qs Qs
   parts_again k d r Q one =
       let a = some_cell Q (part_of R P Qs are Q one).nonempty in
       let in_Q = at_first R Q a.0 a.1 in

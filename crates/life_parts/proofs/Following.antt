@@ -1,5 +1,5 @@
 -- What is tied is of one set of each list of sets that are held apart and can be followed back.
-use Rattle.std.proofs.Common.{◌≡◌, ℕ, suc, ◌+◌, ◌≤◌, true, false, List, inl, inr, sym, ap, ◌∙◌, arith}
+use Rattle.std.proofs.Common.{◌≡◌, ℕ, suc, ◌+◌, ◌≤◌, ◌⊎◌, true, false, List, inl, inr, sym, ap, ◌∙◌, arith}
 use Rattle.std.specs.Cmp as cmp
 use Rattle.std.specs.List.{Contains}
 use Rattle.std.proofs.lemmas.Bool.{cases_Bool, cases_eq, both_ways}
@@ -13,20 +13,85 @@ use Rattle.life_model.proofs.Cells.{plus-opposite}
 use Rattle.life_model.proofs.Recurrences.{generation-add}
 use Rattle.life_model.proofs.Symmetries.{contains-moved, generation-moved}
 use Rattle.life_objects.specs.Union.{generations}
-use Rattle.life_parts.specs.Apart.{AreHeldApart, AreOfOneSet, HaveBoth}
-use Rattle.life_parts.specs.Groups.{IsAround}
-use Rattle.life_parts.specs.Ties.{AreTied, IsIn, itself, swapped, through, touching, staying, bearing, meeting, meeting_born, before}
+use Rattle.life_parts.specs.Apart.{AreOfOneSet, HaveBoth}
+use Rattle.life_parts.specs.Groups.{ColoursIslands, IsAround, IsFair, bears}
+use Rattle.life_parts.specs.Ties as all
+use Rattle.life_parts.specs.Ties.{AreTied, IsIn}
+use Rattle.life_parts.specs.Without.{AreTiedWithout, itself, swapped, through, touching, staying, bearing, meeting, meeting_born, before}
 use Rattle.life_parts.proofs.Around.{count_at-alike, next-born}
 use Rattle.life_parts.proofs.Apart.{AreSplitAt, from_later, have_both, not_here, same_next, to_later}
 use Rattle.life_parts.proofs.Ends.{both_in}
 use Rattle.life_parts.proofs.Ring.{enough_near}
 
-pub record AreSplitAndHeld (R : Rule) (P : Generation) (Qs : List Generation) (n : ℕ) : Type 0 where
-  pub split : AreSplitAt R P Qs n
-  pub apart : AreHeldApart R (generation R P n) (generations R Qs n)
+-- Each of the sets, moved by f, is what one of the others is q generations later.
+abbrev pub ComeFrom : Rule → ℕ → Cell → List Generation → List Generation → Type 0
+ComeFrom R q f Bs Qs =
+    (Q : Generation) → Contains Qs Q → (B : Generation) × Contains Bs B × (generation R B q ≡ translate_of Q f)
 
-module _ (R : Rule) (P : Generation) where
-  module _ (Qs : List Generation) (n : ℕ) (at : AreSplitAndHeld R P Qs n) where
+-- However the islands around the place are put into groups, each of them of one set: if it is fair or isn't passed over, it
+-- is fair, and what is born is born of the set of the group that bears it.
+abbrev pub IsEachFollowed : Rule → Generation → (Generation → (Cell → ℕ) → Cell → Type 0) → List Generation → Cell → Type 0
+IsEachFollowed R G Passed Hs x =
+    (colour : Cell → ℕ) → ColoursIslands G colour →
+    ((c d : Cell) → IsAround G x c → IsAround G x d → colour c ≡ colour d → HaveBoth Hs c d) →
+    IsFair R G colour x ⊎ (Passed G colour x → ⊥) →
+    IsFair R G colour x × ((c : Cell) → IsAround G x c → bears R G colour (colour c) x ≡ true → (H : Generation) →
+    Contains Hs H → contains H c ≡ true → contains (next R H) x ≡ true)
+
+-- The sets are a splitting into whole islands, and around each place all is of one set or the sets go on so.
+pub record AreFollowed (R : Rule) (P : Generation) (Passed : Generation → (Cell → ℕ) → Cell → Type 0) (Qs : List Generation)
+    (n : ℕ) : Type 0 where
+  pub split : AreSplitAt R P Qs n
+  pub islands : (c d : Cell) → IsIn R P n c → IsIn R P n d → IsNear c d → HaveBoth (generations R Qs n) c d
+  pub places : (x : Cell) → contains (generation R P n) x ≡ false →
+      AreOfOneSet (generation R P n) (generations R Qs n) x ⊎ IsEachFollowed R (generation R P n) Passed (generations R Qs n) x
+
+module _ (R : Rule) (P : Generation) (Passed : Generation → (Cell → ℕ) → Cell → Type 0) where
+  -- what is tied without some groups is tied
+  tied_with_all : (n m : ℕ) (c e : Cell) → AreTiedWithout R P Passed n c m e → AreTied R P n c m e
+  tied_with_all n m c e (itself _ _ h) = all.itself n c h
+  tied_with_all n m c e (swapped _ _ _ _ t) = all.swapped m n e c (tied_with_all m n e c t)
+  tied_with_all n m c e (through _ k _ _ f _ t u) = all.through n k m c f e (tied_with_all n k c f t) (tied_with_all k m f e u)
+  tied_with_all n m c e (touching _ _ _ h k near) = all.touching n c e h k near
+  tied_with_all n m c e (staying _ _ h k) = all.staying n c h k
+  tied_with_all n m c e (bearing _ _ colour place islands within fair _ at h) =
+      all.bearing n e colour place islands (λ a b x y same. tied_with_all n n a b (within a b x y same)) fair c at h
+  tied_with_all n m c e (meeting _ x colour place islands within unfair passing _ _ at too) =
+      all.meeting n x colour place islands (λ a b y z same. tied_with_all n n a b (within a b y z same)) unfair c e at too
+  tied_with_all n m c e (meeting_born _ _ colour place islands within unfair passing _ at h) =
+      all.meeting_born n e colour place islands (λ a b y z same. tied_with_all n n a b (within a b y z same)) unfair c at h
+  tied_with_all n m c e (before p d r _ _ _ _ t) =
+      all.before p d r n m c e (tied_with_all (n + p) (m + p) (plus c d) (plus e d) t)
+
+  -- and what is tied is so without some groups that are not fair, if these are tied and bear nothing
+  module _ (passed_or_not : (n : ℕ) (x : Cell) (colour : Cell → ℕ) →
+      Passed (generation R P n) colour x ⊎ (Passed (generation R P n) colour x → ⊥))
+      (joined : (n : ℕ) (x : Cell) (colour : Cell → ℕ) → ColoursIslands (generation R P n) colour →
+      Passed (generation R P n) colour x → (c d : Cell) → IsAround (generation R P n) x c → IsAround (generation R P n) x d →
+      AreTiedWithout R P Passed n c n d)
+      (none_born : (n : ℕ) (x : Cell) (colour : Cell → ℕ) → Passed (generation R P n) colour x → IsIn R P (suc n) x → ⊥) where
+    pub tied_without : (n m : ℕ) (c e : Cell) → AreTied R P n c m e → AreTiedWithout R P Passed n c m e
+    tied_without n m c e (all.itself _ _ h) = itself n c h
+    tied_without n m c e (all.swapped _ _ _ _ t) = swapped m n e c (tied_without m n e c t)
+    tied_without n m c e (all.through _ k _ _ f _ t u) = through n k m c f e (tied_without n k c f t) (tied_without k m f e u)
+    tied_without n m c e (all.touching _ _ _ h k near) = touching n c e h k near
+    tied_without n m c e (all.staying _ _ h k) = staying n c h k
+    tied_without n m c e (all.bearing _ _ colour place islands within fair _ at h) =
+        bearing n e colour place islands (λ a b x y same. tied_without n n a b (within a b x y same)) fair c at h
+    tied_without n m c e (all.meeting _ x colour place islands within unfair _ _ at too) =
+        elim (passed_or_not n x colour) [
+          | inl passed ↦ joined n x colour islands passed c e at too
+          | inr passing ↦ meeting n x colour place islands (λ a b y z same. tied_without n n a b (within a b y z same)) unfair passing c e at too
+        ]
+    tied_without n m c e (all.meeting_born _ _ colour place islands within unfair _ at h) =
+        elim (passed_or_not n e colour) [
+          | inl passed ↦ absurd (none_born n e colour passed h)
+          | inr passing ↦ meeting_born n e colour place islands (λ a b y z same. tied_without n n a b (within a b y z same)) unfair passing c at h
+        ]
+    tied_without n m c e (all.before p d r _ _ _ _ t) =
+        before p d r n m c e (tied_without (n + p) (m + p) (plus c d) (plus e d) t)
+
+  module _ (Qs : List Generation) (n : ℕ) (at : AreFollowed R P Passed Qs n) where
     abbrev G : Generation
     G = generation R P n
 
@@ -35,14 +100,14 @@ module _ (R : Rule) (P : Generation) where
 
     stays_with : (c : Cell) → IsIn R P n c → IsIn R P (suc n) c → (Q : Generation) → Contains Qs Q → IsIn R Q n c → IsIn R Q (suc n) c
     unfolding generation
-    stays_with c h l Q one k = same_next R P Qs n at.split at.apart c h Q one k ∙ l
+    stays_with c h l Q one k = same_next R P Qs n at.split at.islands c h Q one k ∙ l
 
     -- what is born where all around is of one set is born of that set
     born_of_one : (x : Cell) → contains G x ≡ false → AreOfOneSet G Hs x → (c : Cell) → IsAround G x c → (Q : Generation) →
         Contains Qs Q → IsIn R Q n c → contains (next R G) x ≡ true → IsIn R Q (suc n) x
     unfolding generation
     born_of_one x place whole c around Q one k h =
-        next-born R (generation R Q n) x (not_here R P Qs n at.split at.apart x place Q one)
+        next-born R (generation R Q n) x (not_here R P Qs n at.split x place Q one)
         ∙ ap (born R) (count_at-alike (contains (generation R Q n)) (contains G) x (λ y near.
         cmp.both_ways (contains (generation R Q n) y) (contains G y)
         (at.split.within Q one y)
@@ -62,6 +127,10 @@ module _ (R : Rule) (P : Generation) where
         let q = from_later R n Qs H listed in
         ap (λ B. contains B e) (sym q.2) ∙ each q.0 q.1 (ap (λ B. contains B c) q.2 ∙ h)
 
+  -- what is tied is there
+  ends_in : (n m : ℕ) (c e : Cell) → AreTiedWithout R P Passed n c m e → IsIn R P n c × IsIn R P m e
+  ends_in n m c e t = both_in R P n m c e (tied_with_all n m c e t)
+
   cell_again : (q : ℕ) (f : Cell) (Q A : Generation) → generation R A q ≡ translate_of Q f → (n : ℕ) (c : Cell) →
       contains (generation R A (n + q)) (plus c f) ≡ contains (generation R Q n) c
   cell_again q f Q A same n c =
@@ -69,18 +138,13 @@ module _ (R : Rule) (P : Generation) where
       ∙ ap (λ H. generation R H n) same ∙ generation-moved R Q f n)
       ∙ contains-moved (generation R Q n) f (plus c f) ∙ ap (contains (generation R Q n)) (plus-opposite c f)
 
-  -- Each of the sets, moved by f, is what one of the others is q generations later.
-  abbrev pub ComeFrom : ℕ → Cell → List Generation → List Generation → Type 0
-  ComeFrom q f Bs Qs =
-      (Q : Generation) → Contains Qs Q → (B : Generation) × Contains Bs B × (generation R B q ≡ translate_of Q f)
-
   -- With a list of sets that reaches back so far, so does each shorter time, and where it reaches back q generations more,
   -- there is one before it.
   pub record ReachBack (Past : ℕ → List Generation → Type 0) : Type 0 where
     pub less : (K L : ℕ) (Qs : List Generation) → L ≤ K → Past K Qs → Past L Qs
-    pub at : (K : ℕ) (Qs : List Generation) → Past K Qs → (n : ℕ) → AreSplitAndHeld R P Qs n
+    pub at : (K : ℕ) (Qs : List Generation) → Past K Qs → (n : ℕ) → AreFollowed R P Passed Qs n
     pub back : (K q : ℕ) (f : Cell) → RecursBy R P q f → (Qs : List Generation) → Past (K + q) Qs →
-        (Bs : List Generation) × Past K Bs × ComeFrom q f Bs Qs
+        (Bs : List Generation) × Past K Bs × ComeFrom R q f Bs Qs
 
   module _ (Past : ℕ → List Generation → Type 0) (reach : ReachBack Past) where
     -- a set that has the one cell then, of those that reach back so far, has the other
@@ -124,11 +188,11 @@ module _ (R : Rule) (P : Generation) where
             (λ a near. enough_near (Pair a) (more a) x (λ b too. pair a b near too)) in
             (all.0, λ a b at around e. all.1 a at.near b around.near at around e)
 
-    pub tied_to_one : (n m : ℕ) (c e : Cell) → AreTied R P n c m e → (K : ℕ) × AreOfOne K n c m e
+    pub tied_to_one : (n m : ℕ) (c e : Cell) → AreTiedWithout R P Passed n c m e → (K : ℕ) × AreOfOne K n c m e
     tied_to_one n m c e (itself _ _ h) = (0, λ Qs past Q one k. k)
     tied_to_one n m c e (swapped _ _ _ _ t) =
         let u = tied_to_one m n e c t in
-        let b = both_in R P m n e c t in (
+        let b = ends_in m n e c t in (
           u.0,
           λ Qs past Q one k.
               let A = (reach.at u.0 Qs past m).split.cover e b.0 in
@@ -150,7 +214,7 @@ module _ (R : Rule) (P : Generation) where
       0,
       λ Qs past Q one k.
           let at = reach.at 0 Qs past n in
-          have_both R P Qs n at.split c e (at.apart.islands c e h l near) Q one k,
+          have_both R P Qs n at.split c e (at.islands c e h l near) Q one k,
     )
     tied_to_one n m c e (staying _ _ h l) = (0, λ Qs past Q one k. stays_with Qs n (reach.at 0 Qs past n) c h l Q one k)
     tied_to_one n m c e (bearing _ _ colour place islands within fair _ around h) =
@@ -160,33 +224,33 @@ module _ (R : Rule) (P : Generation) where
               let at = reach.at pairs.0 Qs past n in
               let sets : (a b : Cell) → IsAround (generation R P n) e a → IsAround (generation R P n) e b → colour a ≡ colour b → HaveBoth (generations R Qs n) a b =
               λ a b y z same. both_by_each Qs n at a b (λ A two g. pairs.1 a b y z same Qs past A two g) in
-              elim (at.apart.places e place) [
+              elim (at.places e place) [
                 | inl whole ↦ born_of_one Qs n at e place whole c around Q one k (fair.born (colour c) h)
-                | inr each ↦ of_next Qs n at Q e ((each colour islands sets).1 c around h (generation R Q n) (to_later R n Qs Q one) k)
+                | inr each ↦ of_next Qs n at Q e ((each colour islands sets (inl fair)).1 c around h (generation R Q n) (to_later R n Qs Q one) k)
               ],
         )
-    tied_to_one n m c e (meeting _ x colour place islands within unfair _ _ around too) =
+    tied_to_one n m c e (meeting _ x colour place islands within unfair passing _ _ around too) =
         let pairs = all_pairs n x colour (λ a b y z same. tied_to_one n n a b (within a b y z same)) in (
           pairs.0,
           λ Qs past Q one k.
               let at = reach.at pairs.0 Qs past n in
               let sets : (a b : Cell) → IsAround (generation R P n) x a → IsAround (generation R P n) x b → colour a ≡ colour b → HaveBoth (generations R Qs n) a b =
               λ a b y z same. both_by_each Qs n at a b (λ A two g. pairs.1 a b y z same Qs past A two g) in
-              elim (at.apart.places x place) [
+              elim (at.places x place) [
                 | inl whole ↦ have_both R P Qs n at.split c e (whole c e around too) Q one k
-                | inr each ↦ absurd (unfair (each colour islands sets).0)
+                | inr each ↦ absurd (unfair (each colour islands sets (inr passing)).0)
               ],
         )
-    tied_to_one n m c e (meeting_born _ _ colour place islands within unfair _ around h) =
+    tied_to_one n m c e (meeting_born _ _ colour place islands within unfair passing _ around h) =
         let pairs = all_pairs n e colour (λ a b y z same. tied_to_one n n a b (within a b y z same)) in (
           pairs.0,
           λ Qs past Q one k.
               let at = reach.at pairs.0 Qs past n in
               let sets : (a b : Cell) → IsAround (generation R P n) e a → IsAround (generation R P n) e b → colour a ≡ colour b → HaveBoth (generations R Qs n) a b =
               λ a b y z same. both_by_each Qs n at a b (λ A two g. pairs.1 a b y z same Qs past A two g) in
-              elim (at.apart.places e place) [
+              elim (at.places e place) [
                 | inl whole ↦ born_of_one Qs n at e place whole c around Q one k (in_next Qs n at e h)
-                | inr each ↦ absurd (unfair (each colour islands sets).0)
+                | inr each ↦ absurd (unfair (each colour islands sets (inr passing)).0)
               ],
         )
     tied_to_one n m c e (before q f s _ _ _ _ t) =

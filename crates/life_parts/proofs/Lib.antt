@@ -20,6 +20,7 @@ pub mod Following
 pub mod Corners
 pub mod Parted
 pub mod Splitting
+pub mod Forking
 pub mod Finest
 pub mod Deciding
 pub mod Tracing

@@ -1,16 +1,16 @@
 -- A place where something is parted that holds back a birth is a fork.
-use Rattle.std.proofs.Common.{◌≡◌, ℕ, ◌+◌, ℤ, pos, neg_ℤ, ◌+ℤ◌, ◌-ℤ◌, ◌≤ℤ◌, Bool, true, false, cond, [], ◌∷◌, inl, inr, ap, arith}
+use Rattle.std.proofs.Common.{◌≡◌, ℕ, ◌+◌, ℤ, pos, neg_ℤ, ◌+ℤ◌, ◌-ℤ◌, ◌≤ℤ◌, Bool, true, false, [], ◌∷◌, inl, inr, ◌∙◌, arith}
 use Rattle.std.proofs.lemmas.Bool.{both_ways}
 use Rattle.std.proofs.lemmas.Int.{ints}
-use Rattle.std.specs.Cmp as cmp
 use lib.Signed.{le_z_yes}
 use Rattle.life_model.specs.Cell.{Cell, IsNear, plus}
 use Rattle.life_model.specs.Evolution.{count_at}
 use Rattle.life_model.specs.Generation.{Generation, contains}
 use Rattle.life_model.specs.Symmetry.{Orientation, Same, FlipX, FlipY, Half, Swap, SwapFlipX, SwapFlipY, SwapHalf}
-use Rattle.life_parts.specs.Forks.{IsFork, beside}
-use Rattle.life_parts.specs.Groups.{ColoursIslands}
+use Rattle.life_parts.specs.Forks.{IsForkOf, beside}
+use Rattle.life_parts.specs.Groups.{IsAround, in_group}
 use Rattle.life_parts.proofs.Around.{near_swapped}
+use Rattle.life_parts.proofs.Classed.{of_group, to_group}
 use Rattle.life_parts.proofs.Corners.{IsParted, IsRing, IsRow, corner, no_side, turned_ring}
 use Rattle.life_parts.proofs.Numbers.{one}
 use Rattle.life_parts.proofs.Ring.{IsSmall, each_near, near_by_step}
@@ -71,46 +71,38 @@ ring_from x p q h k =
 sides_near : (x : Cell) (p q : ℤ) → IsSmall p → IsSmall q → IsNear (plus x (p, pos 0)) (plus x (pos 0, q))
 sides_near x p q h k = near_steps x p (pos 0) (pos 0) q (close_none p h) (none_close q k)
 
-module _ (G : Generation) (H K : Cell → Bool) (x : Cell) (parted : IsParted (contains G) H K x) where
-  -- what is of the group, what is of the set alone, and what is of neither
-  shade : Cell → ℕ
-  shade y = cond (H y) (cond (K y) 0 1) 2
+module _ (G : Generation) (H : Cell → Bool) (colour : Cell → ℕ) (k : ℕ) (x : Cell)
+    (parted : IsParted (contains G) H (in_group G colour k) x)
+    (apart : (a g : Cell) → IsAround G x a → IsAround G x g → H a ≡ false → H g ≡ true → colour a ≡ colour g → ⊥) where
+  abbrev K : Cell → Bool
+  K = in_group G colour k
 
-  shades_islands : ColoursIslands G shade
-  unfolding shade
-  shades_islands c d live too near =
-      let back = near_swapped c d near in
-      let set : H c ≡ H d =
-      cmp.both_ways (H c) (H d) (λ h. parted.whole c d near h too) (λ h. parted.whole d c back h live) in
-      let group : K c ≡ K d =
-      cmp.both_ways (K c) (K d) (λ h. parted.group c d near h too) (λ h. parted.group d c back h live) in
-      λ i. cond (set i) (cond (group i) 0 1) 2
-
-  module _ (m : Orientation) (r : IsRow (contains G) H K (beside x m (neg_ℤ (pos 1), neg_ℤ (pos 1))) (beside x m (pos 0, neg_ℤ (pos 1)))
+  module _ (m : Orientation) (r : IsRow (contains G) H K x (beside x m (neg_ℤ (pos 1), neg_ℤ (pos 1))) (beside x m (pos 0, neg_ℤ (pos 1)))
       (beside x m (pos 1, neg_ℤ (pos 1))) (beside x m (pos 1, pos 0)) (beside x m (pos 1, pos 1)) (beside x m (pos 0, pos 1))
       (beside x m (neg_ℤ (pos 1), pos 1)) (beside x m (neg_ℤ (pos 1), pos 0))) where
-    shade_of_other : shade (beside x m (neg_ℤ (pos 1), neg_ℤ (pos 1))) ≡ 2
-    unfolding shade
-    shade_of_other = ap (λ b. cond b (cond (K (beside x m (neg_ℤ (pos 1), neg_ℤ (pos 1)))) 0 1) 2) r.other
+    abbrev single : Cell
+    single = beside x m (neg_ℤ (pos 1), neg_ℤ (pos 1))
 
-    shade_of_row : shade (beside x m (pos 1, pos 0)) ≡ 0
-    unfolding shade
-    shade_of_row = λ i. cond (r.side i) (cond (r.of_group i) 0 1) 2
+    abbrev middle : Cell
+    middle = beside x m (pos 1, pos 0)
 
-    shade_of_second : shade (beside x m (neg_ℤ (pos 1), pos 1)) ≡ 1
-    unfolding shade
-    shade_of_second = λ i. cond (r.of_set i) (cond (r.no_group i) 0 1) 2
+    abbrev other_single : Cell
+    other_single = beside x m (neg_ℤ (pos 1), pos 1)
 
-    fork_by : IsFork G x
+    fork_by : IsForkOf G colour x
     fork_by = record {
       turned = m;
       dead = parted.dead;
       live = λ i. r.first i ∷ r.gap i ∷ r.above i ∷ r.last_gap i ∷ r.middle i ∷ r.second i ∷ r.next_gap i ∷ r.below i ∷ [];
-      colour = shade;
-      islands = shades_islands;
-      first = λ same. let k = shade_of_other in let l = shade_of_row in absurd (omega (arith, same));
-      second = λ same. let k = shade_of_second in let l = shade_of_row in absurd (omega (arith, same));
-      singles = λ same. let k = shade_of_other in let l = shade_of_second in absurd (omega (arith, same));
+      first = λ same.
+          apart single middle (record { live = r.first; near = r.at_first }) (record { live = r.middle; near = r.at_middle })
+          r.other r.side same;
+      second = λ same.
+          both_ways (K other_single) r.no_group
+          (to_group G colour k other_single r.second (same ∙ (of_group G colour k middle r.of_group).1));
+      singles = λ same.
+          apart single other_single (record { live = r.first; near = r.at_first })
+          (record { live = r.second; near = r.at_second }) r.other r.of_set same;
     }
 
   minus : IsSmall (neg_ℤ (pos 1))
@@ -121,9 +113,9 @@ module _ (G : Generation) (H K : Cell → Bool) (x : Cell) (parted : IsParted (c
 
   -- where what isn't of the set is at a corner, there is a fork
   abbrev Forks : Cell → Type 0
-  Forks y = contains G y ≡ true → H y ≡ false → IsFork G x
+  Forks y = contains G y ≡ true → H y ≡ false → IsForkOf G colour x
 
-  module _ (p q : ℤ) (h : IsSmall p) (k : IsSmall q) where
+  module _ (p q : ℤ) (h : IsSmall p) (l : IsSmall q) where
     abbrev all_of : (Cell → Bool) → ℕ
     all_of test =
         one (test (plus x (p, q))) + one (test (plus x (pos 0, q))) + one (test (plus x (neg_ℤ p, q)))
@@ -131,19 +123,19 @@ module _ (G : Generation) (H K : Cell → Bool) (x : Cell) (parted : IsParted (c
         + one (test (plus x (p, neg_ℤ q))) + one (test (plus x (p, pos 0)))
 
     abbrev Row : Type 0
-    Row = IsRow (contains G) H K (plus x (p, q)) (plus x (pos 0, q)) (plus x (neg_ℤ p, q))
+    Row = IsRow (contains G) H K x (plus x (p, q)) (plus x (pos 0, q)) (plus x (neg_ℤ p, q))
         (plus x (neg_ℤ p, pos 0)) (plus x (neg_ℤ p, neg_ℤ q)) (plus x (pos 0, neg_ℤ q)) (plus x (p, neg_ℤ q)) (plus x (p, pos 0))
 
     abbrev Column : Type 0
-    Column = IsRow (contains G) H K (plus x (p, q)) (plus x (p, pos 0)) (plus x (p, neg_ℤ q)) (plus x (pos 0, neg_ℤ q))
+    Column = IsRow (contains G) H K x (plus x (p, q)) (plus x (p, pos 0)) (plus x (p, neg_ℤ q)) (plus x (pos 0, neg_ℤ q))
         (plus x (neg_ℤ p, neg_ℤ q)) (plus x (neg_ℤ p, pos 0)) (plus x (neg_ℤ p, q)) (plus x (pos 0, q))
 
     module _ (three : all_of K ≡ 3) (not_three : all_of H ≡ 3 → ⊥) where
-      at_corner : (Row → IsFork G x) → (Column → IsFork G x) → Forks (plus x (p, q))
+      at_corner : (Row → IsForkOf G colour x) → (Column → IsForkOf G colour x) → Forks (plus x (p, q))
       at_corner by_row by_column live other =
           elim (corner (contains G) H K x parted (plus x (p, q)) (plus x (pos 0, q)) (plus x (neg_ℤ p, q))
           (plus x (neg_ℤ p, pos 0)) (plus x (neg_ℤ p, neg_ℤ q)) (plus x (pos 0, neg_ℤ q)) (plus x (p, neg_ℤ q)) (plus x (p, pos 0))
-          (ring_from x p q h k) live other three not_three) [
+          (ring_from x p q h l) live other three not_three) [
             | inl row ↦ by_row row
             | inr column ↦ by_column column
           ]
@@ -152,7 +144,7 @@ module _ (G : Generation) (H K : Cell → Bool) (x : Cell) (parted : IsParted (c
       at_side live other =
           absurd (no_side (contains G) H K x parted (plus x (p, q)) (plus x (pos 0, q)) (plus x (neg_ℤ p, q))
           (plus x (neg_ℤ p, pos 0)) (plus x (neg_ℤ p, neg_ℤ q)) (plus x (pos 0, neg_ℤ q)) (plus x (p, neg_ℤ q)) (plus x (p, pos 0))
-          (ring_from x p q h k) (sides_near x (neg_ℤ p) q (small_neg p h) k) (sides_near x p q h k) live other three not_three)
+          (ring_from x p q h l) (sides_near x (neg_ℤ p) q (small_neg p h) l) (sides_near x p q h l) live other three not_three)
 
       at_other_side : Forks (plus x (p, pos 0))
       at_other_side live other =
@@ -160,9 +152,9 @@ module _ (G : Generation) (H K : Cell → Bool) (x : Cell) (parted : IsParted (c
           (plus x (neg_ℤ p, neg_ℤ q)) (plus x (neg_ℤ p, pos 0)) (plus x (neg_ℤ p, q)) (plus x (pos 0, q))
           (turned_ring x (plus x (p, q)) (plus x (pos 0, q)) (plus x (neg_ℤ p, q))
           (plus x (neg_ℤ p, pos 0)) (plus x (neg_ℤ p, neg_ℤ q)) (plus x (pos 0, neg_ℤ q)) (plus x (p, neg_ℤ q)) (plus x (p, pos 0))
-          (ring_from x p q h k))
-          (near_swapped (plus x (p, pos 0)) (plus x (pos 0, neg_ℤ q)) (sides_near x p (neg_ℤ q) h (small_neg q k)))
-          (near_swapped (plus x (p, pos 0)) (plus x (pos 0, q)) (sides_near x p q h k)) live other
+          (ring_from x p q h l))
+          (near_swapped (plus x (p, pos 0)) (plus x (pos 0, neg_ℤ q)) (sides_near x p (neg_ℤ q) h (small_neg q l)))
+          (near_swapped (plus x (p, pos 0)) (plus x (pos 0, q)) (sides_near x p q h l)) live other
           (let t = three in omega arith) (λ e. not_three (omega (arith, e))))
 
   -- Where a cell around the place isn't of the set, there is a fork.

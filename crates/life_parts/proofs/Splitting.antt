@@ -1,5 +1,4 @@
--- Sets that never touch and into which a set splits are held apart, where 3 alone is among the births and they have each
--- fork whole.
+-- Where 3 alone is among the births, sets that never touch and into which a set splits join what is tied, but for forks.
 use Rattle.std.proofs.Common.{◌≡◌, ℕ, suc, ◌≤◌, ◌⊎◌, Bool, true, false, cond, List, inl, inr, sym, ap, ◌∙◌, eqb-true, arith}
 use Rattle.std.specs.List.{Contains, list_any}
 use Rattle.std.proofs.lemmas.Bool.{cases_Bool, both_ways, cond-true, cond-false, false_from_ne_true}
@@ -11,8 +10,8 @@ use Rattle.life_model.specs.Evolution.{count_at, generation, next}
 use Rattle.life_objects.specs.Union.{generations}
 use Rattle.life_objects.proofs.Lists.{AllPairs-unmap, related_or_same}
 use Rattle.life_objects.proofs.Members.{found_in, in_list}
-use Rattle.life_parts.specs.Apart.{AreHeldApart, AreOfOneSet, HaveBoth, IsEachFair}
-use Rattle.life_parts.specs.Forks.{HasBirthsAtThreeAlone, IsFork}
+use Rattle.life_parts.specs.Apart.{AreOfOneSet, HaveBoth}
+use Rattle.life_parts.specs.Forks.{HasBirthsAtThreeAlone, IsForkOf}
 use Rattle.life_parts.specs.Groups.{ColoursIslands, IsAround, bears, in_group}
 use Rattle.life_parts.specs.Splittings.{AreSplit, AreUntouching}
 use Rattle.life_parts.specs.Ties.{IsIn}
@@ -20,6 +19,7 @@ use Rattle.life_parts.proofs.Apart.{AreSplitAt, both_by_set, have_both}
 use Rattle.life_parts.proofs.Around.{near_swapped, next-born, one_around}
 use Rattle.life_parts.proofs.Classed.{of_bearing, of_group, to_group}
 use Rattle.life_parts.proofs.Corners.{IsParted}
+use Rattle.life_parts.proofs.Following.{AreFollowed, IsEachFollowed}
 use Rattle.life_parts.proofs.Numbers.{same_where_as_many, some_near}
 use Rattle.life_parts.proofs.Parted.{fork_where_parted}
 use Rattle.life_parts.proofs.Ring.{near_itself}
@@ -57,7 +57,7 @@ module _ (R : Rule) (P : Generation) (Qs : List Generation) (split : AreSplit R 
   in_one_set c d h k near Q one in_Q = have_both R P Qs n split_at c d (whole_islands c d h k near) Q one in_Q
 
 module _ (R : Rule) (births : HasBirthsAtThreeAlone R) where
-  three_by_birth : (p : Cell → Bool) (x : Cell) → born R (count_at p x) ≡ true → count_at p x ≡ 3
+  pub three_by_birth : (p : Cell → Bool) (x : Cell) → born R (count_at p x) ≡ true → count_at p x ≡ 3
   three_by_birth p x h =
       let few : count_at p x ≤ 8 = count_by-le-length p (around x) in
       eqb-true (count_at p x) 3 (sym (births (count_at p x) few) ∙ h)
@@ -116,12 +116,9 @@ module _ (R : Rule) (births : HasBirthsAtThreeAlone R) (P : Generation) (Qs : Li
             | inr none ↦ (o, by, none)
           ]
 
-      module _ (whole_fork : IsFork G x → AreOfOneSet G (generations R Qs n) x) where
-        not_a_fork : IsFork G x → ⊥
-        not_a_fork fork = no_other A one in_A (have_both R P Qs n now a o (whole_fork fork a o at by) A one in_A)
-
-        module _ (colour : Cell → ℕ) (islands : ColoursIslands G colour)
-            (within : (c d : Cell) → IsAround G x c → IsAround G x d → colour c ≡ colour d → HaveBoth (generations R Qs n) c d) where
+      module _ (colour : Cell → ℕ) (islands : ColoursIslands G colour)
+          (within : (c d : Cell) → IsAround G x c → IsAround G x d → colour c ≡ colour d → HaveBoth (generations R Qs n) c d)
+        where
           parted : (k : ℕ) → bears R G colour k x ≡ true → (g : Cell) → IsAround G x g → colour g ≡ k → (Q : Generation) →
               Contains Qs Q → IsIn R Q n g → IsParted (contains G) (has Q) (in_group G colour k) x
           parted k h g around_x same Q listed in_Q = record {
@@ -138,65 +135,73 @@ module _ (R : Rule) (births : HasBirthsAtThreeAlone R) (P : Generation) (Qs : Li
             not_three = λ three. not_born (born_of_three Q listed three);
           }
 
-          none_bears : (k : ℕ) → bears R G colour k x ≡ true → ⊥
-          none_bears k h =
+          -- cells of one colour are of one set
+          no_colour_of_both : (Q : Generation) → Contains Qs Q → (c d : Cell) → IsAround G x c → IsAround G x d → has Q c ≡ false →
+              has Q d ≡ true → colour c ≡ colour d → ⊥
+          no_colour_of_both Q listed c d around_x too none h same =
+              both_ways (has Q c) none (have_both R P Qs n now d c (within d c too around_x (sym same)) Q listed h)
+
+          none_bears : (IsForkOf G colour x → ⊥) → (k : ℕ) → bears R G colour k x ≡ true → ⊥
+          none_bears no_fork k h =
               let g = of_bearing R G colour x k h in
               let Q = now.cover g.0 g.1.live in
               let other = not_all_in Q.0 Q.1 in
-              not_a_fork (fork_where_parted G (has Q.0) (in_group G colour k) x (parted k h g.0 g.1 g.2 Q.0 Q.1 Q.2)
+              no_fork (fork_where_parted G (has Q.0) colour k x (parted k h g.0 g.1 g.2 Q.0 Q.1 Q.2) (no_colour_of_both Q.0 Q.1)
               other.0 other.1.near other.1.live other.2)
 
-        each_fair : IsEachFair R G (generations R Qs n) x
-        each_fair colour islands within = (
-          record {
-            borne = λ h. absurd (not_born h);
-            born = λ k h. absurd (none_bears colour islands within k h);
-            one = λ k l h g. absurd (none_bears colour islands within k h);
-          },
-          λ c at h H listed in_H. absurd (none_bears colour islands within (colour c) h),
-        )
+      each_followed : IsEachFollowed R G IsForkOf (generations R Qs n) x
+      each_followed colour islands within (inl fair) =
+          (fair, λ c at h H listed in_H. absurd (not_born (fair.born (colour c) h)))
+      each_followed colour islands within (inr no_fork) = (
+        record {
+          borne = λ h. absurd (not_born h);
+          born = λ k h. absurd (none_bears colour islands within no_fork k h);
+          one = λ k l h g. absurd (none_bears colour islands within no_fork k h);
+        },
+        λ c at h H listed in_H. absurd (none_bears colour islands within no_fork (colour c) h),
+      )
 
-    module _ (whole_fork : IsFork G x → AreOfOneSet G (generations R Qs n) x) where
-      -- whether a cell is of another set
-      abbrev is_other : Generation → Cell → Bool
-      is_other A y = cond (has A y) false (contains G y)
+    -- whether a cell is of another set
+    abbrev is_other : Generation → Cell → Bool
+    is_other A y = cond (has A y) false (contains G y)
 
-      other_parts : (A : Generation) (y : Cell) → is_other A y ≡ true → (has A y ≡ false) × (contains G y ≡ true)
-      other_parts A y h =
-          elim (cases_Bool (has A y)) [
-            | inl k ↦ absurd (both_ways (is_other A y) (cond-true (has A y) false (contains G y) k) h)
-            | inr none ↦ (none, sym (cond-false (has A y) false (contains G y) none) ∙ h)
-          ]
+    other_parts : (A : Generation) (y : Cell) → is_other A y ≡ true → (has A y ≡ false) × (contains G y ≡ true)
+    other_parts A y h =
+        elim (cases_Bool (has A y)) [
+          | inl k ↦ absurd (both_ways (is_other A y) (cond-true (has A y) false (contains G y) k) h)
+          | inr none ↦ (none, sym (cond-false (has A y) false (contains G y) none) ∙ h)
+        ]
 
-      in_the_one : (A : Generation) → list_any (is_other A) (around x) ≡ false → (c : Cell) → IsAround G x c → IsIn R A n c
-      in_the_one A none c at =
-          elim (cases_Bool (has A c)) [
-            | inl h ↦ h
-            | inr not ↦
-                absurd (both_ways (list_any (is_other A) (around x)) none
-                (some_near (is_other A) x (false_from_ne_true (is_other A x) (λ h. both_ways (contains G x) place (other_parts A x h).1)) c at.near (cond-false (has A c) false (contains G c) not ∙ at.live)))
-          ]
+    in_the_one : (A : Generation) → list_any (is_other A) (around x) ≡ false → (c : Cell) → IsAround G x c → IsIn R A n c
+    in_the_one A none c at =
+        elim (cases_Bool (has A c)) [
+          | inl h ↦ h
+          | inr not ↦
+              absurd (both_ways (list_any (is_other A) (around x)) none
+              (some_near (is_other A) x (false_from_ne_true (is_other A x) (λ h. both_ways (contains G x) place (other_parts A x h).1)) c at.near (cond-false (has A c) false (contains G c) not ∙ at.live)))
+        ]
 
-      held_at : AreOfOneSet G (generations R Qs n) x ⊎ IsEachFair R G (generations R Qs n) x
-      held_at =
-          elim (cases_Bool (list_any (contains G) (around x))) [
-            | inl some ↦
-                let c = one_around (contains G) x some in
-                let A = now.cover c.0 c.1 in
-                elim (cases_Bool (list_any (is_other A.0) (around x))) [
-                  | inl others ↦
-                      let o = one_around (is_other A.0) x others in
-                      let parts = other_parts A.0 o.0 o.1 in
-                      inr (each_fair c.0 o.0 (record { live = c.1; near = c.2 }) (record { live = parts.1; near = o.2 }) A.0 A.1 A.2 parts.0 whole_fork)
-                  | inr none ↦ inl (λ c d at too.
-                      both_by_set R P Qs n now A.0 A.1 c d (in_the_one A.0 none c at) (in_the_one A.0 none d too))
-                ]
-            | inr none ↦ inl (λ c d at too.
-                absurd (both_ways (list_any (contains G) (around x)) none (some_near (contains G) x place c at.near at.live)))
-          ]
+    held_at : AreOfOneSet G (generations R Qs n) x ⊎ IsEachFollowed R G IsForkOf (generations R Qs n) x
+    held_at =
+        elim (cases_Bool (list_any (contains G) (around x))) [
+          | inl some ↦
+              let c = one_around (contains G) x some in
+              let A = now.cover c.0 c.1 in
+              elim (cases_Bool (list_any (is_other A.0) (around x))) [
+                | inl others ↦
+                    let o = one_around (is_other A.0) x others in
+                    let parts = other_parts A.0 o.0 o.1 in
+                    inr (each_followed c.0 o.0 (record { live = c.1; near = c.2 }) (record { live = parts.1; near = o.2 }) A.0 A.1 A.2 parts.0)
+                | inr none ↦ inl (λ c d at too.
+                    both_by_set R P Qs n now A.0 A.1 c d (in_the_one A.0 none c at) (in_the_one A.0 none d too))
+              ]
+          | inr none ↦ inl (λ c d at too.
+              absurd (both_ways (list_any (contains G) (around x)) none (some_near (contains G) x place c at.near at.live)))
+        ]
 
-  pub held : ((x : Cell) → IsFork G x → AreOfOneSet G (generations R Qs n) x) → AreHeldApart R G (generations R Qs n)
-  held whole_forks = record {
+  pub followed : AreFollowed R P IsForkOf Qs n
+  followed = record {
+    split = now;
     islands = whole_islands R P Qs split n;
-    places = λ x place. held_at x place (whole_forks x);
+    places = held_at;
   }

@@ -26,7 +26,7 @@ module _ (R : Rule) (P : Generation) (Qs : List Generation) (n : ℕ) (split : A
       let from = comes_from R P Qs n split held Q one x h in
       let c = from.cell in
       elim (cases_Bool (contains (generation R P n) x)) [
-        | inl here ↦ (x, of_near R P Qs n split held x here Q one c from.has from.near, staying n x here there)
+        | inl here ↦ (x, of_near R P Qs n split held.islands x here Q one c from.has from.near, staying n x here there)
         | inr place ↦ (
           c,
           from.has,

@@ -13,14 +13,13 @@ use Rattle.life_objects.specs.Union.{generations, union_of}
 abbrev pub AreUntouching : Generation → Generation → Type 0
 AreUntouching P Q = (c d : Cell) → contains P c ≡ true → contains Q d ≡ true → IsNear c d → ⊥
 
--- Each generation of P, from now on, is that generation of the sets, of which no two ever touch.
+-- From now on each generation of P is that generation of the sets, each of which evolves alone, and no two of them touch.
 pub record AreSplit (R : Rule) (P : Generation) (Qs : List Generation) : Type 0 where
   pub together : (n : ℕ) → union_of (generations R Qs n) ≡ generation R P n
   pub apart : (n : ℕ) → AllPairs AreUntouching (generations R Qs n)
 
--- So it is in the earlier generations too, as a set that comes again has been through its generations before: k
--- generations before P stands as it does after k generations, moved back by d, and into such sets it was split that they
--- have become these.
+-- So it is in the earlier generations too: a set that stands again k generations later, moved by d, has come from where it
+-- stood k generations before, moved back by d. There it was split into the sets `Bs`, so moved back, which have become these.
 pub record AreSplitThroughout (R : Rule) (P : Generation) (Qs : List Generation) : Type 0 where
   pub later : AreSplit R P Qs
   pub earlier : (k : ℕ) (d : Cell) → RecursBy R P k d → (Bs : List Generation) × AreSplit R P Bs ×

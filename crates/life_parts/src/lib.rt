@@ -18,7 +18,7 @@ ghost use Rattle.life_objects.specs.Kinds.{AreAlike};
 ghost use Rattle.life_objects.specs.Onset.{Recurs};
 ghost use Rattle.life_objects.specs.Union.{generations, union, union_of};
 ghost use Rattle.life_parts.specs.Apart.{AreHeldApart, HaveBoth};
-ghost use Rattle.life_parts.specs.Forks.{HasBirthsAtThreeAlone, IsFork};
+ghost use Rattle.life_parts.specs.Forks.{AreForksTied, HasBirthsAtThreeAlone, IsFork};
 ghost use Rattle.life_parts.specs.Parts.{AreIndependentParts, ArePartsOfEach, joined};
 ghost use Rattle.life_parts.specs.Splittings.{AreSplitThroughout};
 ghost use Rattle.life_parts.specs.Ties.{AreTied};
@@ -150,19 +150,21 @@ pub fn what_is_held_apart_splits_no_part()
         contains Q c ≡ true → contains Q e ≡ true → HaveBoth others c e }
 {}
 
-/// Where 3 alone is among the births and no place of a set that comes again is a fork, in any generation, each splitting of
-/// it into sets that evolve alone and never touch is made of whole independent parts: what is tied is of one of its sets.
-/// It is to be a splitting of the earlier generations too, which the set has been through before: else a spark could be
-/// split off in the moment in which it dies without a trace, though a part throws it in each period.
+/// Where 3 alone is among the births, each splitting of a set that comes again into sets that evolve alone and never touch is
+/// made of whole independent parts, if the set has no fork in any generation, or if each fork's islands are tied without it:
+/// what is tied is of one set of the splitting. It must be a splitting of the earlier generations too, which the set has been
+/// through before: else a spark could be split off in the moment in which it dies, though a part throws it in each period.
 pub fn no_splitting_is_finer()
     ensures ties { (R : Rule) (P A : Generation) (others : List Generation) (p n m : ℕ) (d c e : Cell) →
-        HasBirthsAtThreeAlone R → RecursBy R P p d → ((k : ℕ) (x : Cell) → IsFork (generation R P k) x → ⊥) →
+        HasBirthsAtThreeAlone R → RecursBy R P p d → AreForksTied R P →
         AreSplitThroughout R P others → AreTied R P n c m e → Contains others A →
         contains (generation R A n) c ≡ true → contains (generation R A m) e ≡ true }
     ensures parts { (R : Rule) (P Q : Generation) (Qs others : List Generation) (p : ℕ) (d c e : Cell) →
-        HasBirthsAtThreeAlone R → RecursBy R P p d → ((k : ℕ) (x : Cell) → IsFork (generation R P k) x → ⊥) →
+        HasBirthsAtThreeAlone R → RecursBy R P p d → AreForksTied R P →
         AreSplitThroughout R P others → AreIndependentParts R P Qs → Contains Qs Q →
         contains Q c ≡ true → contains Q e ≡ true → HaveBoth others c e }
+    ensures forks { (R : Rule) (P : Generation) →
+        ((n : ℕ) (x : Cell) → IsFork (generation R P n) x → ⊥) → AreForksTied R P }
 {}
 
 /// The independent parts of a set are a splitting of it, in earlier generations too, into sets that evolve alone and never

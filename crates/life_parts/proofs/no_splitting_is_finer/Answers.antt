@@ -4,9 +4,10 @@ use Rattle.life_parts.proofs.no_splitting_is_finer.Goals as goal
 
 pub returns : goal.returns
 returns c = record {
-  ties = λ R P A others p n m d x y births r none split t one h.
-      not_split R births P none p d r others split n m x y t A one h;
-  parts = λ R P Q Qs others p d x y births r none split are one h k A listed in_A.
+  ties = λ R P A others p n m d x y births r forks split t one h.
+      not_split R births P forks p d r others split n m x y t A one h;
+  parts = λ R P Q Qs others p d x y births r forks split are one h k A listed in_A.
       in_at_first R A y
-      (not_split R births P none p d r others split 0 0 x y ((part_of R P Qs are Q one).tied x y h k) A listed (at_first R A x in_A));
+      (not_split R births P forks p d r others split 0 0 x y ((part_of R P Qs are Q one).tied x y h k) A listed (at_first R A x in_A));
+  forks = λ R P none n x fork. absurd (none n x fork);
 }
