@@ -1,6 +1,5 @@
 -- No splitting is finer than the independent parts.
-use Rattle.std.proofs.Common.{◌≡◌, ℕ, suc, ◌+◌, ◌-◌, ◌*◌, ◌<◌, ◌≤◌, true, List, [], ◌∷◌, map, get_or, sym, ap, subst, ◌∙◌, arith}
-use Rattle.std.proofs.lemmas.Int.{ints}
+use Rattle.std.proofs.Common.{◌≡◌, ℕ, suc, ◌+◌, ◌-◌, ◌*◌, ◌<◌, ◌≤◌, true, List, map, get_or, sym, ap, ◌∙◌, arith}
 use Rattle.std.specs.List.{AllPairs, Contains}
 use Rattle.std.proofs.lemmas.List.Elements.{Contains-get_or}
 use Rattle.life_model.specs.Cell.{Cell, opposite, plus}
@@ -9,26 +8,21 @@ use Rattle.life_model.specs.Generation.{Generation, contains}
 use Rattle.life_model.specs.Evolution.{generation, next}
 use Rattle.life_model.specs.Recurrence.{RecursBy}
 use Rattle.life_model.specs.Symmetry.{translate_of}
-use Rattle.life_model.proofs.Cells.{pair}
-use Rattle.life_model.proofs.Moves.{moved-empty, moved-moved}
 use Rattle.life_model.proofs.Orbits.{far_enough}
-use Rattle.life_model.proofs.Recurrences.{generation-add}
-use Rattle.life_model.proofs.Symmetries.{contains-moved, generation-moved}
 use Rattle.life_objects.specs.Apart.{AreDisjoint}
 use Rattle.life_objects.specs.Drift.{multiple_of}
-use Rattle.life_objects.specs.Union.{generations, union, union_of}
+use Rattle.life_objects.specs.Union.{generations}
 use Rattle.life_objects.proofs.Beginning.{mapped_to}
-use Rattle.life_objects.proofs.Lists.{AllPairs-map, AllPairs-unmap, AllPairs-weaker}
+use Rattle.life_objects.proofs.Lists.{AllPairs-unmap}
 use Rattle.life_objects.proofs.Many.{pairs_then}
-use Rattle.life_objects.proofs.Moving.{RecursBy-times, union-moved}
-use Rattle.life_objects.proofs.Recurring.{moved_back}
+use Rattle.life_objects.proofs.Moving.{RecursBy-times}
 use Rattle.life_parts.specs.Forks.{AreForksTied, HasBirthsAtThreeAlone, IsForkOf}
 use Rattle.life_parts.specs.Parts.{AreIndependentParts}
 use Rattle.life_parts.specs.Splittings.{AreSplit, AreSplitThroughout, AreUntouching}
 use Rattle.life_parts.specs.Ties.{AreTied, IsIn, touching}
 use Rattle.life_parts.specs.Without.{AreTiedWithout}
-use Rattle.life_parts.proofs.Along.{near_moved}
 use Rattle.life_parts.proofs.Apart.{from_map}
+use Rattle.life_parts.proofs.Befores.{moved_ahead, since, splits_here, stands_ahead, then_become}
 use Rattle.life_parts.proofs.Classed.{AreClassesAt}
 use Rattle.life_parts.proofs.Ends.{contains-later}
 use Rattle.life_parts.proofs.Evolving.{at_first, classes_at, disjoint_later, first_classes, part_of, together_later}
@@ -37,45 +31,6 @@ use Rattle.life_parts.proofs.Forking.{fork_or_not, no_birth}
 use Rattle.life_parts.proofs.Lists.{some_cell}
 use Rattle.life_parts.proofs.Recurring.{moved_set}
 use Rattle.life_parts.proofs.Splitting.{followed}
-
-untouching_moved : (A B : Generation) (v : Cell) → AreUntouching A B → AreUntouching (translate_of A v) (translate_of B v)
-untouching_moved A B v far c d h k near =
-    far (plus c (opposite v)) (plus d (opposite v)) (sym (contains-moved A v c) ∙ h) (sym (contains-moved B v d) ∙ k)
-    (near_moved c d (opposite v) near)
-
--- ---- a splitting, some generations later and moved
-
-module _ (R : Rule) (j : ℕ) (v : Cell) where
-  abbrev pub then : Generation → Generation
-  then B = translate_of (generation R B j) v
-
-  pub generation-then : (B : Generation) (n : ℕ) → generation R (then B) n ≡ translate_of (generation R B (j + n)) v
-  generation-then B n = generation-moved R (generation R B j) v n ∙ ap (λ H. translate_of H v) (generation-add R B j n)
-
-  union_of-then : (Bs : List Generation) (n : ℕ) →
-      union_of (generations R (map then Bs) n) ≡ translate_of (union_of (generations R Bs (j + n))) v
-  union_of-then [] n = sym (moved-empty v)
-  union_of-then (B ∷ Bs) n =
-      (λ i. union (generation-then B n i) (union_of-then Bs n i))
-      ∙ sym (union-moved (generation R B (j + n)) (union_of (generations R Bs (j + n))) v)
-
-  pub split_then : (P : Generation) (Bs : List Generation) → AreSplit R P Bs → AreSplit R (then P) (map then Bs)
-  split_then P Bs split = record {
-    together = λ n.
-        union_of-then Bs n ∙ ap (λ H. translate_of H v) (split.together (j + n)) ∙ sym (generation-then P n);
-    apart = λ n.
-        AllPairs-map AreUntouching (λ Q. generation R Q n) (map then Bs)
-        (AllPairs-map (λ A B. AreUntouching (generation R A n) (generation R B n)) then Bs
-        (AllPairs-weaker (λ A B. AreUntouching (generation R A (j + n)) (generation R B (j + n)))
-        (λ A B. AreUntouching (generation R (then A) n) (generation R (then B) n))
-        (λ A B far.
-        subst (λ H. AreUntouching H (generation R (then B) n)) (sym (generation-then A n))
-        (subst (AreUntouching (translate_of (generation R A (j + n)) v)) (sym (generation-then B n))
-        (untouching_moved (generation R A (j + n)) (generation R B (j + n)) v far))) Bs
-        (AllPairs-unmap AreUntouching (λ Q. generation R Q (j + n)) Bs (split.apart (j + n)))));
-  }
-
--- ---- splittings that reach back
 
 -- Into sets that have become these P was split more than K generations before.
 pub record HasPast (R : Rule) (P : Generation) (K : ℕ) (Qs : List Generation) : Type 0 where
@@ -88,21 +43,6 @@ pub record HasPast (R : Rule) (P : Generation) (K : ℕ) (Qs : List Generation) 
   pub split : AreSplit R P sets
   pub become : ComeFrom R steps by sets Qs
 
-moved_by : (A : Generation) (c d e : Cell) → plus c d ≡ e → translate_of (translate_of A c) d ≡ translate_of A e
-moved_by A c d e same = moved-moved A c d ∙ ap (translate_of A) same
-
--- P comes again sooner by what it comes again after
-sooner : (R : Rule) (P : Generation) (k q : ℕ) (g f : Cell) → q < k → RecursBy R P k g → RecursBy R P q f →
-    RecursBy R P (k - q) (plus g (opposite f))
-sooner R P k q g f h r s = record {
-  later = omega arith;
-  again =
-      let there : translate_of (generation R P (k - q)) f ≡ translate_of P g =
-      sym (generation-moved R P f (k - q)) ∙ ap (λ H. generation R H (k - q)) (sym s.again) ∙ generation-add R P q (k - q)
-      ∙ ap (generation R P) (let e : q + (k - q) ≡ k = omega arith in e) ∙ r.again in
-      sym (moved_back (generation R P (k - q)) f) ∙ ap (λ H. translate_of H (opposite f)) there ∙ moved-moved P g (opposite f);
-}
-
 module _ (R : Rule) (P : Generation) (K q : ℕ) (f : Cell) (s : RecursBy R P q f) (Qs : List Generation)
     (past : HasPast R P (K + q) Qs) where
   abbrev k : ℕ
@@ -111,60 +51,36 @@ module _ (R : Rule) (P : Generation) (K q : ℕ) (f : Cell) (s : RecursBy R P q 
   abbrev g : Cell
   g = past.by
 
-  abbrev j : ℕ
-  j = k - q
-
   long : K + q < k
   long = past.long
 
-  -- how far the sets of before stand from what P has become
-  abbrev v : Cell
-  v = plus f (opposite g)
+  less : q ≤ k
+  less = let h = long in omega arith
 
-  abbrev w : Cell
-  w = plus g (opposite f)
+  abbrev back : Generation → Generation
+  back = since R P k q g f less past.recurs s
 
-  soon : RecursBy R P j w
-  soon = sooner R P k q g f (let h = long in omega arith) past.recurs s
-
-  home : then R j v P ≡ P
-  home =
-      ap (λ H. translate_of H v) soon.again
-      ∙ moved_by P w v (plus w (opposite w)) (pair (omega (arith, ints)) (omega (arith, ints)))
-      ∙ sym (moved-moved P w (opposite w)) ∙ moved_back P w
-
-  abbrev befores : List Generation
-  befores = map (then R j v) past.sets
-
-  before_then : (B : Generation) → translate_of (then R j v B) w ≡ generation R B j
-  before_then B =
-      moved_by (generation R B j) v w (plus v (opposite v)) (pair (omega (arith, ints)) (omega (arith, ints)))
-      ∙ sym (moved-moved (generation R B j) v (opposite v)) ∙ moved_back (generation R B j) v
-
-  pub before_splits : HasPast R P K befores
+  before_splits : HasPast R P K (map back past.sets)
   before_splits = record {
-    later = subst (λ H. AreSplit R H befores) home (split_then R j v P past.sets past.split);
-    steps = j;
-    by = w;
+    later = splits_here R P k q g f less past.recurs s past.sets past.split;
+    steps = k - q;
+    by = plus g (opposite f);
     long = let h = long in omega arith;
-    recurs = soon;
+    recurs = record {
+      later = let h = long in omega arith;
+      again = stands_ahead R P k q g f less past.recurs s;
+    };
     sets = past.sets;
     split = past.split;
     become = λ C one.
-        let B = from_map (then R j v) past.sets C one in
-        (B.0, B.1, sym (before_then B.0) ∙ ap (λ H. translate_of H w) B.2);
+        let B = from_map back past.sets C one in
+        (B.0, B.1, sym (moved_ahead R P k q g f less past.recurs s B.0) ∙ ap (λ H. translate_of H (plus g (opposite f))) B.2);
   }
 
-  pub come_from_before : ComeFrom R q f befores Qs
+  come_from_before : ComeFrom R q f (map back past.sets) Qs
   come_from_before Q one =
-      let B = past.become Q one in (
-        then R j v B.0,
-        mapped_to (then R j v) past.sets B.0 B.1,
-        generation-then R j v B.0 q
-            ∙ ap (λ n. translate_of (generation R B.0 n) v) (let h = long in let e : j + q ≡ k = omega arith in e)
-            ∙ ap (λ H. translate_of H v) B.2
-            ∙ moved_by Q g v f (pair (omega (arith, ints)) (omega (arith, ints))),
-      )
+      let B = past.become Q one in
+      (back B.0, mapped_to back past.sets B.0 B.1, then_become R P k q g f less past.recurs s B.0 Q B.2)
 
 module _ (R : Rule) (births : HasBirthsAtThreeAlone R) (P : Generation) where
   reach : ReachBack R P IsForkOf (HasPast R P)
@@ -180,7 +96,11 @@ module _ (R : Rule) (births : HasBirthsAtThreeAlone R) (P : Generation) where
       become = past.become;
     };
     at = λ K Qs past n. followed R births P Qs past.later n;
-    back = λ K q f s Qs past. (map (then R (past.steps - q) (plus f (opposite past.by))) past.sets, before_splits R P K q f s Qs past, come_from_before R P K q f s Qs past);
+    back = λ K q f s Qs past. (
+      map (back R P K q f s Qs past) past.sets,
+      before_splits R P K q f s Qs past,
+      come_from_before R P K q f s Qs past,
+    );
   }
 
   in_next : (n : ℕ) (x : Cell) → IsIn R P (suc n) x → contains (next R (generation R P n)) x ≡ true

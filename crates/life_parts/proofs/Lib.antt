@@ -21,6 +21,8 @@ pub mod Corners
 pub mod Parted
 pub mod Splitting
 pub mod Forking
+pub mod Befores
+pub mod Cycles
 pub mod Finest
 pub mod Deciding
 pub mod Tracing

@@ -20,7 +20,7 @@ ghost use Rattle.life_objects.specs.Union.{generations, union, union_of};
 ghost use Rattle.life_parts.specs.Apart.{AreHeldApart, HaveBoth};
 ghost use Rattle.life_parts.specs.Forks.{AreForksTied, HasBirthsAtThreeAlone, IsFork};
 ghost use Rattle.life_parts.specs.Parts.{AreIndependentParts, ArePartsOfEach, joined};
-ghost use Rattle.life_parts.specs.Splittings.{AreSplitThroughout};
+ghost use Rattle.life_parts.specs.Splittings.{AreSplit, AreSplitThroughout};
 ghost use Rattle.life_parts.specs.Ties.{AreTied};
 
 /// The independent parts of a set evolve as if each were alone: each generation of the set is that generation of its
@@ -172,4 +172,10 @@ pub fn no_splitting_is_finer()
 pub fn independent_parts_are_a_splitting()
     ensures { (R : Rule) (P : Generation) (Qs : List Generation) →
         AreIndependentParts R P Qs → AreSplitThroughout R P Qs }
+{}
+
+/// A splitting of a set into sets that evolve alone, never touch and each come again is one of the earlier generations too.
+pub fn sets_that_come_again_split_throughout()
+    ensures { (R : Rule) (P : Generation) (Qs : List Generation) →
+        AreSplit R P Qs → All (Recurs R) Qs → AreSplitThroughout R P Qs }
 {}
