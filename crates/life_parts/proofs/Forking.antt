@@ -1,10 +1,10 @@
 -- Whether a place is a fork can be told, and where 3 alone is among the births nothing is born there.
-use Rattle.std.proofs.Common.{◌≡◌, ◌≢◌, ℕ, ◌⊎◌, pos, neg_ℤ, Bool, true, false, List, [], ◌∷◌, count_by, map, inl, inr, sym, refl, ap, ◌∙◌, true≢false, arith}
+use Rattle.std.proofs.Common.{◌≡◌, ◌≢◌, ℕ, zero, suc, ◌⊎◌, pos, neg_ℤ, Bool, true, false, List, [], ◌∷◌, count_by, map, inl, inr, sym, refl, ap, ◌∙◌, true≢false, arith}
 use Rattle.std.proofs.lemmas.Bool.{cases_eq}
 use Rattle.life_model.specs.Cell.{Cell, steps}
 use Rattle.life_model.specs.Evolution.{count_at, next}
 use Rattle.life_model.specs.Generation.{Generation, contains}
-use Rattle.life_model.specs.Rule.{Rule}
+use Rattle.life_model.specs.Rule.{Rule, born, has_bit}
 use Rattle.life_model.specs.Symmetry.{Orientation, Same, FlipX, FlipY, Half, Swap, SwapFlipX, SwapFlipY, SwapHalf}
 use Rattle.life_parts.specs.Forks.{HasBirthsAtThreeAlone, IsForkOf, beside, fork}
 use Rattle.life_parts.proofs.Around.{next-born}
@@ -158,3 +158,22 @@ module _ (G : Generation) (colour : Cell → ℕ) (x : Cell) where
         let all = in_all f.turned (contains G) x in
         let three = three_by_birth R births (contains G) x (sym (next-born R G x f.dead) ∙ h) in
         absurd (omega arith)
+
+-- ---- births at 3 alone
+
+born_by : (R : Rule) → R.birth ≡ 8 → (n : ℕ) → born R (suc n) ≡ has_bit 8 (suc n)
+unfolding born
+born_by R three n = ap (λ bits. has_bit bits (suc n)) three
+
+pub three_alone : (R : Rule) → R.birth ≡ 8 → HasBirthsAtThreeAlone R
+unfolding born
+three_alone R three zero h = refl
+three_alone R three (suc zero) h = born_by R three 0
+three_alone R three (suc (suc zero)) h = born_by R three 1
+three_alone R three (suc (suc (suc zero))) h = born_by R three 2
+three_alone R three (suc (suc (suc (suc zero)))) h = born_by R three 3
+three_alone R three (suc (suc (suc (suc (suc zero))))) h = born_by R three 4
+three_alone R three (suc (suc (suc (suc (suc (suc zero)))))) h = born_by R three 5
+three_alone R three (suc (suc (suc (suc (suc (suc (suc zero))))))) h = born_by R three 6
+three_alone R three (suc (suc (suc (suc (suc (suc (suc (suc zero)))))))) h = born_by R three 7
+three_alone R three (suc (suc (suc (suc (suc (suc (suc (suc (suc n))))))))) h = absurd (omega arith)

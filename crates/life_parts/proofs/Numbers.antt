@@ -1,5 +1,5 @@
 -- How many of the cells around a place pass a test: as a sum of eight numbers, each 1 or 0.
-use Rattle.std.proofs.Common.{◌≡◌, ℕ, ◌+◌, ◌≤◌, pos, neg_ℤ, Bool, true, false, cond, inl, inr, refl, sym, ap, true≢false, arith}
+use Rattle.std.proofs.Common.{◌≡◌, ℕ, ◌+◌, ◌≤◌, ℤ, pos, neg_ℤ, Bool, true, false, cond, inl, inr, refl, sym, ap, true≢false, arith}
 use Rattle.std.specs.List.{list_any}
 use Rattle.std.proofs.lemmas.Bool.{cases_Bool, both_ways}
 use Rattle.life_model.specs.Cell.{Cell, IsNear, around, plus}
@@ -46,19 +46,43 @@ some_near p x dead y near live =
     elim (cases_Bool (list_any p (around x))) [
       | inl some ↦ some
       | inr none ↦
-          let less = neg_ℤ (pos 1) in
+          let less : ℤ = neg_ℤ (pos 1) in
           let zero : count_at p x ≡ 0 = count_by-none p (around x) none in
-          absurd (each_near x (λ z. p z ≡ true → ⊥) (λ h. both_ways (p x) dead h)
-          (λ h. let k = from_true (p (plus x (less, less))) h in absurd (omega arith), (λ h. let k = from_true (p (plus x (pos 0, less))) h in absurd (omega arith), (λ h. let k = from_true (p (plus x (pos 1, less))) h in absurd (omega arith), (λ h. let k = from_true (p (plus x (less, pos 0))) h in absurd (omega arith), (λ h. let k = from_true (p (plus x (pos 1, pos 0))) h in absurd (omega arith), (λ h. let k = from_true (p (plus x (less, pos 1))) h in absurd (omega arith), (λ h. let k = from_true (p (plus x (pos 0, pos 1))) h in absurd (omega arith), (λ h. let k = from_true (p (plus x (pos 1, pos 1))) h in absurd (omega arith), tt)))))))) y near live)
+          let one_of : (z : Cell) → (one (p z) ≡ 1 → ⊥) → p z ≡ true → ⊥ = λ z no h. no (from_true (p z) h) in
+          absurd (each_near x (λ z. p z ≡ true → ⊥) (λ h. both_ways (p x) dead h) (
+            one_of (plus x (less, less)) (λ k. omega arith),
+            (
+              one_of (plus x (pos 0, less)) (λ k. omega arith),
+              (
+                one_of (plus x (pos 1, less)) (λ k. omega arith),
+                (
+                  one_of (plus x (less, pos 0)) (λ k. omega arith),
+                  (
+                    one_of (plus x (pos 1, pos 0)) (λ k. omega arith),
+                    (
+                      one_of (plus x (less, pos 1)) (λ k. omega arith),
+                      (
+                        one_of (plus x (pos 0, pos 1)) (λ k. omega arith),
+                        (one_of (plus x (pos 1, pos 1)) (λ k. omega arith), tt),
+                      ),
+                    ),
+                  ),
+                ),
+              ),
+            ),
+          ) y near live)
     ]
 
 -- Where as many cells around pass the first test as pass the second, which those of the first do, all of the second
 -- pass the first.
 module _ (p q : Cell → Bool) (x : Cell) (sub : (y : Cell) → p y ≡ true → q y ≡ true) (many : count_at p x ≡ count_at q x)
     (dead : q x ≡ false) where
+  of_all : (y : Cell) → one (q y) ≤ one (p y) → q y ≡ true → p y ≡ true
+  of_all y more h = let k = from_true (q y) h in is_true (p y) (omega arith)
+
   pub same_where_as_many : (y : Cell) → IsNear y x → q y ≡ true → p y ≡ true
   same_where_as_many =
-      let less = neg_ℤ (pos 1) in
+      let less : ℤ = neg_ℤ (pos 1) in
       let same : count_at p x ≡ count_at q x = many in
       let a = below (p (plus x (less, less))) (q (plus x (less, less))) (sub (plus x (less, less))) in
       let b = below (p (plus x (pos 0, less))) (q (plus x (pos 0, less))) (sub (plus x (pos 0, less))) in
@@ -68,5 +92,25 @@ module _ (p q : Cell → Bool) (x : Cell) (sub : (y : Cell) → p y ≡ true →
       let f = below (p (plus x (less, pos 1))) (q (plus x (less, pos 1))) (sub (plus x (less, pos 1))) in
       let g = below (p (plus x (pos 0, pos 1))) (q (plus x (pos 0, pos 1))) (sub (plus x (pos 0, pos 1))) in
       let h = below (p (plus x (pos 1, pos 1))) (q (plus x (pos 1, pos 1))) (sub (plus x (pos 1, pos 1))) in
-      each_near x (λ y. q y ≡ true → p y ≡ true) (λ h. absurd (both_ways (q x) dead h))
-      (λ yes. let k = from_true (q (plus x (less, less))) yes in is_true (p (plus x (less, less))) (omega arith), (λ yes. let k = from_true (q (plus x (pos 0, less))) yes in is_true (p (plus x (pos 0, less))) (omega arith), (λ yes. let k = from_true (q (plus x (pos 1, less))) yes in is_true (p (plus x (pos 1, less))) (omega arith), (λ yes. let k = from_true (q (plus x (less, pos 0))) yes in is_true (p (plus x (less, pos 0))) (omega arith), (λ yes. let k = from_true (q (plus x (pos 1, pos 0))) yes in is_true (p (plus x (pos 1, pos 0))) (omega arith), (λ yes. let k = from_true (q (plus x (less, pos 1))) yes in is_true (p (plus x (less, pos 1))) (omega arith), (λ yes. let k = from_true (q (plus x (pos 0, pos 1))) yes in is_true (p (plus x (pos 0, pos 1))) (omega arith), (λ yes. let k = from_true (q (plus x (pos 1, pos 1))) yes in is_true (p (plus x (pos 1, pos 1))) (omega arith), tt))))))))
+      each_near x (λ y. q y ≡ true → p y ≡ true) (λ h. absurd (both_ways (q x) dead h)) (
+        of_all (plus x (less, less)) (omega arith),
+        (
+          of_all (plus x (pos 0, less)) (omega arith),
+          (
+            of_all (plus x (pos 1, less)) (omega arith),
+            (
+              of_all (plus x (less, pos 0)) (omega arith),
+              (
+                of_all (plus x (pos 1, pos 0)) (omega arith),
+                (
+                  of_all (plus x (less, pos 1)) (omega arith),
+                  (
+                    of_all (plus x (pos 0, pos 1)) (omega arith),
+                    (of_all (plus x (pos 1, pos 1)) (omega arith), tt),
+                  ),
+                ),
+              ),
+            ),
+          ),
+        ),
+      )

@@ -154,6 +154,7 @@ pub fn what_is_held_apart_splits_no_part()
 /// made of whole independent parts, if the set has no fork in any generation, or if each fork's islands are tied without it:
 /// what is tied is of one set of the splitting. It must be a splitting of the earlier generations too, which the set has been
 /// through before: else a spark could be split off in the moment in which it dies, though a part throws it in each period.
+/// (Bit 3 of a rule's births, which has the value 8, stands for 3.)
 pub fn no_splitting_is_finer()
     ensures ties { (R : Rule) (P A : Generation) (others : List Generation) (p n m : ℕ) (d c e : Cell) →
         HasBirthsAtThreeAlone R → RecursBy R P p d → AreForksTied R P →
@@ -163,6 +164,7 @@ pub fn no_splitting_is_finer()
         HasBirthsAtThreeAlone R → RecursBy R P p d → AreForksTied R P →
         AreSplitThroughout R P others → AreIndependentParts R P Qs → Contains Qs Q →
         contains Q c ≡ true → contains Q e ≡ true → HaveBoth others c e }
+    ensures births { (R : Rule) → R.birth ≡ 8 → HasBirthsAtThreeAlone R }
     ensures forks { (R : Rule) (P : Generation) →
         ((n : ℕ) (x : Cell) → IsFork (generation R P n) x → ⊥) → AreForksTied R P }
 {}
