@@ -49,8 +49,8 @@ module _ (R : Rule) (P : Generation) (Qs : List Generation) (n : ℕ) (split : A
   colour = first_with R n Qs
 
   -- of the sets
-  pub have_both : (c d : Cell) → HaveBoth Hs c d → (Q : Generation) → Contains Qs Q → IsIn R Q n c → IsIn R Q n d
-  have_both c d both Q one h = both (generation R Q n) (to_later R n Qs Q one) h
+  pub in_both : (c d : Cell) → HaveBoth Hs c d → (Q : Generation) → Contains Qs Q → IsIn R Q n c → IsIn R Q n d
+  in_both c d both Q one h = both (generation R Q n) (to_later R n Qs Q one) h
 
   pub both_by_set : (Q : Generation) → Contains Qs Q → (c d : Cell) → IsIn R Q n c → IsIn R Q n d → HaveBoth Hs c d
   both_by_set Q one c d h k H listed in_H =
@@ -61,17 +61,17 @@ module _ (R : Rule) (P : Generation) (Qs : List Generation) (n : ℕ) (split : A
   both_swapped : (c d : Cell) → IsIn R P n c → IsIn R P n d → HaveBoth Hs c d → HaveBoth Hs d c
   both_swapped c d h k both =
       let q = split.cover c h in
-      both_by_set q.0 q.1 d c (have_both c d both q.0 q.1 q.2) q.2
+      both_by_set q.0 q.1 d c (in_both c d both q.0 q.1 q.2) q.2
 
   colour_of_both : (c d : Cell) → IsIn R P n c → IsIn R P n d → HaveBoth Hs c d → colour c ≡ colour d
   colour_of_both c d h k both =
       same_first R n Qs c d (λ Q one.
       cmp.both_ways (contains (generation R Q n) c) (contains (generation R Q n) d)
-      (have_both c d both Q one)
-      (have_both d c (both_swapped c d h k both) Q one))
+      (in_both c d both Q one)
+      (in_both d c (both_swapped c d h k both) Q one))
 
-  pub both_by_colour : (c d : Cell) → IsIn R P n c → IsIn R P n d → colour c ≡ colour d → HaveBoth Hs c d
-  both_by_colour c d h k e =
+  pub both_of_colour : (c d : Cell) → IsIn R P n c → IsIn R P n d → colour c ≡ colour d → HaveBoth Hs c d
+  both_of_colour c d h k e =
       let both = first_of_both R n Qs c d (split.cover c h) (split.cover d k) e in
       both_by_set both.0 both.1 c d both.2 both.3
 
@@ -87,7 +87,7 @@ module _ (R : Rule) (P : Generation) (Qs : List Generation) (n : ℕ) (split : A
 
   module _ (x : Cell) (here : contains G x ≡ true) where
     pub of_near : (Q : Generation) → Contains Qs Q → (c : Cell) → IsIn R Q n c → IsNear c x → IsIn R Q n x
-    of_near Q one c h near = have_both R P Qs n split c x (whole c x (split.within Q one c h) here near) Q one h
+    of_near Q one c h near = in_both R P Qs n split c x (whole c x (split.within Q one c h) here near) Q one h
 
     pub same_next : (Q : Generation) → Contains Qs Q → IsIn R Q n x → contains (next R (generation R Q n)) x ≡ contains (next R G) x
     same_next Q one h =
@@ -95,7 +95,7 @@ module _ (R : Rule) (P : Generation) (Qs : List Generation) (n : ℕ) (split : A
         ∙ ap (stays R) (count_at-alike (contains (generation R Q n)) (contains G) x (λ y near.
         cmp.both_ways (contains (generation R Q n) y) (contains G y)
         (split.within Q one y)
-        (λ k. have_both R P Qs n split x y (whole x y here k (near_swapped y x near)) Q one h)))
+        (λ k. in_both R P Qs n split x y (whole x y here k (near_swapped y x near)) Q one h)))
         ∙ sym (next-stays R G x here)
 
 module _ (R : Rule) (P : Generation) (Qs : List Generation) (n : ℕ) (split : AreSplitAt R P Qs n)
@@ -106,13 +106,20 @@ module _ (R : Rule) (P : Generation) (Qs : List Generation) (n : ℕ) (split : A
   abbrev shade : Cell → ℕ
   shade = first_with R n Qs
 
+  -- of sets that are held apart
+  pub have_both : (c d : Cell) → HaveBoth (generations R Qs n) c d → (Q : Generation) → Contains Qs Q → IsIn R Q n c → IsIn R Q n d
+  have_both c d both Q one h = in_both R P Qs n split c d both Q one h
+
+  pub both_by_colour : (c d : Cell) → IsIn R P n c → IsIn R P n d → shade c ≡ shade d → HaveBoth (generations R Qs n) c d
+  both_by_colour c d h k e = both_of_colour R P Qs n split c d h k e
+
   module _ (x : Cell) where
     module _ (place : contains F x ≡ false) where
       pub islands : ColoursIslands F shade
       islands c d h k near = colour_of_both R P Qs n split c d h k (held.islands c d h k near)
 
       within_sets : (c d : Cell) → IsAround F x c → IsAround F x d → shade c ≡ shade d → HaveBoth (generations R Qs n) c d
-      within_sets c d at too e = both_by_colour R P Qs n split c d at.live too.live e
+      within_sets c d at too e = both_by_colour c d at.live too.live e
 
       pub fair : IsFair R F shade x
       fair =
@@ -127,7 +134,7 @@ module _ (R : Rule) (P : Generation) (Qs : List Generation) (n : ℕ) (split : A
           ap (born R) (count_at-alike (in_group F shade (shade g)) (contains (generation R Q n)) x (λ y near.
           cmp.both_ways (in_group F shade (shade g) y) (contains (generation R Q n) y)
           (λ k. let b = of_group F shade (shade g) y k in
-          have_both R P Qs n split g y (both_by_colour R P Qs n split g y (split.within Q one g h) b.0 (sym b.1)) Q one h)
+          have_both g y (both_by_colour g y (split.within Q one g h) b.0 (sym b.1)) Q one h)
           (λ k. to_group F shade (shade g) y (split.within Q one y k)
           (colour_of_both R P Qs n split y g (split.within Q one y k) (split.within Q one g h) (both_by_set R P Qs n split Q one y g k h)))))
 
@@ -181,6 +188,6 @@ module _ (R : Rule) (P : Generation) (Qs : List Generation) (n : ℕ) (split : A
           | inr place ↦
               let e = (fair x place).one (shade a.cell) (shade b.cell) (a.bearing place) (b.bearing place) in
               split.one A B first second b.cell
-              (have_both R P Qs n split a.cell b.cell (both_by_colour R P Qs n split a.cell b.cell (split.within A first a.cell a.has) (split.within B second b.cell b.has) e) A first a.has) b.has
+              (have_both a.cell b.cell (both_by_colour a.cell b.cell (split.within A first a.cell a.has) (split.within B second b.cell b.has) e) A first a.has) b.has
         ];
   }

@@ -19,7 +19,7 @@ use Rattle.life_parts.specs.Ties as all
 use Rattle.life_parts.specs.Ties.{AreTied, IsIn}
 use Rattle.life_parts.specs.Without.{AreTiedWithout, itself, swapped, through, touching, staying, bearing, meeting, meeting_born, before}
 use Rattle.life_parts.proofs.Around.{count_at-alike, next-born}
-use Rattle.life_parts.proofs.Apart.{AreSplitAt, from_later, have_both, not_here, same_next, to_later}
+use Rattle.life_parts.proofs.Apart.{AreSplitAt, from_later, in_both, not_here, same_next, to_later}
 use Rattle.life_parts.proofs.Ends.{both_in}
 use Rattle.life_parts.proofs.Ring.{enough_near}
 
@@ -111,7 +111,7 @@ module _ (R : Rule) (P : Generation) (Passed : Generation → (Cell → ℕ) →
         ∙ ap (born R) (count_at-alike (contains (generation R Q n)) (contains G) x (λ y near.
         cmp.both_ways (contains (generation R Q n) y) (contains G y)
         (at.split.within Q one y)
-        (λ l. have_both R P Qs n at.split c y (whole c y around (record { live = l; near = near })) Q one k)))
+        (λ l. in_both R P Qs n at.split c y (whole c y around (record { live = l; near = near })) Q one k)))
         ∙ sym (next-born R G x place) ∙ h
 
     in_next : (x : Cell) → IsIn R P (suc n) x → contains (next R G) x ≡ true
@@ -214,7 +214,7 @@ module _ (R : Rule) (P : Generation) (Passed : Generation → (Cell → ℕ) →
       0,
       λ Qs past Q one k.
           let at = reach.at 0 Qs past n in
-          have_both R P Qs n at.split c e (at.islands c e h l near) Q one k,
+          in_both R P Qs n at.split c e (at.islands c e h l near) Q one k,
     )
     tied_to_one n m c e (staying _ _ h l) = (0, λ Qs past Q one k. stays_with Qs n (reach.at 0 Qs past n) c h l Q one k)
     tied_to_one n m c e (bearing _ _ colour place islands within fair _ around h) =
@@ -237,7 +237,7 @@ module _ (R : Rule) (P : Generation) (Passed : Generation → (Cell → ℕ) →
               let sets : (a b : Cell) → IsAround (generation R P n) x a → IsAround (generation R P n) x b → colour a ≡ colour b → HaveBoth (generations R Qs n) a b =
               λ a b y z same. both_by_each Qs n at a b (λ A two g. pairs.1 a b y z same Qs past A two g) in
               elim (at.places x place) [
-                | inl whole ↦ have_both R P Qs n at.split c e (whole c e around too) Q one k
+                | inl whole ↦ in_both R P Qs n at.split c e (whole c e around too) Q one k
                 | inr each ↦ absurd (unfair (each colour islands sets (inr passing)).0)
               ],
         )

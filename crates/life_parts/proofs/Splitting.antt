@@ -15,7 +15,7 @@ use Rattle.life_parts.specs.Forks.{HasBirthsAtThreeAlone, IsForkOf}
 use Rattle.life_parts.specs.Groups.{ColoursIslands, IsAround, bears, in_group}
 use Rattle.life_parts.specs.Splittings.{AreSplit, AreUntouching}
 use Rattle.life_parts.specs.Ties.{IsIn}
-use Rattle.life_parts.proofs.Apart.{AreSplitAt, both_by_set, have_both}
+use Rattle.life_parts.proofs.Apart.{AreSplitAt, both_by_set, in_both}
 use Rattle.life_parts.proofs.Around.{near_swapped, next-born, one_around}
 use Rattle.life_parts.proofs.Classed.{of_bearing, of_group, to_group}
 use Rattle.life_parts.proofs.Corners.{IsParted}
@@ -54,7 +54,7 @@ module _ (R : Rule) (P : Generation) (Qs : List Generation) (split : AreSplit R 
 
   pub in_one_set : (c d : Cell) → IsIn R P n c → IsIn R P n d → IsNear c d → (Q : Generation) → Contains Qs Q → IsIn R Q n c →
       IsIn R Q n d
-  in_one_set c d h k near Q one in_Q = have_both R P Qs n split_at c d (whole_islands c d h k near) Q one in_Q
+  in_one_set c d h k near Q one in_Q = in_both R P Qs n split_at c d (whole_islands c d h k near) Q one in_Q
 
 module _ (R : Rule) (births : HasBirthsAtThreeAlone R) where
   pub three_by_birth : (p : Cell → Bool) (x : Cell) → born R (count_at p x) ≡ true → count_at p x ≡ 3
@@ -126,7 +126,7 @@ module _ (R : Rule) (births : HasBirthsAtThreeAlone R) (P : Generation) (Qs : Li
             within = now.within Q listed;
             inside = λ y near l.
                 let b = of_group G colour k y l in
-                have_both R P Qs n now g y (within g y around_x (record { live = b.0; near = near }) (same ∙ sym b.1)) Q listed in_Q;
+                in_both R P Qs n now g y (within g y around_x (record { live = b.0; near = near }) (same ∙ sym b.1)) Q listed in_Q;
             whole = λ y z near l live. in_one_set R P Qs split n y z (now.within Q listed y l) live near Q listed l;
             group = λ y z near l live.
                 let b = of_group G colour k y l in
@@ -139,7 +139,7 @@ module _ (R : Rule) (births : HasBirthsAtThreeAlone R) (P : Generation) (Qs : Li
           no_colour_of_both : (Q : Generation) → Contains Qs Q → (c d : Cell) → IsAround G x c → IsAround G x d → has Q c ≡ false →
               has Q d ≡ true → colour c ≡ colour d → ⊥
           no_colour_of_both Q listed c d around_x too none h same =
-              both_ways (has Q c) none (have_both R P Qs n now d c (within d c too around_x (sym same)) Q listed h)
+              both_ways (has Q c) none (in_both R P Qs n now d c (within d c too around_x (sym same)) Q listed h)
 
           none_bears : (IsForkOf G colour x → ⊥) → (k : ℕ) → bears R G colour k x ≡ true → ⊥
           none_bears no_fork k h =

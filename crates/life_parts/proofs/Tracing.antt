@@ -34,7 +34,7 @@ module _ (R : Rule) (P : Generation) (Qs : List Generation) (n : ℕ) (split : A
               (λ a b at too same.
               let A = split.cover a at.live in
               tied A.0 A.1 a b A.2
-              (have_both R P Qs n split a b (both_by_colour R P Qs n split a b at.live too.live same) A.0 A.1 A.2))
+              (have_both R P Qs n split held a b (both_by_colour R P Qs n split held a b at.live too.live same) A.0 A.1 A.2))
               (fair R P Qs n split held x place) c
               (record { live = split.within Q one c from.has; near = from.near }) (from.bearing place),
         )

@@ -153,8 +153,8 @@ pub fn what_is_held_apart_splits_no_part()
 /// Where 3 alone is among the births, each splitting of a set that comes again into sets that evolve alone and never touch is
 /// made of whole independent parts, if the set has no fork in any generation, or if each fork's islands are tied without it:
 /// what is tied is of one set of the splitting. It must be a splitting of the earlier generations too, which the set has been
-/// through before: else a spark could be split off in the moment in which it dies, though a part throws it in each period.
-/// (Bit 3 of a rule's births, which has the value 8, stands for 3.)
+/// through before, as it is where each of its sets comes again: else a spark that dies at once, as a lightweight spaceship has
+/// one, could be split off, though a part throws it in each period. (Bit 3 of a rule's births, whose value is 8, stands for 3.)
 pub fn no_splitting_is_finer()
     ensures ties { (R : Rule) (P A : Generation) (others : List Generation) (p n m : ℕ) (d c e : Cell) →
         HasBirthsAtThreeAlone R → RecursBy R P p d → AreForksTied R P →
