@@ -1,14 +1,18 @@
 -- No splitting is finer than the independent parts.
-use Rattle.std.proofs.Common.{◌≡◌, ℕ, suc, ◌+◌, ◌-◌, ◌*◌, ◌<◌, ◌≤◌, true, List, map, get_or, sym, ap, ◌∙◌, arith}
+use Rattle.std.proofs.Common.{◌≡◌, ℕ, suc, ◌+◌, ◌-◌, ◌*◌, ◌<◌, ◌≤◌, true, List, map, get_or, sym, ap, subst, ◌∙◌, arith}
+use Rattle.std.proofs.lemmas.Int.{ints}
 use Rattle.std.specs.List.{AllPairs, Contains}
 use Rattle.std.proofs.lemmas.List.Elements.{Contains-get_or}
-use Rattle.life_model.specs.Cell.{Cell, opposite, plus}
+use Rattle.life_model.specs.Cell.{Cell, opposite, origin, plus}
 use Rattle.life_model.specs.Rule.{Rule}
 use Rattle.life_model.specs.Generation.{Generation, contains}
 use Rattle.life_model.specs.Evolution.{generation, next}
 use Rattle.life_model.specs.Recurrence.{RecursBy}
 use Rattle.life_model.specs.Symmetry.{translate_of}
+use Rattle.life_model.proofs.Cells.{pair}
+use Rattle.life_model.proofs.Moves.{moved-moved, moved-origin}
 use Rattle.life_model.proofs.Orbits.{far_enough}
+use Rattle.life_model.proofs.Symmetries.{contains-moved}
 use Rattle.life_objects.specs.Apart.{AreDisjoint}
 use Rattle.life_objects.specs.Drift.{multiple_of}
 use Rattle.life_objects.specs.Union.{generations}
@@ -16,13 +20,14 @@ use Rattle.life_objects.proofs.Beginning.{mapped_to}
 use Rattle.life_objects.proofs.Lists.{AllPairs-unmap}
 use Rattle.life_objects.proofs.Many.{pairs_then}
 use Rattle.life_objects.proofs.Moving.{RecursBy-times}
+use Rattle.life_objects.proofs.Recurring.{moved_back}
 use Rattle.life_parts.specs.Forks.{AreForksTied, HasBirthsAtThreeAlone, IsForkOf}
 use Rattle.life_parts.specs.Parts.{AreIndependentParts}
 use Rattle.life_parts.specs.Splittings.{AreSplit, AreSplitThroughout, AreUntouching}
 use Rattle.life_parts.specs.Ties.{AreTied, IsIn, touching}
 use Rattle.life_parts.specs.Without.{AreTiedWithout}
 use Rattle.life_parts.proofs.Apart.{from_map}
-use Rattle.life_parts.proofs.Befores.{moved_ahead, since, splits_here, stands_ahead, then_become}
+use Rattle.life_parts.proofs.Befores.{generation-then, moved_ahead, since, split_then, splits_here, stands_ahead, then, then_become}
 use Rattle.life_parts.proofs.Classed.{AreClassesAt}
 use Rattle.life_parts.proofs.Ends.{contains-later}
 use Rattle.life_parts.proofs.Evolving.{at_first, classes_at, disjoint_later, first_classes, part_of, together_later}
@@ -31,6 +36,11 @@ use Rattle.life_parts.proofs.Forking.{fork_or_not, no_birth}
 use Rattle.life_parts.proofs.Lists.{some_cell}
 use Rattle.life_parts.proofs.Recurring.{moved_set}
 use Rattle.life_parts.proofs.Splitting.{followed}
+
+moved_forth : (A : Generation) (f : Cell) → translate_of (translate_of A (opposite f)) f ≡ A
+moved_forth A f =
+    moved-moved A (opposite f) f ∙ ap (translate_of A) (let e : plus (opposite f) f ≡ origin = pair (omega (arith, ints)) (omega (arith, ints)) in e)
+    ∙ moved-origin A
 
 -- Into sets that have become these P was split more than K generations before.
 pub record HasPast (R : Rule) (P : Generation) (K : ℕ) (Qs : List Generation) : Type 0 where
@@ -82,6 +92,38 @@ module _ (R : Rule) (P : Generation) (K q : ℕ) (f : Cell) (s : RecursBy R P q 
       let B = past.become Q one in
       (back B.0, mapped_to back past.sets B.0 B.1, then_become R P k q g f less past.recurs s B.0 Q B.2)
 
+module _ (R : Rule) (k : ℕ) (f : Cell) where
+  -- where a set's cells were, moved back
+  then_at : (Q : Generation) (n : ℕ) (c : Cell) →
+      contains (generation R (then R k (opposite f) Q) n) c ≡ contains (generation R Q (n + k)) (plus c f)
+  then_at Q n c =
+      let times : k + n ≡ n + k = omega arith in
+      let places : plus c (opposite (opposite f)) ≡ plus c f = pair (omega (arith, ints)) (omega (arith, ints)) in
+      ap (λ H. contains H c) (generation-then R k (opposite f) Q n)
+      ∙ contains-moved (generation R Q (k + n)) (opposite f) c
+      ∙ (λ i. contains (generation R Q (times i)) (places i))
+
+-- what sets have become when P has come again has a past
+module _ (R : Rule) (P : Generation) (k : ℕ) (f : Cell) (r : RecursBy R P k f) (K : ℕ) (long : K < k)
+    (Qs : List Generation) (split : AreSplit R P Qs) where
+  later_past : HasPast R P K (map (then R k (opposite f)) Qs)
+  later_past = record {
+    later = subst (λ H. AreSplit R H (map (then R k (opposite f)) Qs))
+        (ap (λ H. translate_of H (opposite f)) r.again ∙ moved_back P f) (split_then R k (opposite f) P Qs split);
+    steps = k;
+    by = f;
+    long = long;
+    recurs = r;
+    sets = Qs;
+    split = split;
+    become = λ C one.
+        let B = from_map (then R k (opposite f)) Qs C one in (
+          B.0,
+          B.1,
+          sym (moved_forth (generation R B.0 k) f) ∙ ap (λ H. translate_of H f) B.2,
+        );
+  }
+
 module _ (R : Rule) (births : HasBirthsAtThreeAlone R) (P : Generation) where
   reach : ReachBack R P IsForkOf (HasPast R P)
   reach = record {
@@ -128,14 +170,30 @@ module _ (R : Rule) (births : HasBirthsAtThreeAlone R) (P : Generation) where
         become = befores.2;
       })
 
-  pub not_split : AreForksTied R P → (p : ℕ) (d : Cell) → RecursBy R P p d → (Qs : List Generation) →
-      AreSplitThroughout R P Qs → (n m : ℕ) (c e : Cell) → AreTied R P n c m e → (Q : Generation) → Contains Qs Q →
-      IsIn R Q n c → IsIn R Q m e
-  not_split forks p d r Qs split n m c e t =
-      not_split_without p d r Qs split n m c e
-      (tied_without R P IsForkOf (λ k x colour. fork_or_not (generation R P k) colour x)
-      (λ k x colour islands is a b at too. forks k x (record { colour = colour; islands = islands; is = is }) a b at too)
-      (λ k x colour is h. no_birth (generation R P k) colour x R births is (in_next k x h)) n m c e t)
+  module _ (forks : AreForksTied R P) where
+    without_forks : (n m : ℕ) (c e : Cell) → AreTied R P n c m e → AreTiedWithout R P IsForkOf n c m e
+    without_forks n m c e t =
+        tied_without R P IsForkOf (λ k x colour. fork_or_not (generation R P k) colour x)
+        (λ k x colour islands is a b at too. forks k x (record { colour = colour; islands = islands; is = is }) a b at too)
+        (λ k x colour is h. no_birth (generation R P k) colour x R births is (in_next k x h)) n m c e t
+
+    pub not_split : (p : ℕ) (d : Cell) → RecursBy R P p d → (Qs : List Generation) → AreSplitThroughout R P Qs →
+        (n m : ℕ) (c e : Cell) → AreTied R P n c m e → (Q : Generation) → Contains Qs Q → IsIn R Q n c → IsIn R Q m e
+    not_split p d r Qs split n m c e t = not_split_without p d r Qs split n m c e (without_forks n m c e t)
+
+    -- What is tied is so much later of one set, into which P is split from now on alone.
+    pub not_split_later : (Qs : List Generation) → AreSplit R P Qs → (n m : ℕ) (c e : Cell) → AreTied R P n c m e →
+        (K : ℕ) × ((k : ℕ) (f : Cell) → RecursBy R P k f → K < k → (Q : Generation) → Contains Qs Q →
+        IsIn R Q (n + k) (plus c f) → IsIn R Q (m + k) (plus e f))
+    not_split_later Qs split n m c e t =
+        let one = tied_to_one R P IsForkOf (HasPast R P) reach n m c e (without_forks n m c e t) in (
+          one.0,
+          λ k f r long Q listed h.
+              let back = then R k (opposite f) in
+              sym (then_at R k f Q m e)
+              ∙ one.1 (map back Qs) (later_past R P k f r one.0 long Qs split) (back Q) (mapped_to back Qs Q listed)
+              (then_at R k f Q n c ∙ h),
+        )
 
 -- ---- the independent parts are such a splitting
 

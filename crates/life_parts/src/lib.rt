@@ -2,7 +2,7 @@
 //! the contracts of functions that do nothing.
 #![tactic(auto)]
 
-ghost use Rattle.std.specs.Prelude.{◌≡◌, ◌≢◌, ◌↔◌, ℕ, ◌*◌, ◌<◌, ◌≤◌, true, List, [], ◌∷◌, ◌++◌, length, map};
+ghost use Rattle.std.specs.Prelude.{◌≡◌, ◌≢◌, ◌↔◌, ℕ, ◌+◌, ◌*◌, ◌<◌, ◌≤◌, true, List, [], ◌∷◌, ◌++◌, length, map};
 ghost use Rattle.std.specs.Prelude.{All, AllPairs, Contains};
 ghost use Rattle.std.specs.List.Sorted.{IsPermutation};
 ghost use Rattle.life_model.specs.Cell.{Cell, plus};
@@ -154,7 +154,8 @@ pub fn what_is_held_apart_splits_no_part()
 /// made of whole independent parts, if the set has no fork in any generation, or if each fork's islands are tied without it:
 /// what is tied is of one set of the splitting. It must be a splitting of the earlier generations too, which the set has been
 /// through before, as it is where each of its sets comes again: else a spark that dies at once, as a lightweight spaceship has
-/// one, could be split off, though a part throws it in each period. (Bit 3 of a rule's births, whose value is 8, stands for 3.)
+/// one, could be split off, though a part throws it in each period. Of a splitting from now on alone it is so after a time: what
+/// is tied, so much later, is of one set. (Bit 3 of a rule's births, whose value is 8, stands for 3.)
 pub fn no_splitting_is_finer()
     ensures ties { (R : Rule) (P A : Generation) (others : List Generation) (p n m : ℕ) (d c e : Cell) →
         HasBirthsAtThreeAlone R → RecursBy R P p d → AreForksTied R P →
@@ -164,6 +165,10 @@ pub fn no_splitting_is_finer()
         HasBirthsAtThreeAlone R → RecursBy R P p d → AreForksTied R P →
         AreSplitThroughout R P others → AreIndependentParts R P Qs → Contains Qs Q →
         contains Q c ≡ true → contains Q e ≡ true → HaveBoth others c e }
+    ensures later { (R : Rule) (P : Generation) (others : List Generation) (n m : ℕ) (c e : Cell) →
+        HasBirthsAtThreeAlone R → AreForksTied R P → AreSplit R P others → AreTied R P n c m e →
+        (long : ℕ) × ((k : ℕ) (f : Cell) → RecursBy R P k f → long < k → (A : Generation) → Contains others A →
+        contains (generation R A (n + k)) (plus c f) ≡ true → contains (generation R A (m + k)) (plus e f) ≡ true) }
     ensures births { (R : Rule) → R.birth ≡ 8 → HasBirthsAtThreeAlone R }
     ensures forks { (R : Rule) (P : Generation) →
         ((n : ℕ) (x : Cell) → IsFork (generation R P n) x → ⊥) → AreForksTied R P }

@@ -1,5 +1,5 @@
 use Rattle.life_parts.proofs.Evolving.{at_first, in_at_first, part_of}
-use Rattle.life_parts.proofs.Finest.{not_split}
+use Rattle.life_parts.proofs.Finest.{not_split, not_split_later}
 use Rattle.life_parts.proofs.Forking.{three_alone}
 use Rattle.life_parts.proofs.no_splitting_is_finer.Goals as goal
 
@@ -10,6 +10,7 @@ returns c = record {
   parts = λ R P Q Qs others p d x y births r forks split are one h k A listed in_A.
       in_at_first R A y
       (not_split R births P forks p d r others split 0 0 x y ((part_of R P Qs are Q one).tied x y h k) A listed (at_first R A x in_A));
+  later = λ R P others n m x y births forks split t. not_split_later R births P forks others split n m x y t;
   births = λ R three. three_alone R three;
   forks = λ R P none n x fork. absurd (none n x fork);
 }
