@@ -6,7 +6,7 @@ use Rattle.clap.proofs.OnLiterals.{clap_on_literals}
 use Rattle.census_cli.specs.CommandLine.{census_app}
 use Rattle.census_cli.specs.Asking.{AsksAdvance, AsksDraw, AsksIdentify, AsksMerge, AsksObjects, AsksPage, AsksRun, AsksTable, AsksToExplain}
 use Rattle.census_cli.specs.Refusing.{AsksTwoFormats}
-use Rattle.census_cli.specs.declared.request.TableFormat.TheVariants.{Csv, Json}
+use Rattle.census_cli.specs.declared.request.TableFormat.TheVariants.{Json}
 
 run_alone : AsksRun (codes "run" ∷ []) 1000 4 None None false false []
 unfolding clap_on_literals

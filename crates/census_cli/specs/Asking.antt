@@ -1,5 +1,5 @@
 -- What the words of a command line ask for, by the matches that clap gives for them.
-use Rattle.std.specs.Prelude.{◌≡◌, ℕ, ◌≤◌, List, [], Bool, true, false, Option, Some, None, map, codes}
+use Rattle.std.specs.Prelude.{◌≡◌, ◌⊎◌, ℕ, ◌≤◌, List, [], Bool, true, false, Option, Some, None, map, codes}
 use Rattle.std.specs.Prelude.{option_map, unwrap_or}
 use Rattle.std.specs.Str.Parse.{digits_value, without_leading_plus}
 use Rattle.clap.specs.Faults.{fault_of}
@@ -135,9 +135,21 @@ abbrev pub Explains : Option (List ℕ × List Row) → Bool → Type 0
 Explains None used = ⊥
 Explains (Some (name, rows)) used = IsFlag (codes "explain") rows used
 
--- The command and its matches are those of what is asked for, and say whether its faults are to be explained.
+-- a command that tells a terminal how far it has come
+abbrev pub HasProgress : List ℕ → Type 0
+HasProgress name = (name ≡ codes "run") ⊎ (name ≡ codes "objects")
+
+-- whether the flag `--no-progress` of a command that has it was used
+abbrev pub IsQuiet : Option (List ℕ × List Row) → Bool → Type 0
+IsQuiet None used = ⊥
+IsQuiet (Some (name, rows)) used =
+    (HasProgress name → IsFlag (codes "no-progress") rows used) × ((HasProgress name → ⊥) → used ≡ false)
+
+-- The command and its matches are those of what is asked for, and say whether its faults are to be explained, and whether
+-- it is to be quiet.
 abbrev pub GivesAsked : Option (List ℕ × List Row) → Asked → Type 0
-GivesAsked command asked = GivesRequest command asked.request × Explains command asked.explain
+GivesAsked command asked =
+    GivesRequest command asked.request × Explains command asked.explain × IsQuiet command asked.quiet
 
 -- ---- what the words ask for
 
@@ -187,6 +199,11 @@ Asks words request = IsMatched words × GivesRequest (subcommand_of census_app w
 abbrev pub AsksToExplain : List (List ℕ) → Bool → Type 0
 AsksToExplain words used = Explains (subcommand_of census_app words) used
 
--- for this, with its faults explained or not
+-- whether the words ask that no progress be told
+abbrev pub AsksForQuiet : List (List ℕ) → Bool → Type 0
+AsksForQuiet words used = IsQuiet (subcommand_of census_app words) used
+
+-- for this, with its faults explained or not, and with its progress told or not
 abbrev pub AsksFor : List (List ℕ) → Asked → Type 0
-AsksFor words asked = Asks words asked.request × AsksToExplain words asked.explain
+AsksFor words asked =
+    Asks words asked.request × AsksToExplain words asked.explain × AsksForQuiet words asked.quiet

@@ -1,7 +1,7 @@
 //! What words ask for.
 ghost use Rattle.std.specs.Prelude.{◌≡◌, IfOk, MatchResult, Some, codes, map, option_map};
 ghost use Rattle.clap.specs.Words.{first_of, found_of, rows_of, subcommand_rows_of};
-ghost use Rattle.census_cli.specs.Asking.{AsksFor, Explains, GivesAsked, GivesRequest, IsFlag, argument_number, values_of};
+ghost use Rattle.census_cli.specs.Asking.{AsksFor, Explains, GivesAsked, GivesRequest, IsFlag, IsQuiet, argument_number, values_of};
 ghost use Rattle.census_cli.specs.Holding.{HasFlag, HasLimit, HasNumber, HasObjects, HasRun, HasTable, HasText};
 ghost use Rattle.census_cli.specs.Holding.{IsCommand};
 ghost use Rattle.census_cli.specs.Refusing.{NamesFormat, RefusesCommand, RefusesWords};
@@ -287,6 +287,7 @@ fn explains(matches: &ArgMatches<'_>) -> bool
 // Whether the flag `--no-progress` of a command that has it was used.
 fn is_quiet(matches: &ArgMatches<'_>) -> bool
     requires { IsCommand (subcommand_rows_of matches.now) }
+    ensures { IsQuiet (subcommand_rows_of matches.now) result }
 {
     if let Some(run) = matches.subcommand_matches("run") {
         return flag(run, "no-progress");

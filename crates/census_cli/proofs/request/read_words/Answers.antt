@@ -35,7 +35,7 @@ returns-in-Ok c =
     let matched = ap (λ (a : App). fault_of a words) (sym app) ∙ c.in-Ok.ensures.kinds (ap is_simple_and_free app ∙ free) in
     let entered = (c.in-Ok.ensures.matches (ap is_simple app ∙ simple)).1 ∙ ap (λ (a : App). subcommand_of a words) app in
     MatchResult-weaker c.asked_of.result c.asked_of.ensures
-    (λ (asked : Asked) gives. let all = subst (λ (o : Option (List ℕ × List Row)). GivesAsked o asked) entered gives in ((matched, all.0), all.1))
+    (λ (asked : Asked) gives. let all = subst (λ (o : Option (List ℕ × List Row)). GivesAsked o asked) entered gives in ((matched, all.0), all.1, all.2))
     (λ (fault : WordsFault) h. refuses_matched words fault matched (subst (λ (o : Option (List ℕ × List Row)). RefusesCommand o fault) entered h))
 
 pub returns-in-Err : goal.returns-in-Err
