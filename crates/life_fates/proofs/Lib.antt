@@ -1,0 +1,5 @@
+mod Finding
+mod Tracks
+mod Growths
+mod Lasting
+mod Fates
