@@ -1,5 +1,5 @@
 mod Finding
-mod Tracks
-mod Growths
-mod Lasting
-mod Fates
+pub mod Tracks
+pub mod Growths
+pub mod Lasting
+pub mod Fates

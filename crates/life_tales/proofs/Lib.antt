@@ -1,0 +1,6 @@
+mod Orders
+mod Tallies
+mod Permuted
+mod Codes
+mod Tales
+mod Told

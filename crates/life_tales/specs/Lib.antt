@@ -1,0 +1,3 @@
+pub mod Tales
+pub mod Counts
+pub mod Told

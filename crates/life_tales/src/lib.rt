@@ -1,0 +1,89 @@
+//! What is told of a pattern within a bound: the objects of its ash, or its engines, counted by period, displacement and
+//! the codes of what they emit. In `specs/` a definition that computes; and as the contracts of functions that do nothing
+//! the laws that it is right, and that it hangs neither on the bound nor on the generation that is looked at.
+#![tactic(auto)]
+
+ghost use Rattle.std.specs.Prelude.{◌≡◌, ◌≢◌, ◌↔◌, ℕ, ◌≤◌, List, Contains, count_by, length, sum_by, true};
+ghost use Rattle.std.specs.List.{AllPairs};
+ghost use Rattle.std.specs.List.Sorted.{IsPermutation};
+ghost use Rattle.std.specs.declared.cmp.Ordering.TheVariants.{Less};
+ghost use Rattle.life_model.specs.Evolution.{generation};
+ghost use Rattle.life_model.specs.Generation.{Generation};
+ghost use Rattle.life_model.specs.Rule.{Rule};
+ghost use Rattle.life_objects.specs.Ash.{HasFallenApart};
+ghost use Rattle.life_growth.specs.Engine.{Emits, IsEngine, IsEngineWithin, Way};
+ghost use Rattle.life_growth.specs.Growth.{HasComeToGrowth};
+ghost use Rattle.life_growth.specs.Told.{AreToldAlike};
+ghost use Rattle.life_answer.specs.Census.{census_of};
+ghost use Rattle.life_answer.specs.declared.finding.Outcome.TheVariants.{Ash};
+ghost use Rattle.life_answer.specs.declared.part.Part.{Part};
+ghost use Rattle.life_tales.specs.Counts.{counted_tales, same_tale, tale_cmp};
+ghost use Rattle.life_tales.specs.Tales.{Tale, counted_objects, tale_of};
+ghost use Rattle.life_tales.specs.Told.{Nothing, OfAsh, OfGrowth, told_of, told_of_engines};
+
+/// What is told of an engine is the period and the displacement of its way, and what it emits in a period, counted by
+/// codes.
+pub fn tales_are_right()
+    ensures { (R : Rule) (b : ℕ) (E : Generation) (way : Way) (objects : List Generation) → IsEngine R b E way →
+        Emits R b way objects → tale_of R b E ≡ record {
+          period = way.period;
+          displacement = way.displacement;
+          emits = counted_objects R b objects;
+        } }
+{}
+
+/// The same is told of two engines, whatever the bounds, exactly where their tales are one.
+pub fn tales_tell_engines()
+    ensures one { (R : Rule) (b c : ℕ) (E F : Generation) → AreToldAlike R b c E F →
+        tale_of R b E ≡ tale_of R c F }
+    ensures alike { (R : Rule) (b c : ℕ) (E F : Generation) → IsEngineWithin R b E → IsEngineWithin R c F →
+        tale_of R b E ≡ tale_of R c F → AreToldAlike R b c E F }
+{}
+
+/// Tales are counted: a line has a tale and how often it is told, which is at least once; each tale has a line; the lines
+/// rise in the order of tales; their numbers add up to the number of tales; and the order in which these come has no say.
+pub fn tales_are_counted()
+    ensures number { (ts : List Tale) (t : Tale) (n : ℕ) → Contains (counted_tales ts) (t, n) →
+        (1 ≤ n) × (n ≡ count_by (same_tale t) ts) }
+    ensures each { (ts : List Tale) (t : Tale) → Contains ts t →
+        Contains (counted_tales ts) (t, count_by (same_tale t) ts) }
+    ensures same { (s t : Tale) → (same_tale s t ≡ true) ↔ (s ≡ t) }
+    ensures order { (ts : List Tale) → AllPairs (λ s t. tale_cmp s.0 t.0 ≡ Less) (counted_tales ts) }
+    ensures all { (ts : List Tale) → sum_by (λ line. line.1) (counted_tales ts) ≡ length ts }
+    ensures any_order { (ts us : List Tale) → IsPermutation ts us → counted_tales ts ≡ counted_tales us }
+{}
+
+/// What is told is what there is: of what has fallen apart its objects, counted by codes, of what has come to growth its
+/// engines, counted by what is told of each, and nothing only of what has done neither.
+pub fn what_is_told_is_right()
+    ensures ash { (R : Rule) (b : ℕ) (G : Generation) (parts : List Generation) → HasFallenApart R b G parts →
+        told_of R b G ≡ OfAsh (counted_objects R b parts) }
+    ensures grows { (R : Rule) (b : ℕ) (G S : Generation) (Es : List Generation) → HasComeToGrowth R b G Es S →
+        told_of R b G ≡ OfGrowth (told_of_engines R b Es) }
+    ensures no_ash { (R : Rule) (b : ℕ) (G : Generation) (parts : List Generation) → told_of R b G ≡ Nothing →
+        HasFallenApart R b G parts → ⊥ }
+    ensures no_growth { (R : Rule) (b : ℕ) (G S : Generation) (Es : List Generation) → told_of R b G ≡ Nothing →
+        HasComeToGrowth R b G Es S → ⊥ }
+    ensures otherwise { (R : Rule) (b : ℕ) (G : Generation) →
+        ((parts : List Generation) → HasFallenApart R b G parts → ⊥) →
+        ((S : Generation) (Es : List Generation) → HasComeToGrowth R b G Es S → ⊥) → told_of R b G ≡ Nothing }
+    ensures census { (R : Rule) (b : ℕ) (G : Generation) (parts : List Part) →
+        (told_of R b G ≡ OfAsh parts) ↔ (census_of R G b ≡ Ash parts) }
+{}
+
+/// Only what is so is told: ash of what has fallen apart, and growth of what has come to it.
+pub fn nothing_else_is_told()
+    ensures ash { (R : Rule) (b : ℕ) (G : Generation) (told : List Part) → told_of R b G ≡ OfAsh told →
+        (parts : List Generation) × HasFallenApart R b G parts × (told ≡ counted_objects R b parts) }
+    ensures grows { (R : Rule) (b : ℕ) (G : Generation) (told : List (Tale × ℕ)) → told_of R b G ≡ OfGrowth told →
+        (Es : List Generation) × (S : Generation) × HasComeToGrowth R b G Es S × (told ≡ told_of_engines R b Es) }
+{}
+
+/// What is told hangs neither on the bound nor on the generation that is looked at: within each greater bound the same is
+/// told; and of two generations of a pattern, within two bounds, the same is told wherever something is.
+pub fn what_is_told_lasts()
+    ensures bound { (R : Rule) (b c : ℕ) (G : Generation) → b ≤ c → told_of R b G ≢ Nothing →
+        told_of R c G ≡ told_of R b G }
+    ensures phase { (R : Rule) (b c m n : ℕ) (G : Generation) → told_of R b (generation R G m) ≢ Nothing →
+        told_of R c (generation R G n) ≢ Nothing → told_of R b (generation R G m) ≡ told_of R c (generation R G n) }
+{}
