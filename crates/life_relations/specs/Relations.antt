@@ -1,0 +1,49 @@
+-- Relations between steps, and how often each step is made in a sum of them.
+use Rattle.std.specs.Prelude.{◌≡◌, ◌≢◌, ℕ, zero, suc, ◌<◌, ◌≤◌, ℤ, pos, ◌+ℤ◌, List, [], ◌∷◌, length}
+use Rattle.life_meeting.specs.Sums.{Step, and_then, rest_after, stay, sum_of, times}
+
+-- c is a sum of the steps, each made as often as may be
+abbrev pub IsSumOf : List Step → Step → Type 0
+IsSumOf us c = (often : List ℕ) × (sum_of us often ≡ c)
+
+-- the list without the element in place i
+abbrev pub left_out : List Step → ℕ → List Step
+left_out [] i = []
+left_out (u ∷ us) zero = us
+left_out (u ∷ us) (suc i) = u ∷ left_out us i
+
+-- the step in place i, or the one that stays where there is none
+abbrev pub step_at : List Step → ℕ → Step
+step_at [] i = stay
+step_at (u ∷ us) zero = u
+step_at (u ∷ us) (suc i) = step_at us i
+
+-- the number in place i, or 0 where there is none
+abbrev pub number_at : List ℕ → ℕ → ℕ
+number_at [] i = 0
+number_at (k ∷ ks) zero = k
+number_at (k ∷ ks) (suc i) = number_at ks i
+
+-- what is left of c after the step in place i has been made so often
+abbrev pub rest_of : List Step → ℕ → Step → ℕ → Step
+rest_of us i c often = rest_after c (times often (step_at us i))
+
+-- The steps add up to the same, each made as often as `ups` says or as `downs` says. Some step is among the first, and
+-- none is among both.
+pub record IsRelation (us : List Step) (ups downs : List ℕ) : Type 0 where
+  pub same : sum_of us ups ≡ sum_of us downs
+  pub place : ℕ
+  pub within : place < length us
+  pub some : 1 ≤ number_at ups place
+  pub apart : (i : ℕ) → 1 ≤ number_at ups i → number_at downs i ≡ 0
+
+-- f of a sum of two steps is the sum of what f is of each
+pub record IsAdditive (f : Step → ℤ) : Type 0 where
+  pub adds : (u v : Step) → f (and_then u v) ≡ (f u +ℤ f v)
+  pub stays : f stay ≡ pos 0
+
+-- f is 0 of each of the steps but that in place i
+pub record SinglesOut (f : Step → ℤ) (us : List Step) (i : ℕ) : Type 0 where
+  pub additive : IsAdditive f
+  pub others : (j : ℕ) → f (step_at (left_out us i) j) ≡ pos 0
+  pub some : f (step_at us i) ≢ pos 0

@@ -1,0 +1,28 @@
+//! Whether a step is a sum of given steps, each made as often as may be: what relations between the steps tell of it, and
+//! what is told by a function that is 0 of all steps but one. So it is told with few tries. Definitions in `specs/`; the
+//! laws are the contracts of functions that do nothing.
+#![tactic(auto)]
+
+ghost use Rattle.std.specs.Prelude.{◌≡◌, ◌↔◌, ℕ, ◌<◌, ℤ, List, []};
+ghost use Rattle.life_meeting.specs.Sums.{Step, stay, times};
+ghost use Rattle.life_relations.specs.Relations.{IsRelation, IsSumOf, SinglesOut, number_at, rest_of, step_at, left_out};
+
+/// Of steps between which there is a relation, some one is made less often than the relation has it, in some sum that
+/// makes c: so there are no more numbers to try than the relation adds up to, each with one step fewer.
+pub fn relations_leave_few_numbers()
+    ensures { (us : List Step) (ups downs : List ℕ) (c : Step) → IsRelation us ups downs → IsSumOf us c ↔
+        ((i : ℕ) × (often : ℕ) × (often < number_at ups i) × IsSumOf (left_out us i) (rest_of us i c often)) }
+{}
+
+/// How often a step is made is told by a function that is 0 of all others: no other number has to be tried.
+pub fn what_singles_a_step_out_tells_its_number()
+    ensures sum { (f : Step → ℤ) (us : List Step) (i : ℕ) (c : Step) → SinglesOut f us i → IsSumOf us c ↔
+        ((often : ℕ) × (f (times often (step_at us i)) ≡ f c) × IsSumOf (left_out us i) (rest_of us i c often)) }
+    ensures one { (f : Step → ℤ) (us : List Step) (i m n : ℕ) → SinglesOut f us i →
+        f (times m (step_at us i)) ≡ f (times n (step_at us i)) → m ≡ n }
+{}
+
+/// Without a step only staying is a sum.
+pub fn no_steps_stay()
+    ensures { (c : Step) → IsSumOf [] c ↔ (c ≡ stay) }
+{}
