@@ -1,16 +1,17 @@
 -- What is told of a pattern is right, and hangs neither on the bound nor on the generation that is looked at.
-use Rattle.std.proofs.Common.{◌≡◌, ◌≢◌, ◌↔◌, ℕ, ◌+◌, ◌≤◌, List, map, Option, Some, None, sym, refl, ap, subst, ◌∙◌, arith}
+use Rattle.std.proofs.Common.{◌≡◌, ◌≢◌, ◌↔◌, ℕ, ◌+◌, ◌-◌, ◌≤◌, List, map, Option, Some, None, sym, refl, ap, subst, ◌∙◌, arith}
 use Rattle.std.specs.List.Sorted.{IsPermutation}
 use Rattle.std.proofs.lemmas.List.Sorted.{IsPermutation-map}
 use Rattle.life_model.specs.Rule.{Rule}
 use Rattle.life_model.specs.Generation.{Generation}
 use Rattle.life_model.specs.Evolution.{generation}
 use Rattle.life_model.proofs.Recurrences.{generation-add, generation-zero}
-use Rattle.life_objects.specs.Ash.{HasFallenApart}
+use Rattle.life_objects.specs.Ash.{HasFallenApart, IsAsh}
+use Rattle.life_objects.proofs.Ashes.{IsAsh-until, IsAsh-wider}
 use Rattle.life_objects.specs.Union.{generations, union, union_of}
 use Rattle.life_growth.specs.Growth.{HasComeToGrowth, IsGrowth}
-use Rattle.life_growth.proofs.Alike.{later_ashes_are_alike}
-use Rattle.life_growth.proofs.Lasting.{growth_later, shed}
+use Rattle.life_growth.proofs.Alike.{count_later, later_ashes_are_alike}
+use Rattle.life_growth.proofs.Lasting.{growth_later, growth_sooner, shed}
 use Rattle.life_growth.proofs.Settling.{settles_later}
 use Rattle.life_decided.specs.Decided.{ash_of}
 use Rattle.life_answer.specs.Census.{census_found, census_of, part_code}
@@ -131,6 +132,25 @@ module _ (R : Rule) where
       to_census (ash_of R b last) (growth_of R b last) told,
       from_census (ash_of R b last) (growth_of R b last) told,
     )
+
+  -- ---- what is seen sooner
+
+  pub ash_sooner : (b g h : ℕ) (G : Generation) (parts : List Generation) → IsAsh R h (generation R G g) parts → g ≤ b →
+      h ≤ b → told_of R b G ≡ OfAsh (counted_objects R h parts)
+  ash_sooner b g h G parts ash early le =
+      let n : ℕ = b - g in
+      let later = generations R parts n in
+      let fallen = IsAsh-wider R h (generation R G b) later (IsAsh-until R h g b G parts early ash) b le in
+      told_ash b G later fallen
+      ∙ ap OfAsh (counted_alike R b h later parts fallen.objects ash.objects (λ kind fits.
+      count_later R kind fits h n parts ash.objects))
+
+  pub grows_sooner : (b g h : ℕ) (G : Generation) (Es : List Generation) (S : Generation) →
+      IsGrowth R h (generation R G g) Es S → g ≤ b → h ≤ b → told_of R b G ≡ OfGrowth (told_of_engines R h Es)
+  grows_sooner b g h G Es S growth early le =
+      let later = growth_sooner R h b g G Es S growth early le in
+      told_growth b G later.0 later.1 later.2
+      ∙ ap (λ ts. OfGrowth (counted_tales ts)) (sym (all_told_one R h b Es later.0 later.3))
 
   -- ---- two generations, and two bounds
 

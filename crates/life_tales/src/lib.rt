@@ -10,9 +10,9 @@ ghost use Rattle.std.specs.declared.cmp.Ordering.TheVariants.{Less};
 ghost use Rattle.life_model.specs.Evolution.{generation};
 ghost use Rattle.life_model.specs.Generation.{Generation};
 ghost use Rattle.life_model.specs.Rule.{Rule};
-ghost use Rattle.life_objects.specs.Ash.{HasFallenApart};
+ghost use Rattle.life_objects.specs.Ash.{HasFallenApart, IsAsh};
 ghost use Rattle.life_growth.specs.Engine.{Emits, IsEngine, IsEngineWithin, Way};
-ghost use Rattle.life_growth.specs.Growth.{HasComeToGrowth};
+ghost use Rattle.life_growth.specs.Growth.{HasComeToGrowth, IsGrowth};
 ghost use Rattle.life_growth.specs.Told.{AreToldAlike};
 ghost use Rattle.life_answer.specs.Census.{census_of};
 ghost use Rattle.life_answer.specs.declared.finding.Outcome.TheVariants.{Ash};
@@ -86,4 +86,13 @@ pub fn what_is_told_lasts()
         told_of R c G ≡ told_of R b G }
     ensures phase { (R : Rule) (b c m n : ℕ) (G : Generation) → told_of R b (generation R G m) ≢ Nothing →
         told_of R c (generation R G n) ≢ Nothing → told_of R b (generation R G m) ≡ told_of R c (generation R G n) }
+{}
+
+/// What is seen sooner is told: where some generation, within some horizon, is ash or grows, that is told within each bound
+/// that is no smaller than either.
+pub fn what_is_seen_sooner_is_told()
+    ensures ash { (R : Rule) (b g h : ℕ) (G : Generation) (parts : List Generation) → IsAsh R h (generation R G g) parts →
+        g ≤ b → h ≤ b → told_of R b G ≡ OfAsh (counted_objects R h parts) }
+    ensures grows { (R : Rule) (b g h : ℕ) (G S : Generation) (Es : List Generation) →
+        IsGrowth R h (generation R G g) Es S → g ≤ b → h ≤ b → told_of R b G ≡ OfGrowth (told_of_engines R h Es) }
 {}
