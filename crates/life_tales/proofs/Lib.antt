@@ -4,3 +4,4 @@ mod Permuted
 mod Codes
 mod Tales
 mod Told
+mod Reported

@@ -41,10 +41,10 @@ module _ (R : Rule) where
   cases_by b G (Grows Es S) e = of_growth Es S e
   cases_by b G Unresolved e = of_neither e
 
-  cases : (b : ℕ) (G : Generation) → Cases R b G
+  pub cases : (b : ℕ) (G : Generation) → Cases R b G
   cases b G = cases_by b G (fate_of R b G) refl
 
-  told_by : (b : ℕ) (G : Generation) (fate : Fate) → fate_of R b G ≡ fate → told_of R b G ≡ told_of_fate R b fate
+  pub told_by : (b : ℕ) (G : Generation) (fate : Fate) → fate_of R b G ≡ fate → told_of R b G ≡ told_of_fate R b fate
   unfolding told_of
   told_by b G fate e = ap (told_of_fate R b) e
 
@@ -75,7 +75,7 @@ module _ (R : Rule) where
     not_ash_nothing : (told : List Part) → OfAsh told ≡ Nothing → ⊥
     not_ash_nothing told e = cc
 
-    not_growth_nothing : (told : List (Tale × ℕ)) → OfGrowth told ≡ Nothing → ⊥
+    pub not_growth_nothing : (told : List (Tale × ℕ)) → OfGrowth told ≡ Nothing → ⊥
     not_growth_nothing told e = cc
 
     pub nothing_no_ash : (parts : List Generation) → told_of R b G ≡ Nothing → HasFallenApart R b G parts → ⊥

@@ -1,3 +1,4 @@
 pub mod Tales
 pub mod Counts
 pub mod Told
+pub mod Reported

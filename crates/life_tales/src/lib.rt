@@ -3,7 +3,7 @@
 //! the laws that it is right, and that it hangs neither on the bound nor on the generation that is looked at.
 #![tactic(auto)]
 
-ghost use Rattle.std.specs.Prelude.{◌≡◌, ◌≢◌, ◌↔◌, ℕ, ◌≤◌, List, Contains, count_by, length, sum_by, true};
+ghost use Rattle.std.specs.Prelude.{◌≡◌, ◌≢◌, ◌↔◌, ℕ, ◌*◌, ◌≤◌, Option, List, Contains, count_by, length, sum_by, true};
 ghost use Rattle.std.specs.List.{AllPairs};
 ghost use Rattle.std.specs.List.Sorted.{IsPermutation};
 ghost use Rattle.std.specs.declared.cmp.Ordering.TheVariants.{Less};
@@ -15,9 +15,11 @@ ghost use Rattle.life_growth.specs.Engine.{Emits, IsEngine, IsEngineWithin, Way}
 ghost use Rattle.life_growth.specs.Growth.{HasComeToGrowth, IsGrowth};
 ghost use Rattle.life_growth.specs.Told.{AreToldAlike};
 ghost use Rattle.life_answer.specs.Census.{census_of};
+ghost use Rattle.life_answer.specs.Limited.{StaysWithin, outcome_unless_large};
 ghost use Rattle.life_answer.specs.declared.finding.Outcome.TheVariants.{Ash};
 ghost use Rattle.life_answer.specs.declared.part.Part.{Part};
 ghost use Rattle.life_tales.specs.Counts.{counted_tales, same_tale, tale_cmp};
+ghost use Rattle.life_tales.specs.Reported.{Growing, Otherwise, reported_of};
 ghost use Rattle.life_tales.specs.Tales.{Tale, counted_objects, tale_of};
 ghost use Rattle.life_tales.specs.Told.{Nothing, OfAsh, OfGrowth, told_of, told_of_engines};
 
@@ -95,4 +97,24 @@ pub fn what_is_seen_sooner_is_told()
         g ≤ b → h ≤ b → told_of R b G ≡ OfAsh (counted_objects R h parts) }
     ensures grows { (R : Rule) (b g h : ℕ) (G S : Generation) (Es : List Generation) →
         IsGrowth R h (generation R G g) Es S → g ≤ b → h ≤ b → told_of R b G ≡ OfGrowth (told_of_engines R h Es) }
+{}
+
+/// What is reported where no more than some number of cells is allowed: a pattern grows where it does so within some bound
+/// from 1 to that asked for, and no generation up to four times that bound has more cells. Then the same is told of it as
+/// within that bound, and within each greater one. Else what is reported is what was found before anything was told of
+/// growth.
+pub fn what_is_reported_is_right()
+    ensures grows { (limit : Option ℕ) (R : Rule) (b c : ℕ) (G S : Generation) (Es : List Generation) → 1 ≤ c → c ≤ b →
+        StaysWithin limit R G (4 * c) → HasComeToGrowth R c G Es S →
+        reported_of limit R b G ≡ Growing (told_of_engines R c Es) }
+    ensures only { (limit : Option ℕ) (R : Rule) (b : ℕ) (G : Generation) (told : List (Tale × ℕ)) →
+        reported_of limit R b G ≡ Growing told →
+        (c : ℕ) × (1 ≤ c) × (c ≤ b) × StaysWithin limit R G (4 * c) × (Es : List Generation) × (S : Generation)
+        × HasComeToGrowth R c G Es S × (told ≡ told_of_engines R c Es) }
+    ensures otherwise { (limit : Option ℕ) (R : Rule) (b : ℕ) (G : Generation) →
+        ((c : ℕ) (S : Generation) (Es : List Generation) → 1 ≤ c → c ≤ b → StaysWithin limit R G (4 * c) →
+        HasComeToGrowth R c G Es S → ⊥) →
+        reported_of limit R b G ≡ Otherwise (outcome_unless_large limit R G (3 * b) (census_of R G b)) }
+    ensures lasts { (limit : Option ℕ) (R : Rule) (b c : ℕ) (G : Generation) (told : List (Tale × ℕ)) → b ≤ c →
+        reported_of limit R b G ≡ Growing told → reported_of limit R c G ≡ Growing told }
 {}
