@@ -12,6 +12,7 @@ ghost use Rattle.life_objects.specs.Piece.{IsSplit};
 ghost use Rattle.life_objects.specs.Union.{union};
 ghost use Rattle.life_growth.specs.Unsplit.{AreClasses};
 ghost use Rattle.life_film.specs.Film.{AreJoined};
+ghost use Rattle.life_film.specs.Passes.{film_classes};
 
 /// A set splits into two for one generation more exactly where they are apart now, and the next generation splits into
 /// theirs.
@@ -25,4 +26,10 @@ pub fn splits_are_told_backwards()
 pub fn classes_are_told_backwards()
     ensures { (R : Rule) (b : ℕ) (G : Generation) (pieces Qs Ps : List Generation) → AreClasses R 0 G pieces →
         AreClasses R b (next R G) Qs → AreJoined R G pieces Qs Ps → AreClasses R (suc b) G Ps }
+{}
+
+/// What one pass backwards gives are the classes of a set: its near pieces, joined by the classes of the next generation,
+/// and so on to the film's end.
+pub fn film_classes_are_classes()
+    ensures { (R : Rule) (b : ℕ) (G : Generation) → AreClasses R b G (film_classes R b G) }
 {}
