@@ -31,6 +31,7 @@ use Rattle.life_answer.proofs.Findings.{outcome-more, outcome-settled, settled_o
 use Rattle.life_answer.proofs.Tallying.{counted_permutation}
 use Rattle.life_decided.proofs.Tests.{both}
 use Rattle.life_meeting.proofs.Reach.{any_by, any_tells}
+use Rattle.life_tales.specs.Rising.{number_of}
 use Rattle.life_tales.specs.Tales.{counted_objects}
 use Rattle.life_tales.proofs.Permuted.{count_by-cons, count_by-map, same_counts}
 
@@ -150,7 +151,7 @@ module _ (R : Rule) where
 
   -- ---- counted
 
-  abbrev is_text : List ℕ → List ℕ → Bool
+  abbrev pub is_text : List ℕ → List ℕ → Bool
   is_text s t = eq_by_cmp shorter_cmp s t
 
   text_itself : (s : List ℕ) → is_text s s ≡ true
@@ -159,10 +160,10 @@ module _ (R : Rule) where
   text_tells : (s t : List ℕ) → is_text s t ≡ true → s ≡ t
   text_tells s t h = shorter_exact s t ((cmp.Equal-is (shorter_cmp s t)).0 h)
 
-  kind_of_code : (B : ℕ) (code : List ℕ) → IsKind R (λ P. is_text code (part_code R B P))
+  pub kind_of_code : (B : ℕ) (code : List ℕ) → IsKind R (λ P. is_text code (part_code R B P))
   kind_of_code B code P Q m n d e r t one = ap (is_text code) (one_code B P Q m n d e r t one)
 
-  wider_codes : (b B : ℕ) (Ps : List Generation) → b ≤ B → All (IsObject R b) Ps →
+  pub wider_codes : (b B : ℕ) (Ps : List Generation) → b ≤ B → All (IsObject R b) Ps →
       map (part_code R b) Ps ≡ map (part_code R B) Ps
   wider_codes b B [] le objects = refl
   wider_codes b B (P ∷ Ps) le objects =
@@ -226,11 +227,6 @@ module _ (R : Rule) where
         + count_kind Ps (λ Q one. among Q (Contains-later P Q Ps one)) i)
         ∙ sym (count_by-cons has (code P) (map code Ps))
 
-  -- how many of the parts' objects have this code
-  abbrev number_with : List ℕ → List Part → ℕ
-  number_with text [] = 0
-  number_with text (part ∷ parts) = cond {A = ℕ} (is_text text part.code) part.count 0 + number_with text parts
-
   more_if : (b : Bool) (n : ℕ) → cond {A = ℕ} b (n + 1) 0 ≡ cond {A = ℕ} b n 0 + cond {A = ℕ} b 1 0
   more_if true n = refl
   more_if false n = refl
@@ -239,13 +235,13 @@ module _ (R : Rule) where
   at_last a b c = omega arith
 
   with_one : (text code : List ℕ) (part : Part) (parts rest : List Part) (o : Ordering) → shorter_cmp code part.code ≡ o →
-      number_with text rest ≡ number_with text parts + cond {A = ℕ} (is_text text code) 1 0 →
-      number_with text (with_code_by_order o code part parts rest)
-      ≡ number_with text (part ∷ parts) + cond {A = ℕ} (is_text text code) 1 0
+      number_of text rest ≡ number_of text parts + cond {A = ℕ} (is_text text code) 1 0 →
+      number_of text (with_code_by_order o code part parts rest)
+      ≡ number_of text (part ∷ parts) + cond {A = ℕ} (is_text text code) 1 0
   with_one text code part parts rest Less e h = omega arith
   with_one text code part parts rest Equal e h =
       let b = is_text text part.code in
-      let others = number_with text parts in
+      let others = number_of text parts in
       ap (λ n. n + others) (more_if b part.count)
       ∙ at_last (cond {A = ℕ} b part.count 0) (cond {A = ℕ} b 1 0) others
       ∙ ap (λ t. (cond {A = ℕ} b part.count 0 + others) + cond {A = ℕ} t 1 0)
@@ -253,13 +249,13 @@ module _ (R : Rule) where
   with_one text code part parts rest Greater e h = omega arith
 
   with_code_more : (text code : List ℕ) (parts : List Part) →
-      number_with text (with_code code parts) ≡ number_with text parts + cond {A = ℕ} (is_text text code) 1 0
+      number_of text (with_code code parts) ≡ number_of text parts + cond {A = ℕ} (is_text text code) 1 0
   with_code_more text code [] = omega arith
   with_code_more text code (part ∷ parts) =
       with_one text code part parts (with_code code parts) (shorter_cmp code part.code) refl (with_code_more text code parts)
 
-  number_counted : (text : List ℕ) (codes : List (List ℕ)) (parts : List Part) →
-      number_with text (fold (λ ps c. with_code c ps) parts codes) ≡ number_with text parts + count_by (is_text text) codes
+  pub number_counted : (text : List ℕ) (codes : List (List ℕ)) (parts : List Part) →
+      number_of text (fold (λ ps c. with_code c ps) parts codes) ≡ number_of text parts + count_by (is_text text) codes
   number_counted text [] parts = omega arith
   number_counted text (c ∷ cs) parts =
       let rest = number_counted text cs (with_code c parts) in
@@ -272,7 +268,7 @@ module _ (R : Rule) where
   counts_told text xs ys same =
       let one = number_counted text xs [] in
       let two = number_counted text ys [] in
-      let both = ap (number_with text) same in
+      let both = ap (number_of text) same in
       omega arith
 
   object_within : (b B : ℕ) (P : Generation) → b ≤ B → IsObject R b P → RecursWithin R B P

@@ -5,3 +5,4 @@ mod Codes
 mod Tales
 mod Told
 mod Reported
+mod Rising

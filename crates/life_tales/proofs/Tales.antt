@@ -23,7 +23,7 @@ module _ (R : Rule) where
       All-append (IsObject R b) (joined lists k) (lists k) (all_joined b lists k (λ n h. each n (omega arith)))
       (each k (omega arith))
 
-  emits_objects : (b : ℕ) (way : Way) (Ps : List Generation) → Emits R b way Ps → All (IsObject R b) Ps
+  pub emits_objects : (b : ℕ) (way : Way) (Ps : List Generation) → Emits R b way Ps → All (IsObject R b) Ps
   emits_objects b way Ps emits =
       subst (All (IsObject R b)) (sym emits.together)
       (all_joined b emits.ashes way.period (λ n h. (emits.each n h).objects))

@@ -1,5 +1,5 @@
 -- The lines of counted tales, their numbers and their sum.
-use Rattle.std.proofs.Common.{◌≡◌, ℕ, zero, suc, ◌+◌, ◌≤◌, ◌<◌, Bool, true, false, cond, T, List, [], ◌∷◌, length, count_by, fold, Ordering, Less, Equal, Greater, Option, Some, None, inl, inr, sym, refl, ap, subst, ◌∙◌, true≢false, ◌&&◌, ◌⊎◌, arith}
+use Rattle.std.proofs.Common.{◌≡◌, ℕ, zero, suc, ◌+◌, ◌*◌, ◌≤◌, ◌<◌, Bool, true, false, cond, T, List, [], ◌∷◌, length, count_by, fold, Ordering, Less, Equal, Greater, Option, Some, None, inl, inr, sym, refl, ap, subst, ◌∙◌, true≢false, ◌&&◌, ◌⊎◌, arith}
 use Rattle.std.specs.FinMap as finmap
 use Rattle.std.specs.FinMap.Entries as sorted
 use Rattle.std.specs.List.{AllPairs, Contains, sum_by}
@@ -144,11 +144,12 @@ pairs_rise (e ∷ es) h =
 
 -- ---- the sum
 
-abbrev total : List Line → ℕ
-total es = sum_by (λ (line : Line). line.1) es
+-- of each line its number times what g says of its tale
+abbrev pub total : (Tale → ℕ) → List Line → ℕ
+total g es = sum_by (λ (line : Line). line.1 * g line.0) es
 
-total-cons : (e : Line) (es : List Line) → total (e ∷ es) ≡ e.1 + total es
-total-cons e es = sum_by-cons (λ (line : Line). line.1) e es
+total-cons : (g : Tale → ℕ) (e : Line) (es : List Line) → total g (e ∷ es) ≡ e.1 * g e.0 + total g es
+total-cons g e es = sum_by-cons (λ (line : Line). line.1 * g line.0) e es
 
 some_or_none : (o : Option ℕ) → ((n : ℕ) × (o ≡ Some n)) ⊎ (o ≡ None)
 some_or_none None = inr refl
@@ -163,53 +164,65 @@ none_found e es t h early =
       | inr none ↦ none
     ]
 
-module _ (t : Tale) (e : Line) (es : List Line) (h : T (rising (e ∷ es))) (v : ℕ)
+module _ (g : Tale → ℕ) (t : Tale) (e : Line) (es : List Line) (h : T (rising (e ∷ es))) (v : ℕ)
     (again : v ≡ unwrap_or (found t (e ∷ es)) 0 + 1)
-    (fewer : total (sorted.put tale_cmp t (unwrap_or (found t es) 0 + 1) es) ≡ total es + 1) where
+    (fewer : total g (sorted.put tale_cmp t (unwrap_or (found t es) 0 + 1) es) ≡ total g es + g t) where
   here : (b : Bool) → same_tale t e.0 ≡ b → v ≡ unwrap_or (cond b (Some e.1) (found t es)) 0 + 1
   here b same = again ∙ ap (λ b. unwrap_or (cond b (Some e.1) (found t es)) 0 + 1) same
 
   put_up : (o : Ordering) → tale_cmp t e.0 ≡ o →
-      total (sorted.by_order o ((t, v) ∷ e ∷ es) ((e.0, v) ∷ es) (e ∷ sorted.put tale_cmp t v es)) ≡ total (e ∷ es) + 1
+      total g (sorted.by_order o ((t, v) ∷ e ∷ es) ((e.0, v) ∷ es) (e ∷ sorted.put tale_cmp t v es)) ≡ total g (e ∷ es) + g t
   put_up Less same =
       let new : v ≡ 1 = here false (ap is_eq same) ∙ ap (λ o. unwrap_or o 0 + 1) (none_found e es t h same) in
-      let more : total ((t, v) ∷ e ∷ es) ≡ v + total (e ∷ es) = total-cons (t, v) (e ∷ es) in
+      let more : total g ((t, v) ∷ e ∷ es) ≡ v * g t + total g (e ∷ es) = total-cons g (t, v) (e ∷ es) in
+      let once : v * g t ≡ 1 * g t = ap (λ n. n * g t) new in
       more ∙ (omega arith)
   put_up Equal same =
       let one_more : v ≡ e.1 + 1 = here true (ap is_eq same) in
-      let one : total ((e.0, v) ∷ es) ≡ v + total es = total-cons (e.0, v) es in
-      let two : total (e ∷ es) ≡ e.1 + total es = total-cons e es in
+      let alike : g t ≡ g e.0 = ap g (same_by_test t e.0 (ap is_eq same)) in
+      let one : total g ((e.0, v) ∷ es) ≡ v * g e.0 + total g es = total-cons g (e.0, v) es in
+      let two : total g (e ∷ es) ≡ e.1 * g e.0 + total g es = total-cons g e es in
+      let times : v * g e.0 ≡ (e.1 + 1) * g e.0 = ap (λ n. n * g e.0) one_more in
       one ∙ (omega arith)
   put_up Greater same =
       let later : v ≡ unwrap_or (found t es) 0 + 1 = here false (ap is_eq same) in
-      let rest : total (sorted.put tale_cmp t v es) ≡ total es + 1 =
-      ap (λ n. total (sorted.put tale_cmp t n es)) later ∙ fewer in
-      let one : total (e ∷ sorted.put tale_cmp t v es) ≡ e.1 + total (sorted.put tale_cmp t v es) =
-      total-cons e (sorted.put tale_cmp t v es) in
-      let two : total (e ∷ es) ≡ e.1 + total es = total-cons e es in
+      let rest : total g (sorted.put tale_cmp t v es) ≡ total g es + g t =
+      ap (λ n. total g (sorted.put tale_cmp t n es)) later ∙ fewer in
+      let one : total g (e ∷ sorted.put tale_cmp t v es) ≡ e.1 * g e.0 + total g (sorted.put tale_cmp t v es) =
+      total-cons g e (sorted.put tale_cmp t v es) in
+      let two : total g (e ∷ es) ≡ e.1 * g e.0 + total g es = total-cons g e es in
       one ∙ (omega arith)
 
-one_up : (t : Tale) (es : List Line) → T (rising es) →
-    total (sorted.put tale_cmp t (unwrap_or (found t es) 0 + 1) es) ≡ total es + 1
-one_up t [] h = refl
-one_up t (e ∷ es) h =
-    put_up t e es h (unwrap_or (found t (e ∷ es)) 0 + 1) refl (one_up t es (second_so (below e.0 es) (rising es) h))
+one_up : (g : Tale → ℕ) (t : Tale) (es : List Line) → T (rising es) →
+    total g (sorted.put tale_cmp t (unwrap_or (found t es) 0 + 1) es) ≡ total g es + g t
+one_up g t [] h = let e : total g ((t, 1) ∷ []) ≡ 1 * g t + total g [] = total-cons g (t, 1) [] in e ∙ (omega arith)
+one_up g t (e ∷ es) h =
+    put_up g t e es h (unwrap_or (found t (e ∷ es)) 0 + 1) refl (one_up g t es (second_so (below e.0 es) (rising es) h))
     (tale_cmp t e.0) refl
 
-all_after : (ts : List Tale) (m : Tally) → total (finmap.entries (fold once_more m ts)) ≡ total (finmap.entries m) + length ts
-all_after [] m = omega arith
-all_after (t ∷ ts) m =
+all_after : (g : Tale → ℕ) (ts : List Tale) (m : Tally) →
+    total g (finmap.entries (fold once_more m ts)) ≡ total g (finmap.entries m) + sum_by g ts
+all_after g [] m = omega arith
+all_after g (t ∷ ts) m =
     let lines = finmap.entries m in
-    let one : total (finmap.entries (once_more m t)) ≡ total lines + 1 =
-    ap total (finmap.entries-insert tale_total m t (unwrap_or (finmap.get m t) 0 + 1))
-    ∙ ap (λ o. total (sorted.put tale_cmp t (unwrap_or o 0 + 1) lines)) (finmap.get-entries m t)
-    ∙ one_up t lines (finmap.entries_sorted m) in
-    let rest = all_after ts (once_more m t) in
+    let one : total g (finmap.entries (once_more m t)) ≡ total g lines + g t =
+    ap (total g) (finmap.entries-insert tale_total m t (unwrap_or (finmap.get m t) 0 + 1))
+    ∙ ap (λ o. total g (sorted.put tale_cmp t (unwrap_or o 0 + 1) lines)) (finmap.get-entries m t)
+    ∙ one_up g t lines (finmap.entries_sorted m) in
+    let rest = all_after g ts (once_more m t) in
+    let e : sum_by g (t ∷ ts) ≡ g t + sum_by g ts = sum_by-cons g t ts in
     omega arith
 
-no_lines : (es : List Line) → length es ≡ 0 → total es ≡ 0
-no_lines [] e = refl
-no_lines (e ∷ es) h = absurd (omega arith)
+no_lines : (g : Tale → ℕ) (es : List Line) → length es ≡ 0 → total g es ≡ 0
+no_lines g [] e = refl
+no_lines g (e ∷ es) h = absurd (omega arith)
+
+one_each : (ts : List Tale) → sum_by (λ (t : Tale). 1) ts ≡ length ts
+one_each [] = refl
+one_each (t ∷ ts) =
+    let e : sum_by (λ (t : Tale). 1) (t ∷ ts) ≡ 1 + sum_by (λ (t : Tale). 1) ts = sum_by-cons (λ (t : Tale). 1) t ts in
+    let rest = one_each ts in
+    omega arith
 
 -- ---- counted tales
 
@@ -256,10 +269,16 @@ module _ (ts : List Tale) where
   unfolding counted_tales
   lines_rise = pairs_rise lines in_order
 
-  pub lines_add_up : sum_by (λ line. line.1) (counted_tales ts) ≡ length ts
+  -- the lines tell a sum over all tales
+  pub lines_total : (g : Tale → ℕ) → total g (counted_tales ts) ≡ sum_by g ts
   unfolding counted_tales
-  lines_add_up =
-      let all = all_after ts finmap.empty in
-      let none : total (finmap.entries (finmap.empty {X = ℕ} {R = tale_cmp})) ≡ 0 =
-      no_lines (finmap.entries finmap.empty) (sym (finmap.len-entries finmap.empty) ∙ finmap.len-empty tale_cmp ℕ) in
+  lines_total g =
+      let all = all_after g ts finmap.empty in
+      let none : total g (finmap.entries (finmap.empty {X = ℕ} {R = tale_cmp})) ≡ 0 =
+      no_lines g (finmap.entries finmap.empty) (sym (finmap.len-entries finmap.empty) ∙ finmap.len-empty tale_cmp ℕ) in
       omega arith
+
+  pub lines_add_up : sum_by (λ line. line.1) (counted_tales ts) ≡ length ts
+  lines_add_up =
+      (λ i. sum_by (λ (line : Line). (let e : line.1 ≡ line.1 * 1 = omega arith in e) i) (counted_tales ts))
+      ∙ lines_total (λ t. 1) ∙ one_each ts

@@ -3,7 +3,7 @@
 //! the laws that it is right, and that it hangs neither on the bound nor on the generation that is looked at.
 #![tactic(auto)]
 
-ghost use Rattle.std.specs.Prelude.{◌≡◌, ◌≢◌, ◌↔◌, ℕ, ◌*◌, ◌≤◌, Option, List, Contains, count_by, length, sum_by, true};
+ghost use Rattle.std.specs.Prelude.{◌≡◌, ◌≢◌, ◌↔◌, ℕ, ◌+◌, ◌*◌, ◌≤◌, Option, List, Contains, count_by, length, sum_by, true};
 ghost use Rattle.std.specs.List.{AllPairs};
 ghost use Rattle.std.specs.List.Sorted.{IsPermutation};
 ghost use Rattle.std.specs.declared.cmp.Ordering.TheVariants.{Less};
@@ -20,6 +20,7 @@ ghost use Rattle.life_answer.specs.declared.finding.Outcome.TheVariants.{Ash};
 ghost use Rattle.life_answer.specs.declared.part.Part.{Part};
 ghost use Rattle.life_tales.specs.Counts.{counted_tales, same_tale, tale_cmp};
 ghost use Rattle.life_tales.specs.Reported.{Growing, Otherwise, reported_of};
+ghost use Rattle.life_tales.specs.Rising.{number_of, risen};
 ghost use Rattle.life_tales.specs.Tales.{Tale, counted_objects, tale_of};
 ghost use Rattle.life_tales.specs.Told.{Nothing, OfAsh, OfGrowth, told_of, told_of_engines};
 
@@ -117,4 +118,16 @@ pub fn what_is_reported_is_right()
         reported_of limit R b G ≡ Otherwise (outcome_unless_large limit R G (3 * b) (census_of R G b)) }
     ensures lasts { (limit : Option ℕ) (R : Rule) (b c : ℕ) (G : Generation) (told : List (Tale × ℕ)) → b ≤ c →
         reported_of limit R b G ≡ Growing told → reported_of limit R c G ≡ Growing told }
+{}
+
+/// What is told of growth is true for ever. Over some generations that are so many periods of each engine, the number of
+/// objects with a code that a growing pattern's debris has fallen apart into rises by exactly what the lines tell: for
+/// each line as many engines as it says, and for each of these, in each of its periods, as many such objects as it emits.
+pub fn what_is_told_goes_on()
+    ensures { (R : Rule) (b m n : ℕ) (G S T U : Generation) (Es Fs Hs parts others : List Generation) (code : List ℕ) →
+        IsGrowth R b G Es S → IsGrowth R b (generation R G n) Fs T → IsGrowth R b (generation R G (n + m)) Hs U →
+        HasFallenApart R b T parts → HasFallenApart R b U others →
+        ((E : Generation) → Contains Es E → (k : ℕ) × (m ≡ k * (tale_of R b E).period)) →
+        number_of code (counted_objects R b others)
+        ≡ number_of code (counted_objects R b parts) + risen code m (told_of_engines R b Es) }
 {}
