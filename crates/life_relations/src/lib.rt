@@ -1,6 +1,6 @@
-//! Whether a step is a sum of given steps, each made as often as may be: what relations between the steps tell of it, and
-//! what is told by a function that is 0 of all steps but one. So it is told with few tries. Definitions in `specs/`; the
-//! laws are the contracts of functions that do nothing.
+//! What relations between steps tell of their sums: whether a step is a sum of given ones, each made as often as may be, is
+//! told with few tries by relations between these, and by functions that are 0 of all of them but one. Definitions in
+//! `specs/`; the laws are the contracts of functions that do nothing.
 #![tactic(auto)]
 
 ghost use Rattle.std.specs.Prelude.{◌≡◌, ◌↔◌, ℕ, ◌<◌, ℤ, List, []};
