@@ -1,3 +1,4 @@
 mod Numbers
 mod Relations
 mod Singles
+mod Products

@@ -1,5 +1,5 @@
 -- Relations between steps, and how often each step is made in a sum of them.
-use Rattle.std.specs.Prelude.{◌≡◌, ◌≢◌, ℕ, zero, suc, ◌<◌, ◌≤◌, ℤ, pos, ◌+ℤ◌, List, [], ◌∷◌, length}
+use Rattle.std.specs.Prelude.{◌≡◌, ◌≢◌, ℕ, zero, suc, ◌<◌, ◌≤◌, ℤ, pos, ◌+ℤ◌, ◌*ℤ◌, List, [], ◌∷◌, length}
 use Rattle.life_meeting.specs.Sums.{Step, and_then, rest_after, stay, sum_of, times}
 
 -- c is a sum of the steps, each made as often as may be
@@ -47,3 +47,12 @@ pub record SinglesOut (f : Step → ℤ) (us : List Step) (i : ℕ) : Type 0 whe
   pub additive : IsAdditive f
   pub others : (j : ℕ) → f (step_at (left_out us i) j) ≡ pos 0
   pub some : f (step_at us i) ≢ pos 0
+
+-- the product of two steps, coordinate by coordinate, added up
+abbrev pub product : Step → Step → ℤ
+product n u = (n.0 *ℤ u.0) +ℤ ((n.1.0 *ℤ u.1.0) +ℤ (n.1.1 *ℤ u.1.1))
+
+-- n is square to each of the steps but that in place i
+pub record IsSquare (n : Step) (us : List Step) (i : ℕ) : Type 0 where
+  pub others : (j : ℕ) → product n (step_at (left_out us i) j) ≡ pos 0
+  pub some : product n (step_at us i) ≢ pos 0

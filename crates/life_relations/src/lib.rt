@@ -3,9 +3,9 @@
 //! `specs/`; the laws are the contracts of functions that do nothing.
 #![tactic(auto)]
 
-ghost use Rattle.std.specs.Prelude.{◌≡◌, ◌↔◌, ℕ, ◌<◌, ℤ, List, []};
+ghost use Rattle.std.specs.Prelude.{◌≡◌, ◌↔◌, ℕ, ◌<◌, ℤ, pos, ◌*ℤ◌, List, []};
 ghost use Rattle.life_meeting.specs.Sums.{Step, stay, times};
-ghost use Rattle.life_relations.specs.Relations.{IsRelation, IsSumOf, SinglesOut, number_at, rest_of, step_at, left_out};
+ghost use Rattle.life_relations.specs.Relations.{IsRelation, IsSquare, IsSumOf, SinglesOut, left_out, number_at, product, rest_of, step_at};
 
 /// Of steps between which there is a relation, some one is made less often than the relation has it, in some sum that
 /// makes c: so there are no more numbers to try than the relation adds up to, each with one step fewer.
@@ -20,6 +20,13 @@ pub fn what_singles_a_step_out_tells_its_number()
         ((often : ℕ) × (f (times often (step_at us i)) ≡ f c) × IsSumOf (left_out us i) (rest_of us i c often)) }
     ensures one { (f : Step → ℤ) (us : List Step) (i m n : ℕ) → SinglesOut f us i →
         f (times m (step_at us i)) ≡ f (times n (step_at us i)) → m ≡ n }
+{}
+
+/// A product with a step that is square to all steps but one singles that one out: how often it is made in a sum is the
+/// product with the sum, divided by that with the step.
+pub fn products_single_a_step_out()
+    ensures out { (n : Step) (us : List Step) (i : ℕ) → IsSquare n us i → SinglesOut (product n) us i }
+    ensures times { (n u : Step) (often : ℕ) → product n (times often u) ≡ pos often *ℤ product n u }
 {}
 
 /// Without a step only staying is a sum.
