@@ -2,3 +2,4 @@ mod Numbers
 mod Relations
 mod Singles
 mod Products
+mod Crosses

@@ -15,10 +15,10 @@ spreads_none x y =
     let two = zero-*ℤ y in
     omega (arith, ints)
 
-one_more : (m k : ℤ) → ((m +ℤ pos (suc zero)) *ℤ k) ≡ ((m *ℤ k) +ℤ k)
+pub one_more : (m k : ℤ) → ((m +ℤ pos (suc zero)) *ℤ k) ≡ ((m *ℤ k) +ℤ k)
 one_more m k = ap (λ a. a *ℤ k) (+ℤ_one m) ∙ suc_ℤ-*ℤ m k
 
-one_less : (m k : ℤ) → ((m -ℤ pos (suc zero)) *ℤ k) ≡ ((m *ℤ k) -ℤ k)
+pub one_less : (m k : ℤ) → ((m -ℤ pos (suc zero)) *ℤ k) ≡ ((m *ℤ k) -ℤ k)
 one_less m k = ap (λ a. a *ℤ k) (-ℤ_one m) ∙ pred_ℤ-*ℤ m k
 
 spreads_up : (m : ℤ) → Spreads m → Spreads (m +ℤ pos (suc zero))
@@ -37,7 +37,7 @@ spreads_down m before x y =
     let here = before x y in
     omega (arith, ints)
 
-spreads : (a : ℤ) → Spreads a
+pub spreads : (a : ℤ) → Spreads a
 spreads a = ℤ_ind Spreads spreads_none (λ n before. spreads_up (pos n) before) (λ n before. spreads_down (neg_ℤ (pos n)) before) a
 
 pub product-then : (n u v : Step) → product n (and_then u v) ≡ (product n u +ℤ product n v)

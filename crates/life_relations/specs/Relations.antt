@@ -1,5 +1,5 @@
 -- Relations between steps, and how often each step is made in a sum of them.
-use Rattle.std.specs.Prelude.{◌≡◌, ◌≢◌, ℕ, zero, suc, ◌<◌, ◌≤◌, ℤ, pos, ◌+ℤ◌, ◌*ℤ◌, List, [], ◌∷◌, length}
+use Rattle.std.specs.Prelude.{◌≡◌, ◌≢◌, ℕ, zero, suc, ◌<◌, ◌≤◌, ℤ, pos, ◌+ℤ◌, ◌-ℤ◌, ◌*ℤ◌, List, [], ◌∷◌, length}
 use Rattle.life_meeting.specs.Sums.{Step, and_then, rest_after, stay, sum_of, times}
 
 -- c is a sum of the steps, each made as often as may be
@@ -56,3 +56,10 @@ product n u = (n.0 *ℤ u.0) +ℤ ((n.1.0 *ℤ u.1.0) +ℤ (n.1.1 *ℤ u.1.1))
 pub record IsSquare (n : Step) (us : List Step) (i : ℕ) : Type 0 where
   pub others : (j : ℕ) → product n (step_at (left_out us i) j) ≡ pos 0
   pub some : product n (step_at us i) ≢ pos 0
+
+-- the cross product of two steps
+abbrev pub cross : Step → Step → Step
+cross v w = (
+  (v.1.0 *ℤ w.1.1) -ℤ (v.1.1 *ℤ w.1.0),
+  ((v.1.1 *ℤ w.0) -ℤ (v.0 *ℤ w.1.1), (v.0 *ℤ w.1.0) -ℤ (v.1.0 *ℤ w.0)),
+)

@@ -3,9 +3,9 @@
 //! `specs/`; the laws are the contracts of functions that do nothing.
 #![tactic(auto)]
 
-ghost use Rattle.std.specs.Prelude.{◌≡◌, ◌↔◌, ℕ, ◌<◌, ℤ, pos, ◌*ℤ◌, List, []};
+ghost use Rattle.std.specs.Prelude.{◌≡◌, ◌≢◌, ◌↔◌, ℕ, ◌<◌, ℤ, pos, ◌*ℤ◌, List, [], ◌∷◌};
 ghost use Rattle.life_meeting.specs.Sums.{Step, stay, times};
-ghost use Rattle.life_relations.specs.Relations.{IsRelation, IsSquare, IsSumOf, SinglesOut, left_out, number_at, product, rest_of, step_at};
+ghost use Rattle.life_relations.specs.Relations.{IsRelation, IsSquare, IsSumOf, SinglesOut, cross, left_out, number_at, product, rest_of, step_at};
 
 /// Of steps between which there is a relation, some one is made less often than the relation has it, in some sum that
 /// makes c: so there are no more numbers to try than the relation adds up to, each with one step fewer.
@@ -27,6 +27,14 @@ pub fn what_singles_a_step_out_tells_its_number()
 pub fn products_single_a_step_out()
     ensures out { (n : Step) (us : List Step) (i : ℕ) → IsSquare n us i → SinglesOut (product n) us i }
     ensures times { (n u : Step) (often : ℕ) → product n (times often u) ≡ pos often *ℤ product n u }
+{}
+
+/// The cross product of two steps is square to both. So of three steps that don't lie in a plane each is singled out by the
+/// cross product of the others.
+pub fn cross_products_are_square()
+    ensures first { (v w : Step) → product (cross v w) v ≡ pos 0 }
+    ensures second { (v w : Step) → product (cross v w) w ≡ pos 0 }
+    ensures three { (u v w : Step) → product (cross v w) u ≢ pos 0 → IsSquare (cross v w) (u ∷ v ∷ w ∷ []) 0 }
 {}
 
 /// Without a step only staying is a sum.
