@@ -7,11 +7,11 @@ use Rattle.life_relations.specs.Relations.{IsSquare, cross, product, step_at}
 use Rattle.life_relations.proofs.Products.{one_less, one_more, product-stay, spreads}
 
 -- over a sum and a difference on the left
-left_sum : (x y c : ℤ) → ((x +ℤ y) *ℤ c) ≡ ((x *ℤ c) +ℤ (y *ℤ c))
+pub left_sum : (x y c : ℤ) → ((x +ℤ y) *ℤ c) ≡ ((x *ℤ c) +ℤ (y *ℤ c))
 left_sum x y c =
     *ℤ_comm (x +ℤ y) c ∙ spreads c x y ∙ (λ i. *ℤ_comm c x i +ℤ *ℤ_comm c y i)
 
-left_difference : (x y c : ℤ) → ((x -ℤ y) *ℤ c) ≡ ((x *ℤ c) -ℤ (y *ℤ c))
+pub left_difference : (x y c : ℤ) → ((x -ℤ y) *ℤ c) ≡ ((x *ℤ c) -ℤ (y *ℤ c))
 left_difference x y c =
     let whole = left_sum (x -ℤ y) y c in
     let back : ((x -ℤ y) +ℤ y) *ℤ c ≡ x *ℤ c = ap (λ a. a *ℤ c) (let e : (x -ℤ y) +ℤ y ≡ x = omega (arith, ints) in e) in
@@ -41,7 +41,7 @@ regroups a =
 outer : (a b c : ℤ) → ((a *ℤ b) *ℤ c) ≡ ((c *ℤ b) *ℤ a)
 outer a b c = regroups a b c ∙ *ℤ_comm a (b *ℤ c) ∙ ap (λ x. x *ℤ a) (*ℤ_comm b c)
 
-last_two : (a b c : ℤ) → ((a *ℤ b) *ℤ c) ≡ ((a *ℤ c) *ℤ b)
+pub last_two : (a b c : ℤ) → ((a *ℤ b) *ℤ c) ≡ ((a *ℤ c) *ℤ b)
 last_two a b c = regroups a b c ∙ ap (λ x. a *ℤ x) (*ℤ_comm b c) ∙ sym (regroups a c b)
 
 module _ (v w : Step) where

@@ -3,3 +3,4 @@ mod Relations
 mod Singles
 mod Products
 mod Crosses
+mod Spans

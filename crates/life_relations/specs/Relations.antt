@@ -63,3 +63,11 @@ cross v w = (
   (v.1.0 *ℤ w.1.1) -ℤ (v.1.1 *ℤ w.1.0),
   ((v.1.1 *ℤ w.0) -ℤ (v.0 *ℤ w.1.1), (v.0 *ℤ w.1.0) -ℤ (v.1.0 *ℤ w.0)),
 )
+
+-- what three steps span, with its sign
+abbrev pub spanned : Step → Step → Step → ℤ
+spanned u v w = product (cross v w) u
+
+-- a step made a whole number of times, or made back
+abbrev pub scaled : ℤ → Step → Step
+scaled a u = (a *ℤ u.0, (a *ℤ u.1.0, a *ℤ u.1.1))

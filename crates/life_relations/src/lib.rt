@@ -4,8 +4,8 @@
 #![tactic(auto)]
 
 ghost use Rattle.std.specs.Prelude.{◌≡◌, ◌≢◌, ◌↔◌, ℕ, ◌<◌, ℤ, pos, ◌*ℤ◌, List, [], ◌∷◌};
-ghost use Rattle.life_meeting.specs.Sums.{Step, stay, times};
-ghost use Rattle.life_relations.specs.Relations.{IsRelation, IsSquare, IsSumOf, SinglesOut, cross, left_out, number_at, product, rest_of, step_at};
+ghost use Rattle.life_meeting.specs.Sums.{Step, and_then, stay, times};
+ghost use Rattle.life_relations.specs.Relations.{IsRelation, IsSquare, IsSumOf, SinglesOut, cross, left_out, number_at, product, rest_of, scaled, spanned, step_at};
 
 /// Of steps between which there is a relation, some one is made less often than the relation has it, in some sum that
 /// makes c: so there are no more numbers to try than the relation adds up to, each with one step fewer.
@@ -35,6 +35,13 @@ pub fn cross_products_are_square()
     ensures first { (v w : Step) → product (cross v w) v ≡ pos 0 }
     ensures second { (v w : Step) → product (cross v w) w ≡ pos 0 }
     ensures three { (u v w : Step) → product (cross v w) u ≢ pos 0 → IsSquare (cross v w) (u ∷ v ∷ w ∷ []) 0 }
+{}
+
+/// Between any four steps there is a relation: one of them, as often as the others span, is made of these, each as often as
+/// is spanned where the one stands in its place.
+pub fn four_steps_are_related()
+    ensures { (u v w z : Step) → scaled (spanned u v w) z ≡
+        and_then (scaled (spanned z v w) u) (and_then (scaled (spanned u z w) v) (scaled (spanned u v z) w)) }
 {}
 
 /// Without a step only staying is a sum.
