@@ -4,3 +4,4 @@ mod Singles
 mod Products
 mod Crosses
 mod Spans
+mod Signed

@@ -33,7 +33,7 @@ sum_by-within (u ∷ us) f g same =
     λ j. and_then (times (same 0 (omega arith) j) u)
     (sum_by-within us (λ i. f (suc i)) (λ i. g (suc i)) (λ i h. same (suc i) (omega arith)) j)
 
-four : (a b c d : Step) → and_then (and_then a b) (and_then c d) ≡ and_then (and_then a c) (and_then b d)
+pub four : (a b c d : Step) → and_then (and_then a b) (and_then c d) ≡ and_then (and_then a c) (and_then b d)
 four a b c d =
     step_is (and_then (and_then a b) (and_then c d)) (and_then (and_then a c) (and_then b d)) (omega (arith, ints))
     (omega (arith, ints)) (omega (arith, ints))

@@ -1,5 +1,5 @@
 -- Relations between steps, and how often each step is made in a sum of them.
-use Rattle.std.specs.Prelude.{◌≡◌, ◌≢◌, ℕ, zero, suc, ◌<◌, ◌≤◌, ℤ, pos, ◌+ℤ◌, ◌-ℤ◌, ◌*ℤ◌, List, [], ◌∷◌, length}
+use Rattle.std.specs.Prelude.{◌≡◌, ◌≢◌, ℕ, zero, suc, ◌<◌, ◌≤◌, ℤ, pos, negsuc, ◌+ℤ◌, ◌-ℤ◌, ◌*ℤ◌, List, [], ◌∷◌, length}
 use Rattle.life_meeting.specs.Sums.{Step, and_then, rest_after, stay, sum_of, times}
 
 -- c is a sum of the steps, each made as often as may be
@@ -71,3 +71,18 @@ spanned u v w = product (cross v w) u
 -- a step made a whole number of times, or made back
 abbrev pub scaled : ℤ → Step → Step
 scaled a u = (a *ℤ u.0, (a *ℤ u.1.0, a *ℤ u.1.1))
+
+-- the steps, each so many times or made back, added up
+abbrev pub combination : List Step → List ℤ → Step
+combination [] numbers = stay
+combination (u ∷ us) [] = stay
+combination (u ∷ us) (a ∷ numbers) = and_then (scaled a u) (combination us numbers)
+
+-- how far a number is above 0, and how far below
+abbrev pub above : ℤ → ℕ
+above (pos n) = n
+above (negsuc n) = 0
+
+abbrev pub below : ℤ → ℕ
+below (pos n) = 0
+below (negsuc n) = suc n

@@ -3,9 +3,9 @@
 //! `specs/`; the laws are the contracts of functions that do nothing.
 #![tactic(auto)]
 
-ghost use Rattle.std.specs.Prelude.{◌≡◌, ◌≢◌, ◌↔◌, ℕ, ◌<◌, ℤ, pos, ◌*ℤ◌, List, [], ◌∷◌};
+ghost use Rattle.std.specs.Prelude.{◌≡◌, ◌≢◌, ◌↔◌, ℕ, ◌<◌, ◌≤◌, length, map, ℤ, pos, ◌*ℤ◌, List, [], ◌∷◌};
 ghost use Rattle.life_meeting.specs.Sums.{Step, and_then, stay, times};
-ghost use Rattle.life_relations.specs.Relations.{IsRelation, IsSquare, IsSumOf, SinglesOut, cross, left_out, number_at, product, rest_of, scaled, spanned, step_at};
+ghost use Rattle.life_relations.specs.Relations.{IsRelation, IsSquare, IsSumOf, SinglesOut, above, below, combination, cross, left_out, number_at, product, rest_of, scaled, spanned, step_at};
 
 /// Of steps between which there is a relation, some one is made less often than the relation has it, in some sum that
 /// makes c: so there are no more numbers to try than the relation adds up to, each with one step fewer.
@@ -42,6 +42,13 @@ pub fn cross_products_are_square()
 pub fn four_steps_are_related()
     ensures { (u v w z : Step) → scaled (spanned u v w) z ≡
         and_then (scaled (spanned z v w) u) (and_then (scaled (spanned u z w) v) (scaled (spanned u v z) w)) }
+{}
+
+/// Numbers with which the steps add up to staying are a relation: those above 0 on the one side, and those below on the
+/// other.
+pub fn numbers_are_a_relation()
+    ensures { (us : List Step) (numbers : List ℤ) (i : ℕ) → combination us numbers ≡ stay → i < length us →
+        1 ≤ number_at (map above numbers) i → IsRelation us (map above numbers) (map below numbers) }
 {}
 
 /// Without a step only staying is a sum.
