@@ -264,7 +264,22 @@ module _ (R : Rule) (b : ℕ) where
       same_engines,
     )
 
+    pub found_once : AllDiffer growth_found.0
+    unfolding growth_found
+    found_once = parted.differ
+
   -- ---- what is found
+
+  pub found_settles : (G : Generation) (Es : List Generation) (S : Generation) → Contains (growths_of R b G) (Es, S) →
+      FallsApart R b S
+  unfolding growths_of
+  found_settles G Es S one =
+      let Ps = classes R G (suc b) in
+      let d = of_map (λ d. (d.0, union_of d.1)) (filter (may_be_growth R b) (divisions Ps)) (Es, S) one in
+      let kept = of_filter (may_be_growth R b) (divisions Ps) d.0 d.1 in
+      let parts = both (not (is_empty_list d.0.0)) (list_all (may_be_engine R b) d.0.0 && falls_apart R b (union_of d.0.1)) kept.1 in
+      let more = both (list_all (may_be_engine R b) d.0.0) (falls_apart R b (union_of d.0.1)) parts.1 in
+      subst (FallsApart R b) (ap (λ (e : List Generation × Generation). e.1) d.2) (falls_by_test R b (union_of d.0.1) more.1)
 
   pub found_is_growth : (G : Generation) (Es : List Generation) (S : Generation) → Contains (growths_of R b G) (Es, S) →
       All (IsEngineWithin R b) Es → AllPairs (AreApartForEver R) (S ∷ Es) → IsGrowth R b G Es S
@@ -274,7 +289,6 @@ module _ (R : Rule) (b : ℕ) where
       let d = of_map (λ d. (d.0, union_of d.1)) (filter (may_be_growth R b) (divisions Ps)) (Es, S) one in
       let kept = of_filter (may_be_growth R b) (divisions Ps) d.0 d.1 in
       let parts = both (not (is_empty_list d.0.0)) (list_all (may_be_engine R b) d.0.0 && falls_apart R b (union_of d.0.1)) kept.1 in
-      let more = both (list_all (may_be_engine R b) d.0.0) (falls_apart R b (union_of d.0.1)) parts.1 in
       let firsts : d.0.0 ≡ Es = ap (λ (e : List Generation × Generation). e.0) d.2 in
       let seconds : union_of d.0.1 ≡ S = ap (λ (e : List Generation × Generation). e.1) d.2 in
       record {
@@ -284,5 +298,5 @@ module _ (R : Rule) (b : ℕ) where
             ∙ (are_classes R b G).together;
         apart = pairs;
         each = each;
-        settles = subst (FallsApart R b) seconds (falls_by_test R b (union_of d.0.1) more.1);
+        settles = found_settles G Es S one;
       }

@@ -21,12 +21,12 @@ use Rattle.life_meeting.proofs.Listed.{listed_below, of_below}
 use Rattle.life_meeting.proofs.Reach.{any_by, any_tells}
 
 module _ (R : Rule) (b : ℕ) (E : Generation) where
-  found_ash : (P : Generation) → FallsApart R b P → HasFallenApart R b P (candidate_parts R b (generation R P b))
+  pub found_ash : (P : Generation) → FallsApart R b P → HasFallenApart R b P (candidate_parts R b (generation R P b))
   found_ash P settles =
       ash_if_found R b (generation R P b) (candidate_parts R b (generation R P b))
       (found_if_ash R b (generation R P b) settles.0 settles.1)
 
-  fallen_along : (n : ℕ) (track : List Step) → Contains (engine_tracks R b n E) track → (m : ℕ) → m < length track →
+  pub fallen_along : (n : ℕ) (track : List Step) → Contains (engine_tracks R b n E) track → (m : ℕ) → m < length track →
       HasFallenApart R b (left_along track m) (ashes_along R b track m)
   unfolding engine_tracks
   fallen_along n track one m h =
@@ -38,22 +38,23 @@ module _ (R : Rule) (b : ℕ) (E : Generation) where
   unfolding engine_tracks
   long_along n track one = (track_by_test R b n E track (of_filter (comes_back R b E) (tracks R b n E) track one).0).long
 
+  -- along a track that is found and that passes the test
+  pub engine_along : (n : ℕ) (track : List Step) → n < b → Contains (engine_tracks R b (suc n) E) track →
+      goes_away R b E track ≡ true → IsEngine R b E (way_along E track)
+  engine_along n track within one away =
+      let long : length track ≡ suc n = long_along (suc n) track one in
+      let fallen = fallen_along (suc n) track one in
+      let never = again_by_search R b (way_along E track) (ashes_along R b track) fallen away in
+      engine_by_track R b E (suc n) track one (omega arith) (omega arith)
+      (leaves_cores_by_things R b (way_along E track) (omega arith) (ashes_along R b track) fallen never)
+      (leaves_lefts_by_things R b (way_along E track) (omega arith) (ashes_along R b track) fallen never)
+
   pub engine_by_search : is_engine R b E ≡ true → IsEngineWithin R b E
   unfolding is_engine
   engine_by_search h =
       let q = any_tells (λ n. list_any (goes_away R b E) (engine_tracks R b (suc n) E)) (numbers_below b) h in
-      let n : ℕ = q.0 in
-      let within : n < b = of_below b q.0 q.1 in
       let r = any_tells (goes_away R b E) (engine_tracks R b (suc q.0) E) q.2 in
-      let track : List Step = r.0 in
-      let long : length track ≡ suc n = long_along (suc q.0) r.0 r.1 in
-      let fallen = fallen_along (suc q.0) r.0 r.1 in
-      let never = again_by_search R b (way_along E track) (ashes_along R b track) fallen r.2 in (
-        way_along E track,
-        engine_by_track R b E (suc n) track r.1 (omega arith) (omega arith)
-            (leaves_cores_by_things R b (way_along E track) (omega arith) (ashes_along R b track) fallen never)
-            (leaves_lefts_by_things R b (way_along E track) (omega arith) (ashes_along R b track) fallen never),
-      )
+      (way_along E r.0, engine_along q.0 r.0 (of_below b q.0 q.1) r.1 r.2)
 
   pub search_by_engine : IsEngineWithin R b E → is_engine R b E ≡ true
   unfolding is_engine

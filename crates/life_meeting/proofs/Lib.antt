@@ -1,9 +1,9 @@
-mod Reach
+pub mod Reach
 mod Blocks
 mod Sums
-mod Meeting
-mod Apart
-mod Listed
-mod Engines
+pub mod Meeting
+pub mod Apart
+pub mod Listed
+pub mod Engines
 mod Again
-mod IsEngine
+pub mod IsEngine

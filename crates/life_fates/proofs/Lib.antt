@@ -1,0 +1,5 @@
+mod Finding
+pub mod Tracks
+pub mod Growths
+pub mod Lasting
+pub mod Fates

@@ -1,0 +1,3 @@
+pub mod Tracks
+pub mod Decided
+pub mod Fates

@@ -1,0 +1,4 @@
+mod Splits
+mod Joined
+mod Joining
+mod Passes

@@ -1,0 +1,7 @@
+mod Numbers
+mod Relations
+mod Singles
+mod Products
+mod Crosses
+mod Spans
+mod Signed

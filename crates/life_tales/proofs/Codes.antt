@@ -1,0 +1,297 @@
+-- Objects are counted by their codes alike, whatever bound the codes are looked for within.
+use Rattle.std.proofs.Common.{◌≡◌, ℕ, ◌+◌, ◌≤◌, Bool, true, false, cond, ◌&&◌, List, [], ◌∷◌, ◌++◌, map, count_by, fold, Ordering, Less, Equal, Greater, inl, inr, sym, refl, ap, subst, ◌∙◌, arith}
+use Rattle.std.specs.Cmp as cmp
+use Rattle.std.specs.List.{All, Contains, list_any}
+use Rattle.std.specs.List.Sorted.{IsPermutation}
+use Rattle.std.specs.Ordering.{eq_by_cmp, is_eq}
+use Rattle.std.proofs.lemmas.Bool.{and_from}
+use Rattle.std.proofs.lemmas.List.Elements.{All-contains, All-head, All-tail, Contains-append_cases, Contains-append_left, Contains-append_right}
+use Rattle.std.proofs.lemmas.List.Sorted.{sum_by-IsPermutation}
+use Rattle.life_model.specs.Cell.{Cell}
+use Rattle.life_model.specs.Rule.{Rule}
+use Rattle.life_model.specs.Generation.{Generation}
+use Rattle.life_model.specs.Evolution.{generation}
+use Rattle.life_model.specs.Recurrence.{AreOneObject, RecursBy, Settles, SettlesAt}
+use Rattle.life_model.specs.Symmetry.{Orientation, image_under, translate_of, turn}
+use Rattle.life_model.proofs.Objects.{AreOneObject-swap, turned-moved}
+use Rattle.life_model.proofs.Recurrences.{generation-add, generation-zero, onset-period-least}
+use Rattle.life_model.proofs.Symmetries.{generation-turned}
+use Rattle.life_objects.specs.Ash.{IsObject, RecursWithin}
+use Rattle.life_objects.specs.Kinds.{AreAlike, IsKind}
+use Rattle.life_objects.proofs.Lists.{Contains-head, Contains-later}
+use Rattle.life_objects.proofs.Recurring.{RecursBy-later, RecursBy-moved, RecursBy-sooner}
+use Rattle.life_shape.specs.TextOrder.{shorter_cmp}
+use Rattle.life_shape.proofs.TextOrders.{shorter_exact, shorter_total}
+use Rattle.life_answer.specs.Apgcode.{code_of}
+use Rattle.life_answer.specs.Census.{code_found, part_code}
+use Rattle.life_answer.specs.Parts.{counted_codes, with_code, with_code_by_order}
+use Rattle.life_answer.specs.declared.part.Part.{Part}
+use Rattle.life_answer.proofs.Codes.{codes_tell_objects}
+use Rattle.life_answer.proofs.Findings.{outcome-more, outcome-settled, settled_or_not}
+use Rattle.life_answer.proofs.Tallying.{counted_permutation}
+use Rattle.life_decided.proofs.Tests.{both}
+use Rattle.life_meeting.proofs.Reach.{any_by, any_tells}
+use Rattle.life_tales.specs.Rising.{number_of}
+use Rattle.life_tales.specs.Tales.{counted_objects}
+use Rattle.life_tales.proofs.Permuted.{count_by-cons, count_by-map, same_counts}
+
+module _ (R : Rule) where
+  -- ---- what comes again, within a bound
+
+  -- P comes again within B, from generation 0 on
+  record SettlesAtOnce (B : ℕ) (P : Generation) : Type 0 where
+    period : ℕ
+    displacement : Cell
+    settles : Settles R P B (record { onset = 0; period = period; displacement = displacement })
+
+  from_start : (P : Generation) (n : ℕ) (d : Cell) → RecursBy R P n d → (B : ℕ) → n ≤ B → SettlesAtOnce B P
+  from_start P n d r B le =
+      let later = r.later in
+      let again : SettlesAt R P B 0 = record {
+        steps = n;
+        by = d;
+        later = later;
+        within = omega arith;
+        again = ap (generation R P) (let e : 0 + n ≡ n = omega arith in e) ∙ r.again
+            ∙ ap (λ G. translate_of G d) (sym (generation-zero R P));
+      } in
+      elim (settled_or_not R P B) [
+        | inl found ↦
+            let s = found.recurrence in
+            let early : s.onset ≤ 0 = found.settles.first 0 again in
+            let at_once : s.onset ≡ 0 = omega arith in
+            record {
+              period = s.period;
+              displacement = s.displacement;
+              settles = subst (Settles R P B) (λ i. record s { onset = at_once i }) found.settles;
+            }
+        | inr none ↦ absurd (none.nowhere 0 again)
+      ]
+
+  -- what comes again at all does so at once, if a generation of it does so within B
+  from_any : (P : Generation) (m : ℕ) (d : Cell) → RecursBy R P m d → (B g : ℕ) → SettlesAt R P B g → SettlesAtOnce B P
+  from_any P m d r B g s =
+      let n : ℕ = s.steps in
+      let within : g + n ≤ B = s.within in
+      from_start P n s.by
+      (RecursBy-sooner R P m d r g n s.by (record { later = s.later; again = generation-add R P g n ∙ s.again })) B (omega arith)
+
+  part_code-is : (B : ℕ) (P : Generation) (s : SettlesAtOnce B P) →
+      part_code R B P ≡ code_of R (generation R P 0) s.period s.displacement
+  part_code-is B P s =
+      ap code_found (outcome-settled R P B (record { onset = 0; period = s.period; displacement = s.displacement }) s.settles)
+
+  short_period : (B : ℕ) (P : Generation) (s : SettlesAtOnce B P) → 0 + s.period ≤ B
+  short_period B P s =
+      onset-period-least R P B (record { onset = 0; period = s.period; displacement = s.displacement }) s.settles B 0
+      s.settles.settles
+
+  -- ---- one object has one code
+
+  turned_recurs : (P : Generation) (n : ℕ) (d : Cell) (m : Orientation) → RecursBy R P n d →
+      RecursBy R (image_under P m) n (turn m d)
+  turned_recurs P n d m r = record {
+    later = r.later;
+    again = generation-turned R P m n ∙ ap (λ G. image_under G m) r.again ∙ turned-moved P d m;
+  }
+
+  -- what comes again so in the one does so in the other
+  recurs_across : (P Q : Generation) → AreOneObject R P Q → (n : ℕ) (e : Cell) → RecursBy R Q n e → (p : ℕ) (d : Cell) →
+      RecursBy R P p d → (f : Cell) × RecursBy R Q p f
+  recurs_across P Q one n e back p d r =
+      let A = generation R P one.first_phase in
+      let f : Cell = turn one.map d in (
+        f,
+        RecursBy-sooner R Q n e back one.second_phase p f
+            (subst (λ G. RecursBy R G p f) (sym one.same)
+            (RecursBy-moved R (image_under A one.map) p f one.by
+            (turned_recurs A p d one.map (RecursBy-later R P p d r one.first_phase)))),
+      )
+
+  module _ (B : ℕ) (P Q : Generation) (m n : ℕ) (d e : Cell) (r : RecursBy R P m d) (t : RecursBy R Q n e)
+      (one : AreOneObject R P Q) where
+    too : SettlesAtOnce B P → SettlesAtOnce B Q
+    too s =
+        let p : ℕ = s.period in
+        let short : 0 + p ≤ B = short_period B P s in
+        let across = recurs_across P Q one n e t p s.displacement
+        (subst (λ G. RecursBy R G p s.displacement) (generation-zero R P) s.settles.recurs) in
+        from_start Q p across.0 across.1 B (omega arith)
+
+    same_code : SettlesAtOnce B P → part_code R B P ≡ part_code R B Q
+    same_code s =
+        let u = too s in
+        part_code-is B P s
+        ∙ (codes_tell_objects R P Q B B (record { onset = 0; period = s.period; displacement = s.displacement })
+        (record { onset = 0; period = u.period; displacement = u.displacement }) s.settles u.settles).1
+        (subst (λ G. AreOneObject R G (generation R Q 0)) (sym (generation-zero R P))
+        (subst (AreOneObject R P) (sym (generation-zero R Q)) one))
+        ∙ sym (part_code-is B Q u)
+
+  one_code : (B : ℕ) (P Q : Generation) (m n : ℕ) (d e : Cell) → RecursBy R P m d → RecursBy R Q n e →
+      AreOneObject R P Q → part_code R B P ≡ part_code R B Q
+  one_code B P Q m n d e r t one =
+      elim (settled_or_not R P B) [
+        | inl found ↦ same_code B P Q m n d e r t one (from_any P m d r B found.recurrence.onset found.settles.settles)
+        | inr none ↦ elim (settled_or_not R Q B) [
+          | inl found ↦
+              sym (same_code B Q P n m e d t r (AreOneObject-swap R P Q one)
+              (from_any Q n e t B found.recurrence.onset found.settles.settles))
+          | inr neither ↦ ap code_found none.found ∙ sym (ap code_found neither.found)
+        ]
+      ]
+
+  -- an object has one code, whatever the bound
+  wider_code : (b B : ℕ) (P : Generation) → b ≤ B → IsObject R b P → part_code R b P ≡ part_code R B P
+  wider_code b B P le object =
+      let s = from_start P object.recurs.steps object.recurs.by object.recurs.recurs b object.recurs.within in
+      let short : 0 + s.period ≤ b = short_period b P s in
+      ap code_found (sym (outcome-more R P b B (record { onset = 0; period = s.period; displacement = s.displacement })
+      s.settles (omega arith)))
+
+  -- ---- counted
+
+  abbrev pub is_text : List ℕ → List ℕ → Bool
+  is_text s t = eq_by_cmp shorter_cmp s t
+
+  text_itself : (s : List ℕ) → is_text s s ≡ true
+  text_itself s = ap is_eq (cmp.tied_itself shorter_total s)
+
+  text_tells : (s t : List ℕ) → is_text s t ≡ true → s ≡ t
+  text_tells s t h = shorter_exact s t ((cmp.Equal-is (shorter_cmp s t)).0 h)
+
+  pub kind_of_code : (B : ℕ) (code : List ℕ) → IsKind R (λ P. is_text code (part_code R B P))
+  kind_of_code B code P Q m n d e r t one = ap (is_text code) (one_code B P Q m n d e r t one)
+
+  pub wider_codes : (b B : ℕ) (Ps : List Generation) → b ≤ B → All (IsObject R b) Ps →
+      map (part_code R b) Ps ≡ map (part_code R B) Ps
+  wider_codes b B [] le objects = refl
+  wider_codes b B (P ∷ Ps) le objects =
+      λ i. wider_code b B P le (All-head (IsObject R b) P Ps objects) i
+      ∷ wider_codes b B Ps le (All-tail (IsObject R b) P Ps objects) i
+
+  pub counted_alike : (b c : ℕ) (Ps Qs : List Generation) → All (IsObject R b) Ps → All (IsObject R c) Qs →
+      AreAlike R Ps Qs → counted_objects R b Ps ≡ counted_objects R c Qs
+  counted_alike b c Ps Qs objects others alike =
+      let B : ℕ = b + c in
+      let codes = part_code R B in
+      counted_permutation (map (part_code R b) Ps) (map (part_code R c) Qs)
+      (subst (λ ts. IsPermutation ts (map (part_code R c) Qs)) (sym (wider_codes b B Ps (omega arith) objects))
+      (subst (IsPermutation (map codes Ps)) (sym (wider_codes c B Qs (omega arith) others))
+      (same_counts is_text text_itself text_tells (map codes Ps) (map codes Qs) (λ code.
+      count_by-map (is_text code) codes Ps ∙ alike (λ P. is_text code (codes P)) (kind_of_code B code)
+      ∙ sym (count_by-map (is_text code) codes Qs)))))
+
+  -- ---- what is counted alike is alike
+
+  same_object : (B : ℕ) (P Q : Generation) → SettlesAtOnce B P → SettlesAtOnce B Q → part_code R B P ≡ part_code R B Q →
+      AreOneObject R P Q
+  same_object B P Q s u same =
+      subst (AreOneObject R P) (generation-zero R Q)
+      (subst (λ G. AreOneObject R G (generation R Q 0)) (generation-zero R P)
+      ((codes_tell_objects R P Q B B (record { onset = 0; period = s.period; displacement = s.displacement })
+      (record { onset = 0; period = u.period; displacement = u.displacement }) s.settles u.settles).0
+      (sym (part_code-is B P s) ∙ same ∙ part_code-is B Q u)))
+
+  of_kind : (B : ℕ) (P Q : Generation) (kind : Generation → Bool) → IsKind R kind → RecursWithin R B P → RecursWithin R B Q →
+      part_code R B P ≡ part_code R B Q → kind P ≡ kind Q
+  of_kind B P Q kind fits p q same =
+      fits P Q p.steps q.steps p.by q.by p.recurs q.recurs
+      (same_object B P Q (from_start P p.steps p.by p.recurs B p.within) (from_start Q q.steps q.by q.recurs B q.within) same)
+
+  -- whether some set of a list has this code and is of the kind
+  module _ (B : ℕ) (kind : Generation → Bool) (fits : IsKind R kind) (all : List Generation)
+      (each : (P : Generation) → Contains all P → RecursWithin R B P) where
+    abbrev code : Generation → List ℕ
+    code = part_code R B
+
+    abbrev has : List ℕ → Bool
+    has text = list_any (λ P. is_text text (code P) && kind P) all
+
+    has_kind : (P : Generation) → Contains all P → has (code P) ≡ kind P
+    has_kind P one =
+        cmp.both_ways (has (code P)) (kind P)
+        (λ h.
+        let q = any_tells (λ Q. is_text (code P) (code Q) && kind Q) all h in
+        let parts = both (is_text (code P) (code q.0)) (kind q.0) q.2 in
+        of_kind B P q.0 kind fits (each P one) (each q.0 q.1) (text_tells (code P) (code q.0) parts.0) ∙ parts.1)
+        (λ h. any_by (λ Q. is_text (code P) (code Q) && kind Q) all P one
+        (and_from (is_text (code P) (code P)) (kind P) (text_itself (code P)) h))
+
+    count_kind : (Ps : List Generation) → ((P : Generation) → Contains Ps P → Contains all P) →
+        count_by kind Ps ≡ count_by has (map code Ps)
+    count_kind [] among = refl
+    count_kind (P ∷ Ps) among =
+        count_by-cons kind P Ps
+        ∙ (λ i. cond (sym (has_kind P (among P (Contains-head P Ps))) i) 1 0
+        + count_kind Ps (λ Q one. among Q (Contains-later P Q Ps one)) i)
+        ∙ sym (count_by-cons has (code P) (map code Ps))
+
+  more_if : (b : Bool) (n : ℕ) → cond {A = ℕ} b (n + 1) 0 ≡ cond {A = ℕ} b n 0 + cond {A = ℕ} b 1 0
+  more_if true n = refl
+  more_if false n = refl
+
+  at_last : (a b c : ℕ) → (a + b) + c ≡ (a + c) + b
+  at_last a b c = omega arith
+
+  with_one : (text code : List ℕ) (part : Part) (parts rest : List Part) (o : Ordering) → shorter_cmp code part.code ≡ o →
+      number_of text rest ≡ number_of text parts + cond {A = ℕ} (is_text text code) 1 0 →
+      number_of text (with_code_by_order o code part parts rest)
+      ≡ number_of text (part ∷ parts) + cond {A = ℕ} (is_text text code) 1 0
+  with_one text code part parts rest Less e h = omega arith
+  with_one text code part parts rest Equal e h =
+      let b = is_text text part.code in
+      let others = number_of text parts in
+      ap (λ n. n + others) (more_if b part.count)
+      ∙ at_last (cond {A = ℕ} b part.count 0) (cond {A = ℕ} b 1 0) others
+      ∙ ap (λ t. (cond {A = ℕ} b part.count 0 + others) + cond {A = ℕ} t 1 0)
+      (sym (ap (is_text text) (shorter_exact code part.code e)))
+  with_one text code part parts rest Greater e h = omega arith
+
+  with_code_more : (text code : List ℕ) (parts : List Part) →
+      number_of text (with_code code parts) ≡ number_of text parts + cond {A = ℕ} (is_text text code) 1 0
+  with_code_more text code [] = omega arith
+  with_code_more text code (part ∷ parts) =
+      with_one text code part parts (with_code code parts) (shorter_cmp code part.code) refl (with_code_more text code parts)
+
+  pub number_counted : (text : List ℕ) (codes : List (List ℕ)) (parts : List Part) →
+      number_of text (fold (λ ps c. with_code c ps) parts codes) ≡ number_of text parts + count_by (is_text text) codes
+  number_counted text [] parts = omega arith
+  number_counted text (c ∷ cs) parts =
+      let rest = number_counted text cs (with_code c parts) in
+      let one = with_code_more text c parts in
+      let e = count_by-cons (is_text text) c cs in
+      omega arith
+
+  counts_told : (text : List ℕ) (xs ys : List (List ℕ)) → counted_codes xs ≡ counted_codes ys →
+      count_by (is_text text) xs ≡ count_by (is_text text) ys
+  counts_told text xs ys same =
+      let one = number_counted text xs [] in
+      let two = number_counted text ys [] in
+      let both = ap (number_of text) same in
+      omega arith
+
+  object_within : (b B : ℕ) (P : Generation) → b ≤ B → IsObject R b P → RecursWithin R B P
+  object_within b B P le object =
+      let r = object.recurs in
+      let within : r.steps ≤ b = r.within in
+      record { steps = r.steps; by = r.by; within = omega arith; recurs = r.recurs }
+
+  pub alike_by_counts : (b c : ℕ) (Ps Qs : List Generation) → All (IsObject R b) Ps → All (IsObject R c) Qs →
+      counted_objects R b Ps ≡ counted_objects R c Qs → AreAlike R Ps Qs
+  alike_by_counts b c Ps Qs objects others same kind fits =
+      let B : ℕ = b + c in
+      let codes = part_code R B in
+      let each : (P : Generation) → Contains (Ps ++ Qs) P → RecursWithin R B P = λ P one.
+      elim (Contains-append_cases Ps Qs P one) [
+        | inl here ↦ object_within b B P (omega arith) (All-contains (IsObject R b) Ps P objects here)
+        | inr there ↦ object_within c B P (omega arith) (All-contains (IsObject R c) Qs P others there)
+      ] in
+      let told : counted_codes (map codes Ps) ≡ counted_codes (map codes Qs) =
+      ap counted_codes (sym (wider_codes b B Ps (omega arith) objects)) ∙ same
+      ∙ ap counted_codes (wider_codes c B Qs (omega arith) others) in
+      let order = same_counts is_text text_itself text_tells (map codes Ps) (map codes Qs)
+      (λ text. counts_told text (map codes Ps) (map codes Qs) told) in
+      count_kind B kind fits (Ps ++ Qs) each Ps (λ P one. Contains-append_left Ps Qs P one)
+      ∙ sym (sum_by-IsPermutation (λ (t : List ℕ). cond (has B kind fits (Ps ++ Qs) each t) 1 0) (map codes Ps) (map codes Qs) order)
+      ∙ sym (count_kind B kind fits (Ps ++ Qs) each Qs (λ P one. Contains-append_right Ps Qs P one))

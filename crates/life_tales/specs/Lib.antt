@@ -1,0 +1,5 @@
+pub mod Tales
+pub mod Counts
+pub mod Told
+pub mod Reported
+pub mod Rising
