@@ -16,3 +16,5 @@ pub mod Permuted
 pub mod Groups
 pub mod Lookups
 pub mod Around
+pub mod Reaching
+pub mod Grown

@@ -3,3 +3,5 @@ pub mod Tracking
 pub mod Tags
 pub mod Gathering
 pub mod Pieces
+pub mod Reaching
+pub mod Grown

@@ -3,6 +3,7 @@ use Rattle.std.specs.Prelude.{◌≡◌, ℕ, ◌+◌, ◌<◌, ◌≤◌, ◌^�
 use Rattle.std.specs.List.{All, Contains}
 use Rattle.life_model.specs.Cell.{Cell}
 use Rattle.life_model.specs.Generation.{contains}
+use Rattle.life_cells.specs.Limits.{IsPlace}
 use Rattle.life_classes.specs.declared.class.Class.{Class}
 use Rattle.life_classes.specs.declared.tags.Tag.{Tag}
 
@@ -44,3 +45,18 @@ pub record IsAlone (t : Tag) (ts : List Tag) : Type 0 where
   pub here : AreOfOneClass (t.number +ℤ neg_ℤ (pos 2)) t.place ts
   pub below : AreOfOneClass (t.number +ℤ pos (2 ^ 31) +ℤ neg_ℤ (pos 2)) t.place ts
   pub further : AreOfOneClass (t.number +ℤ pos (2 ^ 32) +ℤ neg_ℤ (pos 2)) t.place ts
+
+-- the tag is that of a cell of its class
+pub record IsOwned (cs : List Class) (t : Tag) : Type 0 where
+  pub cell : Cell
+  pub placed : IsPlace cell
+  pub number : t.number ≡ place_number cell
+  pub within : t.place < length cs
+  pub owned : (d : Class) → contains (get_or cs t.place d).last cell ≡ true
+
+-- these are the cells of what is left of the classes, in order
+pub record AreTagged (cs : List Class) (ts : List Tag) : Type 0 where
+  pub each : AreTags cs ts
+  pub rising : AreRisingTags ts
+  pub numbered : All IsNumbered ts
+  pub owned : All (IsOwned cs) ts

@@ -6,6 +6,7 @@
 mod class;
 mod following;
 mod gathering;
+mod giving;
 mod joining;
 mod meeting;
 mod nearness;
@@ -13,6 +14,7 @@ mod pieces;
 mod rows;
 mod splitting;
 mod stepping;
+mod sweeping;
 mod tags;
 mod undivided;
 

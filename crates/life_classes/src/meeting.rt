@@ -1,9 +1,8 @@
 //! Which classes hang together, as far as can be told: a guess, which is tested where it is used.
-ghost use Rattle.std.specs.Prelude.{◌^◌, ◌≤◌, ◌≤ℤ◌, IfOk, length, neg_ℤ, pos};
-ghost use Rattle.life_classes.specs.Tags.{AreRisingTags};
+ghost use Rattle.std.specs.Prelude.{◌-◌, ◌^◌, ◌≤ℤ◌, All, pos};
+ghost use Rattle.life_classes.specs.Tags.{AreRisingTags, IsNumbered};
 
-use crate::class::Class;
-use crate::tags::{ROW, Tag, place_from, place_number};
+use crate::tags::{ROW, Tag, place_from};
 use std::alloc::{AllocError, Global};
 
 /// When a class is met, and when the one was that it is near. Those that hang together are met one after another.
@@ -11,6 +10,95 @@ use std::alloc::{AllocError, Global};
 pub struct Turn {
     pub rank: usize,
     pub from: usize,
+}
+
+/// Two classes that are near each other, by their places.
+#[derive(Clone, Copy)]
+struct Edge {
+    one: usize,
+    other: usize,
+}
+
+/// Where tags were found that may be near the last one, in its row and in the two below it.
+#[derive(Drop)]
+struct Cursors {
+    here: usize,
+    below: usize,
+    further: usize,
+}
+
+/// Adds that two classes are near each other, seen from both, unless they are one or were added last.
+fn add_edge(edges: &mut Vec<Edge>, one: usize, other: usize) -> Result<(), AllocError> {
+    if one == other {
+        return Ok(());
+    }
+    if let Some(last) = edges.as_slice().last() {
+        if last.one == other && last.other == one {
+            return Ok(());
+        }
+    }
+    edges.push(Edge { one, other })?;
+    edges.push(Edge {
+        one: other,
+        other: one,
+    })?;
+    Ok(())
+}
+
+/// Adds the edges from a class to those of the tags whose numbers are from one to four more.
+fn add_row(
+    edges: &mut Vec<Edge>,
+    tags: &[Tag],
+    place: usize,
+    low: i64,
+    cursor: &mut usize,
+) -> Result<(), AllocError>
+    requires rising { AreRisingTags tags.now }
+    requires small { low ≤ℤ pos (2 ^ 63 - 5) }
+{
+    let start = place_from(tags, tags.len().min(*cursor), low);
+    *cursor = start;
+    for n in start..tags.len() {
+        if tags[n].number > low + 4 {
+            return Ok(());
+        }
+        add_edge(edges, place, tags[n].place)?;
+    }
+    Ok(())
+}
+
+/// Adds the edges from the class of a tag to those of the tags that may be near it, in its row and in the two below it.
+fn add_edges(
+    edges: &mut Vec<Edge>,
+    tags: &[Tag],
+    tag: Tag,
+    cursors: &mut Cursors,
+) -> Result<(), AllocError>
+    requires rising { AreRisingTags tags.now }
+    requires numbered { IsNumbered tag }
+{
+    let low = tag.number - 2;
+    add_row(edges, tags, tag.place, low, &mut cursors.here)?;
+    add_row(edges, tags, tag.place, low + ROW, &mut cursors.below)?;
+    add_row(edges, tags, tag.place, low + 2 * ROW, &mut cursors.further)
+}
+
+/// The edges between the classes of the tags, in order by the one they are seen from.
+fn edges(alloc: Global, tags: &[Tag]) -> Result<Vec<Edge>, AllocError>
+    requires rising { AreRisingTags tags.now }
+    requires numbered { All IsNumbered tags.now }
+{
+    let mut edges = Vec::new(alloc);
+    let mut cursors = Cursors {
+        here: 0,
+        below: 0,
+        further: 0,
+    };
+    for tag in tags {
+        add_edges(&mut edges, tags, *tag, &mut cursors)?;
+    }
+    edges.sort_unstable_by_key(|edge| edge.one);
+    Ok(edges)
 }
 
 /// The rank of a class that is not met yet.
@@ -51,56 +139,16 @@ impl Meeting {
         Ok(())
     }
 
-    /// Meets the classes of the tags from a place on whose numbers are up to this one. Tells the place after these.
-    fn meet_up_to(
-        &mut self,
-        tags: &[Tag],
-        start: usize,
-        high: i64,
-        from: usize,
-    ) -> Result<usize, AllocError>
-        requires { start ≤ length tags.now }
-        ensures { IfOk result (λ end. end ≤ length tags.now) }
-    {
-        for n in start..tags.len() {
-            if tags[n].number > high {
-                return Ok(n);
+    /// Meets the classes that a class is near, which was met as the FROM-th.
+    fn meet_around(&mut self, edges: &[Edge], place: usize, from: usize) -> Result<(), AllocError> {
+        let start = edges.partition_point(|edge| edge.one < place);
+        for n in start..edges.len() {
+            if edges[n].one != place {
+                return Ok(());
             }
-            self.meet(tags[n].place, from)?;
-        }
-        Ok(tags.len())
-    }
-
-    /// Meets the classes that have a cell with a number from so much more than that of a cell of a class to four more,
-    /// where this class was met as the FROM-th. Each tag is looked at once.
-    fn meet_row(
-        &mut self,
-        tags: &[Tag],
-        class: &Class,
-        more: i64,
-        from: usize,
-    ) -> Result<(), AllocError>
-        requires rising { AreRisingTags tags.now }
-        requires low { neg_ℤ (pos (2 ^ 33)) ≤ℤ more }
-        requires high { more ≤ℤ pos (2 ^ 33) }
-    {
-        let mut at = 0;
-        for cell in class.last.as_slice() {
-            let low = place_number(*cell) + more;
-            at = self.meet_up_to(tags, place_from(tags, at, low), low + 4, from)?;
+            self.meet(edges[n].other, from)?;
         }
         Ok(())
-    }
-
-    /// Meets the classes that a class is near, which was met as the FROM-th.
-    fn meet_around(&mut self, tags: &[Tag], class: &Class, from: usize) -> Result<(), AllocError>
-        requires { AreRisingTags tags.now }
-    {
-        self.meet_row(tags, class, -2 * ROW - 2, from)?;
-        self.meet_row(tags, class, -ROW - 2, from)?;
-        self.meet_row(tags, class, -2, from)?;
-        self.meet_row(tags, class, ROW - 2, from)?;
-        self.meet_row(tags, class, 2 * ROW - 2, from)
     }
 
     /// The first class from a place on that is not met.
@@ -114,21 +162,22 @@ impl Meeting {
     }
 }
 
-/// When each of the classes is met, where each that is met leads to those that it is near.
-pub fn turns(alloc: Global, classes: &[Class], tags: &[Tag]) -> Result<Vec<Turn>, AllocError>
-    requires { AreRisingTags tags.now }
+/// When each of so many classes is met, where each that is met leads to those that it is near.
+pub fn turns(alloc: Global, count: usize, tags: &[Tag]) -> Result<Vec<Turn>, AllocError>
+    requires rising { AreRisingTags tags.now }
+    requires numbered { All IsNumbered tags.now }
 {
-    let mut met = Meeting::of(alloc, classes.len())?;
+    let edges = edges(alloc, tags)?;
+    let mut met = Meeting::of(alloc, count)?;
     let mut first = 0;
-    for n in 0..classes.len() {
+    for n in 0..count {
         if n == met.places.len() {
             first = met.first_not_met(first);
             met.meet(first, n)?;
         }
         if let Some(place) = met.places.get(n) {
-            if let Some(class) = classes.get(*place) {
-                met.meet_around(tags, class, n)?;
-            }
+            let place = *place;
+            met.meet_around(edges.as_slice(), place, n)?;
         }
     }
     Ok(met.turns)

@@ -1,12 +1,13 @@
 //! The finest splitting of a plane's cells into classes that stay apart.
-ghost use Rattle.std.specs.Prelude.{◌≡◌, ◌≤◌, ◌+◌, All, AllPairs, IfOk, map};
+ghost use Rattle.std.specs.Prelude.{◌≡◌, ◌≤◌, ◌+◌, All, AllPairs, IfOk, IfSome, map};
 ghost use Rattle.life_cells.specs.Limits.{IsPlace};
 ghost use Rattle.life_objects.specs.Apart.{AreApartFor};
 ghost use Rattle.life_objects.specs.Union.{generations, union_of};
 ghost use Rattle.life_objects.specs.Whole.{StaysWhole};
+ghost use Rattle.life_classes.specs.Tags.{AreTagged};
 ghost use Rattle.life_classes.specs.Tracking.{AreApartNow, LeadTo, class_of_cell, first_sets, last_sets};
 
-use crate::class::Class;
+use crate::class::{Class, Split};
 use crate::following::follow_on;
 use crate::joining::all_joined;
 use crate::pieces::{as_one, pieces};
@@ -16,15 +17,38 @@ use life_plane::{AGE_LIMIT, Plane};
 use std::alloc::{AllocError, Global};
 
 /// The cells as classes of those that are near each other.
+pub fn first_split(alloc: Global, cells: &[(i32, i32)]) -> Result<Split, AllocError>
+    requires { All IsPlace cells.now }
+    ensures tracked { IfOk result
+        (λ all. LeadTo (map class_of_cell cells.now) all.classes.items) }
+    ensures apart { IfOk result (λ all. AreApartNow all.classes.items) }
+    ensures tagged { IfOk result
+        (λ all. IfSome all.tags (λ tags. AreTagged all.classes.items tags.items)) }
+{
+    if cells.len() > 0 && follow_on(cells) {
+        return Ok(Split {
+            classes: vec![in alloc; as_one(alloc, cells)?]?,
+            tags: None,
+        });
+    }
+    let classes = pieces(alloc, cells)?;
+    all_joined(
+        alloc,
+        Split {
+            classes,
+            tags: None,
+        },
+    )
+}
+
+/// The cells as classes of those that are near each other.
 pub fn first_classes(alloc: Global, cells: &[(i32, i32)]) -> Result<Vec<Class>, AllocError>
     requires { All IsPlace cells.now }
     ensures tracked { IfOk result (λ all. LeadTo (map class_of_cell cells.now) all.items) }
     ensures apart { IfOk result (λ all. AreApartNow all.items) }
 {
-    if cells.len() > 0 && follow_on(cells) {
-        return Ok(vec![in alloc; as_one(alloc, cells)?]?);
-    }
-    all_joined(alloc, pieces(alloc, cells)?)
+    let split = first_split(alloc, cells)?;
+    Ok(split.classes)
 }
 
 /// The classes of a plane's cells that stay apart for so many generations, torn as finely as can be: however the cells
@@ -46,12 +70,12 @@ pub fn classes<P: Plane>(
         (λ all. last_sets all.items ≡ generations rule.now (first_sets all.items) bound) }
 {
     let mut plane = plane;
-    let mut classes = first_classes(alloc, plane.cells()?.as_slice())?;
+    let mut split = first_split(alloc, plane.cells()?.as_slice())?;
     for _ in 0..bound {
         plane.step(rule)?;
-        classes = all_joined(alloc, stepped(alloc, classes, &plane.cells()?)?)?;
+        split = all_joined(alloc, stepped(alloc, split, &plane.cells()?)?)?;
     }
-    Ok(classes)
+    Ok(split.classes)
 }
 
 /// The same of a plane that stays as it is. It is copied only where a generation is made.

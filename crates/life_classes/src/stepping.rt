@@ -1,15 +1,19 @@
 //! What becomes of classes.
-ghost use Rattle.std.specs.Prelude.{◌≡◌, All, IfOk, OnOk, filter, map, true};
+ghost use Rattle.std.specs.Prelude.{◌≡◌, All, IfOk, IfSome, OnOk, filter, map, true};
 ghost use Rattle.life_model.specs.Cell.{Cell};
 ghost use Rattle.life_model.specs.Generation.{contains, keep};
 ghost use Rattle.life_cells.specs.Limits.{IsPlace};
 ghost use Rattle.life_classes.specs.Nearness.{are_within, lists_cell, reaches};
-ghost use Rattle.life_classes.specs.Tracking.{moved_on};
+ghost use Rattle.life_classes.specs.Tags.{AreTagged};
+ghost use Rattle.life_classes.specs.Tracking.{AreApartNow, moved_on};
 
-use crate::class::Class;
+use crate::class::{Class, Split};
+use crate::giving::given;
+use crate::joining::{are_small, tags_of};
 use crate::nearness::reaches;
 use crate::rows::{numbered, rows, rows_about};
-use crate::tags::{ROW, place_number};
+use crate::sweeping::owners;
+use crate::tags::{ROW, Tag, place_number};
 use life_cells::{CellList, put_in_order};
 use std::alloc::{AllocError, Global};
 
@@ -87,8 +91,8 @@ fn touched(alloc: Global, cells: &CellList, set: &CellList) -> Result<CellList, 
     touched_in_rows(alloc, cells, set)
 }
 
-/// The classes a generation later, where these are all cells of that generation.
-pub fn stepped(
+/// The classes a generation later, where these are all cells of that generation. Each class is looked at by itself.
+fn each_stepped(
     alloc: Global,
     classes: Vec<Class>,
     cells: &CellList,
@@ -104,4 +108,63 @@ pub fn stepped(
         })?;
     }
     Ok(later)
+}
+
+/// The same, and no cells in order.
+fn each_stepped_of(
+    alloc: Global,
+    classes: Vec<Class>,
+    cells: &CellList,
+) -> Result<Split, AllocError>
+    ensures classes { IfOk result
+        (λ later. later.classes.items ≡ map (moved_on cells.now) classes.items) }
+    ensures tagged { IfOk result
+        (λ later. IfSome later.tags (λ tags. AreTagged later.classes.items tags.items)) }
+{
+    let classes = each_stepped(alloc, classes, cells)?;
+    Ok(Split {
+        classes,
+        tags: None,
+    })
+}
+
+/// The same, where these are the cells of what is left of the classes, in order: mostly all is told by one sweep over them.
+fn stepped_by(
+    alloc: Global,
+    classes: Vec<Class>,
+    tags: &[Tag],
+    cells: &CellList,
+) -> Result<Split, AllocError>
+    requires apart { AreApartNow classes.items }
+    requires tagged { AreTagged classes.items tags.now }
+    ensures classes { IfOk result
+        (λ later. later.classes.items ≡ map (moved_on cells.now) classes.items) }
+    ensures tagged { IfOk result
+        (λ later. IfSome later.tags (λ tags. AreTagged later.classes.items tags.items)) }
+{
+    let Some(owners) = owners(alloc, tags, cells.as_slice())? else {
+        return each_stepped_of(alloc, classes, cells);
+    };
+    let classes = given(alloc, classes, cells, owners.as_slice())?;
+    Ok(Split {
+        classes,
+        tags: Some(owners),
+    })
+}
+
+/// The classes a generation later, where these are all cells of that generation.
+pub fn stepped(alloc: Global, split: Split, cells: &CellList) -> Result<Split, AllocError>
+    requires apart { AreApartNow split.classes.items }
+    requires tagged { IfSome split.tags (λ tags. AreTagged split.classes.items tags.items) }
+    ensures classes { IfOk result
+        (λ later. later.classes.items ≡ map (moved_on cells.now) split.classes.items) }
+    ensures tagged { IfOk result
+        (λ later. IfSome later.tags (λ tags. AreTagged later.classes.items tags.items)) }
+{
+    let classes = split.classes;
+    if are_small(classes.as_slice()) {
+        return each_stepped_of(alloc, classes, cells);
+    }
+    let tags = tags_of(alloc, classes.as_slice(), split.tags)?;
+    stepped_by(alloc, classes, tags.as_slice(), cells)
 }

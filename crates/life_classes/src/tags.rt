@@ -2,8 +2,9 @@
 ghost use Rattle.std.specs.Prelude.{◌≡◌, ◌-◌, ◌≤◌, ℕ, ℤ, ◌+ℤ◌, ◌≤ℤ◌, ◌+◌, ◌^◌, neg_ℤ, pos, ◌++◌, All, List, IfOk, OnOk, length, map};
 ghost use Rattle.std.specs.Bool.{OnTrue};
 ghost use Rattle.life_model.specs.Generation as generations;
+ghost use Rattle.life_cells.specs.Limits.{IsPlace};
 ghost use Rattle.life_classes.specs.declared.class.Class.{Class as ModelClass};
-ghost use Rattle.life_classes.specs.Tags.{AreLess, AreOfOneClass, AreOfUpTo, AreRisingTags, AreTags, IsAlone, IsNumbered, place_number, tag_of};
+ghost use Rattle.life_classes.specs.Tags.{AreLess, AreOfOneClass, AreOfUpTo, AreRisingTags, AreTagged, AreTags, IsAlone, IsNumbered, place_number, tag_of};
 ghost use Rattle.life_classes.specs.Tracking.{AreApartNow};
 
 use crate::class::Class;
@@ -42,6 +43,7 @@ fn add(tags: &mut Vec<Tag>, set: &CellList, place: usize) -> Result<(), AllocErr
     ensures items { OnOk result
         (tags.new.items ≡ tags.old.items ++ map (tag_of place) (generations.cells set.now)) }
     ensures numbered { OnOk result (All IsNumbered tags.old.items → All IsNumbered tags.new.items) }
+    ensures placed { All IsPlace (generations.cells set.now) }
 {
     for cell in set.as_slice() {
         tags.push(Tag {
@@ -54,9 +56,7 @@ fn add(tags: &mut Vec<Tag>, set: &CellList, place: usize) -> Result<(), AllocErr
 
 /// The cells of what is left of the classes, in order.
 pub fn tags_in_order(alloc: Global, classes: &[Class]) -> Result<Vec<Tag>, AllocError>
-    ensures tags { IfOk result (λ tags. AreTags classes.now tags.items) }
-    ensures rising { IfOk result (λ tags. AreRisingTags tags.items) }
-    ensures numbered { IfOk result (λ tags. All IsNumbered tags.items) }
+    ensures { IfOk result (λ tags. AreTagged classes.now tags.items) }
 {
     let mut tags = Vec::new(alloc);
     for n in 0..classes.len() {

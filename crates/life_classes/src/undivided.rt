@@ -6,7 +6,7 @@ ghost use Rattle.life_classes.specs.Tracking.{AreFew, HaveDied};
 
 use crate::class::Class;
 use crate::joining::all_joined;
-use crate::splitting::first_classes;
+use crate::splitting::{first_classes, first_split};
 use crate::stepping::stepped;
 use life_cells::{CellList, Rule};
 use life_plane::{AGE_LIMIT, Plane};
@@ -57,13 +57,13 @@ pub fn is_undivided<P: Plane>(
     ensures { IfOk result (λ is. IsTrue is ↔ IsUndivided rule.now bound (P.members plane)) }
 {
     let mut plane = plane;
-    let mut classes = first_classes(alloc, plane.cells()?.as_slice())?;
+    let mut split = first_split(alloc, plane.cells()?.as_slice())?;
     for _ in 0..bound {
-        if are_few(classes.as_slice()) {
+        if are_few(split.classes.as_slice()) {
             return Ok(true);
         }
         plane.step(rule)?;
-        classes = all_joined(alloc, stepped(alloc, classes, &plane.cells()?)?)?;
+        split = all_joined(alloc, stepped(alloc, split, &plane.cells()?)?)?;
     }
-    Ok(are_few(classes.as_slice()))
+    Ok(are_few(split.classes.as_slice()))
 }

@@ -10,8 +10,8 @@ pub returns : goal.returns
 returns c =
     let cs = c.args.classes.items in
     let ranked = c.in_ok-ranked.ranked.items in
-    IfOk-weaker c.gathered.result (λ all. LeadTo (classes_of c.as_slice-3.result.now) all.items)
+    IfOk-weaker c.gathered.result (λ all. LeadTo (classes_of c.as_slice-2.result.now) all.items)
     (λ all. LeadTo cs all.items)
     (λ all h. in_turn cs (classes_of ranked) all.items (lead_moved cs (classes_of ranked) c.in_ok-ranked.ensures)
-    (subst (λ rs. LeadTo (classes_of rs) all.items) c.as_slice-3.ensures.value h))
+    (subst (λ rs. LeadTo (classes_of rs) all.items) c.as_slice-2.ensures.value h))
     c.gathered.ensures

@@ -18,9 +18,10 @@ loop-init g c =
       members = sym (generation-zero R G);
       aged = sym (add-zero _);
       tracked =
-          tracked_at_first R c.args.bound G c.as_slice-2.result.now c.in_ok-classes.classes.items
-          (c.as_slice-2.ensures.cells ∙ ap cells c.in_ok-cells.ensures.cells) c.in_ok-classes.ensures.tracked;
-      apart = c.in_ok-classes.ensures.apart;
+          tracked_at_first R c.args.bound G c.as_slice-2.result.now c.in_ok-split.split.classes.items
+          (c.as_slice-2.ensures.cells ∙ ap cells c.in_ok-cells.ensures.cells) c.in_ok-split.ensures.tracked;
+      apart = c.in_ok-split.ensures.apart;
+      tagged = c.in_ok-split.ensures.tagged;
     }
 
 pub loop-preserved : goal.loop-preserved
@@ -36,29 +37,30 @@ loop-preserved g c =
       members = members;
       aged = c.in_ok-step.ensures.age ∙ ap (λ k. k + 1) at.aged ∙ add_assoc _ _ _;
       tracked =
-          led c.in_ok-stepped.field-0.items c.in_ok-classes-2.classes.items c.in_ok-classes-2.ensures.tracked R
+          led c.in_ok-stepped.field-0.classes.items c.in_ok-split-2.split.classes.items c.in_ok-split-2.ensures.tracked R
           c.args.bound (n + 1) G (omega arith)
-          (subst (AreTracked R c.args.bound (n + 1) G) (sym (c.in_ok-stepped.ensures
-          ∙ ap (λ H. map (moved_on H) c.loop.classes.items) c.in_ok-cells-2.ensures.cells))
-          (moved_on_tracked R c.args.bound n G c.loop.classes.items at.tracked at.apart _ members));
-      apart = c.in_ok-classes-2.ensures.apart;
+          (subst (AreTracked R c.args.bound (n + 1) G) (sym (c.in_ok-stepped.ensures.classes
+          ∙ ap (λ H. map (moved_on H) c.loop.split.classes.items) c.in_ok-cells-2.ensures.cells))
+          (moved_on_tracked R c.args.bound n G c.loop.split.classes.items at.tracked at.apart _ members));
+      apart = c.in_ok-split-2.ensures.apart;
+      tagged = c.in_ok-split-2.ensures.tagged;
     }
 
 pub returns-clause-whole : goal.returns-clause-whole
 returns-clause-whole g c =
     All-map (StaysWhole c.args.rule.now c.args.bound (g.P.Plane.members c.args.plane)) (λ d. d.first)
-    c.loop.classes.items c.loop.invariant.tracked.whole
+    c.loop.split.classes.items c.loop.invariant.tracked.whole
 
 pub returns-clause-apart : goal.returns-clause-apart
 returns-clause-apart g c =
     let past = c.loop-test.false in
     let at_end : c.loop.counter ≡ c.args.bound = omega arith in
-    end_apart c.args.rule.now c.args.bound c.loop.counter (g.P.Plane.members c.args.plane) c.loop.classes.items
+    end_apart c.args.rule.now c.args.bound c.loop.counter (g.P.Plane.members c.args.plane) c.loop.split.classes.items
     c.loop.invariant.tracked c.loop.invariant.apart at_end
 
 pub returns-clause-later : goal.returns-clause-later
 returns-clause-later g c =
     let past = c.loop-test.false in
     let at_end : c.loop.counter ≡ c.args.bound = omega arith in
-    lasts_then c.args.rule.now c.loop.counter c.loop.classes.items c.loop.invariant.tracked.later
-    ∙ ap (generations c.args.rule.now (first_sets c.loop.classes.items)) at_end
+    lasts_then c.args.rule.now c.loop.counter c.loop.split.classes.items c.loop.invariant.tracked.later
+    ∙ ap (generations c.args.rule.now (first_sets c.loop.split.classes.items)) at_end

@@ -17,10 +17,11 @@ loop-init g c =
       members = sym (generation-zero R G);
       aged = sym (add-zero _);
       tracked = λ k h.
-          led (map class_of_cell c.as_slice-2.result.now) c.in_ok-classes.classes.items c.in_ok-classes.ensures.tracked R k 0 G h
+          led (map class_of_cell c.as_slice-2.result.now) c.in_ok-split.split.classes.items c.in_ok-split.ensures.tracked R k 0 G h
           (subst (λ cs. AreTracked R k 0 G (map class_of_cell cs))
           (sym (c.as_slice-2.ensures.cells ∙ ap cells c.in_ok-cells.ensures.cells)) (alone_tracked R k G));
-      apart = c.in_ok-classes.ensures.apart;
+      apart = c.in_ok-split.ensures.apart;
+      tagged = c.in_ok-split.ensures.tagged;
     }
 
 pub loop-preserved : goal.loop-preserved
@@ -35,17 +36,18 @@ loop-preserved g c =
       members = members;
       aged = c.in_ok-step.ensures.age ∙ ap (λ k. k + 1) at.aged ∙ add_assoc _ _ _;
       tracked = λ k h.
-          led c.in_ok-stepped.field-0.items c.in_ok-classes-2.classes.items c.in_ok-classes-2.ensures.tracked R k (n + 1) G h
-          (subst (AreTracked R k (n + 1) G) (sym (c.in_ok-stepped.ensures
-          ∙ ap (λ H. map (moved_on H) c.loop.classes.items) c.in_ok-cells-2.ensures.cells))
-          (moved_on_tracked R k n G c.loop.classes.items (at.tracked k (omega arith)) at.apart _ members));
-      apart = c.in_ok-classes-2.ensures.apart;
+          led c.in_ok-stepped.field-0.classes.items c.in_ok-split-2.split.classes.items c.in_ok-split-2.ensures.tracked R k (n + 1) G h
+          (subst (AreTracked R k (n + 1) G) (sym (c.in_ok-stepped.ensures.classes
+          ∙ ap (λ H. map (moved_on H) c.loop.split.classes.items) c.in_ok-cells-2.ensures.cells))
+          (moved_on_tracked R k n G c.loop.split.classes.items (at.tracked k (omega arith)) at.apart _ members));
+      apart = c.in_ok-split-2.ensures.apart;
+      tagged = c.in_ok-split-2.ensures.tagged;
     }
 
 pub returns-then-are_few : goal.returns-then-are_few
 returns-then-are_few g c =
     let few = c.are_few.ensures.0 c.if-are_few.true in (
-      λ t. undivided_soon c.args.rule.now c.args.bound c.loop.counter (g.P.Plane.members c.args.plane) c.loop.classes.items
+      λ t. undivided_soon c.args.rule.now c.args.bound c.loop.counter (g.P.Plane.members c.args.plane) c.loop.split.classes.items
           c.loop.invariant.tracked c.loop.invariant.apart (omega arith)
           (subst AreFew c.as_slice-in-loop.ensures.value few),
       λ undivided. refl,
@@ -54,7 +56,7 @@ returns-then-are_few g c =
 pub returns : goal.returns
 returns g c =
     let decided = few_decide c.args.rule.now c.args.bound c.loop.counter (g.P.Plane.members c.args.plane)
-    c.loop.classes.items c.loop.invariant.tracked c.loop.invariant.apart (omega arith) in (
+    c.loop.split.classes.items c.loop.invariant.tracked c.loop.invariant.apart (omega arith) in (
       λ t. decided.0 (subst AreFew c.as_slice-3.ensures.value (c.are_few-2.ensures.0 t)),
       λ undivided. c.are_few-2.ensures.1 (subst AreFew (sym c.as_slice-3.ensures.value) (decided.1 undivided)),
     )

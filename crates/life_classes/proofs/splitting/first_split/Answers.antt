@@ -3,7 +3,7 @@ use Rattle.std.proofs.lemmas.Result.{IfOk-weaker}
 use Rattle.life_classes.specs.Tracking.{LeadTo, class_of_cell}
 use Rattle.life_classes.proofs.Followed.{lead_followed}
 use Rattle.life_classes.proofs.Merging.{in_turn}
-use Rattle.life_classes.proofs.splitting.first_classes.Goals as goal
+use Rattle.life_classes.proofs.splitting.first_split.Goals as goal
 
 pub returns-then-follow_on-clause-tracked : goal.returns-then-follow_on-clause-tracked
 returns-then-follow_on-clause-tracked c =
@@ -15,6 +15,8 @@ returns-then-follow_on-clause-tracked c =
 
 pub returns-clause-tracked : goal.returns-clause-tracked
 returns-clause-tracked c =
-    let runs = c.in_ok-pieces.field-0.items in
-    IfOk-weaker c.all_joined.result (λ all. LeadTo runs all.items) (λ all. LeadTo (map class_of_cell c.args.cells.now) all.items)
-    (λ all h. in_turn (map class_of_cell c.args.cells.now) runs all.items c.in_ok-pieces.ensures h) c.all_joined.ensures.tracked
+    let runs = c.in_ok-classes.classes.items in
+    IfOk-weaker c.all_joined.result (λ all. LeadTo runs all.classes.items)
+    (λ all. LeadTo (map class_of_cell c.args.cells.now) all.classes.items)
+    (λ all h. in_turn (map class_of_cell c.args.cells.now) runs all.classes.items c.in_ok-classes.ensures h)
+    c.all_joined.ensures.tracked
