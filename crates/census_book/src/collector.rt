@@ -18,6 +18,7 @@ use census_bundle::{Bundle, Ticket};
 use life_answer::Question;
 use std::alloc::{AllocError, Global};
 use std::marker::Model;
+use std::mem::swap;
 
 /// Takes the results of a bundle and a question in any order, and releases the lines of its report: those of each
 /// collection in their order, and the last line of all when nothing is missing. It is seen as the tickets taken and the
@@ -53,13 +54,13 @@ impl<'a> Model for Collector<'a> {
 }
 
 // Takes a result that belongs and is new, with what it releases, and drops the results of its collection where that has
-// arrived whole. All growths come before any change that stays.
+// arrived whole. All growths come before any change that stays. Where nothing is unsent the text is not copied.
 fn accept<'a>(
     results: &mut Results<'a>,
     front: &mut Front,
     unsent: &mut Vec<u8>,
     done: Done<'a>,
-    text: &[u8],
+    text: &mut Vec<u8>,
     release: Release,
 ) -> Result<(), NoRoom<'a>>
     requires belongs { IsResultOf results.old.bundle results.old.question done }
@@ -68,7 +69,7 @@ fn accept<'a>(
         front.old.first_open }
     requires release { IsRelease results.old.bundle results.old.question results.old.taken
         front.old.runs.items front.old.first_open done.ticket
-        (record { text = text.now; run = release.run; first_open = release.first_open }) }
+        (record { text = text.old.items; run = release.run; first_open = release.first_open }) }
     ensures taken { OnOk result
         (results.new ≡
         taken_of results.old.bundle results.old.question
@@ -83,15 +84,20 @@ fn accept<'a>(
     ensures results { OnErr result (results.new ≡ results.old) }
     ensures unsent { OnErr result (unsent.new.items ≡ unsent.old.items) }
 {
-    if unsent.reserve(text.len()).is_err() {
+    let is_first = unsent.is_empty();
+    if !is_first && unsent.reserve(text.len()).is_err() {
         return Err(NoRoom { done });
     }
     let number = done.ticket().folder;
     let folder = folder_at(results.bundle().folders(), number);
     results.add(done)?;
-    let Ok(()) = unsent.extend_from_slice(text) else {
-        unreachable!()
-    };
+    if is_first {
+        swap(unsent, text);
+    } else {
+        let Ok(()) = unsent.extend_from_slice(text) else {
+            unreachable!()
+        };
+    }
     front.runs[number as usize - 1] = release.run;
     front.first_open = release.first_open;
     if release.run as usize == folder.entries.as_slice().len() {
@@ -158,7 +164,7 @@ impl<'a> Collector<'a> {
             &mut self.front,
             &mut self.unsent,
             done,
-            &self.text,
+            &mut self.text,
             release,
         )?;
         Ok(Offer::Taken)

@@ -17,6 +17,9 @@ use std::marker::Model;
 /// How many bytes a line's head is given room for at first, which most fit in.
 const HEAD_LEN: usize = 64;
 
+/// How many bytes a line's head has at most that is made where the pattern is worked.
+const LONGEST_HEAD: usize = 4096;
+
 /// The work of one ticket: a ticket, the entry that was worked, what was asked, and what was found. What was found is
 /// what the definition gives for the question and the entry. The report's lines of the pattern are made here, all
 /// but the name, and so beside other work where results are collected by one thread. Those of a pattern that is refused
@@ -84,7 +87,8 @@ fn find_soon(alloc: Global, entry: &Entry, question: Question) -> Result<Option<
     }
 }
 
-// The line of a pattern of which this was found, as far as its name; none where it is refused.
+// The line of a pattern of which this was found, as far as its name; none where it is refused, or so long that it would
+// be held beside its own code.
 fn head_of(alloc: Global, ticket: Ticket, answer: &Answer) -> Result<Option<Text>, AllocError>
     ensures head { IfOk result
         (λ made. IfSome made (λ head. head ≡ line_head ticket answer.now)) }
@@ -94,6 +98,9 @@ fn head_of(alloc: Global, ticket: Ticket, answer: &Answer) -> Result<Option<Text
         Answer::Found { .. } => {
             let mut head = Vec::with_capacity(alloc, HEAD_LEN)?;
             push_head(&mut head, ticket, answer)?;
+            if head.len() > LONGEST_HEAD {
+                return Ok(None);
+            }
             Ok(Some(Text::of(alloc, &head)?))
         }
         Answer::Refused(_) => Ok(None),
