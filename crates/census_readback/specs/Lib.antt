@@ -6,3 +6,5 @@ pub mod Shapes
 pub mod Runs
 pub mod Grouped
 pub mod Limits
+pub mod Lawful
+pub mod Told

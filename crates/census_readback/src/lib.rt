@@ -3,12 +3,15 @@
 //! Tested in `tests_reports`.
 #![tactic(auto)]
 
+mod lawful;
 mod limits;
 mod lines;
+mod names;
 mod place;
 mod progress;
 mod reading;
 mod sectioning;
+mod told;
 
 pub use limits::COUNT_LIMIT;
 pub use reading::read_report;

@@ -13,4 +13,5 @@ pub mod Grouped
 pub mod Counted
 pub mod Formed
 pub mod Ranged
+pub mod Whole
 pub mod Readable
