@@ -707,6 +707,10 @@ end 2 5
         # names that no collection and no pattern has
         for name in ("", " a", "a ", "a\x1b[31m", "a\x7f", "a\x00", "a\tb", "a" * 256):
             reports += [f"open 1 0 {name};close 1 0 0 0 0;end 1 0", f"open 1 1 c;line 1 1 bad 1 {name};close 1 1 0 0 1;end 1 1"]
+        # rules that are not printed so
+        for rule in ("B9", "r", "b3/s23", "B3/S32", "B33/S23", "B03/S23", "B3S23", "23/3", "B3/S239", "B3/S23:T9", "/S23", "B3/"):
+            reports += [f"open 1 1 c;line 1 1 none {rule} 4 a;close 1 1 0 1 0;end 1 1",
+                        f"open 1 1 c;line 1 1 {block};code 1 {rule} xs4_33 1;close 1 1 1 0 0;end 1 1"]
         # parts that are too few, too many, of no object, twice the same or out of order
         for parts in ("", "part 1 1 xs4_33 1;", "part 1 1 xs4_33 3;", "part 1 1 xs4_33 0;part 1 1 xs6_696 2;", "part 1 1 xs4_33 1;part 1 1 xs4_33 1;",
                       "part 1 1 xs6_696 1;part 1 1 xs4_33 1;", "part 1 1 xs4_33 1;part 1 1 xs4_32 1;", "part 1 2 xs4_33 2;"):
@@ -729,7 +733,7 @@ end 2 5
 
     def test_numbers_as_large_as_they_may_be(self):
         ends = f"{2 ** 64 - 1} {2 ** 64 - 1} {2 ** 64 - 1} {2 ** 63 - 1} {-(2 ** 63)}"
-        row, = read_report(f"open 1 1 a\nline 1 1 ok r {ends} c {'b' * 255}\ncode 1 r c {2 ** 64 - 1}\nclose 1 1 1 0 0\nend 1 1\n".encode())
+        row, = read_report(f"open 1 1 a\nline 1 1 ok B/S {ends} c {'b' * 255}\ncode 1 B/S c {2 ** 64 - 1}\nclose 1 1 1 0 0\nend 1 1\n".encode())
         self.assertEqual((row.population, row.dx, row.dy, row.code, row.name), (2 ** 64 - 1, 2 ** 63 - 1, -(2 ** 63), "c", "b" * 255))
 
     def test_no_patterns(self):

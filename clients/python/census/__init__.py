@@ -672,9 +672,9 @@ def read_report(report: bytes) -> List[Row]:
     another it is as of the one that `census merge` makes of them: their collections are numbered on.
 
     The lines of several collections may interleave. What a report is, is what `census merge` reads: numbers have no leading zeros and fit
-    64 bits, rules and codes are any words, a name is all that is left of a line and is lawful, no report has `ok` and `ash` lines, and right
-    behind an `ash` line its `part` lines tell all its objects in the order of codes. The sums of `code` lines are not looked at. Raises
-    `ReportFault` at the line at which `census merge` finds the fault.
+    64 bits, rules are as they are printed, codes are any words, a name is all that is left of a line and is lawful, no report has `ok` and
+    `ash` lines, and right behind an `ash` line its `part` lines tell all its objects in the order of codes. The sums of `code` lines are
+    not looked at. Raises `ReportFault` at the line at which `census merge` finds the fault.
     """
     return _read(report).rows()
 
@@ -700,6 +700,7 @@ def _demand(is_so: bool) -> None:
 
 _IS_COUNT = re.compile(_COUNT.encode())
 _IS_OFFSET = re.compile(_OFFSET.encode())
+_IS_RULE = re.compile(_RULE.encode())
 
 
 def _count(word: bytes) -> int:
@@ -720,18 +721,24 @@ def _name(name: bytes) -> bytes:
     return name
 
 
+def _rule(word: bytes) -> str:
+    """A rule as it is printed."""
+    _demand(_IS_RULE.fullmatch(word) is not None)
+    return word.decode()
+
+
 def _text(word: bytes) -> str:
-    """A rule or a code."""
+    """A code."""
     _demand(word != b"")
     return os.fsdecode(word)
 
 
 # what stands between the status and the name of a line
 _FIELDS: Dict[bytes, Dict[str, Callable[[bytes], Union[int, str]]]] = {
-    b"ok": {"rule": _text, "population": _count, "onset": _count, "period": _count, "dx": _offset, "dy": _offset, "code": _text},
-    b"ash": {"rule": _text, "population": _count, "objects": _count},
-    b"none": {"rule": _text, "population": _count},
-    b"large": {"rule": _text, "population": _count, "generation": _count},
+    b"ok": {"rule": _rule, "population": _count, "onset": _count, "period": _count, "dx": _offset, "dy": _offset, "code": _text},
+    b"ash": {"rule": _rule, "population": _count, "objects": _count},
+    b"none": {"rule": _rule, "population": _count},
+    b"large": {"rule": _rule, "population": _count, "generation": _count},
     b"bad": {"fault": _count},
 }
 
@@ -858,7 +865,7 @@ class _Reading:
     def _code(self, rest: bytes) -> None:
         number, rule, code, count = rest.split(b" ")
         collection = self._still_open(number)
-        _demand(len(collection.lines) == collection.size and bool(_text(rule) and _text(code)) and _count(count) > 0)
+        _demand(len(collection.lines) == collection.size and bool(_rule(rule) and _text(code)) and _count(count) > 0)
         collection.takes_parts = False
 
     def _close(self, rest: bytes) -> None:

@@ -13,7 +13,8 @@ use Rattle.census_rows.specs.declared.kinds.Value.{Value}
 use Rattle.census_rows.specs.declared.kinds.Value.TheVariants.{Number, Signed, Text}
 use Rattle.census_rows.specs.Kinds.{Said, label_number, said, value_at}
 use Rattle.census_rows.specs.Lines.{SameFields, SameOutcome, SameRow, SameSaid, SameValue}
-use Rattle.census_readback.specs.Lawful.{is_lawful, number_in, text_in}
+use Rattle.census_readback.specs.Lawful.{has_lawful_rule, is_lawful, is_rule_if_some, number_in, text_in}
+use Rattle.census_readback.specs.Rules.{is_rule}
 use Rattle.census_readback.specs.Told.{Told, has_code, is_some, line_told, part_told, told_after, told_next}
 use Rattle.census_readback.specs.declared.place.Place.{Place}
 use Rattle.census_readback.specs.declared.place.Place.TheVariants.{Before, Within, Behind}
@@ -133,9 +134,11 @@ module _ (fields others : List Field) (h : SameFields fields others) where
 
 lawful-same : (r q : Row) → SameRow r q → is_lawful r ≡ is_lawful q
 lawful-same (Open c n name) (Open c2 n2 name2) h = ap is_name h.2
-lawful-same (Line c i o name) (Line c2 i2 o2 name2) h = ap is_name h.3
+lawful-same (Line c i o name) (Line c2 i2 o2 name2) h =
+    ap (λ rule. is_rule_if_some rule && is_name name.now) (texts (said o).fields (said o2).fields h.2.3 label.Rule)
+    ∙ ap (λ w. has_lawful_rule (said o2).fields && is_name w) h.3
 lawful-same (Part c i code k) (Part c2 i2 code2 k2) h = ap (nat_lt 0) h.3
-lawful-same (Code c rule code k) (Code c2 rule2 code2 k2) h = ap (nat_lt 0) h.3
+lawful-same (Code c rule code k) (Code c2 rule2 code2 k2) h = ap (λ w. is_rule w && nat_lt 0 k) h.1 ∙ ap (λ m. is_rule rule2.now && nat_lt 0 m) h.3
 lawful-same (Close c n a b d) (Close c2 n2 a2 b2 d2) h = refl
 lawful-same (End n k) (End n2 k2) h = refl
 lawful-same r q h = absurd h

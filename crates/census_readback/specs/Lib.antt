@@ -6,5 +6,6 @@ pub mod Shapes
 pub mod Runs
 pub mod Grouped
 pub mod Limits
+pub mod Rules
 pub mod Lawful
 pub mod Told

@@ -2,9 +2,10 @@
 ghost use Rattle.std.specs.Prelude.{◌≡◌};
 ghost use Rattle.std.specs.Option.{option_copied};
 ghost use Rattle.census_rows.specs.Kinds.{said, value_at};
-ghost use Rattle.census_readback.specs.Lawful.{is_lawful, number_in, text_in};
+ghost use Rattle.census_readback.specs.Lawful.{has_lawful_rule, is_lawful, number_in, text_in};
 
 use crate::names::is_name;
+use crate::rules::is_rule;
 use census_rows::{Label, Outcome, Row, Value};
 
 // The text with a label, where there is one.
@@ -27,15 +28,26 @@ pub fn number_at(outcome: &Outcome, label: Label) -> u64
     }
 }
 
-/// Whether a row's name is lawful, and it counts something where it counts objects.
+// Whether the rule, where there is one, is a rule as it is printed.
+fn has_lawful_rule(outcome: &Outcome) -> bool
+    ensures { result ≡ has_lawful_rule (said outcome.now).fields }
+{
+    match text_at(outcome, Label::Rule) {
+        Some(rule) => is_rule(rule),
+        None => true,
+    }
+}
+
+/// Whether a row's name is lawful, its rule is one as it is printed, and it counts something where
+/// it counts objects.
 pub fn is_lawful(row: &Row) -> bool
     ensures { result ≡ is_lawful row.now }
 {
     match row {
         Row::Open { name, .. } => is_name(*name),
-        Row::Line { name, .. } => is_name(*name),
+        Row::Line { outcome, name, .. } => has_lawful_rule(outcome) && is_name(*name),
         Row::Part { count, .. } => 0 < *count,
-        Row::Code { count, .. } => 0 < *count,
+        Row::Code { rule, count, .. } => is_rule(*rule) && 0 < *count,
         Row::Close { .. } => true,
         Row::End { .. } => true,
     }

@@ -10,6 +10,7 @@ mod names;
 mod place;
 mod progress;
 mod reading;
+mod rules;
 mod sectioning;
 mod told;
 

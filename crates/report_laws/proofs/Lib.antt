@@ -13,5 +13,6 @@ pub mod Grouped
 pub mod Counted
 pub mod Formed
 pub mod Ranged
+pub mod Ruled
 pub mod Whole
 pub mod Readable

@@ -1,5 +1,5 @@
 -- The rows that say what is said of a bundle tell what the rows of a report tell together.
-use Rattle.std.proofs.Common.{◌≡◌, ℕ, zero, suc, ◌+◌, ◌-◌, ◌<◌, ◌≤◌, Bool, true, false, not, ◌&&◌, ◌||◌, ◌==◌, cond, eqb, leb, ltb, Option, Some, None as Nothing, Result, Ok, Err, List, [], ◌∷◌, ◌++◌, map, filter, fold, length, count_by, slice_get, Ordering, Less, Equal, Greater, ap, ◌∙◌, sym, subst, refl, arith, ⊎_elim, eq-zero-or-pos}
+use Rattle.std.proofs.Common.{◌≡◌, ℕ, zero, suc, ◌+◌, ◌-◌, ◌<◌, ◌≤◌, Bool, true, false, not, ◌&&◌, ◌||◌, cond, eqb, leb, ltb, Option, Some, None as Nothing, Result, Ok, Err, List, [], ◌∷◌, ◌++◌, map, fold, length, count_by, slice_get, Ordering, Less, Equal, Greater, ap, ◌∙◌, sym, subst, refl, arith}
 use Rattle.std.specs.Prelude.{⊤}
 use Rattle.std.specs.Ordering.{nat_cmp, ordering_reverse, ordering_then}
 use Rattle.std.specs.Cmp.{nat_cmp_is}
@@ -7,19 +7,20 @@ use Rattle.std.specs.Cmp.Lexicographic.{slice_cmp}
 use Rattle.std.proofs.lemmas.List.Sums.{sum_by-cons}
 use Rattle.std.specs.List.{AllByRecursion as Each}
 use Rattle.std.proofs.lemmas.Bool.{eq-eqb, le-leb, lt-ltb}
-use Rattle.std.proofs.lemmas.Option.{slice_get_past}
 use Rattle.census_bundle.specs.Names.{IsNamedEntry, IsNamedFolder, is_name}
 use Rattle.census_bundle.specs.declared.bundle.Entry.{Entry}
 use Rattle.census_bundle.specs.declared.bundle.Folder.{Folder}
 use Rattle.census_format.specs.Found.{outcome_of, lent}
-use Rattle.census_format.specs.Lines.{Group, answer_to_entry, answers, end_line, part_row, part_rows, pattern_count, pattern_lines, pattern_row, pattern_rows}
-use Rattle.census_format.specs.Objects.{Object, distinct_elements, objects, same_object, tally}
+use Rattle.census_format.specs.Lines.{Group, answer_to_entry, answers, part_row, part_rows, pattern_lines, pattern_row, pattern_rows}
+use Rattle.census_format.specs.Objects.{Object, distinct_elements, objects, same_object}
 use Rattle.census_format.specs.ObjectLaws.{same_itself}
 use Rattle.census_format.specs.Reports.{Owned, folder_section, lines_of, section, section_of}
 use Rattle.census_readback.specs.Told.{Told, has_code, is_less, line_told, nothing_told, part_told, told_after, told_by, told_next}
 use Rattle.census_readback.specs.Lawful.{is_lawful, number_in}
+use Rattle.census_readback.specs.Rules.{is_rule}
+use Rattle.life_cells.specs.Rules.{rule_text}
 use Rattle.census_rows.specs.declared.row.Row.{Row}
-use Rattle.census_rows.specs.declared.row.Row.TheVariants.{Open, Line, Part, Code, Close, End}
+use Rattle.census_rows.specs.declared.row.Row.TheVariants.{Line, End}
 use Rattle.census_rows.specs.declared.row.Outcome as rows
 use Rattle.census_rows.specs.declared.kinds.Label.TheVariants as label
 use Rattle.census_rows.specs.Kinds.{Said, said, value_at}
@@ -27,7 +28,7 @@ use Rattle.life_answer.specs.Answers.{outcome_at, outcome_from}
 use Rattle.life_answer.specs.Answers as answers
 use Rattle.life_answer.specs.Census.{census_found, census_of, part_code, parts_found}
 use Rattle.life_answer.specs.Limited.{unless_large}
-use Rattle.life_answer.specs.Parts.{counted_codes, objects_in, with_code, with_code_by_order}
+use Rattle.life_answer.specs.Parts.{objects_in, with_code, with_code_by_order}
 use Rattle.life_answer.specs.Questions.{answer_to, answer_to_question, outcome_to}
 use Rattle.life_answer.specs.declared.finding.Answer.{Answer}
 use Rattle.life_answer.specs.declared.finding.Answer.TheVariants.{Found, Refused}
@@ -47,11 +48,12 @@ use Rattle.life_text.specs.declared.rle.RleFault.{RleFault}
 use Rattle.report_laws.specs.Joining.{IsBundle}
 use Rattle.report_laws.specs.Telling.{rows_in}
 use Rattle.report_laws.specs.Ranges.{FitsOutcome, InRange, IsCodedPart, IsToldAnswer, IsToldFolder}
-use Rattle.report_laws.proofs.Coded.{distinct-each}
+use Rattle.report_laws.proofs.Coded.{counted-each, distinct-each}
 use Rattle.report_laws.proofs.Grouped.{each-then}
 use Rattle.report_laws.proofs.Named.{each-of}
+use Rattle.report_laws.proofs.Ruled.{IsEven, IsEvenAnswer, IsEvenObject, entries-even, entry-even, rule-printed}
 use Rattle.report_laws.proofs.Rowed.{close_row, code_groups, code_row, code-is, counted_in, open_row, row_outcome, section-is}
-use Rattle.report_laws.proofs.Solid.{each-append, each-filter, each-map}
+use Rattle.report_laws.proofs.Solid.{each-append}
 
 -- ---- rows one after the other
 
@@ -316,31 +318,34 @@ line-told question c i o name parts lawful suits all rise counted t calm =
       calm = others.calm;
     }
 
-outcome-told : (question : Question) (c i : ℕ) (rule : Rule) (population : ℕ) (outcome : Outcome) (name : List ℕ) → is_name name ≡ true
+named-line : (rule : Rule) (name : List ℕ) → IsEven rule → is_name name ≡ true → (is_rule (rule_text rule) && is_name name) ≡ true
+named-line rule name even named = ap (λ b. b && is_name name) (rule-printed rule even) ∙ named
+
+outcome-told : (question : Question) (c i : ℕ) (rule : Rule) (population : ℕ) (outcome : Outcome) (name : List ℕ) → IsEven rule → is_name name ≡ true
     → FitsOutcome outcome → IsFair question outcome
     → IsTold question (Line c i (row_outcome rule population outcome) (lent name) ∷ map (part_row c i) (parts_found outcome))
-outcome-told (Settles bound cells) c i rule population (Recurs onset period dx dy code) name named range fair =
-    line-told (Settles bound cells) c i (row_outcome rule population (Recurs onset period dx dy code)) name [] named refl refl tt tt
-outcome-told (Settles bound cells) c i rule population Unresolved name named range fair =
-    line-told (Settles bound cells) c i (row_outcome rule population Unresolved) name [] named refl refl tt tt
-outcome-told (Settles bound cells) c i rule population (Large n) name named range fair =
-    line-told (Settles bound cells) c i (row_outcome rule population (Large n)) name [] named refl refl tt tt
-outcome-told (Settles bound cells) c i rule population (Ash parts) name named range fair = absurd fair
-outcome-told (Objects bound cells) c i rule population (Recurs onset period dx dy code) name named range fair = absurd fair
-outcome-told (Objects bound cells) c i rule population Unresolved name named range fair =
-    line-told (Objects bound cells) c i (row_outcome rule population Unresolved) name [] named refl refl tt tt
-outcome-told (Objects bound cells) c i rule population (Large n) name named range fair =
-    line-told (Objects bound cells) c i (row_outcome rule population (Large n)) name [] named refl refl tt tt
-outcome-told (Objects bound cells) c i rule population (Ash parts) name named range fair =
-    line-told (Objects bound cells) c i (row_outcome rule population (Ash parts)) name parts named refl refl (rise-some parts fair.0 range.1) fair.1
+outcome-told (Settles bound cells) c i rule population (Recurs onset period dx dy code) name even named range fair =
+    line-told (Settles bound cells) c i (row_outcome rule population (Recurs onset period dx dy code)) name [] (named-line rule name even named) refl refl tt tt
+outcome-told (Settles bound cells) c i rule population Unresolved name even named range fair =
+    line-told (Settles bound cells) c i (row_outcome rule population Unresolved) name [] (named-line rule name even named) refl refl tt tt
+outcome-told (Settles bound cells) c i rule population (Large n) name even named range fair =
+    line-told (Settles bound cells) c i (row_outcome rule population (Large n)) name [] (named-line rule name even named) refl refl tt tt
+outcome-told (Settles bound cells) c i rule population (Ash parts) name even named range fair = absurd fair
+outcome-told (Objects bound cells) c i rule population (Recurs onset period dx dy code) name even named range fair = absurd fair
+outcome-told (Objects bound cells) c i rule population Unresolved name even named range fair =
+    line-told (Objects bound cells) c i (row_outcome rule population Unresolved) name [] (named-line rule name even named) refl refl tt tt
+outcome-told (Objects bound cells) c i rule population (Large n) name even named range fair =
+    line-told (Objects bound cells) c i (row_outcome rule population (Large n)) name [] (named-line rule name even named) refl refl tt tt
+outcome-told (Objects bound cells) c i rule population (Ash parts) name even named range fair =
+    line-told (Objects bound cells) c i (row_outcome rule population (Ash parts)) name parts (named-line rule name even named) refl refl (rise-some parts fair.0 range.1) fair.1
 
-answer-told : (question : Question) (c i : ℕ) (found : Answer) (name : List ℕ) → is_name name ≡ true → IsToldAnswer found → IsFairAnswer question found
+answer-told : (question : Question) (c i : ℕ) (found : Answer) (name : List ℕ) → is_name name ≡ true → IsEvenAnswer found → IsToldAnswer found → IsFairAnswer question found
     → IsTold question (pattern_row c i found name ∷ part_rows c i found)
-answer-told question c i (Found rule finding) name named range fair =
-    outcome-told question c i rule finding.population finding.outcome name named range.1 fair
-answer-told (Settles bound cells) c i (Refused number) name named range fair =
+answer-told question c i (Found rule finding) name named even range fair =
+    outcome-told question c i rule finding.population finding.outcome name even named range.1 fair
+answer-told (Settles bound cells) c i (Refused number) name named even range fair =
     line-told (Settles bound cells) c i (outcome_of (Refused number)) name [] named refl refl tt tt
-answer-told (Objects bound cells) c i (Refused number) name named range fair =
+answer-told (Objects bound cells) c i (Refused number) name named even range fair =
     line-told (Objects bound cells) c i (outcome_of (Refused number)) name [] named refl refl tt tt
 
 -- ---- sections
@@ -350,7 +355,7 @@ patterns-told : (question : Question) (c i : ℕ) (es : List Entry) → Each IsN
 unfolding pattern_rows
 patterns-told question c i [] named range = tt
 patterns-told question c i (e ∷ es) named range =
-    (answer-told question c i (answer_to_entry question e) e.name named.0.name range.0 (entry-fair question e), patterns-told question c (suc i) es named.1 range.1)
+    (answer-told question c i (answer_to_entry question e) e.name named.0.name (entry-even question e) range.0 (entry-fair question e), patterns-told question c (suc i) es named.1 range.1)
 
 count-first : (p : Object → Bool) (x : Object) (xs : List Object) → count_by p (x ∷ xs) ≡ cond (p x) 1 0 + count_by p xs
 count-first p x xs = sum_by-cons (λ y. cond (p y) 1 0) x xs
@@ -375,10 +380,14 @@ tally-some : (f : Object → ℕ) (xs : List Object) → Each (λ (x : Object). 
 tally-some f [] h = tt
 tally-some f (x ∷ xs) h = (h.0, tally-some f xs h.1)
 
-codes-told : (question : Question) (c : ℕ) (counted : List (Object × ℕ)) → Each IsCountedObject counted → Each (IsTold question) (code_groups c counted)
-codes-told question c [] h = tt
-codes-told question c (x ∷ counted) h =
-    (subst (IsTold question) (sym (code-is c x)) (plain question (code_row c x) (lt-ltb 0 x.1 h.0) no-more), codes-told question c counted h.1)
+code-lawful : (c : ℕ) (x : Object × ℕ) → IsEvenObject x.0 → IsCountedObject x → is_lawful (code_row c x) ≡ true
+code-lawful c x even some = ap (λ b. b && ltb 0 x.1) (rule-printed x.0.rule even) ∙ lt-ltb 0 x.1 some
+
+codes-told : (question : Question) (c : ℕ) (counted : List (Object × ℕ)) → Each (λ (x : Object × ℕ). IsEvenObject x.0) counted → Each IsCountedObject counted
+    → Each (IsTold question) (code_groups c counted)
+codes-told question c [] even h = tt
+codes-told question c (x ∷ counted) even h =
+    (subst (IsTold question) (sym (code-is c x)) (plain question (code_row c x) (code-lawful c x even.0 h.0) no-more), codes-told question c counted even.1 h.1)
 
 section-told : (question : Question) (c : ℕ) (f : Folder) → IsNamedFolder f → IsToldFolder question f → Each (IsTold question) (folder_section question c f)
 section-told question c f named range =
@@ -387,7 +396,9 @@ section-told question c f named range =
     let all = objects (answers question f.entries) in
     let some = tally-some (λ x. count_by (same_object x) all) (distinct_elements same_object all)
     (distinct-each (λ (x : Object). 0 < count_by (same_object x) all) same_object all (counts-some all)) in
-    let ends = each-append (IsTold question) coded last (codes-told question c (counted_in question f) some)
+    let even = counted-each IsEvenObject (λ x. count_by (same_object x) all) (distinct_elements same_object all)
+    (distinct-each IsEvenObject same_object all (entries-even question f.entries)) in
+    let ends = each-append (IsTold question) coded last (codes-told question c (counted_in question f) even some)
     (plain question (close_row c (answers question f.entries) (length f.entries)) refl no-more, tt) in
     subst (Each (IsTold question)) (sym (section-is question c f)) (
       plain question (open_row c f) named.name no-more,

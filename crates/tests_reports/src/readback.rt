@@ -163,6 +163,23 @@ const FAULTS: &[(&[u8], usize)] = &[
         b"open 1 1 a\nline 1 1 ash B3/S23 8 1 b\npart 1 1 xs4_33 1\ncode 1 B3/S23 xs4_33 0\n",
         4,
     ),
+    // Rules that are not printed so.
+    (b"open 1 1 a\nline 1 1 none B9 4 b\n", 2),
+    (b"open 1 1 a\nline 1 1 none B3/S32 4 b\n", 2),
+    (b"open 1 1 a\nline 1 1 none B03/S23 4 b\n", 2),
+    (b"open 1 1 a\nline 1 1 none b3/s23 4 b\n", 2),
+    (
+        b"open 1 1 a\nline 1 1 ok B3/S23 4 0 1 0 0 xs4_33 b\ncode 1 B33/S23 xs4_33 1\n",
+        3,
+    ),
+    (
+        b"open 1 1 a\nline 1 1 none B12345678/S012345678 4 b\nclose 1 1 0 1 0\nend 1 1\n",
+        0,
+    ),
+    (
+        b"open 1 1 a\nline 1 1 none B/S 4 b\nclose 1 1 0 1 0\nend 1 1\n",
+        0,
+    ),
     // Parts that stand behind a line of another collection.
     (
         b"open 1 1 a\nopen 2 1 b\nline 1 1 ash B3/S23 4 1 c\nline 2 1 none B3/S23 4 d\n",
