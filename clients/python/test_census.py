@@ -711,6 +711,14 @@ end 2 5
         for rule in ("B9", "r", "b3/s23", "B3/S32", "B33/S23", "B03/S23", "B3S23", "23/3", "B3/S239", "B3/S23:T9", "/S23", "B3/"):
             reports += [f"open 1 1 c;line 1 1 none {rule} 4 a;close 1 1 0 1 0;end 1 1",
                         f"open 1 1 c;line 1 1 {block};code 1 {rule} xs4_33 1;close 1 1 1 0 0;end 1 1"]
+        # codes that are none, or not that of such a period and displacement
+        for code in ("c", "xs", "xr1_3", "s4_33", "xs4", "xsa_33", "_", "x_"):
+            reports += [f"open 1 1 c;line 1 1 ok B3/S23 4 0 1 0 0 {code} a;close 1 1 1 0 0;end 1 1",
+                        f"open 1 1 c;line 1 1 ash B3/S23 4 1 a;part 1 1 {code} 1;close 1 1 1 0 0;end 1 1",
+                        f"open 1 1 c;line 1 1 {block};code 1 B3/S23 {code} 1;close 1 1 1 0 0;end 1 1"]
+        for found in ("0 0 0 xs4_33", "15 0 0 xs4_33", "1 1 0 xs4_33", "2 0 0 xp3_7", "2 0 0 xq2_7", "4 1 1 xp4_7", "4 0 1 xq5_7", "1 0 0 xp1_7",
+                      "4 1 1 xq04_7", "0 1 1 xq0_7", "0 0 0 xp0_7"):
+            reports.append(f"open 1 1 c;line 1 1 ok B3/S23 4 0 {found} a;close 1 1 1 0 0;end 1 1")
         # parts that are too few, too many, of no object, twice the same or out of order
         for parts in ("", "part 1 1 xs4_33 1;", "part 1 1 xs4_33 3;", "part 1 1 xs4_33 0;part 1 1 xs6_696 2;", "part 1 1 xs4_33 1;part 1 1 xs4_33 1;",
                       "part 1 1 xs6_696 1;part 1 1 xs4_33 1;", "part 1 1 xs4_33 1;part 1 1 xs4_32 1;", "part 1 2 xs4_33 2;"):
@@ -733,8 +741,9 @@ end 2 5
 
     def test_numbers_as_large_as_they_may_be(self):
         ends = f"{2 ** 64 - 1} {2 ** 64 - 1} {2 ** 64 - 1} {2 ** 63 - 1} {-(2 ** 63)}"
-        row, = read_report(f"open 1 1 a\nline 1 1 ok B/S {ends} c {'b' * 255}\ncode 1 B/S c {2 ** 64 - 1}\nclose 1 1 1 0 0\nend 1 1\n".encode())
-        self.assertEqual((row.population, row.dx, row.dy, row.code, row.name), (2 ** 64 - 1, 2 ** 63 - 1, -(2 ** 63), "c", "b" * 255))
+        code = f"xq{2 ** 64 - 1}_"
+        row, = read_report(f"open 1 1 a\nline 1 1 ok B/S {ends} {code} {'b' * 255}\ncode 1 B/S {code} {2 ** 64 - 1}\nclose 1 1 1 0 0\nend 1 1\n".encode())
+        self.assertEqual((row.population, row.dx, row.dy, row.code, row.name), (2 ** 64 - 1, 2 ** 63 - 1, -(2 ** 63), code, "b" * 255))
 
     def test_no_patterns(self):
         self.assertEqual(read_report(b"end 0 0\n"), [])

@@ -672,9 +672,10 @@ def read_report(report: bytes) -> List[Row]:
     another it is as of the one that `census merge` makes of them: their collections are numbered on.
 
     The lines of several collections may interleave. What a report is, is what `census merge` reads: numbers have no leading zeros and fit
-    64 bits, rules are as they are printed, codes are any words, a name is all that is left of a line and is lawful, no report has `ok` and
-    `ash` lines, and right behind an `ash` line its `part` lines tell all its objects in the order of codes. The sums of `code` lines are
-    not looked at. Raises `ReportFault` at the line at which `census merge` finds the fault.
+    64 bits, rules are as they are printed, codes begin as codes, that of an `ok` line as its period and displacement say, a name is all
+    that is left of a line and is lawful, no report has `ok` and `ash` lines, and right behind an `ash` line its `part` lines tell all its
+    objects in the order of codes. The sums of `code` lines are not looked at. Raises `ReportFault` at the line at which `census merge`
+    finds the fault.
     """
     return _read(report).rows()
 
@@ -701,6 +702,8 @@ def _demand(is_so: bool) -> None:
 _IS_COUNT = re.compile(_COUNT.encode())
 _IS_OFFSET = re.compile(_OFFSET.encode())
 _IS_RULE = re.compile(_RULE.encode())
+# (only how it begins)
+_IS_CODE = re.compile(rb"x[spq][0-9]*_.*", re.DOTALL)
 
 
 def _count(word: bytes) -> int:
@@ -727,15 +730,23 @@ def _rule(word: bytes) -> str:
     return word.decode()
 
 
-def _text(word: bytes) -> str:
+def _code(word: bytes) -> str:
     """A code."""
-    _demand(word != b"")
+    _demand(_IS_CODE.fullmatch(word) is not None)
     return os.fsdecode(word)
+
+
+def _fits_code(found: Dict[str, Union[int, str]]) -> bool:
+    """Whether a code begins as period and displacement say."""
+    period = found["period"]
+    if found["dx"] or found["dy"]:
+        return period > 0 and found["code"].startswith(f"xq{period}_")
+    return period > 0 and found["code"].startswith("xs" if period == 1 else f"xp{period}_")
 
 
 # what stands between the status and the name of a line
 _FIELDS: Dict[bytes, Dict[str, Callable[[bytes], Union[int, str]]]] = {
-    b"ok": {"rule": _rule, "population": _count, "onset": _count, "period": _count, "dx": _offset, "dy": _offset, "code": _text},
+    b"ok": {"rule": _rule, "population": _count, "onset": _count, "period": _count, "dx": _offset, "dy": _offset, "code": _code},
     b"ash": {"rule": _rule, "population": _count, "objects": _count},
     b"none": {"rule": _rule, "population": _count},
     b"large": {"rule": _rule, "population": _count, "generation": _count},
@@ -849,6 +860,7 @@ class _Reading:
         *words, name = rest.split(b" ", len(fields))
         _demand(len(words) == len(fields))
         found = {key: read(word) for (key, read), word in zip(fields.items(), words)}
+        _demand(status != b"ok" or _fits_code(found))
         self.told.take_line(collection.number, status, found.pop("objects", 0))
         collection.parts.append([])
         collection.takes_parts = status == b"ash"
@@ -860,12 +872,12 @@ class _Reading:
         collection = self._still_open(number)
         _demand(collection.takes_parts and _count(pattern) == len(collection.lines))
         self.told.take_part(collection.number, code, _count(count))
-        collection.parts[-1].append((_text(code), _count(count)))
+        collection.parts[-1].append((_code(code), _count(count)))
 
     def _code(self, rest: bytes) -> None:
         number, rule, code, count = rest.split(b" ")
         collection = self._still_open(number)
-        _demand(len(collection.lines) == collection.size and bool(_rule(rule) and _text(code)) and _count(count) > 0)
+        _demand(len(collection.lines) == collection.size and bool(_rule(rule) and _code(code)) and _count(count) > 0)
         collection.takes_parts = False
 
     def _close(self, rest: bytes) -> None:

@@ -13,7 +13,9 @@ use Rattle.census_rows.specs.declared.kinds.Value.{Value}
 use Rattle.census_rows.specs.declared.kinds.Value.TheVariants.{Number, Signed, Text}
 use Rattle.census_rows.specs.Kinds.{Said, label_number, said, value_at}
 use Rattle.census_rows.specs.Lines.{SameFields, SameOutcome, SameRow, SameSaid, SameValue}
-use Rattle.census_readback.specs.Lawful.{has_lawful_rule, is_lawful, is_rule_if_some, number_in, text_in}
+use Rattle.census_readback.specs.Codes.{is_code, is_code_after}
+use Rattle.life_model.specs.Cell.{origin, same_cell}
+use Rattle.census_readback.specs.Lawful.{has_lawful_code, has_lawful_rule, is_lawful, is_moved, number_in, passes, signed_in, text_in}
 use Rattle.census_readback.specs.Rules.{is_rule}
 use Rattle.census_readback.specs.Told.{Told, has_code, is_some, line_told, part_told, told_after, told_next}
 use Rattle.census_readback.specs.declared.place.Place.{Place}
@@ -125,6 +127,13 @@ number-same (Some (Signed z)) (Some (Signed y)) h = refl
 number-same (Some (Text bytes)) (Some (Text others)) h = refl
 number-same a b h = absurd h
 
+signed-same : (a b : Option Value) → SameValues a b → signed_in a ≡ signed_in b
+signed-same Nothing Nothing h = refl
+signed-same (Some (Number n)) (Some (Number m)) h = refl
+signed-same (Some (Signed z)) (Some (Signed y)) h = h
+signed-same (Some (Text bytes)) (Some (Text others)) h = refl
+signed-same a b h = absurd h
+
 module _ (fields others : List Field) (h : SameFields fields others) where
   texts : (l : Label) → text_in (value_at l fields) ≡ text_in (value_at l others)
   texts l = text-same (value_at l fields) (value_at l others) (at-same l fields others h)
@@ -132,13 +141,27 @@ module _ (fields others : List Field) (h : SameFields fields others) where
   numbers : (l : Label) → number_in (value_at l fields) ≡ number_in (value_at l others)
   numbers l = number-same (value_at l fields) (value_at l others) (at-same l fields others h)
 
+code-same : (fields others : List Field) → SameFields fields others → has_lawful_code fields ≡ has_lawful_code others
+code-same fields others h =
+    let sign : (l : Label) → signed_in (value_at l fields) ≡ signed_in (value_at l others) =
+    λ l. signed-same (value_at l fields) (value_at l others) (at-same l fields others h) in
+    let period : ℕ = number_in (value_at label.Period fields) in
+    let code : Option (List ℕ) = text_in (value_at label.Code fields) in
+    ap (λ z. passes (is_code_after (not (same_cell (z, signed_in (value_at label.Dy fields)) origin)) period) code) (sign label.Dx)
+    ∙ ap (λ z. passes (is_code_after (not (same_cell (signed_in (value_at label.Dx others), z) origin)) period) code) (sign label.Dy)
+    ∙ ap (λ n. passes (is_code_after (is_moved others) n) code) (numbers fields others h label.Period)
+    ∙ ap (λ text. passes (is_code_after (is_moved others) (number_in (value_at label.Period others))) text) (texts fields others h label.Code)
+
 lawful-same : (r q : Row) → SameRow r q → is_lawful r ≡ is_lawful q
 lawful-same (Open c n name) (Open c2 n2 name2) h = ap is_name h.2
 lawful-same (Line c i o name) (Line c2 i2 o2 name2) h =
-    ap (λ rule. is_rule_if_some rule && is_name name.now) (texts (said o).fields (said o2).fields h.2.3 label.Rule)
-    ∙ ap (λ w. has_lawful_rule (said o2).fields && is_name w) h.3
-lawful-same (Part c i code k) (Part c2 i2 code2 k2) h = ap (nat_lt 0) h.3
-lawful-same (Code c rule code k) (Code c2 rule2 code2 k2) h = ap (λ w. is_rule w && nat_lt 0 k) h.1 ∙ ap (λ m. is_rule rule2.now && nat_lt 0 m) h.3
+    ap (λ rule. passes is_rule rule && (has_lawful_code (said o).fields && is_name name.now)) (texts (said o).fields (said o2).fields h.2.3 label.Rule)
+    ∙ ap (λ b. has_lawful_rule (said o2).fields && (b && is_name name.now)) (code-same (said o).fields (said o2).fields h.2.3)
+    ∙ ap (λ w. has_lawful_rule (said o2).fields && (has_lawful_code (said o2).fields && is_name w)) h.3
+lawful-same (Part c i code k) (Part c2 i2 code2 k2) h = ap (λ w. is_code w && nat_lt 0 k) h.2 ∙ ap (λ m. is_code code2.now && nat_lt 0 m) h.3
+lawful-same (Code c rule code k) (Code c2 rule2 code2 k2) h =
+    ap (λ w. is_rule w && (is_code code.now && nat_lt 0 k)) h.1 ∙ ap (λ w. is_rule rule2.now && (is_code w && nat_lt 0 k)) h.2
+    ∙ ap (λ m. is_rule rule2.now && (is_code code2.now && nat_lt 0 m)) h.3
 lawful-same (Close c n a b d) (Close c2 n2 a2 b2 d2) h = refl
 lawful-same (End n k) (End n2 k2) h = refl
 lawful-same r q h = absurd h

@@ -7,5 +7,6 @@ pub mod Runs
 pub mod Grouped
 pub mod Limits
 pub mod Rules
+pub mod Codes
 pub mod Lawful
 pub mod Told

@@ -3,6 +3,7 @@
 //! Tested in `tests_reports`.
 #![tactic(auto)]
 
+mod code;
 mod lawful;
 mod limits;
 mod lines;

@@ -4,10 +4,10 @@
 //! by line in any way that keeps each section's order, and then its `end` line. Several reports may
 //! stand one after the other. A section is its `open` line, the lines of its patterns in order, the
 //! `part` lines of an `ash` line right behind it, its `code` lines, and its `close` line. Numbers of
-//! collections and patterns are at most 65,535. Names are lawful, rules are as they are printed, the
-//! `part` lines tell all objects of their line in the order of codes, and no report has `ok` and
-//! `ash` lines. Whether a code has its form, and whether the counts of `code` lines add up, is not
-//! looked at.
+//! collections and patterns are at most 65,535. Names are lawful, rules are as they are printed, codes
+//! begin as codes, that of an `ok` line as its period and displacement say, the `part` lines tell
+//! all objects of their line in the order of codes, and no report has `ok` and `ash` lines. What
+//! follows the `_` of a code, and whether the counts of `code` lines add up, is not looked at.
 ghost use Rattle.std.specs.Prelude.{◌≡◌, ◌+◌, ◌<◌, ◌^◌, ℕ, List, length, IfOk, MatchResult};
 ghost use Rattle.census_rows.specs.declared.row.Row.{Row};
 ghost use Rattle.census_readback.specs.Reports.{IsFault, ReadsAsReports};

@@ -14,5 +14,6 @@ pub mod Counted
 pub mod Formed
 pub mod Ranged
 pub mod Ruled
+pub mod CodeStarts
 pub mod Whole
 pub mod Readable

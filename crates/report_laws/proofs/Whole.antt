@@ -1,5 +1,5 @@
 -- The rows that say what is said of a bundle tell what the rows of a report tell together.
-use Rattle.std.proofs.Common.{◌≡◌, ℕ, zero, suc, ◌+◌, ◌-◌, ◌<◌, ◌≤◌, Bool, true, false, not, ◌&&◌, ◌||◌, cond, eqb, leb, ltb, Option, Some, None as Nothing, Result, Ok, Err, List, [], ◌∷◌, ◌++◌, map, fold, length, count_by, slice_get, Ordering, Less, Equal, Greater, ap, ◌∙◌, sym, subst, refl, arith}
+use Rattle.std.proofs.Common.{◌≡◌, ℕ, zero, suc, ◌+◌, ◌-◌, ◌<◌, ◌≤◌, Bool, true, false, not, ◌&&◌, ◌||◌, cond, eqb, leb, ltb, Option, Some, None as Nothing, Result, Ok, Err, List, [], ◌∷◌, ◌++◌, map, fold, length, count_by, replicate, slice_get, Ordering, Less, Equal, Greater, ap, ◌∙◌, sym, subst, refl, arith}
 use Rattle.std.specs.Prelude.{⊤}
 use Rattle.std.specs.Ordering.{nat_cmp, ordering_reverse, ordering_then}
 use Rattle.std.specs.Cmp.{nat_cmp_is}
@@ -12,12 +12,14 @@ use Rattle.census_bundle.specs.declared.bundle.Entry.{Entry}
 use Rattle.census_bundle.specs.declared.bundle.Folder.{Folder}
 use Rattle.census_format.specs.Found.{outcome_of, lent}
 use Rattle.census_format.specs.Lines.{Group, answer_to_entry, answers, part_row, part_rows, pattern_lines, pattern_row, pattern_rows}
-use Rattle.census_format.specs.Objects.{Object, distinct_elements, objects, same_object}
+use Rattle.census_format.specs.Objects.{Object, distinct_elements, object, objects, outcome_objects, part_objects, same_object}
 use Rattle.census_format.specs.ObjectLaws.{same_itself}
 use Rattle.census_format.specs.Reports.{Owned, folder_section, lines_of, section, section_of}
 use Rattle.census_readback.specs.Told.{Told, has_code, is_less, line_told, nothing_told, part_told, told_after, told_by, told_next}
 use Rattle.census_readback.specs.Lawful.{is_lawful, number_in}
+use Rattle.census_readback.specs.Codes.{is_code, is_code_after}
 use Rattle.census_readback.specs.Rules.{is_rule}
+use Rattle.life_model.specs.Cell.{origin, same_cell}
 use Rattle.life_cells.specs.Rules.{rule_text}
 use Rattle.census_rows.specs.declared.row.Row.{Row}
 use Rattle.census_rows.specs.declared.row.Row.TheVariants.{Line, End}
@@ -51,9 +53,11 @@ use Rattle.report_laws.specs.Ranges.{FitsOutcome, InRange, IsCodedPart, IsToldAn
 use Rattle.report_laws.proofs.Coded.{counted-each, distinct-each}
 use Rattle.report_laws.proofs.Grouped.{each-then}
 use Rattle.report_laws.proofs.Named.{each-of}
+use Rattle.report_laws.proofs.CodeStarts.{IsCodeIfSome, IsCodePart, IsToldRecurrence, after-code, parts-told as parts-told-codes, outcome-told as recurrence-told}
+use Rattle.report_laws.proofs.Ranged.{HasObjectCode, objects-some}
 use Rattle.report_laws.proofs.Ruled.{IsEven, IsEvenAnswer, IsEvenObject, entries-even, entry-even, rule-printed}
 use Rattle.report_laws.proofs.Rowed.{close_row, code_groups, code_row, code-is, counted_in, open_row, row_outcome, section-is}
-use Rattle.report_laws.proofs.Solid.{each-append}
+use Rattle.report_laws.proofs.Solid.{each-append, each-map, each-replicate}
 
 -- ---- rows one after the other
 
@@ -123,8 +127,12 @@ IsCounted p = 0 < p.count
 abbrev with_left : Told → ℕ → List ℕ → Told
 with_left t left last = record t { left = left; last = last }
 
-part-lawful : (c i : ℕ) (p : part.Part) → IsCounted p → is_lawful (part_row c i p) ≡ true
-part-lawful c i p h = lt-ltb 0 p.count h
+-- a part that is told by its row
+abbrev IsLawfulPart : part.Part → Type 0
+IsLawfulPart p = IsCounted p × (is_code p.code ≡ true)
+
+part-lawful : (c i : ℕ) (p : part.Part) → IsLawfulPart p → is_lawful (part_row c i p) ≡ true
+part-lawful c i p h = ap (λ b. b && ltb 0 p.count) h.1 ∙ lt-ltb 0 p.count h.0
 
 -- a part that stands behind its line
 part-fits : (t : Told) (c : ℕ) (code : List ℕ) (count : ℕ) → c ≡ t.collection → count ≤ t.left → shorter_cmp t.last code ≡ Less
@@ -140,7 +148,7 @@ still (Settles bound cells) t left last h = h
 still (Objects bound cells) t left last h = h
 
 parts-told : (question : Question) (c i : ℕ) (parts : List part.Part) (t : Told) → t.collection ≡ c → t.left ≡ objects_in parts → is_mixed question t ≡ false
-    → Rise (Some t.last) parts → Each IsCounted parts → Passes question t (map (part_row c i) parts)
+    → Rise (Some t.last) parts → Each IsLawfulPart parts → Passes question t (map (part_row c i) parts)
 parts-told question c i [] t owner left mixed rise counted = record { after = t; tells = refl; calm = (left, mixed) }
 parts-told question c i (p ∷ parts) t owner left mixed rise counted =
     let few : p.count ≤ t.left = omega (arith, left) in
@@ -197,25 +205,40 @@ all-counted (code ∷ codes) parts h = all-counted codes (with_code code parts) 
 abbrev IsFair : Question → Outcome → Type 0
 IsFair (Settles bound cells) (Ash parts) = ⊥
 IsFair (Objects bound cells) (Recurs onset period dx dy code) = ⊥
-IsFair (Objects bound cells) (Ash parts) = Rise Nothing parts × Each IsCounted parts
+IsFair (Objects bound cells) (Ash parts) = Rise Nothing parts × Each IsCounted parts × Each IsCodePart parts
+IsFair (Settles bound cells) (Recurs onset period dx dy code) = is_code_after (not (same_cell (dx, dy) origin)) period code ≡ true
 IsFair question _ = ⊤
 
-at-fair : (bound : ℕ) (cells : Option ℕ) (R : Rule) (G : Generation) (onset : ℕ) (period : Option ℕ) → IsFair (Settles bound cells) (outcome_at R G onset period)
-at-fair bound cells R G onset Nothing = tt
-at-fair bound cells R G onset (Some period) = tt
+-- it has not fallen apart
+abbrev IsWhole : Outcome → Type 0
+IsWhole (Ash parts) = ⊥
+IsWhole _ = ⊤
 
-from-fair : (bound : ℕ) (cells : Option ℕ) (R : Rule) (G : Generation) (b : ℕ) (onset : Option ℕ) → IsFair (Settles bound cells) (outcome_from R G b onset)
-from-fair bound cells R G b Nothing = tt
-from-fair bound cells R G b (Some onset) = at-fair bound cells R G onset _
+at-whole : (R : Rule) (G : Generation) (onset : ℕ) (period : Option ℕ) → IsWhole (outcome_at R G onset period)
+at-whole R G onset Nothing = tt
+at-whole R G onset (Some period) = tt
+
+from-whole : (R : Rule) (G : Generation) (b : ℕ) (onset : Option ℕ) → IsWhole (outcome_from R G b onset)
+from-whole R G b Nothing = tt
+from-whole R G b (Some onset) = at-whole R G onset _
+
+settled-whole : (R : Rule) (G : Generation) (b : ℕ) → IsWhole (answers.outcome_of R G b)
+unfolding answers.outcome_of
+settled-whole R G b = from-whole R G b _
+
+by-recurrence : (bound : ℕ) (cells : Option ℕ) (outcome : Outcome) → IsWhole outcome → IsToldRecurrence outcome → IsFair (Settles bound cells) outcome
+by-recurrence bound cells (Recurs onset period dx dy code) whole h = h
+by-recurrence bound cells (Ash parts) whole h = absurd whole
+by-recurrence bound cells Unresolved whole h = tt
+by-recurrence bound cells (Large n) whole h = tt
 
 settled-fair : (bound : ℕ) (cells : Option ℕ) (R : Rule) (G : Generation) (b : ℕ) → IsFair (Settles bound cells) (answers.outcome_of R G b)
-unfolding answers.outcome_of
-settled-fair bound cells R G b = from-fair bound cells R G b _
+settled-fair bound cells R G b = by-recurrence bound cells (answers.outcome_of R G b) (settled-whole R G b) (recurrence-told R G b)
 
 census-found-fair : (bound : ℕ) (cells : Option ℕ) (R : Rule) (b : ℕ) (parts : Option (List Generation)) → IsFair (Objects bound cells) (census_found R b parts)
 census-found-fair bound cells R b Nothing = tt
 census-found-fair bound cells R b (Some parts) =
-    (rise-counted (map (part_code R b) parts) [] tt, all-counted (map (part_code R b) parts) [] tt)
+    (rise-counted (map (part_code R b) parts) [] tt, all-counted (map (part_code R b) parts) [] tt, parts-told-codes R b parts)
 
 census-fair : (bound : ℕ) (cells : Option ℕ) (R : Rule) (G : Generation) (b : ℕ) → IsFair (Objects bound cells) (census_of R G b)
 unfolding census_of
@@ -305,7 +328,7 @@ lined (Objects bound cells) t c what calm suits =
 
 -- a line and its parts
 line-told : (question : Question) (c i : ℕ) (o : rows.Outcome) (name : List ℕ) (parts : List part.Part) → is_lawful (Line c i o (lent name)) ≡ true
-    → Suits question (said o) → number_in (value_at label.Objects (said o).fields) ≡ objects_in parts → Rise (Some []) parts → Each IsCounted parts
+    → Suits question (said o) → number_in (value_at label.Objects (said o).fields) ≡ objects_in parts → Rise (Some []) parts → Each IsLawfulPart parts
     → IsTold question (Line c i o (lent name) ∷ map (part_row c i) parts)
 line-told question c i o name parts lawful suits all rise counted t calm =
     let row = Line c i o (lent name) in
@@ -321,11 +344,20 @@ line-told question c i o name parts lawful suits all rise counted t calm =
 named-line : (rule : Rule) (name : List ℕ) → IsEven rule → is_name name ≡ true → (is_rule (rule_text rule) && is_name name) ≡ true
 named-line rule name even named = ap (λ b. b && is_name name) (rule-printed rule even) ∙ named
 
+coded-line : (rule : Rule) (name : List ℕ) (moved : Bool) (period : ℕ) (code : List ℕ) → IsEven rule → is_code_after moved period code ≡ true → is_name name ≡ true
+    → (is_rule (rule_text rule) && (is_code_after moved period code && is_name name)) ≡ true
+coded-line rule name moved period code even told named =
+    ap (λ b. b && (is_code_after moved period code && is_name name)) (rule-printed rule even) ∙ ap (λ b. b && is_name name) told ∙ named
+
+parts-lawful : (parts : List part.Part) → Each IsCounted parts → Each IsCodePart parts → Each IsCodedPart parts → Each IsLawfulPart parts
+parts-lawful [] counted told some = tt
+parts-lawful (p ∷ parts) counted told some = ((counted.0, told.0 some.0), parts-lawful parts counted.1 told.1 some.1)
+
 outcome-told : (question : Question) (c i : ℕ) (rule : Rule) (population : ℕ) (outcome : Outcome) (name : List ℕ) → IsEven rule → is_name name ≡ true
     → FitsOutcome outcome → IsFair question outcome
     → IsTold question (Line c i (row_outcome rule population outcome) (lent name) ∷ map (part_row c i) (parts_found outcome))
 outcome-told (Settles bound cells) c i rule population (Recurs onset period dx dy code) name even named range fair =
-    line-told (Settles bound cells) c i (row_outcome rule population (Recurs onset period dx dy code)) name [] (named-line rule name even named) refl refl tt tt
+    line-told (Settles bound cells) c i (row_outcome rule population (Recurs onset period dx dy code)) name [] (coded-line rule name (not (same_cell (dx, dy) origin)) period code even fair named) refl refl tt tt
 outcome-told (Settles bound cells) c i rule population Unresolved name even named range fair =
     line-told (Settles bound cells) c i (row_outcome rule population Unresolved) name [] (named-line rule name even named) refl refl tt tt
 outcome-told (Settles bound cells) c i rule population (Large n) name even named range fair =
@@ -337,7 +369,7 @@ outcome-told (Objects bound cells) c i rule population Unresolved name even name
 outcome-told (Objects bound cells) c i rule population (Large n) name even named range fair =
     line-told (Objects bound cells) c i (row_outcome rule population (Large n)) name [] (named-line rule name even named) refl refl tt tt
 outcome-told (Objects bound cells) c i rule population (Ash parts) name even named range fair =
-    line-told (Objects bound cells) c i (row_outcome rule population (Ash parts)) name parts (named-line rule name even named) refl refl (rise-some parts fair.0 range.1) fair.1
+    line-told (Objects bound cells) c i (row_outcome rule population (Ash parts)) name parts (named-line rule name even named) refl refl (rise-some parts fair.0 range.1) (parts-lawful parts fair.1 fair.2 range.1)
 
 answer-told : (question : Question) (c i : ℕ) (found : Answer) (name : List ℕ) → is_name name ≡ true → IsEvenAnswer found → IsToldAnswer found → IsFairAnswer question found
     → IsTold question (pattern_row c i found name ∷ part_rows c i found)
@@ -380,14 +412,48 @@ tally-some : (f : Object → ℕ) (xs : List Object) → Each (λ (x : Object). 
 tally-some f [] h = tt
 tally-some f (x ∷ xs) h = (h.0, tally-some f xs h.1)
 
-code-lawful : (c : ℕ) (x : Object × ℕ) → IsEvenObject x.0 → IsCountedObject x → is_lawful (code_row c x) ≡ true
-code-lawful c x even some = ap (λ b. b && ltb 0 x.1) (rule-printed x.0.rule even) ∙ lt-ltb 0 x.1 some
+-- the object's code is one where it has a byte
+abbrev IsCodeObject : Object → Type 0
+IsCodeObject o = IsCodeIfSome o.code
 
-codes-told : (question : Question) (c : ℕ) (counted : List (Object × ℕ)) → Each (λ (x : Object × ℕ). IsEvenObject x.0) counted → Each IsCountedObject counted
+parts-coded : (rule : Rule) (parts : List part.Part) → Each IsCodePart parts → Each IsCodeObject (part_objects rule parts)
+parts-coded rule [] h = tt
+parts-coded rule (p ∷ parts) h =
+    each-append IsCodeObject (replicate p.count (object rule p.code)) (part_objects rule parts)
+    (each-replicate IsCodeObject p.count (object rule p.code) h.0) (parts-coded rule parts h.1)
+
+outcome-coded : (question : Question) (rule : Rule) (outcome : Outcome) → IsFair question outcome → Each IsCodeObject (outcome_objects rule outcome)
+outcome-coded (Settles bound cells) rule (Recurs onset period dx dy code) h = ((λ some. after-code (not (same_cell (dx, dy) origin)) period code h), tt)
+outcome-coded (Settles bound cells) rule (Ash parts) h = absurd h
+outcome-coded (Objects bound cells) rule (Recurs onset period dx dy code) h = absurd h
+outcome-coded (Objects bound cells) rule (Ash parts) h = parts-coded rule parts h.2
+outcome-coded question rule Unresolved h = tt
+outcome-coded question rule (Large n) h = tt
+
+objects-coded : (question : Question) (found : List Answer) → Each (IsFairAnswer question) found → Each IsCodeObject (objects found)
+objects-coded question [] h = tt
+objects-coded question (Found rule finding ∷ found) h =
+    each-append IsCodeObject (outcome_objects rule finding.outcome) (objects found) (outcome-coded question rule finding.outcome h.0) (objects-coded question found h.1)
+objects-coded question (Refused number ∷ found) h = objects-coded question found h.1
+
+code-lawful : (c : ℕ) (x : Object × ℕ) → IsEvenObject x.0 → IsCodeObject x.0 → HasObjectCode x.0 → IsCountedObject x → is_lawful (code_row c x) ≡ true
+code-lawful c x even told some counted =
+    ap (λ b. b && (is_code x.0.code && ltb 0 x.1)) (rule-printed x.0.rule even) ∙ ap (λ b. b && ltb 0 x.1) (told some) ∙ lt-ltb 0 x.1 counted
+
+abbrev IsLawfulObject : Object → Type 0
+IsLawfulObject o = IsEvenObject o × IsCodeObject o × HasObjectCode o
+
+each-three : (xs : List Object) → Each IsEvenObject xs → Each IsCodeObject xs → Each HasObjectCode xs → Each IsLawfulObject xs
+each-three [] a b c = tt
+each-three (x ∷ xs) a b c = ((a.0, b.0, c.0), each-three xs a.1 b.1 c.1)
+
+codes-told : (question : Question) (c : ℕ) (counted : List (Object × ℕ)) → Each (λ (x : Object × ℕ). IsLawfulObject x.0) counted → Each IsCountedObject counted
     → Each (IsTold question) (code_groups c counted)
-codes-told question c [] even h = tt
-codes-told question c (x ∷ counted) even h =
-    (subst (IsTold question) (sym (code-is c x)) (plain question (code_row c x) (code-lawful c x even.0 h.0) no-more), codes-told question c counted even.1 h.1)
+codes-told question c [] lawful h = tt
+codes-told question c (x ∷ counted) lawful h = (
+  subst (IsTold question) (sym (code-is c x)) (plain question (code_row c x) (code-lawful c x lawful.0.0 lawful.0.1 lawful.0.2 h.0) no-more),
+  codes-told question c counted lawful.1 h.1,
+)
 
 section-told : (question : Question) (c : ℕ) (f : Folder) → IsNamedFolder f → IsToldFolder question f → Each (IsTold question) (folder_section question c f)
 section-told question c f named range =
@@ -396,9 +462,11 @@ section-told question c f named range =
     let all = objects (answers question f.entries) in
     let some = tally-some (λ x. count_by (same_object x) all) (distinct_elements same_object all)
     (distinct-each (λ (x : Object). 0 < count_by (same_object x) all) same_object all (counts-some all)) in
-    let even = counted-each IsEvenObject (λ x. count_by (same_object x) all) (distinct_elements same_object all)
-    (distinct-each IsEvenObject same_object all (entries-even question f.entries)) in
-    let ends = each-append (IsTold question) coded last (codes-told question c (counted_in question f) even some)
+    let fair = objects-coded question (answers question f.entries) (each-map (IsFairAnswer question) (answer_to_entry question) (entry-fair question) f.entries) in
+    let lawful = counted-each IsLawfulObject (λ x. count_by (same_object x) all) (distinct_elements same_object all)
+    (distinct-each IsLawfulObject same_object all
+    (each-three all (entries-even question f.entries) fair (objects-some (answers question f.entries) range.0))) in
+    let ends = each-append (IsTold question) coded last (codes-told question c (counted_in question f) lawful some)
     (plain question (close_row c (answers question f.entries) (length f.entries)) refl no-more, tt) in
     subst (Each (IsTold question)) (sym (section-is question c f)) (
       plain question (open_row c f) named.name no-more,

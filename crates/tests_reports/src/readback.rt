@@ -180,6 +180,67 @@ const FAULTS: &[(&[u8], usize)] = &[
         b"open 1 1 a\nline 1 1 none B/S 4 b\nclose 1 1 0 1 0\nend 1 1\n",
         0,
     ),
+    // Codes that are none, or not those of such a period and displacement.
+    (
+        b"open 1 1 a\nline 1 1 ok B3/S23 4 0 1 0 0 xs4_33 b\nclose 1 1 1 0 0\nend 1 1\n",
+        0,
+    ),
+    (
+        b"open 1 1 a\nline 1 1 ok B3/S23 4 0 15 0 0 xs4_33 b\nclose 1 1 1 0 0\nend 1 1\n",
+        2,
+    ),
+    (
+        b"open 1 1 a\nline 1 1 ok B3/S23 4 0 0 0 0 xs4_33 b\nclose 1 1 1 0 0\nend 1 1\n",
+        2,
+    ),
+    (
+        b"open 1 1 a\nline 1 1 ok B3/S23 4 0 1 1 0 xs4_33 b\nclose 1 1 1 0 0\nend 1 1\n",
+        2,
+    ),
+    (
+        b"open 1 1 a\nline 1 1 ok B3/S23 4 0 2 0 0 xp2_7 b\nclose 1 1 1 0 0\nend 1 1\n",
+        0,
+    ),
+    (
+        b"open 1 1 a\nline 1 1 ok B3/S23 4 0 2 0 0 xp3_7 b\nclose 1 1 1 0 0\nend 1 1\n",
+        2,
+    ),
+    (
+        b"open 1 1 a\nline 1 1 ok B3/S23 4 0 1 0 0 xp1_7 b\nclose 1 1 1 0 0\nend 1 1\n",
+        2,
+    ),
+    (
+        b"open 1 1 a\nline 1 1 ok B3/S23 4 0 2 1 0 xp2_7 b\nclose 1 1 1 0 0\nend 1 1\n",
+        2,
+    ),
+    (
+        b"open 1 1 a\nline 1 1 ok B3/S23 4 0 4 1 1 xq4_153 b\nclose 1 1 1 0 0\nend 1 1\n",
+        0,
+    ),
+    (
+        b"open 1 1 a\nline 1 1 ok B3/S23 4 0 4 1 1 xq04_153 b\nclose 1 1 1 0 0\nend 1 1\n",
+        2,
+    ),
+    (
+        b"open 1 1 a\nline 1 1 ok B3/S23 4 0 4 0 0 xq4_153 b\nclose 1 1 1 0 0\nend 1 1\n",
+        2,
+    ),
+    (
+        b"open 1 1 a\nline 1 1 ok B3/S23 4 0 1 0 0 xr4_33 b\nclose 1 1 1 0 0\nend 1 1\n",
+        2,
+    ),
+    (
+        b"open 1 1 a\nline 1 1 ok B3/S23 4 0 1 0 0 xs4 b\nclose 1 1 1 0 0\nend 1 1\n",
+        2,
+    ),
+    (
+        b"open 1 1 a\nline 1 1 ash B3/S23 8 1 b\npart 1 1 block 1\n",
+        3,
+    ),
+    (
+        b"open 1 1 a\nline 1 1 ok B3/S23 4 0 1 0 0 xs4_33 b\ncode 1 B3/S23 33 1\n",
+        3,
+    ),
     // Parts that stand behind a line of another collection.
     (
         b"open 1 1 a\nopen 2 1 b\nline 1 1 ash B3/S23 4 1 c\nline 2 1 none B3/S23 4 d\n",
