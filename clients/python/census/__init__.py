@@ -17,7 +17,7 @@ import signal
 import subprocess
 import tempfile
 from dataclasses import dataclass, field, replace
-from typing import Callable, Dict, Iterable, Iterator, List, Literal, NoReturn, Optional, Tuple, Union, overload
+from typing import Callable, Dict, Iterable, Iterator, List, Literal, NoReturn, Optional, Set, Tuple, Union, overload
 
 __all__ = [
     "Census", "Pattern", "Row", "read_report",
@@ -636,11 +636,9 @@ class _Asked:
         is_lawful = all(name.endswith(b".rle") for name in names) and names == sorted(set(names))
         # (names may have come and gone since they were listed; a folder that is as it was has the names that it had)
         has_changed = listed is None or listed != _names_in(folder)
-        return is_lawful and (listed == names or has_changed) and all(
-            map(self._fits_row, collection.lines, collection.objects, collection.parts)
-        )
+        return is_lawful and (listed == names or has_changed) and all(map(self._fits_row, collection.lines, collection.parts))
 
-    def _fits_row(self, row: Row, objects: int, parts: List[Tuple[str, int]]) -> bool:
+    def _fits_row(self, row: Row, parts: List[Tuple[str, int]]) -> bool:
         bound = self.bound if self.bound is not None else 10000 if self.objects else 1000
         if row.status == "bad":
             return 1 <= row.fault <= 10
@@ -649,9 +647,7 @@ class _Asked:
         if row.status == "ok":
             return not self.objects and row.period > 0 and row.onset + row.period <= bound and bool(re.fullmatch(_CODE, row.code))
         if row.status == "ash":
-            codes = {code for code, _ in parts}
-            is_whole = len(codes) == len(parts) and all(re.fullmatch(_CODE, code) for code in codes)
-            return self.objects and is_whole and sum(count for _, count in parts) == objects
+            return self.objects and all(re.fullmatch(_CODE, code) for code, _ in parts)
         if row.status == "large":
             return (self.objects or self.cells is not None) and row.generation <= bound * (3 if self.objects else 1)
         return True
@@ -676,8 +672,10 @@ def read_report(report: bytes) -> List[Row]:
     another it is as of the one that `census merge` makes of them: their collections are numbered on.
 
     The lines of several collections may interleave. What a report is, is what `census merge` reads: numbers have no leading zeros and fit
-    64 bits, rules and codes are any words, a name is all that is left of a line, and the sums of `part` and `code` lines are not looked at.
-    Raises `ReportFault` at the line at which `census merge` finds the fault.
+    64 bits, rules are as they are printed, codes begin as codes, that of an `ok` line as its period and displacement say, a name is all
+    that is left of a line and is lawful, no report has `ok` and `ash` lines, and right behind an `ash` line its `part` lines tell all its
+    objects in the order of codes. The sums of `code` lines are not looked at. Raises `ReportFault` at the line at which `census merge`
+    finds the fault.
     """
     return _read(report).rows()
 
@@ -703,6 +701,9 @@ def _demand(is_so: bool) -> None:
 
 _IS_COUNT = re.compile(_COUNT.encode())
 _IS_OFFSET = re.compile(_OFFSET.encode())
+_IS_RULE = re.compile(_RULE.encode())
+# (only how it begins)
+_IS_CODE = re.compile(rb"x[spq][0-9]*_.*", re.DOTALL)
 
 
 def _count(word: bytes) -> int:
@@ -717,18 +718,38 @@ def _offset(word: bytes) -> int:
     return int(word)
 
 
-def _text(word: bytes) -> str:
-    """A rule or a code."""
-    _demand(word != b"")
+def _name(name: bytes) -> bytes:
+    """A lawful name."""
+    _demand(0 < len(name) <= 255 and all(byte >= 32 and byte != 127 for byte in name) and b" " not in (name[:1], name[-1:]))
+    return name
+
+
+def _rule(word: bytes) -> str:
+    """A rule as it is printed."""
+    _demand(_IS_RULE.fullmatch(word) is not None)
+    return word.decode()
+
+
+def _code(word: bytes) -> str:
+    """A code."""
+    _demand(_IS_CODE.fullmatch(word) is not None)
     return os.fsdecode(word)
+
+
+def _fits_code(found: Dict[str, Union[int, str]]) -> bool:
+    """Whether a code begins as period and displacement say."""
+    period = found["period"]
+    if found["dx"] or found["dy"]:
+        return period > 0 and found["code"].startswith(f"xq{period}_")
+    return period > 0 and found["code"].startswith("xs" if period == 1 else f"xp{period}_")
 
 
 # what stands between the status and the name of a line
 _FIELDS: Dict[bytes, Dict[str, Callable[[bytes], Union[int, str]]]] = {
-    b"ok": {"rule": _text, "population": _count, "onset": _count, "period": _count, "dx": _offset, "dy": _offset, "code": _text},
-    b"ash": {"rule": _text, "population": _count, "objects": _count},
-    b"none": {"rule": _text, "population": _count},
-    b"large": {"rule": _text, "population": _count, "generation": _count},
+    b"ok": {"rule": _rule, "population": _count, "onset": _count, "period": _count, "dx": _offset, "dy": _offset, "code": _code},
+    b"ash": {"rule": _rule, "population": _count, "objects": _count},
+    b"none": {"rule": _rule, "population": _count},
+    b"large": {"rule": _rule, "population": _count, "generation": _count},
     b"bad": {"fault": _count},
 }
 
@@ -744,8 +765,7 @@ class _Collection:
         self.size = size
         self.name = name
         self.lines: List[Row] = []
-        # of each line: how many objects it says it has, and which were read
-        self.objects: List[int] = []
+        # of each line: which objects were read
         self.parts: List[List[Tuple[str, int]]] = []
         # whether `part` lines of the last line may follow
         self.takes_parts = False
@@ -766,6 +786,27 @@ class _Collection:
         ]
 
 
+class _Told:
+    """What the lines of a report tell together. A line that does not fit raises ValueError."""
+
+    def __init__(self) -> None:
+        # which of `ok` and `ash` there are
+        self.statuses: Set[bytes] = set()
+        # the collection of the last line, how many of its objects no `part` line has told, and the last code of one
+        self.collection = 0
+        self.left = 0
+        self.last = b""
+
+    def take_line(self, collection: int, status: bytes, objects: int) -> None:
+        self.statuses |= {status} & {b"ok", b"ash"}
+        _demand(len(self.statuses) < 2)
+        self.collection, self.left, self.last = collection, objects, b""
+
+    def take_part(self, collection: int, code: bytes, count: int) -> None:
+        _demand(collection == self.collection and 0 < count <= self.left and (len(self.last), self.last) < (len(code), code))
+        self.left, self.last = self.left - count, code
+
+
 class _Reading:
     """What is read of one report or more. A line that can't stand where it does raises ValueError or KeyError."""
 
@@ -776,6 +817,7 @@ class _Reading:
         self.ended: List[_Collection] = []
         self.sizes: List[int] = []
         self.has_ended = False
+        self.told = _Told()
         self.takes = {
             b"open": self._open, b"line": self._line, b"part": self._part, b"code": self._code, b"close": self._close, b"end": self._end,
         }
@@ -794,11 +836,13 @@ class _Reading:
         kind, _, rest = line.partition(b" ")
         take = self.takes[kind]
         self.has_ended = False
+        # (nothing stands between a line and its parts)
+        _demand(kind == b"part" or self.told.left == 0)
         take(rest)
 
     def _open(self, rest: bytes) -> None:
         number, size, name = rest.split(b" ", 2)
-        collection = _Collection(_count(number), _count(size), name)
+        collection = _Collection(_count(number), _count(size), _name(name))
         _demand(1 <= collection.number <= _MOST and collection.size <= _MOST and collection.number not in self.collections)
         self.collections[collection.number] = collection
 
@@ -816,22 +860,24 @@ class _Reading:
         *words, name = rest.split(b" ", len(fields))
         _demand(len(words) == len(fields))
         found = {key: read(word) for (key, read), word in zip(fields.items(), words)}
-        collection.objects.append(found.pop("objects", 0))
+        _demand(status != b"ok" or _fits_code(found))
+        self.told.take_line(collection.number, status, found.pop("objects", 0))
         collection.parts.append([])
         collection.takes_parts = status == b"ash"
         folder = os.fsdecode(collection.name)
-        collection.lines.append(Row(collection.number, folder, _count(pattern), os.fsdecode(name), status.decode(), **found))
+        collection.lines.append(Row(collection.number, folder, _count(pattern), os.fsdecode(_name(name)), status.decode(), **found))
 
     def _part(self, rest: bytes) -> None:
         number, pattern, code, count = rest.split(b" ")
         collection = self._still_open(number)
         _demand(collection.takes_parts and _count(pattern) == len(collection.lines))
-        collection.parts[-1].append((_text(code), _count(count)))
+        self.told.take_part(collection.number, code, _count(count))
+        collection.parts[-1].append((_code(code), _count(count)))
 
     def _code(self, rest: bytes) -> None:
         number, rule, code, count = rest.split(b" ")
         collection = self._still_open(number)
-        _demand(len(collection.lines) == collection.size and bool(_text(rule) and _text(code)) and _count(count) >= 0)
+        _demand(len(collection.lines) == collection.size and bool(_rule(rule) and _code(code)) and _count(count) > 0)
         collection.takes_parts = False
 
     def _close(self, rest: bytes) -> None:
@@ -849,4 +895,5 @@ class _Reading:
         self.ended += found
         self.sizes.append(len(found))
         self.collections = {}
+        self.told = _Told()
         self.has_ended = True

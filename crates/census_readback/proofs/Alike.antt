@@ -1,12 +1,23 @@
 -- Rows that say the same may stand in the same places.
-use Rattle.std.proofs.Common.{◌≡◌, ℕ, Bool, ◌+◌, ◌-◌, ◌&&◌, ◌==◌, nat_lt, nat_le, Option, Some, None as Nothing, List, [], ◌∷◌, ap, ◌∙◌, refl}
-use Rattle.std.specs.Prelude.{if◌then◌else◌}
+use Rattle.std.proofs.Common.{◌≡◌, ℕ, Bool, true, false, not, ◌+◌, ◌-◌, ◌&&◌, ◌||◌, ◌==◌, nat_eq, nat_lt, nat_le, Option, Some, None as Nothing, List, [], ◌∷◌, ap, ◌∙◌, refl, subst}
+use Rattle.std.specs.Prelude.{if◌then◌else◌, ⊤}
+use Rattle.census_bundle.specs.Names.{is_name}
 use Rattle.census_rows.specs.declared.kinds.Class.{Class}
 use Rattle.census_rows.specs.declared.row.Outcome.{Outcome}
 use Rattle.census_rows.specs.declared.row.Row.{Row}
 use Rattle.census_rows.specs.declared.row.Row.TheVariants.{Open, Line, Part, Code, Close, End}
-use Rattle.census_rows.specs.Kinds.{said}
-use Rattle.census_rows.specs.Lines.{SameOutcome, SameRow}
+use Rattle.census_rows.specs.declared.kinds.Field.{Field}
+use Rattle.census_rows.specs.declared.kinds.Label.{Label}
+use Rattle.census_rows.specs.declared.kinds.Label.TheVariants as label
+use Rattle.census_rows.specs.declared.kinds.Value.{Value}
+use Rattle.census_rows.specs.declared.kinds.Value.TheVariants.{Number, Signed, Text}
+use Rattle.census_rows.specs.Kinds.{Said, label_number, said, value_at}
+use Rattle.census_rows.specs.Lines.{SameFields, SameOutcome, SameRow, SameSaid, SameValue}
+use Rattle.census_readback.specs.Codes.{is_code, is_code_after}
+use Rattle.life_model.specs.Cell.{origin, same_cell}
+use Rattle.census_readback.specs.Lawful.{has_lawful_code, has_lawful_rule, is_lawful, is_moved, number_in, passes, signed_in, text_in}
+use Rattle.census_readback.specs.Rules.{is_rule}
+use Rattle.census_readback.specs.Told.{Told, has_code, is_some, line_told, part_told, told_after, told_next}
 use Rattle.census_readback.specs.declared.place.Place.{Place}
 use Rattle.census_readback.specs.declared.place.Place.TheVariants.{Before, Within, Behind}
 use Rattle.census_readback.specs.declared.place.Tally.{Tally}
@@ -81,14 +92,123 @@ step-same s (Close c n a b d) (Close c2 n2 a2 b2 d2) h = section-same s (Close c
 step-same s (End n k) (End n2 k2) h = ap (λ m. end_step s m k) h.0 ∙ ap (λ m. end_step s n2 m) h.1
 step-same s r q h = absurd h
 
-pub stray-same : (s : Reading) (n : ℕ) (xs ys : List Row) → SameRows xs ys → first_stray s n xs ≡ first_stray s n ys
-stray-same s n [] [] h = refl
-stray-same s n [] (y ∷ ys) h = absurd h
-stray-same s n (x ∷ xs) [] h = absurd h
-stray-same s n (x ∷ xs) (y ∷ ys) h =
-    let on : (o : Option Reading) → (elim o [ Nothing ↦ Some n | Some t ↦ first_stray t (n + 1) xs ]) ≡ (elim o [ Nothing ↦ Some n | Some t ↦ first_stray t (n + 1) ys ]) =
-    λ o. elim o as (λ o. (elim o [ Nothing ↦ Some n | Some t ↦ first_stray t (n + 1) xs ]) ≡ (elim o [ Nothing ↦ Some n | Some t ↦ first_stray t (n + 1) ys ])) [
-      | Nothing ↦ refl
-      | Some t ↦ stray-same t (n + 1) xs ys h.1
+-- # What they tell
+
+abbrev SameValues : Option Value → Option Value → Type 0
+SameValues Nothing Nothing = ⊤
+SameValues (Some value) (Some other) = SameValue value other
+SameValues _ _ = ⊥
+
+at-same : (l : Label) (fields others : List Field) → SameFields fields others → SameValues (value_at l fields) (value_at l others)
+at-same l [] [] h = tt
+at-same l [] (g ∷ others) h = absurd h
+at-same l (f ∷ fields) [] h = absurd h
+at-same l (f ∷ fields) (g ∷ others) h =
+    let same : nat_eq (label_number f.label) (label_number l) ≡ nat_eq (label_number g.label) (label_number l) = ap (λ k. nat_eq (label_number k) (label_number l)) h.0 in
+    let on : (b : Bool) → SameValues (if b then Some f.value else value_at l fields) (if b then Some g.value else value_at l others) =
+    λ b. elim b as (λ b. SameValues (if b then Some f.value else value_at l fields) (if b then Some g.value else value_at l others)) [
+      | true ↦ h.1
+      | false ↦ at-same l fields others h.2
     ] in
-    ap (λ (o : Option Reading). elim o [ Nothing ↦ Some n | Some t ↦ first_stray t (n + 1) xs ]) (step-same s x y h.0) ∙ on (step s y)
+    subst (λ b. SameValues (if nat_eq (label_number f.label) (label_number l) then Some f.value else value_at l fields) (if b then Some g.value else value_at l others)) same
+    (on (nat_eq (label_number f.label) (label_number l)))
+
+text-same : (a b : Option Value) → SameValues a b → text_in a ≡ text_in b
+text-same Nothing Nothing h = refl
+text-same (Some (Number n)) (Some (Number m)) h = refl
+text-same (Some (Signed z)) (Some (Signed y)) h = refl
+text-same (Some (Text bytes)) (Some (Text others)) h = ap (λ (w : List ℕ). Some w) h
+text-same a b h = absurd h
+
+number-same : (a b : Option Value) → SameValues a b → number_in a ≡ number_in b
+number-same Nothing Nothing h = refl
+number-same (Some (Number n)) (Some (Number m)) h = h
+number-same (Some (Signed z)) (Some (Signed y)) h = refl
+number-same (Some (Text bytes)) (Some (Text others)) h = refl
+number-same a b h = absurd h
+
+signed-same : (a b : Option Value) → SameValues a b → signed_in a ≡ signed_in b
+signed-same Nothing Nothing h = refl
+signed-same (Some (Number n)) (Some (Number m)) h = refl
+signed-same (Some (Signed z)) (Some (Signed y)) h = h
+signed-same (Some (Text bytes)) (Some (Text others)) h = refl
+signed-same a b h = absurd h
+
+module _ (fields others : List Field) (h : SameFields fields others) where
+  texts : (l : Label) → text_in (value_at l fields) ≡ text_in (value_at l others)
+  texts l = text-same (value_at l fields) (value_at l others) (at-same l fields others h)
+
+  numbers : (l : Label) → number_in (value_at l fields) ≡ number_in (value_at l others)
+  numbers l = number-same (value_at l fields) (value_at l others) (at-same l fields others h)
+
+code-same : (fields others : List Field) → SameFields fields others → has_lawful_code fields ≡ has_lawful_code others
+code-same fields others h =
+    let sign : (l : Label) → signed_in (value_at l fields) ≡ signed_in (value_at l others) =
+    λ l. signed-same (value_at l fields) (value_at l others) (at-same l fields others h) in
+    let period : ℕ = number_in (value_at label.Period fields) in
+    let code : Option (List ℕ) = text_in (value_at label.Code fields) in
+    ap (λ z. passes (is_code_after (not (same_cell (z, signed_in (value_at label.Dy fields)) origin)) period) code) (sign label.Dx)
+    ∙ ap (λ z. passes (is_code_after (not (same_cell (signed_in (value_at label.Dx others), z) origin)) period) code) (sign label.Dy)
+    ∙ ap (λ n. passes (is_code_after (is_moved others) n) code) (numbers fields others h label.Period)
+    ∙ ap (λ text. passes (is_code_after (is_moved others) (number_in (value_at label.Period others))) text) (texts fields others h label.Code)
+
+lawful-same : (r q : Row) → SameRow r q → is_lawful r ≡ is_lawful q
+lawful-same (Open c n name) (Open c2 n2 name2) h = ap is_name h.2
+lawful-same (Line c i o name) (Line c2 i2 o2 name2) h =
+    ap (λ rule. passes is_rule rule && (has_lawful_code (said o).fields && is_name name.now)) (texts (said o).fields (said o2).fields h.2.3 label.Rule)
+    ∙ ap (λ b. has_lawful_rule (said o2).fields && (b && is_name name.now)) (code-same (said o).fields (said o2).fields h.2.3)
+    ∙ ap (λ w. has_lawful_rule (said o2).fields && (has_lawful_code (said o2).fields && is_name w)) h.3
+lawful-same (Part c i code k) (Part c2 i2 code2 k2) h = ap (λ w. is_code w && nat_lt 0 k) h.2 ∙ ap (λ m. is_code code2.now && nat_lt 0 m) h.3
+lawful-same (Code c rule code k) (Code c2 rule2 code2 k2) h =
+    ap (λ w. is_rule w && (is_code code.now && nat_lt 0 k)) h.1 ∙ ap (λ w. is_rule rule2.now && (is_code w && nat_lt 0 k)) h.2
+    ∙ ap (λ m. is_rule rule2.now && (is_code code2.now && nat_lt 0 m)) h.3
+lawful-same (Close c n a b d) (Close c2 n2 a2 b2 d2) h = refl
+lawful-same (End n k) (End n2 k2) h = refl
+lawful-same r q h = absurd h
+
+line-told-same : (t : Told) (c : ℕ) (s u : Said) → SameSaid s u → line_told t c s ≡ line_told t c u
+line-told-same t c s u h =
+    let told : Bool → Bool → ℕ → Option Told = λ code parts objects.
+    if (t.left == 0) && not ((t.recurs || code) && (t.falls_apart || parts)) then Some (record { recurs = t.recurs || code; falls_apart = t.falls_apart || parts; collection = c; left = objects; last = [] }) else Nothing in
+    ap (λ text. told (is_some text) s.has_parts (number_in (value_at label.Objects s.fields))) (texts s.fields u.fields h.3 label.Code)
+    ∙ ap (λ parts. told (has_code u) parts (number_in (value_at label.Objects s.fields))) h.2
+    ∙ ap (told (has_code u) u.has_parts) (numbers s.fields u.fields h.3 label.Objects)
+
+told-same : (t : Told) (r q : Row) → SameRow r q → told_next t r ≡ told_next t q
+told-same t (Open c n name) (Open c2 n2 name2) h = refl
+told-same t (Line c i o name) (Line c2 i2 o2 name2) h = ap (λ k. line_told t k (said o)) h.0 ∙ line-told-same t c2 (said o) (said o2) h.2
+told-same t (Part c i code k) (Part c2 i2 code2 k2) h =
+    ap (λ m. part_told t m code.now k) h.0 ∙ ap (λ w. part_told t c2 w k) h.2 ∙ ap (λ m. part_told t c2 code2.now m) h.3
+told-same t (Code c rule code k) (Code c2 rule2 code2 k2) h = refl
+told-same t (Close c n a b d) (Close c2 n2 a2 b2 d2) h = refl
+told-same t (End n k) (End n2 k2) h = refl
+told-same t r q h = absurd h
+
+pub after-same : (t : Told) (r q : Row) → SameRow r q → told_after t r ≡ told_after t q
+after-same t r q h =
+    ap (λ (b : Bool). if b then told_next t r else Nothing) (lawful-same r q h) ∙ ap (λ (o : Option Told). if is_lawful q then o else Nothing) (told-same t r q h)
+
+-- # Rows one after the other
+
+abbrev stepping : Told → ℕ → List Row → Option Reading → Option ℕ
+stepping u n rows o = elim o as (λ _. Option ℕ) [ Nothing ↦ Some n | Some t ↦ first_stray u t (n + 1) rows ]
+
+abbrev telling : Reading → ℕ → Row → List Row → Option Told → Option ℕ
+telling s n r rows o = elim o as (λ _. Option ℕ) [ Nothing ↦ Some n | Some u ↦ stepping u n rows (step s r) ]
+
+pub stray-same : (v : Told) (s : Reading) (n : ℕ) (xs ys : List Row) → SameRows xs ys → first_stray v s n xs ≡ first_stray v s n ys
+stray-same v s n [] [] h = refl
+stray-same v s n [] (y ∷ ys) h = absurd h
+stray-same v s n (x ∷ xs) [] h = absurd h
+stray-same v s n (x ∷ xs) (y ∷ ys) h =
+    let on : (u : Told) (o : Option Reading) → stepping u n xs o ≡ stepping u n ys o =
+    λ u o. elim o as (λ o. stepping u n xs o ≡ stepping u n ys o) [
+      | Nothing ↦ refl
+      | Some t ↦ stray-same u t (n + 1) xs ys h.1
+    ] in
+    let each : (o : Option Told) → telling s n x xs o ≡ telling s n y ys o =
+    λ o. elim o as (λ o. telling s n x xs o ≡ telling s n y ys o) [
+      | Nothing ↦ refl
+      | Some u ↦ ap (stepping u n xs) (step-same s x y h.0) ∙ on u (step s y)
+    ] in
+    ap (telling s n x xs) (after-same v x y h.0) ∙ each (told_after v y)

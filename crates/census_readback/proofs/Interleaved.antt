@@ -15,6 +15,8 @@ use Rattle.census_readback.specs.Shapes.{rows_of, AreOfCollections, patterns_in,
 use Rattle.census_readback.proofs.Shaped.{and-both, both-and, section-sound, section-complete}
 use Rattle.census_readback.proofs.Kept.{Kept, kept-none, kept-step, run-split, rows-here, patterns-append}
 use Rattle.census_readback.specs.Limits.{count_limit}
+use Rattle.census_readback.specs.Told.{Told, nothing_told, told_after, told_by}
+use Rattle.census_readback.proofs.Telling.{told-end, told-first, told-last, told-more}
 
 -- # Steps
 
@@ -81,15 +83,34 @@ section-is-step s (End n k) h = absurd (omega arith)
 
 -- # From steps to reports
 
--- the first step, and the others
-stepped : (s : Reading) (n : ℕ) (r : Row) (rows : List Row) → first_stray s n (r ∷ rows) ≡ None → (t : Reading) × (step s r ≡ Some t) × (first_stray t (n + 1) rows ≡ None)
-stepped s n r rows h =
-    let on : (o : Option Reading) → (elim o as (λ _. Option ℕ) [ None ↦ Some n | Some t ↦ first_stray t (n + 1) rows ]) ≡ None → (t : Reading) × (o ≡ Some t) × (first_stray t (n + 1) rows ≡ None) =
-    λ o. elim o as (λ o. (elim o as (λ _. Option ℕ) [ None ↦ Some n | Some t ↦ first_stray t (n + 1) rows ]) ≡ None → (t : Reading) × (o ≡ Some t) × (first_stray t (n + 1) rows ≡ None)) [
-      | None ↦ λ e. absurd (cc)
-      | Some t ↦ λ e. (t, refl, e)
-    ] in
-    on (step s r) h
+abbrev stepping : Told → ℕ → List Row → Option Reading → Option ℕ
+stepping u n rows o = elim o as (λ _. Option ℕ) [ None ↦ Some n | Some t ↦ first_stray u t (n + 1) rows ]
+
+abbrev telling : Reading → ℕ → Row → List Row → Option Told → Option ℕ
+telling s n r rows o = elim o as (λ _. Option ℕ) [ None ↦ Some n | Some u ↦ stepping u n rows (step s r) ]
+
+step-some : (u : Told) (n : ℕ) (rows : List Row) (o : Option Reading) → stepping u n rows o ≡ None → (t : Reading) × (o ≡ Some t) × (first_stray u t (n + 1) rows ≡ None)
+step-some u n rows None h = absurd (cc)
+step-some u n rows (Some t) h = (t, refl, h)
+
+tell-some : (s : Reading) (n : ℕ) (r : Row) (rows : List Row) (o : Option Told) → telling s n r rows o ≡ None
+    → (u : Told) × (o ≡ Some u) × (stepping u n rows (step s r) ≡ None)
+tell-some s n r rows None h = absurd (cc)
+tell-some s n r rows (Some u) h = (u, refl, h)
+
+-- a row that was taken, and the others
+record Stepped (v : Told) (s : Reading) (n : ℕ) (r : Row) (rows : List Row) : Type 0 where
+  told : Told
+  reading : Reading
+  tells : told_after v r ≡ Some told
+  goes : step s r ≡ Some reading
+  others : first_stray told reading (n + 1) rows ≡ None
+
+stepped : (v : Told) (s : Reading) (n : ℕ) (r : Row) (rows : List Row) → first_stray v s n (r ∷ rows) ≡ None → Stepped v s n r rows
+stepped v s n r rows h =
+    let one = tell-some s n r rows (told_after v r) h in
+    let two = step-some one.0 n rows (step s r) one.2 in
+    record { told = one.0; reading = two.0; tells = one.1; goes = two.1; others = two.2 }
 
 -- reports that begin with these rows
 record Found (ended : Bool) (rows : List Row) : Type 0 where
@@ -106,8 +127,8 @@ behind-at (Behind ∷ xs) zero h less = refl
 behind-at (Behind ∷ xs) (suc k) h less = behind-at xs k h (omega arith)
 
 whole-report : (s : Reading) (seen : List Row) (n k : ℕ) → Kept s seen → list_all is_behind s.places ≡ true → length s.places ≡ n → s.patterns ≡ k
-    → IsWholeReport (seen ++ End n k ∷ [])
-whole-report s seen n k kept all size total = record {
+    → told_by nothing_told (seen ++ End n k ∷ []) ≡ Some nothing_told → IsWholeReport (seen ++ End n k ∷ [])
+whole-report s seen n k kept all size total tells = record {
   body = seen;
   collections = n;
   whole = ap (λ m. seen ++ End n m ∷ []) (sym total ∙ kept.sum);
@@ -119,6 +140,7 @@ whole-report s seen n k kept all size total = record {
       (ap (λ m. run Before (rows_of m seen)) (sym number) ∙ kept.places (c - 1) ∙ ap (λ (w : Place). Some w) (behind-at s.places (c - 1) all inside)));
   few = omega (arith, kept.few, size);
   fits = (let e : patterns_in seen ≡ s.patterns = sym kept.sum in omega (arith, kept.fits, e));
+  tells = tells;
 }
 
 ended-step : (s t : Reading) (n k : ℕ) → end_step s n k ≡ Some t
@@ -145,62 +167,75 @@ carried t ended seen r rows f e = record {
   some = λ _. f.some e;
 }
 
-found : (s : Reading) (n : ℕ) (seen rows : List Row) → Kept s seen → (s.ended ≡ true → seen ≡ []) → first_stray s n rows ≡ None → Found s.ended (seen ++ rows)
-found s n seen [] kept none h =
-    let on : (v : Bool) → s.ended ≡ v → (if v then None else Some n) ≡ None → Found v (seen ++ []) =
-    λ v. elim v as (λ v. s.ended ≡ v → (if v then None else Some n) ≡ None → Found v (seen ++ [])) [
+found : (v : Told) (s : Reading) (n : ℕ) (seen rows : List Row) → Kept s seen → told_by nothing_told seen ≡ Some v → (s.ended ≡ true → seen ≡ [])
+    → first_stray v s n rows ≡ None → Found s.ended (seen ++ rows)
+found v s n seen [] kept told none h =
+    let on : (e : Bool) → s.ended ≡ e → (if e then None else Some n) ≡ None → Found e (seen ++ []) =
+    λ e. elim e as (λ e. s.ended ≡ e → (if e then None else Some n) ≡ None → Found e (seen ++ [])) [
       | true ↦ λ e k. record { reports = []; whole = append-nil seen ∙ none e; each = tt; some = λ f. absurd (cc (f)) }
       | false ↦ λ e k. absurd (cc)
     ] in
     on s.ended refl h
-found s n seen (End m k ∷ rows) kept none h =
-    let st = stepped s n (End m k) rows h in
-    let t = st.0 in
-    let e = ended-step s t m k st.1 in
-    let report = whole-report s seen m k kept e.0 e.1 e.2 in
+found v s n seen (End m k ∷ rows) kept told none h =
+    let st = stepped v s n (End m k) rows h in
+    let t = st.reading in
+    let e = ended-step s t m k st.goes in
+    let anew : st.told ≡ nothing_told = told-end v st.told m k st.tells in
+    let tells : told_by nothing_told (seen ++ End m k ∷ []) ≡ Some nothing_told =
+    told-more nothing_told v st.told seen (End m k) told st.tells ∙ ap (λ (w : Told). Some w) anew in
+    let report = whole-report s seen m k kept e.0 e.1 e.2 tells in
     let empty : t.places ≡ [] = ap (λ (w : Reading). w.places) e.3 in
     let nothing : t.patterns ≡ 0 = ap (λ (w : Reading). w.patterns) e.3 in
-    let others = found t (n + 1) [] rows (kept-none t empty nothing) (λ _. refl) st.2 in
+    let others = found nothing_told t (n + 1) [] rows (kept-none t empty nothing) refl (λ _. refl)
+    (subst (λ (w : Told). first_stray w t (n + 1) rows ≡ None) anew st.others) in
     record {
       reports = (seen ++ End m k ∷ []) ∷ others.reports;
       whole = sym (append_assoc seen (End m k ∷ []) rows) ∙ ap (λ w. (seen ++ End m k ∷ []) ++ w) others.whole;
       each = (report, others.each);
       some = λ _. omega arith;
     }
-found s n seen (Open c m name ∷ rows) kept none h =
-    let st = stepped s n (Open c m name) rows h in
-    let g = going s st.0 seen (Open c m name) kept st.1 in
-    carried st.0 s.ended seen (Open c m name) rows (found st.0 (n + 1) (seen ++ Open c m name ∷ []) rows g.0 (λ e. absurd (cc (e, g.1))) st.2) g.1
-found s n seen (Line c i o name ∷ rows) kept none h =
-    let st = stepped s n (Line c i o name) rows h in
-    let g = going s st.0 seen (Line c i o name) kept st.1 in
-    carried st.0 s.ended seen (Line c i o name) rows (found st.0 (n + 1) (seen ++ Line c i o name ∷ []) rows g.0 (λ e. absurd (cc (e, g.1))) st.2) g.1
-found s n seen (Part c i code k ∷ rows) kept none h =
-    let st = stepped s n (Part c i code k) rows h in
-    let g = going s st.0 seen (Part c i code k) kept st.1 in
-    carried st.0 s.ended seen (Part c i code k) rows (found st.0 (n + 1) (seen ++ Part c i code k ∷ []) rows g.0 (λ e. absurd (cc (e, g.1))) st.2) g.1
-found s n seen (Code c rule code k ∷ rows) kept none h =
-    let st = stepped s n (Code c rule code k) rows h in
-    let g = going s st.0 seen (Code c rule code k) kept st.1 in
-    carried st.0 s.ended seen (Code c rule code k) rows (found st.0 (n + 1) (seen ++ Code c rule code k ∷ []) rows g.0 (λ e. absurd (cc (e, g.1))) st.2) g.1
-found s n seen (Close c m a b d ∷ rows) kept none h =
-    let st = stepped s n (Close c m a b d) rows h in
-    let g = going s st.0 seen (Close c m a b d) kept st.1 in
-    carried st.0 s.ended seen (Close c m a b d) rows (found st.0 (n + 1) (seen ++ Close c m a b d ∷ []) rows g.0 (λ e. absurd (cc (e, g.1))) st.2) g.1
+found v s n seen (Open c m name ∷ rows) kept told none h =
+    let st = stepped v s n (Open c m name) rows h in
+    let g = going s st.reading seen (Open c m name) kept st.goes in
+    carried st.reading s.ended seen (Open c m name) rows
+    (found st.told st.reading (n + 1) (seen ++ Open c m name ∷ []) rows g.0 (told-more nothing_told v st.told seen (Open c m name) told st.tells) (λ e. absurd (cc (e, g.1))) st.others) g.1
+found v s n seen (Line c i o name ∷ rows) kept told none h =
+    let st = stepped v s n (Line c i o name) rows h in
+    let g = going s st.reading seen (Line c i o name) kept st.goes in
+    carried st.reading s.ended seen (Line c i o name) rows
+    (found st.told st.reading (n + 1) (seen ++ Line c i o name ∷ []) rows g.0 (told-more nothing_told v st.told seen (Line c i o name) told st.tells) (λ e. absurd (cc (e, g.1))) st.others) g.1
+found v s n seen (Part c i code k ∷ rows) kept told none h =
+    let st = stepped v s n (Part c i code k) rows h in
+    let g = going s st.reading seen (Part c i code k) kept st.goes in
+    carried st.reading s.ended seen (Part c i code k) rows
+    (found st.told st.reading (n + 1) (seen ++ Part c i code k ∷ []) rows g.0 (told-more nothing_told v st.told seen (Part c i code k) told st.tells) (λ e. absurd (cc (e, g.1))) st.others) g.1
+found v s n seen (Code c rule code k ∷ rows) kept told none h =
+    let st = stepped v s n (Code c rule code k) rows h in
+    let g = going s st.reading seen (Code c rule code k) kept st.goes in
+    carried st.reading s.ended seen (Code c rule code k) rows
+    (found st.told st.reading (n + 1) (seen ++ Code c rule code k ∷ []) rows g.0 (told-more nothing_told v st.told seen (Code c rule code k) told st.tells) (λ e. absurd (cc (e, g.1))) st.others) g.1
+found v s n seen (Close c m a b d ∷ rows) kept told none h =
+    let st = stepped v s n (Close c m a b d) rows h in
+    let g = going s st.reading seen (Close c m a b d) kept st.goes in
+    carried st.reading s.ended seen (Close c m a b d) rows
+    (found st.told st.reading (n + 1) (seen ++ Close c m a b d ∷ []) rows g.0 (told-more nothing_told v st.told seen (Close c m a b d) told st.tells) (λ e. absurd (cc (e, g.1))) st.others) g.1
 
-pub reports-sound : (rows : List Row) → first_stray initial_reading 1 rows ≡ None → AreReports rows
+pub reports-sound : (rows : List Row) → first_stray nothing_told initial_reading 1 rows ≡ None → AreReports rows
 reports-sound rows h =
-    let f = found initial_reading 1 [] rows (kept-none initial_reading refl refl) (λ e. refl) h in
+    let f = found nothing_told initial_reading 1 [] rows (kept-none initial_reading refl refl) refl (λ e. refl) h in
     record { reports = f.reports; some = f.some refl; whole = f.whole; each = f.each }
 
 -- # From reports to steps
 
 -- rows of a body are taken
-body : (s : Reading) (n : ℕ) (seen rows rest : List Row) (most : ℕ) → Kept s seen → AreOfCollections most rows → most ≤ count_limit
+body : (v w : Told) (s : Reading) (n : ℕ) (seen rows rest : List Row) (most : ℕ) → told_by v rows ≡ Some w → Kept s seen → AreOfCollections most rows → most ≤ count_limit
     → ((c : ℕ) → 0 < c → c ≤ most → (z : Place) × (run Before (rows_of c (seen ++ rows)) ≡ Some z)) → patterns_in (seen ++ rows) < 2 ^ 64
-    → (t : Reading) × (m : ℕ) × Kept t (seen ++ rows) × (first_stray s n (rows ++ rest) ≡ first_stray t m rest)
-body s n seen [] rest most kept owned few runs fits = (s, n, rw append-nil kept, refl)
-body s n seen (r ∷ rows) rest most kept owned few runs fits =
+    → (t : Reading) × (m : ℕ) × Kept t (seen ++ rows) × (first_stray v s n (rows ++ rest) ≡ first_stray w t m rest)
+body v w s n seen [] rest most told kept owned few runs fits =
+    let same : v ≡ w = (let e : Some v ≡ Some w = told in cc) in
+    (s, n, rw append-nil kept, ap (λ x. first_stray x s n rest) same)
+body v w s n seen (r ∷ rows) rest most told kept owned few runs fits =
+    let first = told-first v w r rows told in
     let c = collection_of r in
     let number : (c - 1) + 1 ≡ c = omega (arith, owned.0) in
     let whole = runs c owned.0 owned.1 in
@@ -213,12 +248,12 @@ body s n seen (r ∷ rows) rest most kept owned few runs fits =
     let t : Reading = record { places = with_place s.places (c - 1) goes.0; patterns = s.patterns + patterns_opened r; ended = false } in
     let is : step s r ≡ Some t = section-is-step s r owned.0 ∙ taking s r goes.0 owned.0 high goes.1 small in
     let assoc : (seen ++ r ∷ []) ++ rows ≡ seen ++ r ∷ rows = append_assoc seen (r ∷ []) rows in
-    let others = body t (n + 1) (seen ++ r ∷ []) rows rest most (kept-step s seen r goes.0 kept owned.0 high goes.1 small) owned.2 few
+    let others = body first.0 w t (n + 1) (seen ++ r ∷ []) rows rest most first.2 (kept-step s seen r goes.0 kept owned.0 high goes.1 small) owned.2 few
     (λ d low most_d. (let z = runs d low most_d in (z.0, ap (λ w. run Before (rows_of d w)) assoc ∙ z.1))) (rw assoc fits) in (
       others.0,
       others.1,
       subst (λ w. Kept others.0 w) assoc others.2,
-      ap (λ (o : Option Reading). elim o as (λ _. Option ℕ) [ None ↦ Some n | Some u ↦ first_stray u (n + 1) (rows ++ rest) ]) is ∙ others.3,
+      ap (telling s n r (rows ++ rest)) first.1 ∙ ap (stepping first.0 n (rows ++ rest)) is ∙ others.3,
     )
 
 all-behind : (xs : List Place) → ((k : ℕ) → k < length xs → place_at xs k ≡ Behind) → list_all is_behind xs ≡ true
@@ -236,13 +271,14 @@ enough (x ∷ xs) (suc n) h = (let rest : n ≤ length xs = enough xs n (λ j le
 
 -- a report is taken, and what follows begins anew
 report : (s : Reading) (n : ℕ) (rows rest : List Row) → Kept s [] → IsWholeReport rows
-    → (m : ℕ) × (first_stray s n (rows ++ rest) ≡ first_stray (record { places = []; patterns = 0; ended = true }) m rest)
+    → (m : ℕ) × (first_stray nothing_told s n (rows ++ rest) ≡ first_stray nothing_told (record { places = []; patterns = 0; ended = true }) m rest)
 report s n rows rest kept is =
     let u : Reading = record { places = []; patterns = 0; ended = true } in
     let k = patterns_in is.body in
     let last = End is.collections k in
     let ended : (c : ℕ) → 0 < c → c ≤ is.collections → run Before (rows_of c is.body) ≡ Some Behind = λ c low high. section-complete (rows_of c is.body) (is.sections c low high) in
-    let b = body s n [] is.body (last ∷ rest) is.collections kept is.owned is.few (λ c low high. (Behind, ended c low high)) is.fits in
+    let told = told-last nothing_told nothing_told is.body last (sym (ap (told_by nothing_told) is.whole) ∙ is.tells) in
+    let b = body nothing_told told.0 s n [] is.body (last ∷ rest) is.collections told.1 kept is.owned is.few (λ c low high. (Behind, ended c low high)) is.fits in
     let t = b.0 in
     let here : (j : ℕ) → j < is.collections → place_at t.places j ≡ Behind = λ j less.
     (let e1 : run Before (rows_of (j + 1) is.body) ≡ Some Behind = ended (j + 1) (omega arith) (omega arith) in
@@ -256,17 +292,17 @@ report s n rows rest kept is =
     both-and _ _ all (both-and _ _ (eq-eqb _ _ size) (eq-eqb _ _ b.2.sum)) in
     let taken_end : step t last ≡ Some u = ap (λ v. if v then Some u else None) pass in (
       b.1 + 1,
-      ap (λ w. first_stray s n (w ++ rest)) is.whole ∙ ap (λ w. first_stray s n w) (append_assoc is.body (last ∷ []) rest) ∙ b.3
-          ∙ ap (λ (o : Option Reading). elim o as (λ _. Option ℕ) [ None ↦ Some b.1 | Some v ↦ first_stray v (b.1 + 1) rest ]) taken_end,
+      ap (λ w. first_stray nothing_told s n (w ++ rest)) is.whole ∙ ap (λ w. first_stray nothing_told s n w) (append_assoc is.body (last ∷ []) rest) ∙ b.3
+          ∙ ap (telling t b.1 last rest) told.2 ∙ ap (stepping nothing_told b.1 rest) taken_end,
     )
 
-several : (s : Reading) (n : ℕ) (reports : List (List Row)) → Kept s [] → AreWhole reports → (length reports ≡ 0 → s.ended ≡ true) → first_stray s n (all_rows reports) ≡ None
+several : (s : Reading) (n : ℕ) (reports : List (List Row)) → Kept s [] → AreWhole reports → (length reports ≡ 0 → s.ended ≡ true) → first_stray nothing_told s n (all_rows reports) ≡ None
 several s n [] kept each some = ap (λ v. if v then None else Some n) (some refl)
 several s n (rows ∷ reports) kept each some =
     let u : Reading = record { places = []; patterns = 0; ended = true } in
     let one = report s n rows (all_rows reports) kept each.0 in
     one.1 ∙ several u one.0 reports (kept-none u refl refl) each.1 (λ _. refl)
 
-pub reports-complete : (rows : List Row) → AreReports rows → first_stray initial_reading 1 rows ≡ None
+pub reports-complete : (rows : List Row) → AreReports rows → first_stray nothing_told initial_reading 1 rows ≡ None
 reports-complete rows is =
-    ap (first_stray initial_reading 1) is.whole ∙ several initial_reading 1 is.reports (kept-none initial_reading refl refl) is.each (λ e. absurd (omega (arith, e, is.some)))
+    ap (first_stray nothing_told initial_reading 1) is.whole ∙ several initial_reading 1 is.reports (kept-none initial_reading refl refl) is.each (λ e. absurd (omega (arith, e, is.some)))

@@ -9,3 +9,4 @@ pub mod Kept
 pub mod Interleaved
 pub mod Sorted
 pub mod Cutting
+pub mod Telling

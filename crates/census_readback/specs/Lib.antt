@@ -6,3 +6,7 @@ pub mod Shapes
 pub mod Runs
 pub mod Grouped
 pub mod Limits
+pub mod Rules
+pub mod Codes
+pub mod Lawful
+pub mod Told

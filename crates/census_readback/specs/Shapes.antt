@@ -1,11 +1,12 @@
 -- The shape of a report.
-use Rattle.std.specs.Prelude.{ℕ, ◌+◌, ◌<◌, ◌≤◌, ◌^◌, ◌≡◌, ◌==◌, if◌then◌else◌, Bool, true, false, List, [], ◌∷◌, ◌++◌, length, ⊤}
+use Rattle.std.specs.Prelude.{ℕ, ◌+◌, ◌<◌, ◌≤◌, ◌^◌, ◌≡◌, ◌==◌, if◌then◌else◌, Bool, true, false, Some, List, [], ◌∷◌, ◌++◌, length, ⊤}
 use Rattle.census_rows.specs.declared.row.Outcome.{Outcome}
 use Rattle.census_rows.specs.declared.row.Row.{Row}
 use Rattle.census_rows.specs.declared.row.Row.TheVariants.{Open, Line, Part, Code, Close, End}
 use Rattle.census_rows.specs.Kinds.{is_refused, is_resolved, is_unresolved, said}
 use Rattle.census_readback.specs.Steps.{collection_of, patterns_opened}
 use Rattle.census_readback.specs.Limits.{count_limit}
+use Rattle.census_readback.specs.Told.{nothing_told, told_by}
 
 -- the row is a `line` line, of which this is so
 abbrev pub is_line : (Outcome → Bool) → Row → Bool
@@ -67,7 +68,7 @@ patterns_in [] = 0
 patterns_in (row ∷ rows) = patterns_opened row + patterns_in rows
 
 -- The rows of a report: those of its collections' sections, interleaved in any way that keeps each section's order, and
--- then `end`.
+-- then `end`. Each is lawful by itself, the `part` rows behind a line tell all its objects, and no report has codes and objects.
 pub record IsWholeReport (rows : List Row) : Type 0 where
   pub body : List Row
   pub collections : ℕ
@@ -76,6 +77,7 @@ pub record IsWholeReport (rows : List Row) : Type 0 where
   pub sections : (c : ℕ) → 0 < c → c ≤ collections → IsSection (rows_of c body)
   pub few : collections ≤ count_limit
   pub fits : patterns_in body < 2 ^ 64
+  pub tells : told_by nothing_told rows ≡ Some nothing_told
 
 abbrev pub AreWhole : List (List Row) → Type 0
 AreWhole [] = ⊤

@@ -8,6 +8,7 @@ use Rattle.census_readback.specs.declared.place.Place.TheVariants.{Before, Withi
 use Rattle.census_readback.specs.declared.progress.Progress.{Progress}
 use Rattle.census_readback.specs.Sections.{place_after}
 use Rattle.census_readback.specs.Limits.{count_limit}
+use Rattle.census_readback.specs.Told.{Told, told_after}
 
 -- the collection that a row belongs to
 abbrev pub collection_of : Row → ℕ
@@ -79,8 +80,12 @@ step s (Code collection rule code count) = section_step s (Code collection rule 
 step s (Close collection patterns resolved unresolved refused) = section_step s (Close collection patterns resolved unresolved refused)
 step s (End collections patterns) = end_step s collections patterns
 
--- The number, from this one on, of the first row that may not stand where it does. Where all may, and the last is no
--- `end` row, it is that of the row that is missing.
-abbrev pub first_stray : Reading → ℕ → List Row → Option ℕ
-first_stray s number [] = if s.ended then Nothing else Some number
-first_stray s number (row ∷ rows) = elim (step s row) [ Nothing ↦ Some number | Some t ↦ first_stray t (number + 1) rows ]
+-- The number, from this one on, of the first row that may not stand where it does, or tells what no report tells there. Where
+-- none is so, and the last is no `end` row, it is that of the row that is missing.
+abbrev pub first_stray : Told → Reading → ℕ → List Row → Option ℕ
+first_stray told s number [] = if s.ended then Nothing else Some number
+first_stray told s number (row ∷ rows) =
+    elim (told_after told row) [
+      | Nothing ↦ Some number
+      | Some more ↦ elim (step s row) [ Nothing ↦ Some number | Some t ↦ first_stray more t (number + 1) rows ]
+    ]

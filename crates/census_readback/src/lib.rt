@@ -3,12 +3,17 @@
 //! Tested in `tests_reports`.
 #![tactic(auto)]
 
+mod code;
+mod lawful;
 mod limits;
 mod lines;
+mod names;
 mod place;
 mod progress;
 mod reading;
+mod rules;
 mod sectioning;
+mod told;
 
 pub use limits::COUNT_LIMIT;
 pub use reading::read_report;

@@ -2,3 +2,6 @@
 
 /// The most collections of a report, and the most patterns of a collection.
 pub const COUNT_LIMIT: u64 = 65_535;
+
+/// The most bytes of a name.
+pub const NAME_LIMIT: usize = 255;

@@ -3,30 +3,42 @@
 //! A report is the sections of its collections, which have the numbers from 1 on, interleaved line
 //! by line in any way that keeps each section's order, and then its `end` line. Several reports may
 //! stand one after the other. A section is its `open` line, the lines of its patterns in order, the
-//! `part` lines of an `ash` line after it, its `code` lines, and its `close` line. Numbers of
-//! collections and patterns are at most 65,535. Whether a name or a code is lawful, and whether the
-//! counts of `part` and `code` lines add up, is not looked at.
+//! `part` lines of an `ash` line right behind it, its `code` lines, and its `close` line. Numbers of
+//! collections and patterns are at most 65,535. Names are lawful, rules are as they are printed, codes
+//! begin as codes, that of an `ok` line as its period and displacement say, the `part` lines tell
+//! all objects of their line in the order of codes, and no report has `ok` and `ash` lines. What
+//! follows the `_` of a code, and whether the counts of `code` lines add up, is not looked at.
 ghost use Rattle.std.specs.Prelude.{◌≡◌, ◌+◌, ◌<◌, ◌^◌, ℕ, List, length, IfOk, MatchResult};
 ghost use Rattle.census_rows.specs.declared.row.Row.{Row};
 ghost use Rattle.census_readback.specs.Reports.{IsFault, ReadsAsReports};
 ghost use Rattle.census_readback.specs.Steps.{initial_reading, first_stray};
 ghost use Rattle.census_readback.specs.Texts.{SameRows};
+ghost use Rattle.census_readback.specs.Told.{nothing_told};
 
 use crate::lines::read_rows;
 use crate::progress::Progress;
+use crate::told::Told;
 use census_rows::Row;
 use std::alloc::{AllocError, Global};
 
-// The number, from 1, of the first row that may not stand where it does.
-fn first_stray(alloc: Global, rows: &[Row]) -> Result<Option<usize>, AllocError>
+// The number, from 1, of the first row that may not stand where it does, or tells what no report
+// tells there.
+fn first_stray<'a>(alloc: Global, rows: &[Row<'a>]) -> Result<Option<usize>, AllocError>
     requires { length rows.now < 2 ^ 63 }
-    ensures { IfOk result (λ number. number ≡ first_stray initial_reading 1 rows.now) }
+    ensures { IfOk result
+        (λ number. number ≡ first_stray nothing_told initial_reading 1 rows.now) }
 {
     let mut progress = Progress::start(alloc);
+    let mut told = Told::nothing();
     for index in 0..rows.len() {
-        if !progress.take(&rows[index])? {
+        let row = &rows[index];
+        let Some(more) = told.after(row) else {
+            return Ok(Some(index + 1));
+        };
+        if !progress.take(row)? {
             return Ok(Some(index + 1));
         }
+        told = more;
     }
     if progress.ended {
         Ok(None)
@@ -37,7 +49,7 @@ fn first_stray(alloc: Global, rows: &[Row]) -> Result<Option<usize>, AllocError>
 
 /// The rows of a report, or of several after one another. `Err` has the number of the first line,
 /// from 1, at which the text is no report: a line that is no row, a row that may not stand where it
-/// does, or the line that is missing after the last.
+/// does or tells what no report tells there, or the line that is missing after the last.
 pub fn read_report(alloc: Global, text: &[u8]) -> Result<Result<Vec<Row>, usize>, AllocError>
     ensures sound { IfOk result (λ read. MatchResult read
         (λ rows. ReadsAsReports rows.items text.now) (λ line. IsFault text.now line)) }

@@ -13,4 +13,7 @@ pub mod Grouped
 pub mod Counted
 pub mod Formed
 pub mod Ranged
+pub mod Ruled
+pub mod CodeStarts
+pub mod Whole
 pub mod Readable

@@ -82,7 +82,7 @@ patterns-fit question c i (e ∷ es) a b h =
       patterns-fit question c (suc i) es a (omega (arith, b)) h.1,
     )
 
-abbrev HasObjectCode : Object → Type 0
+abbrev pub HasObjectCode : Object → Type 0
 HasObjectCode o = 0 < length o.code
 
 parts-some : (rule : Rule) (parts : List part.Part) → Each IsCodedPart parts → Each HasObjectCode (part_objects rule parts)
@@ -96,7 +96,7 @@ outcome-some rule (Recurs onset period dx dy code) h = (h.0.1.1.1.1.0, tt)
 outcome-some rule (Ash parts) h = parts-some rule parts h.1
 outcome-some rule _ h = tt
 
-objects-some : (found : List Answer) → Each IsToldAnswer found → Each HasObjectCode (objects found)
+pub objects-some : (found : List Answer) → Each IsToldAnswer found → Each HasObjectCode (objects found)
 objects-some [] h = tt
 objects-some (Found rule finding ∷ found) h =
     each-append HasObjectCode (outcome_objects rule finding.outcome) (objects found) (outcome-some rule finding.outcome h.0.1) (objects-some found h.1)

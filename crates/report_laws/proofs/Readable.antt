@@ -9,6 +9,7 @@ use Rattle.census_format.specs.Reports.{IsReport, Owned, section, section_of}
 use Rattle.census_readback.specs.Shapes.{AreOfCollections, IsSection, IsWholeReport, all_rows, patterns_in, rows_of}
 use Rattle.census_readback.specs.Steps.{collection_of}
 use Rattle.census_readback.specs.Texts.{AllLines, IsLine}
+use Rattle.census_readback.specs.Told.{nothing_told, told_by}
 use Rattle.census_readback.proofs.Rows.{lines-more}
 use Rattle.census_rows.specs.declared.row.Row.{Row}
 use Rattle.census_rows.specs.declared.row.Row.TheVariants.{End}
@@ -25,6 +26,7 @@ use Rattle.report_laws.proofs.Parsed.{end-cut}
 use Rattle.report_laws.proofs.Ranged.{IsFit, rows-fit}
 use Rattle.report_laws.proofs.Rowed.{end-is}
 use Rattle.report_laws.proofs.Texts.{owned-rows}
+use Rattle.report_laws.proofs.Whole.{report-tells}
 use Rattle.census_rows.proofs.Texts.{text-append}
 
 -- the row stands on a line, and its collection is this one of so many
@@ -78,8 +80,9 @@ module _ (b : List Folder) (question : Question) (bundle : IsBundle b) (range : 
   abbrev the_end : Row
   the_end = End (length b) (pattern_count b)
 
-  whole-of : (body : List Row) → AreOfCollections (length b) body → ((c : ℕ) → rows_of c body ≡ all_rows (section b question c)) → IsWholeReport (body ++ the_end ∷ [])
-  whole-of body owned sections =
+  whole-of : (body : List Row) → AreOfCollections (length b) body → ((c : ℕ) → rows_of c body ≡ all_rows (section b question c))
+      → told_by nothing_told (body ++ the_end ∷ []) ≡ Some nothing_told → IsWholeReport (body ++ the_end ∷ [])
+  whole-of body owned sections tells =
       let counted = patterns-counted body b owned (λ k. ap patterns_in (sections (suc k)) ∙ opens-at question (suc k) (slice_get b k)) in
       let all = few-patterns b bundle.0 in
       record {
@@ -93,6 +96,7 @@ module _ (b : List Folder) (question : Question) (bundle : IsBundle b) (range : 
         ];
         few = bundle.0.folders;
         fits = omega (arith, counted, all);
+        tells = tells;
       }
 
   pub report-read : (text : List ℕ) → IsReport b question text → Readable text
@@ -115,7 +119,11 @@ module _ (b : List Folder) (question : Question) (bundle : IsBundle b) (range : 
             reports = rows ∷ [];
             some = omega arith;
             whole = sym (append-nil rows);
-            each = (whole-of body (placed-of (length b) body each) (λ c. rows-grouped c report.groups own ∙ ap all_rows (report.sections c)), tt);
+            each = (
+              whole-of body (placed-of (length b) body each) (λ c. rows-grouped c report.groups own ∙ ap all_rows (report.sections c))
+                  (report-tells b question report.groups (length b) (pattern_count b) bundle range report.sections),
+              tt,
+            );
           };
         };
       }

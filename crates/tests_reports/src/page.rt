@@ -4,40 +4,48 @@ use census_page::page;
 use census_readback::read_report;
 use std::alloc::{AllocError, Global};
 
-// Two collections that interleave, with each status, and names with markup, quotes, an entity, and
-// bytes that are not UTF-8. The second has one pattern, which can't be read.
+// Two collections that interleave, and a second report, with each status, and names with markup,
+// quotes, an entity, and bytes that are not UTF-8. The second collection has one pattern, which
+// can't be read.
 const REPORT: &[u8] = b"open 2 1 \xc3
-open 1 8 <script>alert('1')</script>
+open 1 7 <script>alert('1')</script>
 line 2 1 bad 0 last
 line 1 1 ok B3/S23 5 0 4 1 1 xq4_153 a \"glider\"
-line 1 2 ash B3/S23 6 3 lt&lt;
-part 1 2 xs4_33 2
-part 1 2 xq4_153 1
-line 1 3 none B3/S23 5 a>b
-line 1 4 large B36/S23 5 100 \xd7\x90\xe2\x80\xae
-line 1 5 bad 10 broken
+line 1 2 none B3/S23 5 a>b
+line 1 3 large B36/S23 5 100 \xd7\x90\xe2\x80\xae
+line 1 4 bad 10 broken
 close 2 1 0 0 1
-line 1 6 ok B3/S23 4 0 1 0 0 xs4_33 n\xff\xc3\xa9
-line 1 7 ok B36/S23 4 0 1 0 0 xs4_33 other rule
-line 1 8 ok B3/S23 0 0 1 0 0 xs0_A no text
-code 1 B3/S23 xq4_153 2
-code 1 B3/S23 xs4_33 3
+line 1 5 ok B3/S23 4 0 1 0 0 xs4_33 n\xff\xc3\xa9
+line 1 6 ok B36/S23 4 0 1 0 0 xs4_33 other rule
+line 1 7 ok B3/S23 0 0 1 0 0 xs0_A no text
+code 1 B3/S23 xq4_153 1
+code 1 B3/S23 xs4_33 1
 code 1 B36/S23 xs4_33 1
 code 1 B3/S23 xs0_A 1
-close 1 8 5 2 1
-end 2 9
+close 1 7 4 2 1
+end 2 8
+open 1 2 apart
+line 1 1 ash B3/S23 13 3 lt&lt;
+part 1 1 xs4_33 2
+part 1 1 xq4_153 1
+line 1 2 ash B3/S23 4 1 one
+part 1 2 xs4_33 1
+code 1 B3/S23 xs4_33 3
+code 1 B3/S23 xq4_153 1
+close 1 2 2 0 0
+end 1 2
 ";
 
 const BODY: &str = "<body>
 <h1>Census</h1>
 <section>
 <h2><bdi>&lt;script&gt;alert(&#39;1&#39;)&lt;/script&gt;</bdi></h2>
-<p>8 patterns: 5 resolved, 2 unresolved, 1 refused</p>
+<p>7 patterns: 4 resolved, 2 unresolved, 1 refused</p>
 <table>
 <thead><tr><th>Picture</th><th>Rule</th><th>Code</th><th>Count</th><th>Patterns</th></tr></thead>
 <tbody>
-<tr><td><svg viewBox=\"0 0 3 3\" width=\"24\" aria-hidden=\"true\"><path d=\"M0 0h1v1h-1zM1 0h1v1h-1zM2 0h1v1h-1zM2 1h1v1h-1zM1 2h1v1h-1z\"/></svg></td><td><bdi>B3/S23</bdi></td><td><code><bdi>xq4_153</bdi></code></td><td>2</td><td><ul><li><bdi>a &quot;glider&quot;</bdi></li><li><bdi>lt&amp;lt;</bdi></li></ul></td></tr>
-<tr><td><svg viewBox=\"0 0 2 2\" width=\"16\" aria-hidden=\"true\"><path d=\"M0 0h1v1h-1zM1 0h1v1h-1zM0 1h1v1h-1zM1 1h1v1h-1z\"/></svg></td><td><bdi>B3/S23</bdi></td><td><code><bdi>xs4_33</bdi></code></td><td>3</td><td><ul><li><bdi>lt&amp;lt;</bdi></li><li><bdi>n\u{fffd}\u{e9}</bdi></li></ul></td></tr>
+<tr><td><svg viewBox=\"0 0 3 3\" width=\"24\" aria-hidden=\"true\"><path d=\"M0 0h1v1h-1zM1 0h1v1h-1zM2 0h1v1h-1zM2 1h1v1h-1zM1 2h1v1h-1z\"/></svg></td><td><bdi>B3/S23</bdi></td><td><code><bdi>xq4_153</bdi></code></td><td>1</td><td><ul><li><bdi>a &quot;glider&quot;</bdi></li></ul></td></tr>
+<tr><td><svg viewBox=\"0 0 2 2\" width=\"16\" aria-hidden=\"true\"><path d=\"M0 0h1v1h-1zM1 0h1v1h-1zM0 1h1v1h-1zM1 1h1v1h-1z\"/></svg></td><td><bdi>B3/S23</bdi></td><td><code><bdi>xs4_33</bdi></code></td><td>1</td><td><ul><li><bdi>n\u{fffd}\u{e9}</bdi></li></ul></td></tr>
 <tr><td><svg viewBox=\"0 0 2 2\" width=\"16\" aria-hidden=\"true\"><path d=\"M0 0h1v1h-1zM1 0h1v1h-1zM0 1h1v1h-1zM1 1h1v1h-1z\"/></svg></td><td><bdi>B36/S23</bdi></td><td><code><bdi>xs4_33</bdi></code></td><td>1</td><td><ul><li><bdi>other rule</bdi></li></ul></td></tr>
 <tr><td></td><td><bdi>B3/S23</bdi></td><td><code><bdi>xs0_A</bdi></code></td><td>1</td><td><ul><li><bdi>no text</bdi></li></ul></td></tr>
 </tbody>
@@ -56,6 +64,17 @@ const BODY: &str = "<body>
 <ul>
 <li><bdi>last</bdi>: refused, could not be read</li>
 </ul>
+</section>
+<section>
+<h2><bdi>apart</bdi></h2>
+<p>2 patterns: 2 resolved, 0 unresolved, 0 refused</p>
+<table>
+<thead><tr><th>Picture</th><th>Rule</th><th>Code</th><th>Count</th><th>Patterns</th></tr></thead>
+<tbody>
+<tr><td><svg viewBox=\"0 0 2 2\" width=\"16\" aria-hidden=\"true\"><path d=\"M0 0h1v1h-1zM1 0h1v1h-1zM0 1h1v1h-1zM1 1h1v1h-1z\"/></svg></td><td><bdi>B3/S23</bdi></td><td><code><bdi>xs4_33</bdi></code></td><td>3</td><td><ul><li><bdi>lt&amp;lt;</bdi></li><li><bdi>one</bdi></li></ul></td></tr>
+<tr><td><svg viewBox=\"0 0 3 3\" width=\"24\" aria-hidden=\"true\"><path d=\"M0 0h1v1h-1zM1 0h1v1h-1zM2 0h1v1h-1zM2 1h1v1h-1zM1 2h1v1h-1z\"/></svg></td><td><bdi>B3/S23</bdi></td><td><code><bdi>xq4_153</bdi></code></td><td>1</td><td><ul><li><bdi>lt&amp;lt;</bdi></li></ul></td></tr>
+</tbody>
+</table>
 </section>
 </body>
 </html>

@@ -20,12 +20,14 @@ end 1 5
 // Sections that interleave, and a second report.
 const OBJECTS: &[u8] = b"open 2 1 b
 open 1 2 a
-line 2 1 ash B3/S23 5 25 r
-line 1 1 ash B3/S23 6 2 two
+line 2 1 ash B3/S23 5 12 r
 part 2 1 xp2_7 4
-part 1 1 xs4_33 2
-line 1 2 large B3/S23 5 100 wide
 part 2 1 xs4_33 8
+line 1 1 ash B3/S23 6 2 two
+part 1 1 xs4_33 2
+code 2 B3/S23 xp2_7 4
+line 1 2 large B3/S23 5 100 wide
+code 1 B3/S23 xs4_33 2
 code 2 B3/S23 xs4_33 8
 close 1 2 1 1 0
 close 2 1 1 0 0
@@ -99,6 +101,155 @@ const FAULTS: &[(&[u8], usize)] = &[
     (b"open 1 0 x\nclose 1 0 0 0 0\nend 1 1\n", 3),
     (b"open 1 0 x\nclose 1 0 0 0 0\nend 1 0\n", 0),
     (b"open 65536 0 x\n", 1),
+    // Names that no collection and no pattern has.
+    (
+        b"end 0 0\nopen 1 0 a\x1b[31m\nclose 1 0 0 0 0\nend 1 0\n",
+        2,
+    ),
+    (b"open 1 0 \nclose 1 0 0 0 0\nend 1 0\n", 1),
+    (b"open 1 0 a \nclose 1 0 0 0 0\nend 1 0\n", 1),
+    (
+        b"open 1 1 a\nline 1 1 bad 1  b\nclose 1 1 0 0 1\nend 1 1\n",
+        2,
+    ),
+    (
+        b"open 1 1 a\nline 1 1 bad 1 b\x7f\nclose 1 1 0 0 1\nend 1 1\n",
+        2,
+    ),
+    // A pattern that comes again beside one that has fallen apart.
+    (
+        b"open 1 2 a\nline 1 1 ok B3/S23 4 0 1 0 0 xs4_33 b\nline 1 2 ash B3/S23 0 0 c\n",
+        3,
+    ),
+    (
+        b"open 1 2 a\nline 1 1 ash B3/S23 0 0 b\nline 1 2 ok B3/S23 4 0 1 0 0 xs4_33 c\n",
+        3,
+    ),
+    // Each report has its own question.
+    (
+        b"open 1 1 a\nline 1 1 ash B3/S23 0 0 b\nclose 1 1 1 0 0\nend 1 1\nopen 1 1 a\nline 1 1 ok B3/S23 0 0 1 0 0 xs0_0 b\nclose 1 1 1 0 0\nend 1 1\n",
+        0,
+    ),
+    // Objects that no part tells, and parts that are too many, twice the same, or out of order.
+    (
+        b"open 1 1 a\nline 1 1 ash B3/S23 8 2 b\npart 1 1 xs4_33 1\nclose 1 1 1 0 0\nend 1 1\n",
+        4,
+    ),
+    (
+        b"open 1 1 a\nline 1 1 ash B3/S23 8 2 b\nclose 1 1 1 0 0\nend 1 1\n",
+        3,
+    ),
+    (
+        b"open 1 1 a\nline 1 1 ash B3/S23 8 1 b\npart 1 1 xs4_33 2\n",
+        3,
+    ),
+    (
+        b"open 1 1 a\nline 1 1 ash B3/S23 8 2 b\npart 1 1 xs4_33 0\n",
+        3,
+    ),
+    (
+        b"open 1 1 a\nline 1 1 ash B3/S23 8 2 b\npart 1 1 xs4_33 1\npart 1 1 xs4_33 1\n",
+        4,
+    ),
+    (
+        b"open 1 1 a\nline 1 1 ash B3/S23 8 2 b\npart 1 1 xs4_33 1\npart 1 1 xp2_7 1\n",
+        4,
+    ),
+    (
+        b"open 1 1 a\nline 1 1 ash B3/S23 8 2 b\npart 1 1 xs4_33 1\npart 1 1 xs6_696 1\nclose 1 1 1 0 0\nend 1 1\n",
+        0,
+    ),
+    (
+        b"open 1 1 a\nline 1 1 ash B3/S23 8 1 b\npart 1 1 xs4_33 1\ncode 1 B3/S23 xs4_33 0\n",
+        4,
+    ),
+    // Rules that are not printed so.
+    (b"open 1 1 a\nline 1 1 none B9 4 b\n", 2),
+    (b"open 1 1 a\nline 1 1 none B3/S32 4 b\n", 2),
+    (b"open 1 1 a\nline 1 1 none B03/S23 4 b\n", 2),
+    (b"open 1 1 a\nline 1 1 none b3/s23 4 b\n", 2),
+    (
+        b"open 1 1 a\nline 1 1 ok B3/S23 4 0 1 0 0 xs4_33 b\ncode 1 B33/S23 xs4_33 1\n",
+        3,
+    ),
+    (
+        b"open 1 1 a\nline 1 1 none B12345678/S012345678 4 b\nclose 1 1 0 1 0\nend 1 1\n",
+        0,
+    ),
+    (
+        b"open 1 1 a\nline 1 1 none B/S 4 b\nclose 1 1 0 1 0\nend 1 1\n",
+        0,
+    ),
+    // Codes that are none, or not those of such a period and displacement.
+    (
+        b"open 1 1 a\nline 1 1 ok B3/S23 4 0 1 0 0 xs4_33 b\nclose 1 1 1 0 0\nend 1 1\n",
+        0,
+    ),
+    (
+        b"open 1 1 a\nline 1 1 ok B3/S23 4 0 15 0 0 xs4_33 b\nclose 1 1 1 0 0\nend 1 1\n",
+        2,
+    ),
+    (
+        b"open 1 1 a\nline 1 1 ok B3/S23 4 0 0 0 0 xs4_33 b\nclose 1 1 1 0 0\nend 1 1\n",
+        2,
+    ),
+    (
+        b"open 1 1 a\nline 1 1 ok B3/S23 4 0 1 1 0 xs4_33 b\nclose 1 1 1 0 0\nend 1 1\n",
+        2,
+    ),
+    (
+        b"open 1 1 a\nline 1 1 ok B3/S23 4 0 2 0 0 xp2_7 b\nclose 1 1 1 0 0\nend 1 1\n",
+        0,
+    ),
+    (
+        b"open 1 1 a\nline 1 1 ok B3/S23 4 0 2 0 0 xp3_7 b\nclose 1 1 1 0 0\nend 1 1\n",
+        2,
+    ),
+    (
+        b"open 1 1 a\nline 1 1 ok B3/S23 4 0 1 0 0 xp1_7 b\nclose 1 1 1 0 0\nend 1 1\n",
+        2,
+    ),
+    (
+        b"open 1 1 a\nline 1 1 ok B3/S23 4 0 2 1 0 xp2_7 b\nclose 1 1 1 0 0\nend 1 1\n",
+        2,
+    ),
+    (
+        b"open 1 1 a\nline 1 1 ok B3/S23 4 0 4 1 1 xq4_153 b\nclose 1 1 1 0 0\nend 1 1\n",
+        0,
+    ),
+    (
+        b"open 1 1 a\nline 1 1 ok B3/S23 4 0 4 1 1 xq04_153 b\nclose 1 1 1 0 0\nend 1 1\n",
+        2,
+    ),
+    (
+        b"open 1 1 a\nline 1 1 ok B3/S23 4 0 4 0 0 xq4_153 b\nclose 1 1 1 0 0\nend 1 1\n",
+        2,
+    ),
+    (
+        b"open 1 1 a\nline 1 1 ok B3/S23 4 0 1 0 0 xr4_33 b\nclose 1 1 1 0 0\nend 1 1\n",
+        2,
+    ),
+    (
+        b"open 1 1 a\nline 1 1 ok B3/S23 4 0 1 0 0 xs4 b\nclose 1 1 1 0 0\nend 1 1\n",
+        2,
+    ),
+    (
+        b"open 1 1 a\nline 1 1 ash B3/S23 8 1 b\npart 1 1 block 1\n",
+        3,
+    ),
+    (
+        b"open 1 1 a\nline 1 1 ok B3/S23 4 0 1 0 0 xs4_33 b\ncode 1 B3/S23 33 1\n",
+        3,
+    ),
+    // Parts that stand behind a line of another collection.
+    (
+        b"open 1 1 a\nopen 2 1 b\nline 1 1 ash B3/S23 4 1 c\nline 2 1 none B3/S23 4 d\n",
+        4,
+    ),
+    (
+        b"open 1 1 a\nopen 2 1 b\nline 1 1 ash B3/S23 4 0 c\nline 2 1 ash B3/S23 4 1 d\npart 1 1 xs4_33 1\n",
+        5,
+    ),
 ];
 
 #[test]
@@ -114,7 +265,7 @@ fn rows_come_by_their_collections(rt: HostRuntime) -> Result<(), AllocError> {
     let told = match &read_report(rt.alloc(), OBJECTS)? {
         Ok(rows) => {
             let lists = collections(rt.alloc(), rows.as_slice())?;
-            lists.len() == 2 && lists[0].len() == 5 && lists[1].len() == 6
+            lists.len() == 2 && lists[0].len() == 6 && lists[1].len() == 7
         }
         Err(_) => false,
     };

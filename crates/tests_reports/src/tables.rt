@@ -8,52 +8,57 @@ use std::alloc::{AllocError, Global};
 use std::test::Fail;
 use watched::Watched;
 
-// Two collections that interleave, with each status, and names with a blank, quotes, a comma, and
-// bytes that are not UTF-8.
+// Two collections that interleave, and a second report, with each status, and names with a blank,
+// quotes, a comma, and bytes that are not UTF-8.
 const REPORT: &[u8] = b"open 2 1 \xc3
-open 1 6 col,1
+open 1 5 col,1
 line 2 1 bad 3 last
 line 1 1 ok B3/S23 5 0 4 -1 1 xq4_153 a glider
-line 1 2 ash B3/S23 6 2 say \"hi\"
-part 1 2 xs4_33 2
-line 1 3 none B3/S23 5 a,b
-line 1 4 large B36/S23 5 100 wide
-line 1 5 bad 10 broken
+line 1 2 none B3/S23 5 a,b
+line 1 3 large B36/S23 5 100 wide
+line 1 4 bad 10 broken
 close 2 1 0 0 1
-line 1 6 ok B3/S23 4 0 1 0 0 xs4_33 n\xff\xc3\xa9
+line 1 5 ok B3/S23 4 0 1 0 0 xs4_33 n\xff\xc3\xa9
 code 1 B3/S23 xq4_153 1
-close 1 6 3 2 1
-end 2 7
+code 1 B3/S23 xs4_33 1
+close 1 5 2 2 1
+end 2 6
+open 1 1 apart
+line 1 1 ash B3/S23 8 2 say \"hi\"
+part 1 1 xs4_33 2
+code 1 B3/S23 xs4_33 2
+close 1 1 1 0 0
+end 1 1
 ";
 
 const CSV: &str =
     "collection,collection_name,pattern,name,status,rule,population,onset,period,dx,dy,code,fault,collection_name_hex,name_hex,objects,generation
 1,\"col,1\",1,a glider,ok,B3/S23,5,0,4,-1,1,xq4_153,,,,,
-1,\"col,1\",2,\"say \"\"hi\"\"\",ash,B3/S23,6,,,,,,,,,2,
-1,\"col,1\",3,\"a,b\",none,B3/S23,5,,,,,,,,,,
-1,\"col,1\",4,wide,large,B36/S23,5,,,,,,,,,,100
-1,\"col,1\",5,broken,bad,,,,,,,,10,,,,
-1,\"col,1\",6,n\u{fffd}\u{e9},ok,B3/S23,4,0,1,0,0,xs4_33,,,6effc3a9,,
+1,\"col,1\",2,\"a,b\",none,B3/S23,5,,,,,,,,,,
+1,\"col,1\",3,wide,large,B36/S23,5,,,,,,,,,,100
+1,\"col,1\",4,broken,bad,,,,,,,,10,,,,
+1,\"col,1\",5,n\u{fffd}\u{e9},ok,B3/S23,4,0,1,0,0,xs4_33,,,6effc3a9,,
 2,\u{fffd},1,last,bad,,,,,,,,3,c3,,,
+3,apart,1,\"say \"\"hi\"\"\",ash,B3/S23,8,,,,,,,,,2,
 ";
 
 const JSON: &str =
     "{\"code\":\"xq4_153\",\"collection\":1,\"collection_name\":\"col,1\",\"collection_name_hex\":null,\"dx\":-1,\"dy\":1,\"fault\":null,\"generation\":null,\"name\":\"a glider\",\"name_hex\":null,\"objects\":null,\"onset\":0,\"pattern\":1,\"period\":4,\"population\":5,\"rule\":\"B3/S23\",\"status\":\"ok\"}
-{\"code\":null,\"collection\":1,\"collection_name\":\"col,1\",\"collection_name_hex\":null,\"dx\":null,\"dy\":null,\"fault\":null,\"generation\":null,\"name\":\"say \\\"hi\\\"\",\"name_hex\":null,\"objects\":2,\"onset\":null,\"pattern\":2,\"period\":null,\"population\":6,\"rule\":\"B3/S23\",\"status\":\"ash\"}
-{\"code\":null,\"collection\":1,\"collection_name\":\"col,1\",\"collection_name_hex\":null,\"dx\":null,\"dy\":null,\"fault\":null,\"generation\":null,\"name\":\"a,b\",\"name_hex\":null,\"objects\":null,\"onset\":null,\"pattern\":3,\"period\":null,\"population\":5,\"rule\":\"B3/S23\",\"status\":\"none\"}
-{\"code\":null,\"collection\":1,\"collection_name\":\"col,1\",\"collection_name_hex\":null,\"dx\":null,\"dy\":null,\"fault\":null,\"generation\":100,\"name\":\"wide\",\"name_hex\":null,\"objects\":null,\"onset\":null,\"pattern\":4,\"period\":null,\"population\":5,\"rule\":\"B36/S23\",\"status\":\"large\"}
-{\"code\":null,\"collection\":1,\"collection_name\":\"col,1\",\"collection_name_hex\":null,\"dx\":null,\"dy\":null,\"fault\":10,\"generation\":null,\"name\":\"broken\",\"name_hex\":null,\"objects\":null,\"onset\":null,\"pattern\":5,\"period\":null,\"population\":null,\"rule\":null,\"status\":\"bad\"}
-{\"code\":\"xs4_33\",\"collection\":1,\"collection_name\":\"col,1\",\"collection_name_hex\":null,\"dx\":0,\"dy\":0,\"fault\":null,\"generation\":null,\"name\":\"n\u{fffd}\u{e9}\",\"name_hex\":\"6effc3a9\",\"objects\":null,\"onset\":0,\"pattern\":6,\"period\":1,\"population\":4,\"rule\":\"B3/S23\",\"status\":\"ok\"}
+{\"code\":null,\"collection\":1,\"collection_name\":\"col,1\",\"collection_name_hex\":null,\"dx\":null,\"dy\":null,\"fault\":null,\"generation\":null,\"name\":\"a,b\",\"name_hex\":null,\"objects\":null,\"onset\":null,\"pattern\":2,\"period\":null,\"population\":5,\"rule\":\"B3/S23\",\"status\":\"none\"}
+{\"code\":null,\"collection\":1,\"collection_name\":\"col,1\",\"collection_name_hex\":null,\"dx\":null,\"dy\":null,\"fault\":null,\"generation\":100,\"name\":\"wide\",\"name_hex\":null,\"objects\":null,\"onset\":null,\"pattern\":3,\"period\":null,\"population\":5,\"rule\":\"B36/S23\",\"status\":\"large\"}
+{\"code\":null,\"collection\":1,\"collection_name\":\"col,1\",\"collection_name_hex\":null,\"dx\":null,\"dy\":null,\"fault\":10,\"generation\":null,\"name\":\"broken\",\"name_hex\":null,\"objects\":null,\"onset\":null,\"pattern\":4,\"period\":null,\"population\":null,\"rule\":null,\"status\":\"bad\"}
+{\"code\":\"xs4_33\",\"collection\":1,\"collection_name\":\"col,1\",\"collection_name_hex\":null,\"dx\":0,\"dy\":0,\"fault\":null,\"generation\":null,\"name\":\"n\u{fffd}\u{e9}\",\"name_hex\":\"6effc3a9\",\"objects\":null,\"onset\":0,\"pattern\":5,\"period\":1,\"population\":4,\"rule\":\"B3/S23\",\"status\":\"ok\"}
 {\"code\":null,\"collection\":2,\"collection_name\":\"\u{fffd}\",\"collection_name_hex\":\"c3\",\"dx\":null,\"dy\":null,\"fault\":3,\"generation\":null,\"name\":\"last\",\"name_hex\":null,\"objects\":null,\"onset\":null,\"pattern\":1,\"period\":null,\"population\":null,\"rule\":null,\"status\":\"bad\"}
+{\"code\":null,\"collection\":3,\"collection_name\":\"apart\",\"collection_name_hex\":null,\"dx\":null,\"dy\":null,\"fault\":null,\"generation\":null,\"name\":\"say \\\"hi\\\"\",\"name_hex\":null,\"objects\":2,\"onset\":null,\"pattern\":1,\"period\":null,\"population\":8,\"rule\":\"B3/S23\",\"status\":\"ash\"}
 ";
 
 // The collections of `PARTS`, which are those of two reports, with one of no collection between them.
 const PARTS_CSV: &str =
     "collection,collection_name,pattern,name,status,rule,population,onset,period,dx,dy,code,fault,collection_name_hex,name_hex,objects,generation
-1,a,1,a block,ok,B3/S23,4,0,1,0,0,xs4_33,,,,,
-2,b,1,r,ash,B3/S23,5,,,,,,,,,25,
+1,a,1,a block,ash,B3/S23,4,,,,,,,,,1,
+2,b,1,r,ash,B3/S23,5,,,,,,,,,4,
 3,c,1,broken,bad,,,,,,,,10,,,,
-3,c,2,d,ok,B36/S23,4,0,1,0,0,xs4_33,,,,,
+3,c,2,d,ash,B36/S23,4,,,,,,,,,1,
 ";
 
 // The table of a report.

@@ -1,0 +1,89 @@
+//! What a row of a lawful report says by itself.
+ghost use Rattle.std.specs.Prelude.{◌≡◌};
+ghost use Rattle.std.specs.Option.{option_copied};
+ghost use Rattle.census_rows.specs.Kinds.{said, value_at};
+ghost use Rattle.census_readback.specs.Lawful.{has_lawful_code, has_lawful_rule, is_lawful, is_moved, number_in, signed_in, text_in};
+
+use crate::code::{is_code, is_code_after};
+use crate::names::is_name;
+use crate::rules::is_rule;
+use census_rows::{Label, Outcome, Row, Value};
+
+// The text with a label, where there is one.
+pub fn text_at<'a>(outcome: &Outcome<'a>, label: Label) -> Option<&'a [u8]>
+    ensures { option_copied result ≡ text_in (value_at label (said outcome.now).fields) }
+{
+    match outcome.value(label) {
+        Some(Value::Text(bytes)) => Some(bytes),
+        _ => None,
+    }
+}
+
+// The number with a label; 0 where there is none.
+pub fn number_at(outcome: &Outcome, label: Label) -> u64
+    ensures { result ≡ number_in (value_at label (said outcome.now).fields) }
+{
+    match outcome.value(label) {
+        Some(Value::Number(number)) => number,
+        _ => 0,
+    }
+}
+
+// Whether the rule, where there is one, is a rule as it is printed.
+fn has_lawful_rule(outcome: &Outcome) -> bool
+    ensures { result ≡ has_lawful_rule (said outcome.now).fields }
+{
+    match text_at(outcome, Label::Rule) {
+        Some(rule) => is_rule(rule),
+        None => true,
+    }
+}
+
+// The signed number with a label; 0 where there is none.
+fn signed_at(outcome: &Outcome, label: Label) -> i64
+    ensures { result ≡ signed_in (value_at label (said outcome.now).fields) }
+{
+    match outcome.value(label) {
+        Some(Value::Signed(number)) => number,
+        _ => 0,
+    }
+}
+
+// Whether it is told to have moved.
+fn is_moved(outcome: &Outcome) -> bool
+    ensures { result ≡ is_moved (said outcome.now).fields }
+{
+    (signed_at(outcome, Label::Dx), signed_at(outcome, Label::Dy)) != (0, 0)
+}
+
+// Whether the code, where there is one, is that of what comes again so.
+fn has_lawful_code(outcome: &Outcome) -> bool
+    ensures { result ≡ has_lawful_code (said outcome.now).fields }
+{
+    match text_at(outcome, Label::Code) {
+        Some(code) => is_code_after(is_moved(outcome), number_at(outcome, Label::Period), code),
+        None => true,
+    }
+}
+
+/// Whether a row's name is lawful, its rule is one as it is printed, its code begins as one, and it
+/// counts something where it counts objects.
+pub fn is_lawful(row: &Row) -> bool
+    ensures { result ≡ is_lawful row.now }
+{
+    match row {
+        Row::Open { name, .. } => is_name(*name),
+        Row::Line { outcome, name, .. } => {
+            has_lawful_rule(outcome) && has_lawful_code(outcome) && is_name(*name)
+        }
+        Row::Part { code, count, .. } => is_code(*code) && 0 < *count,
+        Row::Code {
+            rule,
+            code,
+            count,
+            ..
+        } => is_rule(*rule) && is_code(*code) && 0 < *count,
+        Row::Close { .. } => true,
+        Row::End { .. } => true,
+    }
+}

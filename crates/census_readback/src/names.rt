@@ -1,0 +1,28 @@
+//! Names of collections and patterns.
+ghost use Rattle.std.specs.Prelude.{◌≡◌, ◌||◌, codes, nat_eq};
+ghost use Rattle.std.specs.List.{list_all, starts_with, ends_with};
+ghost use Rattle.census_bundle.specs.Names.{is_name, is_name_byte};
+
+use crate::limits::NAME_LIMIT;
+
+// Whether no byte is below 32 or equal to 127.
+fn is_printed(name: &[u8]) -> bool
+    ensures { result ≡ list_all is_name_byte name.now }
+{
+    name.iter().all(|byte| *byte >= 32 && *byte != 127)
+}
+
+// Whether a blank stands first or last.
+fn has_blank_end(name: &[u8]) -> bool
+    ensures { result ≡
+        (starts_with nat_eq name.now (codes " ") || ends_with nat_eq name.now (codes " ")) }
+{
+    name.starts_with(b" ") || name.ends_with(b" ")
+}
+
+/// Whether a name is lawful, as those of bundles are.
+pub fn is_name(name: &[u8]) -> bool
+    ensures { result ≡ is_name name.now }
+{
+    !name.is_empty() && name.len() <= NAME_LIMIT && is_printed(name) && !has_blank_end(name)
+}
