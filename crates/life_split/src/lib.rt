@@ -1,6 +1,4 @@
 //! The independent parts of a set that recurs.
-//!
-//! Tested in `tests_parts`.
 #![tactic(auto)]
 
 mod joining;
