@@ -1,0 +1,9 @@
+pub mod Reaching
+pub mod Joining
+pub mod Neighbours
+pub mod Placing
+pub mod Adding
+pub mod Colouring
+pub mod Linking
+pub mod Seated
+pub mod Linked

@@ -1,0 +1,51 @@
+-- A cell near another is one of the eight around it.
+use Rattle.std.proofs.Common.{◌≡◌, ◌⊎◌, ℕ, zero, suc, ◌<◌, ℤ, pos, negsuc, neg_ℤ, ◌-ℤ◌, ◌≤ℤ◌, inl, inr, refl, arith}
+use Rattle.std.proofs.lemmas.Int.{ints}
+use Rattle.life_model.specs.Cell.{Cell, IsNear}
+use Rattle.life_model.proofs.Cells.{pair}
+use Rattle.life_islands.specs.Seats.{cell_at}
+
+small : (z : ℤ) → neg_ℤ (pos 1) ≤ℤ z → z ≤ℤ pos 1 → (z ≡ neg_ℤ (pos 1)) ⊎ ((z ≡ pos 0) ⊎ (z ≡ pos 1))
+small (pos zero) h k = inr (inl refl)
+small (pos (suc zero)) h k = inr (inr refl)
+small (pos (suc (suc n))) h k = absurd (omega (arith, ints))
+small (negsuc zero) h k = inl refl
+small (negsuc (suc n)) h k = absurd (omega (arith, ints))
+
+pub near_itself : (c : Cell) → IsNear c c
+near_itself c = record { left = omega (arith, ints); right = omega (arith, ints); above = omega (arith, ints); below = omega (arith, ints) }
+
+-- a cell near a place other than it is one of the eight around
+pub seated : (x c : Cell) → IsNear c x → (c ≡ x → ⊥) → (n : ℕ) × (n < 8) × (cell_at x n ≡ c)
+seated x c near other =
+    let left = near.left in
+    let right = near.right in
+    let above = near.above in
+    let below = near.below in
+    let dx = small (c.0 -ℤ x.0) (omega (arith, ints)) (omega (arith, ints)) in
+    let dy = small (c.1 -ℤ x.1) (omega (arith, ints)) (omega (arith, ints)) in
+    elim dx [
+      | inl a ↦ elim dy [
+        | inl b ↦ (0, omega arith, pair (omega (arith, ints)) (omega (arith, ints)))
+        | inr q ↦ elim q [
+          | inl b ↦ (3, omega arith, pair (omega (arith, ints)) (omega (arith, ints)))
+          | inr b ↦ (5, omega arith, pair (omega (arith, ints)) (omega (arith, ints)))
+        ]
+      ]
+      | inr p ↦ elim p [
+        | inl a ↦ elim dy [
+          | inl b ↦ (1, omega arith, pair (omega (arith, ints)) (omega (arith, ints)))
+          | inr q ↦ elim q [
+            | inl b ↦ absurd (other (pair (omega (arith, ints)) (omega (arith, ints))))
+            | inr b ↦ (6, omega arith, pair (omega (arith, ints)) (omega (arith, ints)))
+          ]
+        ]
+        | inr a ↦ elim dy [
+          | inl b ↦ (2, omega arith, pair (omega (arith, ints)) (omega (arith, ints)))
+          | inr q ↦ elim q [
+            | inl b ↦ (4, omega arith, pair (omega (arith, ints)) (omega (arith, ints)))
+            | inr b ↦ (7, omega arith, pair (omega (arith, ints)) (omega (arith, ints)))
+          ]
+        ]
+      ]
+    ]

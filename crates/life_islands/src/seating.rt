@@ -1,0 +1,164 @@
+//! What is around a place, and which sets it joins.
+ghost use Rattle.std.specs.Prelude.{◌≡◌, ◌≢◌, ◌⊎◌, ℕ, ◌<◌, ◌≤◌, IfNone, IfSome, false, true, get_or, length};
+ghost use Rattle.life_islands.specs.Reach.{IsInReach};
+ghost use Rattle.life_islands.specs.Seats.{AreAllSound, AreOfOne, AreSeats, AreTiedBy, IsColouring, IsOf, IsSeat, IsSeatLink, IsSound};
+ghost use Rattle.life_islands.specs.Seats.{bears_at, is_born_by, listed, seat, set_at};
+ghost use Rattle.life_islands.specs.Splits.{AreLaidOut};
+
+use crate::around::{has, neighbour, place_of};
+use crate::colours::{AROUND, Seat, count_live, explore, first_bearing, flaw};
+use life_cells::{CellList, Rule};
+
+/// A seat that is not live.
+const NOBODY: Seat = Seat {
+    live: false,
+    island: 0,
+    set: 0,
+};
+
+/// The seat of one of the cells around a place.
+fn seat_at(
+    cells: &CellList,
+    isles: &[CellList],
+    sets: &[CellList],
+    place: (i32, i32),
+    number: usize,
+) -> Seat
+    requires reach { IsInReach place }
+    requires number { number < 8 }
+    requires laid_out { AreLaidOut cells.now isles.now sets.now }
+    ensures { IsSeat cells.now isles.now sets.now place number result }
+{
+    let cell = neighbour(place, number);
+    let live = has(cells, cell);
+    let island = place_of(isles, cell);
+    let set = place_of(sets, cell);
+    Seat { live, island, set }
+}
+
+/// The seats of the eight cells around a place.
+pub fn seats_around(
+    cells: &CellList,
+    isles: &[CellList],
+    sets: &[CellList],
+    place: (i32, i32),
+) -> [Seat; 8]
+    requires reach { IsInReach place }
+    requires laid_out { AreLaidOut cells.now isles.now sets.now }
+    ensures { AreSeats cells.now isles.now sets.now place result }
+{
+    let mut seats = [NOBODY; 8];
+    for number in 0..AROUND {
+        let seat = seat_at(cells, isles, sets, place, number);
+        seats[number] = seat;
+    }
+    seats
+}
+
+/// The number of the first live seat.
+fn first_live(seats: &[Seat]) -> Option<usize>
+    requires { length seats.now ≡ 8 }
+    ensures none { IfNone result ((n : ℕ) → n < 8 → (seat seats.now n).live ≡ false) }
+    ensures some { IfSome result (λ n. n < 8 × (seat seats.now n).live ≡ true) }
+{
+    for n in 0..AROUND {
+        if seats[n].live {
+            return Some(n);
+        }
+    }
+    None
+}
+
+/// The sets of the seats.
+fn sets_of(seats: &[Seat]) -> [usize; 8]
+    requires { length seats.now ≡ 8 }
+    ensures { (n : ℕ) → n < 8 → listed result n ≡ set_at seats.now n }
+{
+    let mut sets = [0; 8];
+    for n in 0..AROUND {
+        sets[n] = seats[n].set;
+    }
+    sets
+}
+
+/// The set of a seat whose group bears, where there is one, or else of this live seat.
+fn bearer_of(rule: &Rule, seats: &[Seat], colours: &[usize], first: usize) -> usize
+    requires long { length seats.now ≡ 8 × length colours.now ≡ 8 }
+    requires first { first < 8 × (seat seats.now first).live ≡ true }
+    ensures of { (n : ℕ) × IsOf seats.now result n }
+    ensures bears { (n : ℕ) → n < 8 → bears_at rule.now seats.now (listed colours.now) n ≡ true →
+        (m : ℕ) × (m < 8) × (bears_at rule.now seats.now (listed colours.now) m ≡ true)
+        × ((seat seats.now m).set ≡ result) }
+{
+    let bearing = first_bearing(rule, seats, colours);
+    if bearing < AROUND {
+        return seats[bearing].set;
+    }
+    seats[first].set
+}
+
+/// Whether a seat is live and not of this set.
+fn is_other(seat: &Seat, set: usize) -> bool
+    ensures yes { result ≡ true → seat.now.live ≡ true × seat.now.set ≢ set }
+    ensures no { result ≡ false → seat.now.live ≡ true → seat.now.set ≡ set }
+{
+    seat.live && seat.set != set
+}
+
+/// The set of a live seat that is not of this one.
+fn other_set(seats: &[Seat], set: usize) -> Option<usize>
+    requires { length seats.now ≡ 8 }
+    ensures none { IfNone result
+        ((n : ℕ) → n < 8 → (seat seats.now n).live ≡ true → (seat seats.now n).set ≡ set) }
+    ensures some { IfSome result (λ other. other ≢ set × (n : ℕ) × IsOf seats.now other n) }
+{
+    for n in 0..AROUND {
+        if is_other(&seats[n], set) {
+            return Some(seats[n].set);
+        }
+    }
+    None
+}
+
+/// A set that is joined with the bearer, where these colours are those of the seats' sets.
+fn joined_with(
+    rule: &Rule,
+    seats: &[Seat],
+    colours: &[usize],
+    is_born: bool,
+    bearer: usize,
+    other: usize,
+) -> Option<usize>
+    requires long { length seats.now ≡ 8 × length colours.now ≡ 8 }
+    requires colours { (n : ℕ) → n < 8 → listed colours.now n ≡ set_at seats.now n }
+    requires whole { IsColouring seats.now (set_at seats.now) }
+    requires bears { (n : ℕ) → n < 8 → bears_at rule.now seats.now (listed colours.now) n ≡ true →
+        (m : ℕ) × (m < 8) × (bears_at rule.now seats.now (listed colours.now) m ≡ true)
+        × ((seat seats.now m).set ≡ bearer) }
+    requires other { other ≢ bearer × (n : ℕ) × IsOf seats.now other n }
+    ensures none { IfNone result (AreAllSound rule.now seats.now is_born bearer) }
+    ensures some { IfSome result (λ found. found ≢ bearer × ((n : ℕ) × IsOf seats.now found n)
+        × AreTiedBy rule.now seats.now is_born bearer found) }
+{
+    if let Some(found) = flaw(rule, seats, colours, is_born, bearer, other) {
+        return Some(found);
+    }
+    explore(rule, seats, [0; 8], 0, is_born, bearer, other)
+}
+
+/// Two sets that a place joins.
+pub fn link_at(rule: &Rule, seats: &[Seat]) -> Option<(usize, usize)>
+    requires long { length seats.now ≡ 8 }
+    requires whole { IsColouring seats.now (set_at seats.now) }
+    ensures none { IfNone result (AreOfOne seats.now ⊎ ((bearer : ℕ)
+        × AreAllSound rule.now seats.now (is_born_by rule.now seats.now) bearer)) }
+    ensures some { IfSome result (IsSeatLink rule.now seats.now) }
+{
+    let first = first_live(seats)?;
+    let colours = sets_of(seats);
+    let bearer = bearer_of(rule, seats, &colours, first);
+    let other = other_set(seats, bearer)?;
+    let is_born = rule.born(count_live(seats));
+    let found = joined_with(rule, seats, &colours, is_born, bearer, other)?;
+    Some((bearer, found))
+}

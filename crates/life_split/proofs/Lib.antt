@@ -1,0 +1,5 @@
+pub mod Begun
+pub mod Stepped
+pub mod Walked
+pub mod Ended
+pub mod Joined

@@ -1,0 +1,9 @@
+//! The independent parts of a set that recurs.
+#![tactic(auto)]
+
+mod joining;
+mod splitting;
+mod steps;
+mod walking;
+
+pub use splitting::independent_parts;
