@@ -1,4 +1,6 @@
 //! The independent parts of a set that recurs.
+//!
+//! Tested in `tests_parts`.
 #![tactic(auto)]
 
 mod joining;

@@ -1,0 +1,7 @@
+//! Tests of the independent parts of sets that recur.
+#![tactic(auto)]
+
+#[cfg(test)]
+mod codes;
+#[cfg(test)]
+mod sizes;
