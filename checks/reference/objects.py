@@ -5,6 +5,7 @@
 
 `ash` decides by the definition, with the whole bound: the finest splitting that stays apart, what lives on of it, and whether the
 parts so found recur, are one piece and stay apart for ever. `ash_early` looks for the ash of an earlier generation, which tells the same.
+Both tell the onset too, by its definition: the first generation that has an ash.
 """
 import hashlib
 import os
@@ -379,9 +380,24 @@ def ash_of(rule, cells, b):
     return parts if all(is_one_piece(world, P, b) for P in parts) else None
 
 
+def onset_of(rule, cells0, g, h):
+    """The least t such that generation t has an ash within h, where generation g has one: as it lasts, by halving.
+    It is the same within each bound within which there is one."""
+    low, high, start, cells = 0, g, 0, cells0           # `cells` is generation `start`, which is no later than `low`
+    while low < high:
+        t = (low + high) // 2
+        at_t = R.evolve(rule, cells, t - start)
+        if ash_of(rule, at_t, h) is None:
+            low, start, cells = t + 1, t, at_t
+        else:
+            high = t
+    return low
+
+
 def ash(rule, cells0, b):
-    """The parts of the ash of generation b within b, or None; by the definitions."""
-    return ash_of(rule, R.evolve(rule, cells0, b), b)
+    """The onset and the parts of the ash of generation b within b, or None; by the definitions."""
+    parts = ash_of(rule, R.evolve(rule, cells0, b), b)
+    return None if parts is None else (onset_of(rule, cells0, b, b), parts)
 
 
 HORIZONS = (64, 240)
@@ -429,9 +445,9 @@ def ash_early(rule, cells0, b):
             age, run = run.age, Walk(rule, run.cells())     # far and wide by now
             run.age = age
         pops.append(run.pop if isinstance(run, R.Plane) else run.count())
-        if not pops[-1]:
-            return []
         g = run.age
+        if not pops[-1]:
+            return onset_of(rule, cells0, g, min(HORIZONS[0], b)), []
         if g >= wait and g % 8 == 0 and _steady(pops):
             cells = run.cells()
             for h in HORIZONS:
@@ -439,10 +455,11 @@ def ash_early(rule, cells0, b):
                     break
                 parts = ash_of(rule, cells, h)
                 if parts is not None and all(h + P.period <= b for P in parts):
-                    return [P.later(b - g) for P in parts]
+                    return onset_of(rule, cells0, g, h), [P.later(b - g) for P in parts]
             wait = g + max(16, g // 16)
         run.step(rule)
-    return ash_of(rule, run.cells(), b)
+    parts = ash_of(rule, run.cells(), b)
+    return None if parts is None else (onset_of(rule, cells0, b, b), parts)
 
 
 def _steady(pops):
@@ -476,7 +493,7 @@ _known = {}
 
 
 def answer(text, bound, decide):
-    """('bad', n), ('none', rule, pop) or ('ash', rule, pop, [(code, count)])."""
+    """('bad', n), ('none', rule, pop) or ('ash', rule, pop, onset, [(code, count)])."""
     tag = (hashlib.blake2b(text).digest(), bound, decide)
     if tag not in _known:
         try:
@@ -484,9 +501,9 @@ def answer(text, bound, decide):
         except R.Fault as f:
             _known[tag] = ('bad', f.number)
         else:
-            parts = decide(rule, cells, bound)
-            _known[tag] = (('none', R.rule_text(rule), len(cells)) if parts is None else
-                           ('ash', R.rule_text(rule), len(cells), counts_of(rule, parts)))
+            found = decide(rule, cells, bound)
+            _known[tag] = (('none', R.rule_text(rule), len(cells)) if found is None else
+                           ('ash', R.rule_text(rule), len(cells), found[0], counts_of(rule, found[1])))
     return _known[tag]
 
 
@@ -498,8 +515,8 @@ def section(c, folder, bound, decide):
         a = answer(text, bound, decide)
         kinds[a[0]] += 1
         if a[0] == 'ash':
-            lines.append(('line %d %d ash %s %d %d ' % (c, i, a[1], a[2], sum(n for _, n in a[3]))).encode() + entry)
-            for code, n in a[3]:
+            lines.append(('line %d %d ash %s %d %d %d ' % (c, i, *a[1:4], sum(n for _, n in a[4]))).encode() + entry)
+            for code, n in a[4]:
                 lines.append(('part %d %d %s %d' % (c, i, code, n)).encode())
                 totals[a[1], code] = totals.get((a[1], code), 0) + n
         else:

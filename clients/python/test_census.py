@@ -169,7 +169,8 @@ class Identify(Room):
 
     def test_objects(self):
         found = self.census.identify(R_PENTOMINO)
-        self.assertEqual(found, Pattern("B3/S23", 5, (3, 3), objects=ASH_OF_R_PENTOMINO))
+        # LifeWiki, R-pentomino: it takes 1,103 generations
+        self.assertEqual(found, Pattern("B3/S23", 5, (3, 3), 1103, objects=ASH_OF_R_PENTOMINO))
         self.assertEqual(sum(found.objects.values()), 25)
         self.assertIsNone(found.apgcode)
 
@@ -315,13 +316,15 @@ class Faults(Room):
         head = "rule B3/S23;population 1;box 1 1"
         block = f"{head};unresolved 9"
         self.assertEqual(self.told(block).identify(GLIDER, bound=9).unresolved, 9)
+        apart = self.told(f"{head};onset 9;objects 1;part xs4_33 1").identify(GLIDER, bound=9)
+        self.assertEqual((apart.onset, apart.objects), (9, {"xs4_33": 1}))
         for body in ("exit 0", "echo census: write failed >&2; exit 4", "echo hello", "echo; exit 1"):
             with self.subTest(body), self.assertRaises(ProgramFailed):
                 self.script(body).identify(GLIDER)
         blocks = [
             f"{block};;{block}", f"file 7;{block}", f"{block};", f"{block};unresolved 9", f"unresolved 9;{head}", f"{head};unresolved 8",
-            f"{head};unresolved 09", f"{head.replace('B3/S23', 'B9')};unresolved 9", f"{head};objects 2;part xs4_33 1",
-            f"{head};objects 2;part xs4_33 1;part xs4_33 1", f"{head};onset 9;period 1;displacement 0 0;apgcode xs4_33",
+            f"{head};unresolved 09", f"{head.replace('B3/S23', 'B9')};unresolved 9", f"{head};onset 0;objects 2;part xs4_33 1",
+            f"{head};onset 0;objects 2;part xs4_33 1;part xs4_33 1", f"{head};objects 1;part xs4_33 1", f"{head};onset 10;objects 1;part xs4_33 1", f"{head};onset 9;period 1;displacement 0 0;apgcode xs4_33",
             f"{head};onset 0;period 0;displacement 0 0;apgcode xs4_33", f"{head};onset 0;period 1;displacement 0 0;apgcode 33", head,
         ]
         for block in blocks:
@@ -478,6 +481,8 @@ class Tables(Room):
         self.assertEqual(dict(rows[1].parts), ASH_OF_R_PENTOMINO)
         # LifeWiki, Acorn: 13 escaped gliders
         self.assertEqual(dict(rows[0].parts)["xq4_153"], 13)
+        # LifeWiki: they take 5,206 and 1,103 generations
+        self.assertEqual([row.onset for row in rows], [5206, 1103])
         self.assertEqual({row.name: row.parts for row in self.census.table(self.FOLDERS, objects=True)},
                          {name: ((code, 1),) for name, (_, _, code) in KNOWN.items()})
 
@@ -595,7 +600,7 @@ class Tables(Room):
     def test_report_that_was_not_asked_for(self):
         folder = self.folder("mine", a=BLOCK, b=BLOCK)
         one, two = "ok B3/S23 4 0 1 0 0 xs4_33 a.rle", "none B3/S23 4 b.rle"
-        ash = "ash B3/S23 4 1 a.rle;part 1 1 xs4_33 1"
+        ash = "ash B3/S23 4 0 1 a.rle;part 1 1 xs4_33 1"
         whole = f"open 1 2 {folder};line 1 1 {one};line 1 2 {two};close 1 2 1 1 0;end 1 2"
         self.assertEqual([row.status for row in self.told(whole).table([folder])], ["ok", "none"])
         parted = whole.replace(one, ash)
@@ -617,8 +622,9 @@ class Tables(Room):
         for text in wrong:
             with self.subTest(text), self.assertRaises(ProgramFailed):
                 self.told(text).table([folder])
-        two_objects = parted.replace("4 1 a", "4 2 a")
-        for text in (whole, two_objects, two_objects.replace("a.rle;", "a.rle;part 1 1 xs4_33 1;")):
+        two_objects = parted.replace("4 0 1 a", "4 0 2 a")
+        late = parted.replace("4 0 1 a", "4 10001 1 a")
+        for text in (whole, late, two_objects, two_objects.replace("a.rle;", "a.rle;part 1 1 xs4_33 1;")):
             with self.subTest(text), self.assertRaises(ProgramFailed):
                 self.told(text).table([folder], objects=True)
 
@@ -639,9 +645,9 @@ class Tables(Room):
 class Reports(Room):
     INTERLEAVED = b"""open 2 3 \xff\xfe
 open 1 2 first  one
-line 2 1 ash B3/S23 5 1 a b
+line 2 1 ash B3/S23 5 7 1 a b
 part 2 1 xq4_153 1
-line 1 1 ash B3/S23 11 3 \xc3\xa9 .rle
+line 1 1 ash B3/S23 11 7 3 \xc3\xa9 .rle
 part 1 1 xp2_7 1
 part 1 1 xs4_33 2
 line 2 2 bad 6 line 1 1
@@ -663,6 +669,7 @@ end 2 5
         self.assertEqual([os.fsencode(row.collection_name) for row in rows], [b"first  one"] * 2 + [b"\xff\xfe"] * 3)
         self.assertEqual([row.parts for row in rows], [(("xp2_7", 1), ("xs4_33", 2)), None, (("xq4_153", 1),), None, None])
         self.assertEqual([row.population for row in rows], [11, 12, 5, None, 36])
+        self.assertEqual([row.onset for row in rows], [7, None, 7, None, None])
         self.assertEqual((rows[3].fault, rows[4].generation), (6, 248))
 
     def test_what_comes_again(self):
@@ -692,7 +699,7 @@ end 2 5
             f"open 1 2 c;line 1 2 {block};line 1 1 {block};close 1 2 2 0 0;end 1 2",
             f"open 1 1 c;line 1 1 {block};line 1 2 {block};close 1 2 2 0 0;end 1 2",
             f"open 1 1 c;line 1 1 {block};part 1 1 xs4_33 1;close 1 1 1 0 0;end 1 1",
-            "open 1 1 c;line 1 1 ash B3/S23 4 1 a;code 1 B3/S23 xs4_33 1;part 1 1 xs4_33 1;close 1 1 1 0 0;end 1 1",
+            "open 1 1 c;line 1 1 ash B3/S23 4 0 1 a;code 1 B3/S23 xs4_33 1;part 1 1 xs4_33 1;close 1 1 1 0 0;end 1 1",
             f"open 2 1 c;line 2 1 {block};close 2 1 1 0 0;end 1 1",
             "open 0 0 c;close 0 0 0 0 0;end 0 0", "open 65536 0 c;close 65536 0 0 0 0;end 1 0", "open 1 65536 c",
             f"open 1 1 c;line 1 1 {block.replace('4 0 1', '4 -1 1')};close 1 1 1 0 0;end 1 1",
@@ -701,7 +708,7 @@ end 2 5
             f"open 1 1 c;line 1 1 {block.replace('B3/S23', '')};close 1 1 1 0 0;end 1 1",
             f"open 1 1 c;line 1 1 {block};close 1 1 0 1 0;end 1 1",
             f"open 1 1 c;line 1 1 {block};code 1 B3/S23 xs4_33 0;close 1 1 1 0 0;end 1 1",
-            f"open 1 2 c;line 1 1 {block};line 1 2 ash B3/S23 0 0 b;close 1 2 2 0 0;end 1 2",
+            f"open 1 2 c;line 1 1 {block};line 1 2 ash B3/S23 0 0 0 b;close 1 2 2 0 0;end 1 2",
             "end 0 1",
         ]
         # names that no collection and no pattern has
@@ -714,7 +721,7 @@ end 2 5
         # codes that are none, or not that of such a period and displacement
         for code in ("c", "xs", "xr1_3", "s4_33", "xs4", "xsa_33", "_", "x_"):
             reports += [f"open 1 1 c;line 1 1 ok B3/S23 4 0 1 0 0 {code} a;close 1 1 1 0 0;end 1 1",
-                        f"open 1 1 c;line 1 1 ash B3/S23 4 1 a;part 1 1 {code} 1;close 1 1 1 0 0;end 1 1",
+                        f"open 1 1 c;line 1 1 ash B3/S23 4 7 1 a;part 1 1 {code} 1;close 1 1 1 0 0;end 1 1",
                         f"open 1 1 c;line 1 1 {block};code 1 B3/S23 {code} 1;close 1 1 1 0 0;end 1 1"]
         for found in ("0 0 0 xs4_33", "15 0 0 xs4_33", "1 1 0 xs4_33", "2 0 0 xp3_7", "2 0 0 xq2_7", "4 1 1 xp4_7", "4 0 1 xq5_7", "1 0 0 xp1_7",
                       "4 1 1 xq04_7", "0 1 1 xq0_7", "0 0 0 xp0_7"):
@@ -722,10 +729,10 @@ end 2 5
         # parts that are too few, too many, of no object, twice the same or out of order
         for parts in ("", "part 1 1 xs4_33 1;", "part 1 1 xs4_33 3;", "part 1 1 xs4_33 0;part 1 1 xs6_696 2;", "part 1 1 xs4_33 1;part 1 1 xs4_33 1;",
                       "part 1 1 xs6_696 1;part 1 1 xs4_33 1;", "part 1 1 xs4_33 1;part 1 1 xs4_32 1;", "part 1 2 xs4_33 2;"):
-            reports.append(f"open 1 1 c;line 1 1 ash B3/S23 8 2 a;{parts}close 1 1 1 0 0;end 1 1")
+            reports.append(f"open 1 1 c;line 1 1 ash B3/S23 8 7 2 a;{parts}close 1 1 1 0 0;end 1 1")
         # parts of another collection, and behind one of its lines
-        reports.append("open 1 1 a;open 2 1 b;line 1 1 ash B3/S23 0 0 c;line 2 1 ash B3/S23 4 1 d;part 1 1 xs4_33 1;close 1 1 1 0 0;close 2 1 1 0 0;end 2 2")
-        reports.append("open 1 1 a;open 2 0 b;line 1 1 ash B3/S23 4 1 c;close 2 0 0 0 0;part 1 1 xs4_33 1;close 1 1 1 0 0;end 2 1")
+        reports.append("open 1 1 a;open 2 1 b;line 1 1 ash B3/S23 0 0 0 c;line 2 1 ash B3/S23 4 7 1 d;part 1 1 xs4_33 1;close 1 1 1 0 0;close 2 1 1 0 0;end 2 2")
+        reports.append("open 1 1 a;open 2 0 b;line 1 1 ash B3/S23 4 7 1 c;close 2 0 0 0 0;part 1 1 xs4_33 1;close 1 1 1 0 0;end 2 1")
         for text in reports:
             with self.subTest(text), self.assertRaises(ReportFault):
                 read_report((text.replace(";", "\n") + "\n").encode())
@@ -747,7 +754,7 @@ end 2 5
 
     def test_no_patterns(self):
         self.assertEqual(read_report(b"end 0 0\n"), [])
-        self.assertEqual(read_report(b"open 1 1 a\nline 1 1 ash B3/S23 0 0 b\nclose 1 1 1 0 0\nend 1 1\n")[0].parts, ())
+        self.assertEqual(read_report(b"open 1 1 a\nline 1 1 ash B3/S23 0 0 0 b\nclose 1 1 1 0 0\nend 1 1\n")[0].parts, ())
 
     def test_cut_short(self):
         for end in range(len(self.INTERLEAVED)):

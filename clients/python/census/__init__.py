@@ -170,8 +170,8 @@ def _place_of_text(index: Optional[int], place: Optional[str]) -> Optional[str]:
 class Pattern:
     """What a pattern is and becomes. The names that lifelib's patterns have too mean what they mean there.
 
-    Of the three last parts there is one: where the pattern recurs within the bound, `onset`, `period`, `displacement` and `apgcode`; else,
-    where it has fallen apart, `objects`; else `unresolved`. All others are None.
+    Where the pattern recurs within the bound, there are `onset`, `period`, `displacement` and `apgcode`; else, where it has fallen apart,
+    `onset` and `objects`; else `unresolved`. All others are None.
     """
 
     # as `B3/S23`
@@ -180,7 +180,7 @@ class Pattern:
     population: int
     # width and height of the box around generation 0, in cells
     box: Tuple[int, int]
-    # the first generation that comes again, 0 or more
+    # the first generation that comes again; of what has fallen apart, the first that is ash; 0 or more
     onset: Optional[int] = None
     # after so many generations, 1 or more
     period: Optional[int] = None
@@ -214,6 +214,7 @@ class Row:
     rule: Optional[str] = None
     # of generation 0
     population: Optional[int] = None
+    # the first generation that comes again; of `ash`, the first that is ash
     onset: Optional[int] = None
     period: Optional[int] = None
     # moved so far to the right
@@ -590,7 +591,8 @@ box (?P<width>{_COUNT}) (?P<height>{_COUNT})
 (?:onset (?P<onset>{_COUNT})
 period (?P<period>{_COUNT})
 displacement (?P<dx>{_OFFSET}) (?P<dy>{_OFFSET})
-apgcode (?P<code>{_CODE})|objects (?P<objects>{_COUNT})(?P<parts>(?:\npart {_CODE} {_COUNT})*)|unresolved (?P<bound>{_COUNT}))""")
+apgcode (?P<code>{_CODE})|onset (?P<first>{_COUNT})
+objects (?P<objects>{_COUNT})(?P<parts>(?:\npart {_CODE} {_COUNT})*)|unresolved (?P<bound>{_COUNT}))""")
 _PART = re.compile(rf"part ({_CODE}) ({_COUNT})")
 
 
@@ -606,7 +608,8 @@ def _pattern_of(block: str, bound: int) -> Tuple[str, Pattern]:
         parts = [(code, int(count)) for code, count in _PART.findall(found["parts"])]
         objects = dict(parts)
         _demand(len(objects) == len(parts) and sum(objects.values()) == int(found["objects"]))
-        return name, replace(pattern, objects=objects)
+        _demand(int(found["first"]) <= bound)
+        return name, replace(pattern, onset=int(found["first"]), objects=objects)
     onset, period = int(found["onset"]), int(found["period"])
     _demand(period > 0 and onset + period <= bound)
     displacement = int(found["dx"]), int(found["dy"])
@@ -647,7 +650,7 @@ class _Asked:
         if row.status == "ok":
             return not self.objects and row.period > 0 and row.onset + row.period <= bound and bool(re.fullmatch(_CODE, row.code))
         if row.status == "ash":
-            return self.objects and all(re.fullmatch(_CODE, code) for code, _ in parts)
+            return self.objects and row.onset <= bound and all(re.fullmatch(_CODE, code) for code, _ in parts)
         if row.status == "large":
             return (self.objects or self.cells is not None) and row.generation <= bound * (3 if self.objects else 1)
         return True
@@ -747,7 +750,7 @@ def _fits_code(found: Dict[str, Union[int, str]]) -> bool:
 # what stands between the status and the name of a line
 _FIELDS: Dict[bytes, Dict[str, Callable[[bytes], Union[int, str]]]] = {
     b"ok": {"rule": _rule, "population": _count, "onset": _count, "period": _count, "dx": _offset, "dy": _offset, "code": _code},
-    b"ash": {"rule": _rule, "population": _count, "objects": _count},
+    b"ash": {"rule": _rule, "population": _count, "onset": _count, "objects": _count},
     b"none": {"rule": _rule, "population": _count},
     b"large": {"rule": _rule, "population": _count, "generation": _count},
     b"bad": {"fault": _count},

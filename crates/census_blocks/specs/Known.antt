@@ -13,13 +13,13 @@ abbrev pub known_recurrence : Outcome → Option Known
 known_recurrence (Recurs onset period dx dy code) = Some (known.Settles onset period dx dy code)
 known_recurrence _ = None
 
--- into which objects a pattern has fallen apart, by the objects that are found of it
+-- from which generation on a pattern is ash, and into which objects it has fallen apart, by what is found of it
 abbrev pub known_parts : Outcome → Known
-known_parts (Ash parts) = known.Apart parts
+known_parts (Ash onset parts) = known.Apart onset parts
 known_parts _ = known.Unresolved
 
--- what is known of a pattern within the bound: when it settles and as what, where it does; else into which objects it has
--- fallen apart, where it has
+-- what is known of a pattern within the bound: when it settles and as what, where it does; else when and into which objects
+-- it has fallen apart, where it has
 abbrev pub known_of : ℕ → Picture → Known
 known_of bound pattern =
     unwrap_or (known_recurrence (outcome_of pattern.rule pattern.cells bound)) (known_parts (census_of pattern.rule pattern.cells bound))

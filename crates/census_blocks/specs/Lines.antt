@@ -48,9 +48,13 @@ settled_lines found code =
 abbrev pub part_line : Part → Line
 part_line part = line (codes "part") (part.code ∷ decimal part.count ∷ [])
 
--- `objects`, how many objects a pattern has fallen apart into, and a `part` line for each code
-abbrev pub object_lines : List Part → List Line
-object_lines parts = line (codes "objects") (decimal (objects_in parts) ∷ []) ∷ map part_line parts
+-- `onset` of the ash of a pattern that has fallen apart, `objects`, how many objects it has become, and a `part` line for
+-- each code
+abbrev pub apart_lines : ℕ → List Part → List Line
+apart_lines onset parts =
+    line (codes "onset") (decimal onset ∷ [])
+    ∷ line (codes "objects") (decimal (objects_in parts) ∷ [])
+    ∷ map part_line parts
 
 -- `unresolved` and the bound, of a pattern that neither settles nor has fallen apart within it
 abbrev pub unresolved_lines : ℕ → List Line
@@ -60,5 +64,5 @@ unresolved_lines bound = line (codes "unresolved") (decimal bound ∷ []) ∷ []
 abbrev pub known_lines : ℕ → Known → List Line
 known_lines bound (Settles onset period dx dy code) =
     settled_lines (record { onset = onset; period = period; displacement = (dx, dy) }) code
-known_lines bound (Apart parts) = object_lines parts
+known_lines bound (Apart onset parts) = apart_lines onset parts
 known_lines bound Unresolved = unresolved_lines bound

@@ -74,8 +74,8 @@ fn block_of_pattern(
 /// generations.
 ///
 /// It tells the rule, the population and the box of generation 0; then, where the pattern settles within the bound, its
-/// onset, period, displacement and apgcode; else, where it has fallen apart within the bound, how many objects it has become,
-/// and how many of each code; else that it is unresolved within the bound. It may look at generations past the bound, up to
+/// onset, period, displacement and apgcode; else, where it has fallen apart within the bound, the onset of its ash, how many
+/// objects it has become, and how many of each code; else that it is unresolved within the bound. It may look at generations past the bound, up to
 /// three times the bound.
 pub fn block(
     alloc: Global,

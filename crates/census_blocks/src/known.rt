@@ -27,8 +27,13 @@ pub enum Known {
         /// The code of the object that it has become.
         code: Code,
     },
-    /// It doesn't settle, and has fallen apart into these objects.
-    Apart(Parts),
+    /// It doesn't settle, and has fallen apart.
+    Apart {
+        /// The first generation that is ash within the bound.
+        onset: u32,
+        /// The objects.
+        parts: Parts,
+    },
     /// Neither is so within the bound.
     Unresolved,
 }
@@ -60,7 +65,7 @@ fn known_parts(outcome: Outcome) -> Known
     ensures { result ≡ known_parts outcome }
 {
     match outcome {
-        Outcome::Ash { parts } => Known::Apart(parts),
+        Outcome::Ash { onset, parts } => Known::Apart { onset, parts },
         _ => Known::Unresolved,
     }
 }
@@ -102,7 +107,7 @@ fn falling_apart(
 }
 
 /// What is known within the bound of the pattern that a text means: where it settles, when and as what; else, where it has
-/// fallen apart, into which objects; else that neither is so. The bound is 1 to 100,000 generations.
+/// fallen apart, when and into which objects; else that neither is so. The bound is 1 to 100,000 generations.
 ///
 /// It may look at generations past the bound, up to three times the bound.
 pub fn known_of(

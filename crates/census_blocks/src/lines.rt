@@ -2,7 +2,7 @@
 ghost use Rattle.std.specs.Prelude.{◌≡◌, ◌++◌, [], ◌∷◌, OnOk, codes, decimal, map};
 ghost use Rattle.std.specs.Fmt.{signed_decimal};
 ghost use Rattle.life_cells.specs.Rules.{rule_text};
-ghost use Rattle.census_blocks.specs.Lines.{fields_text, head_lines, known_lines, line, object_lines, part_line, settled_lines, text_of};
+ghost use Rattle.census_blocks.specs.Lines.{apart_lines, fields_text, head_lines, known_lines, line, part_line, settled_lines, text_of};
 
 use crate::known::Known;
 use itoa::{Buffer, Integer};
@@ -159,10 +159,12 @@ fn push_parts(text: &mut Vec<u8>, parts: &[Part]) -> Result<(), AllocError>
     Ok(())
 }
 
-// The lines of the objects that a pattern has fallen apart into.
-fn push_objects(text: &mut Vec<u8>, parts: &Parts) -> Result<(), AllocError>
-    ensures { OnOk result (text.new.items ≡ text.old.items ++ text_of (object_lines parts.now)) }
+// The lines of a pattern that has fallen apart.
+fn push_apart(text: &mut Vec<u8>, onset: u32, parts: &Parts) -> Result<(), AllocError>
+    ensures { OnOk result
+        (text.new.items ≡ text.old.items ++ text_of (apart_lines onset parts.now)) }
 {
+    push_one(text, b"onset", onset)?;
     push_one(text, b"objects", parts.count())?;
     push_parts(text, parts.as_slice())
 }
@@ -180,7 +182,7 @@ pub fn push_known(text: &mut Vec<u8>, known: &Known, bound: u32) -> Result<(), A
             dy,
             code,
         } => push_settled(text, *onset, *period, dx, dy, code.as_slice()),
-        Known::Apart(parts) => push_objects(text, parts),
+        Known::Apart { onset, parts } => push_apart(text, *onset, parts),
         Known::Unresolved => push_one(text, b"unresolved", bound),
     }
 }

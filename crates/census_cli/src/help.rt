@@ -41,7 +41,7 @@ macro_rules! with_objects {
             "\
 Lines of a report, of pattern I of collection C, both counted from 1:
   open C PATTERNS NAME
-  line C I ash RULE POPULATION OBJECTS NAME       has fallen apart in the bound
+  line C I ash RULE POPULATION ONSET OBJECTS NAME has fallen apart in the bound
   part C I CODE COUNT                             its objects with CODE
   line C I none RULE POPULATION NAME              has not
   line C I large RULE POPULATION GENERATION NAME  past --cells there
@@ -175,6 +175,7 @@ and where the pattern recurs in the bound
   displacement DX DY   moved so far to the right and down
   apgcode CODE         of what it has become
 or else where it has fallen apart in the bound
+  onset GENERATION     the first that is ash,
   objects COUNT        that it has become
   part CODE COUNT      those with CODE
 or else

@@ -70,8 +70,8 @@ length-part_objects rule (p ∷ ps) =
     omega arith
 
 -- the objects of a pattern that has fallen apart
-pub length-ash : (a : Answer) (rule : Rule) (finding : Finding) (parts : List Part) → a ≡ Found rule finding → finding.outcome ≡ Ash parts → length (objects (a ∷ [])) ≡ objects_in parts
-length-ash a rule finding parts is_found is_ash =
+pub length-ash : (a : Answer) (rule : Rule) (finding : Finding) (onset : ℕ) (parts : List Part) → a ≡ Found rule finding → finding.outcome ≡ Ash onset parts → length (objects (a ∷ [])) ≡ objects_in parts
+length-ash a rule finding onset parts is_found is_ash =
     ap (λ x. length (objects (x ∷ []))) is_found ∙ ap (λ o. length (outcome_objects rule o ++ [])) is_ash
     ∙ ap length (append-nil (part_objects rule parts)) ∙ length-part_objects rule parts
 

@@ -90,18 +90,18 @@ says : Object → Answer → Bool
 says k (Found rule finding) = shows k rule finding.outcome
 says k (Refused number) = false
 
-count_shown : (k : Object) (rule : Rule) (outcome : Outcome) (rest : List Object) → ((parts : List Part) → outcome ≡ Ash parts → ⊥)
+count_shown : (k : Object) (rule : Rule) (outcome : Outcome) (rest : List Object) → ((onset : ℕ) (parts : List Part) → outcome ≡ Ash onset parts → ⊥)
     → count_by (same_object k) (outcome_objects rule outcome ++ rest) ≡ cond (shows k rule outcome) 1 0 + count_by (same_object k) rest
 unfolding shows
 count_shown k rule (Recurs onset period dx dy code) rest apart = count_first (same_object k) (object rule code) rest
-count_shown k rule (Ash parts) rest apart = absurd (apart parts refl)
+count_shown k rule (Ash onset parts) rest apart = absurd (apart onset parts refl)
 count_shown k rule _ rest apart = sym (zero-add (count_by (same_object k) rest))
 
 -- where it is asked which generation comes again, nothing has fallen apart
 no_ash : (bound : ℕ) (most : Option ℕ) (e : Entry) (rule : Rule) (finding : Finding) → answer_in bound most e ≡ Found rule finding
-    → (parts : List Part) → finding.outcome ≡ Ash parts → ⊥
-no_ash bound most e rule finding is parts ash =
-    answer-no_ash e.text bound most rule finding parts (found_answer (question.Settles bound most) e rule finding is) ash
+    → (onset : ℕ) (parts : List Part) → finding.outcome ≡ Ash onset parts → ⊥
+no_ash bound most e rule finding is onset parts ash =
+    answer-no_ash e.text bound most rule finding onset parts (found_answer (question.Settles bound most) e rule finding is) ash
 
 count_said : (bound : ℕ) (most : Option ℕ) (k : Object) (e : Entry) (a : Answer) (rest : List Answer) → answer_in bound most e ≡ a
     → count_by (same_object k) (objects (a ∷ rest)) ≡ cond (says k a) 1 0 + count_by (same_object k) (objects rest)
@@ -173,7 +173,7 @@ shown_outcome bound most k e rule finding (Recurs onset period dx dy code) rest 
       | true ↦ λ same _. let r = said bound most e rule finding onset period dx dy code is recurs (picture_of (reading e.text)) refl in here r.0 (one_object k (object rule code) same ∙ r.1)
       | false ↦ λ _ rest'. there rest'
     ] refl holds
-shown_outcome bound most k e rule finding (Ash parts) rest is ash holds P here there = absurd (no_ash bound most e rule finding is parts ash)
+shown_outcome bound most k e rule finding (Ash onset parts) rest is ash holds P here there = absurd (no_ash bound most e rule finding is onset parts ash)
 shown_outcome bound most k e rule finding _ rest is becomes holds P here there = there holds
 
 shown_object : (bound : ℕ) (most : Option ℕ) (k : Object) (e : Entry) (a : Answer) (rest : List Answer) → answer_in bound most e ≡ a → list_any (same_object k) (objects (a ∷ rest)) ≡ true

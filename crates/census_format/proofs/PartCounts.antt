@@ -31,13 +31,13 @@ use Rattle.census_format.proofs.Tallies.{count_first, count_none, any_distinct, 
 -- ---- where objects are asked for, no pattern is said to come again
 
 module _ (onset period : ℕ) (dx dy : ℤ) (code : List ℕ) where
-  census_found-apart : (R : Rule) (b : ℕ) (o : Option (List Generation)) → census_found R b o ≡ Recurs onset period dx dy code → ⊥
-  census_found-apart R b None e = cc
-  census_found-apart R b (Some parts) e = cc
+  census_found-apart : (R : Rule) (b from : ℕ) (o : Option (List Generation)) → census_found R b from o ≡ Recurs onset period dx dy code → ⊥
+  census_found-apart R b from None e = cc
+  census_found-apart R b from (Some parts) e = cc
 
   census_of-apart : (R : Rule) (G : Generation) (b : ℕ) → census_of R G b ≡ Recurs onset period dx dy code → ⊥
   unfolding census_of
-  census_of-apart R G b e = census_found-apart R b _ e
+  census_of-apart R G b e = census_found-apart R b _ _ e
 
   large_apart : (found : Outcome) (o : Option ℕ) → (found ≡ Recurs onset period dx dy code → ⊥) → unless_large found o ≡ Recurs onset period dx dy code → ⊥
   large_apart found None apart e = apart e
@@ -80,7 +80,7 @@ count_parts k rule (part ∷ parts) =
 count_outcome : (k : Object) (rule : Rule) (outcome : Outcome) (rest : List Object) → ((onset period : ℕ) (dx dy : ℤ) (code : List ℕ) → outcome ≡ Recurs onset period dx dy code → ⊥)
     → count_by (same_object k) (outcome_objects rule outcome ++ rest) ≡ parts_as k rule (parts_found outcome) + count_by (same_object k) rest
 count_outcome k rule (Recurs onset period dx dy code) rest apart = absurd (apart onset period dx dy code refl)
-count_outcome k rule (Ash parts) rest apart =
+count_outcome k rule (Ash onset parts) rest apart =
     count_append (same_object k) (part_objects rule parts) rest ∙ ap (λ n. n + count_by (same_object k) rest) (count_parts k rule parts)
 count_outcome k rule _ rest apart = sym (zero-add (count_by (same_object k) rest))
 

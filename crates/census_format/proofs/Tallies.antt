@@ -228,9 +228,9 @@ objects-append (Refused number ∷ xs) ys = objects-append xs ys
 
 -- an outcome of another kind has no objects
 pub no_objects : (rule : Rule) (outcome : Outcome) → ((onset period : ℕ) (dx dy : ℤ) (code : List ℕ) → outcome ≡ Recurs onset period dx dy code → ⊥)
-    → ((parts : List Part) → outcome ≡ Ash parts → ⊥) → outcome_objects rule outcome ≡ []
+    → ((onset : ℕ) (parts : List Part) → outcome ≡ Ash onset parts → ⊥) → outcome_objects rule outcome ≡ []
 no_objects rule (Recurs onset period dx dy code) comes falls = absurd (comes onset period dx dy code refl)
-no_objects rule (Ash parts) comes falls = absurd (falls parts refl)
+no_objects rule (Ash onset parts) comes falls = absurd (falls onset parts refl)
 no_objects rule _ comes falls = refl
 
 -- one more answer, which has no objects

@@ -21,7 +21,7 @@ lent bytes = record { ref_ptr = (0, 0); now = bytes }
 -- what was found, one line for each kind
 abbrev pub finding_of : Outcome → row.Finding
 finding_of (Recurs onset period dx dy code) = finding.Ok onset period dx dy (lent code)
-finding_of (Ash parts) = finding.Ash (objects_in parts)
+finding_of (Ash onset parts) = finding.Ash onset (objects_in parts)
 finding_of Unresolved = finding.Unresolved
 finding_of (Large generation) = finding.Large generation
 

@@ -37,7 +37,7 @@ part_objects rule (part ∷ parts) = replicate part.count (object rule part.code
 -- the objects that this is the outcome of
 abbrev pub outcome_objects : Rule → Outcome → List Object
 outcome_objects rule (Recurs onset period dx dy code) = object rule code ∷ []
-outcome_objects rule (Ash parts) = part_objects rule parts
+outcome_objects rule (Ash onset parts) = part_objects rule parts
 outcome_objects rule _ = []
 
 -- what the resolved ones among these are, in their order

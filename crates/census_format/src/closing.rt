@@ -136,7 +136,7 @@ fn count_answer<'a>(
                 Object::of(*rule, code.as_slice()),
                 1,
             ),
-            Outcome::Ash { parts } => count_parts(counts, rule, parts.as_slice()),
+            Outcome::Ash { parts, .. } => count_parts(counts, rule, parts.as_slice()),
             _ => Ok(()),
         },
         Answer::Refused(_) => Ok(()),

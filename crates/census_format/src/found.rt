@@ -28,7 +28,8 @@ pub(crate) fn finding_of<'a>(outcome: &'a Outcome) -> Finding<'a>
             dy: i64::from(*dy),
             code: code.as_slice(),
         },
-        Outcome::Ash { parts } => Finding::Ash {
+        Outcome::Ash { onset, parts } => Finding::Ash {
+            onset: u64::from(*onset),
             objects: parts.count(),
         },
         Outcome::Unresolved => Finding::Unresolved,

@@ -2,7 +2,7 @@
 use Rattle.std.proofs.Common.{◌≡◌, ℕ, ◌*◌, false, List, Option, Some, None, Result, Ok, Err, map, refl, sym, ap, ◌∙◌}
 use Rattle.std.specs.List.Sorted.{IsPermutation}
 use Rattle.census_bundle.specs.declared.bundle.Entry.{Entry}
-use Rattle.life_answer.specs.Census.{census_found, census_of, part_code}
+use Rattle.life_answer.specs.Census.{ash_onset, census_found, census_of, part_code}
 use Rattle.life_answer.specs.Parts.{counted_codes}
 use Rattle.life_answer.specs.Questions.{answer_to, answer_to_question, finding_to, outcome_to}
 use Rattle.life_answer.specs.Answers.{finding_with}
@@ -30,25 +30,25 @@ use Rattle.census_laws.specs.Fallen.{FallsApart}
 -- ---- what is found of a set that falls apart
 
 census_some : (R : Rule) (G : Generation) (b : ℕ) (found : List Generation) → ash_of R b (generation R G b) ≡ Some found
-    → census_of R G b ≡ Ash (counted_codes (map (part_code R b) found))
+    → census_of R G b ≡ Ash (ash_onset R G b) (counted_codes (map (part_code R b) found))
 unfolding census_of
-census_some R G b found e = ap (census_found R b) e
+census_some R G b found e = ap (census_found R b (ash_onset R G b)) e
 
-some_found : (R : Rule) (b : ℕ) (parts : List Part) (o : Option (List Generation))
-    → census_found R b o ≡ Ash parts → (found : List Generation) × (o ≡ Some found)
-some_found R b parts None e = absurd cc
-some_found R b parts (Some found) e = (found, refl)
+some_found : (R : Rule) (b first onset : ℕ) (parts : List Part) (o : Option (List Generation))
+    → census_found R b first o ≡ Ash onset parts → (found : List Generation) × (o ≡ Some found)
+some_found R b first onset parts None e = absurd cc
+some_found R b first onset parts (Some found) e = (found, refl)
 
-ash_found : (R : Rule) (G : Generation) (b : ℕ) (parts : List Part) → census_of R G b ≡ Ash parts
+ash_found : (R : Rule) (G : Generation) (b onset : ℕ) (parts : List Part) → census_of R G b ≡ Ash onset parts
     → (found : List Generation) × (ash_of R b (generation R G b) ≡ Some found)
 unfolding census_of
-ash_found R G b parts e = some_found R b parts (ash_of R b (generation R G b)) e
+ash_found R G b onset parts e = some_found R b (ash_onset R G b) onset parts (ash_of R b (generation R G b)) e
 
 same_finding : (r s : Rule) (f g : Finding) → Found r f ≡ Found s g → f ≡ g
 same_finding r s f g e = cc
 
-not_large : (parts : List Part) (first : ℕ) → Ash parts ≡ Large first → ⊥
-not_large parts first e = cc
+not_large : (onset : ℕ) (parts : List Part) (first : ℕ) → Ash onset parts ≡ Large first → ⊥
+not_large onset parts first e = cc
 
 module _ (bound : ℕ) (most : Option ℕ) (e : Entry) where
   abbrev pub answer_in : Answer
@@ -60,7 +60,7 @@ module _ (bound : ℕ) (most : Option ℕ) (e : Entry) where
   pub record IsSaid (f : FallsApart bound most e) : Type 0 where
     pub found : List Generation
     pub order : IsPermutation f.parts found
-    pub is : answer_in ≡ Found f.rule (finding_with f.cells (Ash (counted_codes (map (part_code f.rule bound) found))))
+    pub is : answer_in ≡ Found f.rule (finding_with f.cells (Ash (ash_onset f.rule f.cells bound) (counted_codes (map (part_code f.rule bound) found))))
 
   pub to_say : (f : FallsApart bound most e) → IsSaid f
   to_say f =
@@ -82,19 +82,19 @@ module _ (bound : ℕ) (most : Option ℕ) (e : Entry) where
   unfolding answer_to_question
   answer_by kept r read = kept_answer (Objects bound most) e kept ∙ ap (answer_to (Objects bound most)) read
 
-  said_by : (rule : Rule) (finding : Finding) (parts : List Part) → answer_in ≡ Found rule finding → finding.outcome ≡ Ash parts
+  said_by : (rule : Rule) (finding : Finding) (onset : ℕ) (parts : List Part) → answer_in ≡ Found rule finding → finding.outcome ≡ Ash onset parts
       → (r : Result Picture RleFault) → picture_of (reading e.text) ≡ r → FallsApart bound most e
-  said_by rule finding parts is ash (Err fault) read =
+  said_by rule finding onset parts is ash (Err fault) read =
       let kept = found_kept (Objects bound most) e rule finding is in
       absurd (let fails = sym is ∙ answer_by kept (Err fault) read in cc)
-  said_by rule finding parts is ash (Ok pattern) read =
+  said_by rule finding onset parts is ash (Ok pattern) read =
       let R = pattern.rule in
       let G = pattern.cells in
       let kept = found_kept (Objects bound most) e rule finding is in
       let same = same_finding rule R finding (finding_to (Objects bound most) R G) (sym is ∙ answer_by kept (Ok pattern) read) in
-      let becomes : outcome_to (Objects bound most) R G ≡ Ash parts = ap (λ (f : Finding). f.outcome) (sym same) ∙ ash in
-      let small = limited-else R G (3 * bound) most (census_of R G bound) (Ash parts) becomes (not_large parts) in
-      let found = ash_found R G bound parts small.1 in
+      let becomes : outcome_to (Objects bound most) R G ≡ Ash onset parts = ap (λ (f : Finding). f.outcome) (sym same) ∙ ash in
+      let small = limited-else R G (3 * bound) most (census_of R G bound) (Ash onset parts) becomes (not_large onset parts) in
+      let found = ash_found R G bound onset parts small.1 in
       record {
         rule = R;
         cells = G;
@@ -105,6 +105,6 @@ module _ (bound : ℕ) (most : Option ℕ) (e : Entry) where
         small = small.0;
       }
 
-  pub said : (rule : Rule) (finding : Finding) (parts : List Part) → answer_in ≡ Found rule finding → finding.outcome ≡ Ash parts
+  pub said : (rule : Rule) (finding : Finding) (onset : ℕ) (parts : List Part) → answer_in ≡ Found rule finding → finding.outcome ≡ Ash onset parts
       → FallsApart bound most e
-  said rule finding parts is ash = said_by rule finding parts is ash (picture_of (reading e.text)) refl
+  said rule finding onset parts is ash = said_by rule finding onset parts is ash (picture_of (reading e.text)) refl

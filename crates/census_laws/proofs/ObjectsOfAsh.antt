@@ -62,8 +62,8 @@ module _ (bound : ℕ) (most : Option ℕ) where
   from_outcome : (k : Object) (e : Entry) (rule : Rule) (finding : Finding) (outcome : Outcome)
       → answer_in bound most e ≡ Found rule finding → finding.outcome ≡ outcome → 1 ≤ parts_as k rule (parts_found outcome)
       → 1 ≤ number k e → IsFrom k e
-  from_outcome k e rule finding (Ash parts) is ash more some =
-      from_fallen k e (said bound most e rule finding parts is ash) some
+  from_outcome k e rule finding (Ash onset parts) is ash more some =
+      from_fallen k e (said bound most e rule finding onset parts is ash) some
   from_outcome k e rule finding _ is becomes none some = absurd (omega arith)
 
   from_answer : (k : Object) (e : Entry) (a : Answer) → answer_in bound most e ≡ a → 1 ≤ fallen_as k a

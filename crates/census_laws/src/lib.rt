@@ -2,13 +2,21 @@
 //! there is one report.
 #![tactic(auto)]
 
-ghost use Rattle.std.specs.Prelude.{◌≡◌, ◌↔◌, ◌++◌, [], ◌∷◌, ℕ, List};
+ghost use Rattle.std.specs.Prelude.{◌≡◌, ◌↔◌, ◌++◌, [], ◌∷◌, ℕ, List, Option, Some};
+ghost use Rattle.census_bundle.specs.declared.bundle.Entry.{Entry};
 ghost use Rattle.census_bundle.specs.declared.bundle.Folder.{Folder};
-ghost use Rattle.census_format.specs.Lines.{end_line, groups_text};
+ghost use Rattle.census_format.specs.Found.{outcome_of};
+ghost use Rattle.census_format.specs.Lines.{answer_to_entry, end_line, groups_text};
 ghost use Rattle.census_format.specs.Reports.{IsReport, folder_section};
+ghost use Rattle.census_rows.specs.Kinds.{said, value_at};
 ghost use Rattle.census_rows.specs.Lines.{text_of};
+ghost use Rattle.census_rows.specs.declared.kinds.Label.TheVariants.{Onset};
+ghost use Rattle.census_rows.specs.declared.kinds.Value.TheVariants.{Number};
+ghost use Rattle.census_laws.specs.Fallen.{FallsApart};
 ghost use Rattle.census_laws.specs.ObjectsOfAsh.{CodesCountObjectsOfAsh};
 ghost use Rattle.life_answer.specs.declared.question.Question.{Question};
+ghost use Rattle.life_answer.specs.declared.question.Question.TheVariants.{Objects};
+ghost use Rattle.life_objects.specs.Onset.{IsAshOnset};
 
 /// Where objects are asked for, each `code` line of a collection counts one object. The line has the object's rule and
 /// code, and its number is how many parts are that object, of all of the collection's patterns that have fallen apart
@@ -16,6 +24,15 @@ ghost use Rattle.life_answer.specs.declared.question.Question.{Question};
 /// such a pattern has exactly one line of its rule and code.
 pub fn codes_count_objects_of_ash()
     ensures { CodesCountObjectsOfAsh }
+{}
+
+/// Where objects are asked for, the line of a pattern that falls apart tells the onset of its ash: the first generation that
+/// is ash within the bound.
+pub fn ash_lines_tell_the_onset()
+    ensures { (bound : ℕ) (most : Option ℕ) (e : Entry) (f : FallsApart bound most e) →
+        (onset : ℕ) × IsAshOnset f.rule bound f.cells onset
+        × (value_at Onset (said (outcome_of (answer_to_entry (Objects bound most) e))).fields
+        ≡ Some (Number onset)) }
 {}
 
 /// Of one collection there is one report: its lines in their order, and the end line.

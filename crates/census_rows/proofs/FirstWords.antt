@@ -12,7 +12,7 @@ use Rattle.census_rows.proofs.Blanks.{one-field}
 -- letters are no blanks
 found-plain : (f : Finding) → HasNoBlank (said_of f).word
 found-plain (finding.Ok onset period dx dy code) = (λ e. omega arith, (λ e. omega arith, tt))
-found-plain (finding.Ash objects) = (λ e. omega arith, (λ e. omega arith, (λ e. omega arith, tt)))
+found-plain (finding.Ash onset objects) = (λ e. omega arith, (λ e. omega arith, (λ e. omega arith, tt)))
 found-plain finding.Unresolved = (λ e. omega arith, (λ e. omega arith, (λ e. omega arith, (λ e. omega arith, tt))))
 found-plain (finding.Large generation) =
     (λ e. omega arith, (λ e. omega arith, (λ e. omega arith, (λ e. omega arith, (λ e. omega arith, tt)))))
@@ -28,7 +28,7 @@ first (byte ∷ bytes) = byte
 -- what was found isn't said by the word of a fault
 pub found-not-bad : (f : Finding) → (said_of f).word ≡ codes "bad" → ⊥
 found-not-bad (finding.Ok onset period dx dy code) e = let no : 111 ≡ 98 = ap first e in omega (arith, no)
-found-not-bad (finding.Ash objects) e = let no : 97 ≡ 98 = ap first e in omega (arith, no)
+found-not-bad (finding.Ash onset objects) e = let no : 97 ≡ 98 = ap first e in omega (arith, no)
 found-not-bad finding.Unresolved e = let no : 110 ≡ 98 = ap first e in omega (arith, no)
 found-not-bad (finding.Large generation) e = let no : 108 ≡ 98 = ap first e in omega (arith, no)
 

@@ -40,7 +40,12 @@ said_of (finding.Ok onset period dx dy code) = record {
   class = Resolved;
   has_parts = false;
 }
-said_of (finding.Ash objects) = record { word = codes "ash"; fields = number label.Objects objects ∷ []; class = Resolved; has_parts = true }
+said_of (finding.Ash onset objects) = record {
+  word = codes "ash";
+  fields = number label.Onset onset ∷ number label.Objects objects ∷ [];
+  class = Resolved;
+  has_parts = true;
+}
 said_of finding.Unresolved = record { word = codes "none"; fields = []; class = Unresolved; has_parts = false }
 said_of (finding.Large generation) =
     record { word = codes "large"; fields = number label.Generation generation ∷ []; class = Unresolved; has_parts = false }

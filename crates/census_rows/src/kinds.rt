@@ -22,7 +22,7 @@ pub enum Label {
     Rule,
     /// How many live cells it has.
     Population,
-    /// The first generation of its cycle.
+    /// The first generation of its cycle, or that is ash.
     Onset,
     /// The length of its cycle.
     Period,
@@ -126,9 +126,15 @@ impl<'a> Finding<'a> {
                 class: Class::Resolved,
                 has_parts: false,
             },
-            Finding::Ash { objects } => Said {
+            Finding::Ash { onset, objects } => Said {
                 word: b"ash",
-                fields: [number(Label::Objects, *objects), None, None, None, None],
+                fields: [
+                    number(Label::Onset, *onset),
+                    number(Label::Objects, *objects),
+                    None,
+                    None,
+                    None,
+                ],
                 class: Class::Resolved,
                 has_parts: true,
             },

@@ -196,6 +196,7 @@ impl<'a> Fields<'a> {
             }
         } else if are_same(word, b"ash") {
             Finding::Ash {
+                onset: self.number(),
                 objects: self.number(),
             }
         } else if are_same(word, b"none") {

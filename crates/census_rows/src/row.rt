@@ -14,6 +14,7 @@ pub enum Finding<'a> {
     },
     /// It has fallen apart.
     Ash {
+        onset: u64,
         objects: u64,
     },
     /// It does neither within the bound.

@@ -222,15 +222,15 @@ module _ (R : Rule) (G : Generation) where
           | inr not ↦ absurd (let apart : Unresolved ≡ Recurs onset period dx dy code = sym not.found ∙ e in cc)
         ]
 
-    ash_apart_settled : (r : Recurrence) (parts : List Part) → recurrence_outcome R G r ≡ Ash parts → ⊥
-    ash_apart_settled r parts e = cc
+    ash_apart_settled : (r : Recurrence) (onset : ℕ) (parts : List Part) → recurrence_outcome R G r ≡ Ash onset parts → ⊥
+    ash_apart_settled r onset parts e = cc
 
     -- no such finding is an ash
-    pub outcome-no_ash : (parts : List Part) → outcome_of R G b ≡ Ash parts → ⊥
-    outcome-no_ash parts e =
+    pub outcome-no_ash : (onset : ℕ) (parts : List Part) → outcome_of R G b ≡ Ash onset parts → ⊥
+    outcome-no_ash onset parts e =
         elim settled_or_not [
-          | inl found ↦ ash_apart_settled found.recurrence parts (sym found.found ∙ e)
-          | inr not ↦ (let apart : Unresolved ≡ Ash parts = sym not.found ∙ e in cc)
+          | inl found ↦ ash_apart_settled found.recurrence onset parts (sym found.found ∙ e)
+          | inr not ↦ (let apart : Unresolved ≡ Ash onset parts = sym not.found ∙ e in cc)
         ]
 
     large_apart_settled : (r : Recurrence) (m : ℕ) → recurrence_outcome R G r ≡ Large m → ⊥

@@ -7,3 +7,4 @@ pub mod Objects
 pub mod Codes
 pub mod Counted
 pub mod Tallying
+pub mod Onsets

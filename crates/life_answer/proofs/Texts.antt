@@ -140,25 +140,25 @@ answer-numbered q text number e =
 same_finding : (r s : Rule) (f g : Finding) → Found r f ≡ Found s g → f ≡ g
 same_finding r s f g e = cc
 
-large_no_ash : (found : Outcome) (o : Option ℕ) (parts : List Part) → (found ≡ Ash parts → ⊥)
-    → unless_large found o ≡ Ash parts → ⊥
-large_no_ash found None parts none e = none e
-large_no_ash found (Some n) parts none e = cc
+large_no_ash : (found : Outcome) (o : Option ℕ) (onset : ℕ) (parts : List Part) → (found ≡ Ash onset parts → ⊥)
+    → unless_large found o ≡ Ash onset parts → ⊥
+large_no_ash found None onset parts none e = none e
+large_no_ash found (Some n) onset parts none e = cc
 
-limited_no_ash : (cells : Option ℕ) (R : Rule) (G : Generation) (b : ℕ) (parts : List Part)
-    → outcome_unless_large cells R G b (outcome_of R G b) ≡ Ash parts → ⊥
-limited_no_ash cells R G b parts e =
-    large_no_ash (outcome_of R G b) (first_past cells R G b) parts (outcome-no_ash R G b parts) e
+limited_no_ash : (cells : Option ℕ) (R : Rule) (G : Generation) (b : ℕ) (onset : ℕ) (parts : List Part)
+    → outcome_unless_large cells R G b (outcome_of R G b) ≡ Ash onset parts → ⊥
+limited_no_ash cells R G b onset parts e =
+    large_no_ash (outcome_of R G b) (first_past cells R G b) onset parts (outcome-no_ash R G b onset parts) e
 
-no_ash_by : (b : ℕ) (cells : Option ℕ) (r : Result Picture RleFault) (rule : Rule) (finding : Finding) (parts : List Part)
-    → answer_to (Settles b cells) r ≡ Found rule finding → finding.outcome ≡ Ash parts → ⊥
-no_ash_by b cells (Ok pattern) rule finding parts e ash =
-    limited_no_ash cells pattern.rule pattern.cells b parts
+no_ash_by : (b : ℕ) (cells : Option ℕ) (r : Result Picture RleFault) (rule : Rule) (finding : Finding) (onset : ℕ) (parts : List Part)
+    → answer_to (Settles b cells) r ≡ Found rule finding → finding.outcome ≡ Ash onset parts → ⊥
+no_ash_by b cells (Ok pattern) rule finding onset parts e ash =
+    limited_no_ash cells pattern.rule pattern.cells b onset parts
     (ap (λ (f : Finding). f.outcome) (same_finding pattern.rule rule _ _ e) ∙ ash)
-no_ash_by b cells (Err fault) rule finding parts e ash = cc
+no_ash_by b cells (Err fault) rule finding onset parts e ash = cc
 
 -- where the question is which generation comes again, no answer is an ash
-pub answer-no_ash : (text : List ℕ) (b : ℕ) (cells : Option ℕ) (rule : Rule) (finding : Finding) (parts : List Part)
-    → answer_to_question (Settles b cells) text ≡ Found rule finding → finding.outcome ≡ Ash parts → ⊥
+pub answer-no_ash : (text : List ℕ) (b : ℕ) (cells : Option ℕ) (rule : Rule) (finding : Finding) (onset : ℕ) (parts : List Part)
+    → answer_to_question (Settles b cells) text ≡ Found rule finding → finding.outcome ≡ Ash onset parts → ⊥
 unfolding answer_to_question
-answer-no_ash text b cells rule finding parts e ash = no_ash_by b cells (picture_of (reading text)) rule finding parts e ash
+answer-no_ash text b cells rule finding onset parts e ash = no_ash_by b cells (picture_of (reading text)) rule finding onset parts e ash

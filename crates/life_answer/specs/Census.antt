@@ -1,11 +1,12 @@
 -- What a pattern falls apart into, counted by codes.
-use Rattle.std.specs.Prelude.{ℕ, List, [], Option, Some, None, map}
+use Rattle.std.specs.Prelude.{ℕ, List, [], Bool, Option, Some, None, is_some, map, unwrap_or}
 use Rattle.life_model.specs.Rule.{Rule}
 use Rattle.life_model.specs.Generation.{Generation}
 use Rattle.life_model.specs.Evolution.{generation}
 use Rattle.life_decided.specs.Decided.{ash_of}
 use Rattle.life_answer.specs.Answers.{outcome_of}
 use Rattle.life_answer.specs.Parts.{counted_codes}
+use Rattle.life_answer.specs.Recurrence.{first_from}
 use Rattle.life_answer.specs.declared.part.Part.{Part}
 use Rattle.life_answer.specs.declared.finding.Outcome.{Outcome}
 use Rattle.life_answer.specs.declared.finding.Outcome.TheVariants.{Ash, Recurs, Unresolved}
@@ -17,17 +18,26 @@ code_found _ = []
 
 -- the parts that were found, or none
 abbrev pub parts_found : Outcome → List Part
-parts_found (Ash parts) = parts
+parts_found (Ash onset parts) = parts
 parts_found _ = []
 
 -- the code that is found of a part alone
 abbrev pub part_code : Rule → ℕ → Generation → List ℕ
 part_code R b P = code_found (outcome_of R P b)
 
-abbrev pub census_found : Rule → ℕ → Option (List Generation) → Outcome
-census_found R b None = Unresolved
-census_found R b (Some parts) = Ash (counted_codes (map (part_code R b) parts))
+-- whether generation n is ash within b
+abbrev pub is_ash_then : Rule → Generation → ℕ → ℕ → Bool
+is_ash_then R G b n = is_some (ash_of R b (generation R G n))
 
--- What becomes of a set that is to fall apart within b: the objects into which generation b falls apart, where it does.
+-- the first generation up to generation b that is ash within b, where generation b is
+unfoldable pub ash_onset : Rule → Generation → ℕ → ℕ
+ash_onset R G b = unwrap_or (first_from (is_ash_then R G b) 0 b) b
+
+abbrev pub census_found : Rule → ℕ → ℕ → Option (List Generation) → Outcome
+census_found R b onset None = Unresolved
+census_found R b onset (Some parts) = Ash onset (counted_codes (map (part_code R b) parts))
+
+-- What becomes of a set that is to fall apart within b: the onset of its ash, and the objects into which generation b falls
+-- apart, where it does.
 unfoldable pub census_of : Rule → Generation → ℕ → Outcome
-census_of R G b = census_found R b (ash_of R b (generation R G b))
+census_of R G b = census_found R b (ash_onset R G b) (ash_of R b (generation R G b))

@@ -41,6 +41,8 @@ pub enum Outcome {
     },
     /// It has fallen apart into objects.
     Ash {
+        /// The first generation that is ash within the bound.
+        onset: u32,
         /// The objects.
         parts: Parts,
     },
@@ -52,7 +54,7 @@ impl Outcome {
         ensures { result.now ≡ parts_found self.now }
     {
         match self {
-            Outcome::Ash { parts } => parts.as_slice(),
+            Outcome::Ash { parts, .. } => parts.as_slice(),
             _ => &[],
         }
     }

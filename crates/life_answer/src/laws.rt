@@ -4,11 +4,14 @@ ghost use Rattle.life_model.specs.Evolution.{generation};
 ghost use Rattle.life_model.specs.Generation.{Generation, size};
 ghost use Rattle.life_model.specs.Recurrence.{AreOneObject, Recurrence, Settles, SettlesAt};
 ghost use Rattle.life_model.specs.Rule.{Rule};
+ghost use Rattle.life_objects.specs.Ash.{HasFallenApart};
+ghost use Rattle.life_objects.specs.Onset.{IsAshOnset};
 ghost use Rattle.life_text.specs.declared.rle.RleFault.{RleFault};
 ghost use Rattle.life_text.specs.Picture.{Picture, picture_of};
 ghost use Rattle.life_text.specs.Rle.{reading, refusal};
 ghost use Rattle.life_answer.specs.Answers.{fault_number, finding_of};
 ghost use Rattle.life_answer.specs.Apgcode.{code_of};
+ghost use Rattle.life_answer.specs.Census.{ash_onset, census_of};
 ghost use Rattle.life_answer.specs.declared.finding.Finding.{Finding};
 ghost use Rattle.life_answer.specs.declared.finding.Outcome.TheVariants.{Ash, Recurs, Unresolved};
 ghost use Rattle.life_answer.specs.declared.finding.Answer.TheVariants.{Found, Refused};
@@ -69,9 +72,20 @@ pub fn a_text_is_found_or_refused()
 /// Where it is asked which generation comes again, no answer is that a pattern has fallen apart.
 pub fn what_comes_again_is_no_ash()
     ensures { (text : List ℕ) (b : ℕ) (cells : Option ℕ) (rule : Rule) (finding : Finding)
-        (parts : List Part) →
+        (onset : ℕ) (parts : List Part) →
         answer_to_question (AsksSettling b cells) text ≡ Found rule finding →
-        finding.outcome ≡ Ash parts → ⊥ }
+        finding.outcome ≡ Ash onset parts → ⊥ }
+{}
+
+/// Where it is found that a pattern has fallen apart within a bound, the onset that is found is that of its ash, and no other
+/// number is. Within each other bound within which it has fallen apart it is the same.
+pub fn the_onset_of_ash_is_found()
+    ensures found { (R : Rule) (G : Generation) (b onset : ℕ) (parts : List Part) →
+        census_of R G b ≡ Ash onset parts → IsAshOnset R b G onset }
+    ensures only { (R : Rule) (G : Generation) (b onset : ℕ) (parts : List Generation) →
+        HasFallenApart R b G parts → IsAshOnset R b G onset → ash_onset R G b ≡ onset }
+    ensures same { (R : Rule) (G : Generation) (b c onset other : ℕ) (parts others : List Part) →
+        census_of R G b ≡ Ash onset parts → census_of R G c ≡ Ash other others → onset ≡ other }
 {}
 
 /// The first generation past a limit is the first that has more cells than allowed, and there is none exactly where all

@@ -7,7 +7,6 @@ pub mod Ends
 pub mod Cores
 pub mod Following
 pub mod Objects
-pub mod Later
 pub mod Limits
 pub mod Totals
 pub mod Firsts

@@ -3,7 +3,6 @@ ghost use Rattle.std.specs.Prelude.{◌≡◌, ℕ, ◌≤◌, ◌↔◌, All, I
 ghost use Rattle.life_model.specs.Generation.{Generation};
 ghost use Rattle.life_objects.specs.Ash.{IsAsh};
 ghost use Rattle.life_ash.specs.Ahead.{IsAshThen};
-ghost use Rattle.life_ash.specs.Later.{courses_after};
 ghost use Rattle.life_orbit.specs.Course.{IsCourse};
 ghost use Rattle.life_apart.specs.Sets.{IsCourseBy, sets_of};
 ghost use Rattle.life_ash.specs.Parts.{IsFit, IsPlaced, ash_age_limit};
@@ -21,17 +20,15 @@ use life_tally::Pace;
 use std::alloc::{AllocError, Global};
 use std::marker::Model;
 
-/// The parts of ash: each is what the set of an orbit has become after a number of generations, the same for all.
+/// The parts of ash.
 #[derive(Drop)]
 pub struct Ash {
     orbits: Vec<Orbit>,
-    age: u32,
 }
 
 impl Model for Ash {
     ghost use Rattle.std.specs.Prelude.{All, List};
     ghost use Rattle.std.specs.Coded.{coded_list};
-    ghost use Rattle.life_ash.specs.Later.{courses_after};
     ghost use Rattle.life_ash.specs.Parts.{IsPlaced};
     ghost use Rattle.life_orbit.specs.Course.{Course, IsCourse, coded_course};
 
@@ -39,24 +36,24 @@ impl Model for Ash {
 
     ghost coded = { coded_list coded_course };
 
-    ghost view = { λ a. courses_after a.age a.orbits.items };
+    ghost view = { λ a. a.orbits.items };
 
     ghost invariant = { λ a. All IsPlaced a.orbits.items × All IsCourse a.orbits.items };
 }
 
 impl Ash {
-    /// What the sets of these orbits become after so many generations.
-    pub fn of(orbits: Vec<Orbit>, age: u32) -> Ash
+    /// The sets of these orbits, whose cells are places at age 400,000.
+    pub fn of(orbits: Vec<Orbit>) -> Ash
         requires placed { All IsPlaced orbits.items }
         requires courses { All IsCourse orbits.items }
-        ensures { result ≡ courses_after age orbits.items }
+        ensures { result ≡ orbits.items }
     {
-        Ash { orbits, age }
+        Ash { orbits }
     }
 
-    /// The orbits of which the parts are later generations.
+    /// The orbits of the parts.
     pub fn orbits(&self) -> &[Orbit]
-        ensures later { (age : ℕ) × (self.now ≡ courses_after age result.now) }
+        ensures value { result.now ≡ self.now }
         ensures placed { All IsPlaced result.now }
         ensures courses { All IsCourse result.now }
     {
@@ -107,7 +104,7 @@ fn ash_if<P: Plane>(
     if !is_ash(alloc, plane, parts.as_slice(), &rule, bound)? {
         return Ok(None);
     }
-    Ok(Some(Ash::of(parts, 0)))
+    Ok(Some(Ash::of(parts)))
 }
 
 /// The ash that a plane's cells are within the bound of what is known, where they are ash at all.
@@ -149,7 +146,7 @@ pub fn ash_before<P: Plane>(
         IsAsh known.old.rule known.old.bound (P.members plane.now) parts → ⊥)) }
 {
     if ago == 0 {
-        return Ok(Some(Ash::of(later, 0)));
+        return Ok(Some(Ash::of(later)));
     }
     match parts_before(alloc, plane, known, later.as_slice(), ago)? {
         Some(parts) => ash_if(alloc, plane, known, parts),

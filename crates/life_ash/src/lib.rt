@@ -23,5 +23,5 @@ mod whole;
 pub use ash_orbits::{Ash, ash_of, is_ash};
 pub use guess::guessed_parts;
 pub use known::Known;
-pub use pattern::{ash, fate};
+pub use pattern::fate;
 pub use pattern_fate::Fate;

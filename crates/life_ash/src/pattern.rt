@@ -21,17 +21,17 @@ use life_plane::Plane;
 use life_tally::Pace;
 use std::alloc::{AllocError, Global};
 
-/// What becomes of a pattern of which no generation up to three times the bound is past the limit, and of which
-/// generation b is this ash or none.
-fn fate_of(ash: Option<Ash>) -> Fate
-    ensures { (R : ModelRule) (G : Generation) (b : ℕ) (limit : Option ℕ) →
-        IsSmallEnough R G b limit →
-        IfSome ash (λ ash. HasFallenApart R b G (sets_of ash) × All (IsCourseBy R) ash) →
-        IfNone ash ((parts : List Generation) → HasFallenApart R b G parts → ⊥) →
-        IsFate R G b limit result }
+/// What becomes of a pattern of which no generation up to three times the bound is past the limit, and of which the
+/// generation of the bound is this ash or none.
+fn fate_of(ash: Option<Ash>, bound: u32) -> Fate
+    ensures { (R : ModelRule) (G : Generation) (limit : Option ℕ) →
+        IsSmallEnough R G bound limit →
+        IfSome ash (λ ash. HasFallenApart R bound G (sets_of ash) × All (IsCourseBy R) ash) →
+        IfNone ash ((parts : List Generation) → HasFallenApart R bound G parts → ⊥) →
+        IsFate R G bound limit result }
 {
     match ash {
-        Some(ash) => Fate::Ash(ash),
+        Some(ash) => Fate::Ash { ash, age: bound },
         None => Fate::Unresolved,
     }
 }
@@ -56,8 +56,10 @@ fn fate_past<P: Plane>(
     let bound = met.bound();
     Ok(match found_past(alloc, plane, met, pace, limit)? {
         Found::Large { generation } => Fate::Large { generation },
-        Found::Parts { parts, age } => fate_of(ash_before(alloc, plane, met, parts, age - bound)?),
-        Found::Nothing => fate_of(ash_told(alloc, plane, met, pace)?),
+        Found::Parts { parts, age } => {
+            fate_of(ash_before(alloc, plane, met, parts, age - bound)?, bound)
+        }
+        Found::Nothing => fate_of(ash_told(alloc, plane, met, pace)?, bound),
     })
 }
 
@@ -88,28 +90,10 @@ pub fn fate<P: Plane>(
         3 * bound,
     )? {
         Found::Large { generation } => Ok(Fate::Large { generation }),
-        Found::Parts { parts, age } => Ok(Fate::Ash(Ash::of(parts, bound - age))),
+        Found::Parts { parts, age } => Ok(Fate::Ash {
+            ash: Ash::of(parts),
+            age,
+        }),
         Found::Nothing => fate_past(alloc, &plane, &mut met, &mut pace, limit),
     }
-}
-
-/// What a pattern falls apart into within the bound, where it does.
-pub fn ash<P: Plane>(
-    alloc: Global,
-    rule: &Rule,
-    cells: &CellList,
-    bound: u32,
-) -> Result<Option<Ash>, AllocError>
-    requires bound { 1 ≤ bound × bound ≤ BOUND_LIMIT }
-    requires fits { All (IsWithin 0) (generations.cells cells.now) }
-    ensures some { IfOk result (λ found. IfSome found (λ ash.
-        HasFallenApart rule.now bound cells.now (sets_of ash))) }
-    ensures rule { IfOk result (λ found. IfSome found (λ ash. All (IsCourseBy rule.now) ash)) }
-    ensures none { IfOk result (λ found. IfNone found ((parts : List Generation) →
-        HasFallenApart rule.now bound cells.now parts → ⊥)) }
-{
-    Ok(match fate::<P>(alloc, rule, cells, bound, None)? {
-        Fate::Ash(ash) => Some(ash),
-        _ => None,
-    })
 }

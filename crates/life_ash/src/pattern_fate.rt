@@ -4,8 +4,13 @@ use crate::ash_orbits::Ash;
 /// What becomes of a pattern within a bound, if no generation may have more cells than some number.
 #[derive(Drop)]
 pub enum Fate {
-    /// It falls apart into these parts.
-    Ash(Ash),
+    /// It falls apart.
+    Ash {
+        /// The parts.
+        ash: Ash,
+        /// The age of the generation that is ash of these parts, which is no greater than the bound.
+        age: u32,
+    },
     /// It has not fallen apart by the bound.
     Unresolved,
     /// Some generation from 0 to three times the bound has more cells than it may have.

@@ -14,7 +14,7 @@ use Rattle.life_growth.proofs.Alike.{count_later, later_ashes_are_alike}
 use Rattle.life_growth.proofs.Lasting.{growth_later, growth_sooner, shed}
 use Rattle.life_growth.proofs.Settling.{settles_later}
 use Rattle.life_decided.specs.Decided.{ash_of}
-use Rattle.life_answer.specs.Census.{census_found, census_of, part_code}
+use Rattle.life_answer.specs.Census.{ash_onset, census_found, census_of, part_code}
 use Rattle.life_answer.specs.declared.finding.Outcome.TheVariants as outcome
 use Rattle.life_answer.specs.declared.part.Part.{Part}
 use Rattle.life_answer.proofs.Tallying.{counted_permutation}
@@ -113,24 +113,27 @@ module _ (R : Rule) where
     abbrev last : Generation
     last = generation R G b
 
-    to_census : (o : Option (List Generation)) (g : Option (List Generation × Generation)) (told : List Part) →
-        told_of_fate R b (fate_found o g) ≡ OfAsh told → census_found R b o ≡ outcome.Ash told
-    to_census (Some parts) g told e =
-        let same : counted_objects R b parts ≡ told = cc in ap outcome.Ash same
-    to_census None (Some g) told e = absurd cc
-    to_census None None told e = absurd cc
+    to_census : (o : Option (List Generation)) (g : Option (List Generation × Generation)) (first onset : ℕ) (told : List Part) →
+        (told_of_fate R b (fate_found o g) ≡ OfAsh told) × (first ≡ onset) → census_found R b first o ≡ outcome.Ash onset told
+    to_census (Some parts) g first onset told e =
+        let counted = e.0 in
+        let same : counted_objects R b parts ≡ told = cc in
+        ap (λ parts. outcome.Ash first parts) same ∙ ap (λ t. outcome.Ash t told) e.1
+    to_census None (Some g) first onset told e = absurd (let counted = e.0 in cc)
+    to_census None None first onset told e = absurd (let counted = e.0 in cc)
 
-    from_census : (o : Option (List Generation)) (g : Option (List Generation × Generation)) (told : List Part) →
-        census_found R b o ≡ outcome.Ash told → told_of_fate R b (fate_found o g) ≡ OfAsh told
-    from_census (Some parts) g told e =
-        let same : counted_objects R b parts ≡ told = cc in ap OfAsh same
-    from_census None g told e = absurd cc
+    from_census : (o : Option (List Generation)) (g : Option (List Generation × Generation)) (first onset : ℕ) (told : List Part) →
+        census_found R b first o ≡ outcome.Ash onset told → (told_of_fate R b (fate_found o g) ≡ OfAsh told) × (first ≡ onset)
+    from_census (Some parts) g first onset told e =
+        let same : counted_objects R b parts ≡ told = cc in (ap OfAsh same, (let begun : first ≡ onset = cc in begun))
+    from_census None g first onset told e = absurd cc
 
-    pub census_told : (told : List Part) → (told_of R b G ≡ OfAsh told) ↔ (census_of R G b ≡ outcome.Ash told)
+    pub census_told : (onset : ℕ) (told : List Part) →
+        ((told_of R b G ≡ OfAsh told) × (ash_onset R G b ≡ onset)) ↔ (census_of R G b ≡ outcome.Ash onset told)
     unfolding told_of fate_of census_of
-    census_told told = (
-      to_census (ash_of R b last) (growth_of R b last) told,
-      from_census (ash_of R b last) (growth_of R b last) told,
+    census_told onset told = (
+      to_census (ash_of R b last) (growth_of R b last) (ash_onset R G b) onset told,
+      from_census (ash_of R b last) (growth_of R b last) (ash_onset R G b) onset told,
     )
 
   -- ---- what is seen sooner

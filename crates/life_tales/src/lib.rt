@@ -14,7 +14,7 @@ ghost use Rattle.life_objects.specs.Ash.{HasFallenApart, IsAsh};
 ghost use Rattle.life_growth.specs.Engine.{Emits, IsEngine, IsEngineWithin, Way};
 ghost use Rattle.life_growth.specs.Growth.{HasComeToGrowth, IsGrowth};
 ghost use Rattle.life_growth.specs.Told.{AreToldAlike};
-ghost use Rattle.life_answer.specs.Census.{census_of};
+ghost use Rattle.life_answer.specs.Census.{ash_onset, census_of};
 ghost use Rattle.life_answer.specs.Limited.{StaysWithin, outcome_unless_large};
 ghost use Rattle.life_answer.specs.declared.finding.Outcome.TheVariants.{Ash};
 ghost use Rattle.life_answer.specs.declared.part.Part.{Part};
@@ -70,8 +70,8 @@ pub fn what_is_told_is_right()
     ensures otherwise { (R : Rule) (b : ℕ) (G : Generation) →
         ((parts : List Generation) → HasFallenApart R b G parts → ⊥) →
         ((S : Generation) (Es : List Generation) → HasComeToGrowth R b G Es S → ⊥) → told_of R b G ≡ Nothing }
-    ensures census { (R : Rule) (b : ℕ) (G : Generation) (parts : List Part) →
-        (told_of R b G ≡ OfAsh parts) ↔ (census_of R G b ≡ Ash parts) }
+    ensures census { (R : Rule) (b onset : ℕ) (G : Generation) (parts : List Part) →
+        ((told_of R b G ≡ OfAsh parts) × (ash_onset R G b ≡ onset)) ↔ (census_of R G b ≡ Ash onset parts) }
 {}
 
 /// Only what is so is told: ash of what has fallen apart, and growth of what has come to it.

@@ -13,7 +13,7 @@ use Rattle.census_format.specs.Objects.{objects, outcome_objects}
 use Rattle.census_format.proofs.AshParts.{length-part_objects}
 use Rattle.life_answer.specs.Answers.{fault_number}
 use Rattle.life_answer.specs.Apgcode.{bodies, code_of, prefix}
-use Rattle.life_answer.specs.Census.{census_found, census_of, code_found, part_code, parts_found}
+use Rattle.life_answer.specs.Census.{ash_onset, census_found, census_of, code_found, part_code, parts_found}
 use Rattle.life_answer.specs.Limited.{first_past, unless_large}
 use Rattle.life_answer.specs.Parts.{with_code_by_order, counted_codes, objects_in, with_code}
 use Rattle.life_answer.specs.Questions.{IsAnswered, answer_to, answer_to_question, finding_to}
@@ -25,6 +25,7 @@ use Rattle.life_answer.specs.declared.part.Part.{Part}
 use Rattle.life_answer.specs.declared.question.Question.{Question}
 use Rattle.life_answer.specs.declared.question.Question.TheVariants.{Objects}
 use Rattle.life_answer.proofs.Findings.{settled_or_not}
+use Rattle.life_answer.proofs.Onsets.{ash_onset-within}
 use Rattle.life_answer.proofs.Tallying.{counted_all}
 use Rattle.life_ash.proofs.Limits.{past_within}
 use Rattle.life_ash.proofs.Places.{generation_within, place_of}
@@ -142,7 +143,7 @@ module _ (R : Rule) (G : Generation) (b : ℕ) (few : b ≤ objects_bound_limit)
       omega arith
 
   ash-ranged : (parts : List Generation) → ash_of R b last ≡ Some parts
-      → IsRanged (Ash (counted_codes (map (part_code R b) parts)))
+      → IsRanged (Ash (ash_onset R G b) (counted_codes (map (part_code R b) parts)))
   ash-ranged parts e =
       let ash = ash_if_found R b last parts e in
       let all = map (part_code R b) parts in
@@ -151,9 +152,10 @@ module _ (R : Rule) (G : Generation) (b : ℕ) (few : b ≤ objects_bound_limit)
       let long : length all ≡ length parts = length-map parts (part_code R b) in
       let small : objects_in (counted_codes all) ≤ 2 ^ 48 = omega arith in
       let fits : objects_in (counted_codes all) < 2 ^ 64 = omega arith in
-      (((fits, tt), counted-some all [] (parts-some R b parts ash.objects) tt), small)
+      let early : ash_onset R G b < 2 ^ 64 = let by_then = ash_onset-within R G b in omega arith in
+      (((early, fits, tt), counted-some all [] (parts-some R b parts ash.objects) tt), small)
 
-  found-ranged : (o : Option (List Generation)) → ash_of R b last ≡ o → IsRanged (census_found R b o)
+  found-ranged : (o : Option (List Generation)) → ash_of R b last ≡ o → IsRanged (census_found R b (ash_onset R G b) o)
   found-ranged None e = ((tt, tt), omega arith)
   found-ranged (Some parts) e = ash-ranged parts e
 
@@ -227,7 +229,7 @@ objects_are_told bound limit text answered =
 
 few-parts : (rule : Rule) (outcome : Outcome) → objects_in (parts_found outcome) ≤ 2 ^ 48 → length (outcome_objects rule outcome) ≤ 2 ^ 48
 few-parts rule (Recurs onset period dx dy code) h = omega arith
-few-parts rule (Ash parts) h = let each = length-part_objects rule parts in omega (arith, each, h)
+few-parts rule (Ash onset parts) h = let each = length-part_objects rule parts in omega (arith, each, h)
 few-parts rule _ h = omega arith
 
 few-objects : (found : List Answer) → Each IsRangedAnswer found → length (objects found) ≤ 2 ^ 48 * length found

@@ -64,7 +64,7 @@ fault-small Memory = omega arith
 
 -- it is not found that a pattern has fallen apart
 abbrev IsWhole : Outcome → Type 0
-IsWhole (Ash parts) = ⊥
+IsWhole (Ash onset parts) = ⊥
 IsWhole _ = ⊤
 
 abbrev IsWholeAnswer : Answer → Type 0
@@ -73,7 +73,7 @@ IsWholeAnswer (Refused number) = ⊤
 
 whole-outcome : (rule : Rule) (outcome : Outcome) → IsWhole outcome → length (outcome_objects rule outcome) ≤ 1
 whole-outcome rule (Recurs onset period dx dy code) h = omega arith
-whole-outcome rule (Ash parts) h = absurd h
+whole-outcome rule (Ash onset parts) h = absurd h
 whole-outcome rule _ h = omega arith
 
 -- patterns that have not fallen apart are at most one object each
@@ -148,7 +148,7 @@ module _ (bound : ℕ) (cells : Option ℕ) (answered : IsAnswered (Settles boun
   -- no pattern has fallen apart
   whole-by : (text : List ℕ) (rule : Rule) (finding : Finding) (outcome : Outcome) → answer_to_question (Settles bound cells) text ≡ Found rule finding
       → finding.outcome ≡ outcome → IsWhole outcome
-  whole-by text rule finding (Ash parts) e ash = answer-no_ash text bound cells rule finding parts e ash
+  whole-by text rule finding (Ash onset parts) e ash = answer-no_ash text bound cells rule finding onset parts e ash
   whole-by text rule finding _ e becomes = tt
 
   answer-whole : (text : List ℕ) (found : Answer) → answer_to_question (Settles bound cells) text ≡ found → IsWholeAnswer found

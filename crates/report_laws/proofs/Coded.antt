@@ -8,7 +8,7 @@ use Rattle.census_bundle.specs.declared.bundle.Entry.{Entry}
 use Rattle.census_format.specs.Lines.{answer_to_entry, answers}
 use Rattle.census_format.specs.Objects.{Object, distinct_elements, object, objects, outcome_objects, part_objects, tally}
 use Rattle.life_answer.specs.Answers.{outcome_at, outcome_from, outcome_of}
-use Rattle.life_answer.specs.Census.{census_found, census_of, code_found, part_code, parts_found}
+use Rattle.life_answer.specs.Census.{ash_onset, census_found, census_of, code_found, part_code, parts_found}
 use Rattle.life_answer.specs.Limited.{unless_large}
 use Rattle.life_answer.specs.Parts.{with_code_by_order, with_code}
 use Rattle.life_answer.specs.Questions.{answer_to, answer_to_question, outcome_to}
@@ -34,11 +34,11 @@ IsSolidPart part = IsSolid part.code
 -- the codes of an outcome have no blank
 abbrev pub IsCoded : Outcome → Type 0
 IsCoded (Recurs onset period dx dy code) = IsSolid code
-IsCoded (Ash parts) = Each IsSolidPart parts
+IsCoded (Ash onset parts) = Each IsSolidPart parts
 IsCoded _ = ⊤
 
 pub parts-solid : (outcome : Outcome) → IsCoded outcome → Each IsSolidPart (parts_found outcome)
-parts-solid (Ash parts) h = h
+parts-solid (Ash onset parts) h = h
 parts-solid _ h = tt
 
 abbrev pub IsCodedAnswer : Answer → Type 0
@@ -77,14 +77,14 @@ counted-solid : (codes : List (List ℕ)) (parts : List Part) → Each IsSolid c
 counted-solid [] parts h k = k
 counted-solid (code ∷ codes) parts h k = counted-solid codes (with_code code parts) h.1 (with-solid code parts h.0 k)
 
-census-found-coded : (R : Rule) (b : ℕ) (parts : Option (List Generation)) → IsCoded (census_found R b parts)
-census-found-coded R b None = tt
-census-found-coded R b (Some parts) =
+census-found-coded : (R : Rule) (b onset : ℕ) (parts : Option (List Generation)) → IsCoded (census_found R b onset parts)
+census-found-coded R b onset None = tt
+census-found-coded R b onset (Some parts) =
     counted-solid (map (part_code R b) parts) [] (each-map IsSolid (part_code R b) (λ P. found-solid (outcome_of R P b) (outcome-coded R P b)) parts) tt
 
 census-coded : (R : Rule) (G : Generation) (b : ℕ) → IsCoded (census_of R G b)
 unfolding census_of
-census-coded R G b = census-found-coded R b (ash_of R b (generation R G b))
+census-coded R G b = census-found-coded R b (ash_onset R G b) (ash_of R b (generation R G b))
 
 unless-coded : (outcome : Outcome) (large : Option ℕ) → IsCoded outcome → IsCoded (unless_large outcome large)
 unless-coded outcome None h = h
@@ -121,7 +121,7 @@ parts-coded rule (part ∷ parts) h =
 
 outcome-objects-coded : (rule : Rule) (outcome : Outcome) → IsCoded outcome → Each IsSolidObject (outcome_objects rule outcome)
 outcome-objects-coded rule (Recurs onset period dx dy code) h = (h, tt)
-outcome-objects-coded rule (Ash parts) h = parts-coded rule parts h
+outcome-objects-coded rule (Ash onset parts) h = parts-coded rule parts h
 outcome-objects-coded rule _ h = tt
 
 objects-coded : (found : List Answer) → Each IsCodedAnswer found → Each IsSolidObject (objects found)

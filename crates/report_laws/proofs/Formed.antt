@@ -37,7 +37,7 @@ parts-ordered c i (p ∷ parts) rest h = (refl, refl, parts-ordered c i parts re
 
 outcome-ordered : (c i : ℕ) (rule : Rule) (population : ℕ) (outcome : becomes.Outcome) (rest : List Row) → ((ash : Bool) → AreLines i ash rest)
     → AreLines i (said (row_outcome rule population outcome)).has_parts (map (part_row c i) (parts_found outcome) ++ rest)
-outcome-ordered c i rule population (Ash parts) rest h = parts-ordered c i parts rest (h true)
+outcome-ordered c i rule population (Ash onset parts) rest h = parts-ordered c i parts rest (h true)
 outcome-ordered c i rule population _ rest h = h false
 
 after-ordered : (c i : ℕ) (found : Answer) (rest : List Row) → ((ash : Bool) → AreLines i ash rest) → AreLines i (said (outcome_of found)).has_parts (part_rows c i found ++ rest)

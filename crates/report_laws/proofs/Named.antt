@@ -95,9 +95,9 @@ outcome-cut c i rule population Unresolved name h k =
 outcome-cut c i rule population (Large generation) name h k =
     long-parsed c (decimal i) (codes "large") (rule_text rule) (decimal population ∷ decimal generation ∷ name ∷ [])
     (decimal-solid i, (solid-checked (codes "large") refl, (rule-solid rule, (decimal-solid population, (decimal-solid generation, k))))) refl
-outcome-cut c i rule population (Ash parts) name h k =
-    long-parsed c (decimal i) (codes "ash") (rule_text rule) (decimal population ∷ decimal (objects_in parts) ∷ name ∷ [])
-    (decimal-solid i, (solid-checked (codes "ash") refl, (rule-solid rule, (decimal-solid population, (decimal-solid (objects_in parts), k))))) refl
+outcome-cut c i rule population (Ash onset parts) name h k =
+    long-parsed c (decimal i) (codes "ash") (rule_text rule) (decimal population ∷ decimal onset ∷ decimal (objects_in parts) ∷ name ∷ [])
+    (decimal-solid i, (solid-checked (codes "ash") refl, (rule-solid rule, (decimal-solid population, (decimal-solid onset, (decimal-solid (objects_in parts), k)))))) refl
 
 answer-cut : (c i : ℕ) (found : Answer) (name : List ℕ) → IsCodedAnswer found → HasNoFeed name → IsParsed (spelling (pattern_row c i found name))
 answer-cut c i (Found rule finding) name h k = outcome-cut c i rule finding.population finding.outcome name h k

@@ -135,9 +135,9 @@ line-parsed c p (outcomes.Found rule population (findings.Ok onset period dx dy 
     (decimal population ∷ decimal onset ∷ decimal period ∷ signed_decimal dx ∷ signed_decimal dy ∷ code.now ∷ name ∷ [])
     (plain-line, (number c, (number p, (plain-ok, (h.0.1, (number population, (number onset, (number period, (dx_plain, (dy_plain, (h.1.1.1.1.1.1.0.1, tt)))))))))))
     refl
-line-parsed c p (outcomes.Found rule population (findings.Ash objects)) name h =
-    parsed-line (decimal c) (decimal p) (codes "ash") rule.now (decimal population ∷ decimal objects ∷ name ∷ [])
-    (plain-line, (number c, (number p, (plain-ash, (h.0.1, (number population, (number objects, tt)))))))
+line-parsed c p (outcomes.Found rule population (findings.Ash onset objects)) name h =
+    parsed-line (decimal c) (decimal p) (codes "ash") rule.now (decimal population ∷ decimal onset ∷ decimal objects ∷ name ∷ [])
+    (plain-line, (number c, (number p, (plain-ash, (h.0.1, (number population, (number onset, (number objects, tt))))))))
     refl
 line-parsed c p (outcomes.Found rule population findings.Unresolved) name h =
     parsed-line (decimal c) (decimal p) (codes "none") rule.now (decimal population ∷ name ∷ [])

@@ -47,7 +47,7 @@ row-outcome-fits rule population (Recurs onset period dx dy code) few h k =
     (rule-word rule, (few, (h.0.0, (h.0.1.0, (h.0.1.1.0, (h.0.1.1.1.0, (word code h.0.1.1.1.1.0 k, tt)))))))
 row-outcome-fits rule population Unresolved few h k = (rule-word rule, (few, tt))
 row-outcome-fits rule population (Large generation) few h k = (rule-word rule, (few, (h.0.0, tt)))
-row-outcome-fits rule population (Ash parts) few h k = (rule-word rule, (few, (h.0.0, tt)))
+row-outcome-fits rule population (Ash onset parts) few h k = (rule-word rule, (few, (h.0.0, (h.0.1.0, tt))))
 
 outcome-fits : (found : Answer) → IsToldAnswer found → IsCodedAnswer found → IsOutcome (outcome_of found)
 outcome-fits (Found rule finding) h k = row-outcome-fits rule finding.population finding.outcome h.0 h.1 k
@@ -63,7 +63,7 @@ parts-fit c i (p ∷ parts) a b few some h =
 
 found-fit : (c i : ℕ) (outcome : becomes.Outcome) → c < 2 ^ 64 → i < 2 ^ 64 → FitsOutcome outcome → IsCoded outcome
     → Each (IsFit c) (map (part_row c i) (parts_found outcome))
-found-fit c i (Ash parts) a b h k = parts-fit c i parts a b h.0.0 h.1 k
+found-fit c i (Ash onset parts) a b h k = parts-fit c i parts a b h.0.1.0 h.1 k
 found-fit c i _ a b h k = tt
 
 after-fit : (c i : ℕ) (found : Answer) → c < 2 ^ 64 → i < 2 ^ 64 → IsToldAnswer found → IsCodedAnswer found → Each (IsFit c) (part_rows c i found)
@@ -93,7 +93,7 @@ parts-some rule (p ∷ parts) h =
 
 outcome-some : (rule : Rule) (outcome : becomes.Outcome) → FitsOutcome outcome → Each HasObjectCode (outcome_objects rule outcome)
 outcome-some rule (Recurs onset period dx dy code) h = (h.0.1.1.1.1.0, tt)
-outcome-some rule (Ash parts) h = parts-some rule parts h.1
+outcome-some rule (Ash onset parts) h = parts-some rule parts h.1
 outcome-some rule _ h = tt
 
 pub objects-some : (found : List Answer) → Each IsToldAnswer found → Each HasObjectCode (objects found)

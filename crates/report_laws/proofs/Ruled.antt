@@ -173,7 +173,7 @@ parts-even rule (part ∷ parts) h =
 
 outcome-even : (rule : Rule) (outcome : Outcome) → IsEven rule → Each IsEvenObject (outcome_objects rule outcome)
 outcome-even rule (Recurs onset period dx dy code) h = (h, tt)
-outcome-even rule (Ash parts) h = parts-even rule parts h
+outcome-even rule (Ash onset parts) h = parts-even rule parts h
 outcome-even rule _ h = tt
 
 objects-even : (found : List Answer) → Each IsEvenAnswer found → Each IsEvenObject (objects found)

@@ -28,7 +28,7 @@ use Rattle.census_rows.specs.declared.kinds.Label.TheVariants as label
 use Rattle.census_rows.specs.Kinds.{Said, said, value_at}
 use Rattle.life_answer.specs.Answers.{outcome_at, outcome_from}
 use Rattle.life_answer.specs.Answers as answers
-use Rattle.life_answer.specs.Census.{census_found, census_of, part_code, parts_found}
+use Rattle.life_answer.specs.Census.{ash_onset, census_found, census_of, part_code, parts_found}
 use Rattle.life_answer.specs.Limited.{unless_large}
 use Rattle.life_answer.specs.Parts.{objects_in, with_code, with_code_by_order}
 use Rattle.life_answer.specs.Questions.{answer_to, answer_to_question, outcome_to}
@@ -203,15 +203,15 @@ all-counted (code ∷ codes) parts h = all-counted codes (with_code code parts) 
 
 -- what is found answers the question, and its parts stand in the order of their codes
 abbrev IsFair : Question → Outcome → Type 0
-IsFair (Settles bound cells) (Ash parts) = ⊥
+IsFair (Settles bound cells) (Ash onset parts) = ⊥
 IsFair (Objects bound cells) (Recurs onset period dx dy code) = ⊥
-IsFair (Objects bound cells) (Ash parts) = Rise Nothing parts × Each IsCounted parts × Each IsCodePart parts
+IsFair (Objects bound cells) (Ash onset parts) = Rise Nothing parts × Each IsCounted parts × Each IsCodePart parts
 IsFair (Settles bound cells) (Recurs onset period dx dy code) = is_code_after (not (same_cell (dx, dy) origin)) period code ≡ true
 IsFair question _ = ⊤
 
 -- it has not fallen apart
 abbrev IsWhole : Outcome → Type 0
-IsWhole (Ash parts) = ⊥
+IsWhole (Ash onset parts) = ⊥
 IsWhole _ = ⊤
 
 at-whole : (R : Rule) (G : Generation) (onset : ℕ) (period : Option ℕ) → IsWhole (outcome_at R G onset period)
@@ -228,21 +228,21 @@ settled-whole R G b = from-whole R G b _
 
 by-recurrence : (bound : ℕ) (cells : Option ℕ) (outcome : Outcome) → IsWhole outcome → IsToldRecurrence outcome → IsFair (Settles bound cells) outcome
 by-recurrence bound cells (Recurs onset period dx dy code) whole h = h
-by-recurrence bound cells (Ash parts) whole h = absurd whole
+by-recurrence bound cells (Ash onset parts) whole h = absurd whole
 by-recurrence bound cells Unresolved whole h = tt
 by-recurrence bound cells (Large n) whole h = tt
 
 settled-fair : (bound : ℕ) (cells : Option ℕ) (R : Rule) (G : Generation) (b : ℕ) → IsFair (Settles bound cells) (answers.outcome_of R G b)
 settled-fair bound cells R G b = by-recurrence bound cells (answers.outcome_of R G b) (settled-whole R G b) (recurrence-told R G b)
 
-census-found-fair : (bound : ℕ) (cells : Option ℕ) (R : Rule) (b : ℕ) (parts : Option (List Generation)) → IsFair (Objects bound cells) (census_found R b parts)
-census-found-fair bound cells R b Nothing = tt
-census-found-fair bound cells R b (Some parts) =
+census-found-fair : (bound : ℕ) (cells : Option ℕ) (R : Rule) (b onset : ℕ) (parts : Option (List Generation)) → IsFair (Objects bound cells) (census_found R b onset parts)
+census-found-fair bound cells R b onset Nothing = tt
+census-found-fair bound cells R b onset (Some parts) =
     (rise-counted (map (part_code R b) parts) [] tt, all-counted (map (part_code R b) parts) [] tt, parts-told-codes R b parts)
 
 census-fair : (bound : ℕ) (cells : Option ℕ) (R : Rule) (G : Generation) (b : ℕ) → IsFair (Objects bound cells) (census_of R G b)
 unfolding census_of
-census-fair bound cells R G b = census-found-fair bound cells R b (ash_of R b (generation R G b))
+census-fair bound cells R G b = census-found-fair bound cells R b (ash_onset R G b) (ash_of R b (generation R G b))
 
 unless-fair : (question : Question) (outcome : Outcome) (large : Option ℕ) → IsFair question outcome → IsFair question (unless_large outcome large)
 unless-fair question outcome Nothing h = h
@@ -362,14 +362,14 @@ outcome-told (Settles bound cells) c i rule population Unresolved name even name
     line-told (Settles bound cells) c i (row_outcome rule population Unresolved) name [] (named-line rule name even named) refl refl tt tt
 outcome-told (Settles bound cells) c i rule population (Large n) name even named range fair =
     line-told (Settles bound cells) c i (row_outcome rule population (Large n)) name [] (named-line rule name even named) refl refl tt tt
-outcome-told (Settles bound cells) c i rule population (Ash parts) name even named range fair = absurd fair
+outcome-told (Settles bound cells) c i rule population (Ash onset parts) name even named range fair = absurd fair
 outcome-told (Objects bound cells) c i rule population (Recurs onset period dx dy code) name even named range fair = absurd fair
 outcome-told (Objects bound cells) c i rule population Unresolved name even named range fair =
     line-told (Objects bound cells) c i (row_outcome rule population Unresolved) name [] (named-line rule name even named) refl refl tt tt
 outcome-told (Objects bound cells) c i rule population (Large n) name even named range fair =
     line-told (Objects bound cells) c i (row_outcome rule population (Large n)) name [] (named-line rule name even named) refl refl tt tt
-outcome-told (Objects bound cells) c i rule population (Ash parts) name even named range fair =
-    line-told (Objects bound cells) c i (row_outcome rule population (Ash parts)) name parts (named-line rule name even named) refl refl (rise-some parts fair.0 range.1) (parts-lawful parts fair.1 fair.2 range.1)
+outcome-told (Objects bound cells) c i rule population (Ash onset parts) name even named range fair =
+    line-told (Objects bound cells) c i (row_outcome rule population (Ash onset parts)) name parts (named-line rule name even named) refl refl (rise-some parts fair.0 range.1) (parts-lawful parts fair.1 fair.2 range.1)
 
 answer-told : (question : Question) (c i : ℕ) (found : Answer) (name : List ℕ) → is_name name ≡ true → IsEvenAnswer found → IsToldAnswer found → IsFairAnswer question found
     → IsTold question (pattern_row c i found name ∷ part_rows c i found)
@@ -424,9 +424,9 @@ parts-coded rule (p ∷ parts) h =
 
 outcome-coded : (question : Question) (rule : Rule) (outcome : Outcome) → IsFair question outcome → Each IsCodeObject (outcome_objects rule outcome)
 outcome-coded (Settles bound cells) rule (Recurs onset period dx dy code) h = ((λ some. after-code (not (same_cell (dx, dy) origin)) period code h), tt)
-outcome-coded (Settles bound cells) rule (Ash parts) h = absurd h
+outcome-coded (Settles bound cells) rule (Ash onset parts) h = absurd h
 outcome-coded (Objects bound cells) rule (Recurs onset period dx dy code) h = absurd h
-outcome-coded (Objects bound cells) rule (Ash parts) h = parts-coded rule parts h.2
+outcome-coded (Objects bound cells) rule (Ash onset parts) h = parts-coded rule parts h.2
 outcome-coded question rule Unresolved h = tt
 outcome-coded question rule (Large n) h = tt
 

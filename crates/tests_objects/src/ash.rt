@@ -1,5 +1,5 @@
 //! Patterns of Life whose ash is known, and the codes of its parts.
-use life_answer::{Finding, Outcome};
+use life_answer::{Finding, Outcome, Part};
 use life_cells::{CellList, Rule};
 use life_census::census;
 use life_plane::ListPlane;
@@ -148,33 +148,36 @@ const REPLICATOR: &[(i32, i32)] = &[
     (2, 4),
 ];
 
-/// Cells, a bound, and how many parts have each code where there is ash.
-type Case = (
-    &'static [(i32, i32)],
-    u32,
-    Option<&'static [(&'static str, u64)]>,
-);
+/// The onset of ash, and how many of its parts have each code.
+type Told = (u32, &'static [(&'static str, u64)]);
+
+/// Cells, a bound, and what is told where there is ash.
+type Case = (&'static [(i32, i32)], u32, Option<Told>);
 
 const CASES: &[Case] = &[
-    (APART, 4, Some(&[("xs4_33", 1), ("xq4_153", 1)])),
+    (APART, 4, Some((0, &[("xs4_33", 1), ("xq4_153", 1)]))),
     (APART, 3, None),
     (MEETING, 10, None),
-    (TEE, 30, Some(&[("xp2_s01110szw222", 1)])),
-    (LIGHTS, 20, Some(&[("xp2_7", 4)])),
+    (TEE, 30, Some((9, &[("xp2_s01110szw222", 1)]))),
+    (LIGHTS, 20, Some((0, &[("xp2_7", 4)]))),
 ];
 
-// Whether a finding has these parts.
-fn has_parts(finding: &Finding, expected: Option<&[(&str, u64)]>) -> bool {
+// Whether parts have these codes, each so often.
+fn are_parts(parts: &[Part], expected: &[(&str, u64)]) -> bool {
+    for (part, (code, count)) in parts.iter().zip(expected) {
+        if part.code.as_slice() != code.as_bytes() || part.count != *count {
+            return false;
+        }
+    }
+    parts.len() == expected.len()
+}
+
+// Whether this is found.
+fn is_found(finding: &Finding, expected: Option<Told>) -> bool {
     match (&finding.outcome, expected) {
         (Outcome::Unresolved, None) => true,
-        (Outcome::Ash { parts }, Some(expected)) => {
-            let parts = parts.as_slice();
-            for (part, (code, count)) in parts.iter().zip(expected) {
-                if part.code.as_slice() != code.as_bytes() || part.count != *count {
-                    return false;
-                }
-            }
-            parts.len() == expected.len()
+        (Outcome::Ash { onset, parts }, Some((first, expected))) => {
+            *onset == first && are_parts(parts.as_slice(), expected)
         }
         _ => false,
     }
@@ -184,10 +187,12 @@ fn has_parts(finding: &Finding, expected: Option<&[(&str, u64)]>) -> bool {
 const CASES_ABOUT_THE_BOUND: &[Case] = &[
     (VANISHING, 60, None),
     (VANISHING, 69, None),
-    (VANISHING, 70, Some(&[("xs4_33", 1)])),
+    (VANISHING, 70, Some((70, &[("xs4_33", 1)]))),
+    (VANISHING, 200, Some((70, &[("xs4_33", 1)]))),
     (FARMING, 80, None),
     (FARMING, 101, None),
-    (FARMING, 102, Some(&[("xs4_33", 1), ("xs6_696", 4)])),
+    (FARMING, 102, Some((102, &[("xs4_33", 1), ("xs6_696", 4)]))),
+    (FARMING, 300, Some((102, &[("xs4_33", 1), ("xs6_696", 4)]))),
 ];
 
 const CASES_OF_THE_PENTOMINO: &[Case] = &[
@@ -195,15 +200,18 @@ const CASES_OF_THE_PENTOMINO: &[Case] = &[
     (
         PENTOMINO,
         1103,
-        Some(&[
-            ("xp2_7", 4),
-            ("xs4_33", 8),
-            ("xq4_153", 6),
-            ("xs5_253", 1),
-            ("xs6_356", 1),
-            ("xs6_696", 4),
-            ("xs7_2596", 1),
-        ]),
+        Some((
+            1103,
+            &[
+                ("xp2_7", 4),
+                ("xs4_33", 8),
+                ("xq4_153", 6),
+                ("xs5_253", 1),
+                ("xs6_356", 1),
+                ("xs6_696", 4),
+                ("xs7_2596", 1),
+            ],
+        )),
     ),
 ];
 
@@ -224,7 +232,7 @@ fn have_their_ash_under(
         assert!(rt; list.fits());
         assert!(rt; 1 <= *bound && *bound <= 100_000);
         let found = census::<ListPlane>(alloc, rule, &list, *bound, None)?;
-        assert!(rt; has_parts(&found, *expected));
+        assert!(rt; is_found(&found, *expected));
     }
     Ok(())
 }
@@ -264,32 +272,32 @@ fn what_grows_has_none(rt: HostRuntime) -> Result<(), Fail> {
     )
 }
 
-/// What stands among the blocks of a grid, a bound, and how many parts have each code where there is ash.
+/// What stands among the blocks of a grid, a bound, and what is told where there is ash.
 const CASES_AMONG_BLOCKS: &[Case] = &[
-    (&[], 4, Some(&[("xs4_33", 40)])),
+    (&[], 4, Some((0, &[("xs4_33", 40)]))),
     // another block, near one of them
     (
         &[(23, 20), (24, 20), (23, 21), (24, 21)],
         4,
-        Some(&[("xs4_33", 39), ("xs8_rr", 1)]),
+        Some((0, &[("xs4_33", 39), ("xs8_rr", 1)])),
     ),
     // a blinker that is never near any
     (
         &[(25, 24), (25, 25), (25, 26)],
         4,
-        Some(&[("xp2_7", 1), ("xs4_33", 40)]),
+        Some((0, &[("xp2_7", 1), ("xs4_33", 40)])),
     ),
     // a blinker that is near a block when it lies flat
     (
         &[(24, 17), (24, 18), (24, 19)],
         4,
-        Some(&[("xs4_33", 39), ("xp2_33ws", 1)]),
+        Some((0, &[("xs4_33", 39), ("xp2_33ws", 1)])),
     ),
     // a glider that goes away from them
     (
         &[(121, 80), (122, 81), (120, 82), (121, 82), (122, 82)],
         4,
-        Some(&[("xs4_33", 40), ("xq4_153", 1)]),
+        Some((0, &[("xs4_33", 40), ("xq4_153", 1)])),
     ),
     // a glider that comes to one of them
     (&[(1, 0), (2, 1), (0, 2), (1, 2), (2, 2)], 10, None),
@@ -326,7 +334,7 @@ fn blocks_in_a_grid_have_their_ash(rt: HostRuntime) -> Result<(), Fail> {
             assert!(rt; list.fits());
             assert!(rt; 1 <= *bound && *bound <= 100_000);
             let found = census::<ListPlane>(rt.alloc(), &Rule::life(), &list, *bound, None)?;
-            assert!(rt; has_parts(&found, *expected));
+            assert!(rt; is_found(&found, *expected));
         }
     }
     Ok(())

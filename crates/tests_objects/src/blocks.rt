@@ -37,7 +37,7 @@ const BLOCKS: &[Case] = &[
     (
         THREE_OBJECTS,
         30,
-        "rule B3/S23\npopulation 12\nbox 43 24\nobjects 3\npart xp2_7 1\npart xs4_33 1\npart xq4_153 1\n",
+        "rule B3/S23\npopulation 12\nbox 43 24\nonset 0\nobjects 3\npart xp2_7 1\npart xs4_33 1\npart xq4_153 1\n",
     ),
     // A methuselah.
     (

@@ -198,11 +198,11 @@ bo$2bo$3o!
 ";
 
 const REPORT: &[u8] = b"open 1 3 one
-line 1 1 ash B3/S23 11 3 apart
+line 1 1 ash B3/S23 11 0 3 apart
 part 1 1 xp2_7 1
 part 1 1 xs4_33 2
 line 1 2 bad 10 broken
-line 1 3 ash B3/S23 5 1 glider
+line 1 3 ash B3/S23 5 0 1 glider
 part 1 3 xq4_153 1
 code 1 B3/S23 xp2_7 1
 code 1 B3/S23 xs4_33 2
@@ -279,7 +279,7 @@ end 1 3
         0,
         b"open 1 3 f
 line 1 1 large B3/S23 5 8 r
-line 1 2 ash B3/S23 9 1 l
+line 1 2 ash B3/S23 9 0 1 l
 part 1 2 xq4_6frc 1
 line 1 3 large B3/S23 4 8 t
 code 1 B3/S23 xq4_6frc 1

@@ -88,7 +88,7 @@ end 2 3
         b"",
         0,
         b"open 1 1 tests_tree/below/deeper
-line 1 1 ash B3/S23 4 1 c.rle
+line 1 1 ash B3/S23 4 0 1 c.rle
 part 1 1 xs4_33 1
 code 1 B3/S23 xs4_33 1
 close 1 1 1 0 0

@@ -9,9 +9,9 @@ use watched::Watched;
 // Two reports, whose sections interleave, and one of no collection between them.
 pub const PARTS: &[u8] = b"open 2 1 b
 open 1 1 a
-line 2 1 ash B3/S23 5 4 r
+line 2 1 ash B3/S23 5 1103 4 r
 part 2 1 xp2_7 4
-line 1 1 ash B3/S23 4 1 a block
+line 1 1 ash B3/S23 4 0 1 a block
 part 1 1 xs4_33 1
 code 2 B3/S23 xp2_7 4
 code 1 B3/S23 xs4_33 1
@@ -21,7 +21,7 @@ end 2 2
 end 0 0
 open 1 2 c
 line 1 1 bad 10 broken
-line 1 2 ash B36/S23 4 1 d
+line 1 2 ash B36/S23 4 0 1 d
 part 1 2 xs4_33 1
 code 1 B36/S23 xs4_33 1
 close 1 2 1 0 1
@@ -30,9 +30,9 @@ end 1 2
 
 pub const MERGED: &[u8] = b"open 2 1 b
 open 1 1 a
-line 2 1 ash B3/S23 5 4 r
+line 2 1 ash B3/S23 5 1103 4 r
 part 2 1 xp2_7 4
-line 1 1 ash B3/S23 4 1 a block
+line 1 1 ash B3/S23 4 0 1 a block
 part 1 1 xs4_33 1
 code 2 B3/S23 xp2_7 4
 code 1 B3/S23 xs4_33 1
@@ -40,7 +40,7 @@ close 1 1 1 0 0
 close 2 1 1 0 0
 open 3 2 c
 line 3 1 bad 10 broken
-line 3 2 ash B36/S23 4 1 d
+line 3 2 ash B36/S23 4 0 1 d
 part 3 2 xs4_33 1
 code 3 B36/S23 xs4_33 1
 close 3 2 1 0 1

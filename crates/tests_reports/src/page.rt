@@ -25,10 +25,10 @@ code 1 B3/S23 xs0_A 1
 close 1 7 4 2 1
 end 2 8
 open 1 2 apart
-line 1 1 ash B3/S23 13 3 lt&lt;
+line 1 1 ash B3/S23 13 9 3 lt&lt;
 part 1 1 xs4_33 2
 part 1 1 xq4_153 1
-line 1 2 ash B3/S23 4 1 one
+line 1 2 ash B3/S23 4 9 1 one
 part 1 2 xs4_33 1
 code 1 B3/S23 xs4_33 3
 code 1 B3/S23 xq4_153 1

@@ -20,10 +20,10 @@ end 1 5
 // Sections that interleave, and a second report.
 const OBJECTS: &[u8] = b"open 2 1 b
 open 1 2 a
-line 2 1 ash B3/S23 5 12 r
+line 2 1 ash B3/S23 5 1103 12 r
 part 2 1 xp2_7 4
 part 2 1 xs4_33 8
-line 1 1 ash B3/S23 6 2 two
+line 1 1 ash B3/S23 6 7 2 two
 part 1 1 xs4_33 2
 code 2 B3/S23 xp2_7 4
 line 1 2 large B3/S23 5 100 wide
@@ -118,49 +118,49 @@ const FAULTS: &[(&[u8], usize)] = &[
     ),
     // A pattern that comes again beside one that has fallen apart.
     (
-        b"open 1 2 a\nline 1 1 ok B3/S23 4 0 1 0 0 xs4_33 b\nline 1 2 ash B3/S23 0 0 c\n",
+        b"open 1 2 a\nline 1 1 ok B3/S23 4 0 1 0 0 xs4_33 b\nline 1 2 ash B3/S23 0 0 0 c\n",
         3,
     ),
     (
-        b"open 1 2 a\nline 1 1 ash B3/S23 0 0 b\nline 1 2 ok B3/S23 4 0 1 0 0 xs4_33 c\n",
+        b"open 1 2 a\nline 1 1 ash B3/S23 0 0 0 b\nline 1 2 ok B3/S23 4 0 1 0 0 xs4_33 c\n",
         3,
     ),
     // Each report has its own question.
     (
-        b"open 1 1 a\nline 1 1 ash B3/S23 0 0 b\nclose 1 1 1 0 0\nend 1 1\nopen 1 1 a\nline 1 1 ok B3/S23 0 0 1 0 0 xs0_0 b\nclose 1 1 1 0 0\nend 1 1\n",
+        b"open 1 1 a\nline 1 1 ash B3/S23 0 0 0 b\nclose 1 1 1 0 0\nend 1 1\nopen 1 1 a\nline 1 1 ok B3/S23 0 0 1 0 0 xs0_0 b\nclose 1 1 1 0 0\nend 1 1\n",
         0,
     ),
     // Objects that no part tells, and parts that are too many, twice the same, or out of order.
     (
-        b"open 1 1 a\nline 1 1 ash B3/S23 8 2 b\npart 1 1 xs4_33 1\nclose 1 1 1 0 0\nend 1 1\n",
+        b"open 1 1 a\nline 1 1 ash B3/S23 8 7 2 b\npart 1 1 xs4_33 1\nclose 1 1 1 0 0\nend 1 1\n",
         4,
     ),
     (
-        b"open 1 1 a\nline 1 1 ash B3/S23 8 2 b\nclose 1 1 1 0 0\nend 1 1\n",
+        b"open 1 1 a\nline 1 1 ash B3/S23 8 7 2 b\nclose 1 1 1 0 0\nend 1 1\n",
         3,
     ),
     (
-        b"open 1 1 a\nline 1 1 ash B3/S23 8 1 b\npart 1 1 xs4_33 2\n",
+        b"open 1 1 a\nline 1 1 ash B3/S23 8 7 1 b\npart 1 1 xs4_33 2\n",
         3,
     ),
     (
-        b"open 1 1 a\nline 1 1 ash B3/S23 8 2 b\npart 1 1 xs4_33 0\n",
+        b"open 1 1 a\nline 1 1 ash B3/S23 8 7 2 b\npart 1 1 xs4_33 0\n",
         3,
     ),
     (
-        b"open 1 1 a\nline 1 1 ash B3/S23 8 2 b\npart 1 1 xs4_33 1\npart 1 1 xs4_33 1\n",
+        b"open 1 1 a\nline 1 1 ash B3/S23 8 7 2 b\npart 1 1 xs4_33 1\npart 1 1 xs4_33 1\n",
         4,
     ),
     (
-        b"open 1 1 a\nline 1 1 ash B3/S23 8 2 b\npart 1 1 xs4_33 1\npart 1 1 xp2_7 1\n",
+        b"open 1 1 a\nline 1 1 ash B3/S23 8 7 2 b\npart 1 1 xs4_33 1\npart 1 1 xp2_7 1\n",
         4,
     ),
     (
-        b"open 1 1 a\nline 1 1 ash B3/S23 8 2 b\npart 1 1 xs4_33 1\npart 1 1 xs6_696 1\nclose 1 1 1 0 0\nend 1 1\n",
+        b"open 1 1 a\nline 1 1 ash B3/S23 8 7 2 b\npart 1 1 xs4_33 1\npart 1 1 xs6_696 1\nclose 1 1 1 0 0\nend 1 1\n",
         0,
     ),
     (
-        b"open 1 1 a\nline 1 1 ash B3/S23 8 1 b\npart 1 1 xs4_33 1\ncode 1 B3/S23 xs4_33 0\n",
+        b"open 1 1 a\nline 1 1 ash B3/S23 8 7 1 b\npart 1 1 xs4_33 1\ncode 1 B3/S23 xs4_33 0\n",
         4,
     ),
     // Rules that are not printed so.
@@ -234,7 +234,7 @@ const FAULTS: &[(&[u8], usize)] = &[
         2,
     ),
     (
-        b"open 1 1 a\nline 1 1 ash B3/S23 8 1 b\npart 1 1 block 1\n",
+        b"open 1 1 a\nline 1 1 ash B3/S23 8 7 1 b\npart 1 1 block 1\n",
         3,
     ),
     (
@@ -243,11 +243,11 @@ const FAULTS: &[(&[u8], usize)] = &[
     ),
     // Parts that stand behind a line of another collection.
     (
-        b"open 1 1 a\nopen 2 1 b\nline 1 1 ash B3/S23 4 1 c\nline 2 1 none B3/S23 4 d\n",
+        b"open 1 1 a\nopen 2 1 b\nline 1 1 ash B3/S23 4 7 1 c\nline 2 1 none B3/S23 4 d\n",
         4,
     ),
     (
-        b"open 1 1 a\nopen 2 1 b\nline 1 1 ash B3/S23 4 0 c\nline 2 1 ash B3/S23 4 1 d\npart 1 1 xs4_33 1\n",
+        b"open 1 1 a\nopen 2 1 b\nline 1 1 ash B3/S23 4 7 0 c\nline 2 1 ash B3/S23 4 7 1 d\npart 1 1 xs4_33 1\n",
         5,
     ),
 ];

@@ -24,7 +24,7 @@ code 1 B3/S23 xs4_33 1
 close 1 5 2 2 1
 end 2 6
 open 1 1 apart
-line 1 1 ash B3/S23 8 2 say \"hi\"
+line 1 1 ash B3/S23 8 7 2 say \"hi\"
 part 1 1 xs4_33 2
 code 1 B3/S23 xs4_33 2
 close 1 1 1 0 0
@@ -39,7 +39,7 @@ const CSV: &str =
 1,\"col,1\",4,broken,bad,,,,,,,,10,,,,
 1,\"col,1\",5,n\u{fffd}\u{e9},ok,B3/S23,4,0,1,0,0,xs4_33,,,6effc3a9,,
 2,\u{fffd},1,last,bad,,,,,,,,3,c3,,,
-3,apart,1,\"say \"\"hi\"\"\",ash,B3/S23,8,,,,,,,,,2,
+3,apart,1,\"say \"\"hi\"\"\",ash,B3/S23,8,7,,,,,,,,2,
 ";
 
 const JSON: &str =
@@ -49,16 +49,16 @@ const JSON: &str =
 {\"code\":null,\"collection\":1,\"collection_name\":\"col,1\",\"collection_name_hex\":null,\"dx\":null,\"dy\":null,\"fault\":10,\"generation\":null,\"name\":\"broken\",\"name_hex\":null,\"objects\":null,\"onset\":null,\"pattern\":4,\"period\":null,\"population\":null,\"rule\":null,\"status\":\"bad\"}
 {\"code\":\"xs4_33\",\"collection\":1,\"collection_name\":\"col,1\",\"collection_name_hex\":null,\"dx\":0,\"dy\":0,\"fault\":null,\"generation\":null,\"name\":\"n\u{fffd}\u{e9}\",\"name_hex\":\"6effc3a9\",\"objects\":null,\"onset\":0,\"pattern\":5,\"period\":1,\"population\":4,\"rule\":\"B3/S23\",\"status\":\"ok\"}
 {\"code\":null,\"collection\":2,\"collection_name\":\"\u{fffd}\",\"collection_name_hex\":\"c3\",\"dx\":null,\"dy\":null,\"fault\":3,\"generation\":null,\"name\":\"last\",\"name_hex\":null,\"objects\":null,\"onset\":null,\"pattern\":1,\"period\":null,\"population\":null,\"rule\":null,\"status\":\"bad\"}
-{\"code\":null,\"collection\":3,\"collection_name\":\"apart\",\"collection_name_hex\":null,\"dx\":null,\"dy\":null,\"fault\":null,\"generation\":null,\"name\":\"say \\\"hi\\\"\",\"name_hex\":null,\"objects\":2,\"onset\":null,\"pattern\":1,\"period\":null,\"population\":8,\"rule\":\"B3/S23\",\"status\":\"ash\"}
+{\"code\":null,\"collection\":3,\"collection_name\":\"apart\",\"collection_name_hex\":null,\"dx\":null,\"dy\":null,\"fault\":null,\"generation\":null,\"name\":\"say \\\"hi\\\"\",\"name_hex\":null,\"objects\":2,\"onset\":7,\"pattern\":1,\"period\":null,\"population\":8,\"rule\":\"B3/S23\",\"status\":\"ash\"}
 ";
 
 // The collections of `PARTS`, which are those of two reports, with one of no collection between them.
 const PARTS_CSV: &str =
     "collection,collection_name,pattern,name,status,rule,population,onset,period,dx,dy,code,fault,collection_name_hex,name_hex,objects,generation
-1,a,1,a block,ash,B3/S23,4,,,,,,,,,1,
-2,b,1,r,ash,B3/S23,5,,,,,,,,,4,
+1,a,1,a block,ash,B3/S23,4,0,,,,,,,,1,
+2,b,1,r,ash,B3/S23,5,1103,,,,,,,,4,
 3,c,1,broken,bad,,,,,,,,10,,,,
-3,c,2,d,ash,B36/S23,4,,,,,,,,,1,
+3,c,2,d,ash,B36/S23,4,0,,,,,,,,1,
 ";
 
 // The table of a report.

@@ -532,7 +532,7 @@ const REPORT_PARTS: Words = &[
 // The same of the report of objects.
 const OBJECTS_REPORT_PARTS: Words = &[
     "open C PATTERNS NAME",
-    "line C I ash RULE POPULATION OBJECTS NAME",
+    "line C I ash RULE POPULATION ONSET OBJECTS NAME",
     "part C I CODE COUNT",
     "line C I none RULE POPULATION NAME",
     "line C I large RULE POPULATION GENERATION NAME",

@@ -8,5 +8,5 @@ returns c = record {
   no_ash = nothing_no_ash;
   no_growth = nothing_no_growth;
   otherwise = told_nothing;
-  census = census_told;
+  census = λ R b onset G. census_told R b G onset;
 }

@@ -23,7 +23,7 @@ returns-in-Ash-clause-counts c = λ before is.
 
 pub returns-in-Ash-clause-few : goal.returns-in-Ash-clause-few
 returns-in-Ash-clause-few c =
-    let count = length-ash c.args.answer.now c.in-Found.rule c.in-Found.finding c.in-Ash.parts c.in-Found.is c.in-Ash.is in
+    let count = length-ash c.args.answer.now c.in-Found.rule c.in-Found.finding _ c.in-Ash.parts c.in-Found.is c.in-Ash.is in
     ok_always c.count_parts.result (omega (arith, count, c.as_slice-in-Ash.ensures.few))
 
 pub returns-in-Refused-clause-counts : goal.returns-in-Refused-clause-counts

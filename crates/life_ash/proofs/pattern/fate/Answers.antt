@@ -1,12 +1,12 @@
-use Rattle.std.proofs.Common.{◌*◌, ◌-◌, sym, subst, arith}
+use Rattle.std.proofs.Common.{◌*◌, sym, subst, arith}
 use Rattle.std.proofs.lemmas.List.Elements.{All-same}
 use Rattle.std.proofs.lemmas.Result.{IfOk-weaker}
-use Rattle.life_objects.specs.Ash.{HasFallenApart}
+use Rattle.life_model.specs.Evolution.{generation}
+use Rattle.life_objects.specs.Ash.{IsAsh}
 use Rattle.life_ash.specs.Ahead.{HasEnded, IsFound}
 use Rattle.life_ash.specs.Fates.{IsFate}
 use Rattle.life_ash.specs.Met.{Terms}
 use Rattle.life_apart.specs.Sets.{IsCourseBy, sets_of}
-use Rattle.life_ash.proofs.Later.{ash_until, of_later}
 use Rattle.life_ash.proofs.Ways.{found_from_start, nothing_from_start}
 use Rattle.life_ash.proofs.pattern.fate.Goals as goal
 
@@ -18,18 +18,6 @@ returns-in-Large g c =
     (g.P.Plane.steps_made c.in_ok-plane.plane) (g.P.Plane.members c.in_ok-plane.plane) c.in_ok-generation.field-0
     c.new-met.ensures.rule c.new-met.ensures.bound c.in_ok-plane.ensures.cells c.in_ok-plane.ensures.age
     c.in_ok-generation.ensures.found)
-
-pub overflow_sub-bound : goal.overflow_sub-bound
-overflow_sub-bound g c =
-    let found =
-    subst (IsFound c.args.rule.now c.args.bound c.args.cells.now c.args.limit 0 c.args.bound (3 * c.args.bound))
-    c.in-Parts.is
-    (found_from_start c.new-met.result c.args.rule.now c.args.bound c.args.cells.now c.args.limit
-    (g.P.Plane.steps_made c.in_ok-plane.plane) (g.P.Plane.members c.in_ok-plane.plane) c.in_ok-generation.field-0
-    c.new-met.ensures.rule c.new-met.ensures.bound c.in_ok-plane.ensures.cells c.in_ok-plane.ensures.age
-    c.in_ok-generation.ensures.found) in
-    let more = found.1 in
-    omega arith
 
 pub of-requires-clause-placed : goal.of-requires-clause-placed
 of-requires-clause-placed g c =
@@ -59,7 +47,6 @@ returns-in-Parts g c =
     let G = c.args.cells.now in
     let b = c.args.bound in
     let age = c.in-Parts.age in
-    let parts = c.in-Parts.parts.items in
     let found =
     subst (IsFound c.args.rule.now c.args.bound c.args.cells.now c.args.limit 0 c.args.bound (3 * c.args.bound))
     c.in-Parts.is
@@ -69,9 +56,9 @@ returns-in-Parts g c =
     c.in_ok-generation.ensures.found) in
     let more = found.1 in (
       found.2,
-      subst (λ os. HasFallenApart R b G (sets_of os)) (sym c.of.ensures)
-          (ash_until R b age G parts (omega arith) found.3.rule found.3.ash),
-      All-same (IsCourseBy R) _ _ c.of.ensures (of_later R (b - age) parts found.3.rule),
+      omega arith,
+      subst (λ os. IsAsh R b (generation R G age) (sets_of os)) (sym c.of.ensures) found.3.ash,
+      All-same (IsCourseBy R) _ _ c.of.ensures found.3.rule,
     )
 
 pub fate_past-requires-clause-later : goal.fate_past-requires-clause-later

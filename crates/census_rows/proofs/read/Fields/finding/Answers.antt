@@ -48,7 +48,7 @@ read-ok c (finding.Ok onset period dx dy code) after whole is ends told begins =
     let x : to_z w64 (of_z w64 c.signed.result) ≡ dx = rw s3.1 (to_z-of_z w64 dx is.1.1.0) in
     let y : to_z w64 (of_z w64 c.signed-then-are_same.result) ≡ dy = rw s4.1 (to_z-of_z w64 dy is.1.1.1.0) in
     (s5.0, (refl, refl, refl, (refl, s1.1, (refl, s2.1, (refl, x, (refl, y, (refl, s5.1, tt)))))), s5.2)
-read-ok c (finding.Ash objects) after whole is ends told begins = absurd (cc (told, c.are_same.ensures.yes c.if-are_same.true))
+read-ok c (finding.Ash onset objects) after whole is ends told begins = absurd (cc (told, c.are_same.ensures.yes c.if-are_same.true))
 read-ok c finding.Unresolved after whole is ends told begins = absurd (cc (told, c.are_same.ensures.yes c.if-are_same.true))
 read-ok c (finding.Large generation) after whole is ends told begins = absurd (cc (told, c.are_same.ensures.yes c.if-are_same.true))
 
