@@ -24,7 +24,7 @@ ROOT = os.path.realpath(os.path.join(HERE, "..", ".."))
 sys.path.insert(0, HERE)
 import census
 from census import (
-    Census, CensusError, CodeFault, FolderFault, OutOfMemory, Pattern, PatternFault, ProgramFailed, ReadFailed, ReportFault, RuleFault, TimedOut,
+    Census, CensusError, Code, CodeFault, FolderFault, OutOfMemory, Pattern, PatternFault, ProgramFailed, ReadFailed, ReportFault, RuleFault, TimedOut,
     TooLong, read_report,
 )
 
@@ -856,6 +856,40 @@ class Mutations(unittest.TestCase):
         with ThreadPoolExecutor(4) as pool:
             wrong = [it for it in pool.map(self.differs, mutants) if it]
         self.assertEqual(wrong[:3], [])
+
+
+class Codes(Room):
+    """`codes`."""
+
+    REPORT = """open 1 2 a
+line 1 1 ok B3/S23 4 0 1 0 0 xs4_33 p
+line 1 2 ok B3/S23 3 0 2 0 0 xp2_7 q r
+code 1 B3/S23 xs4_33 1
+code 1 B3/S23 xp2_7 1
+close 1 2 2 0 0
+end 1 2
+open 1 1 b
+line 1 1 ok B3/S23 4 0 1 0 0 xs4_33 s
+code 1 B3/S23 xs4_33 1
+close 1 1 1 0 0
+end 1 1
+"""
+
+    def test_codes_of_two_reports(self):
+        wanted = [Code("B3/S23", "xs4_33", 2, 2, "a", "p"), Code("B3/S23", "xp2_7", 1, 1, "a", "q r")]
+        self.assertEqual(self.census.codes(self.REPORT), wanted)
+        self.assertEqual(self.census.codes(self.REPORT.encode()), wanted)
+        self.assertEqual(self.census.codes("end 0 0\n"), [])
+
+    def test_a_report_with_a_fault(self):
+        with self.assertRaises(ReportFault) as raised:
+            self.census.codes(self.REPORT[:-8])
+        self.assertEqual(raised.exception.line, 12)
+
+    def test_a_program_that_lies(self):
+        for body in ("echo no table", "echo '{}'", "exit 1", "echo '[1]'"):
+            with self.subTest(body), self.assertRaises(ProgramFailed):
+                self.script(body).codes(self.REPORT)
 
 
 class LaterAndDrawn(Room):

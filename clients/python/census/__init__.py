@@ -10,6 +10,7 @@ nothing but the standard library. No shell is used.
 """
 from __future__ import annotations
 
+import json
 import operator
 import os
 import re
@@ -20,7 +21,7 @@ from dataclasses import dataclass, field, replace
 from typing import Callable, Dict, Iterable, Iterator, List, Literal, NoReturn, Optional, Set, Tuple, Union, overload
 
 __all__ = [
-    "Census", "Pattern", "Row", "read_report",
+    "Census", "Code", "Pattern", "Row", "read_report",
     "CensusError", "PatternFault", "CodeFault", "RuleFault", "FolderFault", "TooLong", "ReadFailed", "ReportFault", "OutOfMemory", "TimedOut", "ProgramFailed",
 ]
 
@@ -231,6 +232,22 @@ class Row:
     parts: Optional[Tuple[Tuple[str, int], ...]] = None
 
 
+@dataclass(frozen=True)
+class Code:
+    """What reports say of one code under one rule. Names are decoded as UTF-8, with U+FFFD for what is none."""
+
+    rule: str
+    # the apgcode
+    code: str
+    # how many objects have it: a pattern that recurs is one, and so is each part of one that has fallen apart; at most 2^64 - 1
+    count: int
+    # in how many patterns
+    patterns: int
+    # the collection and the name of the first of these
+    first_collection_name: str
+    first_name: str
+
+
 # The program
 
 
@@ -339,6 +356,16 @@ class Census:
                 ) -> List[Row]:
         """`table` of objects that are left: the report of `census objects`."""
         return self.table(folders, objects=True, bound=bound, workers=workers, cells=cells)
+
+    def codes(self, report: Text) -> List[Code]:
+        """The codes of a report, or of several one after another, by falling count, and then the shorter first: `census table --codes`.
+
+        Raises `ReportFault`, `TooLong`, `OutOfMemory`, `TimedOut`, `ProgramFailed`, or `CensusError` itself.
+        """
+        ran = self._run(["table", "--codes", "--json", "--explain", "-"], _bytes_of(report))
+        if ran.returncode == 1:
+            raise _fault_of_report(ran)
+        return _codes_of(ran)
 
     def advance(self, rle: Text, generations: int) -> str:
         """The RLE text of a later generation of an RLE text's pattern, `generations` 0 to 4,194,304.
@@ -528,6 +555,34 @@ def _fault_of_words(ran: subprocess.CompletedProcess[bytes]) -> CensusError:
     if rule:
         return RuleFault(told.strip(), int(rule.group(1)))
     return _failure(ran)
+
+
+def _fault_of_report(ran: subprocess.CompletedProcess[bytes]) -> CensusError:
+    """Why a report was refused."""
+    if _first_line(ran) == "census: input too long":
+        return TooLong()
+    line, told = _told_lines(ran)
+    fault = re.fullmatch(r"census: report fault at line ([0-9]+)", line)
+    where = re.fullmatch(r"  [0-9]+: (.*)", told)
+    if not fault or not where:
+        return _failure(ran)
+    return ReportFault(where.group(1), int(fault.group(1)))
+
+
+def _codes_of(ran: subprocess.CompletedProcess[bytes]) -> List[Code]:
+    """The codes that a call has written, an object a line."""
+    if ran.returncode != 0:
+        raise _failure(ran)
+    try:
+        rows = [json.loads(line) for line in ran.stdout.decode("utf-8").split("\n")[:-1]]
+        codes = [Code(**row) for row in rows]
+    except (TypeError, ValueError):
+        raise ProgramFailed(ran.returncode, "what it wrote is no table of codes") from None
+    for code in codes:
+        texts = (code.rule, code.code, code.first_collection_name, code.first_name)
+        if not all(isinstance(text, str) for text in texts) or type(code.count) is not int or type(code.patterns) is not int:
+            raise ProgramFailed(ran.returncode, "what it wrote is no table of codes")
+    return codes
 
 
 _FAULT = re.compile(r"census: ([0-9]+|-):([0-9]+):([0-9]+): (.*) \(rle fault ([0-9]+)(?: at ([0-9]+))?\)")

@@ -80,7 +80,12 @@ abbrev AdvanceText : Text → Text → Type 0
 AdvanceText id v = (bytes_eq id (codes "generations") ≡ true → IsUnsignedIn 0 generation_limit v) × ExplainText id v
 
 abbrev TableText : Text → Text → Type 0
-TableText id v = (bytes_eq id (codes "csv") ≡ true → IsFlagText v) × (bytes_eq id (codes "json") ≡ true → IsFlagText v) × ExplainText id v
+TableText id v =
+    (bytes_eq id (codes "csv") ≡ true → IsFlagText v)
+    × (bytes_eq id (codes "json") ≡ true → IsFlagText v)
+    × (bytes_eq id (codes "parts") ≡ true → IsFlagText v)
+    × (bytes_eq id (codes "codes") ≡ true → IsFlagText v)
+    × ExplainText id v
 
 absent : {A : Type 0} → false ≡ true → A
 absent e = absurd (true≢false (sym e))
@@ -229,14 +234,20 @@ page_rules = (
 
 table_rules : Each (RuleHolds TableText) built_table.rules
 table_rules = (
-  record { own = λ v e. (λ _. flag_text v e, absent, absent); usual = inr (refl, inr true_given); plain = λ t. refl },
+  record { own = λ v e. (λ _. flag_text v e, absent, absent, absent, absent); usual = inr (refl, inr true_given); plain = λ t. refl },
   (
-    record { own = λ v e. (absent, λ _. flag_text v e, absent); usual = inr (refl, inr true_given); plain = λ t. refl },
+    record { own = λ v e. (absent, λ _. flag_text v e, absent, absent, absent); usual = inr (refl, inr true_given); plain = λ t. refl },
     (
-      record { own = λ v e. (absent, absent, λ _. flag_text v e); usual = inr (refl, inr true_given); plain = λ t. refl },
+      record { own = λ v e. (absent, absent, λ _. flag_text v e, absent, absent); usual = inr (refl, inr true_given); plain = λ t. refl },
       (
-        record { own = λ v e. (absent, absent, absent); usual = inr (refl, inl refl); plain = λ t. refl },
-        (record { own = λ v e. (absent, absent, absent); usual = inl refl; plain = λ t. refl }, tt),
+        record { own = λ v e. (absent, absent, absent, λ _. flag_text v e, absent); usual = inr (refl, inr true_given); plain = λ t. refl },
+        (
+          record { own = λ v e. (absent, absent, absent, absent, λ _. flag_text v e); usual = inr (refl, inr true_given); plain = λ t. refl },
+          (
+            record { own = λ v e. (absent, absent, absent, absent, absent); usual = inr (refl, inl refl); plain = λ t. refl },
+            (record { own = λ v e. (absent, absent, absent, absent, absent); usual = inl refl; plain = λ t. refl }, tt),
+          ),
+        ),
       ),
     ),
   ),
@@ -370,13 +381,15 @@ page_has words e = record {
 
 table_has : (words : List Text) → Passes built_table words → HasTable (rows_after built_table.rules [] words)
 table_has words e = record {
-  csv = flag_in TableText (codes "csv") _
-      (read_by_default TableText built_table table_rules words e (codes "csv") (inl (refl, false_by_default))) (λ v q. q.0 refl);
-  json = flag_in TableText (codes "json") _
-      (read_by_default TableText built_table table_rules words e (codes "json") (inr (inl (refl, false_by_default)))) (λ v q. q.1 refl);
-  explain = flag_in TableText (codes "explain") _
-      (read_by_default TableText built_table table_rules words e (codes "explain") (inr (inr (inl (refl, false_by_default))))) (λ v q. q.2 refl);
+  csv = flag_in TableText (codes "csv") _ (by_default (codes "csv") (inl (refl, false_by_default))) (λ v q. q.0 refl);
+  json = flag_in TableText (codes "json") _ (by_default (codes "json") (inr (inl (refl, false_by_default)))) (λ v q. q.1 refl);
+  of_parts = flag_in TableText (codes "parts") _ (by_default (codes "parts") (inr (inr (inl (refl, false_by_default))))) (λ v q. q.2 refl);
+  of_codes = flag_in TableText (codes "codes") _ (by_default (codes "codes") (inr (inr (inr (inl (refl, false_by_default)))))) (λ v q. q.3 refl);
+  explain = flag_in TableText (codes "explain") _ (by_default (codes "explain") (inr (inr (inr (inr (inl (refl, false_by_default))))))) (λ v q. q.4 refl);
 }
+  where
+    by_default : (id : Text) → HasDefault id built_table.rules → Reads TableText id (rows_after built_table.rules [] words)
+    by_default = read_by_default TableText built_table table_rules words e
 
 -- ---- the whole parse
 
@@ -480,6 +493,17 @@ advance_command rows (inr (inr (inr (inr (inl h))))) = other_name _ _ h.0 refl
 advance_command rows (inr (inr (inr (inr (inr (inl h)))))) = other_name _ _ h.0 refl
 advance_command rows (inr (inr (inr (inr (inr (inr (inl h))))))) = other_name _ _ h.0 refl
 advance_command rows (inr (inr (inr (inr (inr (inr (inr h))))))) = other_name _ _ h.0 refl
+
+-- the command `table` has its flags
+pub table_command : (rows : List Row) → IsCommand (Some (codes "table", rows)) → HasTable rows
+table_command rows (inl h) = other_name _ _ h.0 refl
+table_command rows (inr (inl h)) = other_name _ _ h.0 refl
+table_command rows (inr (inr (inl h))) = other_name _ _ h.0 refl
+table_command rows (inr (inr (inr (inl h)))) = other_name _ _ h.0 refl
+table_command rows (inr (inr (inr (inr (inl h))))) = other_name _ _ h.0 refl
+table_command rows (inr (inr (inr (inr (inr (inl h)))))) = other_name _ _ h.0 refl
+table_command rows (inr (inr (inr (inr (inr (inr (inl h))))))) = h.1
+table_command rows (inr (inr (inr (inr (inr (inr (inr h))))))) = other_name _ _ h.0 refl
 
 -- each command has its `--explain`
 explain_flag : (name : Text) (rows : List Row) → IsCommand (Some (name, rows)) → HasFlag (codes "explain") rows

@@ -1,12 +1,13 @@
 -- What some words come to, by computing the definitions.
-use Rattle.std.proofs.Common.{◌≡◌, [], ◌∷◌, Some, None, true, false, codes, refl, lit≤}
+use Rattle.std.proofs.Common.{◌≡◌, [], ◌∷◌, Some, None, true, false, codes, inl, refl, lit≤}
 use Rattle.clap.specs.Faults.{fault_of}
 use Rattle.clap.specs.declared.error.kind.ErrorKind.TheVariants.{DisplayHelp, DisplayVersion, MissingSubcommand, UnknownArgument, ValueValidation}
 use Rattle.clap.proofs.OnLiterals.{clap_on_literals}
 use Rattle.census_cli.specs.CommandLine.{census_app}
 use Rattle.census_cli.specs.Asking.{AsksAdvance, AsksDraw, AsksIdentify, AsksMerge, AsksObjects, AsksPage, AsksRun, AsksTable, AsksToExplain}
-use Rattle.census_cli.specs.Refusing.{AsksTwoFormats}
-use Rattle.census_cli.specs.declared.request.TableFormat.TheVariants.{Json}
+use Rattle.census_cli.specs.Refusing.{AsksTwoTables}
+use Rattle.census_cli.specs.declared.request.TableSubject.TheVariants.{Patterns, Codes}
+use Rattle.census_cli.specs.declared.request.TableFormat.TheVariants.{Csv, Json}
 
 run_alone : AsksRun (codes "run" ∷ []) 1000 4 None None false false []
 unfolding clap_on_literals
@@ -48,17 +49,21 @@ merge_among : AsksMerge (codes "merge" ∷ codes "a" ∷ codes "-" ∷ []) (code
 unfolding clap_on_literals
 merge_among = (refl, record { rows = _; named = refl; reports_are = refl })
 
-table_json : AsksTable (codes "table" ∷ codes "a" ∷ codes "--json" ∷ codes "b" ∷ []) Json (codes "a" ∷ codes "b" ∷ [])
+table_json : AsksTable (codes "table" ∷ codes "a" ∷ codes "--json" ∷ codes "b" ∷ []) Patterns Json (codes "a" ∷ codes "b" ∷ [])
 unfolding clap_on_literals
-table_json = (refl, record { rows = _; named = refl; format_is = (refl, refl); reports_are = refl })
+table_json = (refl, record { rows = _; named = refl; subject_is = (refl, refl); format_is = (refl, refl); reports_are = refl })
+
+table_codes : AsksTable (codes "table" ∷ codes "--codes" ∷ codes "a" ∷ []) Codes Csv (codes "a" ∷ [])
+unfolding clap_on_literals
+table_codes = (refl, record { rows = _; named = refl; subject_is = (refl, refl); format_is = refl; reports_are = refl })
 
 page_among : AsksPage (codes "page" ∷ codes "a" ∷ codes "-" ∷ []) (codes "a" ∷ codes "-" ∷ [])
 unfolding clap_on_literals
 page_among = (refl, record { rows = _; named = refl; reports_are = refl })
 
-table_both : AsksTwoFormats (codes "table" ∷ codes "--json" ∷ codes "--csv" ∷ [])
+table_both : AsksTwoTables (codes "table" ∷ codes "--json" ∷ codes "--csv" ∷ [])
 unfolding clap_on_literals
-table_both = (refl, record { rows = _; named = refl; csv = refl; json = refl })
+table_both = (refl, record { rows = _; named = refl; two = inl (refl, refl) })
 
 run_explained : AsksToExplain (codes "run" ∷ codes "a" ∷ codes "--explain" ∷ []) true
 unfolding clap_on_literals

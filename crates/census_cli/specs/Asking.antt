@@ -12,6 +12,8 @@ use Rattle.census_cli.specs.declared.request.Request.{Request}
 use Rattle.census_cli.specs.declared.request.Request.TheVariants.{Run, Objects, Identify, Advance, Draw, Merge, Table, Page}
 use Rattle.census_cli.specs.declared.request.TableFormat.{TableFormat}
 use Rattle.census_cli.specs.declared.request.TableFormat.TheVariants.{Csv, Json}
+use Rattle.census_cli.specs.declared.request.TableSubject.{TableSubject}
+use Rattle.census_cli.specs.declared.request.TableSubject.TheVariants.{Patterns, Parts, Codes}
 use Rattle.census_cli.specs.Limits.{generation_limit, objects_bound_limit, settles_bound_limit, worker_limit}
 
 -- ---- what the matches of a command say
@@ -37,6 +39,12 @@ IsLimit most (Some n) = (1 ≤ n) × (n ≤ most)
 abbrev pub IsFormat : TableFormat → List Row → Type 0
 IsFormat Csv rows = IsFlag (codes "json") rows false
 IsFormat Json rows = IsFlag (codes "json") rows true × IsFlag (codes "csv") rows false
+
+-- a row for each part, or for each code, is asked for by its flag alone, and one for each pattern without either
+abbrev pub IsSubject : TableSubject → List Row → Type 0
+IsSubject Patterns rows = IsFlag (codes "parts") rows false × IsFlag (codes "codes") rows false
+IsSubject Parts rows = IsFlag (codes "parts") rows true × IsFlag (codes "codes") rows false
+IsSubject Codes rows = IsFlag (codes "parts") rows false × IsFlag (codes "codes") rows true
 
 -- The command and its matches are those of a census of these folders, or of the bundle on standard input where there is
 -- none.
@@ -104,11 +112,12 @@ pub record GivesMerge (command : Option (List ℕ × List Row)) (reports : List 
   pub named : command ≡ Some (codes "merge", rows)
   pub reports_are : values_of (codes "report") rows ≡ reports
 
--- those of the table in this format of these reports, or, where there is none, of that of standard input
-pub record GivesTable (command : Option (List ℕ × List Row)) (format : TableFormat)
+-- those of the table of this in this format of these reports, or, where there is none, of that of standard input
+pub record GivesTable (command : Option (List ℕ × List Row)) (subject : TableSubject) (format : TableFormat)
     (reports : List (List ℕ)) : Type 0 where
   pub rows : List Row
   pub named : command ≡ Some (codes "table", rows)
+  pub subject_is : IsSubject subject rows
   pub format_is : IsFormat format rows
   pub reports_are : values_of (codes "report") rows ≡ reports
 
@@ -127,7 +136,7 @@ GivesRequest command (Identify bound files) = GivesIdentify command bound (map (
 GivesRequest command (Advance generations file) = GivesAdvance command generations (option_map (λ s. s.now) file)
 GivesRequest command (Draw code rule) = GivesDraw command code.now rule.now
 GivesRequest command (Merge reports) = GivesMerge command (map (λ s. s.now) reports.items)
-GivesRequest command (Table format reports) = GivesTable command format (map (λ s. s.now) reports.items)
+GivesRequest command (Table subject format reports) = GivesTable command subject format (map (λ s. s.now) reports.items)
 GivesRequest command (Page reports) = GivesPage command (map (λ s. s.now) reports.items)
 
 -- whether the flag `--explain` of the command was used
@@ -183,9 +192,9 @@ AsksDraw words code rule = IsMatched words × GivesDraw (subcommand_of census_ap
 abbrev pub AsksMerge : List (List ℕ) → List (List ℕ) → Type 0
 AsksMerge words reports = IsMatched words × GivesMerge (subcommand_of census_app words) reports
 
--- for the table in this format of these reports, or, where there is none, of that of standard input
-abbrev pub AsksTable : List (List ℕ) → TableFormat → List (List ℕ) → Type 0
-AsksTable words format reports = IsMatched words × GivesTable (subcommand_of census_app words) format reports
+-- for the table of this in this format of these reports, or, where there is none, of that of standard input
+abbrev pub AsksTable : List (List ℕ) → TableSubject → TableFormat → List (List ℕ) → Type 0
+AsksTable words subject format reports = IsMatched words × GivesTable (subcommand_of census_app words) subject format reports
 
 -- for the page of these reports, or, where there is none, of that of standard input
 abbrev pub AsksPage : List (List ℕ) → List (List ℕ) → Type 0

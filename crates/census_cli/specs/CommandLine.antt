@@ -133,6 +133,14 @@ csv_rule = record (new_rule (codes "csv")) { long = Some (codes "csv"); action =
 abbrev pub json_rule : Rule
 json_rule = record (new_rule (codes "json")) { long = Some (codes "json"); action = Some SetTrue }
 
+-- `--parts`
+abbrev pub parts_rule : Rule
+parts_rule = record (new_rule (codes "parts")) { long = Some (codes "parts"); action = Some SetTrue }
+
+-- `--codes`
+abbrev pub codes_rule : Rule
+codes_rule = record (new_rule (codes "codes")) { long = Some (codes "codes"); action = Some SetTrue }
+
 -- the `REPORT..` of `merge`, of `table` and of `page`
 abbrev pub reports_rule : Rule
 reports_rule = record (new_rule (codes "report")) {
@@ -167,7 +175,7 @@ abbrev pub merge_shape : Shape
 merge_shape = shape_with (codes "merge") (explain_rule ∷ reports_rule ∷ [])
 
 abbrev pub table_shape : Shape
-table_shape = shape_with (codes "table") (csv_rule ∷ json_rule ∷ explain_rule ∷ reports_rule ∷ [])
+table_shape = shape_with (codes "table") (csv_rule ∷ json_rule ∷ parts_rule ∷ codes_rule ∷ explain_rule ∷ reports_rule ∷ [])
 
 abbrev pub page_shape : Shape
 page_shape = shape_with (codes "page") (explain_rule ∷ reports_rule ∷ [])

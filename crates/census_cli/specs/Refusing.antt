@@ -6,11 +6,12 @@ use Rattle.clap.specs.Simple.{subcommand_of}
 use Rattle.clap.specs.Walk.{Row}
 use Rattle.clap.specs.declared.error.kind.ErrorKind.{ErrorKind}
 use Rattle.clap.specs.declared.error.kind.ErrorKind.TheVariants.{DisplayHelp, DisplayVersion, OutOfMemory}
-use Rattle.census_cli.specs.Asking.{IsFlag, IsFormat, IsMatched}
+use Rattle.census_cli.specs.Asking.{IsFlag, IsFormat, IsMatched, IsSubject}
 use Rattle.census_cli.specs.CommandLine.{census_app}
 use Rattle.census_cli.specs.declared.fault.WordsFault.{WordsFault}
 use Rattle.census_cli.specs.declared.fault.WordsFault.TheVariants.{Help, Refused, Memory}
 use Rattle.census_cli.specs.declared.request.TableFormat.{TableFormat}
+use Rattle.census_cli.specs.declared.request.TableSubject.{TableSubject}
 
 -- what is written of the version: the program's, and the logic of the kit that proves it
 abbrev pub version_text : List ℕ
@@ -39,31 +40,36 @@ pub record IsUnmatched (words : List (List ℕ)) : Type 0 where
   pub no_version : kind ≢ DisplayVersion
   pub no_memory : kind ≢ OutOfMemory
 
--- The command and its matches are those of a table in two formats.
-pub record HasTwoFormats (command : Option (List ℕ × List Row)) : Type 0 where
+-- The command and its matches are those of a table in two formats, or of two tables.
+pub record HasTwoTables (command : Option (List ℕ × List Row)) : Type 0 where
   pub rows : List Row
   pub named : command ≡ Some (codes "table", rows)
-  pub csv : IsFlag (codes "csv") rows true
-  pub json : IsFlag (codes "json") rows true
+  pub two : (IsFlag (codes "csv") rows true × IsFlag (codes "json") rows true)
+      ⊎ (IsFlag (codes "parts") rows true × IsFlag (codes "codes") rows true)
 
 -- the format of the table of matches, or none where they name two
 abbrev pub NamesFormat : List Row → Option TableFormat → Type 0
 NamesFormat rows (Some format) = IsFormat format rows
 NamesFormat rows None = IsFlag (codes "csv") rows true × IsFlag (codes "json") rows true
 
+-- what the table of matches has a row for each of, or none where they name two
+abbrev pub NamesSubject : List Row → Option TableSubject → Type 0
+NamesSubject rows (Some subject) = IsSubject subject rows
+NamesSubject rows None = IsFlag (codes "parts") rows true × IsFlag (codes "codes") rows true
+
 -- why a command and its matches are no request
 abbrev pub RefusesCommand : Option (List ℕ × List Row) → WordsFault → Type 0
 RefusesCommand command (Help text) = ⊥
-RefusesCommand command (Refused text) = HasTwoFormats command
+RefusesCommand command (Refused text) = HasTwoTables command
 RefusesCommand command Memory = Unit {0}
 
--- the words ask for a table in two formats, which clap lets pass
-abbrev pub AsksTwoFormats : List (List ℕ) → Type 0
-AsksTwoFormats words = IsMatched words × HasTwoFormats (subcommand_of census_app words)
+-- the words ask for a table in two formats, or for two tables, which clap lets pass
+abbrev pub AsksTwoTables : List (List ℕ) → Type 0
+AsksTwoTables words = IsMatched words × HasTwoTables (subcommand_of census_app words)
 
 -- the words are refused
 abbrev pub AreRefusedWords : List (List ℕ) → Type 0
-AreRefusedWords words = IsUnmatched words ⊎ AsksTwoFormats words
+AreRefusedWords words = IsUnmatched words ⊎ AsksTwoTables words
 
 -- why the words are no request
 abbrev pub RefusesWords : List (List ℕ) → WordsFault → Type 0

@@ -4,9 +4,9 @@ ghost use Rattle.clap.specs.Words.{app_of, rule_of, shape_of};
 ghost use Rattle.clap.specs.declared.builder.command.Command.TheViews.{out-Command};
 ghost use Rattle.census_cli.specs.CommandLine.{advance_shape, bare_app, census_app, draw_shape, identify_shape};
 ghost use Rattle.census_cli.specs.CommandLine.{merge_shape, objects_shape, page_shape, run_shape, table_shape};
-ghost use Rattle.census_cli.specs.CommandLine.{bound_rule, cells_rule, code_rule, csv_rule, explain_rule, file_rule};
+ghost use Rattle.census_cli.specs.CommandLine.{bound_rule, cells_rule, code_rule, codes_rule, csv_rule, explain_rule, file_rule};
 ghost use Rattle.census_cli.specs.CommandLine.{files_rule, folder_rule, generations_rule, input_rule, json_rule, keep_going_rule, limit_rule};
-ghost use Rattle.census_cli.specs.CommandLine.{no_progress_rule, recursive_rule, reports_rule, rule_rule, search_rule, workers_rule};
+ghost use Rattle.census_cli.specs.CommandLine.{no_progress_rule, parts_rule, recursive_rule, reports_rule, rule_rule, search_rule, workers_rule};
 
 use crate::fault::VERSION_TEXT;
 use crate::help;
@@ -201,6 +201,24 @@ fn json<'a>(alloc: Global) -> Arg<'a>
         .help("JSON, one object a line")
 }
 
+fn parts<'a>(alloc: Global) -> Arg<'a>
+    ensures { (rule_of result ≡ parts_rule) × (result.global ≡ false) }
+{
+    Arg::new(alloc, "parts")
+        .long("parts")
+        .action(ArgAction::SetTrue)
+        .help("A row for each part line in place of each pattern")
+}
+
+fn codes<'a>(alloc: Global) -> Arg<'a>
+    ensures { (rule_of result ≡ codes_rule) × (result.global ≡ false) }
+{
+    Arg::new(alloc, "codes")
+        .long("codes")
+        .action(ArgAction::SetTrue)
+        .help("A row for each code and rule in place of each pattern, by falling count")
+}
+
 fn reports<'a>(alloc: Global) -> Arg<'a>
     ensures { (rule_of result ≡ reports_rule) × (result.global ≡ false) }
 {
@@ -300,6 +318,8 @@ fn table<'a>(alloc: Global) -> Result<Command<'a>, AllocError>
         .after_help(help::TABLE)
         .arg(csv(alloc))?
         .arg(json(alloc))?
+        .arg(parts(alloc))?
+        .arg(codes(alloc))?
         .arg(explain(alloc))?
         .arg(reports(alloc))
 }
@@ -314,13 +334,16 @@ fn page<'a>(alloc: Global) -> Result<Command<'a>, AllocError>
         .arg(reports(alloc))
 }
 
-/// What is said of words that name both formats of a table, as clap says it of arguments in conflict.
-pub(crate) fn two_formats(alloc: Global) -> Result<String, AllocError> {
+/// What is said of words that name both formats of a table.
+pub(crate) const TWO_FORMATS: &str = "the argument '--csv' cannot be used with '--json'";
+
+/// What is said of words that name two tables.
+pub(crate) const TWO_TABLES: &str = "the argument '--parts' cannot be used with '--codes'";
+
+/// How clap says this of arguments of `table` that are in conflict.
+pub(crate) fn conflict(alloc: Global, words: &str) -> Result<String, AllocError> {
     let mut command = table(alloc)?.bin_name("census table")?;
-    let error = command.error(
-        ErrorKind::ArgumentConflict,
-        "the argument '--csv' cannot be used with '--json'",
-    )?;
+    let error = command.error(ErrorKind::ArgumentConflict, words)?;
     format!(in alloc; "{error}")
 }
 

@@ -116,10 +116,12 @@ draw CODE [--rule R]
 merge [REPORT]...  one report of all collections ('census help merge')
   REPORT           a file with a report of run or objects, or with several after
                    one another; - or no REPORT is standard input
-table [--csv | --json] [REPORT]...
+table [--csv | --json] [--parts | --codes] [REPORT]...
                    a row for each pattern of reports ('census help table')
       --csv        comma-separated values, as without a format
       --json       JSON, one object a line
+      --parts      a row for each part line in place of each pattern
+      --codes      a row for each code and rule, by falling count
 page [REPORT]...   one HTML page, with pictures ('census help page')
 run and objects
       --no-progress
@@ -216,8 +218,16 @@ large or bad), rule, population, onset, period, dx, dy, code, fault; where a
 name is no UTF-8, its bytes in hex in collection_name_hex or name_hex; then
 objects of what is ash, and generation, the first that is too large.
 
+With --parts: collection, collection_name, pattern, name, rule, code, count.
+
+With --codes: rule, code, count, patterns (in how many), and of the first of them
+first_collection_name and first_name; by falling count, and then in the order of
+codes, shorter ones first. A pattern that recurs counts as one object, and each
+part of one that has fallen apart.
+
 Example: census table --csv census.txt >census.csv
          census run soups | census table --json
+         census objects soups | census table --codes
          census table --explain census.txt
 
 "

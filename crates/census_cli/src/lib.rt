@@ -1,6 +1,6 @@
 //! What the words of a command line ask for: `run`, a census of collections; `objects`, a census of the objects in what
 //! their patterns become; `identify`, what single patterns are; `advance`, a later generation of a pattern; `draw`, the
-//! drawing of a code; `merge`, one report of several; `table`, a row for each pattern of reports; `page`, one
+//! drawing of a code; `merge`, one report of several; `table`, a row for each pattern, part or code of reports; `page`, one
 //! HTML page of reports; help; or the version.
 //!
 //! Tested in `tests_words`.
@@ -12,4 +12,4 @@ mod help;
 mod request;
 
 pub use fault::WordsFault;
-pub use request::{Asked, Request, TableFormat, read_words};
+pub use request::{Asked, Request, TableFormat, TableSubject, read_words};

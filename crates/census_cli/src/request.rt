@@ -4,7 +4,7 @@ ghost use Rattle.clap.specs.Words.{first_of, found_of, rows_of, subcommand_rows_
 ghost use Rattle.census_cli.specs.Asking.{AsksFor, Explains, GivesAsked, GivesRequest, IsFlag, IsQuiet, argument_number, values_of};
 ghost use Rattle.census_cli.specs.Holding.{HasFlag, HasLimit, HasNumber, HasObjects, HasRun, HasTable, HasText};
 ghost use Rattle.census_cli.specs.Holding.{IsCommand};
-ghost use Rattle.census_cli.specs.Refusing.{NamesFormat, RefusesCommand, RefusesWords};
+ghost use Rattle.census_cli.specs.Refusing.{NamesFormat, NamesSubject, RefusesCommand, RefusesWords};
 
 use crate::command;
 use crate::fault::{WordsFault, fault_of};
@@ -18,6 +18,17 @@ pub enum TableFormat {
     Csv,
     /// One JSON object a line.
     Json,
+}
+
+/// What a table has a row for each of.
+#[derive(Clone, Copy, Debug, PartialEq, Eq)]
+pub enum TableSubject {
+    /// A pattern.
+    Patterns,
+    /// A `part` line.
+    Parts,
+    /// A rule and a code.
+    Codes,
 }
 
 /// What words ask for.
@@ -83,8 +94,9 @@ pub enum Request<'a> {
         /// In the order of the words. `-` is standard input.
         reports: Vec<&'a str>,
     },
-    /// A row for each pattern of these reports, or, where there is none, of that on standard input.
+    /// A row for each pattern, part or code of these reports, or, where there is none, of that on standard input.
     Table {
+        subject: TableSubject,
         format: TableFormat,
         /// In the order of the words. `-` is standard input.
         reports: Vec<&'a str>,
@@ -212,6 +224,19 @@ fn format(table: &ArgMatches<'_>) -> Option<TableFormat>
     }
 }
 
+// What the flags of `table` name for a row, where they don't name two.
+fn subject(table: &ArgMatches<'_>) -> Option<TableSubject>
+    requires { HasTable (rows_of (found_of table.now)) }
+    ensures { NamesSubject (rows_of (found_of table.now)) result }
+{
+    match (flag(table, "parts"), flag(table, "codes")) {
+        (true, true) => None,
+        (true, false) => Some(TableSubject::Parts),
+        (false, true) => Some(TableSubject::Codes),
+        (false, false) => Some(TableSubject::Patterns),
+    }
+}
+
 // What the matches of `table` ask for.
 fn table_of<'a>(alloc: Global, table: &ArgMatches<'a>) -> Result<Request<'a>, WordsFault>
     requires { HasTable (rows_of (found_of table.now)) }
@@ -219,9 +244,13 @@ fn table_of<'a>(alloc: Global, table: &ArgMatches<'a>) -> Result<Request<'a>, Wo
         (RefusesCommand (Some (codes "table", rows_of (found_of table.now)))) }
 {
     let Some(format) = format(table) else {
-        return Err(WordsFault::Refused(command::two_formats(alloc)?));
+        return Err(WordsFault::Refused(command::conflict(alloc, command::TWO_FORMATS)?));
+    };
+    let Some(subject) = subject(table) else {
+        return Err(WordsFault::Refused(command::conflict(alloc, command::TWO_TABLES)?));
     };
     Ok(Request::Table {
+        subject,
         format,
         reports: texts(alloc, table, "report")?,
     })
@@ -317,8 +346,8 @@ fn asked_of<'a>(alloc: Global, matches: &ArgMatches<'a>) -> Result<Asked<'a>, Wo
 /// each flag is used, and the folders, files or reports in order. Numbers are decimal, with any zeros or one `+` in front, and
 /// their ranges are clap's to judge.
 /// A fault other than `Memory` comes only where clap has no matches for the words: `Help` where it answers them with help
-/// or with the version, `Refused` where it refuses them. Words that name both formats of `table` alone are `Refused`
-/// though clap has matches for them.
+/// or with the version, `Refused` where it refuses them. Words that name both formats of `table`, or both parts and codes,
+/// alone are `Refused` though clap has matches for them.
 pub fn read_words<'a>(alloc: Global, words: &'a [&'a str]) -> Result<Asked<'a>, WordsFault>
     ensures { MatchResult result (AsksFor (map (λ s. s.now) words.entry.now))
         (RefusesWords (map (λ s. s.now) words.entry.now)) }

@@ -176,22 +176,22 @@ module _ (shelf : Tellings) (before after : State) where
   says command.Write (Identify bound files) h = absurd h
   says command.Write (Draw code rule) h = absurd h
   says (command.Run e) (Merge reports) h = absurd h
-  says (command.Run e) (Table format reports) h = absurd h
+  says (command.Run e) (Table subject format reports) h = absurd h
   says (command.Run e) (Page reports) h = absurd h
   says (command.Advance e) (Merge reports) h = absurd h
-  says (command.Advance e) (Table format reports) h = absurd h
+  says (command.Advance e) (Table subject format reports) h = absurd h
   says (command.Advance e) (Page reports) h = absurd h
   says (command.Draw e) (Merge reports) h = absurd h
-  says (command.Draw e) (Table format reports) h = absurd h
+  says (command.Draw e) (Table subject format reports) h = absurd h
   says (command.Draw e) (Page reports) h = absurd h
   says command.Arguments (Merge reports) h = absurd h
-  says command.Arguments (Table format reports) h = absurd h
+  says command.Arguments (Table subject format reports) h = absurd h
   says command.Arguments (Page reports) h = absurd h
   says command.Memory (Merge reports) h = absurd h
-  says command.Memory (Table format reports) h = absurd h
+  says command.Memory (Table subject format reports) h = absurd h
   says command.Memory (Page reports) h = absurd h
   says command.Write (Merge reports) h = absurd h
-  says command.Write (Table format reports) h = absurd h
+  says command.Write (Table subject format reports) h = absurd h
   says command.Write (Page reports) h = absurd h
   says (command.Reports e) (Run bound workers cells input recursive keep_going folders) h = absurd h
   says (command.Reports e) (Objects bound workers cells input recursive keep_going folders) h = absurd h
@@ -199,7 +199,7 @@ module _ (shelf : Tellings) (before after : State) where
   says (command.Reports e) (Identify bound files) h = absurd h
   says (command.Reports e) (Draw code rule) h = absurd h
   says (command.Reports e) (Merge reports) h = absurd h
-  says (command.Reports e) (Table format reports) h = absurd h
+  says (command.Reports e) (Table subject format reports) h = absurd h
   says (command.Reports e) (Page reports) h = absurd h
 
 -- faults are explained where the words ask for that, or at a terminal

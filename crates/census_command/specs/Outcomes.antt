@@ -32,7 +32,7 @@ use Rattle.census_errors.specs.Files.{file_of}
 use Rattle.census_command.specs.Keeps.{KeptCensus, Keeps}
 use Rattle.census_errors.specs.Messages.{error_line}
 use Rattle.census_errors.specs.Places.{IsPlaceOf}
-use Rattle.census_command.specs.Remakes.{Remakes, form_of}
+use Rattle.census_command.specs.Remakes.{Remakes, format_of, subject_of}
 use Rattle.census_command.specs.Requests.{Does, DoesInPart, Fails}
 use Rattle.census_reports.specs.declared.form.Form.{Form}
 use Rattle.census_reports.specs.declared.form.Form.TheVariants as form
@@ -217,7 +217,7 @@ pub record AsksWhat (words : List (List ℕ)) (bound : ℕ) (files : List (List 
 -- the request asks for this, made of the reports of these files
 abbrev pub IsRemaking : Request → Form → List (List ℕ) → Type 0
 IsRemaking (Merge reports) f files = (f ≡ form.Merged) × (files ≡ map (λ s. s.now) reports.items)
-IsRemaking (Table format reports) f files = (f ≡ form_of format) × (files ≡ map (λ s. s.now) reports.items)
+IsRemaking (Table subject format reports) f files = (f ≡ form.Table (subject_of subject) (format_of format)) × (files ≡ map (λ s. s.now) reports.items)
 IsRemaking (Page reports) f files = (f ≡ form.Page) × (files ≡ map (λ s. s.now) reports.items)
 IsRemaking request f files = ⊥
 

@@ -10,6 +10,12 @@ use Rattle.census_reports.specs.declared.form.Form.TheVariants as form
 use Rattle.lawful_merge.specs.Lawful.{MergesLawfully}
 use Rattle.census_cli.specs.declared.request.TableFormat.{TableFormat}
 use Rattle.census_cli.specs.declared.request.TableFormat.TheVariants.{Csv, Json}
+use Rattle.census_cli.specs.declared.request.TableSubject.{TableSubject}
+use Rattle.census_cli.specs.declared.request.TableSubject.TheVariants.{Patterns, Parts, Codes}
+use Rattle.census_table.specs.declared.subject.Subject.{Subject}
+use Rattle.census_table.specs.declared.subject.Subject.TheVariants as subject
+use Rattle.census_table.specs.declared.table.Format.{Format}
+use Rattle.census_table.specs.declared.table.Format.TheVariants as format
 use Rattle.census_errors.specs.Messages.{error_line}
 use Rattle.census_errors.specs.Places.{IsReportsPlace}
 use Rattle.census_errors.specs.Sayings.{reports_line, said_if}
@@ -18,10 +24,15 @@ use Rattle.census_command.specs.Streams.{State}
 use Rattle.census_errors.specs.declared.error.CommandError.TheVariants as command
 use Rattle.census_errors.specs.declared.place.Place.{Place}
 
--- what is made of reports, by the format of a table
-abbrev pub form_of : TableFormat → Form
-form_of Csv = form.Csv
-form_of Json = form.Json
+-- how a table is written, and what it has a row for each of
+abbrev pub format_of : TableFormat → Format
+format_of Csv = format.Csv
+format_of Json = format.Json
+
+abbrev pub subject_of : TableSubject → Subject
+subject_of Patterns = subject.Patterns
+subject_of Parts = subject.Parts
+subject_of Codes = subject.Codes
 
 -- standard input and standard output
 abbrev pub both_streams : State → two.Streams

@@ -31,7 +31,7 @@ EndsAtFirst request = Unit {0}
 -- nothing is to be made of reports
 abbrev pub MakesNothing : Request → Type 0
 MakesNothing (Merge reports) = ⊥
-MakesNothing (Table format reports) = ⊥
+MakesNothing (Table subject format reports) = ⊥
 MakesNothing (Page reports) = ⊥
 MakesNothing request = Unit {0}
 
@@ -40,7 +40,7 @@ MakesNothing request = Unit {0}
 abbrev pub IsDone : Request → Type 0
 IsDone (Identify bound files) = ⊥
 IsDone (Merge reports) = ⊥
-IsDone (Table format reports) = ⊥
+IsDone (Table subject format reports) = ⊥
 IsDone (Page reports) = ⊥
 IsDone request = EndsAtFirst request
 

@@ -12,7 +12,7 @@ use crate::census::{census_of, kept_of};
 use crate::drawing::draw;
 use crate::keeping::keep_going;
 use crate::quiet_gate::QuietGate;
-use crate::remaking::{form_of, remake};
+use crate::remaking::{format_of, remake, subject_of};
 use crate::running::run_command;
 use crate::streams::Streams;
 use census_cli::{Request, WordsFault, read_words};
@@ -35,7 +35,17 @@ fn remaking_of<'r, 'a>(request: &'r Request<'a>) -> Option<(Form, &'r [&'a str])
 {
     match request {
         Request::Merge { reports } => Some((Form::Merged, reports.as_slice())),
-        Request::Table { format, reports } => Some((form_of(*format), reports.as_slice())),
+        Request::Table {
+            subject,
+            format,
+            reports,
+        } => {
+            let form = Form::Table {
+                subject: subject_of(*subject),
+                format: format_of(*format),
+            };
+            Some((form, reports.as_slice()))
+        }
         Request::Page { reports } => Some((Form::Page, reports.as_slice())),
         _ => None,
     }

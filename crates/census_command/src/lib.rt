@@ -21,6 +21,6 @@ pub use dispatching::{answer, dispatch, stop};
 pub use drawing::draw;
 pub use entry_point::program;
 pub use keeping::keep_going;
-pub use remaking::{form_of, remake};
+pub use remaking::{format_of, remake, subject_of};
 pub use running::run_command;
 pub use streams::Streams;

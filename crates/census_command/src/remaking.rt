@@ -1,25 +1,37 @@
 //! `census merge`, `census table` and `census page`: one report, a table, or a page, made of reports.
 ghost use Rattle.std.specs.Prelude.{◌≡◌, [], false, map, IfErr, OnOk};
 ghost use Rattle.census_reports.specs.Outcomes.{ReportsFail, WritesReports};
-ghost use Rattle.census_command.specs.Remakes.{KeepsLaw, Remakes, both_streams, form_of};
+ghost use Rattle.census_command.specs.Remakes.{KeepsLaw, Remakes, both_streams, format_of, subject_of};
 ghost use Rattle.census_command.specs.Streams.{HasSoundStreams};
 
 use crate::streams::Streams;
-use census_cli::TableFormat;
+use census_cli::{TableFormat, TableSubject};
 use census_errors::{CommandError, ErrorStream, reports_place_if, reports_saying, stop_saying};
 use census_folders::Shelf;
 use census_reports::{Form, ReportsError, write_reports};
+use census_table::{Format, Subject};
 use lawful_merge::merge_reports;
 use std::alloc::Global;
 use std::io::{Read, Write};
 
-/// What is made of reports, by the format of a table.
-pub fn form_of(format: TableFormat) -> Form
-    ensures { result ≡ form_of format }
+/// How a table is written.
+pub fn format_of(format: TableFormat) -> Format
+    ensures { result ≡ format_of format }
 {
     match format {
-        TableFormat::Csv => Form::Csv,
-        TableFormat::Json => Form::Json,
+        TableFormat::Csv => Format::Csv,
+        TableFormat::Json => Format::Json,
+    }
+}
+
+/// What a table has a row for each of.
+pub fn subject_of(subject: TableSubject) -> Subject
+    ensures { result ≡ subject_of subject }
+{
+    match subject {
+        TableSubject::Patterns => Subject::Patterns,
+        TableSubject::Parts => Subject::Parts,
+        TableSubject::Codes => Subject::Codes,
     }
 }
 
@@ -47,7 +59,7 @@ fn write<S: Shelf, I: Read, O: Write>(
     let Streams { input, output } = streams;
     match form {
         Form::Merged => merge_reports(shelf, alloc, files, input, output),
-        Form::Csv | Form::Json | Form::Page => {
+        Form::Table { .. } | Form::Page => {
             write_reports(shelf, alloc, form, files, input, output)
         }
     }

@@ -54,7 +54,7 @@ module _ (shelf : Tellings) where
   is_nowhere (Identify bound files) error = refl
   is_nowhere (Draw code rule) error = refl
   is_nowhere (Merge reports) error = refl
-  is_nowhere (Table format reports) error = refl
+  is_nowhere (Table subject format reports) error = refl
   is_nowhere (Page reports) error = refl
 
 pub reports_nowhere : (held : List ℕ → Told) (error : ReportsError) → IsReportsPlace held error nowhere

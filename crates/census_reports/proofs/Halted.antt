@@ -7,24 +7,16 @@ use Rattle.gathered.specs.Telling.{Sheet, TellsAfter}
 use Rattle.gathered.proofs.Telling.{all_told, tells_more}
 use Rattle.census_identify.specs.Streams.{PutsPrefix, Sink, Writes}
 use Rattle.census_rows.specs.declared.row.Row.{Row}
-use Rattle.census_table.specs.Entries.{entries_of}
-use Rattle.census_table.specs.Tables.{table_text}
+use Rattle.census_table.specs.Tables.{Listing, IsListingOf, listing_text}
 use Rattle.census_table.specs.Told.{TellsFront}
 use Rattle.census_table.specs.declared.table.Format.{Format}
-use Rattle.census_table.specs.declared.table.Format.TheVariants.{Csv, Json}
-use Rattle.census_reports.specs.Forms.{IsMade, IsTable, table_in}
+use Rattle.census_table.specs.declared.subject.Subject.{Subject}
+use Rattle.census_reports.specs.Forms.{IsMade}
 use Rattle.census_reports.specs.Written.{FailsRows, HaltsRows, WritesRows, WritesRowsInPart, WritesSome}
 use Rattle.census_reports.specs.declared.error.ReportsError.{ReportsError}
 use Rattle.census_reports.specs.declared.error.ReportsError.TheVariants.{Memory, Write}
+use Rattle.census_reports.specs.declared.form.Form.TheVariants.{Table}
 use Rattle.census_reports.proofs.Told.{sink_of}
-
-is_table : (format : Format) → IsTable (table_in format)
-is_table Csv = tt
-is_table Json = tt
-
-is_made : (format : Format) (rows : List Row) → IsMade (table_in format) rows (table_text format (entries_of rows))
-is_made Csv rows = refl
-is_made Json rows = refl
 
 -- a prefix of a text is one of a longer text
 front_longer : (a b : Option (List ℕ)) (all xs ys : List ℕ) → all ≡ xs ++ ys → AppendsFront a b xs → AppendsFront a b all
@@ -41,9 +33,13 @@ front_of : {A B : Type 0} (r : Result A B) (text : List ℕ) (a b : Sheet) → M
 front_of (Ok x) text a b h = record { front = text; rest = []; whole = sym (append-nil text); tells = h }
 front_of (Err e) text a b h = h
 
-module _ (format : Format) (rows : List Row) (a b c : Sheet) (empty : a.pending ≡ []) (sent : TellsAfter [] b c) (clear : c.pending ≡ []) where
+module _ (subject : Subject) (format : Format) (rows : List Row) (listing : Listing) (is : IsListingOf subject rows listing) (a b c : Sheet)
+    (empty : a.pending ≡ []) (sent : TellsAfter [] b c) (clear : c.pending ≡ []) where
   abbrev text : List ℕ
-  text = table_text format (entries_of rows)
+  text = listing_text format listing
+
+  is-made : IsMade (Table subject format) rows text
+  is-made = (listing, is, refl)
 
   told : (bytes : List ℕ) → TellsAfter bytes a b → MatchBool c.failed (AppendsFront a.written c.written bytes) (Appends a.written c.written bytes)
   told bytes h = all_told bytes a c empty clear (subst (λ t. TellsAfter t a c) (append-nil bytes) (tells_more bytes [] a b c h sent))
@@ -51,25 +47,25 @@ module _ (format : Format) (rows : List Row) (a b c : Sheet) (empty : a.pending 
   in_front : TellsFront text a b → AppendsFront a.written c.written text
   in_front h = front_longer a.written c.written text h.front h.rest h.whole (any_front c.failed a.written c.written h.front (told h.front h.tells))
 
-  pub table_written : TellsAfter text a b → c.failed ≡ false → WritesRows (table_in format) rows (sink_of a) (sink_of c)
+  pub table_written : TellsAfter text a b → c.failed ≡ false → WritesRows (Table subject format) rows (sink_of a) (sink_of c)
   table_written h sound = record {
     made = text;
-    is = is_made format rows;
+    is = is-made;
     written = record { written = subst (λ f. MatchBool f (AppendsFront a.written c.written text) (Appends a.written c.written text)) sound (told text h); sound = sound };
   }
 
-  pub table_halted : TellsFront text a b → c.failed ≡ false → HaltsRows (table_in format) rows (sink_of a) (sink_of c)
+  pub table_halted : TellsFront text a b → c.failed ≡ false → HaltsRows (Table subject format) rows (sink_of a) (sink_of c)
   table_halted h sound = record {
-    table = is_table format;
+    table = tt;
     made = text;
-    is = is_made format rows;
+    is = is-made;
     front = record { written = in_front h; sound = sound };
   }
 
   pub table_lost : {A B : Type 0} (r : Result A B) → MatchResult r (λ _. TellsAfter text a b) (λ _. TellsFront text a b) → c.failed ≡ true
-      → WritesRowsInPart (table_in format) rows (sink_of a) (sink_of c)
+      → WritesRowsInPart (Table subject format) rows (sink_of a) (sink_of c)
   table_lost r h failed = record {
     made = text;
-    is = is_made format rows;
+    is = is-made;
     front = record { written = in_front (front_of r text a b h); failed = failed };
   }

@@ -5,34 +5,24 @@ use Rattle.census_rows.specs.Lines.{text_of}
 use Rattle.census_merge.specs.Merged.{merged_rows}
 use Rattle.census_merge.specs.Sums.{first_excess, no_sums}
 use Rattle.census_page.specs.Pages.{page_of}
-use Rattle.census_table.specs.Entries.{entries_of}
-use Rattle.census_table.specs.Tables.{csv_text, json_text}
-use Rattle.census_table.specs.declared.table.Format.{Format}
-use Rattle.census_table.specs.declared.table.Format.TheVariants as format
+use Rattle.census_table.specs.Tables.{Listing, IsListingOf, listing_text}
 use Rattle.census_reports.specs.Rows.{AreRowsOf, HasReportFault}
 use Rattle.census_reports.specs.declared.error.ReportsError.{ReportsError}
 use Rattle.census_reports.specs.declared.error.ReportsError.TheVariants.{Fault, TooMany, Memory}
 use Rattle.census_reports.specs.declared.form.Form.{Form}
-use Rattle.census_reports.specs.declared.form.Form.TheVariants.{Merged, Csv, Json, Page}
+use Rattle.census_reports.specs.declared.form.Form.TheVariants.{Merged, Table, Page}
 
 -- what is written of the rows of reports that stand one after another
 abbrev pub IsMade : Form → List Row → List ℕ → Type 0
 IsMade Merged rows text = (first_excess 1 no_sums rows ≡ None) × (text ≡ text_of (merged_rows rows))
-IsMade Csv rows text = text ≡ csv_text (entries_of rows)
-IsMade Json rows text = text ≡ json_text (entries_of rows)
+IsMade (Table subject format) rows text = (listing : Listing) × IsListingOf subject rows listing × (text ≡ listing_text format listing)
 IsMade Page rows text = text ≡ page_of rows
 
 -- a table
 abbrev pub IsTable : Form → Type 0
 IsTable Merged = ⊥
-IsTable Csv = Unit {0}
-IsTable Json = Unit {0}
+IsTable (Table subject format) = Unit {0}
 IsTable Page = ⊥
-
--- the table in a format
-abbrev pub table_in : Format → Form
-table_in format.Csv = Csv
-table_in format.Json = Json
 
 -- a report with which there are too many collections for one report
 abbrev pub Exceeds : Form → List Row → ℕ → Type 0

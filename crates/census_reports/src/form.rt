@@ -7,14 +7,13 @@ ghost use Rattle.census_rows.specs.Lines.{text_of};
 ghost use Rattle.census_merge.specs.Merged.{merged_rows};
 ghost use Rattle.census_merge.specs.Sums.{first_excess, no_sums};
 ghost use Rattle.census_table.specs.Entries.{entries_of};
-ghost use Rattle.census_reports.specs.Forms.{table_in};
 ghost use Rattle.census_reports.specs.Written.{FailsRows, WritesRows};
 
 use crate::error::ReportsError;
 use census_merge::{put_merged, sums};
 use census_page::page;
 use census_rows::Row;
-use census_table::{Format, put_table};
+use census_table::{Format, Subject, put_listing, table_of};
 use gathered::{Block, send};
 use std::alloc::Global;
 use std::io::Write;
@@ -25,10 +24,8 @@ use watched::{Failed, Watched, put_all};
 pub enum Form {
     /// One report of all their collections, as `merge` makes it.
     Merged,
-    /// Their patterns as comma-separated values, as `put_table` tells them.
-    Csv,
-    /// Their patterns as a JSON object a line, as `put_table` tells them.
-    Json,
+    /// A table, as `table_of` makes it and `put_listing` tells it.
+    Table { subject: Subject, format: Format },
     /// Their codes, with pictures, as one HTML page, as `page` makes it.
     Page,
 }
@@ -79,19 +76,21 @@ fn write_merged<O: Write>(
 // Writes a table. Where memory is refused, what was told of it is written yet.
 fn write_table<O: Write>(
     alloc: Global,
+    subject: Subject,
     format: Format,
     rows: &[Row],
     output: &mut Watched<O>,
 ) -> Result<(), ReportsError>
     requires { AreReports rows.now }
     ensures { MatchResult result
-        (λ _. WritesRows (table_in format) rows.now (sink O.contents output.old)
+        (λ _. WritesRows (Form.Table subject format) rows.now (sink O.contents output.old)
         (sink O.contents output.new))
-        (λ error. FailsRows error (table_in format) rows.now
+        (λ error. FailsRows error (Form.Table subject format) rows.now
         (sink O.contents output.old) (sink O.contents output.new)) }
 {
+    let table = table_of(alloc, subject, rows)?;
     let mut block = Block::new(alloc);
-    let told = put_table(alloc, format, rows, &mut block, output);
+    let told = put_listing(alloc, format, &table, &mut block, output);
     match send(&mut block, output) {
         Ok(()) => Ok(told?),
         Err(_) => Err(ReportsError::Write),
@@ -143,13 +142,12 @@ pub fn write_made<O: Write>(
 {
     match form {
         Form::Merged => write_merged(alloc, rows, output),
-        Form::Csv => write_table(alloc, Format::Csv, rows, output),
-        Form::Json => write_table(alloc, Format::Json, rows, output),
+        Form::Table { subject, format } => write_table(alloc, subject, format, rows, output),
         Form::Page => write_page(alloc, rows, output),
     }
 }
 
-/// A table of reports is that of the one report that they are merged to: each collection has the same number in both.
+/// A table of the patterns of reports is that of the one report that they are merged to: each collection has the same number in both.
 pub fn merging_changes_no_table()
     ensures { (rows : List Row) → AreReports rows →
         entries_of (merged_rows rows) ≡ entries_of rows }

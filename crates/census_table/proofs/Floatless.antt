@@ -7,11 +7,8 @@ use Rattle.std.specs.declared.cmp.Ordering.TheVariants.{Less, Equal, Greater}
 use Rattle.serde_json.specs.Data.{Data, Members, member, no_members, number, object, put}
 use Rattle.serde_json.specs.Find.{of_integer}
 use Rattle.serde_json.specs.Written.{has_float, members_have_float}
-use Rattle.census_table.specs.Columns.{columns, content_in_column, name_of}
-use Rattle.census_table.specs.Contents.{Content, content_data, count, data_or_null, hex, hex_of, nothing, shift, text}
-use Rattle.census_table.specs.Tables.{entry_members, with_columns}
-use Rattle.census_table.specs.declared.column.Column.{Column}
-use Rattle.census_table.specs.declared.entry.Entry.{Entry}
+use Rattle.census_table.specs.Contents.{Content, Member, content_data, count, data_or_null, hex, hex_of, nothing, shift, text}
+use Rattle.census_table.specs.Tables.{with_row}
 
 neither : (a b : Bool) → (a || b) ≡ false → (a ≡ false) × (b ≡ false)
 neither true b h = absurd (cc)
@@ -51,10 +48,10 @@ content-floatless (shift z) = shift-floatless z
 content-floatless (text bytes) = refl
 content-floatless (hex bytes) = option-floatless (hex_of bytes)
 
-with-floatless : (entry : Entry) (cs : List Column) (ms : Members) → members_have_float ms ≡ false → members_have_float (with_columns entry cs ms) ≡ false
-with-floatless entry [] ms h = h
-with-floatless entry (c ∷ cs) ms h =
-    with-floatless entry cs (put (name_of c) (content_data (content_in_column c entry)) ms) (put-floatless (name_of c) (content_data (content_in_column c entry)) ms (content-floatless (content_in_column c entry)) h)
+with-floatless : (row : List Member) (ms : Members) → members_have_float ms ≡ false → members_have_float (with_row row ms) ≡ false
+with-floatless [] ms h = h
+with-floatless (m ∷ row) ms h =
+    with-floatless row (put m.name (content_data m.content) ms) (put-floatless m.name (content_data m.content) ms (content-floatless m.content) h)
 
-pub entry-floatless : (entry : Entry) → has_float (object (entry_members entry)) ≡ false
-entry-floatless entry = with-floatless entry columns no_members refl
+pub row-floatless : (row : List Member) → has_float (object (with_row row no_members)) ≡ false
+row-floatless row = with-floatless row no_members refl

@@ -1,3 +1,4 @@
+pub mod Sums
 pub mod Hex
 pub mod Counts
 pub mod Floatless

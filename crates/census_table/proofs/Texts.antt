@@ -1,29 +1,36 @@
 -- The text of rows, of which some stand before others.
-use Rattle.std.proofs.Common.{◌≡◌, ℕ, ◌+◌, ◌-◌, ◌<◌, List, [], ◌∷◌, ◌++◌, Bor, Option, Some, None, length, take, drop, get_or, refl, sym, ap, ◌∙◌, append_assoc, drop-cons, suc, arith}
+use Rattle.std.proofs.Common.{◌≡◌, ℕ, ◌+◌, ◌-◌, ◌<◌, List, [], ◌∷◌, ◌++◌, Bor, Option, Some, None, length, map, take, drop, get_or, refl, sym, ap, ◌∙◌, append_assoc, drop-cons, suc, arith}
 use Rattle.std.proofs.lemmas.List.{drop-drop, map-append, take-append-drop}
 use Rattle.std.specs.declared.vec.Vec.{Vec}
 use Rattle.census_rows.specs.declared.row.Row.{Row}
 use Rattle.census_readback.specs.Grouped.{sections_lent, rows_lent}
 use Rattle.census_table.specs.Entries.{all_entries, entry_before, entry_of_row, lines_under, section_entries}
 use Rattle.csv.specs.Writing.{default_writer, row_text}
-use Rattle.census_table.specs.Tables.{csv_records, entry_fields, head_text, json_line, json_text, rows_text, table_text}
+use Rattle.census_table.specs.Columns.{pattern_row}
+use Rattle.census_table.specs.Contents.{Member}
+use Rattle.census_table.specs.ObjectColumns.{object_row}
+use Rattle.census_table.specs.Objects.{all_objects, section_objects}
+use Rattle.census_table.specs.Tables.{Listing, csv_records, json_line, json_rows, listing_text, pattern_listing, row_fields, rows_text, table_text}
 use Rattle.census_table.specs.declared.entry.Entry.{Entry}
+use Rattle.census_table.specs.declared.object.Object.{Object}
+use Rattle.census_table.specs.declared.object_column.ObjectColumn.{ObjectColumn}
 use Rattle.census_table.specs.declared.table.Format.{Format}
 use Rattle.census_table.specs.declared.table.Format.TheVariants.{Csv, Json}
 
-rows-append : (format : Format) (xs ys : List Entry) → rows_text format (xs ++ ys) ≡ rows_text format xs ++ rows_text format ys
+pub rows-append : (format : Format) (xs ys : List (List Member)) → rows_text format (xs ++ ys) ≡ rows_text format xs ++ rows_text format ys
 rows-append Csv [] ys = refl
 rows-append Csv (x ∷ xs) ys =
-    let row = row_text default_writer (entry_fields x) in
+    let row = row_text default_writer (row_fields x) in
     ap (λ t. row ++ t) (rows-append Csv xs ys) ∙ sym (append_assoc row (csv_records xs) (csv_records ys))
 rows-append Json [] ys = refl
 rows-append Json (x ∷ xs) ys =
     let row = json_line x in
-    ap (λ t. row ++ t) (rows-append Json xs ys) ∙ sym (append_assoc row (json_text xs) (json_text ys))
+    ap (λ t. row ++ t) (rows-append Json xs ys) ∙ sym (append_assoc row (json_rows xs) (json_rows ys))
 
-pub whole-table : (format : Format) (entries : List Entry) → table_text format entries ≡ head_text format ++ rows_text format entries
-whole-table Csv entries = refl
-whole-table Json entries = refl
+-- the rows of some things, and those of others behind them
+mapped-append : {X : Type 0} (format : Format) (row : X → List Member) (xs ys : List X)
+    → rows_text format (map row (xs ++ ys)) ≡ rows_text format (map row xs) ++ rows_text format (map row ys)
+mapped-append format row xs ys = ap (rows_text format) (map-append row xs ys) ∙ rows-append format (map row xs) (map row ys)
 
 before-append : (entry : Option Entry) (xs ys : List Entry) → entry_before entry (xs ++ ys) ≡ entry_before entry xs ++ ys
 before-append None xs ys = refl
@@ -45,28 +52,54 @@ drop-cut xs start count =
 -- some rows of a collection, and those behind them
 pub rows-cut : (format : Format) (number : ℕ) (heading : Row) (rows some others : List (Bor Row)) (entries : List Entry) → rows ≡ some ++ others
     → entries ≡ lines_under number heading (rows_lent some)
-    → rows_text format (lines_under number heading (rows_lent rows)) ≡ rows_text format entries ++ rows_text format (lines_under number heading (rows_lent others))
+    → rows_text format (map pattern_row (lines_under number heading (rows_lent rows)))
+    ≡ rows_text format (map pattern_row entries) ++ rows_text format (map pattern_row (lines_under number heading (rows_lent others)))
 rows-cut format number heading rows some others entries e are =
-    ap (λ rows. rows_text format (lines_under number heading rows)) (ap rows_lent e ∙ map-append (λ row. row.now) some others)
-    ∙ ap (rows_text format) (under-append number heading (rows_lent some) (rows_lent others))
-    ∙ rows-append format (lines_under number heading (rows_lent some)) (lines_under number heading (rows_lent others))
-    ∙ ap (λ es. rows_text format es ++ rows_text format (lines_under number heading (rows_lent others))) (sym are)
+    ap (λ rows. rows_text format (map pattern_row (lines_under number heading rows))) (ap rows_lent e ∙ map-append (λ row. row.now) some others)
+    ∙ ap (λ es. rows_text format (map pattern_row es)) (under-append number heading (rows_lent some) (rows_lent others))
+    ∙ mapped-append format pattern_row (lines_under number heading (rows_lent some)) (lines_under number heading (rows_lent others))
+    ∙ ap (λ es. rows_text format (map pattern_row es) ++ rows_text format (map pattern_row (lines_under number heading (rows_lent others)))) (sym are)
+
+-- some objects, and those behind them
+pub objects-cut : (format : Format) (columns : List ObjectColumn) (objects some others chosen : List Object) → objects ≡ some ++ others → chosen ≡ some
+    → rows_text format (map (object_row columns) objects) ≡ rows_text format (map (object_row columns) chosen) ++ rows_text format (map (object_row columns) others)
+objects-cut format columns objects some others chosen e are =
+    ap (λ os. rows_text format (map (object_row columns) os)) e ∙ mapped-append format (object_row columns) some others
+    ∙ ap (λ os. rows_text format (map (object_row columns) os) ++ rows_text format (map (object_row columns) others)) (sym are)
 
 -- a collection, and those behind it
 pub sections-cut : {A : Type 0} (format : Format) (sections : List (Vec (Bor Row) A)) (i : ℕ) (d : Vec (Bor Row) A) (rows : List (Bor Row)) → i < length sections
     → rows ≡ (get_or sections i d).items
-    → rows_text format (all_entries (i + 1) (sections_lent (drop i sections)))
-    ≡ rows_text format (section_entries (i + 1) (rows_lent rows)) ++ rows_text format (all_entries (i + 1 + 1) (sections_lent (drop (i + 1) sections)))
+    → rows_text format (map pattern_row (all_entries (i + 1) (sections_lent (drop i sections))))
+    ≡ rows_text format (map pattern_row (section_entries (i + 1) (rows_lent rows)))
+    ++ rows_text format (map pattern_row (all_entries (i + 1 + 1) (sections_lent (drop (i + 1) sections))))
 sections-cut format sections i d rows less are =
     let behind = drop (i + 1) sections in
     let next : drop i sections ≡ get_or sections i d ∷ behind =
     drop-cons sections i d less ∙ ap (λ k. get_or sections i d ∷ drop k sections) (let e : suc i ≡ i + 1 = omega arith in e) in
-    ap (λ s. rows_text format (all_entries (i + 1) (sections_lent s))) next
-    ∙ rows-append format (section_entries (i + 1) (rows_lent (get_or sections i d).items)) (all_entries (i + 1 + 1) (sections_lent behind))
-    ∙ ap (λ r. rows_text format (section_entries (i + 1) (rows_lent r)) ++ rows_text format (all_entries (i + 1 + 1) (sections_lent behind))) (sym are)
+    ap (λ s. rows_text format (map pattern_row (all_entries (i + 1) (sections_lent s)))) next
+    ∙ mapped-append format pattern_row (section_entries (i + 1) (rows_lent (get_or sections i d).items)) (all_entries (i + 1 + 1) (sections_lent behind))
+    ∙ ap (λ r. rows_text format (map pattern_row (section_entries (i + 1) (rows_lent r))) ++ rows_text format (map pattern_row (all_entries (i + 1 + 1) (sections_lent behind)))) (sym are)
 
 -- a collection without rows
-pub section-empty : (format : Format) (number : ℕ) (rows : List (Bor Row)) → length rows < 1 → rows_text format (section_entries number (rows_lent rows)) ≡ []
+pub section-empty : (format : Format) (number : ℕ) (rows : List (Bor Row)) → length rows < 1 → rows_text format (map pattern_row (section_entries number (rows_lent rows))) ≡ []
 section-empty Csv number [] none = refl
 section-empty Json number [] none = refl
 section-empty format number (r ∷ rows) none = absurd (omega arith)
+
+-- the objects of a collection, and those of the collections behind it
+pub section-objects : {A : Type 0} (sections : List (Vec (Bor Row) A)) (i : ℕ) (d : Vec (Bor Row) A) (rows : List (Bor Row)) → i < length sections
+    → rows ≡ (get_or sections i d).items
+    → all_objects (i + 1) (sections_lent (drop i sections))
+    ≡ section_objects (i + 1) (rows_lent rows) ++ all_objects (i + 1 + 1) (sections_lent (drop (i + 1) sections))
+section-objects sections i d rows less are =
+    let behind = drop (i + 1) sections in
+    let next : drop i sections ≡ get_or sections i d ∷ behind =
+    drop-cons sections i d less ∙ ap (λ k. get_or sections i d ∷ drop k sections) (let e : suc i ≡ i + 1 = omega arith in e) in
+    ap (λ s. all_objects (i + 1) (sections_lent s)) next
+    ∙ ap (λ r. section_objects (i + 1) (rows_lent r) ++ all_objects (i + 1 + 1) (sections_lent behind)) (sym are)
+
+-- a table of patterns
+pub pattern-text : (format : Format) (entries : List Entry) (listing : Listing) → listing ≡ pattern_listing entries → listing_text format listing ≡ table_text format entries
+pattern-text Csv entries listing is = ap (listing_text Csv) is
+pattern-text Json entries listing is = ap (listing_text Json) is

@@ -1,5 +1,5 @@
--- The columns of a table.
-use Rattle.std.specs.Prelude.{ℕ, Option, Some, None, List, [], ◌∷◌, codes}
+-- The columns of a table of patterns.
+use Rattle.std.specs.Prelude.{ℕ, Option, Some, None, List, [], ◌∷◌, codes, map}
 use Rattle.census_rows.specs.declared.kinds.Label.{Label}
 use Rattle.census_rows.specs.declared.kinds.Label.TheVariants as label
 use Rattle.census_rows.specs.declared.kinds.Value.{Value}
@@ -9,7 +9,7 @@ use Rattle.census_rows.specs.Kinds.{said, value_at}
 use Rattle.census_table.specs.declared.column.Column.{Column}
 use Rattle.census_table.specs.declared.column.Column.TheVariants as column
 use Rattle.census_table.specs.declared.entry.Entry.{Entry}
-use Rattle.census_table.specs.Contents.{Content, nothing, count, shift, text, hex}
+use Rattle.census_table.specs.Contents.{Content, Member, nothing, count, shift, text, hex}
 
 -- all columns, in their order
 abbrev pub columns : List Column
@@ -67,3 +67,7 @@ content_in_column column.CollectionNameHex entry = hex entry.collection_name.now
 content_in_column column.NameHex entry = hex entry.name.now
 content_in_column column.Objects entry = field_content entry.outcome label.Objects
 content_in_column column.Generation entry = field_content entry.outcome label.Generation
+
+-- the row of a pattern
+abbrev pub pattern_row : Entry → List Member
+pattern_row entry = map (λ column. record { name = name_of column; content = content_in_column column entry }) columns

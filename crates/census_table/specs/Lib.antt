@@ -1,6 +1,10 @@
 pub mod Columns
 pub mod Contents
 pub mod Entries
+pub mod Grouping
+pub mod Kinds
+pub mod ObjectColumns
+pub mod Objects
 pub mod Tables
 pub mod Told
 pub mod Written

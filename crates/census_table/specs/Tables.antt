@@ -1,41 +1,73 @@
 -- The texts of tables.
-use Rattle.std.specs.Prelude.{ℕ, List, [], ◌∷◌, ◌++◌, codes, length, map}
+use Rattle.std.specs.Prelude.{◌≡◌, ℕ, Bool, List, [], ◌∷◌, ◌++◌, codes, filter, length, map}
 use Rattle.bstr.specs.Find.{matches}
 use Rattle.bstr.specs.Text.{replaced_at}
 use Rattle.csv.specs.Writing.{default_writer, row_text}
 use Rattle.serde_json.specs.Data.{Members, no_members, object, put}
 use Rattle.serde_json.specs.Written.{compact_text}
-use Rattle.census_table.specs.Columns.{columns, content_in_column, name_of}
-use Rattle.census_table.specs.Contents.{content_bytes, content_data}
-use Rattle.census_table.specs.declared.column.Column.{Column}
+use Rattle.census_rows.specs.Kinds.{said}
+use Rattle.census_rows.specs.declared.row.Row.{Row}
+use Rattle.census_readback.specs.Grouped.{sections_lent}
+use Rattle.census_table.specs.Columns.{columns, name_of, pattern_row}
+use Rattle.census_table.specs.Contents.{Member, content_bytes, content_data}
+use Rattle.census_table.specs.Entries.{all_entries, entries_of}
+use Rattle.census_table.specs.Kinds.{AreKinds}
+use Rattle.census_table.specs.ObjectColumns.{code_columns, object_row, part_columns, title_of}
+use Rattle.census_table.specs.Objects.{objects_of}
 use Rattle.census_table.specs.declared.entry.Entry.{Entry}
+use Rattle.census_table.specs.declared.object.Object.{Object}
+use Rattle.census_table.specs.declared.object_column.ObjectColumn.{ObjectColumn}
+use Rattle.census_table.specs.declared.subject.Subject.{Subject}
+use Rattle.census_table.specs.declared.subject.Subject.TheVariants.{Patterns, Parts, Codes}
+use Rattle.census_table.specs.declared.subject.Table.{Table}
+use Rattle.census_table.specs.declared.subject.Table.TheVariants as table
 use Rattle.census_table.specs.declared.table.Format.{Format}
 use Rattle.census_table.specs.declared.table.Format.TheVariants.{Csv, Json}
 
--- the names of the columns, and their fields in the row of a pattern
-abbrev pub header : List (List ℕ)
-header = map name_of columns
+-- # What stands in a table
 
-abbrev pub entry_fields : Entry → List (List ℕ)
-entry_fields entry = map (λ column. content_bytes (content_in_column column entry)) columns
+-- what the columns are called, and the rows
+pub record Listing : Type 0 where
+  pub names : List (List ℕ)
+  pub rows : List (List Member)
 
--- a record for each pattern, as the crate `csv` writes it by default
-abbrev pub csv_records : List Entry → List ℕ
+-- a row for each pattern
+abbrev pub pattern_listing : List Entry → Listing
+pattern_listing entries = record { names = map name_of columns; rows = map pattern_row entries }
+
+-- a row for each object, with these columns
+abbrev pub object_listing : List ObjectColumn → List Object → Listing
+object_listing columns objects = record { names = map title_of columns; rows = map (object_row columns) objects }
+
+abbrev pub listing_of : Table → Listing
+listing_of (table.Patterns sections) = pattern_listing (all_entries 1 (sections_lent sections.items))
+listing_of (table.Objects columns objects) = object_listing columns.now objects.items
+
+-- the object is one of several that a pattern has fallen apart into
+abbrev pub is_part : Object → Bool
+is_part o = (said o.first.outcome).has_parts
+
+-- a row for each pattern, for each `part` row, or for each rule and code
+abbrev pub IsListingOf : Subject → List Row → Listing → Type 0
+IsListingOf Patterns rows listing = listing ≡ pattern_listing (entries_of rows)
+IsListingOf Parts rows listing = listing ≡ object_listing part_columns (filter is_part (objects_of rows))
+IsListingOf Codes rows listing = (kinds : List Object) × AreKinds (objects_of rows) kinds × (listing ≡ object_listing code_columns kinds)
+
+-- # How it is written
+
+-- the fields of a row
+abbrev pub row_fields : List Member → List (List ℕ)
+row_fields row = map (λ member. content_bytes member.content) row
+
+-- a record for each row, as the crate `csv` writes it by default
+abbrev pub csv_records : List (List Member) → List ℕ
 csv_records [] = []
-csv_records (entry ∷ entries) = row_text default_writer (entry_fields entry) ++ csv_records entries
+csv_records (row ∷ rows) = row_text default_writer (row_fields row) ++ csv_records rows
 
--- the same, after a record of the columns' names
-abbrev pub csv_text : List Entry → List ℕ
-csv_text entries = row_text default_writer header ++ csv_records entries
-
--- the members, with those of these columns
-abbrev pub with_columns : Entry → List Column → Members → Members
-with_columns entry [] members = members
-with_columns entry (column ∷ others) members = with_columns entry others (put (name_of column) (content_data (content_in_column column entry)) members)
-
--- what an object has of a pattern: a member for each column
-abbrev pub entry_members : Entry → Members
-entry_members entry = with_columns entry columns no_members
+-- the members, with those of a row
+abbrev pub with_row : List Member → Members → Members
+with_row [] members = members
+with_row (member ∷ row) members = with_row row (put member.name (content_data member.content) members)
 
 -- the bytes, with each place where these stand taken by others
 abbrev pub replaced : List ℕ → List ℕ → List ℕ → List ℕ
@@ -48,25 +80,36 @@ with_line_ends_escaped json =
     (replaced (226 ∷ 128 ∷ 168 ∷ []) (codes "\\u2028") (replaced (194 ∷ 133 ∷ []) (codes "\\u0085") json))
 
 -- an object, as `serde_json` writes it without blanks, and an LF
-abbrev pub json_line : Entry → List ℕ
-json_line entry = with_line_ends_escaped (compact_text (object (entry_members entry))) ++ 10 ∷ []
+abbrev pub json_line : List Member → List ℕ
+json_line row = with_line_ends_escaped (compact_text (object (with_row row no_members))) ++ 10 ∷ []
 
--- one for each pattern
-abbrev pub json_text : List Entry → List ℕ
-json_text [] = []
-json_text (entry ∷ entries) = json_line entry ++ json_text entries
+-- one for each row
+abbrev pub json_rows : List (List Member) → List ℕ
+json_rows [] = []
+json_rows (row ∷ rows) = json_line row ++ json_rows rows
 
--- what a table has before its rows
-abbrev pub head_text : Format → List ℕ
-head_text Csv = row_text default_writer header
-head_text Json = []
+-- what a table has before its rows: as CSV a record of the columns' names
+abbrev pub head_text : Format → List (List ℕ) → List ℕ
+head_text Csv names = row_text default_writer names
+head_text Json names = []
 
 -- its rows
-abbrev pub rows_text : Format → List Entry → List ℕ
-rows_text Csv entries = csv_records entries
-rows_text Json entries = json_text entries
+abbrev pub rows_text : Format → List (List Member) → List ℕ
+rows_text Csv rows = csv_records rows
+rows_text Json rows = json_rows rows
 
 -- the whole table
+abbrev pub listing_text : Format → Listing → List ℕ
+listing_text format listing = head_text format listing.names ++ rows_text format listing.rows
+
+-- # Tables of patterns
+
+abbrev pub csv_text : List Entry → List ℕ
+csv_text entries = listing_text Csv (pattern_listing entries)
+
+abbrev pub json_text : List Entry → List ℕ
+json_text entries = listing_text Json (pattern_listing entries)
+
 abbrev pub table_text : Format → List Entry → List ℕ
 table_text Csv entries = csv_text entries
 table_text Json entries = json_text entries

@@ -22,6 +22,14 @@ pub enum Cell<'a> {
     Hex(&'a [u8]),
 }
 
+/// What a row has in the column of a name.
+#[derive(Clone, Copy)]
+pub struct Field<'a> {
+    /// What the column is called.
+    pub name: &'static str,
+    pub cell: Cell<'a>,
+}
+
 // The bytes in hex, where they are not UTF-8.
 fn hex_of(alloc: Global, bytes: &[u8]) -> Result<Option<String>, AllocError>
     ensures { IfOk result (λ text. option_map string_bytes text ≡ hex_of bytes.now) }

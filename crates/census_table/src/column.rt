@@ -1,13 +1,14 @@
 //! The columns of a table.
-ghost use Rattle.std.specs.Prelude.{◌≡◌};
-ghost use Rattle.census_table.specs.Columns.{content_in_column, field_content, name_of, value_content};
-ghost use Rattle.census_table.specs.Contents.{content_of};
+ghost use Rattle.std.specs.Prelude.{◌≡◌, IfOk};
+ghost use Rattle.census_table.specs.Columns.{content_in_column, field_content, name_of, pattern_row, value_content};
+ghost use Rattle.census_table.specs.Contents.{content_of, row_of};
 
-use crate::cell::Cell;
+use crate::cell::{Cell, Field};
 use crate::entry::Entry;
 use census_rows::{Label, Outcome, Value};
+use std::alloc::{AllocError, Global};
 
-/// A column. A row has nothing in it but what stands here.
+/// A column of a table of patterns. A row has nothing in it but what stands here.
 #[derive(Clone, Copy)]
 pub enum Column {
     /// The collection's number in its report.
@@ -138,4 +139,18 @@ impl Column {
             Column::Generation => field_cell(&entry.outcome, Label::Generation),
         }
     }
+}
+
+/// The row of a pattern. The only error is out of memory.
+pub fn pattern_row<'a>(alloc: Global, entry: &Entry<'a>) -> Result<Vec<Field<'a>>, AllocError>
+    ensures { IfOk result (λ row. row_of row.items ≡ pattern_row entry.now) }
+{
+    let mut row = Vec::with_capacity(alloc, Column::ALL.len())?;
+    for column in &Column::ALL {
+        row.push(Field {
+            name: column.name(),
+            cell: column.cell(entry),
+        })?;
+    }
+    Ok(row)
 }

@@ -2,35 +2,33 @@
 ghost use Rattle.std.specs.Prelude.{◌≡◌, ◌++◌, map, IfOk, OnOk};
 ghost use Rattle.csv.specs.Records.{fields_of};
 ghost use Rattle.csv.specs.Writing.{default_writer, row_text};
-ghost use Rattle.census_table.specs.Columns.{content_in_column, name_of};
-ghost use Rattle.census_table.specs.Contents.{content_bytes};
-ghost use Rattle.census_table.specs.Tables.{csv_records, entry_fields, header};
+ghost use Rattle.census_table.specs.Contents.{row_of};
+ghost use Rattle.census_table.specs.Tables.{csv_records, row_fields};
+ghost use Rattle.census_table.specs.Told.{rows_in};
 ghost use Rattle.census_table.specs.Written.{IsBetweenRecords, text_written};
 
-use crate::column::Column;
-use crate::entry::Entry;
+use crate::cell::Field;
 use csv::{ByteRecord, Writer};
 use std::alloc::{AllocError, Global};
 
-// The names of these columns.
-fn names(alloc: Global, columns: &[Column]) -> Result<ByteRecord, AllocError>
-    ensures { IfOk result (λ names. fields_of names ≡ map name_of columns.now) }
+// The names of columns.
+fn names(alloc: Global, columns: &[&str]) -> Result<ByteRecord, AllocError>
+    ensures { IfOk result (λ names. fields_of names ≡ map (λ s. s.now) columns.now) }
 {
     let mut names = ByteRecord::new(alloc);
     for column in columns {
-        names.push_field(column.name().as_bytes())?;
+        names.push_field(column.as_bytes())?;
     }
     Ok(names)
 }
 
-// The fields of a pattern in these columns.
-fn fields(alloc: Global, entry: &Entry, columns: &[Column]) -> Result<ByteRecord, AllocError>
-    ensures { IfOk result (λ fields. fields_of fields
-        ≡ map (λ column. content_bytes (content_in_column column entry.now)) columns.now) }
+// The fields of a row.
+fn fields(alloc: Global, row: &[Field]) -> Result<ByteRecord, AllocError>
+    ensures { IfOk result (λ fields. fields_of fields ≡ row_fields (row_of row.now)) }
 {
     let mut fields = ByteRecord::new(alloc);
-    for column in columns {
-        let text = column.cell(entry).to_text(alloc)?;
+    for field in row {
+        let text = field.cell.to_text(alloc)?;
         fields.push_field(text.as_bytes())?;
     }
     Ok(fields)
@@ -49,29 +47,29 @@ fn write(writer: &mut Writer<Vec<u8>>, fields: &ByteRecord) -> Result<(), AllocE
     }
 }
 
-// Writes the record of a pattern.
-fn push_entry(alloc: Global, writer: &mut Writer<Vec<u8>>, entry: &Entry) -> Result<(), AllocError>
+// Writes the record of a row.
+fn push_row(alloc: Global, writer: &mut Writer<Vec<u8>>, row: &[Field]) -> Result<(), AllocError>
     requires { IsBetweenRecords writer.old }
     ensures between { OnOk result (IsBetweenRecords writer.new) }
     ensures text { OnOk result (text_written writer.new
-        ≡ text_written writer.old ++ row_text default_writer (entry_fields entry.now)) }
+        ≡ text_written writer.old ++ row_text default_writer (row_fields (row_of row.now))) }
 {
-    let fields = fields(alloc, entry, &Column::ALL)?;
+    let fields = fields(alloc, row)?;
     write(writer, &fields)
 }
 
-// Writes a record for each pattern.
-fn push_entries(
+// Writes a record for each row.
+fn push_rows(
     alloc: Global,
     writer: &mut Writer<Vec<u8>>,
-    entries: &[Entry],
+    rows: &[Vec<Field>],
 ) -> Result<(), AllocError>
     requires { IsBetweenRecords writer.old }
     ensures { OnOk result
-        (text_written writer.new ≡ text_written writer.old ++ csv_records entries.now) }
+        (text_written writer.new ≡ text_written writer.old ++ csv_records (rows_in rows.now)) }
 {
-    for entry in entries {
-        push_entry(alloc, writer, entry)?;
+    for row in rows {
+        push_row(alloc, writer, row.as_slice())?;
     }
     Ok(())
 }
@@ -87,20 +85,21 @@ fn finish(writer: Writer<Vec<u8>>) -> Result<Vec<u8>, AllocError>
 }
 
 // The record of the columns' names.
-pub fn header(alloc: Global) -> Result<Vec<u8>, AllocError>
-    ensures { IfOk result (λ text. text.items ≡ row_text default_writer header) }
+pub fn header(alloc: Global, columns: &[&str]) -> Result<Vec<u8>, AllocError>
+    ensures { IfOk result
+        (λ text. text.items ≡ row_text default_writer (map (λ s. s.now) columns.now)) }
 {
     let mut writer = Writer::from_writer(Vec::new(alloc));
-    let names = names(alloc, &Column::ALL)?;
+    let names = names(alloc, columns)?;
     write(&mut writer, &names)?;
     finish(writer)
 }
 
-// A record for each pattern.
-pub fn records(alloc: Global, entries: &[Entry]) -> Result<Vec<u8>, AllocError>
-    ensures { IfOk result (λ text. text.items ≡ csv_records entries.now) }
+// A record for each row.
+pub fn records(alloc: Global, rows: &[Vec<Field>]) -> Result<Vec<u8>, AllocError>
+    ensures { IfOk result (λ text. text.items ≡ csv_records (rows_in rows.now)) }
 {
     let mut writer = Writer::from_writer(Vec::new(alloc));
-    push_entries(alloc, &mut writer, entries)?;
+    push_rows(alloc, &mut writer, rows)?;
     finish(writer)
 }

@@ -17,7 +17,7 @@ pub struct Entry<'a> {
 }
 
 // What a row says of a pattern, in the collection that another row opens and that has this number.
-fn entry_of_row<'a>(number: u64, heading: &Row<'a>, row: &Row<'a>) -> Option<Entry<'a>>
+pub fn entry_of_row<'a>(number: u64, heading: &Row<'a>, row: &Row<'a>) -> Option<Entry<'a>>
     ensures { result ≡ entry_of_row number heading.now row.now }
 {
     match row {

@@ -1,39 +1,35 @@
 //! Tables as one JSON object a line.
-ghost use Rattle.std.specs.Prelude.{◌≡◌, ◌∷◌, [], ◌++◌, IfOk, OnOk};
-ghost use Rattle.serde_json.specs.Data.{object};
+ghost use Rattle.std.specs.Prelude.{◌≡◌, ◌++◌, IfOk, OnOk};
+ghost use Rattle.serde_json.specs.Data.{no_members, object};
 ghost use Rattle.serde_json.specs.View.{members_view, view};
 ghost use Rattle.serde_json.specs.Written.{compact_text};
-ghost use Rattle.census_table.specs.Tables.{json_line, json_text, entry_members, with_columns, with_line_ends_escaped};
+ghost use Rattle.census_table.specs.Contents.{row_of};
+ghost use Rattle.census_table.specs.Tables.{json_line, json_rows, with_line_ends_escaped, with_row};
+ghost use Rattle.census_table.specs.Told.{rows_in};
 
-use crate::column::Column;
-use crate::entry::Entry;
+use crate::cell::Field;
 use bstr::ByteSlice;
 use serde_json::{Map, Value, put};
 use std::alloc::{AllocError, Global};
 
-// Sets the members of a pattern in these columns.
-fn put_columns(
-    alloc: Global,
-    members: &mut Map<String, Value>,
-    entry: &Entry,
-    columns: &[Column],
-) -> Result<(), AllocError>
+// Sets the members of a row.
+fn put_row(alloc: Global, members: &mut Map<String, Value>, row: &[Field]) -> Result<(), AllocError>
     ensures { OnOk result (members_view members.new.entries
-        ≡ with_columns entry.now columns.now (members_view members.old.entries)) }
+        ≡ with_row (row_of row.now) (members_view members.old.entries)) }
 {
-    for column in columns {
-        let value = column.cell(entry).to_value(alloc)?;
-        put(members, alloc, column.name(), value)?;
+    for field in row {
+        let value = field.cell.to_value(alloc)?;
+        put(members, alloc, field.name, value)?;
     }
     Ok(())
 }
 
-// The object of a pattern.
-fn object_of(alloc: Global, entry: &Entry) -> Result<Value, AllocError>
-    ensures { IfOk result (λ value. view value ≡ object (entry_members entry.now)) }
+// The object of a row.
+fn object_of(alloc: Global, row: &[Field]) -> Result<Value, AllocError>
+    ensures { IfOk result (λ value. view value ≡ object (with_row (row_of row.now) no_members)) }
 {
     let mut members = Map::new(alloc);
-    put_columns(alloc, &mut members, entry, &Column::ALL)?;
+    put_row(alloc, &mut members, row)?;
     Ok(Value::Object(members))
 }
 
@@ -46,26 +42,34 @@ fn with_line_ends_escaped(alloc: Global, json: &[u8]) -> Result<Vec<u8>, AllocEr
     json.as_slice().replace(alloc, b"\xe2\x80\xa9", b"\\u2029")
 }
 
-// Adds the line of a pattern.
-fn push_line(alloc: Global, text: &mut Vec<u8>, entry: &Entry) -> Result<(), AllocError>
-    ensures { OnOk result (text.new.items
-        ≡ text.old.items ++ json_line entry.now) }
+// The JSON of a row, on one line.
+fn json_of(alloc: Global, row: &[Field]) -> Result<Vec<u8>, AllocError>
+    ensures { IfOk result (λ json. json.items
+        ≡ with_line_ends_escaped (compact_text (object (with_row (row_of row.now) no_members)))) }
 {
-    let value = object_of(alloc, entry)?;
+    let value = object_of(alloc, row)?;
     let json = value.to_vec(alloc)?;
-    let line = with_line_ends_escaped(alloc, json.as_slice())?;
-    text.extend_from_slice(line.as_slice())?;
+    with_line_ends_escaped(alloc, json.as_slice())
+}
+
+// Adds the line of a row.
+fn push_line(alloc: Global, text: &mut Vec<u8>, row: &[Field]) -> Result<(), AllocError>
+    ensures { OnOk result (text.new.items
+        ≡ text.old.items ++ json_line (row_of row.now)) }
+{
+    let json = json_of(alloc, row)?;
+    text.extend_from_slice(json.as_slice())?;
     text.push(b'\n')?;
     Ok(())
 }
 
-// A line for each pattern.
-pub fn lines(alloc: Global, entries: &[Entry]) -> Result<Vec<u8>, AllocError>
-    ensures { IfOk result (λ text. text.items ≡ json_text entries.now) }
+// A line for each row.
+pub fn lines(alloc: Global, rows: &[Vec<Field>]) -> Result<Vec<u8>, AllocError>
+    ensures { IfOk result (λ text. text.items ≡ json_rows (rows_in rows.now)) }
 {
     let mut text = Vec::new(alloc);
-    for entry in entries {
-        push_line(alloc, &mut text, entry)?;
+    for row in rows {
+        push_line(alloc, &mut text, row.as_slice())?;
     }
     Ok(text)
 }

@@ -1,4 +1,4 @@
-//! Rows for spreadsheets and databases: one for each pattern of a report.
+//! Rows for spreadsheets and databases: one for each pattern of a report, each part, or each code.
 //!
 //! Tested in `tests_reports`.
 #![tactic(auto)]
@@ -6,11 +6,19 @@
 mod cell;
 mod column;
 mod comma;
+mod counting;
 mod entry;
 mod json_lines;
+mod object;
+mod object_column;
+mod subject;
 mod table;
 
-pub use cell::Cell;
-pub use column::Column;
+pub use cell::{Cell, Field};
+pub use column::{Column, pattern_row};
+pub use counting::kinds;
 pub use entry::{Entry, entries_under};
-pub use table::{Format, each_line_has_a_row, put_table};
+pub use object::{Object, objects};
+pub use object_column::{ObjectColumn, object_row};
+pub use subject::{Subject, Table, table_of};
+pub use table::{Format, each_line_has_a_row, put_listing, put_table};

@@ -1,17 +1,23 @@
 //! Tables, told some rows at a time.
-ghost use Rattle.std.specs.Prelude.{◌≡◌, List, length, IfOk, MatchResult};
+ghost use Rattle.std.specs.Prelude.{◌≡◌, List, length, map, IfOk, MatchResult};
 ghost use Rattle.gathered.specs.Telling.{TellsAfter, sheet};
 ghost use Rattle.census_rows.specs.declared.row.Row.{Row};
 ghost use Rattle.census_readback.specs.Grouped.{sections_lent, rows_lent};
 ghost use Rattle.census_readback.specs.Shapes.{AreReports, any_outcome, lines_that};
+ghost use Rattle.census_table.specs.Columns.{pattern_row};
 ghost use Rattle.census_table.specs.Entries.{all_entries, entries_of, lines_under, section_entries};
-ghost use Rattle.census_table.specs.Tables.{head_text, rows_text, table_text};
-ghost use Rattle.census_table.specs.Told.{TellsFront};
+ghost use Rattle.census_table.specs.ObjectColumns.{object_row};
+ghost use Rattle.census_table.specs.Tables.{head_text, listing_of, listing_text, rows_text, table_text};
+ghost use Rattle.census_table.specs.Told.{TellsFront, rows_in};
 
+use crate::cell::Field;
+use crate::column::pattern_row;
 use crate::comma::{header, records};
 use crate::entry::{Entry, entries_under};
 use crate::json_lines::lines;
-use census_readback::collections;
+use crate::object::Object;
+use crate::object_column::{ObjectColumn, object_row};
+use crate::subject::{Subject, Table, table_of};
 use census_rows::Row;
 use gathered::{Block, put};
 use std::alloc::{AllocError, Global};
@@ -21,10 +27,10 @@ use watched::Watched;
 /// How a table is written.
 #[derive(Clone, Copy, Debug, PartialEq, Eq)]
 pub enum Format {
-    /// As comma-separated values: a record of the columns' names, and one for each pattern. A record
+    /// As comma-separated values: a record of the columns' names, and one for each row. A record
     /// ends with LF.
     Csv,
-    /// As JSON: for each pattern one object on a line of its own, with a member for each column, in
+    /// As JSON: for each row one object on a line of its own, with a member for each column, in
     /// the order of their names. Each line ends with LF.
     Json,
 }
@@ -32,33 +38,79 @@ pub enum Format {
 // As many rows as are told at a time.
 const SOME: usize = 256;
 
-// The text of the rows of these patterns.
-fn text_of(alloc: Global, format: Format, entries: &[Entry]) -> Result<Vec<u8>, AllocError>
-    ensures { IfOk result (λ text. text.items ≡ rows_text format entries.now) }
+// The text of these rows.
+fn text_of(alloc: Global, format: Format, rows: &[Vec<Field>]) -> Result<Vec<u8>, AllocError>
+    ensures { IfOk result (λ text. text.items ≡ rows_text format (rows_in rows.now)) }
 {
     match format {
-        Format::Csv => records(alloc, entries),
-        Format::Json => lines(alloc, entries),
+        Format::Csv => records(alloc, rows),
+        Format::Json => lines(alloc, rows),
     }
+}
+
+// The rows of these patterns.
+fn pattern_rows<'a>(alloc: Global, entries: &[Entry<'a>]) -> Result<Vec<Vec<Field<'a>>>, AllocError>
+    ensures { IfOk result (λ rows. rows_in rows.items ≡ map pattern_row entries.now) }
+{
+    let mut rows = Vec::new(alloc);
+    for entry in entries {
+        rows.push(pattern_row(alloc, entry)?)?;
+    }
+    Ok(rows)
+}
+
+// The rows of these objects, in these columns.
+fn object_rows<'a>(
+    alloc: Global,
+    columns: &[ObjectColumn],
+    objects: &[Object<'a>],
+) -> Result<Vec<Vec<Field<'a>>>, AllocError>
+    ensures { IfOk result (λ rows. rows_in rows.items ≡ map (object_row columns.now) objects.now) }
+{
+    let mut rows = Vec::new(alloc);
+    for object in objects {
+        rows.push(object_row(alloc, columns, object)?)?;
+    }
+    Ok(rows)
 }
 
 // Tells what a table has before its rows.
 fn put_head<W: Write>(
     alloc: Global,
     format: Format,
+    names: &[&str],
     block: &mut Block,
     writer: &mut Watched<W>,
 ) -> Result<(), AllocError>
     ensures { MatchResult result
-        (λ _. TellsAfter (head_text format)
+        (λ _. TellsAfter (head_text format (map (λ s. s.now) names.now))
         (sheet W.contents block.old writer.old) (sheet W.contents block.new writer.new))
-        (λ _. TellsFront (head_text format)
+        (λ _. TellsFront (head_text format (map (λ s. s.now) names.now))
         (sheet W.contents block.old writer.old) (sheet W.contents block.new writer.new)) }
 {
     match format {
-        Format::Csv => put(header(alloc)?.as_slice(), block, writer),
+        Format::Csv => put(header(alloc, names)?.as_slice(), block, writer),
         Format::Json => {}
     }
+    Ok(())
+}
+
+// Tells these rows.
+fn put_rows<W: Write>(
+    alloc: Global,
+    format: Format,
+    rows: &[Vec<Field>],
+    block: &mut Block,
+    writer: &mut Watched<W>,
+) -> Result<(), AllocError>
+    ensures { MatchResult result
+        (λ _. TellsAfter (rows_text format (rows_in rows.now))
+        (sheet W.contents block.old writer.old) (sheet W.contents block.new writer.new))
+        (λ _. TellsFront (rows_text format (rows_in rows.now))
+        (sheet W.contents block.old writer.old) (sheet W.contents block.new writer.new)) }
+{
+    let text = text_of(alloc, format, rows)?;
+    put(text.as_slice(), block, writer);
     Ok(())
 }
 
@@ -71,16 +123,61 @@ fn put_entries<W: Write>(
     writer: &mut Watched<W>,
 ) -> Result<(), AllocError>
     ensures { MatchResult result
-        (λ _. TellsAfter (rows_text format entries.now)
+        (λ _. TellsAfter (rows_text format (map pattern_row entries.now))
         (sheet W.contents block.old writer.old) (sheet W.contents block.new writer.new))
-        (λ _. TellsFront (rows_text format entries.now)
+        (λ _. TellsFront (rows_text format (map pattern_row entries.now))
         (sheet W.contents block.old writer.old) (sheet W.contents block.new writer.new)) }
 {
     if writer.failed() {
         return Ok(());
     }
-    let text = text_of(alloc, format, entries)?;
-    put(text.as_slice(), block, writer);
+    let rows = pattern_rows(alloc, entries)?;
+    put_rows(alloc, format, rows.as_slice(), block, writer)
+}
+
+// Tells the rows of some of these objects. For a writer that has failed no text is made.
+fn put_some<W: Write>(
+    alloc: Global,
+    format: Format,
+    columns: &[ObjectColumn],
+    objects: &[Object],
+    block: &mut Block,
+    writer: &mut Watched<W>,
+) -> Result<(), AllocError>
+    ensures { MatchResult result
+        (λ _. TellsAfter (rows_text format (map (object_row columns.now) objects.now))
+        (sheet W.contents block.old writer.old) (sheet W.contents block.new writer.new))
+        (λ _. TellsFront (rows_text format (map (object_row columns.now) objects.now))
+        (sheet W.contents block.old writer.old) (sheet W.contents block.new writer.new)) }
+{
+    if writer.failed() {
+        return Ok(());
+    }
+    let rows = object_rows(alloc, columns, objects)?;
+    put_rows(alloc, format, rows.as_slice(), block, writer)
+}
+
+// Tells the rows of these objects, some at a time.
+fn put_objects<W: Write>(
+    alloc: Global,
+    format: Format,
+    columns: &[ObjectColumn],
+    objects: &[Object],
+    block: &mut Block,
+    writer: &mut Watched<W>,
+) -> Result<(), AllocError>
+    ensures { MatchResult result
+        (λ _. TellsAfter (rows_text format (map (object_row columns.now) objects.now))
+        (sheet W.contents block.old writer.old) (sheet W.contents block.new writer.new))
+        (λ _. TellsFront (rows_text format (map (object_row columns.now) objects.now))
+        (sheet W.contents block.old writer.old) (sheet W.contents block.new writer.new)) }
+{
+    let mut start = 0;
+    while start < objects.len() {
+        let end = start + (objects.len() - start).min(SOME);
+        put_some(alloc, format, columns, &objects[start..end], block, writer)?;
+        start = end;
+    }
     Ok(())
 }
 
@@ -95,9 +192,9 @@ fn put_lines<'a, W: Write>(
     writer: &mut Watched<W>,
 ) -> Result<(), AllocError>
     ensures { MatchResult result
-        (λ _. TellsAfter (rows_text format (lines_under number heading.now (rows_lent rows.now)))
+        (λ _. TellsAfter (rows_text format (map pattern_row (lines_under number heading.now (rows_lent rows.now))))
         (sheet W.contents block.old writer.old) (sheet W.contents block.new writer.new))
-        (λ _. TellsFront (rows_text format (lines_under number heading.now (rows_lent rows.now)))
+        (λ _. TellsFront (rows_text format (map pattern_row (lines_under number heading.now (rows_lent rows.now))))
         (sheet W.contents block.old writer.old) (sheet W.contents block.new writer.new)) }
 {
     let mut start = 0;
@@ -120,9 +217,9 @@ fn put_section<'a, W: Write>(
     writer: &mut Watched<W>,
 ) -> Result<(), AllocError>
     ensures { MatchResult result
-        (λ _. TellsAfter (rows_text format (section_entries number (rows_lent rows.now)))
+        (λ _. TellsAfter (rows_text format (map pattern_row (section_entries number (rows_lent rows.now))))
         (sheet W.contents block.old writer.old) (sheet W.contents block.new writer.new))
-        (λ _. TellsFront (rows_text format (section_entries number (rows_lent rows.now)))
+        (λ _. TellsFront (rows_text format (map pattern_row (section_entries number (rows_lent rows.now))))
         (sheet W.contents block.old writer.old) (sheet W.contents block.new writer.new)) }
 {
     match rows {
@@ -140,9 +237,9 @@ fn put_sections<W: Write>(
     writer: &mut Watched<W>,
 ) -> Result<(), AllocError>
     ensures { MatchResult result
-        (λ _. TellsAfter (rows_text format (all_entries 1 (sections_lent sections.now)))
+        (λ _. TellsAfter (rows_text format (map pattern_row (all_entries 1 (sections_lent sections.now))))
         (sheet W.contents block.old writer.old) (sheet W.contents block.new writer.new))
-        (λ _. TellsFront (rows_text format (all_entries 1 (sections_lent sections.now)))
+        (λ _. TellsFront (rows_text format (map pattern_row (all_entries 1 (sections_lent sections.now))))
         (sheet W.contents block.old writer.old) (sheet W.contents block.new writer.new)) }
 {
     for index in 0..sections.len() {
@@ -159,12 +256,59 @@ fn put_sections<W: Write>(
     Ok(())
 }
 
-/// Tells the patterns of a report, or of several after one another, as a table, which is UTF-8:
-/// those of the first report's collection 1 first, each collection's in the order of their numbers.
-/// The collections of a report are numbered on after those of the report before it.
+// Tells the rows of a table.
+fn put_body<W: Write>(
+    alloc: Global,
+    format: Format,
+    table: &Table,
+    block: &mut Block,
+    writer: &mut Watched<W>,
+) -> Result<(), AllocError>
+    ensures { MatchResult result
+        (λ _. TellsAfter (rows_text format (listing_of table.now).rows)
+        (sheet W.contents block.old writer.old) (sheet W.contents block.new writer.new))
+        (λ _. TellsFront (rows_text format (listing_of table.now).rows)
+        (sheet W.contents block.old writer.old) (sheet W.contents block.new writer.new)) }
+{
+    match table {
+        Table::Patterns(sections) => put_sections(
+            alloc,
+            format,
+            sections.as_slice(),
+            block,
+            writer,
+        ),
+        Table::Objects { columns, objects } => {
+            put_objects(alloc, format, *columns, objects.as_slice(), block, writer)
+        }
+    }
+}
+
+/// Tells a table, which is UTF-8: of patterns those of the first report's collection 1 first, each collection's in the
+/// order of their numbers. The collections of a report are numbered on after those of the report before it.
 ///
 /// The text of some rows stands in memory at a time. Where memory is refused, a prefix of the table
 /// was told. To a writer that has failed nothing is written, and no more text is made for it.
+pub fn put_listing<W: Write>(
+    alloc: Global,
+    format: Format,
+    table: &Table,
+    block: &mut Block,
+    writer: &mut Watched<W>,
+) -> Result<(), AllocError>
+    ensures { MatchResult result
+        (λ _. TellsAfter (listing_text format (listing_of table.now))
+        (sheet W.contents block.old writer.old) (sheet W.contents block.new writer.new))
+        (λ _. TellsFront (listing_text format (listing_of table.now))
+        (sheet W.contents block.old writer.old) (sheet W.contents block.new writer.new)) }
+{
+    let names = table.names(alloc)?;
+    put_head(alloc, format, names.as_slice(), block, writer)?;
+    put_body(alloc, format, table, block, writer)
+}
+
+/// Tells the patterns of a report, or of several after one another, as a table, as `table_of` makes it and `put_listing`
+/// tells it.
 pub fn put_table<W: Write>(
     alloc: Global,
     format: Format,
@@ -179,12 +323,11 @@ pub fn put_table<W: Write>(
         (λ _. TellsFront (table_text format (entries_of rows.now))
         (sheet W.contents block.old writer.old) (sheet W.contents block.new writer.new)) }
 {
-    let sections = collections(alloc, rows)?;
-    put_head(alloc, format, block, writer)?;
-    put_sections(alloc, format, sections.as_slice(), block, writer)
+    let table = table_of(alloc, Subject::Patterns, rows)?;
+    put_listing(alloc, format, &table, block, writer)
 }
 
-/// A table has as many rows as its reports have `line` rows.
+/// A table of patterns has as many rows as its reports have `line` rows.
 pub fn each_line_has_a_row()
     ensures { (rows : List Row) → AreReports rows
         → length (entries_of rows) ≡ lines_that any_outcome rows }

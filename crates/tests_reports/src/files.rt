@@ -3,6 +3,7 @@
 use crate::lines::lines_of;
 use census_reports::{Form, ReportsError, write_reports};
 use census_rows::Row;
+use census_table::{Format, Subject};
 use std::alloc::{AllocError, Global};
 use std::io;
 use std::io::{ErrorKind, Read, Write};
@@ -94,6 +95,17 @@ fn written<I: Read + Drop>(
     (result, output.into_inner())
 }
 
+// A row for each pattern.
+const CSV_FORM: Form = Form::Table {
+    subject: Subject::Patterns,
+    format: Format::Csv,
+};
+
+const JSON_FORM: Form = Form::Table {
+    subject: Subject::Patterns,
+    format: Format::Json,
+};
+
 /// Words, standard input, and what is written or why nothing is.
 type Case = (
     Form,
@@ -104,8 +116,19 @@ type Case = (
 
 const CASES: &[Case] = &[
     (Form::Merged, &["first", "second"], b"", Ok(MERGED)),
-    (Form::Csv, &["first", "second"], b"", Ok(CSV)),
-    (Form::Json, &["second"], b"", Ok(JSON)),
+    (CSV_FORM, &["first", "second"], b"", Ok(CSV)),
+    (JSON_FORM, &["second"], b"", Ok(JSON)),
+    (
+        Form::Table {
+            subject: Subject::Codes,
+            format: Format::Csv,
+        },
+        &["first", "second"],
+        b"",
+        Ok(
+            b"rule,code,count,patterns,first_collection_name,first_name\nB3/S23,xs4_33,1,1,a,block\n",
+        ),
+    ),
     // Standard input.
     (Form::Merged, &[], FIRST, Ok(FIRST)),
     (Form::Merged, &["first", "-"], SECOND, Ok(MERGED)),
@@ -118,13 +141,13 @@ const CASES: &[Case] = &[
         Err(ReportsError::Fault { text: 2, line: 1 }),
     ),
     (
-        Form::Csv,
+        CSV_FORM,
         &["cut", "empty"],
         b"",
         Err(ReportsError::Fault { text: 1, line: 3 }),
     ),
     (
-        Form::Json,
+        JSON_FORM,
         &["first", "second", "-"],
         b"end 0 0\nend 0 1\n",
         Err(ReportsError::Fault { text: 3, line: 2 }),
@@ -242,7 +265,7 @@ fn streams_that_fail(rt: HostRuntime) -> Result<(), Fail> {
     let (result, text) = written(alloc, Form::Merged, &["second", "-"], reader);
     assert!(rt; result == Err(ReportsError::Read));
     assert!(rt; text.is_empty());
-    for (form, whole) in [(Form::Merged, FIRST), (Form::Csv, CSV)] {
+    for (form, whole) in [(Form::Merged, FIRST), (CSV_FORM, CSV)] {
         let mut input = Watched::new(FIRST);
         let mut output = Watched::new(FailingWriter {
             written: Vec::new(alloc),

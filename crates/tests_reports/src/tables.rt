@@ -2,7 +2,7 @@
 
 use crate::merging::{MERGED, PARTS};
 use census_readback::read_report;
-use census_table::{Format, put_table};
+use census_table::{Format, Subject, put_listing, put_table, table_of};
 use gathered::{Block, send};
 use std::alloc::{AllocError, Global};
 use std::test::Fail;
@@ -61,7 +61,27 @@ const PARTS_CSV: &str =
 3,c,2,d,ash,B36/S23,4,0,,,,,,,,1,
 ";
 
-// The table of a report.
+// The table of a report that has a row for each of these.
+fn table_by(
+    alloc: Global,
+    subject: Subject,
+    format: Format,
+    report: &[u8],
+) -> Result<Vec<u8>, AllocError> {
+    let Ok(rows) = read_report(alloc, report)? else {
+        return Err(AllocError);
+    };
+    let table = table_of(alloc, subject, rows.as_slice())?;
+    let mut block = Block::new(alloc);
+    let mut writer = Watched::new(Vec::new(alloc));
+    put_listing(alloc, format, &table, &mut block, &mut writer)?;
+    match send(&mut block, &mut writer) {
+        Ok(()) => Ok(writer.into_inner()),
+        Err(_) => Err(AllocError),
+    }
+}
+
+// The table of the patterns of a report.
 fn table(alloc: Global, format: Format, report: &[u8]) -> Result<Vec<u8>, AllocError> {
     let Ok(rows) = read_report(alloc, report)? else {
         return Err(AllocError);
@@ -118,5 +138,113 @@ fn many_patterns_of_one_collection(rt: HostRuntime) -> Result<(), Fail> {
             .count()
             == 700
     );
+    Ok(())
+}
+
+// Three reports: one of objects between two of what comes again. Two patterns have one code, two others another by one report
+// each, and of the codes that occur equally often two are equally long.
+const OBJECTS: &[u8] = b"open 1 3 a
+line 1 1 ok B36/S23 4 0 1 0 0 xs4_33 p
+line 1 2 none B3/S23 4 o
+line 1 3 ok B3/S23 4 0 1 0 0 xs4_33 r
+close 1 3 2 1 0
+end 1 3
+open 1 3 b,c
+line 1 1 ash B3/S23 9 4 q
+part 1 1 xp2_7 3
+part 1 1 xs4_33 1
+line 1 2 ash B3/S23 8 6 s
+part 1 2 xp2_7 1
+part 1 2 xq4_153 5
+line 1 3 ash B3/S3 4 1 u
+part 1 3 xs4_33 1
+close 1 3 3 0 0
+end 1 3
+open 1 2 d
+line 1 1 ok B3/S23 5 0 4 1 1 xq4_153 t
+line 1 2 ok B3/S23 7 0 1 0 0 xs7_2596 v
+close 1 2 2 0 0
+end 1 2
+";
+
+const OBJECT_PARTS: &str = "collection,collection_name,pattern,name,rule,code,count
+2,\"b,c\",1,q,B3/S23,xp2_7,3
+2,\"b,c\",1,q,B3/S23,xs4_33,1
+2,\"b,c\",2,s,B3/S23,xp2_7,1
+2,\"b,c\",2,s,B3/S23,xq4_153,5
+2,\"b,c\",3,u,B3/S3,xs4_33,1
+";
+
+const OBJECT_CODES: &str = "rule,code,count,patterns,first_collection_name,first_name
+B3/S23,xq4_153,6,2,\"b,c\",s
+B3/S23,xp2_7,4,2,\"b,c\",q
+B3/S23,xs4_33,2,2,a,r
+B3/S3,xs4_33,1,1,\"b,c\",u
+B36/S23,xs4_33,1,1,a,p
+B3/S23,xs7_2596,1,1,d,v
+";
+
+#[test]
+fn parts_are_told_as_tables(rt: HostRuntime) -> Result<(), AllocError> {
+    const JSON: &str =
+        "{\"code\":\"xs4_33\",\"collection\":3,\"collection_name\":\"apart\",\"count\":2,\"name\":\"say \\\"hi\\\"\",\"pattern\":1,\"rule\":\"B3/S23\"}\n";
+    let alloc = rt.alloc();
+    let csv = table_by(alloc, Subject::Parts, Format::Csv, OBJECTS)?;
+    assert!(rt; csv.as_slice() == OBJECT_PARTS.as_bytes());
+    let json = table_by(alloc, Subject::Parts, Format::Json, REPORT)?;
+    assert!(rt; json.as_slice() == JSON.as_bytes());
+    Ok(())
+}
+
+#[test]
+fn codes_are_told_as_tables(rt: HostRuntime) -> Result<(), AllocError> {
+    const JSON: &str =
+        "{\"code\":\"xs4_33\",\"count\":3,\"first_collection_name\":\"col,1\",\"first_name\":\"n\u{fffd}\u{e9}\",\"patterns\":2,\"rule\":\"B3/S23\"}
+{\"code\":\"xq4_153\",\"count\":1,\"first_collection_name\":\"col,1\",\"first_name\":\"a glider\",\"patterns\":1,\"rule\":\"B3/S23\"}\n";
+    let alloc = rt.alloc();
+    let csv = table_by(alloc, Subject::Codes, Format::Csv, OBJECTS)?;
+    assert!(rt; csv.as_slice() == OBJECT_CODES.as_bytes());
+    let json = table_by(alloc, Subject::Codes, Format::Json, REPORT)?;
+    assert!(rt; json.as_slice() == JSON.as_bytes());
+    let none = table_by(alloc, Subject::Codes, Format::Csv, b"end 0 0\n")?;
+    assert!(rt; none.as_slice() == &OBJECT_CODES.as_bytes()[..58]);
+    Ok(())
+}
+
+#[test]
+fn counts_of_codes_end_at_64_bits(rt: HostRuntime) -> Result<(), AllocError> {
+    const LARGE: &[u8] = b"open 1 1 a
+line 1 1 ash B3/S23 9 18446744073709551615 p
+part 1 1 xs4_33 18446744073709551615
+close 1 1 1 0 0
+end 1 1
+open 1 1 b
+line 1 1 ok B3/S23 4 0 1 0 0 xs4_33 q
+close 1 1 1 0 0
+end 1 1
+";
+    let csv = table_by(rt.alloc(), Subject::Codes, Format::Csv, LARGE)?;
+    assert!(rt; &csv.as_slice()[58..] == b"B3/S23,xs4_33,18446744073709551615,2,a,p\n".as_slice());
+    Ok(())
+}
+
+#[test]
+fn many_parts_of_one_collection(rt: HostRuntime) -> Result<(), Fail> {
+    let alloc = rt.alloc();
+    let mut report = String::from_str(alloc, "open 1 700 x\n")?;
+    let mut wanted = String::from_str(alloc, &OBJECT_PARTS[..56])?;
+    for pattern in 1..=700 {
+        write!(
+            report,
+            "line 1 {} ash B3/S23 5 1 p\npart 1 {} xp2_7 1\n",
+            pattern, pattern
+        )?;
+        write!(wanted, "1,x,{},p,B3/S23,xp2_7,1\n", pattern)?;
+    }
+    report.push_str("close 1 700 700 0 0\nend 1 700\n")?;
+    let csv = table_by(alloc, Subject::Parts, Format::Csv, report.as_bytes())?;
+    assert!(rt; csv.as_slice() == wanted.as_bytes());
+    let codes = table_by(alloc, Subject::Codes, Format::Csv, report.as_bytes())?;
+    assert!(rt; &codes.as_slice()[58..] == b"B3/S23,xp2_7,700,700,x,p\n".as_slice());
     Ok(())
 }

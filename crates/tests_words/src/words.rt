@@ -1,6 +1,6 @@
 //! What words ask for, and which words are refused.
 
-use census_cli::{Asked as Wanted, Request, TableFormat, WordsFault, read_words};
+use census_cli::{Asked as Wanted, Request, TableFormat, TableSubject, WordsFault, read_words};
 use std::alloc::Global;
 use std::test::Fail;
 
@@ -352,29 +352,77 @@ fn a_page_has_reports(rt: HostRuntime) {
     }
 }
 
-// Words that ask for a table, its format and the reports.
-const TABLES: &[(Words, TableFormat, Words)] = &[
-    (&["table"], TableFormat::Csv, &[]),
-    (&["table", "a"], TableFormat::Csv, &["a"]),
-    (&["table", "--csv"], TableFormat::Csv, &[]),
-    (&["table", "--json"], TableFormat::Json, &[]),
+// Words that ask for a table, what it has a row for each of, its format and the reports.
+const TABLES: &[(Words, TableSubject, TableFormat, Words)] = &[
+    (&["table"], TableSubject::Patterns, TableFormat::Csv, &[]),
+    (
+        &["table", "a"],
+        TableSubject::Patterns,
+        TableFormat::Csv,
+        &["a"],
+    ),
+    (
+        &["table", "--csv"],
+        TableSubject::Patterns,
+        TableFormat::Csv,
+        &[],
+    ),
+    (
+        &["table", "--json"],
+        TableSubject::Patterns,
+        TableFormat::Json,
+        &[],
+    ),
     (
         &["table", "b", "--json", "-", "a"],
+        TableSubject::Patterns,
         TableFormat::Json,
         &["b", "-", "a"],
     ),
     (
         &["table", "--csv", "--", "--json"],
+        TableSubject::Patterns,
         TableFormat::Csv,
         &["--json"],
+    ),
+    (
+        &["table", "--parts"],
+        TableSubject::Parts,
+        TableFormat::Csv,
+        &[],
+    ),
+    (
+        &["table", "a", "--json", "--parts"],
+        TableSubject::Parts,
+        TableFormat::Json,
+        &["a"],
+    ),
+    (
+        &["table", "--codes", "--csv"],
+        TableSubject::Codes,
+        TableFormat::Csv,
+        &[],
+    ),
+    (
+        &["table", "--codes", "--", "--parts"],
+        TableSubject::Codes,
+        TableFormat::Csv,
+        &["--parts"],
     ),
 ];
 
 #[test]
-fn a_table_has_a_format_and_reports(rt: HostRuntime) {
-    for (words, asked_format, asked) in TABLES {
+fn a_table_has_rows_a_format_and_reports(rt: HostRuntime) {
+    for (words, asked_subject, asked_format, asked) in TABLES {
         match request_of(rt.alloc(), words) {
-            Ok(Request::Table { format, reports }) => {
+            Ok(
+                Request::Table {
+                    subject,
+                    format,
+                    reports,
+                },
+            ) => {
+                assert_eq!(rt; subject, *asked_subject, "{words:?}");
                 assert_eq!(rt; format, *asked_format, "{words:?}");
                 assert_eq!(rt; reports.as_slice(), *asked, "{words:?}");
             }
@@ -392,19 +440,29 @@ Usage: census table [OPTIONS] [REPORT]...
 For more information, try '--help'.
 ";
 
+const TWO_TABLES: &str = "\
+error: the argument '--parts' cannot be used with '--codes'
+
+Usage: census table [OPTIONS] [REPORT]...
+
+For more information, try '--help'.
+";
+
 #[test]
-fn a_table_has_one_format(rt: HostRuntime) {
-    const BOTH: &[Words] = &[
-        &["table", "--csv", "--json"],
-        &["table", "--json", "a", "--csv", "b"],
+fn a_table_is_one_in_one_format(rt: HostRuntime) {
+    const BOTH: &[(Words, &str)] = &[
+        (&["table", "--csv", "--json"], TWO_FORMATS),
+        (&["table", "--json", "a", "--csv", "b"], TWO_FORMATS),
+        (&["table", "--codes", "--parts"], TWO_TABLES),
+        (&["table", "--parts", "--json", "--codes"], TWO_TABLES),
+        (
+            &["table", "--parts", "--csv", "--json", "--codes"],
+            TWO_FORMATS,
+        ),
     ];
-    for words in BOTH {
+    for (words, said) in BOTH {
         match request_of(rt.alloc(), words) {
-            Err(WordsFault::Refused(text)) => assert_eq!(rt;
-                text.as_str(),
-                TWO_FORMATS,
-                "{words:?}"
-            ),
+            Err(WordsFault::Refused(text)) => assert_eq!(rt; text.as_str(), *said, "{words:?}"),
             other => panic!(rt; "{words:?}: {other:?}"),
         }
     }
@@ -560,7 +618,7 @@ const PROGRAM_PARTS: Words = &[
     "-V, --version",
     "merge [REPORT]...",
     "--explain",
-    "table [--csv | --json] [REPORT]...",
+    "table [--csv | --json] [--parts | --codes] [REPORT]...",
 ];
 
 const RUN_PARTS: Words = &[
@@ -645,6 +703,8 @@ const TABLE_PARTS: Words = &[
     "--explain",
     "--csv",
     "--json",
+    "--parts",
+    "--codes",
     "- is standard input",
     "With no REPORT standard input is read",
     "Example: census table",
@@ -656,6 +716,9 @@ const COLUMN_PARTS: Words = &[
     "large or bad), rule, population, onset, period, dx, dy, code, fault",
     "collection_name_hex",
     "name_hex",
+    "With --parts: collection, collection_name, pattern, name, rule, code, count.",
+    "With --codes: rule, code, count, patterns",
+    "first_collection_name and first_name",
 ];
 
 // Words that ask for help, and parts of it.

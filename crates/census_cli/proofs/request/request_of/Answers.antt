@@ -2,7 +2,7 @@ use Rattle.std.proofs.Common.{refl, codes, subst}
 use Rattle.clap.specs.Matches.{found_of}
 use Rattle.clap.specs.Walk.{rows_of}
 use Rattle.census_cli.specs.Holding.{IsCommand}
-use Rattle.census_cli.proofs.Commands.{advance_command, objects_command, run_command}
+use Rattle.census_cli.proofs.Commands.{advance_command, objects_command, run_command, table_command}
 use Rattle.census_cli.proofs.Getters.{entered_as, number_within}
 use Rattle.census_cli.proofs.request.request_of.Goals as goal
 use Rattle.census_cli.specs.Limits.{generation_limit}
@@ -32,3 +32,9 @@ objects_of-requires c =
     let arm = c.in-Some-subcommand_matches in
     let rows = rows_of (found_of arm.objects.now) in
     objects_command rows (subst IsCommand (entered_as c.args.matches.now (codes "objects") rows (arm.ensures.found.0 refl) arm.ensures.rows) c.requires)
+
+pub table_of-requires : goal.table_of-requires
+table_of-requires c =
+    let arm = c.in-Some-subcommand_matches-6 in
+    let rows = rows_of (found_of arm.table.now) in
+    table_command rows (subst IsCommand (entered_as c.args.matches.now (codes "table") rows (arm.ensures.found.0 refl) arm.ensures.rows) c.requires)

@@ -1,6 +1,7 @@
 use Rattle.std.proofs.Common.{inr}
 use Rattle.std.proofs.lemmas.Result.{err_from_is_err_and}
 use Rattle.gathered.specs.Telling.{sheet}
+use Rattle.census_table.specs.Tables.{listing_of}
 use Rattle.census_reports.proofs.Halted.{table_halted, table_lost, table_written}
 use Rattle.census_reports.proofs.form.write_table.Goals as goal
 
@@ -9,20 +10,20 @@ returns-in_err-told-in-Ok g c =
     let contents = g.O.Write.contents in
     let p = err_from_is_err_and c.from_residual.result c.from_residual.ensures.1 in
     rw (p.1, p.2)
-    (inr (table_halted c.args.format c.args.rows.now (sheet contents c.new-block.result c.args.output.now)
-    (sheet contents c.put_table-told.new.block c.put_table-told.new.writer) (sheet contents c.send.new.block c.send.new.writer)
+    (inr (table_halted c.args.subject c.args.format c.args.rows.now (listing_of c.in_ok-table.table) c.in_ok-table.ensures (sheet contents c.new-block.result c.args.output.now)
+    (sheet contents c.put_listing-told.new.block c.put_listing-told.new.writer) (sheet contents c.send.new.block c.send.new.writer)
     c.new-block.ensures c.send.ensures.tells c.send.ensures.empty c.in_err-told-in-Ok.ensures c.in-Ok.ensures.failed))
 
 pub returns-in-Ok : goal.returns-in-Ok
 returns-in-Ok g c =
     let contents = g.O.Write.contents in
-    table_written c.args.format c.args.rows.now (sheet contents c.new-block.result c.args.output.now)
-    (sheet contents c.put_table-told.new.block c.put_table-told.new.writer) (sheet contents c.send.new.block c.send.new.writer)
+    table_written c.args.subject c.args.format c.args.rows.now (listing_of c.in_ok-table.table) c.in_ok-table.ensures (sheet contents c.new-block.result c.args.output.now)
+    (sheet contents c.put_listing-told.new.block c.put_listing-told.new.writer) (sheet contents c.send.new.block c.send.new.writer)
     c.new-block.ensures c.send.ensures.tells c.send.ensures.empty c.in_ok-told-in-Ok.ensures c.in-Ok.ensures.failed
 
 pub returns : goal.returns
 returns g c =
     let contents = g.O.Write.contents in
-    table_lost c.args.format c.args.rows.now (sheet contents c.new-block.result c.args.output.now)
-    (sheet contents c.put_table-told.new.block c.put_table-told.new.writer) (sheet contents c.send.new.block c.send.new.writer)
-    c.new-block.ensures c.send.ensures.tells c.send.ensures.empty c.put_table-told.result c.put_table-told.ensures c.in-Err.ensures.failed
+    table_lost c.args.subject c.args.format c.args.rows.now (listing_of c.in_ok-table.table) c.in_ok-table.ensures (sheet contents c.new-block.result c.args.output.now)
+    (sheet contents c.put_listing-told.new.block c.put_listing-told.new.writer) (sheet contents c.send.new.block c.send.new.writer)
+    c.new-block.ensures c.send.ensures.tells c.send.ensures.empty c.put_listing-told.result c.put_listing-told.ensures c.in-Err.ensures.failed

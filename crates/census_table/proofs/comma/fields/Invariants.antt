@@ -1,8 +1,8 @@
-use Rattle.std.proofs.Common.{◌≡◌, [], map, take}
+use Rattle.std.proofs.Common.{◌≡◌, [], take}
 use Rattle.csv.specs.Records.{fields_of, partial_of}
-use Rattle.census_table.specs.Columns.{content_in_column}
-use Rattle.census_table.specs.Contents.{content_bytes}
+use Rattle.census_table.specs.Contents.{row_of}
+use Rattle.census_table.specs.Tables.{row_fields}
 use Rattle.census_table.proofs.comma.fields.Given as goal
 
-abbrev pub invariant-loop-column : goal.invariant-loop-column
-invariant-loop-column l = (fields_of l.fields ≡ map (λ column. content_bytes (content_in_column column l.entry)) (take l.column-index l.columns)) × (partial_of l.fields ≡ [])
+abbrev pub invariant-loop-field : goal.invariant-loop-field
+invariant-loop-field l = (fields_of l.fields ≡ row_fields (row_of (take l.field-index l.row))) × (partial_of l.fields ≡ [])

@@ -1,0 +1,345 @@
+-- Objects that stand in the order of their kinds, counted kind by kind.
+use Rattle.std.proofs.Common.{◌≡◌, ℕ, ◌+◌, ◌<◌, ◌≤◌, zero, suc, Bool, true, false, not, ◌&&◌, ◌||◌, eqb, if◌then◌else◌, List, [], ◌∷◌, length, refl, sym, ap, ap₂, ◌∙◌, subst, arith, true≢false}
+use Rattle.std.specs.Prelude.{filter, count_by, nat_eq, cond, reverse, slice_index_or}
+use Rattle.std.specs.Cmp.Lexicographic.{as_long, on_texts, pointwise, slice_cmp, texts_ties}
+use Rattle.std.specs.Cmp.{both_tied, unsigned_tied, IsTotalOrder, IsEquivalence}
+use Rattle.std.specs.List.{All, list_any, sum_by}
+use Rattle.std.specs.List.Sorted.{ties, IsPermutation, IsSorted, IsSortedBy}
+use Rattle.std.specs.Ordering.{eq_by_cmp, is_eq, is_gt, is_lt, nat_cmp, ordering_reverse, ordering_then}
+use Rattle.std.specs.declared.cmp.Ordering.{Ordering}
+use Rattle.std.specs.declared.cmp.Ordering.TheVariants.{Less, Equal, Greater}
+use Rattle.std.proofs.lemmas.Cmp.{eq_by_cmp_equiv, nat_cmp_total, on_total, then_total}
+use Rattle.std.proofs.lemmas.List.Elements.{All-cons, All-nil, All-tail}
+use Rattle.std.proofs.lemmas.List.Sorted.{All-permutation, IsPermutation-reverse, IsPermutation-sym, IsPermutation-trans, ranks_by, sorted_far, sum_by-IsPermutation}
+use Rattle.std.proofs.lemmas.List.Sums.{sum_by-cons}
+use Rattle.census_table.specs.Kinds.{capped, count_cmp, counted, kind_cmp, patterns_told, same_kind, same_pattern, AreKinds, IsCounted}
+use Rattle.census_table.specs.Grouping.{alone, grouped, joined, with_told, AreInKinds}
+use Rattle.census_table.specs.declared.object.Object.{Object}
+
+-- ---- the order
+
+pub kind_total : IsTotalOrder kind_cmp
+kind_total =
+    then_total (on_total (λ (o : Object). length o.code.now) nat_cmp_total)
+    (then_total (on_texts (λ (o : Object). o.code.now)) (on_texts (λ (o : Object). o.rule.now)))
+
+absorbed : (l c r : Bool) → (c ≡ true → l ≡ true) → (c && r) ≡ (l && (c && r))
+absorbed true c r h = refl
+absorbed false true r h = absurd (true≢false (sym (h refl)))
+absorbed false false r h = refl
+
+same-length : (xs ys : List ℕ) → pointwise nat_eq xs ys ≡ true → eqb (length xs) (length ys) ≡ true
+same-length xs ys h = let e = as_long nat_eq xs ys h in grind arith
+
+pub same_is : (o p : Object) → same_kind o p ≡ is_eq (kind_cmp o p)
+same_is o p =
+    let l = eqb (length o.code.now) (length p.code.now) in
+    let c = pointwise nat_eq o.code.now p.code.now in
+    let r = pointwise nat_eq o.rule.now p.rule.now in
+    absorbed l c r (same-length o.code.now p.code.now)
+    ∙ both_tied l (c && r) (nat_cmp (length o.code.now) (length p.code.now)) (ordering_then (slice_cmp nat_cmp o.code.now p.code.now) (slice_cmp nat_cmp o.rule.now p.rule.now))
+    (sym (unsigned_tied (length o.code.now) (length p.code.now)))
+    (both_tied c r (slice_cmp nat_cmp o.code.now p.code.now) (slice_cmp nat_cmp o.rule.now p.rule.now) (texts_ties o.code.now p.code.now) (texts_ties o.rule.now p.rule.now))
+
+equivalence : IsEquivalence (eq_by_cmp kind_cmp)
+equivalence = eq_by_cmp_equiv kind_total
+
+pub same-itself : (o : Object) → same_kind o o ≡ true
+same-itself o = same_is o o ∙ equivalence.refl o
+
+pub same-back : (o p : Object) → same_kind o p ≡ same_kind p o
+same-back o p = same_is o p ∙ equivalence.symm o p ∙ sym (same_is p o)
+
+pub same-alike : (o p x : Object) → same_kind o p ≡ true → same_kind o x ≡ same_kind p x
+same-alike o p x h = same_is o x ∙ equivalence.congr o p x (sym (same_is o p) ∙ h) ∙ sym (same_is p x)
+
+pub same-right : (x o p : Object) → same_kind o p ≡ true → same_kind x o ≡ same_kind x p
+same-right x o p h = same-back x o ∙ same-alike o p x h ∙ same-back p x
+
+-- what a stable sort says of kinds
+lt_gt : (r : Ordering) → (not (is_lt r) && not (is_lt (ordering_reverse r))) ≡ is_eq r
+lt_gt Less = refl
+lt_gt Equal = refl
+lt_gt Greater = refl
+
+pub tied-same : (o p : Object) → ties (λ a b. is_lt (kind_cmp a b)) o p ≡ same_kind o p
+tied-same o p = ap (λ r. not (is_lt (kind_cmp o p)) && not (is_lt r)) (kind_total.antisymm p o) ∙ lt_gt (kind_cmp o p) ∙ sym (same_is o p)
+
+-- ---- objects in the order of their kinds
+
+-- one that differs from the next differs from all that follow
+level : (r s : Ordering) → is_gt r ≡ false → is_eq r ≡ false → r ≡ Less
+level Less s h k = refl
+level Equal s h k = absurd (true≢false k)
+level Greater s h k = absurd (true≢false h)
+
+further_by : (o p x : Object) (s : Ordering) → kind_cmp o p ≡ Less → kind_cmp p x ≡ s → is_gt s ≡ false → is_eq (kind_cmp o x) ≡ false
+further_by o p x Less a b h = ap is_eq (kind_total.trans o p x a b)
+further_by o p x Equal a b h = ap is_eq (sym (right-alike p x o b) ∙ a)
+  where
+    right-alike : (x y z : Object) → kind_cmp x y ≡ Equal → kind_cmp z x ≡ kind_cmp z y
+    right-alike x y z e = kind_total.antisymm z x ∙ ap ordering_reverse (kind_total.congr x y z e) ∙ sym (kind_total.antisymm z y)
+further_by o p x Greater a b h = absurd (true≢false h)
+
+no-further : (o p : Object) (ps : List Object) → AreInKinds (o ∷ (p ∷ ps)) → same_kind o p ≡ false → All (λ x. same_kind o x ≡ false) (p ∷ ps)
+no-further o p ps h other =
+    let less = level (kind_cmp o p) Less (h.0 0 o (omega arith)) (sym (same_is o p) ∙ other) in
+    All-cons (λ x. same_kind o x ≡ false) p ps other
+    (λ k d small. same_is o (slice_index_or ps k d) ∙ further_by o p (slice_index_or ps k d) (kind_cmp p (slice_index_or ps k d)) less refl (h.1.0 k d small))
+
+-- ---- the kinds
+
+-- a kind of none of the objects is none of the kinds
+none-told : (x o : Object) (kinds : List Object) → same_kind x o ≡ false → All (λ k. same_kind x k ≡ false) kinds → All (λ k. same_kind x k ≡ false) (with_told o kinds)
+none-told x o [] a b = All-cons (λ k. same_kind x k ≡ false) (alone o) [] a (All-nil (λ k. same_kind x k ≡ false))
+none-told x o (k ∷ ks) a b = go (same_kind o k)
+  where
+    go : (c : Bool) → All (λ k. same_kind x k ≡ false) (if c then joined o k ∷ ks else alone o ∷ (k ∷ ks))
+    go true = All-cons (λ k. same_kind x k ≡ false) (joined o k) ks a (All-tail (λ k. same_kind x k ≡ false) k ks b)
+    go false = All-cons (λ k. same_kind x k ≡ false) (alone o) (k ∷ ks) a b
+
+none-grouped : (x : Object) (os : List Object) → All (λ p. same_kind x p ≡ false) os → All (λ k. same_kind x k ≡ false) (grouped os)
+none-grouped x [] h = All-nil (λ k. same_kind x k ≡ false)
+none-grouped x (o ∷ os) h = none-told x o (grouped os) (h 0 o (omega arith)) (none-grouped x os (All-tail (λ p. same_kind x p ≡ false) o os h))
+
+-- the first kind is that of the first object
+pub record Heads (o : Object) (kinds : List Object) : Type 0 where
+  pub kind : Object
+  pub others : List Object
+  pub are : kinds ≡ kind ∷ others
+  pub code : kind.code ≡ o.code
+  pub rule : kind.rule ≡ o.rule
+
+heads-told : (o : Object) (kinds : List Object) → Heads o (with_told o kinds)
+heads-told o [] = record { kind = alone o; others = []; are = refl; code = refl; rule = refl }
+heads-told o (k ∷ ks) = go (same_kind o k)
+  where
+    go : (c : Bool) → Heads o (if c then joined o k ∷ ks else alone o ∷ (k ∷ ks))
+    go true = record { kind = joined o k; others = ks; are = refl; code = refl; rule = refl }
+    go false = record { kind = alone o; others = k ∷ ks; are = refl; code = refl; rule = refl }
+
+heads : (o : Object) (os : List Object) → Heads o (grouped (o ∷ os))
+heads o os = heads-told o (grouped os)
+
+abbrev one-if : Bool → ℕ
+one-if b = if b then 1 else 0
+
+count-cons : (p : Object → Bool) (x : Object) (xs : List Object) → count_by p (x ∷ xs) ≡ one-if (p x) + count_by p xs
+count-cons p x xs = sum_by-cons (λ y. cond (p y) 1 0) x xs
+
+count-none : (p : Object → Bool) (xs : List Object) → count_by p xs ≡ 0 → All (λ x. p x ≡ false) xs
+count-none p [] h = All-nil (λ x. p x ≡ false)
+count-none p (x ∷ xs) h = go (p x) refl (sym (count-cons p x xs) ∙ h) (count-none p xs)
+  where
+    go : (b : Bool) → p x ≡ b → one-if b + count_by p xs ≡ 0 → (count_by p xs ≡ 0 → All (λ x. p x ≡ false) xs) → All (λ x. p x ≡ false) (x ∷ xs)
+    go true e s rest = absurd (omega (arith, s))
+    go false e s rest = All-cons (λ x. p x ≡ false) x xs e (rest (omega (arith, s)))
+
+none-any : (p : Object → Bool) (xs : List Object) → All (λ x. p x ≡ false) xs → list_any p xs ≡ false
+none-any p [] h = refl
+none-any p (x ∷ xs) h = ap₂ (λ a b. a || b) (h 0 x (omega arith)) (none-any p xs (All-tail (λ x. p x ≡ false) x xs h))
+
+nothing-more : (n : ℕ) → 0 + n ≡ n
+nothing-more n = omega arith
+
+-- with one more object before
+count-more : (x o p : Object) (ps : List Object) → AreInKinds (o ∷ (p ∷ ps)) → count_by (same_kind x) (grouped (p ∷ ps)) ≡ one-if (list_any (same_kind x) (p ∷ ps))
+    → count_by (same_kind x) (grouped (o ∷ (p ∷ ps))) ≡ one-if (list_any (same_kind x) (o ∷ (p ∷ ps)))
+count-more x o p ps h rest = subst (λ kinds. count_by (same_kind x) (with_told o kinds) ≡ one-if (list_any (same_kind x) (o ∷ (p ∷ ps)))) (sym head.are) (go (same_kind o head.kind) refl)
+  where
+    head : Heads p (grouped (p ∷ ps))
+    head = heads p ps
+
+    inner : count_by (same_kind x) (head.kind ∷ head.others) ≡ one-if (list_any (same_kind x) (p ∷ ps))
+    inner = ap (count_by (same_kind x)) (sym head.are) ∙ rest
+
+    same : same_kind o head.kind ≡ same_kind o p
+    same = ap₂ (λ c r. pointwise nat_eq o.code.now c.now && pointwise nat_eq o.rule.now r.now) head.code head.rule
+
+    own : same_kind x head.kind ≡ same_kind x p
+    own = ap₂ (λ c r. pointwise nat_eq x.code.now c.now && pointwise nat_eq x.rule.now r.now) head.code head.rule
+
+    or-same : (a b c : Bool) → a ≡ b → (a || (b || c)) ≡ (b || c)
+    or-same true true c e = refl
+    or-same true false c e = absurd (true≢false e)
+    or-same false b c e = refl
+
+    last : (b : Bool) → same_kind x o ≡ b → same_kind o p ≡ false → one-if b + one-if (list_any (same_kind x) (p ∷ ps)) ≡ one-if (b || list_any (same_kind x) (p ∷ ps))
+    last true e other =
+        let none = none-any (same_kind x) (p ∷ ps) (λ k d small. same-alike x o (slice_index_or (p ∷ ps) k d) e ∙ no-further o p ps h other k d small) in
+        ap (λ (b : Bool). 1 + one-if b) none
+    last false e other = nothing-more (one-if (list_any (same_kind x) (p ∷ ps)))
+
+    go : (b : Bool) → same_kind o head.kind ≡ b → count_by (same_kind x) (if b then joined o head.kind ∷ head.others else alone o ∷ (head.kind ∷ head.others)) ≡ one-if (list_any (same_kind x) (o ∷ (p ∷ ps)))
+    go true e =
+        let equal : same_kind x o ≡ same_kind x p = same-right x o p (sym same ∙ e) in
+        count-cons (same_kind x) (joined o head.kind) head.others
+        ∙ ap (λ b. one-if b + count_by (same_kind x) head.others) (equal ∙ sym own)
+        ∙ sym (count-cons (same_kind x) head.kind head.others) ∙ inner
+        ∙ ap one-if (sym (or-same (same_kind x o) (same_kind x p) (list_any (same_kind x) ps) equal))
+    go false e =
+        count-cons (same_kind x) (alone o) (head.kind ∷ head.others)
+        ∙ ap (λ n. one-if (same_kind x o) + n) inner ∙ last (same_kind x o) refl (sym same ∙ e)
+
+-- each kind that an object has stands there once, and no other
+count-grouped : (x : Object) (os : List Object) → AreInKinds os → count_by (same_kind x) (grouped os) ≡ one-if (list_any (same_kind x) os)
+count-grouped x [] h = refl
+count-grouped x (o ∷ []) h = count-cons (same_kind x) (alone o) [] ∙ go (same_kind x o)
+  where
+    go : (b : Bool) → one-if b + 0 ≡ one-if (b || false)
+    go true = refl
+    go false = refl
+count-grouped x (o ∷ (p ∷ ps)) h = count-more x o p ps h (count-grouped x (p ∷ ps) h.1)
+
+any-there : (x : Object) (os : List Object) (k : ℕ) (d : Object) → k < length os → same_kind x (slice_index_or os k d) ≡ true → list_any (same_kind x) os ≡ true
+any-there x [] k d small h = absurd (omega arith)
+any-there x (o ∷ os) zero d small h = ap (λ b. b || list_any (same_kind x) os) h
+any-there x (o ∷ os) (suc k) d small h = go (same_kind x o) (any-there x os k d (omega arith) h)
+  where
+    go : (b : Bool) → list_any (same_kind x) os ≡ true → (b || list_any (same_kind x) os) ≡ true
+    go true e = refl
+    go false e = e
+
+pub once-grouped : (os : List Object) → AreInKinds os → All (λ o. count_by (same_kind o) (grouped os) ≡ 1) os
+once-grouped os h = λ k d small.
+    let x = slice_index_or os k d in
+    count-grouped x os h ∙ ap one-if (any-there x os k d small (same-itself x))
+
+-- ---- what is counted
+
+filter-alike : (p q : Object → Bool) (xs : List Object) → ((x : Object) → p x ≡ q x) → filter p xs ≡ filter q xs
+filter-alike p q [] h = refl
+filter-alike p q (x ∷ xs) h = ap₂ (λ (b : Bool) (ys : List Object). cond b (x ∷ ys) ys) (h x) (filter-alike p q xs h)
+
+filter-none : (p : Object → Bool) (xs : List Object) → All (λ x. p x ≡ false) xs → filter p xs ≡ []
+filter-none p [] h = refl
+filter-none p (x ∷ xs) h = ap₂ (λ (b : Bool) (ys : List Object). cond b (x ∷ ys) ys) (h 0 x (omega arith)) (filter-none p xs (All-tail (λ x. p x ≡ false) x xs h))
+
+capped-sum : (a b : ℕ) → capped (a + capped b) ≡ capped (a + b)
+capped-sum a b = grind arith
+
+counts-one : (o : Object) → alone o ≡ counted o []
+counts-one o = ap₂ (λ (c : ℕ) (n : ℕ). record o { count = c; patterns = n }) (ap capped (sym (sum_by-cons (λ (p : Object). p.count) o []))) refl
+
+counts-more : (o f : Object) (fs : List Object) (kind : Object) → kind ≡ counted f fs → joined o kind ≡ counted o (f ∷ fs)
+counts-more o f fs kind e =
+    ap (joined o) e
+    ∙ ap₂ (λ (c : ℕ) (n : ℕ). record o { count = c; patterns = n })
+    (capped-sum o.count (sum_by (λ p. p.count) (f ∷ fs)) ∙ ap capped (sym (sum_by-cons (λ (p : Object). p.count) o (f ∷ fs))))
+    (capped-sum (if same_pattern o.first f.first then 0 else 1) (patterns_told (f ∷ fs)))
+
+-- one that is counted stays so with an object of another kind before
+counted-behind : (o : Object) (os : List Object) (kind : Object) → same_kind kind o ≡ false → IsCounted os kind → IsCounted (o ∷ os) kind
+counted-behind o os kind other is = record {
+  first = is.first;
+  others = is.others;
+  told = ap (λ (b : Bool). cond b (o ∷ filter (same_kind kind) os) (filter (same_kind kind) os)) other ∙ is.told;
+  is = is.is;
+}
+
+all-behind : (o : Object) (os kinds : List Object) → All (λ k. same_kind k o ≡ false) kinds → All (IsCounted os) kinds → All (IsCounted (o ∷ os)) kinds
+all-behind o os kinds others each = λ k d small. counted-behind o os (slice_index_or kinds k d) (others k d small) (each k d small)
+
+each-more : (o p : Object) (ps : List Object) → AreInKinds (o ∷ (p ∷ ps)) → All (IsCounted (p ∷ ps)) (grouped (p ∷ ps))
+    → All (IsCounted (o ∷ (p ∷ ps))) (grouped (o ∷ (p ∷ ps)))
+each-more o p ps h rest = subst (λ kinds. All (IsCounted (o ∷ (p ∷ ps))) (with_told o kinds)) (sym head.are) (go (same_kind o head.kind) refl)
+  where
+    head : Heads p (grouped (p ∷ ps))
+    head = heads p ps
+
+    inner : All (IsCounted (p ∷ ps)) (head.kind ∷ head.others)
+    inner = subst (All (IsCounted (p ∷ ps))) head.are rest
+
+    first : IsCounted (p ∷ ps) head.kind
+    first = inner 0 head.kind (omega arith)
+
+    same : same_kind o head.kind ≡ same_kind o p
+    same = ap₂ (λ c r. pointwise nat_eq o.code.now c.now && pointwise nat_eq o.rule.now r.now) head.code head.rule
+
+    own : same_kind p head.kind ≡ true
+    own = ap₂ (λ c r. pointwise nat_eq p.code.now c.now && pointwise nat_eq p.rule.now r.now) head.code head.rule ∙ same-itself p
+
+    apart : All (λ k. same_kind p k ≡ false) head.others
+    apart =
+        let once = ap (count_by (same_kind p)) (sym head.are) ∙ once-grouped (p ∷ ps) h.1 0 p (omega arith) in
+        let sum = sym (count-cons (same_kind p) head.kind head.others) ∙ once in
+        let one = ap (λ b. one-if b + count_by (same_kind p) head.others) (sym own) ∙ sum in
+        count-none (same_kind p) head.others (omega (arith, one))
+
+    go : (b : Bool) → same_kind o head.kind ≡ b → All (IsCounted (o ∷ (p ∷ ps))) (if b then joined o head.kind ∷ head.others else alone o ∷ (head.kind ∷ head.others))
+    go true e =
+        All-cons (IsCounted (o ∷ (p ∷ ps))) (joined o head.kind) head.others (record {
+          first = o;
+          others = first.first ∷ first.others;
+          told = ap (λ (b : Bool). cond b (o ∷ filter (same_kind o) (p ∷ ps)) (filter (same_kind o) (p ∷ ps))) (same-itself o)
+              ∙ ap (λ os. o ∷ os) (filter-alike (same_kind o) (same_kind head.kind) (p ∷ ps) (λ x. same-alike o head.kind x e) ∙ first.told);
+          is = counts-more o first.first first.others head.kind first.is;
+        })
+        (all-behind o (p ∷ ps) head.others
+        (λ k d small. let x = slice_index_or head.others k d in same-right x o p (sym same ∙ e) ∙ same-back x p ∙ apart k d small)
+        (All-tail (IsCounted (p ∷ ps)) head.kind head.others inner))
+    go false e =
+        let further = no-further o p ps h (sym same ∙ e) in
+        let none = subst (All (λ k. same_kind o k ≡ false)) head.are (none-grouped o (p ∷ ps) further) in
+        All-cons (IsCounted (o ∷ (p ∷ ps))) (alone o) (head.kind ∷ head.others) (record {
+          first = o;
+          others = [];
+          told = ap (λ (b : Bool). cond b (o ∷ filter (same_kind o) (p ∷ ps)) (filter (same_kind o) (p ∷ ps))) (same-itself o)
+              ∙ ap (λ os. o ∷ os) (filter-none (same_kind o) (p ∷ ps) further);
+          is = counts-one o;
+        })
+        (all-behind o (p ∷ ps) (head.kind ∷ head.others) (λ k d small. same-back (slice_index_or (head.kind ∷ head.others) k d) o ∙ none k d small) inner)
+
+pub each-grouped : (os : List Object) → AreInKinds os → All (IsCounted os) (grouped os)
+each-grouped [] h = All-nil (IsCounted [])
+each-grouped (o ∷ []) h =
+    All-cons (IsCounted (o ∷ [])) (alone o) [] (record {
+      first = o;
+      others = [];
+      told = ap (λ (b : Bool). cond b (o ∷ []) []) (same-itself o);
+      is = counts-one o;
+    }) (All-nil (IsCounted (o ∷ [])))
+each-grouped (o ∷ (p ∷ ps)) h = each-more o p ps h (each-grouped (p ∷ ps) h.1)
+
+-- ---- sorts
+
+lt_back : (r : Ordering) → is_lt (ordering_reverse r) ≡ is_gt r
+lt_back Less = refl
+lt_back Equal = refl
+lt_back Greater = refl
+
+-- what a sort by kinds gives
+pub in-kinds : (os : List Object) → IsSortedBy (λ a b. is_lt (kind_cmp a b)) os → AreInKinds os
+in-kinds os up = go os (λ i j d less small. sorted_far (λ a b. is_lt (kind_cmp a b)) (ranks_by kind_total (λ o. o)) os up i j d less small)
+  where
+    go : (os : List Object) → ((i j : ℕ) (d : Object) → i ≤ j → j < length os → is_lt (kind_cmp (slice_index_or os j d) (slice_index_or os i d)) ≡ false) → AreInKinds os
+    go [] h = tt
+    go (o ∷ os) h = (
+      λ k d small. sym (lt_back (kind_cmp o (slice_index_or os k d))) ∙ ap is_lt (sym (kind_total.antisymm (slice_index_or os k d) o)) ∙ h zero (suc k) d (omega arith) (omega (arith, small)),
+      go os (λ i j d less small. h (suc i) (suc j) d (omega (arith, less)) (omega (arith, small))),
+    )
+
+pub stable-kinds : (xs ys : List Object) (kind : Object) → filter (ties (λ a b. is_lt (kind_cmp a b)) kind) ys ≡ filter (ties (λ a b. is_lt (kind_cmp a b)) kind) xs
+    → filter (same_kind kind) ys ≡ filter (same_kind kind) xs
+stable-kinds xs ys kind stable =
+    let lt : Object → Object → Bool = λ a b. is_lt (kind_cmp a b) in
+    filter-alike (same_kind kind) (ties lt kind) ys (λ x. sym (tied-same kind x)) ∙ stable
+    ∙ filter-alike (ties lt kind) (same_kind kind) xs (tied-same kind)
+
+-- what two sorts and what is between them give
+pub are-kinds : (objects sorted stack kinds : List Object) → IsPermutation objects sorted
+    → ((kind : Object) → filter (same_kind kind) sorted ≡ filter (same_kind kind) objects) → AreInKinds sorted → reverse stack ≡ grouped sorted
+    → IsPermutation stack kinds → IsSorted count_cmp kinds → AreKinds objects kinds
+are-kinds objects sorted stack kinds moved stable up are moved-on ordered = record {
+  each = All-permutation (IsCounted objects) (grouped sorted) kinds whole (λ k d small.
+      let is = each-grouped sorted up k d small in
+      record { first = is.first; others = is.others; told = sym (stable (slice_index_or (grouped sorted) k d)) ∙ is.told; is = is.is });
+  once = All-permutation (λ o. count_by (same_kind o) kinds ≡ 1) sorted objects (IsPermutation-sym objects sorted moved) (λ k d small.
+      let o = slice_index_or sorted k d in
+      sum_by-IsPermutation (λ x. cond (same_kind o x) 1 0) (grouped sorted) kinds whole ∙ once-grouped sorted up k d small);
+  ordered = ordered;
+}
+  where
+    whole : IsPermutation (grouped sorted) kinds
+    whole = IsPermutation-trans (grouped sorted) stack kinds
+        (subst (λ w. IsPermutation w stack) are (IsPermutation-sym stack (reverse stack) (IsPermutation-reverse stack))) moved-on

@@ -1,0 +1,43 @@
+use Rattle.std.proofs.Common.{◌+◌, ◌-◌, List, ℕ, arith, drop, map, refl, take}
+use Rattle.std.proofs.lemmas.Result.{err_from_is_err_and}
+use Rattle.gathered.specs.Telling.{sheet}
+use Rattle.census_table.specs.ObjectColumns.{object_row}
+use Rattle.census_table.specs.Tables.{rows_text}
+use Rattle.census_table.specs.declared.object.Object.{Object}
+use Rattle.census_table.proofs.Texts.{drop-cut, objects-cut}
+use Rattle.census_table.proofs.Told.{up_to_front, up_to_more, up_to_start}
+use Rattle.census_table.proofs.table.put_objects.Goals as goal
+
+pub loop-start-init : goal.loop-start-init
+loop-start-init g c = (
+  omega arith,
+  up_to_start (rows_text c.args.format (map (object_row c.args.columns.now) c.args.objects.now)) (sheet g.W.Write.contents c.args.block.now c.args.writer.now),
+)
+
+pub returns-in_err-put_some : goal.returns-in_err-put_some
+returns-in_err-put_some g c =
+    let p = err_from_is_err_and c.from_residual.result c.from_residual.ensures.1 in
+    let all = c.args.objects.now in
+    let l = c.loop-start in
+    let m = c.min.result in
+    let under : List Object → List ℕ = λ objects. rows_text c.args.format (map (object_row c.args.columns.now) objects) in
+    let some = take (l.start + m - l.start) (drop l.start all) in
+    let cut = objects-cut c.args.format c.args.columns.now (drop l.start all) some (drop (l.start + m) all) some (drop-cut all l.start m) refl in
+    rw p.1
+    (up_to_front (under all) (under (drop l.start all)) (under some) (under (drop (l.start + m) all))
+    (sheet g.W.Write.contents c.args.block.now c.args.writer.now) (sheet g.W.Write.contents l.block l.writer)
+    (sheet g.W.Write.contents c.put_some.new.block c.put_some.new.writer) l.invariant.1 cut c.in_err-put_some.ensures)
+
+pub loop-start-preserved : goal.loop-start-preserved
+loop-start-preserved g c =
+    let all = c.args.objects.now in
+    let l = c.loop-start in
+    let m = c.min.result in
+    let under : List Object → List ℕ = λ objects. rows_text c.args.format (map (object_row c.args.columns.now) objects) in
+    let some = take (l.start + m - l.start) (drop l.start all) in
+    let cut = objects-cut c.args.format c.args.columns.now (drop l.start all) some (drop (l.start + m) all) some (drop-cut all l.start m) refl in (
+      omega (arith, c.min.ensures, l.invariant.0),
+      up_to_more (under all) (under (drop l.start all)) (under some) (under (drop (l.start + m) all))
+          (sheet g.W.Write.contents c.args.block.now c.args.writer.now) (sheet g.W.Write.contents l.block l.writer)
+          (sheet g.W.Write.contents c.put_some.new.block c.put_some.new.writer) l.invariant.1 cut c.in_ok-put_some.ensures,
+    )

@@ -1,0 +1,110 @@
+//! The columns of tables of objects.
+ghost use Rattle.std.specs.Prelude.{◌≡◌, IfOk};
+ghost use Rattle.census_table.specs.Contents.{content_of, row_of};
+ghost use Rattle.census_table.specs.ObjectColumns.{content_of_object, object_row, title_of};
+
+use crate::cell::{Cell, Field};
+use crate::object::Object;
+use std::alloc::{AllocError, Global};
+
+/// A column of a table of parts or of codes.
+#[derive(Clone, Copy)]
+pub enum ObjectColumn {
+    /// The number of the pattern's collection in its report.
+    Collection,
+    /// The name of the pattern's collection.
+    CollectionName,
+    /// The pattern's number in its collection.
+    Pattern,
+    /// The pattern's name.
+    Name,
+    /// The rule.
+    Rule,
+    /// The object's code.
+    Code,
+    /// How many there are, at most 2^64 - 1.
+    Count,
+    /// In how many patterns, at most 2^64 - 1.
+    Patterns,
+    /// The name of the collection of the first of these.
+    FirstCollectionName,
+    /// The name of the first of these.
+    FirstName,
+}
+
+impl ObjectColumn {
+    /// Those of a table of parts, in their order.
+    pub const OF_PARTS: [ObjectColumn; 7] = [
+        ObjectColumn::Collection,
+        ObjectColumn::CollectionName,
+        ObjectColumn::Pattern,
+        ObjectColumn::Name,
+        ObjectColumn::Rule,
+        ObjectColumn::Code,
+        ObjectColumn::Count,
+    ];
+
+    /// Those of a table of codes, in their order.
+    pub const OF_CODES: [ObjectColumn; 6] = [
+        ObjectColumn::Rule,
+        ObjectColumn::Code,
+        ObjectColumn::Count,
+        ObjectColumn::Patterns,
+        ObjectColumn::FirstCollectionName,
+        ObjectColumn::FirstName,
+    ];
+
+    /// What the column is called: lowercase letters and `_`.
+    pub fn name(self) -> &'static str
+        ensures { result.now ≡ title_of self }
+    {
+        match self {
+            ObjectColumn::Collection => "collection",
+            ObjectColumn::CollectionName => "collection_name",
+            ObjectColumn::Pattern => "pattern",
+            ObjectColumn::Name => "name",
+            ObjectColumn::Rule => "rule",
+            ObjectColumn::Code => "code",
+            ObjectColumn::Count => "count",
+            ObjectColumn::Patterns => "patterns",
+            ObjectColumn::FirstCollectionName => "first_collection_name",
+            ObjectColumn::FirstName => "first_name",
+        }
+    }
+
+    /// What the row of an object has in the column.
+    pub fn cell<'a>(self, object: &Object<'a>) -> Cell<'a>
+        ensures { content_of result ≡ content_of_object self object.now }
+    {
+        match self {
+            ObjectColumn::Collection => Cell::Count(object.first.collection),
+            ObjectColumn::CollectionName => Cell::Text(object.first.collection_name),
+            ObjectColumn::Pattern => Cell::Count(object.first.pattern),
+            ObjectColumn::Name => Cell::Text(object.first.name),
+            ObjectColumn::Rule => Cell::Text(object.rule),
+            ObjectColumn::Code => Cell::Text(object.code),
+            ObjectColumn::Count => Cell::Count(object.count),
+            ObjectColumn::Patterns => Cell::Count(object.patterns),
+            ObjectColumn::FirstCollectionName => Cell::Text(object.first.collection_name),
+            ObjectColumn::FirstName => Cell::Text(object.first.name),
+        }
+    }
+}
+
+/// The row of an object in these columns. The only error is out of memory.
+pub fn object_row<'a>(
+    alloc: Global,
+    columns: &[ObjectColumn],
+    object: &Object<'a>,
+) -> Result<Vec<Field<'a>>, AllocError>
+    ensures { IfOk result (λ row. row_of row.items ≡ object_row columns.now object.now) }
+{
+    let mut row = Vec::with_capacity(alloc, columns.len())?;
+    for column in columns {
+        row.push(Field {
+            name: column.name(),
+            cell: column.cell(object),
+        })?;
+    }
+    Ok(row)
+}

@@ -1,0 +1,110 @@
+//! What a table has a row for each of.
+ghost use Rattle.std.specs.Prelude.{◌≡◌, filter, map, IfOk};
+ghost use Rattle.census_readback.specs.Shapes.{AreReports};
+ghost use Rattle.census_table.specs.Columns.{columns, name_of};
+ghost use Rattle.census_table.specs.ObjectColumns.{title_of};
+ghost use Rattle.census_table.specs.Tables.{IsListingOf, is_part, listing_of};
+
+use crate::column::Column;
+use crate::counting::kinds;
+use crate::object::{Object, objects};
+use crate::object_column::ObjectColumn;
+use census_readback::collections;
+use census_rows::Row;
+use std::alloc::{AllocError, Global};
+
+/// What a table has a row for each of.
+#[derive(Clone, Copy, Debug, PartialEq, Eq)]
+pub enum Subject {
+    /// A pattern.
+    Patterns,
+    /// A `part` row: that several parts of a pattern are one object.
+    Parts,
+    /// A code under a rule, by falling count, and then in the order of codes: the shorter first, and equally long ones by
+    /// their bytes, and then by those of the rule.
+    Codes,
+}
+
+/// What stands in a table.
+#[derive(Drop)]
+pub enum Table<'a> {
+    /// The patterns of collections that are numbered from 1.
+    Patterns(Vec<Vec<&'a Row<'a>>>),
+    /// These columns of objects.
+    Objects {
+        columns: &'static [ObjectColumn],
+        objects: Vec<Object<'a>>,
+    },
+}
+
+// The objects that are parts.
+fn parts<'a>(alloc: Global, objects: &[Object<'a>]) -> Result<Vec<Object<'a>>, AllocError>
+    ensures { IfOk result (λ parts. parts.items ≡ filter is_part objects.now) }
+{
+    let mut parts = Vec::new(alloc);
+    for object in objects {
+        if object.first.outcome.has_parts() {
+            parts.push(*object)?;
+        }
+    }
+    Ok(parts)
+}
+
+/// What stands in the table of reports that stand one after another. The only error is out of memory.
+pub fn table_of<'a>(
+    alloc: Global,
+    subject: Subject,
+    rows: &'a [Row<'a>],
+) -> Result<Table<'a>, AllocError>
+    requires { AreReports rows.now }
+    ensures { IfOk result (λ table. IsListingOf subject rows.now (listing_of table)) }
+{
+    let sections = collections(alloc, rows)?;
+    match subject {
+        Subject::Patterns => Ok(Table::Patterns(sections)),
+        Subject::Parts => Ok(Table::Objects {
+            columns: &ObjectColumn::OF_PARTS,
+            objects: parts(alloc, objects(alloc, sections.as_slice())?.as_slice())?,
+        }),
+        Subject::Codes => Ok(Table::Objects {
+            columns: &ObjectColumn::OF_CODES,
+            objects: kinds(alloc, objects(alloc, sections.as_slice())?)?,
+        }),
+    }
+}
+
+// The names of these columns.
+fn names_of(alloc: Global, columns: &[ObjectColumn]) -> Result<Vec<&'static str>, AllocError>
+    ensures { IfOk result
+        (λ names. map (λ s. s.now) names.items ≡ map title_of columns.now) }
+{
+    let mut names = Vec::new(alloc);
+    for column in columns {
+        names.push(column.name())?;
+    }
+    Ok(names)
+}
+
+// The names of the columns of a table of patterns.
+fn pattern_names(alloc: Global) -> Result<Vec<&'static str>, AllocError>
+    ensures { IfOk result
+        (λ names. map (λ s. s.now) names.items ≡ map name_of columns) }
+{
+    let mut names = Vec::new(alloc);
+    for column in &Column::ALL {
+        names.push(column.name())?;
+    }
+    Ok(names)
+}
+
+impl Table<'_> {
+    /// What the columns are called. The only error is out of memory.
+    pub fn names(&self, alloc: Global) -> Result<Vec<&'static str>, AllocError>
+        ensures { IfOk result (λ names. map (λ s. s.now) names.items ≡ (listing_of self.now).names) }
+    {
+        match self {
+            Table::Patterns(_) => pattern_names(alloc),
+            Table::Objects { columns, .. } => names_of(alloc, *columns),
+        }
+    }
+}
