@@ -1,10 +1,6 @@
 -- What each exit status says.
-use Rattle.std.proofs.Common.{◌≡◌, ◌⊎◌, ℕ, Bool, List, ◌++◌, Option, None, Some, option_map, true, false, inl, inr, ⊎_elim, refl, sym, ◌∙◌, arith, true≢false, string_bytes, ◌||◌}
-use Rattle.census_folders.specs.declared.fault.FoldersFault.{FoldersFault}
-use Rattle.census_folders.specs.declared.fault.FoldersFault.TheVariants as folder_fault
-use Rattle.census_folders.specs.Trees.{HoldsTrees, StopsTrees}
-use Rattle.census_folders.specs.Walks.{StopsWalk}
-use Rattle.census_bundle.specs.declared.bundle.AddFault.{AddFault}
+use Rattle.std.proofs.Common.{◌≡◌, ◌⊎◌, ℕ, Bool, List, ◌++◌, Option, None, Some, map, option_map, true, false, inl, inr, ⊎_elim, refl, sym, ◌∙◌, arith, true≢false, string_bytes, ◌||◌}
+use Rattle.census_folders.specs.Sources.{Asked}
 use Rattle.census_cli.specs.Asking.{Asks, AsksToExplain}
 use Rattle.census_cli.specs.Refusing.{AreRefusedWords, AsksHelp, AsksText, RefusesWords}
 use Rattle.census_cli.specs.declared.fault.WordsFault.{WordsFault}
@@ -14,19 +10,19 @@ use Rattle.census_cli.specs.declared.request.Request.TheVariants.{Run, Objects, 
 use Rattle.life_answer.specs.declared.question.Question.TheVariants as question
 use Rattle.life_answer.specs.declared.question.Question.{Question}
 use Rattle.census_command.specs.Advances.{AdvanceFromFails, AdvancesFromInPart}
-use Rattle.census_errors.specs.Errors.{advance_status, run_error_of_folders, run_status, status_of}
+use Rattle.census_errors.specs.Errors.{advance_status, run_status, status_of}
 use Rattle.census_errors.specs.Messages.{error_line}
 use Rattle.census_command.specs.Outcomes.{Answers, AreExplained, Ends, HelpsInPart}
 use Rattle.census_errors.specs.Files.{file_of}
 use Rattle.census_command.specs.Outcomes.{MissesFile, RefusesText}
-use Rattle.census_command.specs.Outcomes.{MissesSource, RefusesCollections, RefusesFolders, RefusesInput, ReportsInPart, Shows, ShowsInPart}
+use Rattle.census_command.specs.Outcomes.{MissesSource, RefusesCollections, RefusesInput, ReportsInPart, Shows, ShowsInPart}
 use Rattle.census_command.specs.Outcomes.{StopsAtFolder, TellsError, TellsRefusal}
 use Rattle.census_errors.specs.Places.{IsPlaceOf}
 use Rattle.census_command.specs.Requests.{Does, DoesInPart, Fails}
-use Rattle.census_command.specs.Runs.{FoldersFail, ReportsFoldersInPart, RunFails, RunsInPart, StopsReadingFolders}
+use Rattle.census_command.specs.Runs.{FailsInFolders, FoldersFail, ReportsFoldersInPart, RunFails, RunsInPart}
 use Rattle.census_errors.specs.Sayings.{line_said, said_if}
 use Rattle.census_folders.specs.Tellings.{Tellings}
-use Rattle.census_errors.specs.Sources.{Source, Input, Folders, Trees, Kept, source_by}
+use Rattle.census_errors.specs.Sources.{Source, Input, Folders, source_of}
 use Rattle.census_errors.specs.ErrorStreams.{Errors, TellsIf, TellsText}
 use Rattle.census_command.specs.Streams.{HasFailed, HasSoundStreams, IsUntouched, State, WritesNothing}
 use Rattle.census_errors.specs.declared.advance_error.AdvanceError.{AdvanceError}
@@ -63,50 +59,24 @@ module _ (shelf : Tellings) (before after : State) where
   advance_says (advance.Text fault told spot) None n h = inl (refl, inl (fault, told, spot, h.0), h.1)
   advance_says advance.TooLong None n h = inl (refl, inr h.0, h.1)
   advance_says advance.Memory None n h = inr (inl (refl, inl h.written, h.sound))
-  advance_says advance.Read None n h = inr (inr (refl, inl (inl h.read), inl h.written, λ up. h.written))
+  advance_says (advance.Read why) None n h = inr (inr (refl, inl (inl h.read), inl h.written, λ up. h.written))
   advance_says advance.Write None n h = inr (inr (refl, inl (inr h.1.write), inr h.0, unread_flag h.1.read))
   advance_says (advance.Text fault told spot) (Some path) n h = inl (refl, inl (fault, told, spot, h.0), record { written = h.1.written; sound = h.1.sound })
   advance_says advance.TooLong (Some path) n h = inl (refl, inr h.0, record { written = h.1.written; sound = h.1.sound })
   advance_says advance.Memory (Some path) n h = inr (inl (refl, inl h.written, h.sound))
-  advance_says advance.Read (Some path) n h = inr (inr (refl, inr h.0, inl h.1.written, λ up. h.1.written))
+  advance_says (advance.Read why) (Some path) n h = inr (inr (refl, inr (why, h.0), inl h.1.written, λ up. h.1.written))
   advance_says advance.Write (Some path) n h = inr (inr (refl, inl (inr h.1.write), inr h.0, unread_flag h.1.read))
 
-  folders_say : (e : RunError) (limit : Option ℕ) (fs : List (List ℕ)) (question : Question) → FoldersFail e shelf limit fs question before after
-      → Says before after (run_status e) (RefusesFolders shelf limit fs) (ReportsFoldersInPart shelf limit fs question before after)
-      (ReportsFoldersInPart shelf limit fs question before after) (StopsReadingFolders shelf limit fs folder_fault.Read)
-  folders_say (run.Bundle fault) limit fs question h = absurd h
-  folders_say (run.Folder fault) limit fs question h = inl (refl, inl (fault, h.0), record { written = h.1.written; sound = h.1.sound })
-  folders_say run.TooLong limit fs question h = inl (refl, inr h.0, record { written = h.1.written; sound = h.1.sound })
-  folders_say (run.Memory ticket) limit fs question (inl h) = inr (inl (refl, inl h.1.written, h.1.sound))
-  folders_say (run.Memory ticket) limit fs question (inr h) = inr (inl (refl, inr h.0, h.1))
-  folders_say run.Read limit fs question h = inr (inr (refl, inr h.0, inl h.1.written, λ up. h.1.written))
-  folders_say run.Write limit fs question h = inr (inr (refl, inl (inr h.1.write), inr h.0, unread_flag h.1.read))
-
-  -- why folders below others are not told: one can't be walked, or out of memory
-  no_add : {A : Type 0} (fault : AddFault) (fs : List (List ℕ)) → StopsTrees shelf fs (folder_fault.Add fault) → A
-  no_add fault fs (inl h) = absurd cc
-  no_add fault fs (inr h) = at_visit h.why
-    where
-      at_visit : {A : Type 0} {word : List ℕ} → StopsWalk shelf word (folder_fault.Add fault) → A
-      at_visit (inl h) = absurd cc
-      at_visit (inr h) = absurd h.why
-
-  not_long : {A : Type 0} (fs : List (List ℕ)) → StopsTrees shelf fs folder_fault.TooLong → A
-  not_long fs (inl h) = absurd cc
-  not_long fs (inr h) = at_visit h.why
-    where
-      at_visit : {A : Type 0} {word : List ℕ} → StopsWalk shelf word folder_fault.TooLong → A
-      at_visit (inl h) = absurd cc
-      at_visit (inr h) = absurd h.why
-
-  walk_says : (fault : FoldersFault) (limit : Option ℕ) (fs : List (List ℕ)) (question : Question) → StopsTrees shelf fs fault → IsUntouched before after
-      → Says before after (run_status (run_error_of_folders fault)) (RefusesCollections shelf (Trees limit fs) before after)
-      (RunsInPart shelf (Trees limit fs) question before after) (RunsInPart shelf (Trees limit fs) question before after) (MissesSource shelf (Trees limit fs))
-  walk_says (folder_fault.Add fault) limit fs question why untouched = no_add fault fs why
-  walk_says folder_fault.Read limit fs question why untouched =
-      inr (inr (refl, inr (inl why), inl untouched.written, λ up. untouched.written))
-  walk_says folder_fault.TooLong limit fs question why untouched = not_long fs why
-  walk_says folder_fault.Memory limit fs question why untouched = inr (inl (refl, inl untouched.written, untouched.sound))
+  folders_say : (e : RunError) (asked : Asked) (question : Question) → FoldersFail e shelf asked question before after
+      → Says before after (run_status e) ((error : RunError) × FailsInFolders shelf asked error × (run_status error ≡ 1)) (ReportsFoldersInPart shelf asked question before after)
+      (ReportsFoldersInPart shelf asked question before after) (FailsInFolders shelf asked run.Read)
+  folders_say (run.Bundle fault) asked question h = inl (refl, (run.Bundle fault, h.0, refl), record { written = h.1.written; sound = h.1.sound })
+  folders_say (run.Folder fault) asked question h = inl (refl, (run.Folder fault, h.0, refl), record { written = h.1.written; sound = h.1.sound })
+  folders_say run.TooLong asked question h = inl (refl, (run.TooLong, h.0, refl), record { written = h.1.written; sound = h.1.sound })
+  folders_say (run.Memory ticket) asked question (inl h) = inr (inl (refl, inl h.1.written, h.1.sound))
+  folders_say (run.Memory ticket) asked question (inr h) = inr (inl (refl, inr h.0, h.1))
+  folders_say run.Read asked question h = inr (inr (refl, inr h.0, inl h.1.written, λ up. h.1.written))
+  folders_say run.Write asked question h = inr (inr (refl, inl (inr h.1.write), inr h.0, unread_flag h.1.read))
 
   run_says : (e : RunError) (source : Source) (question : Question) → RunFails e shelf source question before after
       → Says before after (run_status e) (RefusesCollections shelf source before after) (RunsInPart shelf source question before after)
@@ -117,33 +87,14 @@ module _ (shelf : Tellings) (before after : State) where
   run_says (run.Memory ticket) Input question h = inr (inl (refl, h.0, h.1))
   run_says run.Read Input question h = inr (inr (refl, inl (inl h.read), inl h.written, λ up. h.written))
   run_says run.Write Input question h = inr (inr (refl, inl (inr h.1.write), inr h.0, unread_flag h.1.read))
-  run_says e (Folders limit fs) question h = folders_say e limit fs question h
-  run_says e (Trees limit fs) question (inl h) = rw h.is (walk_says h.fault limit fs question h.why h.untouched)
-  run_says e (Trees limit fs) question (inr h) = in_trees h.folders h.trees (folders_say e limit h.folders question h.why)
-    where
-      in_trees : (folders : List (List ℕ)) → HoldsTrees shelf fs folders
-          → Says before after (run_status e) (RefusesFolders shelf limit folders) (ReportsFoldersInPart shelf limit folders question before after)
-          (ReportsFoldersInPart shelf limit folders question before after) (StopsReadingFolders shelf limit folders folder_fault.Read)
-          → Says before after (run_status e) (RefusesCollections shelf (Trees limit fs) before after) (RunsInPart shelf (Trees limit fs) question before after)
-          (RunsInPart shelf (Trees limit fs) question before after) (MissesSource shelf (Trees limit fs))
-      in_trees folders trees (inl h) = inl (h.0, (folders, trees, h.1), h.2)
-      in_trees folders trees (inr (inl h)) =
-          inr (inl (h.0, ⊎_elim (λ same. inl same) (λ part. inr (record { folders = folders; trees = trees; part = part })) h.1, h.2))
-      in_trees folders trees (inr (inr h)) =
-          inr (inr (
-            h.0,
-            ⊎_elim (λ failed. inl failed) (λ missed. inr (inr (folders, trees, missed))) h.1,
-            ⊎_elim (λ same. inl same) (λ part. inr (record { folders = folders; trees = trees; part = part })) h.2,
-            h.3,
-          ))
-  run_says e (Kept limit recursive fs) question h = absurd h
+  run_says e (Folders asked) question h = folders_say e asked question h
 
 module _ (shelf : Tellings) (before after : State) where
   says : (error : CommandError) (request : Request) → Fails error shelf request before after
       → Says before after (status_of error) (RefusesInput shelf request before after) (ReportsInPart shelf request before after) (DoesInPart shelf request before after)
       (StopsAtFolder shelf request)
-  says (command.Run e) (Run bound workers cells input recursive keep_going folders) h = run_says shelf before after e (source_by input recursive keep_going _) (question.Settles bound cells) h
-  says (command.Run e) (Objects bound workers cells input recursive keep_going folders) h = run_says shelf before after e (source_by input recursive keep_going _) (question.Objects bound (Some cells)) h
+  says (command.Run e) (Run bound workers cells input recursive keep_going folders) h = run_says shelf before after e (source_of (record { limit = input; recursive = recursive; keep_going = keep_going; words = map (λ s. s.now) folders.items })) (question.Settles bound cells) h
+  says (command.Run e) (Objects bound workers cells input recursive keep_going folders) h = run_says shelf before after e (source_of (record { limit = input; recursive = recursive; keep_going = keep_going; words = map (λ s. s.now) folders.items })) (question.Objects bound (Some cells)) h
   says (command.Advance e) (Advance n file) h = advance_says shelf before after e (file_of (option_map (λ s. s.now) file)) n h
   says (command.Draw (draw.Rule fault)) (Draw code rule) h = inl (refl, inl (fault, h.0), record { written = h.1.written; sound = h.1.sound })
   says (command.Draw (draw.Code fault)) (Draw code rule) h = inl (refl, inr (fault, h.0.1), record { written = h.1.written; sound = h.1.sound })

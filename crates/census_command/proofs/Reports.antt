@@ -1,5 +1,5 @@
 -- Why no whole report was written, from what the run answers.
-use Rattle.std.proofs.Common.{◌≡◌, ◌↔◌, ℕ, List, [], Option, Result, Ok, Err, IfErr, IfOk, Bool, true, false, inl, inr, refl, subst}
+use Rattle.std.proofs.Common.{◌≡◌, ◌↔◌, ℕ, List, [], Option, Result, Ok, Err, Bool, true, false, inl, inr, refl}
 use Rattle.std.proofs.lemmas.List.{append-nil}
 use Rattle.census_bundle.specs.declared.bundle.Folder.{Folder}
 use Rattle.census_crew.specs.Bytes.{ReadsBundle, ReadsFolders}
@@ -10,19 +10,19 @@ use Rattle.census_crew.specs.Faults.{FitsFault}
 use Rattle.census_crew.specs.declared.tally.Tally.{Tally}
 use Rattle.census_crew.specs.declared.fault.RunFault.{RunFault}
 use Rattle.census_crew.specs.declared.fault.RunFault.TheVariants as runs
-use Rattle.census_folders.specs.Folders.{HoldsFolders}
-use Rattle.census_folders.specs.Shelves.{HoldsShelf}
-use Rattle.census_folders.specs.Sums.{Fits, bytes_of_all}
-use Rattle.census_folders.specs.Trees.{HoldsTrees}
-use Rattle.census_folders.specs.declared.fault.FoldersFault.{FoldersFault}
-use Rattle.census_folders.specs.declared.fault.FoldersFault.TheVariants as folder_fault
+use Rattle.census_folders.specs.Sources.{Asked}
+use Rattle.census_folders.specs.declared.fault.SourceFault.{SourceFault}
+use Rattle.census_folders.specs.declared.fault.SourceFault.TheVariants as source
+use Rattle.census_folders.specs.declared.loss.Cause.{Cause}
+use Rattle.census_folders.specs.declared.loss.Cause.TheVariants as cause
 use Rattle.life_answer.specs.declared.question.Question.{Question}
-use Rattle.census_errors.specs.Errors.{run_error_of_bytes, run_error_of_folders, run_error_of_run}
-use Rattle.census_command.specs.Runs.{FoldersFail, InputFails, ReportsFolders, ReportsFoldersInPart, ReportsTrees, StopsReadingFolders, TreesFail}
+use Rattle.census_errors.specs.Errors.{run_error_of_bytes, run_error_of_cause, run_error_of_run, run_error_of_source}
+use Rattle.census_command.specs.Runs.{FailsInFolders, FoldersFail, InputFails, ReportsFoldersInPart}
 use Rattle.census_errors.specs.declared.run_error.RunError.{RunError}
+use Rattle.census_errors.specs.declared.run_error.RunError.TheVariants as run
 use Rattle.census_command.specs.Keeps.{IsCut}
 use Rattle.census_folders.specs.Tellings.{Tellings}
-use Rattle.census_command.specs.Streams.{HasSoundStreams, State}
+use Rattle.census_command.specs.Streams.{IsUntouched, State}
 
 is_down : (failed : Bool) → (failed ≡ true → ⊥) → failed ≡ false
 is_down true raised = absurd (raised refl)
@@ -52,40 +52,31 @@ module _ (question : Question) (before after : State) where
   input_fails bundle (runs.Memory ticket) fits read front down = (inr (record { bundle = bundle; read = read; front = front }), record { read = down; write = fits })
   input_fails bundle runs.Write fits read front down = (record { bundle = bundle; read = read; front = front }, record { read = down; write = fits })
 
-module _ (shelf : Tellings) (limit : Option ℕ) (words : List (List ℕ)) (question : Question) where
-  pub folders_stop : (fault : FoldersFault) (state : State) → HasSoundStreams state → StopsReadingFolders shelf limit words fault
-      → FoldersFail (run_error_of_folders fault) shelf limit words question state state
-  folders_stop (folder_fault.Add fault) state sound stops = (stops, record { unread = refl; written = refl; sound = sound })
-  folders_stop folder_fault.Read state sound stops = (stops, record { unread = refl; written = refl; sound = sound })
-  folders_stop folder_fault.TooLong state sound stops = (stops, record { unread = refl; written = refl; sound = sound })
-  folders_stop folder_fault.Memory state sound stops = inl (stops, record { unread = refl; written = refl; sound = sound })
+at_cause : {A : Type 0} (c : Cause) → run.Write ≡ run_error_of_cause c → A
+at_cause cause.BadName same = absurd cc
+at_cause (cause.Unread why) same = absurd cc
+at_cause cause.TooLong same = absurd cc
 
-  module _ (before after : State) (bundle : List Folder) (holds : HoldsFolders words bundle)
-      (told : HoldsShelf shelf words bundle) (within : Fits limit (bytes_of_all bundle)) (unread : after.unread ≡ before.unread)
-      (down : after.read_failed ≡ false) (written : WritesPrefix before.written after.written bundle question) where
-    folders_front : ReportsFoldersInPart shelf limit words question before after
-    folders_front = record { bundle = bundle; holds = holds; told = told; within = within; front = written; unread = unread }
+-- no fault of reading folders is a failed write
+no_write : {A : Type 0} (fault : SourceFault) → run.Write ≡ run_error_of_source fault → A
+no_write (source.Lost loss) is = at_cause loss.cause is
+no_write (source.Unnamed c) is = at_cause c is
+no_write source.TooMany is = absurd cc
+no_write source.Memory is = absurd cc
 
-    pub folders_fail : (fault : RunFault) → FitsFault {A = Tally} (Err fault) after.write_failed
-        → FoldersFail (run_error_of_run fault) shelf limit words question before after
-    folders_fail (runs.Memory ticket) fits = inr (folders_front, record { read = down; write = fits })
-    folders_fail runs.Write fits = (folders_front, record { read = down; write = fits })
+module _ (shelf : Tellings) (asked : Asked) (question : Question) where
+  pub folders_stop : (error : RunError) (before after : State) → FailsInFolders shelf asked error → IsUntouched before after → FoldersFail error shelf asked question before after
+  folders_stop (run.Bundle fault) before after fails untouched = (fails, untouched)
+  folders_stop (run.Folder fault) before after fails untouched = (fails, untouched)
+  folders_stop run.TooLong before after fails untouched = (fails, untouched)
+  folders_stop (run.Memory ticket) before after fails untouched = inl (fails, untouched)
+  folders_stop run.Read before after fails untouched = (fails, untouched)
+  folders_stop run.Write before after fails untouched = no_write fails.fault fails.is
 
--- the report of trees, from that of their folders
-pub trees_done : {V : Type 0} (f : V → List ℕ) (shelf : Tellings) (limit : Option ℕ) (words folders named : List (List ℕ)) (question : Question) (explain : Bool)
-    (before after : State) (r : Result V RunError) → HoldsTrees shelf words folders → named ≡ folders
-    → IfOk r (λ v. ReportsFolders shelf limit named question explain (f v) before after) → IfOk r (λ v. ReportsTrees shelf limit words question explain (f v) before after)
-trees_done f shelf limit words folders named question explain before after (Ok v) trees same h =
-    record { folders = folders; trees = trees; report = subst (λ fs. ReportsFolders shelf limit fs question explain (f v) before after) same h }
-trees_done f shelf limit words folders named question explain before after (Err e) trees same h = h
-
--- why no whole report of trees was written, from that of their folders
-pub trees_fail : {A : Type 0} (shelf : Tellings) (limit : Option ℕ) (words folders named : List (List ℕ)) (question : Question) (before after : State) (r : Result A RunError)
-    → HoldsTrees shelf words folders → named ≡ folders
-    → IfErr r (λ e. FoldersFail e shelf limit named question before after) → IfErr r (λ e. TreesFail e shelf limit words question before after)
-trees_fail shelf limit words folders named question before after (Ok x) trees same h = h
-trees_fail shelf limit words folders named question before after (Err e) trees same h =
-    inr (record { folders = folders; trees = trees; why = subst (λ fs. FoldersFail e shelf limit fs question before after) same h })
+  pub folders_fail : (before after : State) (fault : RunFault) → ReportsFoldersInPart shelf asked question before after → after.read_failed ≡ false
+      → FitsFault {A = Tally} (Err fault) after.write_failed → FoldersFail (run_error_of_run fault) shelf asked question before after
+  folders_fail before after (runs.Memory ticket) part down fits = inr (part, record { read = down; write = fits })
+  folders_fail before after runs.Write part down fits = (part, record { read = down; write = fits })
 
 -- out of memory, or standard output has failed
 pub is_cut : (fault : RunFault) (after : State) → after.read_failed ≡ false → FitsFault {A = Tally} (Err fault) after.write_failed → IsCut (run_error_of_run fault) after

@@ -79,7 +79,7 @@ abbrev pub AdvanceFails : AdvanceError → ℕ → State → State → Type 0
 AdvanceFails (Text fault told spot) n before after = HasRleFault fault told spot before after × WritesNothing before after
 AdvanceFails TooLong n before after = ReadsTooMuch before after × WritesNothing before after
 AdvanceFails Memory n before after = WritesNothing before after
-AdvanceFails Read n before after = ReadFails before after
+AdvanceFails (Read why) n before after = ReadFails before after
 AdvanceFails Write n before after = AdvancesInPart n before after × WriteFails after
 
 -- # A file
@@ -116,7 +116,7 @@ abbrev pub AdvanceFileFails : AdvanceError → Tellings → List ℕ → ℕ →
 AdvanceFileFails (Text fault told spot) shelf path n before after = HasFileFault fault told spot shelf path × IsUntouched before after
 AdvanceFileFails TooLong shelf path n before after = MayExceed input_limit (shelf.held [] path) × IsUntouched before after
 AdvanceFileFails Memory shelf path n before after = IsUntouched before after
-AdvanceFileFails Read shelf path n before after = MayFail (shelf.held [] path) × IsUntouched before after
+AdvanceFileFails (Read why) shelf path n before after = MayFail (shelf.held [] path) why × IsUntouched before after
 AdvanceFileFails Write shelf path n before after = AdvancesFileInPart shelf path n before after × WriteFails after
 
 -- # Either

@@ -9,11 +9,9 @@ use Rattle.life_shape.specs.Reading as wechsler
 use Rattle.life_shape.specs.TextOrder.{body_of}
 use Rattle.life_shape.specs.declared.reader.CodeFault.{CodeFault}
 use Rattle.life_text.specs.declared.rle.RleFault.{RleFault}
-use Rattle.census_bundle.specs.declared.bundle.AddFault.{AddFault}
 use Rattle.census_bundle.specs.declared.fault.BundleFault.{BundleFault}
 use Rattle.census_bundle.specs.Sizes.{input_limit}
 use Rattle.census_crew.specs.Bytes.{ReadsFault}
-use Rattle.census_folders.specs.declared.fault.FoldersFault.TheVariants as folder_fault
 use Rattle.census_cli.specs.Asking.{Asks, AsksToExplain, IsMatched}
 use Rattle.census_cli.specs.Refusing.{AreRefusedWords, AsksHelp, AsksText}
 use Rattle.census_cli.specs.declared.fault.WordsFault.{WordsFault}
@@ -24,10 +22,11 @@ use Rattle.life_answer.specs.declared.question.Question.TheVariants as question
 use Rattle.census_faults.specs.declared.fault.Fault.{Fault}
 use Rattle.census_faults.specs.declared.spot.Spot.{Spot}
 use Rattle.census_folders.specs.Told.{MayExceed, MayFail}
-use Rattle.census_folders.specs.Trees.{HoldsTrees, StopsTrees}
+use Rattle.census_folders.specs.declared.unread.Unread.{Unread}
+use Rattle.census_folders.specs.declared.loss.OnLoss.TheVariants.{Keep}
 use Rattle.census_identify.specs.Identifies.{Identifies}
 use Rattle.census_command.specs.Advances.{HasFileFault, HasRleFault, ReadsTooMuch}
-use Rattle.census_errors.specs.Errors.{IsArgumentsError, status_of}
+use Rattle.census_errors.specs.Errors.{IsArgumentsError, run_status, status_of}
 use Rattle.census_errors.specs.Files.{file_of}
 use Rattle.census_command.specs.Keeps.{KeptCensus, Keeps}
 use Rattle.census_errors.specs.Messages.{error_line}
@@ -36,14 +35,16 @@ use Rattle.census_command.specs.Remakes.{Remakes, format_of, subject_of}
 use Rattle.census_command.specs.Requests.{Does, DoesInPart, Fails}
 use Rattle.census_reports.specs.declared.form.Form.{Form}
 use Rattle.census_reports.specs.declared.form.Form.TheVariants as form
-use Rattle.census_command.specs.Runs.{RunsInPart, StopsReadingFolders}
+use Rattle.census_command.specs.Runs.{FailsInFolders, RunsInPart}
 use Rattle.census_errors.specs.Sayings.{line_said, said_if}
 use Rattle.census_folders.specs.Tellings.{Tellings}
-use Rattle.census_errors.specs.Sources.{Source, Input, Folders, Trees, Kept, source_of}
+use Rattle.census_errors.specs.Sources.{Source, Input, Folders, source_of}
 use Rattle.census_errors.specs.ErrorStreams.{Errors, TellsIf, TellsText}
 use Rattle.census_command.specs.Streams.{all_streams, HasFailed, HasSoundStreams, IsUntouched, State, WriteFails, WritesNothing}
 use Rattle.census_errors.specs.declared.error.CommandError.{CommandError}
 use Rattle.census_errors.specs.declared.place.Place.{Place}
+use Rattle.census_errors.specs.declared.run_error.RunError.{RunError}
+use Rattle.census_errors.specs.declared.run_error.RunError.TheVariants as run
 use Rattle.census_errors.specs.declared.error.CommandError.TheVariants as command
 
 -- # What is explained
@@ -76,18 +77,11 @@ pub record Helps (words : List (List ℕ)) (before after : State) : Type 0 where
 
 -- # What is refused
 
--- one of these folders or a file of it has a fault or is too long
-abbrev pub RefusesFolders : Tellings → Option ℕ → List (List ℕ) → Type 0
-RefusesFolders shelf limit folders = ((fault : AddFault) × StopsReadingFolders shelf limit folders (folder_fault.Add fault)) ⊎ StopsReadingFolders shelf limit folders folder_fault.TooLong
-
 -- The bundle on standard input has a fault or is too long, or one of the folders.
 abbrev pub RefusesCollections : Tellings → Source → State → State → Type 0
 RefusesCollections shelf Input before after =
     ((fault : BundleFault) × ReadsFault before.unread after.unread fault) ⊎ ReadsTooMuch before after
-RefusesCollections shelf (Folders limit words) before after = RefusesFolders shelf limit words
-RefusesCollections shelf (Trees limit words) before after =
-    (folders : List (List ℕ)) × HoldsTrees shelf words folders × RefusesFolders shelf limit folders
-RefusesCollections shelf (Kept limit recursive words) before after = ⊥
+RefusesCollections shelf (Folders asked) before after = (error : RunError) × FailsInFolders shelf asked error × (run_status error ≡ 1)
 
 -- a file, or without one standard input, has a fault or is too long
 abbrev pub RefusesText : Tellings → Option (List ℕ) → State → State → Type 0
@@ -141,16 +135,12 @@ pub record ReportsAskedInPart (shelf : Tellings) (words : List (List ℕ)) (befo
 -- a file may not be readable, as the shelf tells
 abbrev pub MissesFile : Tellings → Option (List ℕ) → Type 0
 MissesFile shelf None = ⊥
-MissesFile shelf (Some path) = MayFail (shelf.held [] path)
+MissesFile shelf (Some path) = (why : Unread) × MayFail (shelf.held [] path) why
 
 -- one of the folders could not be listed or has a file that could not be read
 abbrev pub MissesSource : Tellings → Source → Type 0
 MissesSource shelf Input = ⊥
-MissesSource shelf (Folders limit words) = StopsReadingFolders shelf limit words folder_fault.Read
-MissesSource shelf (Trees limit words) =
-    StopsTrees shelf words folder_fault.Read
-    ⊎ ((folders : List (List ℕ)) × HoldsTrees shelf words folders × StopsReadingFolders shelf limit folders folder_fault.Read)
-MissesSource shelf (Kept limit recursive words) = ⊥
+MissesSource shelf (Folders asked) = FailsInFolders shelf asked run.Read
 
 abbrev pub StopsAtFolder : Tellings → Request → Type 0
 StopsAtFolder shelf (Run bound workers cells input recursive keep_going folders) = MissesSource shelf (source_of (record { limit = input; recursive = recursive; keep_going = keep_going; words = map (λ s. s.now) folders.items }))
@@ -237,9 +227,9 @@ pub record RemakesAsked (shelf : Tellings) (words : List (List ℕ)) (status : �
 -- The request asks for a census of these folders that goes on past what can't be read.
 abbrev pub IsKeeping : Request → KeptCensus → Type 0
 IsKeeping (Run bound workers cells input recursive keep_going folders) keeping =
-    (source_of (record { limit = input; recursive = recursive; keep_going = keep_going; words = map (λ s. s.now) folders.items }) ≡ Kept keeping.limit keeping.recursive keeping.words) × (keeping.question ≡ question.Settles bound cells)
+    (source_of (record { limit = input; recursive = recursive; keep_going = keep_going; words = map (λ s. s.now) folders.items }) ≡ Folders keeping.asked) × (keeping.asked.on_loss ≡ Keep) × (keeping.question ≡ question.Settles bound cells)
 IsKeeping (Objects bound workers cells input recursive keep_going folders) keeping =
-    (source_of (record { limit = input; recursive = recursive; keep_going = keep_going; words = map (λ s. s.now) folders.items }) ≡ Kept keeping.limit keeping.recursive keeping.words) × (keeping.question ≡ question.Objects bound (Some cells))
+    (source_of (record { limit = input; recursive = recursive; keep_going = keep_going; words = map (λ s. s.now) folders.items }) ≡ Folders keeping.asked) × (keeping.asked.on_loss ≡ Keep) × (keeping.question ≡ question.Objects bound (Some cells))
 IsKeeping request keeping = ⊥
 
 -- The words ask for such a census. What could be read was reported, or an error ended it.

@@ -1,12 +1,14 @@
 //! The census that words ask for.
-ghost use Rattle.std.specs.Prelude.{◌≡◌, ◌≤◌, map, IfNone, IfSome};
+ghost use Rattle.std.specs.Prelude.{◌≡◌, ◌≤◌, IfNone, IfSome};
 ghost use Rattle.life_answer.specs.Questions.{IsAnswered};
-ghost use Rattle.census_command.specs.Asking.{AsksForNone, IsAsked};
+ghost use Rattle.census_folders.specs.Sources.{asked_by};
+ghost use Rattle.census_command.specs.Asking.{AsksForNone, IsAsked, folders_of};
 ghost use Rattle.census_command.specs.Outcomes.{IsKeeping};
 ghost use Rattle.census_command.specs.Requests.{EndsAtFirst, IsLawful};
 ghost use Rattle.census_bundle.specs.Sizes.{worker_limit};
 
 use census_cli::Request;
+use census_folders::{OnLoss, Source};
 use life_answer::Question;
 
 /// A census of collections: what is asked of each pattern, by how many workers, and of which collections.
@@ -23,6 +25,21 @@ pub struct Census<'r, 'a> {
     pub keep_going: bool,
     /// In the order of the words. Without one it is of the bundle on standard input.
     pub folders: &'r [&'a str],
+}
+
+impl<'r, 'a> Census<'r, 'a> {
+    /// Its folders, and what reading them does at a loss.
+    pub fn source(&self, on_loss: OnLoss) -> Source<'r, 'a>
+        ensures asked { asked_by result ≡ folders_of self.now on_loss }
+        ensures on_loss { result.on_loss ≡ on_loss }
+    {
+        Source {
+            words: self.folders,
+            below: self.recursive,
+            limit: self.limit,
+            on_loss,
+        }
+    }
 }
 
 /// The census that is asked for, where one is.
@@ -81,9 +98,7 @@ pub fn census_of<'r, 'a>(request: &'r Request<'a>) -> Option<Census<'r, 'a>>
 pub fn kept_of<'r, 'a>(request: &'r Request<'a>) -> Option<Census<'r, 'a>>
     requires { IsLawful request.now }
     ensures some { IfSome result (λ census. IsKeeping request.now (record {
-      limit = census.limit;
-      recursive = census.recursive;
-      words = map (λ s. s.now) census.folders.now;
+      asked = folders_of census OnLoss.Keep;
       question = census.question;
     })) }
     ensures question { IfSome result (λ census. IsAnswered census.question) }

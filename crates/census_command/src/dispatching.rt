@@ -2,6 +2,7 @@
 ghost use Rattle.std.specs.Prelude.{◌≡◌, ◌||◌, false, map, IfErr, IfNone, IfOk, IfSome, OnOk};
 ghost use Rattle.census_errors.specs.Errors.{status_of};
 ghost use Rattle.census_errors.specs.Messages.{error_line};
+ghost use Rattle.census_errors.specs.Places.{IsPlaceOf};
 ghost use Rattle.census_command.specs.Outcomes.{Answers, IsRemaking, Outcome};
 ghost use Rattle.census_command.specs.Requests.{Does, Fails, IsDone, IsLawful, MakesNothing};
 ghost use Rattle.census_errors.specs.ErrorStreams.{TellsIf, TellsText};
@@ -17,7 +18,9 @@ use crate::running::run_command;
 use crate::streams::Streams;
 use census_cli::{Request, WordsFault, read_words};
 use census_crew::Gate;
-use census_errors::{CommandError, ErrorStream, place_if, saying_of, stop_saying};
+use census_errors::{
+    CommandError, ErrorStream, Place, Stopped, file_place, saying_of, stop_saying,
+};
 use census_folders::Shelf;
 use census_identify::identify;
 use census_reports::Form;
@@ -61,7 +64,7 @@ fn execute<S: Shelf, I: Read, O: Write, G: Gate, R: Threads + Wait + Sync>(
     explain: bool,
     gate: &G,
     streams: &mut Streams<I, O>,
-) -> Result<Vec<u8>, CommandError>
+) -> Result<Vec<u8>, Stopped>
     requires lawful { IsLawful request.now }
     requires more { IsDone request.now }
     requires sound { HasSoundStreams streams.old }
@@ -70,18 +73,34 @@ fn execute<S: Shelf, I: Read, O: Write, G: Gate, R: Threads + Wait + Sync>(
         request.now explain lines.items streams.old streams.new) }
     ensures sound { OnOk result (HasSoundStreams streams.new) }
     ensures fails { IfErr result
-        (λ e. Fails e (S.tellings shelf.now)
+        (λ stopped. Fails stopped.error (S.tellings shelf.now)
         request.now streams.old streams.new) }
+    ensures place { IfErr result
+        (λ stopped. IsPlaceOf (S.tellings shelf.now)
+        request.now stopped.error stopped.place) }
 {
     if let Some(census) = census_of(request) {
-        return Ok(run_command(rt, shelf, alloc, census, explain, gate, streams)?);
+        return match run_command(rt, shelf, alloc, census, explain, gate, streams) {
+            Ok(lines) => Ok(lines),
+            Err(stopped) => Err(Stopped::from(stopped)),
+        };
     }
     match request {
         Request::Advance { generations, file } => {
-            advance(shelf, alloc, *generations, *file, streams)?;
+            if let Err(error) = advance(shelf, alloc, *generations, *file, streams) {
+                return Err(Stopped {
+                    error: CommandError::Advance(error),
+                    place: file_place(alloc, error),
+                });
+            }
         }
         Request::Draw { code, rule } => {
-            draw(alloc, code.as_bytes(), rule.as_bytes(), streams)?;
+            if let Err(error) = draw(alloc, code.as_bytes(), rule.as_bytes(), streams) {
+                return Err(Stopped {
+                    error: CommandError::Draw(error),
+                    place: Place::nowhere(),
+                });
+            }
         }
         Request::Run { .. }
         | Request::Objects { .. }
@@ -207,10 +226,9 @@ pub fn dispatch<S: Shelf, I: Read, O: Write, E: Write, G: Gate, R: Threads + Wai
             tell_if(explain, lines.as_slice(), errors);
             0
         }
-        Err(error) => {
-            let place = place_if(explain, shelf, alloc, request, error);
-            let saying = saying_of(request, error).at(&place);
-            stop_saying(error, saying, explain, errors)
+        Err(stopped) => {
+            let saying = saying_of(request, stopped.error).at(&stopped.place);
+            stop_saying(stopped.error, saying, explain, errors)
         }
     }
 }

@@ -1,39 +1,27 @@
 //! `census run --keep-going` and `census objects --keep-going`: the report of what can be read.
-ghost use Rattle.std.specs.Prelude.{◌≡◌, ◌≢◌, ◌≤◌, ◌++◌, [], false, map, string_bytes, IfOk, List, MatchResult, OnOk};
-ghost use Rattle.std.specs.List.{FoldsTo};
+ghost use Rattle.std.specs.Prelude.{◌≡◌, ◌≢◌, ◌≤◌, ◌++◌, [], false, IfOk, MatchResult, OnOk};
 ghost use Rattle.life_answer.specs.Questions.{IsAnswered};
-ghost use Rattle.census_folders.specs.Losses.{KeepsFolder, StopsKeepingAt};
-ghost use Rattle.census_folders.specs.declared.loss.Loss.{Loss};
-ghost use Rattle.census_errors.specs.Errors.{run_error_of_folders, run_status};
-ghost use Rattle.census_command.specs.Keeps.{IsKeptBundle, Keeps, KeepsInto, StopsKeeping, StopsKeepingIn};
-ghost use Rattle.census_command.specs.Keeps.{cut_lines, lost_line, lost_lines};
+ghost use Rattle.census_folders.specs.Sources.{Reads, asked_by};
+ghost use Rattle.census_errors.specs.Errors.{run_status};
+ghost use Rattle.census_command.specs.Asking.{folders_of};
+ghost use Rattle.census_command.specs.Keeps.{Keeps, StopsKeeping, cut_lines, lost_line, lost_lines};
 ghost use Rattle.census_errors.specs.ErrorStreams.{TellsMoreText};
 ghost use Rattle.census_command.specs.Streams.{HasSoundStreams};
-ghost use Rattle.census_errors.specs.declared.run_error.RunError.TheVariants.{Memory};
 ghost use Rattle.census_bundle.specs.Sizes.{worker_limit};
 
 use crate::census::Census;
 use crate::reporting::report;
 use crate::streams::Streams;
-use census_bundle::Bundle;
 use census_crew::Gate;
 use census_errors::{
-    CommandError, ErrorStream, RunError, borrowed_words, kept_place, run_saying, say_if,
-    stop_saying,
+    CommandError, ErrorStream, RunError, RunStopped, kept_place, run_saying, say_if, stop_saying,
 };
 use census_faults::printable_text;
-use census_folders::{Loss, Shelf, folders_below_each_on, read_folders_on};
+use census_folders::{Kept, Loss, OnLoss, Shelf, Source, read_source};
 use std::alloc::{AllocError, Global};
 use std::io::{Read, Write};
 use std::sync::Wait;
 use std::thread::Threads;
-
-/// Folders that were read, and the lines that tell what was lost.
-#[derive(Drop)]
-struct Gathered {
-    bundle: Bundle,
-    lines: Vec<u8>,
-}
 
 // Appends the line that tells a loss.
 fn push_line(alloc: Global, lines: &mut Vec<u8>, loss: &Loss) -> Result<(), AllocError>
@@ -56,58 +44,34 @@ fn push_lines(alloc: Global, lines: &mut Vec<u8>, lost: &[Loss]) -> Result<(), A
     Ok(())
 }
 
-// Reads these folders after what was lost on the way to them.
-fn gather_folders<S: Shelf>(
-    shelf: &S,
-    alloc: Global,
-    folders: &[&str],
-    limit: Option<u64>,
-    way: &[Loss],
-) -> Result<Gathered, RunError>
-    ensures { MatchResult result
-        (KeepsInto (S.tellings shelf.now) limit (map (λ s. s.now) folders.now)
-        way.now)
-        (StopsKeepingIn (S.tellings shelf.now) limit
-        (map (λ s. s.now) folders.now)) }
+// The lines that tell losses.
+fn lines_of(alloc: Global, lost: &[Loss]) -> Result<Vec<u8>, AllocError>
+    ensures { IfOk result (λ lines. lines.items ≡ lost_lines lost.now) }
 {
-    let kept = read_folders_on(shelf, alloc, folders, limit)?;
     let mut lines = Vec::new(alloc);
-    push_lines(alloc, &mut lines, way)?;
-    push_lines(alloc, &mut lines, kept.lost.as_slice())?;
-    Ok(Gathered {
-        bundle: kept.bundle,
-        lines,
-    })
+    push_lines(alloc, &mut lines, lost)?;
+    Ok(lines)
 }
 
-// Reads the folders of these words, or where it is recursive those at and below them.
+// Reads folders whatever is lost, and gives the lines that tell what was.
 fn gather<S: Shelf>(
     shelf: &S,
     alloc: Global,
-    words: &[&str],
-    limit: Option<u64>,
-    recursive: bool,
-) -> Result<Gathered, RunError>
+    source: Source<'_, '_>,
+) -> Result<(Kept, Vec<u8>), RunError>
+    requires { source.on_loss ≡ OnLoss.Keep }
     ensures { MatchResult result
-        (λ gathered. (lost : List Loss)
-        × IsKeptBundle (S.tellings shelf.now)
-        limit recursive (map (λ s. s.now) words.now) gathered.bundle lost
-        × (gathered.lines.items ≡ lost_lines lost))
-        (StopsKeeping (S.tellings shelf.now)
-        limit recursive (map (λ s. s.now) words.now)) }
+        (λ gathered. Reads (S.tellings shelf.now) (asked_by source.entry) gathered.0
+        × (gathered.1.items ≡ lost_lines gathered.0.lost))
+        (StopsKeeping (S.tellings shelf.now) (asked_by source.entry)) }
 {
-    if !recursive {
-        return gather_folders(shelf, alloc, words, limit, &[]);
+    match read_source(shelf, alloc, source) {
+        Ok(kept) => {
+            let lines = lines_of(alloc, kept.lost.as_slice())?;
+            Ok((kept, lines))
+        }
+        Err(fault) => Err(RunStopped::reading(alloc, fault).error),
     }
-    let trees = folders_below_each_on(shelf, alloc, words)?;
-    let folders = borrowed_words(alloc, trees.folders.as_slice())?;
-    gather_folders(
-        shelf,
-        alloc,
-        folders.as_slice(),
-        limit,
-        trees.lost.as_slice(),
-    )
 }
 
 // The exit status of a whole report, by the lines that tell what was lost.
@@ -141,7 +105,7 @@ fn tell_cut<E: Write>(
 ///
 /// What can't be listed or read doesn't end it: a file that can't be read is a lost entry, and so is, where there is a limit,
 /// one that would take the bytes of all files together past it; a folder that can't be listed
-/// one without entries, and what has no lawful name is left out, as `read_folders_on` and `folders_below_each_on` do.
+/// one without entries, and what has no lawful name is left out, as `read_source` does.
 /// Before the report the line `census: lost PATH` goes to standard error for each of them, with each byte that no lawful
 /// name has as `\x` and two digits.
 ///
@@ -169,26 +133,23 @@ pub fn keep_going<S: Shelf, I: Read, O: Write, E: Write, G: Gate, R: Threads + W
     requires sound { HasSoundStreams streams.old }
     requires errors { errors.old.failed ≡ false }
     ensures { Keeps (S.tellings shelf.now) (record {
-      limit = census.entry.limit;
-      recursive = census.entry.recursive;
-      words = map (λ s. s.now) census.entry.folders.now;
+      asked = folders_of census.entry OnLoss.Keep;
       question = census.entry.question;
     }) explain result streams.old streams.new errors.old errors.new }
 {
-    let gathered = match gather(shelf, alloc, census.folders, census.limit, census.recursive) {
+    let (kept, lost) = match gather(shelf, alloc, census.source(OnLoss::Keep)) {
         Ok(gathered) => gathered,
         Err(error) => {
             let saying = run_saying(error);
             return stop_saying(CommandError::Run(error), saying, explain, errors);
         }
     };
-    errors.tell(gathered.lines.as_slice());
-    let bundle = &gathered.bundle;
+    errors.tell(lost.as_slice());
     match report(
         rt,
         shelf,
         alloc,
-        bundle,
+        &kept.bundle,
         true,
         census.question,
         census.workers,
@@ -198,7 +159,7 @@ pub fn keep_going<S: Shelf, I: Read, O: Write, E: Write, G: Gate, R: Threads + W
     ) {
         Ok(lines) => {
             errors.tell_more(lines.as_slice());
-            status_of_kept(gathered.lines.as_slice())
+            status_of_kept(lost.as_slice())
         }
         Err(fault) => tell_cut(alloc, RunError::from(fault), explain, errors),
     }

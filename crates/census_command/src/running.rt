@@ -4,8 +4,9 @@ ghost use Rattle.watched.specs.Watching.{has_failed, inner_of};
 ghost use Rattle.census_crew.specs.Bytes.{ReadsBundle};
 ghost use Rattle.census_crew.specs.declared.bytes.BytesFault.{BytesFault};
 ghost use Rattle.life_answer.specs.Questions.{IsAnswered};
-ghost use Rattle.census_command.specs.Runs.{FoldersFail, InputFails, ReportsFolders, ReportsInput};
-ghost use Rattle.census_command.specs.Runs.{ReportsTrees, RunFails, Runs, TreesFail};
+ghost use Rattle.census_command.specs.Asking.{plain_folders};
+ghost use Rattle.census_command.specs.Runs.{FoldersFail, InputFails, ReportsFolders, ReportsInput, RunFails, Runs};
+ghost use Rattle.census_errors.specs.Places.{IsCensusPlace, IsFoldersPlace};
 ghost use Rattle.census_errors.specs.Sources.{plain_source};
 ghost use Rattle.census_command.specs.Streams.{HasSoundStreams};
 ghost use Rattle.census_bundle.specs.Sizes.{worker_limit};
@@ -15,8 +16,8 @@ use crate::reporting::report;
 use crate::streams::Streams;
 use census_bundle::{Bundle, BundleFault, INPUT_LIMIT, read_bundle};
 use census_crew::{BytesFault, Gate};
-use census_errors::{RunError, borrowed_words};
-use census_folders::{Shelf, folders_below_each, read_folders};
+use census_errors::{RunError, RunStopped};
+use census_folders::{OnLoss, Shelf, read_source};
 use std::alloc::Global;
 use std::io::{Read, Write};
 use std::sync::Wait;
@@ -79,8 +80,7 @@ fn run_input<S: Shelf, I: Read, O: Write, G: Gate, R: Threads + Wait + Sync>(
     Ok(lines)
 }
 
-// Reads the folders of a census, whose files may have so many bytes together where there is a limit, and writes their
-// report.
+// Reads the folders of a census up to the first thing that can't be read, and writes their report.
 fn run_folders<S: Shelf, I: Read, O: Write, G: Gate, R: Threads + Wait + Sync>(
     rt: &R,
     shelf: &S,
@@ -89,83 +89,50 @@ fn run_folders<S: Shelf, I: Read, O: Write, G: Gate, R: Threads + Wait + Sync>(
     explain: bool,
     gate: &G,
     streams: &mut Streams<I, O>,
-) -> Result<Vec<u8>, RunError>
+) -> Result<Vec<u8>, RunStopped>
     requires question { IsAnswered census.question }
     requires workers { (1 ≤ census.workers) × (census.workers ≤ worker_limit) }
     requires sound { HasSoundStreams streams.old }
     ensures done { IfOk result
-        (λ lines. ReportsFolders
-        (S.tellings shelf.now)
-        census.entry.limit (map (λ s. s.now) census.entry.folders.now) census.entry.question
-        explain lines.items streams.old streams.new) }
+        (λ lines. ReportsFolders (S.tellings shelf.now) (plain_folders census.entry)
+        census.entry.question explain lines.items streams.old streams.new) }
     ensures sound { OnOk result (HasSoundStreams streams.new) }
     ensures fails { IfErr result
-        (λ e. FoldersFail e (S.tellings shelf.now)
-        census.entry.limit (map (λ s. s.now) census.entry.folders.now) census.entry.question
-        streams.old streams.new) }
+        (λ stopped. FoldersFail stopped.error (S.tellings shelf.now) (plain_folders census.entry)
+        census.entry.question streams.old streams.new) }
+    ensures place { IfErr result
+        (λ stopped. IsFoldersPlace (S.tellings shelf.now) (plain_folders census.entry)
+        stopped.error stopped.place) }
 {
-    let bundle = read_folders(shelf, alloc, census.folders, census.limit)?;
-    let lines = report(
+    let kept = match read_source(shelf, alloc, census.source(OnLoss::Stop)) {
+        Ok(kept) => kept,
+        Err(fault) => return Err(RunStopped::reading(alloc, fault)),
+    };
+    match report(
         rt,
         shelf,
         alloc,
-        &bundle,
+        &kept.bundle,
         true,
         census.question,
         census.workers,
         explain,
         gate,
         &mut streams.output,
-    )?;
-    Ok(lines)
+    ) {
+        Ok(lines) => Ok(lines),
+        Err(fault) => Err(RunStopped::running(alloc, &kept.bundle, fault)),
+    }
 }
 
-// Reads the folders at and below those of a census, whose files may have so many bytes together where there is a limit,
-// and writes their report.
-fn run_trees<S: Shelf, I: Read, O: Write, G: Gate, R: Threads + Wait + Sync>(
-    rt: &R,
-    shelf: &S,
-    alloc: Global,
-    census: Census<'_, '_>,
-    explain: bool,
-    gate: &G,
-    streams: &mut Streams<I, O>,
-) -> Result<Vec<u8>, RunError>
-    requires question { IsAnswered census.question }
-    requires workers { (1 ≤ census.workers) × (census.workers ≤ worker_limit) }
-    requires sound { HasSoundStreams streams.old }
-    ensures done { IfOk result
-        (λ lines. ReportsTrees
-        (S.tellings shelf.now)
-        census.entry.limit (map (λ s. s.now) census.entry.folders.now) census.entry.question
-        explain lines.items streams.old streams.new) }
-    ensures sound { OnOk result (HasSoundStreams streams.new) }
-    ensures fails { IfErr result
-        (λ e. TreesFail e (S.tellings shelf.now)
-        census.entry.limit (map (λ s. s.now) census.entry.folders.now) census.entry.question
-        streams.old streams.new) }
-{
-    let own = folders_below_each(shelf, alloc, census.folders)?;
-    let folders = borrowed_words(alloc, own.as_slice())?;
-    let census = Census {
-        question: census.question,
-        workers: census.workers,
-        limit: census.limit,
-        recursive: false,
-        keep_going: false,
-        folders: folders.as_slice(),
-    };
-    run_folders(rt, shelf, alloc, census, explain, gate, streams)
-}
-
-/// Writes the report of a census. Each of its workers passes the gate with a ticket before it works. The collections are
-/// its folders on the shelf, as `read_folders` reads them, or, where it is recursive, those at and below them that list a
-/// name that ends in `.rle`, as `folders_below_each` tells them; without a folder they are those of the bundle on standard
-/// input, which is read to its end. With folders nothing is read from it. Where there is a limit, the files of the folders may have so many bytes together:
-/// the file that goes past it is too long.
+/// Writes the report of a census that ends at the first thing that can't be read. Each of its workers passes the gate with a
+/// ticket before it works. The collections are its folders on the shelf, and where it is recursive those below them, as
+/// `read_source` reads them; without a folder they are those of the bundle on standard input, which is read to its end. With
+/// folders nothing is read from it.
 ///
 /// What is answered are the lines that are said beside the report, where faults are explained: those that explain what it
-/// tells as `bad`, and the hints at what may have been overlooked in the collections.
+/// tells as `bad`, and the hints at what may have been overlooked in the collections. Or it is the error, and its place: the path
+/// of the folder or file that is lost; or where memory ran out at a pattern, its path, or without folders its numbers.
 ///
 /// All is read before the first byte is written, so nothing is written where a bundle, a folder or a file is refused or
 /// can't be read. Where memory is refused or the writer fails, what was written is nothing or a prefix of a report.
@@ -177,7 +144,7 @@ pub fn run_command<S: Shelf, I: Read, O: Write, G: Gate, R: Threads + Wait + Syn
     explain: bool,
     gate: &G,
     streams: &mut Streams<I, O>,
-) -> Result<Vec<u8>, RunError>
+) -> Result<Vec<u8>, RunStopped>
     requires question { IsAnswered census.question }
     requires workers { (1 ≤ census.workers) × (census.workers ≤ worker_limit) }
     requires sound { HasSoundStreams streams.old }
@@ -188,16 +155,20 @@ pub fn run_command<S: Shelf, I: Read, O: Write, G: Gate, R: Threads + Wait + Syn
         explain lines.items streams.old streams.new) }
     ensures sound { OnOk result (HasSoundStreams streams.new) }
     ensures fails { IfErr result
-        (λ e. RunFails e (S.tellings shelf.now)
+        (λ stopped. RunFails stopped.error (S.tellings shelf.now)
         (plain_source census.entry.limit census.entry.recursive
         (map (λ s. s.now) census.entry.folders.now)) census.entry.question
         streams.old streams.new) }
+    ensures place { IfErr result
+        (λ stopped. IsCensusPlace (S.tellings shelf.now)
+        (plain_source census.entry.limit census.entry.recursive
+        (map (λ s. s.now) census.entry.folders.now)) stopped.error stopped.place) }
 {
-    if census.folders.is_empty() {
-        run_input(rt, shelf, alloc, census, explain, gate, streams)
-    } else if census.recursive {
-        run_trees(rt, shelf, alloc, census, explain, gate, streams)
-    } else {
-        run_folders(rt, shelf, alloc, census, explain, gate, streams)
+    if !census.folders.is_empty() {
+        return run_folders(rt, shelf, alloc, census, explain, gate, streams);
+    }
+    match run_input(rt, shelf, alloc, census, explain, gate, streams) {
+        Ok(lines) => Ok(lines),
+        Err(error) => Err(RunStopped::unnamed(alloc, error)),
     }
 }

@@ -14,8 +14,14 @@ use Rattle.census_crew.specs.declared.bytes.BytesFault.{BytesFault}
 use Rattle.census_crew.specs.declared.bytes.BytesFault.TheVariants as bytes
 use Rattle.census_crew.specs.declared.fault.RunFault.{RunFault}
 use Rattle.census_crew.specs.declared.fault.RunFault.TheVariants as runs
-use Rattle.census_folders.specs.declared.fault.FoldersFault.{FoldersFault}
-use Rattle.census_folders.specs.declared.fault.FoldersFault.TheVariants as folders
+use Rattle.census_bundle.specs.declared.bundle.AddFault.TheVariants as add
+use Rattle.census_folders.specs.Told.{silent}
+use Rattle.census_folders.specs.declared.fault.SourceFault.{SourceFault}
+use Rattle.census_folders.specs.declared.fault.SourceFault.TheVariants as source
+use Rattle.census_folders.specs.declared.loss.Cause.{Cause}
+use Rattle.census_folders.specs.declared.loss.Cause.TheVariants as cause
+use Rattle.census_folders.specs.declared.unread.ShelfFault.{ShelfFault}
+use Rattle.census_folders.specs.declared.unread.ShelfFault.TheVariants as shelf
 use Rattle.census_errors.specs.declared.advance_error.AdvanceError.{AdvanceError}
 use Rattle.census_errors.specs.declared.advance_error.AdvanceError.TheVariants as advance
 use Rattle.census_errors.specs.declared.draw_error.DrawError.{DrawError}
@@ -34,9 +40,14 @@ advance_error_of_text text rle.Memory = advance.Memory
 advance_error_of_text text fault = advance.Text fault (text_fault text fault) (spot_of_text text fault)
 
 abbrev pub advance_error_of_read : ReadFault → AdvanceError
-advance_error_of_read reads.Read = advance.Read
+advance_error_of_read reads.Read = advance.Read silent
 advance_error_of_read reads.TooLong = advance.TooLong
 advance_error_of_read reads.Memory = advance.Memory
+
+abbrev pub advance_error_of_shelf : ShelfFault → AdvanceError
+advance_error_of_shelf (shelf.Unread why) = advance.Read why
+advance_error_of_shelf shelf.TooLong = advance.TooLong
+advance_error_of_shelf shelf.Memory = advance.Memory
 
 -- # Of `draw`
 
@@ -53,11 +64,16 @@ run_error_of_bytes (bytes.Bundle fault) = run.Bundle fault
 run_error_of_bytes bytes.Memory = run.Memory None
 run_error_of_bytes bytes.Write = run.Write
 
-abbrev pub run_error_of_folders : FoldersFault → RunError
-run_error_of_folders (folders.Add fault) = run.Folder fault
-run_error_of_folders folders.Read = run.Read
-run_error_of_folders folders.TooLong = run.TooLong
-run_error_of_folders folders.Memory = run.Memory None
+abbrev pub run_error_of_cause : Cause → RunError
+run_error_of_cause cause.BadName = run.Folder add.BadName
+run_error_of_cause (cause.Unread why) = run.Read
+run_error_of_cause cause.TooLong = run.TooLong
+
+abbrev pub run_error_of_source : SourceFault → RunError
+run_error_of_source (source.Lost loss) = run_error_of_cause loss.cause
+run_error_of_source (source.Unnamed cause) = run_error_of_cause cause
+run_error_of_source source.TooMany = run.Folder add.TooMany
+run_error_of_source source.Memory = run.Memory None
 
 abbrev pub run_error_of_run : RunFault → RunError
 run_error_of_run (runs.Memory ticket) = run.Memory ticket
@@ -75,7 +91,7 @@ abbrev pub advance_status : AdvanceError → ℕ
 advance_status (advance.Text fault told spot) = 1
 advance_status advance.TooLong = 1
 advance_status advance.Memory = 3
-advance_status advance.Read = 4
+advance_status (advance.Read why) = 4
 advance_status advance.Write = 4
 
 abbrev pub draw_status : DrawError → ℕ

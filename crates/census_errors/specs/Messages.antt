@@ -84,7 +84,7 @@ abbrev pub advance_message : AdvanceError → Message
 advance_message (advance.Text fault told spot) = rle_message fault
 advance_message advance.TooLong = message (codes "input too long")
 advance_message advance.Memory = message (codes "out of memory")
-advance_message advance.Read = message (codes "read failed")
+advance_message (advance.Read why) = message (codes "read failed")
 advance_message advance.Write = message (codes "write failed")
 
 abbrev pub draw_message : DrawError → Message

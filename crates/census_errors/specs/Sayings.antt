@@ -70,7 +70,7 @@ abbrev pub advance_fault : AdvanceError → Fault
 advance_fault (advance.Text f told spot) = told
 advance_fault advance.TooLong = fault.TooLong
 advance_fault advance.Memory = fault.Memory
-advance_fault advance.Read = fault.Read
+advance_fault (advance.Read why) = fault.Read
 advance_fault advance.Write = fault.Write
 
 -- the file, where it has the fault

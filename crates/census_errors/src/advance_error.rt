@@ -1,6 +1,7 @@
 //! Why `advance` writes no text.
 
 use census_faults::{Fault, Spot};
+use census_folders::{ShelfFault, Unread};
 use life_text::RleFault;
 use std::alloc::AllocError;
 use thiserror::Error;
@@ -25,7 +26,7 @@ pub enum AdvanceError {
     Memory,
     /// The file can't be read, or standard input has failed.
     #[error("read failed")]
-    Read,
+    Read(Unread),
     /// Standard output has failed.
     #[error("write failed")]
     Write,
@@ -50,9 +51,24 @@ impl From<ReadFault> for AdvanceError {
 
     fn from(fault: ReadFault) -> AdvanceError {
         match fault {
-            ReadFault::Read => AdvanceError::Read,
+            ReadFault::Read => AdvanceError::Read(Unread::silent()),
             ReadFault::TooLong => AdvanceError::TooLong,
             ReadFault::Memory => AdvanceError::Memory,
+        }
+    }
+}
+
+impl From<ShelfFault> for AdvanceError {
+    ghost use Rattle.std.specs.Prelude.{◌≡◌};
+    ghost use Rattle.census_errors.specs.Errors.{advance_error_of_shelf};
+
+    ghost from_gives = { λ fault error. error ≡ advance_error_of_shelf fault };
+
+    fn from(fault: ShelfFault) -> AdvanceError {
+        match fault {
+            ShelfFault::Unread(why) => AdvanceError::Read(why),
+            ShelfFault::TooLong => AdvanceError::TooLong,
+            ShelfFault::Memory => AdvanceError::Memory,
         }
     }
 }

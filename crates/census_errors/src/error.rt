@@ -119,7 +119,7 @@ fn advance_status(error: AdvanceError) -> u8
     match error {
         AdvanceError::Text { .. } | AdvanceError::TooLong => 1,
         AdvanceError::Memory => 3,
-        AdvanceError::Read | AdvanceError::Write => 4,
+        AdvanceError::Read(_) | AdvanceError::Write => 4,
     }
 }
 

@@ -77,7 +77,7 @@ fn advance_saying<'a>(file: Option<&'a str>, error: AdvanceError) -> Saying<'a>
         AdvanceError::Text { told, spot, .. } => of_file(told, file, spot),
         AdvanceError::TooLong => of_file(Fault::TooLong, file, Spot::Nowhere),
         AdvanceError::Memory => nowhere(Fault::Memory),
-        AdvanceError::Read => of_file(Fault::Read, file, Spot::Nowhere),
+        AdvanceError::Read(_) => of_file(Fault::Read, file, Spot::Nowhere),
         AdvanceError::Write => nowhere(Fault::Write),
     }
 }

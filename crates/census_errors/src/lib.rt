@@ -5,7 +5,6 @@
 #![tactic(auto)]
 
 mod advance_error;
-mod borrowing;
 mod draw_error;
 mod error;
 mod error_stream;
@@ -16,15 +15,16 @@ mod place;
 mod placing;
 mod run_error;
 mod saying;
+mod stopped;
 
 pub use advance_error::AdvanceError;
-pub use borrowing::borrowed_words;
 pub use draw_error::DrawError;
 pub use error::CommandError;
 pub use error_stream::ErrorStream;
 pub use explaining::{reports_saying, run_saying, saying_of};
 pub use files::file_of;
 pub use place::Place;
-pub use placing::{kept_place, place_if, reports_place_if};
+pub use placing::{file_place, kept_place, reports_place_if};
 pub use run_error::RunError;
 pub use saying::{Saying, say, say_if, stop_saying};
+pub use stopped::{RunStopped, Stopped};

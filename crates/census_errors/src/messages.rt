@@ -90,7 +90,7 @@ fn advance_message(fault: AdvanceError) -> (&'static str, Option<usize>)
     match fault {
         AdvanceError::TooLong => ("input too long", None),
         AdvanceError::Memory => ("out of memory", None),
-        AdvanceError::Read => ("read failed", None),
+        AdvanceError::Read(_) => ("read failed", None),
         AdvanceError::Write => ("write failed", None),
         AdvanceError::Text { fault, .. } => rle_message(fault),
     }

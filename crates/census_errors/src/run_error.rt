@@ -2,7 +2,7 @@
 
 use census_bundle::{AddFault, BundleFault, Ticket};
 use census_crew::{BytesFault, RunFault};
-use census_folders::FoldersFault;
+use census_folders::Cause;
 use std::alloc::AllocError;
 use thiserror::Error;
 
@@ -57,18 +57,17 @@ impl From<BytesFault> for RunError {
     }
 }
 
-impl From<FoldersFault> for RunError {
+impl From<Cause> for RunError {
     ghost use Rattle.std.specs.Prelude.{◌≡◌};
-    ghost use Rattle.census_errors.specs.Errors.{run_error_of_folders};
+    ghost use Rattle.census_errors.specs.Errors.{run_error_of_cause};
 
-    ghost from_gives = { λ fault error. error ≡ run_error_of_folders fault };
+    ghost from_gives = { λ cause error. error ≡ run_error_of_cause cause };
 
-    fn from(fault: FoldersFault) -> RunError {
-        match fault {
-            FoldersFault::Add(fault) => RunError::Folder(fault),
-            FoldersFault::Read => RunError::Read,
-            FoldersFault::TooLong => RunError::TooLong,
-            FoldersFault::Memory => RunError::Memory { ticket: None },
+    fn from(cause: Cause) -> RunError {
+        match cause {
+            Cause::BadName => RunError::Folder(AddFault::BadName),
+            Cause::Unread(_) => RunError::Read,
+            Cause::TooLong => RunError::TooLong,
         }
     }
 }

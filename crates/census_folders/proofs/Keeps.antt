@@ -1,5 +1,5 @@
--- What was kept so far, and where keeping stops.
-use Rattle.std.proofs.Common.{◌≡◌, ℕ, ◌+◌, ◌<◌, Bool, true, false, MatchBool, List, [], ◌∷◌, ◌++◌, length, take, get_or, Vec, Global, Bor, Option, Some, None, sym, ap, ◌∙◌, arith}
+-- What was read so far, and where reading stops.
+use Rattle.std.proofs.Common.{◌≡◌, ℕ, ◌+◌, ◌<◌, Bool, true, false, MatchBool, List, [], ◌∷◌, ◌++◌, length, take, get_or, Vec, Global, Bor, Result, Ok, Err, IsOk, MatchResult, Option, Some, sym, ap, ◌∙◌, arith}
 use Rattle.std.specs.List.{FoldsTo}
 use Rattle.std.proofs.lemmas.Fn.{FoldsTo-push}
 use Rattle.std.proofs.lemmas.List.{get_or-map, length-map, map_more, take-map}
@@ -9,15 +9,20 @@ use Rattle.census_bundle.specs.declared.bundle.Folder.{Folder}
 use Rattle.census_bundle.specs.Entries.{entry_of, lost_entry}
 use Rattle.census_bundle.specs.Growing.{on_last_of, with_entry, with_one_more}
 use Rattle.census_bundle.specs.Names.{is_name}
-use Rattle.census_folders.specs.declared.fault.FoldersFault.{FoldersFault}
-use Rattle.census_folders.specs.declared.keeping.Kept.{Kept}
-use Rattle.census_folders.specs.Losses.{AddsEntry, KeepsFile, KeepsFiles, KeepsFolder, StopsInFolder, StopsKeepingAt, StopsKeepingFile, StopsKeepingFolder, left_out, kept_at_start, with_empty, with_file_text}
-use Rattle.census_folders.specs.Shelves.{IsChosen}
+use Rattle.census_folders.specs.declared.fault.SourceFault.{SourceFault}
+use Rattle.census_folders.specs.declared.fault.SourceFault.TheVariants.{Lost, Unnamed, TooMany, Memory}
+use Rattle.census_folders.specs.declared.loss.Cause.{Cause}
+use Rattle.census_folders.specs.declared.loss.Cause.TheVariants.{BadName}
+use Rattle.census_folders.specs.declared.loss.OnLoss.{OnLoss}
+use Rattle.census_folders.specs.declared.loss.OnLoss.TheVariants.{Stop, Keep}
+use Rattle.census_folders.specs.declared.reading.Kept.{Kept}
+use Rattle.census_folders.specs.Listings.{IsChosen}
+use Rattle.census_folders.specs.Losses.{StopsAt}
+use Rattle.census_folders.specs.Paths.{path_of}
+use Rattle.census_folders.specs.Reading.{AddsEntry, AddsLost, AddsText, GivesText, IsFullFor, KeepsFile, KeepsFiles, KeepsFolder, StopsFile, StopsFolder, StopsInFolder, StopsInFolders, loss_of, without}
 use Rattle.census_folders.specs.Tellings.{Tellings}
 use Rattle.census_folders.specs.Told.{Told, GivesTold}
-use Rattle.census_folders.specs.Walks.{path_of}
-use Rattle.census_folders.proofs.Listings.{bytes_of}
-use Rattle.census_folders.proofs.Stops.{words_of}
+use Rattle.census_folders.proofs.Listings.{bytes_of, words_of}
 
 -- # There is still a folder
 
@@ -29,29 +34,33 @@ open_with : (b : List Folder) (e : Entry) → 0 < length b → 0 < length (with_
 open_with [] e some = absurd (omega arith)
 open_with (f ∷ fs) e some = open_of (with_one_more e) f fs
 
-open_added : (told : Told) (folder name : List ℕ) (old new : Kept) (text : Option (List ℕ)) → new ≡ with_file_text folder name text old → 0 < length old.bundle → 0 < length new.bundle
-open_added told folder name old new (Some text) is some = rw is (open_with old.bundle (entry_of name text) some)
-open_added told folder name old new None is some = rw is (open_with old.bundle (lost_entry name) some)
+open_text : (lawful : Bool) (on_loss : OnLoss) (path name text : List ℕ) (old new : Kept) → MatchBool lawful (AddsEntry name text old new) ((on_loss ≡ Keep) × (new ≡ without path BadName old)) → 0 < length old.bundle → 0 < length new.bundle
+open_text true on_loss path name text old new more some = rw more.added (open_with old.bundle (entry_of name text) some)
+open_text false on_loss path name text old new more some = rw more.1 some
 
-open_case : (lawful : Bool) (told : Told) (folder name : List ℕ) (old new : Kept) → MatchBool lawful (AddsEntry told folder name old new) (new ≡ left_out (path_of folder name) old) → 0 < length old.bundle → 0 < length new.bundle
-open_case true told folder name old new more some = open_added told folder name old new more.text more.added some
-open_case false told folder name old new more some = rw more some
+open_lost : (lawful : Bool) (path name : List ℕ) (cause : Cause) (old new : Kept) → MatchBool lawful (AddsLost path name cause old new) (new ≡ without path cause old) → 0 < length old.bundle → 0 < length new.bundle
+open_lost true path name cause old new more some = rw more.bundle (open_with old.bundle (lost_entry name) some)
+open_lost false path name cause old new more some = rw more some
 
-pub still_open : (told : Told) (folder name : List ℕ) (old new : Kept) → KeepsFile told folder name old new → 0 < length old.bundle → 0 < length new.bundle
-still_open told folder name old new more some = open_case (is_name name) told folder name old new more some
+open_added : (on_loss : OnLoss) (path name : List ℕ) (text : Result (List ℕ) Cause) (old new : Kept) → AddsText on_loss path name text old new → 0 < length old.bundle → 0 < length new.bundle
+open_added on_loss path name (Ok text) old new more some = open_text (is_name name) on_loss path name text old new more some
+open_added on_loss path name (Err cause) old new more some = open_lost (is_name name) path name cause old new more.1 some
+
+pub still_open : (on_loss : OnLoss) (told : Told) (folder name : List ℕ) (old new : Kept) → KeepsFile on_loss told folder name old new → 0 < length old.bundle → 0 < length new.bundle
+still_open on_loss told folder name old new more some = open_added on_loss (path_of folder name) name more.text old new more.added some
 
 -- # Files
 
-pub next_kept : (held : List ℕ → Told) (word : List ℕ) (names : List (Vec ℕ Global)) (i : ℕ) (name : Vec ℕ Global) (text : List ℕ) (start mid new : Kept) → i < length names → name ≡ get_or names i name → text ≡ name.items
-    → KeepsFiles held word start (bytes_of (take i names)) mid → KeepsFile (held text) word text mid new → KeepsFiles held word start (bytes_of (take (i + 1) names)) new
-next_kept held word names i name text start mid new within at is before more =
+pub next_kept : (on_loss : OnLoss) (held : List ℕ → Told) (word : List ℕ) (names : List (Vec ℕ Global)) (i : ℕ) (name : Vec ℕ Global) (text : List ℕ) (start mid new : Kept) → i < length names → name ≡ get_or names i name → text ≡ name.items
+    → KeepsFiles on_loss held word start (bytes_of (take i names)) mid → KeepsFile on_loss (held text) word text mid new → KeepsFiles on_loss held word start (bytes_of (take (i + 1) names)) new
+next_kept on_loss held word names i name text start mid new within at is before more =
     let next : bytes_of (take (i + 1) names) ≡ bytes_of (take i names) ++ text ∷ [] = map_more (λ n. n.items) names i name within ∙ ap (λ t. bytes_of (take i names) ++ t ∷ []) (sym (is ∙ ap (λ n. n.items) at)) in
-    rw next (FoldsTo-push (λ k n l. KeepsFile (held n) word n k l) start (bytes_of (take i names)) mid text new before more)
+    rw next (FoldsTo-push (λ k n l. KeepsFile on_loss (held n) word n k l) start (bytes_of (take i names)) mid text new before more)
 
-pub stops_in_folder : (shelf : Tellings) (word : List ℕ) (names : List (Vec ℕ Global)) (i : ℕ) (name : Vec ℕ Global) (text listing : List ℕ) (old mid : Kept) (fault : FoldersFault)
+pub stops_in_folder : (on_loss : OnLoss) (shelf : Tellings) (word : List ℕ) (names : List (Vec ℕ Global)) (i : ℕ) (name : Vec ℕ Global) (text listing : List ℕ) (old mid : Kept) (fault : SourceFault)
     → i < length names → name ≡ get_or names i name → text ≡ name.items → GivesTold (shelf.listed word) listing → IsChosen listing (bytes_of names)
-    → KeepsFiles (shelf.held word) word (with_empty word old) (bytes_of (take i names)) mid → StopsKeepingFile text mid fault → StopsInFolder shelf word old fault
-stops_in_folder shelf word names i name text listing old mid fault within at is lists chosen before why =
+    → KeepsFiles on_loss (shelf.held word) word old (bytes_of (take i names)) mid → StopsFile on_loss (shelf.held word text) word text mid fault → StopsInFolder on_loss shelf word old fault
+stops_in_folder on_loss shelf word names i name text listing old mid fault within at is lists chosen before why =
     let item : get_or (bytes_of names) i text ≡ text = get_or-map (λ n. n.items) names i name text within ∙ sym (is ∙ ap (λ n. n.items) at) in
     record {
       listing = listing;
@@ -66,16 +75,27 @@ stops_in_folder shelf word names i name text listing old mid fault within at is 
       why = why;
     }
 
+-- a file of this text was added, or not
+pub with_text : {A : Type 0} (on_loss : OnLoss) (told : Told) (folder name : List ℕ) (old new : Kept) (text : Result (List ℕ) Cause) (Many : Type 0) (r : Result A SourceFault) → GivesText told old.left text
+    → (Many → IsFullFor name old × (on_loss ≡ Stop → IsOk text))
+    → MatchResult r (λ _. AddsText on_loss (path_of folder name) name text old new) (StopsAt on_loss (λ loss. loss_of (path_of folder name) name text ≡ Some loss) Many)
+    → MatchResult r (λ _. KeepsFile on_loss told folder name old new) (StopsFile on_loss told folder name old)
+with_text on_loss told folder name old new text Many (Ok x) gives full adds = record { text = text; gives = gives; added = adds }
+with_text on_loss told folder name old new text Many (Err (Lost loss)) gives full why = (why.0, record { text = text; gives = gives; is = why.1 })
+with_text on_loss told folder name old new text Many (Err (Unnamed cause)) gives full why = (why.0, why.1, record { text = text; gives = gives; is = why.2 })
+with_text on_loss told folder name old new text Many (Err TooMany) gives full why = record { full = (full why).0; text = text; gives = gives; read = (full why).1 }
+with_text on_loss told folder name old new text Many (Err Memory) gives full why = tt
+
 -- # Folders
 
-pub next_folder : (shelf : Tellings) (words : List (Bor (List ℕ))) (i : ℕ) (d : Bor (List ℕ)) (start mid new : Kept) → i < length words
-    → FoldsTo (KeepsFolder shelf) start (words_of (take i words)) mid → KeepsFolder shelf mid (get_or words i d).now new → FoldsTo (KeepsFolder shelf) start (words_of (take (i + 1) words)) new
-next_folder shelf words i d start mid new within before more =
-    rw (map_more (λ s. s.now) words i d within) (FoldsTo-push (KeepsFolder shelf) start (words_of (take i words)) mid (get_or words i d).now new before more)
+pub next_folder : (on_loss : OnLoss) (shelf : Tellings) (words : List (Bor (List ℕ))) (i : ℕ) (d : Bor (List ℕ)) (start mid new : Kept) → i < length words
+    → FoldsTo (KeepsFolder on_loss shelf) start (words_of (take i words)) mid → KeepsFolder on_loss shelf mid (get_or words i d).now new → FoldsTo (KeepsFolder on_loss shelf) start (words_of (take (i + 1) words)) new
+next_folder on_loss shelf words i d start mid new within before more =
+    rw (map_more (λ s. s.now) words i d within) (FoldsTo-push (KeepsFolder on_loss shelf) start (words_of (take i words)) mid (get_or words i d).now new before more)
 
-pub stops_keeping : (shelf : Tellings) (limit : Option ℕ) (words : List (Bor (List ℕ))) (i : ℕ) (d : Bor (List ℕ)) (mid : Kept) (fault : FoldersFault) → i < length words
-    → FoldsTo (KeepsFolder shelf) (kept_at_start limit) (words_of (take i words)) mid → StopsKeepingFolder shelf (get_or words i d).now mid fault → StopsKeepingAt shelf limit (words_of words) fault
-stops_keeping shelf limit words i d mid fault within before why =
+pub stops_reading : (on_loss : OnLoss) (shelf : Tellings) (words : List (Bor (List ℕ))) (i : ℕ) (d : Bor (List ℕ)) (start mid : Kept) (fault : SourceFault) → i < length words
+    → FoldsTo (KeepsFolder on_loss shelf) start (words_of (take i words)) mid → StopsFolder on_loss shelf (get_or words i d).now mid fault → StopsInFolders on_loss shelf start (words_of words) fault
+stops_reading on_loss shelf words i d start mid fault within before why =
     let word = (get_or words i d).now in
     record {
       place = i;

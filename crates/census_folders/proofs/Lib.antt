@@ -1,12 +1,8 @@
 pub mod Listings
 pub mod Totals
-pub mod Growths
-pub mod Stops
 pub mod Reaches
 pub mod Walked
+pub mod Planted
 pub mod Places
 pub mod Keeps
-pub mod Planted
-pub mod KeptReaches
-pub mod KeptWalked
-pub mod KeptPlanted
+pub mod Quiet

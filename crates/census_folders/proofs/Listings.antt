@@ -12,8 +12,7 @@ use Rattle.std.proofs.lemmas.List.Elements.{filter_passes}
 use Rattle.std.proofs.lemmas.List.Sorted.{All-permutation, IsPermutation-map}
 use Rattle.std.proofs.lemmas.List.Splits.{slice_split-cons_yes, slice_split-cons_no}
 use Rattle.memchr.specs.Find.{IsFirstByte, Nowhere, Passes, is_byte}
-use Rattle.census_folders.specs.Folders.{is_pattern_name}
-use Rattle.census_folders.specs.Shelves.{IsChosen, is_end, pattern_names_in}
+use Rattle.census_folders.specs.Listings.{IsChosen, is_end, pattern_names_in}
 
 -- # The first name
 
@@ -41,6 +40,9 @@ first_name text k found =
 
 -- # One more name
 
+abbrev pub words_of : List (Bor (List ℕ)) → List (List ℕ)
+words_of words = map (λ s. s.now) words
+
 abbrev pub bytes_of : List (Vec ℕ Global) → List (List ℕ)
 bytes_of names = map (λ name. name.items) names
 
@@ -63,10 +65,3 @@ all_names listing old new whole moved sorted = record {
   same = subst (λ names. IsPermutation names (bytes_of new)) (sym (append-nil (bytes_of old)) ∙ whole) (IsPermutation-map (λ name. name.items) old new moved);
   order = IsSorted-map (λ name. name.items) (slice_cmp nat_cmp) new sorted;
 }
-
--- each of the names ends in `.rle`
-pub chosen_kind : (listing : List ℕ) (names : List (Vec ℕ Global)) (i : ℕ) (name : Vec ℕ Global) (text : List ℕ) → IsChosen listing (bytes_of names) → i < length names → name ≡ get_or names i name → text ≡ name.items → is_pattern_name text ≡ true
-chosen_kind listing names i name text chosen within at is =
-    let all = All-permutation (λ n. is_pattern_name n ≡ true) (pattern_names_in listing) (bytes_of names) chosen.same (filter_passes is_pattern_name (slice_split is_end listing)) in
-    let item : get_or (bytes_of names) i text ≡ text = get_or-map (λ n. n.items) names i name text within ∙ sym (is ∙ ap (λ n. n.items) at) in
-    subst (λ n. is_pattern_name n ≡ true) item (all i text (omega (arith, length-map names (λ n. n.items))))

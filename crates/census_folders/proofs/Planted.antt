@@ -1,28 +1,38 @@
 -- The trees of the words so far, and the word at which they stop.
-use Rattle.std.proofs.Common.{◌≡◌, inr, ℕ, ◌+◌, ◌<◌, List, [], ◌++◌, length, take, get_or, Some, Bor, ap, ◌∙◌, arith}
+use Rattle.std.proofs.Common.{◌≡◌, ℕ, ◌+◌, ◌<◌, List, [], ◌++◌, length, take, get_or, Some, Bor, ap, ◌∙◌, arith}
 use Rattle.std.proofs.lemmas.Fn.{FoldsTo-push}
 use Rattle.std.proofs.lemmas.List.{get_or-map, length-map, map_more, take-map}
 use Rattle.std.proofs.lemmas.Option.{slice_get-get_or}
-use Rattle.census_folders.specs.declared.fault.FoldersFault.{FoldersFault}
+use Rattle.census_folders.specs.declared.fault.SourceFault.{SourceFault}
+use Rattle.census_folders.specs.declared.loss.Loss.{Loss}
+use Rattle.census_folders.specs.declared.loss.OnLoss.{OnLoss}
+use Rattle.census_folders.specs.Losses.{StopsAt}
 use Rattle.census_folders.specs.Tellings.{Tellings}
-use Rattle.census_folders.specs.Trees.{AddsTree, HoldsTrees, StopsTrees}
-use Rattle.census_folders.specs.Walks.{HoldsTree, StopsWalk}
-use Rattle.census_folders.proofs.Stops.{words_of}
+use Rattle.census_folders.specs.Trees.{AddsTree, HoldsTrees, LosesInTrees}
+use Rattle.census_folders.specs.Walks.{HoldsTree, LosesInTree}
+use Rattle.census_folders.proofs.Listings.{words_of}
+use Rattle.census_folders.proofs.Reaches.{weaker}
 
-pub next_tree : (shelf : Tellings) (words : List (Bor (List ℕ))) (i : ℕ) (d : Bor (List ℕ)) (mid tree new : List (List ℕ)) → i < length words
-    → HoldsTrees shelf (words_of (take i words)) mid → HoldsTree shelf (get_or words i d).now tree → new ≡ mid ++ tree → HoldsTrees shelf (words_of (take (i + 1) words)) new
-next_tree shelf words i d mid tree new within before holds added =
-    rw (map_more (λ s. s.now) words i d within) (FoldsTo-push (AddsTree shelf) [] (words_of (take i words)) mid (get_or words i d).now new before (record { tree = tree; holds = holds; added = added }))
+pub next_tree : (on_loss : OnLoss) (shelf : Tellings) (words : List (Bor (List ℕ))) (i : ℕ) (d : Bor (List ℕ)) (mid tree new : List (List ℕ)) (before after : List Loss) → i < length words
+    → HoldsTrees on_loss shelf (words_of (take i words)) mid before → HoldsTree on_loss shelf (get_or words i d).now tree before after → new ≡ mid ++ tree → HoldsTrees on_loss shelf (words_of (take (i + 1) words)) new after
+next_tree on_loss shelf words i d mid tree new before after within told holds added =
+    rw (map_more (λ s. s.now) words i d within) (FoldsTo-push (AddsTree on_loss shelf) (record { folders = []; lost = [] }) (words_of (take i words)) (record { folders = mid; lost = before }) (get_or words i d).now (record { folders = new; lost = after }) told (record { tree = tree; holds = holds; added = added }))
 
-pub stops_at_tree : (shelf : Tellings) (words : List (Bor (List ℕ))) (i : ℕ) (d : Bor (List ℕ)) (mid : List (List ℕ)) (fault : FoldersFault) → i < length words
-    → HoldsTrees shelf (words_of (take i words)) mid → StopsWalk shelf (get_or words i d).now fault → StopsTrees shelf (words_of words) fault
-stops_at_tree shelf words i d mid fault within before why =
+loses_at_tree : (on_loss : OnLoss) (shelf : Tellings) (words : List (Bor (List ℕ))) (i : ℕ) (d : Bor (List ℕ)) (mid : List (List ℕ)) (lost : List Loss) (loss : Loss) → i < length words
+    → HoldsTrees on_loss shelf (words_of (take i words)) mid lost → LosesInTree on_loss shelf (get_or words i d).now loss → LosesInTrees on_loss shelf (words_of words) loss
+loses_at_tree on_loss shelf words i d mid lost loss within before why =
     let word = (get_or words i d).now in
-    inr (record {
+    record {
       place = i;
       word = word;
       is = slice_get-get_or (words_of words) i word (omega (arith, length-map words (λ s. s.now))) ∙ ap (λ w. Some w) (get_or-map (λ s. s.now) words i d word within);
       folders = mid;
+      lost = lost;
       before = rw take-map before;
       why = why;
-    })
+    }
+
+pub stops_at_tree : (on_loss : OnLoss) (shelf : Tellings) (words : List (Bor (List ℕ))) (i : ℕ) (d : Bor (List ℕ)) (mid : List (List ℕ)) (lost : List Loss) (fault : SourceFault) → i < length words
+    → HoldsTrees on_loss shelf (words_of (take i words)) mid lost → StopsAt on_loss (LosesInTree on_loss shelf (get_or words i d).now) ⊥ fault → StopsAt on_loss (LosesInTrees on_loss shelf (words_of words)) ⊥ fault
+stops_at_tree on_loss shelf words i d mid lost fault within before why =
+    weaker on_loss (LosesInTree on_loss shelf (get_or words i d).now) (LosesInTrees on_loss shelf (words_of words)) fault (λ loss tree. loses_at_tree on_loss shelf words i d mid lost loss within before tree) why

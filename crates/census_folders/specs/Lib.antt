@@ -1,10 +1,10 @@
 pub mod Told
 pub mod Tellings
-pub mod Faults
-pub mod Folders
-pub mod Sums
-pub mod Shelves
-pub mod Walks
+pub mod Listings
+pub mod Paths
 pub mod Losses
-pub mod KeptWalks
+pub mod Sums
+pub mod Walks
 pub mod Trees
+pub mod Reading
+pub mod Sources

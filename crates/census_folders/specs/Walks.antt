@@ -1,103 +1,133 @@
 -- The folders at and below a folder.
-use Rattle.std.specs.Prelude.{◌≡◌, ◌⊎◌, ℕ, [], ◌∷◌, ◌++◌, Bool, List, IsUtf8, length, map, take, slice_get, Some, nat_eq, nat_le, codes, if◌then◌else◌}
-use Rattle.std.specs.List.{All, filter, ends_with, slice_split}
+use Rattle.std.specs.Prelude.{◌≡◌, ◌⊎◌, ℕ, [], ◌∷◌, ◌++◌, Bool, true, List, length, map, take, slice_get, Result, Ok, Err, Some, Vec}
+use Rattle.std.specs.Global.{Global}
+use Rattle.std.specs.List.{All, filter, flat_map}
 use Rattle.std.specs.List.Sorted.{IsPermutation}
-use Rattle.census_folders.specs.declared.fault.FoldersFault.{FoldersFault}
-use Rattle.census_folders.specs.declared.fault.FoldersFault.TheVariants.{Add, Read, TooLong, Memory}
-use Rattle.census_folders.specs.Folders.{AreInOrder}
-use Rattle.census_folders.specs.Shelves.{is_end, pattern_names_in}
+use Rattle.std.specs.Str.{is_utf8}
+use Rattle.census_folders.specs.declared.loss.Cause.TheVariants as cause
+use Rattle.census_folders.specs.declared.loss.Loss.{Loss}
+use Rattle.census_folders.specs.declared.loss.OnLoss.{OnLoss}
+use Rattle.census_folders.specs.declared.loss.OnLoss.TheVariants.{Stop, Keep}
+use Rattle.census_folders.specs.declared.unread.Unread.{Unread}
+use Rattle.census_folders.specs.Listings.{AreInOrder, pattern_names_in}
+use Rattle.census_folders.specs.Losses.{IsFirst, lost_at}
+use Rattle.census_folders.specs.Paths.{is_any, is_foreign, names_in, path_of}
 use Rattle.census_folders.specs.Tellings.{Tellings}
-use Rattle.census_folders.specs.Told.{Told, GivesTold, MayFail}
+use Rattle.census_folders.specs.Told.{Told, GivesTold, MayFail, silent}
 
--- a folder that was walked: its path, what it lists, and the names of the folders in it, each ended by a byte 0
+-- # One folder
+
+-- A folder that was walked: its path, what it lists, and the names of the folders in it, each ended by a byte 0; or why
+-- these can't be told.
 pub record Visit : Type 0 where
   pub path : List ℕ
-  pub listing : List ℕ
-  pub inner : List ℕ
+  pub listing : Result (List ℕ) Unread
+  pub inner : Result (List ℕ) Unread
 
--- the path of a name in a folder
-abbrev pub path_of : List ℕ → List ℕ → List ℕ
-path_of folder name = (if ends_with nat_eq folder (codes "/") then folder else folder ++ codes "/") ++ name
+-- the bytes of what was given
+abbrev pub names_given : Result (Vec ℕ Global) Unread → Result (List ℕ) Unread
+names_given (Ok bytes) = Ok bytes.items
+names_given (Err why) = Err why
 
--- a list has something
-abbrev pub is_any : {A : Type 0} → List A → Bool
-is_any xs = nat_le 1 (length xs)
+-- these are the names that are told; or they can't be told, and the walk goes on
+abbrev pub GivesNames : OnLoss → Told → Result (List ℕ) Unread → Type 0
+GivesNames on_loss told (Ok bytes) = GivesTold told bytes
+GivesNames on_loss told (Err why) = (on_loss ≡ Keep) × MayFail told why
 
--- the names that a byte 0 ends, of which none is empty
-abbrev pub names_in : List ℕ → List (List ℕ)
-names_in inner = filter is_any (slice_split is_end inner)
+-- the folder can't be listed, or lists a name that ends in `.rle`
+abbrev pub is_taken : Result (List ℕ) Unread → Bool
+is_taken (Ok listing) = is_any (pattern_names_in listing)
+is_taken (Err why) = true
 
--- the paths of the folders of these names in a folder
-abbrev pub paths_in : List ℕ → List ℕ → List (List ℕ)
-paths_in folder inner = map (path_of folder) (names_in inner)
+abbrev pub was_taken : Visit → Bool
+was_taken v = is_taken v.listing
 
--- the paths of the folders in those that were walked
-unfoldable pub paths_below : List Visit → List (List ℕ)
-paths_below [] = []
-paths_below (v ∷ visits) = paths_in v.path v.inner ++ paths_below visits
+-- the paths of the folders in a folder whose names are UTF-8
+abbrev pub inner_paths : List ℕ → Result (List ℕ) Unread → List (List ℕ)
+inner_paths path (Ok inner) = map (path_of path) (filter is_utf8 (names_in inner))
+inner_paths path (Err why) = []
+
+-- those of these names in a folder that are no UTF-8
+abbrev pub lost_names : List ℕ → List (List ℕ) → List Loss
+lost_names path names = map (λ name. lost_at (path_of path name) (cause.Unread silent)) (filter is_foreign names)
+
+-- What is lost in a folder: the folders in it whose names are no UTF-8; or the folder itself, where it can be listed and
+-- the folders in it can't be told.
+abbrev pub lost_in : Result (List ℕ) Unread → List ℕ → Result (List ℕ) Unread → List Loss
+lost_in listing path (Ok inner) = lost_names path (names_in inner)
+lost_in (Ok listing) path (Err why) = lost_at path (cause.Unread why) ∷ []
+lost_in (Err unlisted) path (Err why) = []
+
+-- where reading ends at the first loss there is none
+abbrev pub AreAllowed : OnLoss → List Loss → Type 0
+AreAllowed on_loss lost = on_loss ≡ Stop → lost ≡ []
+
+-- the folder lists this and has these folders in it, as the shelf tells
+pub record IsVisit (on_loss : OnLoss) (shelf : Tellings) (v : Visit) : Type 0 where
+  pub lists : GivesNames on_loss (shelf.listed v.path) v.listing
+  pub holds : GivesNames on_loss (shelf.inner v.path) v.inner
+  pub allowed : AreAllowed on_loss (lost_in v.listing v.path v.inner)
+
+-- the names of a folder of which this is told can't be told
+abbrev pub IsUnread : Told → List ℕ → Loss → Type 0
+IsUnread told path loss = (why : Unread) × MayFail told why × (loss ≡ lost_at path (cause.Unread why))
+
+-- this is the first of the folders in a folder whose name is no UTF-8
+abbrev pub IsFirstInner : List ℕ → Result (List ℕ) Unread → Loss → Type 0
+IsFirstInner path (Ok inner) loss = IsFirst (lost_names path (names_in inner)) loss
+IsFirstInner path (Err why) loss = ⊥
+
+-- the folders in a folder can't be told, or this is the first of them whose name is no UTF-8
+abbrev pub LosesInner : Told → List ℕ → Loss → Type 0
+LosesInner told path loss =
+    IsUnread told path loss ⊎ ((inner : List ℕ) × GivesTold told inner × IsFirst (lost_names path (names_in inner)) loss)
+
+-- what the walk loses first in a folder: it can't be listed; or it is listed, and the folders in it are not all told
+abbrev pub LosesVisit : Tellings → List ℕ → Loss → Type 0
+LosesVisit shelf path loss =
+    IsUnread (shelf.listed path) path loss
+    ⊎ ((listing : List ℕ) × GivesTold (shelf.listed path) listing × LosesInner (shelf.inner path) path loss)
+
+-- # Several folders
 
 abbrev pub paths : List Visit → List (List ℕ)
 paths visits = map (λ v. v.path) visits
 
--- the folder lists a name that ends in `.rle`
-abbrev pub has_patterns : Visit → Bool
-has_patterns v = is_any (pattern_names_in v.listing)
+-- the paths of the folders in those that were walked
+abbrev pub paths_below : List Visit → List (List ℕ)
+paths_below visits = flat_map (λ v. inner_paths v.path v.inner) visits
 
--- the folder lists this and has these folders in it, as the shelf tells
-pub record IsVisit (shelf : Tellings) (v : Visit) : Type 0 where
-  pub lists : GivesTold (shelf.listed v.path) v.listing
-  pub holds : GivesTold (shelf.inner v.path) v.inner
+-- what was lost in the folders that were walked
+abbrev pub lost_below : List Visit → List Loss
+lost_below visits = flat_map (λ v. lost_in v.listing v.path v.inner) visits
 
--- These are the first of the folder of the word and of the folders in those that were walked, in this order.
-pub record IsFolderWalk (shelf : Tellings) (word : List ℕ) (visits : List Visit) : Type 0 where
-  pub told : All (IsVisit shelf) visits
-  pub order : paths visits ≡ take (length visits) (word ∷ paths_below visits)
-
--- The folder of the word, and each folder in one that was walked, was walked. The folders are exactly those of them
--- that list a name that ends in `.rle`, in the order of their bytes.
-pub record HoldsTree (shelf : Tellings) (word : List ℕ) (folders : List (List ℕ)) : Type 0 where
+-- The folder of the word, and each folder that is told in one that was walked, was walked. The folders are exactly those
+-- of them that can't be listed or that list a name that ends in `.rle`, in the order of their paths' bytes. What was lost comes
+-- after what was lost before.
+pub record HoldsTree (on_loss : OnLoss) (shelf : Tellings) (word : List ℕ) (folders : List (List ℕ)) (before after : List Loss) : Type 0 where
   pub visits : List Visit
-  pub told : All (IsVisit shelf) visits
+  pub told : All (IsVisit on_loss shelf) visits
   pub whole : paths visits ≡ word ∷ paths_below visits
-  pub same : IsPermutation (paths (filter has_patterns visits)) folders
+  pub same : IsPermutation (paths (filter was_taken visits)) folders
   pub order : AreInOrder folders
+  pub losses : after ≡ before ++ lost_below visits
 
--- the name of a folder in this folder is no UTF-8
-pub record HasForeign (told : Told) : Type 0 where
-  pub inner : List ℕ
-  pub holds : GivesTold told inner
-  pub foreign : ¬ (All IsUtf8 (names_in inner))
-
--- why a folder is not walked
-abbrev pub StopsVisit : Tellings → List ℕ → FoldersFault → Type 0
-StopsVisit shelf path (Add fault) = ⊥
-StopsVisit shelf path Read = MayFail (shelf.listed path) ⊎ (MayFail (shelf.inner path) ⊎ HasForeign (shelf.inner path))
-StopsVisit shelf path TooLong = ⊥
-StopsVisit shelf path Memory = Unit {0}
-
--- the folders before this one were walked; this one was not
-pub record StopsAtVisit (shelf : Tellings) (word : List ℕ) (fault : FoldersFault) : Type 0 where
+-- The folders before this one were walked, and nothing was lost in them; in this one this is lost.
+pub record LosesInTree (on_loss : OnLoss) (shelf : Tellings) (word : List ℕ) (loss : Loss) : Type 0 where
   pub visits : List Visit
-  pub walk : IsFolderWalk shelf word visits
+  pub told : All (IsVisit on_loss shelf) visits
+  pub order : paths visits ≡ take (length visits) (word ∷ paths_below visits)
   pub path : List ℕ
   pub is : slice_get (word ∷ paths_below visits) (length visits) ≡ Some path
-  pub why : StopsVisit shelf path fault
+  pub why : LosesVisit shelf path loss
 
--- why the folders below a word are not told
-abbrev pub StopsWalk : Tellings → List ℕ → FoldersFault → Type 0
-StopsWalk shelf word fault = (fault ≡ Memory) ⊎ StopsAtVisit shelf word fault
+-- # Growing
 
--- why names of folders are not added
-abbrev pub StopsNames : List (List ℕ) → FoldersFault → Type 0
-StopsNames names (Add fault) = ⊥
-StopsNames names Read = ¬ (All IsUtf8 names)
-StopsNames names TooLong = ⊥
-StopsNames names Memory = Unit {0}
-
--- the folder was walked: its folders come after those that were found
-pub record AddsVisit (shelf : Tellings) (path : List ℕ) (old new : List (List ℕ)) (chosen : Bool) : Type 0 where
+-- the folder was walked: its folders come after those that were found, and what was lost in it after what was lost before
+pub record AddsVisit (on_loss : OnLoss) (shelf : Tellings) (path : List ℕ) (old new : List (List ℕ)) (before after : List Loss) (taken : Bool) : Type 0 where
   pub visit : Visit
   pub at : visit.path ≡ path
-  pub told : IsVisit shelf visit
-  pub added : new ≡ old ++ paths_in visit.path visit.inner
-  pub has : chosen ≡ has_patterns visit
+  pub told : IsVisit on_loss shelf visit
+  pub added : new ≡ old ++ inner_paths visit.path visit.inner
+  pub losses : after ≡ before ++ lost_in visit.listing visit.path visit.inner
+  pub has : taken ≡ is_taken visit.listing

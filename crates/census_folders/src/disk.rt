@@ -4,18 +4,18 @@
 ghost use Rattle.std.specs.Prelude.{◌≡◌, ◌↔◌, ◌<◌, ◌≤◌, length, vec_len, Err, IfErr, IfOk, IfSome, IsErr, IsTrue, MatchResult, OnErr};
 ghost use Rattle.std.specs.Fs.{IsFile, file_type};
 ghost use Rattle.std.specs.Path.{path_buf_bytes, path_join};
-ghost use Rattle.census_folders.specs.Told.{RefusesList, Unreadable, Untold};
-ghost use Rattle.watched.specs.declared.reading.ReadFault.{ReadFault};
+ghost use Rattle.census_folders.specs.Told.{RefusesList, Untold};
 
 use crate::listing::split_name;
 use crate::shelf::Shelf;
+use crate::unread::{ShelfFault, Unread};
 use std::alloc::Global;
 use std::fs::{Metadata, OpenFile};
 use std::io::{BufReader, ErrorKind, Read};
 use std::path::{Path, PathBuf};
 use std::rt::Files;
 use std::{fs, io};
-use watched::{ReadFault, Watched, read_all};
+use watched::{Watched, read_all};
 
 /// So many times the system is asked again where a signal interrupts it.
 const TRIES: u32 = 1_000;
@@ -34,12 +34,15 @@ fn answered<T: Drop, F: Fn() -> io::Result<T>>(ask: F) -> io::Result<T>
 }
 
 // Where the system is out of memory, so is the call.
-fn fault_of(error: io::Error) -> ReadFault
+fn fault_of(error: io::Error) -> ShelfFault
     ensures { RefusesList Untold result }
 {
     match error.kind() {
-        ErrorKind::OutOfMemory => ReadFault::Memory,
-        _ => ReadFault::Read,
+        ErrorKind::OutOfMemory => ShelfFault::Memory,
+        _ => ShelfFault::Unread(Unread {
+            code: error.raw_os_error(),
+            is_file: false,
+        }),
     }
 }
 
@@ -48,17 +51,17 @@ fn read_opened<F: Read + Drop>(
     alloc: Global,
     opened: io::Result<F>,
     limit: usize,
-) -> Result<Vec<u8>, ReadFault>
+) -> Result<Vec<u8>, ShelfFault>
     ensures within { IfOk result (λ bytes. vec_len bytes ≤ limit) }
     ensures whole { IfOk opened
         (λ file. IfOk result (λ bytes. IfSome (F.remaining file) (λ all. bytes.items ≡ all))) }
     ensures too_long { IfOk opened
-        (λ file. result ≡ Err ReadFault.TooLong →
+        (λ file. result ≡ Err ShelfFault.TooLong →
         IfSome (F.remaining file) (λ all. limit < length all)) }
-    ensures unopened { OnErr opened (IfErr result (RefusesList Unreadable) × IsErr result) }
+    ensures unopened { OnErr opened (IfErr result (RefusesList Untold) × IsErr result) }
 {
     match opened {
-        Ok(file) => read_all(alloc, &mut Watched::new(file), limit),
+        Ok(file) => Ok(read_all(alloc, &mut Watched::new(file), limit)?),
         Err(error) => Err(fault_of(error)),
     }
 }
@@ -76,7 +79,7 @@ fn list_opened<F: Read + Drop>(alloc: Global, opened: io::Result<F>) -> io::Resu
 }
 
 // Whether what was found is a regular file.
-fn is_regular(found: io::Result<Metadata>) -> Result<bool, ReadFault>
+fn is_regular(found: io::Result<Metadata>) -> Result<bool, ShelfFault>
     ensures found { IfOk found
         (λ metadata. MatchResult result (λ yes. IsTrue yes ↔ IsFile (file_type metadata))
         (λ _. ⊥)) }
@@ -90,12 +93,12 @@ fn is_regular(found: io::Result<Metadata>) -> Result<bool, ReadFault>
 }
 
 // The path of a name in a folder. The system's paths are UTF-8, so that no other name has one.
-fn path_in(alloc: Global, folder: &str, name: &[u8]) -> Result<PathBuf, ReadFault>
+fn path_in(alloc: Global, folder: &str, name: &[u8]) -> Result<PathBuf, ShelfFault>
     ensures path { IfOk result (λ path. path_buf_bytes path ≡ path_join folder.now name.now) }
     ensures fault { IfErr result (RefusesList Untold) }
 {
     let Ok(name) = str::from_utf8(name) else {
-        return Err(ReadFault::Read);
+        return Err(ShelfFault::Unread(Unread::silent()));
     };
     Ok(Path::new(folder).join(alloc, name)?)
 }
@@ -118,7 +121,7 @@ fn is_folder<R: Files>(
     alloc: Global,
     folder: &str,
     name: &[u8],
-) -> Result<bool, ReadFault>
+) -> Result<bool, ShelfFault>
     ensures fault { IfErr result (RefusesList Untold) }
 {
     if str::from_utf8(name).is_err() {
@@ -150,30 +153,38 @@ fn names_at<R: Files>(files: &R, alloc: Global, path: Path) -> io::Result<Vec<u8
     Ok(names)
 }
 
-// What the system says of an error.
-fn words_of(alloc: Global, error: &io::Error) -> Option<Vec<u8>> {
-    match format!(in alloc; "{error}") {
-        Ok(words) => words.as_bytes().to_vec(alloc).ok(),
-        Err(_) => None,
+// Why a folder of this path can't be listed, by the error. Where something stands there that is no folder, the system says no
+// more of it; it may be a file.
+fn unlisted<R: Files>(files: &R, alloc: Global, folder: &str, error: io::Error) -> ShelfFault
+    ensures { RefusesList Untold result }
+{
+    if error.kind() != ErrorKind::NotADirectory {
+        return fault_of(error);
     }
-}
-
-// What the system says where this is opened.
-fn words_at_opening<F: Drop>(alloc: Global, opened: io::Result<F>) -> Option<Vec<u8>> {
-    match opened {
-        Ok(_) => None,
-        Err(error) => words_of(alloc, &error),
+    let path = match path_in(alloc, "", folder.as_bytes()) {
+        Ok(path) => path,
+        Err(fault) => return fault,
+    };
+    match answered(|| fs::metadata(files, path.as_path())) {
+        Ok(found) => ShelfFault::Unread(Unread {
+            code: None,
+            is_file: found.is_file(),
+        }),
+        Err(error) => fault_of(error),
     }
 }
 
 impl<R: Files> Shelf for R {
-    fn list(&self, alloc: Global, folder: &str) -> Result<Vec<u8>, ReadFault> {
+    fn list(&self, alloc: Global, folder: &str) -> Result<Vec<u8>, ShelfFault> {
         // A path that ends in a slash is that of a folder, also after a link.
         let path = path_in(alloc, folder, b"")?;
-        names_at(self, alloc, path.as_path()).map_err(fault_of)
+        match names_at(self, alloc, path.as_path()) {
+            Ok(names) => Ok(names),
+            Err(error) => Err(unlisted(self, alloc, folder, error)),
+        }
     }
 
-    fn list_folders(&self, alloc: Global, folder: &str) -> Result<Vec<u8>, ReadFault> {
+    fn list_folders(&self, alloc: Global, folder: &str) -> Result<Vec<u8>, ShelfFault> {
         let listing = self.list(alloc, folder)?;
         let mut folders = Vec::new(alloc);
         let mut left = Some(listing.as_slice());
@@ -188,7 +199,7 @@ impl<R: Files> Shelf for R {
         Ok(folders)
     }
 
-    fn is_file(&self, alloc: Global, folder: &str, name: &[u8]) -> Result<bool, ReadFault> {
+    fn is_file(&self, alloc: Global, folder: &str, name: &[u8]) -> Result<bool, ShelfFault> {
         let path = path_in(alloc, folder, name)?;
         is_regular(answered(|| fs::metadata(self, path.as_path())))
     }
@@ -199,22 +210,8 @@ impl<R: Files> Shelf for R {
         folder: &str,
         name: &[u8],
         limit: usize,
-    ) -> Result<Vec<u8>, ReadFault> {
+    ) -> Result<Vec<u8>, ShelfFault> {
         let path = path_in(alloc, folder, name)?;
         read_opened(alloc, regular_file(fs::open(self, path)), limit)
-    }
-
-    fn word(&self, alloc: Global, path: &[u8]) -> Option<Vec<u8>> {
-        let Ok(path) = path_in(alloc, "", path) else {
-            return None;
-        };
-        match answered(|| fs::metadata(self, path.as_path())) {
-            Err(error) => words_of(alloc, &error),
-            Ok(found) if found.is_file() => words_at_opening(alloc, fs::open(self, path)),
-            Ok(found) if found.is_dir() => {
-                words_at_opening(alloc, answered(|| self.open_dir(path.as_str())))
-            }
-            Ok(_) => None,
-        }
     }
 }

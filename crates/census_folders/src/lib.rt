@@ -6,20 +6,21 @@
 mod disk;
 mod fault;
 mod files;
-mod keeping;
 mod listing;
 mod loss;
 mod reading;
 mod shelf;
+mod source;
 mod sums;
 mod trees;
+mod unread;
 mod walking;
-mod walking_on;
 
-pub use fault::FoldersFault;
-pub use keeping::{Kept, read_folders_on};
-pub use loss::{Loss, Losses, last_place, path_of};
-pub use reading::read_folders;
+pub use fault::SourceFault;
+pub use loss::{Cause, Loss, Losses, OnLoss};
+pub use reading::Kept;
 pub use shelf::Shelf;
-pub use trees::{Trees, folders_below_each, folders_below_each_on};
-pub use walking::folders_below;
+pub use source::{
+    Source, borrowed_words, nothing_is_lost_where_reading_ends_at_the_first_loss, read_source,
+};
+pub use unread::{ShelfFault, Unread};

@@ -2,8 +2,7 @@
 ghost use Rattle.std.specs.Prelude.{◌≡◌, ◌∷◌, ◌<◌, [], length, map, IfOk, IfSome};
 ghost use Rattle.std.specs.List.{slice_split};
 ghost use Rattle.std.specs.Option.{option_map_or};
-ghost use Rattle.census_folders.specs.Folders.{is_pattern_name};
-ghost use Rattle.census_folders.specs.Shelves.{IsChosen, is_end};
+ghost use Rattle.census_folders.specs.Listings.{IsChosen, is_end, is_pattern_name};
 
 use memchr::memchr;
 use std::alloc::{AllocError, Global};

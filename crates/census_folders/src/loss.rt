@@ -1,18 +1,40 @@
-//! What was lost while folders were read.
-ghost use Rattle.std.specs.Prelude.{◌≡◌, IfErr, IfOk, length, vec_len};
-ghost use Rattle.census_bundle.specs.Growing.{last_entries};
-ghost use Rattle.census_folders.specs.Losses.{last_place};
-ghost use Rattle.census_folders.specs.Walks.{path_of};
+//! What is lost while folders are read.
+ghost use Rattle.std.specs.Prelude.{◌≡◌, IfOk, MatchResult, length, vec_len};
+ghost use Rattle.census_folders.specs.Losses.{Loses, StopsAt, last_place, lost_at};
+ghost use Rattle.census_folders.specs.Paths.{path_of};
 
+use crate::fault::SourceFault;
+use crate::unread::Unread;
 use census_bundle::{Bundle, Text, Ticket};
 use std::alloc::{AllocError, Global};
 use std::marker::Model;
+
+/// Why something is lost.
+#[derive(Clone, Copy, Debug, PartialEq, Eq, Drop)]
+pub enum Cause {
+    /// The name of a folder or of a file isn't lawful.
+    BadName,
+    /// A folder can't be listed, or a file can't be read.
+    Unread(Unread),
+    /// A file has more bytes than it may have.
+    TooLong,
+}
+
+/// What reading does where something is lost.
+#[derive(Clone, Copy, Debug, PartialEq, Eq, Drop)]
+pub enum OnLoss {
+    /// It ends there.
+    Stop,
+    /// It goes on.
+    Keep,
+}
 
 /// A folder that can't be listed, a file that can't be read, or a name that isn't lawful.
 #[derive(Drop)]
 pub struct Loss {
     /// The word of a folder, or the path of a file: the folder's word, a slash where it ends in none, and the name.
     pub path: Text,
+    pub cause: Cause,
     /// The entry of a file that can't be read, which has no text.
     pub entry: Option<Ticket>,
 }
@@ -49,13 +71,14 @@ impl Losses {
         &mut self,
         alloc: Global,
         path: &[u8],
+        cause: Cause,
         entry: Option<Ticket>,
     ) -> Result<(), AllocError>
-        ensures { OnOk result
-            (self.new ≡ self.old ++ record { path = path.now; entry = entry } ∷ []) }
+        ensures { OnOk result (self.new ≡
+            self.old ++ record { path = path.now; cause = cause; entry = entry } ∷ []) }
     {
         let path = Text::of(alloc, path)?;
-        self.items.push(Loss { path, entry })?;
+        self.items.push(Loss { path, cause, entry })?;
         Ok(())
     }
 
@@ -64,6 +87,38 @@ impl Losses {
         ensures { result.now ≡ self.now }
     {
         self.items.as_slice()
+    }
+}
+
+// Reading ends at the loss of what has this path, which is told where there is memory for it.
+pub fn stop_at(alloc: Global, path: &[u8], cause: Cause) -> SourceFault
+    ensures { StopsAt OnLoss.Stop (λ loss. loss ≡ lost_at path.now cause) ⊥ result }
+{
+    match Text::of(alloc, path) {
+        Ok(path) => SourceFault::Lost(Loss {
+            path,
+            cause,
+            entry: None,
+        }),
+        Err(_) => SourceFault::Unnamed(cause),
+    }
+}
+
+// Loses what has this path: reading ends there, or it is one more loss.
+pub fn lose(
+    alloc: Global,
+    on_loss: OnLoss,
+    lost: &mut Losses,
+    path: &[u8],
+    cause: Cause,
+) -> Result<(), SourceFault>
+    ensures { MatchResult result
+        (λ _. Loses on_loss (lost_at path.now cause) lost.old lost.new)
+        (StopsAt on_loss (λ loss. loss ≡ lost_at path.now cause) ⊥) }
+{
+    match on_loss {
+        OnLoss::Stop => Err(stop_at(alloc, path, cause)),
+        OnLoss::Keep => Ok(lost.add(alloc, path, cause, None)?),
     }
 }
 
@@ -78,6 +133,26 @@ pub fn path_of(alloc: Global, folder: &str, name: &[u8]) -> Result<Vec<u8>, Allo
     }
     path.extend_from_slice(name)?;
     Ok(path)
+}
+
+// Loses what has this name in a folder: reading ends there, or it is one more loss.
+pub fn lose_name(
+    alloc: Global,
+    on_loss: OnLoss,
+    lost: &mut Losses,
+    folder: &str,
+    name: &[u8],
+    cause: Cause,
+) -> Result<(), SourceFault>
+    ensures { MatchResult result
+        (λ _. Loses on_loss (lost_at (path_of folder.now name.now) cause) lost.old lost.new)
+        (StopsAt on_loss (λ loss. loss ≡ lost_at (path_of folder.now name.now) cause) ⊥) }
+{
+    match (path_of(alloc, folder, name), on_loss) {
+        (Ok(path), _) => lose(alloc, on_loss, lost, path.as_slice(), cause),
+        (Err(_), OnLoss::Stop) => Err(SourceFault::Unnamed(cause)),
+        (Err(_), OnLoss::Keep) => Err(SourceFault::Memory),
+    }
 }
 
 // The place of the last entry of the last folder.

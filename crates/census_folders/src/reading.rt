@@ -1,72 +1,109 @@
 //! Reading folders of pattern files.
-ghost use Rattle.std.specs.Prelude.{length, map, IfOk, MatchResult};
-ghost use Rattle.census_folders.specs.Faults.{StopsAtWord};
-ghost use Rattle.census_folders.specs.Folders.{HoldsFolders};
-ghost use Rattle.census_folders.specs.Shelves.{AddsFolderOf, HoldsShelf, StopsAtShelf, StopsFolderOf};
-ghost use Rattle.census_folders.specs.Sums.{Fits, bytes_of_all};
+ghost use Rattle.std.specs.Prelude.{◌≡◌, ◌<◌, length, map, MatchResult};
+ghost use Rattle.std.specs.List.{FoldsTo};
+ghost use Rattle.census_folders.specs.Reading.{FillsFolder, KeepsFolder, StopsFilling, StopsFolder, StopsInFolders, kept_at_start};
 
-use crate::fault::FoldersFault;
+use crate::fault::SourceFault;
 use crate::files::add_file;
 use crate::listing::pattern_names;
+use crate::loss::{Cause, Losses, OnLoss, lose};
 use crate::shelf::Shelf;
-use census_bundle::Bundle;
+use crate::unread::ShelfFault;
+use census_bundle::{AddFault, Bundle};
 use std::alloc::Global;
+
+/// Folders that were read, and what was lost.
+#[derive(Drop)]
+pub struct Kept {
+    pub bundle: Bundle,
+    pub lost: Losses,
+    /// How many bytes might still be read, where there is a limit.
+    pub left: Option<u64>,
+}
+
+// Adds the pattern files of a folder to the last folder, which has its name.
+fn fill_folder<S: Shelf>(
+    shelf: &S,
+    alloc: Global,
+    on_loss: OnLoss,
+    kept: &mut Kept,
+    word: &str,
+) -> Result<(), SourceFault>
+    requires { 0 < length kept.old.bundle }
+    ensures { MatchResult result
+        (λ _. FillsFolder on_loss (S.tellings shelf.now) word.now kept.old kept.new)
+        (StopsFilling on_loss (S.tellings shelf.now) word.now kept.old) }
+{
+    let listing = match shelf.list(alloc, word) {
+        Ok(listing) => listing,
+        Err(ShelfFault::Unread(why)) => {
+            return lose(
+                alloc,
+                on_loss,
+                &mut kept.lost,
+                word.as_bytes(),
+                Cause::Unread(why),
+            );
+        }
+        Err(_) => return Err(SourceFault::Memory),
+    };
+    let names = pattern_names(alloc, listing.as_slice())?;
+    for name in &names {
+        add_file(shelf, alloc, on_loss, kept, word, name.as_slice())?;
+    }
+    Ok(())
+}
 
 // Adds the folder of a word with its pattern files.
 fn add_folder<S: Shelf>(
     shelf: &S,
     alloc: Global,
-    bundle: &mut Bundle,
-    left: &mut Option<u64>,
+    on_loss: OnLoss,
+    kept: &mut Kept,
     word: &str,
-) -> Result<(), FoldersFault>
+) -> Result<(), SourceFault>
     ensures { MatchResult result
-        (λ _. AddsFolderOf (S.tellings shelf.now) word.now left.old left.new
-        bundle.old bundle.new)
-        (StopsFolderOf (S.tellings shelf.now) left.old (length bundle.old)
-        word.now) }
+        (λ _. KeepsFolder on_loss (S.tellings shelf.now) kept.old word.now kept.new)
+        (StopsFolder on_loss (S.tellings shelf.now) word.now kept.old) }
 {
-    bundle.add_folder(word.as_bytes())?;
-    let listing = shelf.list(alloc, word)?;
-    let names = pattern_names(alloc, listing.as_slice())?;
-    for name in &names {
-        add_file(shelf, alloc, bundle, left, word, name.as_slice())?;
+    match kept.bundle.add_folder(word.as_bytes()) {
+        Ok(()) => fill_folder(shelf, alloc, on_loss, kept, word),
+        Err(AddFault::BadName) => {
+            lose(
+                alloc,
+                on_loss,
+                &mut kept.lost,
+                word.as_bytes(),
+                Cause::BadName,
+            )
+        }
+        Err(AddFault::Memory) => Err(SourceFault::Memory),
+        Err(_) => Err(SourceFault::TooMany),
     }
-    Ok(())
 }
 
-/// Reads the folders of these words into a bundle, of whose texts all bytes together may be no more than the limit, where
-/// there is one: for each word, in their order, one folder of that name. Its entries
-/// are the files in the folder whose names end in `.rle`, under their names and in the order of the bytes of these.
-///
-/// The first failure decides. A word that isn't a lawful name is refused before its folder is listed, and so is word
-/// number 65,536; a folder is listed before its first file is read, and a file is read before its name or its number is
-/// refused. `Read` is answered where a folder can't be listed or a file can't be read, as one that is no regular file,
-/// which is not opened. `TooLong` is answered where a file has more than 67,108,864 bytes, or, where there is a limit, where
-/// the texts of the files up to this one have more bytes than it; no more bytes of a file are read than that tells.
-/// `Memory` is answered where a growth was refused.
-///
-/// What a folder lists and what its files hold is the shelf's word. Where it tells them, the entries are exactly the
-/// names that it lists, each with the bytes of that file of that folder, and a fault is one of those that it tells. A
-/// disk tells nothing.
+// Reads the folders of these words into a bundle, after this was lost on the way to them.
 pub fn read_folders<S: Shelf>(
     shelf: &S,
     alloc: Global,
+    on_loss: OnLoss,
     folders: &[&str],
     limit: Option<u64>,
-) -> Result<Bundle, FoldersFault>
-    ensures folders { MatchResult result (HoldsFolders (map (λ s. s.now) folders.now))
-        (StopsAtWord (map (λ s. s.now) folders.now)) }
-    ensures told { MatchResult result
-        (HoldsShelf (S.tellings shelf.now) (map (λ s. s.now) folders.now))
-        (StopsAtShelf (S.tellings shelf.now) limit
+    way: Losses,
+) -> Result<Kept, SourceFault>
+    ensures { MatchResult result
+        (FoldsTo (KeepsFolder on_loss (S.tellings shelf.now)) (kept_at_start limit way)
+        (map (λ s. s.now) folders.now))
+        (StopsInFolders on_loss (S.tellings shelf.now) (kept_at_start limit way)
         (map (λ s. s.now) folders.now)) }
-    ensures within { IfOk result (λ bundle. Fits limit (bytes_of_all bundle)) }
 {
-    let mut bundle = Bundle::empty(alloc);
-    let mut left = limit;
+    let mut kept = Kept {
+        bundle: Bundle::empty(alloc),
+        lost: way,
+        left: limit,
+    };
     for word in folders {
-        add_folder(shelf, alloc, &mut bundle, &mut left, word)?;
+        add_folder(shelf, alloc, on_loss, &mut kept, word)?;
     }
-    Ok(bundle)
+    Ok(kept)
 }

@@ -1,10 +1,10 @@
 //! What folders are read from.
 ghost use Rattle.std.specs.Prelude.{◌≡◌, ◌≤◌, ℕ, Bool, true, false, List, Ok, IfOk, IfErr, vec_len};
 ghost use Rattle.census_folders.specs.Tellings.{Tellings, tells_nothing};
-ghost use Rattle.census_folders.specs.Told.{GivesTold, MayFail, RefusesFile, RefusesList};
+ghost use Rattle.census_folders.specs.Told.{GivesTold, MayFail, RefusesFile, RefusesList, silent};
 
+use crate::unread::ShelfFault;
 use std::alloc::Global;
-use watched::ReadFault;
 
 /// A shelf of folders, each with files. It may tell what stands on it: of a folder its names, of a file of a folder its
 /// bytes, or that it can't be read. A disk tells nothing.
@@ -18,22 +18,22 @@ pub trait Shelf {
     ghost may_open: { Self → List ℕ → List ℕ → Bool } = { λ _ _ _. true };
 
     /// The names in a folder, each ended by a byte 0.
-    fn list(&self, alloc: Global, folder: &str) -> Result<Vec<u8>, ReadFault>
+    fn list(&self, alloc: Global, folder: &str) -> Result<Vec<u8>, ShelfFault>
         ensures told { IfOk result
             (λ bytes. GivesTold ((tellings self.now).listed folder.now) bytes.items) }
         ensures fault { IfErr result (RefusesList ((tellings self.now).listed folder.now)) };
 
     /// The names of the folders in a folder, each ended by a byte 0. Links to folders are left out. A name that may be that of
     /// a folder, since the shelf can't look at it, may be among them.
-    fn list_folders(&self, alloc: Global, folder: &str) -> Result<Vec<u8>, ReadFault>
+    fn list_folders(&self, alloc: Global, folder: &str) -> Result<Vec<u8>, ShelfFault>
         ensures told { IfOk result
             (λ bytes. GivesTold ((tellings self.now).inner folder.now) bytes.items) }
         ensures fault { IfErr result (RefusesList ((tellings self.now).inner folder.now)) };
 
     /// Whether a name in a folder is that of a regular file, or of a link to one. Nothing is opened.
-    fn is_file(&self, alloc: Global, folder: &str, name: &[u8]) -> Result<bool, ReadFault>
+    fn is_file(&self, alloc: Global, folder: &str, name: &[u8]) -> Result<bool, ShelfFault>
         ensures yes { result ≡ Ok true → may_open self.now folder.now name.now ≡ true }
-        ensures no { result ≡ Ok false → MayFail ((tellings self.now).held folder.now name.now) }
+        ensures no { result ≡ Ok false → MayFail ((tellings self.now).held folder.now name.now) silent }
         ensures fault { IfErr result (RefusesList ((tellings self.now).held folder.now name.now)) };
 
     /// The bytes of a file in a folder, of which there may be at most `limit`.
@@ -43,17 +43,11 @@ pub trait Shelf {
         folder: &str,
         name: &[u8],
         limit: usize,
-    ) -> Result<Vec<u8>, ReadFault>
+    ) -> Result<Vec<u8>, ShelfFault>
         requires { may_open self.now folder.now name.now ≡ true }
         ensures within { IfOk result (λ bytes. vec_len bytes ≤ limit) }
         ensures told { IfOk result
             (λ bytes. GivesTold ((tellings self.now).held folder.now name.now) bytes.items) }
         ensures fault { IfErr result
             (RefusesFile limit ((tellings self.now).held folder.now name.now)) };
-
-    /// What the system says of why the folder or the file of this path can't be read, where it says anything. Nothing is
-    /// opened that isn't a folder or a regular file.
-    fn word(&self, _alloc: Global, _path: &[u8]) -> Option<Vec<u8>> {
-        None
-    }
 }

@@ -1,14 +1,21 @@
 //! The folders at and below a folder.
-ghost use Rattle.std.specs.Prelude.{◌≡◌, ◌++◌, ◌∷◌, [], Ok, OnOk, IfErr, IfOk, MatchResult, map, string_bytes};
-ghost use Rattle.census_folders.specs.Walks.{AddsVisit, HoldsTree, StopsNames, StopsVisit, StopsWalk, is_any, names_in, path_of, paths_in};
+ghost use Rattle.std.specs.Prelude.{◌≡◌, ◌++◌, ◌∷◌, [], Err, OnOk, IfErr, IfOk, IsErr, MatchResult, map, string_bytes};
+ghost use Rattle.std.specs.List.{filter};
+ghost use Rattle.std.specs.Str.{is_utf8};
+ghost use Rattle.census_folders.specs.Losses.{IsFirst, StopsAt, lost_at};
+ghost use Rattle.census_folders.specs.Paths.{is_any, names_in, path_of};
+ghost use Rattle.census_folders.specs.Walks.{AddsVisit, AreAllowed, GivesNames, HoldsTree, IsFirstInner, IsUnread};
+ghost use Rattle.census_folders.specs.Walks.{LosesInTree, LosesVisit, inner_paths, is_taken, lost_in, lost_names, names_given};
 
-use crate::fault::FoldersFault;
+use crate::fault::SourceFault;
 use crate::listing::{pattern_names, split_name};
+use crate::loss::{Cause, Losses, OnLoss, lose_name, stop_at};
 use crate::shelf::Shelf;
+use crate::unread::{ShelfFault, Unread};
 use std::alloc::{AllocError, Global};
 
 // The path of a name in a folder.
-pub(crate) fn path_in(alloc: Global, folder: &str, name: &str) -> Result<String, AllocError>
+fn path_in(alloc: Global, folder: &str, name: &str) -> Result<String, AllocError>
     ensures { IfOk result (λ path. string_bytes path ≡ path_of folder.now name.now) }
 {
     let mut path = String::from_str(alloc, folder)?;
@@ -19,83 +26,212 @@ pub(crate) fn path_in(alloc: Global, folder: &str, name: &str) -> Result<String,
     Ok(path)
 }
 
-// The path of a folder in a folder. Paths are UTF-8, so that no other name has one.
-fn inner_path(alloc: Global, folder: &str, name: &[u8]) -> Result<String, FoldersFault>
-    ensures { MatchResult result
-        (λ path. string_bytes path ≡ path_of folder.now name.now)
-        (StopsNames (name.now ∷ [])) }
-{
-    let Ok(name) = str::from_utf8(name) else {
-        return Err(FoldersFault::Read);
-    };
-    Ok(path_in(alloc, folder, name)?)
-}
-
 // Whether a name is not empty.
-pub(crate) fn is_any(name: &[u8]) -> bool
+fn is_any(name: &[u8]) -> bool
     ensures { result ≡ is_any name.now }
 {
     name.len() >= 1
 }
 
-// Adds the paths of these folders of a folder to those that were found. A byte 0 ends each name.
-fn add_inner(
+// Adds the path of a folder of a folder to those that were found. It is lost where its name is no UTF-8, since paths are.
+fn add_name(
     alloc: Global,
+    on_loss: OnLoss,
     found: &mut Vec<String>,
+    lost: &mut Losses,
     folder: &str,
-    folders: &[u8],
-) -> Result<(), FoldersFault>
+    name: &[u8],
+) -> Result<(), SourceFault>
     ensures added { OnOk result
         (map string_bytes found.new.items ≡
-        map string_bytes found.old.items ++ paths_in folder.now folders.now) }
-    ensures fault { IfErr result (StopsNames (names_in folders.now)) }
+        map string_bytes found.old.items ++
+        map (path_of folder.now) (filter is_utf8 (name.now ∷ []))) }
+    ensures told { OnOk result
+        (lost.new ≡ lost.old ++ lost_names folder.now (name.now ∷ [])) }
+    ensures allowed { OnOk result (AreAllowed on_loss (lost_names folder.now (name.now ∷ []))) }
+    ensures fault { IfErr result
+        (StopsAt on_loss (IsFirst (lost_names folder.now (name.now ∷ []))) ⊥) }
+{
+    match str::from_utf8(name) {
+        Ok(name) => {
+            found.push(path_in(alloc, folder, name)?)?;
+            Ok(())
+        }
+        Err(_) => {
+            let cause = Cause::Unread(Unread::silent());
+            lose_name(alloc, on_loss, lost, folder, name, cause)?;
+            Ok(())
+        }
+    }
+}
+
+// Adds the paths of these folders of a folder to those that were found. A byte 0 ends each name.
+fn add_names(
+    alloc: Global,
+    on_loss: OnLoss,
+    found: &mut Vec<String>,
+    lost: &mut Losses,
+    folder: &str,
+    folders: &[u8],
+) -> Result<(), SourceFault>
+    ensures added { OnOk result
+        (map string_bytes found.new.items ≡
+        map string_bytes found.old.items ++
+        map (path_of folder.now) (filter is_utf8 (names_in folders.now))) }
+    ensures told { OnOk result
+        (lost.new ≡ lost.old ++ lost_names folder.now (names_in folders.now)) }
+    ensures allowed { OnOk result
+        (AreAllowed on_loss (lost_names folder.now (names_in folders.now))) }
+    ensures fault { IfErr result
+        (StopsAt on_loss (IsFirst (lost_names folder.now (names_in folders.now))) ⊥) }
 {
     let mut left = Some(folders);
     while let Some(rest) = left {
         let (name, behind) = split_name(rest);
         if is_any(name) {
-            found.push(inner_path(alloc, folder, name)?)?;
+            add_name(alloc, on_loss, found, lost, folder, name)?;
         }
         left = behind;
     }
     Ok(())
 }
 
-// Adds the folders of a folder to those that were found. Whether the folder lists a name that ends in `.rle`.
+// Ends the walk at a folder that can't be told, or goes on without it.
+fn pass(
+    alloc: Global,
+    on_loss: OnLoss,
+    folder: &str,
+    why: Unread,
+) -> Result<Result<Vec<u8>, Unread>, SourceFault>
+    ensures { MatchResult result
+        (λ names. (on_loss ≡ OnLoss.Keep) × (names ≡ Err why))
+        (StopsAt on_loss (λ loss. loss ≡ lost_at folder.now (Cause.Unread why)) ⊥) }
+{
+    match on_loss {
+        OnLoss::Stop => Err(stop_at(alloc, folder.as_bytes(), Cause::Unread(why))),
+        OnLoss::Keep => Ok(Err(why)),
+    }
+}
+
+// What a folder lists. Where it can't be listed, the walk ends there, or goes on.
+fn list_in<S: Shelf>(
+    shelf: &S,
+    alloc: Global,
+    on_loss: OnLoss,
+    folder: &str,
+) -> Result<Result<Vec<u8>, Unread>, SourceFault>
+    ensures { MatchResult result
+        (λ names. GivesNames on_loss ((S.tellings shelf.now).listed folder.now)
+        (names_given names))
+        (StopsAt on_loss (IsUnread ((S.tellings shelf.now).listed folder.now) folder.now) ⊥) }
+{
+    match shelf.list(alloc, folder) {
+        Ok(listing) => Ok(Ok(listing)),
+        Err(ShelfFault::Unread(why)) => pass(alloc, on_loss, folder, why),
+        Err(_) => Err(SourceFault::Memory),
+    }
+}
+
+// The names of the folders in a folder. Where they can't be told, the walk ends there, or goes on.
+fn list_folders_in<S: Shelf>(
+    shelf: &S,
+    alloc: Global,
+    on_loss: OnLoss,
+    folder: &str,
+) -> Result<Result<Vec<u8>, Unread>, SourceFault>
+    ensures { MatchResult result
+        (λ names. GivesNames on_loss ((S.tellings shelf.now).inner folder.now)
+        (names_given names))
+        (StopsAt on_loss (IsUnread ((S.tellings shelf.now).inner folder.now) folder.now) ⊥) }
+{
+    match shelf.list_folders(alloc, folder) {
+        Ok(folders) => Ok(Ok(folders)),
+        Err(ShelfFault::Unread(why)) => pass(alloc, on_loss, folder, why),
+        Err(_) => Err(SourceFault::Memory),
+    }
+}
+
+// Whether a folder is taken that lists this: it can't be listed, or lists a name that ends in `.rle`.
+fn is_taken(alloc: Global, listing: &Result<Vec<u8>, Unread>) -> Result<bool, AllocError>
+    ensures { IfOk result (λ taken. taken ≡ is_taken (names_given listing.now)) }
+{
+    match listing {
+        Ok(listing) => {
+            let names = pattern_names(alloc, listing.as_slice())?;
+            Ok(names.len() >= 1)
+        }
+        Err(_) => Ok(true),
+    }
+}
+
+// Adds the folders of a folder that lists this to those that were found. Where they can't be told, and the walk goes on, the
+// folder is lost, unless it can't be listed either.
+fn add_folders(
+    alloc: Global,
+    on_loss: OnLoss,
+    found: &mut Vec<String>,
+    lost: &mut Losses,
+    folder: &str,
+    listing: &Result<Vec<u8>, Unread>,
+    folders: &Result<Vec<u8>, Unread>,
+) -> Result<(), SourceFault>
+    requires { IsErr folders.now → on_loss ≡ OnLoss.Keep }
+    ensures added { OnOk result
+        (map string_bytes found.new.items ≡
+        map string_bytes found.old.items ++ inner_paths folder.now (names_given folders.now)) }
+    ensures told { OnOk result
+        (lost.new ≡
+        lost.old ++ lost_in (names_given listing.now) folder.now (names_given folders.now)) }
+    ensures allowed { OnOk result
+        (AreAllowed on_loss
+        (lost_in (names_given listing.now) folder.now (names_given folders.now))) }
+    ensures fault { IfErr result
+        (StopsAt on_loss (IsFirstInner folder.now (names_given folders.now)) ⊥) }
+{
+    match (listing, folders) {
+        (_, Ok(folders)) => { add_names(alloc, on_loss, found, lost, folder, folders.as_slice()) }
+        (Ok(_), Err(why)) => Ok(lost.add(alloc, folder.as_bytes(), Cause::Unread(*why), None)?),
+        (Err(_), Err(_)) => Ok(()),
+    }
+}
+
+// Adds the folders of a folder to those that were found. Whether the folder is taken.
 fn visit<S: Shelf>(
     shelf: &S,
     alloc: Global,
+    on_loss: OnLoss,
     found: &mut Vec<String>,
+    lost: &mut Losses,
     folder: &str,
-) -> Result<bool, FoldersFault>
+) -> Result<bool, SourceFault>
     ensures { MatchResult result
-        (AddsVisit (S.tellings shelf.now) folder.now
-        (map string_bytes found.old.items) (map string_bytes found.new.items))
-        (StopsVisit (S.tellings shelf.now) folder.now) }
+        (AddsVisit on_loss (S.tellings shelf.now) folder.now
+        (map string_bytes found.old.items) (map string_bytes found.new.items) lost.old lost.new)
+        (StopsAt on_loss (LosesVisit (S.tellings shelf.now) folder.now) ⊥) }
 {
-    let listing = shelf.list(alloc, folder)?;
-    let names = pattern_names(alloc, listing.as_slice())?;
-    let folders = shelf.list_folders(alloc, folder)?;
-    add_inner(alloc, found, folder, folders.as_slice())?;
-    Ok(names.len() >= 1)
+    let listing = list_in(shelf, alloc, on_loss, folder)?;
+    let folders = list_folders_in(shelf, alloc, on_loss, folder)?;
+    add_folders(alloc, on_loss, found, lost, folder, &listing, &folders)?;
+    Ok(is_taken(alloc, &listing)?)
 }
 
-/// The folders at and below this one that list at least one name that ends in `.rle`, in the order of their paths'
-/// bytes. The path of a folder in another is that one's, a slash where it ends in none, and the name; so each path begins
-/// with the word. Links to folders are not followed.
-///
-/// `Read` is answered where a folder can't be listed, and where a folder's name is no UTF-8; `Memory` where a growth was
-/// refused. What a folder lists, and which folders stand in it, is the shelf's word. Where it tells them, exactly those
-/// folders come out, and a fault is one of those that it tells. A disk tells nothing.
+// The folders at and below this one that list at least one name that ends in `.rle`, in the order of their paths' bytes. The
+// path of a folder in another is that one's, a slash where it ends in none, and the name; so each path begins with the word.
+// Links to folders are not followed.
+//
+// The walk ends at a folder that can't be listed, or in which the folders can't be told, and at a folder whose name is no
+// UTF-8; or it goes on. Then the first of these is among the folders that come out, and the others are lost.
 pub fn folders_below<S: Shelf>(
     shelf: &S,
     alloc: Global,
+    on_loss: OnLoss,
+    lost: &mut Losses,
     word: &str,
-) -> Result<Vec<String>, FoldersFault>
+) -> Result<Vec<String>, SourceFault>
     ensures { MatchResult result
-        (λ folders. HoldsTree (S.tellings shelf.now) word.now
-        (map string_bytes folders.items))
-        (StopsWalk (S.tellings shelf.now) word.now) }
+        (λ folders. HoldsTree on_loss (S.tellings shelf.now) word.now
+        (map string_bytes folders.items) lost.old lost.new)
+        (StopsAt on_loss (LosesInTree on_loss (S.tellings shelf.now) word.now) ⊥) }
 {
     let mut found = Vec::new(alloc);
     found.push(String::from_str(alloc, word)?)?;
@@ -103,7 +239,7 @@ pub fn folders_below<S: Shelf>(
     let mut at = 0;
     while at < found.len() {
         let folder = found[at].clone()?;
-        if visit(shelf, alloc, &mut found, folder.as_str())? {
+        if visit(shelf, alloc, on_loss, &mut found, lost, folder.as_str())? {
             chosen.push(folder)?;
         }
         at += 1;

@@ -4,8 +4,9 @@ use Rattle.std.specs.List.{FoldsTo, after_first, ends_with, flat_map, slice_spli
 use Rattle.std.specs.Str.{is_utf8}
 use Rattle.census_bundle.specs.declared.bundle.Entry.{Entry}
 use Rattle.census_bundle.specs.declared.bundle.Folder.{Folder}
-use Rattle.census_folders.specs.Shelves.{is_end}
+use Rattle.census_folders.specs.Listings.{is_end}
 use Rattle.census_folders.specs.Told.{Told, GivesTold, MayFail}
+use Rattle.census_folders.specs.declared.unread.Unread.{Unread}
 
 -- # Texts that the next pattern may be lost in
 
@@ -73,7 +74,7 @@ alike_in None = 0
 -- asked for.
 abbrev pub Lists : Told → List ℕ → Option (List ℕ) → Type 0
 Lists told name (Some listing) = GivesTold told listing
-Lists told name None = MayFail told ⊎ (is_utf8 name ≡ false)
+Lists told name None = ((why : Unread) × MayFail told why) ⊎ (is_utf8 name ≡ false)
 
 -- the names of one more folder are counted
 pub record PassesFolder (listed : List ℕ → Told) (before : ℕ) (folder : Folder) (after : ℕ) : Type 0 where

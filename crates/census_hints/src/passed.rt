@@ -1,13 +1,12 @@
 //! Names in folders that look like those of patterns, and that were passed over.
 ghost use Rattle.std.specs.Prelude.{◌≡◌, ◌+◌, ℕ, count_by, option_map, IfOk};
 ghost use Rattle.std.specs.List.{slice_split};
-ghost use Rattle.census_folders.specs.Shelves.{is_end};
+ghost use Rattle.census_folders.specs.Listings.{is_end};
 ghost use Rattle.census_hints.specs.Hints.{Lists, PassesFolder, PassesOver, is_alike};
 
 use census_bundle::{Bundle, Folder};
-use census_folders::Shelf;
+use census_folders::{Shelf, ShelfFault};
 use std::alloc::{AllocError, Global};
-use watched::ReadFault;
 
 // Whether a name looks like that of a pattern, and doesn't end in `.rle`.
 fn is_alike(name: &[u8]) -> bool
@@ -41,8 +40,8 @@ fn list<S: Shelf>(shelf: &S, alloc: Global, name: &[u8]) -> Result<Option<Vec<u8
     };
     match shelf.list(alloc, name) {
         Ok(listing) => Ok(Some(listing)),
-        Err(ReadFault::Memory) => Err(AllocError),
-        Err(ReadFault::Read | ReadFault::TooLong) => Ok(None),
+        Err(ShelfFault::Memory) => Err(AllocError),
+        Err(ShelfFault::Unread(_) | ShelfFault::TooLong) => Ok(None),
     }
 }
 

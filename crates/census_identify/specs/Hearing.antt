@@ -9,6 +9,7 @@ use Rattle.watched.specs.declared.reading.ReadFault.{ReadFault}
 use Rattle.watched.specs.declared.reading.ReadFault.TheVariants as reads
 use Rattle.census_bundle.specs.Sizes.{input_limit}
 use Rattle.census_folders.specs.Told.{Told, GivesTold, MayExceed, MayFail}
+use Rattle.census_folders.specs.declared.unread.Unread as unread
 use Rattle.census_identify.specs.Streams.{Reader}
 use Rattle.census_identify.specs.declared.heard.Heard.{Heard}
 use Rattle.census_identify.specs.declared.heard.Heard.TheVariants.{Text, TooLong, Unread}
@@ -30,7 +31,7 @@ heard_of (Err reads.Memory) = Err alloc_error
 abbrev pub HearsFile : Told → Heard → Type 0
 HearsFile told (Text bytes) = GivesTold told bytes × (length bytes ≤ input_limit)
 HearsFile told TooLong = MayExceed input_limit told
-HearsFile told Unread = MayFail told
+HearsFile told Unread = (why : unread.Unread) × MayFail told why
 
 -- the text is all that the reader had left, up to its end, and within the limit
 pub record ReadsText (text : List ℕ) (before after : Reader) : Type 0 where

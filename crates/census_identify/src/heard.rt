@@ -7,7 +7,7 @@ ghost use Rattle.census_identify.specs.Streams.{source};
 
 use crate::bytes::Bytes;
 use census_bundle::INPUT_LIMIT;
-use census_folders::Shelf;
+use census_folders::{Shelf, ShelfFault, Unread};
 use std::alloc::{AllocError, Global};
 use std::io::Read;
 use watched::{ReadFault, Watched, read_all};
@@ -37,7 +37,7 @@ fn heard_of(read: Result<Vec<u8>, ReadFault>) -> Result<Heard, AllocError>
 
 /// The bytes of the file of this path, of which there may be at most 67,108,864. It is not opened where it is no regular
 /// file.
-pub fn read_file<S: Shelf>(shelf: &S, alloc: Global, path: &[u8]) -> Result<Vec<u8>, ReadFault>
+pub fn read_file<S: Shelf>(shelf: &S, alloc: Global, path: &[u8]) -> Result<Vec<u8>, ShelfFault>
     ensures within { IfOk result (λ bytes. vec_len bytes ≤ INPUT_LIMIT) }
     ensures told { IfOk result
         (λ bytes. GivesTold ((S.tellings shelf.now).held [] path.now) bytes.items) }
@@ -45,7 +45,7 @@ pub fn read_file<S: Shelf>(shelf: &S, alloc: Global, path: &[u8]) -> Result<Vec<
         (RefusesFile INPUT_LIMIT ((S.tellings shelf.now).held [] path.now)) }
 {
     if !shelf.is_file(alloc, "", path)? {
-        return Err(ReadFault::Read);
+        return Err(ShelfFault::Unread(Unread::silent()));
     }
     shelf.read(alloc, "", path, INPUT_LIMIT)
 }
@@ -53,7 +53,12 @@ pub fn read_file<S: Shelf>(shelf: &S, alloc: Global, path: &[u8]) -> Result<Vec<
 fn hear_file<S: Shelf>(shelf: &S, alloc: Global, path: &[u8]) -> Result<Heard, AllocError>
     ensures { IfOk result (HearsFile ((S.tellings shelf.now).held [] path.now)) }
 {
-    heard_of(read_file(shelf, alloc, path))
+    match read_file(shelf, alloc, path) {
+        Ok(bytes) => Ok(Heard::Text(Bytes::new(bytes))),
+        Err(ShelfFault::TooLong) => Ok(Heard::TooLong),
+        Err(ShelfFault::Unread(_)) => Ok(Heard::Unread),
+        Err(ShelfFault::Memory) => Err(AllocError),
+    }
 }
 
 fn hear_input<I: Read>(alloc: Global, input: &mut Watched<I>) -> Result<Heard, AllocError>

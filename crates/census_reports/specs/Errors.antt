@@ -2,6 +2,8 @@
 use Rattle.std.specs.Prelude.{ℕ}
 use Rattle.watched.specs.declared.reading.ReadFault.{ReadFault}
 use Rattle.watched.specs.declared.reading.ReadFault.TheVariants as reads
+use Rattle.census_folders.specs.declared.unread.ShelfFault.{ShelfFault}
+use Rattle.census_folders.specs.declared.unread.ShelfFault.TheVariants as shelf
 use Rattle.census_reports.specs.declared.error.ReportsError.{ReportsError}
 use Rattle.census_reports.specs.declared.error.ReportsError.TheVariants.{Fault, TooMany, TooLong, Memory, Read, Write}
 
@@ -9,6 +11,11 @@ abbrev pub error_of_read : ReadFault → ReportsError
 error_of_read reads.Read = Read
 error_of_read reads.TooLong = TooLong
 error_of_read reads.Memory = Memory
+
+abbrev pub error_of_shelf : ShelfFault → ReportsError
+error_of_shelf (shelf.Unread why) = Read
+error_of_shelf shelf.TooLong = TooLong
+error_of_shelf shelf.Memory = Memory
 
 abbrev pub status_of : ReportsError → ℕ
 status_of (Fault text line) = 1

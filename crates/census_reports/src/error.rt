@@ -2,6 +2,7 @@
 ghost use Rattle.std.specs.Prelude.{◌≡◌};
 ghost use Rattle.census_reports.specs.Errors.{status_of};
 
+use census_folders::ShelfFault;
 use std::alloc::{AllocError, AllocFailed};
 use thiserror::Error;
 use watched::{Failed, ReadFault};
@@ -69,6 +70,21 @@ impl From<ReadFault> for ReportsError {
             ReadFault::Read => ReportsError::Read,
             ReadFault::TooLong => ReportsError::TooLong,
             ReadFault::Memory => ReportsError::Memory,
+        }
+    }
+}
+
+impl From<ShelfFault> for ReportsError {
+    ghost use Rattle.std.specs.Prelude.{◌≡◌};
+    ghost use Rattle.census_reports.specs.Errors.{error_of_shelf};
+
+    ghost from_gives = { λ fault error. error ≡ error_of_shelf fault };
+
+    fn from(fault: ShelfFault) -> ReportsError {
+        match fault {
+            ShelfFault::Unread(_) => ReportsError::Read,
+            ShelfFault::TooLong => ReportsError::TooLong,
+            ShelfFault::Memory => ReportsError::Memory,
         }
     }
 }

@@ -1,13 +1,12 @@
 //! Hints of bundles, and of folders on a shelf in memory.
 
 use census_bundle::{Bundle, read_bundle};
-use census_folders::{Shelf, read_folders};
+use census_folders::{Shelf, ShelfFault};
 use census_hints::hint_lines;
 use std::alloc::Global;
 use std::process::Abort;
 use std::test::Fail;
-use tests_inputs::{Leaf, Memory};
-use watched::ReadFault;
+use tests_inputs::{Leaf, Memory, plain, read};
 
 // A regular file, or without a name a folder.
 macro_rules! leaf {
@@ -149,10 +148,11 @@ const FOLDERS: &[Leaf<'static>] = &[
 #[test]
 fn names_of_all_folders_are_counted(rt: HostRuntime) -> Result<(), Fail> {
     let shelf = Memory { leaves: FOLDERS };
-    let mut bundle = read_folders(&shelf, rt.alloc(), &["t", "u/v"], None)?;
+    let mut kept = read(&shelf, rt.alloc(), plain(&["t", "u/v"], None))?;
+    let bundle = &mut kept.bundle;
     const LINES: &[u8] =
         b"  collections without a pattern: 1; names passed over that look like patterns: 3; the name of a pattern file must end in `.rle`\n";
-    let lines = hint_lines(&shelf, rt.alloc(), &bundle, true)?;
+    let lines = hint_lines(&shelf, rt.alloc(), bundle, true)?;
     assert!(rt; lines.as_slice() == LINES);
 
     // A folder that can't be listed, and a name that is no UTF-8.
@@ -160,7 +160,7 @@ fn names_of_all_folders_are_counted(rt: HostRuntime) -> Result<(), Fail> {
     bundle.add_folder(b"\xff")?;
     const MORE: &[u8] =
         b"  collections without a pattern: 3; names passed over that look like patterns: 3; the name of a pattern file must end in `.rle`\n";
-    let lines = hint_lines(&shelf, rt.alloc(), &bundle, true)?;
+    let lines = hint_lines(&shelf, rt.alloc(), bundle, true)?;
     assert!(rt; lines.as_slice() == MORE);
     Ok(())
 }
@@ -181,16 +181,16 @@ fn of_a_bundle_text_no_names_are_asked_for(rt: HostRuntime) -> Result<(), Fail> 
 struct Full;
 
 impl Shelf for Full {
-    fn list(&self, _alloc: Global, _folder: &str) -> Result<Vec<u8>, ReadFault> {
-        Err(ReadFault::Memory)
+    fn list(&self, _alloc: Global, _folder: &str) -> Result<Vec<u8>, ShelfFault> {
+        Err(ShelfFault::Memory)
     }
 
-    fn list_folders(&self, _alloc: Global, _folder: &str) -> Result<Vec<u8>, ReadFault> {
-        Err(ReadFault::Memory)
+    fn list_folders(&self, _alloc: Global, _folder: &str) -> Result<Vec<u8>, ShelfFault> {
+        Err(ShelfFault::Memory)
     }
 
-    fn is_file(&self, _alloc: Global, _folder: &str, _name: &[u8]) -> Result<bool, ReadFault> {
-        Err(ReadFault::Memory)
+    fn is_file(&self, _alloc: Global, _folder: &str, _name: &[u8]) -> Result<bool, ShelfFault> {
+        Err(ShelfFault::Memory)
     }
 
     fn read(
@@ -199,8 +199,8 @@ impl Shelf for Full {
         _folder: &str,
         _name: &[u8],
         _limit: usize,
-    ) -> Result<Vec<u8>, ReadFault> {
-        Err(ReadFault::Memory)
+    ) -> Result<Vec<u8>, ShelfFault> {
+        Err(ShelfFault::Memory)
     }
 }
 

@@ -2,8 +2,8 @@
 
 use crate::memory::{Leaf, Memory};
 use crate::shown::{Shown, check};
-use census_bundle::AddFault;
-use census_folders::{FoldersFault, folders_below, read_folders};
+use crate::stopped::{below, check_stop, plain, read};
+use census_folders::OnLoss;
 use std::alloc::Global;
 use std::fs;
 use std::io::pipe;
@@ -33,25 +33,37 @@ fn a_folder_of_the_system_is_read(rt: HostRuntime) -> Result<(), Fail> {
     for (path, text) in FILES {
         fs::write(&rt, path, *text)?;
     }
-    check(&rt, &read_folders(&rt, rt.alloc(), &[FOLDER], None)?, SHOWN);
+    check(
+        &rt,
+        &read(&rt, rt.alloc(), plain(&[FOLDER], None))?.bundle,
+        SHOWN,
+    );
 
     // A folder in the place of a file, and no folder.
     fs::create_dir(&rt, "worked_inputs_folder/c.rle")?;
-    let file = read_folders(&rt, rt.alloc(), &[FOLDER], None).err();
+    const FILE: &[u8] = b"worked_inputs_folder/c.rle";
+    let source = plain(&[FOLDER], None);
+    check_stop(&rt, rt.alloc(), &rt, source, "read failed", FILE);
     fs::remove_dir_all(&rt, FOLDER)?;
-    let folder = read_folders(&rt, rt.alloc(), &[FOLDER], None).err();
-    assert!(rt; file == Some(FoldersFault::Read) && folder == Some(FoldersFault::Read));
+    check_stop(
+        &rt,
+        rt.alloc(),
+        &rt,
+        source,
+        "read failed",
+        FOLDER.as_bytes(),
+    );
     Ok(())
 }
 
 const OTHERS: &str = "worked_inputs_others";
 
 // Reads a folder of the system whose one file is a link.
-fn read_link(rt: &HostRuntime, original: &str) -> Result<Option<FoldersFault>, Fail> {
+fn read_link(rt: &HostRuntime, original: &str) -> Result<Option<&'static str>, Fail> {
     let _ = fs::remove_dir_all(rt, OTHERS);
     fs::create_dir(rt, OTHERS)?;
     symlink(rt, original, "worked_inputs_others/a.rle")?;
-    let fault = read_folders(rt, rt.alloc(), &[OTHERS], None).err();
+    let fault = read(rt, rt.alloc(), plain(&[OTHERS], None)).err();
     fs::remove_dir_all(rt, OTHERS)?;
     Ok(fault)
 }
@@ -62,7 +74,7 @@ fn what_is_no_regular_file_is_never_opened(rt: HostRuntime) -> Result<(), Fail> 
     let (reader, _writer) = pipe(&rt)?;
     let pipe = format!(in rt.alloc(); "/proc/self/fd/{}", reader.as_raw_fd())?;
     for original in ["/dev/zero", "/dev", pipe.as_str(), "missing"] {
-        assert!(rt; read_link(&rt, original)? == Some(FoldersFault::Read));
+        assert!(rt; read_link(&rt, original)? == Some("read failed"));
     }
     assert!(rt; read_link(&rt, "/proc/self/cmdline")?.is_none());
     Ok(())
@@ -132,42 +144,42 @@ fn files_that_end_in_rle_come_in_the_order_of_their_bytes(rt: HostRuntime) -> Re
             entries: &[],
         },
     ];
-    let bundle = read_folders(&shelf, rt.alloc(), &["t", "u/v/", "empty"], None)?;
-    check(&rt, &bundle, SHOWN);
+    let kept = read(&shelf, rt.alloc(), plain(&["t", "u/v/", "empty"], None))?;
+    check(&rt, &kept.bundle, SHOWN);
     Ok(())
 }
 
 #[test]
 fn the_first_failure_decides(rt: HostRuntime) {
-    const CASES: &[(&[&str], FoldersFault)] = &[
-        (&["t", "missing", ""], FoldersFault::Read),
-        (&["t", "", "missing"], FoldersFault::Add(AddFault::BadName)),
-        (&["lost", ""], FoldersFault::Read),
-        (&["badly", "missing"], FoldersFault::Add(AddFault::BadName)),
-        (&["lost badly"], FoldersFault::Read),
-        (&["piped"], FoldersFault::Read),
+    const CASES: &[(&[&str], &str, &[u8])] = &[
+        (&["t", "missing", ""], "read failed", b"missing"),
+        (&["t", "", "missing"], "folder fault 1", b""),
+        (&["lost", ""], "read failed", b"lost/a.rle"),
+        (&["badly", "missing"], "folder fault 1", b"badly/ a.rle"),
+        (&["lost badly"], "read failed", b"lost badly/ a.rle"),
+        (&["piped"], "read failed", b"piped/a.rle"),
     ];
     let shelf = Memory { leaves: LEAVES };
-    for (words, fault) in CASES {
-        assert!(rt; read_folders(&shelf, rt.alloc(), words, None).err() == Some(*fault));
+    for (words, name, path) in CASES {
+        check_stop(&rt, rt.alloc(), &shelf, plain(words, None), name, path);
     }
 }
 
 #[test]
 fn texts_past_the_limit_are_too_long(rt: HostRuntime) {
     // The texts of `t` have 0, 1, 3 and 6 bytes, and that of `u/v/` 3.
-    const CASES: &[(&[&str], u64, Option<FoldersFault>)] = &[
+    const CASES: &[(&[&str], u64, Option<&str>)] = &[
         (&["t", "u/v/", "empty"], 13, None),
-        (&["t", "u/v/", "empty"], 12, Some(FoldersFault::TooLong)),
-        (&["t", "missing"], 10, Some(FoldersFault::Read)),
-        (&["t", "missing"], 9, Some(FoldersFault::TooLong)),
-        (&["t"], 0, Some(FoldersFault::TooLong)),
+        (&["t", "u/v/", "empty"], 12, Some("input too long")),
+        (&["t", "missing"], 10, Some("read failed")),
+        (&["t", "missing"], 9, Some("input too long")),
+        (&["t"], 0, Some("input too long")),
         (&["empty"], 0, None),
-        (&["piped"], 0, Some(FoldersFault::Read)),
+        (&["piped"], 0, Some("read failed")),
     ];
     let shelf = Memory { leaves: LEAVES };
     for (words, limit, fault) in CASES {
-        assert!(rt; read_folders(&shelf, rt.alloc(), words, Some(*limit)).err() == *fault);
+        assert!(rt; read(&shelf, rt.alloc(), plain(words, Some(*limit))).err() == *fault);
     }
 }
 
@@ -189,17 +201,17 @@ fn a_file_of_100_kib_is_read_whole(rt: HostRuntime) -> Result<(), Fail> {
         leaf!(LONG, b"a.rle", text.as_slice()),
     ];
     let shelf = Memory { leaves: &leaves };
-    let bundle = read_folders(&shelf, rt.alloc(), &[LONG], Some(102_400))?;
-    check(&rt, &bundle, &shown);
-    let fault = read_folders(&shelf, rt.alloc(), &[LONG], Some(102_399)).err();
-    assert!(rt; fault == Some(FoldersFault::TooLong));
+    let kept = read(&shelf, rt.alloc(), plain(&[LONG], Some(102_400)))?;
+    check(&rt, &kept.bundle, &shown);
+    let fault = read(&shelf, rt.alloc(), plain(&[LONG], Some(102_399))).err();
+    assert!(rt; fault == Some("input too long"));
 
     // The same file on the disk.
     let _ = fs::remove_dir_all(&rt, LONG);
     fs::create_dir(&rt, LONG)?;
     fs::write(&rt, "worked_inputs_long/a.rle", text.as_slice())?;
-    let bundle = read_folders(&rt, rt.alloc(), &[LONG], Some(102_400))?;
-    check(&rt, &bundle, &shown);
+    let kept = read(&rt, rt.alloc(), plain(&[LONG], Some(102_400)))?;
+    check(&rt, &kept.bundle, &shown);
     fs::remove_dir_all(&rt, LONG)?;
     Ok(())
 }
@@ -212,10 +224,11 @@ fn check_below<S: census_folders::Shelf>(
     word: &str,
     wanted: &[&str],
 ) -> Result<(), Fail> {
-    let folders = folders_below(shelf, alloc, word)?;
+    let kept = read(shelf, alloc, below(&[word], OnLoss::Stop))?;
+    let folders = kept.bundle.folders();
     assert!(rt; folders.len() == wanted.len());
     for (folder, wanted) in folders.iter().zip(wanted) {
-        assert!(rt; folder.as_str() == *wanted);
+        assert!(rt; folder.name.as_slice() == wanted.as_bytes());
     }
     Ok(())
 }
@@ -240,15 +253,28 @@ fn folders_below_a_word_of_a_shelf_in_memory_are_told(rt: HostRuntime) -> Result
         leaf!("lost", b"", b"a.rle\0v\0"),
         leaf!("lost", b"/", b"v\0"),
         leaf!("foreign", b"", b"\xff\0"),
-        leaf!("foreign", b"/", b"\xff\0"),
+        leaf!("foreign", b"/", b"w\0\xff\0\xfe\0"),
+        leaf!("blind", b"", b"a.rle\0"),
+        leaf!("t/x", b"b.rle", b"3o!"),
+        leaf!("t/x-y", b"a.rle", b"3o!"),
+        leaf!("t/x/deep", b"c.rle", b"3o!"),
+        leaf!("u/", b"a.rle", b"3o!"),
+        leaf!("u/v", b"a.rle", b"3o!"),
     ];
     let shelf = Memory { leaves: TREES };
     check_below(&rt, rt.alloc(), &shelf, "t", &["t/x", "t/x-y", "t/x/deep"])?;
     check_below(&rt, rt.alloc(), &shelf, "u/", &["u/", "u/v"])?;
     check_below(&rt, rt.alloc(), &shelf, "t/z", &[])?;
-    for word in ["missing", "lost", "foreign"] {
-        let fault = folders_below(&shelf, rt.alloc(), word).err();
-        assert!(rt; fault == Some(FoldersFault::Read));
+    const ENDS: &[(&str, &[u8])] = &[
+        ("missing", b"missing"),
+        ("lost", b"lost/v"),
+        ("foreign", b"foreign/\xff"),
+        ("blind", b"blind"),
+    ];
+    for (word, path) in ENDS {
+        let words = &[*word];
+        let source = below(words, OnLoss::Stop);
+        check_stop(&rt, rt.alloc(), &shelf, source, "read failed", path);
     }
     Ok(())
 }
@@ -274,20 +300,5 @@ fn folders_below_a_word_of_the_system_are_told(rt: HostRuntime) -> Result<(), Fa
         &["worked_inputs_tree/b", "worked_inputs_tree/b/c"],
     )?;
     fs::remove_dir_all(&rt, TREE)?;
-    Ok(())
-}
-
-#[test]
-fn faults_say_what_happened(rt: HostRuntime) -> Result<(), Fail> {
-    const FAULTS: &[(FoldersFault, &str)] = &[
-        (FoldersFault::Add(AddFault::BadName), "folder fault 1"),
-        (FoldersFault::Add(AddFault::TooMany), "folder fault 3"),
-        (FoldersFault::Read, "read failed"),
-        (FoldersFault::TooLong, "input too long"),
-        (FoldersFault::Memory, "out of memory"),
-    ];
-    for (fault, text) in FAULTS {
-        assert!(rt; format!(in rt.alloc(); "{fault}")?.as_str() == *text);
-    }
     Ok(())
 }

@@ -3,8 +3,9 @@
 use crate::folders::leaf;
 use crate::memory::{Leaf, Memory};
 use crate::shown::{Shown, check};
-use census_bundle::{AddFault, Ticket};
-use census_folders::{FoldersFault, Losses, read_folders_on};
+use crate::stopped::read;
+use census_bundle::Ticket;
+use census_folders::{Losses, OnLoss, Source};
 use std::fs;
 use std::process::Abort;
 use std::test::Fail;
@@ -18,6 +19,16 @@ pub fn check_lost(rt: &impl Abort, lost: &Losses, wanted: &[Gone]) {
     for (loss, (path, place)) in lost.as_slice().iter().zip(wanted) {
         let entry = place.map(|(folder, number)| Ticket { folder, number });
         assert!(rt; loss.path.as_slice() == *path && loss.entry == entry);
+    }
+}
+
+// The folders of these words, whatever is lost.
+fn keeping<'r, 'a>(words: &'r [&'a str], limit: Option<u64>) -> Source<'r, 'a> {
+    Source {
+        words,
+        below: false,
+        limit,
+        on_loss: OnLoss::Keep,
     }
 }
 
@@ -39,7 +50,7 @@ fn reading_a_shelf_in_memory_goes_on(rt: HostRuntime) -> Result<(), Fail> {
     ];
     let shelf = Memory { leaves: LEAVES };
     let words = ["t", "missing", " t", "u/", "empty"];
-    let kept = read_folders_on(&shelf, rt.alloc(), &words, None)?;
+    let kept = read(&shelf, rt.alloc(), keeping(&words, None))?;
     const SHOWN: &[Shown<'static>] = &[
         Shown {
             name: b"t",
@@ -88,7 +99,7 @@ fn a_text_past_the_limit_is_lost(rt: HostRuntime) -> Result<(), Fail> {
         leaf!("u", b"a.rle", b"3o!"),
     ];
     let shelf = Memory { leaves: LEAVES };
-    let kept = read_folders_on(&shelf, rt.alloc(), &["t", "u"], Some(8))?;
+    let kept = read(&shelf, rt.alloc(), keeping(&["t", "u"], Some(8)))?;
     const SHOWN: &[Shown<'static>] = &[
         Shown {
             name: b"t",
@@ -109,10 +120,10 @@ fn a_text_past_the_limit_is_lost(rt: HostRuntime) -> Result<(), Fail> {
 fn too_many_folders_end_the_reading(rt: HostRuntime) -> Result<(), Fail> {
     let shelf = Memory { leaves: &[] };
     let words = vec![in rt.alloc(); "t"; 65_536]?;
-    let kept = read_folders_on(&shelf, rt.alloc(), &words[1..], None)?;
+    let kept = read(&shelf, rt.alloc(), keeping(&words[1..], None))?;
     assert!(rt; kept.lost.as_slice().len() == 65_535);
-    let fault = read_folders_on(&shelf, rt.alloc(), &words, None).err();
-    assert!(rt; fault == Some(FoldersFault::Add(AddFault::TooMany)));
+    let fault = read(&shelf, rt.alloc(), keeping(&words, None)).err();
+    assert!(rt; fault == Some("folder fault 3"));
     Ok(())
 }
 
@@ -124,7 +135,11 @@ fn reading_folders_of_the_system_goes_on(rt: HostRuntime) -> Result<(), Fail> {
     fs::create_dir(&rt, KEPT)?;
     fs::write(&rt, "worked_inputs_kept/a.rle", b"3o!".as_slice())?;
     fs::create_dir(&rt, "worked_inputs_kept/b.rle")?;
-    let kept = read_folders_on(&rt, rt.alloc(), &[KEPT, "worked_inputs_kept/missing"], None)?;
+    let kept = read(
+        &rt,
+        rt.alloc(),
+        keeping(&[KEPT, "worked_inputs_kept/missing"], None),
+    )?;
     const SHOWN: &[Shown<'static>] = &[
         Shown {
             name: b"worked_inputs_kept",

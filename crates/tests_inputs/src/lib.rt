@@ -13,7 +13,9 @@ mod keeping;
 mod memory;
 #[cfg(test)]
 mod shown;
+mod stopped;
 #[cfg(test)]
 mod trees;
 
 pub use memory::{Leaf, Memory};
+pub use stopped::{below, check_stop, plain, read};

@@ -1,11 +1,10 @@
 //! A shelf in memory, which tells all that stands on it.
 ghost use Rattle.std.specs.Prelude.{◌≡◌, [], IfSome, IfNone, codes};
-ghost use Rattle.census_folders.specs.Told.{Unreadable};
+ghost use Rattle.census_folders.specs.Told.{Unreadable, silent};
 ghost use Rattle.tests_inputs.specs.Memory.{told_in, file_told};
 
-use census_folders::Shelf;
+use census_folders::{Shelf, ShelfFault, Unread};
 use std::alloc::Global;
-use watched::ReadFault;
 
 /// What stands under a name in a folder: bytes, of a regular file or of something else. Without a name it is the folder
 /// itself, whose bytes are its names, each ended by a byte 0; and under the name of a slash stand those of its names that
@@ -28,7 +27,7 @@ pub struct Memory<'a> {
 fn find<'b, 'a>(leaves: &'b [Leaf<'a>], folder: &str, name: &[u8]) -> Option<&'b Leaf<'a>>
     ensures some { IfSome result
         (λ leaf. told_in leaves.now folder.now name.now ≡ file_told leaf.now) }
-    ensures none { IfNone result (told_in leaves.now folder.now name.now ≡ Unreadable) }
+    ensures none { IfNone result (told_in leaves.now folder.now name.now ≡ Unreadable silent) }
 {
     for leaf in leaves {
         if leaf.folder == folder && leaf.name == name {
@@ -50,21 +49,21 @@ impl<'a> Shelf for Memory<'a> {
 
     ghost may_open = { λ shelf folder name. is_held (told_in shelf.leaves.now folder name) };
 
-    fn list(&self, alloc: Global, folder: &str) -> Result<Vec<u8>, ReadFault> {
+    fn list(&self, alloc: Global, folder: &str) -> Result<Vec<u8>, ShelfFault> {
         match find(self.leaves, folder, b"") {
             Some(leaf) if leaf.regular => Ok(leaf.bytes.to_vec(alloc)?),
-            _ => Err(ReadFault::Read),
+            _ => Err(ShelfFault::Unread(Unread::silent())),
         }
     }
 
-    fn list_folders(&self, alloc: Global, folder: &str) -> Result<Vec<u8>, ReadFault> {
+    fn list_folders(&self, alloc: Global, folder: &str) -> Result<Vec<u8>, ShelfFault> {
         match find(self.leaves, folder, b"/") {
             Some(leaf) if leaf.regular => Ok(leaf.bytes.to_vec(alloc)?),
-            _ => Err(ReadFault::Read),
+            _ => Err(ShelfFault::Unread(Unread::silent())),
         }
     }
 
-    fn is_file(&self, _alloc: Global, folder: &str, name: &[u8]) -> Result<bool, ReadFault> {
+    fn is_file(&self, _alloc: Global, folder: &str, name: &[u8]) -> Result<bool, ShelfFault> {
         match find(self.leaves, folder, name) {
             Some(leaf) => Ok(leaf.regular),
             None => Ok(false),
@@ -77,15 +76,15 @@ impl<'a> Shelf for Memory<'a> {
         folder: &str,
         name: &[u8],
         limit: usize,
-    ) -> Result<Vec<u8>, ReadFault> {
+    ) -> Result<Vec<u8>, ShelfFault> {
         match find(self.leaves, folder, name) {
             Some(leaf) if leaf.regular => {
                 if leaf.bytes.len() > limit {
-                    return Err(ReadFault::TooLong);
+                    return Err(ShelfFault::TooLong);
                 }
                 Ok(leaf.bytes.to_vec(alloc)?)
             }
-            _ => Err(ReadFault::Read),
+            _ => Err(ShelfFault::Unread(Unread::silent())),
         }
     }
 }

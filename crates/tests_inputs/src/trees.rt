@@ -3,14 +3,15 @@
 use crate::folders::leaf;
 use crate::keeping::{Gone, check_lost};
 use crate::memory::{Leaf, Memory};
-use census_folders::{FoldersFault, folders_below_each, folders_below_each_on};
+use crate::stopped::{below, check_stop, read};
+use census_folders::{Losses, OnLoss, Shelf};
 use std::alloc::Global;
 use std::fs;
 use std::process::Abort;
 use std::test::Fail;
 
-// Whether these are the folders at and below words, and this is what is lost on the way.
-fn check_trees<S: census_folders::Shelf>(
+// Whether these are the folders at and below words, and this is what is lost.
+fn check_trees<S: Shelf>(
     rt: &impl Abort,
     alloc: Global,
     shelf: &S,
@@ -18,29 +19,34 @@ fn check_trees<S: census_folders::Shelf>(
     wanted: &[&str],
     lost: &[Gone],
 ) -> Result<(), Fail> {
-    let trees = folders_below_each_on(shelf, alloc, words)?;
-    assert!(rt; trees.folders.len() == wanted.len());
-    for (folder, wanted) in trees.folders.iter().zip(wanted) {
-        assert!(rt; folder.as_str() == *wanted);
+    let kept = read(shelf, alloc, below(words, OnLoss::Keep))?;
+    let folders = kept.bundle.folders();
+    assert!(rt; folders.len() == wanted.len());
+    for (folder, wanted) in folders.iter().zip(wanted) {
+        assert!(rt; folder.name.as_slice() == wanted.as_bytes());
     }
-    check_lost(rt, &trees.lost, lost);
+    check_lost(rt, &kept.lost, lost);
     Ok(())
 }
 
-// Whether the walk that goes on finds what the walk that stops does, and loses nothing.
-fn check_whole<S: census_folders::Shelf>(
+// Whether the reading that goes on finds what the reading that ends at the first loss does, and loses nothing.
+fn check_whole<S: Shelf>(
     rt: &impl Abort,
     alloc: Global,
     shelf: &S,
     words: &[&str],
 ) -> Result<(), Fail> {
-    let folders = folders_below_each(shelf, alloc, words)?;
-    let trees = folders_below_each_on(shelf, alloc, words)?;
-    assert!(rt; trees.folders.len() == folders.len());
-    for (kept, folder) in trees.folders.iter().zip(folders.as_slice()) {
-        assert!(rt; kept.as_str() == folder.as_str());
+    let plain = read(shelf, alloc, below(words, OnLoss::Stop))?;
+    let kept = read(shelf, alloc, below(words, OnLoss::Keep))?;
+    let folders = plain.bundle.folders();
+    assert!(rt; kept.bundle.folders().len() == folders.len());
+    for (kept, folder) in kept.bundle.folders().iter().zip(folders) {
+        assert!(rt; kept.name.as_slice() == folder.name.as_slice());
     }
-    check_lost(rt, &trees.lost, &[]);
+    let none: [&Losses; 2] = [&plain.lost, &kept.lost];
+    for lost in none {
+        check_lost(rt, lost, &[]);
+    }
     Ok(())
 }
 
@@ -57,6 +63,8 @@ const LEAVES: &[Leaf<'static>] = &[
     leaf!("t/whole", b"/", b"b\0"),
     leaf!("t/whole/b", b"", b"a.rle\0"),
     leaf!("t/whole/b", b"/", b""),
+    leaf!("t/whole/b", b"a.rle", b"3o!"),
+    leaf!("t/shut/in", b"a.rle", b"3o!"),
     leaf!("u/", b"", b"a.rle\0v\0"),
     leaf!("u/", b"/", b"v\0\xff\0"),
     leaf!("u/v", b"", b"a.txt\0"),
@@ -72,19 +80,42 @@ fn a_walk_goes_on_past_what_cant_be_told(rt: HostRuntime) -> Result<(), Fail> {
         (b"t/shut/\xff.rle", None),
         (b"t/blind", None),
         (b"t/dim", None),
+        (b"t/a.rle", Some((1, 1))),
+        (b"t/blind/a.rle", Some((2, 1))),
+        (b"t/gone", None),
+        (b"t/shut", None),
     ];
     const BELOW_T: &[&str] = &["t", "t/blind", "t/gone", "t/shut", "t/shut/in", "t/whole/b"];
     check_trees(&rt, rt.alloc(), &shelf, &["t"], BELOW_T, LOST_IN_T)?;
-    const LOST_IN_U: &[Gone<'static>] = &[(b"u/\xff", None), (b"u/\xff", None)];
+    const LOST_IN_U: &[Gone<'static>] = &[
+        (b"u/\xff", None),
+        (b"u/\xff", None),
+        (b"u/a.rle", Some((1, 1))),
+        (b"missing", None),
+        (b"u/a.rle", Some((4, 1))),
+    ];
     const BELOW_U: &[&str] = &["u/", "missing", "t/whole/b", "u/"];
     const WORDS: &[&str] = &["u/", "missing", "t/whole", "u/"];
     check_trees(&rt, rt.alloc(), &shelf, WORDS, BELOW_U, LOST_IN_U)?;
     check_trees(&rt, rt.alloc(), &shelf, &[], &[], &[])?;
-    for word in ["t", "u/", "missing"] {
-        let fault = folders_below_each(&shelf, rt.alloc(), &[word]).err();
-        assert!(rt; fault == Some(FoldersFault::Read));
-    }
     Ok(())
+}
+
+// The first that is walked and can't be told, whatever comes first in the order of paths or in the order in which losses are told.
+#[test]
+fn a_walk_ends_at_the_first_that_cant_be_told(rt: HostRuntime) {
+    let shelf = Memory { leaves: LEAVES };
+    const ENDS: &[(&[&str], &[u8])] = &[
+        (&["t"], b"t/\xff"),
+        (&["t/whole", "t/dim", "missing"], b"t/dim"),
+        (&["u/v", "missing", "t"], b"missing"),
+        (&["t/shut"], b"t/shut"),
+        (&["u/"], b"u/\xff"),
+    ];
+    for (words, path) in ENDS {
+        let source = below(words, OnLoss::Stop);
+        check_stop(&rt, rt.alloc(), &shelf, source, "read failed", path);
+    }
 }
 
 #[test]
@@ -118,7 +149,8 @@ fn trees_of_the_system_are_walked_on(rt: HostRuntime) -> Result<(), Fail> {
         "worked_inputs_trees/b",
         "worked_inputs_trees/b/c",
     ];
-    check_trees(&rt, rt.alloc(), &rt, WORDS, WANTED, &[])?;
+    const MISSING: &[Gone<'static>] = &[(b"worked_inputs_trees/missing", None)];
+    check_trees(&rt, rt.alloc(), &rt, WORDS, WANTED, MISSING)?;
     fs::remove_dir_all(&rt, TREES)?;
     Ok(())
 }

@@ -1,10 +1,10 @@
 //! Words that name files or standard input, and what is told of them.
 
-use census_folders::Shelf;
+use census_folders::{Shelf, ShelfFault, Unread};
 use census_identify::identify;
 use std::alloc::Global;
 use std::test::Fail;
-use watched::{ReadFault, Watched};
+use watched::Watched;
 
 const GLIDER: &[u8] = b"x = 3, y = 3, rule = B3/S23\nbo$2bo$3o!";
 
@@ -25,15 +25,15 @@ const FILES: Shown = Shown {
 };
 
 impl Shelf for Shown {
-    fn list(&self, alloc: Global, _folder: &str) -> Result<Vec<u8>, ReadFault> {
+    fn list(&self, alloc: Global, _folder: &str) -> Result<Vec<u8>, ShelfFault> {
         Ok(Vec::new(alloc))
     }
 
-    fn list_folders(&self, alloc: Global, _folder: &str) -> Result<Vec<u8>, ReadFault> {
+    fn list_folders(&self, alloc: Global, _folder: &str) -> Result<Vec<u8>, ShelfFault> {
         Ok(Vec::new(alloc))
     }
 
-    fn is_file(&self, _alloc: Global, _folder: &str, name: &[u8]) -> Result<bool, ReadFault> {
+    fn is_file(&self, _alloc: Global, _folder: &str, name: &[u8]) -> Result<bool, ShelfFault> {
         for (path, _) in self.files {
             if path.as_bytes() == name {
                 return Ok(true);
@@ -48,16 +48,16 @@ impl Shelf for Shown {
         _folder: &str,
         name: &[u8],
         limit: usize,
-    ) -> Result<Vec<u8>, ReadFault> {
+    ) -> Result<Vec<u8>, ShelfFault> {
         for (path, bytes) in self.files {
             if path.as_bytes() == name {
                 if bytes.len() > limit {
-                    return Err(ReadFault::TooLong);
+                    return Err(ShelfFault::TooLong);
                 }
                 return Ok(bytes.to_vec(alloc)?);
             }
         }
-        Err(ReadFault::Read)
+        Err(ShelfFault::Unread(Unread::silent()))
     }
 }
 

@@ -50,9 +50,9 @@ pub returns : goal.returns
 returns g c =
     let explain = c.explains-explain.result in
     let explained = are_explained (map (λ s. s.now) c.args.words.now) c.args.errors.now c.in-Ok.asked.explain explain c.in-Ok.ensures.1 c.explains-explain.ensures in
-    let error = c.in-Err-execute.error in
-    let place = c.place_if-place.result in
+    let error = c.in-Err-execute.stopped.error in
+    let place = c.in-Err-execute.stopped.place in
     let lines = subst (λ (l : List ℕ). TellsText (error_line error ++ said_if explain l) c.args.errors.now c.stop_saying.new.errors)
     (says_at _ _ _ c.saying_of.result place c.at-saying.result c.saying_of.ensures c.at-saying.ensures) c.stop_saying.ensures.lines in
     rw c.stop_saying.ensures.status
-    (inr (inr (inr (ends_failed _ _ _ _ _ _ c.in-Ok.asked.request explain c.in-Ok.ensures.0 explained error c.in-Err-execute.ensures.fails place c.place_if-place.ensures lines))))
+    (inr (inr (inr (ends_failed _ _ _ _ _ _ c.in-Ok.asked.request explain c.in-Ok.ensures.0 explained error c.in-Err-execute.ensures.fails place c.in-Err-execute.ensures.place lines))))

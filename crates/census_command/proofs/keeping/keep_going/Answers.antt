@@ -1,4 +1,5 @@
 use Rattle.std.proofs.Common.{List, ℕ, inl, inr, refl, ap, subst, ◌∙◌, ◌≡◌}
+use Rattle.census_folders.specs.Sources.{Reads}
 use Rattle.census_command.specs.Keeps.{cut_lines, lost_lines}
 use Rattle.census_errors.specs.ErrorStreams.{TellsMoreText, TellsText}
 use Rattle.census_errors.proofs.Said.{told_after}
@@ -8,37 +9,36 @@ use Rattle.census_command.proofs.keeping.keep_going.Goals as goal
 
 pub returns-in-Ok-report : goal.returns-in-Ok-report
 returns-in-Ok-report g c =
-    let lost = c.in-Ok.ensures.0 in
-    let bundle = c.in-Ok.gathered.bundle in
-    let lines : c.as_slice.result.now ≡ lost_lines lost = c.as_slice.ensures.value ∙ c.in-Ok.ensures.2 in
+    let kept = c.in-Ok.gathered.0 in
+    let lost = kept.lost in
+    let lines : c.as_slice.result.now ≡ lost_lines lost = c.as_slice.ensures.value ∙ c.in-Ok.ensures.1 in
     let first : TellsText (lost_lines lost) c.args.errors.now c.tell.new.self = subst (λ (l : List ℕ). TellsText l c.args.errors.now c.tell.new.self) lines c.tell.ensures in
     let beside = c.in-Ok-report.lines.items in
     let more : TellsMoreText beside c.tell.new.self c.tell_more.new.self =
     subst (λ (l : List ℕ). TellsMoreText l c.tell.new.self c.tell_more.new.self) c.as_slice-in-Ok-report.ensures.value c.tell_more.ensures in
     rw (← c.streams.view_is) (inl (record {
-      bundle = bundle;
-      lost = lost;
-      kept = c.in-Ok.ensures.1;
+      kept = kept;
+      read = subst (λ a. Reads (g.S.Shelf.tellings c.args.shelf.now) a kept) c.source.ensures.asked c.in-Ok.ensures.0;
       report = c.in-Ok-report.ensures.report;
       unread = refl;
       sound = record { read = ap (λ s. s.read_failed) c.streams.view_is ∙ c.requires.sound.read; write = c.in-Ok-report.ensures.failed };
       lines = beside;
       said = c.in-Ok-report.ensures.lines;
       told = told_after (lost_lines lost) beside c.args.errors.now c.tell.new.self c.tell_more.new.self first more;
-      status_is = status_kept lost c.as_slice-in-Ok-report-2.result.now c.status_of_kept.result (c.as_slice-in-Ok-report-2.ensures.value ∙ c.in-Ok.ensures.2)
+      status_is = status_kept lost c.as_slice-in-Ok-report-2.result.now c.status_of_kept.result (c.as_slice-in-Ok-report-2.ensures.value ∙ c.in-Ok.ensures.1)
           c.status_of_kept.ensures.none c.status_of_kept.ensures.some;
     }))
 
 pub returns : goal.returns
 returns g c =
-    let lost = c.in-Ok.ensures.0 in
+    let kept = c.in-Ok.gathered.0 in
+    let lost = kept.lost in
     let error = c.from.result in
-    let lines : c.as_slice.result.now ≡ lost_lines lost = c.as_slice.ensures.value ∙ c.in-Ok.ensures.2 in
+    let lines : c.as_slice.result.now ≡ lost_lines lost = c.as_slice.ensures.value ∙ c.in-Ok.ensures.1 in
     let first : TellsText (lost_lines lost) c.args.errors.now c.tell.new.self = subst (λ (l : List ℕ). TellsText l c.args.errors.now c.tell.new.self) lines c.tell.ensures in
     rw (← c.streams.view_is) (inr (inl (record {
-      bundle = c.in-Ok.gathered.bundle;
-      lost = lost;
-      kept = c.in-Ok.ensures.1;
+      kept = kept;
+      read = subst (λ a. Reads (g.S.Shelf.tellings c.args.shelf.now) a kept) c.source.ensures.asked c.in-Ok.ensures.0;
       part = c.in-Err-report.ensures.report;
       unread = refl;
       error = error;

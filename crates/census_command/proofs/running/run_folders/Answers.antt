@@ -1,16 +1,55 @@
-use Rattle.std.proofs.Common.{refl, ap, ◌∙◌}
-use Rattle.std.proofs.lemmas.Result.{err_from_is_err_and}
+use Rattle.std.proofs.Common.{refl, ap, ◌∙◌, subst, inl, inr}
+use Rattle.census_folders.specs.Sources.{Reads, Stops}
+use Rattle.census_command.specs.Runs.{FailsInFolders, ReportsFoldersInPart}
+use Rattle.census_command.specs.Asking.{plain_folders}
 use Rattle.census_command.proofs.Reports.{folders_fail, folders_stop}
 use Rattle.census_command.proofs.running.run_folders.Goals as goal
 
-pub returns-in_err-bundle-clause-fails : goal.returns-in_err-bundle-clause-fails
-returns-in_err-bundle-clause-fails g c =
-    let p = err_from_is_err_and c.from_residual.result c.from_residual.ensures.1 in
-    rw (p.1, p.2) (folders_stop _ _ _ _ _ _ c.requires.sound (c.in_err-bundle.ensures.folders, c.in_err-bundle.ensures.told))
+pub returns-in-Err-clause-fails : goal.returns-in-Err-clause-fails
+returns-in-Err-clause-fails g c =
+    let shelf = g.S.Shelf.tellings c.args.shelf.now in
+    folders_stop shelf (plain_folders c.args.census) c.args.census.question c.reading.result.error _ _
+    (record { stops = refl; fault = c.in-Err.fault; is = c.reading.ensures.error; why = subst (λ a. Stops shelf a c.in-Err.fault) c.source.ensures.asked c.in-Err.ensures })
+    (record { unread = refl; written = refl; sound = c.requires.sound })
 
-pub returns-in_err-lines-clause-fails : goal.returns-in_err-lines-clause-fails
-returns-in_err-lines-clause-fails g c =
-    let p = err_from_is_err_and c.from_residual-in_err-lines.result c.from_residual-in_err-lines.ensures.1 in
-    rw (p.1, p.2, ← c.streams.view_is)
-    (folders_fail _ _ _ _ _ _ _ c.in_ok-bundle.ensures.folders c.in_ok-bundle.ensures.told c.in_ok-bundle.ensures.within refl (ap (λ s. s.read_failed) c.streams.view_is ∙ c.requires.sound.read)
-    c.in_err-lines.ensures.report _ c.in_err-lines.ensures.failed)
+pub returns-in-Err-clause-place : goal.returns-in-Err-clause-place
+returns-in-Err-clause-place g c =
+    let shelf = g.S.Shelf.tellings c.args.shelf.now in
+    inl (record { fault = c.in-Err.fault; is = c.reading.ensures.error; why = subst (λ a. Stops shelf a c.in-Err.fault) c.source.ensures.asked c.in-Err.ensures; at = c.reading.ensures.place })
+
+pub returns-in-Ok-report-clause-done : goal.returns-in-Ok-report-clause-done
+returns-in-Ok-report-clause-done g c =
+    let shelf = g.S.Shelf.tellings c.args.shelf.now in
+    rw (← c.streams.view_is) (record {
+      stops = refl;
+      kept = c.in-Ok.kept;
+      read = subst (λ a. Reads shelf a c.in-Ok.kept) c.source.ensures.asked c.in-Ok.ensures;
+      report = c.in-Ok-report.ensures.report;
+      said = c.in-Ok-report.ensures.lines;
+      unread = refl;
+    })
+
+pub returns-clause-fails : goal.returns-clause-fails
+returns-clause-fails g c =
+    let shelf = g.S.Shelf.tellings c.args.shelf.now in
+    rw (c.running.ensures.error, ← c.streams.view_is)
+    (folders_fail shelf (plain_folders c.args.census) c.args.census.question _ _ c.in-Err-report.fault
+    (record {
+      stops = refl;
+      kept = c.in-Ok.kept;
+      read = subst (λ a. Reads shelf a c.in-Ok.kept) c.source.ensures.asked c.in-Ok.ensures;
+      front = c.in-Err-report.ensures.report;
+      unread = refl;
+    })
+    (ap (λ s. s.read_failed) c.streams.view_is ∙ c.requires.sound.read) c.in-Err-report.ensures.failed)
+
+pub returns-clause-place : goal.returns-clause-place
+returns-clause-place g c =
+    let shelf = g.S.Shelf.tellings c.args.shelf.now in
+    inr (record {
+      kept = c.in-Ok.kept;
+      read = subst (λ a. Reads shelf a c.in-Ok.kept) c.source.ensures.asked c.in-Ok.ensures;
+      fault = c.in-Err-report.fault;
+      is = c.running.ensures.error;
+      at = c.running.ensures.place;
+    })

@@ -1,7 +1,6 @@
 use Rattle.std.proofs.Common.{◌≡◌, ◌++◌, subst}
 use Rattle.std.specs.List.{filter}
-use Rattle.census_folders.specs.Folders.{is_pattern_name}
-use Rattle.census_folders.specs.Shelves.{pattern_names_in}
+use Rattle.census_folders.specs.Listings.{is_pattern_name, pattern_names_in}
 use Rattle.census_folders.proofs.Listings.{all_names, bytes_of, left_names}
 use Rattle.census_folders.proofs.listing.pattern_names.Goals as goal
 

@@ -1,8 +1,7 @@
 use Rattle.std.proofs.Common.{◌≡◌, ◌+◌, ◌++◌, length}
 use Rattle.std.specs.List.{filter}
 use Rattle.std.specs.Option.{option_map_or}
-use Rattle.census_folders.specs.Folders.{is_pattern_name}
-use Rattle.census_folders.specs.Shelves.{pattern_names_in}
+use Rattle.census_folders.specs.Listings.{is_pattern_name, pattern_names_in}
 use Rattle.census_folders.proofs.Listings.{bytes_of, left_names}
 use Rattle.census_folders.proofs.listing.pattern_names.Given as goal
 

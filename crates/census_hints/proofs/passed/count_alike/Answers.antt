@@ -3,7 +3,7 @@ use Rattle.std.specs.List.{slice_split}
 use Rattle.std.proofs.lemmas.Iterator.Consumers.{YieldsList-at, YieldsList-from_filter, count_from_yields_List}
 use Rattle.std.proofs.lemmas.Iterator.Splits.{YieldsList-from_slice_split}
 use Rattle.std.proofs.lemmas.List.Sums.{length-filter}
-use Rattle.census_folders.specs.Shelves.{is_end}
+use Rattle.census_folders.specs.Listings.{is_end}
 use Rattle.census_hints.specs.Hints.{is_alike}
 use Rattle.census_hints.proofs.passed.count_alike.Goals as goal
 

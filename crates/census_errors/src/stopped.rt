@@ -1,0 +1,92 @@
+//! Commands that stopped: the error, and where it stands.
+ghost use Rattle.std.specs.Prelude.{◌≡◌};
+ghost use Rattle.census_errors.specs.Errors.{run_error_of_run, run_error_of_source};
+ghost use Rattle.census_errors.specs.Places.{IsFaultPlace, IsPlaceInBundle, kept_place};
+
+use crate::error::CommandError;
+use crate::place::Place;
+use crate::placing::{kept_place, loss_place, pattern_place};
+use crate::run_error::RunError;
+use census_bundle::{AddFault, Bundle};
+use census_crew::RunFault;
+use census_folders::SourceFault;
+use std::alloc::Global;
+
+/// A command that stopped.
+#[derive(Drop)]
+pub struct Stopped {
+    pub error: CommandError,
+    pub place: Place,
+}
+
+impl From<RunStopped> for Stopped {
+    ghost use Rattle.std.specs.Prelude.{◌≡◌};
+    ghost use Rattle.census_errors.specs.declared.error.CommandError.TheVariants.{Run};
+
+    ghost from_gives = { λ run stopped. stopped ≡ record { error = Run run.error; place = run.place } };
+
+    fn from(stopped: RunStopped) -> Stopped {
+        Stopped {
+            error: CommandError::Run(stopped.error),
+            place: stopped.place,
+        }
+    }
+}
+
+/// A census that stopped.
+#[derive(Drop)]
+pub struct RunStopped {
+    pub error: RunError,
+    pub place: Place,
+}
+
+impl RunStopped {
+    /// Its collections were not read from folders, for this fault. Where the word of the system takes memory and there is
+    /// none, it is left out, and so is a path that takes memory.
+    pub fn reading(alloc: Global, fault: SourceFault) -> RunStopped
+        ensures error { result.error ≡ run_error_of_source fault }
+        ensures place { IsFaultPlace fault result.place }
+    {
+        match fault {
+            SourceFault::Lost(loss) => RunStopped {
+                error: RunError::from(loss.cause),
+                place: loss_place(alloc, Some(loss.path), loss.cause),
+            },
+            SourceFault::Unnamed(cause) => RunStopped {
+                error: RunError::from(cause),
+                place: loss_place(alloc, None, cause),
+            },
+            SourceFault::TooMany => RunStopped {
+                error: RunError::Folder(AddFault::TooMany),
+                place: Place::nowhere(),
+            },
+            SourceFault::Memory => RunStopped {
+                error: RunError::Memory { ticket: None },
+                place: Place::nowhere(),
+            },
+        }
+    }
+
+    /// No whole report of this bundle was written, which was read from folders. Memory ran out at a pattern, whose path is
+    /// told where there is memory for it.
+    pub fn running(alloc: Global, bundle: &Bundle, fault: RunFault) -> RunStopped
+        ensures error { result.error ≡ run_error_of_run fault }
+        ensures place { IsPlaceInBundle bundle.now fault result.place }
+    {
+        RunStopped {
+            error: RunError::from(fault),
+            place: pattern_place(alloc, bundle, fault),
+        }
+    }
+
+    /// The same of a bundle on standard input, or of none, whose patterns have no paths: their numbers are told.
+    pub fn unnamed(alloc: Global, error: RunError) -> RunStopped
+        ensures error { result.error ≡ error }
+        ensures place { result.place ≡ kept_place error }
+    {
+        RunStopped {
+            error,
+            place: kept_place(alloc, error),
+        }
+    }
+}

@@ -1,0 +1,88 @@
+//! The collections that words name.
+ghost use Rattle.std.specs.Prelude.{◌≡◌, [], map, string_bytes, IfOk, MatchResult};
+ghost use Rattle.census_folders.specs.Sources.{Asked, Reads, Stops, asked_by};
+ghost use Rattle.census_folders.specs.Tellings.{Tellings};
+ghost use Rattle.census_folders.specs.declared.loss.OnLoss.TheVariants.{Stop};
+ghost use Rattle.census_folders.specs.declared.reading.Kept.{Kept};
+
+use crate::fault::SourceFault;
+use crate::loss::{Losses, OnLoss};
+use crate::reading::{Kept, read_folders};
+use crate::shelf::Shelf;
+use crate::trees::{Trees, folders_below_each};
+use std::alloc::{AllocError, Global};
+
+/// Folders to be read.
+#[derive(Clone, Copy)]
+pub struct Source<'r, 'a> {
+    /// The folders, in their order.
+    pub words: &'r [&'a str],
+    /// Whether the folders below them are read too.
+    pub below: bool,
+    /// How many bytes their files may have together, where there is a limit.
+    pub limit: Option<u64>,
+    pub on_loss: OnLoss,
+}
+
+/// Owned words, borrowed, in their order.
+pub fn borrowed_words(alloc: Global, words: &[String]) -> Result<Vec<&str>, AllocError>
+    ensures { IfOk result (λ texts.
+        map (λ s. s.now) texts.items ≡ map string_bytes words.now) }
+{
+    let mut texts = Vec::new(alloc);
+    for word in words {
+        texts.push(word.as_str())?;
+    }
+    Ok(texts)
+}
+
+/// Reads the folders of words into a bundle: for each word, in their order, one folder of that name, whose entries are the
+/// files in the folder whose names end in `.rle`, under their names and in the order of the bytes of these. Where those
+/// below them are read too, these are for each word the folder itself and all folders below it that list such a name, in
+/// the order of the bytes of their paths, each under its path. The path of a folder in another is that one's, a slash where it
+/// ends in none, and the name. Links to folders are not followed, and what is no regular file is not opened.
+///
+/// All folders are found before the first is read. A word that isn't a lawful name is refused before its folder is listed,
+/// and so is folder number 65,536; a folder is listed before its first file is read, and a file is read before its name or
+/// its number is refused. Where there is a limit, no more bytes of a file are read than tells that it passes it.
+///
+/// Lost is a folder that can't be listed, or in which the folders can't be told; a folder whose name is no UTF-8, since
+/// paths are; a file that can't be read, or has more than 67,108,864 bytes, or more than may still be read; and a folder
+/// or a file whose name isn't lawful. Where reading ends at the first loss, that is answered, and nothing after it is opened.
+/// Where it goes on, a file that can't be read or has too many bytes is a lost entry, a folder that can't be listed one
+/// without entries, and what has no lawful name is left out. What was lost is told in order: first on the way to the
+/// folders, then in them.
+///
+/// `TooMany` is answered at the folder of number 65,536, and at the file of that number in a folder. `Memory` is answered
+/// where a growth was refused.
+///
+/// What a folder lists and what its files hold is the shelf's word. Where it tells them, what is read and what is lost is
+/// exactly what it tells, and so is the place at which reading ends. A disk tells nothing.
+pub fn read_source<S: Shelf>(
+    shelf: &S,
+    alloc: Global,
+    source: Source<'_, '_>,
+) -> Result<Kept, SourceFault>
+    ensures { MatchResult result
+        (Reads (S.tellings shelf.now) (asked_by source.entry))
+        (Stops (S.tellings shelf.now) (asked_by source.entry)) }
+{
+    let Source {
+        words,
+        below,
+        limit,
+        on_loss,
+    } = source;
+    if !below {
+        return read_folders(shelf, alloc, on_loss, words, limit, Losses::none(alloc));
+    }
+    let Trees { folders, lost } = folders_below_each(shelf, alloc, on_loss, words)?;
+    let words = borrowed_words(alloc, folders.as_slice())?;
+    read_folders(shelf, alloc, on_loss, words.as_slice(), limit, lost)
+}
+
+/// Where reading ends at the first loss, nothing of what was read is lost.
+pub fn nothing_is_lost_where_reading_ends_at_the_first_loss()
+    ensures { (shelf : Tellings) (asked : Asked) (kept : Kept) →
+        asked.on_loss ≡ Stop → Reads shelf asked kept → kept.lost ≡ [] }
+{}

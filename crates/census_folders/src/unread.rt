@@ -1,0 +1,69 @@
+//! Why something can't be read.
+
+use std::alloc::AllocError;
+use thiserror::Error;
+use watched::ReadFault;
+
+/// Why a folder can't be listed, or a file can't be read.
+#[derive(Clone, Copy, Debug, PartialEq, Eq, Drop)]
+pub struct Unread {
+    /// The number of the system's error, where there is one.
+    pub code: Option<i32>,
+    /// Whether it is a regular file, or a link to one, where a folder is wanted.
+    pub is_file: bool,
+}
+
+impl Unread {
+    ghost use Rattle.std.specs.Prelude.{◌≡◌};
+    ghost use Rattle.census_folders.specs.Told.{silent};
+
+    /// The system says nothing of it.
+    pub fn silent() -> Unread
+        ensures { result ≡ silent }
+    {
+        Unread {
+            code: None,
+            is_file: false,
+        }
+    }
+}
+
+/// Why a shelf gives no list of a folder, or no bytes of a file.
+#[derive(Clone, Copy, Debug, PartialEq, Eq, Drop, Error)]
+pub enum ShelfFault {
+    /// The folder can't be listed, or the file can't be read.
+    #[error("read failed")]
+    Unread(Unread),
+    /// There are more bytes than the limit allows.
+    #[error("input too long")]
+    TooLong,
+    #[error("out of memory")]
+    Memory,
+}
+
+impl From<AllocError> for ShelfFault {
+    ghost use Rattle.std.specs.Prelude.{◌≡◌};
+    ghost use Rattle.census_folders.specs.declared.unread.ShelfFault.TheVariants.{Memory};
+
+    ghost from_gives = { λ _ fault. fault ≡ Memory };
+
+    fn from(_: AllocError) -> ShelfFault {
+        ShelfFault::Memory
+    }
+}
+
+impl From<ReadFault> for ShelfFault {
+    ghost use Rattle.std.specs.Prelude.{◌≡◌};
+    ghost use Rattle.census_folders.specs.Told.{shelf_fault_of};
+
+    ghost from_gives = { λ read fault. fault ≡ shelf_fault_of read };
+
+    /// The system's error is not known any more.
+    fn from(fault: ReadFault) -> ShelfFault {
+        match fault {
+            ReadFault::Read => ShelfFault::Unread(Unread::silent()),
+            ReadFault::TooLong => ShelfFault::TooLong,
+            ReadFault::Memory => ShelfFault::Memory,
+        }
+    }
+}

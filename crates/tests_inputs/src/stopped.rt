@@ -1,0 +1,77 @@
+//! What is read of folders, and why not.
+
+use census_folders::{Cause, Kept, OnLoss, Shelf, Source, SourceFault, read_source};
+use std::alloc::Global;
+use std::process::Abort;
+
+/// The folders of these words, up to the first loss.
+pub fn plain<'r, 'a>(words: &'r [&'a str], limit: Option<u64>) -> Source<'r, 'a> {
+    Source {
+        words,
+        below: false,
+        limit,
+        on_loss: OnLoss::Stop,
+    }
+}
+
+/// The same and those below them.
+pub fn below<'r, 'a>(words: &'r [&'a str], on_loss: OnLoss) -> Source<'r, 'a> {
+    Source {
+        words,
+        below: true,
+        limit: None,
+        on_loss,
+    }
+}
+
+// What the program calls a loss.
+fn name_of_loss(cause: Cause) -> &'static str {
+    match cause {
+        Cause::BadName => "folder fault 1",
+        Cause::Unread(_) => "read failed",
+        Cause::TooLong => "input too long",
+    }
+}
+
+// What the program calls it.
+fn name_of(fault: &SourceFault) -> &'static str {
+    match fault {
+        SourceFault::Lost(loss) => name_of_loss(loss.cause),
+        SourceFault::Unnamed(cause) => name_of_loss(*cause),
+        SourceFault::TooMany => "folder fault 3",
+        SourceFault::Memory => "out of memory",
+    }
+}
+
+/// What is read, or what the program calls the fault.
+pub fn read<S: Shelf>(
+    shelf: &S,
+    alloc: Global,
+    source: Source<'_, '_>,
+) -> Result<Kept, &'static str> {
+    match read_source(shelf, alloc, source) {
+        Ok(kept) => Ok(kept),
+        Err(fault) => Err(name_of(&fault)),
+    }
+}
+
+/// Whether reading ends so, and at what has this path.
+pub fn check_stop<S: Shelf>(
+    rt: &impl Abort,
+    alloc: Global,
+    shelf: &S,
+    source: Source<'_, '_>,
+    name: &str,
+    path: &[u8],
+) {
+    match read_source(shelf, alloc, source) {
+        Err(fault) => {
+            assert!(rt; name_of(&fault) == name);
+            match fault {
+                SourceFault::Lost(loss) => assert!(rt; loss.path.as_slice() == path),
+                _ => assert!(rt; path.is_empty()),
+            }
+        }
+        Ok(_) => assert!(rt; false),
+    }
+}
