@@ -1,5 +1,5 @@
 -- The onset that is found of what has fallen apart is that of its ash.
-use Rattle.std.proofs.Common.{◌≡◌, ℕ, ◌<◌, ◌≤◌, inl, inr, true, false, Option, Some, None, is_some, unwrap_or, List, refl, sym, ap, subst, ◌∙◌, true≢false, arith}
+use Rattle.std.proofs.Common.{◌≡◌, ℕ, ◌<◌, ◌≤◌, inl, inr, Bool, true, false, Option, Some, None, is_some, unwrap_or, List, refl, sym, ap, subst, ◌∙◌, true≢false, arith}
 use Rattle.std.proofs.lemmas.Bool.{cases_lt}
 use Rattle.life_model.specs.Rule.{Rule}
 use Rattle.life_model.specs.Generation.{Generation}
@@ -69,13 +69,13 @@ module _ (R : Rule) (G : Generation) (b : ℕ) where
   onset_only onset parts fallen first =
       one_onset R b b (ash_onset R G b) onset G (onset_found (parts, fallen)) first
 
-  onset_in : (onset : ℕ) (parts : List Part) (o : Option (List Generation)) → ash_of R b (generation R G b) ≡ o →
-      census_found R b (ash_onset R G b) o ≡ Ash onset parts → IsAshOnset R b G onset
-  onset_in onset parts None none e = absurd cc
-  onset_in onset parts (Some found) some e =
+  onset_in : (near : Bool) (onset : ℕ) (parts : List Part) (o : Option (List Generation)) → ash_of R b (generation R G b) ≡ o →
+      census_found near R b (ash_onset R G b) o ≡ Ash onset parts → IsAshOnset R b G onset
+  onset_in near onset parts None none e = absurd cc
+  onset_in near onset parts (Some found) some e =
       let same : ash_onset R G b ≡ onset = cc in
       subst (IsAshOnset R b G) same (onset_found (found, ash_if_found R b (generation R G b) found some))
 
-  pub onset_of_census : (onset : ℕ) (parts : List Part) → census_of R G b ≡ Ash onset parts → IsAshOnset R b G onset
+  pub onset_of_census : (near : Bool) (onset : ℕ) (parts : List Part) → census_of near R G b ≡ Ash onset parts → IsAshOnset R b G onset
   unfolding census_of
-  onset_of_census onset parts e = onset_in onset parts (ash_of R b (generation R G b)) refl e
+  onset_of_census near onset parts e = onset_in near onset parts (ash_of R b (generation R G b)) refl e

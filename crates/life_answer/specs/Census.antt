@@ -5,6 +5,7 @@ use Rattle.life_model.specs.Generation.{Generation}
 use Rattle.life_model.specs.Evolution.{generation}
 use Rattle.life_decided.specs.Decided.{ash_of}
 use Rattle.life_answer.specs.Answers.{outcome_of}
+use Rattle.life_answer.specs.Counted.{code_bound, counted_of}
 use Rattle.life_answer.specs.Parts.{counted_codes}
 use Rattle.life_answer.specs.Recurrence.{first_from}
 use Rattle.life_answer.specs.declared.part.Part.{Part}
@@ -33,11 +34,12 @@ is_ash_then R G b n = is_some (ash_of R b (generation R G n))
 unfoldable pub ash_onset : Rule → Generation → ℕ → ℕ
 ash_onset R G b = unwrap_or (first_from (is_ash_then R G b) 0 b) b
 
-abbrev pub census_found : Rule → ℕ → ℕ → Option (List Generation) → Outcome
-census_found R b onset None = Unresolved
-census_found R b onset (Some parts) = Ash onset (counted_codes (map (part_code R b) parts))
+abbrev pub census_found : Bool → Rule → ℕ → ℕ → Option (List Generation) → Outcome
+census_found near R b onset None = Unresolved
+census_found near R b onset (Some parts) =
+    Ash onset (counted_codes (map (part_code R (code_bound b)) (counted_of near R b parts)))
 
 -- What becomes of a set that is to fall apart within b: the onset of its ash, and the objects into which generation b falls
--- apart, where it does.
-unfoldable pub census_of : Rule → Generation → ℕ → Outcome
-census_of R G b = census_found R b (ash_onset R G b) (ash_of R b (generation R G b))
+-- apart, where it does, or the independent parts of these.
+unfoldable pub census_of : Bool → Rule → Generation → ℕ → Outcome
+census_of near R G b = census_found near R b (ash_onset R G b) (ash_of R b (generation R G b))

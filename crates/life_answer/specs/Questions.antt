@@ -21,7 +21,7 @@ use Rattle.life_answer.specs.Limited.{outcome_unless_large}
 -- the bound within which is asked
 abbrev pub bound_of : Question → ℕ
 bound_of (Settles bound cells) = bound
-bound_of (Objects bound cells) = bound
+bound_of (Objects bound cells near) = bound
 
 -- the greatest bound within which it is answered as what a pattern settles
 abbrev pub settles_bound_limit : ℕ
@@ -30,7 +30,7 @@ settles_bound_limit = 1000000
 -- the greatest bound within which such a question is answered
 abbrev pub greatest_bound : Question → ℕ
 greatest_bound (Settles bound cells) = settles_bound_limit
-greatest_bound (Objects bound cells) = objects_bound_limit
+greatest_bound (Objects bound cells near) = objects_bound_limit
 
 -- the bound is one within which is answered
 abbrev pub IsAnswered : Question → Type 0
@@ -39,7 +39,7 @@ IsAnswered question = (1 ≤ bound_of question) × (bound_of question ≤ greate
 -- what becomes of a set
 abbrev pub outcome_to : Question → Rule → Generation → Outcome
 outcome_to (Settles bound cells) R G = outcome_unless_large cells R G bound (outcome_of R G bound)
-outcome_to (Objects bound cells) R G = outcome_unless_large cells R G (3 * bound) (census_of R G bound)
+outcome_to (Objects bound cells near) R G = outcome_unless_large cells R G (3 * bound) (census_of near R G bound)
 
 -- what is found of a set
 abbrev pub finding_to : Question → Rule → Generation → Finding

@@ -1,5 +1,5 @@
 //! The laws that tie the answer to the definition of onset, period and displacement.
-ghost use Rattle.std.specs.Prelude.{◌≡◌, ◌+◌, ◌<◌, ◌≤◌, ◌↔◌, ℕ, List, None, Ok, Option, Some, ℤ, length};
+ghost use Rattle.std.specs.Prelude.{◌≡◌, ◌+◌, ◌<◌, ◌≤◌, ◌↔◌, ℕ, Bool, List, None, Ok, Option, Some, ℤ, length};
 ghost use Rattle.life_model.specs.Evolution.{generation};
 ghost use Rattle.life_model.specs.Generation.{Generation, size};
 ghost use Rattle.life_model.specs.Recurrence.{AreOneObject, Recurrence, Settles, SettlesAt};
@@ -80,12 +80,12 @@ pub fn what_comes_again_is_no_ash()
 /// Where it is found that a pattern has fallen apart within a bound, the onset that is found is that of its ash, and no other
 /// number is. Within each other bound within which it has fallen apart it is the same.
 pub fn the_onset_of_ash_is_found()
-    ensures found { (R : Rule) (G : Generation) (b onset : ℕ) (parts : List Part) →
-        census_of R G b ≡ Ash onset parts → IsAshOnset R b G onset }
+    ensures found { (near : Bool) (R : Rule) (G : Generation) (b onset : ℕ) (parts : List Part) →
+        census_of near R G b ≡ Ash onset parts → IsAshOnset R b G onset }
     ensures only { (R : Rule) (G : Generation) (b onset : ℕ) (parts : List Generation) →
         HasFallenApart R b G parts → IsAshOnset R b G onset → ash_onset R G b ≡ onset }
-    ensures same { (R : Rule) (G : Generation) (b c onset other : ℕ) (parts others : List Part) →
-        census_of R G b ≡ Ash onset parts → census_of R G c ≡ Ash other others → onset ≡ other }
+    ensures same { (near close : Bool) (R : Rule) (G : Generation) (b c onset other : ℕ) (parts others : List Part) →
+        census_of near R G b ≡ Ash onset parts → census_of close R G c ≡ Ash other others → onset ≡ other }
 {}
 
 /// The first generation past a limit is the first that has more cells than allowed, and there is none exactly where all

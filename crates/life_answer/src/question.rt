@@ -16,5 +16,7 @@ pub enum Question {
         bound: u32,
         /// How many cells a generation from 0 to three times the bound may have at most; none: any number.
         cells: Option<u32>,
+        /// Whether what is near one another counts as one object; else independent parts are counted.
+        near: bool,
     },
 }
