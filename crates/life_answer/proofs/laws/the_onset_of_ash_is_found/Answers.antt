@@ -9,5 +9,5 @@ pub returns-clause-only : goal.returns-clause-only
 returns-clause-only c = λ R G b onset parts fallen first. onset_only R G b onset parts fallen first
 
 pub returns-clause-same : goal.returns-clause-same
-returns-clause-same c = λ R G b d onset other parts others e f.
+returns-clause-same c = λ near close R G b d onset other parts others e f.
     one_onset R b d onset other G (onset_of_census R G b near onset parts e) (onset_of_census R G d close other others f)
