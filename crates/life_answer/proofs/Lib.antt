@@ -7,4 +7,5 @@ pub mod Objects
 pub mod Codes
 pub mod Counted
 pub mod Tallying
+pub mod PartCodes
 pub mod Onsets

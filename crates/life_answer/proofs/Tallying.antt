@@ -1,73 +1,109 @@
--- Objects are counted the same in whatever order their codes come.
-use Rattle.std.proofs.Common.{◌≡◌, ℕ, zero, suc, ◌<◌, List, [], ◌∷◌, length, fold, get_or, set, sym, refl, ap, ◌∙◌, arith}
+-- Objects are counted the same in whatever order their codes come, or they themselves.
+use Rattle.std.proofs.Common.{◌≡◌, ℕ, zero, suc, ◌<◌, List, [], ◌∷◌, ◌++◌, length, flat_map, fold, get_or, set, sym, refl, ap, ◌∙◌, arith}
 use Rattle.std.specs.List.{swap}
 use Rattle.std.specs.List.Sorted.{IsPermutation, SwapsInRange, apply_swaps}
-use Rattle.std.proofs.lemmas.List.Sorted.{length_permutation}
+use Rattle.std.proofs.lemmas.List.Sorted.{IsPermutation-append_comm, length_permutation}
+use Rattle.std.proofs.lemmas.List.Sums.{fold-append}
 use Rattle.life_answer.specs.declared.part.Part.{Part}
 use Rattle.life_answer.specs.Parts.{counted_codes, objects_in, with_code}
 use Rattle.life_answer.proofs.Counted.{commutes, one_more}
 
--- the first code counted last
-abbrev gather : List (List ℕ) → List Part
-gather [] = []
-gather (code ∷ codes) = with_code code (gather codes)
+-- ---- what is counted in any order, since any two are
 
-absorbs : (codes : List (List ℕ)) (code : List ℕ) (parts : List Part) →
-    fold (λ ps c. with_code c ps) (with_code code parts) codes
-    ≡ with_code code (fold (λ ps c. with_code c ps) parts codes)
-absorbs [] code parts = refl
-absorbs (c ∷ cs) code parts =
-    ap (λ ps. fold (λ qs d. with_code d qs) ps cs) (commutes c code parts) ∙ absorbs cs code (with_code c parts)
+module _ {X : Type 0} (with : X → List Part → List Part)
+    (either_first : (x y : X) (parts : List Part) → with x (with y parts) ≡ with y (with x parts)) where
+  -- the first counted last
+  abbrev gather : List X → List Part
+  gather [] = []
+  gather (x ∷ xs) = with x (gather xs)
 
-gathers : (codes : List (List ℕ)) → counted_codes codes ≡ gather codes
-gathers [] = refl
-gathers (code ∷ codes) = absorbs codes code [] ∙ ap (with_code code) (gathers codes)
+  pub absorbs : (xs : List X) (x : X) (parts : List Part) →
+      fold (λ ps y. with y ps) (with x parts) xs ≡ with x (fold (λ ps y. with y ps) parts xs)
+  absorbs [] x parts = refl
+  absorbs (y ∷ ys) x parts =
+      ap (λ ps. fold (λ qs z. with z qs) ps ys) (either_first y x parts) ∙ absorbs ys x (with y parts)
 
--- ---- two codes change places
+  pub gathers : (xs : List X) → fold (λ ps y. with y ps) [] xs ≡ gather xs
+  gathers [] = refl
+  gathers (x ∷ xs) = absorbs xs x [] ∙ ap (with x) (gathers xs)
 
-trade : (codes : List (List ℕ)) (j : ℕ) (code d : List ℕ) → j < length codes →
-    with_code (get_or codes j d) (gather (set codes j code)) ≡ with_code code (gather codes)
-trade [] j code d h = absurd (omega arith)
-trade (c ∷ cs) zero code d h = commutes c code (gather cs)
-trade (c ∷ cs) (suc j) code d h =
-    commutes (get_or cs j d) c (gather (set cs j code))
-    ∙ ap (with_code c) (trade cs j code d (omega arith))
-    ∙ commutes c code (gather cs)
+  -- two change places
+  trade : (xs : List X) (j : ℕ) (x d : X) → j < length xs →
+      with (get_or xs j d) (gather (set xs j x)) ≡ with x (gather xs)
+  trade [] j x d h = absurd (omega arith)
+  trade (y ∷ ys) zero x d h = either_first y x (gather ys)
+  trade (y ∷ ys) (suc j) x d h =
+      either_first (get_or ys j d) y (gather (set ys j x))
+      ∙ ap (with y) (trade ys j x d (omega arith))
+      ∙ either_first y x (gather ys)
 
-swapped : (codes : List (List ℕ)) (i j : ℕ) (d : List ℕ) → i < length codes → j < length codes →
-    gather (set (set codes i (get_or codes j d)) j (get_or codes i d)) ≡ gather codes
-swapped [] i j d h k = absurd (omega arith)
-swapped (c ∷ cs) zero zero d h k = refl
-swapped (c ∷ cs) zero (suc j) d h k = trade cs j c d (omega arith)
-swapped (c ∷ cs) (suc i) zero d h k = trade cs i c d (omega arith)
-swapped (c ∷ cs) (suc i) (suc j) d h k = ap (with_code c) (swapped cs i j d (omega arith) (omega arith))
+  swapped : (xs : List X) (i j : ℕ) (d : X) → i < length xs → j < length xs →
+      gather (set (set xs i (get_or xs j d)) j (get_or xs i d)) ≡ gather xs
+  swapped [] i j d h k = absurd (omega arith)
+  swapped (x ∷ xs) zero zero d h k = refl
+  swapped (x ∷ xs) zero (suc j) d h k = trade xs j x d (omega arith)
+  swapped (x ∷ xs) (suc i) zero d h k = trade xs i x d (omega arith)
+  swapped (x ∷ xs) (suc i) (suc j) d h k = ap (with x) (swapped xs i j d (omega arith) (omega arith))
 
-swap_same : (codes : List (List ℕ)) (i j : ℕ) → i < length codes → j < length codes →
-    gather (swap codes i j) ≡ gather codes
-swap_same [] i j h k = refl
-swap_same (c ∷ cs) i j h k = swapped (c ∷ cs) i j c h k
+  swap_same : (xs : List X) (i j : ℕ) → i < length xs → j < length xs → gather (swap xs i j) ≡ gather xs
+  swap_same [] i j h k = refl
+  swap_same (x ∷ xs) i j h k = swapped (x ∷ xs) i j x h k
 
-swaps_same : (codes : List (List ℕ)) (moves : List (ℕ × ℕ)) → SwapsInRange (length codes) moves →
-    gather (apply_swaps codes moves) ≡ gather codes
-swaps_same codes [] below = refl
-swaps_same codes (m ∷ ms) below =
-    let within = below.2 in
-    let long : length (apply_swaps codes ms) ≡ length codes =
-    length_permutation codes (apply_swaps codes ms) (record { moves = ms; below = within; is = refl }) in
-    swap_same (apply_swaps codes ms) m.0 m.1 (omega (arith, long, below.0)) (omega (arith, long, below.1))
-    ∙ swaps_same codes ms within
+  swaps_same : (xs : List X) (moves : List (ℕ × ℕ)) → SwapsInRange (length xs) moves →
+      gather (apply_swaps xs moves) ≡ gather xs
+  swaps_same xs [] below = refl
+  swaps_same xs (m ∷ ms) below =
+      let within = below.2 in
+      let long : length (apply_swaps xs ms) ≡ length xs =
+      length_permutation xs (apply_swaps xs ms) (record { moves = ms; below = within; is = refl }) in
+      swap_same (apply_swaps xs ms) m.0 m.1 (omega (arith, long, below.0)) (omega (arith, long, below.1))
+      ∙ swaps_same xs ms within
+
+  pub in_any_order : (xs ys : List X) → IsPermutation xs ys →
+      fold (λ ps x. with x ps) [] xs ≡ fold (λ ps x. with x ps) [] ys
+  in_any_order xs ys p =
+      gathers xs ∙ sym (swaps_same xs p.moves p.below) ∙ ap gather (sym p.is) ∙ sym (gathers ys)
+
+-- ---- codes
 
 pub counted_permutation : (codes others : List (List ℕ)) → IsPermutation codes others →
     counted_codes codes ≡ counted_codes others
-counted_permutation codes others p =
-    gathers codes ∙ sym (swaps_same codes p.moves p.below) ∙ ap gather (sym p.is) ∙ sym (gathers others)
+counted_permutation = in_any_order with_code commutes
 
-gather_all : (codes : List (List ℕ)) → objects_in (gather codes) ≡ length codes
+gather_all : (codes : List (List ℕ)) → objects_in (gather with_code commutes codes) ≡ length codes
 gather_all [] = refl
 gather_all (code ∷ codes) =
-    let before : objects_in (gather codes) ≡ length codes = gather_all codes in
-    let here = one_more code (gather codes) in
+    let before : objects_in (gather with_code commutes codes) ≡ length codes = gather_all codes in
+    let here = one_more code (gather with_code commutes codes) in
     omega arith
 
 pub counted_all : (codes : List (List ℕ)) → objects_in (counted_codes codes) ≡ length codes
-counted_all codes = ap objects_in (gathers codes) ∙ gather_all codes
+counted_all codes = ap objects_in (gathers with_code commutes codes) ∙ gather_all codes
+
+-- ---- things that have several codes each
+
+-- more objects with these codes
+abbrev pub with_codes : List (List ℕ) → List Part → List Part
+with_codes codes parts = fold (λ ps c. with_code c ps) parts codes
+
+with_either_first : (codes others : List (List ℕ)) (parts : List Part) →
+    with_codes codes (with_codes others parts) ≡ with_codes others (with_codes codes parts)
+with_either_first [] others parts = refl
+with_either_first (code ∷ codes) others parts =
+    ap (with_codes codes) (sym (absorbs with_code commutes others code parts))
+    ∙ with_either_first codes others (with_code code parts)
+
+module _ {X : Type 0} (codes_of : X → List (List ℕ)) where
+  one_by_one : (xs : List X) (parts : List Part) →
+      with_codes (flat_map codes_of xs) parts ≡ fold (λ ps x. with_codes (codes_of x) ps) parts xs
+  one_by_one [] parts = refl
+  one_by_one (x ∷ xs) parts =
+      fold-append (λ ps c. with_code c ps) parts (codes_of x) (flat_map codes_of xs)
+      ∙ one_by_one xs (with_codes (codes_of x) parts)
+
+  pub all_codes_in_any_order : (xs ys : List X) → IsPermutation xs ys →
+      counted_codes (flat_map codes_of xs) ≡ counted_codes (flat_map codes_of ys)
+  all_codes_in_any_order xs ys p =
+      one_by_one xs []
+      ∙ in_any_order (λ x. with_codes (codes_of x)) (λ x y. with_either_first (codes_of x) (codes_of y)) xs ys p
+      ∙ sym (one_by_one ys [])
