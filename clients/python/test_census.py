@@ -39,6 +39,8 @@ GUN = """x = 36, y = 9, rule = B3/S23
 24bo$22bobo$12b2o6b2o12b2o$11bo3bo4b2o12b2o$2o8bo5bo3b2o$2o8bo3bob2o4b
 obo$10bo5bo7bo$11bo3bo$12b2o!
 """
+# a traffic light, and a glider that goes away from it
+LIGHT_AND_GLIDER = "x = 23, y = 23\n4bo$4bo$4bo2$3o3b3o2$4bo$4bo$4bo12$21bo$22bo$20b3o!"
 # LifeWiki: it vanishes at generation 130
 DIEHARD = "x = 8, y = 3\n6bo$2o$bo3b3o!"
 # a letter that stands for no state of Life: line 2, column 9, byte 13 + 8
@@ -173,6 +175,12 @@ class Identify(Room):
         self.assertEqual(found, Pattern("B3/S23", 5, (3, 3), 1103, objects=ASH_OF_R_PENTOMINO))
         self.assertEqual(sum(found.objects.values()), 25)
         self.assertIsNone(found.apgcode)
+
+    def test_what_is_near(self):
+        self.assertEqual(self.census.identify(LIGHT_AND_GLIDER).objects, {"xp2_7": 4, "xq4_153": 1})
+        near = self.census.identify(LIGHT_AND_GLIDER, near=True)
+        self.assertEqual(near.objects, {"xq4_153": 1, "xp2_s01110szw222": 1})
+        self.assertEqual(self.census.identify_many([GLIDER, LIGHT_AND_GLIDER], near=True), [self.census.identify(GLIDER), near])
 
     def test_other_rule(self):
         self.assertEqual(self.census.identify("x = 2, y = 2, rule = 23/36\n2o$2o!").rule, "B36/S23")
@@ -479,8 +487,13 @@ class Tables(Room):
         rows = self.census.table([f"{EXAMPLES}/methuselahs"], objects=True)
         self.assertEqual([(row.status, row.name, row.population) for row in rows], [("ash", "acorn.rle", 7), ("ash", "r_pentomino.rle", 5)])
         self.assertEqual(dict(rows[1].parts), ASH_OF_R_PENTOMINO)
-        # LifeWiki, Acorn: 13 escaped gliders
-        self.assertEqual(dict(rows[0].parts)["xq4_153"], 13)
+        # LifeWiki, Acorn: 13 escaped gliders and 41 blinkers, 16 of them in 4 traffic lights
+        parts = dict(rows[0].parts)
+        self.assertEqual((parts["xq4_153"], parts["xp2_7"], parts.get("xp2_s01110szw222")), (13, 41, None))
+        near = dict(self.census.table([f"{EXAMPLES}/methuselahs"], objects=True, near=True)[0].parts)
+        self.assertEqual((near["xq4_153"], near["xp2_7"], near["xp2_s01110szw222"]), (13, 20, 4))
+        with self.assertRaises(TypeError):
+            self.census.table(self.FOLDERS, near=True)
         # LifeWiki: they take 5,206 and 1,103 generations
         self.assertEqual([row.onset for row in rows], [5206, 1103])
         self.assertEqual({row.name: row.parts for row in self.census.table(self.FOLDERS, objects=True)},
@@ -945,7 +958,9 @@ class LaterAndDrawn(Room):
     def test_run_and_objects_are_tables(self):
         folders = [f"{EXAMPLES}/spaceships", f"{EXAMPLES}/methuselahs"]
         self.assertEqual(self.census.run(folders, bound=100), self.census.table(folders, bound=100))
-        self.assertEqual(self.census.objects(folders, bound=200), self.census.table(folders, objects=True, bound=200))
+        for near in (False, True):
+            table = self.census.table(folders, objects=True, near=near, bound=200)
+            self.assertEqual(self.census.objects(folders, near=near, bound=200), table)
 
     def test_the_program_on_the_path(self):
         os.symlink(PROGRAM, os.path.join(self.room, "census"))

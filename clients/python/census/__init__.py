@@ -189,7 +189,7 @@ class Pattern:
     displacement: Optional[Tuple[int, int]] = None
     # `xs`, `xp` or `xq`, a number, `_` and the shortest text of all phases; `xs0_0` where no cell lives on
     apgcode: Optional[str] = None
-    # how many objects have each code
+    # how many independent parts have each code; with `near`, how many objects
     objects: Optional[Dict[str, int]] = field(default=None, hash=False)
     # the bound, within which neither was found
     unresolved: Optional[int] = None
@@ -228,7 +228,7 @@ class Row:
     generation: Optional[int] = None
     # the number of the RLE fault, 1 to 10; `identify` tells place and sentence. 0 where the file could not be read (`census run -k`)
     fault: Optional[int] = None
-    # each code of its objects with how many have it, in the order of the report
+    # each code of its parts with how many have it, in the order of the report; with `near`, of its objects
     parts: Optional[Tuple[Tuple[str, int], ...]] = None
 
 
@@ -267,27 +267,29 @@ class Census:
     def __repr__(self) -> str:
         return f"Census({self.program!r}, timeout={self.timeout!r})"
 
-    def identify(self, rle: Text, *, bound: Optional[int] = None) -> Pattern:
+    def identify(self, rle: Text, *, bound: Optional[int] = None, near: bool = False) -> Pattern:
         """Tells of one RLE text what its pattern is and becomes within `bound` generations, 1 to 100,000 (None: 10,000).
+
+        Of what has fallen apart the independent parts are counted; with `near` what comes within two cells is one object.
 
         Raises `PatternFault`, `TooLong`, `OutOfMemory`, `TimedOut`, `ProgramFailed`, or `CensusError` itself; `OSError` where the program
         can't be started.
         """
-        ran = self._run(["identify", *_option("bound", bound)], _bytes_of(rle))
+        ran = self._run(["identify", *_option("bound", bound), *_flag("near", near)], _bytes_of(rle))
         answer = _answers(ran, ["-"], bound)["-"]
         if isinstance(answer, CensusError):
             raise answer
         return answer
 
     @overload
-    def identify_many(self, rles: Iterable[Text], *, bound: Optional[int] = None,
+    def identify_many(self, rles: Iterable[Text], *, bound: Optional[int] = None, near: bool = False,
                       return_exceptions: Literal[False] = False) -> List[Pattern]: ...
 
     @overload
-    def identify_many(self, rles: Iterable[Text], *, bound: Optional[int] = None,
+    def identify_many(self, rles: Iterable[Text], *, bound: Optional[int] = None, near: bool = False,
                       return_exceptions: Literal[True]) -> List[Union[Pattern, CensusError]]: ...
 
-    def identify_many(self, rles: Iterable[Text], *, bound: Optional[int] = None, return_exceptions: bool = False
+    def identify_many(self, rles: Iterable[Text], *, bound: Optional[int] = None, near: bool = False, return_exceptions: bool = False
                       ) -> Union[List[Pattern], List[Union[Pattern, CensusError]]]:
         """Tells of each RLE text, in their order, what `identify` tells, by one call of the program.
 
@@ -304,7 +306,7 @@ class Census:
         found: Dict[str, Union[Pattern, CensusError]] = {
             str(index): text for index, text in enumerate(texts) if isinstance(text, CensusError)
         }
-        options = _option("bound", bound)
+        options = [*_option("bound", bound), *_flag("near", near)]
         judged = 0
         for names in _batches([str(index) for index in range(len(texts)) if str(index) not in found]):
             with tempfile.TemporaryDirectory(prefix="census-") as folder:
@@ -320,21 +322,25 @@ class Census:
             _raise_first(answers)
         return answers
 
-    def table(self, folders: Iterable[Path], *, objects: bool = False, bound: Optional[int] = None, workers: Optional[int] = None,
-              cells: Optional[int] = None) -> List[Row]:
+    def table(self, folders: Iterable[Path], *, objects: bool = False, near: bool = False, bound: Optional[int] = None,
+              workers: Optional[int] = None, cells: Optional[int] = None) -> List[Row]:
         """Tells of each pattern of these folders, in their order, what it becomes: the report of `census run` or of `census objects`.
 
         Each folder is a collection of its `*.rle` files, sorted bytewise. `bound` is 1 to 1,000,000 generations (None: 1,000), with
         `objects` to 100,000 (None: 10,000); `workers` 1 to 16 threads (None: 4); `cells` is how many live cells a generation may have, 1 to
-        4,294,967,295 (None: any number, with `objects` 1,000,000). A text with a fault is a row; `identify` says more of it. Where the
-        folders are more than one call can hold, several are made in turn. No folder, no call.
+        4,294,967,295 (None: any number, with `objects` 1,000,000). With `objects` the independent parts of what is left are counted; with
+        `near`, which goes with `objects` alone, what comes within two cells is one object. A text with a fault is a row; `identify` says
+        more of it. Where the folders are more than one call can hold, several are made in turn. No folder, no call.
 
         Raises `FolderFault`, `TooLong`, `ReadFailed`, `OutOfMemory`, `TimedOut`, `ProgramFailed`, or `CensusError` itself; `OSError` where
         the program can't be started. Of several folders it is found by further calls which one is at fault.
         """
         if isinstance(folders, (str, bytes, os.PathLike)):
             raise TypeError("folders must be a list of folders")
-        options = [*_option("bound", bound), *_option("workers", workers), *_option("cells", cells), "--"]
+        if near and not objects:
+            raise TypeError("near goes with objects alone")
+        numbers = [*_option("bound", bound), *_option("workers", workers), *_option("cells", cells)]
+        options = [*numbers, *_flag("near", near), "--"]
         rows: List[Row] = []
         before = 0
         for names in _batches([_path_of(folder) for folder in folders]):
@@ -352,10 +358,10 @@ class Census:
         """`table` of what comes again: the report of `census run`."""
         return self.table(folders, bound=bound, workers=workers, cells=cells)
 
-    def objects(self, folders: Iterable[Path], *, bound: Optional[int] = None, workers: Optional[int] = None, cells: Optional[int] = None
-                ) -> List[Row]:
+    def objects(self, folders: Iterable[Path], *, near: bool = False, bound: Optional[int] = None, workers: Optional[int] = None,
+                cells: Optional[int] = None) -> List[Row]:
         """`table` of objects that are left: the report of `census objects`."""
-        return self.table(folders, objects=True, bound=bound, workers=workers, cells=cells)
+        return self.table(folders, objects=True, near=near, bound=bound, workers=workers, cells=cells)
 
     def codes(self, report: Text) -> List[Code]:
         """The codes of a report, or of several one after another, by falling count, and then the shorter first: `census table --codes`.
@@ -423,6 +429,11 @@ class Census:
 def _option(name: str, value: Optional[int]) -> List[str]:
     """The words for an option; the program tells where its number is out of range."""
     return [] if value is None else [f"--{name}={operator.index(value)}"]
+
+
+def _flag(name: str, is_used: bool) -> List[str]:
+    """The word for a flag, where it is used."""
+    return [f"--{name}"] if is_used else []
 
 
 def _bytes_of(rle: Text, index: Optional[int] = None) -> bytes:

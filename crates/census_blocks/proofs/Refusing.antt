@@ -4,6 +4,7 @@ use Rattle.life_text.specs.declared.rle.RleFault.{RleFault}
 use Rattle.life_text.specs.Picture.{picture_of}
 use Rattle.life_text.specs.Rle.{Meaning, fault_of, reading, refusal}
 use Rattle.census_blocks.specs.Blocks.{block_of, block_or_fault}
+use Rattle.census_blocks.specs.declared.inquiry.Inquiry.{Inquiry}
 
 no_picture : (read : Result Meaning RleFault) (fault : RleFault) → fault_of read ≡ Some fault → picture_of read ≡ Err fault
 no_picture (Ok meaning) fault is = absurd (cc)
@@ -11,6 +12,6 @@ no_picture (Err other) fault is =
     let same : other ≡ fault = cc in
     ap Err same
 
-pub told_block : (bound : ℕ) (text : List ℕ) (fault : RleFault) → refusal text ≡ Some fault → Err fault ≡ block_of bound text
+pub told_block : (inquiry : Inquiry) (text : List ℕ) (fault : RleFault) → refusal text ≡ Some fault → Err fault ≡ block_of inquiry text
 unfolding block_of
-told_block bound text fault is = ap (block_or_fault bound) (sym (no_picture (reading text) fault is))
+told_block inquiry text fault is = ap (block_or_fault inquiry) (sym (no_picture (reading text) fault is))

@@ -5,6 +5,7 @@ ghost use Rattle.life_text.specs.Rle.{reading};
 ghost use Rattle.life_text.specs.declared.rle.RleFault.TheVariants.{Memory};
 ghost use Rattle.census_blocks.specs.Blocks.{block_of, pattern_block};
 
+use crate::inquiry::Inquiry;
 use crate::known::known_of;
 use crate::lines::{push_head, push_known};
 use crate::size::size;
@@ -52,11 +53,11 @@ fn block_of_pattern(
     alloc: Global,
     text: &[u8],
     pattern: &Pattern,
-    bound: u32,
+    inquiry: Inquiry,
 ) -> Result<BlockText, AllocError>
-    requires bound { 1 ≤ bound × bound ≤ BOUND_LIMIT }
+    requires bound { 1 ≤ inquiry.bound × inquiry.bound ≤ BOUND_LIMIT }
     requires meant { picture_of (reading text.now) ≡ Ok pattern.now }
-    ensures { IfOk result (λ block. block ≡ pattern_block bound pattern.now) }
+    ensures { IfOk result (λ block. block ≡ pattern_block inquiry pattern.now) }
 {
     let cells = pattern.cells();
     let mut lines = Vec::new(alloc);
@@ -66,7 +67,8 @@ fn block_of_pattern(
         cells.len(),
         size(alloc, cells)?,
     )?;
-    push_known(&mut lines, &known_of(alloc, text, pattern, bound)?, bound)?;
+    let known = known_of(alloc, text, pattern, inquiry)?;
+    push_known(&mut lines, &known, inquiry.bound)?;
     Ok(BlockText { text: lines })
 }
 
@@ -75,18 +77,19 @@ fn block_of_pattern(
 ///
 /// It tells the rule, the population and the box of generation 0; then, where the pattern settles within the bound, its
 /// onset, period, displacement and apgcode; else, where it has fallen apart within the bound, the onset of its ash, how many
-/// objects it has become, and how many of each code; else that it is unresolved within the bound. It may look at generations past the bound, up to
-/// three times the bound.
+/// objects it has become, or how many independent parts where what comes near each other is not one object, and how many of
+/// each code; else that it is unresolved within the bound. It may look at generations past the bound, up to three times the
+/// bound.
 pub fn block(
     alloc: Global,
     text: &[u8],
-    bound: u32,
+    inquiry: Inquiry,
 ) -> Result<Result<BlockText, RleFault>, AllocError>
-    requires { 1 ≤ bound × bound ≤ BOUND_LIMIT }
-    ensures { IfOk result (λ block. block ≡ block_of bound text.now) }
+    requires { 1 ≤ inquiry.bound × inquiry.bound ≤ BOUND_LIMIT }
+    ensures { IfOk result (λ block. block ≡ block_of inquiry text.now) }
 {
     match read_rle(alloc, text) {
-        Ok(pattern) => Ok(Ok(block_of_pattern(alloc, text, &pattern, bound)?)),
+        Ok(pattern) => Ok(Ok(block_of_pattern(alloc, text, &pattern, inquiry)?)),
         Err(fault) => Ok(Err(told(fault)?)),
     }
 }

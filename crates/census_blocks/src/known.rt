@@ -6,6 +6,7 @@ ghost use Rattle.life_answer.specs.Answers.{outcome_of};
 ghost use Rattle.life_answer.specs.Census.{census_of};
 ghost use Rattle.census_blocks.specs.Known.{known_parts, known_of, known_recurrence};
 
+use crate::inquiry::Inquiry;
 use life_answer::{Answer, Code, Outcome, Parts};
 use life_orbit::BOUND_LIMIT;
 use life_text::Pattern;
@@ -31,7 +32,7 @@ pub enum Known {
     Apart {
         /// The first generation that is ash within the bound.
         onset: u32,
-        /// The objects.
+        /// The objects, or their independent parts.
         parts: Parts,
     },
     /// Neither is so within the bound.
@@ -93,35 +94,36 @@ fn falling_apart(
     alloc: Global,
     text: &[u8],
     pattern: &Pattern,
-    bound: u32,
+    inquiry: Inquiry,
 ) -> Result<Known, AllocError>
-    requires bound { 1 ≤ bound × bound ≤ BOUND_LIMIT }
+    requires bound { 1 ≤ inquiry.bound × inquiry.bound ≤ BOUND_LIMIT }
     requires meant { picture_of (reading text.now) ≡ Ok pattern.now }
     ensures { IfOk result
-        (λ known. known ≡ known_parts (census_of pattern.now.rule pattern.now.cells bound)) }
+        (λ known. known ≡ known_parts (census_of inquiry.near pattern.now.rule pattern.now.cells inquiry.bound)) }
 {
-    match life_census::answer(alloc, text, bound, None)? {
+    match life_census::answer(alloc, text, inquiry.bound, None, inquiry.near)? {
         Answer::Found { finding, .. } => Ok(known_parts(finding.outcome)),
         Answer::Refused(_) => Ok(Known::Unresolved),
     }
 }
 
 /// What is known within the bound of the pattern that a text means: where it settles, when and as what; else, where it has
-/// fallen apart, when and into which objects; else that neither is so. The bound is 1 to 100,000 generations.
+/// fallen apart, when and into which objects, or into which independent parts where what comes near each other is not one
+/// object; else that neither is so. The bound is 1 to 100,000 generations.
 ///
 /// It may look at generations past the bound, up to three times the bound.
 pub fn known_of(
     alloc: Global,
     text: &[u8],
     pattern: &Pattern,
-    bound: u32,
+    inquiry: Inquiry,
 ) -> Result<Known, AllocError>
-    requires bound { 1 ≤ bound × bound ≤ BOUND_LIMIT }
+    requires bound { 1 ≤ inquiry.bound × inquiry.bound ≤ BOUND_LIMIT }
     requires meant { picture_of (reading text.now) ≡ Ok pattern.now }
-    ensures { IfOk result (λ known. known ≡ known_of bound pattern.now) }
+    ensures { IfOk result (λ known. known ≡ known_of inquiry pattern.now) }
 {
-    if let Some(known) = settling(alloc, text, pattern, bound)? {
+    if let Some(known) = settling(alloc, text, pattern, inquiry.bound)? {
         return Ok(known);
     }
-    falling_apart(alloc, text, pattern, bound)
+    falling_apart(alloc, text, pattern, inquiry)
 }

@@ -4,9 +4,11 @@
 #![tactic(auto)]
 
 mod block_text;
+mod inquiry;
 mod known;
 mod lines;
 mod size;
 
 pub use block_text::{BlockText, block};
+pub use inquiry::Inquiry;
 pub use known::{Known, known_of};

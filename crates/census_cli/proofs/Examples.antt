@@ -1,7 +1,7 @@
 -- What some words come to, by computing the definitions.
 use Rattle.std.proofs.Common.{◌≡◌, [], ◌∷◌, Some, None, true, false, codes, inl, refl, lit≤}
 use Rattle.clap.specs.Faults.{fault_of}
-use Rattle.clap.specs.declared.error.kind.ErrorKind.TheVariants.{DisplayHelp, DisplayVersion, MissingSubcommand, UnknownArgument, ValueValidation}
+use Rattle.clap.specs.declared.error.kind.ErrorKind.TheVariants.{ArgumentConflict, DisplayHelp, DisplayVersion, MissingSubcommand, TooManyValues, UnknownArgument, ValueValidation}
 use Rattle.clap.proofs.OnLiterals.{clap_on_literals}
 use Rattle.census_cli.specs.CommandLine.{census_app}
 use Rattle.census_cli.specs.Asking.{AsksAdvance, AsksDraw, AsksIdentify, AsksMerge, AsksObjects, AsksPage, AsksRun, AsksTable, AsksToExplain}
@@ -25,17 +25,21 @@ run_flags : AsksRun (codes "run" ∷ codes "--recursive" ∷ codes "a" ∷ codes
 unfolding clap_on_literals
 run_flags = (refl, record { rows = _; named = refl; bound_is = refl; bound_in = (lit≤ tt, lit≤ tt); workers_are = refl; workers_in = (lit≤ tt, lit≤ tt); cells_are = refl; cells_in = tt; input_is = refl; input_in = tt; recursive_is = refl; keep_going_is = refl; folders_are = refl })
 
-objects_alone : AsksObjects (codes "objects" ∷ []) 10000 4 1000000 None false false []
+objects_alone : AsksObjects (codes "objects" ∷ []) 10000 4 1000000 false None false false []
 unfolding clap_on_literals
-objects_alone = (refl, record { rows = _; named = refl; bound_is = refl; bound_in = (lit≤ tt, lit≤ tt); workers_are = refl; workers_in = (lit≤ tt, lit≤ tt); cells_are = refl; cells_in = (lit≤ tt, lit≤ tt); input_is = refl; input_in = tt; recursive_is = refl; keep_going_is = refl; folders_are = refl })
+objects_alone = (refl, record { rows = _; named = refl; bound_is = refl; bound_in = (lit≤ tt, lit≤ tt); workers_are = refl; workers_in = (lit≤ tt, lit≤ tt); cells_are = refl; cells_in = (lit≤ tt, lit≤ tt); near_is = refl; input_is = refl; input_in = tt; recursive_is = refl; keep_going_is = refl; folders_are = refl })
 
-objects_flags : AsksObjects (codes "objects" ∷ codes "-rb5" ∷ codes "a" ∷ []) 5 4 1000000 None true false (codes "a" ∷ [])
+objects_flags : AsksObjects (codes "objects" ∷ codes "-rb5" ∷ codes "a" ∷ codes "--near" ∷ []) 5 4 1000000 true None true false (codes "a" ∷ [])
 unfolding clap_on_literals
-objects_flags = (refl, record { rows = _; named = refl; bound_is = refl; bound_in = (lit≤ tt, lit≤ tt); workers_are = refl; workers_in = (lit≤ tt, lit≤ tt); cells_are = refl; cells_in = (lit≤ tt, lit≤ tt); input_is = refl; input_in = tt; recursive_is = refl; keep_going_is = refl; folders_are = refl })
+objects_flags = (refl, record { rows = _; named = refl; bound_is = refl; bound_in = (lit≤ tt, lit≤ tt); workers_are = refl; workers_in = (lit≤ tt, lit≤ tt); cells_are = refl; cells_in = (lit≤ tt, lit≤ tt); near_is = refl; input_is = refl; input_in = tt; recursive_is = refl; keep_going_is = refl; folders_are = refl })
 
-identify_among : AsksIdentify (codes "identify" ∷ codes "a" ∷ codes "-b" ∷ codes "50" ∷ codes "-" ∷ []) 50 (codes "a" ∷ codes "-" ∷ [])
+identify_among : AsksIdentify (codes "identify" ∷ codes "a" ∷ codes "-b" ∷ codes "50" ∷ codes "-" ∷ []) 50 false (codes "a" ∷ codes "-" ∷ [])
 unfolding clap_on_literals
-identify_among = (refl, record { rows = _; named = refl; bound_is = refl; bound_in = (lit≤ tt, lit≤ tt); files_are = refl })
+identify_among = (refl, record { rows = _; named = refl; bound_is = refl; bound_in = (lit≤ tt, lit≤ tt); near_is = refl; files_are = refl })
+
+identify_near : AsksIdentify (codes "identify" ∷ codes "--near" ∷ []) 10000 true []
+unfolding clap_on_literals
+identify_near = (refl, record { rows = _; named = refl; bound_is = refl; bound_in = (lit≤ tt, lit≤ tt); near_is = refl; files_are = refl })
 
 advance_file : AsksAdvance (codes "advance" ∷ codes "4" ∷ codes "a" ∷ []) 4 (Some (codes "a"))
 unfolding clap_on_literals
@@ -68,6 +72,14 @@ table_both = (refl, record { rows = _; named = refl; two = inl (refl, refl) })
 run_explained : AsksToExplain (codes "run" ∷ codes "a" ∷ codes "--explain" ∷ []) true
 unfolding clap_on_literals
 run_explained = refl
+
+near_twice : fault_of census_app (codes "objects" ∷ codes "--near" ∷ codes "--near" ∷ []) ≡ ArgumentConflict ∷ []
+unfolding clap_on_literals
+near_twice = refl
+
+near_with_a_value : fault_of census_app (codes "objects" ∷ codes "--near=1" ∷ []) ≡ TooManyValues ∷ []
+unfolding clap_on_literals
+near_with_a_value = refl
 
 bound_of_none : fault_of census_app (codes "run" ∷ codes "--bound" ∷ codes "0" ∷ []) ≡ ValueValidation ∷ []
 unfolding clap_on_literals

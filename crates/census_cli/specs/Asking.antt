@@ -65,7 +65,7 @@ pub record GivesRun (command : Option (List ℕ × List Row)) (bound workers : �
   pub folders_are : values_of (codes "folder") rows ≡ folders
 
 -- those of a census of the objects of these folders, or of those of the bundle
-pub record GivesObjects (command : Option (List ℕ × List Row)) (bound workers cells : ℕ) (input : Option ℕ)
+pub record GivesObjects (command : Option (List ℕ × List Row)) (bound workers cells : ℕ) (near : Bool) (input : Option ℕ)
     (recursive keep_going : Bool) (folders : List (List ℕ)) : Type 0 where
   pub rows : List Row
   pub named : command ≡ Some (codes "objects", rows)
@@ -75,6 +75,7 @@ pub record GivesObjects (command : Option (List ℕ × List Row)) (bound workers
   pub workers_in : (1 ≤ workers) × (workers ≤ worker_limit)
   pub cells_are : argument_number (codes "cells") rows ≡ Some cells
   pub cells_in : (1 ≤ cells) × (cells ≤ 4294967295)
+  pub near_is : IsFlag (codes "near") rows near
   pub input_is : argument_number (codes "input") rows ≡ input
   pub input_in : IsLimit 9223372036854775807 input
   pub recursive_is : IsFlag (codes "recursive") rows recursive
@@ -82,12 +83,13 @@ pub record GivesObjects (command : Option (List ℕ × List Row)) (bound workers
   pub folders_are : values_of (codes "folder") rows ≡ folders
 
 -- those of the blocks of these files, or, where there is none, of the block of standard input
-pub record GivesIdentify (command : Option (List ℕ × List Row)) (bound : ℕ)
+pub record GivesIdentify (command : Option (List ℕ × List Row)) (bound : ℕ) (near : Bool)
     (files : List (List ℕ)) : Type 0 where
   pub rows : List Row
   pub named : command ≡ Some (codes "identify", rows)
   pub bound_is : argument_number (codes "bound") rows ≡ Some bound
   pub bound_in : (1 ≤ bound) × (bound ≤ objects_bound_limit)
+  pub near_is : IsFlag (codes "near") rows near
   pub files_are : values_of (codes "file") rows ≡ files
 
 -- those of so many generations of this file, or, where there is none, of standard input
@@ -130,9 +132,9 @@ pub record GivesPage (command : Option (List ℕ × List Row)) (reports : List (
 abbrev pub GivesRequest : Option (List ℕ × List Row) → Request → Type 0
 GivesRequest command (Run bound workers cells input recursive keep_going folders) =
     GivesRun command bound workers cells input recursive keep_going (map (λ s. s.now) folders.items)
-GivesRequest command (Objects bound workers cells input recursive keep_going folders) =
-    GivesObjects command bound workers cells input recursive keep_going (map (λ s. s.now) folders.items)
-GivesRequest command (Identify bound files) = GivesIdentify command bound (map (λ s. s.now) files.items)
+GivesRequest command (Objects bound workers cells near input recursive keep_going folders) =
+    GivesObjects command bound workers cells near input recursive keep_going (map (λ s. s.now) folders.items)
+GivesRequest command (Identify bound near files) = GivesIdentify command bound near (map (λ s. s.now) files.items)
 GivesRequest command (Advance generations file) = GivesAdvance command generations (option_map (λ s. s.now) file)
 GivesRequest command (Draw code rule) = GivesDraw command code.now rule.now
 GivesRequest command (Merge reports) = GivesMerge command (map (λ s. s.now) reports.items)
@@ -172,13 +174,13 @@ AsksRun words bound workers cells input recursive keep_going folders =
     IsMatched words × GivesRun (subcommand_of census_app words) bound workers cells input recursive keep_going folders
 
 -- for the census of the objects of these folders, or of those of the bundle
-abbrev pub AsksObjects : List (List ℕ) → ℕ → ℕ → ℕ → Option ℕ → Bool → Bool → List (List ℕ) → Type 0
-AsksObjects words bound workers cells input recursive keep_going folders =
-    IsMatched words × GivesObjects (subcommand_of census_app words) bound workers cells input recursive keep_going folders
+abbrev pub AsksObjects : List (List ℕ) → ℕ → ℕ → ℕ → Bool → Option ℕ → Bool → Bool → List (List ℕ) → Type 0
+AsksObjects words bound workers cells near input recursive keep_going folders =
+    IsMatched words × GivesObjects (subcommand_of census_app words) bound workers cells near input recursive keep_going folders
 
 -- for the blocks of these files, or, where there is none, for the block of standard input
-abbrev pub AsksIdentify : List (List ℕ) → ℕ → List (List ℕ) → Type 0
-AsksIdentify words bound files = IsMatched words × GivesIdentify (subcommand_of census_app words) bound files
+abbrev pub AsksIdentify : List (List ℕ) → ℕ → Bool → List (List ℕ) → Type 0
+AsksIdentify words bound near files = IsMatched words × GivesIdentify (subcommand_of census_app words) bound near files
 
 -- for so many generations of this file, or, where there is none, of standard input
 abbrev pub AsksAdvance : List (List ℕ) → ℕ → Option (List ℕ) → Type 0

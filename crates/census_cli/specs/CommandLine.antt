@@ -49,6 +49,10 @@ limit_rule = record (new_rule (codes "cells")) {
 abbrev pub cells_rule : Rule
 cells_rule = record limit_rule { defaults = codes "1000000" ∷ [] }
 
+-- `--near`
+abbrev pub near_rule : Rule
+near_rule = record (new_rule (codes "near")) { long = Some (codes "near"); action = Some SetTrue }
+
 -- `--input N`
 abbrev pub input_rule : Rule
 input_rule = record (new_rule (codes "input")) {
@@ -159,11 +163,11 @@ run_shape = shape_with (codes "run")
 
 abbrev pub objects_shape : Shape
 objects_shape = shape_with (codes "objects")
-    (search_rule ∷ workers_rule ∷ cells_rule ∷ input_rule ∷ recursive_rule ∷ keep_going_rule
+    (search_rule ∷ workers_rule ∷ cells_rule ∷ near_rule ∷ input_rule ∷ recursive_rule ∷ keep_going_rule
     ∷ explain_rule ∷ no_progress_rule ∷ folder_rule ∷ [])
 
 abbrev pub identify_shape : Shape
-identify_shape = shape_with (codes "identify") (search_rule ∷ explain_rule ∷ files_rule ∷ [])
+identify_shape = shape_with (codes "identify") (search_rule ∷ near_rule ∷ explain_rule ∷ files_rule ∷ [])
 
 abbrev pub advance_shape : Shape
 advance_shape = shape_with (codes "advance") (generations_rule ∷ explain_rule ∷ file_rule ∷ [])

@@ -41,6 +41,7 @@ pub record HasObjects (rows : List Row) : Type 0 where
   pub bound : HasNumberIn 1 objects_bound_limit (codes "bound") rows
   pub workers : HasNumberIn 1 worker_limit (codes "workers") rows
   pub cells : HasNumberIn 1 4294967295 (codes "cells") rows
+  pub near : HasFlag (codes "near") rows
   pub input : HasLimit 9223372036854775807 (codes "input") rows
   pub recursive : HasFlag (codes "recursive") rows
   pub keep_going : HasFlag (codes "keep-going") rows
@@ -50,6 +51,7 @@ pub record HasObjects (rows : List Row) : Type 0 where
 -- those of `identify` have theirs
 pub record HasIdentify (rows : List Row) : Type 0 where
   pub bound : HasNumberIn 1 objects_bound_limit (codes "bound") rows
+  pub near : HasFlag (codes "near") rows
   pub explain : HasFlag (codes "explain") rows
 
 -- those of `advance` have theirs

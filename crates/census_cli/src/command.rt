@@ -5,7 +5,7 @@ ghost use Rattle.clap.specs.declared.builder.command.Command.TheViews.{out-Comma
 ghost use Rattle.census_cli.specs.CommandLine.{advance_shape, bare_app, census_app, draw_shape, identify_shape};
 ghost use Rattle.census_cli.specs.CommandLine.{merge_shape, objects_shape, page_shape, run_shape, table_shape};
 ghost use Rattle.census_cli.specs.CommandLine.{bound_rule, cells_rule, code_rule, codes_rule, csv_rule, explain_rule, file_rule};
-ghost use Rattle.census_cli.specs.CommandLine.{files_rule, folder_rule, generations_rule, input_rule, json_rule, keep_going_rule, limit_rule};
+ghost use Rattle.census_cli.specs.CommandLine.{files_rule, folder_rule, generations_rule, input_rule, json_rule, keep_going_rule, limit_rule, near_rule};
 ghost use Rattle.census_cli.specs.CommandLine.{no_progress_rule, parts_rule, recursive_rule, reports_rule, rule_rule, search_rule, workers_rule};
 
 use crate::fault::VERSION_TEXT;
@@ -66,6 +66,15 @@ fn cells<'a>(alloc: Global) -> Arg<'a>
         .value_parser(value_parser!(u64).range(1..=4_294_967_295))
         .default_value("1000000")
         .help("Live cells that a pattern may have, 1 to 4294967295")
+}
+
+fn near<'a>(alloc: Global) -> Arg<'a>
+    ensures { (rule_of result ≡ near_rule) × (result.global ≡ false) }
+{
+    Arg::new(alloc, "near")
+        .long("near")
+        .action(ArgAction::SetTrue)
+        .help("Count what comes within two cells as one object")
 }
 
 fn input<'a>(alloc: Global) -> Arg<'a>
@@ -255,6 +264,7 @@ fn objects<'a>(alloc: Global) -> Result<Command<'a>, AllocError>
         .arg(search(alloc))?
         .arg(workers(alloc))?
         .arg(cells(alloc))?
+        .arg(near(alloc))?
         .arg(input(alloc))?
         .arg(recursive(alloc))?
         .arg(keep_going(alloc))?
@@ -271,6 +281,7 @@ fn identify<'a>(alloc: Global) -> Result<Command<'a>, AllocError>
         .about("Read RLE texts and tell of each what its pattern is")
         .after_help(help::IDENTIFY)
         .arg(search(alloc))?
+        .arg(near(alloc))?
         .arg(explain(alloc))?
         .arg(files(alloc))
 }

@@ -42,11 +42,11 @@ macro_rules! with_objects {
 Lines of a report, of pattern I of collection C, both counted from 1:
   open C PATTERNS NAME
   line C I ash RULE POPULATION ONSET OBJECTS NAME has fallen apart in the bound
-  part C I CODE COUNT                             its objects with CODE
+  part C I CODE COUNT                             its parts with CODE
   line C I none RULE POPULATION NAME              has not
   line C I large RULE POPULATION GENERATION NAME  past --cells there
   line C I bad FAULT NAME                         RLE fault 1 to 10
-  code C RULE CODE COUNT                          objects with CODE
+  code C RULE CODE COUNT                          parts with CODE
   close C PATTERNS ASH NONE BAD                   NONE counts large
   end COLLECTIONS PATTERNS                        the last line
 
@@ -98,13 +98,16 @@ run [--bound N] [--workers N] [--cells N] [--input N] [-r] [-k] [FOLDER]...
   FOLDER           a collection: its patterns are the *.rle files in the folder;
                    with no FOLDER a bundle of collections is read from standard
                    input
-objects [--bound N] [--workers N] [--cells N] [--input N] [-r] [-k] [FOLDER]...
+objects [--bound N] [--workers N] [--cells N] [--near] [--input N] [-r] [-k]
+        [FOLDER]...
                    as run, but another report ('census help objects'), and
   -b, --bound N    1 to 100000 [default: 10000]
       --cells N    1 to 4294967295 [default: 1000000]
-identify [--bound N] [FILE]...
+      --near       count what comes within two cells as one object
+identify [--bound N] [--near] [FILE]...
                    what each pattern is ('census help identify')
   -b, --bound N    1 to 100000 [default: 10000]
+      --near       count what comes within two cells as one object
   FILE             an RLE text; - is standard input; with no FILE standard input
                    is read
 advance N [FILE]
@@ -153,8 +156,13 @@ To make a bundle of files, where echo ends a last line that has no line feed:
 /// After the help of `objects`.
 pub const OBJECTS: &str = with_objects!(
     "\
+Independent parts are counted: each goes on as it would alone, and so a traffic
+light is four blinkers. With --near what comes within two cells is one object,
+which tells a traffic light from blinkers that are far from each other.
+
 Example: census objects soups gliders
          census objects --bound 50000 --workers 16 soups
+         census objects --near soups
          census objects --cells 20000 --recursive --keep-going soups old
          census objects --explain <bundle.txt
          census objects --no-progress soups >report.txt
@@ -178,12 +186,13 @@ and where the pattern recurs in the bound
   apgcode CODE         of what it has become
 or else where it has fallen apart in the bound
   onset GENERATION     the first that is ash,
-  objects COUNT        that it has become
+  objects COUNT        that it has become ('census help objects' says which)
   part CODE COUNT      those with CODE
 or else
   unresolved N         neither within N generations
 
 Example: census identify --bound 50000 glider.rle gun.rle
+         census identify --near soup.rle
          census identify --explain broken.rle
 
 "

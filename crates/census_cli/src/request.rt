@@ -61,6 +61,8 @@ pub enum Request<'a> {
         workers: u32,
         /// How many live cells a pattern may have, 1 to 4,294,967,295.
         cells: u32,
+        /// Whether what comes near each other is counted as one object.
+        near: bool,
         /// How many bytes the files of the folders may have together, 1 to 9,223,372,036,854,775,807, where there is such
         /// a limit.
         input: Option<u64>,
@@ -75,6 +77,8 @@ pub enum Request<'a> {
     Identify {
         /// How many generations are searched, 1 to 100,000.
         bound: u32,
+        /// Whether what comes near each other is counted as one object.
+        near: bool,
         /// In the order of the words. `-` is standard input.
         files: Vec<&'a str>,
     },
@@ -205,6 +209,7 @@ fn objects_of<'a>(alloc: Global, objects: &ArgMatches<'a>) -> Result<Request<'a>
         bound: number(objects, "bound"),
         workers: number(objects, "workers"),
         cells: number(objects, "cells"),
+        near: flag(objects, "near"),
         input: long_limit(objects, "input"),
         recursive: flag(objects, "recursive"),
         keep_going: flag(objects, "keep-going"),
@@ -271,6 +276,7 @@ fn request_of<'a>(alloc: Global, matches: &ArgMatches<'a>) -> Result<Request<'a>
     if let Some(identify) = matches.subcommand_matches("identify") {
         return Ok(Request::Identify {
             bound: number(identify, "bound"),
+            near: flag(identify, "near"),
             files: texts(alloc, identify, "file")?,
         });
     }

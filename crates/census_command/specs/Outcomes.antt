@@ -19,6 +19,7 @@ use Rattle.census_cli.specs.declared.fault.WordsFault.TheVariants.{Help, Refused
 use Rattle.census_cli.specs.declared.request.Request.{Request}
 use Rattle.census_cli.specs.declared.request.Request.TheVariants.{Run, Objects, Identify, Advance, Draw, Merge, Table, Page}
 use Rattle.life_answer.specs.declared.question.Question.TheVariants as question
+use Rattle.census_blocks.specs.declared.inquiry.Inquiry.{Inquiry}
 use Rattle.census_faults.specs.declared.fault.Fault.{Fault}
 use Rattle.census_faults.specs.declared.spot.Spot.{Spot}
 use Rattle.census_folders.specs.Told.{MayExceed, MayFail}
@@ -93,7 +94,7 @@ RefusesText shelf (Some path) before after =
 -- what a request is to be done with is refused
 abbrev pub RefusesInput : Tellings → Request → State → State → Type 0
 RefusesInput shelf (Run bound workers cells input recursive keep_going folders) before after = RefusesCollections shelf (source_of (record { limit = input; recursive = recursive; keep_going = keep_going; words = map (λ s. s.now) folders.items })) before after
-RefusesInput shelf (Objects bound workers cells input recursive keep_going folders) before after = RefusesCollections shelf (source_of (record { limit = input; recursive = recursive; keep_going = keep_going; words = map (λ s. s.now) folders.items })) before after
+RefusesInput shelf (Objects bound workers cells near input recursive keep_going folders) before after = RefusesCollections shelf (source_of (record { limit = input; recursive = recursive; keep_going = keep_going; words = map (λ s. s.now) folders.items })) before after
 RefusesInput shelf (Advance generations file) before after = RefusesText shelf (file_of (option_map (λ s. s.now) file)) before after
 RefusesInput shelf (Draw code rule) before after =
     ((fault : RuleFault) × (rule_of rule.now ≡ Err fault))
@@ -123,7 +124,7 @@ pub record HelpsInPart (words : List (List ℕ)) (before after : State) : Type 0
 
 abbrev pub ReportsInPart : Tellings → Request → State → State → Type 0
 ReportsInPart shelf (Run bound workers cells input recursive keep_going folders) before after = RunsInPart shelf (source_of (record { limit = input; recursive = recursive; keep_going = keep_going; words = map (λ s. s.now) folders.items })) (question.Settles bound cells) before after
-ReportsInPart shelf (Objects bound workers cells input recursive keep_going folders) before after = RunsInPart shelf (source_of (record { limit = input; recursive = recursive; keep_going = keep_going; words = map (λ s. s.now) folders.items })) (question.Objects bound (Some cells)) before after
+ReportsInPart shelf (Objects bound workers cells near input recursive keep_going folders) before after = RunsInPart shelf (source_of (record { limit = input; recursive = recursive; keep_going = keep_going; words = map (λ s. s.now) folders.items })) (question.Objects bound (Some cells) near) before after
 ReportsInPart shelf request before after = ⊥
 
 -- The words ask for a census, and a prefix of its report was written.
@@ -144,7 +145,7 @@ MissesSource shelf (Folders asked) = FailsInFolders shelf asked run.Read
 
 abbrev pub StopsAtFolder : Tellings → Request → Type 0
 StopsAtFolder shelf (Run bound workers cells input recursive keep_going folders) = MissesSource shelf (source_of (record { limit = input; recursive = recursive; keep_going = keep_going; words = map (λ s. s.now) folders.items }))
-StopsAtFolder shelf (Objects bound workers cells input recursive keep_going folders) = MissesSource shelf (source_of (record { limit = input; recursive = recursive; keep_going = keep_going; words = map (λ s. s.now) folders.items }))
+StopsAtFolder shelf (Objects bound workers cells near input recursive keep_going folders) = MissesSource shelf (source_of (record { limit = input; recursive = recursive; keep_going = keep_going; words = map (λ s. s.now) folders.items }))
 StopsAtFolder shelf (Advance generations file) = MissesFile shelf (file_of (option_map (λ s. s.now) file))
 StopsAtFolder shelf _ = ⊥
 
@@ -191,16 +192,17 @@ pub record TellsRefusal (words : List (List ℕ)) (before after : State) (old ne
 
 -- # What patterns are
 
--- the request asks what the patterns of these files are, within this bound
-abbrev pub IsIdentify : Request → ℕ → List (List ℕ) → Type 0
-IsIdentify (Identify bound files) within words = (within ≡ bound) × (words ≡ map (λ s. s.now) files.items)
-IsIdentify request within words = ⊥
+-- the request asks this of the patterns of these files
+abbrev pub IsIdentify : Request → Inquiry → List (List ℕ) → Type 0
+IsIdentify (Identify bound near files) inquiry words =
+    (inquiry ≡ record { bound = bound; near = near }) × (words ≡ map (λ s. s.now) files.items)
+IsIdentify request inquiry words = ⊥
 
--- the words ask what the patterns of these files are, within this bound
-pub record AsksWhat (words : List (List ℕ)) (bound : ℕ) (files : List (List ℕ)) : Type 0 where
+-- the words ask this of the patterns of these files
+pub record AsksWhat (words : List (List ℕ)) (inquiry : Inquiry) (files : List (List ℕ)) : Type 0 where
   pub request : Request
   pub asked : Asks words request
-  pub is : IsIdentify request bound files
+  pub is : IsIdentify request inquiry files
 
 -- # What is made of reports
 
@@ -228,8 +230,8 @@ pub record RemakesAsked (shelf : Tellings) (words : List (List ℕ)) (status : �
 abbrev pub IsKeeping : Request → KeptCensus → Type 0
 IsKeeping (Run bound workers cells input recursive keep_going folders) keeping =
     (source_of (record { limit = input; recursive = recursive; keep_going = keep_going; words = map (λ s. s.now) folders.items }) ≡ Folders keeping.asked) × (keeping.asked.on_loss ≡ Keep) × (keeping.question ≡ question.Settles bound cells)
-IsKeeping (Objects bound workers cells input recursive keep_going folders) keeping =
-    (source_of (record { limit = input; recursive = recursive; keep_going = keep_going; words = map (λ s. s.now) folders.items }) ≡ Folders keeping.asked) × (keeping.asked.on_loss ≡ Keep) × (keeping.question ≡ question.Objects bound (Some cells))
+IsKeeping (Objects bound workers cells near input recursive keep_going folders) keeping =
+    (source_of (record { limit = input; recursive = recursive; keep_going = keep_going; words = map (λ s. s.now) folders.items }) ≡ Folders keeping.asked) × (keeping.asked.on_loss ≡ Keep) × (keeping.question ≡ question.Objects bound (Some cells) near)
 IsKeeping request keeping = ⊥
 
 -- The words ask for such a census. What could be read was reported, or an error ended it.
@@ -263,10 +265,10 @@ pub record Ends (shelf : Tellings) (words : List (List ℕ)) (status : ℕ) (bef
 
 -- The words ask what patterns are. Each was told, or an error ended it.
 pub record IdentifiesAsked (shelf : Tellings) (words : List (List ℕ)) (status : ℕ) (before after : State) (old new : Errors) : Type 0 where
-  pub bound : ℕ
+  pub inquiry : Inquiry
   pub files : List (List ℕ)
-  pub asked : AsksWhat words bound files
-  pub identifies : Identifies (shelf.held []) bound files status (all_streams before old) (all_streams after new)
+  pub asked : AsksWhat words inquiry files
+  pub identifies : Identifies (shelf.held []) inquiry files status (all_streams before old) (all_streams after new)
 
 -- Words that ask what patterns are, or to go on past what can't be read, have outcomes of their own, since there one error
 -- doesn't end all; and so have those that ask for what is made of reports.

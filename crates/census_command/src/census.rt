@@ -75,6 +75,7 @@ pub fn census_of<'r, 'a>(request: &'r Request<'a>) -> Option<Census<'r, 'a>>
             bound,
             workers,
             cells,
+            near,
             input,
             recursive,
             keep_going,
@@ -83,6 +84,7 @@ pub fn census_of<'r, 'a>(request: &'r Request<'a>) -> Option<Census<'r, 'a>>
             question: Question::Objects {
                 bound: *bound,
                 cells: Some(*cells),
+                near: *near,
             },
             workers: *workers,
             limit: *input,

@@ -16,6 +16,7 @@ use crate::quiet_gate::QuietGate;
 use crate::remaking::{format_of, remake, subject_of};
 use crate::running::run_command;
 use crate::streams::Streams;
+use census_blocks::Inquiry;
 use census_cli::{Request, WordsFault, read_words};
 use census_crew::Gate;
 use census_errors::{
@@ -216,10 +217,14 @@ pub fn dispatch<S: Shelf, I: Read, O: Write, E: Write, G: Gate, R: Threads + Wai
     if let Some((form, reports)) = remaking_of(request) {
         return remake(shelf, alloc, form, reports, explain, streams, errors);
     }
-    if let Request::Identify { bound, files } = request {
+    if let Request::Identify { bound, near, files } = request {
         let Streams { input, output } = streams;
         let told = &mut errors.inner;
-        return identify(shelf, alloc, *bound, files.as_slice(), input, output, told);
+        let inquiry = Inquiry {
+            bound: *bound,
+            near: *near,
+        };
+        return identify(shelf, alloc, inquiry, files.as_slice(), input, output, told);
     }
     match execute(rt, shelf, alloc, request, explain, gate, streams) {
         Ok(lines) => {

@@ -4,6 +4,7 @@ use Rattle.std.specs.List.{join_with_byte}
 use Rattle.life_text.specs.declared.rle.RleFault.{RleFault}
 use Rattle.life_faults.specs.Lines.{fault_line}
 use Rattle.census_blocks.specs.Blocks.{block_of}
+use Rattle.census_blocks.specs.declared.inquiry.Inquiry.{Inquiry}
 use Rattle.census_identify.specs.Hearing.{Hearing, is_input}
 use Rattle.census_identify.specs.declared.heard.Heard.{Heard}
 use Rattle.census_identify.specs.declared.heard.Heard.TheVariants.{Text, TooLong, Unread}
@@ -26,15 +27,15 @@ told_of_block word text (Ok block) = Block (block_with_head word block)
 told_of_block word text (Err fault) = Line (message_line word (fault_line text fault)) 1
 
 -- what is told of a word, by what was got of it
-abbrev pub told_of : ℕ → List ℕ → Heard → Told
-told_of bound word (Text text) = told_of_block word text (block_of bound text)
-told_of bound word TooLong = Line (message_line word (codes " input too long")) 1
-told_of bound word Unread = Line (message_line word (codes " read failed")) 4
+abbrev pub told_of : Inquiry → List ℕ → Heard → Told
+told_of inquiry word (Text text) = told_of_block word text (block_of inquiry text)
+told_of inquiry word TooLong = Line (message_line word (codes " input too long")) 1
+told_of inquiry word Unread = Line (message_line word (codes " read failed")) 4
 
 -- # All
 
-abbrev pub told_words : ℕ → List Hearing → List Told
-told_words bound hearings = map (λ h. told_of bound h.word h.heard) hearings
+abbrev pub told_words : Inquiry → List Hearing → List Told
+told_words inquiry hearings = map (λ h. told_of inquiry h.word h.heard) hearings
 
 abbrev pub blocks_in : List Told → List (List ℕ)
 blocks_in [] = []

@@ -8,6 +8,7 @@ use crate::course::{Course, tell, tell_line};
 use crate::error::IdentifyError;
 use crate::heard::hear;
 use crate::told::told_of;
+use census_blocks::Inquiry;
 use census_folders::Shelf;
 use life_orbit::BOUND_LIMIT;
 use std::alloc::Global;
@@ -25,20 +26,20 @@ fn words_or_input<'a, 'b>(words: &'a [&'b str]) -> &'a [&'b str]
 fn identify_each<S: Shelf, I: Read, O: Write, E: Write>(
     shelf: &S,
     alloc: Global,
-    bound: u32,
+    inquiry: Inquiry,
     words: &[&str],
     input: &mut Watched<I>,
     output: &mut Watched<O>,
     errors: &mut Watched<E>,
 ) -> Result<u8, IdentifyError>
-    requires bound { 1 ≤ bound × bound ≤ BOUND_LIMIT }
+    requires bound { 1 ≤ inquiry.bound × inquiry.bound ≤ BOUND_LIMIT }
     requires output { has_failed output.old ≡ false }
     requires errors { has_failed errors.old ≡ false }
     ensures { MatchResult result
-        (λ status. TellsAll ((S.tellings shelf.now).held []) bound (map (λ s. s.now) words.now)
+        (λ status. TellsAll ((S.tellings shelf.now).held []) inquiry (map (λ s. s.now) words.now)
         status (streams I.remaining O.contents E.contents input.old output.old errors.old)
         (streams I.remaining O.contents E.contents input.new output.new errors.new))
-        (λ error. Stops error [] ((S.tellings shelf.now).held []) bound (map (λ s. s.now) words.now)
+        (λ error. Stops error [] ((S.tellings shelf.now).held []) inquiry (map (λ s. s.now) words.now)
         (streams I.remaining O.contents E.contents input.old output.old errors.old)
         (streams I.remaining O.contents E.contents input.new output.new errors.new)) }
 {
@@ -48,7 +49,7 @@ fn identify_each<S: Shelf, I: Read, O: Write, E: Write>(
     };
     for word in words {
         let heard = hear(shelf, alloc, word, input)?;
-        let told = told_of(alloc, word, &heard, bound)?;
+        let told = told_of(alloc, word, &heard, inquiry)?;
         tell(&told, &mut course, output, errors)?;
     }
     Ok(course.status)
@@ -69,23 +70,23 @@ fn identify_each<S: Shelf, I: Read, O: Write, E: Write>(
 pub fn identify<S: Shelf, I: Read, O: Write, E: Write>(
     shelf: &S,
     alloc: Global,
-    bound: u32,
+    inquiry: Inquiry,
     words: &[&str],
     input: &mut Watched<I>,
     output: &mut Watched<O>,
     errors: &mut Watched<E>,
 ) -> u8
-    requires bound { 1 ≤ bound × bound ≤ BOUND_LIMIT }
+    requires bound { 1 ≤ inquiry.bound × inquiry.bound ≤ BOUND_LIMIT }
     requires output { has_failed output.old ≡ false }
     requires errors { has_failed errors.old ≡ false }
-    ensures { Identifies ((S.tellings shelf.now).held []) bound (map (λ s. s.now) words.now) result
+    ensures { Identifies ((S.tellings shelf.now).held []) inquiry (map (λ s. s.now) words.now) result
         (streams I.remaining O.contents E.contents input.old output.old errors.old)
         (streams I.remaining O.contents E.contents input.new output.new errors.new) }
 {
     match identify_each(
         shelf,
         alloc,
-        bound,
+        inquiry,
         words_or_input(words),
         input,
         output,

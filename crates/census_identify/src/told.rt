@@ -5,7 +5,7 @@ ghost use Rattle.census_identify.specs.Telling.{block_with_head, message_line, t
 
 use crate::bytes::Bytes;
 use crate::heard::{Heard, is_input};
-use census_blocks::block;
+use census_blocks::{Inquiry, block};
 use life_faults::fault_line;
 use life_orbit::BOUND_LIMIT;
 use std::alloc::{AllocError, Global};
@@ -52,12 +52,17 @@ fn block_with_head(alloc: Global, word: &str, block: &[u8]) -> Result<Bytes, All
 }
 
 // What is told of a text.
-fn told_of_text(alloc: Global, word: &str, text: &[u8], bound: u32) -> Result<Told, AllocError>
-    requires { 1 ≤ bound × bound ≤ BOUND_LIMIT }
+fn told_of_text(
+    alloc: Global,
+    word: &str,
+    text: &[u8],
+    inquiry: Inquiry,
+) -> Result<Told, AllocError>
+    requires { 1 ≤ inquiry.bound × inquiry.bound ≤ BOUND_LIMIT }
     ensures { IfOk result (λ told.
-        told ≡ told_of_block word.now text.now (block_of bound text.now)) }
+        told ≡ told_of_block word.now text.now (block_of inquiry text.now)) }
 {
-    match block(alloc, text, bound)? {
+    match block(alloc, text, inquiry)? {
         Ok(block) => Ok(Told::Block(block_with_head(alloc, word, block.as_slice())?)),
         Err(fault) => Ok(Told::Line {
             line: message_line(alloc, word, fault_line(alloc, text, &fault)?.as_slice())?,
@@ -73,12 +78,17 @@ fn told_of_text(alloc: Global, word: &str, text: &[u8], bound: u32) -> Result<To
 /// text it is the line `census: WORD:LINE:COLUMN: WORDS (rle fault N at A)`, which asks for status 1; of one that is too
 /// long the line `census: WORD: input too long`, which asks for status 1; and of what can't be read the line
 /// `census: WORD: read failed`, which asks for status 4. The word is written as it is.
-pub fn told_of(alloc: Global, word: &str, heard: &Heard, bound: u32) -> Result<Told, AllocError>
-    requires { 1 ≤ bound × bound ≤ BOUND_LIMIT }
-    ensures { IfOk result (λ told. told ≡ told_of bound word.now heard.now) }
+pub fn told_of(
+    alloc: Global,
+    word: &str,
+    heard: &Heard,
+    inquiry: Inquiry,
+) -> Result<Told, AllocError>
+    requires { 1 ≤ inquiry.bound × inquiry.bound ≤ BOUND_LIMIT }
+    ensures { IfOk result (λ told. told ≡ told_of inquiry word.now heard.now) }
 {
     match heard {
-        Heard::Text(text) => told_of_text(alloc, word, text.as_slice(), bound),
+        Heard::Text(text) => told_of_text(alloc, word, text.as_slice(), inquiry),
         Heard::TooLong => Ok(Told::Line {
             line: message_line(alloc, word, b" input too long")?,
             status: 1,

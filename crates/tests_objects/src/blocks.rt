@@ -1,6 +1,6 @@
 //! Texts and their blocks.
 
-use census_blocks::block;
+use census_blocks::{Inquiry, block};
 use life_orbit::BOUND_LIMIT;
 use life_text::RleFault;
 use std::test::Fail;
@@ -8,10 +8,14 @@ use std::test::Fail;
 // A block, a blinker, and a glider that goes away from both.
 const THREE_OBJECTS: &[u8] = b"x = 43, y = 24\n2o$2o8$20b3o12$41bo$42bo$40b3o!";
 
+// A traffic light, and a glider that goes away from it.
+const LIGHT: &[u8] =
+    b"x = 23, y = 23\n4bo$4bo$4bo2$3o3b3o2$4bo$4bo$4bo12$21bo$22bo$20b3o!";
+
 // A methuselah, which takes 5,206 generations to fall apart.
 const ACORN: &[u8] = b"x = 7, y = 3, rule = B3/S23\nbo$3bo$2o2b3o!";
 
-/// A text, the bound, and the block.
+/// A text, the bound, and the block, whether or not what is near is one object.
 type Case = (&'static [u8], u32, &'static str);
 
 const BLOCKS: &[Case] = &[
@@ -56,8 +60,40 @@ const BLOCKS: &[Case] = &[
 #[test]
 fn texts_have_their_blocks(rt: HostRuntime) -> Result<(), Fail> {
     for (text, bound, wanted) in BLOCKS {
-        assert!(rt; 1 <= *bound && *bound <= BOUND_LIMIT);
-        let told = match block(rt.alloc(), text, *bound)? {
+        for near in &[false, true] {
+            assert!(rt; 1 <= *bound && *bound <= BOUND_LIMIT);
+            let inquiry = Inquiry {
+                bound: *bound,
+                near: *near,
+            };
+            let told = match block(rt.alloc(), text, inquiry)? {
+                Ok(block) => block.as_slice() == wanted.as_bytes(),
+                Err(_fault) => false,
+            };
+            assert!(rt; told);
+        }
+    }
+    Ok(())
+}
+
+#[test]
+fn a_traffic_light_is_one_object_where_what_is_near_is_one(rt: HostRuntime) -> Result<(), Fail> {
+    const TOLD: &[(bool, &str)] = &[
+        (
+            false,
+            "rule B3/S23\npopulation 17\nbox 23 23\nonset 0\nobjects 5\npart xp2_7 4\npart xq4_153 1\n",
+        ),
+        (
+            true,
+            "rule B3/S23\npopulation 17\nbox 23 23\nonset 0\nobjects 2\npart xq4_153 1\npart xp2_s01110szw222 1\n",
+        ),
+    ];
+    for (near, wanted) in TOLD {
+        let inquiry = Inquiry {
+            bound: 100,
+            near: *near,
+        };
+        let told = match block(rt.alloc(), LIGHT, inquiry)? {
             Ok(block) => block.as_slice() == wanted.as_bytes(),
             Err(_fault) => false,
         };
@@ -68,7 +104,11 @@ fn texts_have_their_blocks(rt: HostRuntime) -> Result<(), Fail> {
 
 #[test]
 fn a_fault(rt: HostRuntime) -> Result<(), Fail> {
-    let fault = block(rt.alloc(), b"x = 3, y = 3\n3b?!", 10)?.err();
+    let inquiry = Inquiry {
+        bound: 10,
+        near: false,
+    };
+    let fault = block(rt.alloc(), b"x = 3, y = 3\n3b?!", inquiry)?.err();
     assert!(rt; fault == Some(RleFault::BadChar { at: 15 }));
     Ok(())
 }

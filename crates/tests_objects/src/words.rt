@@ -1,5 +1,6 @@
 //! Words that name files or standard input, and what is told of them.
 
+use census_blocks::Inquiry;
 use census_folders::{Shelf, ShelfFault, Unread};
 use census_identify::identify;
 use std::alloc::Global;
@@ -100,10 +101,14 @@ fn words_are_told(rt: HostRuntime) -> Result<(), Fail> {
         let mut input = Watched::new(*input);
         let mut output = Watched::new(Vec::new(rt.alloc()));
         let mut errors = Watched::new(Vec::new(rt.alloc()));
+        let inquiry = Inquiry {
+            bound: 10_000,
+            near: false,
+        };
         let status = identify(
             &FILES,
             rt.alloc(),
-            10_000,
+            inquiry,
             words,
             &mut input,
             &mut output,

@@ -10,6 +10,13 @@ use std::rt::Files;
 use std::sync::Wait;
 use std::thread::Threads;
 
+// A traffic light.
+const LIGHT: &[u8] = b"@folder f
+@file l
+x = 9, y = 9
+4bo$4bo$4bo2$3o3b3o2$4bo$4bo$4bo!
+";
+
 const GLIDER: &[u8] = b"x = 3, y = 3, rule = B3/S23\r\nbo$2bo$3o!";
 
 // The words, standard input, the exit status, standard output and standard error.
@@ -121,6 +128,32 @@ const CALLS: &[Call] = &[
         b"",
     ),
     (&["objects", " a"], b"", 1, b"", b"census: folder fault 1\n"),
+    (
+        &["objects", "-b", "2"],
+        LIGHT,
+        0,
+        b"open 1 1 f
+line 1 1 ash B3/S23 12 0 4 l
+part 1 1 xp2_7 4
+code 1 B3/S23 xp2_7 4
+close 1 1 1 0 0
+end 1 1
+",
+        b"",
+    ),
+    (
+        &["objects", "-b", "2", "--near"],
+        LIGHT,
+        0,
+        b"open 1 1 f
+line 1 1 ash B3/S23 12 0 1 l
+part 1 1 xp2_s01110szw222 1
+code 1 B3/S23 xp2_s01110szw222 1
+close 1 1 1 0 0
+end 1 1
+",
+        b"",
+    ),
     (
         &["objects", "--bound=8", "-w", "1", "--explain"],
         BUNDLE,

@@ -73,6 +73,7 @@ fn is_asked(request: &Request, words: Words, asked: &Asked, flags: (bool, bool))
             bound,
             workers,
             cells,
+            near: _,
             input: _,
             recursive,
             keep_going,
@@ -254,9 +255,11 @@ const IDENTIFIED: &[(Words, u32, Words)] = &[
 fn patterns_are_identified_in_the_order_of_their_files(rt: HostRuntime) -> Result<(), Fail> {
     for (words, asked_bound, asked_files) in IDENTIFIED {
         let asked = match &request_of(rt.alloc(), words)? {
-            Request::Identify { bound, files } => {
-                *bound == *asked_bound && files.as_slice() == *asked_files
-            }
+            Request::Identify {
+                bound,
+                near: _,
+                files,
+            } => *bound == *asked_bound && files.as_slice() == *asked_files,
             _ => false,
         };
         assert!(rt; asked);
@@ -489,6 +492,28 @@ fn each_command_explains_its_faults_where_it_is_asked_to(rt: HostRuntime) -> Res
     Ok(())
 }
 
+#[test]
+fn what_is_near_is_one_object_where_that_is_asked_for(rt: HostRuntime) -> Result<(), Fail> {
+    const ASKED: &[(Words, bool)] = &[
+        (&["objects"], false),
+        (&["objects", "--near"], true),
+        (&["objects", "a", "--near", "-r"], true),
+        (&["objects", "--", "--near"], false),
+        (&["identify"], false),
+        (&["identify", "a", "--near"], true),
+        (&["identify", "--near", "-b1", "a"], true),
+        (&["identify", "--", "--near"], false),
+    ];
+    for (words, asked) in ASKED {
+        let found = match request_of(rt.alloc(), words)? {
+            Request::Objects { near, .. } | Request::Identify { near, .. } => near,
+            other => panic!(rt; "{words:?}: {other:?}"),
+        };
+        assert_eq!(rt; found, *asked, "{words:?}");
+    }
+    Ok(())
+}
+
 // Words that are refused, and a part of the text that says so.
 const REFUSED: &[(Words, &str)] = &[
     (&[], "census"),
@@ -510,6 +535,10 @@ const REFUSED: &[(Words, &str)] = &[
     (&["objects", "--bound", "100001"], "--bound"),
     (&["objects", "--cells", "0"], "--cells"),
     (&["objects", "--cells", "4294967296"], "--cells"),
+    (&["objects", "--near", "--near"], "--near"),
+    (&["objects", "--near=1"], "--near"),
+    (&["run", "--near"], "--near"),
+    (&["identify", "--near", "a", "--near"], "--near"),
     (&["identify", "--bound", "0"], "--bound"),
     (&["identify", "--bound", "100001"], "--bound"),
     (&["identify", "--workers", "2"], "--workers"),
@@ -611,7 +640,9 @@ const PROGRAM_PARTS: Words = &[
     "-k, --keep-going",
     "1 to 100000 [default: 10000]",
     "[default: 1000000]",
-    "identify [--bound N] [FILE]...",
+    "objects [--bound N] [--workers N] [--cells N] [--near] [--input N] [-r] [-k]\n",
+    "--near       count what comes within two cells as one object",
+    "identify [--bound N] [--near] [FILE]...",
     "advance N [FILE]",
     "0 to 4194304",
     "[default: B3/S23]",
@@ -643,6 +674,8 @@ const OBJECTS_PARTS: Words = &[
     "1 to 16 [default: 4]",
     "--cells <N>",
     "1 to 4294967295 [default: 1000000]",
+    "--near",
+    "Independent parts are counted",
     "-r, --recursive",
     "-k, --keep-going",
 ];
@@ -652,6 +685,7 @@ const IDENTIFY_PARTS: Words = &[
     "--explain",
     "-b, --bound <N>",
     "1 to 100000 [default: 10000]",
+    "--near",
     "An RLE text; - is standard input",
     "With no FILE standard input is read",
     "Example: census identify",

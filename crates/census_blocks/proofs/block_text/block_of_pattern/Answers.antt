@@ -15,8 +15,8 @@ pub returns : goal.returns
 unfolding pattern_block
 returns c =
     c.in_ok-push_known.ensures
-    ∙ ap (λ k. c.push_head.new.text.items ++ text_of (known_lines c.args.bound k)) c.in_ok-known_of.ensures
-    ∙ ap (λ t. t ++ text_of (known_lines c.args.bound (known_of c.args.bound c.args.pattern.now)))
+    ∙ ap (λ k. c.push_head.new.text.items ++ text_of (known_lines c.args.inquiry.bound k)) c.in_ok-known_of.ensures
+    ∙ ap (λ t. t ++ text_of (known_lines c.args.inquiry.bound (known_of c.args.inquiry c.args.pattern.now)))
     (c.in_ok-push_head.ensures
     ∙ ap (λ t. t ++ text_of (head_lines c.rule.result c.len.result c.in_ok-size.field-0)) c.new-lines.ensures.items
     ∙ same_head _ _ _ _ _ _ c.rule.ensures (c.len.ensures ∙ ap (λ G. size G) c.cells-cells.ensures.cells) (c.in_ok-size.ensures ∙ ap (λ G. (width G, height G)) c.cells-cells.ensures.cells))

@@ -8,8 +8,8 @@ use Rattle.census_blocks.proofs.known.falling_apart.Goals as goal
 pub returns-in-Found : goal.returns-in-Found
 returns-in-Found c =
     c.known_parts.ensures
-    ∙ ap (λ (f : Finding). known_parts f.outcome) (found (Objects c.args.bound None) c.args.text.now c.args.pattern.now _ _ _ c.in_ok-finding.ensures.answer c.requires.meant c.in-Found.is)
+    ∙ ap (λ (f : Finding). known_parts f.outcome) (found (Objects c.args.inquiry.bound None c.args.inquiry.near) c.args.text.now c.args.pattern.now _ _ _ c.in_ok-finding.ensures.answer c.requires.meant c.in-Found.is)
 
 pub returns-in-Refused : goal.returns-in-Refused
 returns-in-Refused c =
-    absurd (not_refused (Objects c.args.bound None) c.args.text.now c.args.pattern.now _ _ c.in_ok-finding.ensures.answer c.requires.meant c.in-Refused.is)
+    absurd (not_refused (Objects c.args.inquiry.bound None c.args.inquiry.near) c.args.text.now c.args.pattern.now _ _ c.in_ok-finding.ensures.answer c.requires.meant c.in-Refused.is)

@@ -1,4 +1,5 @@
 use Rattle.std.proofs.Common.{List, ℕ, ◌++◌, inl, inr, refl, sym, ap, subst, map}
+use Rattle.census_blocks.specs.declared.inquiry.Inquiry.{Inquiry}
 use Rattle.census_command.specs.Outcomes.{IsIdentify}
 use Rattle.census_errors.specs.Messages.{error_line}
 use Rattle.census_errors.specs.Sayings.{said_if}
@@ -13,14 +14,15 @@ returns-in-Err g c = inr (inr (inr (ends_answered _ _ _ _ _ _ _ c.in-Err.fault c
 pub returns-in-Identify : goal.returns-in-Identify
 returns-in-Identify g c =
     let words = map (λ s. s.now) c.as_slice.result.now in
+    let inquiry : Inquiry = record { bound = c.in-Identify.bound; near = c.in-Identify.near } in
     rw (← c.streams.view_is, ← c.errors.view_is)
     (inl (record {
-      bound = c.in-Identify.bound;
+      inquiry = inquiry;
       files = words;
       asked = record {
         request = c.in-Ok.asked.request;
         asked = c.in-Ok.ensures.0;
-        is = subst (λ r. IsIdentify r c.in-Identify.bound words) (sym c.in-Identify.is) (refl, ap (λ files. map (λ s. s.now) files) c.as_slice.ensures.value);
+        is = subst (λ r. IsIdentify r inquiry words) (sym c.in-Identify.is) (refl, ap (λ files. map (λ s. s.now) files) c.as_slice.ensures.value);
       };
       identifies = c.identify.ensures;
     }))
