@@ -8,4 +8,5 @@ pub mod Codes
 pub mod Counted
 pub mod Tallying
 pub mod PartCodes
+pub mod CountedSets
 pub mod Onsets

@@ -1,11 +1,11 @@
 -- Objects are counted the same in whatever order their codes come, or they themselves.
-use Rattle.std.proofs.Common.{◌≡◌, ℕ, zero, suc, ◌<◌, List, [], ◌∷◌, ◌++◌, length, flat_map, fold, get_or, set, sym, refl, ap, ◌∙◌, arith}
+use Rattle.std.proofs.Common.{◌≡◌, ℕ, zero, suc, ◌<◌, List, [], ◌∷◌, length, flat_map, fold, get_or, set, sym, refl, ap, ◌∙◌, arith}
 use Rattle.std.specs.List.{swap}
 use Rattle.std.specs.List.Sorted.{IsPermutation, SwapsInRange, apply_swaps}
-use Rattle.std.proofs.lemmas.List.Sorted.{IsPermutation-append_comm, length_permutation}
+use Rattle.std.proofs.lemmas.List.Sorted.{length_permutation}
 use Rattle.std.proofs.lemmas.List.Sums.{fold-append}
 use Rattle.life_answer.specs.declared.part.Part.{Part}
-use Rattle.life_answer.specs.Parts.{counted_codes, objects_in, with_code}
+use Rattle.life_answer.specs.Parts.{counted_codes, objects_in, with_code, with_codes}
 use Rattle.life_answer.proofs.Counted.{commutes, one_more}
 
 -- ---- what is counted in any order, since any two are
@@ -81,10 +81,6 @@ pub counted_all : (codes : List (List ℕ)) → objects_in (counted_codes codes)
 counted_all codes = ap objects_in (gathers with_code commutes codes) ∙ gather_all codes
 
 -- ---- things that have several codes each
-
--- more objects with these codes
-abbrev pub with_codes : List (List ℕ) → List Part → List Part
-with_codes codes parts = fold (λ ps c. with_code c ps) parts codes
 
 with_either_first : (codes others : List (List ℕ)) (parts : List Part) →
     with_codes codes (with_codes others parts) ≡ with_codes others (with_codes codes parts)

@@ -34,10 +34,13 @@ is_ash_then R G b n = is_some (ash_of R b (generation R G n))
 unfoldable pub ash_onset : Rule → Generation → ℕ → ℕ
 ash_onset R G b = unwrap_or (first_from (is_ash_then R G b) 0 b) b
 
+-- what objects count as, counted by the codes that are found of each alone
+abbrev pub counted_parts : Bool → Rule → ℕ → List Generation → List Part
+counted_parts near R b Ps = counted_codes (map (part_code R (code_bound b)) (counted_of near R b Ps))
+
 abbrev pub census_found : Bool → Rule → ℕ → ℕ → Option (List Generation) → Outcome
 census_found near R b onset None = Unresolved
-census_found near R b onset (Some parts) =
-    Ash onset (counted_codes (map (part_code R (code_bound b)) (counted_of near R b parts)))
+census_found near R b onset (Some objects) = Ash onset (counted_parts near R b objects)
 
 -- What becomes of a set that is to fall apart within b: the onset of its ash, and the objects into which generation b falls
 -- apart, where it does, or the independent parts of these.

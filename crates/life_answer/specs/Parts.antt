@@ -29,6 +29,10 @@ abbrev pub with_code : List ℕ → List Part → List Part
 with_code code [] = single code ∷ []
 with_code code (part ∷ parts) = with_code_by_order (shorter_cmp code part.code) code part parts (with_code code parts)
 
+-- more objects with these codes
+abbrev pub with_codes : List (List ℕ) → List Part → List Part
+with_codes codes parts = fold (λ parts code. with_code code parts) parts codes
+
 -- objects with these codes, counted: for each code one part, in the order of codes, by length and then by bytes
 abbrev pub counted_codes : List (List ℕ) → List Part
-counted_codes codes = fold (λ parts code. with_code code parts) [] codes
+counted_codes codes = with_codes codes []

@@ -16,15 +16,6 @@ use Rattle.life_orbit.specs.Course.{Course, IsCourse}
 use Rattle.life_answer.specs.Census.{code_found, part_code}
 use Rattle.life_census.specs.Courses.{course_code}
 
--- ---- one after another
-
-pub counted_more : (os : List Course) (n : ℕ) (d : Course) → n < length os →
-    with_code (course_code (get_or os n d)) (counted_codes (map course_code (take n os)))
-    ≡ counted_codes (map course_code (take (n + 1) os))
-counted_more os n d below =
-    sym (fold-append (λ ps c. with_code c ps) [] (map course_code (take n os)) (course_code (get_or os n d) ∷ []))
-    ∙ ap counted_codes (sym (map_more course_code os n d below))
-
 -- ---- a set that recurs so, alone
 
 -- it comes again from the first generation on

@@ -18,25 +18,27 @@ fn answer_on<P: Plane>(
     text: &[u8],
     bound: u32,
     limit: Option<u32>,
+    near: bool,
 ) -> Result<Answer, AllocError>
     requires { 1 ≤ bound × bound ≤ BOUND_LIMIT }
     ensures answer { IfOk result
-        (λ answer. answer ≡ answer_to_question (Objects bound limit) text.now) }
+        (λ answer. answer ≡ answer_to_question (Objects bound limit near) text.now) }
     ensures memory { OnErr result (IsOk (header_rule text.now)) }
 {
     match read_rle(alloc, text) {
         Ok(pattern) => {
             let rule = pattern.rule();
-            let finding = census::<P>(alloc, &rule, pattern.cells(), bound, limit)?;
+            let finding = census::<P>(alloc, &rule, pattern.cells(), bound, limit, near)?;
             Ok(Answer::Found { rule, finding })
         }
         Err(fault) => refused(fault),
     }
 }
 
-/// What is found of an RLE text within the bound: the rule and the objects of the pattern that it means, counted by their
+/// What is found of an RLE text within the bound: the rule and what the objects of the pattern that it means count as, by
 /// codes, where it falls apart; or the number of its fault. The bound is 1 to 100,000 generations. With a limit
-/// no generation from 0 to three times the bound may have more cells.
+/// no generation from 0 to three times the bound may have more cells. What is near one another counts as one object where
+/// that is asked for; else the independent parts of each object count.
 ///
 /// It may look at generations past the bound, up to three times the bound.
 pub fn answer(
@@ -44,11 +46,12 @@ pub fn answer(
     text: &[u8],
     bound: u32,
     limit: Option<u32>,
+    near: bool,
 ) -> Result<Answer, AllocError>
     requires { 1 ≤ bound × bound ≤ BOUND_LIMIT }
     ensures answer { IfOk result
-        (λ answer. answer ≡ answer_to_question (Objects bound limit) text.now) }
+        (λ answer. answer ≡ answer_to_question (Objects bound limit near) text.now) }
     ensures memory { OnErr result (IsOk (header_rule text.now)) }
 {
-    answer_on::<Board>(alloc, text, bound, limit)
+    answer_on::<Board>(alloc, text, bound, limit, near)
 }

@@ -1,11 +1,13 @@
-//! The census of a pattern: the objects that it falls apart into, counted by their codes.
+//! The census of a pattern: the objects that it falls apart into, or the independent parts of these, counted by codes.
 //!
 //! Tested in `tests_objects`.
 #![tactic(auto)]
 
 mod answering;
 mod code;
-mod known_codes;
+mod counted;
+mod known_set;
+mod known_sets;
 mod parts;
 mod pattern;
 

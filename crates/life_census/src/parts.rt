@@ -1,25 +1,25 @@
-//! Sets that recur, counted by their codes.
-ghost use Rattle.std.specs.Prelude.{◌≡◌, All, IfOk, map};
-ghost use Rattle.life_model.specs.Generation.{cells};
-ghost use Rattle.life_cells.specs.Limits.{IsWithin};
-ghost use Rattle.life_ash.specs.Parts.{ash_age_limit};
-ghost use Rattle.life_answer.specs.Parts.{counted_codes};
-ghost use Rattle.life_census.specs.Courses.{course_code};
+//! What sets that recur count as, counted by codes.
+ghost use Rattle.std.specs.Prelude.{◌≡◌, All, IfOk};
+ghost use Rattle.life_ash.specs.Parts.{IsPlaced};
+ghost use Rattle.life_orbit.specs.Course.{IsCourse};
+ghost use Rattle.life_census.specs.Counted.{AreCounted};
 
-use crate::known_codes::KnownCodes;
+use crate::known_sets::KnownSets;
 use life_answer::Parts;
 use life_orbit::Orbit;
 use std::alloc::{AllocError, Global};
 
-/// The objects that the sets are, counted by their codes. Their cells are places at age 400,000.
-pub fn parts_of(alloc: Global, orbits: &[Orbit]) -> Result<Parts, AllocError>
-    requires within { All (λ o. All (IsWithin ash_age_limit) (cells o.set)) orbits.now }
-    ensures { IfOk result (λ parts. parts ≡ counted_codes (map course_code orbits.now)) }
+/// What the sets of orbits count as, counted by codes: each itself, where what is near one another is one object, and else its
+/// independent parts. Their cells are places at age 400,000.
+pub fn parts_of(alloc: Global, orbits: &[Orbit], near: bool) -> Result<Parts, AllocError>
+    requires within { All IsPlaced orbits.now }
+    requires courses { All IsCourse orbits.now }
+    ensures { IfOk result (λ parts. AreCounted near orbits.now parts) }
 {
     let mut parts = Parts::none(alloc);
-    let mut known = KnownCodes::new(alloc);
+    let mut known = KnownSets::new(alloc);
     for n in 0..orbits.len() {
-        parts.add(known.code_of(alloc, &orbits[n])?)?;
+        known.count(alloc, &orbits[n], near, &mut parts)?;
     }
     Ok(parts)
 }

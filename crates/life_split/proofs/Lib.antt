@@ -1,4 +1,5 @@
 pub mod Begun
+pub mod Members
 pub mod Stepped
 pub mod Walked
 pub mod Ended

@@ -1,0 +1,82 @@
+//! Sets that were met, with the codes of what they count as, so that nothing is decided again of a set that is one of them,
+//! moved as a whole.
+ghost use Rattle.std.specs.Prelude.{◌≡◌, ℕ, ◌<◌, List, IfSome, OnOk, length, slice_index_or};
+ghost use Rattle.life_ash.specs.Parts.{IsPlaced};
+ghost use Rattle.life_answer.specs.Parts.{with_codes};
+ghost use Rattle.life_census.specs.Counted.{CountsAs};
+ghost use Rattle.life_census.specs.declared.known_set.KnownSet as declared;
+
+use crate::counted::codes_of;
+use crate::known_set::{KnownSet, known_set};
+use life_answer::{Code, Parts};
+use life_orbit::Orbit;
+use std::alloc::{AllocError, Global};
+
+/// How many sets are kept at most.
+const MOST: usize = 64;
+
+/// How many cells a set has at most that is kept.
+const LARGEST: usize = 256;
+
+/// Sets that recur, with the codes of what they count as. These are right; not all sets that were met are kept.
+#[derive(Drop)]
+pub struct KnownSets {
+    sets: Vec<KnownSet>,
+}
+
+/// Where among the sets one stands that is an orbit's set, moved as a whole. That there is none tells nothing.
+fn place_of(sets: &[KnownSet], orbit: &Orbit, near: bool) -> Option<usize>
+    ensures inside { IfSome result (λ n. n < length sets.now) }
+    ensures codes { IfSome result (λ n. (d : declared.KnownSet) →
+        CountsAs near orbit.now (slice_index_or sets.now n d).codes.items) }
+{
+    for n in 0..sets.len() {
+        if sets[n].is_of(orbit, near) {
+            return Some(n);
+        }
+    }
+    None
+}
+
+/// Counts objects that have these codes.
+fn add_codes(alloc: Global, parts: &mut Parts, codes: &[Code]) -> Result<(), AllocError>
+    ensures { OnOk result (parts.new ≡ with_codes codes.now parts.old) }
+{
+    for n in 0..codes.len() {
+        parts.add(Code::of(alloc, codes[n].as_slice())?)?;
+    }
+    Ok(())
+}
+
+impl KnownSets {
+    /// No set yet.
+    pub fn new(alloc: Global) -> KnownSets {
+        KnownSets {
+            sets: Vec::new(alloc),
+        }
+    }
+
+    /// Counts what an orbit's set counts as, whose cells are places at age 400,000: itself, where what is near one another is
+    /// one object, and else its independent parts. It is decided where none is kept of this set, moved as a whole.
+    pub fn count(
+        &mut self,
+        alloc: Global,
+        orbit: &Orbit,
+        near: bool,
+        parts: &mut Parts,
+    ) -> Result<(), AllocError>
+        requires within { IsPlaced orbit.now }
+        ensures { OnOk result ((codes : List (List ℕ)) × CountsAs near orbit.now codes
+            × (parts.new ≡ with_codes codes parts.old)) }
+    {
+        if let Some(place) = place_of(self.sets.as_slice(), orbit, near) {
+            return add_codes(alloc, parts, self.sets[place].codes.as_slice());
+        }
+        let codes = codes_of(alloc, orbit, near)?;
+        add_codes(alloc, parts, codes.as_slice())?;
+        if self.sets.len() < MOST && orbit.set().len() <= LARGEST {
+            self.sets.push(known_set(alloc, orbit, near, codes)?)?;
+        }
+        Ok(())
+    }
+}
