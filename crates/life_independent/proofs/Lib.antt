@@ -7,8 +7,9 @@ pub mod Split
 pub mod Fair
 pub mod Sets
 pub mod Beside
-pub mod Telling
 pub mod Owners
+pub mod Finer
+pub mod Telling
 pub mod Passing
 pub mod Periods
 pub mod Longest

@@ -22,6 +22,7 @@ use Rattle.life_independent.proofs.Beside.{candidate}
 use Rattle.life_independent.proofs.Coloured.{AreColoured, one_colour, one_group}
 use Rattle.life_independent.proofs.Counting.{few_counted, one_counted}
 use Rattle.life_independent.proofs.Fair.{IsFairOf, fair_by_test}
+use Rattle.life_independent.proofs.Finer.{whole_if_far}
 use Rattle.life_independent.proofs.Found.{each_passes}
 use Rattle.life_independent.proofs.Sets.{MakeUp, both_of, groups_make, moved_over, owner_of, sharing, whole_has}
 use Rattle.life_independent.proofs.Split.{groups_of_splitting, split_by_colour}
@@ -205,19 +206,8 @@ module _ (R : Rule) (G : Generation) (Hs : List Generation) (are : MakeUp G Hs) 
               absurd (both_ways (are_apart_at R G Hs x) fails (apart_there c at.live at.near h)))
         ]
 
-  whole_islands : are_untouching Hs ≡ true → (c d : Cell) → contains G c ≡ true → contains G d ≡ true → IsNear c d →
-      HaveBoth Hs c d
-  whole_islands h c d live too near =
-      let A = owner_of G Hs are c live in
-      let B = owner_of G Hs are d too in
-      elim (related_or_same AreUntouching (λ X Y far a b k l close. far b a l k (near_swapped a b close)) Hs A.0 B.0 A.1 B.1
-      (untouching_by_test Hs h)) [
-        | inl far ↦ absurd (far c d A.2 B.2 near)
-        | inr same ↦ both_of G Hs are A.0 A.1 c d A.2 (ap (λ H. contains H d) same ∙ B.2)
-      ]
-
   pub held_by_test : are_held_apart R G Hs ≡ true → AreHeldApart R G Hs
   unfolding are_held_apart
   held_by_test h =
       let parts = and_parts (are_untouching Hs) (list_all tested (candidates G)) h in
-      record { islands = whole_islands parts.0; places = λ x place. at_place x place parts.1 }
+      record { islands = whole_if_far G Hs are (untouching_by_test Hs parts.0); places = λ x place. at_place x place parts.1 }
