@@ -17,3 +17,7 @@ pub mod Fewer
 pub mod Through
 pub mod Parts
 pub mod Finest
+pub mod Failing
+pub mod Rooted
+pub mod Joined
+pub mod Existing
