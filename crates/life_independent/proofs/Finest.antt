@@ -1,47 +1,58 @@
 -- The first of the longest splittings that pass the test is the independent parts.
-use Rattle.std.proofs.Common.{◌≡◌, ◌≢◌, ℕ, ◌≤◌, Bool, true, List, filter, get_or, length, sym, ap, subst, ◌∙◌, arith}
+use Rattle.std.proofs.Common.{◌≡◌, ◌≢◌, ℕ, ◌<◌, ◌≤◌, Bool, true, List, filter, get_or, length, sym, ap, subst, ◌∙◌, arith}
 use Rattle.std.specs.Cmp as cmp
-use Rattle.std.specs.List.{Contains}
+use Rattle.std.specs.List.{AllPairs, Contains}
 use Rattle.std.specs.List.Sorted.{IsPermutation}
 use Rattle.std.proofs.lemmas.List.Elements.{All-contains, Contains-get_or}
 use Rattle.life_model.specs.Cell.{Cell}
+use Rattle.std.proofs.lemmas.List.Sorted.{Contains-permutation}
 use Rattle.life_model.specs.Rule.{Rule}
 use Rattle.life_model.specs.Generation.{Generation, contains, empty}
+use Rattle.life_model.specs.Evolution.{generation}
 use Rattle.life_model.specs.Recurrence.{RecursBy}
 use Rattle.life_model.proofs.Generations.{same_members}
 use Rattle.life_objects.specs.Ash.{RecursWithin}
-use Rattle.life_objects.specs.Union.{IsSubsetOf}
+use Rattle.life_objects.specs.Union.{IsSubsetOf, generations}
+use Rattle.life_objects.proofs.Recurring.{RecursBy-later}
 use Rattle.life_decided.specs.Parts.{corner_offset, period}
 use Rattle.life_decided.proofs.Kept.{Contains-filter, of_filter}
 use Rattle.life_decided.proofs.Periods.{period_found, recurs}
-use Rattle.life_parts.specs.Groups.{ColoursIslands}
+use Rattle.life_parts.specs.Splittings.{AreUntouching}
 use Rattle.life_parts.specs.Parts.{AreIndependentParts, IsIndependentPart}
 use Rattle.life_parts.specs.Ties.{touching}
 use Rattle.life_parts.proofs.Evolving.{at_first, part_of}
-use Rattle.life_parts.proofs.Lists.{one_list, some_cell}
+use Rattle.life_parts.proofs.Lists.{later_parts, one_list, some_cell}
 use Rattle.life_independent.specs.Groupings.{splittings}
 use Rattle.life_independent.specs.Held.{are_held_apart_through}
 use Rattle.life_independent.specs.Independent.{independent_parts_of, longest}
 use Rattle.life_independent.proofs.Added.{AreGroupsOf}
 use Rattle.life_independent.proofs.Coloured.{AreColoured, one_colour, one_group}
+use Rattle.life_independent.proofs.Existing.{parts_exist}
 use Rattle.life_independent.proofs.Fewer.{just_one}
+use Rattle.life_independent.proofs.Listed.{listed}
 use Rattle.life_independent.proofs.Longest.{longest_listed, none_longer}
 use Rattle.life_independent.proofs.Owners.{of_place, one_place, owner_place}
 use Rattle.life_independent.proofs.Parts.{parts_pass_through}
 use Rattle.life_independent.proofs.Periods.{one_period, period-least}
-use Rattle.life_independent.proofs.Sets.{MakeUp, groups_make, moved_over, owner_of, sharing, whole_has}
+use Rattle.life_independent.proofs.Sets.{MakeUp, groups_differ, groups_make, moved_over, owner_of, sharing, whole_has}
 use Rattle.life_independent.proofs.Split.{groups_of_splitting, split_by_colour}
-use Rattle.life_independent.proofs.Through.{groups_differ, tied_of_one}
+use Rattle.life_independent.proofs.Through.{tied_of_one}
 
 module _ (R : Rule) (P : Generation) (Qs : List Generation) (are : AreIndependentParts R P Qs) where
   parts_make : MakeUp P Qs
   parts_make = record { together = are.together; once = are.once }
 
-  islands : ColoursIslands P (owner_place Qs)
-  islands c d h k near =
-      let A = owner_of P Qs parts_make c h in
-      one_place P Qs parts_make A.0 A.1 c d A.2
-      ((part_of R P Qs are A.0 A.1).whole c d A.2 (touching 0 c d (at_first R P c h) (at_first R P d k) near))
+  parts_groups : AreGroupsOf P Qs
+  parts_groups = record { together = are.together; once = are.once; some = λ i d h. (are.parts i d h).nonempty }
+
+  parts_far : AllPairs AreUntouching Qs
+  parts_far i j x less within c e h k near =
+      let A = get_or Qs i x in
+      let B = get_or Qs j x in
+      let a = part_of R P Qs are A (Contains-get_or Qs i x (let l : i < length Qs = omega arith in l)) in
+      let b = part_of R P Qs are B (Contains-get_or Qs j x within) in
+      are.once i j x less within e
+      (a.whole c e h (touching 0 c e (at_first R P c (a.within c h)) (at_first R P e (b.within e k)) near)) k
 
   -- a splitting whose sets are parts is the parts
   parts_of_splitting : (Hs : List Generation) → AreGroupsOf P Hs → ((H : Generation) → Contains Hs H → Contains Qs H) →
@@ -53,27 +64,13 @@ module _ (R : Rule) (P : Generation) (Qs : List Generation) (are : AreIndependen
   }
 
   -- the parts, in the order of some splitting
-  pub listed_parts : (Hs : List Generation) × Contains (splittings P) Hs × AreIndependentParts R P Hs
+  listed_parts : (Hs : List Generation) × Contains (splittings P) Hs × AreIndependentParts R P Hs
   listed_parts =
-      let s = split_by_colour P (owner_place Qs) islands in
-      let Hs = s.0 in
-      let groups = groups_of_splitting P Hs s.1 in
-      let make = groups_make P Hs groups in
-      (Hs, s.1, parts_of_splitting Hs groups (λ H one.
-      let a = some_cell H (All-contains (λ K. K ≢ empty) Hs H groups.some one) in
-      let in_P = whole_has P Hs make H one a.0 a.1 in
-      let Q = owner_of P Qs parts_make a.0 in_P in
-      subst (Contains Qs) (same_members Q.0 H (λ y.
-      cmp.both_ways (contains Q.0 y) (contains H y)
-      (λ h.
-      let J = owner_of P Hs make y (whole_has P Qs parts_make Q.0 Q.1 y h) in
-      let same : J.0 ≡ H =
-      one_group (owner_place Qs) Hs s.2 J.0 H J.1 one y a.0 J.2 a.1 (one_place P Qs parts_make Q.0 Q.1 y a.0 h Q.2) in
-      ap (λ K. contains K y) (sym same) ∙ J.2)
-      (λ h.
-      let K = of_place P Qs parts_make a.0 y in_P (whole_has P Hs make H one y h)
-      (one_colour (owner_place Qs) Hs s.2 H one a.0 y a.1 h) in
-      moved_over P Qs parts_make K.0 Q.0 K.1 Q.1 a.0 K.2 Q.2 y K.3))) Q.1))
+      let l = listed P Qs parts_groups parts_far in (
+        l.0,
+        l.1,
+        parts_of_splitting l.0 (groups_of_splitting P l.0 l.1) (λ H one. Contains-permutation l.0 Qs H l.2 one),
+      )
 
 module _ (R : Rule) (b : ℕ) (P : Generation) (within : RecursWithin R b P) where
   abbrev p : ℕ
@@ -145,15 +142,29 @@ module _ (R : Rule) (b : ℕ) (P : Generation) (within : RecursWithin R b P) whe
     found_parts : AreIndependentParts R P found
     found_parts = parts_of_splitting R P Qs are found groups each_is_part
 
-  pub are_the_parts : (Qs : List Generation) → AreIndependentParts R P Qs →
-      AreIndependentParts R P (independent_parts_of R b P)
+  pub are_the_parts : AreIndependentParts R P (independent_parts_of R b P)
   unfolding independent_parts_of
-  are_the_parts Qs are =
-      let l = listed_parts R P Qs are in
+  are_the_parts =
+      let Qs = parts_exist R P p d r (λ n f s. period-least R P b n f s) in
+      let l = listed_parts R P Qs.0 Qs.1 in
       found_parts l.0 l.1 l.2
 
   pub same_but_order : (Qs : List Generation) → AreIndependentParts R P Qs → IsPermutation (independent_parts_of R b P) Qs
-  same_but_order Qs are = one_list R P (independent_parts_of R b P) Qs (are_the_parts Qs are) are
+  same_but_order Qs are = one_list R P (independent_parts_of R b P) Qs are_the_parts are
+
+-- what was found of a set, and is found of a later generation
+pub found_later : (R : Rule) (b k : ℕ) (P : Generation) → RecursWithin R b P →
+    IsPermutation (generations R (independent_parts_of R b P) k) (independent_parts_of R b (generation R P k))
+found_later R b k P within =
+    let later : RecursWithin R b (generation R P k) = record {
+      steps = within.steps;
+      by = within.by;
+      within = within.within;
+      recurs = RecursBy-later R P within.steps within.by within.recurs k;
+    } in
+    one_list R (generation R P k) (generations R (independent_parts_of R b P) k) (independent_parts_of R b (generation R P k))
+    (later_parts R P (independent_parts_of R b P) (are_the_parts R b P within) within.steps within.by within.recurs k)
+    (are_the_parts R b (generation R P k) later)
 
 pub bound_free : (R : Rule) (b c : ℕ) (P : Generation) → RecursWithin R b P → RecursWithin R c P →
     independent_parts_of R b P ≡ independent_parts_of R c P

@@ -16,8 +16,9 @@ pub mod Longest
 pub mod Fewer
 pub mod Through
 pub mod Parts
-pub mod Finest
 pub mod Failing
 pub mod Rooted
 pub mod Joined
 pub mod Existing
+pub mod Listed
+pub mod Finest

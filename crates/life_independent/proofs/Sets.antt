@@ -5,8 +5,9 @@ use Rattle.life_model.specs.Cell.{Cell}
 use Rattle.life_model.specs.Generation.{Generation, contains}
 use Rattle.life_objects.specs.Apart.{AreDisjoint}
 use Rattle.life_objects.specs.Union.{union_of}
-use Rattle.life_objects.proofs.Lists.{related_or_same}
+use Rattle.life_objects.proofs.Lists.{AllDiffer, related_or_same}
 use Rattle.life_parts.specs.Apart.{HaveBoth}
+use Rattle.life_parts.proofs.Lists.{some_cell}
 use Rattle.life_independent.proofs.Added.{AreGroupsOf}
 use Rattle.life_independent.proofs.Found.{owned, owner}
 
@@ -17,6 +18,11 @@ pub record MakeUp (G : Generation) (Hs : List Generation) : Type 0 where
 
 pub groups_make : (G : Generation) (Hs : List Generation) → AreGroupsOf G Hs → MakeUp G Hs
 groups_make G Hs are = record { together = are.together; once = are.once }
+
+pub groups_differ : (G : Generation) (Hs : List Generation) → AreGroupsOf G Hs → AllDiffer Hs
+groups_differ G Hs are i j d less within same =
+    let a = some_cell (get_or Hs j d) (are.some j d within) in
+    are.once i j d less within a.0 (ap (λ H. contains H a.0) same ∙ a.1) a.1
 
 module _ (G : Generation) (Hs : List Generation) (are : MakeUp G Hs) where
   pub owner_of : (c : Cell) → contains G c ≡ true → (H : Generation) × Contains Hs H × (contains H c ≡ true)

@@ -27,13 +27,8 @@ use Rattle.life_parts.proofs.Lists.{some_cell}
 use Rattle.life_independent.specs.Held.{are_held_apart, are_held_apart_through, come_again}
 use Rattle.life_independent.proofs.Added.{AreGroupsOf}
 use Rattle.life_independent.proofs.Found.{each_passes, owned, owner, some_passes}
-use Rattle.life_independent.proofs.Sets.{MakeUp, both_of, groups_make, owner_of, sharing, whole_has}
+use Rattle.life_independent.proofs.Sets.{MakeUp, both_of, groups_differ, groups_make, owner_of, sharing, whole_has}
 use Rattle.life_independent.proofs.Telling.{held_by_test}
-
-pub groups_differ : (G : Generation) (Hs : List Generation) → AreGroupsOf G Hs → AllDiffer Hs
-groups_differ G Hs are i j d less within same =
-    let a = some_cell (get_or Hs j d) (are.some j d within) in
-    are.once i j d less within a.0 (ap (λ H. contains H a.0) same ∙ a.1) a.1
 
 module _ (R : Rule) (P : Generation) (Hs : List Generation) (are : AreGroupsOf P Hs) where
   pub split_first : AreSplitAt R P Hs 0
