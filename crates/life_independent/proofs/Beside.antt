@@ -1,12 +1,11 @@
 -- The places beside a set's cells are among those that are tested.
-use Rattle.std.proofs.Common.{◌≡◌, Bool, true, ◌||◌, sym, ◌∙◌}
+use Rattle.std.proofs.Common.{◌≡◌, true, ◌||◌, sym, subst, ◌∙◌}
 use Rattle.std.specs.List.{Contains, list_any}
 use Rattle.std.proofs.lemmas.Bool.{or_left, or_right}
 use Rattle.std.proofs.lemmas.List.Elements.{recursion_from_All}
 use Rattle.std.proofs.lemmas.List.Folds.{list_any_at}
-use Rattle.std.proofs.Common.{subst}
 use Rattle.life_model.specs.Cell.{Cell, IsNear, around, same_cell}
-use Rattle.life_model.specs.Generation.{Generation, contains, from_list}
+use Rattle.life_model.specs.Generation.{Generation, contains}
 use Rattle.life_model.specs.Evolution.{candidates}
 use Rattle.life_model.proofs.Cells.{same_cell-is}
 use Rattle.life_model.proofs.Evolution.{contains-candidates}

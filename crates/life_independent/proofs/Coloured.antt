@@ -1,5 +1,5 @@
 -- Cells are put into groups by their colours.
-use Rattle.std.proofs.Common.{◌≡◌, ◌≢◌, ℕ, Bool, true, false, T, List, [], ◌∷◌, get_or, inl, inr, sym, ap, ◌∙◌, arith}
+use Rattle.std.proofs.Common.{◌≡◌, ◌≢◌, ℕ, true, T, List, [], ◌∷◌, get_or, inl, inr, sym, ap, ◌∙◌}
 use Rattle.std.specs.List.{All, AllPairs, Contains}
 use Rattle.std.proofs.lemmas.Bool.{cases_Bool, cases_eq}
 use Rattle.std.proofs.lemmas.List.Elements.{All-cons, All-contains, All-head, All-nil, All-tail, Contains-get_or}
@@ -63,10 +63,14 @@ module _ (colour : Cell → ℕ) where
 
     add_by_colour : (Qs : List Generation) → All (λ Q. Q ≢ empty) Qs → AreColoured colour Qs →
         (Hs : List Generation) × IsAdded c Qs Hs × AreColoured colour Hs
-    add_by_colour [] some are = (from_list (c ∷ []) ∷ [], alone, record {
-      plain = All-cons Plain (from_list (c ∷ [])) [] (λ x y h k. in_new x h ∙ sym (in_new y k)) (All-nil Plain);
-      unlike = AllPairs-cons Unlike (from_list (c ∷ [])) [] (All-nil (Unlike (from_list (c ∷ [])))) (AllPairs-nil Unlike);
-    })
+    add_by_colour [] some are = (
+      from_list (c ∷ []) ∷ [],
+      alone,
+      record {
+        plain = All-cons Plain (from_list (c ∷ [])) [] (λ x y h k. in_new x h ∙ sym (in_new y k)) (All-nil Plain);
+        unlike = AllPairs-cons Unlike (from_list (c ∷ [])) [] (All-nil (Unlike (from_list (c ∷ [])))) (AllPairs-nil Unlike);
+      },
+    )
     add_by_colour (Q ∷ Qs) some are =
         let a = some_cell Q (All-head (λ H. H ≢ empty) Q Qs some) in
         let q = a.0 in
@@ -75,26 +79,33 @@ module _ (colour : Cell → ℕ) where
         let far = AllPairs-head Unlike Q Qs are.unlike in
         let rest = AllPairs-tail Unlike Q Qs are.unlike in
         elim (cases_eq (colour q) (colour c)) [
-          | inl same ↦ (insert Q c ∷ Qs, here Q Qs, record {
+          | inl same ↦ (
+            insert Q c ∷ Qs,
+            here Q Qs,
+            record {
               plain = All-cons Plain (insert Q c) Qs
                   (λ x y h k. in_grown Q all q a.1 same x h ∙ sym (in_grown Q all q a.1 same y k)) others;
               unlike = AllPairs-cons Unlike (insert Q c) Qs
                   (λ k d l x y h m e. far k d l q y a.1 m (sym (in_grown Q all q a.1 same x h) ∙ e)) rest;
-            })
+            },
+          )
           | inr other ↦
-              let new = add_by_colour Qs (All-tail (λ H. H ≢ empty) Q Qs some) (record { plain = others; unlike = rest }) in
-              (Q ∷ new.0, later Q Qs new.0 new.1, record {
-                plain = All-cons Plain Q new.0 all new.2.plain;
-                unlike = AllPairs-cons Unlike Q new.0 (λ k d l x y h m e.
-                    elim (cases_Bool (contains (union_of Qs) y)) [
-                      | inl old ↦
-                          let B = owner Qs y old in
-                          All-contains (Unlike Q) Qs B.0 far B.1 x y h B.2 e
-                      | inr fresh ↦
-                          other (all q x a.1 h ∙ e
-                          ∙ ap colour (came_in c Qs new.0 new.1 (get_or new.0 k d) (Contains-get_or new.0 k d l) y m fresh))
-                    ]) new.2.unlike;
-              })
+              let new = add_by_colour Qs (All-tail (λ H. H ≢ empty) Q Qs some) (record { plain = others; unlike = rest }) in (
+                Q ∷ new.0,
+                later Q Qs new.0 new.1,
+                record {
+                  plain = All-cons Plain Q new.0 all new.2.plain;
+                  unlike = AllPairs-cons Unlike Q new.0 (λ k d l x y h m e.
+                      elim (cases_Bool (contains (union_of Qs) y)) [
+                        | inl old ↦
+                            let B = owner Qs y old in
+                            All-contains (Unlike Q) Qs B.0 far B.1 x y h B.2 e
+                        | inr fresh ↦
+                            other (all q x a.1 h ∙ e
+                            ∙ ap colour (came_in c Qs new.0 new.1 (get_or new.0 k d) (Contains-get_or new.0 k d l) y m fresh))
+                      ]) new.2.unlike;
+                },
+              )
         ]
 
   pub group_by_colour : (cs : List Cell) → T (is_rising cs) →

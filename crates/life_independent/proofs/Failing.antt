@@ -1,5 +1,5 @@
 -- What a test that fails tells of sets: two of them touch, or not all groups around a place are fair.
-use Rattle.std.proofs.Common.{◌≡◌, ℕ, ◌<◌, ◌≤◌, ◌⊎◌, Bool, true, false, not, ◌&&◌, ◌||◌, List, [], ◌∷◌, count_by, inl, inr, true≢false, arith}
+use Rattle.std.proofs.Common.{◌≡◌, ℕ, ◌≤◌, ◌⊎◌, Bool, true, false, not, ◌&&◌, ◌||◌, List, [], ◌∷◌, count_by, inl, inr, true≢false, arith}
 use Rattle.std.specs.Prelude.{nat_le}
 use Rattle.std.specs.List.{AllPairs, Contains, list_all, list_any}
 use Rattle.std.proofs.lemmas.Bool.{and_cases, both_ways, cases_Bool, leb-false, not-false, or_parts}

@@ -1,7 +1,7 @@
 -- What the test of fairness tells of sets.
-use Rattle.std.proofs.Common.{◌≡◌, ℕ, ◌==◌, ◌<◌, ◌≤◌, Bool, true, false, cond, List, count_by, get_or, inl, inr, sym, ap, ◌∙◌, eqb-true, eq-eqb, arith}
+use Rattle.std.proofs.Common.{◌≡◌, ℕ, ◌≤◌, Bool, true, false, cond, List, count_by, get_or, inl, inr, sym, ap, ◌∙◌, eqb-true, eq-eqb, arith}
 use Rattle.std.specs.List.{AllPairs, Contains}
-use Rattle.std.proofs.lemmas.Bool.{both_ways, cases_Bool, cases_lt, cond-false, cond-true, true_from_ne_false}
+use Rattle.std.proofs.lemmas.Bool.{both_ways, cases_Bool, cases_lt, true_from_ne_false}
 use Rattle.std.proofs.lemmas.List.Elements.{Contains-get_or}
 use Rattle.life_model.specs.Cell.{Cell}
 use Rattle.life_model.specs.Rule.{Rule}

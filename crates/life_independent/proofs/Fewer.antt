@@ -1,9 +1,8 @@
 -- Where each element of a list has one of its own in another, that is no shorter, and where it isn't longer, each has just one.
-use Rattle.std.proofs.Common.{◌≡◌, ◌≢◌, ◌<◌, ◌≤◌, ◌⊎◌, List, [], ◌∷◌, length, inl, inr, sym, ap, subst, ◌∙◌, arith}
-use Rattle.std.specs.List.{AllPairs, Contains}
+use Rattle.std.proofs.Common.{◌≡◌, ◌≢◌, ◌≤◌, ◌⊎◌, List, [], ◌∷◌, length, inl, inr, sym, subst, arith}
+use Rattle.std.specs.List.{Contains, remove}
 use Rattle.std.proofs.lemmas.List.Elements.{All-contains, at_from_Contains}
 use Rattle.std.proofs.lemmas.List.Sorted.{Contains-permutation, IsPermutation-remove, IsPermutation-sym, length_permutation}
-use Rattle.std.specs.List.{remove}
 use Rattle.std.specs.List.Sorted.{IsPermutation}
 use Rattle.life_objects.proofs.Lists.{AllDiffer, AllPairs-head, AllPairs-tail, Contains-head, Contains-later, head_or_later}
 

@@ -1,5 +1,5 @@
 -- The first of the longest splittings that pass the test is the independent parts.
-use Rattle.std.proofs.Common.{◌≡◌, ◌≢◌, ℕ, ◌<◌, ◌≤◌, Bool, true, List, filter, get_or, length, sym, ap, subst, ◌∙◌, arith}
+use Rattle.std.proofs.Common.{◌≡◌, ◌≢◌, ℕ, ◌<◌, Bool, true, List, filter, get_or, length, ap, subst, ◌∙◌, arith}
 use Rattle.std.specs.Cmp as cmp
 use Rattle.std.specs.List.{AllPairs, Contains}
 use Rattle.std.specs.List.Sorted.{IsPermutation}
@@ -18,7 +18,7 @@ use Rattle.life_decided.specs.Parts.{corner_offset, period}
 use Rattle.life_decided.proofs.Kept.{Contains-filter, of_filter}
 use Rattle.life_decided.proofs.Periods.{period_found, recurs}
 use Rattle.life_parts.specs.Splittings.{AreUntouching}
-use Rattle.life_parts.specs.Parts.{AreIndependentParts, IsIndependentPart}
+use Rattle.life_parts.specs.Parts.{AreIndependentParts}
 use Rattle.life_parts.specs.Ties.{touching}
 use Rattle.life_parts.proofs.Evolving.{at_first, part_of}
 use Rattle.life_parts.proofs.Lists.{later_parts, one_list, some_cell}
@@ -26,16 +26,14 @@ use Rattle.life_independent.specs.Groupings.{splittings}
 use Rattle.life_independent.specs.Held.{are_held_apart_through}
 use Rattle.life_independent.specs.Independent.{independent_parts_of, longest}
 use Rattle.life_independent.proofs.Added.{AreGroupsOf}
-use Rattle.life_independent.proofs.Coloured.{AreColoured, one_colour, one_group}
 use Rattle.life_independent.proofs.Existing.{parts_exist}
 use Rattle.life_independent.proofs.Fewer.{just_one}
 use Rattle.life_independent.proofs.Listed.{listed}
 use Rattle.life_independent.proofs.Longest.{longest_listed, none_longer}
-use Rattle.life_independent.proofs.Owners.{of_place, one_place, owner_place}
 use Rattle.life_independent.proofs.Parts.{parts_pass_through}
 use Rattle.life_independent.proofs.Periods.{one_period, period-least}
-use Rattle.life_independent.proofs.Sets.{MakeUp, groups_differ, groups_make, moved_over, owner_of, sharing, whole_has}
-use Rattle.life_independent.proofs.Split.{groups_of_splitting, split_by_colour}
+use Rattle.life_independent.proofs.Sets.{MakeUp, groups_differ, groups_make, owner_of, sharing, whole_has}
+use Rattle.life_independent.proofs.Split.{groups_of_splitting}
 use Rattle.life_independent.proofs.Through.{tied_of_one}
 
 module _ (R : Rule) (P : Generation) (Qs : List Generation) (are : AreIndependentParts R P Qs) where

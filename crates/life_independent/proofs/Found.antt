@@ -1,6 +1,6 @@
 -- Where elements of lists come from, and which set of a list has a cell.
 use Rattle.std.proofs.Common.{◌≡◌, ◌<◌, Bool, true, List, [], ◌∷◌, map, flat_map, get_or, inl, inr, sym, ap, subst, ◌∙◌, arith}
-use Rattle.std.specs.List.{All, Contains, list_all, list_any}
+use Rattle.std.specs.List.{Contains, list_all, list_any}
 use Rattle.std.proofs.lemmas.List.Elements.{All-contains, Contains-append_cases, Contains-append_left, Contains-append_right, Contains-get_or, at_from_Contains}
 use Rattle.std.proofs.lemmas.List.Folds.{Any-from_list_any, list_any_at}
 use Rattle.std.proofs.lemmas.List.Sums.{AllPass-from_list_all, list_all-from_AllPass}
@@ -56,13 +56,13 @@ module _ {X : Type 0} (p : X → Bool) where
       list_any_at p xs at.0 x at.1 (ap p (at.2 x) ∙ h)
 
 -- which rule doesn't matter now
-plain : Rule
-plain = record { birth = 0; survival = 0 }
+pub any_rule : Rule
+any_rule = record { birth = 0; survival = 0 }
 
 pub owner : (Hs : List Generation) (c : Cell) → contains (union_of Hs) c ≡ true →
     (H : Generation) × Contains Hs H × (contains H c ≡ true)
-owner Hs c h = found_now plain Hs c h
+owner Hs c h = found_now any_rule Hs c h
 
 pub owned : (Hs : List Generation) (H : Generation) (c : Cell) → Contains Hs H → contains H c ≡ true →
     contains (union_of Hs) c ≡ true
-owned Hs H c one h = in_list_now plain Hs H c one h
+owned Hs H c one h = in_list_now any_rule Hs H c one h

@@ -1,14 +1,13 @@
 -- Single cells, and two sets with tied cells made one.
-use Rattle.std.proofs.Common.{◌≡◌, ◌≢◌, ℕ, ◌<◌, ◌≤◌, Bool, true, false, ◌||◌, T, List, [], ◌∷◌, get_or, length, inl, inr, sym, refl, ap, subst, ◌∙◌, arith}
-use Rattle.std.specs.List.{All, AllPairs, Contains}
+use Rattle.std.proofs.Common.{◌≡◌, ◌≢◌, ◌<◌, true, ◌||◌, List, [], ◌∷◌, get_or, length, inl, inr, sym, ap, subst, ◌∙◌, arith}
+use Rattle.std.specs.List.{All, Contains}
 use Rattle.std.proofs.Math.Bool.{or_assoc}
-use Rattle.std.proofs.lemmas.Bool.{false_from_ne_true}
 use Rattle.std.proofs.lemmas.List.Elements.{All-cons, All-contains, All-head, All-nil, All-tail, Contains-get_or}
 use Rattle.std.proofs.lemmas.List.Kept.{AllPairs-cons}
-use Rattle.std.proofs.lemmas.List.Sorted.{All-permutation, Contains-permutation, IsPermutation-sym, length_permutation}
+use Rattle.std.proofs.lemmas.List.Sorted.{Contains-permutation, IsPermutation-sym, length_permutation}
 use Rattle.life_model.specs.Cell.{Cell}
 use Rattle.life_model.specs.Rule.{Rule}
-use Rattle.life_model.specs.Generation.{Generation, below_all, cells, contains, empty, from_list, insert, is_rising}
+use Rattle.life_model.specs.Generation.{Generation, cells, contains, empty, from_list}
 use Rattle.life_model.proofs.Generations.{cells-rise, contains-empty, from_list-cells, same_members}
 use Rattle.life_objects.specs.Apart.{AreDisjoint}
 use Rattle.life_objects.specs.Union.{union, union_of}
@@ -19,7 +18,7 @@ use Rattle.life_parts.specs.Ties.{AreTied, itself, swapped, through}
 use Rattle.life_parts.proofs.Ends.{both_in}
 use Rattle.life_parts.proofs.Evolving.{at_first, in_at_first}
 use Rattle.life_parts.proofs.Lists.{is_some}
-use Rattle.life_independent.proofs.Added.{AreGroupsOf, IsAdded, IsGrouping, alone, groups_make_up, insert-is, later, more, none, second_holds}
+use Rattle.life_independent.proofs.Added.{AreGroupsOf, IsAdded, IsGrouping, alone, groups_make_up, insert-is, later, more, none}
 use Rattle.life_independent.proofs.Rooted.{AreTiedWithin, AreTwoTied}
 use Rattle.life_independent.proofs.Sets.{both_of, groups_make, owner_of, whole_has}
 
@@ -57,13 +56,15 @@ module _ (R : Rule) (P : Generation) where
   single_cells =
       let s = singles (cells P) in
       let Hs = s.0 in
-      let groups = subst (λ G. AreGroupsOf G Hs) (from_list-cells P) (groups_make_up (cells P) Hs s.1 (cells-rise P)) in
-      (Hs, record {
-        groups = groups;
-        within = λ H one c e h k.
-            subst (AreTied R P 0 c 0) (All-contains IsSingle Hs H s.2 one c e h k)
-            (itself 0 c (at_first R P c (whole_has P Hs (groups_make P Hs groups) H one c h)));
-      })
+      let groups = subst (λ G. AreGroupsOf G Hs) (from_list-cells P) (groups_make_up (cells P) Hs s.1 (cells-rise P)) in (
+        Hs,
+        record {
+          groups = groups;
+          within = λ H one c e h k.
+              subst (AreTied R P 0 c 0) (All-contains IsSingle Hs H s.2 one c e h k)
+              (itself 0 c (at_first R P c (whole_has P Hs (groups_make P Hs groups) H one c h)));
+        },
+      )
 
   -- ---- two sets made one
 

@@ -1,5 +1,5 @@
 -- Each splitting of a set is listed, in some order.
-use Rattle.std.proofs.Common.{◌≡◌, ◌≢◌, ℕ, true, List, sym, ap, subst, ◌∙◌}
+use Rattle.std.proofs.Common.{◌≡◌, ◌≢◌, true, List, sym, ap, subst, ◌∙◌}
 use Rattle.std.specs.Cmp as cmp
 use Rattle.std.specs.List.{AllPairs, Contains}
 use Rattle.std.specs.List.Sorted.{IsPermutation}
@@ -16,7 +16,7 @@ use Rattle.life_independent.proofs.Added.{AreGroupsOf}
 use Rattle.life_independent.proofs.Coloured.{AreColoured, one_colour, one_group}
 use Rattle.life_independent.proofs.Finer.{whole_if_far}
 use Rattle.life_independent.proofs.Owners.{of_place, one_place, owner_place}
-use Rattle.life_independent.proofs.Sets.{MakeUp, groups_differ, groups_make, moved_over, owner_of, sharing, whole_has}
+use Rattle.life_independent.proofs.Sets.{MakeUp, groups_differ, groups_make, moved_over, owner_of, whole_has}
 use Rattle.life_independent.proofs.Split.{groups_of_splitting, split_by_colour}
 
 module _ (G : Generation) (Qs : List Generation) (are : AreGroupsOf G Qs) (far : AllPairs AreUntouching Qs) where

@@ -1,9 +1,9 @@
 -- Independent parts pass the test through a period.
-use Rattle.std.proofs.Common.{◌≡◌, ℕ, suc, ◌+◌, ◌*◌, ◌<◌, ◌≤◌, ◌⊎◌, Bool, true, false, ◌&&◌, List, count_by, inl, inr, sym, ap, ◌∙◌, arith}
+use Rattle.std.proofs.Common.{◌≡◌, ℕ, suc, ◌+◌, ◌*◌, ◌⊎◌, true, false, List, count_by, inl, inr, sym, ap, ◌∙◌, arith}
 use Rattle.std.specs.Prelude.{nat_le}
 use Rattle.std.specs.List.{Contains, list_any}
 use Rattle.std.proofs.lemmas.Bool.{and_from, both_ways, cases_Bool, le-leb, leb-true}
-use Rattle.life_model.specs.Cell.{Cell, IsNear, opposite, plus}
+use Rattle.life_model.specs.Cell.{Cell, opposite, plus}
 use Rattle.life_model.specs.Rule.{Rule}
 use Rattle.life_model.specs.Generation.{Generation, contains}
 use Rattle.life_model.specs.Evolution.{generation, next}
@@ -16,13 +16,13 @@ use Rattle.life_objects.proofs.Recurring.{lives_for_ever}
 use Rattle.life_decided.specs.Tests.{each_below, same_set}
 use Rattle.life_decided.proofs.Tests.{each_below_by, same_set-is}
 use Rattle.life_parts.specs.Apart.{AreHeldApart, AreOfOneSet, HaveBoth, IsEachFair}
-use Rattle.life_parts.specs.Groups.{ColoursIslands, IsAround, IsFair, bears}
+use Rattle.life_parts.specs.Groups.{IsAround, IsFair}
 use Rattle.life_parts.specs.Parts.{AreIndependentParts}
 use Rattle.life_parts.specs.Ties.{AreTied, IsIn, bearing, meeting, through, touching}
 use Rattle.life_parts.proofs.Apart.{from_later, to_later}
 use Rattle.life_parts.proofs.Classed.{AreClassesAt, fair_if_not_unfair}
 use Rattle.life_parts.proofs.Ends.{contains-later}
-use Rattle.life_parts.proofs.Evolving.{at_first, came_from, classes_at, disjoint_later, first_classes, part_of, together_later, whole_later}
+use Rattle.life_parts.proofs.Evolving.{came_from, classes_at, disjoint_later, first_classes, part_of, together_later, whole_later}
 use Rattle.life_parts.proofs.Lists.{part_recurs, some_cell}
 use Rattle.life_parts.proofs.Recurring.{moved_set}
 use Rattle.life_independent.specs.Groupings.{touches}
@@ -75,9 +75,11 @@ module _ (R : Rule) (P : Generation) (Qs : List Generation) (are : AreIndependen
           λ c e at too same. both_tied c e at.live (within c e at too same) in
           let fair : IsFair R G colour x =
           fair_if_not_unfair R G colour x place (λ unfair.
-          many (λ c e at too. tied_both c e (meeting n x colour place islands tied unfair c e at too))) in
-          (fair, λ c at bearing_colour H listed h.
-          next_of_part c x (bearing n x colour place islands tied fair c at bearing_colour) H listed h)
+          many (λ c e at too. tied_both c e (meeting n x colour place islands tied unfair c e at too))) in (
+            fair,
+            λ c at bearing_colour H listed h.
+                next_of_part c x (bearing n x colour place islands tied fair c at bearing_colour) H listed h,
+          )
 
       one_or_fair : AreOfOneSet G Hs x ⊎ IsEachFair R G Hs x
       one_or_fair =

@@ -1,17 +1,17 @@
 -- Sets that are tied within stay so while they are held apart, and where they aren't any longer, cells of two of them are tied.
-use Rattle.std.proofs.Common.{◌≡◌, ℕ, zero, suc, ◌+◌, ◌<◌, ◌≤◌, ◌⊎◌, Bool, true, false, List, inl, inr, sym, refl, ap, subst, ◌∙◌, arith}
+use Rattle.std.proofs.Common.{◌≡◌, ℕ, zero, suc, ◌<◌, ◌⊎◌, true, List, inl, inr, sym, ap, subst, ◌∙◌, arith}
 use Rattle.std.specs.List.{Contains}
 use Rattle.std.proofs.lemmas.Bool.{cases_Bool, cases_lt}
 use Rattle.life_model.specs.Cell.{Cell}
 use Rattle.life_model.specs.Rule.{Rule}
 use Rattle.life_model.specs.Generation.{Generation, contains}
-use Rattle.life_model.specs.Evolution.{generation, next}
+use Rattle.life_model.specs.Evolution.{generation}
 use Rattle.life_objects.specs.Union.{generations}
 use Rattle.life_parts.specs.Apart.{AreHeldApart, HaveBoth}
 use Rattle.life_parts.specs.Ties.{AreTied, IsIn, bearing, itself, meeting, staying, swapped, through, touching}
 use Rattle.life_parts.proofs.Apart.{AreSplitAt, both_by_colour, both_by_set, comes_from, fair, in_both, islands, of_near, split_next}
 use Rattle.life_parts.proofs.Ends.{both_in}
-use Rattle.life_parts.proofs.Evolving.{at_first, in_at_first}
+use Rattle.life_parts.proofs.Evolving.{in_at_first}
 use Rattle.life_parts.proofs.Firsts.{first_with}
 use Rattle.life_independent.specs.Held.{are_held_apart}
 use Rattle.life_independent.proofs.Added.{AreGroupsOf}
@@ -132,13 +132,13 @@ module _ (R : Rule) (P : Generation) (Hs : List Generation) (are : AreGroupsOf P
       elim (held_a_while n) [
         | inl so_far ↦ elim (held_or_two n so_far.rooted) [
           | inl held ↦ inl (record {
-              rooted = rooted_next n so_far.rooted held;
-              held = λ m h. elim (cases_lt m n) [
-                | inl sooner ↦ so_far.held m sooner
-                | inr last ↦
-                    subst (λ k. AreHeldApart R (generation R P k) (generations R Hs k)) (let e : n ≡ m = omega arith in e) held
-              ];
-            })
+            rooted = rooted_next n so_far.rooted held;
+            held = λ m h. elim (cases_lt m n) [
+              | inl sooner ↦ so_far.held m sooner
+              | inr last ↦
+                  subst (λ k. AreHeldApart R (generation R P k) (generations R Hs k)) (let e : n ≡ m = omega arith in e) held
+            ];
+          })
           | inr two ↦ inr two
         ]
         | inr two ↦ inr two

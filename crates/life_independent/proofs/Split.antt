@@ -3,7 +3,7 @@ use Rattle.std.proofs.Common.{◌≡◌, ℕ, true, List, get_or, sym, ap, subst
 use Rattle.std.specs.List.{AllPairs, Contains}
 use Rattle.std.proofs.lemmas.List.Elements.{Contains-get_or}
 use Rattle.life_model.specs.Cell.{Cell}
-use Rattle.life_model.specs.Generation.{Generation, cells, contains, from_list}
+use Rattle.life_model.specs.Generation.{Generation, cells, contains}
 use Rattle.life_model.proofs.Generations.{cells-rise, from_list-cells}
 use Rattle.life_decided.proofs.Kept.{Contains-filter, of_filter}
 use Rattle.life_parts.specs.Groups.{ColoursIslands}

@@ -2,7 +2,7 @@
 use Rattle.std.proofs.Common.{◌≡◌, ℕ, ◌<◌, ◌≤◌, ◌⊎◌, Bool, true, false, ◌&&◌, ◌||◌, List, count_by, get_or, length, inl, inr, sym, ap, ◌∙◌, arith}
 use Rattle.std.specs.Prelude.{nat_le}
 use Rattle.std.specs.Cmp as cmp
-use Rattle.std.specs.List.{AllPairs, Contains, list_all, list_any}
+use Rattle.std.specs.List.{Contains, list_all}
 use Rattle.std.proofs.lemmas.Bool.{and_parts, both_ways, cases_Bool, false_from_ne_true, leb-true, or_cases}
 use Rattle.std.proofs.lemmas.List.Elements.{Contains-get_or}
 use Rattle.life_model.specs.Cell.{Cell, IsNear}
@@ -10,10 +10,8 @@ use Rattle.life_model.specs.Rule.{Rule, born}
 use Rattle.life_model.specs.Generation.{Generation, contains}
 use Rattle.life_model.specs.Evolution.{candidates, next}
 use Rattle.life_model.proofs.Near.{next_near}
-use Rattle.life_objects.proofs.Lists.{related_or_same}
 use Rattle.life_parts.specs.Apart.{AreHeldApart, AreOfOneSet, HaveBoth, IsEachFair}
 use Rattle.life_parts.specs.Groups.{ColoursIslands, IsAround, IsFair, bears, in_group}
-use Rattle.life_parts.specs.Splittings.{AreUntouching}
 use Rattle.life_parts.proofs.Around.{count_at-alike, near_swapped, next-born}
 use Rattle.life_parts.proofs.Classed.{of_bearing, of_group, to_group}
 use Rattle.life_independent.specs.Groupings.{are_untouching, splittings, touches}
@@ -24,7 +22,7 @@ use Rattle.life_independent.proofs.Counting.{few_counted, one_counted}
 use Rattle.life_independent.proofs.Fair.{IsFairOf, fair_by_test}
 use Rattle.life_independent.proofs.Finer.{whole_if_far}
 use Rattle.life_independent.proofs.Found.{each_passes}
-use Rattle.life_independent.proofs.Sets.{MakeUp, both_of, groups_make, moved_over, owner_of, sharing, whole_has}
+use Rattle.life_independent.proofs.Sets.{MakeUp, both_of, groups_make, owner_of, whole_has}
 use Rattle.life_independent.proofs.Split.{groups_of_splitting, split_by_colour}
 use Rattle.life_independent.proofs.Touching.{touched, touches_by_near, untouching_by_test}
 

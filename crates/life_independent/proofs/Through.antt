@@ -1,7 +1,7 @@
 -- What passes the test through a period is held apart all the while, and is made of whole independent parts.
-use Rattle.std.proofs.Common.{◌≡◌, ◌≢◌, ℕ, zero, suc, ◌<◌, ◌≤◌, Bool, true, ◌&&◌, List, get_or, map, inl, inr, sym, ap, ◌∙◌, arith}
+use Rattle.std.proofs.Common.{◌≡◌, ℕ, zero, suc, ◌<◌, ◌≤◌, Bool, true, List, get_or, sym, ap, ◌∙◌, arith}
 use Rattle.std.specs.Cmp as cmp
-use Rattle.std.specs.List.{AllPairs, Contains, list_all, list_any}
+use Rattle.std.specs.List.{Contains, list_any}
 use Rattle.std.proofs.lemmas.Bool.{and_parts}
 use Rattle.std.proofs.lemmas.List.Elements.{Contains-get_or}
 use Rattle.life_model.specs.Cell.{Cell, plus}
@@ -15,7 +15,7 @@ use Rattle.life_model.proofs.Generations.{same_members}
 use Rattle.life_model.proofs.Symmetries.{contains-moved}
 use Rattle.life_objects.specs.Apart.{AreDisjoint}
 use Rattle.life_objects.specs.Union.{generations, union_of}
-use Rattle.life_objects.proofs.Lists.{AllDiffer, AllPairs-map}
+use Rattle.life_objects.proofs.Lists.{AllPairs-map}
 use Rattle.life_decided.specs.Tests.{each_below, same_set}
 use Rattle.life_decided.proofs.Tests.{each_below_tells, same_set-is}
 use Rattle.life_parts.specs.Apart.{AreHeldApart, HaveBoth}
@@ -23,7 +23,6 @@ use Rattle.life_parts.specs.Ties.{AreTied, IsIn}
 use Rattle.life_parts.proofs.Apart.{AreSplitAt, from_later, split_next, to_later}
 use Rattle.life_parts.proofs.Deciding.{have_both_tied}
 use Rattle.life_parts.proofs.Evolving.{at_first, in_at_first}
-use Rattle.life_parts.proofs.Lists.{some_cell}
 use Rattle.life_independent.specs.Held.{are_held_apart, are_held_apart_through, come_again}
 use Rattle.life_independent.proofs.Added.{AreGroupsOf}
 use Rattle.life_independent.proofs.Found.{each_passes, owned, owner, some_passes}

@@ -1,4 +1,3 @@
-use Rattle.std.proofs.lemmas.List.Sorted.{IsPermutation-sym}
 use Rattle.life_objects.specs.Apart.{AreDisjoint}
 use Rattle.life_objects.proofs.Lists.{AllPairs-weaker}
 use Rattle.life_parts.specs.Splittings.{AreUntouching}

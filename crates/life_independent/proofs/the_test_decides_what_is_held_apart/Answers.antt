@@ -1,5 +1,4 @@
 use Rattle.life_independent.proofs.Passing.{test_by_held}
-use Rattle.life_independent.proofs.Sets.{MakeUp}
 use Rattle.life_independent.proofs.Telling.{held_by_test}
 use Rattle.life_independent.proofs.the_test_decides_what_is_held_apart.Goals as goal
 
