@@ -1,8 +1,8 @@
 -- Objects are counted the same in whatever order their codes come, or they themselves.
-use Rattle.std.proofs.Common.{◌≡◌, ℕ, zero, suc, ◌<◌, List, [], ◌∷◌, length, flat_map, fold, get_or, set, sym, refl, ap, ◌∙◌, arith}
+use Rattle.std.proofs.Common.{◌≡◌, ℕ, zero, suc, ◌<◌, List, [], ◌∷◌, ◌++◌, length, flat_map, fold, get_or, set, sym, refl, ap, ◌∙◌, arith}
 use Rattle.std.specs.List.{swap}
 use Rattle.std.specs.List.Sorted.{IsPermutation, SwapsInRange, apply_swaps}
-use Rattle.std.proofs.lemmas.List.Sorted.{length_permutation}
+use Rattle.std.proofs.lemmas.List.Sorted.{IsPermutation-append_comm, length_permutation}
 use Rattle.std.proofs.lemmas.List.Sums.{fold-append}
 use Rattle.life_answer.specs.declared.part.Part.{Part}
 use Rattle.life_answer.specs.Parts.{counted_codes, objects_in, with_code, with_codes}
@@ -79,6 +79,17 @@ gather_all (code ∷ codes) =
 
 pub counted_all : (codes : List (List ℕ)) → objects_in (counted_codes codes) ≡ length codes
 counted_all codes = ap objects_in (gathers with_code commutes codes) ∙ gather_all codes
+
+-- what counts alike does so beside others
+pub counted_after : (others codes alike : List (List ℕ)) → counted_codes codes ≡ counted_codes alike →
+    counted_codes (others ++ codes) ≡ with_codes alike (counted_codes others)
+counted_after others codes alike same =
+    counted_permutation (others ++ codes) (codes ++ others) (IsPermutation-append_comm others codes)
+    ∙ fold-append (λ ps c. with_code c ps) [] codes others
+    ∙ ap (with_codes others) same
+    ∙ sym (fold-append (λ ps c. with_code c ps) [] alike others)
+    ∙ counted_permutation (alike ++ others) (others ++ alike) (IsPermutation-append_comm alike others)
+    ∙ fold-append (λ ps c. with_code c ps) [] others alike
 
 -- ---- things that have several codes each
 

@@ -3,7 +3,7 @@ use Rattle.std.proofs.Common.{◌≡◌, ◌≢◌, ℕ, ◌+◌, ◌*◌, ◌�
 use Rattle.std.specs.List.{All, Contains}
 use Rattle.std.specs.List.Sorted.{IsPermutation}
 use Rattle.std.specs.Cmp.{both_ways}
-use Rattle.std.proofs.lemmas.List.Elements.{All-cons, All-head, All-map, All-tail}
+use Rattle.std.proofs.lemmas.List.Elements.{All-cons, All-head, All-map, All-nil, All-tail}
 use Rattle.std.proofs.lemmas.List.Sorted.{All-permutation, IsPermutation-map, IsPermutation-refl, IsPermutation-sym}
 use Rattle.life_model.specs.Cell.{Cell}
 use Rattle.life_model.specs.Rule.{Rule}
@@ -29,10 +29,26 @@ use Rattle.life_answer.proofs.CountedSets.{codes_as, come_again_by, come_again_t
 use Rattle.life_answer.proofs.PartCodes.{one_code, wider_code}
 use Rattle.life_orbit.specs.Course.{Course, IsCourse}
 use Rattle.life_apart.specs.Sets.{IsCourseBy}
-use Rattle.life_census.specs.Counted.{CountsAs, codes_by_parts}
 use Rattle.life_census.specs.Courses.{course_code}
 use Rattle.life_census.proofs.Found.{parts_are_found}
 use Rattle.life_census.proofs.PartCodes.{code_alone}
+
+-- the codes of the parts of a set, where each of these comes again within 100,000 generations, and else that of the set
+abbrev pub codes_by_parts : Course → List Generation → List (List ℕ)
+codes_by_parts o parts =
+    cond (all_come_again o.rule objects_bound_limit parts) (map (part_code o.rule objects_bound_limit) parts)
+    (course_code o ∷ [])
+
+-- These are so the codes of the independent parts of a set that recurs.
+pub record AreCodesOfParts (o : Course) (codes : List (List ℕ)) : Type 0 where
+  pub parts : List Generation
+  pub independent : AreIndependentParts o.rule o.set parts
+  pub of_parts : codes ≡ codes_by_parts o parts
+
+-- These are the codes of what a set that recurs so counts as.
+abbrev pub HasCodes : Bool → Course → List (List ℕ) → Type 0
+HasCodes true o codes = codes ≡ course_code o ∷ []
+HasCodes false o codes = AreCodesOfParts o codes
 
 -- what comes again within b after n generations does so at once
 sooner_within : (R : Rule) (b n : ℕ) (Q : Generation) (k : ℕ) (e : Cell) → RecursBy R Q k e →
@@ -55,7 +71,7 @@ later_within R b n Q again = record {
 module _ (R : Rule) (b n : ℕ) where
   all_sooner : (Qs : List Generation) → ((Q : Generation) → Contains Qs Q → (k : ℕ) × (e : Cell) × RecursBy R Q k e) →
       All (RecursWithin R b) (generations R Qs n) → All (RecursWithin R b) Qs
-  all_sooner [] again late i d h = absurd (omega arith)
+  all_sooner [] again late = All-nil (RecursWithin R b)
   all_sooner (Q ∷ Qs) again late =
       let first = again Q (Contains-head Q Qs) in
       All-cons (RecursWithin R b) Q Qs
@@ -155,7 +171,7 @@ module _ (R : Rule) (b n : ℕ) (P : Generation) (p : ℕ) (d : Cell)
         subst (λ t. IsPermutation (codes (cond t found (late ∷ []))) (codes_by_parts o Qs)) (sym same_answer)
         (by_answer (all_come_again R objects_bound_limit Qs) refl)
 
-  pub counted_later : (near : Bool) (codes : List (List ℕ)) → CountsAs near o codes → IsPermutation (codes_as near R b late) codes
+  pub counted_later : (near : Bool) (codes : List (List ℕ)) → HasCodes near o codes → IsPermutation (codes_as near R b late) codes
   counted_later true codes is =
       subst (IsPermutation (codes_as true R b late)) (sym is)
       (subst (λ c. IsPermutation (c ∷ []) (course_code o ∷ [])) (sym own_code) (IsPermutation-refl (course_code o ∷ [])))

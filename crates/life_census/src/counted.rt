@@ -1,6 +1,7 @@
 //! What sets that recur count as.
 ghost use Rattle.std.specs.Prelude.{◌≡◌, All, IfOk, [], ◌∷◌, map};
 ghost use Rattle.life_ash.specs.Parts.{IsPlaced};
+ghost use Rattle.life_orbit.specs.Course.{IsCourse};
 ghost use Rattle.life_census.specs.Counted.{CountsAs};
 ghost use Rattle.life_census.specs.Courses.{course_code};
 
@@ -38,7 +39,8 @@ fn codes_in_order(alloc: Global, orbits: &[Orbit]) -> Result<Vec<Code>, AllocErr
 /// again it is its own.
 pub fn codes_of(alloc: Global, orbit: &Orbit, near: bool) -> Result<Vec<Code>, AllocError>
     requires within { IsPlaced orbit.now }
-    ensures { IfOk result (λ codes. CountsAs near orbit.now codes.items) }
+    requires course { IsCourse orbit.now }
+    ensures { IfOk result (λ codes. CountsAs near orbit.now.rule orbit.now.set codes.items) }
 {
     if near {
         return one_code(alloc, orbit);

@@ -1,13 +1,14 @@
 //! Sets that were met, with the codes of what they count as, so that nothing is decided again of a set that is one of them,
 //! moved as a whole.
-ghost use Rattle.std.specs.Prelude.{◌≡◌, ℕ, ◌<◌, List, IfSome, OnOk, length, slice_index_or};
+ghost use Rattle.std.specs.Prelude.{◌≡◌, ◌<◌, [], ◌∷◌, ◌++◌, List, IfSome, OnOk, length, slice_index_or};
 ghost use Rattle.life_ash.specs.Parts.{IsPlaced};
 ghost use Rattle.life_answer.specs.Parts.{with_codes};
-ghost use Rattle.life_census.specs.Counted.{CountsAs};
+ghost use Rattle.life_orbit.specs.Course.{Course, IsCourse};
+ghost use Rattle.life_census.specs.Counted.{AreCounted, CountsAs};
 ghost use Rattle.life_census.specs.declared.known_set.KnownSet as declared;
 
 use crate::counted::codes_of;
-use crate::known_set::{KnownSet, known_set};
+use crate::known_set::KnownSet;
 use life_answer::{Code, Parts};
 use life_orbit::Orbit;
 use std::alloc::{AllocError, Global};
@@ -28,7 +29,7 @@ pub struct KnownSets {
 fn place_of(sets: &[KnownSet], orbit: &Orbit, near: bool) -> Option<usize>
     ensures inside { IfSome result (λ n. n < length sets.now) }
     ensures codes { IfSome result (λ n. (d : declared.KnownSet) →
-        CountsAs near orbit.now (slice_index_or sets.now n d).codes.items) }
+        CountsAs near orbit.now.rule orbit.now.set (slice_index_or sets.now n d).codes.items) }
 {
     for n in 0..sets.len() {
         if sets[n].is_of(orbit, near) {
@@ -56,8 +57,8 @@ impl KnownSets {
         }
     }
 
-    /// Counts what an orbit's set counts as, whose cells are places at age 400,000: itself, where what is near one another is
-    /// one object, and else its independent parts. It is decided where none is kept of this set, moved as a whole.
+    /// Counts what an orbit's set counts as, whose cells are places at age 400,000, beside what was counted. It is decided where
+    /// none is kept of this set, moved as a whole.
     pub fn count(
         &mut self,
         alloc: Global,
@@ -66,8 +67,9 @@ impl KnownSets {
         parts: &mut Parts,
     ) -> Result<(), AllocError>
         requires within { IsPlaced orbit.now }
-        ensures { OnOk result ((codes : List (List ℕ)) × CountsAs near orbit.now codes
-            × (parts.new ≡ with_codes codes parts.old)) }
+        requires course { IsCourse orbit.now }
+        ensures { OnOk result ((before : List Course) → AreCounted near before parts.old →
+            AreCounted near (before ++ orbit.now ∷ []) parts.new) }
     {
         if let Some(place) = place_of(self.sets.as_slice(), orbit, near) {
             return add_codes(alloc, parts, self.sets[place].codes.as_slice());
@@ -75,7 +77,7 @@ impl KnownSets {
         let codes = codes_of(alloc, orbit, near)?;
         add_codes(alloc, parts, codes.as_slice())?;
         if self.sets.len() < MOST && orbit.set().len() <= LARGEST {
-            self.sets.push(known_set(alloc, orbit, near, codes)?)?;
+            self.sets.push(KnownSet::of(alloc, orbit, near, codes)?)?;
         }
         Ok(())
     }

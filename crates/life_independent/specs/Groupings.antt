@@ -1,5 +1,5 @@
 -- The ways to put the cells of a set into groups.
-use Rattle.std.specs.Prelude.{ℕ, ◌-ℤ◌, Bool, not, ◌&&◌, nat_le, unsigned_abs, List, [], ◌∷◌, map, flat_map}
+use Rattle.std.specs.Prelude.{◌-ℤ◌, Bool, not, ◌&&◌, nat_le, unsigned_abs, List, [], ◌∷◌, map, flat_map}
 use Rattle.std.specs.List.{filter, list_any}
 use Rattle.life_model.specs.Cell.{Cell}
 use Rattle.life_model.specs.Generation.{Generation, cells, from_list, insert}
@@ -27,6 +27,6 @@ touches c H = list_any (touch c) (cells H)
 unfoldable pub are_untouching : List Generation → Bool
 are_untouching Hs = each_pair (λ A B. not (list_any (λ c. touches c B) (cells A))) Hs
 
--- each way to put the islands of G into groups: its cells, where groups don't touch
+-- each way to put the cells of G into groups no two of which touch, so that each island stays whole
 unfoldable pub splittings : Generation → List (List Generation)
 splittings G = filter are_untouching (groupings_of (cells G))

@@ -67,9 +67,9 @@ pub fn part_orbits(alloc: Global, orbit: &Orbit) -> Result<Option<Vec<Orbit>>, A
     ensures within { IfOk result (λ found. IfSome found (λ parts. (age : ℕ) →
         All (IsWithin age) (generations.cells orbit.now.set) →
         All (λ part. All (IsWithin age) (generations.cells part.set)) parts.items)) }
-    ensures none { IfOk result (λ found. IfNone found ((parts : List Generation) ×
-        AreIndependentParts orbit.now.rule orbit.now.set parts
-        × (All (RecursWithin orbit.now.rule BOUND_LIMIT) parts → ⊥))) }
+    ensures none { IfOk result (λ found. IfNone found ((parts : List Generation) →
+        AreIndependentParts orbit.now.rule orbit.now.set parts →
+        All (RecursWithin orbit.now.rule BOUND_LIMIT) parts → ⊥)) }
 {
     let parts = independent_parts(alloc, orbit)?;
     orbits_of(alloc, orbit, parts.as_slice())

@@ -3,9 +3,12 @@ use Rattle.std.specs.List.{All}
 use Rattle.std.proofs.lemmas.Result.{IfOk-weaker}
 use Rattle.life_model.specs.Generation.{cells}
 use Rattle.life_cells.specs.Limits.{IsWithin}
+use Rattle.life_objects.specs.Ash.{RecursWithin}
+use Rattle.life_objects.specs.Limits.{objects_bound_limit}
 use Rattle.life_orbit.specs.Kept.{orbit_age_limit}
 use Rattle.life_parts.specs.Parts.{AreIndependentParts}
 use Rattle.life_islands.proofs.Colouring.{none_weaker, some_weaker}
+use Rattle.life_split.proofs.Coming.{holds_of_others}
 use Rattle.life_split.proofs.Members.{holds_of_courses, holds_of_parts}
 use Rattle.life_split.proofs.orbits.part_orbits.Goals as goal
 use Rattle.life_split.proofs.orbits.part_orbits.Goals.{After-as_slice}
@@ -34,7 +37,11 @@ returns-clause-within c =
 
 pub returns-clause-none : goal.returns-clause-none
 returns-clause-none c =
+    let o = c.args.orbit.now in
     let parts = c.as_slice.result.now in
     let are = these_are (goal.at.returns-clause-none c).After-as_slice in
     IfOk-weaker c.orbits_of.result _ _
-    (λ found. none_weaker found _ _ (λ not. (parts, are, not))) c.orbits_of.ensures.none
+    (λ found.
+    none_weaker found _ _ (λ not others too all.
+    not (holds_of_others (RecursWithin o.rule objects_bound_limit) o.rule o.set parts others are too all)))
+    c.orbits_of.ensures.none
