@@ -9,8 +9,7 @@ use std::test::Fail;
 const THREE_OBJECTS: &[u8] = b"x = 43, y = 24\n2o$2o8$20b3o12$41bo$42bo$40b3o!";
 
 // A traffic light, and a glider that goes away from it.
-const LIGHT: &[u8] =
-    b"x = 23, y = 23\n4bo$4bo$4bo2$3o3b3o2$4bo$4bo$4bo12$21bo$22bo$20b3o!";
+const LIGHT: &[u8] = b"x = 23, y = 23\n4bo$4bo$4bo2$3o3b3o2$4bo$4bo$4bo12$21bo$22bo$20b3o!";
 
 // A methuselah, which takes 5,206 generations to fall apart.
 const ACORN: &[u8] = b"x = 7, y = 3, rule = B3/S23\nbo$3bo$2o2b3o!";

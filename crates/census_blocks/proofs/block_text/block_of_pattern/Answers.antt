@@ -15,7 +15,7 @@ pub returns : goal.returns
 unfolding pattern_block
 returns c =
     c.in_ok-push_known.ensures
-    ∙ ap (λ k. c.push_head.new.text.items ++ text_of (known_lines c.args.inquiry.bound k)) c.in_ok-known_of.ensures
+    ∙ ap (λ k. c.push_head.new.text.items ++ text_of (known_lines c.args.inquiry.bound k)) c.in_ok-known.ensures
     ∙ ap (λ t. t ++ text_of (known_lines c.args.inquiry.bound (known_of c.args.inquiry c.args.pattern.now)))
     (c.in_ok-push_head.ensures
     ∙ ap (λ t. t ++ text_of (head_lines c.rule.result c.len.result c.in_ok-size.field-0)) c.new-lines.ensures.items
