@@ -64,7 +64,9 @@ fn find(alloc: Global, entry: &Entry, question: Question) -> Result<Answer, Allo
     let text = entry.text.as_slice();
     match question {
         Question::Settles { bound, cells } => life_find::answer(alloc, text, bound, cells),
-        Question::Objects { bound, cells } => life_census::answer(alloc, text, bound, cells),
+        Question::Objects { bound, cells, near } => {
+            life_census::answer(alloc, text, bound, cells, near)
+        }
     }
 }
 

@@ -31,13 +31,13 @@ use Rattle.census_format.proofs.Tallies.{count_first, count_none, any_distinct, 
 -- ---- where objects are asked for, no pattern is said to come again
 
 module _ (onset period : ℕ) (dx dy : ℤ) (code : List ℕ) where
-  census_found-apart : (R : Rule) (b from : ℕ) (o : Option (List Generation)) → census_found R b from o ≡ Recurs onset period dx dy code → ⊥
-  census_found-apart R b from None e = cc
-  census_found-apart R b from (Some parts) e = cc
+  census_found-apart : (near : Bool) (R : Rule) (b from : ℕ) (o : Option (List Generation)) → census_found near R b from o ≡ Recurs onset period dx dy code → ⊥
+  census_found-apart near R b from None e = cc
+  census_found-apart near R b from (Some parts) e = cc
 
-  census_of-apart : (R : Rule) (G : Generation) (b : ℕ) → census_of R G b ≡ Recurs onset period dx dy code → ⊥
+  census_of-apart : (near : Bool) (R : Rule) (G : Generation) (b : ℕ) → census_of near R G b ≡ Recurs onset period dx dy code → ⊥
   unfolding census_of
-  census_of-apart R G b e = census_found-apart R b _ _ e
+  census_of-apart near R G b e = census_found-apart near R b _ _ e
 
   large_apart : (found : Outcome) (o : Option ℕ) → (found ≡ Recurs onset period dx dy code → ⊥) → unless_large found o ≡ Recurs onset period dx dy code → ⊥
   large_apart found None apart e = apart e
@@ -46,17 +46,17 @@ module _ (onset period : ℕ) (dx dy : ℤ) (code : List ℕ) where
   same_finding : (r s : Rule) (f g : Finding) → Found r f ≡ Found s g → f ≡ g
   same_finding r s f g e = cc
 
-  answer_apart : (bound : ℕ) (most : Option ℕ) (rule : Rule) (finding : Finding) (r : Result Picture RleFault) → answer_to (question.Objects bound most) r ≡ Found rule finding
+  answer_apart : (bound : ℕ) (most : Option ℕ) (near : Bool) (rule : Rule) (finding : Finding) (r : Result Picture RleFault) → answer_to (question.Objects bound most near) r ≡ Found rule finding
       → finding.outcome ≡ Recurs onset period dx dy code → ⊥
-  answer_apart bound most rule finding (Ok pattern) e recurs =
-      large_apart _ (first_past most pattern.rule pattern.cells (3 * bound)) (census_of-apart pattern.rule pattern.cells bound)
+  answer_apart bound most near rule finding (Ok pattern) e recurs =
+      large_apart _ (first_past most pattern.rule pattern.cells (3 * bound)) (census_of-apart near pattern.rule pattern.cells bound)
       (ap (λ (f : Finding). f.outcome) (same_finding pattern.rule rule _ _ e) ∙ recurs)
-  answer_apart bound most rule finding (Err fault) e recurs = cc
+  answer_apart bound most near rule finding (Err fault) e recurs = cc
 
-  no_recurrence : (bound : ℕ) (most : Option ℕ) (text : List ℕ) (rule : Rule) (finding : Finding) → answer_to_question (question.Objects bound most) text ≡ Found rule finding
+  no_recurrence : (bound : ℕ) (most : Option ℕ) (near : Bool) (text : List ℕ) (rule : Rule) (finding : Finding) → answer_to_question (question.Objects bound most near) text ≡ Found rule finding
       → finding.outcome ≡ Recurs onset period dx dy code → ⊥
   unfolding answer_to_question
-  no_recurrence bound most text rule finding e recurs = answer_apart bound most rule finding (picture_of (reading text)) e recurs
+  no_recurrence bound most near text rule finding e recurs = answer_apart bound most near rule finding (picture_of (reading text)) e recurs
 
 -- ---- the objects with a rule and a code
 
@@ -84,23 +84,23 @@ count_outcome k rule (Ash onset parts) rest apart =
     count_append (same_object k) (part_objects rule parts) rest ∙ ap (λ n. n + count_by (same_object k) rest) (count_parts k rule parts)
 count_outcome k rule _ rest apart = sym (zero-add (count_by (same_object k) rest))
 
-module _ (bound : ℕ) (most : Option ℕ) where
+module _ (bound : ℕ) (most : Option ℕ) (near : Bool) where
   abbrev answer_in : Entry → Answer
-  answer_in e = answer_to_entry (question.Objects bound most) e
+  answer_in e = answer_to_entry (question.Objects bound most near) e
 
   abbrev all_objects : List Entry → List Object
-  all_objects es = objects (answers (question.Objects bound most) es)
+  all_objects es = objects (answers (question.Objects bound most near) es)
 
   count_answer : (k : Object) (e : Entry) (a : Answer) (rest : List Answer) → answer_in e ≡ a → count_by (same_object k) (objects (a ∷ rest)) ≡ fallen_as k a + count_by (same_object k) (objects rest)
   count_answer k e (Found rule finding) rest is =
       count_outcome k rule finding.outcome (objects rest)
-      (λ onset period dx dy code recurs. no_recurrence onset period dx dy code bound most e.text rule finding (found_answer (question.Objects bound most) e rule finding is) recurs)
+      (λ onset period dx dy code recurs. no_recurrence onset period dx dy code bound most near e.text rule finding (found_answer (question.Objects bound most near) e rule finding is) recurs)
   count_answer k e (Refused number) rest is = sym (zero-add (count_by (same_object k) (objects rest)))
 
-  count_all : (k : Object) (es : List Entry) → count_by (same_object k) (all_objects es) ≡ all_fallen_as bound most es k
+  count_all : (k : Object) (es : List Entry) → count_by (same_object k) (all_objects es) ≡ all_fallen_as bound most near es k
   count_all k [] = refl
   count_all k (e ∷ es) =
-      count_answer k e (answer_in e) (answers (question.Objects bound most) es) refl
+      count_answer k e (answer_in e) (answers (question.Objects bound most near) es) refl
       ∙ ap (λ n. fallen_as k (answer_in e) + n) (count_all k es)
       ∙ sym (sum_by-cons (λ (x : Entry). fallen_as k (answer_in x)) e es)
 
@@ -129,21 +129,21 @@ any_where k ks some =
       | false ↦ λ none. let zero_of = count_none same_object one_object same_itself k ks none in absurd (omega (arith, zero_of, some))
     ] refl
 
-each_line : (bound : ℕ) (most : Option ℕ) (es : List Entry) → All (CountsParts bound most es) (tally same_object (objects (answers (question.Objects bound most) es)))
-each_line bound most es =
-    let ks = objects (answers (question.Objects bound most) es) in
-    All-map (CountsParts bound most es) (λ k. (k, count_by (same_object k) ks)) (distinct_elements same_object ks) (λ i d lt.
+each_line : (bound : ℕ) (most : Option ℕ) (near : Bool) (es : List Entry) → All (CountsParts bound most near es) (tally same_object (objects (answers (question.Objects bound most near) es)))
+each_line bound most near es =
+    let ks = objects (answers (question.Objects bound most near) es) in
+    All-map (CountsParts bound most near es) (λ k. (k, count_by (same_object k) ks)) (distinct_elements same_object ks) (λ i d lt.
     let k = get_or (distinct_elements same_object ks) i d in
     let any : list_any (same_object k) ks ≡ true = sym (any_distinct same_object one_object same_itself k ks) ∙ any_at (same_object k) (distinct_elements same_object ks) i d lt (same_itself k) in
-    record { count = count_all bound most k es; some = some_where (same_object k) ks any })
+    record { count = count_all bound most near k es; some = some_where (same_object k) ks any })
 
-each_object : (bound : ℕ) (most : Option ℕ) (es : List Entry) (k : Object) → 1 ≤ all_fallen_as bound most es k
-    → count_by (λ line. same_object k line.0) (tally same_object (objects (answers (question.Objects bound most) es))) ≡ 1
-each_object bound most es k some =
-    let ks = objects (answers (question.Objects bound most) es) in
-    let all = count_all bound most k es in
+each_object : (bound : ℕ) (most : Option ℕ) (near : Bool) (es : List Entry) (k : Object) → 1 ≤ all_fallen_as bound most near es k
+    → count_by (λ line. same_object k line.0) (tally same_object (objects (answers (question.Objects bound most near) es))) ≡ 1
+each_object bound most near es k some =
+    let ks = objects (answers (question.Objects bound most near) es) in
+    let all = count_all bound most near k es in
     count_map (λ x. (x, count_by (same_object x) ks)) (λ line. same_object k line.0) (distinct_elements same_object ks)
     ∙ count_distinct same_object one_object same_itself k ks (any_where k ks (omega (arith, all, some)))
 
 pub codes_count_parts : CodesCountParts
-codes_count_parts bound most es = (each_line bound most es, each_object bound most es)
+codes_count_parts bound most near es = (each_line bound most near es, each_object bound most near es)

@@ -1,5 +1,5 @@
--- What the counts of a closing say of the objects that patterns fall apart into.
-use Rattle.std.specs.Prelude.{◌≡◌, ℕ, ◌+◌, ◌≤◌, if◌then◌else◌, List, [], ◌∷◌, Option, count_by}
+-- What the counts of a closing say of what the objects count as that patterns fall apart into.
+use Rattle.std.specs.Prelude.{◌≡◌, ℕ, ◌+◌, ◌≤◌, Bool, if◌then◌else◌, List, [], ◌∷◌, Option, count_by}
 use Rattle.std.specs.List.{All, sum_by}
 use Rattle.census_bundle.specs.declared.bundle.Entry.{Entry}
 use Rattle.life_answer.specs.declared.finding.Answer.{Answer}
@@ -16,24 +16,24 @@ abbrev pub parts_as : Object → Rule → List Part → ℕ
 parts_as k rule [] = 0
 parts_as k rule (part ∷ parts) = (if same_object k (object rule part.code) then part.count else 0) + parts_as k rule parts
 
--- how many objects with this rule and code a pattern of which this was found has fallen apart into
+-- how many objects with this rule and code are counted of a pattern of which this was found
 abbrev pub fallen_as : Object → Answer → ℕ
 fallen_as k (Found rule finding) = parts_as k rule (parts_found finding.outcome)
 fallen_as k (Refused number) = 0
 
--- how many objects with this rule and code these patterns have fallen apart into in all
-abbrev pub all_fallen_as : (bound : ℕ) (most : Option ℕ) → List Entry → Object → ℕ
-all_fallen_as bound most es k = sum_by (λ (e : Entry). fallen_as k (answer_to_entry (question.Objects bound most) e)) es
+-- how many objects with this rule and code are counted of these patterns in all
+abbrev pub all_fallen_as : (bound : ℕ) (most : Option ℕ) (near : Bool) → List Entry → Object → ℕ
+all_fallen_as bound most near es k = sum_by (λ (e : Entry). fallen_as k (answer_to_entry (question.Objects bound most near) e)) es
 
 -- The line with this rule and code and this number counts the objects that have them, of which there are some.
-pub record CountsParts (bound : ℕ) (most : Option ℕ) (es : List Entry) (line : Object × ℕ) : Type 0 where
-  pub count : line.1 ≡ all_fallen_as bound most es line.0
+pub record CountsParts (bound : ℕ) (most : Option ℕ) (near : Bool) (es : List Entry) (line : Object × ℕ) : Type 0 where
+  pub count : line.1 ≡ all_fallen_as bound most near es line.0
   pub some : 1 ≤ line.1
 
 -- Each `code` line of a collection counts the objects that have its rule and code, and each rule and code that an object
--- has stand in one line.
+-- has stand in one line, whether what is near one another is one object or not.
 abbrev pub CodesCountParts : Type 0
 CodesCountParts =
-    (bound : ℕ) (most : Option ℕ) (es : List Entry)
-    → All (CountsParts bound most es) (tally same_object (objects (answers (question.Objects bound most) es)))
-    × ((k : Object) → 1 ≤ all_fallen_as bound most es k → count_by (λ line. same_object k line.0) (tally same_object (objects (answers (question.Objects bound most) es))) ≡ 1)
+    (bound : ℕ) (most : Option ℕ) (near : Bool) (es : List Entry)
+    → All (CountsParts bound most near es) (tally same_object (objects (answers (question.Objects bound most near) es)))
+    × ((k : Object) → 1 ≤ all_fallen_as bound most near es k → count_by (λ line. same_object k line.0) (tally same_object (objects (answers (question.Objects bound most near) es))) ≡ 1)

@@ -9,9 +9,10 @@ pub fn codes_count_objects()
     ensures { CodesCountObjects }
 {}
 
-/// Where objects are asked for, the number of each `code` line of a collection is how many parts with the line's rule and
-/// code the collection's patterns have fallen apart into: one at least. And each rule and code of such a part has exactly
-/// one line.
+/// Where objects are asked for, the number of each `code` line of a collection is how many objects with the line's rule and
+/// code are counted of the patterns of the collection that have fallen apart: one at least. And each rule and code of such an
+/// object has exactly one line. So it is whether what is near one another counts as one object, or independent parts are
+/// counted.
 pub fn codes_count_parts()
     ensures { CodesCountParts }
 {}

@@ -1,9 +1,8 @@
 -- A pattern falls apart exactly where its answer says so.
-use Rattle.std.proofs.Common.{◌≡◌, ℕ, ◌*◌, false, List, Option, Some, None, Result, Ok, Err, map, refl, sym, ap, ◌∙◌}
+use Rattle.std.proofs.Common.{◌≡◌, ℕ, ◌*◌, Bool, false, List, Option, Some, None, Result, Ok, Err, refl, sym, ap, ◌∙◌}
 use Rattle.std.specs.List.Sorted.{IsPermutation}
 use Rattle.census_bundle.specs.declared.bundle.Entry.{Entry}
-use Rattle.life_answer.specs.Census.{ash_onset, census_found, census_of, part_code}
-use Rattle.life_answer.specs.Parts.{counted_codes}
+use Rattle.life_answer.specs.Census.{ash_onset, census_found, census_of, counted_parts}
 use Rattle.life_answer.specs.Questions.{answer_to, answer_to_question, finding_to, outcome_to}
 use Rattle.life_answer.specs.Answers.{finding_with}
 use Rattle.life_answer.specs.declared.finding.Answer.{Answer}
@@ -29,20 +28,20 @@ use Rattle.census_laws.specs.Fallen.{FallsApart}
 
 -- ---- what is found of a set that falls apart
 
-census_some : (R : Rule) (G : Generation) (b : ℕ) (found : List Generation) → ash_of R b (generation R G b) ≡ Some found
-    → census_of R G b ≡ Ash (ash_onset R G b) (counted_codes (map (part_code R b) found))
+census_some : (near : Bool) (R : Rule) (G : Generation) (b : ℕ) (found : List Generation) → ash_of R b (generation R G b) ≡ Some found
+    → census_of near R G b ≡ Ash (ash_onset R G b) (counted_parts near R b found)
 unfolding census_of
-census_some R G b found e = ap (census_found R b (ash_onset R G b)) e
+census_some near R G b found e = ap (census_found near R b (ash_onset R G b)) e
 
-some_found : (R : Rule) (b first onset : ℕ) (parts : List Part) (o : Option (List Generation))
-    → census_found R b first o ≡ Ash onset parts → (found : List Generation) × (o ≡ Some found)
-some_found R b first onset parts None e = absurd cc
-some_found R b first onset parts (Some found) e = (found, refl)
+some_found : (near : Bool) (R : Rule) (b first onset : ℕ) (parts : List Part) (o : Option (List Generation))
+    → census_found near R b first o ≡ Ash onset parts → (found : List Generation) × (o ≡ Some found)
+some_found near R b first onset parts None e = absurd cc
+some_found near R b first onset parts (Some found) e = (found, refl)
 
-ash_found : (R : Rule) (G : Generation) (b onset : ℕ) (parts : List Part) → census_of R G b ≡ Ash onset parts
+ash_found : (near : Bool) (R : Rule) (G : Generation) (b onset : ℕ) (parts : List Part) → census_of near R G b ≡ Ash onset parts
     → (found : List Generation) × (ash_of R b (generation R G b) ≡ Some found)
 unfolding census_of
-ash_found R G b onset parts e = some_found R b (ash_onset R G b) onset parts (ash_of R b (generation R G b)) e
+ash_found near R G b onset parts e = some_found near R b (ash_onset R G b) onset parts (ash_of R b (generation R G b)) e
 
 same_finding : (r s : Rule) (f g : Finding) → Found r f ≡ Found s g → f ≡ g
 same_finding r s f g e = cc
@@ -50,9 +49,9 @@ same_finding r s f g e = cc
 not_large : (onset : ℕ) (parts : List Part) (first : ℕ) → Ash onset parts ≡ Large first → ⊥
 not_large onset parts first e = cc
 
-module _ (bound : ℕ) (most : Option ℕ) (e : Entry) where
+module _ (near : Bool) (bound : ℕ) (most : Option ℕ) (e : Entry) where
   abbrev pub answer_in : Answer
-  answer_in = answer_to_entry (Objects bound most) e
+  answer_in = answer_to_entry (Objects bound most near) e
 
   -- ---- a pattern that falls apart is said to
 
@@ -60,7 +59,7 @@ module _ (bound : ℕ) (most : Option ℕ) (e : Entry) where
   pub record IsSaid (f : FallsApart bound most e) : Type 0 where
     pub found : List Generation
     pub order : IsPermutation f.parts found
-    pub is : answer_in ≡ Found f.rule (finding_with f.cells (Ash (ash_onset f.rule f.cells bound) (counted_codes (map (part_code f.rule bound) found))))
+    pub is : answer_in ≡ Found f.rule (finding_with f.cells (Ash (ash_onset f.rule f.cells bound) (counted_parts near f.rule bound found)))
 
   pub to_say : (f : FallsApart bound most e) → IsSaid f
   to_say f =
@@ -68,33 +67,33 @@ module _ (bound : ℕ) (most : Option ℕ) (e : Entry) where
       record {
         found = parts.0;
         order = parts.2;
-        is = kept_answer (Objects bound most) e f.kept
-            ∙ answer-found (Objects bound most) e.text (record { rule = f.rule; cells = f.cells }) f.reads
+        is = kept_answer (Objects bound most near) e f.kept
+            ∙ answer-found (Objects bound most near) e.text (record { rule = f.rule; cells = f.cells }) f.reads
             ∙ ap (λ o. Found f.rule (finding_with f.cells o))
-            (limited-same f.rule f.cells (3 * bound) most (census_of f.rule f.cells bound) f.small
-            ∙ census_some f.rule f.cells bound parts.0 parts.1);
+            (limited-same f.rule f.cells (3 * bound) most (census_of near f.rule f.cells bound) f.small
+            ∙ census_some near f.rule f.cells bound parts.0 parts.1);
       }
 
   -- ---- and one that is said to does
 
   answer_by : e.is_lost ≡ false → (r : Result Picture RleFault) → picture_of (reading e.text) ≡ r
-      → answer_in ≡ answer_to (Objects bound most) r
+      → answer_in ≡ answer_to (Objects bound most near) r
   unfolding answer_to_question
-  answer_by kept r read = kept_answer (Objects bound most) e kept ∙ ap (answer_to (Objects bound most)) read
+  answer_by kept r read = kept_answer (Objects bound most near) e kept ∙ ap (answer_to (Objects bound most near)) read
 
   said_by : (rule : Rule) (finding : Finding) (onset : ℕ) (parts : List Part) → answer_in ≡ Found rule finding → finding.outcome ≡ Ash onset parts
       → (r : Result Picture RleFault) → picture_of (reading e.text) ≡ r → FallsApart bound most e
   said_by rule finding onset parts is ash (Err fault) read =
-      let kept = found_kept (Objects bound most) e rule finding is in
+      let kept = found_kept (Objects bound most near) e rule finding is in
       absurd (let fails = sym is ∙ answer_by kept (Err fault) read in cc)
   said_by rule finding onset parts is ash (Ok pattern) read =
       let R = pattern.rule in
       let G = pattern.cells in
-      let kept = found_kept (Objects bound most) e rule finding is in
-      let same = same_finding rule R finding (finding_to (Objects bound most) R G) (sym is ∙ answer_by kept (Ok pattern) read) in
-      let becomes : outcome_to (Objects bound most) R G ≡ Ash onset parts = ap (λ (f : Finding). f.outcome) (sym same) ∙ ash in
-      let small = limited-else R G (3 * bound) most (census_of R G bound) (Ash onset parts) becomes (not_large onset parts) in
-      let found = ash_found R G bound onset parts small.1 in
+      let kept = found_kept (Objects bound most near) e rule finding is in
+      let same = same_finding rule R finding (finding_to (Objects bound most near) R G) (sym is ∙ answer_by kept (Ok pattern) read) in
+      let becomes : outcome_to (Objects bound most near) R G ≡ Ash onset parts = ap (λ (f : Finding). f.outcome) (sym same) ∙ ash in
+      let small = limited-else R G (3 * bound) most (census_of near R G bound) (Ash onset parts) becomes (not_large onset parts) in
+      let found = ash_found near R G bound onset parts small.1 in
       record {
         rule = R;
         cells = G;

@@ -1,4 +1,5 @@
 pub mod PartCodes
+pub mod CountedSets
 pub mod Fallen
 pub mod CodeCounts
 pub mod ObjectsOfAsh

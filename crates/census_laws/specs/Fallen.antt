@@ -1,8 +1,9 @@
--- How many of the objects that a pattern falls apart into are one object with a given set.
+-- How many of the sets that a pattern counts as, where it falls apart, are one object with a given set.
 use Rattle.std.specs.Prelude.{◌≡◌, ℕ, ◌*◌, Bool, false, List, Option, Ok, count_by}
 use Rattle.std.specs.Bool.{Decides}
 use Rattle.std.specs.List.{Contains}
 use Rattle.census_bundle.specs.declared.bundle.Entry.{Entry}
+use Rattle.life_answer.specs.Counted.{counted_of}
 use Rattle.life_answer.specs.Limited.{StaysWithin}
 use Rattle.life_model.specs.Generation.{Generation}
 use Rattle.life_model.specs.Recurrence.{AreOneObject}
@@ -22,14 +23,18 @@ pub record FallsApart (bound : ℕ) (most : Option ℕ) (e : Entry) : Type 0 whe
   pub ash : HasFallenApart rule bound cells parts
   pub small : StaysWithin most rule cells (3 * bound)
 
+-- what it counts as: its objects, where what is near one another is one object, and else the independent parts of each
+abbrev pub counted_sets : (near : Bool) (bound : ℕ) (most : Option ℕ) (e : Entry) → FallsApart bound most e → List Generation
+counted_sets near bound most e f = counted_of near f.rule bound f.parts
+
 -- so many of these parts are one object with P
 pub record AreCounted (R : Rule) (P : Generation) (parts : List Generation) (n : ℕ) : Type 0 where
   pub test : Generation → Bool
   pub tells : (Q : Generation) → Contains parts Q → Decides (test Q) (AreOneObject R Q P)
   pub count : n ≡ count_by test parts
 
--- So many objects of the pattern are one with P under this rule: those of its parts that are, where it falls apart
+-- So many objects of the pattern are one with P under this rule: those of what it counts as that are, where it falls apart
 -- under the rule, and otherwise none.
-pub record CountsIn (bound : ℕ) (most : Option ℕ) (R : Rule) (P : Generation) (e : Entry) (n : ℕ) : Type 0 where
-  pub fallen : (f : FallsApart bound most e) → f.rule ≡ R → AreCounted R P f.parts n
+pub record CountsIn (near : Bool) (bound : ℕ) (most : Option ℕ) (R : Rule) (P : Generation) (e : Entry) (n : ℕ) : Type 0 where
+  pub fallen : (f : FallsApart bound most e) → f.rule ≡ R → AreCounted R P (counted_sets near bound most e f) n
   pub zero : ((f : FallsApart bound most e) → f.rule ≡ R → ⊥) → n ≡ 0

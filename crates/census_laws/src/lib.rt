@@ -2,7 +2,7 @@
 //! there is one report.
 #![tactic(auto)]
 
-ghost use Rattle.std.specs.Prelude.{◌≡◌, ◌↔◌, ◌++◌, [], ◌∷◌, ℕ, List, Option, Some};
+ghost use Rattle.std.specs.Prelude.{◌≡◌, ◌↔◌, ◌++◌, [], ◌∷◌, ℕ, Bool, List, Option, Some};
 ghost use Rattle.census_bundle.specs.declared.bundle.Entry.{Entry};
 ghost use Rattle.census_bundle.specs.declared.bundle.Folder.{Folder};
 ghost use Rattle.census_format.specs.Found.{outcome_of};
@@ -19,9 +19,10 @@ ghost use Rattle.life_answer.specs.declared.question.Question.TheVariants.{Objec
 ghost use Rattle.life_objects.specs.Onset.{IsAshOnset};
 
 /// Where objects are asked for, each `code` line of a collection counts one object. The line has the object's rule and
-/// code, and its number is how many parts are that object, of all of the collection's patterns that have fallen apart
-/// within the bound under that rule, with no generation up to three times the bound that is too large. And each part of
-/// such a pattern has exactly one line of its rule and code.
+/// code, and its number is how many sets are that object of those that count, of all of the collection's patterns that have
+/// fallen apart within the bound under that rule, with no generation up to three times the bound that is too large. And each
+/// set that counts of such a pattern has exactly one line of its rule and code. Where what is near one another is one object,
+/// the objects into which a pattern falls apart count; else their independent parts do.
 pub fn codes_count_objects_of_ash()
     ensures { CodesCountObjectsOfAsh }
 {}
@@ -29,9 +30,9 @@ pub fn codes_count_objects_of_ash()
 /// Where objects are asked for, the line of a pattern that falls apart tells the onset of its ash: the first generation that
 /// is ash within the bound.
 pub fn ash_lines_tell_the_onset()
-    ensures { (bound : ℕ) (most : Option ℕ) (e : Entry) (f : FallsApart bound most e) →
+    ensures { (near : Bool) (bound : ℕ) (most : Option ℕ) (e : Entry) (f : FallsApart bound most e) →
         (onset : ℕ) × IsAshOnset f.rule bound f.cells onset
-        × (value_at Onset (said (outcome_of (answer_to_entry (Objects bound most) e))).fields
+        × (value_at Onset (said (outcome_of (answer_to_entry (Objects bound most near) e))).fields
         ≡ Some (Number onset)) }
 {}
 

@@ -22,6 +22,7 @@ use Rattle.life_objects.proofs.Recurring.{gone_stays, RecursBy-later, RecursBy-s
 use Rattle.life_parts.specs.Parts.{AreIndependentParts}
 use Rattle.life_parts.proofs.Lists.{later_parts, part_recurs}
 use Rattle.life_independent.specs.Independent.{independent_parts_of}
+use Rattle.life_independent.proofs.Finest.{same_but_order}
 use Rattle.life_answer.specs.Apgcode.{code_of}
 use Rattle.life_answer.specs.Census.{part_code}
 use Rattle.life_answer.specs.Counted.{all_come_again, code_bound, counted_as, parts_or_whole}
@@ -30,7 +31,6 @@ use Rattle.life_answer.proofs.PartCodes.{one_code, wider_code}
 use Rattle.life_orbit.specs.Course.{Course, IsCourse}
 use Rattle.life_apart.specs.Sets.{IsCourseBy}
 use Rattle.life_census.specs.Courses.{course_code}
-use Rattle.life_census.proofs.Found.{parts_are_found}
 use Rattle.life_census.proofs.PartCodes.{code_alone}
 
 -- the codes of the parts of a set, where each of these comes again within 100,000 generations, and else that of the set
@@ -133,7 +133,7 @@ module _ (R : Rule) (b n : ℕ) (P : Generation) (p : ℕ) (d : Cell)
 
     order : IsPermutation found (generations R Qs n)
     order =
-        parts_are_found R b late (generations R Qs n) object.recurs (later_parts R P Qs are p d course.recurs n)
+        same_but_order R b late object.recurs (generations R Qs n) (later_parts R P Qs are p d course.recurs n)
 
     again : (Q : Generation) → Contains Qs Q → (k : ℕ) × (e : Cell) × RecursBy R Q k e
     again Q one =

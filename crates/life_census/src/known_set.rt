@@ -36,12 +36,21 @@ impl KnownSet {
         })
     }
 
+    /// Whether the set evolves by the rule of an orbit, and this is asked.
+    fn evolves_as(&self, orbit: &Orbit, near: bool) -> bool
+        ensures near { IsTrue result → self.now.near ≡ near }
+        ensures rule { IsTrue result → self.now.rule ≡ orbit.now.rule }
+    {
+        self.near == near && self.rule == orbit.rule()
+    }
+
     /// Whether an orbit's set is this one, moved as a whole, and evolves by the same rule.
     pub fn is_of(&self, orbit: &Orbit, near: bool) -> bool
         ensures { IsTrue result → CountsAs near orbit.now.rule orbit.now.set self.now.codes.items }
     {
-        self.near == near
-            && self.rule == orbit.rule()
-            && offset_between(self.set.as_slice(), orbit.set().as_slice()).is_some()
+        if !self.evolves_as(orbit, near) {
+            return false;
+        }
+        offset_between(self.set.as_slice(), orbit.set().as_slice()).is_some()
     }
 }

@@ -57,6 +57,22 @@ impl KnownSets {
         }
     }
 
+    /// Keeps an orbit's set, with the codes of what it counts as, if it is small and few are kept.
+    fn keep(
+        &mut self,
+        alloc: Global,
+        orbit: &Orbit,
+        near: bool,
+        codes: Vec<Code>,
+    ) -> Result<(), AllocError>
+        requires { CountsAs near orbit.now.rule orbit.now.set codes.items }
+    {
+        if self.sets.len() < MOST && orbit.set().len() <= LARGEST {
+            self.sets.push(KnownSet::of(alloc, orbit, near, codes)?)?;
+        }
+        Ok(())
+    }
+
     /// Counts what an orbit's set counts as, whose cells are places at age 400,000, beside what was counted. It is decided where
     /// none is kept of this set, moved as a whole.
     pub fn count(
@@ -76,9 +92,6 @@ impl KnownSets {
         }
         let codes = codes_of(alloc, orbit, near)?;
         add_codes(alloc, parts, codes.as_slice())?;
-        if self.sets.len() < MOST && orbit.set().len() <= LARGEST {
-            self.sets.push(KnownSet::of(alloc, orbit, near, codes)?)?;
-        }
-        Ok(())
+        self.keep(alloc, orbit, near, codes)
     }
 }

@@ -29,15 +29,15 @@ returns g c =
     let G = c.args.cells.now in
     let b = c.args.bound in
     let IsFateOf = IsFate R G b c.args.limit in
-    let unless : Option ℕ → Outcome = λ o. unless_large (census_of R G b) o in
-    let becomes : c.match-branch-2.outcome ≡ outcome_to (Objects b c.args.limit) R G =
+    let unless : Option ℕ → Outcome = λ o. unless_large (census_of c.args.near R G b) o in
+    let becomes : c.match-branch-2.outcome ≡ outcome_to (Objects b c.args.limit c.args.near) R G =
     elim c.match-branch-2.branch [
       | in-Ash+in_ok-outcome-in-Ash w ↦
           let fate = subst IsFateOf w.in-Ash.is c.in_ok-ash.ensures in
           w.outcome-is ∙ w.in_ok-outcome-in-Ash.ensures b fate.1 fate.2 ∙ ap unless (sym fate.0)
       | in-Unresolved w ↦
           let fate = subst IsFateOf w.in-Unresolved.is c.in_ok-ash.ensures in
-          w.outcome-is ∙ sym (census_none R b G fate.1) ∙ ap unless (sym fate.0)
+          w.outcome-is ∙ sym (census_none c.args.near R b G fate.1) ∙ ap unless (sym fate.0)
       | in-Large w ↦
           let fate = subst IsFateOf w.in-Large.is c.in_ok-ash.ensures in
           w.outcome-is ∙ ap unless (sym fate)

@@ -26,5 +26,5 @@ returns g c b by_then ash =
     let same = sym c.orbits-orbits.ensures.value in
     let of = All-same (IsCourseBy R) _ _ c.orbits-orbits.ensures.value c.requires.rule in
     let here = subst (λ os. IsAsh R b (generation R G c.args.age) (sets_of os)) same ash in
-    ap (λ parts. Ash c.in_ok-onset.field-0 parts) c.in_ok-parts_of.ensures
-    ∙ sym (census_some R b G c.args.age c.in_ok-onset.field-0 os by_then of c.orbits-orbits.ensures.courses here (c.in_ok-onset.ensures.onset b here))
+    sym (census_some c.args.near R b G c.args.age c.in_ok-onset.field-0 os c.in_ok-parts_of.field-0 by_then of c.in_ok-parts_of.ensures
+    here (c.in_ok-onset.ensures.onset b here))
