@@ -1,0 +1,3 @@
+pub mod Groupings
+pub mod Held
+pub mod Independent
