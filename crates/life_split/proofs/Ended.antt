@@ -5,14 +5,11 @@ use Rattle.std.proofs.lemmas.Int.{ints}
 use Rattle.std.proofs.lemmas.Bool.{and_from, and_parts}
 use Rattle.std.proofs.lemmas.List.{get_or-map, length-map}
 use Rattle.std.proofs.lemmas.List.Elements.{Contains-get_or, at_from_Contains}
-use Rattle.std.proofs.lemmas.List.Folds.{Any-from_list_any}
-use Rattle.life_model.specs.Cell.{Cell, IsNear, origin, plus, same_cell}
+use Rattle.life_model.specs.Cell.{Cell, IsNear, origin, plus}
 use Rattle.life_model.specs.Rule.{Rule}
 use Rattle.life_model.specs.Generation.{Generation, cells, contains, empty}
 use Rattle.life_model.specs.Evolution.{generation}
 use Rattle.life_model.specs.Recurrence.{RecursBy}
-use Rattle.life_model.proofs.Cells.{same_cell-is}
-use Rattle.life_model.proofs.Generations.{contains-cells}
 use Rattle.life_model.proofs.Near.{next_near}
 use Rattle.life_objects.specs.Union.{IsSubsetOf, generations, union_of}
 use Rattle.life_parts.specs.Parts.{AreIndependentParts}
@@ -24,6 +21,7 @@ use Rattle.life_cells.specs.Limits.{IsPlace}
 use Rattle.life_islands.specs.Reach.{IsInReach}
 use Rattle.life_islands.specs.Splits.{IsOfOneSet, IsTorn}
 use Rattle.life_split.specs.Tied.{AreTiedSets, AreTiedTwo, later_of}
+use Rattle.life_split.proofs.Members.{holds_of_cell}
 use Rattle.life_split.proofs.Walked.{AreHeldBefore, in_later, split_at, tied_at}
 
 -- a cell near a place of a list of cells is in reach
@@ -46,12 +44,6 @@ reach_here c at =
     let above = at.above in
     let below = at.below in
     record { left = omega (arith, ints); right = omega (arith, ints); above = omega (arith, ints); below = omega (arith, ints) }
-
--- a member of a set whose cells have places has one
-place_of_cell : (G : Generation) → All IsPlace (cells G) → (g : Cell) → contains G g ≡ true → IsPlace g
-place_of_cell G placed g h =
-    let one = Any-from_list_any (same_cell g) (cells G) (sym (contains-cells G g) ∙ h) in
-    subst IsPlace (one.3 ∙ sym ((same_cell-is g one.1).0 one.4)) (placed one.0 one.1 one.2)
 
 module _ (R : Rule) (P : Generation) (Qs : List Generation) (are : AreTiedSets R P Qs) (k : ℕ) (d : Cell)
     (r : RecursBy R P (suc k) d) (held : AreHeldBefore R P Qs (suc k)) where
@@ -144,7 +136,7 @@ module _ (R : Rule) (P : Generation) (Qs : List Generation) (are : AreTiedSets R
       ap (λ n. contains (generation R P n) (plus c d)) (let e : p ≡ 0 + p = omega arith in e)
       ∙ contains-later R P p d r 0 c ∙ at_first R P c h in
       let g = near_before (plus c d) there in
-      reach_near g.0 (plus c d) (place_of_cell (generation R P k) placed g.0 g.1) g.2
+      reach_near g.0 (plus c d) (holds_of_cell IsPlace (generation R P k) placed g.0 g.1) g.2
 
   -- of lists that are what is left
   module _ (pieces : List Generation) (is : pieces ≡ ends) where

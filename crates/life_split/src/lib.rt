@@ -4,8 +4,10 @@
 #![tactic(auto)]
 
 mod joining;
+mod orbits;
 mod splitting;
 mod steps;
 mod walking;
 
+pub use orbits::part_orbits;
 pub use splitting::independent_parts;

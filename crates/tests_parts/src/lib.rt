@@ -4,4 +4,6 @@
 #[cfg(test)]
 mod codes;
 #[cfg(test)]
+mod orbits;
+#[cfg(test)]
 mod sizes;
