@@ -153,7 +153,7 @@ module _ (R : Rule) (G : Generation) (b : ℕ) (few : b ≤ objects_bound_limit)
       let small : objects_in (counted_codes all) ≤ 2 ^ 48 = omega arith in
       let fits : objects_in (counted_codes all) < 2 ^ 64 = omega arith in
       let early : ash_onset R G b < 2 ^ 64 = let by_then = ash_onset-within R G b in omega arith in
-      (((early, fits, tt), counted-some all [] (parts-some R b parts ash.objects) tt), small)
+      (((early, (fits, tt)), counted-some all [] (parts-some R b parts ash.objects) tt), small)
 
   found-ranged : (o : Option (List Generation)) → ash_of R b last ≡ o → IsRanged (census_found R b (ash_onset R G b) o)
   found-ranged None e = ((tt, tt), omega arith)
