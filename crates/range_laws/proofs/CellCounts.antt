@@ -91,11 +91,11 @@ chosen (P ∷ Ps) some apart =
       | inr one ↦ record {
         ones = one.0 ∷ rest.ones;
         fresh = (
-              λ has.
+          λ has.
               let other = owner Ps one.0 (rest.within one.0 has) in
               All-contains (AreDisjoint P) Ps other.0 (AllPairs-head AreDisjoint P Ps apart) other.1 one.0 one.1 other.2,
-              rest.fresh,
-            );
+          rest.fresh,
+        );
         long = ap suc rest.long;
         within = λ c has.
             ⊎_elim (λ same. in_first P (union_of Ps) c (ap (contains P) same ∙ one.1))

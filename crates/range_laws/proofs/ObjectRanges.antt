@@ -137,7 +137,8 @@ module _ (R : Rule) (G : Generation) (b : ℕ) (few : b ≤ objects_bound_limit)
       let small : objects_in (counted_codes all) ≤ 2 ^ 48 = omega arith in
       let fits : objects_in (counted_codes all) < 2 ^ 64 = omega arith in
       let early : ash_onset R G b < 2 ^ 64 = let by_then = ash_onset-within R G b in omega arith in
-      let come = λ Q one. counted_told R b near Q (counted_recurs R b near parts ash.objects Q one) in
+      let come : (Q : Generation) → Contains sets Q → RecursWithin R (code_bound b) Q =
+      λ Q one. counted_told R b near Q (counted_recurs R b near parts ash.objects Q one) in
       (((early, (fits, tt)), counted-some all [] (parts-some R (code_bound b) sets come) tt), small)
 
   found-ranged : (near : Bool) (o : Option (List Generation)) → ash_of R b last ≡ o
