@@ -1,11 +1,10 @@
 -- Why not all was written, from rows to texts and from texts to words.
-use Rattle.std.proofs.Common.{◌≡◌, ℕ, false, List, refl, inl, inr}
+use Rattle.std.proofs.Common.{◌≡◌, ℕ, List, refl, inl, inr}
 use Rattle.census_folders.specs.Told.{Told}
 use Rattle.census_identify.specs.Identifies.{words_or_input}
 use Rattle.census_identify.specs.Streams.{Sink}
 use Rattle.census_rows.specs.declared.row.Row.{Row}
-use Rattle.census_reports.specs.Forms.{IsMadeOf}
-use Rattle.census_reports.specs.Outcomes.{Makes, ReadsTexts, ReportsFail}
+use Rattle.census_reports.specs.Outcomes.{ReadsTexts, ReportsFail}
 use Rattle.census_reports.specs.Rows.{AreRowsOf, LackRows}
 use Rattle.census_reports.specs.Streams.{Streams}
 use Rattle.census_reports.specs.Texts.{StopsReadingTexts}

@@ -1,20 +1,17 @@
 -- What is told of a table by way of a block is written, as far as memory lasts.
-use Rattle.std.proofs.Common.{◌≡◌, ◌∙◌, ℕ, ◌+◌, ◌≤◌, Bool, true, false, List, [], ◌++◌, length, take, Option, Result, Ok, Err, MatchBool, MatchResult, refl, sym, ap, subst, inl, inr, arith, append-nil, length-append}
+use Rattle.std.proofs.Common.{◌≡◌, ◌∙◌, ℕ, ◌≤◌, Bool, true, false, List, [], ◌++◌, length, take, Option, Result, Ok, Err, MatchBool, MatchResult, refl, sym, ap, subst, arith, append-nil, length-append}
 use Rattle.std.proofs.lemmas.List.{take-append-le, take_all}
 use Rattle.std.specs.Io.KnownBytes.{Appends}
 use Rattle.watched.specs.Watching.{AppendsFront}
 use Rattle.gathered.specs.Telling.{Sheet, TellsAfter}
 use Rattle.gathered.proofs.Telling.{all_told, tells_more}
-use Rattle.census_identify.specs.Streams.{PutsPrefix, Sink, Writes}
 use Rattle.census_rows.specs.declared.row.Row.{Row}
 use Rattle.census_table.specs.Tables.{Listing, IsListingOf, listing_text}
 use Rattle.census_table.specs.Told.{TellsFront}
 use Rattle.census_table.specs.declared.table.Format.{Format}
 use Rattle.census_table.specs.declared.subject.Subject.{Subject}
 use Rattle.census_reports.specs.Forms.{IsMade}
-use Rattle.census_reports.specs.Written.{FailsRows, HaltsRows, WritesRows, WritesRowsInPart, WritesSome}
-use Rattle.census_reports.specs.declared.error.ReportsError.{ReportsError}
-use Rattle.census_reports.specs.declared.error.ReportsError.TheVariants.{Memory, Write}
+use Rattle.census_reports.specs.Written.{HaltsRows, WritesRows, WritesRowsInPart}
 use Rattle.census_reports.specs.declared.form.Form.TheVariants.{Table}
 use Rattle.census_reports.proofs.Told.{sink_of}
 

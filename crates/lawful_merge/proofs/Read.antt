@@ -10,7 +10,6 @@ use Rattle.census_readback.specs.Shapes.{all_rows}
 use Rattle.census_readback.specs.Texts.{AllLines}
 use Rattle.census_rows.specs.Lines.{text_of}
 use Rattle.census_rows.proofs.Texts.{text-append}
-use Rattle.census_merge.specs.Merged.{merged_rows}
 use Rattle.census_reports.specs.Outcomes.{WritesReports}
 use Rattle.census_reports.specs.Rows.{AreRowsOf}
 use Rattle.census_reports.specs.Streams.{Streams}

@@ -6,6 +6,7 @@ use Rattle.std.specs.List.Sorted.{IsPermutation}
 use Rattle.std.specs.Ordering.{eq_by_cmp, is_eq}
 use Rattle.std.proofs.lemmas.Bool.{and_from}
 use Rattle.std.proofs.lemmas.List.Elements.{All-contains, All-head, All-tail, Contains-append_cases, Contains-append_left, Contains-append_right}
+use Rattle.std.proofs.lemmas.List.Concat.{flat_map_single}
 use Rattle.std.proofs.lemmas.List.Sorted.{sum_by-IsPermutation}
 use Rattle.life_model.specs.Cell.{Cell}
 use Rattle.life_model.specs.Rule.{Rule}
@@ -23,11 +24,13 @@ use Rattle.life_objects.proofs.Recurring.{RecursBy-later, RecursBy-moved, Recurs
 use Rattle.life_shape.specs.TextOrder.{shorter_cmp}
 use Rattle.life_shape.proofs.TextOrders.{shorter_exact, shorter_total}
 use Rattle.life_answer.specs.Apgcode.{code_of}
-use Rattle.life_answer.specs.Census.{code_found, part_code}
+use Rattle.life_answer.specs.Census.{counted_parts, part_code}
+use Rattle.life_answer.specs.Counted.{code_bound}
 use Rattle.life_answer.specs.Parts.{counted_codes, with_code, with_code_by_order}
 use Rattle.life_answer.specs.declared.part.Part.{Part}
 use Rattle.life_answer.proofs.Codes.{codes_tell_objects}
-use Rattle.life_answer.proofs.Findings.{outcome-more, outcome-settled, settled_or_not}
+use Rattle.life_answer.proofs.CountedSets.{codes_of_each}
+use Rattle.life_answer.proofs.PartCodes.{SettlesAtOnce, from_start, one_code, part_code-is, wider_code}
 use Rattle.life_answer.proofs.Tallying.{counted_permutation}
 use Rattle.life_decided.proofs.Tests.{both}
 use Rattle.life_meeting.proofs.Reach.{any_by, any_tells}
@@ -48,14 +51,21 @@ module _ (R : Rule) where
   text_tells s t h = shorter_exact s t ((cmp.Equal-is (shorter_cmp s t)).0 h)
 
   pub kind_of_code : (B : ℕ) (code : List ℕ) → IsKind R (λ P. is_text code (part_code R B P))
-  kind_of_code B code P Q m n d e r t one = ap (is_text code) (one_code B P Q m n d e r t one)
+  kind_of_code B code P Q m n d e r t one = ap (is_text code) (one_code R B P Q m n d e r t one)
 
   pub wider_codes : (b B : ℕ) (Ps : List Generation) → b ≤ B → All (IsObject R b) Ps →
       map (part_code R b) Ps ≡ map (part_code R B) Ps
   wider_codes b B [] le objects = refl
   wider_codes b B (P ∷ Ps) le objects =
-      λ i. wider_code b B P le (All-head (IsObject R b) P Ps objects) i
+      λ i. wider_code R b B P le (All-head (IsObject R b) P Ps objects).recurs i
       ∷ wider_codes b B Ps le (All-tail (IsObject R b) P Ps objects) i
+
+  -- objects count as themselves where what is near one another is one object
+  pub near_counted : (b : ℕ) (Ps : List Generation) → All (IsObject R b) Ps →
+      counted_parts true R b Ps ≡ counted_objects R b Ps
+  near_counted b Ps objects =
+      ap counted_codes (codes_of_each true R b Ps ∙ flat_map_single (part_code R (code_bound b)) Ps
+      ∙ sym (wider_codes b (code_bound b) Ps (omega arith) objects))
 
   pub counted_alike : (b c : ℕ) (Ps Qs : List Generation) → All (IsObject R b) Ps → All (IsObject R c) Qs →
       AreAlike R Ps Qs → counted_objects R b Ps ≡ counted_objects R c Qs
@@ -71,20 +81,20 @@ module _ (R : Rule) where
 
   -- ---- what is counted alike is alike
 
-  same_object : (B : ℕ) (P Q : Generation) → SettlesAtOnce B P → SettlesAtOnce B Q → part_code R B P ≡ part_code R B Q →
+  same_object : (B : ℕ) (P Q : Generation) → SettlesAtOnce R B P → SettlesAtOnce R B Q → part_code R B P ≡ part_code R B Q →
       AreOneObject R P Q
   same_object B P Q s u same =
       subst (AreOneObject R P) (generation-zero R Q)
       (subst (λ G. AreOneObject R G (generation R Q 0)) (generation-zero R P)
       ((codes_tell_objects R P Q B B (record { onset = 0; period = s.period; displacement = s.displacement })
       (record { onset = 0; period = u.period; displacement = u.displacement }) s.settles u.settles).0
-      (sym (part_code-is B P s) ∙ same ∙ part_code-is B Q u)))
+      (sym (part_code-is R B P s) ∙ same ∙ part_code-is R B Q u)))
 
   of_kind : (B : ℕ) (P Q : Generation) (kind : Generation → Bool) → IsKind R kind → RecursWithin R B P → RecursWithin R B Q →
       part_code R B P ≡ part_code R B Q → kind P ≡ kind Q
   of_kind B P Q kind fits p q same =
       fits P Q p.steps q.steps p.by q.by p.recurs q.recurs
-      (same_object B P Q (from_start P p.steps p.by p.recurs B p.within) (from_start Q q.steps q.by q.recurs B q.within) same)
+      (same_object B P Q (from_start R P p.steps p.by p.recurs B p.within) (from_start R Q q.steps q.by q.recurs B q.within) same)
 
   -- whether some set of a list has this code and is of the kind
   module _ (B : ℕ) (kind : Generation → Bool) (fits : IsKind R kind) (all : List Generation)

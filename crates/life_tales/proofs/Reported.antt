@@ -22,7 +22,7 @@ is_there : (o : Option ℕ) → is_none o ≡ true → o ≡ None
 is_there None h = refl
 is_there (Some n) h = absurd (true≢false (sym h))
 
-module _ (limit : Option ℕ) (R : Rule) (G : Generation) where
+module _ (near : Bool) (limit : Option ℕ) (R : Rule) (G : Generation) where
   abbrev fits : ℕ → Bool
   fits c = is_none (first_past limit R G (4 * c))
 
@@ -96,15 +96,15 @@ module _ (limit : Option ℕ) (R : Rule) (G : Generation) where
     a = allowed_bound limit R G b
 
     abbrev before : Outcome
-    before = outcome_unless_large limit R G (3 * b) (census_of R G b)
+    before = outcome_unless_large limit R G (3 * b) (census_of near R G b)
 
-    reported_by : (told : Told) → told_of R a G ≡ told → reported_of limit R b G ≡ growing_or told before
+    reported_by : (told : Told) → told_of R a G ≡ told → reported_of near limit R b G ≡ growing_or told before
     unfolding reported_of
     reported_by told e = ap (λ t. growing_or t before) e
 
     pub growing_reported : (c : ℕ) (Es : List Generation) (S : Generation) → 1 ≤ c → c ≤ b →
         StaysWithin limit R G (4 * c) → HasComeToGrowth R c G Es S →
-        reported_of limit R b G ≡ Growing (told_of_engines R c Es)
+        reported_of near limit R b G ≡ Growing (told_of_engines R c Es)
     growing_reported c Es S some le small growth =
         let told = told_growth R c G Es S growth in
         reported_by (OfGrowth (told_of_engines R c Es))
@@ -128,7 +128,7 @@ module _ (limit : Option ℕ) (R : Rule) (G : Generation) where
               absurd (none_at_once (generation R G 0) Es S (subst (λ c. HasComeToGrowth R c G Es S) e growth))
         ]
 
-    pub reported_growing : (told : List (Tale × ℕ)) → reported_of limit R b G ≡ Growing told →
+    pub reported_growing : (told : List (Tale × ℕ)) → reported_of near limit R b G ≡ Growing told →
         (c : ℕ) × (1 ≤ c) × (c ≤ b) × StaysWithin limit R G (4 * c) × (Es : List Generation) × (S : Generation)
         × HasComeToGrowth R c G Es S × (told ≡ told_of_engines R c Es)
     reported_growing told e =
@@ -139,7 +139,7 @@ module _ (limit : Option ℕ) (R : Rule) (G : Generation) where
 
     pub reported_otherwise :
         ((c : ℕ) (S : Generation) (Es : List Generation) → 1 ≤ c → c ≤ b → StaysWithin limit R G (4 * c) →
-        HasComeToGrowth R c G Es S → ⊥) → reported_of limit R b G ≡ Otherwise before
+        HasComeToGrowth R c G Es S → ⊥) → reported_of near limit R b G ≡ Otherwise before
     reported_otherwise none =
         elim (cases R a G) [
           | of_ash parts e ↦ reported_by (OfAsh (counted_objects R a parts)) (told_by R a G (Ash parts) e)
@@ -151,8 +151,8 @@ module _ (limit : Option ℕ) (R : Rule) (G : Generation) where
         ]
 
   -- growth that is reported is so within each greater bound
-  pub growing_lasts : (b c : ℕ) (told : List (Tale × ℕ)) → b ≤ c → reported_of limit R b G ≡ Growing told →
-      reported_of limit R c G ≡ Growing told
+  pub growing_lasts : (b c : ℕ) (told : List (Tale × ℕ)) → b ≤ c → reported_of near limit R b G ≡ Growing told →
+      reported_of near limit R c G ≡ Growing told
   growing_lasts b c told le e =
       let q = reported_growing b told e in
       let within : q.0 ≤ b = q.2 in

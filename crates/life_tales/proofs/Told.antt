@@ -1,5 +1,5 @@
 -- What is told of a pattern is right, and hangs neither on the bound nor on the generation that is looked at.
-use Rattle.std.proofs.Common.{◌≡◌, ◌≢◌, ◌↔◌, ℕ, ◌+◌, ◌-◌, ◌≤◌, List, map, Option, Some, None, sym, refl, ap, subst, ◌∙◌, arith}
+use Rattle.std.proofs.Common.{◌≡◌, ◌≢◌, ◌↔◌, ℕ, ◌+◌, ◌-◌, ◌≤◌, true, List, map, Option, Some, None, sym, refl, ap, subst, ◌∙◌, arith}
 use Rattle.std.specs.List.Sorted.{IsPermutation}
 use Rattle.std.proofs.lemmas.List.Sorted.{IsPermutation-map}
 use Rattle.life_model.specs.Rule.{Rule}
@@ -14,7 +14,8 @@ use Rattle.life_growth.proofs.Alike.{count_later, later_ashes_are_alike}
 use Rattle.life_growth.proofs.Lasting.{growth_later, growth_sooner, shed}
 use Rattle.life_growth.proofs.Settling.{settles_later}
 use Rattle.life_decided.specs.Decided.{ash_of}
-use Rattle.life_answer.specs.Census.{ash_onset, census_found, census_of, part_code}
+use Rattle.life_decided.proofs.Deciding.{ash_if_found}
+use Rattle.life_answer.specs.Census.{ash_onset, census_found, census_of, counted_parts, part_code}
 use Rattle.life_answer.specs.declared.finding.Outcome.TheVariants as outcome
 use Rattle.life_answer.specs.declared.part.Part.{Part}
 use Rattle.life_answer.proofs.Tallying.{counted_permutation}
@@ -25,7 +26,7 @@ use Rattle.life_fates.proofs.Lasting.{told_later}
 use Rattle.life_tales.specs.Counts.{counted_tales}
 use Rattle.life_tales.specs.Tales.{Tale, counted_objects, tale_of}
 use Rattle.life_tales.specs.Told.{Nothing, OfAsh, OfGrowth, told_of, told_of_engines, told_of_fate}
-use Rattle.life_tales.proofs.Codes.{counted_alike}
+use Rattle.life_tales.proofs.Codes.{counted_alike, near_counted}
 use Rattle.life_tales.proofs.Tales.{all_told_one}
 use Rattle.life_tales.proofs.Tallies.{counted-any_order}
 
@@ -113,27 +114,33 @@ module _ (R : Rule) where
     abbrev last : Generation
     last = generation R G b
 
-    to_census : (o : Option (List Generation)) (g : Option (List Generation × Generation)) (first onset : ℕ) (told : List Part) →
-        (told_of_fate R b (fate_found o g) ≡ OfAsh told) × (first ≡ onset) → census_found R b first o ≡ outcome.Ash onset told
-    to_census (Some parts) g first onset told e =
+    same_count : (parts : List Generation) → ash_of R b last ≡ Some parts → counted_parts true R b parts ≡ counted_objects R b parts
+    same_count parts found = near_counted R b parts (ash_if_found R b last parts found).objects
+
+    to_census : (o : Option (List Generation)) → ash_of R b last ≡ o → (g : Option (List Generation × Generation)) →
+        (first onset : ℕ) (told : List Part) → (told_of_fate R b (fate_found o g) ≡ OfAsh told) × (first ≡ onset) →
+        census_found true R b first o ≡ outcome.Ash onset told
+    to_census (Some parts) found g first onset told e =
         let counted = e.0 in
         let same : counted_objects R b parts ≡ told = cc in
-        ap (λ parts. outcome.Ash first parts) same ∙ ap (λ t. outcome.Ash t told) e.1
-    to_census None (Some g) first onset told e = absurd (let counted = e.0 in cc)
-    to_census None None first onset told e = absurd (let counted = e.0 in cc)
+        ap (λ parts. outcome.Ash first parts) (same_count parts found ∙ same) ∙ ap (λ t. outcome.Ash t told) e.1
+    to_census None found (Some g) first onset told e = absurd (let counted = e.0 in cc)
+    to_census None found None first onset told e = absurd (let counted = e.0 in cc)
 
-    from_census : (o : Option (List Generation)) (g : Option (List Generation × Generation)) (first onset : ℕ) (told : List Part) →
-        census_found R b first o ≡ outcome.Ash onset told → (told_of_fate R b (fate_found o g) ≡ OfAsh told) × (first ≡ onset)
-    from_census (Some parts) g first onset told e =
-        let same : counted_objects R b parts ≡ told = cc in (ap OfAsh same, (let begun : first ≡ onset = cc in begun))
-    from_census None g first onset told e = absurd cc
+    from_census : (o : Option (List Generation)) → ash_of R b last ≡ o → (g : Option (List Generation × Generation)) →
+        (first onset : ℕ) (told : List Part) → census_found true R b first o ≡ outcome.Ash onset told →
+        (told_of_fate R b (fate_found o g) ≡ OfAsh told) × (first ≡ onset)
+    from_census (Some parts) found g first onset told e =
+        let same : counted_parts true R b parts ≡ told = cc in
+        (ap OfAsh (sym (same_count parts found) ∙ same), (let begun : first ≡ onset = cc in begun))
+    from_census None found g first onset told e = absurd cc
 
     pub census_told : (onset : ℕ) (told : List Part) →
-        ((told_of R b G ≡ OfAsh told) × (ash_onset R G b ≡ onset)) ↔ (census_of R G b ≡ outcome.Ash onset told)
+        ((told_of R b G ≡ OfAsh told) × (ash_onset R G b ≡ onset)) ↔ (census_of true R G b ≡ outcome.Ash onset told)
     unfolding told_of fate_of census_of
     census_told onset told = (
-      to_census (ash_of R b last) (growth_of R b last) (ash_onset R G b) onset told,
-      from_census (ash_of R b last) (growth_of R b last) (ash_onset R G b) onset told,
+      to_census (ash_of R b last) refl (growth_of R b last) (ash_onset R G b) onset told,
+      from_census (ash_of R b last) refl (growth_of R b last) (ash_onset R G b) onset told,
     )
 
   -- ---- what is seen sooner

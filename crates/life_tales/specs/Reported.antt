@@ -1,5 +1,5 @@
 -- What is reported of a pattern of which no generation may have more than some number of cells.
-use Rattle.std.specs.Prelude.{ℕ, zero, suc, ◌*◌, List, Option, is_none, if◌then◌else◌}
+use Rattle.std.specs.Prelude.{ℕ, zero, suc, ◌*◌, Bool, List, Option, is_none, if◌then◌else◌}
 use Rattle.life_model.specs.Rule.{Rule}
 use Rattle.life_model.specs.Generation.{Generation}
 use Rattle.life_answer.specs.Census.{census_of}
@@ -26,6 +26,6 @@ growing_or (OfAsh parts) outcome = Otherwise outcome
 growing_or Nothing outcome = Otherwise outcome
 
 -- what is reported of G within b: growth where it is told within an allowed bound, and else what was found before
-unfoldable pub reported_of : Option ℕ → Rule → ℕ → Generation → Reported
-reported_of limit R b G =
-    growing_or (told_of R (allowed_bound limit R G b) G) (outcome_unless_large limit R G (3 * b) (census_of R G b))
+unfoldable pub reported_of : Bool → Option ℕ → Rule → ℕ → Generation → Reported
+reported_of near limit R b G =
+    growing_or (told_of R (allowed_bound limit R G b) G) (outcome_unless_large limit R G (3 * b) (census_of near R G b))

@@ -3,7 +3,7 @@
 //! the laws that it is right, and that it hangs neither on the bound nor on the generation that is looked at.
 #![tactic(auto)]
 
-ghost use Rattle.std.specs.Prelude.{◌≡◌, ◌≢◌, ◌↔◌, ℕ, ◌+◌, ◌*◌, ◌≤◌, Option, List, Contains, count_by, length, sum_by, true};
+ghost use Rattle.std.specs.Prelude.{◌≡◌, ◌≢◌, ◌↔◌, ℕ, ◌+◌, ◌*◌, ◌≤◌, Bool, Option, List, Contains, count_by, length, sum_by, true};
 ghost use Rattle.std.specs.List.{AllPairs};
 ghost use Rattle.std.specs.List.Sorted.{IsPermutation};
 ghost use Rattle.std.specs.declared.cmp.Ordering.TheVariants.{Less};
@@ -56,8 +56,9 @@ pub fn tales_are_counted()
     ensures any_order { (ts us : List Tale) → IsPermutation ts us → counted_tales ts ≡ counted_tales us }
 {}
 
-/// What is told is what there is: of what has fallen apart its objects, counted by codes, of what has come to growth its
-/// engines, counted by what is told of each, and nothing only of what has done neither.
+/// What is told is what there is: of what has fallen apart its objects, counted by codes, as its census has them where what is
+/// near one another counts as one object; of what has come to growth its engines, counted by what is told of each; and
+/// nothing only of what has done neither.
 pub fn what_is_told_is_right()
     ensures ash { (R : Rule) (b : ℕ) (G : Generation) (parts : List Generation) → HasFallenApart R b G parts →
         told_of R b G ≡ OfAsh (counted_objects R b parts) }
@@ -71,7 +72,7 @@ pub fn what_is_told_is_right()
         ((parts : List Generation) → HasFallenApart R b G parts → ⊥) →
         ((S : Generation) (Es : List Generation) → HasComeToGrowth R b G Es S → ⊥) → told_of R b G ≡ Nothing }
     ensures census { (R : Rule) (b onset : ℕ) (G : Generation) (parts : List Part) →
-        ((told_of R b G ≡ OfAsh parts) × (ash_onset R G b ≡ onset)) ↔ (census_of R G b ≡ Ash onset parts) }
+        ((told_of R b G ≡ OfAsh parts) × (ash_onset R G b ≡ onset)) ↔ (census_of true R G b ≡ Ash onset parts) }
 {}
 
 /// Only what is so is told: ash of what has fallen apart, and growth of what has come to it.
@@ -103,21 +104,21 @@ pub fn what_is_seen_sooner_is_told()
 /// What is reported where no more than some number of cells is allowed: a pattern grows where it does so within some bound
 /// from 1 to that asked for, and no generation up to four times that bound has more cells. Then the same is told of it as
 /// within that bound, and within each greater one. Else what is reported is what was found before anything was told of
-/// growth.
+/// growth, whether what is near one another counts as one object or not.
 pub fn what_is_reported_is_right()
-    ensures grows { (limit : Option ℕ) (R : Rule) (b c : ℕ) (G S : Generation) (Es : List Generation) → 1 ≤ c → c ≤ b →
+    ensures grows { (near : Bool) (limit : Option ℕ) (R : Rule) (b c : ℕ) (G S : Generation) (Es : List Generation) → 1 ≤ c → c ≤ b →
         StaysWithin limit R G (4 * c) → HasComeToGrowth R c G Es S →
-        reported_of limit R b G ≡ Growing (told_of_engines R c Es) }
-    ensures only { (limit : Option ℕ) (R : Rule) (b : ℕ) (G : Generation) (told : List (Tale × ℕ)) →
-        reported_of limit R b G ≡ Growing told →
+        reported_of near limit R b G ≡ Growing (told_of_engines R c Es) }
+    ensures only { (near : Bool) (limit : Option ℕ) (R : Rule) (b : ℕ) (G : Generation) (told : List (Tale × ℕ)) →
+        reported_of near limit R b G ≡ Growing told →
         (c : ℕ) × (1 ≤ c) × (c ≤ b) × StaysWithin limit R G (4 * c) × (Es : List Generation) × (S : Generation)
         × HasComeToGrowth R c G Es S × (told ≡ told_of_engines R c Es) }
-    ensures otherwise { (limit : Option ℕ) (R : Rule) (b : ℕ) (G : Generation) →
+    ensures otherwise { (near : Bool) (limit : Option ℕ) (R : Rule) (b : ℕ) (G : Generation) →
         ((c : ℕ) (S : Generation) (Es : List Generation) → 1 ≤ c → c ≤ b → StaysWithin limit R G (4 * c) →
         HasComeToGrowth R c G Es S → ⊥) →
-        reported_of limit R b G ≡ Otherwise (outcome_unless_large limit R G (3 * b) (census_of R G b)) }
-    ensures lasts { (limit : Option ℕ) (R : Rule) (b c : ℕ) (G : Generation) (told : List (Tale × ℕ)) → b ≤ c →
-        reported_of limit R b G ≡ Growing told → reported_of limit R c G ≡ Growing told }
+        reported_of near limit R b G ≡ Otherwise (outcome_unless_large limit R G (3 * b) (census_of near R G b)) }
+    ensures lasts { (near : Bool) (limit : Option ℕ) (R : Rule) (b c : ℕ) (G : Generation) (told : List (Tale × ℕ)) → b ≤ c →
+        reported_of near limit R b G ≡ Growing told → reported_of near limit R c G ≡ Growing told }
 {}
 
 /// What is told of growth is true for ever. Over some generations that are so many periods of each engine, the number of

@@ -1,22 +1,19 @@
--- How many cells a set has that stands in a field, and how many parts ash has that stands there.
+-- How many cells a set has that stands in a field, and how many sets are there that share none.
 use Rattle.std.proofs.Common.{◌≡◌, ◌≢◌, ℕ, suc, ℤ, pos, negsuc, ◌+ℤ◌, ◌*ℤ◌, ◌≤ℤ◌, ◌<ℤ◌, ◌≤◌, ◌^◌, inl, inr, ⊎_elim, true, T, List, [], ◌∷◌, Less, length, refl, sym, ap, ◌∙◌, arith}
 use Rattle.std.specs.List.{All, AllPairs}
 use Rattle.std.specs.Ordering.{int_cmp}
 use Rattle.std.proofs.lemmas.Int.{ints}
-use Rattle.std.proofs.lemmas.List.Elements.{All-head, All-tail, All-weaker}
+use Rattle.std.proofs.lemmas.List.Elements.{All-contains, All-head, All-tail}
 use Rattle.life_cells.specs.Limits.{IsWithin, age_limit}
 use Rattle.life_model.specs.Cell.{Cell, cell_cmp}
-use Rattle.life_model.specs.Evolution.{generation}
 use Rattle.life_model.specs.Generation.{Generation, below_all, cells, contains, empty, from_list, is_rising, size}
-use Rattle.life_model.specs.Rule.{Rule}
 use Rattle.life_model.proofs.Generations.{cells-rise, contains-from_list, size-cells}
 use Rattle.life_model.proofs.Moves.{nothing_or_some}
-use Rattle.life_objects.specs.Apart.{AreApart, AreApartForEver}
-use Rattle.life_objects.specs.Ash.{IsAsh, IsObject}
+use Rattle.life_objects.specs.Apart.{AreDisjoint}
 use Rattle.life_objects.specs.Union.{union_of}
-use Rattle.life_objects.proofs.Distances.{apart_from_union_of, disjoint_from_apart}
-use Rattle.life_objects.proofs.Lists.{AllPairs-head, AllPairs-tail, AllPairs-weaker}
+use Rattle.life_objects.proofs.Lists.{AllPairs-head, AllPairs-tail}
 use Rattle.life_objects.proofs.Unions.{in_first, in_second}
+use Rattle.life_independent.proofs.Found.{owner}
 use Rattle.life_slots.proofs.Counted.{IsFresh, size-fresh}
 use Rattle.life_slots.proofs.Members.{Has, has_cases, has_head, has_none, has_tail}
 use Rattle.life_slots.proofs.Sizes.{below_has, both_hold, int_less, int_same, lesser, member_has}
@@ -76,25 +73,29 @@ few_cells G age young each =
     let small : length (cells G) ≤ 2 ^ 48 = count_small (length (cells G)) few in
     omega arith
 
--- ---- the parts of ash
+-- ---- sets that share no cell
 
 -- a cell of each set
-record Chosen (parts : List Generation) : Type 0 where
-  ones : List Cell
-  fresh : IsFresh ones
-  long : length ones ≡ length parts
-  within : (c : Cell) → Has ones c → contains (union_of parts) c ≡ true
+pub record Chosen (sets : List Generation) : Type 0 where
+  pub ones : List Cell
+  pub fresh : IsFresh ones
+  pub long : length ones ≡ length sets
+  pub within : (c : Cell) → Has ones c → contains (union_of sets) c ≡ true
 
-chosen : (parts : List Generation) → All (λ P. P ≢ empty) parts → AllPairs AreApart parts → Chosen parts
+chosen : (sets : List Generation) → All (λ P. P ≢ empty) sets → AllPairs AreDisjoint sets → Chosen sets
 chosen [] some apart = record { ones = []; fresh = tt; long = refl; within = λ c has. absurd (has_none c has) }
 chosen (P ∷ Ps) some apart =
-    let rest = chosen Ps (All-tail (λ Q. Q ≢ empty) P Ps some) (AllPairs-tail AreApart P Ps apart) in
-    let disjoint = disjoint_from_apart P (union_of Ps) (apart_from_union_of P Ps (AllPairs-head AreApart P Ps apart)) in
+    let rest = chosen Ps (All-tail (λ Q. Q ≢ empty) P Ps some) (AllPairs-tail AreDisjoint P Ps apart) in
     elim (nothing_or_some P) [
       | inl none ↦ absurd (All-head (λ Q. Q ≢ empty) P Ps some none)
       | inr one ↦ record {
         ones = one.0 ∷ rest.ones;
-        fresh = (λ has. disjoint one.0 one.1 (rest.within one.0 has), rest.fresh);
+        fresh = (
+          λ has.
+              let other = owner Ps one.0 (rest.within one.0 has) in
+              All-contains (AreDisjoint P) Ps other.0 (AllPairs-head AreDisjoint P Ps apart) other.1 one.0 one.1 other.2,
+          rest.fresh,
+        );
         long = ap suc rest.long;
         within = λ c has.
             ⊎_elim (λ same. in_first P (union_of Ps) c (ap (contains P) same ∙ one.1))
@@ -106,19 +107,13 @@ listed : (cs : List Cell) (c : Cell) → contains (from_list cs) c ≡ true → 
 unfolding Has
 listed cs c h = sym (contains-from_list cs c) ∙ h
 
-apart_now : (R : Rule) (parts : List Generation) → AllPairs (AreApartForEver R) parts → AllPairs AreApart parts
-unfolding generation
-apart_now R parts apart = AllPairs-weaker (AreApartForEver R) AreApart (λ P Q far. far 0) parts apart
-
--- no part is without a cell, and no cell is in two parts
-pub few_parts : (R : Rule) (b : ℕ) (G : Generation) (parts : List Generation) → IsAsh R b G parts
-    → (age : ℕ) → age ≤ age_limit → ((q : Cell) → contains G q ≡ true → IsWithin age q) → length parts ≤ 2 ^ 48
-few_parts R b G parts ash age young each =
-    let some = All-weaker (IsObject R b) (λ P. P ≢ empty) (λ P object. object.nonempty) parts ash.objects in
-    let of = chosen parts some (apart_now R parts ash.apart) in
+-- no set is without a cell, and no cell is in two sets
+pub few_sets : (sets : List Generation) → All (λ P. P ≢ empty) sets → AllPairs AreDisjoint sets → (age : ℕ) → age ≤ age_limit
+    → ((q : Cell) → contains (union_of sets) q ≡ true → IsWithin age q) → length sets ≤ 2 ^ 48
+few_sets sets some apart age young each =
+    let of = chosen sets some apart in
     let few : size (from_list of.ones) ≤ 2 ^ 48 =
-    few_cells (from_list of.ones) age young
-    (λ q h. each q (ap (λ H. contains H q) (sym ash.together) ∙ of.within q (listed of.ones q h))) in
+    few_cells (from_list of.ones) age young (λ q h. each q (of.within q (listed of.ones q h))) in
     let size : size (from_list of.ones) ≡ length of.ones = size-fresh of.ones of.fresh in
-    let long : length of.ones ≡ length parts = of.long in
+    let long : length of.ones ≡ length sets = of.long in
     omega arith

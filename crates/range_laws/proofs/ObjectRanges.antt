@@ -1,10 +1,9 @@
 -- What is found of patterns whose objects are asked for has numbers in the range of a line.
-use Rattle.std.proofs.Common.{◌≡◌, ℕ, suc, ◌+◌, ◌*◌, ◌<◌, ◌≤◌, ◌^◌, true, false, cond, inl, inr, Option, Some, None, Result, Ok, Err, List, [], ◌∷◌, ◌++◌, codes, length, map, slice_get, refl, sym, ap, subst, ◌∙◌, arith}
-use Rattle.std.specs.List.{All, AllByRecursion as Each, fold}
+use Rattle.std.proofs.Common.{◌≡◌, ℕ, suc, ◌+◌, ◌*◌, ◌<◌, ◌≤◌, ◌^◌, Bool, true, false, cond, inl, inr, Option, Some, None, Result, Ok, Err, List, [], ◌∷◌, ◌++◌, codes, length, map, slice_get, refl, sym, ap, subst, ◌∙◌, arith}
+use Rattle.std.specs.List.{All, AllByRecursion as Each, Contains, fold}
 use Rattle.std.specs.declared.cmp.Ordering.{Ordering}
 use Rattle.std.specs.declared.cmp.Ordering.TheVariants.{Less, Equal, Greater}
 use Rattle.std.proofs.lemmas.List.{length-append, length-map}
-use Rattle.std.proofs.lemmas.List.Elements.{All-head, All-tail}
 use Rattle.census_bundle.specs.Sizes.{IsWithinCounts, count_limit}
 use Rattle.census_bundle.specs.declared.bundle.Entry.{Entry}
 use Rattle.census_bundle.specs.declared.bundle.Folder.{Folder}
@@ -13,7 +12,8 @@ use Rattle.census_format.specs.Objects.{objects, outcome_objects}
 use Rattle.census_format.proofs.AshParts.{length-part_objects}
 use Rattle.life_answer.specs.Answers.{fault_number}
 use Rattle.life_answer.specs.Apgcode.{bodies, code_of, prefix}
-use Rattle.life_answer.specs.Census.{ash_onset, census_found, census_of, code_found, part_code, parts_found}
+use Rattle.life_answer.specs.Census.{ash_onset, census_found, census_of, counted_parts, part_code, parts_found}
+use Rattle.life_answer.specs.Counted.{code_bound, counted_of}
 use Rattle.life_answer.specs.Limited.{first_past, unless_large}
 use Rattle.life_answer.specs.Parts.{with_code_by_order, counted_codes, objects_in, with_code}
 use Rattle.life_answer.specs.Questions.{IsAnswered, answer_to, answer_to_question, finding_to}
@@ -24,7 +24,6 @@ use Rattle.life_answer.specs.declared.finding.Outcome.TheVariants.{Recurs, Ash}
 use Rattle.life_answer.specs.declared.part.Part.{Part}
 use Rattle.life_answer.specs.declared.question.Question.{Question}
 use Rattle.life_answer.specs.declared.question.Question.TheVariants.{Objects}
-use Rattle.life_answer.proofs.Findings.{settled_or_not}
 use Rattle.life_answer.proofs.Onsets.{ash_onset-within}
 use Rattle.life_answer.proofs.Tallying.{counted_all}
 use Rattle.life_ash.proofs.Limits.{past_within}
@@ -36,13 +35,13 @@ use Rattle.life_decided.proofs.Deciding.{ash_if_found}
 use Rattle.life_model.specs.Cell.{Cell}
 use Rattle.life_model.specs.Evolution.{generation}
 use Rattle.life_model.specs.Generation.{Generation, cells, contains, from_list, size}
-use Rattle.life_model.specs.Recurrence.{SettlesAt}
 use Rattle.life_model.specs.Rule.{Rule}
-use Rattle.life_model.specs.Symmetry.{translate_of}
 use Rattle.life_model.proofs.Generations.{cells-from_list}
-use Rattle.life_model.proofs.Recurrences.{generation-zero}
-use Rattle.life_objects.specs.Ash.{IsObject}
+use Rattle.life_objects.specs.Ash.{RecursWithin}
 use Rattle.life_objects.specs.Limits.{objects_bound_limit}
+use Rattle.life_objects.proofs.Lists.{Contains-head, Contains-later}
+use Rattle.census_laws.proofs.CountedSets.{counted_recurs, counted_told}
+use Rattle.census_laws.proofs.PartCodes.{at_once, part_code-is}
 use Rattle.life_shape.specs.TextOrder.{least_text, shorter_cmp}
 use Rattle.life_text.specs.Picture.{picture_of}
 use Rattle.life_text.specs.Rle.{Token, body_tokens, cells_after, first_fault, header_rule, unless_fault, with_body}
@@ -51,7 +50,8 @@ use Rattle.life_text.specs.declared.rle.RleFault.TheVariants.{NoHeader, BadHeade
 use Rattle.life_text.proofs.PictureLemmas.{placed_rises, placed_within}
 use Rattle.life_text.proofs.RisingLemmas.{meaning_rises}
 use Rattle.report_laws.specs.Ranges.{FitsOutcome, InRange, IsCodedPart, IsToldAnswer, IsToldFolder}
-use Rattle.range_laws.proofs.CellCounts.{few_cells, few_parts}
+use Rattle.range_laws.proofs.CellCounts.{few_cells}
+use Rattle.range_laws.proofs.CountedCells.{few_counted}
 use Rattle.report_laws.proofs.Solid.{each-map}
 
 -- ---- the codes of parts
@@ -68,34 +68,17 @@ code-some R H period displacement =
     let one : length (codes "_") ≡ 1 = refl in
     omega arith
 
-module _ (R : Rule) (b : ℕ) (P : Generation) (object : IsObject R b P) where
-  settles : SettlesAt R P b 0
-  settles =
-      let n : ℕ = object.recurs.steps in
-      let within : n ≤ b = object.recurs.within in
-      record {
-        steps = n;
-        by = object.recurs.by;
-        later = object.recurs.recurs.later;
-        within = let whole : 0 + n ≤ b = omega arith in whole;
-        again = ap (generation R P) (let e : 0 + n ≡ n = omega arith in e) ∙ object.recurs.recurs.again
-            ∙ ap (λ G. translate_of G object.recurs.by) (sym (generation-zero R P));
-      }
+module _ (R : Rule) (b : ℕ) where
+  part-some : (P : Generation) → RecursWithin R b P → IsSome (part_code R b P)
+  part-some P again =
+      let s = at_once R b P again in
+      subst IsSome (sym (part_code-is R b P s)) (code-some R P s.period s.displacement)
 
-  part-some : IsSome (part_code R b P)
-  part-some =
-      elim (settled_or_not R P b) [
-        | inl one ↦
-            subst (λ f. IsSome (code_found f)) (sym one.found)
-            (code-some R (generation R P one.recurrence.onset) one.recurrence.period one.recurrence.displacement)
-        | inr none ↦ absurd (none.nowhere 0 settles)
-      ]
-
-parts-some : (R : Rule) (b : ℕ) (parts : List Generation) → All (IsObject R b) parts
-    → Each IsSome (map (part_code R b) parts)
-parts-some R b [] h = tt
-parts-some R b (P ∷ parts) h =
-    (part-some R b P (All-head (IsObject R b) P parts h), parts-some R b parts (All-tail (IsObject R b) P parts h))
+  parts-some : (parts : List Generation) → ((P : Generation) → Contains parts P → RecursWithin R b P)
+      → Each IsSome (map (part_code R b) parts)
+  parts-some [] h = tt
+  parts-some (P ∷ parts) h =
+      (part-some P (h P (Contains-head P parts)), parts-some parts (λ Q one. h Q (Contains-later P Q parts one)))
 
 beside-some : (order : Ordering) (code : List ℕ) (part : Part) (parts rest : List Part)
     → IsSome code → Each IsCodedPart (part ∷ parts) → Each IsCodedPart rest → Each IsCodedPart (with_code_by_order order code part parts rest)
@@ -142,31 +125,35 @@ module _ (R : Rule) (G : Generation) (b : ℕ) (few : b ≤ objects_bound_limit)
       let most : size G ≤ 2 ^ 48 = few_cells G 0 (omega arith) (place_of 0 G within) in
       omega arith
 
-  ash-ranged : (parts : List Generation) → ash_of R b last ≡ Some parts
-      → IsRanged (Ash (ash_onset R G b) (counted_codes (map (part_code R b) parts)))
-  ash-ranged parts e =
+  ash-ranged : (near : Bool) (parts : List Generation) → ash_of R b last ≡ Some parts
+      → IsRanged (Ash (ash_onset R G b) (counted_parts near R b parts))
+  ash-ranged near parts e =
       let ash = ash_if_found R b last parts e in
-      let all = map (part_code R b) parts in
-      let most : length parts ≤ 2 ^ 48 = few_parts R b last parts ash b (omega arith) within_last in
+      let sets = counted_of near R b parts in
+      let all = map (part_code R (code_bound b)) sets in
+      let most : length sets ≤ 2 ^ 48 = few_counted R b near last parts ash b (omega arith) within_last in
       let counted : objects_in (counted_codes all) ≡ length all = counted_all all in
-      let long : length all ≡ length parts = length-map parts (part_code R b) in
+      let long : length all ≡ length sets = length-map sets (part_code R (code_bound b)) in
       let small : objects_in (counted_codes all) ≤ 2 ^ 48 = omega arith in
       let fits : objects_in (counted_codes all) < 2 ^ 64 = omega arith in
       let early : ash_onset R G b < 2 ^ 64 = let by_then = ash_onset-within R G b in omega arith in
-      (((early, fits, tt), counted-some all [] (parts-some R b parts ash.objects) tt), small)
+      let come : (Q : Generation) → Contains sets Q → RecursWithin R (code_bound b) Q =
+      λ Q one. counted_told R b near Q (counted_recurs R b near parts ash.objects Q one) in
+      (((early, (fits, tt)), counted-some all [] (parts-some R (code_bound b) sets come) tt), small)
 
-  found-ranged : (o : Option (List Generation)) → ash_of R b last ≡ o → IsRanged (census_found R b (ash_onset R G b) o)
-  found-ranged None e = ((tt, tt), omega arith)
-  found-ranged (Some parts) e = ash-ranged parts e
+  found-ranged : (near : Bool) (o : Option (List Generation)) → ash_of R b last ≡ o
+      → IsRanged (census_found near R b (ash_onset R G b) o)
+  found-ranged near None e = ((tt, tt), omega arith)
+  found-ranged near (Some parts) e = ash-ranged near parts e
 
-  census-ranged : IsRanged (census_of R G b)
+  census-ranged : (near : Bool) → IsRanged (census_of near R G b)
   unfolding census_of
-  census-ranged = found-ranged (ash_of R b last) refl
+  census-ranged near = found-ranged near (ash_of R b last) refl
 
-  finding-ranged : (limit : Option ℕ) → IsRangedAnswer (Found R (finding_to (Objects b limit) R G))
-  finding-ranged limit = (
+  finding-ranged : (limit : Option ℕ) (near : Bool) → IsRangedAnswer (Found R (finding_to (Objects b limit near) R G))
+  finding-ranged limit near = (
     population_fits,
-    unless-ranged (census_of R G b) (first_past limit R G (3 * b)) census-ranged
+    unless-ranged (census_of near R G b) (first_past limit R G (3 * b)) (census-ranged near)
         (λ n past. let early : n ≤ 3 * b = past_within R G limit (3 * b) n past in omega arith),
   )
 
@@ -185,9 +172,9 @@ fault-fits (TooMany at) = omega arith
 fault-fits NoEnd = omega arith
 fault-fits Memory = omega arith
 
-module _ (bound : ℕ) (limit : Option ℕ) (answered : IsAnswered (Objects bound limit)) where
+module _ (bound : ℕ) (limit : Option ℕ) (near : Bool) (answered : IsAnswered (Objects bound limit near)) where
   abbrev question : Question
-  question = Objects bound limit
+  question = Objects bound limit near
 
   body-ranged : (r : Rule) (ts : List Token) (o : Option RleFault) → first_fault [] ts ≡ o
       → IsRangedAnswer (answer_to question (picture_of (unless_fault o (record { rule = r; cells = cells_after [] ts }))))
@@ -197,7 +184,7 @@ module _ (bound : ℕ) (limit : Option ℕ) (answered : IsAnswered (Objects boun
       finding-ranged r (from_list (map cell_of_pair places)) bound answered.1
       (subst (All (IsWithin 0)) (sym (cells-from_list (map cell_of_pair places) (placed_rises 0 0 places rises)))
       (placed_within 0 0 places rises))
-      limit
+      limit near
   body-ranged r ts (Some fault) e = fault-fits fault
 
   rule-ranged : (r : Result Rule RleFault) (ts : List Token) → IsRangedAnswer (answer_to question (picture_of (with_body r ts)))
@@ -220,10 +207,10 @@ answer-told : (found : Answer) → IsRangedAnswer found → IsToldAnswer found
 answer-told (Found rule finding) h = (h.0, h.1.0)
 answer-told (Refused number) h = h
 
-pub objects_are_told : (bound : ℕ) (limit : Option ℕ) (text : List ℕ) → IsAnswered (Objects bound limit)
-    → IsToldAnswer (answer_to_question (Objects bound limit) text)
-objects_are_told bound limit text answered =
-    answer-told (answer_to_question (Objects bound limit) text) (text-ranged bound limit answered text)
+pub objects_are_told : (bound : ℕ) (limit : Option ℕ) (near : Bool) (text : List ℕ) → IsAnswered (Objects bound limit near)
+    → IsToldAnswer (answer_to_question (Objects bound limit near) text)
+objects_are_told bound limit near text answered =
+    answer-told (answer_to_question (Objects bound limit near) text) (text-ranged bound limit near answered text)
 
 -- ---- what is found of a bundle's patterns
 
@@ -245,20 +232,20 @@ all-told : (found : List Answer) → Each IsRangedAnswer found → Each IsToldAn
 all-told [] h = tt
 all-told (a ∷ found) h = (answer-told a h.0, all-told found h.1)
 
-module _ (bound : ℕ) (limit : Option ℕ) (answered : IsAnswered (Objects bound limit)) where
-  folder-told : (f : Folder) → length f.entries ≤ count_limit → IsToldFolder (Objects bound limit) f
+module _ (bound : ℕ) (limit : Option ℕ) (near : Bool) (answered : IsAnswered (Objects bound limit near)) where
+  folder-told : (f : Folder) → length f.entries ≤ count_limit → IsToldFolder (Objects bound limit near) f
   folder-told f small =
-      let found = answers (Objects bound limit) f.entries in
-      let each = each-map IsRangedAnswer (answer_to_entry (Objects bound limit)) (entry-ranged bound limit answered) f.entries in
+      let found = answers (Objects bound limit near) f.entries in
+      let each = each-map IsRangedAnswer (answer_to_entry (Objects bound limit near)) (entry-ranged bound limit near answered) f.entries in
       let most : length (objects found) ≤ 2 ^ 48 * length found = few-objects found each in
-      let long : length found ≡ length f.entries = length-map f.entries (answer_to_entry (Objects bound limit)) in
+      let long : length found ≡ length f.entries = length-map f.entries (answer_to_entry (Objects bound limit near)) in
       let fits : length (objects found) < 2 ^ 64 = omega arith in
       (all-told found each, fits)
 
   folders-told : (b : List Folder) → ((j : ℕ) (f : Folder) → slice_get b j ≡ Some f → length f.entries ≤ count_limit)
-      → InRange b (Objects bound limit)
+      → InRange b (Objects bound limit near)
   folders-told [] small = tt
   folders-told (f ∷ b) small = (folder-told f (small 0 f refl), folders-told b (λ j g. small (suc j) g))
 
-  pub objects_in_range : (b : List Folder) → IsWithinCounts b → InRange b (Objects bound limit)
+  pub objects_in_range : (b : List Folder) → IsWithinCounts b → InRange b (Objects bound limit near)
   objects_in_range b small = folders-told b small.entries

@@ -1,5 +1,5 @@
 -- The codes of answers begin as codes.
-use Rattle.std.proofs.Common.{◌≡◌, ℕ, zero, suc, ◌+◌, ◌-◌, ◌/◌, ◌%◌, ◌<◌, Bool, true, false, not, ◌&&◌, ◌||◌, ◌==◌, cond, eqb, leb, ltb, nat_eq, Option, Some, None as Nothing, List, [], ◌∷◌, ◌++◌, map, fold, length, length-append, position, take, codes, decimal, Ordering, Less, Equal, Greater, ap, ◌∙◌, sym, refl, arith, append_assoc}
+use Rattle.std.proofs.Common.{◌≡◌, ℕ, zero, suc, ◌+◌, ◌-◌, ◌/◌, ◌%◌, ◌<◌, Bool, true, false, not, ◌&&◌, ◌==◌, cond, eqb, leb, ltb, nat_eq, Option, Some, None as Nothing, List, [], ◌∷◌, ◌++◌, map, fold, length, length-append, position, take, codes, decimal, Ordering, Less, Equal, Greater, ap, ◌∙◌, refl, arith, append_assoc}
 use Rattle.std.specs.Prelude.{⊤}
 use Rattle.std.specs.Cmp.Lexicographic.{pointwise}
 use Rattle.std.specs.Fmt.{digit_glyph, digits, digits_onto}
@@ -10,7 +10,7 @@ use Rattle.std.proofs.lemmas.Slice.Eq.{slice_eq-Decides}
 use Rattle.census_readback.specs.Codes.{CodeStart, code_start, is_code, is_code_after, is_start, on_start, start_at, tells}
 use Rattle.life_answer.proofs.Findings.{first_from-found}
 use Rattle.life_answer.specs.Answers.{outcome_at, outcome_from, outcome_of}
-use Rattle.life_answer.specs.Apgcode.{bodies, code_of, prefix}
+use Rattle.life_answer.specs.Apgcode.{bodies, code_of}
 use Rattle.life_answer.specs.Census.{code_found, part_code}
 use Rattle.life_answer.specs.Parts.{counted_codes, with_code, with_code_by_order}
 use Rattle.life_answer.specs.Recurrence.{comes_again, corners_apart, first_onset, first_return}

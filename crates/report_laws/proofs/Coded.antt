@@ -8,6 +8,7 @@ use Rattle.census_bundle.specs.declared.bundle.Entry.{Entry}
 use Rattle.census_format.specs.Lines.{answer_to_entry, answers}
 use Rattle.census_format.specs.Objects.{Object, distinct_elements, object, objects, outcome_objects, part_objects, tally}
 use Rattle.life_answer.specs.Answers.{outcome_at, outcome_from, outcome_of}
+use Rattle.life_answer.specs.Counted.{code_bound, counted_of}
 use Rattle.life_answer.specs.Census.{ash_onset, census_found, census_of, code_found, part_code, parts_found}
 use Rattle.life_answer.specs.Limited.{unless_large}
 use Rattle.life_answer.specs.Parts.{with_code_by_order, with_code}
@@ -77,14 +78,17 @@ counted-solid : (codes : List (List ℕ)) (parts : List Part) → Each IsSolid c
 counted-solid [] parts h k = k
 counted-solid (code ∷ codes) parts h k = counted-solid codes (with_code code parts) h.1 (with-solid code parts h.0 k)
 
-census-found-coded : (R : Rule) (b onset : ℕ) (parts : Option (List Generation)) → IsCoded (census_found R b onset parts)
-census-found-coded R b onset None = tt
-census-found-coded R b onset (Some parts) =
-    counted-solid (map (part_code R b) parts) [] (each-map IsSolid (part_code R b) (λ P. found-solid (outcome_of R P b) (outcome-coded R P b)) parts) tt
+census-found-coded : (near : Bool) (R : Rule) (b onset : ℕ) (objects : Option (List Generation))
+    → IsCoded (census_found near R b onset objects)
+census-found-coded near R b onset None = tt
+census-found-coded near R b onset (Some objects) =
+    let sets = counted_of near R b objects in
+    let c = code_bound b in
+    counted-solid (map (part_code R c) sets) [] (each-map IsSolid (part_code R c) (λ P. found-solid (outcome_of R P c) (outcome-coded R P c)) sets) tt
 
-census-coded : (R : Rule) (G : Generation) (b : ℕ) → IsCoded (census_of R G b)
+census-coded : (near : Bool) (R : Rule) (G : Generation) (b : ℕ) → IsCoded (census_of near R G b)
 unfolding census_of
-census-coded R G b = census-found-coded R b (ash_onset R G b) (ash_of R b (generation R G b))
+census-coded near R G b = census-found-coded near R b (ash_onset R G b) (ash_of R b (generation R G b))
 
 unless-coded : (outcome : Outcome) (large : Option ℕ) → IsCoded outcome → IsCoded (unless_large outcome large)
 unless-coded outcome None h = h
@@ -92,7 +96,7 @@ unless-coded outcome (Some n) h = tt
 
 outcome-to-coded : (question : Question) (R : Rule) (G : Generation) → IsCoded (outcome_to question R G)
 outcome-to-coded (Settles bound cells) R G = unless-coded (outcome_of R G bound) _ (outcome-coded R G bound)
-outcome-to-coded (Objects bound cells) R G = unless-coded (census_of R G bound) _ (census-coded R G bound)
+outcome-to-coded (Objects bound cells near) R G = unless-coded (census_of near R G bound) _ (census-coded near R G bound)
 
 answer-to-coded : (question : Question) (read : Result Picture RleFault) → IsCodedAnswer (answer_to question read)
 answer-to-coded question (Ok pattern) = outcome-to-coded question pattern.rule pattern.cells

@@ -29,7 +29,7 @@ fields_of (suc n) text = first text ∷ fields_of n (after text)
 -- how many fields follow the word of a line, by what a `line` line finds
 abbrev line_size : List ℕ → ℕ
 line_size found =
-    cond (bytes_eq found (codes "ok")) 11 (cond (bytes_eq found (codes "ash")) 7 (cond (bytes_eq found (codes "none")) 6 (cond (bytes_eq found (codes "large")) 7 5)))
+    cond (bytes_eq found (codes "ok")) 11 (cond (bytes_eq found (codes "ash")) 8 (cond (bytes_eq found (codes "none")) 6 (cond (bytes_eq found (codes "large")) 7 5)))
 
 abbrev size : List ℕ → List ℕ → ℕ
 size word found =

@@ -28,6 +28,7 @@ use Rattle.census_rows.specs.declared.kinds.Label.TheVariants as label
 use Rattle.census_rows.specs.Kinds.{Said, said, value_at}
 use Rattle.life_answer.specs.Answers.{outcome_at, outcome_from}
 use Rattle.life_answer.specs.Answers as answers
+use Rattle.life_answer.specs.Counted.{code_bound, counted_of}
 use Rattle.life_answer.specs.Census.{ash_onset, census_found, census_of, part_code, parts_found}
 use Rattle.life_answer.specs.Limited.{unless_large}
 use Rattle.life_answer.specs.Parts.{objects_in, with_code, with_code_by_order}
@@ -84,7 +85,7 @@ told-then t v (x ∷ xs) ys h =
 -- a line is told of the other question
 abbrev is_mixed : Question → Told → Bool
 is_mixed (Settles bound cells) t = t.falls_apart
-is_mixed (Objects bound cells) t = t.recurs
+is_mixed (Objects bound cells near) t = t.recurs
 
 -- all objects of the last line are told, and no line is of the other question
 abbrev IsCalm : Question → Told → Type 0
@@ -145,7 +146,7 @@ part-fits t c code count owner few later =
 
 still : (question : Question) (t : Told) (left : ℕ) (last : List ℕ) → is_mixed question t ≡ false → is_mixed question (record t { left = left; last = last }) ≡ false
 still (Settles bound cells) t left last h = h
-still (Objects bound cells) t left last h = h
+still (Objects bound cells near) t left last h = h
 
 parts-told : (question : Question) (c i : ℕ) (parts : List part.Part) (t : Told) → t.collection ≡ c → t.left ≡ objects_in parts → is_mixed question t ≡ false
     → Rise (Some t.last) parts → Each IsLawfulPart parts → Passes question t (map (part_row c i) parts)
@@ -204,8 +205,8 @@ all-counted (code ∷ codes) parts h = all-counted codes (with_code code parts) 
 -- what is found answers the question, and its parts stand in the order of their codes
 abbrev IsFair : Question → Outcome → Type 0
 IsFair (Settles bound cells) (Ash onset parts) = ⊥
-IsFair (Objects bound cells) (Recurs onset period dx dy code) = ⊥
-IsFair (Objects bound cells) (Ash onset parts) = Rise Nothing parts × Each IsCounted parts × Each IsCodePart parts
+IsFair (Objects bound cells near) (Recurs onset period dx dy code) = ⊥
+IsFair (Objects bound cells near) (Ash onset parts) = Rise Nothing parts × Each IsCounted parts × Each IsCodePart parts
 IsFair (Settles bound cells) (Recurs onset period dx dy code) = is_code_after (not (same_cell (dx, dy) origin)) period code ≡ true
 IsFair question _ = ⊤
 
@@ -235,23 +236,27 @@ by-recurrence bound cells (Large n) whole h = tt
 settled-fair : (bound : ℕ) (cells : Option ℕ) (R : Rule) (G : Generation) (b : ℕ) → IsFair (Settles bound cells) (answers.outcome_of R G b)
 settled-fair bound cells R G b = by-recurrence bound cells (answers.outcome_of R G b) (settled-whole R G b) (recurrence-told R G b)
 
-census-found-fair : (bound : ℕ) (cells : Option ℕ) (R : Rule) (b onset : ℕ) (parts : Option (List Generation)) → IsFair (Objects bound cells) (census_found R b onset parts)
-census-found-fair bound cells R b onset Nothing = tt
-census-found-fair bound cells R b onset (Some parts) =
-    (rise-counted (map (part_code R b) parts) [] tt, all-counted (map (part_code R b) parts) [] tt, parts-told-codes R b parts)
+census-found-fair : (bound : ℕ) (cells : Option ℕ) (near : Bool) (R : Rule) (b onset : ℕ) (objects : Option (List Generation))
+    → IsFair (Objects bound cells near) (census_found near R b onset objects)
+census-found-fair bound cells near R b onset Nothing = tt
+census-found-fair bound cells near R b onset (Some objects) =
+    let sets = counted_of near R b objects in
+    let c = code_bound b in
+    (rise-counted (map (part_code R c) sets) [] tt, all-counted (map (part_code R c) sets) [] tt, parts-told-codes R c sets)
 
-census-fair : (bound : ℕ) (cells : Option ℕ) (R : Rule) (G : Generation) (b : ℕ) → IsFair (Objects bound cells) (census_of R G b)
+census-fair : (bound : ℕ) (cells : Option ℕ) (near : Bool) (R : Rule) (G : Generation) (b : ℕ)
+    → IsFair (Objects bound cells near) (census_of near R G b)
 unfolding census_of
-census-fair bound cells R G b = census-found-fair bound cells R b (ash_onset R G b) (ash_of R b (generation R G b))
+census-fair bound cells near R G b = census-found-fair bound cells near R b (ash_onset R G b) (ash_of R b (generation R G b))
 
 unless-fair : (question : Question) (outcome : Outcome) (large : Option ℕ) → IsFair question outcome → IsFair question (unless_large outcome large)
 unless-fair question outcome Nothing h = h
 unless-fair (Settles bound cells) outcome (Some n) h = tt
-unless-fair (Objects bound cells) outcome (Some n) h = tt
+unless-fair (Objects bound cells near) outcome (Some n) h = tt
 
 outcome-fair : (question : Question) (R : Rule) (G : Generation) → IsFair question (outcome_to question R G)
 outcome-fair (Settles bound cells) R G = unless-fair (Settles bound cells) (answers.outcome_of R G bound) _ (settled-fair bound cells R G bound)
-outcome-fair (Objects bound cells) R G = unless-fair (Objects bound cells) (census_of R G bound) _ (census-fair bound cells R G bound)
+outcome-fair (Objects bound cells near) R G = unless-fair (Objects bound cells near) (census_of near R G bound) _ (census-fair bound cells near R G bound)
 
 abbrev IsFairAnswer : Question → Answer → Type 0
 IsFairAnswer question (Found rule finding) = IsFair question finding.outcome
@@ -278,7 +283,7 @@ entry-fair question e =
 -- the outcome answers the question, if it has found
 abbrev Suits : Question → Said → Type 0
 Suits (Settles bound cells) what = what.has_parts ≡ false
-Suits (Objects bound cells) what = has_code what ≡ false
+Suits (Objects bound cells near) what = has_code what ≡ false
 
 not-both : (a : Bool) → not (a && false) ≡ true
 not-both true = refl
@@ -314,7 +319,7 @@ lined (Settles bound cells) t c what calm suits =
       left = refl;
       last = refl;
     }
-lined (Objects bound cells) t c what calm suits =
+lined (Objects bound cells near) t c what calm suits =
     let falls_apart = t.falls_apart || what.has_parts in
     let code : (t.recurs || has_code what) ≡ false = ap (λ b. b || has_code what) calm.1 ∙ suits in
     record {
@@ -363,13 +368,13 @@ outcome-told (Settles bound cells) c i rule population Unresolved name even name
 outcome-told (Settles bound cells) c i rule population (Large n) name even named range fair =
     line-told (Settles bound cells) c i (row_outcome rule population (Large n)) name [] (named-line rule name even named) refl refl tt tt
 outcome-told (Settles bound cells) c i rule population (Ash onset parts) name even named range fair = absurd fair
-outcome-told (Objects bound cells) c i rule population (Recurs onset period dx dy code) name even named range fair = absurd fair
-outcome-told (Objects bound cells) c i rule population Unresolved name even named range fair =
-    line-told (Objects bound cells) c i (row_outcome rule population Unresolved) name [] (named-line rule name even named) refl refl tt tt
-outcome-told (Objects bound cells) c i rule population (Large n) name even named range fair =
-    line-told (Objects bound cells) c i (row_outcome rule population (Large n)) name [] (named-line rule name even named) refl refl tt tt
-outcome-told (Objects bound cells) c i rule population (Ash onset parts) name even named range fair =
-    line-told (Objects bound cells) c i (row_outcome rule population (Ash onset parts)) name parts (named-line rule name even named) refl refl (rise-some parts fair.0 range.1) (parts-lawful parts fair.1 fair.2 range.1)
+outcome-told (Objects bound cells near) c i rule population (Recurs onset period dx dy code) name even named range fair = absurd fair
+outcome-told (Objects bound cells near) c i rule population Unresolved name even named range fair =
+    line-told (Objects bound cells near) c i (row_outcome rule population Unresolved) name [] (named-line rule name even named) refl refl tt tt
+outcome-told (Objects bound cells near) c i rule population (Large n) name even named range fair =
+    line-told (Objects bound cells near) c i (row_outcome rule population (Large n)) name [] (named-line rule name even named) refl refl tt tt
+outcome-told (Objects bound cells near) c i rule population (Ash onset parts) name even named range fair =
+    line-told (Objects bound cells near) c i (row_outcome rule population (Ash onset parts)) name parts (named-line rule name even named) refl refl (rise-some parts fair.0 range.1) (parts-lawful parts fair.1 fair.2 range.1)
 
 answer-told : (question : Question) (c i : ℕ) (found : Answer) (name : List ℕ) → is_name name ≡ true → IsEvenAnswer found → IsToldAnswer found → IsFairAnswer question found
     → IsTold question (pattern_row c i found name ∷ part_rows c i found)
@@ -377,8 +382,8 @@ answer-told question c i (Found rule finding) name named even range fair =
     outcome-told question c i rule finding.population finding.outcome name even named range.1 fair
 answer-told (Settles bound cells) c i (Refused number) name named even range fair =
     line-told (Settles bound cells) c i (outcome_of (Refused number)) name [] named refl refl tt tt
-answer-told (Objects bound cells) c i (Refused number) name named even range fair =
-    line-told (Objects bound cells) c i (outcome_of (Refused number)) name [] named refl refl tt tt
+answer-told (Objects bound cells near) c i (Refused number) name named even range fair =
+    line-told (Objects bound cells near) c i (outcome_of (Refused number)) name [] named refl refl tt tt
 
 -- ---- sections
 
@@ -425,8 +430,8 @@ parts-coded rule (p ∷ parts) h =
 outcome-coded : (question : Question) (rule : Rule) (outcome : Outcome) → IsFair question outcome → Each IsCodeObject (outcome_objects rule outcome)
 outcome-coded (Settles bound cells) rule (Recurs onset period dx dy code) h = ((λ some. after-code (not (same_cell (dx, dy) origin)) period code h), tt)
 outcome-coded (Settles bound cells) rule (Ash onset parts) h = absurd h
-outcome-coded (Objects bound cells) rule (Recurs onset period dx dy code) h = absurd h
-outcome-coded (Objects bound cells) rule (Ash onset parts) h = parts-coded rule parts h.2
+outcome-coded (Objects bound cells near) rule (Recurs onset period dx dy code) h = absurd h
+outcome-coded (Objects bound cells near) rule (Ash onset parts) h = parts-coded rule parts h.2
 outcome-coded question rule Unresolved h = tt
 outcome-coded question rule (Large n) h = tt
 
@@ -505,7 +510,7 @@ groups-told question (l ∷ ls) h t calm =
 
 calm-first : (question : Question) → IsCalm question nothing_told
 calm-first (Settles bound cells) = (refl, refl)
-calm-first (Objects bound cells) = (refl, refl)
+calm-first (Objects bound cells near) = (refl, refl)
 
 -- the rows of a bundle's report tell what rows of a report tell
 pub report-tells : (b : List Folder) (question : Question) (groups : List Owned) (n k : ℕ) → IsBundle b → InRange b question

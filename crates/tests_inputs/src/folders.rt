@@ -2,7 +2,7 @@
 
 use crate::memory::{Leaf, Memory};
 use crate::shown::{Shown, check};
-use crate::stopped::{below, check_stop, plain, read};
+use crate::stopped::{below, plain, read, stops_so};
 use census_folders::OnLoss;
 use std::alloc::Global;
 use std::fs;
@@ -43,16 +43,10 @@ fn a_folder_of_the_system_is_read(rt: HostRuntime) -> Result<(), Fail> {
     fs::create_dir(&rt, "worked_inputs_folder/c.rle")?;
     const FILE: &[u8] = b"worked_inputs_folder/c.rle";
     let source = plain(&[FOLDER], None);
-    check_stop(&rt, rt.alloc(), &rt, source, "read failed", FILE);
+    assert!(rt; stops_so(rt.alloc(), &rt, source, "read failed", FILE));
     fs::remove_dir_all(&rt, FOLDER)?;
-    check_stop(
-        &rt,
-        rt.alloc(),
-        &rt,
-        source,
-        "read failed",
-        FOLDER.as_bytes(),
-    );
+    let path = FOLDER.as_bytes();
+    assert!(rt; stops_so(rt.alloc(), &rt, source, "read failed", path));
     Ok(())
 }
 
@@ -161,7 +155,7 @@ fn the_first_failure_decides(rt: HostRuntime) {
     ];
     let shelf = Memory { leaves: LEAVES };
     for (words, name, path) in CASES {
-        check_stop(&rt, rt.alloc(), &shelf, plain(words, None), name, path);
+        assert!(rt; stops_so(rt.alloc(), &shelf, plain(words, None), name, path));
     }
 }
 
@@ -274,7 +268,7 @@ fn folders_below_a_word_of_a_shelf_in_memory_are_told(rt: HostRuntime) -> Result
     for (word, path) in ENDS {
         let words = &[*word];
         let source = below(words, OnLoss::Stop);
-        check_stop(&rt, rt.alloc(), &shelf, source, "read failed", path);
+        assert!(rt; stops_so(rt.alloc(), &shelf, source, "read failed", path));
     }
     Ok(())
 }

@@ -18,4 +18,4 @@ mod stopped;
 mod trees;
 
 pub use memory::{Leaf, Memory};
-pub use stopped::{below, check_stop, plain, read};
+pub use stopped::{below, plain, read, stops_so};

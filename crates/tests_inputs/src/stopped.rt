@@ -2,7 +2,6 @@
 
 use census_folders::{Cause, Kept, OnLoss, Shelf, Source, SourceFault, read_source};
 use std::alloc::Global;
-use std::process::Abort;
 
 /// The folders of these words, up to the first loss.
 pub fn plain<'r, 'a>(words: &'r [&'a str], limit: Option<u64>) -> Source<'r, 'a> {
@@ -43,6 +42,14 @@ fn name_of(fault: &SourceFault) -> &'static str {
     }
 }
 
+// The path of what is lost, and an empty one where nothing is.
+fn path_of(fault: &SourceFault) -> &[u8] {
+    match fault {
+        SourceFault::Lost(loss) => loss.path.as_slice(),
+        _ => b"",
+    }
+}
+
 /// What is read, or what the program calls the fault.
 pub fn read<S: Shelf>(
     shelf: &S,
@@ -56,22 +63,15 @@ pub fn read<S: Shelf>(
 }
 
 /// Whether reading ends so, and at what has this path.
-pub fn check_stop<S: Shelf>(
-    rt: &impl Abort,
+pub fn stops_so<S: Shelf>(
     alloc: Global,
     shelf: &S,
     source: Source<'_, '_>,
     name: &str,
     path: &[u8],
-) {
+) -> bool {
     match read_source(shelf, alloc, source) {
-        Err(fault) => {
-            assert!(rt; name_of(&fault) == name);
-            match fault {
-                SourceFault::Lost(loss) => assert!(rt; loss.path.as_slice() == path),
-                _ => assert!(rt; path.is_empty()),
-            }
-        }
-        Ok(_) => assert!(rt; false),
+        Err(fault) => name_of(&fault) == name && path_of(&fault) == path,
+        Ok(_) => false,
     }
 }

@@ -3,7 +3,7 @@
 use crate::folders::leaf;
 use crate::keeping::{Gone, check_lost};
 use crate::memory::{Leaf, Memory};
-use crate::stopped::{below, check_stop, read};
+use crate::stopped::{below, read, stops_so};
 use census_folders::{Losses, OnLoss, Shelf};
 use std::alloc::Global;
 use std::fs;
@@ -114,7 +114,7 @@ fn a_walk_ends_at_the_first_that_cant_be_told(rt: HostRuntime) {
     ];
     for (words, path) in ENDS {
         let source = below(words, OnLoss::Stop);
-        check_stop(&rt, rt.alloc(), &shelf, source, "read failed", path);
+        assert!(rt; stops_so(rt.alloc(), &shelf, source, "read failed", path));
     }
 }
 

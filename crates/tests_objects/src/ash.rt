@@ -52,6 +52,32 @@ const LIGHTS: &[(i32, i32)] = &[
     (3, 10),
 ];
 
+// Two blocks beside each other.
+const BESIDE: &[(i32, i32)] = &[
+    (0, 0),
+    (1, 0),
+    (3, 0),
+    (4, 0),
+    (0, 1),
+    (1, 1),
+    (3, 1),
+    (4, 1),
+];
+
+// Two gliders abreast.
+const ABREAST: &[(i32, i32)] = &[
+    (1, 0),
+    (6, 0),
+    (2, 1),
+    (7, 1),
+    (0, 2),
+    (1, 2),
+    (2, 2),
+    (5, 2),
+    (6, 2),
+    (7, 2),
+];
+
 // A glider that vanishes with a block, and a block far off.
 const VANISHING: &[(i32, i32)] = &[
     (1, 0),
@@ -183,6 +209,17 @@ fn is_found(finding: &Finding, expected: Option<Told>) -> bool {
     }
 }
 
+// Patterns of which the independent parts are counted.
+const CASES_OF_PARTS: &[Case] = &[
+    (APART, 4, Some((0, &[("xs4_33", 1), ("xq4_153", 1)]))),
+    (MEETING, 10, None),
+    (TEE, 30, Some((9, &[("xp2_7", 4)]))),
+    (LIGHTS, 20, Some((0, &[("xp2_7", 4)]))),
+    (BESIDE, 1, Some((0, &[("xs4_33", 2)]))),
+    (ABREAST, 4, Some((0, &[("xq4_153", 2)]))),
+    (FARMING, 102, Some((102, &[("xs4_33", 1), ("xs6_696", 4)]))),
+];
+
 // Patterns that become ash soon after the bound, or have become it just then.
 const CASES_ABOUT_THE_BOUND: &[Case] = &[
     (VANISHING, 60, None),
@@ -225,25 +262,31 @@ fn have_their_ash_under(
     rt: &impl Abort,
     alloc: Global,
     rule: &Rule,
+    near: bool,
     cases: &[Case],
 ) -> Result<(), Fail> {
     for (cells, bound, expected) in cases {
         let list = CellList::of(alloc, cells)?;
         assert!(rt; list.fits());
         assert!(rt; 1 <= *bound && *bound <= 100_000);
-        let found = census::<ListPlane>(alloc, rule, &list, *bound, None)?;
+        let found = census::<ListPlane>(alloc, rule, &list, *bound, None, near)?;
         assert!(rt; is_found(&found, *expected));
     }
     Ok(())
 }
 
 fn have_their_ash(rt: &impl Abort, alloc: Global, cases: &[Case]) -> Result<(), Fail> {
-    have_their_ash_under(rt, alloc, &Rule::life(), cases)
+    have_their_ash_under(rt, alloc, &Rule::life(), true, cases)
 }
 
 #[test]
 fn patterns_have_their_ash(rt: HostRuntime) -> Result<(), Fail> {
     have_their_ash(&rt, rt.alloc(), CASES)
+}
+
+#[test]
+fn independent_parts_are_counted(rt: HostRuntime) -> Result<(), Fail> {
+    have_their_ash_under(&rt, rt.alloc(), &Rule::life(), false, CASES_OF_PARTS)
 }
 
 #[test]
@@ -263,11 +306,18 @@ fn the_gun_has_none(rt: HostRuntime) -> Result<(), Fail> {
 
 #[test]
 fn what_grows_has_none(rt: HostRuntime) -> Result<(), Fail> {
-    have_their_ash_under(&rt, rt.alloc(), &Rule::parse(b"B2/S")?, CASES_OF_GROWTH)?;
+    have_their_ash_under(
+        &rt,
+        rt.alloc(),
+        &Rule::parse(b"B2/S")?,
+        true,
+        CASES_OF_GROWTH,
+    )?;
     have_their_ash_under(
         &rt,
         rt.alloc(),
         &Rule::parse(b"B36/S23")?,
+        true,
         CASES_OF_THE_REPLICATOR,
     )
 }
@@ -333,7 +383,8 @@ fn blocks_in_a_grid_have_their_ash(rt: HostRuntime) -> Result<(), Fail> {
             let list = CellList::of(rt.alloc(), cells)?;
             assert!(rt; list.fits());
             assert!(rt; 1 <= *bound && *bound <= 100_000);
-            let found = census::<ListPlane>(rt.alloc(), &Rule::life(), &list, *bound, None)?;
+            let found =
+                census::<ListPlane>(rt.alloc(), &Rule::life(), &list, *bound, None, true)?;
             assert!(rt; is_found(&found, *expected));
         }
     }

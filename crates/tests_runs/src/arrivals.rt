@@ -123,14 +123,22 @@ fn answers_to_another_question_are_strangers(rt: HostRuntime) -> Result<(), Fail
     let asked = Question::Objects {
         bound: 10,
         cells: None,
+        near: true,
     };
     let within_less = Question::Objects {
         bound: 9,
         cells: None,
+        near: true,
     };
     let limited = Question::Objects {
         bound: 10,
         cells: Some(4),
+        near: true,
+    };
+    let of_parts = Question::Objects {
+        bound: 10,
+        cells: None,
+        near: false,
     };
     let bundle = two_folders(rt.alloc())?;
     let mut collector = Collector::new(rt.alloc(), &bundle, asked)?;
@@ -140,6 +148,7 @@ fn answers_to_another_question_are_strangers(rt: HostRuntime) -> Result<(), Fail
         (SETTLES, Offer::Stranger),
         (within_less, Offer::Stranger),
         (limited, Offer::Stranger),
+        (of_parts, Offer::Stranger),
         (asked, Offer::Taken),
     ] {
         let done = Done::work(rt.alloc(), ticket, entry, question)?;

@@ -3,8 +3,8 @@ use Rattle.life_tales.proofs.what_is_reported_is_right.Goals as goal
 
 pub returns : goal.returns
 returns c = record {
-  grows = λ limit R b d G S Es. growing_reported limit R G b d Es S;
-  only = λ limit R b G. reported_growing limit R G b;
-  lasts = λ limit R b d G. growing_lasts limit R G b d;
-  otherwise = λ limit R b G. reported_otherwise limit R G b;
+  grows = λ near limit R b d G S Es. growing_reported near limit R G b d Es S;
+  only = λ near limit R b G. reported_growing near limit R G b;
+  lasts = λ near limit R b d G. growing_lasts near limit R G b d;
+  otherwise = λ near limit R b G. reported_otherwise near limit R G b;
 }

@@ -8,7 +8,7 @@ use Rattle.census_reports.proofs.form.write_table.Goals as goal
 pub returns-in_err-told-in-Ok : goal.returns-in_err-told-in-Ok
 returns-in_err-told-in-Ok g c =
     let contents = g.O.Write.contents in
-    let p = err_from_is_err_and c.from_residual.result c.from_residual.ensures.1 in
+    let p = err_from_is_err_and c.from_residual-in_err-told-in-Ok.result c.from_residual-in_err-told-in-Ok.ensures.1 in
     rw (p.1, p.2)
     (inr (table_halted c.args.subject c.args.format c.args.rows.now (listing_of c.in_ok-table.table) c.in_ok-table.ensures (sheet contents c.new-block.result c.args.output.now)
     (sheet contents c.put_listing-told.new.block c.put_listing-told.new.writer) (sheet contents c.send.new.block c.send.new.writer)

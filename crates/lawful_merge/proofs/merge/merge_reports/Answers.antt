@@ -1,6 +1,5 @@
 use Rattle.std.proofs.Common.{[], map}
 use Rattle.std.proofs.lemmas.Result.{on_ok_weaker}
-use Rattle.census_reports.specs.Streams.{streams}
 use Rattle.lawful_merge.proofs.Read.{merges_lawfully}
 use Rattle.lawful_merge.proofs.merge.merge_reports.Goals as goal
 
