@@ -1,5 +1,5 @@
 -- What `run` reads and writes, and what each of its errors says.
-use Rattle.std.specs.Prelude.{◌≡◌, ◌⊎◌, ℕ, Bool, true, false, List, Option}
+use Rattle.std.specs.Prelude.{◌≡◌, ◌⊎◌, ℕ, Bool, true, false, List}
 use Rattle.census_bundle.specs.declared.bundle.Folder.{Folder}
 use Rattle.census_crew.specs.Bytes.{ReadsFault, ReadsFolders}
 use Rattle.census_crew.specs.Writing.{WritesPrefix, WritesReport}

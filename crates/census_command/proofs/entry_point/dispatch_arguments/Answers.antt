@@ -1,4 +1,5 @@
-use Rattle.std.proofs.Common.{inr, refl}
+use Rattle.std.proofs.Common.{List, ℕ, inr, map, string_bytes, refl, ap, subst, ◌∙◌}
+use Rattle.census_command.specs.Outcomes.{Outcome}
 use Rattle.census_command.proofs.Outcomes.{ends_unread}
 use Rattle.census_command.proofs.entry_point.dispatch_arguments.Goals as goal
 
@@ -10,3 +11,9 @@ pub returns-in_default-borrowed_words : goal.returns-in_default-borrowed_words
 returns-in_default-borrowed_words g c =
     inr (inr (inr (ends_unread _ _ _ _ _ _ _ c.stop-in_default-borrowed_words.ensures.status (record { unread = refl; written = refl; sound = c.requires.streams })
     c.stop-in_default-borrowed_words.ensures.line)))
+
+pub returns : goal.returns
+returns g c =
+    let words = ap (map (λ s. s.now)) c.as_slice-2.ensures.value ∙ c.in-Ok-borrowed_words.ensures ∙ ap (map string_bytes) (c.as_slice.ensures.value ∙ c.in-Ok.ensures) in
+    subst (λ (words : List (List ℕ)). Outcome (g.S.Shelf.tellings c.args.shelf.now) words c.dispatch.result c.args.streams.now c.dispatch.new.streams c.args.errors.now c.dispatch.new.errors)
+    words c.dispatch.ensures

@@ -1,11 +1,27 @@
-use Rattle.std.proofs.Common.{List, ℕ, inl, inr, refl, ap, subst, ◌∙◌, ◌≡◌}
+use Rattle.std.proofs.Common.{List, ℕ, ◌++◌, None, inl, inr, refl, ap, subst, ◌∙◌, ◌≡◌}
 use Rattle.census_folders.specs.Sources.{Reads}
-use Rattle.census_command.specs.Keeps.{cut_lines, lost_lines}
+use Rattle.census_command.specs.Keeps.{StopsKeeping, cut_lines, lost_lines}
 use Rattle.census_errors.specs.ErrorStreams.{TellsMoreText, TellsText}
-use Rattle.census_errors.proofs.Said.{told_after}
+use Rattle.census_errors.specs.Messages.{error_line}
+use Rattle.census_errors.specs.Sayings.{run_fault, run_spot, said_if}
+use Rattle.census_errors.specs.declared.error.CommandError.TheVariants as command
+use Rattle.census_errors.proofs.Said.{says_line, told_after}
 use Rattle.census_command.proofs.Kept.{status_kept}
 use Rattle.census_command.proofs.Reports.{is_cut}
 use Rattle.census_command.proofs.keeping.keep_going.Goals as goal
+
+pub returns-in-Err : goal.returns-in-Err
+returns-in-Err g c =
+    let shelf = g.S.Shelf.tellings c.args.shelf.now in
+    let error = c.in-Err.error in
+    let line = says_line (run_fault error) None (run_spot error) c.run_saying-saying.result c.run_saying-saying.ensures in
+    inr (inr (record {
+      error = error;
+      why = subst (λ a. StopsKeeping shelf a error) c.source.ensures.asked c.in-Err.ensures;
+      untouched = record { unread = refl; written = refl; sound = c.requires.sound };
+      told = subst (λ (l : List ℕ). TellsText (error_line (command.Run error) ++ said_if c.args.explain l) c.args.errors.now c.stop_saying.new.errors) line c.stop_saying.ensures.lines;
+      status_is = c.stop_saying.ensures.status;
+    }))
 
 pub returns-in-Ok-report : goal.returns-in-Ok-report
 returns-in-Ok-report g c =

@@ -1,6 +1,5 @@
 use Rattle.std.proofs.Common.{refl, ap, ◌∙◌, subst, inl, inr}
 use Rattle.census_folders.specs.Sources.{Reads, Stops}
-use Rattle.census_command.specs.Runs.{FailsInFolders, ReportsFoldersInPart}
 use Rattle.census_command.specs.Asking.{plain_folders}
 use Rattle.census_command.proofs.Reports.{folders_fail, folders_stop}
 use Rattle.census_command.proofs.running.run_folders.Goals as goal
