@@ -383,8 +383,7 @@ fn blocks_in_a_grid_have_their_ash(rt: HostRuntime) -> Result<(), Fail> {
             let list = CellList::of(rt.alloc(), cells)?;
             assert!(rt; list.fits());
             assert!(rt; 1 <= *bound && *bound <= 100_000);
-            let found =
-                census::<ListPlane>(rt.alloc(), &Rule::life(), &list, *bound, None, true)?;
+            let found = census::<ListPlane>(rt.alloc(), &Rule::life(), &list, *bound, None, true)?;
             assert!(rt; is_found(&found, *expected));
         }
     }
