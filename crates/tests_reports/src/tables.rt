@@ -150,13 +150,13 @@ line 1 3 ok B3/S23 4 0 1 0 0 xs4_33 r
 close 1 3 2 1 0
 end 1 3
 open 1 3 b,c
-line 1 1 ash B3/S23 9 4 q
+line 1 1 ash B3/S23 9 0 4 q
 part 1 1 xp2_7 3
 part 1 1 xs4_33 1
-line 1 2 ash B3/S23 8 6 s
+line 1 2 ash B3/S23 8 0 6 s
 part 1 2 xp2_7 1
 part 1 2 xq4_153 5
-line 1 3 ash B3/S3 4 1 u
+line 1 3 ash B3/S3 4 0 1 u
 part 1 3 xs4_33 1
 close 1 3 3 0 0
 end 1 3
@@ -214,7 +214,7 @@ fn codes_are_told_as_tables(rt: HostRuntime) -> Result<(), AllocError> {
 #[test]
 fn counts_of_codes_end_at_64_bits(rt: HostRuntime) -> Result<(), AllocError> {
     const LARGE: &[u8] = b"open 1 1 a
-line 1 1 ash B3/S23 9 18446744073709551615 p
+line 1 1 ash B3/S23 9 0 18446744073709551615 p
 part 1 1 xs4_33 18446744073709551615
 close 1 1 1 0 0
 end 1 1
@@ -224,7 +224,10 @@ close 1 1 1 0 0
 end 1 1
 ";
     let csv = table_by(rt.alloc(), Subject::Codes, Format::Csv, LARGE)?;
-    assert!(rt; &csv.as_slice()[58..] == b"B3/S23,xs4_33,18446744073709551615,2,a,p\n".as_slice());
+    assert!(rt;
+        csv.as_slice()
+            .ends_with(b"\nB3/S23,xs4_33,18446744073709551615,2,a,p\n")
+    );
     Ok(())
 }
 
@@ -236,7 +239,7 @@ fn many_parts_of_one_collection(rt: HostRuntime) -> Result<(), Fail> {
     for pattern in 1..=700 {
         write!(
             report,
-            "line 1 {} ash B3/S23 5 1 p\npart 1 {} xp2_7 1\n",
+            "line 1 {} ash B3/S23 5 0 1 p\npart 1 {} xp2_7 1\n",
             pattern, pattern
         )?;
         write!(wanted, "1,x,{},p,B3/S23,xp2_7,1\n", pattern)?;
@@ -245,6 +248,6 @@ fn many_parts_of_one_collection(rt: HostRuntime) -> Result<(), Fail> {
     let csv = table_by(alloc, Subject::Parts, Format::Csv, report.as_bytes())?;
     assert!(rt; csv.as_slice() == wanted.as_bytes());
     let codes = table_by(alloc, Subject::Codes, Format::Csv, report.as_bytes())?;
-    assert!(rt; &codes.as_slice()[58..] == b"B3/S23,xp2_7,700,700,x,p\n".as_slice());
+    assert!(rt; codes.as_slice().ends_with(b"\nB3/S23,xp2_7,700,700,x,p\n"));
     Ok(())
 }
