@@ -782,10 +782,10 @@ end 2 5
                 for wrong in (lines[:at] + lines[at + 1:], lines[:at] + [line] + lines[at:]):
                     with self.subTest(line), self.assertRaises(ReportFault):
                         read_report(b"\n".join(wrong))
-        for old, new, line in ((b" 5 1 a", b" x 1 a", 3), (b"close 2 3 1", b"close 2 3 2", 14), (b"end 2 5", b"end 2 6", 16),
+        for old, new, line in ((b" 5 7 1 a", b" x 7 1 a", 3), (b"close 2 3 1", b"close 2 3 2", 14), (b"end 2 5", b"end 2 6", 16),
                                (b"part 1 1", b"part 2 1", 6), (b"bad 6", b"bid 6", 8), (b"open 2 3 \xff", b"opens 2 3 \xff", 1),
                                (b"36 248 \xfe 7", b"36", 9), (b"1 2 none", b"1 02 none", 10), (b"code 1", b"code 3", 11),
-                               (b" 5 1 a", b" 5 2 a", 5), (b"xp2_7 1", b"xs4_33 1", 7)):
+                               (b" 7 1 a", b" 7 2 a", 5), (b"xp2_7 1", b"xs4_33 1", 7)):
             with self.subTest(new), self.assertRaises(ReportFault) as caught:
                 read_report(self.INTERLEAVED.replace(old, new, 1))
             self.assertEqual((caught.exception.line, caught.exception.place), (line, f"line {line}"))
@@ -974,7 +974,7 @@ class Module(unittest.TestCase):
             tree = ast.parse(it.read(), feature_version=(3, 8))
         names = {node.module for node in ast.walk(tree) if isinstance(node, ast.ImportFrom)}
         names |= {alias.name for node in ast.walk(tree) if isinstance(node, ast.Import) for alias in node.names}
-        self.assertEqual(names, {"__future__", "dataclasses", "operator", "os", "re", "signal", "subprocess", "tempfile", "typing"})
+        self.assertEqual(names, {"__future__", "dataclasses", "json", "operator", "os", "re", "signal", "subprocess", "tempfile", "typing"})
 
     def test_examples(self):
         before = os.getcwd()
