@@ -18,6 +18,9 @@ use life_orbit::Orbit;
 use life_plane::{AGE_LIMIT, Plane};
 use std::alloc::{AllocError, Global};
 
+/// How many generations the walk goes on from one look to the next.
+const BETWEEN_LOOKS: u32 = 32;
+
 /// Whether a plane's cells, which are the generation of this age, are ash already, where a later generation is ash of these
 /// parts, and these are apart since some generation.
 fn is_ash_already<P: Plane>(
@@ -43,9 +46,45 @@ fn is_ash_already<P: Plane>(
     were_together(alloc, plane, parts, age - now)
 }
 
+/// The onset of a pattern's ash, where a plane has the generation of the number `start`, before which none is ash, and that of
+/// the number `end` is ash. A later generation, of this age, is ash of these parts, which are apart since some generation.
+fn onset_between<P: Plane>(
+    alloc: Global,
+    rule: &Rule,
+    plane: P,
+    parts: &[Orbit],
+    since: u32,
+    age: u32,
+    start: u32,
+    end: u32,
+) -> Result<u32, AllocError>
+    requires order { start ≤ end × end ≤ age × age ≤ AGE_LIMIT }
+    requires start { P.steps_made plane ≡ start }
+    requires rule { All (IsCourseBy rule.now) parts.now }
+    requires courses { All IsCourse parts.now }
+    requires since { AreAllApartSince rule.now (pasts age parts.now) since }
+    ensures onset { IfOk result (λ onset. (b : ℕ) (G : Generation) →
+        P.members plane ≡ generation rule.now G start →
+        IsAsh rule.now b (generation rule.now G age) (sets_of parts.now) →
+        HasAsh rule.now b (generation rule.now G end) →
+        ((n : ℕ) → n < start → HasAsh rule.now b (generation rule.now G n) → ⊥) →
+        IsAshOnset rule.now b G onset) }
+    ensures within { IfOk result (λ onset. onset ≤ age) }
+{
+    let mut plane = plane;
+    for now in start..end {
+        if is_ash_already(alloc, &plane, parts, since, now, age)? {
+            return Ok(now);
+        }
+        plane.step(rule)?;
+    }
+    Ok(end)
+}
+
 /// The onset of a pattern's ash, where the generation of this age is ash of these parts. It goes from the parts back to
 /// when the last two of them were near, and from the pattern on, to the first generation after that of which the parts
-/// then have as many cells, and the same.
+/// then have as many cells, and the same. Since all later ones are ash too, it looks at each only after the last look
+/// that found none.
 pub fn onset<P: Plane>(
     alloc: Global,
     rule: &Rule,
@@ -65,11 +104,17 @@ pub fn onset<P: Plane>(
 {
     let since = all_apart_since(parts, age);
     let mut plane = P::from_cells(alloc, cells)?;
+    let mut before = plane.copy()?;
+    let mut start = 0;
     for now in 0..age {
-        if is_ash_already(alloc, &plane, parts, since, now, age)? {
-            return Ok(now);
+        if now % BETWEEN_LOOKS == 0 {
+            if is_ash_already(alloc, &plane, parts, since, now, age)? {
+                return onset_between(alloc, rule, before, parts, since, age, start, now);
+            }
+            before = plane.copy()?;
+            start = now;
         }
         plane.step(rule)?;
     }
-    Ok(age)
+    onset_between(alloc, rule, before, parts, since, age, start, age)
 }
