@@ -1,2 +1,3 @@
 pub mod Pasts
 pub mod Since
+pub mod Moments

@@ -6,5 +6,7 @@
 mod pattern;
 mod since;
 mod together;
+mod trail;
 
 pub use pattern::onset;
+pub use trail::Trail;
