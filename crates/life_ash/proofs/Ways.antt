@@ -1,20 +1,25 @@
 -- What is found on the way from the bound on.
-use Rattle.std.proofs.Common.{◌≡◌, ℕ, ◌+◌, ◌*◌, ◌-◌, ◌≤◌, List, Option, None, sym, ap, subst, ◌∙◌, arith}
+use Rattle.std.proofs.Common.{◌≡◌, ℕ, ◌+◌, ◌*◌, ◌-◌, ◌≤◌, List, [], Option, None, IfNone, IfSome, sym, ap, subst, ◌∙◌, arith}
+use Rattle.std.specs.List.{All}
+use Rattle.std.proofs.lemmas.List.Elements.{All-nil}
 use Rattle.life_model.specs.Rule.{Rule}
 use Rattle.life_model.specs.Generation.{Generation}
 use Rattle.life_model.specs.Evolution.{generation}
 use Rattle.life_model.proofs.Recurrences.{generation-add, generation-zero}
-use Rattle.life_objects.specs.Ash.{IsAsh}
+use Rattle.life_objects.specs.Ash.{HasFallenApart, IsAsh}
 use Rattle.life_objects.specs.Limits.{objects_bound_limit}
+use Rattle.life_onset.specs.Moments.{IsMomentOf, Moment}
 use Rattle.life_orbit.specs.Course.{Course}
 use Rattle.life_ash.specs.Ahead.{IsAshThen, IsFound, IsFoundPast}
 use Rattle.life_ash.specs.Allowed.{AreAllowedBefore}
-use Rattle.life_ash.specs.Fates.{IsSmallEnough}
+use Rattle.life_ash.specs.Fates.{IsFate, IsSmallEnough}
 use Rattle.life_ash.specs.Met.{Terms}
-use Rattle.life_apart.specs.Sets.{sets_of}
+use Rattle.life_apart.specs.Sets.{IsCourseBy, sets_of}
 use Rattle.life_ash.specs.Parts.{ash_age_limit}
 use Rattle.life_ash.specs.declared.found.Found.{Found}
 use Rattle.life_ash.specs.declared.found.Found.TheVariants.{Large, Nothing, Parts}
+use Rattle.life_ash.specs.declared.pattern_fate.Fate.{Fate}
+use Rattle.life_ash.proofs.Finding.{both_some, none_then}
 use Rattle.life_ash.proofs.Limits.{past_nowhere}
 
 module _ (R : Rule) (b : ℕ) (G : Generation) (limit : Option ℕ) where
@@ -69,3 +74,37 @@ nothing_from_start t s b G limit from age H K same bound cells start ended reach
       reached G first ∙ ap (generation t.rule G) (ended ∙ sym bound),
       subst (AreAllowedBefore t.rule G limit) (sym bound) (allowed G first (λ m h. absurd (omega arith))),
     )
+
+-- what is on the trail of a walk from generation 0 on
+pub trail_from_start : (t : Terms) (G : Generation) (from : ℕ) (H : Generation) (before after : List Moment) → H ≡ G →
+    from ≡ 0 → before ≡ [] →
+    ((K : Generation) → H ≡ generation t.rule K from → All (IsMomentOf t.rule K) before →
+    All (IsMomentOf t.rule K) after) → All (IsMomentOf t.rule G) after
+trail_from_start t G from H before after cells start none told =
+    told G (cells ∙ sym (ap (generation t.rule G) start ∙ generation-zero t.rule G))
+    (subst (All (IsMomentOf t.rule G)) (sym none) (All-nil (IsMomentOf t.rule G)))
+
+-- what becomes of G, where its generation of the bound is this ash or none
+pub fate_by : (t s : Terms) (n : ℕ) (G H : Generation) (limit : Option ℕ) (trail : List Moment)
+    (ash : Option (List Course)) (fate : Fate) → s ≡ t → n ≡ t.bound → H ≡ generation t.rule G t.bound →
+    IsSmallEnough t.rule G t.bound limit → All (IsMomentOf t.rule G) trail →
+    IfSome ash (λ os. IsAsh s.rule s.bound H (sets_of os)) → IfSome ash (λ os. All (IsCourseBy s.rule) os) →
+    IfNone ash ((parts : List Generation) → IsAsh s.rule s.bound H parts → ⊥) →
+    ((R : Rule) (K : Generation) (most : Option ℕ) → IsSmallEnough R K n most → All (IsMomentOf R K) trail →
+    IfSome ash (λ os. HasFallenApart R n K (sets_of os) × All (IsCourseBy R) os) →
+    IfNone ash ((parts : List Generation) → HasFallenApart R n K parts → ⊥) → IsFate R K n most fate) →
+    IsFate t.rule G t.bound limit fate
+fate_by t s n G H limit trail ash fate same bound here small kept some rule none told =
+    subst (λ m. IsFate t.rule G m limit fate) bound
+    (told t.rule G limit (subst (λ m. IsSmallEnough t.rule G m limit) (sym bound) small) kept
+    (both_some ash some rule
+    (λ os is of. (
+      subst (λ m. HasFallenApart t.rule m G (sets_of os)) (sym bound)
+          (subst (λ K. IsAsh t.rule t.bound K (sets_of os)) here
+          (subst (λ (u : Terms). IsAsh u.rule u.bound H (sets_of os)) same is)),
+      subst (λ (u : Terms). All (IsCourseBy u.rule) os) same of,
+    )))
+    (none_then ash none
+    (λ no parts has. no parts
+    (subst (λ (u : Terms). IsAsh u.rule u.bound H parts) (sym same)
+    (subst (λ K. IsAsh t.rule t.bound K parts) (sym here) (subst (λ m. HasFallenApart t.rule m G parts) bound has))))))

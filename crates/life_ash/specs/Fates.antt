@@ -7,6 +7,7 @@ use Rattle.life_model.specs.Evolution.{generation}
 use Rattle.life_objects.specs.Ash.{HasFallenApart, IsAsh}
 use Rattle.life_answer.specs.Limited.{first_past}
 use Rattle.life_apart.specs.Sets.{IsCourseBy, sets_of}
+use Rattle.life_onset.specs.Moments.{IsMomentOf}
 use Rattle.life_ash.specs.declared.pattern_fate.Fate.{Fate}
 use Rattle.life_ash.specs.declared.pattern_fate.Fate.TheVariants.{Ash, Large, Unresolved}
 
@@ -14,11 +15,12 @@ use Rattle.life_ash.specs.declared.pattern_fate.Fate.TheVariants.{Ash, Large, Un
 abbrev pub IsSmallEnough : Rule → Generation → ℕ → Option ℕ → Type 0
 IsSmallEnough R G b limit = first_past limit R G (3 * b) ≡ None
 
--- This becomes of G within b: it falls apart, a generation up to b being ash of these parts, or it doesn't, or the first
--- generation past the limit is this one.
+-- This becomes of G within b: it falls apart, a generation up to b being ash of these parts, and these are some of its
+-- generations, or it doesn't, or the first generation past the limit is this one.
 abbrev pub IsFate : Rule → Generation → ℕ → Option ℕ → Fate → Type 0
-IsFate R G b limit (Ash parts age) =
-    IsSmallEnough R G b limit × (age ≤ b) × IsAsh R b (generation R G age) (sets_of parts) × All (IsCourseBy R) parts
+IsFate R G b limit (Ash parts age trail) =
+    IsSmallEnough R G b limit × (age ≤ b) × IsAsh R b (generation R G age) (sets_of parts) × All (IsCourseBy R) parts ×
+    All (IsMomentOf R G) trail
 IsFate R G b limit Unresolved =
     IsSmallEnough R G b limit × ((parts : List Generation) → HasFallenApart R b G parts → ⊥)
 IsFate R G b limit (Large n) = first_past limit R G (3 * b) ≡ Some n

@@ -4,6 +4,7 @@ ghost use Rattle.life_model.specs.Evolution.{generation};
 ghost use Rattle.life_model.specs.Generation.{Generation};
 ghost use Rattle.life_objects.specs.Ash.{IsAsh};
 ghost use Rattle.life_orbit.specs.Course.{IsCourse};
+ghost use Rattle.life_onset.specs.Moments.{IsMomentOf};
 ghost use Rattle.life_ash.specs.Ahead.{HasEnded, IsFound, IsFoundPast};
 ghost use Rattle.life_ash.specs.Allowed.{AreAllowedBefore};
 ghost use Rattle.life_apart.specs.Sets.{IsCourseBy, sets_of};
@@ -13,6 +14,7 @@ use crate::found::Found;
 use crate::guess::guessed_parts;
 use crate::known::Known;
 use crate::limit::{few_until, first_past_of_ash};
+use life_onset::Trail;
 use life_orbit::Orbit;
 use life_plane::{AGE_LIMIT, Plane};
 use life_tally::Pace;
@@ -42,12 +44,13 @@ pub fn parts_if_due<P: Plane>(
 }
 
 /// Walks on to an age, and looks now and then whether the plane's cells are ash. No generation that the walk comes to may
-/// have more cells than the limit, and where ash is found none up to the last.
+/// have more cells than the limit, and where ash is found none up to the last. Some generations are kept on a trail.
 pub fn walk_on<P: Plane>(
     alloc: Global,
     plane: &mut P,
     met: &mut Known,
     pace: &mut Pace,
+    trail: &mut Trail,
     limit: Option<u32>,
     end: u32,
     last: u32,
@@ -59,6 +62,9 @@ pub fn walk_on<P: Plane>(
     ensures reached { (G : Generation) →
         P.members plane.old ≡ generation met.old.rule G (P.steps_made plane.old) →
         P.members plane.new ≡ generation met.old.rule G (P.steps_made plane.new) }
+    ensures trail { (G : Generation) →
+        P.members plane.old ≡ generation met.old.rule G (P.steps_made plane.old) →
+        All (IsMomentOf met.old.rule G) trail.old → All (IsMomentOf met.old.rule G) trail.new }
     ensures ended { IfOk result (HasEnded end (P.steps_made plane.new)) }
     ensures found { IfOk result (λ found. (G : Generation) →
         P.members plane.old ≡ generation met.old.rule G (P.steps_made plane.old) →
@@ -82,6 +88,7 @@ pub fn walk_on<P: Plane>(
                 },
             );
         }
+        trail.note(plane)?;
         plane.step(&rule)?;
     }
     Ok(Found::Nothing)
@@ -104,5 +111,15 @@ pub fn found_past<P: Plane>(
 {
     let last = 3 * met.bound();
     let mut later = plane.copy()?;
-    walk_on(alloc, &mut later, met, pace, limit, last + 1, last)
+    let mut trail = Trail::new(alloc);
+    walk_on(
+        alloc,
+        &mut later,
+        met,
+        pace,
+        &mut trail,
+        limit,
+        last + 1,
+        last,
+    )
 }

@@ -6,6 +6,7 @@ ghost use Rattle.life_model.specs.Rule.{Rule as ModelRule};
 ghost use Rattle.life_model.specs.Generation as generations;
 ghost use Rattle.life_cells.specs.Limits.{IsWithin};
 ghost use Rattle.life_objects.specs.Ash.{HasFallenApart};
+ghost use Rattle.life_onset.specs.Moments.{IsMomentOf};
 ghost use Rattle.life_ash.specs.Allowed.{AreAllowedBefore};
 ghost use Rattle.life_ash.specs.Fates.{IsFate, IsSmallEnough};
 ghost use Rattle.life_apart.specs.Sets.{IsCourseBy, sets_of};
@@ -16,32 +17,39 @@ use crate::found::Found;
 use crate::known::Known;
 use crate::pattern_fate::Fate;
 use life_cells::{CellList, Rule};
+use life_onset::Trail;
 use life_orbit::BOUND_LIMIT;
 use life_plane::Plane;
 use life_tally::Pace;
 use std::alloc::{AllocError, Global};
 
-/// What becomes of a pattern of which no generation up to three times the bound is past the limit, and of which the
-/// generation of the bound is this ash or none.
-fn fate_of(ash: Option<Ash>, bound: u32) -> Fate
+/// What becomes of a pattern of which no generation up to three times the bound is past the limit, of which the generation
+/// of the bound is this ash or none, and some on the way there are on a trail.
+fn fate_of(ash: Option<Ash>, bound: u32, trail: Trail) -> Fate
     ensures { (R : ModelRule) (G : Generation) (limit : Option ℕ) →
-        IsSmallEnough R G bound limit →
+        IsSmallEnough R G bound limit → All (IsMomentOf R G) trail →
         IfSome ash (λ ash. HasFallenApart R bound G (sets_of ash) × All (IsCourseBy R) ash) →
         IfNone ash ((parts : List Generation) → HasFallenApart R bound G parts → ⊥) →
         IsFate R G bound limit result }
 {
     match ash {
-        Some(ash) => Fate::Ash { ash, age: bound },
+        Some(ash) => Fate::Ash {
+            ash,
+            age: bound,
+            trail,
+        },
         None => Fate::Unresolved,
     }
 }
 
-/// What becomes of a pattern of which a plane has the generation of the bound, where nothing was found on the way there.
+/// What becomes of a pattern of which a plane has the generation of the bound, where nothing was found on the way there, of
+/// which some generations are on a trail.
 fn fate_past<P: Plane>(
     alloc: Global,
     plane: &P,
     met: &mut Known,
     pace: &mut Pace,
+    trail: Trail,
     limit: Option<u32>,
 ) -> Result<Fate, AllocError>
     requires age { P.steps_made plane.now ≡ met.old.bound }
@@ -50,16 +58,20 @@ fn fate_past<P: Plane>(
         AreAllowedBefore met.old.rule G limit met.old.bound }
     ensures { IfOk result (λ fate. (G : Generation) →
         P.members plane.now ≡ generation met.old.rule G met.old.bound →
-        AreAllowedBefore met.old.rule G limit met.old.bound →
+        AreAllowedBefore met.old.rule G limit met.old.bound → All (IsMomentOf met.old.rule G) trail →
         IsFate met.old.rule G met.old.bound limit fate) }
 {
     let bound = met.bound();
     Ok(match found_past(alloc, plane, met, pace, limit)? {
         Found::Large { generation } => Fate::Large { generation },
         Found::Parts { parts, age } => {
-            fate_of(ash_before(alloc, plane, met, parts, age - bound)?, bound)
+            fate_of(
+                ash_before(alloc, plane, met, parts, age - bound)?,
+                bound,
+                trail,
+            )
         }
-        Found::Nothing => fate_of(ash_told(alloc, plane, met, pace)?, bound),
+        Found::Nothing => fate_of(ash_told(alloc, plane, met, pace)?, bound, trail),
     })
 }
 
@@ -80,11 +92,13 @@ pub fn fate<P: Plane>(
     let mut plane = P::from_cells(alloc, cells)?;
     let mut pace = Pace::new();
     let mut met = Known::new(alloc, rule, bound);
+    let mut trail = Trail::new(alloc);
     match walk_on(
         alloc,
         &mut plane,
         &mut met,
         &mut pace,
+        &mut trail,
         limit,
         bound,
         3 * bound,
@@ -93,7 +107,8 @@ pub fn fate<P: Plane>(
         Found::Parts { parts, age } => Ok(Fate::Ash {
             ash: Ash::of(parts),
             age,
+            trail,
         }),
-        Found::Nothing => fate_past(alloc, &plane, &mut met, &mut pace, limit),
+        Found::Nothing => fate_past(alloc, &plane, &mut met, &mut pace, trail, limit),
     }
 }

@@ -1,5 +1,6 @@
 //! What may become of a pattern.
 use crate::ash_orbits::Ash;
+use life_onset::Trail;
 
 /// What becomes of a pattern within a bound, if no generation may have more cells than some number.
 #[derive(Drop)]
@@ -10,6 +11,8 @@ pub enum Fate {
         ash: Ash,
         /// The age of the generation that is ash of these parts, which is no greater than the bound.
         age: u32,
+        /// Some generations on the way there.
+        trail: Trail,
     },
     /// It has not fallen apart by the bound.
     Unresolved,

@@ -8,28 +8,32 @@ ghost use Rattle.life_answer.specs.Census.{census_of};
 ghost use Rattle.life_answer.specs.Questions.{finding_to};
 ghost use Rattle.life_answer.specs.declared.question.Question.TheVariants.{Objects};
 ghost use Rattle.life_apart.specs.Sets.{IsCourseBy, sets_of};
+ghost use Rattle.life_onset.specs.Moments.{IsMomentOf};
 
 use crate::parts::parts_of;
 use life_answer::{Finding, Outcome};
 use life_ash::{Ash, Fate, fate};
 use life_cells::{CellList, Rule};
-use life_onset::onset;
+use life_onset::{Trail, onset};
 use life_orbit::BOUND_LIMIT;
 use life_plane::Plane;
 use std::alloc::{AllocError, Global};
 
-/// What becomes of a pattern of which the generation of this age is this ash: the first generation that is ash, and what the
-/// objects count as, by codes. It is the same within each bound that the age is not past.
+/// What becomes of a pattern of which the generation of this age is this ash, and of which some generations are on a trail: the
+/// first generation that is ash, and what the objects count as, by codes. It is the same within each bound that the age is not
+/// past.
 fn outcome_of_ash<P: Plane>(
     alloc: Global,
     rule: &Rule,
     cells: &CellList,
     ash: &Ash,
     age: u32,
+    trail: &Trail,
     near: bool,
 ) -> Result<Outcome, AllocError>
     requires fits { All (IsWithin 0) (generations.cells cells.now) }
     requires age { age ≤ BOUND_LIMIT }
+    requires trail { All (IsMomentOf rule.now cells.now) trail.now }
     requires rule { All (IsCourseBy rule.now) ash.now }
     requires ash { (b : ℕ) × IsAsh rule.now b (generation rule.now cells.now age) (sets_of ash.now) }
     ensures { IfOk result (λ outcome. (b : ℕ) → age ≤ b →
@@ -38,7 +42,7 @@ fn outcome_of_ash<P: Plane>(
 {
     let orbits = ash.orbits();
     Ok(Outcome::Ash {
-        onset: onset::<P>(alloc, rule, cells, orbits, age)?,
+        onset: onset::<P>(alloc, rule, cells, trail, orbits, age)?,
         parts: parts_of(alloc, orbits, near)?,
     })
 }
@@ -61,7 +65,9 @@ pub fn census<P: Plane>(
 {
     let population = cells.len() as u64;
     let outcome = match fate::<P>(alloc, rule, cells, bound, limit)? {
-        Fate::Ash { ash, age } => outcome_of_ash::<P>(alloc, rule, cells, &ash, age, near)?,
+        Fate::Ash { ash, age, trail } => {
+            outcome_of_ash::<P>(alloc, rule, cells, &ash, age, &trail, near)?
+        }
         Fate::Unresolved => Outcome::Unresolved,
         Fate::Large { generation } => Outcome::Large { generation },
     };

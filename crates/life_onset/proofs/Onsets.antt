@@ -1,5 +1,5 @@
 -- When ash began.
-use Rattle.std.proofs.Common.{◌≡◌, ◌↔◌, ℕ, ◌+◌, ◌-◌, ◌<◌, ◌≤◌, List, inl, inr, sym, ap, subst, ◌∙◌, arith}
+use Rattle.std.proofs.Common.{◌≡◌, ◌↔◌, ℕ, ◌+◌, ◌-◌, ◌<◌, ◌≤◌, List, Result, Ok, Err, IfOk, inl, inr, sym, ap, subst, ◌∙◌, arith}
 use Rattle.std.specs.List.{All, AllPairs}
 use Rattle.std.proofs.lemmas.Bool.{cases_lt}
 use Rattle.life_model.specs.Evolution.{generation}
@@ -19,6 +19,12 @@ use Rattle.life_orbit.specs.Course.{Course, IsCourse}
 use Rattle.life_onset.specs.Pasts.{IsCourseBy, pasts, sets_of}
 use Rattle.life_onset.specs.Since.{AreAllApartSince, AreApartCourses, AreApartFrom}
 use Rattle.life_onset.proofs.Pasts.{pasts_at, pasts_before}
+
+-- what follows from two things that are said of a result
+pub both_ok : {E X : Type 0} {P Q S : X → Type 0} (r : Result X E) → IfOk r P → IfOk r Q → ((x : X) → P x → Q x → S x) →
+    IfOk r S
+both_ok (Ok x) p q then = then x p q
+both_ok (Err e) p q then = tt
 
 module _ (R : Rule) where
   -- apart from some generation on, and so from each later one

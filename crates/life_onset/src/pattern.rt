@@ -1,5 +1,5 @@
 //! The onset of a pattern's ash.
-ghost use Rattle.std.specs.Prelude.{◌≡◌, ℕ, ◌<◌, ◌≤◌, ◌↔◌, All, IfOk, IsTrue};
+ghost use Rattle.std.specs.Prelude.{◌≡◌, ℕ, ◌<◌, ◌≤◌, ◌↔◌, All, IfOk, IfSome, IsTrue};
 ghost use Rattle.life_model.specs.Evolution.{generation};
 ghost use Rattle.life_model.specs.Generation.{Generation};
 ghost use Rattle.life_model.specs.Generation as generations;
@@ -8,11 +8,13 @@ ghost use Rattle.life_cells.specs.Limits.{IsWithin};
 ghost use Rattle.life_objects.specs.Ash.{IsAsh};
 ghost use Rattle.life_objects.specs.Onset.{HasAsh, IsAshOnset};
 ghost use Rattle.life_orbit.specs.Course.{IsCourse};
+ghost use Rattle.life_onset.specs.Moments.{IsMomentOf};
 ghost use Rattle.life_onset.specs.Pasts.{IsCourseBy, pasts, sets_of};
 ghost use Rattle.life_onset.specs.Since.{AreAllApartSince};
 
 use crate::since::all_apart_since;
 use crate::together::were_together;
+use crate::trail::{Kept, Trail};
 use life_cells::{CellList, Rule};
 use life_orbit::Orbit;
 use life_plane::{AGE_LIMIT, Plane};
@@ -44,6 +46,70 @@ fn is_ash_already<P: Plane>(
         return Ok(false);
     }
     were_together(alloc, plane, parts, age - now)
+}
+
+/// A plane of a generation that is kept, where it is before the one of this age, which is ash of these parts, and is no ash
+/// itself.
+fn plane_before_ash<P: Plane>(
+    alloc: Global,
+    kept: &Kept,
+    parts: &[Orbit],
+    since: u32,
+    age: u32,
+) -> Result<Option<P>, AllocError>
+    requires age { age ≤ AGE_LIMIT }
+    requires courses { All IsCourse parts.now }
+    requires since { (R : ModelRule) × All (IsCourseBy R) parts.now ×
+        AreAllApartSince R (pasts age parts.now) since }
+    ensures before { IfOk result (λ found. IfSome found (λ plane. P.steps_made plane ≤ age)) }
+    ensures start { IfOk result (λ found. IfSome found (λ plane. (R : ModelRule) (G : Generation) →
+        IsMomentOf R G kept.now → P.members plane ≡ generation R G (P.steps_made plane))) }
+    ensures none { IfOk result
+        (λ found. IfSome found (λ plane. (R : ModelRule) (b : ℕ) (G : Generation) →
+        All (IsCourseBy R) parts.now → AreAllApartSince R (pasts age parts.now) since → IsMomentOf R G kept.now →
+        IsAsh R b (generation R G age) (sets_of parts.now) →
+        HasAsh R b (generation R G (P.steps_made plane)) → ⊥)) }
+{
+    let number = kept.number();
+    if age <= number {
+        return Ok(None);
+    }
+    let plane = kept.plane::<P>(alloc)?;
+    if is_ash_already(alloc, &plane, parts, since, number, age)? {
+        return Ok(None);
+    }
+    Ok(Some(plane))
+}
+
+/// A plane of a generation of a pattern before which none is ash, where the one of this age is ash of these parts: the last
+/// of those that are kept that is no ash itself, or else generation 0.
+fn plane_before_onset<P: Plane>(
+    alloc: Global,
+    cells: &CellList,
+    trail: &Trail,
+    parts: &[Orbit],
+    since: u32,
+    age: u32,
+) -> Result<P, AllocError>
+    requires fits { All (IsWithin 0) (generations.cells cells.now) }
+    requires age { age ≤ AGE_LIMIT }
+    requires courses { All IsCourse parts.now }
+    requires since { (R : ModelRule) × All (IsCourseBy R) parts.now ×
+        AreAllApartSince R (pasts age parts.now) since }
+    ensures before { IfOk result (λ plane. P.steps_made plane ≤ age) }
+    ensures start { IfOk result (λ plane. (R : ModelRule) → All (IsMomentOf R cells.now) trail.now →
+        P.members plane ≡ generation R cells.now (P.steps_made plane)) }
+    ensures none { IfOk result (λ plane. (R : ModelRule) (b : ℕ) → All (IsCourseBy R) parts.now →
+        AreAllApartSince R (pasts age parts.now) since → All (IsMomentOf R cells.now) trail.now →
+        IsAsh R b (generation R cells.now age) (sets_of parts.now) → (n : ℕ) →
+        n < P.steps_made plane → HasAsh R b (generation R cells.now n) → ⊥) }
+{
+    for kept in trail.kept() {
+        if let Some(plane) = plane_before_ash(alloc, kept, parts, since, age)? {
+            return Ok(plane);
+        }
+    }
+    P::from_cells(alloc, cells)
 }
 
 /// The onset of a pattern's ash, where a plane has the generation of the number `start`, before which none is ash, and that of
@@ -83,16 +149,18 @@ fn onset_between<P: Plane>(
 
 /// The onset of a pattern's ash, where the generation of this age is ash of these parts. It goes from the parts back to
 /// when the last two of them were near, and from the pattern on, to the first generation after that of which the parts
-/// then have as many cells, and the same. Since all later ones are ash too, it looks at each only after the last look
-/// that found none.
+/// then have as many cells, and the same. Since all later ones are ash too, it begins with the last generation of the
+/// trail that is no ash, and looks at each only after the last look that found none.
 pub fn onset<P: Plane>(
     alloc: Global,
     rule: &Rule,
     cells: &CellList,
+    trail: &Trail,
     parts: &[Orbit],
     age: u32,
 ) -> Result<u32, AllocError>
     requires fits { All (IsWithin 0) (generations.cells cells.now) }
+    requires trail { All (IsMomentOf rule.now cells.now) trail.now }
     requires age { age ≤ AGE_LIMIT }
     requires rule { All (IsCourseBy rule.now) parts.now }
     requires courses { All IsCourse parts.now }
@@ -103,10 +171,10 @@ pub fn onset<P: Plane>(
     ensures within { IfOk result (λ onset. onset ≤ age) }
 {
     let since = all_apart_since(parts, age);
-    let mut plane = P::from_cells(alloc, cells)?;
+    let mut plane = plane_before_onset::<P>(alloc, cells, trail, parts, since, age)?;
     let mut before = plane.copy()?;
-    let mut start = 0;
-    for now in 0..age {
+    let mut start = plane.age();
+    for now in start..age {
         if now % BETWEEN_LOOKS == 0 {
             if is_ash_already(alloc, &plane, parts, since, now, age)? {
                 return onset_between(alloc, rule, before, parts, since, age, start, now);

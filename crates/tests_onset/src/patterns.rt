@@ -5,7 +5,7 @@ ghost use Rattle.life_cells.specs.Limits.{IsWithin};
 
 use life_ash::{Known, guessed_parts};
 use life_cells::{CellList, Rule};
-use life_onset::onset;
+use life_onset::{Trail, onset};
 use life_plane::{ListPlane, Plane};
 use std::alloc::{AllocError, Global};
 use std::process::Abort;
@@ -112,19 +112,21 @@ const CASES_OF_THE_PENTOMINO: &[Case] = &[(PENTOMINO, 1103, 1103), (PENTOMINO, 1
 
 const CASES_OF_THE_ACORN: &[Case] = &[(ACORN, 5220, 5206)];
 
-/// The onset of the ash of some cells, of which this generation is ash.
+/// The onset of the ash of some cells, of which this generation is ash, where a trail is left on the way.
 fn onset_by<P: Plane>(alloc: Global, cells: &CellList, age: u32) -> Result<Option<u32>, AllocError>
     requires fits { All (IsWithin 0) (generations.cells cells.now) }
     requires age { age ≤ 100000 }
 {
     let rule = Rule::life();
     let mut plane = P::from_cells(alloc, cells)?;
+    let mut trail = Trail::new(alloc);
     for _ in 0..age {
+        trail.note(&plane)?;
         plane.step(&rule)?;
     }
     let mut known = Known::new(alloc, &rule, 100);
     match guessed_parts(alloc, &plane, &mut known, 4)? {
-        Some(parts) => Ok(Some(onset::<P>(alloc, &rule, cells, &parts, age)?)),
+        Some(parts) => Ok(Some(onset::<P>(alloc, &rule, cells, &trail, &parts, age)?)),
         None => Ok(None),
     }
 }

@@ -1,6 +1,6 @@
 use Rattle.std.proofs.Common.{◌+◌, ◌-◌, ◌≤◌, sym, ap, subst, ◌∙◌, arith}
 use Rattle.std.specs.List.{All}
-use Rattle.life_model.specs.Evolution.{next}
+use Rattle.life_model.specs.Evolution.{generation, next}
 use Rattle.life_model.specs.Generation.{size}
 use Rattle.life_model.proofs.Recurrences.{generation-next}
 use Rattle.life_answer.specs.Limited.{IsAllowed, first_past}
@@ -81,6 +81,9 @@ loop-age-preserved g c =
       same = c.in_ok-parts.ensures.same ∙ c.loop-age.invariant.same;
       members = λ G start. c.in_ok-step.ensures.cells
           ∙ (λ i. next (c.rule-rule.ensures i) (c.loop-age.invariant.members G start i)) ∙ sym (generation-next R G age);
+      trail = λ G start kept. c.note.ensures R G
+          (c.loop-age.invariant.members G start ∙ ap (generation R G) (sym c.loop-age.invariant.aged))
+          (c.loop-age.invariant.trail G start kept);
       before = λ G start allowed m h. c.in-Some.ensures.few R G (c.loop-age.invariant.members G start)
           (c.loop-age.invariant.before G start allowed) (c.loop-age.invariant.known G start allowed) m (omega arith);
       known = λ G start allowed. c.in-Some.ensures.few R G (c.loop-age.invariant.members G start)

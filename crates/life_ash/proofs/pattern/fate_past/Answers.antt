@@ -1,8 +1,10 @@
 use Rattle.std.proofs.Common.{◌-◌, sym, subst}
 use Rattle.life_ash.specs.Ahead.{IsAshThen, IsFoundPast}
+use Rattle.life_ash.specs.Fates.{IsFate}
 use Rattle.life_ash.specs.Met.{Terms}
-use Rattle.life_ash.proofs.Ways.{ash_ahead}
+use Rattle.life_ash.proofs.Ways.{ash_ahead, fate_by}
 use Rattle.life_ash.proofs.pattern.fate_past.Goals as goal
+use Rattle.life_ash.proofs.pattern.fate_past.Goals.{in-Large, in-Parts+in_ok-ash_before-in-Parts, in-Nothing+in_ok-ash_told-in-Nothing}
 
 pub ash_before-requires-clause-ash : goal.ash_before-requires-clause-ash
 ash_before-requires-clause-ash g c =
@@ -17,3 +19,28 @@ ash_before-requires-clause-ash g c =
     subst (λ (t : Terms). IsAshThen t.rule t.bound here (age - c.bound-bound.result) parts) (sym c.found_past.ensures.same)
     (subst (λ n. IsAshThen R b here (age - n) parts) (sym c.bound-bound.ensures.value)
     (ash_ahead R b age G here parts found.0 c.requires.later.1 found.3))
+
+pub returns : goal.returns
+returns g c G here allowed kept =
+    let t = c.args.met.now in
+    let met = c.found_past.new.met in
+    let limit = c.args.limit in
+    let n = c.bound-bound.result in
+    let H = g.P.Plane.members c.args.plane.now in
+    let IsFateOf = IsFate t.rule G t.bound limit in
+    let past = c.in_ok-generation.ensures.found G here allowed in
+    elim c.match-branch-2.branch [
+      | in-Large w ↦ subst IsFateOf (sym w.result-is) (subst (IsFoundPast t.rule t.bound G limit) w.in-Large.is past)
+      | in-Parts+in_ok-ash_before-in-Parts w ↦
+          let found = subst (IsFoundPast t.rule t.bound G limit) w.in-Parts.is past in
+          subst IsFateOf (sym w.result-is)
+          (fate_by t met n G H limit c.args.trail w.in_ok-ash_before-in-Parts.field-0 w.fate_of.result
+          c.found_past.ensures.same c.bound-bound.ensures.value here found.2 kept w.in_ok-ash_before-in-Parts.ensures.some
+          w.in_ok-ash_before-in-Parts.ensures.rule w.in_ok-ash_before-in-Parts.ensures.none w.fate_of.ensures)
+      | in-Nothing+in_ok-ash_told-in-Nothing w ↦
+          let small = subst (IsFoundPast t.rule t.bound G limit) w.in-Nothing.is past in
+          subst IsFateOf (sym w.result-is)
+          (fate_by t met n G H limit c.args.trail w.in_ok-ash_told-in-Nothing.field-0 w.fate_of-in-Nothing.result
+          c.found_past.ensures.same c.bound-bound.ensures.value here small kept w.in_ok-ash_told-in-Nothing.ensures.some
+          w.in_ok-ash_told-in-Nothing.ensures.rule w.in_ok-ash_told-in-Nothing.ensures.none w.fate_of-in-Nothing.ensures)
+    ]

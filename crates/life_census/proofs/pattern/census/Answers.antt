@@ -19,6 +19,10 @@ pub outcome_of_ash-requires-clause-rule : goal.outcome_of_ash-requires-clause-ru
 outcome_of_ash-requires-clause-rule g c =
     (subst (IsFate c.args.rule.now c.args.cells.now c.args.bound c.args.limit) c.in-Ash.is c.in_ok-ash.ensures).3
 
+pub outcome_of_ash-requires-clause-trail : goal.outcome_of_ash-requires-clause-trail
+outcome_of_ash-requires-clause-trail g c =
+    (subst (IsFate c.args.rule.now c.args.cells.now c.args.bound c.args.limit) c.in-Ash.is c.in_ok-ash.ensures).4
+
 pub outcome_of_ash-requires-clause-ash : goal.outcome_of_ash-requires-clause-ash
 outcome_of_ash-requires-clause-ash g c =
     (c.args.bound, (subst (IsFate c.args.rule.now c.args.cells.now c.args.bound c.args.limit) c.in-Ash.is c.in_ok-ash.ensures).2)

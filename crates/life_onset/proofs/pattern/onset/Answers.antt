@@ -1,7 +1,7 @@
 use Rattle.std.proofs.Common.{◌≡◌, ◌≤◌, ◌+◌, ◌-◌, sym, ap, true≢false, ◌∙◌, arith}
 use Rattle.std.proofs.lemmas.Result.{IfOk-weaker}
 use Rattle.life_model.specs.Evolution.{generation, next}
-use Rattle.life_model.proofs.Recurrences.{generation-next, generation-zero}
+use Rattle.life_model.proofs.Recurrences.{generation-next}
 use Rattle.life_objects.specs.Union.{generations}
 use Rattle.life_objects.proofs.Ashes.{IsAsh-until}
 use Rattle.life_onset.specs.Pasts.{sets_of}
@@ -16,16 +16,29 @@ all_apart_since-since-requires g c = (
       c.requires.ash.1,
 )
 
+pub plane_before_onset-requires-clause-since : goal.plane_before_onset-requires-clause-since
+plane_before_onset-requires-clause-since g c =
+    let R = c.args.rule.now in
+    let are = parts_of_ash R c.requires.ash.0 c.args.age c.args.cells.now c.args.parts.now c.requires.rule c.requires.courses
+    c.requires.ash.1 in
+    (R, c.requires.rule, c.all_apart_since-since.ensures.since R are)
+
 pub loop-now-init : goal.loop-now-init
 loop-now-init g c =
-    let first = c.in_ok-plane.ensures.cells ∙ sym (generation-zero c.args.rule.now c.args.cells.now) in
+    let R = c.args.rule.now in
+    let G = c.args.cells.now in
+    let aged = sym c.age-start.ensures.age in
+    let members = c.in_ok-plane.ensures.start R c.requires.trail ∙ ap (generation R G) aged in
     record {
-      members = first;
-      aged = c.in_ok-plane.ensures.age;
-      copied = c.in_ok-before.ensures.cells ∙ first;
-      copied_at = c.in_ok-before.ensures.age ∙ c.in_ok-plane.ensures.age;
+      members = members;
+      aged = aged;
+      copied = c.in_ok-before.ensures.cells ∙ members;
+      copied_at = c.in_ok-before.ensures.age ∙ aged;
       earlier = omega arith;
-      none = λ b ash n early has. absurd (omega arith);
+      none = λ b ash n early has.
+          let are = parts_of_ash R b c.args.age G c.args.parts.now c.requires.rule c.requires.courses ash in
+          c.in_ok-plane.ensures.none R b c.requires.rule (c.all_apart_since-since.ensures.since R are) c.requires.trail ash n
+          (let same = aged in omega (arith, same, early)) has;
     }
 
 pub is_ash_already-requires-clause-since : goal.is_ash_already-requires-clause-since

@@ -1,21 +1,31 @@
 use Rattle.std.proofs.Common.{◌≡◌, ◌+◌, sym, ap, subst, ◌∙◌, arith}
+use Rattle.std.specs.List.{All}
+use Rattle.std.proofs.lemmas.List.Elements.{All-nil}
 use Rattle.life_model.specs.Evolution.{generation, next}
 use Rattle.life_model.proofs.Recurrences.{generation-next, generation-zero}
 use Rattle.life_objects.specs.Ash.{IsAsh}
+use Rattle.life_onset.specs.Moments.{IsMomentOf}
 use Rattle.life_onset.specs.Pasts.{sets_of}
 use Rattle.tests_onset.proofs.patterns.onset_by.Goals as goal
 
 pub loop-init : goal.loop-init
-loop-init g c = record {
-  members = c.in_ok-plane.ensures.cells ∙ sym (generation-zero c.life-rule.result c.args.cells.now);
-  aged = c.in_ok-plane.ensures.age;
-}
+loop-init g c =
+    let R = c.life-rule.result in
+    let G = c.args.cells.now in
+    record {
+      members = c.in_ok-plane.ensures.cells ∙ sym (generation-zero R G);
+      aged = c.in_ok-plane.ensures.age;
+      kept = subst (All (IsMomentOf R G)) (sym c.new-trail.ensures) (All-nil (IsMomentOf R G));
+    }
 
 pub loop-preserved : goal.loop-preserved
 loop-preserved g c = record {
   members = c.in_ok-step.ensures.cells ∙ ap (next c.life-rule.result) c.loop.invariant.members
       ∙ sym (generation-next c.life-rule.result c.args.cells.now c.loop.counter);
   aged = c.in_ok-step.ensures.age ∙ ap (λ n. n + 1) c.loop.invariant.aged;
+  kept = c.note.ensures c.life-rule.result c.args.cells.now
+      (c.loop.invariant.members ∙ ap (generation c.life-rule.result c.args.cells.now) (sym c.loop.invariant.aged))
+      c.loop.invariant.kept;
 }
 
 pub onset-requires-clause-ash : goal.onset-requires-clause-ash
