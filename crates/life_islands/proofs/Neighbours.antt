@@ -5,7 +5,7 @@ use Rattle.life_model.specs.Cell.{Cell, IsNear}
 use Rattle.life_model.proofs.Cells.{pair}
 use Rattle.life_islands.specs.Seats.{cell_at}
 
-small : (z : ℤ) → neg_ℤ (pos 1) ≤ℤ z → z ≤ℤ pos 1 → (z ≡ neg_ℤ (pos 1)) ⊎ ((z ≡ pos 0) ⊎ (z ≡ pos 1))
+pub small : (z : ℤ) → neg_ℤ (pos 1) ≤ℤ z → z ≤ℤ pos 1 → (z ≡ neg_ℤ (pos 1)) ⊎ ((z ≡ pos 0) ⊎ (z ≡ pos 1))
 small (pos zero) h k = inr (inl refl)
 small (pos (suc zero)) h k = inr (inr refl)
 small (pos (suc (suc n))) h k = absurd (omega (arith, ints))

@@ -24,7 +24,6 @@ pub data AreJoined (G : Generation) : Cell → Cell → Type 0 where
 
 -- Some cells of G that touching joins.
 pub record IsPiece (G A : Generation) : Type 0 where
-  pub some : A ≢ empty
   pub within : IsSubsetOf A G
   pub joined : (c e : Cell) → contains A c ≡ true → contains A e ≡ true → AreJoined G c e
 
@@ -75,15 +74,3 @@ IsSettled R G Hs x = AreOfOneSet G Hs x ⊎ IsEachFair R G Hs x
 -- each place near the cell is settled
 abbrev pub IsSettledNear : Rule → Generation → List Generation → Cell → Type 0
 IsSettledNear R G Hs c = (x : Cell) → IsNear x c → contains G x ≡ false → IsSettled R G Hs x
-
--- the sets that have a cell of A have them all
-abbrev pub IsOfOneSet : List Generation → Generation → Type 0
-IsOfOneSet Hs A = (c e : Cell) → contains A c ≡ true → contains A e ≡ true → HaveBoth Hs c e
-
--- The set has a cell of each of two of the sets.
-pub record IsTorn (A : Generation) (Hs : List Generation) (link : ℕ × ℕ) : Type 0 where
-  pub cell : Cell
-  pub other : Cell
-  pub in_set : contains A cell ≡ true
-  pub other_in : contains A other ≡ true
-  pub two : AreOfTwo Hs link.0 link.1 cell other

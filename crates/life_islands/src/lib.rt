@@ -1,13 +1,23 @@
 //! Which sets that make up a generation are joined there: its islands, and its places with the ways to put what is around
 //! them into groups.
+//!
+//! Each cell has a label, and sets are joined by joining labels.
 #![tactic(auto)]
 
 mod around;
 mod colours;
+mod ends;
+mod forest;
+mod gathering;
+mod inheriting;
+mod labels;
 mod places;
 mod seating;
 mod touching;
 
-pub use around::lives_next;
-pub use places::{link_in, torn};
-pub use touching::islands;
+pub use ends::join_ends;
+pub use forest::root;
+pub use gathering::gathered;
+pub use inheriting::heirs;
+pub use labels::{Labels, numbers};
+pub use places::join_in;

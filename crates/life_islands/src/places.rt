@@ -1,166 +1,161 @@
 //! Which sets a generation joins.
-ghost use Rattle.std.specs.Prelude.{◌≡◌, ◌≢◌, ℕ, ◌<◌, All, AllPairs, IfNone, IfOk, IfSome, IsTrue, false, true, get_or, length};
-ghost use Rattle.life_model.specs.Generation.{contains, empty};
+ghost use Rattle.std.specs.Prelude.{◌≡◌, ℕ, ◌<◌, ◌-◌, ◌^◌, ◌≤ℤ◌, ◌+ℤ◌, pos, IfOk, OnOk, false, get_or, length};
+ghost use Rattle.std.specs.Bool.{OnTrue};
+ghost use Rattle.life_model.specs.Cell.{origin};
+ghost use Rattle.life_model.specs.Generation.{contains};
 ghost use Rattle.life_model.specs.Generation as generations;
-ghost use Rattle.life_cells.specs.Limits.{IsPlace};
-ghost use Rattle.life_objects.specs.Apart.{AreDisjoint};
-ghost use Rattle.life_objects.specs.Union.{IsSubsetOf, union_of};
 ghost use Rattle.life_parts.specs.Apart.{AreHeldApart};
-ghost use Rattle.life_classes.specs.Nearness.{reaches};
-ghost use Rattle.life_islands.specs.Reach.{IsInReach};
-ghost use Rattle.life_islands.specs.Splits.{AreLaidOut, IsLink, IsOfOneSet, IsSettled, IsSettledNear, IsTorn, MakeUp};
+ghost use Rattle.life_classes.specs.Tags.{place_number};
+ghost use Rattle.life_islands.specs.Forest.{root};
+ghost use Rattle.life_islands.specs.Labels.{AreJoinedFurther, Fits, KeepsTied, sets_of};
+ghost use Rattle.life_islands.specs.Reach.{IsInReach, IsWithinTwo};
+ghost use Rattle.life_islands.specs.Splits.{AreLaidOut, IsSettled, IsSettledNear};
 
-use crate::around::{has, neighbour, place_of};
+use crate::around::neighbour;
 use crate::colours::AROUND;
+use crate::forest::join;
+use crate::labels::{Labels, ROW, has, place_number};
 use crate::seating::{link_at, seats_around};
-use crate::touching::islands;
+use crate::touching::{islands, join_touching};
 use life_cells::{CellList, Rule};
-use life_classes::reaches;
 use std::alloc::{AllocError, Global};
 
-/// Two sets that a place joins, if it is none of the cells.
-fn link_of_place(
+/// Joins two sets that a place joins, if it is none of the cells.
+fn join_place(
     rule: &Rule,
-    cells: &CellList,
-    isles: &[CellList],
-    sets: &[CellList],
+    list: &CellList,
+    isles: &Labels,
+    sets: &mut Labels,
     place: (i32, i32),
-) -> Option<(usize, usize)>
+) -> bool
     requires reach { IsInReach place }
-    requires laid_out { AreLaidOut cells.now isles.now sets.now }
-    ensures none { IfNone result
-        (contains cells.now place ≡ false → IsSettled rule.now cells.now sets.now place) }
-    ensures some { IfSome result (IsLink rule.now cells.now sets.now) }
+    requires isles { Fits list.now isles.now }
+    requires sets { Fits list.now sets.old }
+    requires laid_out { AreLaidOut list.now (sets_of list.now isles.now) (sets_of list.now sets.old) }
+    ensures further { AreJoinedFurther sets.old sets.new result }
+    ensures tied { KeepsTied rule.now list.now sets.old sets.new }
+    ensures settled { result ≡ false → contains list.now place ≡ false →
+        IsSettled rule.now list.now (sets_of list.now sets.new) place }
 {
-    if has(cells, place) {
-        return None;
+    if has(list, place) {
+        return false;
     }
-    let seats = seats_around(cells, isles, sets, place);
-    link_at(rule, &seats)
+    let seats = seats_around(list, isles, sets, place);
+    match link_at(rule, &seats) {
+        Some((one, other)) => join(&mut sets.forest, one, other),
+        None => false,
+    }
 }
 
-/// Whether a set that is not the cell's own has a cell at most two away from it.
-fn is_met(set: &CellList, is_own: bool, cell: (i32, i32)) -> bool
-    ensures { result ≡ false → is_own ≡ false → reaches 2 set.now cell ≡ false }
+/// Whether the cells whose numbers are from one to four more all have a mark.
+fn row_has(list: &CellList, sets: &Labels, low: i64, mark: usize) -> bool
+    requires fits { Fits list.now sets.now }
+    requires low { low ≤ℤ pos (2 ^ 63 - 5) }
+    ensures { OnTrue result ((k : ℕ) → k < length (generations.cells list.now) →
+        low ≤ℤ place_number (get_or (generations.cells list.now) k origin) →
+        place_number (get_or (generations.cells list.now) k origin) ≤ℤ (low +ℤ pos 4) →
+        root sets.now.forest.items (get_or sets.now.labels.items k 0) ≡ mark) }
 {
-    !is_own && reaches(2, set, cell)
-}
-
-/// Whether all cells that are at most two away from a cell are of one set.
-fn is_of_one(sets: &[CellList], cell: (i32, i32)) -> bool
-    ensures { IsTrue result → (own : ℕ) × ((n : ℕ) → n < length sets.now → n ≢ own →
-        reaches 2 (get_or sets.now n empty) cell ≡ false) }
-{
-    let own = place_of(sets, cell);
-    for n in 0..sets.len() {
-        if is_met(&sets[n], n == own, cell) {
+    let cells = list.as_slice();
+    let start = cells.partition_point(|one| place_number(*one) < low);
+    for at in start..cells.len() {
+        if place_number(cells[at]) > low + 4 {
+            return true;
+        }
+        if sets.mark(at) != mark {
             return false;
         }
     }
     true
 }
 
-/// Two sets that a place around a cell joins.
-fn link_around(
-    rule: &Rule,
-    cells: &CellList,
-    isles: &[CellList],
-    sets: &[CellList],
-    cell: (i32, i32),
-) -> Option<(usize, usize)>
-    requires cell { IsPlace cell × contains cells.now cell ≡ true }
-    requires laid_out { AreLaidOut cells.now isles.now sets.now }
-    ensures none { IfNone result (IsSettledNear rule.now cells.now sets.now cell) }
-    ensures some { IfSome result (IsLink rule.now cells.now sets.now) }
+/// Whether the cells at most two away from the one in a place all have its mark.
+fn is_of_one(list: &CellList, sets: &Labels, n: usize) -> bool
+    requires fits { Fits list.now sets.now }
+    requires within { n < length (generations.cells list.now) }
+    ensures { OnTrue result ((k : ℕ) → k < length (generations.cells list.now) →
+        IsWithinTwo (get_or (generations.cells list.now) k origin) (get_or (generations.cells list.now) n origin) →
+        root sets.now.forest.items (get_or sets.now.labels.items k 0) ≡ root sets.now.forest.items (get_or sets.now.labels.items n 0)) }
 {
-    if is_of_one(sets, cell) {
-        return None;
+    let mark = sets.mark(n);
+    let low = place_number(list.as_slice()[n]) - 2;
+    if !row_has(list, sets, low - 2 * ROW, mark) {
+        return false;
     }
+    if !row_has(list, sets, low - ROW, mark) {
+        return false;
+    }
+    if !row_has(list, sets, low, mark) {
+        return false;
+    }
+    if !row_has(list, sets, low + ROW, mark) {
+        return false;
+    }
+    if !row_has(list, sets, low + 2 * ROW, mark) {
+        return false;
+    }
+    true
+}
+
+/// Joins sets that a place around the cell in a place of a list joins.
+fn join_around(rule: &Rule, list: &CellList, isles: &Labels, sets: &mut Labels, n: usize) -> bool
+    requires isles { Fits list.now isles.now }
+    requires sets { Fits list.now sets.old }
+    requires within { n < length (generations.cells list.now) }
+    requires laid_out { AreLaidOut list.now (sets_of list.now isles.now) (sets_of list.now sets.old) }
+    ensures further { AreJoinedFurther sets.old sets.new result }
+    ensures tied { KeepsTied rule.now list.now sets.old sets.new }
+    ensures settled { result ≡ false → IsSettledNear rule.now list.now (sets_of list.now sets.new)
+        (get_or (generations.cells list.now) n origin) }
+{
+    if is_of_one(list, sets, n) {
+        return false;
+    }
+    let cell = list.as_slice()[n];
+    let mut joined = false;
     for number in 0..AROUND {
-        let place = neighbour(cell, number);
-        if let Some(link) = link_of_place(rule, cells, isles, sets, place) {
-            return Some(link);
+        if join_place(rule, list, isles, sets, neighbour(cell, number)) {
+            joined = true;
         }
     }
-    None
+    joined
 }
 
-/// Two sets that a place joins.
-fn link_of_places(
-    rule: &Rule,
-    cells: &CellList,
-    isles: &[CellList],
-    sets: &[CellList],
-) -> Option<(usize, usize)>
-    requires { AreLaidOut cells.now isles.now sets.now }
-    ensures none { IfNone result (AreHeldApart rule.now cells.now sets.now) }
-    ensures some { IfSome result (IsLink rule.now cells.now sets.now) }
-    ensures placed { IfNone result (All IsPlace (generations.cells cells.now)) }
+/// Joins sets that places join, each of which is looked at once around each cell.
+fn join_places(rule: &Rule, list: &CellList, isles: &Labels, sets: &mut Labels) -> bool
+    requires isles { Fits list.now isles.now }
+    requires sets { Fits list.now sets.old }
+    requires laid_out { AreLaidOut list.now (sets_of list.now isles.now) (sets_of list.now sets.old) }
+    ensures further { AreJoinedFurther sets.old sets.new result }
+    ensures tied { KeepsTied rule.now list.now sets.old sets.new }
+    ensures held { result ≡ false → AreHeldApart rule.now list.now (sets_of list.now sets.new) }
 {
-    let all = cells.as_slice();
-    for cell in all {
-        if let Some(link) = link_around(rule, cells, isles, sets, *cell) {
-            return Some(link);
+    let mut joined = false;
+    for n in 0..list.len() {
+        if join_around(rule, list, isles, sets, n) {
+            joined = true;
         }
     }
-    None
+    joined
 }
 
-/// Two of the sets between which a piece is torn.
-fn torn_piece(piece: &CellList, sets: &[CellList]) -> Option<(usize, usize)>
-    requires within { IsSubsetOf piece.now (union_of sets.now) }
-    requires once { AllPairs AreDisjoint sets.now }
-    ensures none { IfNone result (IsOfOneSet sets.now piece.now) }
-    ensures some { IfSome result (IsTorn piece.now sets.now) }
-{
-    let cells = piece.as_slice();
-    if cells.is_empty() {
-        return None;
-    }
-    let first = place_of(sets, cells[0]);
-    for cell in cells {
-        let place = place_of(sets, *cell);
-        if place != first {
-            return Some((first, place));
-        }
-    }
-    None
-}
-
-/// Two of the sets between which one of the pieces is torn.
-pub fn torn(pieces: &[CellList], sets: &[CellList]) -> Option<(usize, usize)>
-    requires within { All (λ A. IsSubsetOf A (union_of sets.now)) pieces.now }
-    requires once { AllPairs AreDisjoint sets.now }
-    ensures none { IfNone result (All (IsOfOneSet sets.now) pieces.now) }
-    ensures some { IfSome result (λ link. (n : ℕ) × (n < length pieces.now)
-        × IsTorn (get_or pieces.now n empty) sets.now link) }
-{
-    for piece in pieces {
-        if let Some(link) = torn_piece(piece, sets) {
-            return Some(link);
-        }
-    }
-    None
-}
-
-/// Two of the sets that a generation joins, of which these are all cells.
-pub fn link_in(
+/// Joins the sets that a generation joins, of which these are all cells, until all are held apart. False where they are
+/// held apart already.
+pub fn join_in(
     alloc: Global,
     rule: &Rule,
-    cells: &CellList,
-    sets: &[CellList],
-) -> Result<Option<(usize, usize)>, AllocError>
-    requires { MakeUp cells.now sets.now }
-    ensures none { IfOk result
-        (λ found. IfNone found (AreHeldApart rule.now cells.now sets.now)) }
-    ensures some { IfOk result (λ found. IfSome found (IsLink rule.now cells.now sets.now)) }
-    ensures placed { IfOk result
-        (λ found. IfNone found (All IsPlace (generations.cells cells.now))) }
+    list: &CellList,
+    sets: &mut Labels,
+) -> Result<bool, AllocError>
+    requires { Fits list.now sets.old }
+    ensures further { IfOk result (AreJoinedFurther sets.old sets.new) }
+    ensures tied { KeepsTied rule.now list.now sets.old sets.new }
+    ensures held { OnOk result (AreHeldApart rule.now list.now (sets_of list.now sets.new)) }
 {
-    let isles = islands(alloc, cells)?;
-    let all = isles.as_slice();
-    if let Some(link) = torn(all, sets) {
-        return Ok(Some(link));
+    let isles = islands(alloc, list)?;
+    let mut joined = join_touching(list, sets);
+    while join_places(rule, list, &isles, sets) {
+        joined = true;
     }
-    Ok(link_of_places(rule, cells, all, sets))
+    Ok(joined)
 }

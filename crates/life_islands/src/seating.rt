@@ -3,10 +3,11 @@ ghost use Rattle.std.specs.Prelude.{◌≡◌, ◌≢◌, ◌⊎◌, ℕ, ◌<�
 ghost use Rattle.life_islands.specs.Reach.{IsInReach};
 ghost use Rattle.life_islands.specs.Seats.{AreAllSound, AreOfOne, AreSeats, AreTiedBy, IsColouring, IsOf, IsSeat, IsSeatLink, IsSound};
 ghost use Rattle.life_islands.specs.Seats.{bears_at, is_born_by, listed, seat, set_at};
-ghost use Rattle.life_islands.specs.Splits.{AreLaidOut};
+ghost use Rattle.life_islands.specs.Labels.{Fits, sets_of};
 
-use crate::around::{has, neighbour, place_of};
+use crate::around::neighbour;
 use crate::colours::{AROUND, Seat, count_live, explore, first_bearing, flaw};
+use crate::labels::{Labels, index_of};
 use life_cells::{CellList, Rule};
 
 /// A seat that is not live.
@@ -17,39 +18,33 @@ const NOBODY: Seat = Seat {
 };
 
 /// The seat of one of the cells around a place.
-fn seat_at(
-    cells: &CellList,
-    isles: &[CellList],
-    sets: &[CellList],
-    place: (i32, i32),
-    number: usize,
-) -> Seat
+fn seat_at(list: &CellList, isles: &Labels, sets: &Labels, place: (i32, i32), number: usize) -> Seat
     requires reach { IsInReach place }
     requires number { number < 8 }
-    requires laid_out { AreLaidOut cells.now isles.now sets.now }
-    ensures { IsSeat cells.now isles.now sets.now place number result }
+    requires isles { Fits list.now isles.now }
+    requires sets { Fits list.now sets.now }
+    ensures { IsSeat list.now (sets_of list.now isles.now) (sets_of list.now sets.now) place number result }
 {
-    let cell = neighbour(place, number);
-    let live = has(cells, cell);
-    let island = place_of(isles, cell);
-    let set = place_of(sets, cell);
-    Seat { live, island, set }
+    match index_of(list, neighbour(place, number)) {
+        Some(at) => Seat {
+            live: true,
+            island: isles.mark(at),
+            set: sets.mark(at),
+        },
+        None => NOBODY,
+    }
 }
 
 /// The seats of the eight cells around a place.
-pub fn seats_around(
-    cells: &CellList,
-    isles: &[CellList],
-    sets: &[CellList],
-    place: (i32, i32),
-) -> [Seat; 8]
+pub fn seats_around(list: &CellList, isles: &Labels, sets: &Labels, place: (i32, i32)) -> [Seat; 8]
     requires reach { IsInReach place }
-    requires laid_out { AreLaidOut cells.now isles.now sets.now }
-    ensures { AreSeats cells.now isles.now sets.now place result }
+    requires isles { Fits list.now isles.now }
+    requires sets { Fits list.now sets.now }
+    ensures { AreSeats list.now (sets_of list.now isles.now) (sets_of list.now sets.now) place result }
 {
     let mut seats = [NOBODY; 8];
     for number in 0..AROUND {
-        let seat = seat_at(cells, isles, sets, place, number);
+        let seat = seat_at(list, isles, sets, place, number);
         seats[number] = seat;
     }
     seats
@@ -70,7 +65,7 @@ fn first_live(seats: &[Seat]) -> Option<usize>
 }
 
 /// The sets of the seats.
-fn sets_of(seats: &[Seat]) -> [usize; 8]
+pub fn colours_of(seats: &[Seat]) -> [usize; 8]
     requires { length seats.now ≡ 8 }
     ensures { (n : ℕ) → n < 8 → listed result n ≡ set_at seats.now n }
 {
@@ -155,7 +150,7 @@ pub fn link_at(rule: &Rule, seats: &[Seat]) -> Option<(usize, usize)>
     ensures some { IfSome result (IsSeatLink rule.now seats.now) }
 {
     let first = first_live(seats)?;
-    let colours = sets_of(seats);
+    let colours = colours_of(seats);
     let bearer = bearer_of(rule, seats, &colours, first);
     let other = other_set(seats, bearer)?;
     let is_born = rule.born(count_live(seats));

@@ -1,63 +1,73 @@
-//! The islands of a set: what touching joins.
-ghost use Rattle.std.specs.Prelude.{◌≡◌, ◌∷◌, [], All, AllPairs, IfOk, OnOk};
-ghost use Rattle.std.specs.List.{list_any};
-ghost use Rattle.life_model.specs.Generation.{Generation, cells, from_list};
-ghost use Rattle.life_cells.specs.Limits.{IsPlace};
-ghost use Rattle.life_objects.specs.Union.{union, union_of};
-ghost use Rattle.life_classes.specs.Nearness.{reaches};
-ghost use Rattle.life_islands.specs.Splits.{AreIslands, AreUntouched, IsPiece};
+//! Which cells touching joins.
+ghost use Rattle.std.specs.Prelude.{◌≡◌, ℕ, ◌<◌, IfOk, length};
+ghost use Rattle.life_model.specs.Generation.{cells};
+ghost use Rattle.life_islands.specs.Labels.{AreJoinedByTouch, AreJoinedFurther, AreJoinedWithin, AreNumbered, Fits, HasMet, KeepsTied, sets_of};
+ghost use Rattle.life_islands.specs.Splits.{AreIslands, AreOfWholeIslands};
+ghost use Rattle.life_model.specs.Rule.{Rule};
 
+use crate::around::neighbour;
+use crate::forest::join;
+use crate::labels::{Labels, index_of};
 use life_cells::CellList;
-use life_classes::{reaches, union};
 use std::alloc::{AllocError, Global};
 
-/// Whether some cell of the one set touches a cell of the other.
-fn are_touching(one: &CellList, other: &CellList) -> bool
-    ensures { result ≡ list_any (reaches 1 other.now) (cells one.now) }
+/// How many of the cells around a cell come before it.
+const BEFORE: usize = 4;
+
+/// Joins the cell in a place with one of those around it, by its number, if it is live.
+fn join_neighbour(list: &CellList, all: &mut Labels, n: usize, number: usize) -> bool
+    requires fits { Fits list.now all.old }
+    requires within { n < length (cells list.now) }
+    requires before { number < 4 }
+    ensures touched { AreJoinedByTouch list.now all.old all.new result }
+    ensures met { HasMet list.now all.new n number }
 {
-    one.as_slice().iter().any(|cell| reaches(1, other, *cell))
+    let cells = list.as_slice();
+    match index_of(list, neighbour(cells[n], number)) {
+        Some(at) => join(&mut all.forest, all.labels[n], all.labels[at]),
+        None => false,
+    }
 }
 
-/// The set of one cell.
-fn single(alloc: Global, cell: (i32, i32)) -> Result<CellList, AllocError>
-    requires { IsPlace cell }
-    ensures { IfOk result (λ set. set ≡ from_list (cell ∷ [])) }
+/// Joins the cell in a place with those around it that come before it.
+fn join_before(list: &CellList, all: &mut Labels, n: usize) -> bool
+    requires fits { Fits list.now all.old }
+    requires within { n < length (cells list.now) }
+    ensures touched { AreJoinedByTouch list.now all.old all.new result }
+    ensures met { (number : ℕ) → number < 4 → HasMet list.now all.new n number }
 {
-    let mut items = Vec::new(alloc);
-    items.push(cell)?;
-    Ok(CellList::from_ordered(items))
-}
-
-/// Adds a set, joined with those of the sets that it touches.
-fn add(alloc: Global, sets: &mut Vec<CellList>, set: CellList) -> Result<(), AllocError>
-    ensures together { OnOk result
-        (union_of sets.new.items ≡ union set (union_of sets.old.items)) }
-    ensures pieces { OnOk result ((G : Generation) → IsPiece G set →
-        All (IsPiece G) sets.old.items → All (IsPiece G) sets.new.items) }
-    ensures apart { OnOk result
-        (AllPairs AreUntouched sets.old.items → AllPairs AreUntouched sets.new.items) }
-{
-    let mut set = set;
-    let mut n = 0;
-    while n < sets.len() {
-        if are_touching(&sets[n], &set) {
-            let other = sets.remove(n);
-            set = union(alloc, &other, &set)?;
-        } else {
-            n += 1;
+    let mut joined = false;
+    for number in 0..BEFORE {
+        if join_neighbour(list, all, n, number) {
+            joined = true;
         }
     }
-    sets.push(set)?;
-    Ok(())
+    joined
+}
+
+/// Joins cells that touch. False where they are joined already.
+pub fn join_touching(list: &CellList, all: &mut Labels) -> bool
+    requires { Fits list.now all.old }
+    ensures further { AreJoinedFurther all.old all.new result }
+    ensures whole { AreOfWholeIslands list.now (sets_of list.now all.new) }
+    ensures tied { (R : Rule) → KeepsTied R list.now all.old all.new }
+    ensures joined { AreJoinedWithin list.now all.old → AreJoinedWithin list.now all.new }
+{
+    let mut joined = false;
+    for n in 0..list.len() {
+        if join_before(list, all, n) {
+            joined = true;
+        }
+    }
+    joined
 }
 
 /// The islands of a set.
-pub fn islands(alloc: Global, cells: &CellList) -> Result<Vec<CellList>, AllocError>
-    ensures { IfOk result (λ isles. AreIslands cells.now isles.items) }
+pub fn islands(alloc: Global, list: &CellList) -> Result<Labels, AllocError>
+    ensures { IfOk result (λ isles. AreNumbered list.now isles
+        × AreIslands list.now (sets_of list.now isles)) }
 {
-    let mut sets = Vec::new(alloc);
-    for cell in cells.as_slice() {
-        add(alloc, &mut sets, single(alloc, *cell)?)?;
-    }
-    Ok(sets)
+    let mut isles = Labels::each(alloc, list)?;
+    join_touching(list, &mut isles);
+    Ok(isles)
 }

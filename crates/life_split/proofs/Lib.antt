@@ -1,7 +1,4 @@
-pub mod Begun
-pub mod Members
 pub mod Coming
-pub mod Stepped
-pub mod Walked
-pub mod Ended
-pub mod Joined
+pub mod Members
+pub mod Walks
+pub mod Walking

@@ -1,2 +1,2 @@
-pub mod Tied
 pub mod Courses
+pub mod Rounds

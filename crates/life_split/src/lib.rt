@@ -3,11 +3,9 @@
 //! Tested in `tests_parts`.
 #![tactic(auto)]
 
-mod joining;
 mod orbits;
+mod rounds;
 mod splitting;
-mod steps;
-mod walking;
 
 pub use orbits::part_orbits;
 pub use splitting::independent_parts;

@@ -1,18 +1,29 @@
-use Rattle.std.proofs.Common.{◌≡◌, ◌≢◌, ◌==◌, false, get_or, below_more, eqb-true, ap, sym, ◌∙◌, arith}
-use Rattle.std.proofs.lemmas.Bool.{false_from_ne_true}
-use Rattle.std.proofs.lemmas.List.{get_or_default}
-use Rattle.life_model.specs.Generation.{empty}
-use Rattle.life_classes.specs.Nearness.{reaches}
+use Rattle.std.proofs.Common.{◌≡◌, get_or, inl, inr, ap, ◌∙◌, arith}
+use Rattle.std.proofs.lemmas.Int.{ints}
+use Rattle.life_model.specs.Cell.{origin}
+use Rattle.life_model.specs.Generation.{cells}
+use Rattle.life_islands.specs.Forest.{root}
+use Rattle.life_classes.specs.Tags.{place_number}
+use Rattle.life_islands.proofs.Rows.{row_of}
 use Rattle.life_islands.proofs.places.is_of_one.Goals as goal
 
-pub loop-n-preserved : goal.loop-n-preserved
-loop-n-preserved c =
-    let n = c.loop-n.n in
-    let own = c.place_of-own.result in
-    below_more (λ k. k ≢ own → reaches 2 (get_or c.args.sets.now k empty) c.args.cell ≡ false) n c.loop-n.invariant
-    (λ differ.
-    ap (λ H. reaches 2 H c.args.cell) (sym (c.index-sets-n.is ∙ get_or_default c.args.sets.now n c.index-sets-n.result empty (omega arith)))
-    ∙ c.is_met.ensures c.if-is_met.false (false_from_ne_true (n == own) (λ e. differ (eqb-true n own e))))
-
 pub returns : goal.returns
-returns c _ = (c.place_of-own.result, λ n h differ. c.loop-n.invariant n (omega arith) differ)
+returns c k h near =
+    let cs = cells c.args.list.now in
+    let e = get_or cs k origin in
+    let own = get_or cs c.args.n origin in
+    let low = c.place_number-low.ensures.number ∙ ap (λ ds. place_number (get_or ds c.args.n origin)) c.as_slice.ensures.cells in
+    let to = λ (same : root c.args.sets.now.forest.items (get_or c.args.sets.now.labels.items k 0) ≡ c.mark-mark.result). same ∙ c.mark-mark.ensures in
+    elim (row_of e own near) [
+      | inl a ↦ let up = a.0 in let down = a.1 in to (c.if-not-row_has.ensures k h (omega (arith, ints)) (omega (arith, ints)))
+      | inr p ↦ elim p [
+        | inl a ↦ let up = a.0 in let down = a.1 in to (c.if-not-row_has-2.ensures k h (omega (arith, ints)) (omega (arith, ints)))
+        | inr q ↦ elim q [
+          | inl a ↦ let up = a.0 in let down = a.1 in to (c.if-not-row_has-3.ensures k h (omega (arith, ints)) (omega (arith, ints)))
+          | inr r ↦ elim r [
+            | inl a ↦ let up = a.0 in let down = a.1 in to (c.if-not-row_has-4.ensures k h (omega (arith, ints)) (omega (arith, ints)))
+            | inr a ↦ let up = a.0 in let down = a.1 in to (c.if-not-row_has-5.ensures k h (omega (arith, ints)) (omega (arith, ints)))
+          ]
+        ]
+      ]
+    ]

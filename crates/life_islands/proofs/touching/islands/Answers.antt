@@ -1,19 +1,19 @@
-use Rattle.std.proofs.Common.{[], ◌<◌, length, sym, subst}
-use Rattle.life_islands.proofs.Adding.{AreIslandsOf, all_listed, next_listed, none_yet}
+use Rattle.std.proofs.Common.{◌∙◌}
+use Rattle.life_islands.proofs.Further.{further_fits}
+use Rattle.life_islands.proofs.Touched.{islands_by, none_joined, numbered_fits}
 use Rattle.life_islands.proofs.touching.islands.Goals as goal
 
-pub loop-cell-init : goal.loop-cell-init
-loop-cell-init c = subst (AreIslandsOf c.args.cells.now []) (sym c.new-sets.ensures.items) (none_yet c.args.cells.now)
-
-pub loop-cell-preserved : goal.loop-cell-preserved
-loop-cell-preserved c =
-    let made = c.in_ok-add.ensures in
-    let inside : c.loop-cell.cell-index < length c.as_slice-cell-items.result.now = c.loop-cell-test.true in
-    next_listed c.args.cells.now c.as_slice-cell-items.result.now c.loop-cell.cell-index c.loop-cell.sets.items
-    c.add.new.sets.items c.in_ok-single.field-0 c.as_slice-cell-items.ensures.cells inside c.in_ok-single.ensures
-    c.loop-cell.invariant made.together made.pieces made.apart
+pub join_touching-requires : goal.join_touching-requires
+join_touching-requires c = numbered_fits c.args.list.now c.in_ok-isles.isles c.in_ok-isles.ensures.0
 
 pub returns : goal.returns
 returns c =
-    all_listed c.args.cells.now c.as_slice-cell-items.result.now c.loop-cell.cell-index c.loop-cell.sets.items
-    c.as_slice-cell-items.ensures.cells c.loop-cell-test.false c.loop-cell.invariant
+    let G = c.args.list.now in
+    let isles = c.in_ok-isles.isles in
+    let new = c.join_touching.new.all in
+    let further = c.join_touching.ensures.further in
+    let numbered = c.in_ok-isles.ensures.0 in (
+      record { labels = further.labels ∙ numbered.labels; long = further.long ∙ numbered.long },
+      islands_by G new (further_fits G isles new c.join_touching.result further (numbered_fits G isles numbered))
+          c.join_touching.ensures.whole (c.join_touching.ensures.joined (none_joined G isles numbered c.in_ok-isles.ensures.1)),
+    )

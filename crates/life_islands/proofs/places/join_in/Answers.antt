@@ -1,0 +1,39 @@
+use Rattle.std.proofs.Common.{subst}
+use Rattle.life_islands.specs.Labels.{AreJoinedFurther}
+use Rattle.life_islands.proofs.Further.{further_more, further_fits, further_whole, kept_through}
+use Rattle.life_islands.proofs.Labelled.{make_up}
+use Rattle.life_islands.proofs.Touched.{numbered_fits}
+use Rattle.life_islands.proofs.places.join_in.Goals as goal
+
+pub join_places-requires-clause-isles : goal.join_places-requires-clause-isles
+join_places-requires-clause-isles c = numbered_fits c.args.list.now c.in_ok-isles.isles c.in_ok-isles.ensures.0
+
+pub join_places-requires-clause-laid_out : goal.join_places-requires-clause-laid_out
+join_places-requires-clause-laid_out c =
+    let a = c.args in
+    let at = c.loop-joined.invariant in
+    record {
+      islands = c.in_ok-isles.ensures.1;
+      make_up = make_up a.list.now c.loop-joined.sets (further_fits a.list.now a.sets.now c.loop-joined.sets c.loop-joined.joined at.further c.requires);
+      whole = at.whole;
+    }
+
+pub loop-joined-init : goal.loop-joined-init
+loop-joined-init c =
+    let touched = c.join_touching-joined.ensures in
+    record { further = touched.further; tied = touched.tied c.args.rule.now; whole = touched.whole }
+
+pub loop-joined-preserved : goal.loop-joined-preserved
+loop-joined-preserved c =
+    let a = c.args in
+    let at = c.loop-joined.invariant in
+    let here = c.join_places.ensures in
+    let M = c.loop-joined.sets in
+    let N = c.join_places.new.sets in
+    let fits = further_fits a.list.now a.sets.now M c.loop-joined.joined at.further c.requires in
+    record {
+      further = further_more a.sets.now M N c.loop-joined.joined at.further
+          (subst (AreJoinedFurther M N) c.loop-joined-test.true here.further);
+      tied = kept_through a.rule.now a.list.now a.sets.now M N at.further.labels at.tied here.tied;
+      whole = further_whole a.list.now M N c.join_places.result here.further fits at.whole;
+    }

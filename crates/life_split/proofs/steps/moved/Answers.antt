@@ -1,7 +1,0 @@
-use Rattle.std.proofs.Common.{arith}
-use Rattle.std.proofs.lemmas.Int.{ints}
-use Rattle.life_model.proofs.Cells.{pair}
-use Rattle.life_split.proofs.steps.moved.Goals as goal
-
-pub returns : goal.returns
-returns c = pair (omega (arith, ints)) (omega (arith, ints))
