@@ -19,7 +19,7 @@ use Rattle.life_parts.specs.Groups.{IsAround}
 use Rattle.life_islands.specs.declared.colours.Seat.{Seat}
 use Rattle.life_islands.specs.Seats.{IsSeat, cell_at, listed, seat}
 use Rattle.life_islands.specs.Reach.{IsInReach, IsWithinTwo}
-use Rattle.life_islands.specs.Splits.{AreLaidOut, IsSettled, IsSettledNear}
+use Rattle.life_islands.specs.Splits.{AreLaidOut, AreOfWholeIslands, IsSettled, IsSettledNear}
 use Rattle.life_islands.proofs.Neighbours.{seated}
 use Rattle.life_islands.specs.declared.labels.Labels.{Labels}
 use Rattle.life_islands.specs.Forest.{root}
@@ -177,3 +177,18 @@ pub settled_near : (R : Rule) (G : Generation) (sets : List Generation) (cell : 
 settled_near R G sets cell here each x near place =
     let n = seated cell x near (λ e. both_ways (contains G x) place (ap (contains G) e ∙ here)) in
     subst (IsSettled R G sets) n.2 (each n.0 n.1 (ap (contains G) n.2 ∙ place))
+
+-- where all cells have one mark there is one set
+pub held_as_one : (R : Rule) (G : Generation) (L : Labels) → Fits G L → AreOfWholeIslands G (sets_of G L) → (own : ℕ) →
+    ((k : ℕ) → k < length L.labels.items → root L.forest.items (get_or L.labels.items k 0) ≡ own) → AreHeldApart R G (sets_of G L)
+held_as_one R G L fits whole own all =
+    let mark = mark_of G L.labels.items L.forest.items in
+    let one = λ (c : Cell) (h : contains G c ≡ true).
+    let k = place_in_list G (cells G) refl c h in
+    let long = fits.long in
+    let inside : k.0 < length (cells G) = k.1 in
+    ap mark (sym k.2) ∙ mark-at G L.labels.items L.forest.items fits.long k.0 origin inside ∙ all k.0 (omega arith) in
+    record {
+      islands = whole;
+      places = λ x place. inl (λ c d at too. whole_by_mark G L fits c d too.live (one c at.live ∙ sym (one d too.live)));
+    }

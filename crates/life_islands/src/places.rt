@@ -139,6 +139,20 @@ fn join_places(rule: &Rule, list: &CellList, isles: &Labels, sets: &mut Labels) 
     joined
 }
 
+/// Whether all labels have one root.
+fn is_one(sets: &Labels) -> bool
+    ensures { OnTrue result ((k : ℕ) → k < length sets.now.labels.items →
+        root sets.now.forest.items (get_or sets.now.labels.items k 0) ≡
+        root sets.now.forest.items (get_or sets.now.labels.items 0 0)) }
+{
+    for n in 1..sets.labels.len() {
+        if sets.mark(n) != sets.mark(0) {
+            return false;
+        }
+    }
+    true
+}
+
 /// Joins the sets that a generation joins, of which these are all cells, until all are held apart. False where they are
 /// held apart already.
 pub fn join_in(
@@ -152,8 +166,11 @@ pub fn join_in(
     ensures tied { KeepsTied rule.now list.now sets.old sets.new }
     ensures held { OnOk result (AreHeldApart rule.now list.now (sets_of list.now sets.new)) }
 {
-    let isles = islands(alloc, list)?;
     let mut joined = join_touching(list, sets);
+    if is_one(sets) {
+        return Ok(joined);
+    }
+    let isles = islands(alloc, list)?;
     while join_places(rule, list, &isles, sets) {
         joined = true;
     }

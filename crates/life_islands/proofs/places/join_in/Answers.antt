@@ -1,6 +1,8 @@
-use Rattle.std.proofs.Common.{subst}
+use Rattle.std.proofs.Common.{subst, get_or}
 use Rattle.life_islands.specs.Labels.{AreJoinedFurther}
 use Rattle.life_islands.proofs.Further.{further_more, further_fits, further_whole, kept_through}
+use Rattle.life_islands.specs.Forest.{root}
+use Rattle.life_islands.proofs.Placing.{held_as_one}
 use Rattle.life_islands.proofs.Labelled.{make_up}
 use Rattle.life_islands.proofs.Touched.{numbered_fits}
 use Rattle.life_islands.proofs.places.join_in.Goals as goal
@@ -37,3 +39,11 @@ loop-joined-preserved c =
       tied = kept_through a.rule.now a.list.now a.sets.now M N at.further.labels at.tied here.tied;
       whole = further_whole a.list.now M N c.join_places.result here.further fits at.whole;
     }
+
+pub returns-then-is_one-clause-held : goal.returns-then-is_one-clause-held
+returns-then-is_one-clause-held c =
+    let a = c.args in
+    let touched = c.join_touching-joined.ensures in
+    let M = c.join_touching-joined.new.all in
+    let fits = further_fits a.list.now a.sets.now M c.join_touching-joined.result touched.further c.requires in
+    held_as_one a.rule.now a.list.now M fits touched.whole (root M.forest.items (get_or M.labels.items 0 0)) c.if-is_one.ensures
