@@ -16,7 +16,7 @@ use Rattle.life_objects.proofs.Many.{generations-zero}
 use Rattle.life_parts.specs.Apart.{AreHeldApart}
 use Rattle.life_parts.specs.Ties.{AreTied, IsIn, itself}
 use Rattle.life_parts.proofs.Deciding.{decided}
-use Rattle.life_parts.proofs.Ends.{contains-later}
+use Rattle.life_parts.proofs.Ends.{both_in, contains-later}
 use Rattle.life_parts.proofs.Evolving.{at_first, in_at_first}
 use Rattle.life_islands.specs.declared.labels.Labels.{Labels}
 use Rattle.life_islands.specs.Forest.{root}
@@ -25,7 +25,7 @@ use Rattle.life_islands.specs.Labels.{AreJoinedFurther, AreTiedFirsts, AreTiedLa
 use Rattle.life_islands.specs.Splits.{MakeUp}
 use Rattle.life_islands.proofs.Forests.{root-le, root-stays}
 use Rattle.life_islands.proofs.Further.{further_fits, same_sets}
-use Rattle.life_islands.proofs.Labelled.{listed_cell, of_listed, of_set, place_in_list, sets_make_up}
+use Rattle.life_islands.proofs.Labelled.{in_set, listed_cell, of_listed, of_set, place_in_list, sets_make_up}
 use Rattle.life_islands.proofs.Touched.{numbered_fits}
 use Rattle.life_islands.proofs.Whole.{pairs_of_those, those_held_apart}
 use Rattle.life_split.specs.Rounds.{AreHeldUntil, AreJoinedTied, AreParted, HaveArrived, HaveWalked}
@@ -254,4 +254,35 @@ ends_joined_tied R P k d L E forest a at r fits same heirs long joins =
     record {
       long = long ∙ ap length same ∙ at.arrived.firsts.long;
       tied = joins (λ m j h i roots. ends_tied R P E E.forest.items k d fits refl labels tied r m j (omega arith) (omega arith) roots) tied;
+    }
+
+-- where all cells are joined they are the only part
+pub joined_as_one : (R : Rule) (P : Generation) (forest : List ℕ) → AreJoinedTied R P forest →
+    ((k : ℕ) → k < length forest → root forest k ≡ root forest 0) → AreParted R P forest
+joined_as_one R P forest firsts all Ks those =
+    let numbers = range_with_len 0 (length (cells P)) in
+    let Hs = joined_sets P forest in
+    let up = first_make_up R P forest firsts.long in
+    let mark = mark_of P numbers forest in
+    let one = λ (c : Cell) (h : contains P c ≡ true).
+    let m = place_in_list P (cells P) refl c h in
+    let long = firsts.long in
+    let inside : m.0 < length (cells P) = m.1 in
+    first_mark P forest m.0 c m.1 m.2 ∙ all m.0 (omega arith) in
+    record {
+      together = those.together ∙ up.together;
+      parts = λ i x h.
+          let K = get_or Ks i x in
+          let listed = those.from K (Contains-get_or Ks i x h) in
+          record {
+            nonempty = those.some i x h;
+            within = λ c a. (of_listed P numbers forest K listed c a).1;
+            tied = pairs_of_those Hs Ks those (λ c e. AreTied R P 0 c 0 e) (first_sets_tied R P forest firsts.long firsts.tied) K
+                (Contains-get_or Ks i x h);
+            whole = λ c e a t.
+                let b = of_listed P numbers forest K listed c a in
+                let here = in_at_first R P e (both_in R P 0 0 c e t).1 in
+                ap (λ A. contains A e) (sym b.2) ∙ in_set P numbers forest (mark c) empty e b.0 here (one e here ∙ sym (one c b.1));
+          };
+      once = those.once;
     }

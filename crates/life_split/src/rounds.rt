@@ -5,11 +5,13 @@ ghost use Rattle.life_model.specs.Cell.{origin};
 ghost use Rattle.life_model.specs.Evolution.{generation};
 ghost use Rattle.life_model.specs.Generation.{cells};
 ghost use Rattle.life_parts.specs.Apart.{AreHeldApart};
+ghost use Rattle.std.specs.Bool.{OnTrue};
+ghost use Rattle.life_islands.specs.Forest.{root};
 ghost use Rattle.life_islands.specs.Heirs.{AreHeirs};
 ghost use Rattle.life_islands.specs.Labels.{Fits, sets_of};
 ghost use Rattle.life_split.specs.Rounds.{AreJoinedTied, AreParted, HaveWalked};
 
-use life_islands::{Labels, heirs, join_ends, join_in, numbers};
+use life_islands::{Labels, heirs, join_ends, join_in, numbers, root};
 use life_orbit::Orbit;
 use std::alloc::{AllocError, Global};
 
@@ -71,7 +73,19 @@ fn ended(alloc: Global, orbit: &Orbit, sets: Labels) -> Result<Labels, AllocErro
     heirs(alloc, &rule, last, sets, orbit.set(), orbit.displacement())
 }
 
-/// What a round joins, of what is joined already.
+/// Whether all numbers are joined.
+fn are_all_joined(forest: &[usize]) -> bool
+    ensures { OnTrue result ((k : ℕ) → k < length forest.now → root forest.now k ≡ root forest.now 0) }
+{
+    for n in 1..forest.len() {
+        if root(forest, n) != root(forest, 0) {
+            return false;
+        }
+    }
+    true
+}
+
+/// What a round joins, of what is joined already. It ends once all is joined.
 fn joined_once(alloc: Global, orbit: &Orbit, forest: Vec<usize>) -> Result<Round, AllocError>
     requires { AreJoinedTied orbit.now.rule orbit.now.set forest.items }
     ensures tied { IfOk result (λ one. AreJoinedTied orbit.now.rule orbit.now.set one.forest.items) }
@@ -84,6 +98,12 @@ fn joined_once(alloc: Global, orbit: &Orbit, forest: Vec<usize>) -> Result<Round
     let mut sets = begun(alloc, orbit, forest)?;
     let mut is_joined = false;
     for n in 1..orbit.period() {
+        if are_all_joined(sets.forest.as_slice()) {
+            return Ok(Round {
+                forest: sets.forest,
+                is_joined: false,
+            });
+        }
         sets = later(alloc, orbit, n, sets)?;
         if join_in(alloc, &rule, orbit.phase(n), &mut sets)? {
             is_joined = true;

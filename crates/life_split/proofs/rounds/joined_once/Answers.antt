@@ -1,4 +1,4 @@
-use Rattle.std.proofs.Common.{◌≡◌, Ok, ℕ, suc, ◌-◌, ◌≤◌, false, sym, subst, ap, ◌∙◌, arith, true≢false, get_or}
+use Rattle.std.proofs.Common.{◌<◌, ◌≡◌, Ok, ℕ, suc, ◌-◌, ◌≤◌, false, sym, subst, ap, ◌∙◌, arith, true≢false, get_or, length}
 use Rattle.std.specs.List.{sum}
 use Rattle.life_model.specs.Cell.{Cell, origin}
 use Rattle.life_model.specs.Generation.{cells}
@@ -10,7 +10,7 @@ use Rattle.life_islands.specs.Heirs.{AreHeirs}
 use Rattle.life_islands.specs.Labels.{Fits, KeepsTied, sets_of}
 use Rattle.life_islands.proofs.Further.{no_greater}
 use Rattle.life_split.specs.Rounds.{AreParted, HaveWalked}
-use Rattle.life_split.proofs.Walking.{arrived_next, ends_joined_tied, parted, walked}
+use Rattle.life_split.proofs.Walking.{arrived_next, ends_joined_tied, joined_as_one, parted, walked}
 use Rattle.life_split.proofs.rounds.joined_once.Goals as goal
 use Rattle.life_split.proofs.rounds.joined_once.Goals.{After-loop-n, In-loop-n, then-branch, else-branch, then-branch-2, else-branch-2}
 
@@ -27,7 +27,7 @@ here : (c : In-loop-n) → HaveWalked c.args.orbit.now.rule c.args.orbit.now.set
 here c = c.loop-n.invariant.walked (c.loop-n.n - 1) (let one = c.loop-n.auto.n in omega arith)
 
 pub later-requires-clause-fits : goal.later-requires-clause-fits
-later-requires-clause-fits c = (here c).arrived.fits
+later-requires-clause-fits c = (here (goal.at.later-requires-clause-fits c).In-loop-n).arrived.fits
 
 pub later-requires-clause-held : goal.later-requires-clause-held
 later-requires-clause-held c = (here (goal.at.later-requires-clause-held c).In-loop-n).here
@@ -138,3 +138,13 @@ returns-clause-parted c none =
           (joins.ended (ap Ok w.if-branch-2.false) m j (omega arith) (omega arith)
           (subst (λ f. root f (get_or E.labels.items m 0) ≡ root f (get_or E.labels.items j 0)) (sym forest) roots))))
     ]
+
+pub returns-then-are_all_joined-clause-tied : goal.returns-then-are_all_joined-clause-tied
+returns-then-are_all_joined-clause-tied c = (here (goal.at.returns-then-are_all_joined-clause-tied c).In-loop-n).arrived.firsts
+
+pub returns-then-are_all_joined-clause-parted : goal.returns-then-are_all_joined-clause-parted
+returns-then-are_all_joined-clause-parted c =
+    λ _.
+    joined_as_one c.args.orbit.now.rule c.args.orbit.now.set c.loop-n.sets.forest.items
+    (here (goal.at.returns-then-are_all_joined-clause-parted c).In-loop-n).arrived.firsts
+    (subst (λ f. (k : ℕ) → k < length f → root f k ≡ root f 0) c.as_slice.ensures.value c.if-are_all_joined.ensures)
