@@ -3,11 +3,10 @@ use Rattle.std.proofs.Common.{◌≡◌, ◌∙◌, ℕ, ◌≤◌, Bool, true, 
 use Rattle.std.proofs.lemmas.List.{take-append-le, take_all}
 use Rattle.std.specs.Io.KnownBytes.{Appends}
 use Rattle.watched.specs.Watching.{AppendsFront}
-use Rattle.gathered.specs.Telling.{Sheet, TellsAfter}
+use Rattle.gathered.specs.Telling.{Sheet, TellsAfter, TellsFront}
 use Rattle.gathered.proofs.Telling.{all_told, tells_more}
 use Rattle.census_rows.specs.declared.row.Row.{Row}
 use Rattle.census_table.specs.Tables.{Listing, IsListingOf, listing_text}
-use Rattle.census_table.specs.Told.{TellsFront}
 use Rattle.census_table.specs.declared.table.Format.{Format}
 use Rattle.census_table.specs.declared.subject.Subject.{Subject}
 use Rattle.census_reports.specs.Forms.{IsMade}

@@ -3,4 +3,3 @@ pub mod Hex
 pub mod Counts
 pub mod Floatless
 pub mod Texts
-pub mod Told

@@ -1,6 +1,6 @@
 //! Tables, told some rows at a time.
 ghost use Rattle.std.specs.Prelude.{◌≡◌, List, length, map, IfOk, MatchResult};
-ghost use Rattle.gathered.specs.Telling.{TellsAfter, sheet};
+ghost use Rattle.gathered.specs.Telling.{TellsAfter, TellsFront, sheet};
 ghost use Rattle.census_rows.specs.declared.row.Row.{Row};
 ghost use Rattle.census_readback.specs.Grouped.{sections_lent, rows_lent};
 ghost use Rattle.census_readback.specs.Shapes.{AreReports, any_outcome, lines_that};
@@ -8,7 +8,7 @@ ghost use Rattle.census_table.specs.Columns.{pattern_row};
 ghost use Rattle.census_table.specs.Entries.{all_entries, entries_of, lines_under, section_entries};
 ghost use Rattle.census_table.specs.ObjectColumns.{object_row};
 ghost use Rattle.census_table.specs.Tables.{head_text, listing_of, listing_text, rows_text, table_text};
-ghost use Rattle.census_table.specs.Told.{TellsFront, rows_in};
+ghost use Rattle.census_table.specs.Told.{rows_in};
 
 use crate::cell::Field;
 use crate::column::pattern_row;

@@ -31,3 +31,10 @@ IsToldAfter first bytes s =
 unfoldable pub TellsAfter : List ℕ → Sheet → Sheet → Type 0
 TellsAfter bytes before after =
     (first : Option (List ℕ)) (told : List ℕ) → IsToldAfter first told before → IsToldAfter first (told ++ bytes) after
+
+-- a prefix of these bytes is told
+pub record TellsFront (bytes : List ℕ) (before after : Sheet) : Type 0 where
+  pub front : List ℕ
+  pub rest : List ℕ
+  pub whole : bytes ≡ front ++ rest
+  pub tells : TellsAfter front before after

@@ -4,7 +4,7 @@ use Rattle.gathered.specs.Telling.{sheet}
 use Rattle.gathered.proofs.Telling.{tells_failed}
 use Rattle.census_table.specs.Columns.{pattern_row}
 use Rattle.census_table.specs.Tables.{rows_text}
-use Rattle.census_table.proofs.Told.{front_none}
+use Rattle.gathered.proofs.Fronts.{front_none}
 use Rattle.census_table.proofs.table.put_entries.Goals as goal
 
 pub returns-then-failed : goal.returns-then-failed

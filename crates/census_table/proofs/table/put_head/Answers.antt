@@ -3,7 +3,7 @@ use Rattle.std.proofs.lemmas.Result.{err_from_is_err_and}
 use Rattle.gathered.specs.Telling.{sheet}
 use Rattle.gathered.proofs.Telling.{tells_none}
 use Rattle.census_table.specs.Tables.{head_text}
-use Rattle.census_table.proofs.Told.{front_none}
+use Rattle.gathered.proofs.Fronts.{front_none}
 use Rattle.census_table.proofs.table.put_head.Goals as goal
 
 pub returns-in_err-header-in-Csv : goal.returns-in_err-header-in-Csv

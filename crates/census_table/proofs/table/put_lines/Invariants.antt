@@ -4,7 +4,7 @@ use Rattle.census_readback.specs.Grouped.{rows_lent}
 use Rattle.census_table.specs.Columns.{pattern_row}
 use Rattle.census_table.specs.Entries.{lines_under}
 use Rattle.census_table.specs.Tables.{rows_text}
-use Rattle.census_table.proofs.Told.{TellsUpTo}
+use Rattle.gathered.proofs.Fronts.{TellsUpTo}
 use Rattle.census_table.proofs.table.put_lines.Given as goal
 
 abbrev pub invariant-loop-start : goal.invariant-loop-start

@@ -2,7 +2,7 @@ use Rattle.std.proofs.Common.{◌++◌, ◌∙◌, ap, map, sym}
 use Rattle.std.proofs.lemmas.Result.{err_from_is_err_and}
 use Rattle.gathered.specs.Telling.{sheet}
 use Rattle.census_table.specs.Tables.{head_text, listing_of, rows_text, listing_text}
-use Rattle.census_table.proofs.Told.{front_first, front_none, told_both}
+use Rattle.gathered.proofs.Fronts.{front_first, front_none, told_both}
 use Rattle.census_table.proofs.table.put_listing.Goals as goal
 
 pub returns-in_err-names : goal.returns-in_err-names

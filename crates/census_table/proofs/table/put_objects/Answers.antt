@@ -5,7 +5,7 @@ use Rattle.census_table.specs.ObjectColumns.{object_row}
 use Rattle.census_table.specs.Tables.{rows_text}
 use Rattle.census_table.specs.declared.object.Object.{Object}
 use Rattle.census_table.proofs.Texts.{drop-cut, objects-cut}
-use Rattle.census_table.proofs.Told.{up_to_front, up_to_more, up_to_start}
+use Rattle.gathered.proofs.Fronts.{up_to_front, up_to_more, up_to_start}
 use Rattle.census_table.proofs.table.put_objects.Goals as goal
 
 pub loop-start-init : goal.loop-start-init

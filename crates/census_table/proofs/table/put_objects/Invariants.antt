@@ -2,7 +2,7 @@ use Rattle.std.proofs.Common.{◌-◌, ◌≤◌, drop, length, map}
 use Rattle.gathered.specs.Telling.{sheet}
 use Rattle.census_table.specs.ObjectColumns.{object_row}
 use Rattle.census_table.specs.Tables.{rows_text}
-use Rattle.census_table.proofs.Told.{TellsUpTo}
+use Rattle.gathered.proofs.Fronts.{TellsUpTo}
 use Rattle.census_table.proofs.table.put_objects.Given as goal
 
 abbrev pub invariant-loop-start : goal.invariant-loop-start

@@ -6,7 +6,7 @@ use Rattle.census_table.specs.Columns.{pattern_row}
 use Rattle.census_table.specs.Entries.{all_entries, section_entries}
 use Rattle.census_table.specs.Tables.{rows_text}
 use Rattle.census_table.proofs.Texts.{sections-cut}
-use Rattle.census_table.proofs.Told.{up_to_front, up_to_more, up_to_start}
+use Rattle.gathered.proofs.Fronts.{up_to_front, up_to_more, up_to_start}
 use Rattle.census_table.proofs.table.put_sections.Goals as goal
 
 pub loop-index-init : goal.loop-index-init

@@ -4,7 +4,7 @@ use Rattle.census_readback.specs.Grouped.{sections_lent}
 use Rattle.census_table.specs.Columns.{pattern_row}
 use Rattle.census_table.specs.Entries.{all_entries}
 use Rattle.census_table.specs.Tables.{rows_text}
-use Rattle.census_table.proofs.Told.{TellsUpTo}
+use Rattle.gathered.proofs.Fronts.{TellsUpTo}
 use Rattle.census_table.proofs.table.put_sections.Given as goal
 
 abbrev pub invariant-loop-index : goal.invariant-loop-index

@@ -1,11 +1,10 @@
 use Rattle.std.proofs.Common.{MatchResult, subst}
 use Rattle.std.proofs.lemmas.Result.{err_from_is_err_and}
-use Rattle.gathered.specs.Telling.{TellsAfter, sheet}
+use Rattle.gathered.specs.Telling.{TellsAfter, TellsFront, sheet}
 use Rattle.census_table.specs.Entries.{entries_of}
 use Rattle.census_table.specs.Tables.{listing_of, table_text}
-use Rattle.census_table.specs.Told.{TellsFront}
 use Rattle.census_table.proofs.Texts.{pattern-text}
-use Rattle.census_table.proofs.Told.{front_none}
+use Rattle.gathered.proofs.Fronts.{front_none}
 use Rattle.census_table.proofs.table.put_table.Goals as goal
 
 pub returns-in_err-table : goal.returns-in_err-table

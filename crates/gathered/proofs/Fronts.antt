@@ -1,8 +1,8 @@
 -- Bytes of which a prefix is told.
-use Rattle.std.proofs.Common.{◌≡◌, ℕ, List, [], ◌++◌, Result, Ok, Err, MatchResult, refl, sym, ap, ◌∙◌, subst, append_assoc, append-nil}
-use Rattle.gathered.specs.Telling.{Sheet, TellsAfter}
+use Rattle.std.proofs.Common.{◌≡◌, ℕ, suc, ◌+◌, ◌<◌, ◌≤◌, List, [], ◌∷◌, ◌++◌, length, drop, get_or, Result, Ok, Err, MatchResult, refl, sym, ap, ◌∙◌, subst, append_assoc, append-nil, drop-cons, arith}
+use Rattle.std.proofs.lemmas.List.{drop_all}
+use Rattle.gathered.specs.Telling.{Sheet, TellsAfter, TellsFront}
 use Rattle.gathered.proofs.Telling.{tells_more, tells_none}
-use Rattle.census_table.specs.Told.{TellsFront}
 
 -- of the whole all but what is left is told
 pub record TellsUpTo (whole left : List ℕ) (a b : Sheet) : Type 0 where
@@ -52,3 +52,28 @@ pub told_both : {A B : Type 0} (r : Result A B) (whole first second : List ℕ) 
 told_both (Ok x) whole first second a b c e p q = subst (λ t. TellsAfter t a c) (sym e) (tells_more first second a b c p q)
 told_both (Err x) whole first second a b c e p q =
     up_to_front whole second second [] a b c (record { done = first; whole_is = e; told = p }) (sym (append-nil second)) q
+
+-- after a first text a prefix of a second is told
+pub front_more : (first second : List ℕ) (a b c : Sheet) → TellsAfter first a b → TellsFront second b c → TellsFront (first ++ second) a c
+front_more first second a b c told front = record {
+  front = first ++ front.front;
+  rest = front.rest;
+  whole = ap (λ t. first ++ t) front.whole ∙ sym (append_assoc first front.front front.rest);
+  tells = tells_more first front.front a b c told front.tells;
+}
+
+-- texts of elements, one after another
+module _ {X : Type 0} (one : X → List ℕ) (all : List X → List ℕ) (cons : (x : X) (xs : List X) → all (x ∷ xs) ≡ one x ++ all xs) (xs : List X) (i : ℕ) (a b : Sheet)
+    (upto : TellsUpTo (all xs) (all (drop i xs)) a b) where
+  each_cut : (d : X) → i < length xs → all (drop i xs) ≡ one (get_or xs i d) ++ all (drop (i + 1) xs)
+  each_cut d less =
+      ap all (drop-cons xs i d less ∙ ap (λ k. get_or xs i d ∷ drop k xs) (let e : suc i ≡ i + 1 = omega arith in e)) ∙ cons (get_or xs i d) (drop (i + 1) xs)
+
+  pub each_more : (d : X) (c : Sheet) → i < length xs → TellsAfter (one (get_or xs i d)) b c → TellsUpTo (all xs) (all (drop (i + 1) xs)) a c
+  each_more d c less told = up_to_more (all xs) (all (drop i xs)) (one (get_or xs i d)) (all (drop (i + 1) xs)) a b c upto (each_cut d less) told
+
+  pub each_front : (d : X) (c : Sheet) → i < length xs → TellsFront (one (get_or xs i d)) b c → TellsFront (all xs) a c
+  each_front d c less front = up_to_front (all xs) (all (drop i xs)) (one (get_or xs i d)) (all (drop (i + 1) xs)) a b c upto (each_cut d less) front
+
+  pub each_end : length xs ≤ i → all [] ≡ [] → TellsAfter (all xs) a b
+  each_end over none = up_to_end (all xs) (all (drop i xs)) a b upto (ap all (drop_all i xs over) ∙ none)
