@@ -178,7 +178,7 @@ pub fn answer<I: Read, O: Write, E: Write>(
 /// - 1: the collections, the pattern, the rule or the code is refused, and nothing was written.
 /// - 2: clap refuses the words, and not because memory was refused; nothing was read or written.
 /// - 3: memory was refused, and nothing was written, or by `run` and by `objects` a prefix of the report, or by `table`
-///   one of the table.
+///   and by `page` one of the table or the page.
 /// - 4: standard input or standard output has failed, or a folder could not be listed or a file of it be read. What was
 ///   written is a prefix of what was asked for, or nothing; after a failed read it is nothing. With `--keep-going` it is
 ///   the whole report of what could be read, after a line on `errors` for each folder, file or name that was lost.

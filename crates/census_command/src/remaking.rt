@@ -70,7 +70,7 @@ fn write<S: Shelf, I: Read, O: Write>(
 ///
 /// - 0: it was written, and nothing was told.
 /// - 1: a text is no report, or too long, or the reports have too many collections for one report; nothing was written.
-/// - 3: memory was refused, and nothing was written, or a prefix of a table.
+/// - 3: memory was refused, and nothing was written, or a prefix of a table or a page.
 /// - 4: a file can't be read or standard input has failed, and nothing was written; or standard output has failed, and a
 ///   prefix was.
 ///

@@ -47,14 +47,14 @@ abbrev pub object_cells : List ℕ → List ℕ → List ℕ
 object_cells rule code =
     codes "<tr><td>" ++ picture code ++ codes "</td><td>" ++ name_element rule ++ codes "</td><td><code>" ++ name_element code ++ codes "</code></td>"
 
--- how often a code occurs, and the patterns that have it
-abbrev pub place_cells : List Holder → List ℕ → List ℕ → ℕ → List ℕ
-place_cells holders rule code count =
-    codes "<td>" ++ decimal count ++ codes "</td><td><ul>" ++ holder_items rule code holders ++ codes "</ul></td></tr>\n"
+-- the row of a code before the patterns that have it: the code, and how often it occurs
+abbrev pub front_cells : List ℕ → List ℕ → ℕ → List ℕ
+front_cells rule code count = object_cells rule code ++ (codes "<td>" ++ decimal count ++ codes "</td><td><ul>")
 
 -- the row of a table that tells of a code
 abbrev pub code_row : List Holder → Row → List ℕ
-code_row holders (Code collection rule code count) = object_cells rule.now code.now ++ place_cells holders rule.now code.now count
+code_row holders (Code collection rule code count) =
+    front_cells rule.now code.now count ++ (holder_items rule.now code.now holders ++ codes "</ul></td></tr>\n")
 code_row holders _ = []
 
 abbrev pub code_rows : List Holder → List Row → List ℕ
@@ -98,7 +98,7 @@ stray_rows (row ∷ rows) = stray_row row ++ stray_rows rows
 -- a text between two others, and nothing where it is empty
 abbrev pub framed_text : List ℕ → List ℕ → List ℕ → List ℕ
 framed_text before [] after = []
-framed_text before (byte ∷ bytes) after = before ++ (byte ∷ bytes) ++ after
+framed_text before (byte ∷ bytes) after = before ++ ((byte ∷ bytes) ++ after)
 
 abbrev pub code_table : List Row → List ℕ
 code_table rows = framed_text table_begin (code_rows (holders_from Nothing rows) rows) table_end
@@ -108,7 +108,7 @@ stray_list rows = framed_text list_begin (stray_rows rows) list_end
 
 -- a collection
 abbrev pub section_text : List Row → List ℕ
-section_text rows = codes "<section>\n" ++ headings rows ++ code_table rows ++ stray_list rows ++ codes "</section>\n"
+section_text rows = codes "<section>\n" ++ (headings rows ++ (code_table rows ++ (stray_list rows ++ codes "</section>\n")))
 
 abbrev pub sections_text : List (List Row) → List ℕ
 sections_text [] = []
@@ -116,7 +116,7 @@ sections_text (rows ∷ sections) = section_text rows ++ sections_text sections
 
 -- the page of reports
 abbrev pub page_of : List Row → List ℕ
-page_of rows = page_begin ++ sections_text (collections_of [] rows) ++ page_end
+page_of rows = page_begin ++ (sections_text (collections_of [] rows) ++ page_end)
 
 -- how many `code` rows there are
 abbrev pub is_code : Row → Bool
@@ -131,3 +131,8 @@ codes_in (row ∷ rows) = (if is_code row then 1 else 0) + codes_in rows
 abbrev pub sections_codes : List (List Row) → ℕ
 sections_codes [] = 0
 sections_codes (rows ∷ sections) = codes_in rows + sections_codes sections
+
+-- the row tells of an unresolved or refused pattern
+abbrev pub is_stray : Row → Bool
+is_stray (Line collection pattern outcome name) = is_unresolved_or_refused outcome
+is_stray _ = false

@@ -1,11 +1,20 @@
 //! Which patterns have a code.
-ghost use Rattle.std.specs.Prelude.{◌≡◌, ◌++◌, IfOk, None, OnOk};
+ghost use Rattle.std.specs.Prelude.{◌≡◌, ◌≤◌, ◌++◌, ℕ, List, codes, length, IfOk, MatchResult, None, OnOk, true, false};
+ghost use Rattle.std.specs.List.{All};
+ghost use Rattle.std.specs.List.Sorted.{IsPartitionPoint};
+ghost use Rattle.gathered.specs.Telling.{TellsAfter, TellsFront, sheet};
 ghost use Rattle.census_readback.specs.Grouped.{rows_lent};
-ghost use Rattle.census_page.specs.Holders.{has_code, holder_by_part, holder_in, holder_item, holder_items, holder_of, holders_from, naming_after, naming_in};
+ghost use Rattle.census_page.specs.Holders.{has_code, holder_by_part, holder_in, holder_items, holder_of, holders_from, naming_after, naming_in};
+ghost use Rattle.census_page.specs.Escapes.{name_element};
+ghost use Rattle.census_page.specs.Order.{AreInOrder, holder_key, is_before, key_cmp};
 
 use crate::escape::push_told;
 use census_rows::{Label, Outcome, Row, Value};
+use gathered::{Block, put};
 use std::alloc::{AllocError, Global};
+use std::cmp::Ordering;
+use std::io::Write;
+use watched::Watched;
 
 /// A pattern and a code that it has, or one of its parts.
 #[derive(Clone, Copy)]
@@ -104,6 +113,33 @@ pub fn holders<'a>(alloc: Global, rows: &[&Row<'a>]) -> Result<Vec<Holder<'a>>, 
     Ok(holders)
 }
 
+// The order of codes, and of rules under one code.
+fn compared(holder: &Holder, rule: &[u8], code: &[u8]) -> Ordering
+    ensures { result ≡ key_cmp (holder_key holder.now) (code.now, rule.now) }
+{
+    holder.code.cmp(code).then(holder.rule.cmp(rule))
+}
+
+/// Puts patterns in the order of their codes, and of their rules under one code. Those of one code
+/// and rule keep their order. The only error is out of memory.
+pub fn put_in_order(holders: &mut Vec<Holder>) -> Result<(), AllocError>
+    ensures same { (rule code : List ℕ) →
+        holder_items rule code holders.new.items ≡ holder_items rule code holders.old.items }
+    ensures ordered { OnOk result (AreInOrder holders.new.items) }
+{
+    holders.sort_by_key(|holder| (holder.code, holder.rule))
+}
+
+// Where the first pattern stands that doesn't come before this code and rule.
+fn first_place(holders: &[Holder], rule: &[u8], code: &[u8]) -> usize
+    requires { AreInOrder holders.now }
+    ensures bound { result ≤ length holders.now }
+    ensures place { IsPartitionPoint (λ h. is_before rule.now code.now h ≡ true)
+        (λ h. is_before rule.now code.now h ≡ false) holders.now result }
+{
+    holders.partition_point(|holder| compared(holder, rule, code).is_lt())
+}
+
 // Whether a pattern has this code under this rule.
 fn has_code(holder: &Holder, rule: &[u8], code: &[u8]) -> bool
     ensures { result ≡ has_code rule.now code.now holder.now }
@@ -111,40 +147,62 @@ fn has_code(holder: &Holder, rule: &[u8], code: &[u8]) -> bool
     holder.code == code && holder.rule == rule
 }
 
-// Adds a pattern's name, where the pattern has this code under this rule.
-fn push_holder(
-    alloc: Global,
-    text: &mut Vec<u8>,
-    holder: &Holder,
-    rule: &[u8],
-    code: &[u8],
-) -> Result<(), AllocError>
-    ensures { OnOk result (text.new.items
-        ≡ text.old.items ++ holder_item rule.now code.now holder.now) }
+// The list item of a pattern.
+fn item(alloc: Global, holder: &Holder) -> Result<Vec<u8>, AllocError>
+    ensures { IfOk result (λ text. text.items ≡
+        codes "<li>" ++ name_element holder.now.name.now ++ codes "</li>") }
 {
-    if !has_code(holder, rule, code) {
-        return Ok(());
-    }
+    let mut text = Vec::new(alloc);
     text.extend_from_slice(b"<li>")?;
-    push_told(alloc, text, holder.name)?;
+    push_told(alloc, &mut text, holder.name)?;
     text.extend_from_slice(b"</li>")?;
-    Ok(())
+    Ok(text)
 }
 
-/// Appends the names of the patterns that have this code under this rule, in their order: a list
-/// item for each. The only error is out of memory.
-pub fn push_holders(
+// Tells the names of the patterns that have this code under this rule, of which none comes before it.
+fn put_first<W: Write>(
     alloc: Global,
-    text: &mut Vec<u8>,
     holders: &[Holder],
     rule: &[u8],
     code: &[u8],
+    block: &mut Block,
+    writer: &mut Watched<W>,
 ) -> Result<(), AllocError>
-    ensures { OnOk result (text.new.items
-        ≡ text.old.items ++ holder_items rule.now code.now holders.now) }
+    requires order { AreInOrder holders.now }
+    requires from { All (λ h. is_before rule.now code.now h ≡ false) holders.now }
+    ensures { MatchResult result
+        (λ _. TellsAfter (holder_items rule.now code.now holders.now)
+        (sheet W.contents block.old writer.old) (sheet W.contents block.new writer.new))
+        (λ _. TellsFront (holder_items rule.now code.now holders.now)
+        (sheet W.contents block.old writer.old) (sheet W.contents block.new writer.new)) }
 {
     for holder in holders {
-        push_holder(alloc, text, holder, rule, code)?;
+        if !has_code(holder, rule, code) {
+            return Ok(());
+        }
+        let text = item(alloc, holder)?;
+        put(text.as_slice(), block, writer);
     }
     Ok(())
+}
+
+/// Tells the names of the patterns that have this code under this rule, in their order: a list item
+/// for each. Where memory is refused, a prefix was told.
+pub fn put_holders<W: Write>(
+    alloc: Global,
+    holders: &[Holder],
+    rule: &[u8],
+    code: &[u8],
+    block: &mut Block,
+    writer: &mut Watched<W>,
+) -> Result<(), AllocError>
+    requires { AreInOrder holders.now }
+    ensures { MatchResult result
+        (λ _. TellsAfter (holder_items rule.now code.now holders.now)
+        (sheet W.contents block.old writer.old) (sheet W.contents block.new writer.new))
+        (λ _. TellsFront (holder_items rule.now code.now holders.now)
+        (sheet W.contents block.old writer.old) (sheet W.contents block.new writer.new)) }
+{
+    let start = first_place(holders, rule, code);
+    put_first(alloc, &holders[start..], rule, code, block, writer)
 }

@@ -67,8 +67,8 @@ fn push_reason(text: &mut Vec<u8>, outcome: &Outcome) -> Result<(), AllocError>
     }
 }
 
-// Whether a pattern is unresolved or refused.
-fn is_unresolved_or_refused(outcome: &Outcome) -> bool
+/// Whether a pattern is unresolved or refused.
+pub fn is_unresolved_or_refused(outcome: &Outcome) -> bool
     ensures { result ≡ is_unresolved_or_refused outcome.now }
 {
     match outcome.class() {

@@ -1,18 +1,23 @@
 //! The page.
-ghost use Rattle.std.specs.Prelude.{◌≡◌, ◌++◌, [], IfOk, List, OnOk};
+ghost use Rattle.std.specs.Prelude.{◌≡◌, ◌++◌, [], List, MatchResult, OnOk};
+ghost use Rattle.std.specs.List.{list_any};
+ghost use Rattle.gathered.specs.Telling.{TellsAfter, TellsFront, sheet};
 ghost use Rattle.census_rows.specs.declared.row.Row.{Row};
 ghost use Rattle.census_readback.specs.Grouped.{collections_of, sections_lent, rows_lent};
 ghost use Rattle.census_readback.specs.Shapes.{AreReports};
-ghost use Rattle.census_page.specs.Pages.{code_table, codes_in, collection_name, counts_text, framed_text, heading, headings, page_of, section_text, sections_codes, sections_text, stray_list, stray_row, stray_rows};
+ghost use Rattle.census_page.specs.Pages.{code_table, codes_in, collection_name, counts_text, heading, headings, is_code, is_stray, page_of, section_text, sections_codes, sections_text, stray_list, stray_row, stray_rows};
 
-use crate::code_row::push_code_rows;
+use crate::code_row::put_code_rows;
 use crate::escape::{push_number, push_told};
-use crate::holder::{Holder, holders};
+use crate::holder::{holders, put_in_order};
 use crate::markup::{list_begin, list_end, page_begin, page_end, table_begin, table_end};
-use crate::stray::push_stray;
+use crate::stray::{is_unresolved_or_refused, push_stray};
 use census_readback::collections;
 use census_rows::Row;
+use gathered::{Block, put};
 use std::alloc::{AllocError, Global};
+use std::io::Write;
+use watched::Watched;
 
 // Adds the name of a collection.
 fn push_name(alloc: Global, text: &mut Vec<u8>, name: &[u8]) -> Result<(), AllocError>
@@ -68,12 +73,40 @@ fn push_heading(alloc: Global, text: &mut Vec<u8>, row: &Row) -> Result<(), Allo
     }
 }
 
-// Adds the name of a collection and its counts.
-fn push_headings(alloc: Global, text: &mut Vec<u8>, rows: &[&Row]) -> Result<(), AllocError>
-    ensures { OnOk result (text.new.items ≡ text.old.items ++ headings (rows_lent rows.now)) }
+// Tells what a row says of its collection as a whole.
+fn put_heading<W: Write>(
+    alloc: Global,
+    row: &Row,
+    block: &mut Block,
+    writer: &mut Watched<W>,
+) -> Result<(), AllocError>
+    ensures { MatchResult result
+        (λ _. TellsAfter (heading row.now)
+        (sheet W.contents block.old writer.old) (sheet W.contents block.new writer.new))
+        (λ _. TellsFront (heading row.now)
+        (sheet W.contents block.old writer.old) (sheet W.contents block.new writer.new)) }
+{
+    let mut text = Vec::new(alloc);
+    push_heading(alloc, &mut text, row)?;
+    put(text.as_slice(), block, writer);
+    Ok(())
+}
+
+// Tells the name of a collection and its counts.
+fn put_headings<W: Write>(
+    alloc: Global,
+    rows: &[&Row],
+    block: &mut Block,
+    writer: &mut Watched<W>,
+) -> Result<(), AllocError>
+    ensures { MatchResult result
+        (λ _. TellsAfter (headings (rows_lent rows.now))
+        (sheet W.contents block.old writer.old) (sheet W.contents block.new writer.new))
+        (λ _. TellsFront (headings (rows_lent rows.now))
+        (sheet W.contents block.old writer.old) (sheet W.contents block.new writer.new)) }
 {
     for row in rows {
-        push_heading(alloc, text, *row)?;
+        put_heading(alloc, *row, block, writer)?;
     }
     Ok(())
 }
@@ -88,95 +121,192 @@ fn push_stray_row(alloc: Global, text: &mut Vec<u8>, row: &Row) -> Result<(), Al
     }
 }
 
-// Adds an item for each unresolved or refused pattern.
-fn push_stray_rows(alloc: Global, text: &mut Vec<u8>, rows: &[&Row]) -> Result<(), AllocError>
-    ensures { OnOk result (text.new.items ≡ text.old.items ++ stray_rows (rows_lent rows.now)) }
+// Tells an item for a row that tells of an unresolved or refused pattern.
+fn put_stray_row<W: Write>(
+    alloc: Global,
+    row: &Row,
+    block: &mut Block,
+    writer: &mut Watched<W>,
+) -> Result<(), AllocError>
+    ensures { MatchResult result
+        (λ _. TellsAfter (stray_row row.now)
+        (sheet W.contents block.old writer.old) (sheet W.contents block.new writer.new))
+        (λ _. TellsFront (stray_row row.now)
+        (sheet W.contents block.old writer.old) (sheet W.contents block.new writer.new)) }
+{
+    let mut text = Vec::new(alloc);
+    push_stray_row(alloc, &mut text, row)?;
+    put(text.as_slice(), block, writer);
+    Ok(())
+}
+
+// Tells an item for each unresolved or refused pattern.
+fn put_stray_rows<W: Write>(
+    alloc: Global,
+    rows: &[&Row],
+    block: &mut Block,
+    writer: &mut Watched<W>,
+) -> Result<(), AllocError>
+    ensures { MatchResult result
+        (λ _. TellsAfter (stray_rows (rows_lent rows.now))
+        (sheet W.contents block.old writer.old) (sheet W.contents block.new writer.new))
+        (λ _. TellsFront (stray_rows (rows_lent rows.now))
+        (sheet W.contents block.old writer.old) (sheet W.contents block.new writer.new)) }
 {
     for row in rows {
-        push_stray_row(alloc, text, *row)?;
+        put_stray_row(alloc, *row, block, writer)?;
     }
     Ok(())
 }
 
-// Adds a text between two others, and nothing where it is empty.
-fn push_framed(
-    text: &mut Vec<u8>,
-    before: &[u8],
-    inner: &[u8],
-    after: &[u8],
-) -> Result<(), AllocError>
-    ensures { OnOk result (text.new.items
-        ≡ text.old.items ++ framed_text before.now inner.now after.now) }
+// Whether a row tells of a code.
+fn is_code(row: &Row) -> bool
+    ensures { result ≡ is_code row.now }
 {
-    if inner.is_empty() {
+    match row {
+        Row::Code { .. } => true,
+        _ => false,
+    }
+}
+
+// Whether a row tells of an unresolved or refused pattern.
+fn is_stray(row: &Row) -> bool
+    ensures { result ≡ is_stray row.now }
+{
+    match row {
+        Row::Line { outcome, .. } => is_unresolved_or_refused(outcome),
+        _ => false,
+    }
+}
+
+// Whether any row tells of a code.
+fn have_codes(rows: &[&Row]) -> bool
+    ensures { result ≡ list_any (λ row. is_code row.now) rows.now }
+{
+    rows.iter().any(|row| is_code(*row))
+}
+
+// Whether any row tells of an unresolved or refused pattern.
+fn have_strays(rows: &[&Row]) -> bool
+    ensures { result ≡ list_any (λ row. is_stray row.now) rows.now }
+{
+    rows.iter().any(|row| is_stray(*row))
+}
+
+// Tells the table of a collection's codes, where there are any.
+fn put_code_table<W: Write>(
+    alloc: Global,
+    rows: &[&Row],
+    block: &mut Block,
+    writer: &mut Watched<W>,
+) -> Result<(), AllocError>
+    ensures { MatchResult result
+        (λ _. TellsAfter (code_table (rows_lent rows.now))
+        (sheet W.contents block.old writer.old) (sheet W.contents block.new writer.new))
+        (λ _. TellsFront (code_table (rows_lent rows.now))
+        (sheet W.contents block.old writer.old) (sheet W.contents block.new writer.new)) }
+{
+    if !have_codes(rows) {
         return Ok(());
     }
-    text.extend_from_slice(before)?;
-    text.extend_from_slice(inner)?;
-    text.extend_from_slice(after)?;
+    let mut holders = holders(alloc, rows)?;
+    put_in_order(&mut holders)?;
+    put(table_begin(), block, writer);
+    put_code_rows(alloc, holders.as_slice(), rows, block, writer)?;
+    put(table_end(), block, writer);
     Ok(())
 }
 
-// Adds the table of a collection's codes.
-fn push_code_table(alloc: Global, text: &mut Vec<u8>, rows: &[&Row]) -> Result<(), AllocError>
-    ensures { OnOk result (text.new.items ≡ text.old.items ++ code_table (rows_lent rows.now)) }
-{
-    let holders = holders(alloc, rows)?;
-    let mut inner = Vec::new(alloc);
-    push_code_rows(alloc, &mut inner, holders.as_slice(), rows)?;
-    push_framed(text, table_begin(), inner.as_slice(), table_end())
-}
-
-// Adds the list of a collection's unresolved and refused patterns.
-fn push_stray_list(alloc: Global, text: &mut Vec<u8>, rows: &[&Row]) -> Result<(), AllocError>
-    ensures { OnOk result (text.new.items ≡ text.old.items ++ stray_list (rows_lent rows.now)) }
-{
-    let mut inner = Vec::new(alloc);
-    push_stray_rows(alloc, &mut inner, rows)?;
-    push_framed(text, list_begin(), inner.as_slice(), list_end())
-}
-
-// Adds a collection.
-fn push_section(alloc: Global, text: &mut Vec<u8>, rows: &[&Row]) -> Result<(), AllocError>
-    ensures { OnOk result (text.new.items ≡ text.old.items ++ section_text (rows_lent rows.now)) }
-{
-    text.extend_from_slice(b"<section>\n")?;
-    push_headings(alloc, text, rows)?;
-    push_code_table(alloc, text, rows)?;
-    push_stray_list(alloc, text, rows)?;
-    text.extend_from_slice(b"</section>\n")?;
-    Ok(())
-}
-
-// Adds each collection.
-fn push_sections(
+// Tells the list of a collection's unresolved and refused patterns, where there are any.
+fn put_stray_list<W: Write>(
     alloc: Global,
-    text: &mut Vec<u8>,
-    sections: &[Vec<&Row>],
+    rows: &[&Row],
+    block: &mut Block,
+    writer: &mut Watched<W>,
 ) -> Result<(), AllocError>
-    ensures { OnOk result (text.new.items
-        ≡ text.old.items ++ sections_text (sections_lent sections.now)) }
+    ensures { MatchResult result
+        (λ _. TellsAfter (stray_list (rows_lent rows.now))
+        (sheet W.contents block.old writer.old) (sheet W.contents block.new writer.new))
+        (λ _. TellsFront (stray_list (rows_lent rows.now))
+        (sheet W.contents block.old writer.old) (sheet W.contents block.new writer.new)) }
+{
+    if !have_strays(rows) {
+        return Ok(());
+    }
+    put(list_begin(), block, writer);
+    put_stray_rows(alloc, rows, block, writer)?;
+    put(list_end(), block, writer);
+    Ok(())
+}
+
+// Tells a collection. For a writer that has failed no text is made.
+fn put_section<W: Write>(
+    alloc: Global,
+    rows: &[&Row],
+    block: &mut Block,
+    writer: &mut Watched<W>,
+) -> Result<(), AllocError>
+    ensures { MatchResult result
+        (λ _. TellsAfter (section_text (rows_lent rows.now))
+        (sheet W.contents block.old writer.old) (sheet W.contents block.new writer.new))
+        (λ _. TellsFront (section_text (rows_lent rows.now))
+        (sheet W.contents block.old writer.old) (sheet W.contents block.new writer.new)) }
+{
+    if writer.failed() {
+        return Ok(());
+    }
+    put(b"<section>\n", block, writer);
+    put_headings(alloc, rows, block, writer)?;
+    put_code_table(alloc, rows, block, writer)?;
+    put_stray_list(alloc, rows, block, writer)?;
+    put(b"</section>\n", block, writer);
+    Ok(())
+}
+
+// Tells each collection.
+fn put_sections<W: Write>(
+    alloc: Global,
+    sections: &[Vec<&Row>],
+    block: &mut Block,
+    writer: &mut Watched<W>,
+) -> Result<(), AllocError>
+    ensures { MatchResult result
+        (λ _. TellsAfter (sections_text (sections_lent sections.now))
+        (sheet W.contents block.old writer.old) (sheet W.contents block.new writer.new))
+        (λ _. TellsFront (sections_text (sections_lent sections.now))
+        (sheet W.contents block.old writer.old) (sheet W.contents block.new writer.new)) }
 {
     for index in 0..sections.len() {
-        push_section(alloc, text, sections[index].as_slice())?;
+        put_section(alloc, sections[index].as_slice(), block, writer)?;
     }
     Ok(())
 }
 
-/// A report, or several after one another, as one HTML page in UTF-8 that stands alone: it has no
-/// script, and asks for nothing. Of each collection it has the name, the counts, a table with a row
-/// for each `code` row, and a list of the patterns that are unresolved or refused. No name, rule or
-/// code brings markup. The only error is out of memory.
-pub fn page(alloc: Global, rows: &[Row]) -> Result<Vec<u8>, AllocError>
+/// Tells a report, or several after one another, as one HTML page in UTF-8 that stands alone: it has
+/// no script, and asks for nothing. Of each collection it has the name, the counts, a table with a
+/// row for each `code` row, and a list of the patterns that are unresolved or refused. No name, rule
+/// or code brings markup.
+///
+/// The text of a picture or of a name stands in memory at a time. Where memory is refused, a prefix
+/// of the page was told. To a writer that has failed nothing is written.
+pub fn put_page<W: Write>(
+    alloc: Global,
+    rows: &[Row],
+    block: &mut Block,
+    writer: &mut Watched<W>,
+) -> Result<(), AllocError>
     requires { AreReports rows.now }
-    ensures { IfOk result (λ text. text.items ≡ page_of rows.now) }
+    ensures { MatchResult result
+        (λ _. TellsAfter (page_of rows.now)
+        (sheet W.contents block.old writer.old) (sheet W.contents block.new writer.new))
+        (λ _. TellsFront (page_of rows.now)
+        (sheet W.contents block.old writer.old) (sheet W.contents block.new writer.new)) }
 {
     let sections = collections(alloc, rows)?;
-    let mut text = Vec::new(alloc);
-    text.extend_from_slice(page_begin())?;
-    push_sections(alloc, &mut text, sections.as_slice())?;
-    text.extend_from_slice(page_end())?;
-    Ok(text)
+    put(page_begin(), block, writer);
+    put_sections(alloc, sections.as_slice(), block, writer)?;
+    put(page_end(), block, writer);
+    Ok(())
 }
 
 /// The collections of a page have as many code rows as its reports have.

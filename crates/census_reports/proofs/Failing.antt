@@ -28,7 +28,7 @@ failing (TooMany report) form rows texts a b are why = (record { rows = rows; re
 failing TooLong form rows texts a b are why = absurd why.0
 failing Memory form rows texts a b are (inl same) = inl same
 failing Memory form rows texts a b are (inr halts) =
-    inr (record { table = halts.table; made = halts.made; is = record { rows = rows; reports = are; is = halts.is }; front = halts.front })
+    inr (record { pieces = halts.pieces; made = halts.made; is = record { rows = rows; reports = are; is = halts.is }; front = halts.front })
 failing Read form rows texts a b are why = absurd why.0
 failing Write form rows texts a b are part =
     record { made = part.made; is = record { rows = rows; reports = are; is = part.is }; front = part.front }
@@ -50,7 +50,7 @@ module _ (form : Form) (held : List ℕ → Told) (words : List (List ℕ)) (a b
   refusing Memory texts read (inl same) = (read.sound, inl same)
   refusing Memory texts read (inr halts) = (
     read.sound,
-    inr (record { table = halts.table; made = halts.made; makes = record { texts = texts; read = read; is = halts.is }; front = halts.front }),
+    inr (record { pieces = halts.pieces; made = halts.made; makes = record { texts = texts; read = read; is = halts.is }; front = halts.front }),
   )
   refusing Read texts read why = absurd why.0
   refusing Write texts read part =

@@ -1,4 +1,4 @@
--- What is told of a table by way of a block is written, as far as memory lasts.
+-- What is told by way of a block is written, as far as memory lasts.
 use Rattle.std.proofs.Common.{◌≡◌, ◌∙◌, ℕ, ◌≤◌, Bool, true, false, List, [], ◌++◌, length, take, Option, Result, Ok, Err, MatchBool, MatchResult, refl, sym, ap, subst, arith, append-nil, length-append}
 use Rattle.std.proofs.lemmas.List.{take-append-le, take_all}
 use Rattle.std.specs.Io.KnownBytes.{Appends}
@@ -6,12 +6,9 @@ use Rattle.watched.specs.Watching.{AppendsFront}
 use Rattle.gathered.specs.Telling.{Sheet, TellsAfter, TellsFront}
 use Rattle.gathered.proofs.Telling.{all_told, tells_more}
 use Rattle.census_rows.specs.declared.row.Row.{Row}
-use Rattle.census_table.specs.Tables.{Listing, IsListingOf, listing_text}
-use Rattle.census_table.specs.declared.table.Format.{Format}
-use Rattle.census_table.specs.declared.subject.Subject.{Subject}
-use Rattle.census_reports.specs.Forms.{IsMade}
+use Rattle.census_reports.specs.Forms.{IsInPieces, IsMade}
 use Rattle.census_reports.specs.Written.{HaltsRows, WritesRows, WritesRowsInPart}
-use Rattle.census_reports.specs.declared.form.Form.TheVariants.{Table}
+use Rattle.census_reports.specs.declared.form.Form.{Form}
 use Rattle.census_reports.proofs.Told.{sink_of}
 
 -- a prefix of a text is one of a longer text
@@ -29,39 +26,32 @@ front_of : {A B : Type 0} (r : Result A B) (text : List ℕ) (a b : Sheet) → M
 front_of (Ok x) text a b h = record { front = text; rest = []; whole = sym (append-nil text); tells = h }
 front_of (Err e) text a b h = h
 
-module _ (subject : Subject) (format : Format) (rows : List Row) (listing : Listing) (is : IsListingOf subject rows listing) (a b c : Sheet)
-    (empty : a.pending ≡ []) (sent : TellsAfter [] b c) (clear : c.pending ≡ []) where
-  abbrev text : List ℕ
-  text = listing_text format listing
-
-  is-made : IsMade (Table subject format) rows text
-  is-made = (listing, is, refl)
-
+module _ (form : Form) (rows : List Row) (text : List ℕ) (is : IsMade form rows text) (a b c : Sheet) (empty : a.pending ≡ []) (sent : TellsAfter [] b c) (clear : c.pending ≡ []) where
   told : (bytes : List ℕ) → TellsAfter bytes a b → MatchBool c.failed (AppendsFront a.written c.written bytes) (Appends a.written c.written bytes)
   told bytes h = all_told bytes a c empty clear (subst (λ t. TellsAfter t a c) (append-nil bytes) (tells_more bytes [] a b c h sent))
 
   in_front : TellsFront text a b → AppendsFront a.written c.written text
   in_front h = front_longer a.written c.written text h.front h.rest h.whole (any_front c.failed a.written c.written h.front (told h.front h.tells))
 
-  pub table_written : TellsAfter text a b → c.failed ≡ false → WritesRows (Table subject format) rows (sink_of a) (sink_of c)
-  table_written h sound = record {
+  pub all_written : TellsAfter text a b → c.failed ≡ false → WritesRows form rows (sink_of a) (sink_of c)
+  all_written h sound = record {
     made = text;
-    is = is-made;
+    is = is;
     written = record { written = subst (λ f. MatchBool f (AppendsFront a.written c.written text) (Appends a.written c.written text)) sound (told text h); sound = sound };
   }
 
-  pub table_halted : TellsFront text a b → c.failed ≡ false → HaltsRows (Table subject format) rows (sink_of a) (sink_of c)
-  table_halted h sound = record {
-    table = tt;
+  pub halted : IsInPieces form → TellsFront text a b → c.failed ≡ false → HaltsRows form rows (sink_of a) (sink_of c)
+  halted pieces h sound = record {
+    pieces = pieces;
     made = text;
-    is = is-made;
+    is = is;
     front = record { written = in_front h; sound = sound };
   }
 
-  pub table_lost : {A B : Type 0} (r : Result A B) → MatchResult r (λ _. TellsAfter text a b) (λ _. TellsFront text a b) → c.failed ≡ true
-      → WritesRowsInPart (Table subject format) rows (sink_of a) (sink_of c)
-  table_lost r h failed = record {
+  pub lost : {A B : Type 0} (r : Result A B) → MatchResult r (λ _. TellsAfter text a b) (λ _. TellsFront text a b) → c.failed ≡ true
+      → WritesRowsInPart form rows (sink_of a) (sink_of c)
+  lost r h failed = record {
     made = text;
-    is = is-made;
+    is = is;
     front = record { written = in_front (front_of r text a b h); failed = failed };
   }

@@ -5,12 +5,6 @@ use Rattle.watched.specs.Watching.{AppendsFront}
 use Rattle.gathered.specs.Telling.{Sheet, TellsAfter}
 use Rattle.gathered.proofs.Telling.{all_told, tells_more}
 use Rattle.census_identify.specs.Streams.{PutsPrefix, Sink, Writes}
-use Rattle.census_rows.specs.declared.row.Row.{Row}
-use Rattle.census_page.specs.Pages.{page_of}
-use Rattle.census_reports.specs.Written.{FailsRows, WritesRows}
-use Rattle.census_reports.specs.declared.error.ReportsError.{ReportsError}
-use Rattle.census_reports.specs.declared.error.ReportsError.TheVariants.{Write}
-use Rattle.census_reports.specs.declared.form.Form.TheVariants.{Page}
 
 -- a writer without its block
 abbrev pub sink_of : Sheet → Sink
@@ -25,9 +19,3 @@ told_whole (Ok x) text a b c empty p q sent failed =
 told_whole (Err e) text a b c empty p q sent failed =
     let all = all_told text a c empty sent (subst (λ t. TellsAfter t a c) (append-nil text) (tells_more text [] a b c p q)) in
     record { written = subst (λ f. MatchBool f (AppendsFront a.written c.written text) (Appends a.written c.written text)) failed all; failed = failed }
-
-pub page_written : {A : Type 0} (r : Result A ReportsError) (rows : List Row) (text : List ℕ) (a b : Sink) → text ≡ page_of rows
-    → MatchResult r (λ _. Writes text a b) (λ why. (why ≡ Write) × PutsPrefix text a b)
-    → MatchResult r (λ _. WritesRows Page rows a b) (λ why. FailsRows why Page rows a b)
-page_written (Ok x) rows text a b e h = record { made = text; is = e; written = h }
-page_written (Err why) rows text a b e h = subst (λ w. FailsRows w Page rows a b) (sym h.0) (record { made = text; is = e; front = h.1 })

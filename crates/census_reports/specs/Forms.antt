@@ -18,18 +18,18 @@ IsMade Merged rows text = (first_excess 1 no_sums rows ≡ None) × (text ≡ te
 IsMade (Table subject format) rows text = (listing : Listing) × IsListingOf subject rows listing × (text ≡ listing_text format listing)
 IsMade Page rows text = text ≡ page_of rows
 
--- a table
-abbrev pub IsTable : Form → Type 0
-IsTable Merged = ⊥
-IsTable (Table subject format) = Unit {0}
-IsTable Page = ⊥
+-- a table or a page, which is told piece by piece
+abbrev pub IsInPieces : Form → Type 0
+IsInPieces Merged = ⊥
+IsInPieces (Table subject format) = Unit {0}
+IsInPieces Page = Unit {0}
 
 -- a report with which there are too many collections for one report
 abbrev pub Exceeds : Form → List Row → ℕ → Type 0
 Exceeds Merged rows report = first_excess 1 no_sums rows ≡ Some report
 Exceeds _ rows report = ⊥
 
--- why nothing is written of rows, or only a prefix of a table
+-- why nothing is written of rows, or only a prefix of a table or a page
 abbrev pub RefusesRows : ReportsError → Form → List Row → Type 0
 RefusesRows (TooMany report) form rows = Exceeds form rows report
 RefusesRows Memory form rows = Unit {0}
@@ -49,7 +49,7 @@ pub record ExceedsIn (form : Form) (texts : List (List ℕ)) (report : ℕ) : Ty
   pub reports : AreRowsOf rows texts
   pub excess : Exceeds form rows report
 
--- why nothing is written of texts, or only a prefix of a table
+-- why nothing is written of texts, or only a prefix of a table or a page
 abbrev pub RefusesTexts : ReportsError → Form → List (List ℕ) → Type 0
 RefusesTexts (Fault number line) form texts = HasReportFault number line texts
 RefusesTexts (TooMany report) form texts = ExceedsIn form texts report

@@ -3,7 +3,7 @@ use Rattle.std.specs.Prelude.{◌≡◌, ◌⊎◌, ℕ, false, List}
 use Rattle.census_folders.specs.Told.{Told}
 use Rattle.census_identify.specs.Identifies.{words_or_input}
 use Rattle.census_identify.specs.Streams.{PutsPrefix, Writes}
-use Rattle.census_reports.specs.Forms.{IsMadeOf, IsTable, RefusesTexts}
+use Rattle.census_reports.specs.Forms.{IsMadeOf, IsInPieces, RefusesTexts}
 use Rattle.census_reports.specs.Streams.{Streams}
 use Rattle.census_reports.specs.Texts.{ReadsEach, StopsReadingTexts}
 use Rattle.census_reports.specs.Written.{WritesSome}
@@ -38,9 +38,9 @@ pub record WritesReportsInPart (form : Form) (held : List ℕ → Told) (words :
   pub makes : Makes form held words made before after
   pub front : PutsPrefix made before.output after.output
 
--- a prefix of a table was written, and the writer has not failed
+-- a prefix of a table or a page was written, and the writer has not failed
 pub record HaltsReports (form : Form) (held : List ℕ → Told) (words : List (List ℕ)) (before after : Streams) : Type 0 where
-  pub table : IsTable form
+  pub pieces : IsInPieces form
   pub made : List ℕ
   pub makes : Makes form held words made before after
   pub front : WritesSome made before.output after.output
@@ -51,7 +51,7 @@ pub record RefusesReports (error : ReportsError) (form : Form) (held : List ℕ 
   pub read : ReadsTexts held words texts before after
   pub why : RefusesTexts error form texts
 
--- Why not all was written. Where the writer didn't fail, nothing was, or out of memory a prefix of a table.
+-- Why not all was written. Where the writer didn't fail, nothing was, or out of memory a prefix of a table or a page.
 abbrev pub ReportsFail : ReportsError → Form → (List ℕ → Told) → List (List ℕ) → Streams → Streams → Type 0
 ReportsFail (Fault number line) form held words before after = RefusesReports (Fault number line) form held words before after × WritesNothing before after
 ReportsFail (TooMany report) form held words before after = RefusesReports (TooMany report) form held words before after × WritesNothing before after

@@ -3,7 +3,7 @@ use Rattle.std.specs.Prelude.{◌≡◌, ◌⊎◌, ℕ, false, List}
 use Rattle.watched.specs.Watching.{AppendsFront}
 use Rattle.census_identify.specs.Streams.{PutsPrefix, Sink, Writes}
 use Rattle.census_rows.specs.declared.row.Row.{Row}
-use Rattle.census_reports.specs.Forms.{IsMade, IsMadeOf, IsTable, RefusesRows, RefusesTexts}
+use Rattle.census_reports.specs.Forms.{IsMade, IsMadeOf, IsInPieces, RefusesRows, RefusesTexts}
 use Rattle.census_reports.specs.declared.error.ReportsError.{ReportsError}
 use Rattle.census_reports.specs.declared.error.ReportsError.TheVariants.{Memory, Write}
 use Rattle.census_reports.specs.declared.form.Form.{Form}
@@ -25,14 +25,14 @@ pub record WritesRowsInPart (form : Form) (rows : List Row) (before after : Sink
   pub is : IsMade form rows made
   pub front : PutsPrefix made before after
 
--- a prefix of a table was written
+-- a prefix of a table or a page was written
 pub record HaltsRows (form : Form) (rows : List Row) (before after : Sink) : Type 0 where
-  pub table : IsTable form
+  pub pieces : IsInPieces form
   pub made : List ℕ
   pub is : IsMade form rows made
   pub front : WritesSome made before after
 
--- Why not all was written. Where the writer didn't fail, nothing was, or out of memory a prefix of a table.
+-- Why not all was written. Where the writer didn't fail, nothing was, or out of memory a prefix of a table or a page.
 abbrev pub FailsRows : ReportsError → Form → List Row → Sink → Sink → Type 0
 FailsRows Write form rows before after = WritesRowsInPart form rows before after
 FailsRows Memory form rows before after = (after ≡ before) ⊎ HaltsRows form rows before after
@@ -50,14 +50,14 @@ pub record WritesTextsInPart (form : Form) (texts : List (List ℕ)) (before aft
   pub is : IsMadeOf form texts made
   pub front : PutsPrefix made before after
 
--- a prefix of a table was written
+-- a prefix of a table or a page was written
 pub record HaltsTexts (form : Form) (texts : List (List ℕ)) (before after : Sink) : Type 0 where
-  pub table : IsTable form
+  pub pieces : IsInPieces form
   pub made : List ℕ
   pub is : IsMadeOf form texts made
   pub front : WritesSome made before after
 
--- Why not all was written. Where the writer didn't fail, nothing was, or out of memory a prefix of a table.
+-- Why not all was written. Where the writer didn't fail, nothing was, or out of memory a prefix of a table or a page.
 abbrev pub FailsTexts : ReportsError → Form → List (List ℕ) → Sink → Sink → Type 0
 FailsTexts Write form texts before after = WritesTextsInPart form texts before after
 FailsTexts Memory form texts before after = (after ≡ before) ⊎ HaltsTexts form texts before after

@@ -11,13 +11,13 @@ ghost use Rattle.census_reports.specs.Written.{FailsRows, WritesRows};
 
 use crate::error::ReportsError;
 use census_merge::{put_merged, sums};
-use census_page::page;
+use census_page::put_page;
 use census_rows::Row;
 use census_table::{Format, Subject, put_listing, table_of};
 use gathered::{Block, send};
 use std::alloc::Global;
 use std::io::Write;
-use watched::{Failed, Watched, put_all};
+use watched::{Failed, Watched};
 
 /// What is written of reports.
 #[derive(Clone, Copy, Debug, PartialEq, Eq)]
@@ -26,7 +26,7 @@ pub enum Form {
     Merged,
     /// A table, as `table_of` makes it and `put_listing` tells it.
     Table { subject: Subject, format: Format },
-    /// Their codes, with pictures, as one HTML page, as `page` makes it.
+    /// Their codes, with pictures, as one HTML page, as `put_page` tells it.
     Page,
 }
 
@@ -97,20 +97,7 @@ fn write_table<O: Write>(
     }
 }
 
-// Writes a whole text.
-fn write_whole<O: Write>(text: &[u8], output: &mut Watched<O>) -> Result<(), ReportsError>
-    ensures { MatchResult result
-        (λ _. Writes text.now (sink O.contents output.old) (sink O.contents output.new))
-        (λ error. (error ≡ ReportsError.Write)
-        × PutsPrefix text.now (sink O.contents output.old) (sink O.contents output.new)) }
-{
-    match put_all(output, text) {
-        Ok(()) => Ok(()),
-        Err(_) => Err(ReportsError::Write),
-    }
-}
-
-// Writes a page.
+// Writes a page. Where memory is refused, what was told of it is written yet.
 fn write_page<O: Write>(
     alloc: Global,
     rows: &[Row],
@@ -123,8 +110,12 @@ fn write_page<O: Write>(
         (λ error. FailsRows error Form.Page rows.now (sink O.contents output.old)
         (sink O.contents output.new)) }
 {
-    let text = page(alloc, rows)?;
-    write_whole(text.as_slice(), output)
+    let mut block = Block::new(alloc);
+    let told = put_page(alloc, rows, &mut block, output);
+    match send(&mut block, output) {
+        Ok(_) => Ok(told?),
+        Err(_) => Err(ReportsError::Write),
+    }
 }
 
 // Writes what is made of these rows, which are those of reports that stand one after another.

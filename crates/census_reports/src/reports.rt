@@ -39,14 +39,15 @@ fn write_of<O: Write>(
 /// file is not opened, and can't be read.
 ///
 /// All texts are read before the first is looked at, and all reports before the first byte is written. From then on no
-/// memory is asked for but the block that is written, and for a table the text of some rows at a time. So nothing is written
-/// on any error but `Write`, on which a prefix of what is made of them is, and `Memory`, on which a prefix of a table may be:
+/// memory is asked for but the block that is written, for a table the text of some rows at a time, and for a page the codes
+/// of one collection and the text of one picture or name at a time. So nothing is written on any error but `Write`, on which
+/// a prefix of what is made of them is, and `Memory`, on which a prefix of a table or a page may be:
 ///
 /// - `Read`, `TooLong`: the text of a word can't be read or has more than 67,108,864 bytes. Those of the words before it
 ///   were read, and none of a word after it.
 /// - `Fault`: a text is no report, and those of the words before it are.
 /// - `TooMany`: the reports have more than 65,535 collections, and `Merged` is asked for.
-/// - `Memory`: memory was refused. Of `Merged` and `Page` nothing was written.
+/// - `Memory`: memory was refused. Of `Merged` nothing was written.
 pub fn write_reports<S: Shelf, I: Read, O: Write>(
     shelf: &S,
     alloc: Global,

@@ -1,8 +1,10 @@
 //! Reports as a page.
 
-use census_page::page;
+use census_page::put_page;
 use census_readback::read_report;
+use gathered::{Block, send};
 use std::alloc::{AllocError, Global};
+use watched::Watched;
 
 // Two collections that interleave, and a second report, with each status, and names with markup,
 // quotes, an entity, and bytes that are not UTF-8. The second collection has one pattern, which
@@ -82,8 +84,14 @@ const BODY: &str = "<body>
 
 // The page of a report.
 fn page_of(alloc: Global, report: &[u8]) -> Result<Vec<u8>, AllocError> {
-    match read_report(alloc, report)? {
-        Ok(rows) => page(alloc, rows.as_slice()),
+    let Ok(rows) = read_report(alloc, report)? else {
+        return Err(AllocError);
+    };
+    let mut block = Block::new(alloc);
+    let mut writer = Watched::new(Vec::new(alloc));
+    put_page(alloc, rows.as_slice(), &mut block, &mut writer)?;
+    match send(&mut block, &mut writer) {
+        Ok(()) => Ok(writer.into_inner()),
         Err(_) => Err(AllocError),
     }
 }

@@ -1,9 +1,30 @@
-use Rattle.std.proofs.Common.{◌∙◌}
-use Rattle.census_identify.specs.Streams.{sink}
-use Rattle.census_reports.proofs.Told.{page_written}
+use Rattle.std.proofs.Common.{inr, refl}
+use Rattle.std.proofs.lemmas.Result.{err_from_is_err_and}
+use Rattle.gathered.specs.Telling.{sheet}
+use Rattle.census_page.specs.Pages.{page_of}
+use Rattle.census_reports.proofs.Halted.{all_written, halted, lost}
+use Rattle.census_reports.specs.declared.form.Form.TheVariants as form
 use Rattle.census_reports.proofs.form.write_page.Goals as goal
+
+pub returns-in_err-told-in-Ok : goal.returns-in_err-told-in-Ok
+returns-in_err-told-in-Ok g c =
+    let contents = g.O.Write.contents in
+    let p = err_from_is_err_and c.from_residual.result c.from_residual.ensures.1 in
+    rw (p.1, p.2)
+    (inr (halted form.Page c.args.rows.now (page_of c.args.rows.now) refl
+    (sheet contents c.new-block.result c.args.output.now) (sheet contents c.put_page-told.new.block c.put_page-told.new.writer) (sheet contents c.send.new.block c.send.new.writer)
+    c.new-block.ensures c.send.ensures.tells c.send.ensures.empty tt c.in_err-told-in-Ok.ensures c.in-Ok.ensures.failed))
+
+pub returns-in-Ok : goal.returns-in-Ok
+returns-in-Ok g c =
+    let contents = g.O.Write.contents in
+    all_written form.Page c.args.rows.now (page_of c.args.rows.now) refl
+    (sheet contents c.new-block.result c.args.output.now) (sheet contents c.put_page-told.new.block c.put_page-told.new.writer) (sheet contents c.send.new.block c.send.new.writer)
+    c.new-block.ensures c.send.ensures.tells c.send.ensures.empty c.in_ok-told-in-Ok.ensures c.in-Ok.ensures.failed
 
 pub returns : goal.returns
 returns g c =
-    page_written c.write_whole.result c.args.rows.now c.as_slice.result.now (sink g.O.Write.contents c.args.output.now)
-    (sink g.O.Write.contents c.write_whole.new.output) (c.as_slice.ensures.value ∙ c.in_ok-text.ensures) c.write_whole.ensures
+    let contents = g.O.Write.contents in
+    lost form.Page c.args.rows.now (page_of c.args.rows.now) refl
+    (sheet contents c.new-block.result c.args.output.now) (sheet contents c.put_page-told.new.block c.put_page-told.new.writer) (sheet contents c.send.new.block c.send.new.writer)
+    c.new-block.ensures c.send.ensures.tells c.send.ensures.empty c.put_page-told.result c.put_page-told.ensures c.in-Err.ensures.failed

@@ -1,0 +1,176 @@
+-- The patterns that have a code stand together, where all stand in the order of their codes.
+use Rattle.std.proofs.Common.{◌≡◌, ℕ, zero, suc, ◌+◌, ◌-◌, ◌<◌, ◌≤◌, Bool, true, false, not, ◌&&◌, List, [], ◌∷◌, ◌++◌, codes, length, take, drop, get_or, refl, sym, ap, ap₂, ◌∙◌, arith, true≢false, length-drop}
+use Rattle.std.specs.Prelude.{cond, filter, nat_eq}
+use Rattle.std.specs.Cmp.Lexicographic.{on_texts, pointwise, slice_cmp, texts_ties}
+use Rattle.std.specs.Cmp.{both_tied, IsTotalOrder}
+use Rattle.std.specs.List.{All}
+use Rattle.std.specs.List.Sorted.{ties, IsPartitionedBy}
+use Rattle.std.specs.Ordering.{is_eq, is_lt, nat_cmp, ordering_reverse}
+use Rattle.std.specs.declared.cmp.Ordering.{Ordering}
+use Rattle.std.specs.declared.cmp.Ordering.TheVariants.{Less, Equal, Greater}
+use Rattle.std.proofs.lemmas.Cmp.{then_total}
+use Rattle.std.proofs.lemmas.List.{get_or-drop, get_or_default, take_all}
+use Rattle.std.proofs.lemmas.List.Elements.{All-tail}
+use Rattle.std.proofs.lemmas.List.Sorted.{ranks_by, sorted_far}
+use Rattle.census_page.specs.Escapes.{name_element}
+use Rattle.census_page.specs.Holders.{has_code, holder_item, holder_items}
+use Rattle.census_page.specs.Order.{holder_key, is_before, key_cmp, AreInOrder}
+use Rattle.census_page.specs.declared.holder.Holder.{Holder}
+
+-- # The order
+
+pub key_total : IsTotalOrder key_cmp
+key_total = then_total (on_texts (λ (k : List ℕ × List ℕ). k.0)) (on_texts (λ (k : List ℕ × List ℕ). k.1))
+
+-- a pattern has a code where it stands there in the order
+pub has_is : (rule code : List ℕ) (h : Holder) → has_code rule code h ≡ is_eq (key_cmp (holder_key h) (code, rule))
+has_is rule code h =
+    both_tied (pointwise nat_eq h.code.now code) (pointwise nat_eq h.rule.now rule) (slice_cmp nat_cmp h.code.now code) (slice_cmp nat_cmp h.rule.now rule)
+    (texts_ties h.code.now code) (texts_ties h.rule.now rule)
+
+not-equal : (r : Ordering) → is_lt r ≡ true → is_eq r ≡ false
+not-equal Less h = refl
+not-equal Equal h = absurd (true≢false (sym h))
+not-equal Greater h = refl
+
+-- neither before nor there: behind
+behind : (r : Ordering) → is_lt r ≡ false → is_eq r ≡ false → r ≡ Greater
+behind Less h k = absurd (true≢false h)
+behind Equal h k = absurd (true≢false k)
+behind Greater h k = refl
+
+-- what stands behind something that stands behind a place stands behind it
+further : (k x y : List ℕ × List ℕ) → key_cmp x k ≡ Greater → is_lt (key_cmp y x) ≡ false → is_eq (key_cmp y k) ≡ false
+further k x y over up = go (key_cmp y x) refl up
+  where
+    under : key_cmp k x ≡ Less
+    under = key_total.antisymm k x ∙ ap ordering_reverse over
+
+    go : (r : Ordering) → key_cmp y x ≡ r → is_lt r ≡ false → is_eq (key_cmp y k) ≡ false
+    go Less e h = absurd (true≢false h)
+    go Equal e h = ap is_eq (key_total.congr y x k e ∙ over)
+    go Greater e h =
+        let after : key_cmp x y ≡ Less = key_total.antisymm x y ∙ ap ordering_reverse e in
+        ap is_eq (key_total.antisymm y k ∙ ap ordering_reverse (key_total.trans k x y under after))
+
+-- # The items
+
+items-one : (rule code : List ℕ) (b : Bool) (h : Holder) (rest : List ℕ) → has_code rule code h ≡ b → b ≡ false → holder_item rule code h ++ rest ≡ rest
+items-one rule code true h rest e none = absurd (true≢false none)
+items-one rule code false h rest e none = rw e refl
+
+items-none : (rule code : List ℕ) (hs : List Holder) → All (λ h. has_code rule code h ≡ false) hs → holder_items rule code hs ≡ []
+items-none rule code [] none = refl
+items-none rule code (h ∷ hs) none =
+    items-one rule code (has_code rule code h) h (holder_items rule code hs) refl (none 0 h (omega arith))
+    ∙ items-none rule code hs (All-tail (λ h. has_code rule code h ≡ false) h hs none)
+
+-- what comes before a place has nothing there
+pub items-drop : (rule code : List ℕ) (at : ℕ) (hs : List Holder) → ((k : ℕ) (d : Holder) → k < at → is_before rule code (get_or hs k d) ≡ true) → at ≤ length hs
+    → holder_items rule code hs ≡ holder_items rule code (drop at hs)
+items-drop rule code zero hs before within = refl
+items-drop rule code (suc at) [] before within = absurd (omega arith)
+items-drop rule code (suc at) (h ∷ hs) before within =
+    items-one rule code (has_code rule code h) h (holder_items rule code hs) refl
+    (has_is rule code h ∙ not-equal (key_cmp (holder_key h) (code, rule)) (before 0 h (omega arith)))
+    ∙ items-drop rule code at hs (λ k d small. before (suc k) d (omega (arith, small))) (omega (arith, within))
+
+-- nothing stands at a code from one on that doesn't, where none of these comes before
+module _ (rule code : List ℕ) (hs : List Holder) (order : AreInOrder hs) (at : ℕ) (d : Holder) (less : at < length hs)
+    (from : is_before rule code (get_or hs at d) ≡ false) (other : has_code rule code (get_or hs at d) ≡ false) where
+  over : key_cmp (holder_key (get_or hs at d)) (code, rule) ≡ Greater
+  over = behind (key_cmp (holder_key (get_or hs at d)) (code, rule)) from (sym (has_is rule code (get_or hs at d)) ∙ other)
+
+  past : (k : ℕ) (e : Holder) → k < length (drop at hs) → has_code rule code (get_or (drop at hs) k e) ≡ false
+  past k e small =
+      let within : at + k < length hs = omega (arith, length-drop at hs) in
+      let here : get_or hs at d ≡ get_or hs at e = get_or_default hs at d e less in
+      ap (has_code rule code) (get_or-drop at hs k e)
+      ∙ has_is rule code (get_or hs (at + k) e)
+      ∙ further (code, rule) (holder_key (get_or hs at d)) (holder_key (get_or hs (at + k) e)) over
+      (ap (λ h. is_lt (key_cmp (holder_key (get_or hs (at + k) e)) (holder_key h))) here
+      ∙ sorted_far (λ one two. is_lt (key_cmp (holder_key one) (holder_key two))) (ranks_by key_total holder_key) hs order at (at + k) e (omega arith) within)
+
+  pub items-over : holder_items rule code (drop at hs) ≡ []
+  items-over = items-none rule code (drop at hs) past
+
+-- the order is kept from a place on
+pub order-drop : (n : ℕ) (hs : List Holder) → AreInOrder hs → AreInOrder (drop n hs)
+order-drop n hs order k d low small =
+    let within : n + k + 1 < length hs = omega (arith, length-drop n hs) in
+    let one = get_or-drop n hs (k + 1) d in
+    let two = get_or-drop n hs k d in
+    ap (λ i. is_lt (key_cmp (holder_key (get_or (drop n hs) (k + 1) d)) (holder_key i))) two
+    ∙ ap (λ i. is_lt (key_cmp (holder_key i) (holder_key (get_or hs (n + k) d)))) (one ∙ ap (λ i. get_or hs i d) (let e : n + (k + 1) ≡ n + k + 1 = omega arith in e))
+    ∙ order (n + k) d (omega arith) within
+
+-- the rest of a list is taken whole
+pub rest-whole : (n : ℕ) (hs : List Holder) → take (length hs - n) (drop n hs) ≡ drop n hs
+rest-whole n hs = take_all (length hs - n) (drop n hs) (omega (arith, length-drop n hs))
+
+-- what `partition_point` asks
+pub before-parted : (rule code : List ℕ) (hs : List Holder) → AreInOrder hs → IsPartitionedBy (is_before rule code) hs
+before-parted rule code hs order i j d low small before =
+    lower (code, rule) (holder_key (get_or hs i d)) (holder_key (get_or hs j d)) before
+    (sorted_far (λ one two. is_lt (key_cmp (holder_key one) (holder_key two))) (ranks_by key_total holder_key) hs order i j d low small)
+  where
+    lower : (k x y : List ℕ × List ℕ) → is_lt (key_cmp y k) ≡ true → is_lt (key_cmp y x) ≡ false → is_lt (key_cmp x k) ≡ true
+    lower k x y under up = go (key_cmp y x) refl up
+      where
+        less : (r : Ordering) → is_lt r ≡ true → r ≡ Less
+        less Less h = refl
+        less Equal h = absurd (true≢false (sym h))
+        less Greater h = absurd (true≢false (sym h))
+
+        go : (r : Ordering) → key_cmp y x ≡ r → is_lt r ≡ false → is_lt (key_cmp x k) ≡ true
+        go Less e h = absurd (true≢false h)
+        go Equal e h = ap is_lt (sym (key_total.congr y x k e)) ∙ under
+        go Greater e h =
+            let after : key_cmp x y ≡ Less = key_total.antisymm x y ∙ ap ordering_reverse e in
+            ap is_lt (key_total.trans x y k after (less (key_cmp y k) under))
+
+-- # The items of patterns that are put in order
+
+kept : (rule code : List ℕ) (b : Bool) (h : Holder) (hs ks : List Holder) → has_code rule code h ≡ b → holder_items rule code hs ≡ holder_items rule code ks
+    → holder_item rule code h ++ holder_items rule code hs ≡ holder_items rule code (cond b (h ∷ ks) ks)
+kept rule code true h hs ks e same = ap (λ t. holder_item rule code h ++ t) same
+kept rule code false h hs ks e same = items-one rule code false h (holder_items rule code hs) e refl ∙ same
+
+items-filter : (rule code : List ℕ) (hs : List Holder) → holder_items rule code hs ≡ holder_items rule code (filter (has_code rule code) hs)
+items-filter rule code [] = refl
+items-filter rule code (h ∷ hs) = kept rule code (has_code rule code h) h hs (filter (has_code rule code) hs) refl (items-filter rule code hs)
+
+filter-alike : (p q : Holder → Bool) (hs : List Holder) → ((h : Holder) → p h ≡ q h) → filter p hs ≡ filter q hs
+filter-alike p q [] same = refl
+filter-alike p q (h ∷ hs) same = ap₂ (λ (b : Bool) (ks : List Holder). cond b (h ∷ ks) ks) (same h) (filter-alike p q hs same)
+
+-- a pattern with this code under this rule
+abbrev pub at_key : List ℕ → List ℕ → Holder
+at_key rule code = record {
+  rule = record { ref_ptr = (0, 0); now = rule };
+  code = record { ref_ptr = (0, 0); now = code };
+  name = record { ref_ptr = (0, 0); now = [] };
+}
+
+level : (r : Ordering) → (not (is_lt (ordering_reverse r)) && not (is_lt r)) ≡ is_eq r
+level Less = refl
+level Equal = refl
+level Greater = refl
+
+tied : (rule code : List ℕ) (h : Holder) → ties (λ one two. is_lt (key_cmp (holder_key one) (holder_key two))) (at_key rule code) h ≡ has_code rule code h
+tied rule code h =
+    ap (λ r. not (is_lt r) && not (is_lt (key_cmp (holder_key h) (code, rule)))) (key_total.antisymm (code, rule) (holder_key h))
+    ∙ level (key_cmp (holder_key h) (code, rule)) ∙ sym (has_is rule code h)
+
+pub same-items : (rule code : List ℕ) (old new : List Holder)
+    → filter (ties (λ one two. is_lt (key_cmp (holder_key one) (holder_key two))) (at_key rule code)) new
+    ≡ filter (ties (λ one two. is_lt (key_cmp (holder_key one) (holder_key two))) (at_key rule code)) old
+    → holder_items rule code new ≡ holder_items rule code old
+same-items rule code old new stable =
+    let lt : Holder → Holder → Bool = λ one two. is_lt (key_cmp (holder_key one) (holder_key two)) in
+    let here : (hs : List Holder) → holder_items rule code hs ≡ holder_items rule code (filter (ties lt (at_key rule code)) hs) =
+    λ hs. items-filter rule code hs ∙ ap (holder_items rule code) (sym (filter-alike (ties lt (at_key rule code)) (has_code rule code) hs (tied rule code))) in
+    here new ∙ ap (holder_items rule code) stable ∙ sym (here old)
+
+pub item-is : (rule code : List ℕ) (h : Holder) → has_code rule code h ≡ true → holder_item rule code h ≡ codes "<li>" ++ name_element h.name.now ++ codes "</li>"
+item-is rule code h e = rw e refl

@@ -1,0 +1,97 @@
+-- A table of codes of patterns that are put in order, and where there is none.
+use Rattle.std.proofs.Common.{◌≡◌, Bor, ℕ, Bool, true, false, ◌||◌, if◌then◌else◌, true≢false, sym, List, [], ◌∷◌, ◌++◌, codes, refl, ap, ap₂}
+use Rattle.std.specs.Prelude.{None}
+use Rattle.std.specs.List.{list_any}
+use Rattle.census_rows.specs.declared.row.Outcome.{Outcome}
+use Rattle.census_rows.specs.declared.row.Row.{Row}
+use Rattle.census_rows.specs.declared.row.Row.TheVariants.{Open, Line, Part, Code, Close, End}
+use Rattle.census_page.specs.Escapes.{name_element}
+use Rattle.census_page.specs.Holders.{holder_items, holders_from}
+use Rattle.census_page.specs.Markup.{list_begin, list_end, table_begin, table_end}
+use Rattle.census_page.specs.Pages.{code_row, code_rows, code_table, framed_text, front_cells, is_code, is_stray, is_unresolved_or_refused, reason, stray_list, stray_rows}
+use Rattle.census_page.specs.declared.holder.Holder.{Holder}
+
+module _ (old new : List Holder) (same : (rule code : List ℕ) → holder_items rule code new ≡ holder_items rule code old) where
+  same-row : (row : Row) → code_row new row ≡ code_row old row
+  same-row (Open collection patterns name) = refl
+  same-row (Line collection pattern outcome name) = refl
+  same-row (Part collection pattern code count) = refl
+  same-row (Code collection rule code count) = ap (λ t. front_cells rule.now code.now count ++ (t ++ codes "</ul></td></tr>\n")) (same rule.now code.now)
+  same-row (Close collection patterns resolved unresolved refused) = refl
+  same-row (End collections patterns) = refl
+
+  pub same-rows : (rows : List Row) → code_rows new rows ≡ code_rows old rows
+  same-rows [] = refl
+  same-rows (row ∷ rows) = ap₂ (λ s t. s ++ t) (same-row row) (same-rows rows)
+
+-- a row that tells of no code
+pub no-row : (holders : List Holder) (row : Row) → ((collection : ℕ) (rule code : Bor (List ℕ)) (count : ℕ) → row ≡ Code collection rule code count → ⊥) → code_row holders row ≡ []
+no-row holders (Open collection patterns name) other = refl
+no-row holders (Line collection pattern outcome name) other = refl
+no-row holders (Part collection pattern code count) other = refl
+no-row holders (Code collection rule code count) other = absurd (other collection rule code count refl)
+no-row holders (Close collection patterns resolved unresolved refused) other = refl
+no-row holders (End collections patterns) other = refl
+
+-- # A table where any row tells of a code, and none elsewhere
+
+table-some : (holders : List Holder) (rows : List Row) → list_any is_code rows ≡ true
+    → framed_text table_begin (code_rows holders rows) table_end ≡ table_begin ++ (code_rows holders rows ++ table_end)
+table-some holders [] some = absurd (true≢false (sym some))
+table-some holders (Open collection patterns name ∷ rows) some = table-some holders rows some
+table-some holders (Line collection pattern outcome name ∷ rows) some = table-some holders rows some
+table-some holders (Part collection pattern code count ∷ rows) some = table-some holders rows some
+table-some holders (Code collection rule code count ∷ rows) some = refl
+table-some holders (Close collection patterns resolved unresolved refused ∷ rows) some = table-some holders rows some
+table-some holders (End collections patterns ∷ rows) some = table-some holders rows some
+
+no-table : (holders : List Holder) (rows : List Row) → list_any is_code rows ≡ false → framed_text table_begin (code_rows holders rows) table_end ≡ []
+no-table holders [] none = refl
+no-table holders (Open collection patterns name ∷ rows) none = no-table holders rows none
+no-table holders (Line collection pattern outcome name ∷ rows) none = no-table holders rows none
+no-table holders (Part collection pattern code count ∷ rows) none = no-table holders rows none
+no-table holders (Code collection rule code count ∷ rows) none = absurd (true≢false none)
+no-table holders (Close collection patterns resolved unresolved refused ∷ rows) none = no-table holders rows none
+no-table holders (End collections patterns ∷ rows) none = no-table holders rows none
+
+pub table-is : (rows : List Row) → list_any is_code rows ≡ true → code_table rows ≡ table_begin ++ (code_rows (holders_from None rows) rows ++ table_end)
+table-is rows = table-some (holders_from None rows) rows
+
+pub table-none : (rows : List Row) → list_any is_code rows ≡ false → code_table rows ≡ []
+table-none rows = no-table (holders_from None rows) rows
+
+-- # A list where any row tells of an unresolved or refused pattern, and none elsewhere
+
+abbrev item : Bool → List ℕ → Outcome → List ℕ
+item stray name outcome = if stray then codes "<li>" ++ name_element name ++ codes ": " ++ reason outcome ++ codes "</li>\n" else []
+
+some-item : (b some : Bool) (name rest : List ℕ) (outcome : Outcome) → (b || some) ≡ true
+    → (some ≡ true → framed_text list_begin rest list_end ≡ list_begin ++ (rest ++ list_end))
+    → framed_text list_begin (item b name outcome ++ rest) list_end ≡ list_begin ++ ((item b name outcome ++ rest) ++ list_end)
+some-item true some name rest outcome is others = refl
+some-item false some name rest outcome is others = others is
+
+no-item : (b some : Bool) (name rest : List ℕ) (outcome : Outcome) → (b || some) ≡ false → (some ≡ false → framed_text list_begin rest list_end ≡ [])
+    → framed_text list_begin (item b name outcome ++ rest) list_end ≡ []
+no-item true some name rest outcome none others = absurd (true≢false none)
+no-item false some name rest outcome none others = others none
+
+pub list-is : (rows : List Row) → list_any is_stray rows ≡ true → stray_list rows ≡ list_begin ++ (stray_rows rows ++ list_end)
+list-is [] some = absurd (true≢false (sym some))
+list-is (Open collection patterns name ∷ rows) some = list-is rows some
+list-is (Line collection pattern outcome name ∷ rows) some =
+    some-item (is_unresolved_or_refused outcome) (list_any is_stray rows) name.now (stray_rows rows) outcome some (list-is rows)
+list-is (Part collection pattern code count ∷ rows) some = list-is rows some
+list-is (Code collection rule code count ∷ rows) some = list-is rows some
+list-is (Close collection patterns resolved unresolved refused ∷ rows) some = list-is rows some
+list-is (End collections patterns ∷ rows) some = list-is rows some
+
+pub list-none : (rows : List Row) → list_any is_stray rows ≡ false → stray_list rows ≡ []
+list-none [] none = refl
+list-none (Open collection patterns name ∷ rows) none = list-none rows none
+list-none (Line collection pattern outcome name ∷ rows) none =
+    no-item (is_unresolved_or_refused outcome) (list_any is_stray rows) name.now (stray_rows rows) outcome none (list-none rows)
+list-none (Part collection pattern code count ∷ rows) none = list-none rows none
+list-none (Code collection rule code count ∷ rows) none = list-none rows none
+list-none (Close collection patterns resolved unresolved refused ∷ rows) none = list-none rows none
+list-none (End collections patterns ∷ rows) none = list-none rows none

@@ -1,0 +1,78 @@
+use Rattle.std.proofs.Common.{codes, ◌++◌, ◌∙◌, refl, sym}
+use Rattle.std.proofs.lemmas.Result.{err_from_is_err_and}
+use Rattle.gathered.specs.Telling.{sheet}
+use Rattle.gathered.proofs.Telling.{tells_failed, tells_more}
+use Rattle.gathered.proofs.Fronts.{front_first, front_more}
+use Rattle.census_readback.specs.Grouped.{rows_lent}
+use Rattle.census_page.specs.Pages.{code_table, headings, section_text, stray_list}
+use Rattle.census_page.proofs.whole_page.put_section.Goals as goal
+
+pub returns-then-failed : goal.returns-then-failed
+returns-then-failed g c =
+    tells_failed (section_text (rows_lent c.args.rows.now)) (sheet g.W.Write.contents c.args.block.now c.args.writer.now) (sym c.failed.ensures ∙ c.if-failed.true)
+
+pub returns-in_err-put_headings : goal.returns-in_err-put_headings
+returns-in_err-put_headings g c =
+    let p = err_from_is_err_and c.from_residual.result c.from_residual.ensures.1 in
+    let rows = rows_lent c.args.rows.now in
+    let two = headings rows in
+    let four = stray_list rows ++ codes "</section>\n" in
+    let three = code_table rows ++ four in
+    let a = sheet g.W.Write.contents c.args.block.now c.args.writer.now in
+    let b = sheet g.W.Write.contents c.put.new.block c.put.new.writer in
+    let d = sheet g.W.Write.contents c.put_headings.new.block c.put_headings.new.writer in
+    rw p.1
+    (front_more (codes "<section>\n") (two ++ three) a b d c.put.ensures (front_first (two ++ three) two three b d refl c.in_err-put_headings.ensures))
+
+pub returns-in_err-put_code_table : goal.returns-in_err-put_code_table
+returns-in_err-put_code_table g c =
+    let p = err_from_is_err_and c.from_residual-in_err-put_code_table.result c.from_residual-in_err-put_code_table.ensures.1 in
+    let rows = rows_lent c.args.rows.now in
+    let two = headings rows in
+    let table = code_table rows in
+    let four = stray_list rows ++ codes "</section>\n" in
+    let three = table ++ four in
+    let a = sheet g.W.Write.contents c.args.block.now c.args.writer.now in
+    let b = sheet g.W.Write.contents c.put.new.block c.put.new.writer in
+    let d = sheet g.W.Write.contents c.put_headings.new.block c.put_headings.new.writer in
+    let e = sheet g.W.Write.contents c.put_code_table.new.block c.put_code_table.new.writer in
+    rw p.1
+    (front_more (codes "<section>\n") (two ++ three) a b e c.put.ensures
+    (front_more two three b d e c.in_ok-put_headings.ensures (front_first three table four d e refl c.in_err-put_code_table.ensures)))
+
+pub returns-in_err-put_stray_list : goal.returns-in_err-put_stray_list
+returns-in_err-put_stray_list g c =
+    let p = err_from_is_err_and c.from_residual-in_err-put_stray_list.result c.from_residual-in_err-put_stray_list.ensures.1 in
+    let rows = rows_lent c.args.rows.now in
+    let two = headings rows in
+    let table = code_table rows in
+    let strays = stray_list rows in
+    let four = strays ++ codes "</section>\n" in
+    let three = table ++ four in
+    let a = sheet g.W.Write.contents c.args.block.now c.args.writer.now in
+    let b = sheet g.W.Write.contents c.put.new.block c.put.new.writer in
+    let d = sheet g.W.Write.contents c.put_headings.new.block c.put_headings.new.writer in
+    let e = sheet g.W.Write.contents c.put_code_table.new.block c.put_code_table.new.writer in
+    let f = sheet g.W.Write.contents c.put_stray_list.new.block c.put_stray_list.new.writer in
+    rw p.1
+    (front_more (codes "<section>\n") (two ++ three) a b f c.put.ensures
+    (front_more two three b d f c.in_ok-put_headings.ensures
+    (front_more table four d e f c.in_ok-put_code_table.ensures (front_first four strays (codes "</section>\n") e f refl c.in_err-put_stray_list.ensures))))
+
+pub returns : goal.returns
+returns g c =
+    let rows = rows_lent c.args.rows.now in
+    let two = headings rows in
+    let table = code_table rows in
+    let strays = stray_list rows in
+    let four = strays ++ codes "</section>\n" in
+    let three = table ++ four in
+    let a = sheet g.W.Write.contents c.args.block.now c.args.writer.now in
+    let b = sheet g.W.Write.contents c.put.new.block c.put.new.writer in
+    let d = sheet g.W.Write.contents c.put_headings.new.block c.put_headings.new.writer in
+    let e = sheet g.W.Write.contents c.put_code_table.new.block c.put_code_table.new.writer in
+    let f = sheet g.W.Write.contents c.put_stray_list.new.block c.put_stray_list.new.writer in
+    let h = sheet g.W.Write.contents c.put-2.new.block c.put-2.new.writer in
+    tells_more (codes "<section>\n") (two ++ three) a b h c.put.ensures
+    (tells_more two three b d h c.in_ok-put_headings.ensures
+    (tells_more table four d e h c.in_ok-put_code_table.ensures (tells_more strays (codes "</section>\n") e f h c.in_ok-put_stray_list.ensures c.put-2.ensures)))
