@@ -1,2 +1,4 @@
+pub mod Alone
+pub mod Bounds
 pub mod Sets
 pub mod Spans

@@ -3,8 +3,12 @@
 //! Tested in `tests_objects`, by `life_census`.
 #![tactic(auto)]
 
+mod alone;
 mod checks;
+mod clearance;
 mod span;
 mod sweep;
 
+pub use alone::end_alone;
 pub use checks::{are_apart, are_together};
+pub use clearance::room;

@@ -1,0 +1,102 @@
+//! How long cells surely stay away from a set.
+ghost use Rattle.std.specs.Prelude.{◌≡◌, ℕ, ◌≤◌, ◌^◌, ◌-ℤ◌, ◌≤ℤ◌, All, pos};
+ghost use Rattle.std.specs.Int.{int_max};
+ghost use Rattle.life_model.specs.Generation.{Generation, cells, contains};
+ghost use Rattle.life_model.specs.Rule.{Rule as ModelRule};
+ghost use Rattle.life_objects.specs.Apart.{AreApartBefore, AreDisjoint};
+ghost use Rattle.life_objects.specs.Union.{IsSubsetOf};
+ghost use Rattle.life_apart.specs.Alone.{AreFar};
+ghost use Rattle.life_apart.specs.Bounds.{IsFarOff, IsInBounds};
+
+use life_cells::CellList;
+
+/// So far away are cells taken to be that are further.
+const FARTHEST: i64 = 1_048_576;
+
+/// The box around a set.
+#[derive(Clone, Copy)]
+struct Bounds {
+    left: i32,
+    right: i32,
+    top: i32,
+    bottom: i32,
+}
+
+/// The bounding box of the cells, and one that no cell is in where there are none.
+fn bounds_of(set: &CellList) -> Bounds
+    ensures { All (IsInBounds result) (cells set.now) }
+{
+    let mut bounds = Bounds {
+        left: i32::MAX,
+        right: i32::MIN,
+        top: i32::MAX,
+        bottom: i32::MIN,
+    };
+    for cell in set.as_slice() {
+        bounds.left = bounds.left.min(cell.0);
+        bounds.right = bounds.right.max(cell.0);
+        bounds.top = bounds.top.min(cell.1);
+        bounds.bottom = bounds.bottom.max(cell.1);
+    }
+    bounds
+}
+
+/// How far a place is from a stretch of places, and no more than 0 within it.
+fn distance_from(first: i32, last: i32, place: i32) -> i64
+    ensures { result ≡ int_max (first -ℤ place) (place -ℤ last) }
+{
+    let place = i64::from(place);
+    (i64::from(first) - place).max(place - i64::from(last))
+}
+
+impl Bounds {
+    /// How far a cell is from the box, in the direction in which it is further.
+    fn distance(&self, cell: (i32, i32)) -> i64
+        ensures { IsFarOff self.now result cell }
+    {
+        let across = distance_from(self.left, self.right, cell.0);
+        let down = distance_from(self.top, self.bottom, cell.1);
+        across.max(down)
+    }
+}
+
+/// Whether a set has a cell. It is looked up among all.
+fn has(set: &CellList, cell: (i32, i32)) -> bool
+    ensures { result ≡ contains set.now cell }
+{
+    set.as_slice().contains(&cell)
+}
+
+/// How far the nearest of the cells that a set has not is from a box around the set, and 0 where one of them is near it.
+fn distance(set: &CellList, cells: &CellList) -> i64
+    ensures far { (n : ℕ) (Q : Generation) → pos n ≤ℤ result → IsSubsetOf Q cells.now →
+        AreDisjoint set.now Q → AreFar n set.now Q }
+    ensures most { result ≤ℤ pos (2 ^ 20) }
+{
+    let bounds = bounds_of(set);
+    let mut least = FARTHEST;
+    for cell in cells.as_slice() {
+        let far = bounds.distance(*cell);
+        if far < 3 {
+            if !has(set, *cell) {
+                return 0;
+            }
+        } else {
+            least = least.min(far);
+        }
+    }
+    least
+}
+
+/// For how many generations from now on surely no other of the cells is near one of a set, and 0 where one may be near.
+pub fn room(set: &CellList, cells: &CellList) -> u32
+    ensures apart { (R : ModelRule) (Q : Generation) → IsSubsetOf Q cells.now → AreDisjoint set.now Q →
+        AreApartBefore R result set.now Q }
+    ensures most { result ≤ 2 ^ 20 }
+{
+    let far = distance(set, cells);
+    if far < 3 {
+        return 0;
+    }
+    (far - 1) as u32 / 2
+}
