@@ -1,5 +1,5 @@
 -- The place of a cell in a list of cells, and numbers in order.
-use Rattle.std.proofs.Common.{◌≡◌, ℕ, ◌+◌, ◌<◌, ◌≤◌, ℤ, ◌≤ℤ◌, true, false, T, List, [], ◌∷◌, ◌++◌, length, get_or, int_lt, inl, inr, sym, ap, subst, ◌∙◌, arith}
+use Rattle.std.proofs.Common.{◌≡◌, ℕ, ◌+◌, ◌-◌, ◌<◌, ◌≤◌, ℤ, ◌≤ℤ◌, true, false, T, List, [], ◌∷◌, ◌++◌, length, get_or, int_lt, inl, inr, sym, ap, subst, ◌∙◌, arith}
 use Rattle.std.specs.List.{All, list_any, range_with_len}
 use Rattle.std.proofs.lemmas.Bool.{cases_lt}
 use Rattle.std.proofs.lemmas.Int.{ints}
@@ -12,6 +12,7 @@ use Rattle.life_model.proofs.Cells.{pair, same_cell-is}
 use Rattle.life_model.proofs.Generations.{contains-cells}
 use Rattle.life_cells.specs.Limits.{IsPlace}
 use Rattle.life_classes.specs.Tags.{place_number}
+use Rattle.life_islands.specs.Labels.{IsParting}
 use Rattle.life_classes.proofs.RowsRise.{numbers_rise}
 
 -- one number more
@@ -35,6 +36,12 @@ not_less_itself x y e h = grind (arith, ints)
 both_bounds : (x y z : ℤ) → x ≤ℤ y → y ≡ z → int_lt x z ≡ false → x ≡ z
 both_bounds x y z h e k = grind (arith, ints)
 
+less_still : (x y z : ℤ) → x ≤ℤ y → int_lt y z ≡ true → int_lt x z ≡ true
+less_still x y z h k = grind (arith, ints)
+
+no_less_still : (x y z : ℤ) → x ≤ℤ y → int_lt x z ≡ false → int_lt y z ≡ false
+no_less_still x y z h k = grind (arith, ints)
+
 -- a list that has the cell has it in the place that its number parts the list at
 pub parted_at : (G : Generation) (c : Cell) (cs : List Cell) (i : ℕ) → cs ≡ cells G → T (is_rising cs) → All IsPlace cs →
     ((k : ℕ) (d : Cell) → k < i → int_lt (place_number (get_or cs k d)) (place_number c) ≡ true) →
@@ -55,3 +62,17 @@ parted_at G c cs i is rising placed before after has =
                 (both_bounds _ _ _ (numbers_rise cs rising placed i j d no_less within) (ap place_number (here d)) (after i d (omega arith) inside)),
           )
     ]
+
+-- a place whose neighbours stand on its two sides parts the list
+pub parting_here : (cs : List Cell) (number : ℤ) (at : ℕ) → T (is_rising cs) → All IsPlace cs → at ≤ length cs →
+    ((d : Cell) → 0 < at → int_lt (place_number (get_or cs (at - 1) d)) number ≡ true) →
+    ((d : Cell) → at < length cs → int_lt (place_number (get_or cs at d)) number ≡ false) → IsParting cs number at
+parting_here cs number at rising placed within low high = record {
+  within = within;
+  before = λ k d h.
+      less_still (place_number (get_or cs k d)) (place_number (get_or cs (at - 1) d)) number
+      (numbers_rise cs rising placed k (at - 1) d (omega arith) (omega arith)) (low d (omega arith));
+  after = λ k d h l.
+      no_less_still (place_number (get_or cs at d)) (place_number (get_or cs k d)) number
+      (numbers_rise cs rising placed at k d h l) (high d (omega arith));
+}

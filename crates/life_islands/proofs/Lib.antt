@@ -6,6 +6,7 @@ pub mod Joining
 pub mod Neighbours
 pub mod Placing
 pub mod Colouring
+pub mod Barren
 pub mod Linking
 pub mod Seated
 pub mod Linked

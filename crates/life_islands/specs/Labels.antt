@@ -1,5 +1,5 @@
 -- Cells with labels, of which some are joined, and the sets of cells whose labels are joined.
-use Rattle.std.specs.Prelude.{◌≡◌, ◌≢◌, ℕ, ◌<◌, ◌==◌, Bool, true, false, cond, List, [], ◌∷◌, length, get_or, map}
+use Rattle.std.specs.Prelude.{◌≡◌, ◌≢◌, ℕ, ◌<◌, ◌≤◌, ◌==◌, ℤ, int_lt, Bool, true, false, cond, List, [], ◌∷◌, length, get_or, map}
 use Rattle.std.specs.List.{All, AllPairs, Contains, range_with_len, sum}
 use Rattle.life_model.specs.Cell.{Cell, origin, same_cell}
 use Rattle.life_model.specs.Rule.{Rule}
@@ -7,11 +7,18 @@ use Rattle.life_model.specs.Generation.{Generation, cells, empty, keep}
 use Rattle.life_model.specs.Evolution.{generation}
 use Rattle.life_objects.specs.Apart.{AreDisjoint}
 use Rattle.life_objects.specs.Union.{union_of}
+use Rattle.life_classes.specs.Tags.{place_number}
 use Rattle.life_parts.specs.Ties.{AreTied}
 use Rattle.life_islands.specs.declared.labels.Labels.{Labels}
 use Rattle.life_islands.specs.Forest.{root}
 use Rattle.life_islands.specs.Seats.{cell_at}
 use Rattle.life_islands.specs.Splits.{AreJoined}
+
+-- the cells before a place have lesser numbers than this one, and those from it on have not
+pub record IsParting (cs : List Cell) (number : ℤ) (at : ℕ) : Type 0 where
+  pub within : at ≤ length cs
+  pub before : (k : ℕ) (d : Cell) → k < at → int_lt (place_number (get_or cs k d)) number ≡ true
+  pub after : (k : ℕ) (d : Cell) → at ≤ k → k < length cs → int_lt (place_number (get_or cs k d)) number ≡ false
 
 -- the label of a cell, by its place among the cells
 abbrev pub label_of : List Cell → List ℕ → Cell → ℕ

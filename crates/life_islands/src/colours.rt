@@ -202,3 +202,16 @@ pub fn count_live(seats: &[Seat]) -> u32
     }
     count
 }
+
+/// Whether no number of live cells up to this one has a cell born.
+pub fn bears_none(rule: &Rule, count: u32) -> bool
+    requires { count ≤ 8 }
+    ensures { IsTrue result → (k : ℕ) → k ≤ count → born rule.now k ≡ false }
+{
+    for n in 0..count + 1 {
+        if rule.born(n) {
+            return false;
+        }
+    }
+    true
+}

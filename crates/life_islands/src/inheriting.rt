@@ -9,24 +9,26 @@ ghost use Rattle.life_islands.specs.Labels.{Fits, sets_of};
 ghost use Rattle.life_islands.specs.Reach.{IsInReach};
 
 use crate::colours::first_bearing;
-use crate::labels::{Labels, index_of};
-use crate::seating::{colours_of, seats_around};
+use crate::labels::{Labels, index_near};
+use crate::seating::{ROWS, colours_of, seats_around};
 use life_cells::{CellList, Rule};
 use std::alloc::{AllocError, Global};
 
 /// The label of a cell of the next generation: its own, where it stays, and else that of a cell of the set that bears it.
-fn heir(rule: &Rule, list: &CellList, sets: &Labels, place: (i32, i32)) -> usize
+/// It is looked up near where the one before it was.
+fn heir(rule: &Rule, list: &CellList, sets: &Labels, place: (i32, i32), guess: &mut usize) -> usize
     requires fits { Fits list.now sets.now }
     requires held { AreHeldApart rule.now list.now (sets_of list.now sets.now) }
     requires live { contains (next rule.now list.now) place ≡ true }
     ensures { IsHeir rule.now list.now sets.now place result }
 {
-    if let Some(at) = index_of(list, place) {
+    if let Some(at) = index_near(list, place, guess) {
         return sets.labels[at];
     }
     // A cell of the next generation is near one of the list, and so in reach.
     let _cells = list.as_slice();
-    let seats = seats_around(list, sets, sets, place);
+    let mut near = [*guess; ROWS];
+    let seats = seats_around(list, sets, sets, place, &mut near, ROWS / 2);
     let colours = colours_of(&seats);
     let bearing = first_bearing(rule, &seats, &colours);
     seats[bearing].set
@@ -58,8 +60,9 @@ pub fn heirs(
 {
     let _cells = list.as_slice();
     let mut labels = Vec::with_capacity(alloc, later.len())?;
+    let mut guess = 0;
     for cell in later.as_slice() {
-        labels.push(heir(rule, list, &sets, moved(*cell, by)))?;
+        labels.push(heir(rule, list, &sets, moved(*cell, by), &mut guess))?;
     }
     Ok(Labels {
         labels,

@@ -1,11 +1,12 @@
 //! Cells with labels, of which some are joined.
-ghost use Rattle.std.specs.Prelude.{◌≡◌, ◌+◌, ◌^◌, ◌≤ℤ◌, neg_ℤ, pos, ◌<◌, IfNone, IfOk, IfSome, false, get_or, length};
+ghost use Rattle.std.specs.Prelude.{◌≡◌, ◌+◌, ◌-◌, ◌^◌, ◌≤◌, ◌≤ℤ◌, int_lt, true, neg_ℤ, pos, ◌<◌, All, IfNone, IfOk, IfSome, IsTrue, T, false, get_or, length};
 ghost use Rattle.std.specs.List.{range_with_len};
-ghost use Rattle.life_model.specs.Cell.{origin};
-ghost use Rattle.life_model.specs.Generation.{cells, contains};
+ghost use Rattle.life_model.specs.Cell.{Cell, origin};
+ghost use Rattle.life_model.specs.Generation.{cells, contains, is_rising};
+ghost use Rattle.life_cells.specs.Limits.{IsPlace};
 ghost use Rattle.life_classes.specs.Tags.{place_number};
 ghost use Rattle.life_islands.specs.Forest.{root};
-ghost use Rattle.life_islands.specs.Labels.{AreNumbered};
+ghost use Rattle.life_islands.specs.Labels.{AreNumbered, IsParting};
 
 use crate::forest::root;
 use life_cells::CellList;
@@ -41,26 +42,111 @@ pub fn numbers(alloc: Global, count: usize) -> Result<Vec<usize>, AllocError>
     Ok(all)
 }
 
-/// The place of a cell in a list of cells.
-pub fn index_of(list: &CellList, cell: (i32, i32)) -> Option<usize>
+/// How many places from the guessed one on are looked at.
+const STEPS: usize = 3;
+
+/// Whether the cell right before a place has a lesser number than this one, if there is one.
+fn is_past(all: &[(i32, i32)], cell: (i32, i32), at: usize) -> bool
+    requires { at ≤ length all.now }
+    ensures { IsTrue result → (d : Cell) → 0 < at →
+        int_lt (place_number (get_or all.now (at - 1) d)) (place_number cell) ≡ true }
+{
+    if at == 0 {
+        return true;
+    }
+    place_number(all[at - 1]) < place_number(cell)
+}
+
+/// Whether the cell in a place has a lesser number than this one.
+fn is_before(all: &[(i32, i32)], cell: (i32, i32), at: usize) -> bool
+    ensures { result ≡ false → (d : Cell) → at < length all.now →
+        int_lt (place_number (get_or all.now at d)) (place_number cell) ≡ false }
+{
+    if at >= all.len() {
+        return false;
+    }
+    place_number(all[at]) < place_number(cell)
+}
+
+/// Whether the cells before a place have lesser numbers than this one, and those from it on have not.
+fn parts_at(all: &[(i32, i32)], cell: (i32, i32), at: usize) -> bool
+    requires rising { T (is_rising all.now) }
+    requires placed { All IsPlace all.now }
+    ensures { IsTrue result → IsParting all.now (place_number cell) at }
+{
+    if at > all.len() {
+        return false;
+    }
+    if is_before(all, cell, at) {
+        return false;
+    }
+    is_past(all, cell, at)
+}
+
+/// Before which place the cells have lesser numbers than this one. It is soon found where it is the guessed place or one
+/// of the next, and else by halving.
+fn parting(all: &[(i32, i32)], cell: (i32, i32), guess: usize) -> usize
+    requires rising { T (is_rising all.now) }
+    requires placed { All IsPlace all.now }
+    ensures { IsParting all.now (place_number cell) result }
+{
+    for more in 0..STEPS {
+        let at = guess.saturating_add(more);
+        if parts_at(all, cell, at) {
+            return at;
+        }
+    }
+    let number = place_number(cell);
+    all.partition_point(|one| place_number(*one) < number)
+}
+
+/// The place of a cell in a list of cells, which is soon found near a guessed one; where it was looked for is the next guess.
+pub fn index_near(list: &CellList, cell: (i32, i32), guess: &mut usize) -> Option<usize>
     ensures some { IfSome result
         (λ n. n < length (cells list.now) × get_or (cells list.now) n origin ≡ cell) }
     ensures none { IfNone result (contains list.now cell ≡ false) }
 {
     let all = list.as_slice();
-    let number = place_number(cell);
-    let at = all.partition_point(|one| place_number(*one) < number);
+    let at = parting(all, cell, *guess);
+    *guess = at;
     if at < all.len() && all[at] == cell {
         return Some(at);
     }
     None
 }
 
-/// Whether a set has a cell.
-pub fn has(list: &CellList, cell: (i32, i32)) -> bool
+/// The place of a cell in a list of cells, which is looked up near where one was looked for in its row, by the row's number.
+pub fn index_in_row(
+    list: &CellList,
+    cell: (i32, i32),
+    near: &mut [usize],
+    row: usize,
+) -> Option<usize>
+    ensures some { IfSome result
+        (λ n. n < length (cells list.now) × get_or (cells list.now) n origin ≡ cell) }
+    ensures none { IfNone result (contains list.now cell ≡ false) }
+{
+    match near.get_mut(row) {
+        Some(guess) => index_near(list, cell, guess),
+        None => index_of(list, cell),
+    }
+}
+
+/// The place of a cell in a list of cells.
+pub fn index_of(list: &CellList, cell: (i32, i32)) -> Option<usize>
+    ensures some { IfSome result
+        (λ n. n < length (cells list.now) × get_or (cells list.now) n origin ≡ cell) }
+    ensures none { IfNone result (contains list.now cell ≡ false) }
+{
+    let mut guess = list.len() / 2;
+    index_near(list, cell, &mut guess)
+}
+
+/// Whether a set has a cell, which is looked up near where one was looked for in its row, by the row's number.
+pub fn has_in_row(list: &CellList, cell: (i32, i32), near: &mut [usize], row: usize) -> bool
     ensures { result ≡ contains list.now cell }
 {
-    match index_of(list, cell) {
+    match index_in_row(list, cell, near, row) {
         Some(_) => true,
         None => false,
     }

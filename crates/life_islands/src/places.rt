@@ -14,19 +14,21 @@ ghost use Rattle.life_islands.specs.Splits.{AreLaidOut, IsSettled, IsSettledNear
 use crate::around::neighbour;
 use crate::colours::AROUND;
 use crate::forest::join;
-use crate::labels::{Labels, ROW, has, place_number};
-use crate::seating::{link_at, seats_around};
+use crate::labels::{Labels, ROW, has_in_row, place_number};
+use crate::seating::{ROWS, link_at, row_of, seats_around};
 use crate::touching::{islands, join_touching};
 use life_cells::{CellList, Rule};
 use std::alloc::{AllocError, Global};
 
-/// Joins two sets that a place joins, if it is none of the cells.
+/// Joins two sets that a place in a row by this number joins, if it is none of the cells.
 fn join_place(
     rule: &Rule,
     list: &CellList,
     isles: &Labels,
     sets: &mut Labels,
     place: (i32, i32),
+    near: &mut [usize],
+    row: usize,
 ) -> bool
     requires reach { IsInReach place }
     requires isles { Fits list.now isles.now }
@@ -37,10 +39,10 @@ fn join_place(
     ensures settled { result ≡ false → contains list.now place ≡ false →
         IsSettled rule.now list.now (sets_of list.now sets.new) place }
 {
-    if has(list, place) {
+    if has_in_row(list, place, near, row) {
         return false;
     }
-    let seats = seats_around(list, isles, sets, place);
+    let seats = seats_around(list, isles, sets, place, near, row);
     match link_at(rule, &seats) {
         Some((one, other)) => join(&mut sets.forest, one, other),
         None => false,
@@ -98,7 +100,14 @@ fn is_of_one(list: &CellList, sets: &Labels, n: usize) -> bool
 }
 
 /// Joins sets that a place around the cell in a place of a list joins.
-fn join_around(rule: &Rule, list: &CellList, isles: &Labels, sets: &mut Labels, n: usize) -> bool
+fn join_around(
+    rule: &Rule,
+    list: &CellList,
+    isles: &Labels,
+    sets: &mut Labels,
+    n: usize,
+    near: &mut [usize],
+) -> bool
     requires isles { Fits list.now isles.now }
     requires sets { Fits list.now sets.old }
     requires within { n < length (generations.cells list.now) }
@@ -114,7 +123,8 @@ fn join_around(rule: &Rule, list: &CellList, isles: &Labels, sets: &mut Labels, 
     let cell = list.as_slice()[n];
     let mut joined = false;
     for number in 0..AROUND {
-        if join_place(rule, list, isles, sets, neighbour(cell, number)) {
+        let row = row_of(ROWS / 2, number);
+        if join_place(rule, list, isles, sets, neighbour(cell, number), near, row) {
             joined = true;
         }
     }
@@ -131,8 +141,9 @@ fn join_places(rule: &Rule, list: &CellList, isles: &Labels, sets: &mut Labels) 
     ensures held { result ≡ false → AreHeldApart rule.now list.now (sets_of list.now sets.new) }
 {
     let mut joined = false;
+    let mut near = [0; ROWS];
     for n in 0..list.len() {
-        if join_around(rule, list, isles, sets, n) {
+        if join_around(rule, list, isles, sets, n, &mut near) {
             joined = true;
         }
     }

@@ -6,8 +6,8 @@ ghost use Rattle.life_islands.specs.Seats.{bears_at, is_born_by, listed, seat, s
 ghost use Rattle.life_islands.specs.Labels.{Fits, sets_of};
 
 use crate::around::neighbour;
-use crate::colours::{AROUND, Seat, count_live, explore, first_bearing, flaw};
-use crate::labels::{Labels, index_of};
+use crate::colours::{AROUND, Seat, bears_none, count_live, explore, first_bearing, flaw};
+use crate::labels::{Labels, index_in_row};
 use life_cells::{CellList, Rule};
 
 /// A seat that is not live.
@@ -17,15 +17,35 @@ const NOBODY: Seat = Seat {
     set: 0,
 };
 
-/// The seat of one of the cells around a place.
-fn seat_at(list: &CellList, isles: &Labels, sets: &Labels, place: (i32, i32), number: usize) -> Seat
+/// How many rows the cells around the places around a cell stand in.
+pub const ROWS: usize = 5;
+
+/// The number of the row of one of the cells around a place that stands in a row by this number.
+pub fn row_of(row: usize, number: usize) -> usize {
+    match number {
+        0 | 1 | 2 => row.saturating_sub(1),
+        3 | 4 => row,
+        _ => row.saturating_add(1),
+    }
+}
+
+/// The seat of one of the cells around a place in a row by this number, near where one was looked for in its own row.
+fn seat_at(
+    list: &CellList,
+    isles: &Labels,
+    sets: &Labels,
+    place: (i32, i32),
+    number: usize,
+    near: &mut [usize],
+    row: usize,
+) -> Seat
     requires reach { IsInReach place }
     requires number { number < 8 }
     requires isles { Fits list.now isles.now }
     requires sets { Fits list.now sets.now }
     ensures { IsSeat list.now (sets_of list.now isles.now) (sets_of list.now sets.now) place number result }
 {
-    match index_of(list, neighbour(place, number)) {
+    match index_in_row(list, neighbour(place, number), near, row_of(row, number)) {
         Some(at) => Seat {
             live: true,
             island: isles.mark(at),
@@ -35,8 +55,15 @@ fn seat_at(list: &CellList, isles: &Labels, sets: &Labels, place: (i32, i32), nu
     }
 }
 
-/// The seats of the eight cells around a place.
-pub fn seats_around(list: &CellList, isles: &Labels, sets: &Labels, place: (i32, i32)) -> [Seat; 8]
+/// The seats of the eight cells around a place in a row by this number, near where cells were looked for in each row.
+pub fn seats_around(
+    list: &CellList,
+    isles: &Labels,
+    sets: &Labels,
+    place: (i32, i32),
+    near: &mut [usize],
+    row: usize,
+) -> [Seat; 8]
     requires reach { IsInReach place }
     requires isles { Fits list.now isles.now }
     requires sets { Fits list.now sets.now }
@@ -44,7 +71,7 @@ pub fn seats_around(list: &CellList, isles: &Labels, sets: &Labels, place: (i32,
 {
     let mut seats = [NOBODY; 8];
     for number in 0..AROUND {
-        let seat = seat_at(list, isles, sets, place, number);
+        let seat = seat_at(list, isles, sets, place, number, near, row);
         seats[number] = seat;
     }
     seats
@@ -150,10 +177,14 @@ pub fn link_at(rule: &Rule, seats: &[Seat]) -> Option<(usize, usize)>
     ensures some { IfSome result (IsSeatLink rule.now seats.now) }
 {
     let first = first_live(seats)?;
+    let count = count_live(seats);
+    if bears_none(rule, count) {
+        return None;
+    }
     let colours = colours_of(seats);
     let bearer = bearer_of(rule, seats, &colours, first);
     let other = other_set(seats, bearer)?;
-    let is_born = rule.born(count_live(seats));
+    let is_born = rule.born(count);
     let found = joined_with(rule, seats, &colours, is_born, bearer, other)?;
     Some((bearer, found))
 }

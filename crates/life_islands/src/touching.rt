@@ -7,15 +7,40 @@ ghost use Rattle.life_model.specs.Rule.{Rule};
 
 use crate::around::neighbour;
 use crate::forest::join;
-use crate::labels::{Labels, index_of};
+use crate::labels::{Labels, index_near};
 use life_cells::CellList;
 use std::alloc::{AllocError, Global};
 
 /// How many of the cells around a cell come before it.
 const BEFORE: usize = 4;
 
+/// How many of these are in the row above.
+const ABOVE: usize = 3;
+
+/// Where one of the cells around the cell in a place is looked for first: where one in the row above was looked for last,
+/// or right before the cell.
+fn guess(n: usize, number: usize, above: usize) -> usize {
+    if number < ABOVE {
+        return above;
+    }
+    n.saturating_sub(1)
+}
+
+/// Keeps where a cell in the row above was looked for.
+fn keep(above: &mut usize, number: usize, guess: usize) {
+    if number < ABOVE {
+        *above = guess;
+    }
+}
+
 /// Joins the cell in a place with one of those around it, by its number, if it is live.
-fn join_neighbour(list: &CellList, all: &mut Labels, n: usize, number: usize) -> bool
+fn join_neighbour(
+    list: &CellList,
+    all: &mut Labels,
+    n: usize,
+    number: usize,
+    above: &mut usize,
+) -> bool
     requires fits { Fits list.now all.old }
     requires within { n < length (cells list.now) }
     requires before { number < 4 }
@@ -23,14 +48,21 @@ fn join_neighbour(list: &CellList, all: &mut Labels, n: usize, number: usize) ->
     ensures met { HasMet list.now all.new n number }
 {
     let cells = list.as_slice();
-    match index_of(list, neighbour(cells[n], number)) {
-        Some(at) => join(&mut all.forest, all.labels[n], all.labels[at]),
-        None => false,
+    let mut near = guess(n, number, *above);
+    match index_near(list, neighbour(cells[n], number), &mut near) {
+        Some(at) => {
+            keep(above, number, near);
+            join(&mut all.forest, all.labels[n], all.labels[at])
+        }
+        None => {
+            keep(above, number, near);
+            false
+        }
     }
 }
 
 /// Joins the cell in a place with those around it that come before it.
-fn join_before(list: &CellList, all: &mut Labels, n: usize) -> bool
+fn join_before(list: &CellList, all: &mut Labels, n: usize, above: &mut usize) -> bool
     requires fits { Fits list.now all.old }
     requires within { n < length (cells list.now) }
     ensures touched { AreJoinedByTouch list.now all.old all.new result }
@@ -38,7 +70,7 @@ fn join_before(list: &CellList, all: &mut Labels, n: usize) -> bool
 {
     let mut joined = false;
     for number in 0..BEFORE {
-        if join_neighbour(list, all, n, number) {
+        if join_neighbour(list, all, n, number, above) {
             joined = true;
         }
     }
@@ -54,8 +86,9 @@ pub fn join_touching(list: &CellList, all: &mut Labels) -> bool
     ensures joined { AreJoinedWithin list.now all.old → AreJoinedWithin list.now all.new }
 {
     let mut joined = false;
+    let mut above = 0;
     for n in 0..list.len() {
-        if join_before(list, all, n) {
+        if join_before(list, all, n, &mut above) {
             joined = true;
         }
     }

@@ -11,14 +11,14 @@ link_at-requires-clause-whole c =
     let a = c.args in
     let G = a.list.now in
     sets_are_colours G (sets_of G a.isles.now) (sets_of G a.sets.now) a.place c.seats_around-seats.result c.seats_around-seats.ensures
-    c.requires.laid_out (sym c.has.ensures ∙ c.if-has.false) a.rule.now
+    c.requires.laid_out (sym c.has_in_row.ensures ∙ c.if-has_in_row.false) a.rule.now
 
 link : (c : After-join-arg-1) → IsLink c.args.rule.now c.args.list.now (sets_of c.args.list.now c.args.sets.now) (c.in-Some.one, c.in-Some.other)
 link c =
     let a = c.args in
     let G = a.list.now in
     link_of_seats a.rule.now G (sets_of G a.isles.now) (sets_of G a.sets.now) a.place c.seats_around-seats.result
-    c.seats_around-seats.ensures c.requires.laid_out (sym c.has.ensures ∙ c.if-has.false) (c.in-Some.one, c.in-Some.other) c.in-Some.ensures.some
+    c.seats_around-seats.ensures c.requires.laid_out (sym c.has_in_row.ensures ∙ c.if-has_in_row.false) (c.in-Some.one, c.in-Some.other) c.in-Some.ensures.some
 
 pub join-requires : goal.join-requires
 join-requires c =

@@ -1,7 +1,7 @@
 use Rattle.std.proofs.Common.{sym, refl, ap, ◌∙◌}
 use Rattle.life_model.specs.Generation.{cells, contains}
 use Rattle.life_islands.proofs.Labelled.{listed_cell}
-use Rattle.life_islands.proofs.labels.has.Goals as goal
+use Rattle.life_islands.proofs.labels.has_in_row.Goals as goal
 
 pub returns-in-Some : goal.returns-in-Some
 returns-in-Some c =
