@@ -13,3 +13,4 @@ pub mod Firsts
 pub mod Growing
 pub mod Sooner
 pub mod Ways
+pub mod Alone

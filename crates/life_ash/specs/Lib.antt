@@ -4,5 +4,6 @@ pub mod Later
 pub mod Fates
 pub mod Allowed
 pub mod Met
+pub mod Newcomers
 pub mod Ahead
 pub mod Telling

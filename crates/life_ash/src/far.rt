@@ -6,23 +6,27 @@ ghost use Rattle.life_ash.specs.Telling.{IsTold};
 
 use crate::ahead::parts_if_due;
 use crate::known::Known;
+use crate::newcomers::is_no_ash;
 use crate::told::Told;
 use life_plane::Plane;
 use life_tally::{Pace, is_uneven};
 use std::alloc::{AllocError, Global};
 
+/// How many times as old as the bound a pattern gets before it is looked for what is new.
+const SOON: u32 = 4;
+
 /// How many times as old as the bound a pattern gets at most.
-const TIMES: u32 = 16;
+const LATE: u32 = 16;
 
 /// The greatest age of a plane whose cells are told as ash.
 const LAST: u32 = 400_000;
 
-/// The greatest age to which a walk goes, where the bound is this.
-fn last_age(bound: u32) -> u32
+/// The age to which a walk goes that is so many times as long as the bound.
+fn last_age(bound: u32, times: u32) -> u32
     requires { 1 ≤ bound }
     ensures { result ≤ ash_age_limit }
 {
-    LAST.min(bound.saturating_mul(TIMES))
+    LAST.min(bound.saturating_mul(times))
 }
 
 /// A total, and the cells of one more generation, where that is no larger than can be counted. The pace notes how many these are.
@@ -37,11 +41,12 @@ fn counted<P: Plane>(total: u64, plane: &P, pace: &mut Pace, age: u32) -> Option
 /// Walks on from a plane that is as old as the bound. A stretch of as many generations as is the bound has many more cells
 /// than another only where there is no ash, so the cells are counted. After three times the bound it is looked now and
 /// then whether they are ash.
-pub fn told_later<P: Plane>(
+fn told_until<P: Plane>(
     alloc: Global,
     plane: &P,
     met: &mut Known,
     pace: &mut Pace,
+    times: u32,
 ) -> Result<Told, AllocError>
     requires { P.steps_made plane.now ≡ met.old.bound }
     ensures same { met.new ≡ met.old }
@@ -53,7 +58,7 @@ pub fn told_later<P: Plane>(
     let mut totals = Vec::new(alloc);
     let mut total = 0;
     let mut left = 0;
-    for age in bound..last_age(bound) + 1 {
+    for age in bound..last_age(bound, times) + 1 {
         if left == 0 {
             totals.push(total)?;
             if is_uneven(totals.as_slice()) {
@@ -77,4 +82,26 @@ pub fn told_later<P: Plane>(
         later.step(&rule)?;
     }
     Ok(Told::Nothing)
+}
+
+/// What later generations tell of a plane's cells, which are as old as the bound: by how many they are, by the ash that
+/// they become, and by what stands alone and is new.
+pub fn told_later<P: Plane>(
+    alloc: Global,
+    plane: &P,
+    met: &mut Known,
+    pace: &mut Pace,
+) -> Result<Told, AllocError>
+    requires { P.steps_made plane.now ≡ met.old.bound }
+    ensures same { met.new ≡ met.old }
+    ensures told { IfOk result (IsTold met.old.rule met.old.bound (P.members plane.now)) }
+{
+    match told_until(alloc, plane, met, pace, SOON)? {
+        Told::Nothing => {}
+        told => return Ok(told),
+    }
+    if is_no_ash(alloc, plane, met)? {
+        return Ok(Told::Never);
+    }
+    told_until(alloc, plane, met, pace, LATE)
 }

@@ -7,6 +7,7 @@ ghost use Rattle.life_orbit.specs.Course.{IsCourse};
 ghost use Rattle.life_apart.specs.Sets.{IsCourseBy, sets_of};
 ghost use Rattle.life_ash.specs.Parts.{IsFit, IsPlaced, ash_age_limit};
 
+use crate::again::comes_again;
 use crate::ash_orbits::is_ash;
 use crate::known::Known;
 use life_classes::{Class, classes_of};
@@ -25,7 +26,7 @@ struct Effort {
 
 /// The efforts of the guesses, each made where those before it found nothing. Most objects come again within four
 /// generations, and most that are in several places come near each other as soon.
-const EFFORTS: [Effort; 4] = [
+const EFFORTS: [Effort; 5] = [
     Effort {
         followed: 0,
         recurs: 4,
@@ -42,10 +43,17 @@ const EFFORTS: [Effort; 4] = [
         followed: 64,
         recurs: 64,
     },
+    Effort {
+        followed: 256,
+        recurs: 256,
+    },
 ];
 
+/// Of a set with more cells than this it is seen whether it comes again before any of its generations is kept.
+const LARGE: usize = 4096;
+
 /// The orbits of the classes as they were at first, where each recurs within so many generations or was met before.
-fn orbits_of(
+fn orbits_of<P: Plane>(
     alloc: Global,
     known: &mut Known,
     classes: &[Class],
@@ -60,8 +68,13 @@ fn orbits_of(
         (λ found. IfSome found
         (λ orbits. All (IsFit known.old.rule known.old.bound) orbits.items)) }
 {
+    let rule = known.rule();
+    let most = known.bound().min(tried);
     let mut orbits = Vec::new(alloc);
     for class in classes {
+        if class.first.len() > LARGE && !comes_again::<P>(alloc, &class.first, &rule, most)? {
+            return Ok(None);
+        }
         match known.orbit_of(alloc, &class.first, tried)? {
             Some(orbit) => orbits.push(orbit)?,
             None => return Ok(None),
@@ -93,7 +106,7 @@ fn parts_by_effort<P: Plane>(
     // (at its age no cell is too far out)
     let _age = plane.age();
     let all = classes_of(alloc, plane, &rule, followed)?;
-    let Some(parts) = orbits_of(alloc, known, all.as_slice(), tried)? else {
+    let Some(parts) = orbits_of::<P>(alloc, known, all.as_slice(), tried)? else {
         return Ok(None);
     };
     if is_ash(alloc, plane, parts.as_slice(), &rule, bound)? {

@@ -13,6 +13,7 @@ mod guess;
 mod known;
 mod limit;
 mod living;
+mod newcomers;
 mod parts;
 mod pattern;
 mod pattern_fate;

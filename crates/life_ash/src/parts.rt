@@ -21,7 +21,7 @@ use life_plane::Plane;
 use std::alloc::{AllocError, Global};
 
 /// The only set that may have become this one after so many generations and that comes again within the bound.
-fn part_of(
+pub fn part_of(
     alloc: Global,
     known: &mut Known,
     last: &CellList,

@@ -10,7 +10,7 @@ use Rattle.life_ash.proofs.Finding.{of_some}
 use Rattle.life_ash.proofs.guess.orbits_of.Goals as goal
 
 pub loop-class-preserved : goal.loop-class-preserved
-loop-class-preserved c =
+loop-class-preserved g c =
     let R = c.args.known.now.rule in
     let b = c.args.known.now.bound in
     let o = c.in-Some.orbit in
