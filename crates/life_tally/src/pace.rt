@@ -19,6 +19,9 @@ const EARLY: u32 = 3;
 /// The age from which on looks are due.
 const FIRST_DUE: u32 = 4096;
 
+/// After so many looks, which found nothing, the next ones wait longer.
+const PATIENT: usize = 5;
+
 /// The populations at the last moments, the ages from which on a look is due and from which on one is allowed, and how
 /// many looks were due.
 #[derive(Clone, Copy)]
@@ -80,6 +83,14 @@ impl Pace {
         }
     }
 
+    /// How long the next look waits after one at this age.
+    fn wait(&self, age: u32) -> u32 {
+        if self.looks > PATIENT {
+            return age / 2;
+        }
+        age / 8
+    }
+
     /// Whether to look at the generation of this age, of which the population is noted if it is to be kept. Looks are due
     /// each time that the age has doubled, from 4,096 on, and where populations repeat, if the last look is some time ago.
     pub fn is_due(&mut self, age: u32) -> bool {
@@ -91,7 +102,9 @@ impl Pace {
             return false;
         }
         self.due = age.saturating_mul(2).max(FIRST_DUE);
-        self.free = age.saturating_add(age / 8).saturating_add(SPELL * STRIDE);
+        self.free = age
+            .saturating_add(self.wait(age))
+            .saturating_add(SPELL * STRIDE);
         self.looks = self.looks.saturating_add(1);
         true
     }
