@@ -13,7 +13,7 @@ _census() {
     advance) options='--explain -h --help' kind=files ;;
     draw) options='--rule --explain -h --help' kind=neither ;;
     merge) options='--explain -h --help' kind=files ;;
-    table) options='--csv --json --parts --codes --explain -h --help' kind=files ;;
+    table) options='--csv --json --safe --parts --codes --explain -h --help' kind=files ;;
     page) options='--explain -h --help' kind=files ;;
     esac
     case $last in

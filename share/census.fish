@@ -44,6 +44,7 @@ complete -c census -n '__fish_seen_subcommand_from merge' -F
 complete -c census -n __fish_use_subcommand -a table -d 'Write a row for each pattern of reports'
 complete -c census -n '__fish_seen_subcommand_from table' -l csv -d 'Comma-separated values under a row of names, as without a format'
 complete -c census -n '__fish_seen_subcommand_from table' -l json -d 'JSON, one object a line'
+complete -c census -n '__fish_seen_subcommand_from table' -l safe -d 'In CSV put a '\'' before each text that a spreadsheet takes for a formula'
 complete -c census -n '__fish_seen_subcommand_from table' -l parts -d 'A row for each part line in place of each pattern'
 complete -c census -n '__fish_seen_subcommand_from table' -l codes -d 'A row for each code and rule in place of each pattern, by falling count'
 complete -c census -n '__fish_seen_subcommand_from table' -l explain -d 'Tell of each fault on standard error also where it is, what is wrong and what would be right'

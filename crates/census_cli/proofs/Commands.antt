@@ -87,6 +87,7 @@ abbrev TableText : Text → Text → Type 0
 TableText id v =
     (bytes_eq id (codes "csv") ≡ true → IsFlagText v)
     × (bytes_eq id (codes "json") ≡ true → IsFlagText v)
+    × (bytes_eq id (codes "safe") ≡ true → IsFlagText v)
     × (bytes_eq id (codes "parts") ≡ true → IsFlagText v)
     × (bytes_eq id (codes "codes") ≡ true → IsFlagText v)
     × ExplainText id v
@@ -244,18 +245,21 @@ page_rules = (
 
 table_rules : Each (RuleHolds TableText) built_table.rules
 table_rules = (
-  record { own = λ v e. (λ _. flag_text v e, absent, absent, absent, absent); usual = inr (refl, inr true_given); plain = λ t. refl },
+  record { own = λ v e. (λ _. flag_text v e, absent, absent, absent, absent, absent); usual = inr (refl, inr true_given); plain = λ t. refl },
   (
-    record { own = λ v e. (absent, λ _. flag_text v e, absent, absent, absent); usual = inr (refl, inr true_given); plain = λ t. refl },
+    record { own = λ v e. (absent, λ _. flag_text v e, absent, absent, absent, absent); usual = inr (refl, inr true_given); plain = λ t. refl },
     (
-      record { own = λ v e. (absent, absent, λ _. flag_text v e, absent, absent); usual = inr (refl, inr true_given); plain = λ t. refl },
+      record { own = λ v e. (absent, absent, λ _. flag_text v e, absent, absent, absent); usual = inr (refl, inr true_given); plain = λ t. refl },
       (
-        record { own = λ v e. (absent, absent, absent, λ _. flag_text v e, absent); usual = inr (refl, inr true_given); plain = λ t. refl },
+        record { own = λ v e. (absent, absent, absent, λ _. flag_text v e, absent, absent); usual = inr (refl, inr true_given); plain = λ t. refl },
         (
-          record { own = λ v e. (absent, absent, absent, absent, λ _. flag_text v e); usual = inr (refl, inr true_given); plain = λ t. refl },
+          record { own = λ v e. (absent, absent, absent, absent, λ _. flag_text v e, absent); usual = inr (refl, inr true_given); plain = λ t. refl },
           (
-            record { own = λ v e. (absent, absent, absent, absent, absent); usual = inr (refl, inl refl); plain = λ t. refl },
-            (record { own = λ v e. (absent, absent, absent, absent, absent); usual = inl refl; plain = λ t. refl }, tt),
+            record { own = λ v e. (absent, absent, absent, absent, absent, λ _. flag_text v e); usual = inr (refl, inr true_given); plain = λ t. refl },
+            (
+              record { own = λ v e. (absent, absent, absent, absent, absent, absent); usual = inr (refl, inl refl); plain = λ t. refl },
+              (record { own = λ v e. (absent, absent, absent, absent, absent, absent); usual = inl refl; plain = λ t. refl }, tt),
+            ),
           ),
         ),
       ),
@@ -397,9 +401,10 @@ table_has : (words : List Text) → Passes built_table words → HasTable (rows_
 table_has words e = record {
   csv = flag_in TableText (codes "csv") _ (by_default (codes "csv") (inl (refl, false_by_default))) (λ v q. q.0 refl);
   json = flag_in TableText (codes "json") _ (by_default (codes "json") (inr (inl (refl, false_by_default)))) (λ v q. q.1 refl);
-  of_parts = flag_in TableText (codes "parts") _ (by_default (codes "parts") (inr (inr (inl (refl, false_by_default))))) (λ v q. q.2 refl);
-  of_codes = flag_in TableText (codes "codes") _ (by_default (codes "codes") (inr (inr (inr (inl (refl, false_by_default)))))) (λ v q. q.3 refl);
-  explain = flag_in TableText (codes "explain") _ (by_default (codes "explain") (inr (inr (inr (inr (inl (refl, false_by_default))))))) (λ v q. q.4 refl);
+  safe = flag_in TableText (codes "safe") _ (by_default (codes "safe") (inr (inr (inl (refl, false_by_default))))) (λ v q. q.2 refl);
+  of_parts = flag_in TableText (codes "parts") _ (by_default (codes "parts") (inr (inr (inr (inl (refl, false_by_default)))))) (λ v q. q.3 refl);
+  of_codes = flag_in TableText (codes "codes") _ (by_default (codes "codes") (inr (inr (inr (inr (inl (refl, false_by_default))))))) (λ v q. q.4 refl);
+  explain = flag_in TableText (codes "explain") _ (by_default (codes "explain") (inr (inr (inr (inr (inr (inl (refl, false_by_default)))))))) (λ v q. q.5 refl);
 }
   where
     by_default : (id : Text) → HasDefault id built_table.rules → Reads TableText id (rows_after built_table.rules [] words)

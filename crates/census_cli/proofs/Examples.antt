@@ -1,5 +1,5 @@
 -- What some words come to, by computing the definitions.
-use Rattle.std.proofs.Common.{◌≡◌, [], ◌∷◌, Some, None, true, false, codes, inl, refl, lit≤}
+use Rattle.std.proofs.Common.{◌≡◌, [], ◌∷◌, Some, None, true, false, codes, inl, inr, refl, lit≤}
 use Rattle.clap.specs.Faults.{fault_of}
 use Rattle.clap.specs.declared.error.kind.ErrorKind.TheVariants.{ArgumentConflict, DisplayHelp, DisplayVersion, MissingSubcommand, TooManyValues, UnknownArgument, ValueValidation}
 use Rattle.clap.proofs.OnLiterals.{clap_on_literals}
@@ -55,11 +55,15 @@ merge_among = (refl, record { rows = _; named = refl; reports_are = refl })
 
 table_json : AsksTable (codes "table" ∷ codes "a" ∷ codes "--json" ∷ codes "b" ∷ []) Patterns Json (codes "a" ∷ codes "b" ∷ [])
 unfolding clap_on_literals
-table_json = (refl, record { rows = _; named = refl; subject_is = (refl, refl); format_is = (refl, refl); reports_are = refl })
+table_json = (refl, record { rows = _; named = refl; subject_is = (refl, refl); format_is = (refl, refl, refl); reports_are = refl })
 
-table_codes : AsksTable (codes "table" ∷ codes "--codes" ∷ codes "a" ∷ []) Codes Csv (codes "a" ∷ [])
+table_codes : AsksTable (codes "table" ∷ codes "--codes" ∷ codes "a" ∷ []) Codes (Csv false) (codes "a" ∷ [])
 unfolding clap_on_literals
-table_codes = (refl, record { rows = _; named = refl; subject_is = (refl, refl); format_is = refl; reports_are = refl })
+table_codes = (refl, record { rows = _; named = refl; subject_is = (refl, refl); format_is = (refl, refl); reports_are = refl })
+
+table_safe : AsksTable (codes "table" ∷ codes "--safe" ∷ codes "a" ∷ codes "--csv" ∷ []) Patterns (Csv true) (codes "a" ∷ [])
+unfolding clap_on_literals
+table_safe = (refl, record { rows = _; named = refl; subject_is = (refl, refl); format_is = (refl, refl); reports_are = refl })
 
 page_among : AsksPage (codes "page" ∷ codes "a" ∷ codes "-" ∷ []) (codes "a" ∷ codes "-" ∷ [])
 unfolding clap_on_literals
@@ -67,7 +71,11 @@ page_among = (refl, record { rows = _; named = refl; reports_are = refl })
 
 table_both : AsksTwoTables (codes "table" ∷ codes "--json" ∷ codes "--csv" ∷ [])
 unfolding clap_on_literals
-table_both = (refl, record { rows = _; named = refl; two = inl (refl, refl) })
+table_both = (refl, record { rows = _; named = refl; two = inl (refl, inl refl) })
+
+table_json_safe : AsksTwoTables (codes "table" ∷ codes "--safe" ∷ codes "--json" ∷ [])
+unfolding clap_on_literals
+table_json_safe = (refl, record { rows = _; named = refl; two = inl (refl, inr refl) })
 
 run_explained : AsksToExplain (codes "run" ∷ codes "a" ∷ codes "--explain" ∷ []) true
 unfolding clap_on_literals

@@ -35,10 +35,11 @@ abbrev pub IsLimit : ℕ → Option ℕ → Type 0
 IsLimit most None = Unit {0}
 IsLimit most (Some n) = (1 ≤ n) × (n ≤ most)
 
--- JSON is asked for by its flag alone, and CSV without that of JSON
+-- JSON is asked for by its flag alone, and CSV without that of JSON, with texts that are to be safe by the flag of these
 abbrev pub IsFormat : TableFormat → List Row → Type 0
-IsFormat Csv rows = IsFlag (codes "json") rows false
-IsFormat Json rows = IsFlag (codes "json") rows true × IsFlag (codes "csv") rows false
+IsFormat (Csv safe) rows = IsFlag (codes "json") rows false × IsFlag (codes "safe") rows safe
+IsFormat Json rows =
+    IsFlag (codes "json") rows true × IsFlag (codes "csv") rows false × IsFlag (codes "safe") rows false
 
 -- a row for each part, or for each code, is asked for by its flag alone, and one for each pattern without either
 abbrev pub IsSubject : TableSubject → List Row → Type 0

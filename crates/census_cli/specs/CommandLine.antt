@@ -137,6 +137,10 @@ csv_rule = record (new_rule (codes "csv")) { long = Some (codes "csv"); action =
 abbrev pub json_rule : Rule
 json_rule = record (new_rule (codes "json")) { long = Some (codes "json"); action = Some SetTrue }
 
+-- `--safe`
+abbrev pub safe_rule : Rule
+safe_rule = record (new_rule (codes "safe")) { long = Some (codes "safe"); action = Some SetTrue }
+
 -- `--parts`
 abbrev pub parts_rule : Rule
 parts_rule = record (new_rule (codes "parts")) { long = Some (codes "parts"); action = Some SetTrue }
@@ -179,7 +183,7 @@ abbrev pub merge_shape : Shape
 merge_shape = shape_with (codes "merge") (explain_rule ∷ reports_rule ∷ [])
 
 abbrev pub table_shape : Shape
-table_shape = shape_with (codes "table") (csv_rule ∷ json_rule ∷ parts_rule ∷ codes_rule ∷ explain_rule ∷ reports_rule ∷ [])
+table_shape = shape_with (codes "table") (csv_rule ∷ json_rule ∷ safe_rule ∷ parts_rule ∷ codes_rule ∷ explain_rule ∷ reports_rule ∷ [])
 
 abbrev pub page_shape : Shape
 page_shape = shape_with (codes "page") (explain_rule ∷ reports_rule ∷ [])

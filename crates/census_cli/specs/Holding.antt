@@ -73,6 +73,7 @@ pub record HasMerge (rows : List Row) : Type 0 where
 pub record HasTable (rows : List Row) : Type 0 where
   pub csv : HasFlag (codes "csv") rows
   pub json : HasFlag (codes "json") rows
+  pub safe : HasFlag (codes "safe") rows
   pub of_parts : HasFlag (codes "parts") rows
   pub of_codes : HasFlag (codes "codes") rows
   pub explain : HasFlag (codes "explain") rows

@@ -40,17 +40,20 @@ pub record IsUnmatched (words : List (List ℕ)) : Type 0 where
   pub no_version : kind ≢ DisplayVersion
   pub no_memory : kind ≢ OutOfMemory
 
+-- the matches name JSON, and CSV or safe texts, which only CSV has
+abbrev pub HasTwoFormats : List Row → Type 0
+HasTwoFormats rows = IsFlag (codes "json") rows true × (IsFlag (codes "csv") rows true ⊎ IsFlag (codes "safe") rows true)
+
 -- The command and its matches are those of a table in two formats, or of two tables.
 pub record HasTwoTables (command : Option (List ℕ × List Row)) : Type 0 where
   pub rows : List Row
   pub named : command ≡ Some (codes "table", rows)
-  pub two : (IsFlag (codes "csv") rows true × IsFlag (codes "json") rows true)
-      ⊎ (IsFlag (codes "parts") rows true × IsFlag (codes "codes") rows true)
+  pub two : HasTwoFormats rows ⊎ (IsFlag (codes "parts") rows true × IsFlag (codes "codes") rows true)
 
 -- the format of the table of matches, or none where they name two
 abbrev pub NamesFormat : List Row → Option TableFormat → Type 0
 NamesFormat rows (Some format) = IsFormat format rows
-NamesFormat rows None = IsFlag (codes "csv") rows true × IsFlag (codes "json") rows true
+NamesFormat rows None = HasTwoFormats rows
 
 -- what the table of matches has a row for each of, or none where they name two
 abbrev pub NamesSubject : List Row → Option TableSubject → Type 0

@@ -6,7 +6,7 @@ ghost use Rattle.census_cli.specs.CommandLine.{advance_shape, bare_app, census_a
 ghost use Rattle.census_cli.specs.CommandLine.{merge_shape, objects_shape, page_shape, run_shape, table_shape};
 ghost use Rattle.census_cli.specs.CommandLine.{bound_rule, cells_rule, code_rule, codes_rule, csv_rule, explain_rule, file_rule};
 ghost use Rattle.census_cli.specs.CommandLine.{files_rule, folder_rule, generations_rule, input_rule, json_rule, keep_going_rule, limit_rule, near_rule};
-ghost use Rattle.census_cli.specs.CommandLine.{no_progress_rule, parts_rule, recursive_rule, reports_rule, rule_rule, search_rule, workers_rule};
+ghost use Rattle.census_cli.specs.CommandLine.{no_progress_rule, parts_rule, recursive_rule, reports_rule, rule_rule, safe_rule, search_rule, workers_rule};
 
 use crate::fault::VERSION_TEXT;
 use crate::help;
@@ -210,6 +210,15 @@ fn json<'a>(alloc: Global) -> Arg<'a>
         .help("JSON, one object a line")
 }
 
+fn safe<'a>(alloc: Global) -> Arg<'a>
+    ensures { (rule_of result ≡ safe_rule) × (result.global ≡ false) }
+{
+    Arg::new(alloc, "safe")
+        .long("safe")
+        .action(ArgAction::SetTrue)
+        .help("In CSV put a ' before each text that a spreadsheet takes for a formula")
+}
+
 fn parts<'a>(alloc: Global) -> Arg<'a>
     ensures { (rule_of result ≡ parts_rule) × (result.global ≡ false) }
 {
@@ -329,6 +338,7 @@ fn table<'a>(alloc: Global) -> Result<Command<'a>, AllocError>
         .after_help(help::TABLE)
         .arg(csv(alloc))?
         .arg(json(alloc))?
+        .arg(safe(alloc))?
         .arg(parts(alloc))?
         .arg(codes(alloc))?
         .arg(explain(alloc))?
@@ -347,6 +357,9 @@ fn page<'a>(alloc: Global) -> Result<Command<'a>, AllocError>
 
 /// What is said of words that name both formats of a table.
 pub(crate) const TWO_FORMATS: &str = "the argument '--csv' cannot be used with '--json'";
+
+/// What is said of words that ask for safe texts in JSON.
+pub(crate) const SAFE_JSON: &str = "the argument '--safe' cannot be used with '--json'";
 
 /// What is said of words that name two tables.
 pub(crate) const TWO_TABLES: &str = "the argument '--parts' cannot be used with '--codes'";

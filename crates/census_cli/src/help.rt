@@ -119,10 +119,11 @@ draw CODE [--rule R]
 merge [REPORT]...  one report of all collections ('census help merge')
   REPORT           a file with a report of run or objects, or with several after
                    one another; - or no REPORT is standard input
-table [--csv | --json] [--parts | --codes] [REPORT]...
+table [--csv | --json] [--safe] [--parts | --codes] [REPORT]...
                    a row for each pattern of reports ('census help table')
       --csv        comma-separated values, as without a format
       --json       JSON, one object a line
+      --safe       in CSV, a ' before each text that begins as a formula
       --parts      a row for each part line in place of each pattern
       --codes      a row for each code and rule, by falling count
 page [REPORT]...   one HTML page, with pictures ('census help page')
@@ -234,9 +235,14 @@ first_collection_name and first_name; by falling count, and then in the order of
 codes, shorter ones first. A pattern that recurs counts as one object, and each
 part of one that has fallen apart.
 
+With --safe, of CSV only, each text that begins with =, +, -, @, a tab or a
+carriage return, which a spreadsheet takes for a formula, has a ' before it.
+Numbers stay as they are.
+
 Example: census table --csv census.txt >census.csv
          census run soups | census table --json
          census objects soups | census table --codes
+         census table --safe --parts census.txt >parts.csv
          census table --explain census.txt
 
 "

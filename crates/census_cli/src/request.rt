@@ -15,7 +15,10 @@ use std::alloc::{AllocError, Global};
 #[derive(Clone, Copy, Debug, PartialEq, Eq)]
 pub enum TableFormat {
     /// Comma-separated values under a row of the columns' names.
-    Csv,
+    Csv {
+        /// Whether a `'` stands before each text that a spreadsheet may take for a formula.
+        safe: bool,
+    },
     /// One JSON object a line.
     Json,
 }
@@ -222,10 +225,10 @@ fn format(table: &ArgMatches<'_>) -> Option<TableFormat>
     requires { HasTable (rows_of (found_of table.now)) }
     ensures { NamesFormat (rows_of (found_of table.now)) result }
 {
-    match (flag(table, "csv"), flag(table, "json")) {
-        (true, true) => None,
-        (false, true) => Some(TableFormat::Json),
-        (_, false) => Some(TableFormat::Csv),
+    match (flag(table, "csv"), flag(table, "json"), flag(table, "safe")) {
+        (_, false, safe) => Some(TableFormat::Csv { safe }),
+        (false, true, false) => Some(TableFormat::Json),
+        (_, true, _) => None,
     }
 }
 
@@ -249,7 +252,12 @@ fn table_of<'a>(alloc: Global, table: &ArgMatches<'a>) -> Result<Request<'a>, Wo
         (RefusesCommand (Some (codes "table", rows_of (found_of table.now)))) }
 {
     let Some(format) = format(table) else {
-        return Err(WordsFault::Refused(command::conflict(alloc, command::TWO_FORMATS)?));
+        let words = if flag(table, "csv") {
+            command::TWO_FORMATS
+        } else {
+            command::SAFE_JSON
+        };
+        return Err(WordsFault::Refused(command::conflict(alloc, words)?));
     };
     let Some(subject) = subject(table) else {
         return Err(WordsFault::Refused(command::conflict(alloc, command::TWO_TABLES)?));
@@ -352,8 +360,8 @@ fn asked_of<'a>(alloc: Global, matches: &ArgMatches<'a>) -> Result<Asked<'a>, Wo
 /// each flag is used, and the folders, files or reports in order. Numbers are decimal, with any zeros or one `+` in front, and
 /// their ranges are clap's to judge.
 /// A fault other than `Memory` comes only where clap has no matches for the words: `Help` where it answers them with help
-/// or with the version, `Refused` where it refuses them. Words that name both formats of `table`, or both parts and codes,
-/// alone are `Refused` though clap has matches for them.
+/// or with the version, `Refused` where it refuses them. Words that name both formats of `table`, safe texts of JSON, or
+/// both parts and codes, alone are `Refused` though clap has matches for them.
 pub fn read_words<'a>(alloc: Global, words: &'a [&'a str]) -> Result<Asked<'a>, WordsFault>
     ensures { MatchResult result (AsksFor (map (λ s. s.now) words.entry.now))
         (RefusesWords (map (λ s. s.now) words.entry.now)) }

@@ -26,7 +26,7 @@ use Rattle.census_errors.specs.declared.place.Place.{Place}
 
 -- how a table is written, and what it has a row for each of
 abbrev pub format_of : TableFormat → Format
-format_of Csv = format.Csv
+format_of (Csv safe) = format.Csv safe
 format_of Json = format.Json
 
 abbrev pub subject_of : TableSubject → Subject

@@ -19,7 +19,7 @@ pub fn format_of(format: TableFormat) -> Format
     ensures { result ≡ format_of format }
 {
     match format {
-        TableFormat::Csv => Format::Csv,
+        TableFormat::Csv { safe } => Format::Csv { safe },
         TableFormat::Json => Format::Json,
     }
 }

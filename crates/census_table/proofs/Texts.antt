@@ -10,7 +10,7 @@ use Rattle.census_table.specs.Columns.{pattern_row}
 use Rattle.census_table.specs.Contents.{Member}
 use Rattle.census_table.specs.ObjectColumns.{object_row}
 use Rattle.census_table.specs.Objects.{all_objects, section_objects}
-use Rattle.census_table.specs.Tables.{Listing, csv_records, json_line, json_rows, listing_text, pattern_listing, row_fields, rows_text, table_text}
+use Rattle.census_table.specs.Tables.{csv_records, json_line, json_rows, row_fields, rows_text}
 use Rattle.census_table.specs.declared.entry.Entry.{Entry}
 use Rattle.census_table.specs.declared.object.Object.{Object}
 use Rattle.census_table.specs.declared.object_column.ObjectColumn.{ObjectColumn}
@@ -18,10 +18,10 @@ use Rattle.census_table.specs.declared.table.Format.{Format}
 use Rattle.census_table.specs.declared.table.Format.TheVariants.{Csv, Json}
 
 pub rows-append : (format : Format) (xs ys : List (List Member)) → rows_text format (xs ++ ys) ≡ rows_text format xs ++ rows_text format ys
-rows-append Csv [] ys = refl
-rows-append Csv (x ∷ xs) ys =
-    let row = row_text default_writer (row_fields x) in
-    ap (λ t. row ++ t) (rows-append Csv xs ys) ∙ sym (append_assoc row (csv_records xs) (csv_records ys))
+rows-append (Csv safe) [] ys = refl
+rows-append (Csv safe) (x ∷ xs) ys =
+    let row = row_text default_writer (row_fields safe x) in
+    ap (λ t. row ++ t) (rows-append (Csv safe) xs ys) ∙ sym (append_assoc row (csv_records safe xs) (csv_records safe ys))
 rows-append Json [] ys = refl
 rows-append Json (x ∷ xs) ys =
     let row = json_line x in
@@ -83,7 +83,7 @@ sections-cut format sections i d rows less are =
 
 -- a collection without rows
 pub section-empty : (format : Format) (number : ℕ) (rows : List (Bor Row)) → length rows < 1 → rows_text format (map pattern_row (section_entries number (rows_lent rows))) ≡ []
-section-empty Csv number [] none = refl
+section-empty (Csv safe) number [] none = refl
 section-empty Json number [] none = refl
 section-empty format number (r ∷ rows) none = absurd (omega arith)
 
@@ -98,8 +98,3 @@ section-objects sections i d rows less are =
     drop-cons sections i d less ∙ ap (λ k. get_or sections i d ∷ drop k sections) (let e : suc i ≡ i + 1 = omega arith in e) in
     ap (λ s. all_objects (i + 1) (sections_lent s)) next
     ∙ ap (λ r. section_objects (i + 1) (rows_lent r) ++ all_objects (i + 1 + 1) (sections_lent behind)) (sym are)
-
--- a table of patterns
-pub pattern-text : (format : Format) (entries : List Entry) (listing : Listing) → listing ≡ pattern_listing entries → listing_text format listing ≡ table_text format entries
-pattern-text Csv entries listing is = ap (listing_text Csv) is
-pattern-text Json entries listing is = ap (listing_text Json) is

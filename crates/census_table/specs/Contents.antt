@@ -1,6 +1,7 @@
 -- What a row of a table has in one column.
-use Rattle.std.specs.Prelude.{ℕ, ℤ, List, [], Option, Some, None, unwrap_or, if◌then◌else◌, decimal, map}
+use Rattle.std.specs.Prelude.{◌≡◌, ℕ, ℤ, Bool, true, false, ◌&&◌, ◌==◌, List, [], ◌∷◌, Option, Some, None, codes, unwrap_or, if◌then◌else◌, decimal, map}
 use Rattle.std.specs.Fmt.{signed_decimal}
+use Rattle.std.specs.List.{list_any}
 use Rattle.std.specs.Str.{is_utf8}
 use Rattle.std.specs.Str.Lossy.{utf8_lossy}
 use Rattle.hex.specs.Hex.{encode_lower}
@@ -40,13 +41,26 @@ row_of fields = map member_of fields
 abbrev pub hex_of : List ℕ → Option (List ℕ)
 hex_of bytes = if is_utf8 bytes then None else Some (encode_lower bytes)
 
--- the text of a field
-abbrev pub content_bytes : Content → List ℕ
-content_bytes nothing = []
-content_bytes (count n) = decimal n
-content_bytes (shift z) = signed_decimal z
-content_bytes (text bytes) = utf8_lossy bytes
-content_bytes (hex bytes) = unwrap_or (hex_of bytes) []
+-- a spreadsheet may take a text that begins so for a formula
+abbrev pub begins_formula : List ℕ → Bool
+begins_formula [] = false
+begins_formula (byte ∷ bytes) = list_any (λ sign. sign == byte) (codes "=+-@\t\r")
+
+-- a text; where it is to be safe, one that a spreadsheet may take for a formula has an apostrophe before it
+abbrev pub text_bytes : Bool → List ℕ → List ℕ
+text_bytes safe bytes = if safe && begins_formula bytes then 39 ∷ bytes else bytes
+
+-- the text of a field, where texts are to be safe or not
+abbrev pub content_bytes : Bool → Content → List ℕ
+content_bytes safe nothing = []
+content_bytes safe (count n) = decimal n
+content_bytes safe (shift z) = signed_decimal z
+content_bytes safe (text bytes) = text_bytes safe (utf8_lossy bytes)
+content_bytes safe (hex bytes) = unwrap_or (hex_of bytes) []
+
+-- no text of a field that is to be safe begins as a formula does
+abbrev pub TextsAreSafe : Type 0
+TextsAreSafe = (bytes : List ℕ) → begins_formula (content_bytes true (text bytes)) ≡ false
 
 abbrev pub data_or_null : Option (List ℕ) → Data
 data_or_null None = null

@@ -55,14 +55,14 @@ IsListingOf Codes rows listing = (kinds : List Object) × AreKinds (objects_of r
 
 -- # How it is written
 
--- the fields of a row
-abbrev pub row_fields : List Member → List (List ℕ)
-row_fields row = map (λ member. content_bytes member.content) row
+-- the fields of a row, where texts are to be safe or not
+abbrev pub row_fields : Bool → List Member → List (List ℕ)
+row_fields safe row = map (λ member. content_bytes safe member.content) row
 
 -- a record for each row, as the crate `csv` writes it by default
-abbrev pub csv_records : List (List Member) → List ℕ
-csv_records [] = []
-csv_records (row ∷ rows) = row_text default_writer (row_fields row) ++ csv_records rows
+abbrev pub csv_records : Bool → List (List Member) → List ℕ
+csv_records safe [] = []
+csv_records safe (row ∷ rows) = row_text default_writer (row_fields safe row) ++ csv_records safe rows
 
 -- the members, with those of a row
 abbrev pub with_row : List Member → Members → Members
@@ -90,12 +90,12 @@ json_rows (row ∷ rows) = json_line row ++ json_rows rows
 
 -- what a table has before its rows: as CSV a record of the columns' names
 abbrev pub head_text : Format → List (List ℕ) → List ℕ
-head_text Csv names = row_text default_writer names
+head_text (Csv safe) names = row_text default_writer names
 head_text Json names = []
 
 -- its rows
 abbrev pub rows_text : Format → List (List Member) → List ℕ
-rows_text Csv rows = csv_records rows
+rows_text (Csv safe) rows = csv_records safe rows
 rows_text Json rows = json_rows rows
 
 -- the whole table
@@ -104,12 +104,5 @@ listing_text format listing = head_text format listing.names ++ rows_text format
 
 -- # Tables of patterns
 
-abbrev pub csv_text : List Entry → List ℕ
-csv_text entries = listing_text Csv (pattern_listing entries)
-
-abbrev pub json_text : List Entry → List ℕ
-json_text entries = listing_text Json (pattern_listing entries)
-
 abbrev pub table_text : Format → List Entry → List ℕ
-table_text Csv entries = csv_text entries
-table_text Json entries = json_text entries
+table_text format entries = listing_text format (pattern_listing entries)

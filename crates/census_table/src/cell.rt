@@ -1,7 +1,7 @@
 //! What a row of a table has in one column.
 ghost use Rattle.std.specs.Prelude.{◌≡◌, IfOk, option_map, string_bytes};
 ghost use Rattle.serde_json.specs.View.{view};
-ghost use Rattle.census_table.specs.Contents.{content_bytes, content_data, content_of, hex_of};
+ghost use Rattle.census_table.specs.Contents.{TextsAreSafe, begins_formula, content_bytes, content_data, content_of, hex_of, text_bytes};
 
 use itoa::Buffer;
 use serde_json::Value;
@@ -40,17 +40,46 @@ fn hex_of(alloc: Global, bytes: &[u8]) -> Result<Option<String>, AllocError>
     }
 }
 
+// Whether a spreadsheet may take a text for a formula, by how it begins.
+fn begins_formula(text: &[u8]) -> bool
+    ensures { result ≡ begins_formula text.now }
+{
+    match text {
+        [byte, ..] => b"=+-@\t\r".contains(byte),
+        [] => false,
+    }
+}
+
+// A text. Where it is to be safe, one that a spreadsheet may take for a formula has an apostrophe before it.
+fn text_of(alloc: Global, safe: bool, text: String) -> Result<String, AllocError>
+    ensures { IfOk result (λ told. string_bytes told ≡ text_bytes safe (string_bytes text)) }
+{
+    if !safe || !begins_formula(text.as_bytes()) {
+        return Ok(text);
+    }
+    let mut told = String::from_str(alloc, "'")?;
+    told.push_str(text.as_str())?;
+    Ok(told)
+}
+
+/// No text of a field that is to be safe begins as a formula does.
+pub fn safe_texts_are_no_formulas()
+    ensures { TextsAreSafe }
+{}
+
 impl Cell<'_> {
-    /// The text of a field.
-    pub fn to_text(&self, alloc: Global) -> Result<String, AllocError>
-        ensures { IfOk result (λ text. string_bytes text ≡ content_bytes (content_of self.now)) }
+    /// The text of a field. Where texts are to be `safe`, one that a spreadsheet may take for a formula, since it begins with
+    /// `=`, `+`, `-`, `@`, a tab or a carriage return, has a `'` before it.
+    pub fn to_text(&self, alloc: Global, safe: bool) -> Result<String, AllocError>
+        ensures { IfOk result
+            (λ text. string_bytes text ≡ content_bytes safe (content_of self.now)) }
     {
         let mut buffer = Buffer::new();
         match self {
             Cell::Empty => Ok(String::new(alloc)),
             Cell::Count(number) => String::from_str(alloc, buffer.format(*number)),
             Cell::Shift(number) => String::from_str(alloc, buffer.format(*number)),
-            Cell::Text(bytes) => String::from_utf8_lossy(alloc, bytes),
+            Cell::Text(bytes) => text_of(alloc, safe, String::from_utf8_lossy(alloc, bytes)?),
             Cell::Hex(bytes) => Ok(hex_of(alloc, bytes)?.unwrap_or(String::new(alloc))),
         }
     }

@@ -22,13 +22,13 @@ fn names(alloc: Global, columns: &[&str]) -> Result<ByteRecord, AllocError>
     Ok(names)
 }
 
-// The fields of a row.
-fn fields(alloc: Global, row: &[Field]) -> Result<ByteRecord, AllocError>
-    ensures { IfOk result (λ fields. fields_of fields ≡ row_fields (row_of row.now)) }
+// The fields of a row, where texts are to be safe or not.
+fn fields(alloc: Global, safe: bool, row: &[Field]) -> Result<ByteRecord, AllocError>
+    ensures { IfOk result (λ fields. fields_of fields ≡ row_fields safe (row_of row.now)) }
 {
     let mut fields = ByteRecord::new(alloc);
     for field in row {
-        let text = field.cell.to_text(alloc)?;
+        let text = field.cell.to_text(alloc, safe)?;
         fields.push_field(text.as_bytes())?;
     }
     Ok(fields)
@@ -48,28 +48,35 @@ fn write(writer: &mut Writer<Vec<u8>>, fields: &ByteRecord) -> Result<(), AllocE
 }
 
 // Writes the record of a row.
-fn push_row(alloc: Global, writer: &mut Writer<Vec<u8>>, row: &[Field]) -> Result<(), AllocError>
+fn push_row(
+    alloc: Global,
+    safe: bool,
+    writer: &mut Writer<Vec<u8>>,
+    row: &[Field],
+) -> Result<(), AllocError>
     requires { IsBetweenRecords writer.old }
     ensures between { OnOk result (IsBetweenRecords writer.new) }
     ensures text { OnOk result (text_written writer.new
-        ≡ text_written writer.old ++ row_text default_writer (row_fields (row_of row.now))) }
+        ≡ text_written writer.old ++ row_text default_writer (row_fields safe (row_of row.now))) }
 {
-    let fields = fields(alloc, row)?;
+    let fields = fields(alloc, safe, row)?;
     write(writer, &fields)
 }
 
 // Writes a record for each row.
 fn push_rows(
     alloc: Global,
+    safe: bool,
     writer: &mut Writer<Vec<u8>>,
     rows: &[Vec<Field>],
 ) -> Result<(), AllocError>
     requires { IsBetweenRecords writer.old }
     ensures { OnOk result
-        (text_written writer.new ≡ text_written writer.old ++ csv_records (rows_in rows.now)) }
+        (text_written writer.new
+        ≡ text_written writer.old ++ csv_records safe (rows_in rows.now)) }
 {
     for row in rows {
-        push_row(alloc, writer, row.as_slice())?;
+        push_row(alloc, safe, writer, row.as_slice())?;
     }
     Ok(())
 }
@@ -95,11 +102,11 @@ pub fn header(alloc: Global, columns: &[&str]) -> Result<Vec<u8>, AllocError>
     finish(writer)
 }
 
-// A record for each row.
-pub fn records(alloc: Global, rows: &[Vec<Field>]) -> Result<Vec<u8>, AllocError>
-    ensures { IfOk result (λ text. text.items ≡ csv_records (rows_in rows.now)) }
+// A record for each row, where texts are to be safe or not.
+pub fn records(alloc: Global, safe: bool, rows: &[Vec<Field>]) -> Result<Vec<u8>, AllocError>
+    ensures { IfOk result (λ text. text.items ≡ csv_records safe (rows_in rows.now)) }
 {
     let mut writer = Writer::from_writer(Vec::new(alloc));
-    push_rows(alloc, &mut writer, rows)?;
+    push_rows(alloc, safe, &mut writer, rows)?;
     finish(writer)
 }

@@ -14,7 +14,7 @@ mod object_column;
 mod subject;
 mod table;
 
-pub use cell::{Cell, Field};
+pub use cell::{Cell, Field, safe_texts_are_no_formulas};
 pub use column::{Column, pattern_row};
 pub use counting::kinds;
 pub use entry::{Entry, entries_under};

@@ -29,7 +29,10 @@ use watched::Watched;
 pub enum Format {
     /// As comma-separated values: a record of the columns' names, and one for each row. A record
     /// ends with LF.
-    Csv,
+    Csv {
+        /// Whether a `'` stands before each text that a spreadsheet may take for a formula.
+        safe: bool,
+    },
     /// As JSON: for each row one object on a line of its own, with a member for each column, in
     /// the order of their names. Each line ends with LF.
     Json,
@@ -43,7 +46,7 @@ fn text_of(alloc: Global, format: Format, rows: &[Vec<Field>]) -> Result<Vec<u8>
     ensures { IfOk result (λ text. text.items ≡ rows_text format (rows_in rows.now)) }
 {
     match format {
-        Format::Csv => records(alloc, rows),
+        Format::Csv { safe } => records(alloc, safe, rows),
         Format::Json => lines(alloc, rows),
     }
 }
@@ -89,7 +92,7 @@ fn put_head<W: Write>(
         (sheet W.contents block.old writer.old) (sheet W.contents block.new writer.new)) }
 {
     match format {
-        Format::Csv => put(header(alloc, names)?.as_slice(), block, writer),
+        Format::Csv { .. } => put(header(alloc, names)?.as_slice(), block, writer),
         Format::Json => {}
     }
     Ok(())

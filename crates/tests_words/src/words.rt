@@ -357,17 +357,22 @@ fn a_page_has_reports(rt: HostRuntime) {
 
 // Words that ask for a table, what it has a row for each of, its format and the reports.
 const TABLES: &[(Words, TableSubject, TableFormat, Words)] = &[
-    (&["table"], TableSubject::Patterns, TableFormat::Csv, &[]),
+    (
+        &["table"],
+        TableSubject::Patterns,
+        TableFormat::Csv { safe: false },
+        &[],
+    ),
     (
         &["table", "a"],
         TableSubject::Patterns,
-        TableFormat::Csv,
+        TableFormat::Csv { safe: false },
         &["a"],
     ),
     (
         &["table", "--csv"],
         TableSubject::Patterns,
-        TableFormat::Csv,
+        TableFormat::Csv { safe: false },
         &[],
     ),
     (
@@ -385,13 +390,13 @@ const TABLES: &[(Words, TableSubject, TableFormat, Words)] = &[
     (
         &["table", "--csv", "--", "--json"],
         TableSubject::Patterns,
-        TableFormat::Csv,
+        TableFormat::Csv { safe: false },
         &["--json"],
     ),
     (
         &["table", "--parts"],
         TableSubject::Parts,
-        TableFormat::Csv,
+        TableFormat::Csv { safe: false },
         &[],
     ),
     (
@@ -403,13 +408,31 @@ const TABLES: &[(Words, TableSubject, TableFormat, Words)] = &[
     (
         &["table", "--codes", "--csv"],
         TableSubject::Codes,
-        TableFormat::Csv,
+        TableFormat::Csv { safe: false },
         &[],
+    ),
+    (
+        &["table", "--safe"],
+        TableSubject::Patterns,
+        TableFormat::Csv { safe: true },
+        &[],
+    ),
+    (
+        &["table", "a", "--safe", "--parts", "--csv"],
+        TableSubject::Parts,
+        TableFormat::Csv { safe: true },
+        &["a"],
+    ),
+    (
+        &["table", "--codes", "--json", "--", "--safe"],
+        TableSubject::Codes,
+        TableFormat::Json,
+        &["--safe"],
     ),
     (
         &["table", "--codes", "--", "--parts"],
         TableSubject::Codes,
-        TableFormat::Csv,
+        TableFormat::Csv { safe: false },
         &["--parts"],
     ),
 ];
@@ -443,6 +466,14 @@ Usage: census table [OPTIONS] [REPORT]...
 For more information, try '--help'.
 ";
 
+const SAFE_JSON: &str = "\
+error: the argument '--safe' cannot be used with '--json'
+
+Usage: census table [OPTIONS] [REPORT]...
+
+For more information, try '--help'.
+";
+
 const TWO_TABLES: &str = "\
 error: the argument '--parts' cannot be used with '--codes'
 
@@ -456,6 +487,9 @@ fn a_table_is_one_in_one_format(rt: HostRuntime) {
     const BOTH: &[(Words, &str)] = &[
         (&["table", "--csv", "--json"], TWO_FORMATS),
         (&["table", "--json", "a", "--csv", "b"], TWO_FORMATS),
+        (&["table", "--json", "--safe"], SAFE_JSON),
+        (&["table", "--safe", "a", "--codes", "--json"], SAFE_JSON),
+        (&["table", "--safe", "--json", "--csv"], TWO_FORMATS),
         (&["table", "--codes", "--parts"], TWO_TABLES),
         (&["table", "--parts", "--json", "--codes"], TWO_TABLES),
         (
@@ -561,6 +595,7 @@ const REFUSED: &[(Words, &str)] = &[
     (&["merge", "-x", "a"], "-x"),
     (&["table", "--csv", "--csv"], "--csv"),
     (&["table", "--json=true"], "--json"),
+    (&["table", "--safe", "--safe"], "--safe"),
     (&["table", "-r"], "-r"),
     (&["table", "--bound", "5"], "--bound"),
     (&["help", "life"], "life"),
@@ -649,7 +684,7 @@ const PROGRAM_PARTS: Words = &[
     "-V, --version",
     "merge [REPORT]...",
     "--explain",
-    "table [--csv | --json] [--parts | --codes] [REPORT]...",
+    "table [--csv | --json] [--safe] [--parts | --codes] [REPORT]...",
 ];
 
 const RUN_PARTS: Words = &[
@@ -737,6 +772,7 @@ const TABLE_PARTS: Words = &[
     "--explain",
     "--csv",
     "--json",
+    "--safe",
     "--parts",
     "--codes",
     "- is standard input",

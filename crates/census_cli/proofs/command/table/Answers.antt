@@ -10,8 +10,9 @@ returns c =
     let bare : IsBuilt c.after_help.result (new_app (codes "table")) = search rules in
     let with_csv = adds_rule _ _ _ _ _ c.in_ok-arg.ensures c.csv.ensures bare in
     let with_json = adds_rule _ _ _ _ _ c.in_ok-arg-2.ensures c.json.ensures with_csv in
-    let with_parts = adds_rule _ _ _ _ _ c.in_ok-arg-3.ensures c.parts.ensures with_json in
-    let with_codes = adds_rule _ _ _ _ _ c.in_ok-arg-4.ensures c.codes.ensures with_parts in
-    let with_explain = adds_rule _ _ _ _ _ c.in_ok-arg-5.ensures c.explain.ensures with_codes in
-    IfOk-weaker c.arg-6.result _ _
-    (λ command adds. let whole = adds_rule _ _ _ _ _ adds c.reports.ensures with_explain in (ap (λ (a : App). a.top) whole.0, whole.1)) c.arg-6.ensures
+    let with_safe = adds_rule _ _ _ _ _ c.in_ok-arg-3.ensures c.safe.ensures with_json in
+    let with_parts = adds_rule _ _ _ _ _ c.in_ok-arg-4.ensures c.parts.ensures with_safe in
+    let with_codes = adds_rule _ _ _ _ _ c.in_ok-arg-5.ensures c.codes.ensures with_parts in
+    let with_explain = adds_rule _ _ _ _ _ c.in_ok-arg-6.ensures c.explain.ensures with_codes in
+    IfOk-weaker c.arg-7.result _ _
+    (λ command adds. let whole = adds_rule _ _ _ _ _ adds c.reports.ensures with_explain in (ap (λ (a : App). a.top) whole.0, whole.1)) c.arg-7.ensures

@@ -5,4 +5,4 @@ use Rattle.census_table.specs.Written.{IsBetweenRecords, text_written}
 use Rattle.census_table.proofs.comma.push_rows.Given as goal
 
 abbrev pub invariant-loop-row : goal.invariant-loop-row
-invariant-loop-row l = IsBetweenRecords l.writer × (text_written l.writer ++ csv_records (rows_in (drop l.row-index l.rows)) ≡ text_written l.fn.writer ++ csv_records (rows_in l.rows))
+invariant-loop-row l = IsBetweenRecords l.writer × (text_written l.writer ++ csv_records l.safe (rows_in (drop l.row-index l.rows)) ≡ text_written l.fn.writer ++ csv_records l.safe (rows_in l.rows))

@@ -1,9 +1,8 @@
-use Rattle.std.proofs.Common.{MatchResult, subst}
+use Rattle.std.proofs.Common.{MatchResult, ap, subst}
 use Rattle.std.proofs.lemmas.Result.{err_from_is_err_and}
 use Rattle.gathered.specs.Telling.{TellsAfter, TellsFront, sheet}
 use Rattle.census_table.specs.Entries.{entries_of}
-use Rattle.census_table.specs.Tables.{listing_of, table_text}
-use Rattle.census_table.proofs.Texts.{pattern-text}
+use Rattle.census_table.specs.Tables.{listing_text, table_text}
 use Rattle.gathered.proofs.Fronts.{front_none}
 use Rattle.census_table.proofs.table.put_table.Goals as goal
 
@@ -17,4 +16,4 @@ returns g c =
     let before = sheet g.W.Write.contents c.args.block.now c.args.writer.now in
     let after = sheet g.W.Write.contents c.put_listing.new.block c.put_listing.new.writer in
     subst (λ t. MatchResult c.put_listing.result (λ _. TellsAfter t before after) (λ _. TellsFront t before after))
-    (pattern-text c.args.format (entries_of c.args.rows.now) (listing_of c.in_ok-table.table) c.in_ok-table.ensures) c.put_listing.ensures
+    (ap (listing_text c.args.format) c.in_ok-table.ensures) c.put_listing.ensures
