@@ -98,7 +98,7 @@ fn written<I: Read + Drop>(
 // A row for each pattern.
 const CSV_FORM: Form = Form::Table {
     subject: Subject::Patterns,
-    format: Format::Csv,
+    format: Format::Csv { safe: false },
 };
 
 const JSON_FORM: Form = Form::Table {
@@ -121,7 +121,7 @@ const CASES: &[Case] = &[
     (
         Form::Table {
             subject: Subject::Codes,
-            format: Format::Csv,
+            format: Format::Csv { safe: false },
         },
         &["first", "second"],
         b"",

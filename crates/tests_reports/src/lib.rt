@@ -1,5 +1,5 @@
-//! Tests of reports that are read back and merged, of tables, of files that have reports, and of bytes that are
-//! told by way of a block.
+//! Tests of reports that are read back and merged, of tables, of patterns that are the same object, of files that
+//! have reports, and of bytes that are told by way of a block.
 #![tactic(auto)]
 
 #[cfg(test)]
@@ -14,5 +14,7 @@ mod merging;
 mod page;
 #[cfg(test)]
 mod readback;
+#[cfg(test)]
+mod same;
 #[cfg(test)]
 mod tables;

@@ -97,22 +97,78 @@ fn table(alloc: Global, format: Format, report: &[u8]) -> Result<Vec<u8>, AllocE
 
 #[test]
 fn patterns_are_told_as_tables(rt: HostRuntime) -> Result<(), AllocError> {
-    let csv = table(rt.alloc(), Format::Csv, REPORT)?;
+    let csv = table(rt.alloc(), Format::Csv { safe: false }, REPORT)?;
     let json = table(rt.alloc(), Format::Json, REPORT)?;
     assert!(rt; csv.as_slice() == CSV.as_bytes());
     assert!(rt; json.as_slice() == JSON.as_bytes());
-    let csv = table(rt.alloc(), Format::Csv, b"end 0 0\n")?;
+    let csv = table(rt.alloc(), Format::Csv { safe: false }, b"end 0 0\n")?;
     let json = table(rt.alloc(), Format::Json, b"end 0 0\n")?;
     assert!(rt; csv.len() == 141 && json.is_empty());
+    Ok(())
+}
+
+// Names that begin as formulas do, one that has such a sign further on, and one that begins with an apostrophe.
+const SIGNS: &[u8] = b"open 1 5 =sum(a,b)
+line 1 1 ok B3/S23 5 0 4 -1 1 xq4_153 -glider
+line 1 2 none B3/S23 5 @a
+line 1 3 none B3/S23 5 a=b
+line 1 4 none B3/S23 5 '=c
+line 1 5 bad 10 =\xff
+code 1 B3/S23 xq4_153 1
+close 1 5 1 3 1
+end 1 5
+open 1 1 -
+line 1 1 ash B3/S23 8 7 2 +\"1\"
+part 1 1 xs4_33 2
+code 1 B3/S23 xs4_33 2
+close 1 1 1 0 0
+end 1 1
+";
+
+const SAFE_PATTERNS: &str =
+    "collection,collection_name,pattern,name,status,rule,population,onset,period,dx,dy,code,fault,collection_name_hex,name_hex,objects,generation
+1,\"'=sum(a,b)\",1,'-glider,ok,B3/S23,5,0,4,-1,1,xq4_153,,,,,
+1,\"'=sum(a,b)\",2,'@a,none,B3/S23,5,,,,,,,,,,
+1,\"'=sum(a,b)\",3,a=b,none,B3/S23,5,,,,,,,,,,
+1,\"'=sum(a,b)\",4,'=c,none,B3/S23,5,,,,,,,,,,
+1,\"'=sum(a,b)\",5,'=\u{fffd},bad,,,,,,,,10,,3dff,,
+2,'-,1,\"'+\"\"1\"\"\",ash,B3/S23,8,7,,,,,,,,2,
+";
+
+const SAFE_PARTS: &str = "collection,collection_name,pattern,name,rule,code,count
+2,'-,1,\"'+\"\"1\"\"\",B3/S23,xs4_33,2
+";
+
+const SAFE_CODES: &str = "rule,code,count,patterns,first_collection_name,first_name
+B3/S23,xs4_33,2,1,'-,\"'+\"\"1\"\"\"
+B3/S23,xq4_153,1,1,\"'=sum(a,b)\",'-glider
+";
+
+#[test]
+fn no_text_of_a_safe_table_is_a_formula(rt: HostRuntime) -> Result<(), AllocError> {
+    const SAFE: Format = Format::Csv { safe: true };
+    let alloc = rt.alloc();
+    let patterns = table(alloc, SAFE, SIGNS)?;
+    assert!(rt; patterns.as_slice() == SAFE_PATTERNS.as_bytes());
+    let parts = table_by(alloc, Subject::Parts, SAFE, SIGNS)?;
+    assert!(rt; parts.as_slice() == SAFE_PARTS.as_bytes());
+    let codes = table_by(alloc, Subject::Codes, SAFE, SIGNS)?;
+    assert!(rt; codes.as_slice() == SAFE_CODES.as_bytes());
+    // Where no text begins so, it is the table that is not safe.
+    assert!(rt; table(alloc, SAFE, REPORT)?.as_slice() == CSV.as_bytes());
     Ok(())
 }
 
 #[test]
 fn collections_are_numbered_on(rt: HostRuntime) -> Result<(), AllocError> {
     let alloc = rt.alloc();
-    assert!(rt; table(alloc, Format::Csv, PARTS)?.as_slice() == PARTS_CSV.as_bytes());
+    assert!(rt;
+        table(alloc, Format::Csv { safe: false }, PARTS)?.as_slice() == PARTS_CSV.as_bytes()
+    );
     // A table of reports is the table of what they are merged to.
-    assert!(rt; table(alloc, Format::Csv, MERGED)?.as_slice() == PARTS_CSV.as_bytes());
+    assert!(rt;
+        table(alloc, Format::Csv { safe: false }, MERGED)?.as_slice() == PARTS_CSV.as_bytes()
+    );
     let json = table(alloc, Format::Json, MERGED)?;
     assert!(rt; table(alloc, Format::Json, PARTS)?.as_slice() == json.as_slice());
     Ok(())
@@ -128,7 +184,7 @@ fn many_patterns_of_one_collection(rt: HostRuntime) -> Result<(), Fail> {
         write!(wanted, "1,x,{},p,none,B3/S23,5,,,,,,,,,,\n", pattern)?;
     }
     report.push_str("close 1 700 0 700 0\nend 1 700\n")?;
-    let csv = table(alloc, Format::Csv, report.as_bytes())?;
+    let csv = table(alloc, Format::Csv { safe: false }, report.as_bytes())?;
     assert!(rt; csv.as_slice() == wanted.as_bytes());
     let json = table(alloc, Format::Json, report.as_bytes())?;
     assert!(rt;
@@ -189,7 +245,7 @@ fn parts_are_told_as_tables(rt: HostRuntime) -> Result<(), AllocError> {
     const JSON: &str =
         "{\"code\":\"xs4_33\",\"collection\":3,\"collection_name\":\"apart\",\"count\":2,\"name\":\"say \\\"hi\\\"\",\"pattern\":1,\"rule\":\"B3/S23\"}\n";
     let alloc = rt.alloc();
-    let csv = table_by(alloc, Subject::Parts, Format::Csv, OBJECTS)?;
+    let csv = table_by(alloc, Subject::Parts, Format::Csv { safe: false }, OBJECTS)?;
     assert!(rt; csv.as_slice() == OBJECT_PARTS.as_bytes());
     let json = table_by(alloc, Subject::Parts, Format::Json, REPORT)?;
     assert!(rt; json.as_slice() == JSON.as_bytes());
@@ -202,11 +258,16 @@ fn codes_are_told_as_tables(rt: HostRuntime) -> Result<(), AllocError> {
         "{\"code\":\"xs4_33\",\"count\":3,\"first_collection_name\":\"col,1\",\"first_name\":\"n\u{fffd}\u{e9}\",\"patterns\":2,\"rule\":\"B3/S23\"}
 {\"code\":\"xq4_153\",\"count\":1,\"first_collection_name\":\"col,1\",\"first_name\":\"a glider\",\"patterns\":1,\"rule\":\"B3/S23\"}\n";
     let alloc = rt.alloc();
-    let csv = table_by(alloc, Subject::Codes, Format::Csv, OBJECTS)?;
+    let csv = table_by(alloc, Subject::Codes, Format::Csv { safe: false }, OBJECTS)?;
     assert!(rt; csv.as_slice() == OBJECT_CODES.as_bytes());
     let json = table_by(alloc, Subject::Codes, Format::Json, REPORT)?;
     assert!(rt; json.as_slice() == JSON.as_bytes());
-    let none = table_by(alloc, Subject::Codes, Format::Csv, b"end 0 0\n")?;
+    let none = table_by(
+        alloc,
+        Subject::Codes,
+        Format::Csv { safe: false },
+        b"end 0 0\n",
+    )?;
     assert!(rt; none.as_slice() == &OBJECT_CODES.as_bytes()[..58]);
     Ok(())
 }
@@ -223,7 +284,12 @@ line 1 1 ok B3/S23 4 0 1 0 0 xs4_33 q
 close 1 1 1 0 0
 end 1 1
 ";
-    let csv = table_by(rt.alloc(), Subject::Codes, Format::Csv, LARGE)?;
+    let csv = table_by(
+        rt.alloc(),
+        Subject::Codes,
+        Format::Csv { safe: false },
+        LARGE,
+    )?;
     assert!(rt;
         csv.as_slice()
             .ends_with(b"\nB3/S23,xs4_33,18446744073709551615,2,a,p\n")
@@ -245,9 +311,19 @@ fn many_parts_of_one_collection(rt: HostRuntime) -> Result<(), Fail> {
         write!(wanted, "1,x,{},p,B3/S23,xp2_7,1\n", pattern)?;
     }
     report.push_str("close 1 700 700 0 0\nend 1 700\n")?;
-    let csv = table_by(alloc, Subject::Parts, Format::Csv, report.as_bytes())?;
+    let csv = table_by(
+        alloc,
+        Subject::Parts,
+        Format::Csv { safe: false },
+        report.as_bytes(),
+    )?;
     assert!(rt; csv.as_slice() == wanted.as_bytes());
-    let codes = table_by(alloc, Subject::Codes, Format::Csv, report.as_bytes())?;
+    let codes = table_by(
+        alloc,
+        Subject::Codes,
+        Format::Csv { safe: false },
+        report.as_bytes(),
+    )?;
     assert!(rt; codes.as_slice().ends_with(b"\nB3/S23,xp2_7,700,700,x,p\n"));
     Ok(())
 }

@@ -1,0 +1,261 @@
+-- Groups of patterns that have one key.
+use Rattle.std.proofs.Common.{◌≡◌, ℕ, suc, ◌+◌, ◌-◌, ◌<◌, ◌≤◌, Bool, true, false, ◌||◌, List, [], ◌∷◌, ◌++◌, codes, length, take, drop, refl, sym, ap, ap₂, ◌∙◌, subst, arith, true≢false}
+use Rattle.std.specs.Prelude.{◌≢◌, cond, filter, slice_index_or}
+use Rattle.std.specs.List.{prefix_len, All, list_any}
+use Rattle.std.specs.Ordering.{is_eq, is_lt}
+use Rattle.std.specs.declared.cmp.Ordering.TheVariants.{Less}
+use Rattle.std.proofs.lemmas.List.{drop-drop, drop_all, length-drop, take_all}
+use Rattle.std.proofs.lemmas.List.Sums.{prefix_len-le-length}
+use Rattle.std.proofs.lemmas.List.Elements.{All-cons, All-nil, All-tail}
+use Rattle.census_same.specs.Order.{Key, is_among, is_key, has_key, key_cmp, key_of, keys_of, with_key, AreInOrder}
+use Rattle.census_same.specs.Same.{group_len, group_text, groups_text, has_bytes, heading_text, lines_text, same_text}
+use Rattle.census_same.specs.declared.told.Told.{Told}
+use Rattle.census_same.proofs.Keys.{behind, further, has_is, has-key, key-itself, keys-all, keys-among, keys-rise, not-key, not-key-back, put_by, rising-same}
+
+-- # What is filtered
+
+filter-none : (p : Told → Bool) (ts : List Told) → All (λ t. p t ≡ false) ts → filter p ts ≡ []
+filter-none p [] none = refl
+filter-none p (t ∷ ts) none =
+    ap₂ (λ (b : Bool) (us : List Told). cond b (t ∷ us) us) (none 0 t (omega arith)) (filter-none p ts (All-tail (λ t. p t ≡ false) t ts none))
+
+pub any-filter : (p : Told → Bool) (ts : List Told) → list_any p ts ≡ list_any (λ t. true) (filter p ts)
+any-filter p [] = refl
+any-filter p (t ∷ ts) = go (p t) (any-filter p ts)
+  where
+    go : (b : Bool) → list_any p ts ≡ list_any (λ t. true) (filter p ts) → (b || list_any p ts) ≡ list_any (λ t. true) (cond b (t ∷ filter p ts) (filter p ts))
+    go true more = refl
+    go false more = more
+
+groups-alike : (ks : List Key) (ts us : List Told) → All (λ x. filter (has_key x) ts ≡ filter (has_key x) us) ks → groups_text ks ts ≡ groups_text ks us
+groups-alike [] ts us same = refl
+groups-alike (k ∷ ks) ts us same =
+    ap₂ (λ (a b : List ℕ). a ++ b) (ap group_text (same 0 k (omega arith)))
+    (groups-alike ks ts us (All-tail (λ x. filter (has_key x) ts ≡ filter (has_key x) us) k ks same))
+
+-- patterns that are put in order are told as they were
+pub same-sorted : (old new : List Told) → ((k : Key) → filter (has_key k) new ≡ filter (has_key k) old) → same_text new ≡ same_text old
+same-sorted old new same =
+    ap (λ ks. groups_text ks new) keys ∙ groups-alike (keys_of old) new old (λ i d small. same (slice_index_or (keys_of old) i d))
+  where
+    among : (x : Key) → is_among x (keys_of new) ≡ is_among x (keys_of old)
+    among x =
+        keys-among x new ∙ any-filter (has_key x) new ∙ ap (list_any (λ t. true)) (same x) ∙ sym (any-filter (has_key x) old) ∙ sym (keys-among x old)
+
+    keys : keys_of new ≡ keys_of old
+    keys = rising-same (keys_of new) (keys_of old) (keys-rise new) (keys-rise old) among
+
+-- # Patterns in order, from a key on
+
+with-first : (k : Key) (ks : List Key) → All (λ x. key_cmp k x ≡ Less) ks → with_key k ks ≡ k ∷ ks
+with-first k [] all = refl
+with-first k (x ∷ ks) all = ap (λ r. put_by r k x ks) (all 0 x (omega arith))
+
+with-again : (k : Key) (ks : List Key) → with_key k (k ∷ ks) ≡ k ∷ ks
+with-again k ks = ap (λ r. put_by r k k ks) (key-itself k)
+
+-- the first n of patterns have a key, and the others have later ones
+pub record Split (k : Key) (ts : List Told) (n : ℕ) : Type 0 where
+  pub here : filter (has_key k) ts ≡ take n ts
+  pub behind : All (λ t. key_cmp k (key_of t) ≡ Less) (drop n ts)
+  pub order : AreInOrder (drop n ts)
+  pub keys : with_key k (keys_of ts) ≡ k ∷ keys_of (drop n ts)
+  pub others : (x : Key) → key_cmp k x ≡ Less → filter (has_key x) ts ≡ filter (has_key x) (drop n ts)
+
+split-more : (k : Key) (t : Told) (ts : List Told) (n : ℕ) → has_key k t ≡ true → Split k ts n → Split k (t ∷ ts) (suc n)
+split-more k t ts n has s = record {
+  here = ap (λ (b : Bool). cond b (t ∷ filter (has_key k) ts) (filter (has_key k) ts)) has ∙ ap (λ us. t ∷ us) s.here;
+  behind = s.behind;
+  order = s.order;
+  keys = ap (λ x. with_key k (with_key x (keys_of ts))) is ∙ ap (with_key k) s.keys ∙ with-again k (keys_of (drop n ts));
+  others = λ x less.
+      ap (λ (b : Bool). cond b (t ∷ filter (has_key x) ts) (filter (has_key x) ts)) (has_is x t ∙ ap (λ y. is_key y x) is ∙ not-key k x less)
+      ∙ s.others x less;
+}
+  where
+    is : key_of t ≡ k
+    is = has-key k t has
+
+split-end : (k : Key) (t : Told) (ts : List Told) → AreInOrder (t ∷ ts) → is_lt (key_cmp (key_of t) k) ≡ false → has_key k t ≡ false → Split k (t ∷ ts) 0
+split-end k t ts order from other = record {
+  here = filter-none (has_key k) (t ∷ ts) (λ i d small.
+      has_is k (slice_index_or (t ∷ ts) i d) ∙ not-key-back k (key_of (slice_index_or (t ∷ ts) i d)) (all i d small));
+  behind = all;
+  order = order;
+  keys = with-first k (keys_of (t ∷ ts)) (keys-all (λ x. key_cmp k x ≡ Less) (t ∷ ts) all);
+  others = λ x less. refl;
+}
+  where
+    first : key_cmp k (key_of t) ≡ Less
+    first = behind (key_of t) k from (sym (has_is k t) ∙ other)
+
+    all : All (λ u. key_cmp k (key_of u) ≡ Less) (t ∷ ts)
+    all = All-cons (λ u. key_cmp k (key_of u) ≡ Less) t ts first
+        (λ i d small. further k (key_of t) (key_of (slice_index_or ts i d)) first (order.0 i d small))
+
+one-more : (n : ℕ) → suc n ≡ 1 + n
+one-more n = omega arith
+
+pub split : (k : Key) (ts : List Told) → AreInOrder ts → All (λ t. is_lt (key_cmp (key_of t) k) ≡ false) ts → Split k ts (prefix_len (has_key k) ts)
+split k [] order from = record { here = refl; behind = All-nil (λ t. key_cmp k (key_of t) ≡ Less); order = tt; keys = refl; others = λ x less. refl }
+split k (t ∷ ts) order from = go (has_key k t) refl (split k ts order.1 (All-tail (λ t. is_lt (key_cmp (key_of t) k) ≡ false) t ts from))
+  where
+    go : (b : Bool) → has_key k t ≡ b → Split k ts (prefix_len (has_key k) ts) → Split k (t ∷ ts) (cond b (1 + prefix_len (has_key k) ts) 0)
+    go true e s = subst (Split k (t ∷ ts)) (one-more (prefix_len (has_key k) ts)) (split-more k t ts (prefix_len (has_key k) ts) e s)
+    go false e s = split-end k t ts order (from 0 t (omega arith)) e
+
+-- # The first group, and the others
+
+-- the keys of patterns of which the first has a key
+keys-first : (t : Told) (ts : List Told) → has_key (key_of t) t ≡ true → Split (key_of t) ts (prefix_len (has_key (key_of t)) ts)
+    → keys_of (t ∷ ts) ≡ key_of t ∷ keys_of (drop (prefix_len (has_key (key_of t)) (t ∷ ts)) (t ∷ ts))
+keys-first t ts has s =
+    s.keys
+    ∙ ap (λ n. key_of t ∷ keys_of (drop n (t ∷ ts)))
+    (one-more (prefix_len (has_key (key_of t)) ts) ∙ ap (λ (b : Bool). cond b (1 + prefix_len (has_key (key_of t)) ts) 0) (sym has))
+
+pub has-own : (t : Told) → has_key (key_of t) t ≡ true
+has-own t = has_is (key_of t) t ∙ ap is_eq (key-itself (key_of t))
+
+pub split-first : (t : Told) (ts : List Told) → AreInOrder (t ∷ ts) → Split (key_of t) (t ∷ ts) (prefix_len (has_key (key_of t)) (t ∷ ts))
+split-first t ts order =
+    split (key_of t) (t ∷ ts) order
+    (All-cons (λ u. is_lt (key_cmp (key_of u) (key_of t)) ≡ false) t ts (ap is_lt (key-itself (key_of t))) order.0)
+
+-- what is told of patterns in order: the first group, and then the others
+first-told : (t : Told) (ts : List Told) (n : ℕ) → AreInOrder (t ∷ ts) → n ≡ prefix_len (has_key (key_of t)) (t ∷ ts)
+    → same_text (t ∷ ts) ≡ group_text (take n (t ∷ ts)) ++ same_text (drop n (t ∷ ts))
+first-told t ts n order e =
+    subst (λ m. same_text (t ∷ ts) ≡ group_text (take m (t ∷ ts)) ++ same_text (drop m (t ∷ ts))) (sym e)
+    (ap (λ ks. groups_text ks (t ∷ ts)) (keys-first t ts (has-own t) (split (key_of t) ts order.1 order.0))
+    ∙ ap₂ (λ (a b : List ℕ). a ++ b) (ap group_text s.here)
+    (groups-alike (keys_of left) (t ∷ ts) left
+    (keys-all (λ x. filter (has_key x) (t ∷ ts) ≡ filter (has_key x) left) left
+    (λ i d small. s.others (key_of (slice_index_or left i d)) (s.behind i d small)))))
+  where
+    s : Split (key_of t) (t ∷ ts) (prefix_len (has_key (key_of t)) (t ∷ ts))
+    s = split-first t ts order
+
+    left : List Told
+    left = drop (prefix_len (has_key (key_of t)) (t ∷ ts)) (t ∷ ts)
+
+pub same-first : (ts : List Told) → AreInOrder ts → same_text ts ≡ group_text (take (group_len ts) ts) ++ same_text (drop (group_len ts) ts)
+same-first [] order = refl
+same-first (t ∷ ts) order = first-told t ts (group_len (t ∷ ts)) order refl
+
+-- the others stand in order
+pub order-left : (ts : List Told) → AreInOrder ts → AreInOrder (drop (group_len ts) ts)
+order-left [] order = tt
+order-left (t ∷ ts) order = (split-first t ts order).order
+
+-- the first group has a pattern
+pub group-some : (ts : List Told) → 0 < length ts → 0 < group_len ts
+group-some [] some = some
+group-some (t ∷ ts) some = subst (λ (b : Bool). 0 < cond b (1 + prefix_len (has_key (key_of t)) ts) 0) (sym (has-own t)) (omega arith)
+
+pub group-within : (ts : List Told) → group_len ts ≤ length ts
+group-within [] = omega arith
+group-within (t ∷ ts) = prefix_len-le-length (has_key (key_of t)) (t ∷ ts)
+
+-- # Whether a text has a byte
+
+pub has_bytes-append : (xs ys : List ℕ) → has_bytes (xs ++ ys) ≡ (has_bytes xs || has_bytes ys)
+has_bytes-append [] ys = refl
+has_bytes-append (x ∷ xs) ys = refl
+
+pub has_bytes-some : (xs : List ℕ) → has_bytes xs ≡ true → xs ≢ []
+has_bytes-some [] h e = true≢false (sym h)
+has_bytes-some (x ∷ xs) h e = true≢false (ap has_bytes e)
+
+pub some-has_bytes : (xs : List ℕ) → xs ≢ [] → has_bytes xs ≡ true
+some-has_bytes [] h = absurd (h refl)
+some-has_bytes (x ∷ xs) h = refl
+
+-- # The text of a group
+
+pub group-none : (ts : List Told) → length ts < 2 → group_text ts ≡ []
+group-none [] few = refl
+group-none (t ∷ []) few = refl
+group-none (t ∷ (u ∷ us)) few = absurd (omega arith)
+
+pub group-several : (ts : List Told) (d : Told) → 2 ≤ length ts → group_text ts ≡ heading_text (slice_index_or ts 0 d) ++ lines_text ts
+group-several [] d many = absurd (omega arith)
+group-several (t ∷ []) d many = absurd (omega arith)
+group-several (t ∷ (u ∷ us)) d many = refl
+
+or-true : (b : Bool) → (b || true) ≡ true
+or-true true = refl
+or-true false = refl
+
+pub group-bytes : (ts : List Told) → 2 ≤ length ts → has_bytes (group_text ts) ≡ true
+group-bytes [] many = absurd (omega arith)
+group-bytes (t ∷ []) many = absurd (omega arith)
+group-bytes (t ∷ (u ∷ us)) many =
+    has_bytes-append (heading_text t) (lines_text (t ∷ (u ∷ us)))
+    ∙ ap (λ b. b || has_bytes (lines_text (t ∷ (u ∷ us))))
+    (has_bytes-append (t.rule.now ++ codes " " ++ t.code.now) (codes "\n") ∙ or-true (has_bytes (t.rule.now ++ codes " " ++ t.code.now)))
+
+pub group-first : (ts : List Told) (d : Told) → 0 < length ts → prefix_len (has_key (key_of (slice_index_or ts 0 d))) ts ≡ group_len ts
+group-first [] d some = absurd (omega arith)
+group-first (t ∷ ts) d some = refl
+
+-- # A walk from group to group
+
+-- from a place on a group and the others are told
+pub record Walk (ts : List Told) (at : ℕ) (group : List Told) : Type 0 where
+  pub within : at + length group ≤ length ts
+  pub on : at < at + length group
+  pub text : same_text (drop at ts) ≡ group_text group ++ same_text (drop (at + length group) ts)
+  pub order : AreInOrder (drop (at + length group) ts)
+
+pub rest-whole : (n : ℕ) (ts : List Told) → take (length ts - n) (drop n ts) ≡ drop n ts
+rest-whole n ts = take_all (length ts - n) (drop n ts) (omega (arith, length-drop n ts))
+
+pub walk : (ts : List Told) (at n : ℕ) (group : List Told) → AreInOrder (drop at ts) → at < length ts → n ≡ group_len (take (length ts - at) (drop at ts))
+    → group ≡ take n (take (length ts - at) (drop at ts)) → length group ≡ n → Walk ts at group
+walk ts at n group order less is front size = record {
+  within = omega (arith, low, high, long, size);
+  on = omega (arith, low, size);
+  text = same-first left order ∙ ap₂ (λ (a b : List ℕ). a ++ b) (ap group_text (sym here)) (ap same_text there);
+  order = subst AreInOrder there (order-left left order);
+}
+  where
+    left : List Told
+    left = drop at ts
+
+    long : length left ≡ length ts - at
+    long = length-drop at ts
+
+    count : n ≡ group_len left
+    count = is ∙ ap group_len (rest-whole at ts)
+
+    low : 0 < n
+    low = subst (λ m. 0 < m) (sym count) (group-some left (omega (arith, long, less)))
+
+    high : n ≤ length left
+    high = subst (λ m. m ≤ length left) (sym count) (group-within left)
+
+    here : group ≡ take (group_len left) left
+    here = front ∙ ap₂ (λ (m : ℕ) (us : List Told). take m us) count (rest-whole at ts)
+
+    there : drop (group_len left) left ≡ drop (at + length group) ts
+    there = drop-drop (group_len left) at ts ∙ ap (λ m. drop (at + m) ts) (sym count ∙ sym size)
+
+or-assoc : (a b c : Bool) → (a || (b || c)) ≡ ((a || b) || c)
+or-assoc true b c = refl
+or-assoc false b c = refl
+
+pub any-more : (whole any group : Bool) (front left all : List ℕ) → whole ≡ (any || has_bytes all) → all ≡ front ++ left → group ≡ has_bytes front
+    → whole ≡ ((any || group) || has_bytes left)
+any-more whole any group front left all is cut e =
+    is ∙ ap (λ b. any || b) (ap has_bytes cut ∙ has_bytes-append front left ∙ ap (λ b. b || has_bytes left) (sym e)) ∙ or-assoc any group (has_bytes left)
+
+or-false : (b : Bool) → (b || false) ≡ b
+or-false true = refl
+or-false false = refl
+
+pub nothing-left : (ts : List Told) (at : ℕ) → length ts ≤ at → same_text (drop at ts) ≡ []
+nothing-left ts at over = ap same_text (drop_all at ts over)
+
+pub any-end : (whole any : Bool) (left : List ℕ) → whole ≡ (any || has_bytes left) → left ≡ [] → any ≡ whole
+any-end whole any left is none = sym (is ∙ ap (λ b. any || b) (ap has_bytes none) ∙ or-false any)

@@ -1,0 +1,17 @@
+use Rattle.std.proofs.Common.{◌≡◌, ◌-◌, ◌≤◌, ◌||◌, drop, length}
+use Rattle.gathered.specs.Telling.{sheet}
+use Rattle.gathered.proofs.Fronts.{TellsUpTo}
+use Rattle.census_same.specs.Order.{AreInOrder}
+use Rattle.census_same.specs.Same.{has_bytes, same_text}
+use Rattle.census_same.proofs.same.put_groups.Given as goal
+
+abbrev pub invariant-loop-at : goal.invariant-loop-at
+invariant-loop-at g l = record {
+  within : l.at ≤ length l.tolds;
+  told : TellsUpTo (same_text l.tolds) (same_text (drop l.at l.tolds)) (sheet g.W.Write.contents l.fn.block l.fn.writer) (sheet g.W.Write.contents l.block l.writer);
+  order : AreInOrder (drop l.at l.tolds);
+  any : has_bytes (same_text l.tolds) ≡ (l.any || has_bytes (same_text (drop l.at l.tolds)));
+}
+
+abbrev pub decreases-loop-at : goal.decreases-loop-at
+decreases-loop-at g l = length l.tolds - l.at

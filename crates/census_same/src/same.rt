@@ -1,0 +1,79 @@
+//! The patterns of which one object is told.
+ghost use Rattle.std.specs.Prelude.{◌≡◌, ◌≢◌, ◌↔◌, [], List, filter, IfOk, IsTrue, MatchResult, OnOk};
+ghost use Rattle.gathered.specs.Telling.{TellsAfter, TellsFront, sheet};
+ghost use Rattle.census_readback.specs.Shapes.{AreReports};
+ghost use Rattle.census_same.specs.declared.told.Told.{Told};
+ghost use Rattle.census_same.specs.Order.{AreInOrder, Key, has_key};
+ghost use Rattle.census_same.specs.Patterns.{tolds_of};
+ghost use Rattle.census_same.specs.Same.{has_bytes, same_text, IsSame};
+
+use crate::group::{group_len, put_group};
+use crate::told::{Told, all_told};
+use census_readback::collections;
+use census_rows::Row;
+use gathered::Block;
+use std::alloc::{AllocError, Global};
+use std::io::Write;
+use watched::Watched;
+
+// Puts patterns in the order of their codes, and of their rules under one code. Those of one code
+// and rule keep their order. The only error is out of memory.
+fn put_in_order(tolds: &mut Vec<Told>) -> Result<(), AllocError>
+    ensures same { (key : Key) →
+        filter (has_key key) tolds.new.items ≡ filter (has_key key) tolds.old.items }
+    ensures ordered { OnOk result (AreInOrder tolds.new.items) }
+{
+    tolds.sort_by_key(|told| (told.code, told.rule))
+}
+
+// Tells each group of patterns that stand in order. Returns whether there is any.
+fn put_groups<W: Write>(tolds: &[Told], block: &mut Block, writer: &mut Watched<W>) -> bool
+    requires { AreInOrder tolds.now }
+    ensures tells { TellsAfter (same_text tolds.now)
+        (sheet W.contents block.old writer.old) (sheet W.contents block.new writer.new) }
+    ensures any { result ≡ has_bytes (same_text tolds.now) }
+{
+    let mut any = false;
+    let mut at = 0;
+    while at < tolds.len() {
+        let rest = &tolds[at..];
+        let (group, _) = rest.split_at(group_len(rest));
+        any |= put_group(group, block, writer);
+        at += group.len();
+    }
+    any
+}
+
+/// Tells the patterns of which one object is told. For each code that several patterns of the
+/// reports have under one rule it tells a line with the rule, a blank and the code, and then for each
+/// of these patterns a line with two blanks and its name behind that of its collection and a `/`.
+/// These are told in the order of the bytes of codes, and under one code of those of rules; the
+/// patterns collection by collection, each in the order of its rows, however these interleave. Names,
+/// rules and codes are written as they are. What a pattern has fallen apart into counts for nothing.
+///
+/// Returns whether there is any such code. The only error is out of memory: a prefix was told then.
+/// To a writer that has failed nothing is written.
+pub fn put_same<W: Write>(
+    alloc: Global,
+    rows: &[Row],
+    block: &mut Block,
+    writer: &mut Watched<W>,
+) -> Result<bool, AllocError>
+    requires { AreReports rows.now }
+    ensures tells { MatchResult result
+        (λ _. TellsAfter (same_text (tolds_of rows.now))
+        (sheet W.contents block.old writer.old) (sheet W.contents block.new writer.new))
+        (λ _. TellsFront (same_text (tolds_of rows.now))
+        (sheet W.contents block.old writer.old) (sheet W.contents block.new writer.new)) }
+    ensures any { IfOk result (λ any. IsTrue any ↔ (same_text (tolds_of rows.now) ≢ [])) }
+{
+    let sections = collections(alloc, rows)?;
+    let mut tolds = all_told(alloc, sections.as_slice())?;
+    put_in_order(&mut tolds)?;
+    Ok(put_groups(tolds.as_slice(), block, writer))
+}
+
+/// A code under a rule is told exactly where at least two patterns have it, each once and in order.
+pub fn codes_of_several_are_told()
+    ensures { (tolds : List Told) → IsSame tolds (same_text tolds) }
+{}
