@@ -26,7 +26,7 @@ struct Effort {
 
 /// The efforts of the guesses, each made where those before it found nothing. Most objects come again within four
 /// generations, and most that are in several places come near each other as soon.
-const EFFORTS: [Effort; 5] = [
+const EFFORTS: [Effort; 4] = [
     Effort {
         followed: 0,
         recurs: 4,
@@ -42,10 +42,6 @@ const EFFORTS: [Effort; 5] = [
     Effort {
         followed: 64,
         recurs: 64,
-    },
-    Effort {
-        followed: 256,
-        recurs: 256,
     },
 ];
 
