@@ -16,8 +16,8 @@ use Rattle.clap.specs.declared.builder.value_parser.ValueParser.{ValueParser}
 use Rattle.clap.specs.declared.builder.value_parser.ValueParser.TheVariants as parser
 use Rattle.clap.proofs.ValueTestLemmas.{accepts-Accepts}
 use Rattle.census_cli.specs.Asking.{IsMatched}
-use Rattle.census_cli.specs.Holding.{HasAdvance, HasDraw, HasFlag, HasIdentify, HasLimit, HasMerge, HasNumberIn, HasObjects, HasRun, HasTable, HasText, IsCommand}
-use Rattle.census_cli.specs.CommandLine.{advance_shape, census_app, draw_shape, identify_shape, merge_shape, objects_shape, page_shape, run_shape, table_shape}
+use Rattle.census_cli.specs.Holding.{HasAdvance, HasDraw, HasFlag, HasIdentify, HasLimit, HasMerge, HasNumberIn, HasObjects, HasRun, HasSame, HasTable, HasText, IsCommand}
+use Rattle.census_cli.specs.CommandLine.{advance_shape, census_app, draw_shape, identify_shape, merge_shape, objects_shape, page_shape, run_shape, same_shape, table_shape}
 use Rattle.census_cli.proofs.Passing.{Each, found_of_each, neither_true, not_cons}
 use Rattle.census_cli.proofs.Rows.{HasFirst, Reads, reads_of, reads_or_none, row_of_id}
 use Rattle.census_cli.proofs.Uses.{RuleHolds}
@@ -92,6 +92,9 @@ TableText id v =
     × (bytes_eq id (codes "codes") ≡ true → IsFlagText v)
     × ExplainText id v
 
+abbrev SameText : Text → Text → Type 0
+SameText id v = (bytes_eq id (codes "json") ≡ true → IsFlagText v) × ExplainText id v
+
 absent : {A : Type 0} → false ≡ true → A
 absent e = absurd (true≢false (sym e))
 
@@ -126,6 +129,9 @@ built_page = built_leaf (inherited above page_shape)
 
 abbrev built_table : Shape
 built_table = built_leaf (inherited above table_shape)
+
+abbrev built_same : Shape
+built_same = built_leaf (inherited above same_shape)
 
 top_rules : Each (RuleHolds AnyText) whole.top.rules
 top_rules = (
@@ -267,6 +273,18 @@ table_rules = (
   ),
 )
 
+same_rules : Each (RuleHolds SameText) built_same.rules
+same_rules = (
+  record { own = λ v e. (λ _. flag_text v e, absent); usual = inr (refl, inr true_given); plain = λ t. refl },
+  (
+    record { own = λ v e. (absent, λ _. flag_text v e); usual = inr (refl, inr true_given); plain = λ t. refl },
+    (
+      record { own = λ v e. (absent, absent); usual = inr (refl, inl refl); plain = λ t. refl },
+      (record { own = λ v e. (absent, absent); usual = inl refl; plain = λ t. refl }, tt),
+    ),
+  ),
+)
+
 -- ---- the matches of a command
 
 -- a level that doesn't fail
@@ -397,6 +415,14 @@ page_has words e = record {
       (read_by_default ExplainText built_page page_rules words e (codes "explain") (inl (refl, false_by_default))) (λ v q. q refl);
 }
 
+same_has : (words : List Text) → Passes built_same words → HasSame (rows_after built_same.rules [] words)
+same_has words e = record {
+  json = flag_in SameText (codes "json") _
+      (read_by_default SameText built_same same_rules words e (codes "json") (inl (refl, false_by_default))) (λ v q. q.0 refl);
+  explain = flag_in SameText (codes "explain") _
+      (read_by_default SameText built_same same_rules words e (codes "explain") (inr (inl (refl, false_by_default)))) (λ v q. q.1 refl);
+}
+
 table_has : (words : List Text) → Passes built_table words → HasTable (rows_after built_table.rules [] words)
 table_has words e = record {
   csv = flag_in TableText (codes "csv") _ (by_default (codes "csv") (inl (refl, false_by_default))) (λ v q. q.0 refl);
@@ -442,8 +468,11 @@ each_enters name words = (
             (
               λ stop names passes. inr (inr (inr (inr (inr (inr (inl (refl, table_has words passes))))))),
               (
-                λ stop names passes. inr (inr (inr (inr (inr (inr (inr (refl, page_has words passes))))))),
-                (λ stop names passes. absurd (help_is_no_command name stop names), tt),
+                λ stop names passes. inr (inr (inr (inr (inr (inr (inr (inl (refl, page_has words passes)))))))),
+                (
+                  λ stop names passes. inr (inr (inr (inr (inr (inr (inr (inr (refl, same_has words passes)))))))),
+                  (λ stop names passes. absurd (help_is_no_command name stop names), tt),
+                ),
               ),
             ),
           ),
@@ -489,7 +518,8 @@ run_command rows (inr (inr (inr (inl h)))) = other_name _ _ h.0 refl
 run_command rows (inr (inr (inr (inr (inl h))))) = other_name _ _ h.0 refl
 run_command rows (inr (inr (inr (inr (inr (inl h)))))) = other_name _ _ h.0 refl
 run_command rows (inr (inr (inr (inr (inr (inr (inl h))))))) = other_name _ _ h.0 refl
-run_command rows (inr (inr (inr (inr (inr (inr (inr h))))))) = other_name _ _ h.0 refl
+run_command rows (inr (inr (inr (inr (inr (inr (inr (inl h)))))))) = other_name _ _ h.0 refl
+run_command rows (inr (inr (inr (inr (inr (inr (inr (inr h)))))))) = other_name _ _ h.0 refl
 
 -- and so has `objects`
 pub objects_command : (rows : List Row) → IsCommand (Some (codes "objects", rows)) → HasObjects rows
@@ -500,7 +530,8 @@ objects_command rows (inr (inr (inr (inl h)))) = other_name _ _ h.0 refl
 objects_command rows (inr (inr (inr (inr (inl h))))) = other_name _ _ h.0 refl
 objects_command rows (inr (inr (inr (inr (inr (inl h)))))) = other_name _ _ h.0 refl
 objects_command rows (inr (inr (inr (inr (inr (inr (inl h))))))) = other_name _ _ h.0 refl
-objects_command rows (inr (inr (inr (inr (inr (inr (inr h))))))) = other_name _ _ h.0 refl
+objects_command rows (inr (inr (inr (inr (inr (inr (inr (inl h)))))))) = other_name _ _ h.0 refl
+objects_command rows (inr (inr (inr (inr (inr (inr (inr (inr h)))))))) = other_name _ _ h.0 refl
 
 -- the command `advance` has a number of generations
 pub advance_command : (rows : List Row) → IsCommand (Some (codes "advance", rows)) → HasAdvance rows
@@ -511,7 +542,8 @@ advance_command rows (inr (inr (inr (inl h)))) = h.1
 advance_command rows (inr (inr (inr (inr (inl h))))) = other_name _ _ h.0 refl
 advance_command rows (inr (inr (inr (inr (inr (inl h)))))) = other_name _ _ h.0 refl
 advance_command rows (inr (inr (inr (inr (inr (inr (inl h))))))) = other_name _ _ h.0 refl
-advance_command rows (inr (inr (inr (inr (inr (inr (inr h))))))) = other_name _ _ h.0 refl
+advance_command rows (inr (inr (inr (inr (inr (inr (inr (inl h)))))))) = other_name _ _ h.0 refl
+advance_command rows (inr (inr (inr (inr (inr (inr (inr (inr h)))))))) = other_name _ _ h.0 refl
 
 -- the command `table` has its flags
 pub table_command : (rows : List Row) → IsCommand (Some (codes "table", rows)) → HasTable rows
@@ -522,7 +554,20 @@ table_command rows (inr (inr (inr (inl h)))) = other_name _ _ h.0 refl
 table_command rows (inr (inr (inr (inr (inl h))))) = other_name _ _ h.0 refl
 table_command rows (inr (inr (inr (inr (inr (inl h)))))) = other_name _ _ h.0 refl
 table_command rows (inr (inr (inr (inr (inr (inr (inl h))))))) = h.1
-table_command rows (inr (inr (inr (inr (inr (inr (inr h))))))) = other_name _ _ h.0 refl
+table_command rows (inr (inr (inr (inr (inr (inr (inr (inl h)))))))) = other_name _ _ h.0 refl
+table_command rows (inr (inr (inr (inr (inr (inr (inr (inr h)))))))) = other_name _ _ h.0 refl
+
+-- the command `same` has its flags
+pub same_command : (rows : List Row) → IsCommand (Some (codes "same", rows)) → HasSame rows
+same_command rows (inl h) = other_name _ _ h.0 refl
+same_command rows (inr (inl h)) = other_name _ _ h.0 refl
+same_command rows (inr (inr (inl h))) = other_name _ _ h.0 refl
+same_command rows (inr (inr (inr (inl h)))) = other_name _ _ h.0 refl
+same_command rows (inr (inr (inr (inr (inl h))))) = other_name _ _ h.0 refl
+same_command rows (inr (inr (inr (inr (inr (inl h)))))) = other_name _ _ h.0 refl
+same_command rows (inr (inr (inr (inr (inr (inr (inl h))))))) = other_name _ _ h.0 refl
+same_command rows (inr (inr (inr (inr (inr (inr (inr (inl h)))))))) = other_name _ _ h.0 refl
+same_command rows (inr (inr (inr (inr (inr (inr (inr (inr h)))))))) = h.1
 
 -- each command has its `--explain`
 explain_flag : (name : Text) (rows : List Row) → IsCommand (Some (name, rows)) → HasFlag (codes "explain") rows
@@ -533,7 +578,8 @@ explain_flag name rows (inr (inr (inr (inl h)))) = h.1.explain
 explain_flag name rows (inr (inr (inr (inr (inl h))))) = h.1.explain
 explain_flag name rows (inr (inr (inr (inr (inr (inl h)))))) = h.1.explain
 explain_flag name rows (inr (inr (inr (inr (inr (inr (inl h))))))) = h.1.explain
-explain_flag name rows (inr (inr (inr (inr (inr (inr (inr h))))))) = h.1.explain
+explain_flag name rows (inr (inr (inr (inr (inr (inr (inr (inl h)))))))) = h.1.explain
+explain_flag name rows (inr (inr (inr (inr (inr (inr (inr (inr h)))))))) = h.1.explain
 
 pub explain_of : (command : Option (List ℕ × List Row)) (rows : List Row) → option_map (λ (p : List ℕ × List Row). p.1) command ≡ Some rows → IsCommand command
     → HasFlag (codes "explain") rows

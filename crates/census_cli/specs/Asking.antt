@@ -9,7 +9,7 @@ use Rattle.clap.specs.Walk.{Row, all_of, first_of, one_of}
 use Rattle.census_cli.specs.CommandLine.{census_app}
 use Rattle.census_cli.specs.declared.request.Asked.{Asked}
 use Rattle.census_cli.specs.declared.request.Request.{Request}
-use Rattle.census_cli.specs.declared.request.Request.TheVariants.{Run, Objects, Identify, Advance, Draw, Merge, Table, Page}
+use Rattle.census_cli.specs.declared.request.Request.TheVariants.{Run, Objects, Identify, Advance, Draw, Merge, Table, Page, Same}
 use Rattle.census_cli.specs.declared.request.TableFormat.{TableFormat}
 use Rattle.census_cli.specs.declared.request.TableFormat.TheVariants.{Csv, Json}
 use Rattle.census_cli.specs.declared.request.TableSubject.{TableSubject}
@@ -130,6 +130,13 @@ pub record GivesPage (command : Option (List ℕ × List Row)) (reports : List (
   pub named : command ≡ Some (codes "page", rows)
   pub reports_are : values_of (codes "report") rows ≡ reports
 
+-- those of the patterns of these reports that are one object, or, where there is none, of that of standard input
+pub record GivesSame (command : Option (List ℕ × List Row)) (json : Bool) (reports : List (List ℕ)) : Type 0 where
+  pub rows : List Row
+  pub named : command ≡ Some (codes "same", rows)
+  pub json_is : IsFlag (codes "json") rows json
+  pub reports_are : values_of (codes "report") rows ≡ reports
+
 abbrev pub GivesRequest : Option (List ℕ × List Row) → Request → Type 0
 GivesRequest command (Run bound workers cells input recursive keep_going folders) =
     GivesRun command bound workers cells input recursive keep_going (map (λ s. s.now) folders.items)
@@ -141,6 +148,7 @@ GivesRequest command (Draw code rule) = GivesDraw command code.now rule.now
 GivesRequest command (Merge reports) = GivesMerge command (map (λ s. s.now) reports.items)
 GivesRequest command (Table subject format reports) = GivesTable command subject format (map (λ s. s.now) reports.items)
 GivesRequest command (Page reports) = GivesPage command (map (λ s. s.now) reports.items)
+GivesRequest command (Same json reports) = GivesSame command json (map (λ s. s.now) reports.items)
 
 -- whether the flag `--explain` of the command was used
 abbrev pub Explains : Option (List ℕ × List Row) → Bool → Type 0
@@ -202,6 +210,10 @@ AsksTable words subject format reports = IsMatched words × GivesTable (subcomma
 -- for the page of these reports, or, where there is none, of that of standard input
 abbrev pub AsksPage : List (List ℕ) → List (List ℕ) → Type 0
 AsksPage words reports = IsMatched words × GivesPage (subcommand_of census_app words) reports
+
+-- for the patterns of these reports that are one object, or, where there is none, of that of standard input
+abbrev pub AsksSame : List (List ℕ) → Bool → List (List ℕ) → Type 0
+AsksSame words json reports = IsMatched words × GivesSame (subcommand_of census_app words) json reports
 
 -- for this
 abbrev pub Asks : List (List ℕ) → Request → Type 0

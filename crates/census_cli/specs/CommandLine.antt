@@ -188,6 +188,9 @@ table_shape = shape_with (codes "table") (csv_rule ∷ json_rule ∷ safe_rule �
 abbrev pub page_shape : Shape
 page_shape = shape_with (codes "page") (explain_rule ∷ reports_rule ∷ [])
 
+abbrev pub same_shape : Shape
+same_shape = shape_with (codes "same") (json_rule ∷ explain_rule ∷ reports_rule ∷ [])
+
 -- `census` without its commands: it wants one, its words come without its own name, and it tells its version
 abbrev pub bare_app : App
 bare_app = record {
@@ -204,5 +207,5 @@ abbrev pub census_app : App
 census_app = record {
   top = record bare_app.top { is_leaf = false };
   subs = run_shape ∷ objects_shape ∷ identify_shape ∷ advance_shape ∷ draw_shape ∷ merge_shape
-      ∷ table_shape ∷ page_shape ∷ [];
+      ∷ table_shape ∷ page_shape ∷ same_shape ∷ [];
 }

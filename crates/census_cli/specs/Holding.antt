@@ -78,6 +78,11 @@ pub record HasTable (rows : List Row) : Type 0 where
   pub of_codes : HasFlag (codes "codes") rows
   pub explain : HasFlag (codes "explain") rows
 
+-- those of `same` have theirs
+pub record HasSame (rows : List Row) : Type 0 where
+  pub json : HasFlag (codes "json") rows
+  pub explain : HasFlag (codes "explain") rows
+
 -- a command with the matches that it has to have
 abbrev pub IsCommand : Option (List ℕ × List Row) → Type 0
 IsCommand None = ⊥
@@ -89,4 +94,5 @@ IsCommand (Some (name, rows)) =
     ⊎ (((name ≡ codes "draw") × HasDraw rows)
     ⊎ (((name ≡ codes "merge") × HasMerge rows)
     ⊎ (((name ≡ codes "table") × HasTable rows)
-    ⊎ ((name ≡ codes "page") × HasMerge rows)))))))
+    ⊎ (((name ≡ codes "page") × HasMerge rows)
+    ⊎ ((name ≡ codes "same") × HasSame rows))))))))

@@ -3,7 +3,7 @@ ghost use Rattle.std.specs.Prelude.{◌≡◌, IfOk, false};
 ghost use Rattle.clap.specs.Words.{app_of, rule_of, shape_of};
 ghost use Rattle.clap.specs.declared.builder.command.Command.TheViews.{out-Command};
 ghost use Rattle.census_cli.specs.CommandLine.{advance_shape, bare_app, census_app, draw_shape, identify_shape};
-ghost use Rattle.census_cli.specs.CommandLine.{merge_shape, objects_shape, page_shape, run_shape, table_shape};
+ghost use Rattle.census_cli.specs.CommandLine.{merge_shape, objects_shape, page_shape, run_shape, same_shape, table_shape};
 ghost use Rattle.census_cli.specs.CommandLine.{bound_rule, cells_rule, code_rule, codes_rule, csv_rule, explain_rule, file_rule};
 ghost use Rattle.census_cli.specs.CommandLine.{files_rule, folder_rule, generations_rule, input_rule, json_rule, keep_going_rule, limit_rule, near_rule};
 ghost use Rattle.census_cli.specs.CommandLine.{no_progress_rule, parts_rule, recursive_rule, reports_rule, rule_rule, safe_rule, search_rule, workers_rule};
@@ -355,6 +355,17 @@ fn page<'a>(alloc: Global) -> Result<Command<'a>, AllocError>
         .arg(reports(alloc))
 }
 
+fn same<'a>(alloc: Global) -> Result<Command<'a>, AllocError>
+    ensures { IfOk result (λ c. (shape_of c ≡ same_shape) × ((out-Command c).has_globals ≡ false)) }
+{
+    Command::new(alloc, "same")
+        .about("Tell which patterns of reports are one object")
+        .after_help(help::SAME)
+        .arg(json(alloc))?
+        .arg(explain(alloc))?
+        .arg(reports(alloc))
+}
+
 /// What is said of words that name both formats of a table.
 pub(crate) const TWO_FORMATS: &str = "the argument '--csv' cannot be used with '--json'";
 
@@ -394,5 +405,6 @@ pub(crate) fn census<'a>(alloc: Global) -> Result<Command<'a>, AllocError>
         .subcommand(draw(alloc)?)?
         .subcommand(merge(alloc)?)?
         .subcommand(table(alloc)?)?
-        .subcommand(page(alloc)?)
+        .subcommand(page(alloc)?)?
+        .subcommand(same(alloc)?)
 }

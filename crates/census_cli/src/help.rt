@@ -127,6 +127,9 @@ table [--csv | --json] [--safe] [--parts | --codes] [REPORT]...
       --parts      a row for each part line in place of each pattern
       --codes      a row for each code and rule, by falling count
 page [REPORT]...   one HTML page, with pictures ('census help page')
+same [--json] [REPORT]...
+                   patterns of reports that are one object ('census help same')
+      --json       JSON, one object a line
 run and objects
       --no-progress
                    do not tell at a terminal how far the run has come
@@ -256,6 +259,27 @@ often each occurs and which patterns have it, and the patterns that are unresolv
 or refused. It stands alone: it has no script, and asks for nothing.
 
 Example: census page census.txt >census.html
+
+"
+);
+
+/// After the help of `same`.
+pub const SAME: &str = with_statuses!(
+    "\
+For each rule and code that more than one pattern has there is a line with them,
+and for each of these patterns a line of two blanks, the name of its collection,
+/ and its own. The status is 5 where there is such a code, and else 0.
+
+Patterns with one rule and one code are one object, turned, mirrored or at another
+age, and those with two are not. What has fallen apart is left out.
+
+With --json there is an object for each of these patterns, with rule, code,
+collection_name and name; where a name is no UTF-8, its bytes in hex are in
+collection_name_hex or name_hex.
+
+Example: census same census.txt
+         census run -r collections | census same --json
+         census same --explain old.txt new.txt
 
 "
 );

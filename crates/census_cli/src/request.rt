@@ -113,6 +113,13 @@ pub enum Request<'a> {
         /// In the order of the words. `-` is standard input.
         reports: Vec<&'a str>,
     },
+    /// The patterns of these reports, or, where there is none, of that on standard input, that are one object.
+    Same {
+        /// Whether each is told as a JSON object.
+        json: bool,
+        /// In the order of the words. `-` is standard input.
+        reports: Vec<&'a str>,
+    },
 }
 
 /// What words ask for, and how its faults are to be told.
@@ -311,6 +318,12 @@ fn request_of<'a>(alloc: Global, matches: &ArgMatches<'a>) -> Result<Request<'a>
     if let Some(page) = matches.subcommand_matches("page") {
         return Ok(Request::Page {
             reports: texts(alloc, page, "report")?,
+        });
+    }
+    if let Some(same) = matches.subcommand_matches("same") {
+        return Ok(Request::Same {
+            json: flag(same, "json"),
+            reports: texts(alloc, same, "report")?,
         });
     }
     unreachable!()

@@ -17,7 +17,7 @@ use Rattle.census_cli.specs.Refusing.{AreRefusedWords, AsksHelp, AsksText}
 use Rattle.census_cli.specs.declared.fault.WordsFault.{WordsFault}
 use Rattle.census_cli.specs.declared.fault.WordsFault.TheVariants.{Help, Refused, Memory}
 use Rattle.census_cli.specs.declared.request.Request.{Request}
-use Rattle.census_cli.specs.declared.request.Request.TheVariants.{Run, Objects, Identify, Advance, Draw, Merge, Table, Page}
+use Rattle.census_cli.specs.declared.request.Request.TheVariants.{Run, Objects, Identify, Advance, Draw, Merge, Table, Page, Same}
 use Rattle.life_answer.specs.declared.question.Question.TheVariants as question
 use Rattle.census_blocks.specs.declared.inquiry.Inquiry.{Inquiry}
 use Rattle.census_faults.specs.declared.fault.Fault.{Fault}
@@ -211,6 +211,7 @@ abbrev pub IsRemaking : Request → Form → List (List ℕ) → Type 0
 IsRemaking (Merge reports) f files = (f ≡ form.Merged) × (files ≡ map (λ s. s.now) reports.items)
 IsRemaking (Table subject format reports) f files = (f ≡ form.Table (subject_of subject) (format_of format)) × (files ≡ map (λ s. s.now) reports.items)
 IsRemaking (Page reports) f files = (f ≡ form.Page) × (files ≡ map (λ s. s.now) reports.items)
+IsRemaking (Same json reports) f files = (f ≡ form.Same json) × (files ≡ map (λ s. s.now) reports.items)
 IsRemaking request f files = ⊥
 
 -- The words ask for what is made of reports. It was written, or an error ended it.

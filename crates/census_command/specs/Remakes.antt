@@ -1,5 +1,5 @@
 -- What is made of reports that are read back, and what the exit status says of it.
-use Rattle.std.specs.Prelude.{◌≡◌, ◌⊎◌, ℕ, Bool, List, ◌++◌}
+use Rattle.std.specs.Prelude.{◌≡◌, ◌⊎◌, ℕ, Bool, if◌then◌else◌, List, ◌++◌}
 use Rattle.census_folders.specs.Told.{Told}
 use Rattle.census_reports.specs.Errors as reports
 use Rattle.census_reports.specs.Outcomes.{ReportsFail, WritesReports}
@@ -46,11 +46,16 @@ abbrev pub KeepsLaw : Form → (List ℕ → Told) → List (List ℕ) → State
 KeepsLaw form.Merged held files before after = MergesLawfully held files (both_streams before) (both_streams after)
 KeepsLaw _ held files before after = Unit {0}
 
+-- all was written; what was looked for was found or not
+abbrev pub found_status : Bool → ℕ
+found_status found = if found then 5 else 0
+
 -- What is made of the reports of these files was written, and nothing was told.
 pub record RemakesWhole (held : List ℕ → Told) (form : Form) (files : List (List ℕ)) (status : ℕ)
     (before after : State) (old new : Errors) : Type 0 where
-  pub status_is : status ≡ 0
-  pub done : WritesReports form held files (both_streams before) (both_streams after)
+  pub found : Bool
+  pub status_is : status ≡ found_status found
+  pub done : WritesReports form found held files (both_streams before) (both_streams after)
   pub lawful : KeepsLaw form held files before after
   pub quiet : new ≡ old
 

@@ -51,6 +51,9 @@ fn remaking_of<'r, 'a>(request: &'r Request<'a>) -> Option<(Form, &'r [&'a str])
             Some((form, reports.as_slice()))
         }
         Request::Page { reports } => Some((Form::Page, reports.as_slice())),
+        Request::Same { json, reports } => {
+            Some((Form::Same { json: *json }, reports.as_slice()))
+        }
         _ => None,
     }
 }
@@ -108,7 +111,8 @@ fn execute<S: Shelf, I: Read, O: Write, G: Gate, R: Threads + Wait + Sync>(
         | Request::Identify { .. }
         | Request::Merge { .. }
         | Request::Table { .. }
-        | Request::Page { .. } => unreachable!(),
+        | Request::Page { .. }
+        | Request::Same { .. } => unreachable!(),
     }
     Ok(Vec::new(alloc))
 }
@@ -173,17 +177,18 @@ pub fn answer<I: Read, O: Write, E: Write>(
 /// - 0: what was asked for was done. By `run` and by `objects` the report of the folders, or without any of the bundle on
 ///   standard input, was written: what their patterns become, or the objects in it; by `advance N` standard input is an
 ///   RLE text, and the text of generation N was written; by `draw CODE [--rule R]` the text of the code's shape under the
-///   rule; by `merge` one report of reports that were read, by `table` a table of them, and by `page` a page. Or help
-///   was asked for and written.
+///   rule; by `merge` one report of reports that were read, by `table` a table of them, by `page` a page, and by `same`
+///   their patterns that are one object, of which there are none. Or help was asked for and written.
 /// - 1: the collections, the pattern, the rule or the code is refused, and nothing was written.
 /// - 2: clap refuses the words, and not because memory was refused; nothing was read or written.
-/// - 3: memory was refused, and nothing was written, or by `run` and by `objects` a prefix of the report, or by `table`
-///   and by `page` one of the table or the page.
+/// - 3: memory was refused, and nothing was written, or by `run` and by `objects` a prefix of the report, or by `table`,
+///   `page` and `same` one of what they write.
+/// - 5: what was asked for was done, and what was looked for was found: by `same` patterns that are one object.
 /// - 4: standard input or standard output has failed, or a folder could not be listed or a file of it be read. What was
 ///   written is a prefix of what was asked for, or nothing; after a failed read it is nothing. With `--keep-going` it is
 ///   the whole report of what could be read, after a line on `errors` for each folder, file or name that was lost.
 ///
-/// Where the status is 0, nothing is written to `errors`. Else the error's one line is, or for status 2 clap's own text:
+/// Where the status is 0 or 5, nothing is written to `errors`. Else the error's one line is, or for status 2 clap's own text:
 /// whole where `errors` does not fail, else a prefix of it. With `--explain`, and where `errors` is a terminal, one more line
 /// follows the error's, which says where the fault is, what is wrong and what would be right; and after a report there is
 /// such a line for each pattern that it tells as `bad`, and then one for each whose text may hold the next pattern, and one

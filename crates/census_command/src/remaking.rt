@@ -1,7 +1,7 @@
-//! `census merge`, `census table` and `census page`: one report, a table, or a page, made of reports.
-ghost use Rattle.std.specs.Prelude.{◌≡◌, [], false, map, IfErr, OnOk};
+//! `census merge`, `table`, `page` and `same`: one report, a table, a page, or patterns that are one object, made of reports.
+ghost use Rattle.std.specs.Prelude.{◌≡◌, [], false, map, IfErr, IfOk, OnOk};
 ghost use Rattle.census_reports.specs.Outcomes.{ReportsFail, WritesReports};
-ghost use Rattle.census_command.specs.Remakes.{KeepsLaw, Remakes, both_streams, format_of, subject_of};
+ghost use Rattle.census_command.specs.Remakes.{KeepsLaw, Remakes, both_streams, format_of, found_status, subject_of};
 ghost use Rattle.census_command.specs.Streams.{HasSoundStreams};
 
 use crate::streams::Streams;
@@ -43,10 +43,10 @@ fn write<S: Shelf, I: Read, O: Write>(
     form: Form,
     files: &[&str],
     streams: &mut Streams<I, O>,
-) -> Result<(), ReportsError>
+) -> Result<bool, ReportsError>
     requires sound { HasSoundStreams streams.old }
-    ensures done { OnOk result
-        (WritesReports form ((S.tellings shelf.now).held []) (map (λ s. s.now) files.now)
+    ensures done { IfOk result
+        (λ found. WritesReports form found ((S.tellings shelf.now).held []) (map (λ s. s.now) files.now)
         (both_streams streams.old) (both_streams streams.new)) }
     ensures fails { IfErr result
         (λ error. ReportsFail error form ((S.tellings shelf.now).held [])
@@ -59,22 +59,30 @@ fn write<S: Shelf, I: Read, O: Write>(
     let Streams { input, output } = streams;
     match form {
         Form::Merged => merge_reports(shelf, alloc, files, input, output),
-        Form::Table { .. } | Form::Page => {
+        Form::Table { .. } | Form::Page | Form::Same { .. } => {
             write_reports(shelf, alloc, form, files, input, output)
         }
     }
+}
+
+/// The exit status where all was written: 5 where what was looked for was found.
+fn found_status(found: bool) -> u8
+    ensures { result ≡ found_status found }
+{
+    if found { 5 } else { 0 }
 }
 
 /// Reads the reports of these files, of `-` and without a file those of standard input, writes what this form makes of
 /// them, and gives the exit status.
 ///
 /// - 0: it was written, and nothing was told.
+/// - 5: it was written, what was looked for was found, and nothing was told.
 /// - 1: a text is no report, or too long, or the reports have too many collections for one report; nothing was written.
-/// - 3: memory was refused, and nothing was written, or a prefix of a table or a page.
+/// - 3: memory was refused, and nothing was written, or a prefix of what is no report.
 /// - 4: a file can't be read or standard input has failed, and nothing was written; or standard output has failed, and a
 ///   prefix was.
 ///
-/// Where the status isn't 0 the error's line was told, and one more where faults are explained.
+/// Where the status is neither 0 nor 5 the error's line was told, and one more where faults are explained.
 pub fn remake<S: Shelf, I: Read, O: Write, E: Write>(
     shelf: &S,
     alloc: Global,
@@ -90,7 +98,7 @@ pub fn remake<S: Shelf, I: Read, O: Write, E: Write>(
         result streams.old streams.new errors.old errors.new }
 {
     match write(shelf, alloc, form, files, streams) {
-        Ok(()) => 0,
+        Ok(found) => found_status(found),
         Err(error) => {
             let place = reports_place_if(explain, shelf, alloc, files, error);
             let saying = reports_saying(files, error).at(&place);

@@ -6,7 +6,7 @@ use Rattle.watched.specs.Watching.{AppendsFront}
 use Rattle.gathered.specs.Telling.{Sheet, TellsAfter, TellsFront}
 use Rattle.gathered.proofs.Telling.{all_told, tells_more}
 use Rattle.census_rows.specs.declared.row.Row.{Row}
-use Rattle.census_reports.specs.Forms.{IsInPieces, IsMade}
+use Rattle.census_reports.specs.Forms.{IsInPieces, IsMade, is_found}
 use Rattle.census_reports.specs.Written.{HaltsRows, WritesRows, WritesRowsInPart}
 use Rattle.census_reports.specs.declared.form.Form.{Form}
 use Rattle.census_reports.proofs.Told.{sink_of}
@@ -33,10 +33,11 @@ module _ (form : Form) (rows : List Row) (text : List ℕ) (is : IsMade form row
   in_front : TellsFront text a b → AppendsFront a.written c.written text
   in_front h = front_longer a.written c.written text h.front h.rest h.whole (any_front c.failed a.written c.written h.front (told h.front h.tells))
 
-  pub all_written : TellsAfter text a b → c.failed ≡ false → WritesRows form rows (sink_of a) (sink_of c)
-  all_written h sound = record {
+  pub all_written : TellsAfter text a b → c.failed ≡ false → (found : Bool) → found ≡ is_found form text → WritesRows form found rows (sink_of a) (sink_of c)
+  all_written h sound found found_is = record {
     made = text;
     is = is;
+    found_is = found_is;
     written = record { written = subst (λ f. MatchBool f (AppendsFront a.written c.written text) (Appends a.written c.written text)) sound (told text h); sound = sound };
   }
 

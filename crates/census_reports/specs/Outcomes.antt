@@ -1,9 +1,9 @@
 -- What is read and written of reports, and what each error says.
-use Rattle.std.specs.Prelude.{◌≡◌, ◌⊎◌, ℕ, false, List}
+use Rattle.std.specs.Prelude.{◌≡◌, ◌⊎◌, ℕ, Bool, false, List}
 use Rattle.census_folders.specs.Told.{Told}
 use Rattle.census_identify.specs.Identifies.{words_or_input}
 use Rattle.census_identify.specs.Streams.{PutsPrefix, Writes}
-use Rattle.census_reports.specs.Forms.{IsMadeOf, IsInPieces, RefusesTexts}
+use Rattle.census_reports.specs.Forms.{IsMadeOf, IsInPieces, RefusesTexts, is_found}
 use Rattle.census_reports.specs.Streams.{Streams}
 use Rattle.census_reports.specs.Texts.{ReadsEach, StopsReadingTexts}
 use Rattle.census_reports.specs.Written.{WritesSome}
@@ -26,10 +26,11 @@ pub record Makes (form : Form) (held : List ℕ → Told) (words : List (List �
   pub read : ReadsTexts held words texts before after
   pub is : IsMadeOf form texts made
 
--- what is made of the reports was written
-pub record WritesReports (form : Form) (held : List ℕ → Told) (words : List (List ℕ)) (before after : Streams) : Type 0 where
+-- what is made of the reports was written, and whether what was looked for was found
+pub record WritesReports (form : Form) (found : Bool) (held : List ℕ → Told) (words : List (List ℕ)) (before after : Streams) : Type 0 where
   pub made : List ℕ
   pub makes : Makes form held words made before after
+  pub found_is : found ≡ is_found form made
   pub written : Writes made before.output after.output
 
 -- as far as the writer took it
@@ -38,7 +39,7 @@ pub record WritesReportsInPart (form : Form) (held : List ℕ → Told) (words :
   pub makes : Makes form held words made before after
   pub front : PutsPrefix made before.output after.output
 
--- a prefix of a table or a page was written, and the writer has not failed
+-- a prefix of what is told piece by piece was written, and the writer has not failed
 pub record HaltsReports (form : Form) (held : List ℕ → Told) (words : List (List ℕ)) (before after : Streams) : Type 0 where
   pub pieces : IsInPieces form
   pub made : List ℕ
@@ -51,7 +52,7 @@ pub record RefusesReports (error : ReportsError) (form : Form) (held : List ℕ 
   pub read : ReadsTexts held words texts before after
   pub why : RefusesTexts error form texts
 
--- Why not all was written. Where the writer didn't fail, nothing was, or out of memory a prefix of a table or a page.
+-- Why not all was written. Where the writer didn't fail, nothing was, or out of memory a prefix of what is told piece by piece.
 abbrev pub ReportsFail : ReportsError → Form → (List ℕ → Told) → List (List ℕ) → Streams → Streams → Type 0
 ReportsFail (Fault number line) form held words before after = RefusesReports (Fault number line) form held words before after × WritesNothing before after
 ReportsFail (TooMany report) form held words before after = RefusesReports (TooMany report) form held words before after × WritesNothing before after

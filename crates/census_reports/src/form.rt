@@ -13,6 +13,7 @@ use crate::error::ReportsError;
 use census_merge::{put_merged, sums};
 use census_page::put_page;
 use census_rows::Row;
+use census_same::put_same;
 use census_table::{Format, Subject, put_listing, table_of};
 use gathered::{Block, send};
 use std::alloc::Global;
@@ -28,6 +29,8 @@ pub enum Form {
     Table { subject: Subject, format: Format },
     /// Their codes, with pictures, as one HTML page, as `put_page` tells it.
     Page,
+    /// Their patterns that are one object, as `put_same` tells them, which is what is looked for.
+    Same { json: bool },
 }
 
 // Writes one report of reports that stand one after another and aren't too many.
@@ -54,17 +57,17 @@ fn write_merged<O: Write>(
     alloc: Global,
     rows: &[Row],
     output: &mut Watched<O>,
-) -> Result<(), ReportsError>
+) -> Result<bool, ReportsError>
     requires { AreReports rows.now }
     ensures { MatchResult result
-        (λ _. WritesRows Form.Merged rows.now (sink O.contents output.old)
+        (λ found. WritesRows Form.Merged found rows.now (sink O.contents output.old)
         (sink O.contents output.new))
         (λ error. FailsRows error Form.Merged rows.now (sink O.contents output.old)
         (sink O.contents output.new)) }
 {
     match sums(rows) {
         Ok(_) => match write_report(alloc, rows, output) {
-            Ok(()) => Ok(()),
+            Ok(()) => Ok(false),
             Err(_) => Err(ReportsError::Write),
         },
         Err(excess) => Err(ReportsError::TooMany {
@@ -80,10 +83,10 @@ fn write_table<O: Write>(
     format: Format,
     rows: &[Row],
     output: &mut Watched<O>,
-) -> Result<(), ReportsError>
+) -> Result<bool, ReportsError>
     requires { AreReports rows.now }
     ensures { MatchResult result
-        (λ _. WritesRows (Form.Table subject format) rows.now (sink O.contents output.old)
+        (λ found. WritesRows (Form.Table subject format) found rows.now (sink O.contents output.old)
         (sink O.contents output.new))
         (λ error. FailsRows error (Form.Table subject format) rows.now
         (sink O.contents output.old) (sink O.contents output.new)) }
@@ -92,7 +95,10 @@ fn write_table<O: Write>(
     let mut block = Block::new(alloc);
     let told = put_listing(alloc, format, &table, &mut block, output);
     match send(&mut block, output) {
-        Ok(()) => Ok(told?),
+        Ok(()) => {
+            told?;
+            Ok(false)
+        }
         Err(_) => Err(ReportsError::Write),
     }
 }
@@ -102,10 +108,10 @@ fn write_page<O: Write>(
     alloc: Global,
     rows: &[Row],
     output: &mut Watched<O>,
-) -> Result<(), ReportsError>
+) -> Result<bool, ReportsError>
     requires { AreReports rows.now }
     ensures { MatchResult result
-        (λ _. WritesRows Form.Page rows.now (sink O.contents output.old)
+        (λ found. WritesRows Form.Page found rows.now (sink O.contents output.old)
         (sink O.contents output.new))
         (λ error. FailsRows error Form.Page rows.now (sink O.contents output.old)
         (sink O.contents output.new)) }
@@ -113,21 +119,47 @@ fn write_page<O: Write>(
     let mut block = Block::new(alloc);
     let told = put_page(alloc, rows, &mut block, output);
     match send(&mut block, output) {
-        Ok(_) => Ok(told?),
+        Ok(()) => {
+            told?;
+            Ok(false)
+        }
         Err(_) => Err(ReportsError::Write),
     }
 }
 
-// Writes what is made of these rows, which are those of reports that stand one after another.
+// Writes the patterns that are one object. Where memory is refused, what was told of them is written yet.
+fn write_same<O: Write>(
+    alloc: Global,
+    json: bool,
+    rows: &[Row],
+    output: &mut Watched<O>,
+) -> Result<bool, ReportsError>
+    requires { AreReports rows.now }
+    ensures { MatchResult result
+        (λ found. WritesRows (Form.Same json) found rows.now (sink O.contents output.old)
+        (sink O.contents output.new))
+        (λ error. FailsRows error (Form.Same json) rows.now
+        (sink O.contents output.old) (sink O.contents output.new)) }
+{
+    let mut block = Block::new(alloc);
+    let told = put_same(alloc, json, rows, &mut block, output);
+    match send(&mut block, output) {
+        Ok(()) => Ok(told?),
+        Err(_) => Err(ReportsError::Write),
+    }
+}
+
+/// Writes what is made of these rows, which are those of reports that stand one after another, and tells whether what was
+/// looked for was found.
 pub fn write_made<O: Write>(
     alloc: Global,
     form: Form,
     rows: &[Row],
     output: &mut Watched<O>,
-) -> Result<(), ReportsError>
+) -> Result<bool, ReportsError>
     requires { AreReports rows.now }
     ensures { MatchResult result
-        (λ _. WritesRows form rows.now (sink O.contents output.old) (sink O.contents output.new))
+        (λ found. WritesRows form found rows.now (sink O.contents output.old) (sink O.contents output.new))
         (λ error. FailsRows error form rows.now (sink O.contents output.old)
         (sink O.contents output.new)) }
 {
@@ -135,6 +167,7 @@ pub fn write_made<O: Write>(
         Form::Merged => write_merged(alloc, rows, output),
         Form::Table { subject, format } => write_table(alloc, subject, format, rows, output),
         Form::Page => write_page(alloc, rows, output),
+        Form::Same { json } => write_same(alloc, json, rows, output),
     }
 }
 

@@ -1,4 +1,5 @@
-//! Reports that are read from files or from standard input, and written as one report, as a table or as a page.
+//! Reports that are read from files or from standard input, and written as one report, as a table, as a page, or as the
+//! patterns that are one object.
 //!
 //! Tested in `tests_reports`.
 #![tactic(auto)]

@@ -1,5 +1,5 @@
-//! `census merge` and `census table`: what is written of reports.
-ghost use Rattle.std.specs.Prelude.{◌≡◌, ◌<◌, [], false, length, map, IfErr, MatchResult, OnOk};
+//! `census merge`, `table`, `page` and `same`: what is written of reports.
+ghost use Rattle.std.specs.Prelude.{◌≡◌, ◌<◌, [], false, length, map, IfErr, IfOk, MatchResult};
 ghost use Rattle.watched.specs.Watching.{has_failed};
 ghost use Rattle.census_identify.specs.Streams.{sink};
 ghost use Rattle.census_reports.specs.Written.{FailsTexts, WritesTexts};
@@ -22,10 +22,10 @@ fn write_of<O: Write>(
     form: Form,
     texts: &[Bytes],
     output: &mut Watched<O>,
-) -> Result<(), ReportsError>
+) -> Result<bool, ReportsError>
     requires { 0 < length texts.now }
     ensures { MatchResult result
-        (λ _. WritesTexts form texts.now (sink O.contents output.old) (sink O.contents output.new))
+        (λ found. WritesTexts form found texts.now (sink O.contents output.old) (sink O.contents output.new))
         (λ error. FailsTexts error form texts.now (sink O.contents output.old)
         (sink O.contents output.new)) }
 {
@@ -36,12 +36,14 @@ fn write_of<O: Write>(
 /// Reads the texts of words, in their order, and writes what is made of the reports in them: of `-` the text that standard
 /// input has left, of any other word that of the file of this path, and without a word that of standard input. Each text
 /// must be a report by itself, or several one after another; a text without a byte is none. A file that is no regular
-/// file is not opened, and can't be read.
+/// file is not opened, and can't be read. Returns whether what was looked for was found: with `Same`, patterns that are one
+/// object, and else nothing is looked for.
 ///
 /// All texts are read before the first is looked at, and all reports before the first byte is written. From then on no
-/// memory is asked for but the block that is written, for a table the text of some rows at a time, and for a page the codes
-/// of one collection and the text of one picture or name at a time. So nothing is written on any error but `Write`, on which
-/// a prefix of what is made of them is, and `Memory`, on which a prefix of a table or a page may be:
+/// memory is asked for but the block that is written, for a table the text of some rows at a time, for a page the codes
+/// of one collection and the text of one picture or name at a time, and for `Same` a list of the patterns that are objects.
+/// So nothing is written on any error but `Write`, on which a prefix of what is made of them is, and `Memory`, on which
+/// one may be of all but `Merged`:
 ///
 /// - `Read`, `TooLong`: the text of a word can't be read or has more than 67,108,864 bytes. Those of the words before it
 ///   were read, and none of a word after it.
@@ -55,10 +57,10 @@ pub fn write_reports<S: Shelf, I: Read, O: Write>(
     words: &[&str],
     input: &mut Watched<I>,
     output: &mut Watched<O>,
-) -> Result<(), ReportsError>
+) -> Result<bool, ReportsError>
     requires { has_failed input.old ≡ false }
-    ensures done { OnOk result
-        (WritesReports form ((S.tellings shelf.now).held []) (map (λ s. s.now) words.now)
+    ensures done { IfOk result
+        (λ found. WritesReports form found ((S.tellings shelf.now).held []) (map (λ s. s.now) words.now)
         (streams I.remaining O.contents input.old output.old)
         (streams I.remaining O.contents input.new output.new)) }
     ensures fails { IfErr result

@@ -7,8 +7,9 @@ use Rattle.std.specs.declared.cmp.Ordering.TheVariants.{Less}
 use Rattle.std.proofs.lemmas.List.{drop-drop, drop_all, length-drop, take_all}
 use Rattle.std.proofs.lemmas.List.Sums.{prefix_len-le-length}
 use Rattle.std.proofs.lemmas.List.Elements.{All-cons, All-nil, All-tail}
+use Rattle.census_table.specs.Tables.{json_line}
 use Rattle.census_same.specs.Order.{Key, is_among, is_key, has_key, key_cmp, key_of, keys_of, with_key, AreInOrder}
-use Rattle.census_same.specs.Same.{group_len, group_text, groups_text, has_bytes, heading_text, lines_text, same_text}
+use Rattle.census_same.specs.Same.{group_len, group_text, groups_text, has_bytes, heading_text, lines_text, members_of, objects_text, same_text, several_text}
 use Rattle.census_same.specs.declared.told.Told.{Told}
 use Rattle.census_same.proofs.Keys.{behind, further, has_is, has-key, key-itself, keys-all, keys-among, keys-rise, not-key, not-key-back, put_by, rising-same}
 
@@ -27,16 +28,16 @@ any-filter p (t ∷ ts) = go (p t) (any-filter p ts)
     go true more = refl
     go false more = more
 
-groups-alike : (ks : List Key) (ts us : List Told) → All (λ x. filter (has_key x) ts ≡ filter (has_key x) us) ks → groups_text ks ts ≡ groups_text ks us
-groups-alike [] ts us same = refl
-groups-alike (k ∷ ks) ts us same =
-    ap₂ (λ (a b : List ℕ). a ++ b) (ap group_text (same 0 k (omega arith)))
-    (groups-alike ks ts us (All-tail (λ x. filter (has_key x) ts ≡ filter (has_key x) us) k ks same))
+groups-alike : (j : Bool) (ks : List Key) (ts us : List Told) → All (λ x. filter (has_key x) ts ≡ filter (has_key x) us) ks → groups_text j ks ts ≡ groups_text j ks us
+groups-alike j [] ts us same = refl
+groups-alike j (k ∷ ks) ts us same =
+    ap₂ (λ (a b : List ℕ). a ++ b) (ap (group_text j) (same 0 k (omega arith)))
+    (groups-alike j ks ts us (All-tail (λ x. filter (has_key x) ts ≡ filter (has_key x) us) k ks same))
 
 -- patterns that are put in order are told as they were
-pub same-sorted : (old new : List Told) → ((k : Key) → filter (has_key k) new ≡ filter (has_key k) old) → same_text new ≡ same_text old
-same-sorted old new same =
-    ap (λ ks. groups_text ks new) keys ∙ groups-alike (keys_of old) new old (λ i d small. same (slice_index_or (keys_of old) i d))
+pub same-sorted : (j : Bool) (old new : List Told) → ((k : Key) → filter (has_key k) new ≡ filter (has_key k) old) → same_text j new ≡ same_text j old
+same-sorted j old new same =
+    ap (λ ks. groups_text j ks new) keys ∙ groups-alike j (keys_of old) new old (λ i d small. same (slice_index_or (keys_of old) i d))
   where
     among : (x : Key) → is_among x (keys_of new) ≡ is_among x (keys_of old)
     among x =
@@ -123,13 +124,13 @@ split-first t ts order =
     (All-cons (λ u. is_lt (key_cmp (key_of u) (key_of t)) ≡ false) t ts (ap is_lt (key-itself (key_of t))) order.0)
 
 -- what is told of patterns in order: the first group, and then the others
-first-told : (t : Told) (ts : List Told) (n : ℕ) → AreInOrder (t ∷ ts) → n ≡ prefix_len (has_key (key_of t)) (t ∷ ts)
-    → same_text (t ∷ ts) ≡ group_text (take n (t ∷ ts)) ++ same_text (drop n (t ∷ ts))
-first-told t ts n order e =
-    subst (λ m. same_text (t ∷ ts) ≡ group_text (take m (t ∷ ts)) ++ same_text (drop m (t ∷ ts))) (sym e)
-    (ap (λ ks. groups_text ks (t ∷ ts)) (keys-first t ts (has-own t) (split (key_of t) ts order.1 order.0))
-    ∙ ap₂ (λ (a b : List ℕ). a ++ b) (ap group_text s.here)
-    (groups-alike (keys_of left) (t ∷ ts) left
+first-told : (j : Bool) (t : Told) (ts : List Told) (n : ℕ) → AreInOrder (t ∷ ts) → n ≡ prefix_len (has_key (key_of t)) (t ∷ ts)
+    → same_text j (t ∷ ts) ≡ group_text j (take n (t ∷ ts)) ++ same_text j (drop n (t ∷ ts))
+first-told j t ts n order e =
+    subst (λ m. same_text j (t ∷ ts) ≡ group_text j (take m (t ∷ ts)) ++ same_text j (drop m (t ∷ ts))) (sym e)
+    (ap (λ ks. groups_text j ks (t ∷ ts)) (keys-first t ts (has-own t) (split (key_of t) ts order.1 order.0))
+    ∙ ap₂ (λ (a b : List ℕ). a ++ b) (ap (group_text j) s.here)
+    (groups-alike j (keys_of left) (t ∷ ts) left
     (keys-all (λ x. filter (has_key x) (t ∷ ts) ≡ filter (has_key x) left) left
     (λ i d small. s.others (key_of (slice_index_or left i d)) (s.behind i d small)))))
   where
@@ -139,9 +140,9 @@ first-told t ts n order e =
     left : List Told
     left = drop (prefix_len (has_key (key_of t)) (t ∷ ts)) (t ∷ ts)
 
-pub same-first : (ts : List Told) → AreInOrder ts → same_text ts ≡ group_text (take (group_len ts) ts) ++ same_text (drop (group_len ts) ts)
-same-first [] order = refl
-same-first (t ∷ ts) order = first-told t ts (group_len (t ∷ ts)) order refl
+pub same-first : (j : Bool) (ts : List Told) → AreInOrder ts → same_text j ts ≡ group_text j (take (group_len ts) ts) ++ same_text j (drop (group_len ts) ts)
+same-first j [] order = refl
+same-first j (t ∷ ts) order = first-told j t ts (group_len (t ∷ ts)) order refl
 
 -- the others stand in order
 pub order-left : (ts : List Told) → AreInOrder ts → AreInOrder (drop (group_len ts) ts)
@@ -173,27 +174,40 @@ some-has_bytes (x ∷ xs) h = refl
 
 -- # The text of a group
 
-pub group-none : (ts : List Told) → length ts < 2 → group_text ts ≡ []
-group-none [] few = refl
-group-none (t ∷ []) few = refl
-group-none (t ∷ (u ∷ us)) few = absurd (omega arith)
+pub group-none : (j : Bool) (ts : List Told) → length ts < 2 → group_text j ts ≡ []
+group-none j [] few = refl
+group-none j (t ∷ []) few = refl
+group-none j (t ∷ (u ∷ us)) few = absurd (omega arith)
 
-pub group-several : (ts : List Told) (d : Told) → 2 ≤ length ts → group_text ts ≡ heading_text (slice_index_or ts 0 d) ++ lines_text ts
-group-several [] d many = absurd (omega arith)
-group-several (t ∷ []) d many = absurd (omega arith)
-group-several (t ∷ (u ∷ us)) d many = refl
+pub group-several : (j : Bool) (ts : List Told) (d : Told) → 2 ≤ length ts → group_text j ts ≡ several_text j (slice_index_or ts 0 d) ts
+group-several j [] d many = absurd (omega arith)
+group-several j (t ∷ []) d many = absurd (omega arith)
+group-several j (t ∷ (u ∷ us)) d many = refl
 
 or-true : (b : Bool) → (b || true) ≡ true
 or-true true = refl
 or-true false = refl
 
-pub group-bytes : (ts : List Told) → 2 ≤ length ts → has_bytes (group_text ts) ≡ true
-group-bytes [] many = absurd (omega arith)
-group-bytes (t ∷ []) many = absurd (omega arith)
-group-bytes (t ∷ (u ∷ us)) many =
-    has_bytes-append (heading_text t) (lines_text (t ∷ (u ∷ us)))
-    ∙ ap (λ b. b || has_bytes (lines_text (t ∷ (u ∷ us))))
+heading-bytes : (t : Told) (xs : List ℕ) → has_bytes (heading_text t ++ xs) ≡ true
+heading-bytes t xs =
+    has_bytes-append (heading_text t) xs
+    ∙ ap (λ b. b || has_bytes xs)
     (has_bytes-append (t.rule.now ++ codes " " ++ t.code.now) (codes "\n") ∙ or-true (has_bytes (t.rule.now ++ codes " " ++ t.code.now)))
+
+line-bytes : (xs : List ℕ) → has_bytes (xs ++ 10 ∷ []) ≡ true
+line-bytes xs = has_bytes-append xs (10 ∷ []) ∙ or-true (has_bytes xs)
+
+-- a line of JSON has its end
+object-bytes : (t : Told) (xs : List ℕ) → has_bytes (json_line (members_of t) ++ xs) ≡ true
+object-bytes t xs =
+    has_bytes-append (json_line (members_of t)) xs
+    ∙ ap (λ b. b || has_bytes xs) (line-bytes _)
+
+pub group-bytes : (j : Bool) (ts : List Told) → 2 ≤ length ts → has_bytes (group_text j ts) ≡ true
+group-bytes j [] many = absurd (omega arith)
+group-bytes j (t ∷ []) many = absurd (omega arith)
+group-bytes true (t ∷ (u ∷ us)) many = object-bytes t (objects_text (u ∷ us))
+group-bytes false (t ∷ (u ∷ us)) many = heading-bytes t (lines_text (t ∷ (u ∷ us)))
 
 pub group-first : (ts : List Told) (d : Told) → 0 < length ts → prefix_len (has_key (key_of (slice_index_or ts 0 d))) ts ≡ group_len ts
 group-first [] d some = absurd (omega arith)
@@ -202,21 +216,21 @@ group-first (t ∷ ts) d some = refl
 -- # A walk from group to group
 
 -- from a place on a group and the others are told
-pub record Walk (ts : List Told) (at : ℕ) (group : List Told) : Type 0 where
+pub record Walk (j : Bool) (ts : List Told) (at : ℕ) (group : List Told) : Type 0 where
   pub within : at + length group ≤ length ts
   pub on : at < at + length group
-  pub text : same_text (drop at ts) ≡ group_text group ++ same_text (drop (at + length group) ts)
+  pub text : same_text j (drop at ts) ≡ group_text j group ++ same_text j (drop (at + length group) ts)
   pub order : AreInOrder (drop (at + length group) ts)
 
 pub rest-whole : (n : ℕ) (ts : List Told) → take (length ts - n) (drop n ts) ≡ drop n ts
 rest-whole n ts = take_all (length ts - n) (drop n ts) (omega (arith, length-drop n ts))
 
-pub walk : (ts : List Told) (at n : ℕ) (group : List Told) → AreInOrder (drop at ts) → at < length ts → n ≡ group_len (take (length ts - at) (drop at ts))
-    → group ≡ take n (take (length ts - at) (drop at ts)) → length group ≡ n → Walk ts at group
-walk ts at n group order less is front size = record {
+pub walk : (j : Bool) (ts : List Told) (at n : ℕ) (group : List Told) → AreInOrder (drop at ts) → at < length ts → n ≡ group_len (take (length ts - at) (drop at ts))
+    → group ≡ take n (take (length ts - at) (drop at ts)) → length group ≡ n → Walk j ts at group
+walk j ts at n group order less is front size = record {
   within = omega (arith, low, high, long, size);
   on = omega (arith, low, size);
-  text = same-first left order ∙ ap₂ (λ (a b : List ℕ). a ++ b) (ap group_text (sym here)) (ap same_text there);
+  text = same-first j left order ∙ ap₂ (λ (a b : List ℕ). a ++ b) (ap (group_text j) (sym here)) (ap (same_text j) there);
   order = subst AreInOrder there (order-left left order);
 }
   where
@@ -254,8 +268,8 @@ or-false : (b : Bool) → (b || false) ≡ b
 or-false true = refl
 or-false false = refl
 
-pub nothing-left : (ts : List Told) (at : ℕ) → length ts ≤ at → same_text (drop at ts) ≡ []
-nothing-left ts at over = ap same_text (drop_all at ts over)
+pub nothing-left : (j : Bool) (ts : List Told) (at : ℕ) → length ts ≤ at → same_text j (drop at ts) ≡ []
+nothing-left j ts at over = ap (same_text j) (drop_all at ts over)
 
 pub any-end : (whole any : Bool) (left : List ℕ) → whole ≡ (any || has_bytes left) → left ≡ [] → any ≡ whole
 any-end whole any left is none = sym (is ∙ ap (λ b. any || b) (ap has_bytes none) ∙ or-false any)

@@ -49,23 +49,23 @@ module _ (p : Key → Bool) where
 abbrev have_several : List Told → Key → Bool
 have_several ts k = nat_lt 1 (length (filter (has_key k) ts))
 
-groups-filter : (ts : List Told) (ks : List Key) → groups_text ks ts ≡ groups_text (filter (have_several ts) ks) ts
-groups-filter ts [] = refl
-groups-filter ts (k ∷ ks) = go (have_several ts k) refl (groups-filter ts ks)
+groups-filter : (j : Bool) (ts : List Told) (ks : List Key) → groups_text j ks ts ≡ groups_text j (filter (have_several ts) ks) ts
+groups-filter j ts [] = refl
+groups-filter j ts (k ∷ ks) = go (have_several ts k) refl (groups-filter j ts ks)
   where
-    go : (b : Bool) → have_several ts k ≡ b → groups_text ks ts ≡ groups_text (filter (have_several ts) ks) ts
-        → group_text (filter (has_key k) ts) ++ groups_text ks ts ≡ groups_text (cond b (k ∷ filter (have_several ts) ks) (filter (have_several ts) ks)) ts
-    go true e more = ap (λ t. group_text (filter (has_key k) ts) ++ t) more
+    go : (b : Bool) → have_several ts k ≡ b → groups_text j ks ts ≡ groups_text j (filter (have_several ts) ks) ts
+        → group_text j (filter (has_key k) ts) ++ groups_text j ks ts ≡ groups_text j (cond b (k ∷ filter (have_several ts) ks) (filter (have_several ts) ks)) ts
+    go true e more = ap (λ t. group_text j (filter (has_key k) ts) ++ t) more
     go false e more =
         let few = ltb-false 1 (length (filter (has_key k) ts)) e in
-        ap (λ t. t ++ groups_text ks ts) (group-none (filter (has_key k) ts) (omega (arith, few))) ∙ more
+        ap (λ t. t ++ groups_text j ks ts) (group-none j (filter (has_key k) ts) (omega (arith, few))) ∙ more
 
 any-some : (ts : List Told) → 0 < length ts → list_any (λ t. true) ts ≡ true
 any-some [] some = absurd (omega arith)
 any-some (t ∷ ts) some = refl
 
-pub is-same : (ts : List Told) → IsSame ts (same_text ts)
-is-same ts = record {
+pub is-same : (j : Bool) (ts : List Told) → IsSame j ts (same_text j ts)
+is-same j ts = record {
   keys = filter (have_several ts) (keys_of ts);
   rising = filter-rising (have_several ts) (keys_of ts) (keys-rise ts);
   each = λ k. (
@@ -73,7 +73,7 @@ is-same ts = record {
     λ several. among k ∙ ap₂ (λ a b. a && b) (lt-ltb 1 (length (filter (has_key k) ts)) (omega (arith, several)))
         (any-filter (has_key k) ts ∙ any-some (filter (has_key k) ts) (omega (arith, several))),
   );
-  whole = groups-filter ts (keys_of ts);
+  whole = groups-filter j ts (keys_of ts);
 }
   where
     among : (k : Key) → is_among k (filter (have_several ts) (keys_of ts)) ≡ (have_several ts k && list_any (has_key k) ts)

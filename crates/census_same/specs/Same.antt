@@ -1,6 +1,8 @@
 -- The patterns of which one object is told.
-use Rattle.std.specs.Prelude.{◌≡◌, ◌≤◌, ◌↔◌, IsTrue, length, ℕ, Bool, true, false, List, [], ◌∷◌, ◌++◌, codes, filter}
+use Rattle.std.specs.Prelude.{◌≡◌, ◌≤◌, ◌↔◌, IsTrue, length, ℕ, Bool, true, false, if◌then◌else◌, List, [], ◌∷◌, ◌++◌, codes, filter}
 use Rattle.std.specs.List.{prefix_len}
+use Rattle.census_table.specs.Contents.{Member, text, hex}
+use Rattle.census_table.specs.Tables.{json_line}
 use Rattle.census_same.specs.Order.{Key, has_key, is_among, key_of, keys_of, AreRising}
 use Rattle.census_same.specs.declared.told.Told.{Told}
 
@@ -17,20 +19,44 @@ abbrev pub lines_text : List Told → List ℕ
 lines_text [] = []
 lines_text (told ∷ tolds) = line_text told ++ lines_text tolds
 
--- of several patterns that have one key the key, and a line for each; of fewer nothing
-abbrev pub group_text : List Told → List ℕ
-group_text [] = []
-group_text (told ∷ []) = []
-group_text (told ∷ (other ∷ others)) = heading_text told ++ lines_text (told ∷ (other ∷ others))
+-- the key of the first, and a line for each pattern
+abbrev pub named_text : Told → List Told → List ℕ
+named_text first tolds = heading_text first ++ lines_text tolds
+
+-- what the JSON object of a pattern has
+abbrev pub members_of : Told → List Member
+members_of told =
+    record { name = codes "rule"; content = text told.rule.now }
+    ∷ record { name = codes "code"; content = text told.code.now }
+    ∷ record { name = codes "collection_name"; content = text told.collection.now }
+    ∷ record { name = codes "name"; content = text told.name.now }
+    ∷ record { name = codes "collection_name_hex"; content = hex told.collection.now }
+    ∷ record { name = codes "name_hex"; content = hex told.name.now }
+    ∷ []
+
+-- an object for each pattern
+abbrev pub objects_text : List Told → List ℕ
+objects_text [] = []
+objects_text (told ∷ tolds) = json_line (members_of told) ++ objects_text tolds
+
+-- these patterns, of which this is the first, as JSON or by their names
+abbrev pub several_text : Bool → Told → List Told → List ℕ
+several_text json first tolds = if json then objects_text tolds else named_text first tolds
+
+-- several patterns that have one key; of fewer nothing is told
+abbrev pub group_text : Bool → List Told → List ℕ
+group_text json [] = []
+group_text json (told ∷ []) = []
+group_text json (told ∷ (other ∷ others)) = several_text json told (told ∷ (other ∷ others))
 
 -- for each of these keys the patterns that have it
-abbrev pub groups_text : List Key → List Told → List ℕ
-groups_text [] tolds = []
-groups_text (key ∷ keys) tolds = group_text (filter (has_key key) tolds) ++ groups_text keys tolds
+abbrev pub groups_text : Bool → List Key → List Told → List ℕ
+groups_text json [] tolds = []
+groups_text json (key ∷ keys) tolds = group_text json (filter (has_key key) tolds) ++ groups_text json keys tolds
 
 -- for each code under a rule that several patterns have, in the order of codes and then of rules, these patterns
-abbrev pub same_text : List Told → List ℕ
-same_text tolds = groups_text (keys_of tolds) tolds
+abbrev pub same_text : Bool → List Told → List ℕ
+same_text json tolds = groups_text json (keys_of tolds) tolds
 
 -- how many patterns at the start have the key of the first
 abbrev pub group_len : List Told → ℕ
@@ -44,8 +70,8 @@ has_bytes (byte ∷ bytes) = true
 
 -- The text tells the keys that at least two of the patterns have: each once, in the order of keys, with the patterns that
 -- have it.
-pub record IsSame (tolds : List Told) (text : List ℕ) : Type 0 where
+pub record IsSame (json : Bool) (tolds : List Told) (text : List ℕ) : Type 0 where
   pub keys : List Key
   pub rising : AreRising keys
   pub each : (key : Key) → IsTrue (is_among key keys) ↔ (2 ≤ length (filter (has_key key) tolds))
-  pub whole : text ≡ groups_text keys tolds
+  pub whole : text ≡ groups_text json keys tolds

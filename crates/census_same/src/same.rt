@@ -1,5 +1,5 @@
 //! The patterns of which one object is told.
-ghost use Rattle.std.specs.Prelude.{◌≡◌, ◌≢◌, ◌↔◌, [], List, filter, IfOk, IsTrue, MatchResult, OnOk};
+ghost use Rattle.std.specs.Prelude.{◌≡◌, Bool, List, filter, IfOk, MatchResult, OnOk};
 ghost use Rattle.gathered.specs.Telling.{TellsAfter, TellsFront, sheet};
 ghost use Rattle.census_readback.specs.Shapes.{AreReports};
 ghost use Rattle.census_same.specs.declared.told.Told.{Told};
@@ -27,21 +27,31 @@ fn put_in_order(tolds: &mut Vec<Told>) -> Result<(), AllocError>
 }
 
 // Tells each group of patterns that stand in order. Returns whether there is any.
-fn put_groups<W: Write>(tolds: &[Told], block: &mut Block, writer: &mut Watched<W>) -> bool
+fn put_groups<W: Write>(
+    alloc: Global,
+    json: bool,
+    tolds: &[Told],
+    block: &mut Block,
+    writer: &mut Watched<W>,
+) -> Result<bool, AllocError>
     requires { AreInOrder tolds.now }
-    ensures tells { TellsAfter (same_text tolds.now)
-        (sheet W.contents block.old writer.old) (sheet W.contents block.new writer.new) }
-    ensures any { result ≡ has_bytes (same_text tolds.now) }
+    ensures tells { MatchResult result
+        (λ _. TellsAfter (same_text json tolds.now)
+        (sheet W.contents block.old writer.old) (sheet W.contents block.new writer.new))
+        (λ _. TellsFront (same_text json tolds.now)
+        (sheet W.contents block.old writer.old) (sheet W.contents block.new writer.new)) }
+    ensures any { IfOk result (λ any. any ≡ has_bytes (same_text json tolds.now)) }
 {
     let mut any = false;
     let mut at = 0;
     while at < tolds.len() {
         let rest = &tolds[at..];
         let (group, _) = rest.split_at(group_len(rest));
-        any |= put_group(group, block, writer);
+        let several = put_group(alloc, json, group, block, writer)?;
+        any |= several;
         at += group.len();
     }
-    any
+    Ok(any)
 }
 
 /// Tells the patterns of which one object is told. For each code that several patterns of the
@@ -51,29 +61,33 @@ fn put_groups<W: Write>(tolds: &[Told], block: &mut Block, writer: &mut Watched<
 /// patterns collection by collection, each in the order of its rows, however these interleave. Names,
 /// rules and codes are written as they are. What a pattern has fallen apart into counts for nothing.
 ///
+/// As `json` it tells for each of these patterns a JSON object on a line, with `rule`, `code`,
+/// `collection_name` and `name`, and with `collection_name_hex` and `name_hex` as tables have them.
+///
 /// Returns whether there is any such code. The only error is out of memory: a prefix was told then.
 /// To a writer that has failed nothing is written.
 pub fn put_same<W: Write>(
     alloc: Global,
+    json: bool,
     rows: &[Row],
     block: &mut Block,
     writer: &mut Watched<W>,
 ) -> Result<bool, AllocError>
     requires { AreReports rows.now }
     ensures tells { MatchResult result
-        (λ _. TellsAfter (same_text (tolds_of rows.now))
+        (λ _. TellsAfter (same_text json (tolds_of rows.now))
         (sheet W.contents block.old writer.old) (sheet W.contents block.new writer.new))
-        (λ _. TellsFront (same_text (tolds_of rows.now))
+        (λ _. TellsFront (same_text json (tolds_of rows.now))
         (sheet W.contents block.old writer.old) (sheet W.contents block.new writer.new)) }
-    ensures any { IfOk result (λ any. IsTrue any ↔ (same_text (tolds_of rows.now) ≢ [])) }
+    ensures any { IfOk result (λ any. any ≡ has_bytes (same_text json (tolds_of rows.now))) }
 {
     let sections = collections(alloc, rows)?;
     let mut tolds = all_told(alloc, sections.as_slice())?;
     put_in_order(&mut tolds)?;
-    Ok(put_groups(tolds.as_slice(), block, writer))
+    put_groups(alloc, json, tolds.as_slice(), block, writer)
 }
 
 /// A code under a rule is told exactly where at least two patterns have it, each once and in order.
 pub fn codes_of_several_are_told()
-    ensures { (tolds : List Told) → IsSame tolds (same_text tolds) }
+    ensures { (json : Bool) (tolds : List Told) → IsSame json tolds (same_text json tolds) }
 {}

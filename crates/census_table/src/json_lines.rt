@@ -52,8 +52,9 @@ fn json_of(alloc: Global, row: &[Field]) -> Result<Vec<u8>, AllocError>
     with_line_ends_escaped(alloc, json.as_slice())
 }
 
-// Adds the line of a row.
-fn push_line(alloc: Global, text: &mut Vec<u8>, row: &[Field]) -> Result<(), AllocError>
+/// Adds a row as one JSON object on a line of its own, which ends with LF: a member for each field, in the order of their
+/// names. The only error is out of memory.
+pub fn push_object(alloc: Global, text: &mut Vec<u8>, row: &[Field]) -> Result<(), AllocError>
     ensures { OnOk result (text.new.items
         ≡ text.old.items ++ json_line (row_of row.now)) }
 {
@@ -69,7 +70,7 @@ pub fn lines(alloc: Global, rows: &[Vec<Field>]) -> Result<Vec<u8>, AllocError>
 {
     let mut text = Vec::new(alloc);
     for row in rows {
-        push_line(alloc, &mut text, row.as_slice())?;
+        push_object(alloc, &mut text, row.as_slice())?;
     }
     Ok(text)
 }

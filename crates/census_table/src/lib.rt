@@ -18,6 +18,7 @@ pub use cell::{Cell, Field, safe_texts_are_no_formulas};
 pub use column::{Column, pattern_row};
 pub use counting::kinds;
 pub use entry::{Entry, entries_under};
+pub use json_lines::push_object;
 pub use object::{Object, objects};
 pub use object_column::{ObjectColumn, object_row};
 pub use subject::{Subject, Table, table_of};

@@ -1,4 +1,4 @@
-use Rattle.std.proofs.Common.{inr, refl}
+use Rattle.std.proofs.Common.{false, inr, refl}
 use Rattle.std.proofs.lemmas.Result.{err_from_is_err_and}
 use Rattle.gathered.specs.Telling.{sheet}
 use Rattle.census_page.specs.Pages.{page_of}
@@ -20,7 +20,7 @@ returns-in-Ok g c =
     let contents = g.O.Write.contents in
     all_written form.Page c.args.rows.now (page_of c.args.rows.now) refl
     (sheet contents c.new-block.result c.args.output.now) (sheet contents c.put_page-told.new.block c.put_page-told.new.writer) (sheet contents c.send.new.block c.send.new.writer)
-    c.new-block.ensures c.send.ensures.tells c.send.ensures.empty c.in_ok-told-in-Ok.ensures c.in-Ok.ensures.failed
+    c.new-block.ensures c.send.ensures.tells c.send.ensures.empty c.in_ok-told-in-Ok.ensures c.in-Ok.ensures.failed false refl
 
 pub returns : goal.returns
 returns g c =

@@ -1,4 +1,4 @@
-use Rattle.std.proofs.Common.{inr, refl}
+use Rattle.std.proofs.Common.{false, inr, refl}
 use Rattle.std.proofs.lemmas.Result.{err_from_is_err_and}
 use Rattle.gathered.specs.Telling.{sheet}
 use Rattle.census_table.specs.Tables.{listing_of, listing_text}
@@ -20,7 +20,7 @@ returns-in-Ok g c =
     let contents = g.O.Write.contents in
     all_written (form.Table c.args.subject c.args.format) c.args.rows.now (listing_text c.args.format (listing_of c.in_ok-table.table)) (listing_of c.in_ok-table.table, c.in_ok-table.ensures, refl)
     (sheet contents c.new-block.result c.args.output.now) (sheet contents c.put_listing-told.new.block c.put_listing-told.new.writer) (sheet contents c.send.new.block c.send.new.writer)
-    c.new-block.ensures c.send.ensures.tells c.send.ensures.empty c.in_ok-told-in-Ok.ensures c.in-Ok.ensures.failed
+    c.new-block.ensures c.send.ensures.tells c.send.ensures.empty c.in_ok-told-in-Ok.ensures c.in-Ok.ensures.failed false refl
 
 pub returns : goal.returns
 returns g c =

@@ -1,0 +1,10 @@
+use Rattle.gathered.specs.Telling.{sheet}
+use Rattle.gathered.proofs.Telling.{tells_more}
+use Rattle.census_same.specs.Same.{heading_text, lines_text}
+use Rattle.census_same.proofs.group.put_named.Goals as goal
+
+pub returns : goal.returns
+returns g c =
+    let contents = g.W.Write.contents in
+    tells_more (heading_text c.args.first.now) (lines_text c.args.group.now) (sheet contents c.args.block.now c.args.writer.now)
+    (sheet contents c.put_heading.new.block c.put_heading.new.writer) (sheet contents c.put_lines.new.block c.put_lines.new.writer) c.put_heading.ensures c.put_lines.ensures

@@ -1,0 +1,10 @@
+use Rattle.std.proofs.Common.{drop}
+use Rattle.gathered.specs.Telling.{sheet}
+use Rattle.gathered.proofs.Fronts.{TellsUpTo}
+use Rattle.census_same.specs.Same.{objects_text}
+use Rattle.census_same.proofs.group.put_objects.Given as goal
+
+abbrev pub invariant-loop-told : goal.invariant-loop-told
+invariant-loop-told g l =
+    TellsUpTo (objects_text l.tolds) (objects_text (drop l.told-index l.tolds))
+    (sheet g.W.Write.contents l.fn.block l.fn.writer) (sheet g.W.Write.contents l.block l.writer)
