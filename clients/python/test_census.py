@@ -905,6 +905,27 @@ end 1 1
                 self.script(body).codes(self.REPORT)
 
 
+class OneObject(Room):
+    """`same`."""
+
+    def test_patterns_of_two_reports(self):
+        wanted = [Same("B3/S23", "xs4_33", (("a", "p"), ("b", "s")))]
+        self.assertEqual(self.census.same(Codes.REPORT), wanted)
+        self.assertEqual(self.census.same(Codes.REPORT.encode()), wanted)
+        self.assertEqual(self.census.same("end 0 0\n"), [])
+
+    def test_a_report_with_a_fault(self):
+        with self.assertRaises(ReportFault) as raised:
+            self.census.same(Codes.REPORT[:-8])
+        self.assertEqual(raised.exception.line, 12)
+
+    def test_a_program_that_lies(self):
+        row = '{"code":"xs4_33","collection_name":"a","collection_name_hex":null,"name":"p","name_hex":null,"rule":"B3/S23"}'
+        for body in ("echo no list", "echo '{}'; exit 5", "exit 1", "exit 5", f"echo '{row}'; exit 5", f"echo '{row}'; echo '{row}'"):
+            with self.subTest(body), self.assertRaises(ProgramFailed):
+                self.script(body).same(Codes.REPORT)
+
+
 class LaterAndDrawn(Room):
     """`advance` and `draw`."""
 

@@ -21,7 +21,7 @@ from dataclasses import dataclass, field, replace
 from typing import Callable, Dict, Iterable, Iterator, List, Literal, NoReturn, Optional, Set, Tuple, Union, overload
 
 __all__ = [
-    "Census", "Code", "Pattern", "Row", "read_report",
+    "Census", "Code", "Pattern", "Row", "Same", "read_report",
     "CensusError", "PatternFault", "CodeFault", "RuleFault", "FolderFault", "TooLong", "ReadFailed", "ReportFault", "OutOfMemory", "TimedOut", "ProgramFailed",
 ]
 
@@ -248,6 +248,17 @@ class Code:
     first_name: str
 
 
+@dataclass(frozen=True)
+class Same:
+    """Patterns of reports that are one object. Names are decoded as UTF-8, with U+FFFD for what is none."""
+
+    rule: str
+    # the apgcode
+    code: str
+    # the collection and the name of each, at least two, in the order of the reports
+    patterns: Tuple[Tuple[str, str], ...]
+
+
 # The program
 
 
@@ -372,6 +383,16 @@ class Census:
         if ran.returncode == 1:
             raise _fault_of_report(ran)
         return _codes_of(ran)
+
+    def same(self, report: Text) -> List[Same]:
+        """The patterns of a report, or of several one after another, that are one object, in the order of codes: `census same`.
+
+        Raises what `codes` raises.
+        """
+        ran = self._run(["same", "--json", "--explain", "-"], _bytes_of(report))
+        if ran.returncode == 1:
+            raise _fault_of_report(ran)
+        return _same_of(ran)
 
     def advance(self, rle: Text, generations: int) -> str:
         """The RLE text of a later generation of an RLE text's pattern, `generations` 0 to 4,194,304.
@@ -594,6 +615,27 @@ def _codes_of(ran: subprocess.CompletedProcess[bytes]) -> List[Code]:
         if not all(isinstance(text, str) for text in texts) or type(code.count) is not int or type(code.patterns) is not int:
             raise ProgramFailed(ran.returncode, "what it wrote is no table of codes")
     return codes
+
+
+_SAME = ("code", "collection_name", "collection_name_hex", "name", "name_hex", "rule")
+
+
+def _same_of(ran: subprocess.CompletedProcess[bytes]) -> List[Same]:
+    """The patterns that a call has written, an object a line: those of one rule and code stand together."""
+    if ran.returncode not in (0, 5):
+        raise _failure(ran)
+    found: Dict[Tuple[str, str], List[Tuple[str, str]]] = {}
+    try:
+        for line in ran.stdout.decode("utf-8").split("\n")[:-1]:
+            row = json.loads(line)
+            if tuple(row) != _SAME or not all(isinstance(row[name], str) for name in _SAME if not name.endswith("_hex")):
+                raise ValueError(line)
+            found.setdefault((row["rule"], row["code"]), []).append((row["collection_name"], row["name"]))
+    except (TypeError, ValueError):
+        raise ProgramFailed(ran.returncode, "what it wrote is no list of patterns") from None
+    if (ran.returncode == 5) != bool(found) or any(len(patterns) < 2 for patterns in found.values()):
+        raise ProgramFailed(ran.returncode, "what it wrote is no list of patterns")
+    return [Same(rule, code, tuple(patterns)) for (rule, code), patterns in found.items()]
 
 
 _FAULT = re.compile(r"census: ([0-9]+|-):([0-9]+):([0-9]+): (.*) \(rle fault ([0-9]+)(?: at ([0-9]+))?\)")

@@ -1,5 +1,5 @@
 -- What is told by way of a block is written.
-use Rattle.std.proofs.Common.{◌≡◌, ℕ, true, false, List, [], Result, Ok, Err, MatchBool, MatchResult, subst, sym, append-nil}
+use Rattle.std.proofs.Common.{◌≡◌, ℕ, true, false, List, [], Result, Ok, Err, MatchBool, MatchResult, subst, append-nil}
 use Rattle.std.specs.Io.KnownBytes.{Appends}
 use Rattle.watched.specs.Watching.{AppendsFront}
 use Rattle.gathered.specs.Telling.{Sheet, TellsAfter}

@@ -355,6 +355,25 @@ fn a_page_has_reports(rt: HostRuntime) {
     }
 }
 
+#[test]
+fn same_has_reports_and_a_form(rt: HostRuntime) {
+    const ASKED: &[(Words, bool, Words)] = &[
+        (&["same"], false, &[]),
+        (&["same", "--json"], true, &[]),
+        (&["same", "b", "-", "--json"], true, &["b", "-"]),
+        (&["same", "--", "--json"], false, &["--json"]),
+    ];
+    for (words, as_json, asked) in ASKED {
+        match request_of(rt.alloc(), words) {
+            Ok(Request::Same { json, reports }) => {
+                assert_eq!(rt; json, *as_json, "{words:?}");
+                assert_eq!(rt; reports.as_slice(), *asked, "{words:?}");
+            }
+            other => panic!(rt; "{words:?}: {other:?}"),
+        }
+    }
+}
+
 // Words that ask for a table, what it has a row for each of, its format and the reports.
 const TABLES: &[(Words, TableSubject, TableFormat, Words)] = &[
     (
@@ -518,6 +537,8 @@ fn each_command_explains_its_faults_where_it_is_asked_to(rt: HostRuntime) -> Res
         (&["merge", "--explain", "-"], true),
         (&["table", "--json", "--explain"], true),
         (&["page", "--explain"], true),
+        (&["same", "--json"], false),
+        (&["same", "--json", "--explain"], true),
     ];
     for (words, explain) in ASKED {
         let asked = read_words(rt.alloc(), words)?;
