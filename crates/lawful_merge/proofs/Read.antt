@@ -1,5 +1,5 @@
 -- Texts that are reports, one after another.
-use Rattle.std.proofs.Common.{◌≡◌, ℕ, ◌<◌, List, [], ◌∷◌, ◌++◌, length, refl, sym, ap, ◌∙◌, subst, arith}
+use Rattle.std.proofs.Common.{◌≡◌, ℕ, ◌<◌, Bool, List, [], ◌∷◌, ◌++◌, length, refl, sym, ap, ◌∙◌, subst, arith}
 use Rattle.std.proofs.lemmas.List.{take_all}
 use Rattle.std.specs.List.{AllZip}
 use Rattle.census_format.specs.Reports.{IsReport}
@@ -44,9 +44,9 @@ rows_read rows read is some =
       shape = at_end rows read (length read) (subst (AreRowsOf rows) (sym (take_all (length read) read (omega arith))) is) (omega arith) some;
     }
 
-pub merges_lawfully : (held : List ℕ → Told) (words : List (List ℕ)) (before after : Streams) → WritesReports Merged held words before after
+pub merges_lawfully : (held : List ℕ → Told) (words : List (List ℕ)) (before after : Streams) (found : Bool) → WritesReports Merged found held words before after
     → MergesLawfully held words before after
-merges_lawfully held words before after w =
+merges_lawfully held words before after found w =
     let read = w.makes.texts in
     let is = w.makes.is in
     record {
