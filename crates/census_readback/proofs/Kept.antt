@@ -19,7 +19,7 @@ get-replicate zero k = refl
 get-replicate (suc m) zero = refl
 get-replicate (suc m) (suc k) = get-replicate m k
 
-get-padded : (xs : List Place) (m k : ℕ) → get_or (xs ++ replicate m Before) k Before ≡ get_or xs k Before
+pub get-padded : (xs : List Place) (m k : ℕ) → get_or (xs ++ replicate m Before) k Before ≡ get_or xs k Before
 get-padded [] m k = get-replicate m k
 get-padded (x ∷ xs) m zero = refl
 get-padded (x ∷ xs) m (suc k) = get-padded xs m k

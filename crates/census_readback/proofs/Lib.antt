@@ -10,3 +10,5 @@ pub mod Interleaved
 pub mod Sorted
 pub mod Cutting
 pub mod Telling
+pub mod Tallied
+pub mod Counted

@@ -1,5 +1,5 @@
 -- A collection is read to its end exactly where its rows have the shape of a section.
-use Rattle.std.proofs.Common.{◌≡◌, ℕ, ◌+◌, ◌<◌, ◌≤◌, Bool, true, false, ◌&&◌, eqb, ltb, leb, Option, Some, None as Nothing, List, [], ◌∷◌, ◌++◌, ap, ◌∙◌, sym, refl, arith, subst}
+use Rattle.std.proofs.Common.{◌≡◌, ℕ, ◌+◌, ◌<◌, ◌≤◌, Bool, true, false, ◌&&◌, eqb, ltb, leb, Option, Some, None as Nothing, List, [], ◌∷◌, ◌++◌, drop, length, ap, ◌∙◌, sym, refl, arith, subst}
 use Rattle.std.specs.Prelude.{if◌then◌else◌}
 use Rattle.std.proofs.lemmas.Bool.{eqb-true, eq-eqb, ltb-true, lt-ltb, leb-true, le-leb}
 use Rattle.census_rows.specs.declared.kinds.Class.{Class}
@@ -11,10 +11,12 @@ use Rattle.census_rows.specs.Kinds.{said, same_class, is_resolved, is_unresolved
 use Rattle.census_readback.specs.declared.place.Place.{Place}
 use Rattle.census_readback.specs.declared.place.Place.TheVariants.{Before, Within, Behind}
 use Rattle.census_readback.specs.declared.place.Tally.{Tally}
-use Rattle.census_readback.specs.Sections.{counted, with_line, closes}
+use Rattle.census_readback.specs.Counts.{Counts, counted_by, counts_told, line_counted, nothing_counted, object}
+use Rattle.census_readback.specs.Sections.{counted, with_line, with_part, with_told, tells_next, closes}
 use Rattle.census_readback.specs.Runs.{run}
 use Rattle.census_readback.specs.Steps.{patterns_opened}
 use Rattle.census_readback.specs.Shapes.{lines_that, any_outcome, AreLines, AreCodes, IsOpenRow, IsSection}
+use Rattle.census_readback.proofs.Tallied.{drop-none, next-counted, next-drops, none-left}
 use Rattle.census_readback.specs.Limits.{count_limit}
 
 abbrev one : Bool → ℕ
@@ -35,35 +37,39 @@ record Grown (t u : Tally) (class : Class) (parts : Bool) : Type 0 where
   good : Good u
   read : u.read ≡ t.read + 1
   ash : u.ash ≡ parts
+  told : u.told ≡ t.told
   patterns : u.patterns ≡ t.patterns
   resolved : u.resolved ≡ t.resolved + one (same_class class Resolved)
   unresolved : u.unresolved ≡ t.unresolved + one (same_class class Unresolved)
   refused : u.refused ≡ t.refused + one (same_class class Refused)
 
-grown-by : (t : Tally) (class : Class) (parts : Bool) → Good t → t.read < t.patterns
-    → Grown t (record (counted t class) { read = t.read + 1; ash = parts }) class parts
-grown-by t Resolved parts g less = record {
+grown-by : (t : Tally) (class : Class) (parts : Bool) (counts : Counts) → Good t → t.read < t.patterns
+    → Grown t (record (counted t class) { read = t.read + 1; ash = parts; counts = counts }) class parts
+grown-by t Resolved parts counts g less = record {
   good = record { sum = omega arith; within = omega arith; few = omega arith };
   read = refl;
   ash = refl;
+  told = refl;
   patterns = refl;
   resolved = omega arith;
   unresolved = omega arith;
   refused = omega arith;
 }
-grown-by t Unresolved parts g less = record {
+grown-by t Unresolved parts counts g less = record {
   good = record { sum = omega arith; within = omega arith; few = omega arith };
   read = refl;
   ash = refl;
+  told = refl;
   patterns = refl;
   resolved = omega arith;
   unresolved = omega arith;
   refused = omega arith;
 }
-grown-by t Refused parts g less = record {
+grown-by t Refused parts counts g less = record {
   good = record { sum = omega arith; within = omega arith; few = omega arith };
   read = refl;
   ash = refl;
+  told = refl;
   patterns = refl;
   resolved = omega arith;
   unresolved = omega arith;
@@ -71,7 +77,7 @@ grown-by t Refused parts g less = record {
 }
 
 grown : (t : Tally) (o : Outcome) → Good t → t.read < t.patterns → Grown t (with_line t o) (said o).class (said o).has_parts
-grown t o g less = grown-by t (said o).class (said o).has_parts g less
+grown t o g less = grown-by t (said o).class (said o).has_parts (line_counted t.counts (said o)) g less
 
 -- what may follow within a section
 record Rest (t : Tally) (rows : List Row) : Type 0 where
@@ -85,6 +91,7 @@ record Rest (t : Tally) (rows : List Row) : Type 0 where
   whole : rows ≡ lines ++ (codes ++ Close collection n resolved unresolved refused ∷ [])
   ordered : AreLines t.read t.ash lines
   counts : AreCodes codes
+  tallied : counts_told codes ≡ drop t.told (counted_by t.counts lines).sums
   all : t.read + lines_that any_outcome lines ≡ t.patterns
   patterns-are : n ≡ t.patterns
   resolved-are : resolved ≡ t.resolved + lines_that is_resolved lines
@@ -134,6 +141,7 @@ within-sound t (Line c i o name ∷ rows) g h =
       whole = ap (λ x. Line c i o name ∷ x) r.whole;
       ordered = (number, subst (λ a. AreLines (t.read + 1) a r.lines) w.ash (subst (λ m. AreLines m u.ash r.lines) w.read r.ordered));
       counts = r.counts;
+      tallied = r.tallied ∙ ap (λ n. drop n (counted_by (line_counted t.counts (said o)) r.lines).sums) w.told;
       all = omega (arith, r.all, w.read, w.patterns);
       patterns-are = r.patterns-are ∙ w.patterns;
       resolved-are = omega (arith, r.resolved-are, w.resolved);
@@ -141,9 +149,11 @@ within-sound t (Line c i o name ∷ rows) g h =
       refused-are = omega (arith, r.refused-are, w.refused);
     }
 within-sound t (Part c i code m ∷ rows) g h =
-    let k = passed (t.ash && eqb i t.read) (Within t) rows h in
+    let u = with_part t code.now m in
+    let k = passed (t.ash && eqb i t.read) (Within u) rows h in
     let b = and-both t.ash (eqb i t.read) k.0 in
-    let r = within-sound t rows g k.1 in
+    let good : Good u = record { sum = g.sum; within = g.within; few = g.few } in
+    let r = within-sound u rows good k.1 in
     record {
       lines = Part c i code m ∷ r.lines;
       codes = r.codes;
@@ -155,6 +165,7 @@ within-sound t (Part c i code m ∷ rows) g h =
       whole = ap (λ x. Part c i code m ∷ x) r.whole;
       ordered = (b.0, eqb-true _ _ b.1, r.ordered);
       counts = r.counts;
+      tallied = r.tallied;
       all = omega (arith, r.all);
       patterns-are = r.patterns-are;
       resolved-are = omega (arith, r.resolved-are);
@@ -162,9 +173,10 @@ within-sound t (Part c i code m ∷ rows) g h =
       refused-are = omega (arith, r.refused-are);
     }
 within-sound t (Code c rule code m ∷ rows) g h =
-    let u : Tally = record t { ash = false } in
-    let k = passed (eqb t.read t.patterns) (Within u) rows h in
-    let whole : t.read ≡ t.patterns = eqb-true _ _ k.0 in
+    let u = with_told t in
+    let k = passed (eqb t.read t.patterns && tells_next t rule.now code.now m) (Within u) rows h in
+    let both = and-both (eqb t.read t.patterns) (tells_next t rule.now code.now m) k.0 in
+    let whole : t.read ≡ t.patterns = eqb-true _ _ both.0 in
     let good : Good u = record { sum = g.sum; within = g.within; few = g.few } in
     let r = within-sound u rows good k.1 in
     let none : r.lines ≡ [] = no-lines t.read r.lines r.ordered (omega (arith, r.all, whole)) in
@@ -179,6 +191,8 @@ within-sound t (Code c rule code m ∷ rows) g h =
       whole = ap (λ x. Code c rule code m ∷ x) (r.whole ∙ ap (λ ls. ls ++ (r.codes ++ Close r.collection r.n r.resolved r.unresolved r.refused ∷ [])) none);
       ordered = tt;
       counts = r.counts;
+      tallied = ap (λ es. (object rule.now code.now, Some m) ∷ es) (r.tallied ∙ ap (λ ls. drop (t.told + 1) (counted_by t.counts ls).sums) none)
+          ∙ sym (next-counted t.counts.sums t.told (object rule.now code.now) m both.1);
       all = omega arith;
       patterns-are = r.patterns-are;
       resolved-are = r.resolved-are ∙ ap (λ ls. t.resolved + lines_that is_resolved ls) none;
@@ -187,15 +201,17 @@ within-sound t (Code c rule code m ∷ rows) g h =
     }
 within-sound t (Close c n a b d ∷ rows) g h =
     let k = passed (closes t (record { patterns = n; resolved = a; unresolved = b; refused = d })) Behind rows h in
-    let b1 = and-both (eqb t.read t.patterns) (eqb n t.patterns && (eqb a t.resolved && (eqb b t.unresolved && eqb d t.refused))) k.0 in
-    let b2 = and-both (eqb n t.patterns) (eqb a t.resolved && (eqb b t.unresolved && eqb d t.refused)) b1.1 in
-    let b3 = and-both (eqb a t.resolved) (eqb b t.unresolved && eqb d t.refused) b2.1 in
-    let b4 = and-both (eqb b t.unresolved) (eqb d t.refused) b3.1 in
+    let b1 = and-both (eqb t.read t.patterns) (eqb n t.patterns && (eqb a t.resolved && (eqb b t.unresolved && (eqb d t.refused && eqb t.told (length t.counts.sums))))) k.0 in
+    let b2 = and-both (eqb n t.patterns) (eqb a t.resolved && (eqb b t.unresolved && (eqb d t.refused && eqb t.told (length t.counts.sums)))) b1.1 in
+    let b3 = and-both (eqb a t.resolved) (eqb b t.unresolved && (eqb d t.refused && eqb t.told (length t.counts.sums))) b2.1 in
+    let b4 = and-both (eqb b t.unresolved) (eqb d t.refused && eqb t.told (length t.counts.sums)) b3.1 in
+    let b5 = and-both (eqb d t.refused) (eqb t.told (length t.counts.sums)) b4.1 in
     let e1 : t.read ≡ t.patterns = eqb-true _ _ b1.0 in
     let e2 : n ≡ t.patterns = eqb-true _ _ b2.0 in
     let e3 : a ≡ t.resolved = eqb-true _ _ b3.0 in
     let e4 : b ≡ t.unresolved = eqb-true _ _ b4.0 in
-    let e5 : d ≡ t.refused = eqb-true _ _ b4.1 in
+    let e5 : d ≡ t.refused = eqb-true _ _ b5.0 in
+    let e6 : t.told ≡ length t.counts.sums = eqb-true _ _ b5.1 in
     record {
       lines = [];
       codes = [];
@@ -207,6 +223,7 @@ within-sound t (Close c n a b d ∷ rows) g h =
       whole = ap (λ x. Close c n a b d ∷ x) (nothing-behind rows k.1);
       ordered = tt;
       counts = tt;
+      tallied = sym (none-left t.counts.sums t.told e6);
       all = omega arith;
       patterns-are = e2;
       resolved-are = omega arith;
@@ -218,7 +235,7 @@ within-sound t (End n k ∷ rows) g h = absurd (cc)
 pub section-sound : (rows : List Row) → run Before rows ≡ Some Behind → IsSection rows
 section-sound [] h = absurd (cc)
 section-sound (Open c n name ∷ rows) h =
-    let t : Tally = record { patterns = n; read = 0; resolved = 0; unresolved = 0; refused = 0; ash = false } in
+    let t : Tally = record { patterns = n; read = 0; resolved = 0; unresolved = 0; refused = 0; ash = false; counts = nothing_counted; told = 0 } in
     let k = passed (leb n count_limit) (Within t) rows h in
     let few : n ≤ count_limit = leb-true _ _ k.0 in
     let good : Good t = record { sum = refl; within = omega arith; few = few } in
@@ -239,6 +256,7 @@ section-sound (Open c n name ∷ rows) h =
       all = all;
       ordered = r.ordered;
       counts = r.counts;
+      tallied = r.tallied;
       few = omega arith;
     }
 section-sound (Line c i o name ∷ rows) h = absurd (cc)
@@ -258,60 +276,65 @@ pass : (b : Bool) (p : Place) (rows : List Row) → b ≡ true
 pass true p rows h = refl
 pass false p rows h = absurd (cc)
 
-codes-complete : (t : Tally) (codes : List Row) (c n a b d : ℕ) → AreCodes codes → t.read ≡ t.patterns → n ≡ t.patterns
-    → a ≡ t.resolved → b ≡ t.unresolved → d ≡ t.refused → run (Within t) (codes ++ Close c n a b d ∷ []) ≡ Some Behind
-codes-complete t [] c n a b d counts e1 e2 e3 e4 e5 =
+codes-complete : (t : Tally) (codes : List Row) (c n a b d : ℕ) → AreCodes codes → t.told ≤ length t.counts.sums → counts_told codes ≡ drop t.told t.counts.sums
+    → t.read ≡ t.patterns → n ≡ t.patterns → a ≡ t.resolved → b ≡ t.unresolved → d ≡ t.refused → run (Within t) (codes ++ Close c n a b d ∷ []) ≡ Some Behind
+codes-complete t [] c n a b d counts most tallied e1 e2 e3 e4 e5 =
     pass (closes t (record { patterns = n; resolved = a; unresolved = b; refused = d })) Behind []
-    (both-and _ _ (eq-eqb _ _ e1) (both-and _ _ (eq-eqb _ _ e2) (both-and _ _ (eq-eqb _ _ e3) (both-and _ _ (eq-eqb _ _ e4) (eq-eqb _ _ e5)))))
-codes-complete t (Open c2 n2 name ∷ codes) c n a b d counts e1 e2 e3 e4 e5 = absurd counts
-codes-complete t (Line c2 i o name ∷ codes) c n a b d counts e1 e2 e3 e4 e5 = absurd counts
-codes-complete t (Part c2 i code k ∷ codes) c n a b d counts e1 e2 e3 e4 e5 = absurd counts
-codes-complete t (Code c2 rule code k ∷ codes) c n a b d counts e1 e2 e3 e4 e5 =
-    let u : Tally = record t { ash = false } in
-    pass (eqb t.read t.patterns) (Within u) (codes ++ Close c n a b d ∷ []) (eq-eqb _ _ e1) ∙ codes-complete u codes c n a b d counts e1 e2 e3 e4 e5
-codes-complete t (Close c2 n2 a2 b2 d2 ∷ codes) c n a b d counts e1 e2 e3 e4 e5 = absurd counts
-codes-complete t (End n2 k ∷ codes) c n a b d counts e1 e2 e3 e4 e5 = absurd counts
+    (both-and _ _ (eq-eqb _ _ e1) (both-and _ _ (eq-eqb _ _ e2) (both-and _ _ (eq-eqb _ _ e3) (both-and _ _ (eq-eqb _ _ e4) (both-and _ _ (eq-eqb _ _ e5) (eq-eqb _ _ (drop-none t.counts.sums t.told most (sym tallied))))))))
+codes-complete t (Open c2 n2 name ∷ codes) c n a b d counts most tallied e1 e2 e3 e4 e5 = absurd counts
+codes-complete t (Line c2 i o name ∷ codes) c n a b d counts most tallied e1 e2 e3 e4 e5 = absurd counts
+codes-complete t (Part c2 i code k ∷ codes) c n a b d counts most tallied e1 e2 e3 e4 e5 = absurd counts
+codes-complete t (Code c2 rule code k ∷ codes) c n a b d counts most tallied e1 e2 e3 e4 e5 =
+    let u = with_told t in
+    let next = next-drops t.counts.sums t.told (object rule.now code.now) k (counts_told codes) (sym tallied) in
+    pass (eqb t.read t.patterns && tells_next t rule.now code.now k) (Within u) (codes ++ Close c n a b d ∷ []) (both-and _ _ (eq-eqb _ _ e1) next.0)
+    ∙ codes-complete u codes c n a b d counts next.1 next.2 e1 e2 e3 e4 e5
+codes-complete t (Close c2 n2 a2 b2 d2 ∷ codes) c n a b d counts most tallied e1 e2 e3 e4 e5 = absurd counts
+codes-complete t (End n2 k ∷ codes) c n a b d counts most tallied e1 e2 e3 e4 e5 = absurd counts
 
 within-complete : (t : Tally) (lines codes : List Row) (c n a b d : ℕ) → Good t → AreLines t.read t.ash lines → AreCodes codes
-    → t.read + lines_that any_outcome lines ≡ t.patterns → n ≡ t.patterns → a ≡ t.resolved + lines_that is_resolved lines
+    → t.told ≡ 0 → counts_told codes ≡ drop t.told (counted_by t.counts lines).sums → t.read + lines_that any_outcome lines ≡ t.patterns → n ≡ t.patterns → a ≡ t.resolved + lines_that is_resolved lines
     → b ≡ t.unresolved + lines_that is_unresolved lines → d ≡ t.refused + lines_that is_refused lines
     → run (Within t) (lines ++ (codes ++ Close c n a b d ∷ [])) ≡ Some Behind
-within-complete t [] codes c n a b d g are counts e1 e2 e3 e4 e5 =
-    codes-complete t codes c n a b d counts (omega arith) e2 (omega arith) (omega arith) (omega arith)
-within-complete t (Open c2 n2 name ∷ lines) codes c n a b d g are counts e1 e2 e3 e4 e5 = absurd are
-within-complete t (Line c2 i o name ∷ lines) codes c n a b d g are counts e1 e2 e3 e4 e5 =
+within-complete t [] codes c n a b d g are counts zero tallied e1 e2 e3 e4 e5 =
+    codes-complete t codes c n a b d counts (omega (arith, zero)) tallied (omega arith) e2 (omega arith) (omega arith) (omega arith)
+within-complete t (Open c2 n2 name ∷ lines) codes c n a b d g are counts zero tallied e1 e2 e3 e4 e5 = absurd are
+within-complete t (Line c2 i o name ∷ lines) codes c n a b d g are counts zero tallied e1 e2 e3 e4 e5 =
     let u = with_line t o in
     let less : t.read < t.patterns = omega arith in
     let w = grown t o g less in
     let more : AreLines u.read u.ash lines = subst (λ m. AreLines m u.ash lines) (sym w.read) (subst (λ x. AreLines (t.read + 1) x lines) (sym w.ash) are.1) in
     pass (ltb t.read t.patterns && eqb i (t.read + 1)) (Within u) (lines ++ (codes ++ Close c n a b d ∷ []))
     (both-and _ _ (lt-ltb _ _ less) (eq-eqb _ _ are.0))
-    ∙ within-complete u lines codes c n a b d w.good more counts (omega (arith, w.read, w.patterns)) (e2 ∙ sym w.patterns)
+    ∙ within-complete u lines codes c n a b d w.good more counts (w.told ∙ zero)
+    (tallied ∙ ap (λ n. drop n (counted_by (line_counted t.counts (said o)) lines).sums) (sym w.told)) (omega (arith, w.read, w.patterns)) (e2 ∙ sym w.patterns)
     (omega (arith, w.resolved)) (omega (arith, w.unresolved)) (omega (arith, w.refused))
-within-complete t (Part c2 i code k ∷ lines) codes c n a b d g are counts e1 e2 e3 e4 e5 =
-    pass (t.ash && eqb i t.read) (Within t) (lines ++ (codes ++ Close c n a b d ∷ [])) (both-and _ _ are.0 (eq-eqb _ _ are.1))
-    ∙ within-complete t lines codes c n a b d g are.2 counts (omega arith) e2 (omega arith) (omega arith) (omega arith)
-within-complete t (Code c2 rule code k ∷ lines) codes c n a b d g are counts e1 e2 e3 e4 e5 = absurd are
-within-complete t (Close c2 n2 a2 b2 d2 ∷ lines) codes c n a b d g are counts e1 e2 e3 e4 e5 = absurd are
-within-complete t (End n2 k ∷ lines) codes c n a b d g are counts e1 e2 e3 e4 e5 = absurd are
+within-complete t (Part c2 i code k ∷ lines) codes c n a b d g are counts zero tallied e1 e2 e3 e4 e5 =
+    let u = with_part t code.now k in
+    let good : Good u = record { sum = g.sum; within = g.within; few = g.few } in
+    pass (t.ash && eqb i t.read) (Within u) (lines ++ (codes ++ Close c n a b d ∷ [])) (both-and _ _ are.0 (eq-eqb _ _ are.1))
+    ∙ within-complete u lines codes c n a b d good are.2 counts zero tallied (omega arith) e2 (omega arith) (omega arith) (omega arith)
+within-complete t (Code c2 rule code k ∷ lines) codes c n a b d g are counts zero tallied e1 e2 e3 e4 e5 = absurd are
+within-complete t (Close c2 n2 a2 b2 d2 ∷ lines) codes c n a b d g are counts zero tallied e1 e2 e3 e4 e5 = absurd are
+within-complete t (End n2 k ∷ lines) codes c n a b d g are counts zero tallied e1 e2 e3 e4 e5 = absurd are
 
 opens-complete : (first : Row) (lines codes : List Row) (c : ℕ) → IsOpenRow first → patterns_opened first ≡ lines_that any_outcome lines → AreLines 0 false lines → AreCodes codes
-    → lines_that any_outcome lines ≤ count_limit
+    → counts_told codes ≡ (counted_by nothing_counted lines).sums → lines_that any_outcome lines ≤ count_limit
     → run Before (first ∷ (lines ++ (codes ++ Close c (lines_that any_outcome lines) (lines_that is_resolved lines) (lines_that is_unresolved lines) (lines_that is_refused lines) ∷ []))) ≡ Some Behind
-opens-complete (Open c2 n name) lines codes c is all ordered counts few =
-    let t : Tally = record { patterns = n; read = 0; resolved = 0; unresolved = 0; refused = 0; ash = false } in
+opens-complete (Open c2 n name) lines codes c is all ordered counts tallied few =
+    let t : Tally = record { patterns = n; read = 0; resolved = 0; unresolved = 0; refused = 0; ash = false; counts = nothing_counted; told = 0 } in
     let m = lines_that any_outcome lines in
     let small : n ≤ count_limit = omega arith in
     let good : Good t = record { sum = refl; within = omega arith; few = small } in
     pass (leb n count_limit) (Within t) (lines ++ (codes ++ Close c m (lines_that is_resolved lines) (lines_that is_unresolved lines) (lines_that is_refused lines) ∷ []))
     (le-leb _ _ small)
-    ∙ within-complete t lines codes c m (lines_that is_resolved lines) (lines_that is_unresolved lines) (lines_that is_refused lines) good ordered counts
+    ∙ within-complete t lines codes c m (lines_that is_resolved lines) (lines_that is_unresolved lines) (lines_that is_refused lines) good ordered counts refl tallied
     (omega arith) (sym all) (omega arith) (omega arith) (omega arith)
-opens-complete (Line c2 i o name) lines codes c is all ordered counts few = absurd is
-opens-complete (Part c2 i code k) lines codes c is all ordered counts few = absurd is
-opens-complete (Code c2 rule code k) lines codes c is all ordered counts few = absurd is
-opens-complete (Close c2 n a b d) lines codes c is all ordered counts few = absurd is
-opens-complete (End n k) lines codes c is all ordered counts few = absurd is
+opens-complete (Line c2 i o name) lines codes c is all ordered counts tallied few = absurd is
+opens-complete (Part c2 i code k) lines codes c is all ordered counts tallied few = absurd is
+opens-complete (Code c2 rule code k) lines codes c is all ordered counts tallied few = absurd is
+opens-complete (Close c2 n a b d) lines codes c is all ordered counts tallied few = absurd is
+opens-complete (End n k) lines codes c is all ordered counts tallied few = absurd is
 
 pub section-complete : (rows : List Row) → IsSection rows → run Before rows ≡ Some Behind
-section-complete rows s = ap (run Before) s.whole ∙ opens-complete s.first s.lines s.codes s.collection s.opens s.all s.ordered s.counts s.few
+section-complete rows s = ap (run Before) s.whole ∙ opens-complete s.first s.lines s.codes s.collection s.opens s.all s.ordered s.counts s.tallied s.few

@@ -10,3 +10,6 @@ pub mod Rules
 pub mod Codes
 pub mod Lawful
 pub mod Told
+pub mod Counts
+pub mod ObjectCode
+pub mod ObjectLaws

@@ -5,6 +5,7 @@ use Rattle.census_rows.specs.declared.row.Row.{Row}
 use Rattle.census_rows.specs.declared.row.Row.TheVariants.{Open, Line, Part, Code, Close, End}
 use Rattle.census_rows.specs.Kinds.{is_refused, is_resolved, is_unresolved, said}
 use Rattle.census_readback.specs.Steps.{collection_of, patterns_opened}
+use Rattle.census_readback.specs.Counts.{counted_by, counts_told, nothing_counted}
 use Rattle.census_readback.specs.Limits.{count_limit}
 use Rattle.census_readback.specs.Told.{nothing_told, told_by}
 
@@ -38,8 +39,8 @@ AreCodes [] = ⊤
 AreCodes (Code collection rule code count ∷ rows) = AreCodes rows
 AreCodes _ = ⊥
 
--- The rows of a collection: `open`, the lines of its patterns, `code` lines, and `close`, which has the numbers of all
--- lines, of `ok` and `ash`, of `none` and `large`, and of `bad` lines.
+-- The rows of a collection: `open`, the lines of its patterns, the `code` lines of the objects that these count, and
+-- `close`, which has the numbers of all lines, of `ok` and `ash`, of `none` and `large`, and of `bad` lines.
 pub record IsSection (rows : List Row) : Type 0 where
   pub first : Row
   pub lines : List Row
@@ -50,6 +51,7 @@ pub record IsSection (rows : List Row) : Type 0 where
   pub all : patterns_opened first ≡ lines_that any_outcome lines
   pub ordered : AreLines 0 false lines
   pub counts : AreCodes codes
+  pub tallied : counts_told codes ≡ (counted_by nothing_counted lines).sums
   pub few : lines_that any_outcome lines ≤ count_limit
 
 -- the rows of this collection, in their order

@@ -1,5 +1,5 @@
 -- The rows of reports, one after the other.
-use Rattle.std.specs.Prelude.{ℕ, ◌+◌, ◌-◌, ◌^◌, Bool, true, false, ◌&&◌, ◌==◌, nat_lt, nat_le, if◌then◌else◌, Option, Some, None as Nothing, List, [], ◌∷◌, ◌++◌, length, replicate, slice_index_or, slice_set}
+use Rattle.std.specs.Prelude.{◌≡◌, ℕ, ◌+◌, ◌-◌, ◌^◌, Bool, true, false, ◌&&◌, ◌==◌, nat_lt, nat_le, if◌then◌else◌, Option, Some, None as Nothing, List, [], ◌∷◌, ◌++◌, length, replicate, slice_index_or, slice_set}
 use Rattle.std.specs.List.{list_all}
 use Rattle.census_rows.specs.declared.row.Row.{Row}
 use Rattle.census_rows.specs.declared.row.Row.TheVariants.{Open, Line, Part, Code, Close, End}
@@ -40,6 +40,12 @@ padded_places places count = places ++ replicate (count - length places) Before
 -- with this place of the collection at an index
 abbrev pub with_place : List Place → ℕ → Place → List Place
 with_place places index place = slice_set (padded_places places (index + 1)) index place
+
+-- a row was taken at the place of the collection at an index
+pub record Goes (old : List Place) (index : ℕ) (row : Row) (new : List Place) : Type 0 where
+  pub place : Place
+  pub goes : place_after (place_at old index) row ≡ Some place
+  pub is : new ≡ with_place old index place
 
 -- the places of the collections, how many patterns these have, and whether the last row ended a report
 pub record Reading : Type 0 where

@@ -4,6 +4,7 @@
 #![tactic(auto)]
 
 mod code;
+mod counts;
 mod lawful;
 mod limits;
 mod lines;

@@ -1,13 +1,15 @@
 //! How far the section of a collection is read.
-ghost use Rattle.std.specs.Prelude.{◌≡◌, ◌<◌};
-ghost use Rattle.census_readback.specs.Sections.{closes, counted, place_after, next_within, with_line};
+ghost use Rattle.std.specs.Prelude.{◌≡◌, ◌<◌, ◌^◌, IfOk, IsTrue};
+ghost use Rattle.census_readback.specs.Sections.{closes, counted, place_after, first_place, next_within, tells_next, with_line, with_part, with_told};
 
+use crate::counts::Counts;
 use crate::limits::COUNT_LIMIT;
 use census_rows::{Class, Outcome, Row};
+use std::alloc::{AllocError, Global};
 
 // What was read between the `open` and the `close` line.
-#[derive(Clone, Copy)]
-pub struct Tally {
+#[derive(Drop)]
+pub struct Tally<'a> {
     // How many patterns the collection has.
     pub patterns: u64,
     // How many of them are read.
@@ -17,18 +19,22 @@ pub struct Tally {
     pub refused: u64,
     // `part` lines of the last pattern may follow.
     pub ash: bool,
+    // The objects that the lines count.
+    pub counts: Counts<'a>,
+    // How many of them `code` lines have told.
+    pub told: usize,
 }
 
-#[derive(Clone, Copy)]
-pub enum Place {
+#[derive(Drop)]
+pub enum Place<'a> {
     Before,
-    Within(Tally),
+    Within(Tally<'a>),
     Behind,
 }
 
 // With one more pattern that counts so.
-fn counted(tally: Tally, class: Class) -> Tally
-    ensures { result ≡ counted tally class }
+fn counted<'a>(tally: Tally<'a>, class: Class) -> Tally<'a>
+    ensures { result ≡ counted tally.entry class }
 {
     match class {
         Class::Resolved => Tally {
@@ -47,20 +53,59 @@ fn counted(tally: Tally, class: Class) -> Tally
 }
 
 // With the line of one more pattern.
-fn with_line(tally: Tally, outcome: &Outcome) -> Tally
+fn with_line<'a>(mut tally: Tally<'a>, outcome: &Outcome<'a>) -> Result<Tally<'a>, AllocError>
     requires { tally.read < tally.patterns }
-    ensures { result ≡ with_line tally outcome.now }
+    ensures { IfOk result (λ after. after ≡ with_line tally.entry outcome.now) }
 {
-    Tally {
+    tally.counts.line(outcome)?;
+    Ok(Tally {
         read: tally.read + 1,
         ash: outcome.has_parts(),
         ..counted(tally, outcome.class())
+    })
+}
+
+// With so many objects of the last pattern.
+fn with_part<'a>(
+    mut tally: Tally<'a>,
+    code: &'a [u8],
+    count: u64,
+) -> Result<Tally<'a>, AllocError>
+    ensures { IfOk result (λ after. after ≡ with_part tally.entry code.now count) }
+{
+    tally.counts.part(code, count)?;
+    Ok(tally)
+}
+
+// Whether the next of the objects that were counted is this one, and there are so many of it.
+fn tells_next<'a>(tally: &Tally<'a>, rule: &'a [u8], code: &'a [u8], count: u64) -> bool
+    ensures value { result ≡ tells_next tally.now rule.now code.now count }
+    ensures within { IsTrue result → tally.now.told < 2 ^ 63 }
+{
+    tally.counts.has(tally.told, rule, code, count)
+}
+
+// With one more `code` line.
+fn with_told<'a>(tally: Tally<'a>) -> Tally<'a>
+    requires { tally.told < 2 ^ 63 }
+    ensures { result ≡ with_told tally.entry }
+{
+    Tally {
+        ash: false,
+        told: tally.told + 1,
+        ..tally
     }
 }
 
-// Whether all patterns are read and these are their numbers.
-fn closes(tally: Tally, patterns: u64, resolved: u64, unresolved: u64, refused: u64) -> bool
-    ensures { result ≡ closes tally (record {
+// Whether all patterns are read, these are their numbers, and each object that was counted is told.
+fn closes(
+    tally: &Tally,
+    patterns: u64,
+    resolved: u64,
+    unresolved: u64,
+    refused: u64,
+) -> bool
+    ensures { result ≡ closes tally.now (record {
       patterns = patterns;
       resolved = resolved;
       unresolved = unresolved;
@@ -72,11 +117,12 @@ fn closes(tally: Tally, patterns: u64, resolved: u64, unresolved: u64, refused: 
         && resolved == tally.resolved
         && unresolved == tally.unresolved
         && refused == tally.refused
+        && tally.told == tally.counts.len()
 }
 
 // The place after a row that stands between `open` and `close`.
-fn next_within(tally: Tally, row: &Row) -> Option<Place>
-    ensures { result ≡ next_within tally row.now }
+fn next_within<'a>(tally: Tally<'a>, row: &Row<'a>) -> Result<Option<Place<'a>>, AllocError>
+    ensures { IfOk result (λ place. place ≡ next_within tally.entry row.now) }
 {
     match row {
         Row::Line {
@@ -84,49 +130,67 @@ fn next_within(tally: Tally, row: &Row) -> Option<Place>
             outcome,
             ..
         } if tally.read < tally.patterns && *pattern == tally.read + 1 => {
-            Some(Place::Within(with_line(tally, outcome)))
+            Ok(Some(Place::Within(with_line(tally, outcome)?)))
         }
-        Row::Part { pattern, .. } if tally.ash && *pattern == tally.read => {
-            Some(Place::Within(tally))
+        Row::Part {
+            pattern,
+            code,
+            count,
+            ..
+        } if tally.ash && *pattern == tally.read => {
+            Ok(Some(Place::Within(with_part(tally, *code, *count)?)))
         }
-        Row::Code { .. } if tally.read == tally.patterns => Some(Place::Within(Tally {
-            ash: false,
-            ..tally
-        })),
+        Row::Code {
+            rule,
+            code,
+            count,
+            ..
+        } if tally.read == tally.patterns && tells_next(&tally, *rule, *code, *count) => {
+            Ok(Some(Place::Within(with_told(tally))))
+        }
         Row::Close {
             patterns,
             resolved,
             unresolved,
             refused,
             ..
-        } if closes(tally, *patterns, *resolved, *unresolved, *refused) => Some(Place::Behind),
+        } if closes(&tally, *patterns, *resolved, *unresolved, *refused) => {
+            Ok(Some(Place::Behind))
+        }
+        _ => Ok(None),
+    }
+}
+
+// The place before all rows but `open`.
+fn first_place<'a>(alloc: Global, row: &Row<'a>) -> Option<Place<'a>>
+    ensures { result ≡ first_place row.now }
+{
+    match row {
+        Row::Open { patterns, .. } if *patterns <= COUNT_LIMIT => Some(Place::Within(Tally {
+            patterns: *patterns,
+            read: 0,
+            resolved: 0,
+            unresolved: 0,
+            refused: 0,
+            ash: false,
+            counts: Counts::nothing(alloc),
+            told: 0,
+        })),
         _ => None,
     }
 }
 
 // The place after this row of the collection, where it may stand here.
-pub fn next(place: Place, row: &Row) -> Option<Place>
-    ensures { result ≡ place_after place row.now }
+pub fn next<'a>(
+    alloc: Global,
+    place: Place<'a>,
+    row: &Row<'a>,
+) -> Result<Option<Place<'a>>, AllocError>
+    ensures { IfOk result (λ after. after ≡ place_after place.entry row.now) }
 {
     match place {
-        Place::Before => match row {
-            Row::Open { patterns, .. } => {
-                if *patterns <= COUNT_LIMIT {
-                    Some(Place::Within(Tally {
-                        patterns: *patterns,
-                        read: 0,
-                        resolved: 0,
-                        unresolved: 0,
-                        refused: 0,
-                        ash: false,
-                    }))
-                } else {
-                    None
-                }
-            }
-            _ => None,
-        },
+        Place::Before => Ok(first_place(alloc, row)),
         Place::Within(tally) => next_within(tally, row),
-        Place::Behind => None,
+        Place::Behind => Ok(None),
     }
 }

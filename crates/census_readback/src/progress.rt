@@ -1,19 +1,21 @@
 //! How far a report is read.
 ghost use Rattle.std.specs.Prelude.{◌≡◌, ◌<◌, ◌≤◌, ◌-◌, IfOk, OnOk, true, false, None, Some, IsTrue, IsFalse};
 ghost use Rattle.std.specs.List.{list_all};
-ghost use Rattle.census_readback.specs.Steps.{collection_of, end_step, is_behind, patterns_opened, padded_places, place_at, with_place, reading_of, section_step, initial_reading, step};
+ghost use Rattle.census_readback.specs.Steps.{Goes, collection_of, end_step, is_behind, patterns_opened, padded_places, place_at, reading_of, section_step, initial_reading, step};
+ghost use Rattle.census_readback.specs.Sections.{place_after};
 ghost use Rattle.census_readback.specs.Limits.{count_limit};
 
 use crate::limits::COUNT_LIMIT;
 use crate::place::{Place, next};
 use census_rows::Row;
 use std::alloc::{AllocError, Global};
+use std::mem::replace;
 
 // The places of the collections, how many patterns these have, and whether the last row ended a
 // report.
 #[derive(Drop)]
-pub struct Progress {
-    pub places: Vec<Place>,
+pub struct Progress<'a> {
+    pub places: Vec<Place<'a>>,
     pub patterns: u64,
     pub ended: bool,
 }
@@ -59,19 +61,8 @@ fn all_behind(places: &[Place]) -> bool
     places.iter().all(|place| is_behind(place))
 }
 
-// The place of the collection at this index.
-fn place_at(places: &[Place], index: usize) -> Place
-    ensures { result ≡ place_at places.now index }
-{
-    if index < places.len() {
-        places[index]
-    } else {
-        Place::Before
-    }
-}
-
 // As many places at least.
-fn pad(places: &mut Vec<Place>, count: usize) -> Result<(), AllocError>
+fn pad<'a>(places: &mut Vec<Place<'a>>, count: usize) -> Result<(), AllocError>
     ensures { OnOk result (places.new.items ≡ padded_places places.old.items count) }
 {
     while places.len() < count {
@@ -80,17 +71,29 @@ fn pad(places: &mut Vec<Place>, count: usize) -> Result<(), AllocError>
     Ok(())
 }
 
-// Writes the place of the collection at this index.
-fn put(places: &mut Vec<Place>, index: usize, place: Place) -> Result<(), AllocError>
+// Takes a row at the place of the collection at this index, where it may stand there.
+fn go<'a>(
+    alloc: Global,
+    places: &mut Vec<Place<'a>>,
+    index: usize,
+    row: &Row<'a>,
+) -> Result<bool, AllocError>
     requires { index < count_limit }
-    ensures { OnOk result (places.new.items ≡ with_place places.old.items index place) }
+    ensures yes { IfOk result (λ taken. IsTrue taken
+        → Goes places.old.items index row.now places.new.items) }
+    ensures no { IfOk result (λ taken. IsFalse taken
+        → place_after (place_at places.old.items index) row.now ≡ None) }
 {
     pad(places, index + 1)?;
-    places[index] = place;
-    Ok(())
+    let place = replace(&mut places[index], Place::Before);
+    let Some(after) = next(alloc, place, row)? else {
+        return Ok(false);
+    };
+    places[index] = after;
+    Ok(true)
 }
 
-impl Progress {
+impl<'a> Progress<'a> {
     pub fn start(alloc: Global) -> Self
         ensures { reading_of result ≡ initial_reading }
     {
@@ -120,7 +123,7 @@ impl Progress {
     }
 
     // Takes a row of a collection, where it may stand here.
-    fn go_on(&mut self, row: &Row) -> Result<bool, AllocError>
+    fn go_on(&mut self, alloc: Global, row: &Row<'a>) -> Result<bool, AllocError>
         ensures yes { IfOk result (λ taken. IsTrue taken
             → section_step (reading_of self.old) row.now ≡ Some (reading_of self.new)) }
         ensures no { IfOk result (λ taken. IsFalse taken
@@ -131,20 +134,19 @@ impl Progress {
             return Ok(false);
         }
         let index = collection as usize - 1;
-        let Some(place) = next(place_at(self.places.as_slice(), index), row) else {
-            return Ok(false);
-        };
         let Some(patterns) = self.patterns.checked_add(patterns_opened(row)) else {
             return Ok(false);
         };
-        put(&mut self.places, index, place)?;
+        if !go(alloc, &mut self.places, index, row)? {
+            return Ok(false);
+        }
         self.patterns = patterns;
         self.ended = false;
         Ok(true)
     }
 
     // Takes a row, where it may stand here.
-    pub fn take(&mut self, row: &Row) -> Result<bool, AllocError>
+    pub fn take(&mut self, alloc: Global, row: &Row<'a>) -> Result<bool, AllocError>
         ensures yes { IfOk result (λ taken. IsTrue taken
             → step (reading_of self.old) row.now ≡ Some (reading_of self.new)) }
         ensures no { IfOk result (λ taken. IsFalse taken
@@ -155,7 +157,7 @@ impl Progress {
                 collections,
                 patterns,
             } => Ok(self.end(*collections, *patterns)),
-            _ => self.go_on(row),
+            _ => self.go_on(alloc, row),
         }
     }
 }

@@ -6,8 +6,10 @@
 //! `part` lines of an `ash` line right behind it, its `code` lines, and its `close` line. Numbers of
 //! collections and patterns are at most 65,535. Names are lawful, rules are as they are printed, codes
 //! begin as codes, that of an `ok` line as its period and displacement say, the `part` lines tell
-//! all objects of their line in the order of codes, and no report has `ok` and `ash` lines. What
-//! follows the `_` of a code, and whether the counts of `code` lines add up, is not looked at.
+//! all objects of their line in the order of codes, and no report has `ok` and `ash` lines. The
+//! `code` lines of a collection are what its lines count: for each rule and code that `ok` and `part`
+//! lines have, in the order of first appearance, one line with the number of these `ok` lines and the
+//! sum of the counts of these `part` lines. What follows the `_` of a code is not looked at.
 ghost use Rattle.std.specs.Prelude.{◌≡◌, ◌+◌, ◌<◌, ◌^◌, ℕ, List, length, IfOk, MatchResult};
 ghost use Rattle.census_rows.specs.declared.row.Row.{Row};
 ghost use Rattle.census_readback.specs.Reports.{IsFault, ReadsAsReports};
@@ -35,7 +37,7 @@ fn first_stray<'a>(alloc: Global, rows: &[Row<'a>]) -> Result<Option<usize>, All
         let Some(more) = told.after(row) else {
             return Ok(Some(index + 1));
         };
-        if !progress.take(row)? {
+        if !progress.take(alloc, row)? {
             return Ok(Some(index + 1));
         }
         told = more;

@@ -1,5 +1,5 @@
 -- The rows that say what is said of a collection have the shape of a section.
-use Rattle.std.proofs.Common.{◌≡◌, ℕ, suc, ◌+◌, ◌≤◌, Bool, true, false, cond, subst, List, [], ◌∷◌, ◌++◌, map, length, count_by, ap, ◌∙◌, sym, refl, arith, append_assoc}
+use Rattle.std.proofs.Common.{◌≡◌, ℕ, suc, ◌+◌, ◌<◌, ◌≤◌, ◌^◌, Bool, true, false, cond, subst, List, [], ◌∷◌, ◌++◌, map, length, count_by, ap, ◌∙◌, sym, refl, arith, append_assoc}
 use Rattle.std.proofs.lemmas.List.Sums.{sum_by-cons}
 use Rattle.census_bundle.specs.declared.bundle.Entry.{Entry}
 use Rattle.census_bundle.specs.declared.bundle.Folder.{Folder}
@@ -7,7 +7,7 @@ use Rattle.census_bundle.specs.Sizes.{count_limit}
 use Rattle.census_format.specs.Found.{outcome_of}
 use Rattle.census_format.specs.Lines.{answer_to_entry, answers, part_row, part_rows, pattern_lines, pattern_rows}
 use Rattle.census_format.specs.Lines as book
-use Rattle.census_format.specs.Objects.{Object, code_line}
+use Rattle.census_format.specs.Objects.{Object, code_line, objects}
 use Rattle.census_format.specs.Reports.{folder_section}
 use Rattle.census_readback.specs.Shapes.{AreCodes, AreLines, IsSection, any_outcome, all_rows, lines_that, patterns_in}
 use Rattle.census_rows.specs.declared.row.Outcome.{Outcome}
@@ -24,6 +24,7 @@ use Rattle.life_answer.specs.declared.question.Question.{Question}
 use Rattle.life_model.specs.Rule.{Rule}
 use Rattle.report_laws.proofs.Counted.{codes-open-none, lines-open-none, patterns-append}
 use Rattle.report_laws.proofs.Rowed.{close_row, code_groups, counted_in, open_row, row_outcome, section-is}
+use Rattle.report_laws.proofs.Tallied.{section-tallied}
 
 joined-append : (xs ys : List (List Row)) → all_rows (xs ++ ys) ≡ all_rows xs ++ all_rows ys
 joined-append [] ys = refl
@@ -129,8 +130,8 @@ module _ (question : Question) (c : ℕ) (f : Folder) where
   lines-are : AreLines 0 false the_lines
   lines-are = ordered question c 0 1 false f.entries refl
 
-  pub section-formed : length f.entries ≤ count_limit → IsSection (all_rows (folder_section question c f))
-  section-formed few = record {
+  pub section-formed : length f.entries ≤ count_limit → length (objects (answers question f.entries)) < 2 ^ 64 → IsSection (all_rows (folder_section question c f))
+  section-formed few all_few = record {
     first = open_row c f;
     lines = the_lines;
     codes = the_codes;
@@ -140,6 +141,7 @@ module _ (question : Question) (c : ℕ) (f : Folder) where
     all = sym count-any;
     ordered = lines-are;
     counts = codes-are c (counted_in question f);
+    tallied = section-tallied question c f all_few;
     few = (let e = count-any in omega (arith, e, few));
   }
 

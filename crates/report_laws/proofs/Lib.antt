@@ -16,4 +16,5 @@ pub mod Ranged
 pub mod Ruled
 pub mod CodeStarts
 pub mod Whole
+pub mod Tallied
 pub mod Readable

@@ -57,10 +57,10 @@ placed-of most [] h = tt
 placed-of most (row ∷ rows) h = (h.0.1, h.0.2, placed-of most rows h.1)
 
 formed-at : (question : Question) (c : ℕ) (b : List Folder) (k : ℕ) → k < length b → ((j : ℕ) (f : Folder) → slice_get b j ≡ Some f → length f.entries ≤ count_limit)
-    → IsSection (all_rows (section_of question c (slice_get b k)))
-formed-at question c [] k less few = absurd (omega arith)
-formed-at question c (f ∷ b) zero less few = section-formed question c f (few 0 f refl)
-formed-at question c (f ∷ b) (suc k) less few = formed-at question c b k (omega arith) (λ j g. few (suc j) g)
+    → InRange b question → IsSection (all_rows (section_of question c (slice_get b k)))
+formed-at question c [] k less few range = absurd (omega arith)
+formed-at question c (f ∷ b) zero less few range = section-formed question c f (few 0 f refl) range.0.1
+formed-at question c (f ∷ b) (suc k) less few range = formed-at question c b k (omega arith) (λ j g. few (suc j) g) range.1
 
 opens-at : (question : Question) (c : ℕ) (o : Option Folder) → patterns_in (all_rows (section_of question c o)) ≡ size_of o
 opens-at question c Nothing = refl
@@ -92,7 +92,7 @@ module _ (b : List Folder) (question : Question) (bundle : IsBundle b) (range : 
         owned = owned;
         sections = λ c. elim c as (λ c. 0 < c → c ≤ length b → IsSection (rows_of c body)) [
           | zero ↦ λ low high. absurd (omega arith)
-          | suc k ↦ λ low high. subst IsSection (sym (sections (suc k))) (formed-at question (suc k) b k (omega arith) bundle.0.entries)
+          | suc k ↦ λ low high. subst IsSection (sym (sections (suc k))) (formed-at question (suc k) b k (omega arith) bundle.0.entries range)
         ];
         few = bundle.0.folders;
         fits = omega (arith, counted, all);

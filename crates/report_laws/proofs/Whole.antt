@@ -56,7 +56,7 @@ use Rattle.report_laws.proofs.Grouped.{each-then}
 use Rattle.report_laws.proofs.Named.{each-of}
 use Rattle.report_laws.proofs.CodeStarts.{IsCodeIfSome, IsCodePart, IsToldRecurrence, after-code, parts-told as parts-told-codes, outcome-told as recurrence-told}
 use Rattle.report_laws.proofs.Ranged.{HasObjectCode, objects-some}
-use Rattle.report_laws.proofs.Ruled.{IsEven, IsEvenAnswer, IsEvenObject, entries-even, entry-even, rule-printed}
+use Rattle.report_laws.proofs.Ruled.{IsLifeLike, IsLifeLikeAnswer, IsLifeLikeObject, entries-ruled, entry-ruled, rule-printed}
 use Rattle.report_laws.proofs.Rowed.{close_row, code_groups, code_row, code-is, counted_in, open_row, row_outcome, section-is}
 use Rattle.report_laws.proofs.Solid.{each-append, each-map, each-replicate}
 
@@ -113,16 +113,16 @@ plain question row lawful same t calm = record {
 -- ---- parts
 
 -- the code stands behind the last one, where there is one
-abbrev IsBehind : Option (List ℕ) → List ℕ → Type 0
+abbrev pub IsBehind : Option (List ℕ) → List ℕ → Type 0
 IsBehind Nothing code = ⊤
 IsBehind (Some last) code = shorter_cmp last code ≡ Less
 
 -- codes that rise, from behind the last one on
-abbrev Rise : Option (List ℕ) → List part.Part → Type 0
+abbrev pub Rise : Option (List ℕ) → List part.Part → Type 0
 Rise last [] = ⊤
 Rise last (p ∷ parts) = IsBehind last p.code × Rise (Some p.code) parts
 
-abbrev IsCounted : part.Part → Type 0
+abbrev pub IsCounted : part.Part → Type 0
 IsCounted p = 0 < p.count
 
 abbrev with_left : Told → ℕ → List ℕ → Told
@@ -203,7 +203,7 @@ all-counted (code ∷ codes) parts h = all-counted codes (with_code code parts) 
 -- ---- what is found
 
 -- what is found answers the question, and its parts stand in the order of their codes
-abbrev IsFair : Question → Outcome → Type 0
+abbrev pub IsFair : Question → Outcome → Type 0
 IsFair (Settles bound cells) (Ash onset parts) = ⊥
 IsFair (Objects bound cells near) (Recurs onset period dx dy code) = ⊥
 IsFair (Objects bound cells near) (Ash onset parts) = Rise Nothing parts × Each IsCounted parts × Each IsCodePart parts
@@ -258,7 +258,7 @@ outcome-fair : (question : Question) (R : Rule) (G : Generation) → IsFair ques
 outcome-fair (Settles bound cells) R G = unless-fair (Settles bound cells) (answers.outcome_of R G bound) _ (settled-fair bound cells R G bound)
 outcome-fair (Objects bound cells near) R G = unless-fair (Objects bound cells near) (census_of near R G bound) _ (census-fair bound cells near R G bound)
 
-abbrev IsFairAnswer : Question → Answer → Type 0
+abbrev pub IsFairAnswer : Question → Answer → Type 0
 IsFairAnswer question (Found rule finding) = IsFair question finding.outcome
 IsFairAnswer question (Refused number) = ⊤
 
@@ -270,7 +270,7 @@ question-fair : (question : Question) (text : List ℕ) → IsFairAnswer questio
 unfolding answer_to_question
 question-fair question text = answer-to-fair question _
 
-entry-fair : (question : Question) (e : Entry) → IsFairAnswer question (answer_to_entry question e)
+pub entry-fair : (question : Question) (e : Entry) → IsFairAnswer question (answer_to_entry question e)
 unfolding answer_to_entry
 entry-fair question e =
     elim e.is_lost as (λ v. IsFairAnswer question (cond v (Refused 0) (answer_to_question question e.text))) [
@@ -346,43 +346,43 @@ line-told question c i o name parts lawful suits all rise counted t calm =
       calm = others.calm;
     }
 
-named-line : (rule : Rule) (name : List ℕ) → IsEven rule → is_name name ≡ true → (is_rule (rule_text rule) && is_name name) ≡ true
-named-line rule name even named = ap (λ b. b && is_name name) (rule-printed rule even) ∙ named
+named-line : (rule : Rule) (name : List ℕ) → IsLifeLike rule → is_name name ≡ true → (is_rule (rule_text rule) && is_name name) ≡ true
+named-line rule name ruled named = ap (λ b. b && is_name name) (rule-printed rule ruled) ∙ named
 
-coded-line : (rule : Rule) (name : List ℕ) (moved : Bool) (period : ℕ) (code : List ℕ) → IsEven rule → is_code_after moved period code ≡ true → is_name name ≡ true
+coded-line : (rule : Rule) (name : List ℕ) (moved : Bool) (period : ℕ) (code : List ℕ) → IsLifeLike rule → is_code_after moved period code ≡ true → is_name name ≡ true
     → (is_rule (rule_text rule) && (is_code_after moved period code && is_name name)) ≡ true
-coded-line rule name moved period code even told named =
-    ap (λ b. b && (is_code_after moved period code && is_name name)) (rule-printed rule even) ∙ ap (λ b. b && is_name name) told ∙ named
+coded-line rule name moved period code ruled told named =
+    ap (λ b. b && (is_code_after moved period code && is_name name)) (rule-printed rule ruled) ∙ ap (λ b. b && is_name name) told ∙ named
 
 parts-lawful : (parts : List part.Part) → Each IsCounted parts → Each IsCodePart parts → Each IsCodedPart parts → Each IsLawfulPart parts
 parts-lawful [] counted told some = tt
 parts-lawful (p ∷ parts) counted told some = ((counted.0, told.0 some.0), parts-lawful parts counted.1 told.1 some.1)
 
-outcome-told : (question : Question) (c i : ℕ) (rule : Rule) (population : ℕ) (outcome : Outcome) (name : List ℕ) → IsEven rule → is_name name ≡ true
+outcome-told : (question : Question) (c i : ℕ) (rule : Rule) (population : ℕ) (outcome : Outcome) (name : List ℕ) → IsLifeLike rule → is_name name ≡ true
     → FitsOutcome outcome → IsFair question outcome
     → IsTold question (Line c i (row_outcome rule population outcome) (lent name) ∷ map (part_row c i) (parts_found outcome))
-outcome-told (Settles bound cells) c i rule population (Recurs onset period dx dy code) name even named range fair =
-    line-told (Settles bound cells) c i (row_outcome rule population (Recurs onset period dx dy code)) name [] (coded-line rule name (not (same_cell (dx, dy) origin)) period code even fair named) refl refl tt tt
-outcome-told (Settles bound cells) c i rule population Unresolved name even named range fair =
-    line-told (Settles bound cells) c i (row_outcome rule population Unresolved) name [] (named-line rule name even named) refl refl tt tt
-outcome-told (Settles bound cells) c i rule population (Large n) name even named range fair =
-    line-told (Settles bound cells) c i (row_outcome rule population (Large n)) name [] (named-line rule name even named) refl refl tt tt
-outcome-told (Settles bound cells) c i rule population (Ash onset parts) name even named range fair = absurd fair
-outcome-told (Objects bound cells near) c i rule population (Recurs onset period dx dy code) name even named range fair = absurd fair
-outcome-told (Objects bound cells near) c i rule population Unresolved name even named range fair =
-    line-told (Objects bound cells near) c i (row_outcome rule population Unresolved) name [] (named-line rule name even named) refl refl tt tt
-outcome-told (Objects bound cells near) c i rule population (Large n) name even named range fair =
-    line-told (Objects bound cells near) c i (row_outcome rule population (Large n)) name [] (named-line rule name even named) refl refl tt tt
-outcome-told (Objects bound cells near) c i rule population (Ash onset parts) name even named range fair =
-    line-told (Objects bound cells near) c i (row_outcome rule population (Ash onset parts)) name parts (named-line rule name even named) refl refl (rise-some parts fair.0 range.1) (parts-lawful parts fair.1 fair.2 range.1)
+outcome-told (Settles bound cells) c i rule population (Recurs onset period dx dy code) name ruled named range fair =
+    line-told (Settles bound cells) c i (row_outcome rule population (Recurs onset period dx dy code)) name [] (coded-line rule name (not (same_cell (dx, dy) origin)) period code ruled fair named) refl refl tt tt
+outcome-told (Settles bound cells) c i rule population Unresolved name ruled named range fair =
+    line-told (Settles bound cells) c i (row_outcome rule population Unresolved) name [] (named-line rule name ruled named) refl refl tt tt
+outcome-told (Settles bound cells) c i rule population (Large n) name ruled named range fair =
+    line-told (Settles bound cells) c i (row_outcome rule population (Large n)) name [] (named-line rule name ruled named) refl refl tt tt
+outcome-told (Settles bound cells) c i rule population (Ash onset parts) name ruled named range fair = absurd fair
+outcome-told (Objects bound cells near) c i rule population (Recurs onset period dx dy code) name ruled named range fair = absurd fair
+outcome-told (Objects bound cells near) c i rule population Unresolved name ruled named range fair =
+    line-told (Objects bound cells near) c i (row_outcome rule population Unresolved) name [] (named-line rule name ruled named) refl refl tt tt
+outcome-told (Objects bound cells near) c i rule population (Large n) name ruled named range fair =
+    line-told (Objects bound cells near) c i (row_outcome rule population (Large n)) name [] (named-line rule name ruled named) refl refl tt tt
+outcome-told (Objects bound cells near) c i rule population (Ash onset parts) name ruled named range fair =
+    line-told (Objects bound cells near) c i (row_outcome rule population (Ash onset parts)) name parts (named-line rule name ruled named) refl refl (rise-some parts fair.0 range.1) (parts-lawful parts fair.1 fair.2 range.1)
 
-answer-told : (question : Question) (c i : ℕ) (found : Answer) (name : List ℕ) → is_name name ≡ true → IsEvenAnswer found → IsToldAnswer found → IsFairAnswer question found
+answer-told : (question : Question) (c i : ℕ) (found : Answer) (name : List ℕ) → is_name name ≡ true → IsLifeLikeAnswer found → IsToldAnswer found → IsFairAnswer question found
     → IsTold question (pattern_row c i found name ∷ part_rows c i found)
-answer-told question c i (Found rule finding) name named even range fair =
-    outcome-told question c i rule finding.population finding.outcome name even named range.1 fair
-answer-told (Settles bound cells) c i (Refused number) name named even range fair =
+answer-told question c i (Found rule finding) name named ruled range fair =
+    outcome-told question c i rule finding.population finding.outcome name ruled named range.1 fair
+answer-told (Settles bound cells) c i (Refused number) name named ruled range fair =
     line-told (Settles bound cells) c i (outcome_of (Refused number)) name [] named refl refl tt tt
-answer-told (Objects bound cells near) c i (Refused number) name named even range fair =
+answer-told (Objects bound cells near) c i (Refused number) name named ruled range fair =
     line-told (Objects bound cells near) c i (outcome_of (Refused number)) name [] named refl refl tt tt
 
 -- ---- sections
@@ -392,7 +392,7 @@ patterns-told : (question : Question) (c i : ℕ) (es : List Entry) → Each IsN
 unfolding pattern_rows
 patterns-told question c i [] named range = tt
 patterns-told question c i (e ∷ es) named range =
-    (answer-told question c i (answer_to_entry question e) e.name named.0.name (entry-even question e) range.0 (entry-fair question e), patterns-told question c (suc i) es named.1 range.1)
+    (answer-told question c i (answer_to_entry question e) e.name named.0.name (entry-ruled question e) range.0 (entry-fair question e), patterns-told question c (suc i) es named.1 range.1)
 
 count-first : (p : Object → Bool) (x : Object) (xs : List Object) → count_by p (x ∷ xs) ≡ cond (p x) 1 0 + count_by p xs
 count-first p x xs = sum_by-cons (λ y. cond (p y) 1 0) x xs
@@ -441,14 +441,14 @@ objects-coded question (Found rule finding ∷ found) h =
     each-append IsCodeObject (outcome_objects rule finding.outcome) (objects found) (outcome-coded question rule finding.outcome h.0) (objects-coded question found h.1)
 objects-coded question (Refused number ∷ found) h = objects-coded question found h.1
 
-code-lawful : (c : ℕ) (x : Object × ℕ) → IsEvenObject x.0 → IsCodeObject x.0 → HasObjectCode x.0 → IsCountedObject x → is_lawful (code_row c x) ≡ true
-code-lawful c x even told some counted =
-    ap (λ b. b && (is_code x.0.code && ltb 0 x.1)) (rule-printed x.0.rule even) ∙ ap (λ b. b && ltb 0 x.1) (told some) ∙ lt-ltb 0 x.1 counted
+code-lawful : (c : ℕ) (x : Object × ℕ) → IsLifeLikeObject x.0 → IsCodeObject x.0 → HasObjectCode x.0 → IsCountedObject x → is_lawful (code_row c x) ≡ true
+code-lawful c x ruled told some counted =
+    ap (λ b. b && (is_code x.0.code && ltb 0 x.1)) (rule-printed x.0.rule ruled) ∙ ap (λ b. b && ltb 0 x.1) (told some) ∙ lt-ltb 0 x.1 counted
 
 abbrev IsLawfulObject : Object → Type 0
-IsLawfulObject o = IsEvenObject o × IsCodeObject o × HasObjectCode o
+IsLawfulObject o = IsLifeLikeObject o × IsCodeObject o × HasObjectCode o
 
-each-three : (xs : List Object) → Each IsEvenObject xs → Each IsCodeObject xs → Each HasObjectCode xs → Each IsLawfulObject xs
+each-three : (xs : List Object) → Each IsLifeLikeObject xs → Each IsCodeObject xs → Each HasObjectCode xs → Each IsLawfulObject xs
 each-three [] a b c = tt
 each-three (x ∷ xs) a b c = ((a.0, b.0, c.0), each-three xs a.1 b.1 c.1)
 
@@ -470,7 +470,7 @@ section-told question c f named range =
     let fair = objects-coded question (answers question f.entries) (each-map (IsFairAnswer question) (answer_to_entry question) (entry-fair question) f.entries) in
     let lawful = counted-each IsLawfulObject (λ x. count_by (same_object x) all) (distinct_elements same_object all)
     (distinct-each IsLawfulObject same_object all
-    (each-three all (entries-even question f.entries) fair (objects-some (answers question f.entries) range.0))) in
+    (each-three all (entries-ruled question f.entries) fair (objects-some (answers question f.entries) range.0))) in
     let ends = each-append (IsTold question) coded last (codes-told question c (counted_in question f) lawful some)
     (plain question (close_row c (answers question f.entries) (length f.entries)) refl no-more, tt) in
     subst (Each (IsTold question)) (sym (section-is question c f)) (

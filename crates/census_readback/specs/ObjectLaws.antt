@@ -1,0 +1,55 @@
+-- Two objects are the same exactly where they are one.
+use Rattle.std.proofs.Common.{◌≡◌, ℕ, Bool, true, false, ◌&&◌, List, ◌++◌, refl, sym, ap, ◌∙◌, Decides, nat_eq}
+use Rattle.std.proofs.lemmas.Bool.{false≢true}
+use Rattle.std.proofs.lemmas.Bool.Decides.{Decides-eqb}
+use Rattle.std.proofs.lemmas.Slice.Eq.{slice_eq-Decides}
+use Rattle.std.specs.Cmp.{IsPartialEquivalence, IsEquivalence, partial_equiv_from_equiv}
+use Rattle.std.specs.Cmp.Lexicographic.{pointwise}
+use Rattle.std.specs.Hash as fed
+use Rattle.census_readback.specs.Counts.{Object, same_object}
+
+both : (a b : Bool) → (a && b) ≡ true → (a ≡ true) × (b ≡ true)
+both true b e = (refl, e)
+both false b e = absurd (false≢true e)
+
+pub same_text : (x y : List ℕ) → Decides (pointwise nat_eq x y) (x ≡ y)
+same_text x y = slice_eq-Decides Decides-eqb x y (pointwise nat_eq x y) refl
+
+-- objects that are the same are one
+pub one_object : (k l : Object) → same_object k l ≡ true → k ≡ l
+one_object k l e =
+    let parts = both (pointwise nat_eq k.rule l.rule) (pointwise nat_eq k.code l.code) e in
+    let rules = (same_text k.rule l.rule).0 parts.0 in
+    let codes = (same_text k.code l.code).0 parts.1 in
+    λ i. record { rule = rules i; code = codes i }
+
+pub same_itself : (k : Object) → same_object k k ≡ true
+same_itself k = ap (λ b. b && pointwise nat_eq k.code k.code) ((same_text k.rule k.rule).1 refl) ∙ (same_text k.code k.code).1 refl
+
+same_swapped : (k l : Object) → same_object k l ≡ same_object l k
+same_swapped k l =
+    elim (same_object k l) as (λ b. same_object k l ≡ b → b ≡ same_object l k) [
+      | true ↦ λ e. sym (ap (λ z. same_object l z) (one_object k l e) ∙ same_itself l)
+      | false ↦ λ e. elim (same_object l k) as (λ b. same_object l k ≡ b → false ≡ b) [
+        | true ↦ λ f. absurd (false≢true (sym e ∙ ap (λ z. same_object k z) (one_object l k f) ∙ same_itself k))
+        | false ↦ λ _. refl
+      ] refl
+    ] refl
+
+pub same_object_equivalence : IsEquivalence same_object
+same_object_equivalence = record {
+  refl = same_itself;
+  symm = same_swapped;
+  congr = λ k l m e. ap (λ z. same_object z m) (one_object k l e);
+}
+
+pub same_object_partial : IsPartialEquivalence same_object
+same_object_partial = partial_equiv_from_equiv same_object_equivalence
+
+-- what an object feeds a hasher: the bytes of its rule and of its code
+abbrev pub fed_object : Object → fed.HashWrites
+fed_object o = fed.slice fed.u8 o.rule ++ fed.slice fed.u8 o.code
+
+-- objects that are the same feed a hasher the same
+pub same_object_fed : (k l : Object) → same_object k l ≡ true → fed_object k ≡ fed_object l
+same_object_fed k l e = ap fed_object (one_object k l e)
