@@ -784,9 +784,9 @@ def read_report(report: bytes) -> List[Row]:
 
     The lines of several collections may interleave. What a report is, is what `census merge` reads: numbers have no leading zeros and fit
     64 bits, rules are as they are printed, codes begin as codes, that of an `ok` line as its period and displacement say, a name is all
-    that is left of a line and is lawful, no report has `ok` and `ash` lines, and right behind an `ash` line its `part` lines tell all its
-    objects in the order of codes. The sums of `code` lines are not looked at. Raises `ReportFault` at the line at which `census merge`
-    finds the fault.
+    that is left of a line and is lawful, no report has `ok` and `ash` lines, right behind an `ash` line its `part` lines tell all its
+    objects in the order of codes, and the `code` lines of a collection are what its lines count, in the order of first appearance. Raises
+    `ReportFault` at the line at which `census merge` finds the fault.
     """
     return _read(report).rows()
 
@@ -878,6 +878,10 @@ class _Collection:
         self.lines: List[Row] = []
         # of each line: which objects were read
         self.parts: List[List[Tuple[str, int]]] = []
+        # how many objects there are of each rule and code, in the order of first appearance, and those that no `code` line has told, once
+        # one was read
+        self.counted: Dict[Tuple[Optional[str], str], int] = {}
+        self.untold: Optional[Iterator[Tuple[Tuple[Optional[str], str], int]]] = None
         # whether `part` lines of the last line may follow
         self.takes_parts = False
         self.is_closed = False
@@ -887,6 +891,17 @@ class _Collection:
         found = [row.status for row in self.lines]
         resolved, unresolved, refused = ("ok", "ash"), ("none", "large"), ("bad",)
         return [len(found), *(sum(status in statuses for status in found) for statuses in (resolved, unresolved, refused))]
+
+    def count(self, code: str, count: int) -> None:
+        """Counts objects of the last line."""
+        key = self.lines[-1].rule, code
+        self.counted[key] = self.counted.get(key, 0) + count
+
+    def next_count(self) -> Optional[Tuple[Tuple[Optional[str], str], int]]:
+        """The next rule and code that a `code` line is to tell, with the number of objects; None once all are told."""
+        if self.untold is None:
+            self.untold = iter(self.counted.items())
+        return next(self.untold, None)
 
     def rows(self, before: int) -> List[Row]:
         """The rows, where so many collections come before those of its report."""
@@ -977,6 +992,8 @@ class _Reading:
         collection.takes_parts = status == b"ash"
         folder = os.fsdecode(collection.name)
         collection.lines.append(Row(collection.number, folder, _count(pattern), os.fsdecode(_name(name)), status.decode(), **found))
+        if status == b"ok":
+            collection.count(found["code"], 1)
 
     def _part(self, rest: bytes) -> None:
         number, pattern, code, count = rest.split(b" ")
@@ -984,17 +1001,19 @@ class _Reading:
         _demand(collection.takes_parts and _count(pattern) == len(collection.lines))
         self.told.take_part(collection.number, code, _count(count))
         collection.parts[-1].append((_code(code), _count(count)))
+        collection.count(*collection.parts[-1][-1])
 
     def _code(self, rest: bytes) -> None:
         number, rule, code, count = rest.split(b" ")
         collection = self._still_open(number)
-        _demand(len(collection.lines) == collection.size and bool(_rule(rule) and _code(code)) and _count(count) > 0)
+        _demand(len(collection.lines) == collection.size and collection.next_count() == ((_rule(rule), _code(code)), _count(count)))
         collection.takes_parts = False
 
     def _close(self, rest: bytes) -> None:
         number, *counts = rest.split(b" ")
         collection = self._still_open(number)
         _demand(collection.size == len(collection.lines) and [_count(count) for count in counts] == collection.counts())
+        _demand(collection.next_count() is None)
         collection.is_closed = True
 
     def _end(self, rest: bytes) -> None:

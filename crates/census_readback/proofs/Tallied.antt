@@ -1,5 +1,5 @@
 -- The objects that were counted, one after the other.
-use Rattle.std.proofs.Common.{◌≡◌, ℕ, zero, suc, ◌+◌, ◌≤◌, Bool, true, false, ◌&&◌, eqb, Option, Some, None as Nothing, List, [], ◌∷◌, drop, length, slice_get, ap, ◌∙◌, sym, refl, arith}
+use Rattle.std.proofs.Common.{◌≡◌, ℕ, zero, suc, ◌+◌, ◌≤◌, Bool, true, false, ◌&&◌, eqb, Some, None as Nothing, List, [], ◌∷◌, drop, length, slice_get, ap, ◌∙◌, sym, refl, arith}
 use Rattle.std.proofs.lemmas.Bool.{eqb-true, eq-eqb}
 use Rattle.std.proofs.Math.Seq.{drop-length}
 use Rattle.census_readback.specs.Counts.{Object, Sum, is_counted, is_sum, same_object}

@@ -4,7 +4,7 @@ use Rattle.std.specs.Cmp.Lexicographic.{pointwise}
 use Rattle.census_rows.specs.Kinds.{Said, said, value_at}
 use Rattle.census_rows.specs.declared.kinds.Label.TheVariants as label
 use Rattle.census_rows.specs.declared.row.Row.{Row}
-use Rattle.census_rows.specs.declared.row.Row.TheVariants.{Open, Line, Part, Code, Close, End}
+use Rattle.census_rows.specs.declared.row.Row.TheVariants.{Line, Part, Code}
 use Rattle.census_readback.specs.Lawful.{text_in}
 
 -- a rule, and the code of an object under it, as they are printed

@@ -66,11 +66,7 @@ fn with_line<'a>(mut tally: Tally<'a>, outcome: &Outcome<'a>) -> Result<Tally<'a
 }
 
 // With so many objects of the last pattern.
-fn with_part<'a>(
-    mut tally: Tally<'a>,
-    code: &'a [u8],
-    count: u64,
-) -> Result<Tally<'a>, AllocError>
+fn with_part<'a>(mut tally: Tally<'a>, code: &'a [u8], count: u64) -> Result<Tally<'a>, AllocError>
     ensures { IfOk result (λ after. after ≡ with_part tally.entry code.now count) }
 {
     tally.counts.part(code, count)?;
@@ -98,13 +94,7 @@ fn with_told<'a>(tally: Tally<'a>) -> Tally<'a>
 }
 
 // Whether all patterns are read, these are their numbers, and each object that was counted is told.
-fn closes(
-    tally: &Tally,
-    patterns: u64,
-    resolved: u64,
-    unresolved: u64,
-    refused: u64,
-) -> bool
+fn closes(tally: &Tally, patterns: u64, resolved: u64, unresolved: u64, refused: u64) -> bool
     ensures { result ≡ closes tally.now (record {
       patterns = patterns;
       resolved = resolved;

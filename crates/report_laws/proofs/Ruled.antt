@@ -122,9 +122,9 @@ digits-fair birth survival digits others =
 by-form : (text : List ℕ) (found : Option (List ℕ × List ℕ)) → digits_by_form text ≡ found → IsFair (rule_of_digits found)
 by-form text None e = tt
 by-form text (Some (birth, survival)) e = (
-  let form = form_found text birth survival e in
-  digits-fair birth survival (birth-digits text birth survival form) (survival-digits text birth survival form)
-)
+    let form = form_found text birth survival e in
+    digits-fair birth survival (birth-digits text birth survival form) (survival-digits text birth survival form)
+    )
 
 read-fair : (text : List ℕ) → IsFair (rule_of text)
 read-fair text = by-form text (digits_by_form text) refl
@@ -212,8 +212,13 @@ entries-ruled question es = objects-ruled (answers question es) (each-map IsLife
 no-zero : (n : ℕ) → (bit_at n 0 == 1) ≡ false → n % 2 ≡ 0
 no-zero n h = (let e = bit_at_lowest n in grind (arith, nat_tests, e))
 
+abbrev read : Rule → Result Rule RuleFault
+read rule = Ok rule
+
+same-read : (r s : Rule) → read r ≡ read s → r ≡ s
+same-read r s h = cc
+
 -- rules that are printed alike are one
 pub one-rule : (r s : Rule) → IsLifeLike r → IsLifeLike s → rule_text r ≡ rule_text s → r ≡ s
 one-rule r s a b h =
-    let found : {E : Type 0} → (r s : Rule) → Ok {E = E} r ≡ Ok s → r ≡ s = λ r s e. cc in
-    found r s (sym (printed_rule r a.1 a.2 (no-zero r.birth a.0)) ∙ ap rule_of h ∙ printed_rule s b.1 b.2 (no-zero s.birth b.0))
+    same-read r s (sym (printed_rule r a.1 a.2 (no-zero r.birth a.0)) ∙ ap rule_of h ∙ printed_rule s b.1 b.2 (no-zero s.birth b.0))

@@ -1,5 +1,5 @@
 -- What the lines of a collection count is what its `code` lines tell.
-use Rattle.std.proofs.Common.{◌≡◌, ℕ, suc, ◌+◌, ◌<◌, ◌≤◌, ◌^◌, Bool, true, false, cond, ltb, Option, Some, None as Nothing, List, [], ◌∷◌, ◌++◌, map, length, count_by, replicate, ap, ◌∙◌, sym, refl, arith, subst, append_assoc, append-nil}
+use Rattle.std.proofs.Common.{◌≡◌, ℕ, suc, ◌+◌, ◌<◌, ◌≤◌, ◌^◌, true, false, cond, Some, None as Nothing, List, [], ◌∷◌, ◌++◌, map, length, count_by, replicate, ap, ◌∙◌, sym, refl, arith, append_assoc, append-nil}
 use Rattle.std.specs.List.{AllByRecursion as Each}
 use Rattle.std.specs.Map.{lookup}
 use Rattle.std.specs.Option.{unwrap_or}
@@ -9,7 +9,7 @@ use Rattle.std.proofs.lemmas.List.Sums.{count_by-le-length}
 use Rattle.indexmap.specs.IndexMap.{insert_entry}
 use Rattle.census_bundle.specs.declared.bundle.Entry.{Entry}
 use Rattle.census_bundle.specs.declared.bundle.Folder.{Folder}
-use Rattle.census_format.specs.Found.{lent, outcome_of}
+use Rattle.census_format.specs.Found.{lent}
 use Rattle.census_format.specs.Lines.{answer_to_entry, answers, part_row, part_rows, pattern_lines, pattern_row, pattern_rows}
 use Rattle.census_format.specs.Objects.{Object, code_line, distinct_elements, object, objects, outcome_objects, part_objects, same_object, tally}
 use Rattle.census_format.specs.ObjectLaws.{one_object, same_itself}

@@ -127,7 +127,7 @@ const FAULTS: &[(&[u8], usize)] = &[
     ),
     // Each report has its own question.
     (
-        b"open 1 1 a\nline 1 1 ash B3/S23 0 0 0 b\nclose 1 1 1 0 0\nend 1 1\nopen 1 1 a\nline 1 1 ok B3/S23 0 0 1 0 0 xs0_0 b\nclose 1 1 1 0 0\nend 1 1\n",
+        b"open 1 1 a\nline 1 1 ash B3/S23 0 0 0 b\nclose 1 1 1 0 0\nend 1 1\nopen 1 1 a\nline 1 1 ok B3/S23 0 0 1 0 0 xs0_0 b\ncode 1 B3/S23 xs0_0 1\nclose 1 1 1 0 0\nend 1 1\n",
         0,
     ),
     // Objects that no part tells, and parts that are too many, twice the same, or out of order.
@@ -156,7 +156,7 @@ const FAULTS: &[(&[u8], usize)] = &[
         4,
     ),
     (
-        b"open 1 1 a\nline 1 1 ash B3/S23 8 7 2 b\npart 1 1 xs4_33 1\npart 1 1 xs6_696 1\nclose 1 1 1 0 0\nend 1 1\n",
+        b"open 1 1 a\nline 1 1 ash B3/S23 8 7 2 b\npart 1 1 xs4_33 1\npart 1 1 xs6_696 1\ncode 1 B3/S23 xs4_33 1\ncode 1 B3/S23 xs6_696 1\nclose 1 1 1 0 0\nend 1 1\n",
         0,
     ),
     (
@@ -182,7 +182,7 @@ const FAULTS: &[(&[u8], usize)] = &[
     ),
     // Codes that are none, or not those of such a period and displacement.
     (
-        b"open 1 1 a\nline 1 1 ok B3/S23 4 0 1 0 0 xs4_33 b\nclose 1 1 1 0 0\nend 1 1\n",
+        b"open 1 1 a\nline 1 1 ok B3/S23 4 0 1 0 0 xs4_33 b\ncode 1 B3/S23 xs4_33 1\nclose 1 1 1 0 0\nend 1 1\n",
         0,
     ),
     (
@@ -198,7 +198,7 @@ const FAULTS: &[(&[u8], usize)] = &[
         2,
     ),
     (
-        b"open 1 1 a\nline 1 1 ok B3/S23 4 0 2 0 0 xp2_7 b\nclose 1 1 1 0 0\nend 1 1\n",
+        b"open 1 1 a\nline 1 1 ok B3/S23 4 0 2 0 0 xp2_7 b\ncode 1 B3/S23 xp2_7 1\nclose 1 1 1 0 0\nend 1 1\n",
         0,
     ),
     (
@@ -214,7 +214,7 @@ const FAULTS: &[(&[u8], usize)] = &[
         2,
     ),
     (
-        b"open 1 1 a\nline 1 1 ok B3/S23 4 0 4 1 1 xq4_153 b\nclose 1 1 1 0 0\nend 1 1\n",
+        b"open 1 1 a\nline 1 1 ok B3/S23 4 0 4 1 1 xq4_153 b\ncode 1 B3/S23 xq4_153 1\nclose 1 1 1 0 0\nend 1 1\n",
         0,
     ),
     (
@@ -240,6 +240,57 @@ const FAULTS: &[(&[u8], usize)] = &[
     (
         b"open 1 1 a\nline 1 1 ok B3/S23 4 0 1 0 0 xs4_33 b\ncode 1 B3/S23 33 1\n",
         3,
+    ),
+    // `code` lines that are missing, too many, in another order, of another rule, or have another count.
+    (
+        b"open 1 1 a\nline 1 1 ok B3/S23 4 0 1 0 0 xs4_33 b\nclose 1 1 1 0 0\nend 1 1\n",
+        3,
+    ),
+    (
+        b"open 1 1 a\nline 1 1 ok B3/S23 4 0 1 0 0 xs4_33 b\ncode 1 B3/S23 xs4_33 1\ncode 1 B3/S23 xs4_33 1\n",
+        4,
+    ),
+    (
+        b"open 1 1 a\nline 1 1 none B3/S23 4 b\ncode 1 B3/S23 xs4_33 1\n",
+        3,
+    ),
+    (
+        b"open 1 1 a\nline 1 1 ok B3/S23 4 0 1 0 0 xs4_33 b\ncode 1 B3/S23 xs4_33 2\n",
+        3,
+    ),
+    (
+        b"open 1 1 a\nline 1 1 ok B3/S23 4 0 1 0 0 xs4_33 b\ncode 1 B36/S23 xs4_33 1\n",
+        3,
+    ),
+    (
+        b"open 1 2 a\nline 1 1 ok B3/S23 4 0 1 0 0 xs4_33 b\nline 1 2 ok B36/S23 4 0 1 0 0 xs4_33 c\ncode 1 B36/S23 xs4_33 1\n",
+        4,
+    ),
+    (
+        b"open 1 2 a\nline 1 1 ok B3/S23 4 0 1 0 0 xs4_33 b\nline 1 2 ok B36/S23 4 0 1 0 0 xs4_33 c\ncode 1 B3/S23 xs4_33 1\nclose 1 2 2 0 0\n",
+        5,
+    ),
+    (
+        b"open 1 1 a\nline 1 1 ash B3/S23 8 7 3 b\npart 1 1 xs4_33 2\npart 1 1 xs6_696 1\ncode 1 B3/S23 xs4_33 2\ncode 1 B3/S23 xs6_696 2\n",
+        6,
+    ),
+    // Each collection counts its own.
+    (
+        b"open 1 1 a\nopen 2 1 b\nline 2 1 ok B3/S23 4 0 1 0 0 xs4_33 c\nline 1 1 none B3/S23 4 d\ncode 1 B3/S23 xs4_33 1\n",
+        5,
+    ),
+    // As many as 64 bits hold, and one more.
+    (
+        b"open 1 1 a\nline 1 1 ash B3/S23 8 7 18446744073709551615 b\npart 1 1 xs4_33 18446744073709551615\ncode 1 B3/S23 xs4_33 18446744073709551615\nclose 1 1 1 0 0\nend 1 1\n",
+        0,
+    ),
+    (
+        b"open 1 2 a\nline 1 1 ash B3/S23 8 7 18446744073709551615 b\npart 1 1 xs4_33 18446744073709551615\nline 1 2 ash B3/S23 8 7 1 c\npart 1 2 xs4_33 1\ncode 1 B3/S23 xs4_33 18446744073709551615\n",
+        6,
+    ),
+    (
+        b"open 1 2 a\nline 1 1 ash B3/S23 8 7 18446744073709551615 b\npart 1 1 xs4_33 18446744073709551615\nline 1 2 ash B3/S23 8 7 1 c\npart 1 2 xs4_33 1\ncode 1 B3/S23 xs4_33 0\n",
+        6,
     ),
     // Parts that stand behind a line of another collection.
     (

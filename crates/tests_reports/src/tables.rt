@@ -203,6 +203,8 @@ const OBJECTS: &[u8] = b"open 1 3 a
 line 1 1 ok B36/S23 4 0 1 0 0 xs4_33 p
 line 1 2 none B3/S23 4 o
 line 1 3 ok B3/S23 4 0 1 0 0 xs4_33 r
+code 1 B36/S23 xs4_33 1
+code 1 B3/S23 xs4_33 1
 close 1 3 2 1 0
 end 1 3
 open 1 3 b,c
@@ -214,11 +216,17 @@ part 1 2 xp2_7 1
 part 1 2 xq4_153 5
 line 1 3 ash B3/S3 4 0 1 u
 part 1 3 xs4_33 1
+code 1 B3/S23 xp2_7 4
+code 1 B3/S23 xs4_33 1
+code 1 B3/S23 xq4_153 5
+code 1 B3/S3 xs4_33 1
 close 1 3 3 0 0
 end 1 3
 open 1 2 d
 line 1 1 ok B3/S23 5 0 4 1 1 xq4_153 t
 line 1 2 ok B3/S23 7 0 1 0 0 xs7_2596 v
+code 1 B3/S23 xq4_153 1
+code 1 B3/S23 xs7_2596 1
 close 1 2 2 0 0
 end 1 2
 ";
@@ -277,10 +285,12 @@ fn counts_of_codes_end_at_64_bits(rt: HostRuntime) -> Result<(), AllocError> {
     const LARGE: &[u8] = b"open 1 1 a
 line 1 1 ash B3/S23 9 0 18446744073709551615 p
 part 1 1 xs4_33 18446744073709551615
+code 1 B3/S23 xs4_33 18446744073709551615
 close 1 1 1 0 0
 end 1 1
 open 1 1 b
 line 1 1 ok B3/S23 4 0 1 0 0 xs4_33 q
+code 1 B3/S23 xs4_33 1
 close 1 1 1 0 0
 end 1 1
 ";
@@ -310,7 +320,7 @@ fn many_parts_of_one_collection(rt: HostRuntime) -> Result<(), Fail> {
         )?;
         write!(wanted, "1,x,{},p,B3/S23,xp2_7,1\n", pattern)?;
     }
-    report.push_str("close 1 700 700 0 0\nend 1 700\n")?;
+    report.push_str("code 1 B3/S23 xp2_7 700\nclose 1 700 700 0 0\nend 1 700\n")?;
     let csv = table_by(
         alloc,
         Subject::Parts,

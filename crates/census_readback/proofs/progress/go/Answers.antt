@@ -1,4 +1,4 @@
-use Rattle.std.proofs.Common.{◌≡◌, ◌∙◌, ap, sym, Some}
+use Rattle.std.proofs.Common.{◌∙◌, ap, sym}
 use Rattle.census_readback.specs.Sections.{place_after}
 use Rattle.census_readback.proofs.Padding.{put-back, taken-out}
 use Rattle.census_readback.proofs.progress.go.Goals as goal
