@@ -614,7 +614,8 @@ class Tables(Room):
         folder = self.folder("mine", a=BLOCK, b=BLOCK)
         one, two = "ok B3/S23 4 0 1 0 0 xs4_33 a.rle", "none B3/S23 4 b.rle"
         ash = "ash B3/S23 4 0 1 a.rle;part 1 1 xs4_33 1"
-        whole = f"open 1 2 {folder};line 1 1 {one};line 1 2 {two};close 1 2 1 1 0;end 1 2"
+        code = "code 1 B3/S23 xs4_33 1"
+        whole = f"open 1 2 {folder};line 1 1 {one};line 1 2 {two};{code};close 1 2 1 1 0;end 1 2"
         self.assertEqual([row.status for row in self.told(whole).table([folder])], ["ok", "none"])
         parted = whole.replace(one, ash)
         self.assertEqual([row.parts for row in self.told(parted).table([folder], objects=True)], [(("xs4_33", 1),), None])
@@ -622,20 +623,20 @@ class Tables(Room):
         self.assertEqual(self.told(large).table([folder], cells=1)[1].generation, 9)
         wrong = [
             # other patterns, other names, another folder, another number of folders
-            f"open 1 1 {folder};line 1 1 {one};close 1 1 1 0 0;end 1 1",
+            f"open 1 1 {folder};line 1 1 {one};{code};close 1 1 1 0 0;end 1 1",
             whole.replace("b.rle", "c.rle"),
-            f"open 1 2 {folder};line 1 1 {two};line 1 2 {one};close 1 2 1 1 0;end 1 2",
+            f"open 1 2 {folder};line 1 1 {two};line 1 2 {one};{code};close 1 2 1 1 0;end 1 2",
             whole.replace("/mine", "/other"),
             f"{whole};{whole}", "end 0 0",
             whole.replace("end 1 2", f"open 2 0 {folder};close 2 0 0 0 0;end 2 2"),
             # other statuses, and what no such line says
-            parted, large, whole.replace(one, "bad 0 a.rle").replace("2 1 1 0", "2 0 1 1"), whole.replace("0 1 0 0 xs4", "0 0 0 0 xs4"),
+            parted, large, whole.replace(one, "bad 0 a.rle").replace(f"{code};", "").replace("2 1 1 0", "2 0 1 1"), whole.replace("0 1 0 0 xs4", "0 0 0 0 xs4"),
             whole.replace("0 1 0 0 xs4", "1000 1 0 0 xs4"), whole.replace("B3/S23", "B3"), whole.replace("xs4_33", "block"),
         ]
         for text in wrong:
             with self.subTest(text), self.assertRaises(ProgramFailed):
                 self.told(text).table([folder])
-        two_objects = parted.replace("4 0 1 a", "4 0 2 a")
+        two_objects = parted.replace("4 0 1 a", "4 0 2 a").replace(code, "code 1 B3/S23 xs4_33 2")
         late = parted.replace("4 0 1 a", "4 10001 1 a")
         for text in (whole, late, two_objects, two_objects.replace("a.rle;", "a.rle;part 1 1 xs4_33 1;")):
             with self.subTest(text), self.assertRaises(ProgramFailed):
@@ -706,24 +707,35 @@ end 2 5
             self.assertEqual([(row.collection_name, row.name) for row in rows], [(str(c), str(i)) for c, i in numbers])
 
     def test_numbers_that_do_not_agree(self):
-        block = "ok B3/S23 4 0 1 0 0 xs4_33 a"
+        block, code = "ok B3/S23 4 0 1 0 0 xs4_33 a", "code 1 B3/S23 xs4_33 1"
         reports = [
-            f"open 1 2 c;line 1 1 {block};close 1 1 1 0 0;end 1 2",
-            f"open 1 2 c;line 1 2 {block};line 1 1 {block};close 1 2 2 0 0;end 1 2",
-            f"open 1 1 c;line 1 1 {block};line 1 2 {block};close 1 2 2 0 0;end 1 2",
-            f"open 1 1 c;line 1 1 {block};part 1 1 xs4_33 1;close 1 1 1 0 0;end 1 1",
+            f"open 1 2 c;line 1 1 {block};{code};close 1 1 1 0 0;end 1 2",
+            f"open 1 2 c;line 1 2 {block};line 1 1 {block};code 1 B3/S23 xs4_33 2;close 1 2 2 0 0;end 1 2",
+            f"open 1 1 c;line 1 1 {block};line 1 2 {block};code 1 B3/S23 xs4_33 2;close 1 2 2 0 0;end 1 2",
+            f"open 1 1 c;line 1 1 {block};part 1 1 xs4_33 1;{code};close 1 1 1 0 0;end 1 1",
             "open 1 1 c;line 1 1 ash B3/S23 4 0 1 a;code 1 B3/S23 xs4_33 1;part 1 1 xs4_33 1;close 1 1 1 0 0;end 1 1",
-            f"open 2 1 c;line 2 1 {block};close 2 1 1 0 0;end 1 1",
+            f"open 2 1 c;line 2 1 {block};code 2 B3/S23 xs4_33 1;close 2 1 1 0 0;end 1 1",
             "open 0 0 c;close 0 0 0 0 0;end 0 0", "open 65536 0 c;close 65536 0 0 0 0;end 1 0", "open 1 65536 c",
-            f"open 1 1 c;line 1 1 {block.replace('4 0 1', '4 -1 1')};close 1 1 1 0 0;end 1 1",
-            f"open 1 1 c;line 1 1 {block.replace('4 0 1', '18446744073709551616 0 1')};close 1 1 1 0 0;end 1 1",
-            f"open 1 1 c;line 1 1 {block.replace('0 0 xs4', '0 9223372036854775808 xs4')};close 1 1 1 0 0;end 1 1",
-            f"open 1 1 c;line 1 1 {block.replace('B3/S23', '')};close 1 1 1 0 0;end 1 1",
-            f"open 1 1 c;line 1 1 {block};close 1 1 0 1 0;end 1 1",
+            f"open 1 1 c;line 1 1 {block.replace('4 0 1', '4 -1 1')};{code};close 1 1 1 0 0;end 1 1",
+            f"open 1 1 c;line 1 1 {block.replace('4 0 1', '18446744073709551616 0 1')};{code};close 1 1 1 0 0;end 1 1",
+            f"open 1 1 c;line 1 1 {block.replace('0 0 xs4', '0 9223372036854775808 xs4')};{code};close 1 1 1 0 0;end 1 1",
+            f"open 1 1 c;line 1 1 {block.replace('B3/S23', '')};{code};close 1 1 1 0 0;end 1 1",
+            f"open 1 1 c;line 1 1 {block};{code};close 1 1 0 1 0;end 1 1",
             f"open 1 1 c;line 1 1 {block};code 1 B3/S23 xs4_33 0;close 1 1 1 0 0;end 1 1",
-            f"open 1 2 c;line 1 1 {block};line 1 2 ash B3/S23 0 0 0 b;close 1 2 2 0 0;end 1 2",
+            f"open 1 2 c;line 1 1 {block};line 1 2 ash B3/S23 0 0 0 b;{code};close 1 2 2 0 0;end 1 2",
             "end 0 1",
         ]
+        # `code` lines that are missing, too many, of another rule, code or count, or in another order
+        two = f"line 1 1 {block};line 1 2 ok B36/S23 4 0 1 0 0 xs4_33 b"
+        for codes in ("", f"{code};", f"code 1 B36/S23 xs4_33 1;{code};", f"{code};{code};", f"{code};code 1 B36/S23 xs4_33 2;",
+                      f"{code};code 1 B36/S23 xs4_32 1;", f"{code};code 1 B36/S23 xs4_33 1;{code};"):
+            reports.append(f"open 1 2 c;{two};{codes}close 1 2 2 0 0;end 1 2")
+        parts = "line 1 1 ash B3/S23 4 7 3 a;part 1 1 xs4_33 1;part 1 1 xs6_696 2"
+        for codes in ("", f"{code};", f"{code};code 1 B3/S23 xs6_696 1;", f"code 1 B3/S23 xs6_696 2;{code};"):
+            reports.append(f"open 1 1 c;{parts};{codes}close 1 1 1 0 0;end 1 1")
+        large = f"line 1 1 ash B3/S23 4 7 {2 ** 64 - 1} a;part 1 1 xs4_33 {2 ** 64 - 1};line 1 2 ash B3/S23 4 7 1 b;part 1 2 xs4_33 1"
+        for count in (0, 1, 2 ** 64 - 1):
+            reports.append(f"open 1 2 c;{large};code 1 B3/S23 xs4_33 {count};close 1 2 2 0 0;end 1 2")
         # names that no collection and no pattern has
         for name in ("", " a", "a ", "a\x1b[31m", "a\x7f", "a\x00", "a\tb", "a" * 256):
             reports += [f"open 1 0 {name};close 1 0 0 0 0;end 1 0", f"open 1 1 c;line 1 1 bad 1 {name};close 1 1 0 0 1;end 1 1"]
@@ -733,19 +745,19 @@ end 2 5
                         f"open 1 1 c;line 1 1 {block};code 1 {rule} xs4_33 1;close 1 1 1 0 0;end 1 1"]
         # codes that are none, or not that of such a period and displacement
         for code in ("c", "xs", "xr1_3", "s4_33", "xs4", "xsa_33", "_", "x_"):
-            reports += [f"open 1 1 c;line 1 1 ok B3/S23 4 0 1 0 0 {code} a;close 1 1 1 0 0;end 1 1",
-                        f"open 1 1 c;line 1 1 ash B3/S23 4 7 1 a;part 1 1 {code} 1;close 1 1 1 0 0;end 1 1",
+            reports += [f"open 1 1 c;line 1 1 ok B3/S23 4 0 1 0 0 {code} a;code 1 B3/S23 {code} 1;close 1 1 1 0 0;end 1 1",
+                        f"open 1 1 c;line 1 1 ash B3/S23 4 7 1 a;part 1 1 {code} 1;code 1 B3/S23 {code} 1;close 1 1 1 0 0;end 1 1",
                         f"open 1 1 c;line 1 1 {block};code 1 B3/S23 {code} 1;close 1 1 1 0 0;end 1 1"]
         for found in ("0 0 0 xs4_33", "15 0 0 xs4_33", "1 1 0 xs4_33", "2 0 0 xp3_7", "2 0 0 xq2_7", "4 1 1 xp4_7", "4 0 1 xq5_7", "1 0 0 xp1_7",
                       "4 1 1 xq04_7", "0 1 1 xq0_7", "0 0 0 xp0_7"):
-            reports.append(f"open 1 1 c;line 1 1 ok B3/S23 4 0 {found} a;close 1 1 1 0 0;end 1 1")
+            reports.append(f"open 1 1 c;line 1 1 ok B3/S23 4 0 {found} a;code 1 B3/S23 {found.split()[-1]} 1;close 1 1 1 0 0;end 1 1")
         # parts that are too few, too many, of no object, twice the same or out of order
         for parts in ("", "part 1 1 xs4_33 1;", "part 1 1 xs4_33 3;", "part 1 1 xs4_33 0;part 1 1 xs6_696 2;", "part 1 1 xs4_33 1;part 1 1 xs4_33 1;",
                       "part 1 1 xs6_696 1;part 1 1 xs4_33 1;", "part 1 1 xs4_33 1;part 1 1 xs4_32 1;", "part 1 2 xs4_33 2;"):
             reports.append(f"open 1 1 c;line 1 1 ash B3/S23 8 7 2 a;{parts}close 1 1 1 0 0;end 1 1")
         # parts of another collection, and behind one of its lines
-        reports.append("open 1 1 a;open 2 1 b;line 1 1 ash B3/S23 0 0 0 c;line 2 1 ash B3/S23 4 7 1 d;part 1 1 xs4_33 1;close 1 1 1 0 0;close 2 1 1 0 0;end 2 2")
-        reports.append("open 1 1 a;open 2 0 b;line 1 1 ash B3/S23 4 7 1 c;close 2 0 0 0 0;part 1 1 xs4_33 1;close 1 1 1 0 0;end 2 1")
+        reports.append("open 1 1 a;open 2 1 b;line 1 1 ash B3/S23 0 0 0 c;line 2 1 ash B3/S23 4 7 1 d;part 1 1 xs4_33 1;code 2 B3/S23 xs4_33 1;close 1 1 1 0 0;close 2 1 1 0 0;end 2 2")
+        reports.append("open 1 1 a;open 2 0 b;line 1 1 ash B3/S23 4 7 1 c;close 2 0 0 0 0;part 1 1 xs4_33 1;code 1 B3/S23 xs4_33 1;close 1 1 1 0 0;end 2 1")
         for text in reports:
             with self.subTest(text), self.assertRaises(ReportFault):
                 read_report((text.replace(";", "\n") + "\n").encode())
@@ -762,7 +774,7 @@ end 2 5
     def test_numbers_as_large_as_they_may_be(self):
         ends = f"{2 ** 64 - 1} {2 ** 64 - 1} {2 ** 64 - 1} {2 ** 63 - 1} {-(2 ** 63)}"
         code = f"xq{2 ** 64 - 1}_"
-        row, = read_report(f"open 1 1 a\nline 1 1 ok B/S {ends} {code} {'b' * 255}\ncode 1 B/S {code} {2 ** 64 - 1}\nclose 1 1 1 0 0\nend 1 1\n".encode())
+        row, = read_report(f"open 1 1 a\nline 1 1 ok B/S {ends} {code} {'b' * 255}\ncode 1 B/S {code} 1\nclose 1 1 1 0 0\nend 1 1\n".encode())
         self.assertEqual((row.population, row.dx, row.dy, row.code, row.name), (2 ** 64 - 1, 2 ** 63 - 1, -(2 ** 63), code, "b" * 255))
 
     def test_no_patterns(self):
