@@ -1,0 +1,4 @@
+pub mod Claims
+pub mod Columns
+pub mod Read
+pub mod Rows
