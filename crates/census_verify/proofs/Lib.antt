@@ -1,1 +1,2 @@
 pub mod Claiming
+pub mod Keys

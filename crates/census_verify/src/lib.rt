@@ -5,6 +5,7 @@
 
 mod claim;
 mod columns;
+mod matching;
 mod place;
 mod reading;
 mod taken;

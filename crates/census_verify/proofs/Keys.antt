@@ -1,0 +1,149 @@
+-- Keys of claims, and the patterns that they are of.
+use Rattle.std.proofs.Common.{◌≡◌, ℕ, ◌+◌, ◌<◌, Bool, true, false, ◌&&◌, ◌||◌, get_or, length, take, List, [], ◌∷◌, ◌++◌, refl, sym, ap, ap₂, ◌∙◌, if◌then◌else◌}
+use Rattle.std.specs.Prelude.{cond, filter, nat_eq, Option, Some, None as Nowhere}
+use Rattle.std.specs.BTreeMap.{BTreeMap, get, get_by, Updates}
+use Rattle.std.specs.Borrow.{Bor}
+use Rattle.std.specs.Cmp.Lexicographic.{nat_list_eq_equiv, on_texts, options_total, pointwise, slice_cmp, texts_ties}
+use Rattle.std.specs.Cmp.{both_tied, IsTotalOrder, on_total}
+use Rattle.std.specs.List.{list_any}
+use Rattle.std.specs.Option.{option_cmp, option_eq, option_map}
+use Rattle.std.specs.Ordering.{is_eq, nat_cmp}
+use Rattle.std.specs.declared.cmp.Ordering.{Ordering}
+use Rattle.std.specs.declared.cmp.Ordering.TheVariants.{Less, Equal, Greater}
+use Rattle.std.proofs.lemmas.Cmp.{then_total}
+use Rattle.std.proofs.lemmas.List.{append-nil, map-append, take_more}
+use Rattle.std.proofs.lemmas.List.Elements.{filter-append}
+use Rattle.std.proofs.lemmas.List.Folds.{list_any-append}
+use Rattle.census_table.specs.declared.entry.Entry.{Entry}
+use Rattle.census_verify.specs.Claims.{Claim, claim_read, claims_read}
+use Rattle.census_verify.specs.Found.{KeyLent, has_key, key_cmp, key_lent, match_at, name_key, same_key, whole_key, with_pattern}
+use Rattle.census_verify.specs.Patterns.{Key, is_claimed, is_of, key_of, matched}
+use Rattle.census_verify.specs.declared.claim.Claim.{Claim as ClaimRead}
+use Rattle.census_verify.specs.declared.matching.Match.{Match}
+use Rattle.census_verify.specs.declared.matching.Match.TheVariants.{Nothing, One, Several}
+
+-- # The order
+
+option-tied : (o p : Option (Bor (List ℕ)))
+    → option_eq (pointwise nat_eq) (option_map (λ bytes. bytes.now) o) (option_map (λ bytes. bytes.now) p) ≡ is_eq (option_cmp (λ a b. slice_cmp nat_cmp a.now b.now) o p)
+option-tied Nowhere Nowhere = refl
+option-tied Nowhere (Some b) = refl
+option-tied (Some a) Nowhere = refl
+option-tied (Some a) (Some b) = texts_ties a.now b.now
+
+pub key-tied : (k q : KeyLent) → same_key (key_lent k) (key_lent q) ≡ is_eq (key_cmp k q)
+key-tied k q =
+    both_tied (pointwise nat_eq k.0.now q.0.now) (option_eq (pointwise nat_eq) (key_lent k).1 (key_lent q).1) (slice_cmp nat_cmp k.0.now q.0.now)
+    (option_cmp (λ a b. slice_cmp nat_cmp a.now b.now) k.1 q.1) (texts_ties k.0.now q.0.now) (option-tied k.1 q.1)
+
+pub key_total : IsTotalOrder key_cmp
+key_total = then_total (on_texts (λ (k : KeyLent). k.0.now)) (on_total (λ (k : KeyLent). k.1) (options_total (on_texts (λ (b : Bor (List ℕ)). b.now))))
+
+tied-equal : (r : Ordering) → is_eq r ≡ true → r ≡ Equal
+tied-equal r e = elim r as (λ r. is_eq r ≡ true → r ≡ Equal) [ | Less ↦ λ e. absurd (cc) | Equal ↦ λ e. refl | Greater ↦ λ e. absurd (cc) ] e
+
+-- what stands at keys that are the same
+get-same : {X : Type 0} (m : BTreeMap KeyLent X) (k q : KeyLent) → same_key (key_lent k) (key_lent q) ≡ true → get key_cmp m k ≡ get key_cmp m q
+get-same m k q same =
+    let tied : key_cmp k q ≡ Equal = tied-equal (key_cmp k q) (sym (key-tied k q) ∙ same) in
+    let level : (λ (z : KeyLent). key_cmp k z) ≡ (λ z. key_cmp q z) = λ i z. key_total.congr k q z tied i in
+    ap (λ (f : KeyLent → Ordering). get_by f m) level
+
+-- # A pattern more at a key
+
+cond-if : {X : Type 0} (b : Bool) (x y : X) → cond b x y ≡ (if b then x else y)
+cond-if true x y = refl
+cond-if false x y = refl
+
+put-by : (b : Bool) (f : Match → Match) (new old here : Option Match) (found : Match) → new ≡ cond b (Some (f found)) old → (b ≡ true → here ≡ old) → here ≡ Some found
+    → new ≡ (if b then option_map f old else old)
+put-by true f new old here found e same is = e ∙ ap (option_map f) (sym is ∙ same refl)
+put-by false f new old here found e same is = e
+
+pub added-at : (m n : BTreeMap KeyLent Match) (k : KeyLent) (pattern : Entry) (found : Match) → get key_cmp m k ≡ Some found
+    → Updates key_cmp m n k (Some (with_pattern pattern found)) → (q : KeyLent)
+    → get key_cmp n q ≡ (if same_key (key_lent k) (key_lent q) then option_map (with_pattern pattern) (get key_cmp m q) else get key_cmp m q)
+added-at m n k pattern found is updates q =
+    put-by (same_key (key_lent k) (key_lent q)) (with_pattern pattern) (get key_cmp n q) (get key_cmp m q) (get key_cmp m k) found
+    (updates.0 q ∙ ap (λ b. cond b (Some (with_pattern pattern found)) (get key_cmp m q)) (sym (key-tied k q))) (get-same m k q) is
+
+-- # A pattern more at each key
+
+symmetric : (xs ys : List ℕ) → pointwise nat_eq xs ys ≡ pointwise nat_eq ys xs
+symmetric xs ys = nat_list_eq_equiv.symm xs ys
+
+by-name : (f : Match → Match) (a b : Bool) (x y z : Option Match) → a ≡ b → y ≡ (if a && true then option_map f x else x) → z ≡ (if a && false then option_map f y else y)
+    → z ≡ (if b && true then option_map f x else x)
+by-name f true true x y z e first second = second ∙ first
+by-name f true false x y z e first second = absurd (cc)
+by-name f false true x y z e first second = absurd (cc)
+by-name f false false x y z e first second = second ∙ first
+
+by-both : (f : Match → Match) (a b c d : Bool) (x y z : Option Match) → a ≡ b → c ≡ d → y ≡ (if a && false then option_map f x else x)
+    → z ≡ (if a && c then option_map f y else y) → z ≡ (if b && d then option_map f x else x)
+by-both f true true c d x y z e e' first second =
+    second ∙ ap (λ (t : Bool). if t then option_map f y else y) e' ∙ ap (λ w. if d then option_map f w else w) first
+by-both f true false c d x y z e e' first second = absurd (cc)
+by-both f false true c d x y z e e' first second = absurd (cc)
+by-both f false false c d x y z e e' first second = second ∙ first
+
+pub added-both : (pattern : Entry) (key : Key) (x y z : Option Match)
+    → y ≡ (if same_key (name_key pattern) key then option_map (with_pattern pattern) x else x)
+    → z ≡ (if same_key (whole_key pattern) key then option_map (with_pattern pattern) y else y)
+    → z ≡ (if is_of key pattern then option_map (with_pattern pattern) x else x)
+added-both pattern (name, Nowhere) x y z first second =
+    by-name (with_pattern pattern) (pointwise nat_eq pattern.name.now name) (pointwise nat_eq name pattern.name.now) x y z (symmetric pattern.name.now name) first second
+added-both pattern (name, Some collection) x y z first second =
+    by-both (with_pattern pattern) (pointwise nat_eq pattern.name.now name) (pointwise nat_eq name pattern.name.now)
+    (pointwise nat_eq pattern.collection_name.now collection) (pointwise nat_eq collection pattern.collection_name.now) x y z (symmetric pattern.name.now name)
+    (symmetric pattern.collection_name.now collection) first second
+
+matched-more : (patterns : List Entry) (pattern : Entry) → matched (patterns ++ pattern ∷ []) ≡ with_pattern pattern (matched patterns)
+matched-more [] pattern = refl
+matched-more (one ∷ []) pattern = refl
+matched-more (one ∷ (two ∷ others)) pattern = refl
+
+match-by : (a b : Bool) (patterns : List Entry) (pattern : Entry)
+    → (if b then option_map (with_pattern pattern) (if a then Some (matched patterns) else Nowhere) else (if a then Some (matched patterns) else Nowhere))
+    ≡ (if a then Some (matched (patterns ++ cond b (pattern ∷ []) [])) else Nowhere)
+match-by true true patterns pattern = ap Some (sym (matched-more patterns pattern))
+match-by false true patterns pattern = refl
+match-by true false patterns pattern = ap (λ (w : List Entry). Some (matched w)) (sym (append-nil patterns))
+match-by false false patterns pattern = refl
+
+-- the matches with one pattern more
+pub match-more : (claims : List Claim) (patterns : List Entry) (pattern : Entry) (key : Key)
+    → (if is_of key pattern then option_map (with_pattern pattern) (match_at claims patterns key) else match_at claims patterns key)
+    ≡ match_at claims (patterns ++ pattern ∷ []) key
+match-more claims patterns pattern key =
+    match-by (has_key claims key) (is_of key pattern) (filter (is_of key) patterns) pattern
+    ∙ ap (λ (w : List Entry). if has_key claims key then Some (matched w) else Nowhere) (sym (filter-append (is_of key) patterns (pattern ∷ [])))
+
+-- # A claim more
+
+claim-by : (a b : Bool) → cond b (Some Nothing) (if a then Some Nothing else Nowhere) ≡ (if a || (b || false) then Some Nothing else Nowhere)
+claim-by true true = refl
+claim-by true false = refl
+claim-by false true = refl
+claim-by false false = refl
+
+pub claim-more : (claims : List Claim) (claim : Claim) (m n : BTreeMap KeyLent Match) (k q : KeyLent) → key_lent k ≡ key_of claim → Updates key_cmp m n k (Some Nothing)
+    → get key_cmp m q ≡ match_at claims [] (key_lent q) → get key_cmp n q ≡ match_at (claims ++ claim ∷ []) [] (key_lent q)
+claim-more claims claim m n k q is updates before =
+    updates.0 q
+    ∙ ap₂ (λ (b : Bool) (o : Option Match). cond b (Some Nothing) o) (sym (key-tied k q) ∙ ap (λ (j : Key). same_key j (key_lent q)) is) before
+    ∙ claim-by (has_key claims (key_lent q)) (same_key (key_of claim) (key_lent q))
+    ∙ ap (λ (b : Bool). if b then Some Nothing else Nowhere) (sym (list_any-append (λ c. same_key (key_of c) (key_lent q)) claims (claim ∷ [])))
+
+pub claims-take : (claims : List ClaimRead) (i : ℕ) (d : ClaimRead) → i < length claims
+    → claims_read (take (i + 1) claims) ≡ claims_read (take i claims) ++ claim_read (get_or claims i d) ∷ []
+claims-take claims i d less = ap claims_read (take_more claims i d less) ∙ map-append claim_read (take i claims) (get_or claims i d ∷ [])
+
+pub match-taken : (claims : List Claim) (all : List Entry) (i : ℕ) (d : Entry) (key : Key) (old new : Option Match) → i < length all
+    → old ≡ match_at claims (take i all) key
+    → new ≡ (if is_of key (get_or all i d) then option_map (with_pattern (get_or all i d)) old else old) → new ≡ match_at claims (take (i + 1) all) key
+match-taken claims all i d key old new less before step =
+    step
+    ∙ ap (λ (o : Option Match). if is_of key (get_or all i d) then option_map (with_pattern (get_or all i d)) o else o) before
+    ∙ match-more claims (take i all) (get_or all i d) key
+    ∙ ap (λ (patterns : List Entry). match_at claims patterns key) (sym (take_more all i d less))

@@ -1,0 +1,124 @@
+//! Which patterns claims are of.
+ghost use Rattle.std.specs.Prelude.{◌≡◌, [], IfOk, None, OnOk, is_some, option_map, if◌then◌else◌};
+ghost use Rattle.std.specs.BTreeMap.{get};
+ghost use Rattle.census_verify.specs.Claims.{claim_read, claims_read};
+ghost use Rattle.census_verify.specs.Found.{KeyLent, key_cmp, key_lent, match_at, name_key, same_key, whole_key, with_pattern};
+ghost use Rattle.census_verify.specs.Patterns.{is_claimed, is_of, key_of};
+
+use crate::claim::Claim;
+use census_table::Entry;
+use std::alloc::{AllocError, Global};
+use std::collections::BTreeMap;
+
+/// How many patterns a claim is of.
+#[derive(Clone, Copy, Drop)]
+pub enum Match<'a> {
+    /// None.
+    Nothing,
+    /// The only one.
+    One(Entry<'a>),
+    /// Several.
+    Several,
+}
+
+/// The name of a pattern, and that of its collection where one is meant.
+pub type Key<'a> = (&'a [u8], Option<&'a [u8]>);
+
+// Whose pattern a claim is of.
+fn key_of(claim: &Claim) -> Key
+    ensures { key_lent result ≡ key_of (claim_read claim.now) }
+{
+    let collection = claim.collection.as_slice();
+    if collection.is_empty() {
+        (claim.name.as_slice(), None)
+    } else {
+        (claim.name.as_slice(), Some(collection))
+    }
+}
+
+// What claims that only name a pattern have.
+fn name_key<'a>(pattern: &Entry<'a>) -> Key<'a>
+    ensures { key_lent result ≡ name_key pattern.now }
+{
+    (pattern.name, None)
+}
+
+// What claims that mean its collection too have.
+fn whole_key<'a>(pattern: &Entry<'a>) -> Key<'a>
+    ensures { key_lent result ≡ whole_key pattern.now }
+{
+    (pattern.name, Some(pattern.collection_name))
+}
+
+// The keys of claims, before any pattern is known.
+fn keys<'a>(
+    alloc: Global,
+    claims: &'a [Claim],
+) -> Result<BTreeMap<Key<'a>, Match<'a>>, AllocError>
+    ensures { IfOk result (λ found. (key : KeyLent) →
+        get key_cmp found key ≡ match_at (claims_read claims.now) [] (key_lent key)) }
+{
+    let mut found = BTreeMap::new(alloc);
+    for claim in claims {
+        found.insert(key_of(claim), Match::Nothing)?;
+    }
+    Ok(found)
+}
+
+// With one pattern more.
+fn with_pattern<'a>(pattern: &Entry<'a>, found: &Match<'a>) -> Match<'a>
+    ensures { result ≡ with_pattern pattern.now found.now }
+{
+    match found {
+        Match::Nothing => Match::One(*pattern),
+        _ => Match::Several,
+    }
+}
+
+// Adds a pattern to the match at a key, where a claim has it.
+fn add_at<'a>(
+    found: &mut BTreeMap<Key<'a>, Match<'a>>,
+    key: Key<'a>,
+    pattern: &Entry<'a>,
+) -> Result<(), AllocError>
+    ensures { OnOk result ((other : KeyLent) → get key_cmp found.new other
+        ≡ (if same_key (key_lent key.entry) (key_lent other)
+        then option_map (with_pattern pattern.now) (get key_cmp found.old other)
+        else get key_cmp found.old other)) }
+{
+    if let Some(here) = found.get(&key) {
+        let more = with_pattern(pattern, here);
+        found.insert(key, more)?;
+    }
+    Ok(())
+}
+
+// Adds a pattern to the matches of the claims that are of it.
+fn add_pattern<'a>(
+    found: &mut BTreeMap<Key<'a>, Match<'a>>,
+    pattern: &Entry<'a>,
+) -> Result<(), AllocError>
+    ensures { OnOk result ((other : KeyLent) → get key_cmp found.new other
+        ≡ (if is_of (key_lent other) pattern.now
+        then option_map (with_pattern pattern.now) (get key_cmp found.old other)
+        else get key_cmp found.old other)) }
+{
+    add_at(found, name_key(pattern), pattern)?;
+    add_at(found, whole_key(pattern), pattern)
+}
+
+/// The matches of claims. The only error is out of memory.
+pub fn matches<'a>(
+    alloc: Global,
+    claims: &'a [Claim],
+    patterns: &[Entry<'a>],
+) -> Result<BTreeMap<Key<'a>, Match<'a>>, AllocError>
+    ensures { IfOk result (λ found. (key : KeyLent) →
+        get key_cmp found key ≡ match_at (claims_read claims.now) patterns.now (key_lent key)) }
+{
+    let mut found = keys(alloc, claims)?;
+    for pattern in patterns {
+        add_pattern(&mut found, pattern)?;
+    }
+    Ok(found)
+}
