@@ -1,9 +1,9 @@
 -- Keys of claims, and the patterns that they are of.
-use Rattle.std.proofs.Common.{◌≡◌, ℕ, ◌+◌, ◌<◌, Bool, true, false, ◌&&◌, ◌||◌, get_or, length, take, List, [], ◌∷◌, ◌++◌, refl, sym, ap, ap₂, ◌∙◌, if◌then◌else◌}
-use Rattle.std.specs.Prelude.{cond, filter, nat_eq, Option, Some, None as Nowhere}
+use Rattle.std.proofs.Common.{◌≡◌, ℕ, zero, suc, arith, ◌+◌, ◌<◌, Bool, true, false, ◌&&◌, ◌||◌, get_or, length, take, List, [], ◌∷◌, ◌++◌, refl, sym, ap, ap₂, ◌∙◌, if◌then◌else◌}
+use Rattle.std.specs.Prelude.{cond, filter, is_some, nat_eq, Option, Some, None as Nowhere}
 use Rattle.std.specs.BTreeMap.{BTreeMap, get, get_by, Updates}
 use Rattle.std.specs.Borrow.{Bor}
-use Rattle.std.specs.Cmp.Lexicographic.{nat_list_eq_equiv, on_texts, options_total, pointwise, slice_cmp, texts_ties}
+use Rattle.std.specs.Cmp.Lexicographic.{nat_list_eq_equiv, on_texts, options_equiv, options_total, pointwise, slice_cmp, texts_ties}
 use Rattle.std.specs.Cmp.{both_tied, IsTotalOrder, on_total}
 use Rattle.std.specs.List.{list_any}
 use Rattle.std.specs.Option.{option_cmp, option_eq, option_map}
@@ -17,7 +17,7 @@ use Rattle.std.proofs.lemmas.List.Folds.{list_any-append}
 use Rattle.census_table.specs.declared.entry.Entry.{Entry}
 use Rattle.census_verify.specs.Claims.{Claim, claim_read, claims_read}
 use Rattle.census_verify.specs.Found.{KeyLent, has_key, key_cmp, key_lent, match_at, name_key, same_key, whole_key, with_pattern}
-use Rattle.census_verify.specs.Patterns.{Key, is_claimed, is_of, key_of, matched}
+use Rattle.census_verify.specs.Patterns.{Key, is_claimed, is_of, key_of, matched, patterns_of}
 use Rattle.census_verify.specs.declared.claim.Claim.{Claim as ClaimRead}
 use Rattle.census_verify.specs.declared.matching.Match.{Match}
 use Rattle.census_verify.specs.declared.matching.Match.TheVariants.{Nothing, One, Several}
@@ -147,3 +147,58 @@ match-taken claims all i d key old new less before step =
     ∙ ap (λ (o : Option Match). if is_of key (get_or all i d) then option_map (with_pattern (get_or all i d)) o else o) before
     ∙ match-more claims (take i all) (get_or all i d) key
     ∙ ap (λ (patterns : List Entry). match_at claims patterns key) (sym (take_more all i d less))
+
+-- # What is found at a key
+
+pub one-match : (claims : List Claim) (patterns : List Entry) (claim : Claim) (key : Key) (here : Option Match) → key ≡ key_of claim → has_key claims (key_of claim) ≡ true
+    → here ≡ match_at claims patterns key → here ≡ Some (matched (patterns_of claim patterns))
+one-match claims patterns claim key here is own at =
+    at
+    ∙ ap (match_at claims patterns) is
+    ∙ ap (λ (b : Bool). if b then Some (matched (patterns_of claim patterns)) else Nowhere) own
+
+some-if : {X : Type 0} (b : Bool) (x : X) → is_some (if b then Some x else Nowhere) ≡ b
+some-if true x = refl
+some-if false x = refl
+
+pub some-match : (claims : List Claim) (patterns : List Entry) (key : Key) → is_some (match_at claims patterns key) ≡ has_key claims key
+some-match claims patterns key = some-if (has_key claims key) (matched (filter (is_of key) patterns))
+
+name-or : (a : Bool) → (a && true) ≡ ((a && true) || (a && false))
+name-or true = refl
+name-or false = refl
+
+both-or : (a b : Bool) → (a && b) ≡ ((a && false) || (a && b))
+both-or true b = refl
+both-or false b = refl
+
+of-either : (key : Key) (pattern : Entry) → is_of key pattern ≡ (same_key key (name_key pattern) || same_key key (whole_key pattern))
+of-either (name, Nowhere) pattern = name-or (pointwise nat_eq name pattern.name.now)
+of-either (name, Some collection) pattern = both-or (pointwise nat_eq name pattern.name.now) (pointwise nat_eq collection pattern.collection_name.now)
+
+or-apart : (a b c d : Bool) → ((a || b) || (c || d)) ≡ ((a || c) || (b || d))
+or-apart true b c d = refl
+or-apart false true true d = refl
+or-apart false true false d = refl
+or-apart false false c d = refl
+
+pub claimed-by : (claims : List Claim) (pattern : Entry) → is_claimed claims pattern ≡ (has_key claims (name_key pattern) || has_key claims (whole_key pattern))
+claimed-by [] pattern = refl
+claimed-by (claim ∷ claims) pattern =
+    ap₂ (λ a b. a || b) (of-either (key_of claim) pattern) (claimed-by claims pattern)
+    ∙ or-apart (same_key (key_of claim) (name_key pattern)) (same_key (key_of claim) (whole_key pattern)) (has_key claims (name_key pattern)) (has_key claims (whole_key pattern))
+
+key-itself : (key : Key) → same_key key key ≡ true
+key-itself (name, meant) = ap₂ (λ a b. a && b) (nat_list_eq_equiv.refl name) ((options_equiv nat_list_eq_equiv).refl meant)
+
+-- a claim among others has its key
+pub has-own : (claims : List ClaimRead) (i : ℕ) (d : ClaimRead) → i < length claims → has_key (claims_read claims) (key_of (claim_read (get_or claims i d))) ≡ true
+has-own [] i d less = absurd (omega arith)
+has-own (claim ∷ claims) zero d less = ap (λ b. b || has_key (claims_read claims) (key_of (claim_read claim))) (key-itself (key_of (claim_read claim)))
+has-own (claim ∷ claims) (suc i) d less =
+    let key = key_of (claim_read (get_or claims i d)) in
+    ap (λ b. same_key (key_of (claim_read claim)) key || b) (has-own claims i d (omega arith)) ∙ or-true (same_key (key_of (claim_read claim)) key)
+  where
+    or-true : (b : Bool) → (b || true) ≡ true
+    or-true true = refl
+    or-true false = refl

@@ -1,2 +1,3 @@
 pub mod Claiming
 pub mod Keys
+pub mod Silent

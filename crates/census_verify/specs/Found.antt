@@ -1,5 +1,6 @@
 -- Claims and the patterns that they are of, by keys.
-use Rattle.std.specs.Prelude.{ℕ, Bool, ◌&&◌, ◌||◌, if◌then◌else◌, Option, Some, None as Nowhere, List, [], ◌∷◌, filter, nat_eq}
+use Rattle.std.specs.Prelude.{◌≡◌, ℕ, Bool, ◌&&◌, ◌||◌, if◌then◌else◌, Option, Some, None as Nowhere, List, [], ◌∷◌, filter, nat_eq}
+use Rattle.std.specs.BTreeMap.{get}
 use Rattle.std.specs.Borrow.{Bor}
 use Rattle.std.specs.Cmp.Lexicographic.{pointwise, slice_cmp}
 use Rattle.std.specs.List.{list_any}
@@ -7,8 +8,9 @@ use Rattle.std.specs.Option.{option_cmp, option_eq, option_map}
 use Rattle.std.specs.Ordering.{nat_cmp, ordering_then}
 use Rattle.std.specs.declared.cmp.Ordering.{Ordering}
 use Rattle.census_table.specs.declared.entry.Entry.{Entry}
-use Rattle.census_verify.specs.Claims.{Claim}
+use Rattle.census_verify.specs.Claims.{Claim, claims_read}
 use Rattle.census_verify.specs.Patterns.{Key, is_of, key_of, matched}
+use Rattle.census_verify.specs.declared.found.Found.{Found as FoundRead}
 use Rattle.census_verify.specs.declared.matching.Match.{Match}
 use Rattle.census_verify.specs.declared.matching.Match.TheVariants.{Nothing, One, Several}
 
@@ -46,3 +48,7 @@ with_pattern pattern Several = Several
 -- the match of these patterns at a key, where a claim has it
 abbrev pub match_at : List Claim → List Entry → Key → Option Match
 match_at claims patterns key = if has_key claims key then Some (matched (filter (is_of key) patterns)) else Nowhere
+
+-- the matches are those of the claims at their keys
+abbrev pub IsFound : FoundRead → Type 0
+IsFound found = (key : KeyLent) → get key_cmp found.matches key ≡ match_at (claims_read found.claims.now) found.patterns.items (key_lent key)

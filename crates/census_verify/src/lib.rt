@@ -5,10 +5,14 @@
 
 mod claim;
 mod columns;
+mod found;
+mod lines;
 mod matching;
 mod place;
 mod reading;
 mod taken;
+mod verdict;
 
 pub use claim::{Cell, Claim};
 pub use reading::{Claims, read_claims};
+pub use verdict::{nothing_is_told_where_all_agree, put_verdict};

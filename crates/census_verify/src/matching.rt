@@ -24,8 +24,8 @@ pub enum Match<'a> {
 /// The name of a pattern, and that of its collection where one is meant.
 pub type Key<'a> = (&'a [u8], Option<&'a [u8]>);
 
-// Whose pattern a claim is of.
-fn key_of(claim: &Claim) -> Key
+/// Whose pattern a claim is of.
+pub fn key_of(claim: &Claim) -> Key
     ensures { key_lent result ≡ key_of (claim_read claim.now) }
 {
     let collection = claim.collection.as_slice();
@@ -36,15 +36,15 @@ fn key_of(claim: &Claim) -> Key
     }
 }
 
-// What claims that only name a pattern have.
-fn name_key<'a>(pattern: &Entry<'a>) -> Key<'a>
+/// What claims that only name a pattern have.
+pub fn name_key<'a>(pattern: &Entry<'a>) -> Key<'a>
     ensures { key_lent result ≡ name_key pattern.now }
 {
     (pattern.name, None)
 }
 
-// What claims that mean its collection too have.
-fn whole_key<'a>(pattern: &Entry<'a>) -> Key<'a>
+/// What claims that mean its collection too have.
+pub fn whole_key<'a>(pattern: &Entry<'a>) -> Key<'a>
     ensures { key_lent result ≡ whole_key pattern.now }
 {
     (pattern.name, Some(pattern.collection_name))

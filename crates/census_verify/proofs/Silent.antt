@@ -1,0 +1,33 @@
+-- Texts of which the parts are told one after another.
+use Rattle.std.proofs.Common.{◌≡◌, ℕ, ◌+◌, ◌<◌, Bool, true, false, ◌&&◌, List, [], ◌∷◌, ◌++◌, length, drop, get_or, refl, ap, ◌∙◌}
+use Rattle.std.proofs.lemmas.List.{at_drop_more}
+use Rattle.census_table.specs.declared.entry.Entry.{Entry}
+use Rattle.census_verify.specs.Claims.{Claim, claim_read, claims_read}
+use Rattle.census_verify.specs.Columns.{is_empty}
+use Rattle.census_verify.specs.Verdict.{all_unclaimed_text, claim_text, claims_text, unclaimed_text}
+use Rattle.census_verify.specs.declared.claim.Claim.{Claim as ClaimRead}
+
+pub empty-append : (xs ys : List ℕ) → is_empty (xs ++ ys) ≡ (is_empty xs && is_empty ys)
+empty-append [] ys = refl
+empty-append (x ∷ xs) ys = refl
+
+and-and : (a b c : Bool) → (a && (b && c)) ≡ ((a && b) && c)
+and-and true b c = refl
+and-and false b c = refl
+
+-- nothing was told so far, with one part more
+pub silent-more : (whole left text others : List ℕ) (silent : Bool) → is_empty whole ≡ (silent && is_empty left) → left ≡ text ++ others
+    → is_empty whole ≡ ((silent && is_empty text) && is_empty others)
+silent-more whole left text others silent before cut =
+    before
+    ∙ ap (λ t. silent && is_empty t) cut
+    ∙ ap (λ b. silent && b) (empty-append text others)
+    ∙ and-and silent (is_empty text) (is_empty others)
+
+pub claims-cut : (patterns : List Entry) (claims : List ClaimRead) (i : ℕ) (d : ClaimRead) → i < length claims
+    → claims_text patterns (claims_read (drop i claims)) ≡ claim_text patterns (claim_read (get_or claims i d)) ++ claims_text patterns (claims_read (drop (i + 1) claims))
+claims-cut patterns claims i d less = at_drop_more (λ cs. claims_text patterns (claims_read cs)) claims i d less
+
+pub unclaimed-cut : (claims : List Claim) (patterns : List Entry) (i : ℕ) (d : Entry) → i < length patterns
+    → all_unclaimed_text claims (drop i patterns) ≡ unclaimed_text claims (get_or patterns i d) ++ all_unclaimed_text claims (drop (i + 1) patterns)
+unclaimed-cut claims patterns i d less = at_drop_more (all_unclaimed_text claims) patterns i d less

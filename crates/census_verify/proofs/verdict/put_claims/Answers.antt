@@ -1,0 +1,39 @@
+use Rattle.std.proofs.Common.{◌≡◌, ◌+◌, ◌++◌, ◌&&◌, List, ℕ, ap, drop, get_or, refl, sym, subst, ◌∙◌}
+use Rattle.gathered.specs.Telling.{TellsAfter, sheet}
+use Rattle.gathered.proofs.Fronts.{up_to_more, up_to_start}
+use Rattle.census_verify.specs.Claims.{claim_read, claims_read}
+use Rattle.census_verify.specs.Columns.{is_empty}
+use Rattle.census_verify.specs.Found.{has_key}
+use Rattle.census_verify.specs.Patterns.{key_of}
+use Rattle.census_verify.specs.Verdict.{claim_text, claims_text, match_text}
+use Rattle.census_verify.proofs.Keys.{has-own}
+use Rattle.census_verify.proofs.Silent.{claims-cut, silent-more}
+use Rattle.census_verify.proofs.verdict.put_claims.Goals as goal
+
+pub loop-index-init : goal.loop-index-init
+loop-index-init g c = record {
+  told = up_to_start (claims_text c.args.found.now.patterns.items (claims_read c.args.found.now.claims.now)) (sheet g.W.Write.contents c.args.block.now c.args.writer.now);
+  silent = refl;
+}
+
+pub match_of-requires-clause-is_one : goal.match_of-requires-clause-is_one
+match_of-requires-clause-is_one g c = has-own c.args.found.now.claims.now c.loop-index.index c.index-found-index.result c.loop-index-test.true
+
+pub loop-index-preserved : goal.loop-index-preserved
+loop-index-preserved g c =
+    let found = c.args.found.now in
+    let l = c.loop-index in
+    let patterns = found.patterns.items in
+    let d = c.index-found-index.result in
+    let whole = claims_text patterns (claims_read found.claims.now) in
+    let others = claims_text patterns (claims_read (drop (l.index + 1) found.claims.now)) in
+    let claim = claim_read (get_or found.claims.now l.index d) in
+    let text : c.as_slice-bytes.result.now ≡ claim_text patterns claim = c.as_slice-bytes.ensures.value ∙ c.in_ok-text.ensures ∙ ap (match_text claim) c.match_of.ensures in
+    let cut : claims_text patterns (claims_read (drop l.index found.claims.now)) ≡ c.as_slice-bytes.result.now ++ others =
+    claims-cut patterns found.claims.now l.index d c.loop-index-test.true ∙ ap (λ t. t ++ others) (sym text) in
+    record {
+      told = up_to_more whole _ c.as_slice-bytes.result.now others (sheet g.W.Write.contents c.args.block.now c.args.writer.now) (sheet g.W.Write.contents l.block l.writer)
+          (sheet g.W.Write.contents c.put.new.block c.put.new.writer) l.invariant.told cut c.put.ensures;
+      silent = silent-more whole _ c.as_slice-bytes.result.now others l.silent l.invariant.silent cut
+          ∙ ap (λ b. b && is_empty others) (sym c.is_silent-silent.ensures);
+    }

@@ -1,0 +1,16 @@
+use Rattle.std.proofs.Common.{◌≡◌, ◌&&◌, drop}
+use Rattle.gathered.specs.Telling.{sheet}
+use Rattle.gathered.proofs.Fronts.{TellsUpTo}
+use Rattle.census_verify.specs.Claims.{claims_read}
+use Rattle.census_verify.specs.Columns.{is_empty}
+use Rattle.census_verify.specs.Verdict.{all_unclaimed_text}
+use Rattle.census_verify.proofs.verdict.put_unclaimed.Given as goal
+
+abbrev pub invariant-loop-index : goal.invariant-loop-index
+invariant-loop-index g l = record {
+  told : TellsUpTo (all_unclaimed_text (claims_read l.found.claims.now) l.found.patterns.items)
+      (all_unclaimed_text (claims_read l.found.claims.now) (drop l.index l.found.patterns.items))
+      (sheet g.W.Write.contents l.fn.block l.fn.writer) (sheet g.W.Write.contents l.block l.writer);
+  silent : is_empty (all_unclaimed_text (claims_read l.found.claims.now) l.found.patterns.items)
+      ≡ (l.silent && is_empty (all_unclaimed_text (claims_read l.found.claims.now) (drop l.index l.found.patterns.items)));
+}

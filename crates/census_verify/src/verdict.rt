@@ -1,0 +1,135 @@
+//! What is told of claims.
+ghost use Rattle.std.specs.Prelude.{◌≡◌, ◌≢◌, ◌&&◌, ◌↔◌, [], IfOk, IsTrue, MatchResult};
+ghost use Rattle.gathered.specs.Telling.{TellsAfter, TellsFront, sheet};
+ghost use Rattle.census_readback.specs.Shapes.{AreReports};
+ghost use Rattle.census_table.specs.Entries.{entries_of};
+ghost use Rattle.census_verify.specs.Agreement.{NothingIsToldWhereAllAgree};
+ghost use Rattle.census_verify.specs.Claims.{claims_read};
+ghost use Rattle.census_verify.specs.Columns.{is_empty};
+ghost use Rattle.census_verify.specs.Found.{IsFound};
+ghost use Rattle.census_verify.specs.Verdict.{all_unclaimed_text, claims_text, unclaimed_text, verdict_text};
+
+use crate::found::{Found, find};
+use crate::lines::{claim_lines, unclaimed_line};
+use crate::reading::Claims;
+use census_rows::Row;
+use census_table::Entry;
+use gathered::{Block, put};
+use std::alloc::{AllocError, Global};
+use std::io::Write;
+use watched::Watched;
+
+// Whether nothing is told with this text, if this is so before it.
+fn is_silent(before: bool, text: &[u8]) -> bool
+    ensures { result ≡ (before && is_empty text.now) }
+{
+    before && text.is_empty()
+}
+
+// Tells what does not agree of each claim. Returns whether nothing was told.
+fn put_claims<W: Write>(
+    alloc: Global,
+    found: &Found,
+    block: &mut Block,
+    writer: &mut Watched<W>,
+) -> Result<bool, AllocError>
+    requires { IsFound found.now }
+    ensures tells { MatchResult result
+        (λ _. TellsAfter (claims_text found.now.patterns.items (claims_read found.now.claims.now))
+        (sheet W.contents block.old writer.old) (sheet W.contents block.new writer.new))
+        (λ _. TellsFront (claims_text found.now.patterns.items (claims_read found.now.claims.now))
+        (sheet W.contents block.old writer.old) (sheet W.contents block.new writer.new)) }
+    ensures silent { IfOk result (λ silent. silent
+        ≡ is_empty (claims_text found.now.patterns.items (claims_read found.now.claims.now))) }
+{
+    let mut silent = true;
+    for index in 0..found.claims.len() {
+        let claim = &found.claims[index];
+        let text = claim_lines(alloc, claim, &found.match_of(claim))?;
+        let bytes = text.as_slice();
+        silent = is_silent(silent, bytes);
+        put(bytes, block, writer);
+    }
+    Ok(silent)
+}
+
+// The line of a pattern, unless a claim is of it.
+fn unclaimed_text<'a>(
+    alloc: Global,
+    found: &Found<'a>,
+    pattern: &Entry<'a>,
+) -> Result<Vec<u8>, AllocError>
+    requires { IsFound found.now }
+    ensures { IfOk result (λ text. text.items
+        ≡ unclaimed_text (claims_read found.now.claims.now) pattern.now) }
+{
+    if found.is_claimed(pattern) {
+        Ok(Vec::new(alloc))
+    } else {
+        unclaimed_line(alloc, pattern)
+    }
+}
+
+// Tells each pattern that no claim is of. Returns whether nothing was told.
+fn put_unclaimed<W: Write>(
+    alloc: Global,
+    found: &Found,
+    block: &mut Block,
+    writer: &mut Watched<W>,
+) -> Result<bool, AllocError>
+    requires { IsFound found.now }
+    ensures tells { MatchResult result
+        (λ _. TellsAfter
+        (all_unclaimed_text (claims_read found.now.claims.now) found.now.patterns.items)
+        (sheet W.contents block.old writer.old) (sheet W.contents block.new writer.new))
+        (λ _. TellsFront
+        (all_unclaimed_text (claims_read found.now.claims.now) found.now.patterns.items)
+        (sheet W.contents block.old writer.old) (sheet W.contents block.new writer.new)) }
+    ensures silent { IfOk result (λ silent. silent
+        ≡ is_empty (all_unclaimed_text (claims_read found.now.claims.now) found.now.patterns.items)) }
+{
+    let mut silent = true;
+    for index in 0..found.patterns.len() {
+        let text = unclaimed_text(alloc, found, &found.patterns[index])?;
+        let bytes = text.as_slice();
+        silent = is_silent(silent, bytes);
+        put(bytes, block, writer);
+    }
+    Ok(silent)
+}
+
+/// Tells what does not agree between claims and the patterns of reports. Claims come first, in their order: for each cell of
+/// which a table of patterns has something else, in their order, a line with `wrong`, the claim's name, the column's name,
+/// what is claimed, and what the table has, or `-` for nothing; a line with `missing` and the name where there is no such
+/// pattern; one with `several` and the name where there is more than one. Then comes, for each pattern that no claim is of, in
+/// the order of tables, a line with `unclaimed` and its name behind that of its collection and a `/`. What is claimed, found
+/// and named is shown as `printable_text` shows it.
+///
+/// Returns whether anything was told. The only error is out of memory: a prefix was told then. To a
+/// writer that has failed nothing is written.
+pub fn put_verdict<W: Write>(
+    alloc: Global,
+    claims: &Claims,
+    rows: &[Row],
+    block: &mut Block,
+    writer: &mut Watched<W>,
+) -> Result<bool, AllocError>
+    requires { AreReports rows.now }
+    ensures tells { MatchResult result
+        (λ _. TellsAfter (verdict_text (claims_read claims.now.items.items) (entries_of rows.now))
+        (sheet W.contents block.old writer.old) (sheet W.contents block.new writer.new))
+        (λ _. TellsFront (verdict_text (claims_read claims.now.items.items) (entries_of rows.now))
+        (sheet W.contents block.old writer.old) (sheet W.contents block.new writer.new)) }
+    ensures any { IfOk result (λ any. IsTrue any
+        ↔ (verdict_text (claims_read claims.now.items.items) (entries_of rows.now) ≢ [])) }
+{
+    let found = find(alloc, claims.items.as_slice(), rows)?;
+    let agree = put_claims(alloc, &found, block, writer)?;
+    let all_claimed = put_unclaimed(alloc, &found, block, writer)?;
+    Ok(!agree || !all_claimed)
+}
+
+/// Nothing is told exactly where each claim is true of exactly one pattern, and a claim is of each pattern.
+pub fn nothing_is_told_where_all_agree()
+    ensures { NothingIsToldWhereAllAgree }
+{}
