@@ -40,7 +40,7 @@ pub key_total : IsTotalOrder key_cmp
 key_total = then_total (on_texts (λ (k : KeyLent). k.0.now)) (on_total (λ (k : KeyLent). k.1) (options_total (on_texts (λ (b : Bor (List ℕ)). b.now))))
 
 tied-equal : (r : Ordering) → is_eq r ≡ true → r ≡ Equal
-tied-equal r e = elim r as (λ r. is_eq r ≡ true → r ≡ Equal) [ | Less ↦ λ e. absurd (cc) | Equal ↦ λ e. refl | Greater ↦ λ e. absurd (cc) ] e
+tied-equal r e = elim r as (λ r. is_eq r ≡ true → r ≡ Equal) [ Less ↦ λ e. absurd (cc) | Equal ↦ λ e. refl | Greater ↦ λ e. absurd (cc) ] e
 
 -- what stands at keys that are the same
 get-same : {X : Type 0} (m : BTreeMap KeyLent X) (k q : KeyLent) → same_key (key_lent k) (key_lent q) ≡ true → get key_cmp m k ≡ get key_cmp m q

@@ -1,3 +1,4 @@
+pub mod Agreeing
 pub mod Claiming
 pub mod Keys
 pub mod Silent

@@ -31,7 +31,12 @@ fn copied(alloc: Global, bytes: &[u8]) -> Result<Vec<u8>, AllocError>
 }
 
 // Claims a value in a column, unless it is empty.
-fn add_value(alloc: Global, claim: &mut Claim, column: Column, value: &[u8]) -> Result<(), AllocError>
+fn add_value(
+    alloc: Global,
+    claim: &mut Claim,
+    column: Column,
+    value: &[u8],
+) -> Result<(), AllocError>
     ensures { OnOk result
         (claim_read claim.new ≡ with_value column value.now (claim_read claim.old)) }
 {

@@ -39,10 +39,7 @@ fn section_patterns<'a>(
 }
 
 // The patterns of collections that are numbered from 1.
-fn all_patterns<'a>(
-    alloc: Global,
-    sections: &[Vec<&Row<'a>>],
-) -> Result<Vec<Entry<'a>>, AllocError>
+fn all_patterns<'a>(alloc: Global, sections: &[Vec<&Row<'a>>]) -> Result<Vec<Entry<'a>>, AllocError>
     ensures { IfOk result
         (λ patterns. patterns.items ≡ all_entries 1 (sections_lent sections.now)) }
 {

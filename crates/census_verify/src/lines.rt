@@ -37,12 +37,7 @@ fn push_found(text: &mut Vec<u8>, found: &[u8]) -> Result<(), AllocError>
 }
 
 // Adds the line of a cell that claims something else.
-fn push_wrong(
-    text: &mut Vec<u8>,
-    name: &[u8],
-    cell: &Cell,
-    found: &[u8],
-) -> Result<(), AllocError>
+fn push_wrong(text: &mut Vec<u8>, name: &[u8], cell: &Cell, found: &[u8]) -> Result<(), AllocError>
     ensures { OnOk result (text.new.items
         ≡ text.old.items ++ wrong_text name.now (cell_read cell.now) found.now) }
 {

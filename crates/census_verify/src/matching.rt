@@ -51,10 +51,7 @@ pub fn whole_key<'a>(pattern: &Entry<'a>) -> Key<'a>
 }
 
 // The keys of claims, before any pattern is known.
-fn keys<'a>(
-    alloc: Global,
-    claims: &'a [Claim],
-) -> Result<BTreeMap<Key<'a>, Match<'a>>, AllocError>
+fn keys<'a>(alloc: Global, claims: &'a [Claim]) -> Result<BTreeMap<Key<'a>, Match<'a>>, AllocError>
     ensures { IfOk result (λ found. (key : KeyLent) →
         get key_cmp found key ≡ match_at (claims_read claims.now) [] (key_lent key)) }
 {

@@ -58,7 +58,8 @@ impl Begun {
     fn end_cell(&mut self, alloc: Global) -> Result<(), AllocError>
         ensures { OnOk result (begun_read self.new ≡ cell_ended (begun_read self.old)) }
     {
-        self.cells.push(mem::replace(&mut self.cell, Vec::new(alloc)))?;
+        self.cells
+            .push(mem::replace(&mut self.cell, Vec::new(alloc)))?;
         self.place = Place::Start;
         Ok(())
     }
