@@ -51,10 +51,6 @@ get-same m k q same =
 
 -- # A pattern more at a key
 
-cond-if : {X : Type 0} (b : Bool) (x y : X) → cond b x y ≡ (if b then x else y)
-cond-if true x y = refl
-cond-if false x y = refl
-
 put-by : (b : Bool) (f : Match → Match) (new old here : Option Match) (found : Match) → new ≡ cond b (Some (f found)) old → (b ≡ true → here ≡ old) → here ≡ Some found
     → new ≡ (if b then option_map f old else old)
 put-by true f new old here found e same is = e ∙ ap (option_map f) (sym is ∙ same refl)
@@ -68,35 +64,6 @@ added-at m n k pattern found is updates q =
     (updates.0 q ∙ ap (λ b. cond b (Some (with_pattern pattern found)) (get key_cmp m q)) (sym (key-tied k q))) (get-same m k q) is
 
 -- # A pattern more at each key
-
-symmetric : (xs ys : List ℕ) → pointwise nat_eq xs ys ≡ pointwise nat_eq ys xs
-symmetric xs ys = nat_list_eq_equiv.symm xs ys
-
-by-name : (f : Match → Match) (a b : Bool) (x y z : Option Match) → a ≡ b → y ≡ (if a && true then option_map f x else x) → z ≡ (if a && false then option_map f y else y)
-    → z ≡ (if b && true then option_map f x else x)
-by-name f true true x y z e first second = second ∙ first
-by-name f true false x y z e first second = absurd (cc)
-by-name f false true x y z e first second = absurd (cc)
-by-name f false false x y z e first second = second ∙ first
-
-by-both : (f : Match → Match) (a b c d : Bool) (x y z : Option Match) → a ≡ b → c ≡ d → y ≡ (if a && false then option_map f x else x)
-    → z ≡ (if a && c then option_map f y else y) → z ≡ (if b && d then option_map f x else x)
-by-both f true true c d x y z e e' first second =
-    second ∙ ap (λ (t : Bool). if t then option_map f y else y) e' ∙ ap (λ w. if d then option_map f w else w) first
-by-both f true false c d x y z e e' first second = absurd (cc)
-by-both f false true c d x y z e e' first second = absurd (cc)
-by-both f false false c d x y z e e' first second = second ∙ first
-
-pub added-both : (pattern : Entry) (key : Key) (x y z : Option Match)
-    → y ≡ (if same_key (name_key pattern) key then option_map (with_pattern pattern) x else x)
-    → z ≡ (if same_key (whole_key pattern) key then option_map (with_pattern pattern) y else y)
-    → z ≡ (if is_of key pattern then option_map (with_pattern pattern) x else x)
-added-both pattern (name, Nowhere) x y z first second =
-    by-name (with_pattern pattern) (pointwise nat_eq pattern.name.now name) (pointwise nat_eq name pattern.name.now) x y z (symmetric pattern.name.now name) first second
-added-both pattern (name, Some collection) x y z first second =
-    by-both (with_pattern pattern) (pointwise nat_eq pattern.name.now name) (pointwise nat_eq name pattern.name.now)
-    (pointwise nat_eq pattern.collection_name.now collection) (pointwise nat_eq collection pattern.collection_name.now) x y z (symmetric pattern.name.now name)
-    (symmetric pattern.collection_name.now collection) first second
 
 matched-more : (patterns : List Entry) (pattern : Entry) → matched (patterns ++ pattern ∷ []) ≡ with_pattern pattern (matched patterns)
 matched-more [] pattern = refl

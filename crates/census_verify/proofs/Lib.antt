@@ -1,4 +1,5 @@
 pub mod Agreeing
 pub mod Claiming
 pub mod Keys
+pub mod Rows
 pub mod Silent

@@ -6,3 +6,4 @@ pub mod Patterns
 pub mod Read
 pub mod Rows
 pub mod Verdict
+pub mod Written

@@ -1,6 +1,4 @@
 //! Claims about the patterns of reports, compared with what the reports say.
-//!
-//! Tested in `tests_reports`.
 #![tactic(auto)]
 
 mod claim;
@@ -11,8 +9,10 @@ mod matching;
 mod place;
 mod reading;
 mod taken;
+#[cfg(test)]
+mod tests;
 mod verdict;
 
 pub use claim::{Cell, Claim};
-pub use reading::{Claims, read_claims};
+pub use reading::{Claims, read_claims, rows_are_read_as_written};
 pub use verdict::{nothing_is_told_where_all_agree, put_verdict};

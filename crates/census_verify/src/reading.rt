@@ -4,6 +4,7 @@ ghost use Rattle.std.specs.Result.{result_map_both};
 ghost use Rattle.census_verify.specs.Claims.{all_taken, claims_from, claims_in, claims_read, nothing_taken};
 ghost use Rattle.census_verify.specs.Read.{begun_read, taken_read};
 ghost use Rattle.census_verify.specs.Rows.{begun_on, cell_ended, rows_from, with_byte, without_mark};
+ghost use Rattle.census_verify.specs.Written.{RowsAreReadAsWritten};
 
 use crate::claim::Claim;
 use crate::place::{Move, Place, move_of};
@@ -176,3 +177,9 @@ pub fn read_claims(alloc: Global, text: &[u8]) -> Result<Result<Claims, usize>, 
 {
     read_rows(alloc, without_mark(text))
 }
+
+/// Rows of any cells that are written as RFC 4180 has them are read as they are: where a cell without `"`, `,`, LF and CR
+/// stands as it is, any cell may stand in quotes with each `"` twice, a `,` stands between cells, and LF or CR LF ends a row.
+pub fn rows_are_read_as_written()
+    ensures { RowsAreReadAsWritten }
+{}

@@ -1,0 +1,197 @@
+-- Rows are read as they were written.
+use Rattle.std.proofs.Common.{◌≡◌, ℕ, ◌+◌, Bool, true, false, ◌&&◌, ◌==◌, not, List, [], ◌∷◌, ◌++◌, refl, sym, ap, ap₂, ◌∙◌, subst, append_assoc, if◌then◌else◌, inl, inr}
+use Rattle.std.specs.Prelude.{Option, Some}
+use Rattle.std.specs.List.{list_all}
+use Rattle.std.specs.Option.{option_map}
+use Rattle.std.proofs.lemmas.Bool.{eqb-true}
+use Rattle.std.proofs.lemmas.List.{append-nil}
+use Rattle.census_verify.specs.Rows.{Begun, Row, whole, broken, all_cells, begun_on, cell_ended, move_of, rows_from, with_byte}
+use Rattle.census_verify.specs.Written.{IsCellText, IsRowEnd, IsRowText, IsRowsText, RowsAreReadAsWritten, cells_of, doubled, is_plain}
+use Rattle.census_verify.specs.declared.place.Move.{Move}
+use Rattle.census_verify.specs.declared.place.Move.TheVariants.{Add, Pass, EndCell, EndRow, Break}
+use Rattle.census_verify.specs.declared.place.Place.{Place}
+use Rattle.census_verify.specs.declared.place.Place.TheVariants.{Start, Plain, Quoted, Closed, Return}
+
+-- # One byte
+
+-- the rows behind a byte that does this
+abbrev moved : Begun → ℕ → List ℕ → Move → List Row
+moved row byte text m =
+    elim m [
+      | Add place ↦ rows_from (with_byte place byte row) text
+      | Pass place ↦ rows_from (record row { place = place }) text
+      | EndCell ↦ rows_from (cell_ended row) text
+      | EndRow ↦ whole row.begun (all_cells row) ∷ rows_from (begun_on (row.line + 1)) text
+      | Break ↦ broken row.begun ∷ []
+    ]
+
+move : (row : Begun) (byte : ℕ) (text : List ℕ) (m : Move) → move_of row.place byte ≡ m → rows_from row (byte ∷ text) ≡ moved row byte text m
+move row byte text m e = ap (moved row byte text) e
+
+plain-by : (quote comma feed return : Bool) (m : Move) → (not quote && (not comma && (not feed && not return))) ≡ true
+    → (if quote then m else (if comma then EndCell else (if feed then EndRow else (if return then Pass Return else Add Plain)))) ≡ Add Plain
+plain-by true comma feed return m e = absurd (cc)
+plain-by false true feed return m e = absurd (cc)
+plain-by false false true return m e = absurd (cc)
+plain-by false false false true m e = absurd (cc)
+plain-by false false false false m e = refl
+
+-- at this place a cell, a row, and a row with a CR may end
+abbrev IsOpen : Place → Type 0
+IsOpen place = (move_of place 44 ≡ EndCell) × (move_of place 10 ≡ EndRow) × (move_of place 13 ≡ Pass Return)
+
+-- at this place a cell without quotes may begin or go on
+abbrev TakesPlain : Place → Type 0
+TakesPlain place = (byte : ℕ) → is_plain byte ≡ true → move_of place byte ≡ Add Plain
+
+start-takes : TakesPlain Start
+start-takes byte e = plain-by (byte == 34) (byte == 44) (byte == 10) (byte == 13) (Pass Quoted) e
+
+plain-takes : TakesPlain Plain
+plain-takes byte e = plain-by (byte == 34) (byte == 44) (byte == 10) (byte == 13) Break e
+
+both : (a b : Bool) → (a && b) ≡ true → (a ≡ true) × (b ≡ true)
+both true b e = (refl, e)
+both false b e = absurd (cc)
+
+-- # Cells
+
+-- behind the text of a cell, where the row stands at an open place
+record CellRead (row : Begun) (cell text rest : List ℕ) : Type 0 where
+  behind : Begun
+  opened : IsOpen behind.place
+  cells : behind.cells ≡ row.cells
+  bytes : behind.cell ≡ row.cell ++ cell
+  same : rows_from row (text ++ rest) ≡ rows_from behind rest
+
+plain-read : (cell : List ℕ) (row : Begun) (rest : List ℕ) → list_all is_plain cell ≡ true → IsOpen row.place → TakesPlain row.place → CellRead row cell cell rest
+plain-read [] row rest plain opened takes = record { behind = row; opened = opened; cells = refl; bytes = sym (append-nil row.cell); same = refl }
+plain-read (byte ∷ bytes) row rest plain opened takes =
+    let p = both (is_plain byte) (list_all is_plain bytes) plain in
+    let r = plain-read bytes (with_byte Plain byte row) rest p.1 (refl, refl, refl) plain-takes in
+    record {
+      behind = r.behind;
+      opened = r.opened;
+      cells = r.cells;
+      bytes = r.bytes ∙ append_assoc row.cell (byte ∷ []) bytes;
+      same = move row byte (bytes ++ rest) (Add Plain) (takes byte p.0) ∙ r.same;
+    }
+
+-- behind the bytes of a cell in quotes and the last quote
+record QuotedRead (row : Begun) (cell rest : List ℕ) : Type 0 where
+  behind : Begun
+  closed : behind.place ≡ Closed
+  cells : behind.cells ≡ row.cells
+  bytes : behind.cell ≡ row.cell ++ cell
+  same : rows_from row (doubled cell ++ 34 ∷ rest) ≡ rows_from behind rest
+
+in-quotes : (row : Begun) (byte : ℕ) → row.place ≡ Quoted → (byte == 34) ≡ false → move_of row.place byte ≡ Add Quoted
+in-quotes row byte at other = ap (λ p. move_of p byte) at ∙ ap (λ (b : Bool). if b then Pass Closed else Add Quoted) other
+
+quoted-by : (quote : Bool) (byte : ℕ) (bytes : List ℕ) (row : Begun) (rest : List ℕ) → (byte == 34) ≡ quote → row.place ≡ Quoted
+    → ((next : Begun) → next.place ≡ Quoted → QuotedRead next bytes rest) → QuotedRead row (byte ∷ bytes) rest
+quoted-by true byte bytes row rest e at read =
+    let closed : Begun = record row { place = Closed } in
+    let r = read (with_byte Quoted 34 closed) refl in
+    let is : byte ≡ 34 = eqb-true byte 34 e in
+    record {
+      behind = r.behind;
+      closed = r.closed;
+      cells = r.cells;
+      bytes = r.bytes ∙ append_assoc row.cell (34 ∷ []) bytes ∙ ap (λ b. row.cell ++ b ∷ bytes) (sym is);
+      same = ap (λ (b : Bool). rows_from row ((if b then 34 ∷ (34 ∷ doubled bytes) else byte ∷ doubled bytes) ++ 34 ∷ rest)) e
+          ∙ move row 34 (34 ∷ (doubled bytes ++ 34 ∷ rest)) (Pass Closed) (ap (λ p. move_of p 34) at)
+          ∙ move closed 34 (doubled bytes ++ 34 ∷ rest) (Add Quoted) refl
+          ∙ r.same;
+    }
+quoted-by false byte bytes row rest e at read =
+    let r = read (with_byte Quoted byte row) refl in
+    record {
+      behind = r.behind;
+      closed = r.closed;
+      cells = r.cells;
+      bytes = r.bytes ∙ append_assoc row.cell (byte ∷ []) bytes;
+      same = ap (λ (b : Bool). rows_from row ((if b then 34 ∷ (34 ∷ doubled bytes) else byte ∷ doubled bytes) ++ 34 ∷ rest)) e
+          ∙ move row byte (doubled bytes ++ 34 ∷ rest) (Add Quoted) (in-quotes row byte at e)
+          ∙ r.same;
+    }
+
+quoted-read : (cell : List ℕ) (row : Begun) (rest : List ℕ) → row.place ≡ Quoted → QuotedRead row cell rest
+quoted-read [] row rest at = record {
+  behind = record row { place = Closed };
+  closed = refl;
+  cells = refl;
+  bytes = sym (append-nil row.cell);
+  same = move row 34 rest (Pass Closed) (ap (λ p. move_of p 34) at);
+}
+quoted-read (byte ∷ bytes) row rest at = quoted-by (byte == 34) byte bytes row rest refl at (λ next here. quoted-read bytes next rest here)
+
+cell-read : (cell text : List ℕ) → IsCellText cell text → (row : Begun) → row.place ≡ Start → (rest : List ℕ) → CellRead row cell text rest
+cell-read cell text (inl p) row at rest =
+    subst (λ t. CellRead row cell t rest) (sym p.1)
+    (plain-read cell row rest p.0 (subst IsOpen (sym at) (refl, refl, refl)) (subst TakesPlain (sym at) start-takes))
+cell-read cell text (inr is) row at rest =
+    let r = quoted-read cell (record row { place = Quoted }) rest refl in
+    record {
+      behind = r.behind;
+      opened = subst IsOpen (sym r.closed) (refl, refl, refl);
+      cells = r.cells;
+      bytes = r.bytes;
+      same = ap (λ t. rows_from row (t ++ rest)) is
+          ∙ move row 34 ((doubled cell ++ 34 ∷ []) ++ rest) (Pass Quoted) (ap (λ p. move_of p 34) at)
+          ∙ ap (rows_from (record row { place = Quoted })) (append_assoc (doubled cell) (34 ∷ []) rest)
+          ∙ r.same;
+    }
+
+-- # Rows
+
+-- behind the text of cells
+record CellsRead (row : Begun) (cells : List (List ℕ)) (text rest : List ℕ) : Type 0 where
+  behind : Begun
+  opened : IsOpen behind.place
+  all : all_cells behind ≡ row.cells ++ cells
+  same : rows_from row (text ++ rest) ≡ rows_from behind rest
+
+last-cell : (row behind : Begun) (cell : List ℕ) → behind.cells ≡ row.cells → behind.cell ≡ row.cell ++ cell → row.cell ≡ [] → all_cells behind ≡ row.cells ++ cell ∷ []
+last-cell row behind cell cells bytes none = ap₂ (λ (a : List (List ℕ)) (b : List ℕ). a ++ b ∷ []) cells (bytes ∙ ap (λ t. t ++ cell) none)
+
+cells-read : (cells : List (List ℕ)) (text : List ℕ) → IsRowText cells text → (row : Begun) → row.place ≡ Start → row.cell ≡ [] → (rest : List ℕ)
+    → CellsRead row cells text rest
+cells-read [] text is row at none rest = absurd is
+cells-read (cell ∷ []) text is row at none rest =
+    let r = cell-read cell text is row at rest in
+    record { behind = r.behind; opened = r.opened; all = last-cell row r.behind cell r.cells r.bytes none; same = r.same }
+cells-read (cell ∷ (other ∷ others)) text is row at none rest =
+    let r = cell-read cell is.0 is.2 row at (44 ∷ (is.1 ++ rest)) in
+    let more = cells-read (other ∷ others) is.1 is.3 (cell_ended r.behind) refl refl rest in
+    record {
+      behind = more.behind;
+      opened = more.opened;
+      all = more.all
+          ∙ ap (λ (a : List (List ℕ)). a ++ other ∷ others) (last-cell row r.behind cell r.cells r.bytes none)
+          ∙ append_assoc row.cells (cell ∷ []) (other ∷ others);
+      same = ap (λ t. rows_from row (t ++ rest)) is.4
+          ∙ ap (rows_from row) (append_assoc is.0 (44 ∷ is.1) rest)
+          ∙ r.same
+          ∙ move r.behind 44 (is.1 ++ rest) EndCell r.opened.0
+          ∙ more.same;
+    }
+
+row-ended : (row : Begun) (end rest : List ℕ) → IsOpen row.place → IsRowEnd end
+    → rows_from row (end ++ rest) ≡ whole row.begun (all_cells row) ∷ rows_from (begun_on (row.line + 1)) rest
+row-ended row end rest opened (inl is) = ap (λ t. rows_from row (t ++ rest)) is ∙ move row 10 rest EndRow opened.1
+row-ended row end rest opened (inr is) =
+    ap (λ t. rows_from row (t ++ rest)) is
+    ∙ move row 13 (10 ∷ rest) (Pass Return) opened.2
+    ∙ move (record row { place = Return }) 10 rest EndRow refl
+
+rows-read : (rows : List (List (List ℕ))) (text : List ℕ) → IsRowsText rows text → (line : ℕ) → cells_of (rows_from (begun_on line) text) ≡ Some rows
+rows-read [] text is line = ap (λ t. cells_of (rows_from (begun_on line) t)) is
+rows-read (cells ∷ rows) text is line =
+    let r = cells-read cells is.0 is.3 (begun_on line) refl refl (is.1 ++ is.2) in
+    ap (λ t. cells_of (rows_from (begun_on line) t)) is.6
+    ∙ ap cells_of (r.same ∙ row-ended r.behind is.1 is.2 r.opened is.4)
+    ∙ ap₂ (λ (a : List (List ℕ)) (o : Option (List (List (List ℕ)))). option_map (λ others. a ∷ others) o) r.all (rows-read rows is.2 is.5 (r.behind.line + 1))
+
+pub read-as-written : RowsAreReadAsWritten
+read-as-written rows text is = rows-read rows text is 1
