@@ -1,15 +1,14 @@
 -- Where nothing is told.
-use Rattle.std.proofs.Common.{◌≡◌, ℕ, Bool, true, false, List, [], ◌∷◌, ◌++◌, refl, sym, ap, ◌∙◌, arith, if◌then◌else◌}
+use Rattle.std.proofs.Common.{◌≡◌, ℕ, Bool, true, false, List, [], ◌∷◌, ◌++◌, refl, ap, ◌∙◌, arith, if◌then◌else◌}
 use Rattle.std.specs.Prelude.{nat_eq}
 use Rattle.std.specs.Cmp.Lexicographic.{bytes_decides, pointwise}
 use Rattle.std.specs.List.{All}
 use Rattle.std.proofs.lemmas.List.Elements.{All-cons, All-nil, All-tail}
-use Rattle.census_faults.specs.Printed.{printable_text}
 use Rattle.census_table.specs.declared.entry.Entry.{Entry}
-use Rattle.census_verify.specs.Agreement.{Agree, IsTrueOf, NothingIsToldWhereAllAgree}
+use Rattle.census_verify.specs.Agreement.{IsTrueOf, NothingIsToldWhereAllAgree}
 use Rattle.census_verify.specs.Claims.{Cell, Claim}
 use Rattle.census_verify.specs.Patterns.{is_claimed, matched, patterns_of}
-use Rattle.census_verify.specs.Verdict.{all_unclaimed_text, cell_text, cells_text, claim_text, claims_text, match_text, told, unclaimed_line, unclaimed_text, verdict_text, wrong_text}
+use Rattle.census_verify.specs.Verdict.{all_unclaimed_text, cell_text, cells_text, claim_text, claims_text, match_text, told, unclaimed_line, unclaimed_text, wrong_text}
 
 -- # Parts of what is told
 

@@ -1,6 +1,6 @@
 -- Rows that claim nothing.
-use Rattle.std.proofs.Common.{◌≡◌, ◌≢◌, ℕ, ◌+◌, Bool, true, false, List, [], ◌∷◌, length, map, refl, arith, if◌then◌else◌}
-use Rattle.std.specs.Prelude.{Option, Some, None}
+use Rattle.std.proofs.Common.{◌≡◌, ◌≢◌, ℕ, Bool, true, false, List, [], ◌∷◌, length, refl, arith, if◌then◌else◌}
+use Rattle.std.specs.Prelude.{Option, None}
 use Rattle.census_table.specs.declared.column.Column.{Column}
 use Rattle.census_verify.specs.Claims.{Claim, claim_from, with_cell}
 use Rattle.census_verify.specs.Columns.{fits}

@@ -5,7 +5,6 @@ use Rattle.std.specs.BTreeMap.{BTreeMap, get, get_by, Updates}
 use Rattle.std.specs.Borrow.{Bor}
 use Rattle.std.specs.Cmp.Lexicographic.{nat_list_eq_equiv, on_texts, options_equiv, options_total, pointwise, slice_cmp, texts_ties}
 use Rattle.std.specs.Cmp.{both_tied, IsTotalOrder, on_total}
-use Rattle.std.specs.List.{list_any}
 use Rattle.std.specs.Option.{option_cmp, option_eq, option_map}
 use Rattle.std.specs.Ordering.{is_eq, nat_cmp}
 use Rattle.std.specs.declared.cmp.Ordering.{Ordering}
@@ -20,7 +19,7 @@ use Rattle.census_verify.specs.Found.{KeyLent, has_key, key_cmp, key_lent, match
 use Rattle.census_verify.specs.Patterns.{Key, is_claimed, is_of, key_of, matched, patterns_of}
 use Rattle.census_verify.specs.declared.claim.Claim.{Claim as ClaimRead}
 use Rattle.census_verify.specs.declared.matching.Match.{Match}
-use Rattle.census_verify.specs.declared.matching.Match.TheVariants.{Nothing, One, Several}
+use Rattle.census_verify.specs.declared.matching.Match.TheVariants.{Nothing}
 
 -- # The order
 

@@ -2,7 +2,7 @@
 use Rattle.std.specs.Prelude.{◌≡◌, ◌↔◌, true, List, [], ◌∷◌}
 use Rattle.std.specs.List.{All}
 use Rattle.census_table.specs.declared.entry.Entry.{Entry}
-use Rattle.census_verify.specs.Claims.{Cell, Claim}
+use Rattle.census_verify.specs.Claims.{Claim}
 use Rattle.census_verify.specs.Patterns.{is_claimed, patterns_of}
 use Rattle.census_verify.specs.Verdict.{told, verdict_text}
 

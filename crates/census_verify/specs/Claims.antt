@@ -1,7 +1,6 @@
 -- What the rows of a text claim.
-use Rattle.std.specs.Prelude.{ℕ, Bool, if◌then◌else◌, Option, Some, None, Result, Ok, Err, List, [], ◌∷◌, ◌++◌, map}
+use Rattle.std.specs.Prelude.{ℕ, if◌then◌else◌, Option, Some, None, Result, Ok, Err, List, [], ◌∷◌, ◌++◌, map}
 use Rattle.std.specs.List.{list_any}
-use Rattle.std.specs.declared.vec.Vec.{Vec}
 use Rattle.census_table.specs.declared.column.Column.{Column}
 use Rattle.census_table.specs.declared.column.Column.TheVariants as column
 use Rattle.census_verify.specs.Columns.{column_of, fits, is_name}

@@ -1,8 +1,8 @@
 -- The columns of claims.
-use Rattle.std.specs.Prelude.{ℕ, Bool, true, false, ◌&&◌, ◌||◌, ◌==◌, if◌then◌else◌, not, Option, Some, None, List, [], ◌∷◌, find, nat_eq}
+use Rattle.std.specs.Prelude.{ℕ, Bool, true, false, ◌&&◌, ◌||◌, ◌==◌, if◌then◌else◌, not, Option, Some, List, [], ◌∷◌, find, nat_eq}
 use Rattle.std.specs.Char.{is_ascii_digit}
 use Rattle.std.specs.Cmp.Lexicographic.{pointwise}
-use Rattle.std.specs.List.{list_all, list_any}
+use Rattle.std.specs.List.{list_all}
 use Rattle.census_table.specs.Columns.{name_of}
 use Rattle.census_table.specs.declared.column.Column.{Column}
 use Rattle.census_table.specs.declared.column.Column.TheVariants as column

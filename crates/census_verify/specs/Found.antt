@@ -1,5 +1,5 @@
 -- Claims and the patterns that they are of, by keys.
-use Rattle.std.specs.Prelude.{◌≡◌, ℕ, Bool, ◌&&◌, ◌||◌, if◌then◌else◌, Option, Some, None as Nowhere, List, [], ◌∷◌, filter, nat_eq}
+use Rattle.std.specs.Prelude.{◌≡◌, ℕ, Bool, ◌&&◌, if◌then◌else◌, Option, Some, None as Nowhere, List, filter, nat_eq}
 use Rattle.std.specs.BTreeMap.{get}
 use Rattle.std.specs.Borrow.{Bor}
 use Rattle.std.specs.Cmp.Lexicographic.{pointwise, slice_cmp}

@@ -1,5 +1,5 @@
 -- What is told of claims.
-use Rattle.std.specs.Prelude.{ℕ, Bool, false, if◌then◌else◌, List, [], ◌∷◌, ◌++◌, codes, nat_eq}
+use Rattle.std.specs.Prelude.{ℕ, false, if◌then◌else◌, List, [], ◌∷◌, ◌++◌, codes, nat_eq}
 use Rattle.std.specs.Cmp.Lexicographic.{pointwise}
 use Rattle.census_faults.specs.Printed.{printable_text}
 use Rattle.census_table.specs.Columns.{content_in_column, name_of}

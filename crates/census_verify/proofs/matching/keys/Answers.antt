@@ -1,7 +1,6 @@
-use Rattle.std.proofs.Common.{◌≡◌, ◌++◌, ◌∷◌, List, [], ap, sym, take, ◌∙◌}
-use Rattle.std.specs.BTreeMap.{get}
+use Rattle.std.proofs.Common.{◌++◌, ◌∷◌, List, [], ap, sym, take, ◌∙◌}
 use Rattle.census_verify.specs.Claims.{Claim, claim_read, claims_read}
-use Rattle.census_verify.specs.Found.{key_cmp, key_lent, match_at}
+use Rattle.census_verify.specs.Found.{key_lent, match_at}
 use Rattle.census_verify.proofs.Keys.{claim-more, claims-take}
 use Rattle.census_verify.proofs.matching.keys.Goals as goal
 

@@ -1,10 +1,8 @@
-use Rattle.std.proofs.Common.{◌≡◌, ◌+◌, ◌++◌, ◌&&◌, List, ℕ, ap, drop, get_or, refl, sym, subst, ◌∙◌}
-use Rattle.gathered.specs.Telling.{TellsAfter, sheet}
+use Rattle.std.proofs.Common.{◌≡◌, ◌+◌, ◌++◌, ◌&&◌, ap, drop, get_or, refl, sym, ◌∙◌}
+use Rattle.gathered.specs.Telling.{sheet}
 use Rattle.gathered.proofs.Fronts.{up_to_more, up_to_start}
 use Rattle.census_verify.specs.Claims.{claim_read, claims_read}
 use Rattle.census_verify.specs.Columns.{is_empty}
-use Rattle.census_verify.specs.Found.{has_key}
-use Rattle.census_verify.specs.Patterns.{key_of}
 use Rattle.census_verify.specs.Verdict.{claim_text, claims_text, match_text}
 use Rattle.census_verify.proofs.Keys.{has-own}
 use Rattle.census_verify.proofs.Silent.{claims-cut, silent-more}

@@ -1,4 +1,4 @@
-use Rattle.std.proofs.Common.{◌≡◌, Option, Some, None, sym, ◌∙◌}
+use Rattle.std.proofs.Common.{◌≡◌, Some, None, ◌∙◌}
 use Rattle.std.specs.BTreeMap.{get}
 use Rattle.census_verify.specs.Claims.{claim_read, claims_read}
 use Rattle.census_verify.specs.Found.{key_cmp, key_lent}
