@@ -1,5 +1,6 @@
 pub mod Agreeing
 pub mod Claiming
 pub mod Keys
+pub mod Numbers
 pub mod Rows
 pub mod Silent

@@ -2,6 +2,7 @@ pub mod Agreement
 pub mod Claims
 pub mod Columns
 pub mod Found
+pub mod Numbers
 pub mod Patterns
 pub mod Read
 pub mod Rows

@@ -3,6 +3,7 @@ ghost use Rattle.std.specs.Prelude.{◌≡◌};
 ghost use Rattle.std.specs.Char.{is_ascii_digit};
 ghost use Rattle.std.specs.List.{list_all};
 ghost use Rattle.census_verify.specs.Columns.{claimable, column_of, fits, has_form, is_name, is_number, is_signed};
+ghost use Rattle.census_verify.specs.Numbers.{NumbersMayBeClaimed};
 
 use census_table::Column;
 
@@ -90,3 +91,8 @@ pub fn fits(column: &Option<Column>, cell: &[u8]) -> bool
 {
     cell.is_empty() || has_form(column, cell)
 }
+
+/// Each number that a table may have may be claimed as the table has it.
+pub fn numbers_may_be_claimed()
+    ensures { NumbersMayBeClaimed }
+{}

@@ -14,5 +14,6 @@ mod tests;
 mod verdict;
 
 pub use claim::{Cell, Claim};
+pub use columns::numbers_may_be_claimed;
 pub use reading::{Claims, read_claims, rows_are_read_as_written};
 pub use verdict::{nothing_is_told_where_all_agree, put_verdict};
