@@ -16,8 +16,8 @@ use Rattle.clap.specs.declared.builder.value_parser.ValueParser.{ValueParser}
 use Rattle.clap.specs.declared.builder.value_parser.ValueParser.TheVariants as parser
 use Rattle.clap.proofs.ValueTestLemmas.{accepts-Accepts}
 use Rattle.census_cli.specs.Asking.{IsMatched}
-use Rattle.census_cli.specs.Holding.{HasAdvance, HasDraw, HasFlag, HasIdentify, HasLimit, HasMerge, HasNumberIn, HasObjects, HasRun, HasSame, HasTable, HasText, IsCommand}
-use Rattle.census_cli.specs.CommandLine.{advance_shape, census_app, draw_shape, identify_shape, merge_shape, objects_shape, page_shape, run_shape, same_shape, table_shape}
+use Rattle.census_cli.specs.Holding.{HasAdvance, HasDraw, HasFlag, HasIdentify, HasLimit, HasMerge, HasNumberIn, HasObjects, HasRun, HasSame, HasTable, HasText, HasVerify, IsCommand}
+use Rattle.census_cli.specs.CommandLine.{advance_shape, census_app, draw_shape, identify_shape, merge_shape, objects_shape, page_shape, run_shape, same_shape, table_shape, verify_shape}
 use Rattle.census_cli.proofs.Passing.{Each, found_of_each, neither_true, not_cons}
 use Rattle.census_cli.proofs.Rows.{HasFirst, Reads, reads_of, reads_or_none, row_of_id}
 use Rattle.census_cli.proofs.Uses.{RuleHolds}
@@ -132,6 +132,9 @@ built_table = built_leaf (inherited above table_shape)
 
 abbrev built_same : Shape
 built_same = built_leaf (inherited above same_shape)
+
+abbrev built_verify : Shape
+built_verify = built_leaf (inherited above verify_shape)
 
 top_rules : Each (RuleHolds AnyText) whole.top.rules
 top_rules = (
@@ -285,6 +288,18 @@ same_rules = (
   ),
 )
 
+verify_rules : Each (RuleHolds ExplainText) built_verify.rules
+verify_rules = (
+  record { own = λ v e. absent; usual = inr (refl, inl refl); plain = λ t. refl },
+  (
+    record { own = λ v e _. flag_text v e; usual = inr (refl, inr true_given); plain = λ t. refl },
+    (
+      record { own = λ v e. absent; usual = inr (refl, inl refl); plain = λ t. refl },
+      (record { own = λ v e. absent; usual = inl refl; plain = λ t. refl }, tt),
+    ),
+  ),
+)
+
 -- ---- the matches of a command
 
 -- a level that doesn't fail
@@ -423,6 +438,17 @@ same_has words e = record {
       (read_by_default SameText built_same same_rules words e (codes "explain") (inr (inl (refl, false_by_default)))) (λ v q. q.1 refl);
 }
 
+verify_has : (words : List Text) → Passes built_verify words → HasVerify (rows_after built_verify.rules [] words)
+verify_has words e =
+    let rows = rows_after built_verify.rules [] words in
+    let checks = checks_pass built_verify rows false (read_checks ExplainText built_verify verify_rules words e) in
+    let given = is_true (is_given (codes "claims") rows) (neither_true (not (is_given (codes "claims") rows)) false checks.1).0 in
+    record {
+      claims = text_in ExplainText (codes "claims") _ (read_as_given ExplainText built_verify verify_rules words e (codes "claims") given);
+      explain = flag_in ExplainText (codes "explain") _
+          (read_by_default ExplainText built_verify verify_rules words e (codes "explain") (inr (inl (refl, false_by_default)))) (λ v q. q refl);
+    }
+
 table_has : (words : List Text) → Passes built_table words → HasTable (rows_after built_table.rules [] words)
 table_has words e = record {
   csv = flag_in TableText (codes "csv") _ (by_default (codes "csv") (inl (refl, false_by_default))) (λ v q. q.0 refl);
@@ -470,8 +496,11 @@ each_enters name words = (
               (
                 λ stop names passes. inr (inr (inr (inr (inr (inr (inr (inl (refl, page_has words passes)))))))),
                 (
-                  λ stop names passes. inr (inr (inr (inr (inr (inr (inr (inr (refl, same_has words passes)))))))),
-                  (λ stop names passes. absurd (help_is_no_command name stop names), tt),
+                  λ stop names passes. inr (inr (inr (inr (inr (inr (inr (inr (inl (refl, same_has words passes))))))))),
+                  (
+                    λ stop names passes. inr (inr (inr (inr (inr (inr (inr (inr (inr (refl, verify_has words passes))))))))),
+                    (λ stop names passes. absurd (help_is_no_command name stop names), tt),
+                  ),
                 ),
               ),
             ),
@@ -519,7 +548,8 @@ run_command rows (inr (inr (inr (inr (inl h))))) = other_name _ _ h.0 refl
 run_command rows (inr (inr (inr (inr (inr (inl h)))))) = other_name _ _ h.0 refl
 run_command rows (inr (inr (inr (inr (inr (inr (inl h))))))) = other_name _ _ h.0 refl
 run_command rows (inr (inr (inr (inr (inr (inr (inr (inl h)))))))) = other_name _ _ h.0 refl
-run_command rows (inr (inr (inr (inr (inr (inr (inr (inr h)))))))) = other_name _ _ h.0 refl
+run_command rows (inr (inr (inr (inr (inr (inr (inr (inr (inl h))))))))) = other_name _ _ h.0 refl
+run_command rows (inr (inr (inr (inr (inr (inr (inr (inr (inr h))))))))) = other_name _ _ h.0 refl
 
 -- and so has `objects`
 pub objects_command : (rows : List Row) → IsCommand (Some (codes "objects", rows)) → HasObjects rows
@@ -531,7 +561,8 @@ objects_command rows (inr (inr (inr (inr (inl h))))) = other_name _ _ h.0 refl
 objects_command rows (inr (inr (inr (inr (inr (inl h)))))) = other_name _ _ h.0 refl
 objects_command rows (inr (inr (inr (inr (inr (inr (inl h))))))) = other_name _ _ h.0 refl
 objects_command rows (inr (inr (inr (inr (inr (inr (inr (inl h)))))))) = other_name _ _ h.0 refl
-objects_command rows (inr (inr (inr (inr (inr (inr (inr (inr h)))))))) = other_name _ _ h.0 refl
+objects_command rows (inr (inr (inr (inr (inr (inr (inr (inr (inl h))))))))) = other_name _ _ h.0 refl
+objects_command rows (inr (inr (inr (inr (inr (inr (inr (inr (inr h))))))))) = other_name _ _ h.0 refl
 
 -- the command `advance` has a number of generations
 pub advance_command : (rows : List Row) → IsCommand (Some (codes "advance", rows)) → HasAdvance rows
@@ -543,7 +574,8 @@ advance_command rows (inr (inr (inr (inr (inl h))))) = other_name _ _ h.0 refl
 advance_command rows (inr (inr (inr (inr (inr (inl h)))))) = other_name _ _ h.0 refl
 advance_command rows (inr (inr (inr (inr (inr (inr (inl h))))))) = other_name _ _ h.0 refl
 advance_command rows (inr (inr (inr (inr (inr (inr (inr (inl h)))))))) = other_name _ _ h.0 refl
-advance_command rows (inr (inr (inr (inr (inr (inr (inr (inr h)))))))) = other_name _ _ h.0 refl
+advance_command rows (inr (inr (inr (inr (inr (inr (inr (inr (inl h))))))))) = other_name _ _ h.0 refl
+advance_command rows (inr (inr (inr (inr (inr (inr (inr (inr (inr h))))))))) = other_name _ _ h.0 refl
 
 -- the command `table` has its flags
 pub table_command : (rows : List Row) → IsCommand (Some (codes "table", rows)) → HasTable rows
@@ -555,7 +587,8 @@ table_command rows (inr (inr (inr (inr (inl h))))) = other_name _ _ h.0 refl
 table_command rows (inr (inr (inr (inr (inr (inl h)))))) = other_name _ _ h.0 refl
 table_command rows (inr (inr (inr (inr (inr (inr (inl h))))))) = h.1
 table_command rows (inr (inr (inr (inr (inr (inr (inr (inl h)))))))) = other_name _ _ h.0 refl
-table_command rows (inr (inr (inr (inr (inr (inr (inr (inr h)))))))) = other_name _ _ h.0 refl
+table_command rows (inr (inr (inr (inr (inr (inr (inr (inr (inl h))))))))) = other_name _ _ h.0 refl
+table_command rows (inr (inr (inr (inr (inr (inr (inr (inr (inr h))))))))) = other_name _ _ h.0 refl
 
 -- the command `same` has its flags
 pub same_command : (rows : List Row) → IsCommand (Some (codes "same", rows)) → HasSame rows
@@ -567,7 +600,21 @@ same_command rows (inr (inr (inr (inr (inl h))))) = other_name _ _ h.0 refl
 same_command rows (inr (inr (inr (inr (inr (inl h)))))) = other_name _ _ h.0 refl
 same_command rows (inr (inr (inr (inr (inr (inr (inl h))))))) = other_name _ _ h.0 refl
 same_command rows (inr (inr (inr (inr (inr (inr (inr (inl h)))))))) = other_name _ _ h.0 refl
-same_command rows (inr (inr (inr (inr (inr (inr (inr (inr h)))))))) = h.1
+same_command rows (inr (inr (inr (inr (inr (inr (inr (inr (inl h))))))))) = h.1
+same_command rows (inr (inr (inr (inr (inr (inr (inr (inr (inr h))))))))) = other_name _ _ h.0 refl
+
+-- the command `verify` has its claims
+pub verify_command : (rows : List Row) → IsCommand (Some (codes "verify", rows)) → HasVerify rows
+verify_command rows (inl h) = other_name _ _ h.0 refl
+verify_command rows (inr (inl h)) = other_name _ _ h.0 refl
+verify_command rows (inr (inr (inl h))) = other_name _ _ h.0 refl
+verify_command rows (inr (inr (inr (inl h)))) = other_name _ _ h.0 refl
+verify_command rows (inr (inr (inr (inr (inl h))))) = other_name _ _ h.0 refl
+verify_command rows (inr (inr (inr (inr (inr (inl h)))))) = other_name _ _ h.0 refl
+verify_command rows (inr (inr (inr (inr (inr (inr (inl h))))))) = other_name _ _ h.0 refl
+verify_command rows (inr (inr (inr (inr (inr (inr (inr (inl h)))))))) = other_name _ _ h.0 refl
+verify_command rows (inr (inr (inr (inr (inr (inr (inr (inr (inl h))))))))) = other_name _ _ h.0 refl
+verify_command rows (inr (inr (inr (inr (inr (inr (inr (inr (inr h))))))))) = h.1
 
 -- each command has its `--explain`
 explain_flag : (name : Text) (rows : List Row) → IsCommand (Some (name, rows)) → HasFlag (codes "explain") rows
@@ -579,7 +626,8 @@ explain_flag name rows (inr (inr (inr (inr (inl h))))) = h.1.explain
 explain_flag name rows (inr (inr (inr (inr (inr (inl h)))))) = h.1.explain
 explain_flag name rows (inr (inr (inr (inr (inr (inr (inl h))))))) = h.1.explain
 explain_flag name rows (inr (inr (inr (inr (inr (inr (inr (inl h)))))))) = h.1.explain
-explain_flag name rows (inr (inr (inr (inr (inr (inr (inr (inr h)))))))) = h.1.explain
+explain_flag name rows (inr (inr (inr (inr (inr (inr (inr (inr (inl h))))))))) = h.1.explain
+explain_flag name rows (inr (inr (inr (inr (inr (inr (inr (inr (inr h))))))))) = h.1.explain
 
 pub explain_of : (command : Option (List ℕ × List Row)) (rows : List Row) → option_map (λ (p : List ℕ × List Row). p.1) command ≡ Some rows → IsCommand command
     → HasFlag (codes "explain") rows

@@ -4,7 +4,7 @@ use Rattle.clap.specs.Faults.{fault_of}
 use Rattle.clap.specs.declared.error.kind.ErrorKind.TheVariants.{ArgumentConflict, DisplayHelp, DisplayVersion, MissingSubcommand, TooManyValues, UnknownArgument, ValueValidation}
 use Rattle.clap.proofs.OnLiterals.{clap_on_literals}
 use Rattle.census_cli.specs.CommandLine.{census_app}
-use Rattle.census_cli.specs.Asking.{AsksAdvance, AsksDraw, AsksIdentify, AsksMerge, AsksObjects, AsksPage, AsksRun, AsksSame, AsksTable, AsksToExplain}
+use Rattle.census_cli.specs.Asking.{AsksAdvance, AsksDraw, AsksIdentify, AsksMerge, AsksObjects, AsksPage, AsksRun, AsksSame, AsksTable, AsksToExplain, AsksVerify}
 use Rattle.census_cli.specs.Refusing.{AsksTwoTables}
 use Rattle.census_cli.specs.declared.request.TableSubject.TheVariants.{Patterns, Codes}
 use Rattle.census_cli.specs.declared.request.TableFormat.TheVariants.{Csv, Json}
@@ -72,6 +72,10 @@ page_among = (refl, record { rows = _; named = refl; reports_are = refl })
 same_among : AsksSame (codes "same" ∷ codes "--json" ∷ codes "a" ∷ codes "-" ∷ []) true (codes "a" ∷ codes "-" ∷ [])
 unfolding clap_on_literals
 same_among = (refl, record { rows = _; named = refl; json_is = refl; reports_are = refl })
+
+verify_among : AsksVerify (codes "verify" ∷ codes "c.csv" ∷ codes "a" ∷ codes "-" ∷ []) (codes "c.csv") (codes "a" ∷ codes "-" ∷ [])
+unfolding clap_on_literals
+verify_among = (refl, record { rows = _; named = refl; claims_are = refl; reports_are = refl })
 
 table_both : AsksTwoTables (codes "table" ∷ codes "--json" ∷ codes "--csv" ∷ [])
 unfolding clap_on_literals

@@ -9,7 +9,7 @@ use Rattle.clap.specs.Walk.{Row, all_of, first_of, one_of}
 use Rattle.census_cli.specs.CommandLine.{census_app}
 use Rattle.census_cli.specs.declared.request.Asked.{Asked}
 use Rattle.census_cli.specs.declared.request.Request.{Request}
-use Rattle.census_cli.specs.declared.request.Request.TheVariants.{Run, Objects, Identify, Advance, Draw, Merge, Table, Page, Same}
+use Rattle.census_cli.specs.declared.request.Request.TheVariants.{Run, Objects, Identify, Advance, Draw, Merge, Table, Page, Same, Verify}
 use Rattle.census_cli.specs.declared.request.TableFormat.{TableFormat}
 use Rattle.census_cli.specs.declared.request.TableFormat.TheVariants.{Csv, Json}
 use Rattle.census_cli.specs.declared.request.TableSubject.{TableSubject}
@@ -137,6 +137,13 @@ pub record GivesSame (command : Option (List ℕ × List Row)) (json : Bool) (re
   pub json_is : IsFlag (codes "json") rows json
   pub reports_are : values_of (codes "report") rows ≡ reports
 
+-- those of the claims of a file compared with these reports, or, where there is none, with that of standard input
+pub record GivesVerify (command : Option (List ℕ × List Row)) (claims : List ℕ) (reports : List (List ℕ)) : Type 0 where
+  pub rows : List Row
+  pub named : command ≡ Some (codes "verify", rows)
+  pub claims_are : first_of (codes "claims") rows ≡ Some claims
+  pub reports_are : values_of (codes "report") rows ≡ reports
+
 abbrev pub GivesRequest : Option (List ℕ × List Row) → Request → Type 0
 GivesRequest command (Run bound workers cells input recursive keep_going folders) =
     GivesRun command bound workers cells input recursive keep_going (map (λ s. s.now) folders.items)
@@ -149,6 +156,7 @@ GivesRequest command (Merge reports) = GivesMerge command (map (λ s. s.now) rep
 GivesRequest command (Table subject format reports) = GivesTable command subject format (map (λ s. s.now) reports.items)
 GivesRequest command (Page reports) = GivesPage command (map (λ s. s.now) reports.items)
 GivesRequest command (Same json reports) = GivesSame command json (map (λ s. s.now) reports.items)
+GivesRequest command (Verify claims reports) = GivesVerify command claims.now (map (λ s. s.now) reports.items)
 
 -- whether the flag `--explain` of the command was used
 abbrev pub Explains : Option (List ℕ × List Row) → Bool → Type 0
@@ -214,6 +222,10 @@ AsksPage words reports = IsMatched words × GivesPage (subcommand_of census_app 
 -- for the patterns of these reports that are one object, or, where there is none, of that of standard input
 abbrev pub AsksSame : List (List ℕ) → Bool → List (List ℕ) → Type 0
 AsksSame words json reports = IsMatched words × GivesSame (subcommand_of census_app words) json reports
+
+-- for the claims of a file compared with these reports, or, where there is none, with that of standard input
+abbrev pub AsksVerify : List (List ℕ) → List ℕ → List (List ℕ) → Type 0
+AsksVerify words claims reports = IsMatched words × GivesVerify (subcommand_of census_app words) claims reports
 
 -- for this
 abbrev pub Asks : List (List ℕ) → Request → Type 0

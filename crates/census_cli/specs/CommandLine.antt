@@ -156,6 +156,10 @@ reports_rule = record (new_rule (codes "report")) {
   range = Some (record { start_inclusive = 1; end_inclusive = usize_max });
 }
 
+-- the CLAIMS of `verify`
+abbrev pub claims_rule : Rule
+claims_rule = record (new_rule (codes "claims")) { value_names = 1; required = true }
+
 -- a command of this name with these arguments, in order
 abbrev pub shape_with : List ℕ → List Rule → Shape
 shape_with name rules = record (new_shape name) { rules = rules }
@@ -191,6 +195,9 @@ page_shape = shape_with (codes "page") (explain_rule ∷ reports_rule ∷ [])
 abbrev pub same_shape : Shape
 same_shape = shape_with (codes "same") (json_rule ∷ explain_rule ∷ reports_rule ∷ [])
 
+abbrev pub verify_shape : Shape
+verify_shape = shape_with (codes "verify") (claims_rule ∷ explain_rule ∷ reports_rule ∷ [])
+
 -- `census` without its commands: it wants one, its words come without its own name, and it tells its version
 abbrev pub bare_app : App
 bare_app = record {
@@ -207,5 +214,5 @@ abbrev pub census_app : App
 census_app = record {
   top = record bare_app.top { is_leaf = false };
   subs = run_shape ∷ objects_shape ∷ identify_shape ∷ advance_shape ∷ draw_shape ∷ merge_shape
-      ∷ table_shape ∷ page_shape ∷ same_shape ∷ [];
+      ∷ table_shape ∷ page_shape ∷ same_shape ∷ verify_shape ∷ [];
 }

@@ -83,6 +83,11 @@ pub record HasSame (rows : List Row) : Type 0 where
   pub json : HasFlag (codes "json") rows
   pub explain : HasFlag (codes "explain") rows
 
+-- those of `verify` have theirs
+pub record HasVerify (rows : List Row) : Type 0 where
+  pub claims : HasText (codes "claims") rows
+  pub explain : HasFlag (codes "explain") rows
+
 -- a command with the matches that it has to have
 abbrev pub IsCommand : Option (List ℕ × List Row) → Type 0
 IsCommand None = ⊥
@@ -95,4 +100,5 @@ IsCommand (Some (name, rows)) =
     ⊎ (((name ≡ codes "merge") × HasMerge rows)
     ⊎ (((name ≡ codes "table") × HasTable rows)
     ⊎ (((name ≡ codes "page") × HasMerge rows)
-    ⊎ ((name ≡ codes "same") × HasSame rows))))))))
+    ⊎ (((name ≡ codes "same") × HasSame rows)
+    ⊎ ((name ≡ codes "verify") × HasVerify rows)))))))))

@@ -3,8 +3,8 @@ ghost use Rattle.std.specs.Prelude.{◌≡◌, IfOk, false};
 ghost use Rattle.clap.specs.Words.{app_of, rule_of, shape_of};
 ghost use Rattle.clap.specs.declared.builder.command.Command.TheViews.{out-Command};
 ghost use Rattle.census_cli.specs.CommandLine.{advance_shape, bare_app, census_app, draw_shape, identify_shape};
-ghost use Rattle.census_cli.specs.CommandLine.{merge_shape, objects_shape, page_shape, run_shape, same_shape, table_shape};
-ghost use Rattle.census_cli.specs.CommandLine.{bound_rule, cells_rule, code_rule, codes_rule, csv_rule, explain_rule, file_rule};
+ghost use Rattle.census_cli.specs.CommandLine.{merge_shape, objects_shape, page_shape, run_shape, same_shape, table_shape, verify_shape};
+ghost use Rattle.census_cli.specs.CommandLine.{bound_rule, cells_rule, claims_rule, code_rule, codes_rule, csv_rule, explain_rule, file_rule};
 ghost use Rattle.census_cli.specs.CommandLine.{files_rule, folder_rule, generations_rule, input_rule, json_rule, keep_going_rule, limit_rule, near_rule};
 ghost use Rattle.census_cli.specs.CommandLine.{no_progress_rule, parts_rule, recursive_rule, reports_rule, rule_rule, safe_rule, search_rule, workers_rule};
 
@@ -246,6 +246,15 @@ fn reports<'a>(alloc: Global) -> Arg<'a>
         .help(help::REPORT)
 }
 
+fn claims<'a>(alloc: Global) -> Arg<'a>
+    ensures { (rule_of result ≡ claims_rule) × (result.global ≡ false) }
+{
+    Arg::new(alloc, "claims")
+        .value_name("CLAIMS")
+        .required(true)
+        .help("A file of comma-separated values with a column `name`; - is standard input")
+}
+
 fn run<'a>(alloc: Global) -> Result<Command<'a>, AllocError>
     ensures { IfOk result (λ c. (shape_of c ≡ run_shape) × ((out-Command c).has_globals ≡ false)) }
 {
@@ -366,6 +375,18 @@ fn same<'a>(alloc: Global) -> Result<Command<'a>, AllocError>
         .arg(reports(alloc))
 }
 
+fn verify<'a>(alloc: Global) -> Result<Command<'a>, AllocError>
+    ensures { IfOk result
+        (λ c. (shape_of c ≡ verify_shape) × ((out-Command c).has_globals ≡ false)) }
+{
+    Command::new(alloc, "verify")
+        .about("Compare claims about patterns with what reports say")
+        .after_help(help::VERIFY)
+        .arg(claims(alloc))?
+        .arg(explain(alloc))?
+        .arg(reports(alloc))
+}
+
 /// What is said of words that name both formats of a table.
 pub(crate) const TWO_FORMATS: &str = "the argument '--csv' cannot be used with '--json'";
 
@@ -406,5 +427,6 @@ pub(crate) fn census<'a>(alloc: Global) -> Result<Command<'a>, AllocError>
         .subcommand(merge(alloc)?)?
         .subcommand(table(alloc)?)?
         .subcommand(page(alloc)?)?
-        .subcommand(same(alloc)?)
+        .subcommand(same(alloc)?)?
+        .subcommand(verify(alloc)?)
 }

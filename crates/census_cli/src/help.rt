@@ -130,6 +130,10 @@ page [REPORT]...   one HTML page, with pictures ('census help page')
 same [--json] [REPORT]...
                    patterns of reports that are one object ('census help same')
       --json       JSON, one object a line
+verify CLAIMS [REPORT]...
+                   where claims and reports differ ('census help verify')
+  CLAIMS           a file of comma-separated values with a column name; - is
+                   standard input
 run and objects
       --no-progress
                    do not tell at a terminal how far the run has come
@@ -280,6 +284,31 @@ collection_name_hex or name_hex.
 Example: census same census.txt
          census run -r collections | census same --json
          census same --explain old.txt new.txt
+
+"
+);
+
+/// After the help of `verify`.
+pub const VERIFY: &str = with_statuses!(
+    "\
+CLAIMS has comma-separated values under a row of names, as 'census table --csv'
+writes them: name, and as many as are claimed of collection_name, status, rule,
+population, onset, period, dx, dy, code and objects. An empty cell claims nothing,
+and other columns are passed over. A claim is about the one pattern of its name,
+in the collection of that name where it has one. What does not agree is written:
+
+  wrong NAME COLUMN CLAIMED FOUND  a cell that the table has otherwise; FOUND is
+                                   - where the table has nothing
+  missing NAME                     no pattern has this name
+  several NAME                     more than one has
+  unclaimed COLLECTION_NAME/NAME   no claim is about this pattern
+
+The status is 5 where a line was written, and else 0.
+
+Example: census verify published.csv census.txt
+         census run collection | census verify published.csv
+         census table --csv census.txt | census verify - census.txt
+         census verify --explain published.csv census.txt
 
 "
 );

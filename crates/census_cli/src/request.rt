@@ -120,6 +120,13 @@ pub enum Request<'a> {
         /// In the order of the words. `-` is standard input.
         reports: Vec<&'a str>,
     },
+    /// What does not agree between claims and these reports, or, where there is none, that on standard input.
+    Verify {
+        /// The file of the claims. `-` is standard input.
+        claims: &'a str,
+        /// In the order of the words. `-` is standard input.
+        reports: Vec<&'a str>,
+    },
 }
 
 /// What words ask for, and how its faults are to be told.
@@ -324,6 +331,12 @@ fn request_of<'a>(alloc: Global, matches: &ArgMatches<'a>) -> Result<Request<'a>
         return Ok(Request::Same {
             json: flag(same, "json"),
             reports: texts(alloc, same, "report")?,
+        });
+    }
+    if let Some(verify) = matches.subcommand_matches("verify") {
+        return Ok(Request::Verify {
+            claims: text(verify, "claims"),
+            reports: texts(alloc, verify, "report")?,
         });
     }
     unreachable!()

@@ -6,7 +6,7 @@ use Rattle.census_cli.specs.Refusing.{AreRefusedWords, AsksHelp, AsksText, Refus
 use Rattle.census_cli.specs.declared.fault.WordsFault.{WordsFault}
 use Rattle.census_cli.specs.declared.fault.WordsFault.TheVariants as words_fault
 use Rattle.census_cli.specs.declared.request.Request.{Request}
-use Rattle.census_cli.specs.declared.request.Request.TheVariants.{Run, Objects, Identify, Advance, Draw, Merge, Table, Page, Same}
+use Rattle.census_cli.specs.declared.request.Request.TheVariants.{Run, Objects, Identify, Advance, Draw, Merge, Table, Page, Same, Verify}
 use Rattle.life_answer.specs.declared.question.Question.TheVariants as question
 use Rattle.life_answer.specs.declared.question.Question.{Question}
 use Rattle.census_command.specs.Advances.{AdvanceFromFails, AdvancesFromInPart}
@@ -130,26 +130,32 @@ module _ (shelf : Tellings) (before after : State) where
   says (command.Run e) (Table subject format reports) h = absurd h
   says (command.Run e) (Page reports) h = absurd h
   says (command.Run e) (Same json reports) h = absurd h
+  says (command.Run e) (Verify claims reports) h = absurd h
   says (command.Advance e) (Merge reports) h = absurd h
   says (command.Advance e) (Table subject format reports) h = absurd h
   says (command.Advance e) (Page reports) h = absurd h
   says (command.Advance e) (Same json reports) h = absurd h
+  says (command.Advance e) (Verify claims reports) h = absurd h
   says (command.Draw e) (Merge reports) h = absurd h
   says (command.Draw e) (Table subject format reports) h = absurd h
   says (command.Draw e) (Page reports) h = absurd h
   says (command.Draw e) (Same json reports) h = absurd h
+  says (command.Draw e) (Verify claims reports) h = absurd h
   says command.Arguments (Merge reports) h = absurd h
   says command.Arguments (Table subject format reports) h = absurd h
   says command.Arguments (Page reports) h = absurd h
   says command.Arguments (Same json reports) h = absurd h
+  says command.Arguments (Verify claims reports) h = absurd h
   says command.Memory (Merge reports) h = absurd h
   says command.Memory (Table subject format reports) h = absurd h
   says command.Memory (Page reports) h = absurd h
   says command.Memory (Same json reports) h = absurd h
+  says command.Memory (Verify claims reports) h = absurd h
   says command.Write (Merge reports) h = absurd h
   says command.Write (Table subject format reports) h = absurd h
   says command.Write (Page reports) h = absurd h
   says command.Write (Same json reports) h = absurd h
+  says command.Write (Verify claims reports) h = absurd h
   says (command.Reports e) (Run bound workers cells input recursive keep_going folders) h = absurd h
   says (command.Reports e) (Objects bound workers cells near input recursive keep_going folders) h = absurd h
   says (command.Reports e) (Advance n file) h = absurd h
@@ -159,6 +165,7 @@ module _ (shelf : Tellings) (before after : State) where
   says (command.Reports e) (Table subject format reports) h = absurd h
   says (command.Reports e) (Page reports) h = absurd h
   says (command.Reports e) (Same json reports) h = absurd h
+  says (command.Reports e) (Verify claims reports) h = absurd h
 
 -- faults are explained where the words ask for that, or at a terminal
 pub are_explained : (words : List (List ℕ)) (errors : Errors) (asked explain : Bool) → AsksToExplain words asked

@@ -17,7 +17,7 @@ use Rattle.census_cli.specs.Refusing.{AreRefusedWords, AsksHelp, AsksText}
 use Rattle.census_cli.specs.declared.fault.WordsFault.{WordsFault}
 use Rattle.census_cli.specs.declared.fault.WordsFault.TheVariants.{Help, Refused, Memory}
 use Rattle.census_cli.specs.declared.request.Request.{Request}
-use Rattle.census_cli.specs.declared.request.Request.TheVariants.{Run, Objects, Identify, Advance, Draw, Merge, Table, Page, Same}
+use Rattle.census_cli.specs.declared.request.Request.TheVariants.{Run, Objects, Identify, Advance, Draw, Merge, Table, Page, Same, Verify}
 use Rattle.life_answer.specs.declared.question.Question.TheVariants as question
 use Rattle.census_blocks.specs.declared.inquiry.Inquiry.{Inquiry}
 use Rattle.census_faults.specs.declared.fault.Fault.{Fault}
@@ -32,7 +32,7 @@ use Rattle.census_errors.specs.Files.{file_of}
 use Rattle.census_command.specs.Keeps.{KeptCensus, Keeps}
 use Rattle.census_errors.specs.Messages.{error_line}
 use Rattle.census_errors.specs.Places.{IsPlaceOf}
-use Rattle.census_command.specs.Remakes.{Remakes, format_of, subject_of}
+use Rattle.census_command.specs.Remakes.{Remakes, Verifies, format_of, subject_of}
 use Rattle.census_command.specs.Requests.{Does, DoesInPart, Fails}
 use Rattle.census_reports.specs.declared.form.Form.{Form}
 use Rattle.census_reports.specs.declared.form.Form.TheVariants as form
@@ -225,6 +225,22 @@ pub record RemakesAsked (shelf : Tellings) (words : List (List ℕ)) (status : �
   pub explained : AreExplained words old explain
   pub remakes : Remakes (shelf.held []) form files explain status before after old new
 
+-- the request asks for these claims to be compared with these reports
+abbrev pub IsVerifying : Request → List ℕ → List (List ℕ) → Type 0
+IsVerifying (Verify text reports) claims files = (claims ≡ text.now) × (files ≡ map (λ s. s.now) reports.items)
+IsVerifying request claims files = ⊥
+
+-- The words ask for claims to be compared with reports. What does not agree was told, or an error ended it.
+pub record VerifiesAsked (shelf : Tellings) (words : List (List ℕ)) (status : ℕ) (before after : State) (old new : Errors) : Type 0 where
+  pub request : Request
+  pub asked : Asks words request
+  pub claims : List ℕ
+  pub files : List (List ℕ)
+  pub is : IsVerifying request claims files
+  pub explain : Bool
+  pub explained : AreExplained words old explain
+  pub verifies : Verifies (shelf.held []) claims files explain status before after old new
+
 -- # To go on past what can't be read
 
 -- The request asks for a census of these folders that goes on past what can't be read.
@@ -276,7 +292,7 @@ pub record IdentifiesAsked (shelf : Tellings) (words : List (List ℕ)) (status 
 abbrev pub Outcome : Tellings → List (List ℕ) → ℕ → State → State → Errors → Errors → Type 0
 Outcome shelf words status before after old new =
     IdentifiesAsked shelf words status before after old new
-    ⊎ (RemakesAsked shelf words status before after old new
+    ⊎ ((RemakesAsked shelf words status before after old new ⊎ VerifiesAsked shelf words status before after old new)
     ⊎ (KeepsAsked shelf words status before after old new ⊎ Ends shelf words status before after old new))
 
 -- The system gives no arguments, for an error of this kind. Nothing is read or written, and its line is told.

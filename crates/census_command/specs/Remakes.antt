@@ -1,9 +1,12 @@
 -- What is made of reports that are read back, and what the exit status says of it.
-use Rattle.std.specs.Prelude.{◌≡◌, ◌⊎◌, ℕ, Bool, if◌then◌else◌, List, ◌++◌}
+use Rattle.std.specs.Prelude.{◌≡◌, ◌⊎◌, ℕ, Bool, if◌then◌else◌, Bor, List, [], ◌∷◌, ◌++◌}
 use Rattle.census_folders.specs.Told.{Told}
+use Rattle.census_identify.specs.Hearing.{Hears}
+use Rattle.census_identify.specs.declared.heard.Heard.TheVariants as heard
 use Rattle.census_reports.specs.Errors as reports
 use Rattle.census_reports.specs.Outcomes.{ReportsFail, WritesReports}
 use Rattle.census_reports.specs.Streams as two
+use Rattle.census_reports.specs.Texts.{RefusesWord}
 use Rattle.census_reports.specs.declared.error.ReportsError.{ReportsError}
 use Rattle.census_reports.specs.declared.form.Form.{Form}
 use Rattle.census_reports.specs.declared.form.Form.TheVariants as form
@@ -72,3 +75,30 @@ pub record RemakesNot (held : List ℕ → Told) (form : Form) (files : List (Li
 abbrev pub Remakes : (List ℕ → Told) → Form → List (List ℕ) → Bool → ℕ → State → State → Errors → Errors → Type 0
 Remakes held form files explain status before after old new =
     RemakesWhole held form files status before after old new ⊎ RemakesNot held form files explain status before after old new
+
+-- # What does not agree with claims
+
+-- The claims were read, and then what does not agree between them and the reports was told, or an error ended it.
+pub record ComparesClaims (held : List ℕ → Told) (claims : List ℕ) (files : List (List ℕ)) (explain : Bool) (status : ℕ)
+    (before after : State) (old new : Errors) : Type 0 where
+  pub text : Bor (List ℕ)
+  -- the streams once the claims were read
+  pub reached : State
+  pub read : Hears held claims (heard.Text text.now) (both_streams before).input (both_streams reached).input
+  pub unwritten : (both_streams reached).output ≡ (both_streams before).output
+  pub remakes : Remakes held (form.Verdict text) files explain status reached after old new
+
+-- The claims were not read, for an error that was told.
+pub record MissesClaims (held : List ℕ → Told) (claims : List ℕ) (explain : Bool) (status : ℕ)
+    (before after : State) (old new : Errors) : Type 0 where
+  pub error : ReportsError
+  pub status_is : status ≡ reports.status_of error
+  pub why : RefusesWord error held claims (both_streams before).input (both_streams after).input
+  pub unwritten : (both_streams after).output ≡ (both_streams before).output
+  pub place : Place
+  pub at : IsReportsPlace held error place
+  pub lines : TellsText (error_line (command.Reports error) ++ said_if explain (reports_line (claims ∷ []) error place)) old new
+
+abbrev pub Verifies : (List ℕ → Told) → List ℕ → List (List ℕ) → Bool → ℕ → State → State → Errors → Errors → Type 0
+Verifies held claims files explain status before after old new =
+    ComparesClaims held claims files explain status before after old new ⊎ MissesClaims held claims explain status before after old new

@@ -1,7 +1,7 @@
 -- What is done where something is asked for, and what each error says.
 use Rattle.std.specs.Prelude.{◌≡◌, ℕ, ◌≤◌, Bool, List, [], Some, map, option_map}
 use Rattle.census_cli.specs.declared.request.Request.{Request}
-use Rattle.census_cli.specs.declared.request.Request.TheVariants.{Run, Objects, Identify, Advance, Draw, Merge, Table, Page, Same}
+use Rattle.census_cli.specs.declared.request.Request.TheVariants.{Run, Objects, Identify, Advance, Draw, Merge, Table, Page, Same, Verify}
 use Rattle.census_cli.specs.Limits.{generation_limit, objects_bound_limit, settles_bound_limit, worker_limit}
 use Rattle.life_answer.specs.declared.question.Question.TheVariants as question
 use Rattle.census_command.specs.Advances.{AdvanceFromFails, AdvancesFrom, AdvancesFromInPart}
@@ -28,7 +28,7 @@ EndsAtFirst (Run bound workers cells input recursive keep_going folders) = Stops
 EndsAtFirst (Objects bound workers cells near input recursive keep_going folders) = StopsAtFirstLoss (source_of (record { limit = input; recursive = recursive; keep_going = keep_going; words = map (λ s. s.now) folders.items }))
 EndsAtFirst request = Unit {0}
 
--- nothing is to be made of reports
+-- nothing is to be made of reports alone
 abbrev pub MakesNothing : Request → Type 0
 MakesNothing (Merge reports) = ⊥
 MakesNothing (Table subject format reports) = ⊥
@@ -36,7 +36,7 @@ MakesNothing (Page reports) = ⊥
 MakesNothing (Same json reports) = ⊥
 MakesNothing request = Unit {0}
 
--- neither what patterns are is asked for, nor what is made of reports, nor to go on past what can't be read, which have
+-- neither what patterns are is asked for, nor what is made of reports, nor what claims say of them, nor to go on past what can't be read, which have
 -- outcomes of their own
 abbrev pub IsDone : Request → Type 0
 IsDone (Identify bound near files) = ⊥
@@ -44,6 +44,7 @@ IsDone (Merge reports) = ⊥
 IsDone (Table subject format reports) = ⊥
 IsDone (Page reports) = ⊥
 IsDone (Same json reports) = ⊥
+IsDone (Verify claims reports) = ⊥
 IsDone request = EndsAtFirst request
 
 -- What is asked for was done, and these lines are said beside it, where faults are explained.

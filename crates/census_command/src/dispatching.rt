@@ -13,7 +13,7 @@ use crate::census::{census_of, kept_of};
 use crate::drawing::draw;
 use crate::keeping::keep_going;
 use crate::quiet_gate::QuietGate;
-use crate::remaking::{format_of, remake, subject_of};
+use crate::remaking::{format_of, remake, subject_of, verify};
 use crate::running::run_command;
 use crate::streams::Streams;
 use census_blocks::Inquiry;
@@ -32,7 +32,7 @@ use std::thread::Threads;
 use watched::put_all;
 
 // What is made of reports, and of which, where that is asked for.
-fn remaking_of<'r, 'a>(request: &'r Request<'a>) -> Option<(Form, &'r [&'a str])>
+fn remaking_of<'r, 'a>(request: &'r Request<'a>) -> Option<(Form<'a>, &'r [&'a str])>
     ensures some { IfSome result
         (λ made. IsRemaking request.now made.0 (map (λ s. s.now) made.1.now)) }
     ensures none { IfNone result (MakesNothing request.now) }
@@ -112,7 +112,8 @@ fn execute<S: Shelf, I: Read, O: Write, G: Gate, R: Threads + Wait + Sync>(
         | Request::Merge { .. }
         | Request::Table { .. }
         | Request::Page { .. }
-        | Request::Same { .. } => unreachable!(),
+        | Request::Same { .. }
+        | Request::Verify { .. } => unreachable!(),
     }
     Ok(Vec::new(alloc))
 }
@@ -177,13 +178,15 @@ pub fn answer<I: Read, O: Write, E: Write>(
 /// - 0: what was asked for was done. By `run` and by `objects` the report of the folders, or without any of the bundle on
 ///   standard input, was written: what their patterns become, or the objects in it; by `advance N` standard input is an
 ///   RLE text, and the text of generation N was written; by `draw CODE [--rule R]` the text of the code's shape under the
-///   rule; by `merge` one report of reports that were read, by `table` a table of them, by `page` a page, and by `same`
-///   their patterns that are one object, of which there are none. Or help was asked for and written.
+///   rule; by `merge` one report of reports that were read, by `table` a table of them, by `page` a page, by `same`
+///   their patterns that are one object, of which there are none, and by `verify` what does not agree between claims and
+///   them, which is nothing. Or help was asked for and written.
 /// - 1: the collections, the pattern, the rule or the code is refused, and nothing was written.
 /// - 2: clap refuses the words, and not because memory was refused; nothing was read or written.
 /// - 3: memory was refused, and nothing was written, or by `run` and by `objects` a prefix of the report, or by `table`,
-///   `page` and `same` one of what they write.
-/// - 5: what was asked for was done, and what was looked for was found: by `same` patterns that are one object.
+///   `page`, `same` and `verify` one of what they write.
+/// - 5: what was asked for was done, and what was looked for was found: by `same` patterns that are one object, and by
+///   `verify` what does not agree.
 /// - 4: standard input or standard output has failed, or a folder could not be listed or a file of it be read. What was
 ///   written is a prefix of what was asked for, or nothing; after a failed read it is nothing. With `--keep-going` it is
 ///   the whole report of what could be read, after a line on `errors` for each folder, file or name that was lost.
@@ -221,6 +224,10 @@ pub fn dispatch<S: Shelf, I: Read, O: Write, E: Write, G: Gate, R: Threads + Wai
     }
     if let Some((form, reports)) = remaking_of(request) {
         return remake(shelf, alloc, form, reports, explain, streams, errors);
+    }
+    if let Request::Verify { claims, reports } = request {
+        let reports = reports.as_slice();
+        return verify(shelf, alloc, *claims, reports, explain, streams, errors);
     }
     if let Request::Identify { bound, near, files } = request {
         let Streams { input, output } = streams;

@@ -1,14 +1,15 @@
-//! `census merge`, `table`, `page` and `same`: one report, a table, a page, or patterns that are one object, made of reports.
+//! `census merge`, `table`, `page`, `same` and `verify`: one report, a table, a page, patterns that are one object, or
+//! what does not agree with claims, made of reports.
 ghost use Rattle.std.specs.Prelude.{◌≡◌, [], false, map, IfErr, IfOk, OnOk};
 ghost use Rattle.census_reports.specs.Outcomes.{ReportsFail, WritesReports};
-ghost use Rattle.census_command.specs.Remakes.{KeepsLaw, Remakes, both_streams, format_of, found_status, subject_of};
+ghost use Rattle.census_command.specs.Remakes.{KeepsLaw, Remakes, Verifies, both_streams, format_of, found_status, subject_of};
 ghost use Rattle.census_command.specs.Streams.{HasSoundStreams};
 
 use crate::streams::Streams;
 use census_cli::{TableFormat, TableSubject};
 use census_errors::{CommandError, ErrorStream, reports_place_if, reports_saying, stop_saying};
 use census_folders::Shelf;
-use census_reports::{Form, ReportsError, write_reports};
+use census_reports::{Form, ReportsError, read_text, write_reports};
 use census_table::{Format, Subject};
 use lawful_merge::merge_reports;
 use std::alloc::Global;
@@ -40,7 +41,7 @@ pub fn subject_of(subject: TableSubject) -> Subject
 fn write<S: Shelf, I: Read, O: Write>(
     shelf: &S,
     alloc: Global,
-    form: Form,
+    form: Form<'_>,
     files: &[&str],
     streams: &mut Streams<I, O>,
 ) -> Result<bool, ReportsError>
@@ -59,7 +60,7 @@ fn write<S: Shelf, I: Read, O: Write>(
     let Streams { input, output } = streams;
     match form {
         Form::Merged => merge_reports(shelf, alloc, files, input, output),
-        Form::Table { .. } | Form::Page | Form::Same { .. } => {
+        Form::Table { .. } | Form::Page | Form::Same { .. } | Form::Verdict { .. } => {
             write_reports(shelf, alloc, form, files, input, output)
         }
     }
@@ -86,7 +87,7 @@ fn found_status(found: bool) -> u8
 pub fn remake<S: Shelf, I: Read, O: Write, E: Write>(
     shelf: &S,
     alloc: Global,
-    form: Form,
+    form: Form<'_>,
     files: &[&str],
     explain: bool,
     streams: &mut Streams<I, O>,
@@ -102,6 +103,38 @@ pub fn remake<S: Shelf, I: Read, O: Write, E: Write>(
         Err(error) => {
             let place = reports_place_if(explain, shelf, alloc, files, error);
             let saying = reports_saying(files, error).at(&place);
+            stop_saying(CommandError::Reports(error), saying, explain, errors)
+        }
+    }
+}
+
+/// Reads the claims of a file, `-` is standard input, writes what does not agree between them and the reports of these
+/// files, and gives the exit status, as `remake` does. Where the claims can't be read, or are too long, the status is that of
+/// the error, whose line was told, with one more where faults are explained; nothing was written, and no report was read.
+pub fn verify<S: Shelf, I: Read, O: Write, E: Write>(
+    shelf: &S,
+    alloc: Global,
+    claims: &str,
+    reports: &[&str],
+    explain: bool,
+    streams: &mut Streams<I, O>,
+    errors: &mut ErrorStream<E>,
+) -> u8
+    requires sound { HasSoundStreams streams.old }
+    requires errors { errors.old.failed ≡ false }
+    ensures { Verifies ((S.tellings shelf.now).held []) claims.now (map (λ s. s.now) reports.now)
+        explain result streams.old streams.new errors.old errors.new }
+{
+    match read_text(shelf, alloc, claims, &mut streams.input) {
+        Ok(text) => {
+            let form = Form::Verdict {
+                claims: text.as_slice(),
+            };
+            remake(shelf, alloc, form, reports, explain, streams, errors)
+        }
+        Err(error) => {
+            let place = reports_place_if(explain, shelf, alloc, &[claims], error);
+            let saying = reports_saying(&[claims], error).at(&place);
             stop_saying(CommandError::Reports(error), saying, explain, errors)
         }
     }

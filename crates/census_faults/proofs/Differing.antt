@@ -14,7 +14,7 @@ use Rattle.life_faults.specs.declared.files.FileKind.TheVariants as files
 use Rattle.life_faults.specs.declared.kinds.RuleKind.{RuleKind}
 use Rattle.life_faults.specs.declared.kinds.RuleKind.TheVariants as kinds
 use Rattle.census_faults.specs.declared.fault.Fault.{Fault}
-use Rattle.census_faults.specs.declared.fault.Fault.TheVariants.{Text, File, Rule, Bundle, Folder, Code, Generation, Report, TooLong, Read, FileForFolder, Write, Arguments, Words, Memory}
+use Rattle.census_faults.specs.declared.fault.Fault.TheVariants.{Text, File, Rule, Bundle, Folder, Code, Generation, Report, Claims, TooLong, Read, FileForFolder, Write, Arguments, Words, Memory}
 use Rattle.census_faults.specs.Faults.{canonical_fault}
 use Rattle.census_faults.specs.Sentences.{FaultsDiffer, sentence_of}
 
@@ -62,6 +62,7 @@ all_faults =
     Code (code.TooFar 0) ∷
     Generation ∷
     Report ∷
+    Claims ∷
     TooLong ∷
     Read ∷
     FileForFolder ∷
@@ -134,6 +135,7 @@ fault_tells (Folder fault) = folder_tells fault
 fault_tells (Code fault) = code_tells fault
 fault_tells Generation = refl
 fault_tells Report = refl
+fault_tells Claims = refl
 fault_tells TooLong = refl
 fault_tells Read = refl
 fault_tells FileForFolder = refl

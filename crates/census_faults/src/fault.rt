@@ -29,6 +29,8 @@ pub enum Fault {
     Generation,
     /// A line is not one that a report has there.
     Report,
+    /// A row is not one of claims.
+    Claims,
     /// A text, a file or a bundle has more than 67,108,864 bytes.
     TooLong,
     /// A folder can't be listed, or a file or standard input can't be read.

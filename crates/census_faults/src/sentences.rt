@@ -74,6 +74,8 @@ pub fn sentence(fault: Fault) -> &'static str
             "the generation can't be asked for: it must be a number from 0 to 4194304",
         Fault::Report =>
             "a line is not one that a report has in this place: it must be as `census run` or `census objects` writes it",
+        Fault::Claims =>
+            "a row is not one of claims: the first must have a column `name`, each other as many cells, and numbers as `census table` has them",
         Fault::TooLong =>
             "there are too many bytes: a text must have at most 67108864, and all files of folders at most as many as `--input` says",
         Fault::Read =>

@@ -10,11 +10,12 @@ use Rattle.census_reports.specs.Streams.{Streams}
 use Rattle.census_reports.specs.Texts.{StopsReadingTexts}
 use Rattle.census_reports.specs.Written.{FailsRows, FailsTexts}
 use Rattle.census_reports.specs.declared.error.ReportsError.{ReportsError}
-use Rattle.census_reports.specs.declared.error.ReportsError.TheVariants.{Fault, TooMany, TooLong, Memory, Read, Write}
+use Rattle.census_reports.specs.declared.error.ReportsError.TheVariants.{Claims, Fault, TooMany, TooLong, Memory, Read, Write}
 use Rattle.census_reports.specs.declared.form.Form.{Form}
 
 pub lacking : (error : ReportsError) (form : Form) (texts : List (List ℕ)) (s : Sink) → LackRows error texts → FailsTexts error form texts s s
 lacking (Fault number line) form texts s why = (why, refl)
+lacking (Claims line) form texts s why = absurd why
 lacking (TooMany report) form texts s why = absurd why
 lacking TooLong form texts s why = absurd why
 lacking Memory form texts s why = inl refl
@@ -23,6 +24,7 @@ lacking Write form texts s why = absurd why
 
 pub failing : (error : ReportsError) (form : Form) (rows : List Row) (texts : List (List ℕ)) (a b : Sink) → AreRowsOf rows texts
     → FailsRows error form rows a b → FailsTexts error form texts a b
+failing (Claims line) form rows texts a b are why = why
 failing (Fault number line) form rows texts a b are why = absurd why.0
 failing (TooMany report) form rows texts a b are why = (record { rows = rows; reports = are; excess = why.0 }, why.1)
 failing TooLong form rows texts a b are why = absurd why.0
@@ -35,6 +37,7 @@ failing Write form rows texts a b are part =
 
 module _ (form : Form) (held : List ℕ → Told) (words : List (List ℕ)) (a b : Streams) where
   pub stopping : (error : ReportsError) → StopsReadingTexts error held (words_or_input words) a.input b.input → b.output ≡ a.output → ReportsFail error form held words a b
+  stopping (Claims line) stops same = absurd stops.why
   stopping (Fault number line) stops same = absurd stops.why
   stopping (TooMany report) stops same = absurd stops.why
   stopping TooLong stops same = (stops, same)
@@ -44,6 +47,7 @@ module _ (form : Form) (held : List ℕ → Told) (words : List (List ℕ)) (a b
 
   pub refusing : (error : ReportsError) (texts : List (List ℕ)) → ReadsTexts held words texts a b → FailsTexts error form texts a.output b.output
       → ReportsFail error form held words a b
+  refusing (Claims line) texts read why = (record { texts = texts; read = read; why = why.0 }, why.1)
   refusing (Fault number line) texts read why = (record { texts = texts; read = read; why = why.0 }, why.1)
   refusing (TooMany report) texts read why = (record { texts = texts; read = read; why = why.0 }, why.1)
   refusing TooLong texts read why = absurd why.0

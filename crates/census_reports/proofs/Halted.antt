@@ -1,15 +1,23 @@
 -- What is told by way of a block is written, as far as memory lasts.
-use Rattle.std.proofs.Common.{◌≡◌, ◌∙◌, ℕ, ◌≤◌, Bool, true, false, List, [], ◌++◌, length, take, Option, Result, Ok, Err, MatchBool, MatchResult, sym, ap, subst, arith, append-nil, length-append}
+use Rattle.std.proofs.Common.{◌≡◌, ◌≢◌, ◌↔◌, ◌∙◌, ℕ, ◌≤◌, Bool, IsTrue, true, false, true≢false, List, [], ◌∷◌, ◌++◌, length, take, Option, Result, Ok, Err, MatchBool, MatchResult, sym, ap, subst, arith, append-nil, length-append}
 use Rattle.std.proofs.lemmas.List.{take-append-le, take_all}
 use Rattle.std.specs.Io.KnownBytes.{Appends}
 use Rattle.watched.specs.Watching.{AppendsFront}
 use Rattle.gathered.specs.Telling.{Sheet, TellsAfter, TellsFront}
 use Rattle.gathered.proofs.Telling.{all_told, tells_more}
 use Rattle.census_rows.specs.declared.row.Row.{Row}
+use Rattle.census_same.specs.Same.{has_bytes}
 use Rattle.census_reports.specs.Forms.{IsInPieces, IsMade, is_found}
 use Rattle.census_reports.specs.Written.{HaltsRows, WritesRows, WritesRowsInPart}
 use Rattle.census_reports.specs.declared.form.Form.{Form}
 use Rattle.census_reports.proofs.Told.{sink_of}
+
+-- whether there is anything is whether there is a byte
+pub found_bytes : (any : Bool) (text : List ℕ) → (IsTrue any ↔ (text ≢ [])) → any ≡ has_bytes text
+found_bytes true [] h = absurd (h.0 refl refl)
+found_bytes true (byte ∷ bytes) h = refl
+found_bytes false [] h = refl
+found_bytes false (byte ∷ bytes) h = h.1 (λ none. true≢false (ap has_bytes none))
 
 -- a prefix of a text is one of a longer text
 front_longer : (a b : Option (List ℕ)) (all xs ys : List ℕ) → all ≡ xs ++ ys → AppendsFront a b xs → AppendsFront a b all

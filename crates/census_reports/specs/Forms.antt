@@ -1,5 +1,5 @@
 -- What is made of reports.
-use Rattle.std.specs.Prelude.{◌≡◌, ℕ, Bool, false, List, Some, None}
+use Rattle.std.specs.Prelude.{◌≡◌, ℕ, Bool, false, List, Ok, Err, Some, None}
 use Rattle.census_rows.specs.declared.row.Row.{Row}
 use Rattle.census_rows.specs.Lines.{text_of}
 use Rattle.census_merge.specs.Merged.{merged_rows}
@@ -7,12 +7,15 @@ use Rattle.census_merge.specs.Sums.{first_excess, no_sums}
 use Rattle.census_page.specs.Pages.{page_of}
 use Rattle.census_same.specs.Patterns.{tolds_of}
 use Rattle.census_same.specs.Same.{has_bytes, same_text}
+use Rattle.census_table.specs.Entries.{entries_of}
 use Rattle.census_table.specs.Tables.{Listing, IsListingOf, listing_text}
+use Rattle.census_verify.specs.Claims.{Claim, claims_in}
+use Rattle.census_verify.specs.Verdict.{verdict_text}
 use Rattle.census_reports.specs.Rows.{AreRowsOf, HasReportFault}
 use Rattle.census_reports.specs.declared.error.ReportsError.{ReportsError}
-use Rattle.census_reports.specs.declared.error.ReportsError.TheVariants.{Fault, TooMany, Memory}
+use Rattle.census_reports.specs.declared.error.ReportsError.TheVariants.{Claims, Fault, TooMany, Memory}
 use Rattle.census_reports.specs.declared.form.Form.{Form}
-use Rattle.census_reports.specs.declared.form.Form.TheVariants.{Merged, Table, Page, Same}
+use Rattle.census_reports.specs.declared.form.Form.TheVariants.{Merged, Table, Page, Same, Verdict}
 
 -- what is written of the rows of reports that stand one after another
 abbrev pub IsMade : Form → List Row → List ℕ → Type 0
@@ -20,10 +23,13 @@ IsMade Merged rows text = (first_excess 1 no_sums rows ≡ None) × (text ≡ te
 IsMade (Table subject format) rows text = (listing : Listing) × IsListingOf subject rows listing × (text ≡ listing_text format listing)
 IsMade Page rows text = text ≡ page_of rows
 IsMade (Same json) rows text = text ≡ same_text json (tolds_of rows)
+IsMade (Verdict text_of_claims) rows text =
+    (claims : List Claim) × (claims_in text_of_claims.now ≡ Ok claims) × (text ≡ verdict_text claims (entries_of rows))
 
--- what was made tells that what was looked for was found: patterns that are one object
+-- what was made tells that what was looked for was found: patterns that are one object, or what does not agree with claims
 abbrev pub is_found : Form → List ℕ → Bool
 is_found (Same json) made = has_bytes made
+is_found (Verdict claims) made = has_bytes made
 is_found _ made = false
 
 -- told piece by piece, as all is but one report
@@ -32,14 +38,21 @@ IsInPieces Merged = ⊥
 IsInPieces (Table subject format) = Unit {0}
 IsInPieces Page = Unit {0}
 IsInPieces (Same json) = Unit {0}
+IsInPieces (Verdict claims) = Unit {0}
 
 -- a report with which there are too many collections for one report
 abbrev pub Exceeds : Form → List Row → ℕ → Type 0
 Exceeds Merged rows report = first_excess 1 no_sums rows ≡ Some report
 Exceeds _ rows report = ⊥
 
+-- a text of claims has its first fault on this line
+abbrev pub HasClaimFault : Form → ℕ → Type 0
+HasClaimFault (Verdict claims) line = claims_in claims.now ≡ Err line
+HasClaimFault _ line = ⊥
+
 -- why nothing is written of rows, or only a prefix of what is told piece by piece
 abbrev pub RefusesRows : ReportsError → Form → List Row → Type 0
+RefusesRows (Claims line) form rows = HasClaimFault form line
 RefusesRows (TooMany report) form rows = Exceeds form rows report
 RefusesRows Memory form rows = Unit {0}
 RefusesRows error form rows = ⊥
@@ -60,6 +73,7 @@ pub record ExceedsIn (form : Form) (texts : List (List ℕ)) (report : ℕ) : Ty
 
 -- why nothing is written of texts, or only a prefix of what is told piece by piece
 abbrev pub RefusesTexts : ReportsError → Form → List (List ℕ) → Type 0
+RefusesTexts (Claims line) form texts = HasClaimFault form line
 RefusesTexts (Fault number line) form texts = HasReportFault number line texts
 RefusesTexts (TooMany report) form texts = ExceedsIn form texts report
 RefusesTexts Memory form texts = Unit {0}

@@ -8,7 +8,7 @@ use Rattle.census_reports.specs.Streams.{Streams}
 use Rattle.census_reports.specs.Texts.{ReadsEach, StopsReadingTexts}
 use Rattle.census_reports.specs.Written.{WritesSome}
 use Rattle.census_reports.specs.declared.error.ReportsError.{ReportsError}
-use Rattle.census_reports.specs.declared.error.ReportsError.TheVariants.{Fault, TooMany, TooLong, Memory, Read, Write}
+use Rattle.census_reports.specs.declared.error.ReportsError.TheVariants.{Claims, Fault, TooMany, TooLong, Memory, Read, Write}
 use Rattle.census_reports.specs.declared.form.Form.{Form}
 
 -- the words have these texts, without a word standard input has one, and standard input has not failed
@@ -54,6 +54,7 @@ pub record RefusesReports (error : ReportsError) (form : Form) (held : List ℕ 
 
 -- Why not all was written. Where the writer didn't fail, nothing was, or out of memory a prefix of what is told piece by piece.
 abbrev pub ReportsFail : ReportsError → Form → (List ℕ → Told) → List (List ℕ) → Streams → Streams → Type 0
+ReportsFail (Claims line) form held words before after = RefusesReports (Claims line) form held words before after × WritesNothing before after
 ReportsFail (Fault number line) form held words before after = RefusesReports (Fault number line) form held words before after × WritesNothing before after
 ReportsFail (TooMany report) form held words before after = RefusesReports (TooMany report) form held words before after × WritesNothing before after
 ReportsFail TooLong form held words before after =

@@ -10,6 +10,12 @@ use watched::{Failed, ReadFault};
 /// Why what was asked for of reports was not written whole.
 #[derive(Clone, Copy, Debug, PartialEq, Eq, Drop, Error)]
 pub enum ReportsError {
+    /// The text of the claims is no table of claims.
+    #[error("claim fault at line {line}")]
+    Claims {
+        /// The line on which the first row begins that is wrong, from 1.
+        line: usize,
+    },
     /// A text is no report, nor several one after another.
     #[error("report fault at line {line}")]
     Fault {
@@ -107,7 +113,10 @@ impl ReportsError {
         ensures { result ≡ status_of self }
     {
         match self {
-            ReportsError::Fault { .. } | ReportsError::TooMany { .. } | ReportsError::TooLong => 1,
+            ReportsError::Claims { .. }
+            | ReportsError::Fault { .. }
+            | ReportsError::TooMany { .. }
+            | ReportsError::TooLong => 1,
             ReportsError::Memory => 3,
             ReportsError::Read | ReportsError::Write => 4,
         }

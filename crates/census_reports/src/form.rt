@@ -1,5 +1,5 @@
 //! What is made of the rows of reports, written.
-ghost use Rattle.std.specs.Prelude.{◌≡◌, List, MatchResult, None};
+ghost use Rattle.std.specs.Prelude.{◌≡◌, List, MatchResult, None, Ok};
 ghost use Rattle.census_rows.specs.declared.row.Row.{Row};
 ghost use Rattle.census_identify.specs.Streams.{PutsPrefix, Writes, sink};
 ghost use Rattle.census_readback.specs.Shapes.{AreReports};
@@ -7,6 +7,7 @@ ghost use Rattle.census_rows.specs.Lines.{text_of};
 ghost use Rattle.census_merge.specs.Merged.{merged_rows};
 ghost use Rattle.census_merge.specs.Sums.{first_excess, no_sums};
 ghost use Rattle.census_table.specs.Entries.{entries_of};
+ghost use Rattle.census_verify.specs.Claims.{claims_in, claims_read};
 ghost use Rattle.census_reports.specs.Written.{FailsRows, WritesRows};
 
 use crate::error::ReportsError;
@@ -15,6 +16,7 @@ use census_page::put_page;
 use census_rows::Row;
 use census_same::put_same;
 use census_table::{Format, Subject, put_listing, table_of};
+use census_verify::{Claims, put_verdict, read_claims};
 use gathered::{Block, send};
 use std::alloc::Global;
 use std::io::Write;
@@ -22,7 +24,7 @@ use watched::{Failed, Watched};
 
 /// What is written of reports.
 #[derive(Clone, Copy, Debug, PartialEq, Eq)]
-pub enum Form {
+pub enum Form<'a> {
     /// One report of all their collections, as `merge` makes it.
     Merged,
     /// A table, as `table_of` makes it and `put_listing` tells it.
@@ -31,6 +33,9 @@ pub enum Form {
     Page,
     /// Their patterns that are one object, as `put_same` tells them, which is what is looked for.
     Same { json: bool },
+    /// What does not agree between the claims of a text and their patterns, as `put_verdict` tells it, which is what is
+    /// looked for.
+    Verdict { claims: &'a [u8] },
 }
 
 // Writes one report of reports that stand one after another and aren't too many.
@@ -149,11 +154,56 @@ fn write_same<O: Write>(
     }
 }
 
+// Writes what does not agree between claims, which are those of a text, and the rows. Where memory is refused, what was told
+// of it is written yet.
+fn write_disagreement<O: Write>(
+    alloc: Global,
+    text: &[u8],
+    claims: &Claims,
+    rows: &[Row],
+    output: &mut Watched<O>,
+) -> Result<bool, ReportsError>
+    requires claims { claims_in text.now ≡ Ok (claims_read claims.now.items.items) }
+    requires reports { AreReports rows.now }
+    ensures { MatchResult result
+        (λ found. WritesRows (Form.Verdict text) found rows.now (sink O.contents output.old)
+        (sink O.contents output.new))
+        (λ error. FailsRows error (Form.Verdict text) rows.now
+        (sink O.contents output.old) (sink O.contents output.new)) }
+{
+    let mut block = Block::new(alloc);
+    let told = put_verdict(alloc, claims, rows, &mut block, output);
+    match send(&mut block, output) {
+        Ok(()) => Ok(told?),
+        Err(_) => Err(ReportsError::Write),
+    }
+}
+
+// Reads claims, and writes what does not agree between them and the rows.
+fn write_verdict<O: Write>(
+    alloc: Global,
+    text: &[u8],
+    rows: &[Row],
+    output: &mut Watched<O>,
+) -> Result<bool, ReportsError>
+    requires { AreReports rows.now }
+    ensures { MatchResult result
+        (λ found. WritesRows (Form.Verdict text) found rows.now (sink O.contents output.old)
+        (sink O.contents output.new))
+        (λ error. FailsRows error (Form.Verdict text) rows.now
+        (sink O.contents output.old) (sink O.contents output.new)) }
+{
+    match read_claims(alloc, text)? {
+        Ok(claims) => write_disagreement(alloc, text, &claims, rows, output),
+        Err(line) => Err(ReportsError::Claims { line }),
+    }
+}
+
 /// Writes what is made of these rows, which are those of reports that stand one after another, and tells whether what was
 /// looked for was found.
 pub fn write_made<O: Write>(
     alloc: Global,
-    form: Form,
+    form: Form<'_>,
     rows: &[Row],
     output: &mut Watched<O>,
 ) -> Result<bool, ReportsError>
@@ -168,6 +218,7 @@ pub fn write_made<O: Write>(
         Form::Table { subject, format } => write_table(alloc, subject, format, rows, output),
         Form::Page => write_page(alloc, rows, output),
         Form::Same { json } => write_same(alloc, json, rows, output),
+        Form::Verdict { claims } => write_verdict(alloc, claims, rows, output),
     }
 }
 

@@ -1,5 +1,5 @@
 //! Reports that are read from files or from standard input, and written as one report, as a table, as a page, or as the
-//! patterns that are one object.
+//! patterns that are one object, or as what does not agree with claims.
 //!
 //! Tested in `tests_reports`.
 #![tactic(auto)]
@@ -13,3 +13,4 @@ mod words;
 pub use error::ReportsError;
 pub use form::{Form, merging_changes_no_table, write_made};
 pub use reports::write_reports;
+pub use words::read_text;

@@ -1,4 +1,4 @@
-//! `census merge`, `table`, `page` and `same`: what is written of reports.
+//! `census merge`, `table`, `page`, `same` and `verify`: what is written of reports.
 ghost use Rattle.std.specs.Prelude.{◌≡◌, ◌<◌, [], false, length, map, IfErr, IfOk, MatchResult};
 ghost use Rattle.watched.specs.Watching.{has_failed};
 ghost use Rattle.census_identify.specs.Streams.{sink};
@@ -19,7 +19,7 @@ use watched::Watched;
 // Writes what is made of the reports in these texts.
 fn write_of<O: Write>(
     alloc: Global,
-    form: Form,
+    form: Form<'_>,
     texts: &[Bytes],
     output: &mut Watched<O>,
 ) -> Result<bool, ReportsError>
@@ -37,23 +37,25 @@ fn write_of<O: Write>(
 /// input has left, of any other word that of the file of this path, and without a word that of standard input. Each text
 /// must be a report by itself, or several one after another; a text without a byte is none. A file that is no regular
 /// file is not opened, and can't be read. Returns whether what was looked for was found: with `Same`, patterns that are one
-/// object, and else nothing is looked for.
+/// object, with `Verdict`, what does not agree with the claims, and else nothing is looked for.
 ///
 /// All texts are read before the first is looked at, and all reports before the first byte is written. From then on no
 /// memory is asked for but the block that is written, for a table the text of some rows at a time, for a page the codes
-/// of one collection and the text of one picture or name at a time, and for `Same` a list of the patterns that are objects.
+/// of one collection and the text of one picture or name at a time, for `Same` a list of the patterns that are objects,
+/// and for `Verdict` the claims, the patterns and a map of both.
 /// So nothing is written on any error but `Write`, on which a prefix of what is made of them is, and `Memory`, on which
 /// one may be of all but `Merged`:
 ///
 /// - `Read`, `TooLong`: the text of a word can't be read or has more than 67,108,864 bytes. Those of the words before it
 ///   were read, and none of a word after it.
 /// - `Fault`: a text is no report, and those of the words before it are.
+/// - `Claims`: the claims are none, and each text is a report.
 /// - `TooMany`: the reports have more than 65,535 collections, and `Merged` is asked for.
 /// - `Memory`: memory was refused. Of `Merged` nothing was written.
 pub fn write_reports<S: Shelf, I: Read, O: Write>(
     shelf: &S,
     alloc: Global,
-    form: Form,
+    form: Form<'_>,
     words: &[&str],
     input: &mut Watched<I>,
     output: &mut Watched<O>,

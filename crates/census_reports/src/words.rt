@@ -22,8 +22,9 @@ pub fn words_or_input<'a, 'b>(words: &'a [&'b str]) -> &'a [&'b str]
     if words.is_empty() { &["-"] } else { words }
 }
 
-// The text of a word: of `-` what standard input has left, of any other word that of the file of this path.
-fn read_text<S: Shelf, I: Read>(
+/// The text of a word: of `-` what standard input has left, of any other word that of the file of this path. The errors are
+/// `Read`, `TooLong`, where the text has more than 67,108,864 bytes, and `Memory`.
+pub fn read_text<S: Shelf, I: Read>(
     shelf: &S,
     alloc: Global,
     word: &str,

@@ -13,4 +13,5 @@ returns c =
     let with_merge = c.in_ok-subcommand-6.ensures.shape c.in_ok-merge.ensures.1 ∙ ap₂ with_subcommand with_draw c.in_ok-merge.ensures.0 in
     let with_table = c.in_ok-subcommand-7.ensures.shape c.in_ok-table.ensures.1 ∙ ap₂ with_subcommand with_merge c.in_ok-table.ensures.0 in
     let with_page = c.in_ok-subcommand-8.ensures.shape c.in_ok-page.ensures.1 ∙ ap₂ with_subcommand with_table c.in_ok-page.ensures.0 in
-    IfOk-weaker c.subcommand-9.result _ _ (λ r added. added.shape c.in_ok-same.ensures.1 ∙ ap₂ with_subcommand with_page c.in_ok-same.ensures.0) c.subcommand-9.ensures
+    let with_same = c.in_ok-subcommand-9.ensures.shape c.in_ok-same.ensures.1 ∙ ap₂ with_subcommand with_page c.in_ok-same.ensures.0 in
+    IfOk-weaker c.subcommand-10.result _ _ (λ r added. added.shape c.in_ok-verify.ensures.1 ∙ ap₂ with_subcommand with_same c.in_ok-verify.ensures.0) c.subcommand-10.ensures
