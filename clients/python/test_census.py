@@ -24,8 +24,8 @@ ROOT = os.path.realpath(os.path.join(HERE, "..", ".."))
 sys.path.insert(0, HERE)
 import census
 from census import (
-    Census, CensusError, Code, CodeFault, FolderFault, OutOfMemory, Pattern, PatternFault, ProgramFailed, ReadFailed, ReportFault, RuleFault, TimedOut,
-    TooLong, read_report,
+    Census, CensusError, ClaimFault, Code, CodeFault, Disagreement, FolderFault, OutOfMemory, Pattern, PatternFault, ProgramFailed, ReadFailed,
+    ReportFault, RuleFault, Same, TimedOut, TooLong, read_report,
 )
 
 PROGRAM = os.path.realpath(os.environ.get("CENSUS", f"{ROOT}/release/census"))
@@ -936,6 +936,31 @@ class OneObject(Room):
         for body in ("echo no list", "echo '{}'; exit 5", "exit 1", "exit 5", f"echo '{row}'; exit 5", f"echo '{row}'; echo '{row}'"):
             with self.subTest(body), self.assertRaises(ProgramFailed):
                 self.script(body).same(Codes.REPORT)
+
+
+class Compared(Room):
+    """`verify`."""
+
+    CLAIMS = "name,code,period\np,xs4_33,1\nq r,xp2_7,3\nt,,\n"
+
+    def test_claims_of_two_reports(self):
+        wanted = [Disagreement("wrong", "q r period 3 2"), Disagreement("missing", "t"), Disagreement("unclaimed", "b/s")]
+        self.assertEqual(self.census.verify(self.CLAIMS, Codes.REPORT), wanted)
+        self.assertEqual(self.census.verify(self.CLAIMS.encode(), Codes.REPORT.encode()), wanted)
+        self.assertEqual(self.census.verify("name\n", "end 0 0\n"), [])
+
+    def test_claims_and_reports_with_faults(self):
+        with self.assertRaises(ClaimFault) as raised:
+            self.census.verify("name,period\na,x\n", Codes.REPORT)
+        self.assertEqual((raised.exception.line, raised.exception.place), (2, "line 2"))
+        with self.assertRaises(ReportFault) as raised:
+            self.census.verify(self.CLAIMS, Codes.REPORT[:-8])
+        self.assertEqual(raised.exception.line, 12)
+
+    def test_a_program_that_lies(self):
+        for body in ("echo nothing", "echo missing", "exit 1", "exit 5", "echo missing a", "echo other a; exit 5"):
+            with self.subTest(body), self.assertRaises(ProgramFailed):
+                self.script(body).verify(self.CLAIMS, Codes.REPORT)
 
 
 class LaterAndDrawn(Room):

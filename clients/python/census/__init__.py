@@ -21,8 +21,8 @@ from dataclasses import dataclass, field, replace
 from typing import Callable, Dict, Iterable, Iterator, List, Literal, NoReturn, Optional, Set, Tuple, Union, overload
 
 __all__ = [
-    "Census", "Code", "Pattern", "Row", "Same", "read_report",
-    "CensusError", "PatternFault", "CodeFault", "RuleFault", "FolderFault", "TooLong", "ReadFailed", "ReportFault", "OutOfMemory", "TimedOut", "ProgramFailed",
+    "Census", "Code", "Disagreement", "Pattern", "Row", "Same", "read_report",
+    "CensusError", "PatternFault", "CodeFault", "RuleFault", "FolderFault", "TooLong", "ReadFailed", "ReportFault", "ClaimFault", "OutOfMemory", "TimedOut", "ProgramFailed",
 ]
 
 # one RLE text
@@ -119,6 +119,15 @@ class FolderFault(CensusError):
 
 class ReportFault(CensusError):
     """A text is no report that the program reads, or not a whole one. `line` counts from 1."""
+
+    def __init__(self, sentence: str, line: int) -> None:
+        super().__init__(sentence, None, f"line {line}")
+        self.args = (sentence, line)
+        self.line = line
+
+
+class ClaimFault(CensusError):
+    """A table is none of claims: the row that begins at `line`, which counts from 1, is wrong."""
 
     def __init__(self, sentence: str, line: int) -> None:
         super().__init__(sentence, None, f"line {line}")
@@ -259,6 +268,16 @@ class Same:
     patterns: Tuple[Tuple[str, str], ...]
 
 
+@dataclass(frozen=True)
+class Disagreement:
+    """What does not agree between claims and reports, as `census verify` writes it: control bytes stand in it as `\\x1b` does."""
+
+    # `wrong`, `missing`, `several` or `unclaimed`
+    kind: str
+    # the rest of the line: NAME COLUMN CLAIMED FOUND of what is wrong, COLLECTION_NAME/NAME of what is unclaimed, else NAME
+    text: str
+
+
 # The program
 
 
@@ -393,6 +412,20 @@ class Census:
         if ran.returncode == 1:
             raise _fault_of_report(ran)
         return _same_of(ran)
+
+    def verify(self, claims: Text, report: Text) -> List[Disagreement]:
+        """What does not agree between claims, which are comma-separated values under a row of names, and a report, or several one after
+        another: `census verify`. Nothing where all agrees.
+
+        Raises `ClaimFault` and what `codes` raises.
+        """
+        with tempfile.TemporaryDirectory(prefix="census-") as folder:
+            with open(os.path.join(folder, "claims"), "wb") as it:
+                it.write(_bytes_of(claims))
+            ran = self._run(["verify", "--explain", "claims", "-"], _bytes_of(report), folder)
+        if ran.returncode == 1:
+            raise _fault_of_report(ran)
+        return _disagreements_of(ran)
 
     def advance(self, rle: Text, generations: int) -> str:
         """The RLE text of a later generation of an RLE text's pattern, `generations` 0 to 4,194,304.
@@ -594,11 +627,12 @@ def _fault_of_report(ran: subprocess.CompletedProcess[bytes]) -> CensusError:
     if _first_line(ran) == "census: input too long":
         return TooLong()
     line, told = _told_lines(ran)
-    fault = re.fullmatch(r"census: report fault at line ([0-9]+)", line)
+    fault = re.fullmatch(r"census: (report|claim) fault at line ([0-9]+)", line)
     where = re.fullmatch(r"  [0-9]+: (.*)", told)
     if not fault or not where:
         return _failure(ran)
-    return ReportFault(where.group(1), int(fault.group(1)))
+    refused = ReportFault if fault.group(1) == "report" else ClaimFault
+    return refused(where.group(1), int(fault.group(2)))
 
 
 def _codes_of(ran: subprocess.CompletedProcess[bytes]) -> List[Code]:
@@ -617,6 +651,17 @@ def _codes_of(ran: subprocess.CompletedProcess[bytes]) -> List[Code]:
     return codes
 
 
+def _disagreements_of(ran: subprocess.CompletedProcess[bytes]) -> List[Disagreement]:
+    """What a call has written that does not agree, a line each."""
+    if ran.returncode not in (0, 5):
+        raise _failure(ran)
+    lines = [line.split(" ", 1) for line in ran.stdout.decode("utf-8", "replace").split("\n")[:-1]]
+    if (ran.returncode == 5) != bool(lines) or any(len(line) < 2 or line[0] not in _KINDS for line in lines):
+        raise ProgramFailed(ran.returncode, "what it wrote is no comparison")
+    return [Disagreement(kind, text) for kind, text in lines]
+
+
+_KINDS = ("wrong", "missing", "several", "unclaimed")
 _SAME = ("code", "collection_name", "collection_name_hex", "name", "name_hex", "rule")
 
 

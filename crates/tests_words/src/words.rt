@@ -374,6 +374,24 @@ fn same_has_reports_and_a_form(rt: HostRuntime) {
     }
 }
 
+#[test]
+fn verify_has_claims_and_reports(rt: HostRuntime) {
+    const ASKED: &[(Words, &str, Words)] = &[
+        (&["verify", "c"], "c", &[]),
+        (&["verify", "c", "a", "-"], "c", &["a", "-"]),
+        (&["verify", "-", "-"], "-", &["-"]),
+    ];
+    for (words, first, asked) in ASKED {
+        match request_of(rt.alloc(), words) {
+            Ok(Request::Verify { claims, reports }) => {
+                assert_eq!(rt; claims, *first, "{words:?}");
+                assert_eq!(rt; reports.as_slice(), *asked, "{words:?}");
+            }
+            other => panic!(rt; "{words:?}: {other:?}"),
+        }
+    }
+}
+
 // Words that ask for a table, what it has a row for each of, its format and the reports.
 const TABLES: &[(Words, TableSubject, TableFormat, Words)] = &[
     (
@@ -539,6 +557,7 @@ fn each_command_explains_its_faults_where_it_is_asked_to(rt: HostRuntime) -> Res
         (&["page", "--explain"], true),
         (&["same", "--json"], false),
         (&["same", "--json", "--explain"], true),
+        (&["verify", "c", "--explain"], true),
     ];
     for (words, explain) in ASKED {
         let asked = read_words(rt.alloc(), words)?;
