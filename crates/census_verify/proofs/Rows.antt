@@ -1,11 +1,11 @@
 -- Rows are read as they were written.
-use Rattle.std.proofs.Common.{◌≡◌, ℕ, ◌+◌, Bool, true, false, ◌&&◌, ◌==◌, not, List, [], ◌∷◌, ◌++◌, refl, sym, ap, ap₂, ◌∙◌, subst, append_assoc, if◌then◌else◌, inl, inr}
-use Rattle.std.specs.Prelude.{Option, Some}
+use Rattle.std.proofs.Common.{◌≡◌, ℕ, ◌+◌, Bool, true, false, ◌&&◌, ◌==◌, not, List, [], ◌∷◌, ◌++◌, refl, sym, ap, ap₂, ◌∙◌, subst, append_assoc, if◌then◌else◌, inl, inr, ⊎_elim}
+use Rattle.std.specs.Prelude.{◌≢◌, ◌⊎◌, Option, Some}
 use Rattle.std.specs.List.{list_all}
 use Rattle.std.specs.Option.{option_map}
 use Rattle.std.proofs.lemmas.Bool.{eqb-true}
 use Rattle.std.proofs.lemmas.List.{append-nil}
-use Rattle.census_verify.specs.Rows.{Begun, Row, whole, broken, all_cells, begun_on, cell_ended, move_of, rows_from, with_byte}
+use Rattle.census_verify.specs.Rows.{Begun, Row, whole, broken, all_cells, begun_on, cell_ended, ended, move_of, rows_from, with_byte}
 use Rattle.census_verify.specs.Written.{IsCellText, IsRowEnd, IsRowText, IsRowsText, RowsAreReadAsWritten, cells_of, doubled, is_plain}
 use Rattle.census_verify.specs.declared.place.Move.{Move}
 use Rattle.census_verify.specs.declared.place.Move.TheVariants.{Add, Pass, EndCell, EndRow, Break}
@@ -54,6 +54,17 @@ both : (a b : Bool) → (a && b) ≡ true → (a ≡ true) × (b ≡ true)
 both true b e = (refl, e)
 both false b e = absurd (cc)
 
+-- a row that the end of a text ends
+abbrev EndsRow : Begun → Type 0
+EndsRow row = rows_from row [] ≡ whole row.begun (all_cells row) ∷ []
+
+ends-at : (row : Begun) (place : Place) → row.place ≡ place → ended place row.cells row.begun (all_cells row) ≡ whole row.begun (all_cells row) ∷ [] → EndsRow row
+ends-at row place at e = ap (λ p. ended p row.cells row.begun (all_cells row)) at ∙ e
+
+start-ended : (before : List (List ℕ)) (line : ℕ) (cells : List (List ℕ)) → before ≢ [] → ended Start before line cells ≡ whole line cells ∷ []
+start-ended [] line cells some = absurd (some refl)
+start-ended (one ∷ others) line cells some = refl
+
 -- # Cells
 
 -- behind the text of a cell, where the row stands at an open place
@@ -63,18 +74,49 @@ record CellRead (row : Begun) (cell text rest : List ℕ) : Type 0 where
   cells : behind.cells ≡ row.cells
   bytes : behind.cell ≡ row.cell ++ cell
   same : rows_from row (text ++ rest) ≡ rows_from behind rest
+  ends : (row.cells ≢ []) ⊎ (text ≢ []) → EndsRow behind
 
-plain-read : (cell : List ℕ) (row : Begun) (rest : List ℕ) → list_all is_plain cell ≡ true → IsOpen row.place → TakesPlain row.place → CellRead row cell cell rest
-plain-read [] row rest plain opened takes = record { behind = row; opened = opened; cells = refl; bytes = sym (append-nil row.cell); same = refl }
-plain-read (byte ∷ bytes) row rest plain opened takes =
+-- behind more bytes of a cell without quotes
+record PlainRead (row : Begun) (cell rest : List ℕ) : Type 0 where
+  behind : Begun
+  at : behind.place ≡ Plain
+  cells : behind.cells ≡ row.cells
+  bytes : behind.cell ≡ row.cell ++ cell
+  same : rows_from row (cell ++ rest) ≡ rows_from behind rest
+
+plain-read : (cell : List ℕ) (row : Begun) (rest : List ℕ) → list_all is_plain cell ≡ true → row.place ≡ Plain → PlainRead row cell rest
+plain-read [] row rest plain at = record { behind = row; at = at; cells = refl; bytes = sym (append-nil row.cell); same = refl }
+plain-read (byte ∷ bytes) row rest plain at =
     let p = both (is_plain byte) (list_all is_plain bytes) plain in
-    let r = plain-read bytes (with_byte Plain byte row) rest p.1 (refl, refl, refl) plain-takes in
+    let r = plain-read bytes (with_byte Plain byte row) rest p.1 refl in
     record {
       behind = r.behind;
-      opened = r.opened;
+      at = r.at;
       cells = r.cells;
       bytes = r.bytes ∙ append_assoc row.cell (byte ∷ []) bytes;
-      same = move row byte (bytes ++ rest) (Add Plain) (takes byte p.0) ∙ r.same;
+      same = move row byte (bytes ++ rest) (Add Plain) (ap (λ p. move_of p byte) at ∙ plain-takes byte p.0) ∙ r.same;
+    }
+
+bare-read : (cell : List ℕ) (row : Begun) (rest : List ℕ) → list_all is_plain cell ≡ true → row.place ≡ Start → CellRead row cell cell rest
+bare-read [] row rest plain at = record {
+  behind = row;
+  opened = subst IsOpen (sym at) (refl, refl, refl);
+  cells = refl;
+  bytes = sym (append-nil row.cell);
+  same = refl;
+  ends = λ some. ends-at row Start at
+      (start-ended row.cells row.begun (all_cells row) (⊎_elim (λ before. before) (λ text. absurd (text refl)) some));
+}
+bare-read (byte ∷ bytes) row rest plain at =
+    let p = both (is_plain byte) (list_all is_plain bytes) plain in
+    let r = plain-read bytes (with_byte Plain byte row) rest p.1 refl in
+    record {
+      behind = r.behind;
+      opened = subst IsOpen (sym r.at) (refl, refl, refl);
+      cells = r.cells;
+      bytes = r.bytes ∙ append_assoc row.cell (byte ∷ []) bytes;
+      same = move row byte (bytes ++ rest) (Add Plain) (ap (λ p. move_of p byte) at ∙ start-takes byte p.0) ∙ r.same;
+      ends = λ some. ends-at r.behind Plain r.at refl;
     }
 
 -- behind the bytes of a cell in quotes and the last quote
@@ -127,9 +169,7 @@ quoted-read [] row rest at = record {
 quoted-read (byte ∷ bytes) row rest at = quoted-by (byte == 34) byte bytes row rest refl at (λ next here. quoted-read bytes next rest here)
 
 cell-read : (cell text : List ℕ) → IsCellText cell text → (row : Begun) → row.place ≡ Start → (rest : List ℕ) → CellRead row cell text rest
-cell-read cell text (inl p) row at rest =
-    subst (λ t. CellRead row cell t rest) (sym p.1)
-    (plain-read cell row rest p.0 (subst IsOpen (sym at) (refl, refl, refl)) (subst TakesPlain (sym at) start-takes))
+cell-read cell text (inl p) row at rest = subst (λ t. CellRead row cell t rest) (sym p.1) (bare-read cell row rest p.0 at)
 cell-read cell text (inr is) row at rest =
     let r = quoted-read cell (record row { place = Quoted }) rest refl in
     record {
@@ -137,6 +177,7 @@ cell-read cell text (inr is) row at rest =
       opened = subst IsOpen (sym r.closed) (refl, refl, refl);
       cells = r.cells;
       bytes = r.bytes;
+      ends = λ some. ends-at r.behind Closed r.closed refl;
       same = ap (λ t. rows_from row (t ++ rest)) is
           ∙ move row 34 ((doubled cell ++ 34 ∷ []) ++ rest) (Pass Quoted) (ap (λ p. move_of p 34) at)
           ∙ ap (rows_from (record row { place = Quoted })) (append_assoc (doubled cell) (34 ∷ []) rest)
@@ -151,22 +192,28 @@ record CellsRead (row : Begun) (cells : List (List ℕ)) (text rest : List ℕ) 
   opened : IsOpen behind.place
   all : all_cells behind ≡ row.cells ++ cells
   same : rows_from row (text ++ rest) ≡ rows_from behind rest
+  ends : (row.cells ≢ []) ⊎ (text ≢ []) → EndsRow behind
 
 last-cell : (row behind : Begun) (cell : List ℕ) → behind.cells ≡ row.cells → behind.cell ≡ row.cell ++ cell → row.cell ≡ [] → all_cells behind ≡ row.cells ++ cell ∷ []
 last-cell row behind cell cells bytes none = ap₂ (λ (a : List (List ℕ)) (b : List ℕ). a ++ b ∷ []) cells (bytes ∙ ap (λ t. t ++ cell) none)
+
+snoc-some : (cells : List (List ℕ)) (cell : List ℕ) → cells ++ cell ∷ [] ≢ []
+snoc-some [] cell e = absurd (cc)
+snoc-some (one ∷ others) cell e = absurd (cc)
 
 cells-read : (cells : List (List ℕ)) (text : List ℕ) → IsRowText cells text → (row : Begun) → row.place ≡ Start → row.cell ≡ [] → (rest : List ℕ)
     → CellsRead row cells text rest
 cells-read [] text is row at none rest = absurd is
 cells-read (cell ∷ []) text is row at none rest =
     let r = cell-read cell text is row at rest in
-    record { behind = r.behind; opened = r.opened; all = last-cell row r.behind cell r.cells r.bytes none; same = r.same }
+    record { behind = r.behind; opened = r.opened; all = last-cell row r.behind cell r.cells r.bytes none; same = r.same; ends = r.ends }
 cells-read (cell ∷ (other ∷ others)) text is row at none rest =
     let r = cell-read cell is.0 is.2 row at (44 ∷ (is.1 ++ rest)) in
     let more = cells-read (other ∷ others) is.1 is.3 (cell_ended r.behind) refl refl rest in
     record {
       behind = more.behind;
       opened = more.opened;
+      ends = λ some. more.ends (inl (snoc-some r.behind.cells r.behind.cell));
       all = more.all
           ∙ ap (λ (a : List (List ℕ)). a ++ other ∷ others) (last-cell row r.behind cell r.cells r.bytes none)
           ∙ append_assoc row.cells (cell ∷ []) (other ∷ others);
@@ -185,13 +232,37 @@ row-ended row end rest opened (inr is) =
     ∙ move row 13 (10 ∷ rest) (Pass Return) opened.2
     ∙ move (record row { place = Return }) 10 rest EndRow refl
 
+no-end : (end rest : List ℕ) → IsRowEnd end → [] ≡ end ++ rest → ⊥
+no-end end rest (inl is) e = let f : [] ≡ 10 ∷ rest = e ∙ ap (λ t. t ++ rest) is in absurd (cc)
+no-end end rest (inr is) e = let f : [] ≡ 13 ∷ (10 ∷ rest) = e ∙ ap (λ t. t ++ rest) is in absurd (cc)
+
+first-none : (xs ys : List ℕ) → [] ≡ xs ++ ys → xs ≡ []
+first-none [] ys e = refl
+first-none (x ∷ xs) ys e = absurd (cc)
+
+second-none : (xs ys : List ℕ) → [] ≡ xs ++ ys → [] ≡ ys
+second-none [] ys e = e
+second-none (x ∷ xs) ys e = absurd (cc)
+
+-- without a byte there is no row
+no-rows : (rows : List (List (List ℕ))) → IsRowsText rows [] → rows ≡ []
+no-rows [] is = refl
+no-rows (cells ∷ rows) is =
+    absurd (⊎_elim (λ end. no-end is.1 is.2 end (second-none is.0 (is.1 ++ is.2) is.6)) (λ last. last.2 (first-none is.0 (is.1 ++ is.2) is.6)) is.4)
+
 rows-read : (rows : List (List (List ℕ))) (text : List ℕ) → IsRowsText rows text → (line : ℕ) → cells_of (rows_from (begun_on line) text) ≡ Some rows
 rows-read [] text is line = ap (λ t. cells_of (rows_from (begun_on line) t)) is
 rows-read (cells ∷ rows) text is line =
     let r = cells-read cells is.0 is.3 (begun_on line) refl refl (is.1 ++ is.2) in
     ap (λ t. cells_of (rows_from (begun_on line) t)) is.6
-    ∙ ap cells_of (r.same ∙ row-ended r.behind is.1 is.2 r.opened is.4)
-    ∙ ap₂ (λ (a : List (List ℕ)) (o : Option (List (List (List ℕ)))). option_map (λ others. a ∷ others) o) r.all (rows-read rows is.2 is.5 (r.behind.line + 1))
+    ∙ ap cells_of r.same
+    ∙ ⊎_elim
+    (λ end. ap cells_of (row-ended r.behind is.1 is.2 r.opened end)
+    ∙ ap₂ (λ (a : List (List ℕ)) (o : Option (List (List (List ℕ)))). option_map (λ others. a ∷ others) o) r.all (rows-read rows is.2 is.5 (r.behind.line + 1)))
+    (λ last. ap₂ (λ (a b : List ℕ). cells_of (rows_from r.behind (a ++ b))) last.0 last.1
+    ∙ ap cells_of (r.ends (inr last.2))
+    ∙ ap₂ (λ (a : List (List ℕ)) (others : List (List (List ℕ))). Some (a ∷ others)) r.all (sym (no-rows rows (subst (IsRowsText rows) last.1 is.5))))
+    is.4
 
 pub read-as-written : RowsAreReadAsWritten
 read-as-written rows text is = rows-read rows text is 1

@@ -1,5 +1,5 @@
 -- Rows as they are written.
-use Rattle.std.specs.Prelude.{◌≡◌, ◌⊎◌, ℕ, Bool, true, ◌&&◌, ◌==◌, if◌then◌else◌, not, Option, Some, None, List, [], ◌∷◌, ◌++◌}
+use Rattle.std.specs.Prelude.{◌≡◌, ◌≢◌, ◌⊎◌, ℕ, Bool, true, ◌&&◌, ◌==◌, if◌then◌else◌, not, Option, Some, None, List, [], ◌∷◌, ◌++◌}
 use Rattle.std.specs.List.{list_all}
 use Rattle.std.specs.Option.{option_map}
 use Rattle.census_verify.specs.Rows.{Row, whole, broken, begun_on, rows_from}
@@ -28,11 +28,15 @@ IsRowText (cell ∷ (other ∷ others)) text =
 abbrev pub IsRowEnd : List ℕ → Type 0
 IsRowEnd end = (end ≡ 10 ∷ []) ⊎ (end ≡ 13 ∷ (10 ∷ []))
 
+-- a row's end before the rest of a text; where nothing is left, none is needed behind a row that has a byte
+abbrev pub IsEndOf : List ℕ → List ℕ → List ℕ → Type 0
+IsEndOf row end rest = IsRowEnd end ⊎ ((end ≡ []) × (rest ≡ []) × (row ≢ []))
+
 -- rows, each with its end
 abbrev pub IsRowsText : List (List (List ℕ)) → List ℕ → Type 0
 IsRowsText [] text = text ≡ []
 IsRowsText (cells ∷ rows) text =
-    (row : List ℕ) × (end : List ℕ) × (rest : List ℕ) × IsRowText cells row × IsRowEnd end × IsRowsText rows rest × (text ≡ row ++ (end ++ rest))
+    (row : List ℕ) × (end : List ℕ) × (rest : List ℕ) × IsRowText cells row × IsEndOf row end rest × IsRowsText rows rest × (text ≡ row ++ (end ++ rest))
 
 -- the cells of rows, where each is whole
 abbrev pub cells_of : List Row → Option (List (List (List ℕ)))
