@@ -4,3 +4,4 @@ pub mod Keys
 pub mod Numbers
 pub mod Rows
 pub mod Silent
+pub mod Spelled

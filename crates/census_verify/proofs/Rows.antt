@@ -6,7 +6,7 @@ use Rattle.std.specs.Option.{option_map}
 use Rattle.std.proofs.lemmas.Bool.{eqb-true}
 use Rattle.std.proofs.lemmas.List.{append-nil}
 use Rattle.census_verify.specs.Rows.{Begun, Row, whole, broken, all_cells, begun_on, cell_ended, ended, move_of, rows_from, with_byte}
-use Rattle.census_verify.specs.Written.{IsCellText, IsRowEnd, IsRowText, IsRowsText, RowsAreReadAsWritten, cells_of, doubled, is_plain}
+use Rattle.census_verify.specs.Written.{IsCellText, IsRowEnd, IsRowText, IsRowsText, cells_of, doubled, is_plain}
 use Rattle.census_verify.specs.declared.place.Move.{Move}
 use Rattle.census_verify.specs.declared.place.Move.TheVariants.{Add, Pass, EndCell, EndRow, Break}
 use Rattle.census_verify.specs.declared.place.Place.{Place}
@@ -15,7 +15,7 @@ use Rattle.census_verify.specs.declared.place.Place.TheVariants.{Start, Plain, Q
 -- # One byte
 
 -- the rows behind a byte that does this
-abbrev moved : Begun → ℕ → List ℕ → Move → List Row
+abbrev pub moved : Begun → ℕ → List ℕ → Move → List Row
 moved row byte text m =
     elim m [
       | Add place ↦ rows_from (with_byte place byte row) text
@@ -264,5 +264,5 @@ rows-read (cells ∷ rows) text is line =
     ∙ ap₂ (λ (a : List (List ℕ)) (others : List (List (List ℕ))). Some (a ∷ others)) r.all (sym (no-rows rows (subst (IsRowsText rows) last.1 is.5))))
     is.4
 
-pub read-as-written : RowsAreReadAsWritten
+pub read-as-written : (rows : List (List (List ℕ))) (text : List ℕ) → IsRowsText rows text → cells_of (rows_from (begun_on 1) text) ≡ Some rows
 read-as-written rows text is = rows-read rows text is 1

@@ -1,5 +1,5 @@
 -- Rows as they are written.
-use Rattle.std.specs.Prelude.{◌≡◌, ◌≢◌, ◌⊎◌, ℕ, Bool, true, ◌&&◌, ◌==◌, if◌then◌else◌, not, Option, Some, None, List, [], ◌∷◌, ◌++◌}
+use Rattle.std.specs.Prelude.{◌≡◌, ◌≢◌, ◌↔◌, ◌⊎◌, ℕ, Bool, true, ◌&&◌, ◌==◌, if◌then◌else◌, not, Option, Some, None, List, [], ◌∷◌, ◌++◌}
 use Rattle.std.specs.List.{list_all}
 use Rattle.std.specs.Option.{option_map}
 use Rattle.census_verify.specs.Rows.{Row, whole, broken, begun_on, rows_from}
@@ -44,6 +44,6 @@ cells_of [] = Some []
 cells_of (whole line cells ∷ rows) = option_map (λ others. cells ∷ others) (cells_of rows)
 cells_of (broken line ∷ rows) = None
 
--- rows are read as they were written
+-- a text is read as these rows exactly where these are written so
 abbrev pub RowsAreReadAsWritten : Type 0
-RowsAreReadAsWritten = (rows : List (List (List ℕ))) (text : List ℕ) → IsRowsText rows text → cells_of (rows_from (begun_on 1) text) ≡ Some rows
+RowsAreReadAsWritten = (rows : List (List (List ℕ))) (text : List ℕ) → (cells_of (rows_from (begun_on 1) text) ≡ Some rows) ↔ IsRowsText rows text

@@ -178,9 +178,9 @@ pub fn read_claims(alloc: Global, text: &[u8]) -> Result<Result<Claims, usize>, 
     read_rows(alloc, without_mark(text))
 }
 
-/// Rows of any cells that are written as RFC 4180 has them are read as they are: where a cell without `"`, `,`, LF and CR
-/// stands as it is, any cell may stand in quotes with each `"` twice, a `,` stands between cells, and LF or CR LF ends a row.
-/// Behind the last row, where it has a byte, the end may be left out.
+/// A text is read as rows of these cells exactly where they are written so, as RFC 4180 has it: a cell without `"`, `,`, LF and
+/// CR may stand as it is, any cell may stand in quotes with each `"` twice, a `,` stands between cells, and LF or CR LF ends a
+/// row. Behind the last row, where it has a byte, the end may be left out. In any other text a row is none.
 pub fn rows_are_read_as_written()
     ensures { RowsAreReadAsWritten }
 {}
